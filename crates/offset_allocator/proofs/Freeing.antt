@@ -1,0 +1,190 @@
+-- What it leaves of the whole allocator to free a block.
+use Rattle.std.proofs.Common.{◌≡◌, ◌≢◌, ℕ, zero, suc, ◌+◌, ◌-◌, ◌<◌, ◌≤◌, ◌^◌, Bool, true, false, not, ◌&&◌, List, [], ◌∷◌, ◌++◌, length, Option, Some, None, if◌then◌else◌, refl, sym, ap, ap₂, subst, ◌∙◌, arith, nat_eq, slice_set, inl, inr}
+use Rattle.std.proofs.lemmas.Bool.{false≢true}
+use Rattle.offset_allocator.specs.Classes.{up, down}
+use Rattle.offset_allocator.specs.Cells.{Cells, Room, Node, node}
+use Rattle.offset_allocator.specs.Named.{Block, View, Place, tally, one, is_free, named, listed, names_at, IsWellFormed, units, place_of, is_used_at, free_end, without_end, free_start, without_start, remove_all, put_first, free_block, free, freed_at, joined, remove, times}
+use Rattle.offset_allocator.specs.Space.{IsSpace, Stands, blocks, mark_block}
+use Rattle.offset_allocator.specs.Orders.{Among, IsUnlisted, class_lists, Binned}
+use Rattle.offset_allocator.specs.State.{IsSound, view_of, free_units, AreListed, AreFiled, merge_before, merged_before, gone_before, merge_after, merged_after, gone_after}
+use Rattle.offset_allocator.specs.Relations.{IsLive}
+use Rattle.offset_allocator.proofs.Joints.{with_accesses}
+use Rattle.offset_allocator.proofs.Rows.{one-eq, times-append}
+use Rattle.offset_allocator.proofs.Marks.{mark_block-at}
+use Rattle.offset_allocator.proofs.Merging.{Standing, standing}
+use Rattle.offset_allocator.proofs.ViewSteps.{place_at, place_here}
+use Rattle.offset_allocator.proofs.ViewOrders.{tally_append, hit_cases, times_remove_all, length_remove_all}
+use Rattle.offset_allocator.proofs.ViewReplaced.{listed_named}
+use Rattle.offset_allocator.proofs.ViewTaken.{well_free, tally_end, tally_start}
+use Rattle.offset_allocator.proofs.Granting.{same_view}
+use Rattle.offset_allocator.proofs.Joints.{among_times, times_among, well_counted, free_units-append, free_units-free, free_units-used}
+
+pub live_stands : (x : ℕ) (bs : List Block) → is_used_at (place_of x bs) ≡ true → Stands x bs
+live_stands x bs e = go (place_of x bs) refl
+  where
+    go : (o : Option Place) → place_of x bs ≡ o → Stands x bs
+    go None f = absurd (false≢true (sym (ap is_used_at f) ∙ e))
+    go (Some p) f = let a = place_at x bs p f in rw a.0 (omega (arith, times-append x p.before (p.block ∷ p.after), one-eq x p.block.name (sym a.1)))
+
+-- the sum that `listed` takes, of one block
+abbrev share : ℕ → ℕ → Block → ℕ
+share k y b = one (is_free b && (nat_eq k (down b.size) && nat_eq y b.name))
+
+share_used : (k y : ℕ) (b : Block) → b.used ≡ true → share k y b ≡ 0
+share_used k y b e = ap (λ (u : Bool). one (not u && (nat_eq k (down b.size) && nat_eq y b.name))) e
+
+pub filed_listed : (bs : List Block) (ls : List (List ℕ)) → AreFiled bs ls → AreListed bs ls
+filed_listed bs ls f p e u =
+    let k : ℕ = down p.block.size in
+    let y : ℕ = p.block.name in
+    let own : share k y p.block ≡ 1 = ap (λ (v : Bool). one (not v && (nat_eq k k && nat_eq y y))) u ∙ (elim (hit_cases k k) [ inl a ↦ elim (hit_cases y y) [ inl b ↦ both (nat_eq k k) (nat_eq y y) a.1 b.1 | inr b ↦ absurd (b.0 refl) ] | inr a ↦ absurd (a.0 refl) ]) in
+    times_among y (names_at ls k) (omega (arith, f k y, ap (listed k y) e, tally_append (λ b. share k y b) p.before (p.block ∷ p.after)))
+  where
+    both : (a b : Bool) → one a ≡ 1 → one b ≡ 1 → one (a && b) ≡ 1
+    both true b e f = f
+    both false b e f = absurd (omega arith)
+
+remove_all-append : (ys zs : List Block) (o : List (List ℕ)) → remove_all (ys ++ zs) o ≡ remove_all zs (remove_all ys o)
+remove_all-append [] zs o = refl
+remove_all-append (a ∷ ys) zs o = remove_all-append ys zs (if a.used then o else remove (down a.size) a.name o)
+
+remove_used : (b : Block) (zs : List Block) (o : List (List ℕ)) → b.used ≡ true → remove_all (b ∷ zs) o ≡ remove_all zs o
+remove_used b zs o e = ap (λ (u : Bool). remove_all zs (if u then o else remove (down b.size) b.name o)) e
+
+-- free blocks alone
+units_end : (l : List Block) → free_units (free_end l) ≡ units (free_end l)
+units_end [] = refl
+units_end (b ∷ []) = elim b.used as (λ u. b.used ≡ u → free_units (if not u then b ∷ [] else []) ≡ units (if not u then b ∷ [] else [])) [ true ↦ λ e. refl | false ↦ λ e. free_units-free b [] e ] refl
+units_end (b ∷ d ∷ l) = units_end (d ∷ l)
+
+units_start : (l : List Block) → free_units (free_start l) ≡ units (free_start l)
+units_start [] = refl
+units_start (b ∷ l) = elim b.used as (λ u. b.used ≡ u → free_units (if not u then b ∷ [] else []) ≡ units (if not u then b ∷ [] else [])) [ true ↦ λ e. refl | false ↦ λ e. free_units-free b [] e ] refl
+
+free_most : (l : List Block) → free_units l ≤ units l
+free_most [] = omega arith
+free_most (b ∷ l) = let ih = free_most l in elim b.used as (λ u. (if u then 0 else b.size) + free_units l ≤ b.size + units l) [ true ↦ omega arith | false ↦ omega arith ]
+
+module _ (max size limit : ℕ) (c : Cells) (last count top total acc x : ℕ) (s : IsSound max size limit c last count top total) (live : is_used_at (place_of x (blocks c.room last)) ≡ true) where
+  abbrev v : View
+  v = view_of max size limit c last acc
+
+  abbrev bs : List Block
+  bs = blocks c.room last
+
+  abbrev ls : List (List ℕ)
+  ls = class_lists max c.links
+
+  w : IsWellFormed v
+  w = well_counted (view_of max size limit c last 0) acc s.well
+
+  pub stands : Stands x (blocks c.room last)
+  stands = live_stands x bs live
+
+  pub at : Standing c.room (blocks c.room last) x
+  at = standing c.room last count x s.space stands
+
+  abbrev fs : List Block
+  fs = at.place.before
+
+  abbrev b : Block
+  b = at.place.block
+
+  abbrev cs : List Block
+  cs = at.place.after
+
+  used : b.used ≡ true
+  used = sym (ap is_used_at at.is) ∙ live
+
+  pub room_for : total + at.place.block.size < 2 ^ 32
+  room_for =
+      let t = ap free_units at.stood ∙ free_units-append fs (b ∷ cs) ∙ ap (λ k. free_units fs + k) (free_units-used b cs used) in
+      let u = ap units at.stood ∙ tally_append (λ (d : Block). d.size) fs (b ∷ cs) in
+      omega (arith, s.total, t, u, free_most fs, free_most cs, s.space.fits)
+
+  pub listed_first : AreListed (blocks c.room last) (class_lists max c.links)
+  listed_first = filed_listed bs ls w.orders
+
+  -- without the free block before it
+  abbrev b₁ : Block
+  b₁ = record b { size = units (free_end fs) + b.size }
+
+  abbrev bs₁ : List Block
+  bs₁ = without_end fs ++ b₁ ∷ cs
+
+  abbrev ls₁ : List (List ℕ)
+  ls₁ = remove_all (free_end fs) ls
+
+  pub first_blocks : merge_before x (blocks c.room last) ≡ without_end at.place.before ++ record at.place.block { size = units (free_end at.place.before) + at.place.block.size } ∷ at.place.after
+  first_blocks = ap (merged_before bs) at.is
+
+  pub first_lists : remove_all (gone_before (place_of x (blocks c.room last))) (class_lists max c.links) ≡ remove_all (free_end at.place.before) (class_lists max c.links)
+  first_lists = ap (λ o. remove_all (gone_before o) ls) at.is
+
+  parts : (k y : ℕ) → listed k y bs ≡ (listed k y (without_end fs) + listed k y (free_end fs)) + (listed k y (free_start cs) + listed k y (without_start cs))
+  parts k y = omega (arith, ap (listed k y) at.stood, tally_append (λ d. share k y d) fs (b ∷ cs), share_used k y b used, tally_end (λ d. share k y d) fs, tally_start (λ d. share k y d) cs)
+
+  removed : (k y : ℕ) → times y (names_at ls₁ k) + listed k y (free_end fs) ≡ times y (names_at ls k)
+  removed = times_remove_all (free_end fs) ls w.classes
+      (λ k y. omega (arith, w.orders k y, w.distinct y, listed_named k y bs))
+      (λ k y. omega (arith, w.orders k y, parts k y))
+
+  pub filed_first : AreFiled (without_end at.place.before ++ record at.place.block { size = units (free_end at.place.before) + at.place.block.size } ∷ at.place.after) (remove_all (free_end at.place.before) (class_lists max c.links))
+  filed_first k y = omega (arith, removed k y, w.orders k y, parts k y, tally_append (λ d. share k y d) (without_end fs) (b₁ ∷ cs), share_used k y b₁ used, tally_start (λ d. share k y d) cs)
+
+  -- without the free block behind it
+  alone_first : named x (without_end fs) ≡ 0
+  alone_first = omega (arith, at.alone, tally_end (λ (d : Block). one (nat_eq x d.name)) fs)
+
+  pub place_first : place_of x (without_end at.place.before ++ record at.place.block { size = units (free_end at.place.before) + at.place.block.size } ∷ at.place.after) ≡ Some (record { before = without_end at.place.before; block = record at.place.block { size = units (free_end at.place.before) + at.place.block.size }; after = at.place.after })
+  place_first = place_here x (without_end fs) b₁ cs alone_first (sym at.name)
+
+  pub stands_first : Stands x (without_end at.place.before ++ record at.place.block { size = units (free_end at.place.before) + at.place.block.size } ∷ at.place.after)
+  stands_first = omega (arith, times-append x (without_end fs) (b₁ ∷ cs), one-eq x b₁.name at.name)
+
+  abbrev b₂ : Block
+  b₂ = record b { size = (units (free_end fs) + b.size) + units (free_start cs) }
+
+  pub stands_second : Stands x (without_end at.place.before ++ record at.place.block { size = (units (free_end at.place.before) + at.place.block.size) + units (free_start at.place.after) } ∷ without_start at.place.after)
+  stands_second = omega (arith, times-append x (without_end fs) (b₂ ∷ without_start cs), one-eq x b₂.name at.name)
+
+  pub marked_second : mark_block x false (without_end at.place.before ++ record at.place.block { size = (units (free_end at.place.before) + at.place.block.size) + units (free_start at.place.after) } ∷ without_start at.place.after)
+      ≡ without_end at.place.before ++ record { name = at.place.block.name; size = (units (free_end at.place.before) + at.place.block.size) + units (free_start at.place.after); used = false } ∷ without_start at.place.after
+  marked_second = ap (λ i. mark_block i false (without_end fs ++ b₂ ∷ without_start cs)) (sym at.name) ∙ mark_block-at (without_end fs) b₂ (without_start cs) false (ap (λ i. named i (without_end fs)) at.name ∙ alone_first)
+
+  pub unlisted_second : IsUnlisted x (remove_all (free_start at.place.after) (remove_all (free_end at.place.before) (class_lists max c.links)))
+  unlisted_second k kh a =
+      let one_x : named x cs ≡ 0 = omega (arith, w.distinct x, ap (named x) at.stood, tally_append (λ (d : Block). one (nat_eq x d.name)) fs (b ∷ cs), hits) in
+      let r = times_remove_all (free_start cs) ls₁ (length_remove_all (free_end fs) ls ∙ w.classes)
+      (λ i y. omega (arith, removed i y, w.orders i y, w.distinct y, listed_named i y bs))
+      (λ i y. omega (arith, removed i y, w.orders i y, parts i y)) in
+      omega (arith, among_times x _ a, r k x, removed k x, w.orders k x, parts k x, listed_named k x fs, at.alone, tally_end (λ d. share k x d) fs, tally_start (λ d. share k x d) cs, listed_named k x cs, one_x)
+    where
+      hits : one (nat_eq x b.name) ≡ 1
+      hits = elim (hit_cases x b.name) [ inl h ↦ h.1 | inr h ↦ absurd (h.0 (sym at.name)) ]
+
+  pub freed : (d : Cells) (last' count' top' acc' : ℕ) → IsSpace d.room last' count' → Binned max d.links top' → length d.room.nodes ≡ length c.room.nodes
+      → blocks d.room last' ≡ without_end at.place.before ++ record { name = at.place.block.name; size = (units (free_end at.place.before) + at.place.block.size) + units (free_start at.place.after); used = false } ∷ without_start at.place.after
+      → class_lists max d.links ≡ put_first (down ((units (free_end at.place.before) + at.place.block.size) + units (free_start at.place.after))) x (remove_all (free_start at.place.after) (remove_all (free_end at.place.before) (class_lists max c.links)))
+      → IsSound max size limit d last' count' top' (total + at.place.block.size) × (view_of max size limit d last' acc' ≡ with_accesses acc' (free x (view_of max size limit c last acc)))
+  freed d last' count' top' acc' space bins nodes eb eo =
+      let gone : List Block = free_end fs ++ ((b ∷ []) ++ free_start cs) in
+      let sum : units gone ≡ (units (free_end fs) + b.size) + units (free_start cs) = tally_append (λ (d : Block). d.size) (free_end fs) (b ∷ free_start cs) ∙ omega arith in
+      let is : free x v ≡ joined v fs (b ∷ []) b.name cs = ap (freed_at v) at.is in
+      let blocks_are : blocks d.room last' ≡ without_end fs ++ ((free_block b.name (units gone) ∷ []) ++ without_start cs) = eb ∙ sym (ap (λ (k : ℕ). without_end fs ++ free_block b.name k ∷ without_start cs) sum) in
+      let removes : remove_all gone ls ≡ remove_all (free_start cs) (remove_all (free_end fs) ls) = remove_all-append (free_end fs) (b ∷ free_start cs) ls ∙ remove_used b (free_start cs) (remove_all (free_end fs) ls) used in
+      let order_is : class_lists max d.links ≡ put_first (down (units gone)) b.name (remove_all gone ls) = eo ∙ sym (ap (λ (o : List (List ℕ)). put_first (down (units gone)) b.name o) removes ∙ ap₂ (λ (k i : ℕ). put_first (down k) i (remove_all (free_start cs) (remove_all (free_end fs) ls))) sum at.name) in
+      let left : (k : ℕ) → view_of max size limit d last' k ≡ with_accesses k (free x v) = λ k. same_view v _ _ _ _ k blocks_are order_is ∙ ap (with_accesses k) (sym is) in
+      let t = ap free_units at.stood ∙ free_units-append fs (b ∷ cs) ∙ ap (λ k. free_units fs + k) (free_units-used b cs used) in
+      let f : Block = free_block b.name ((units (free_end fs) + b.size) + units (free_start cs)) in
+      let new = ap free_units eb ∙ free_units-append (without_end fs) (f ∷ without_start cs) ∙ ap (λ k. free_units (without_end fs) + k) (free_units-free f (without_start cs) refl) in (
+        record {
+          nodes = nodes ∙ s.nodes;
+          least = s.least;
+          space = space;
+          bins = bins;
+          well = subst IsWellFormed (sym (left 0)) (well_counted (free x v) 0 (well_free v w x));
+          total = omega (arith, s.total, t, new, units_end fs, units_start cs, tally_end (λ (d : Block). if d.used then 0 else d.size) fs, tally_start (λ (d : Block). if d.used then 0 else d.size) cs);
+        },
+        left acc',
+      )

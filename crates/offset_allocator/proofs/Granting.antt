@@ -1,0 +1,176 @@
+-- What a grant leaves of the whole allocator.
+use Rattle.std.proofs.Common.{◌≡◌, ◌≢◌, ℕ, zero, suc, ◌+◌, ◌-◌, ◌<◌, ◌≤◌, ◌^◌, Bool, true, false, List, [], ◌∷◌, ◌++◌, length, Option, Some, None, refl, sym, ap, ap₂, subst, ◌∙◌, arith, slice_set, le-leb}
+use Rattle.std.proofs.lemmas.Bool.{lt-leb}
+use Rattle.offset_allocator.specs.Classes.{up, down}
+use Rattle.offset_allocator.specs.Cells.{Cells, Room, Node, node}
+use Rattle.offset_allocator.specs.Named.{Block, View, Place, Grant, Outcome, named, names_at, IsWellFormed, IsUnused, is_short_of, allocate, refused, free_part, used_block, free_block, units, remove_all, put_all, remove, put_first, without}
+use Rattle.offset_allocator.specs.Space.{IsSpace, IsChain, IsRow, Stands, blocks, mark_block, split_block, size_in, last_or, first_or}
+use Rattle.offset_allocator.specs.Orders.{Among, IsUnlisted, IsLeastFrom, class_lists, Binned}
+use Rattle.offset_allocator.specs.State.{IsSound, view_of, free_units}
+use Rattle.offset_allocator.specs.Relations.{Allocates}
+use Rattle.offset_allocator.proofs.Joints.{with_accesses}
+use Rattle.offset_allocator.proofs.Rows.{one-eq, times-append, IsRow-back}
+use Rattle.offset_allocator.proofs.Found.{split_block-at, size_in-at}
+use Rattle.offset_allocator.proofs.Marks.{mark_block-at}
+use Rattle.offset_allocator.proofs.Spot.{spot, stands-below}
+use Rattle.offset_allocator.proofs.Sizes.{fits_size, down_small}
+use Rattle.offset_allocator.proofs.ViewTaken.{IsTaken, well_allocate}
+use Rattle.offset_allocator.proofs.Unused.{some_unused}
+use Rattle.offset_allocator.proofs.Joints.{unused_unlisted, unlisted_removed, TakenHere, taken_here, allocate_granted, allocate_short, allocate_none, untaken, well_counted, free_part-some, free_part-none, remove_free, not_true, free_units-append, free_units-free, free_units-used}
+
+pub same_view : (v : View) (bs bs' : List Block) (os os' : List (List ℕ)) (k : ℕ) → bs ≡ bs' → os ≡ os' → record v { blocks = bs; order = os; accesses = k } ≡ record v { blocks = bs'; order = os'; accesses = k }
+same_view v bs bs' os os' k e f = ap₂ (λ (b : List Block) (o : List (List ℕ)). record v { blocks = b; order = o; accesses = k }) e f
+
+module _ (max size limit : ℕ) (c : Cells) (last count top free acc n class x : ℕ) (s : IsSound max size limit c last count top free) (room : is_short_of 1 (view_of max size limit c last acc) ≡ false) (l : IsLeastFrom (up n) (class_lists max c.links) class) (xs : List ℕ) (first : names_at (class_lists max c.links) class ≡ x ∷ xs) where
+  abbrev v : View
+  v = view_of max size limit c last acc
+
+  abbrev bs : List Block
+  bs = blocks c.room last
+
+  abbrev ls : List (List ℕ)
+  ls = class_lists max c.links
+
+  pub w : IsWellFormed (view_of max size limit c last acc)
+  w = well_counted (view_of max size limit c last 0) acc s.well
+
+  pub got : TakenHere n (view_of max size limit c last acc) class x
+  got = taken_here n (view_of max size limit c last acc) w class x xs l first
+
+  -- the block that is taken
+  abbrev p : Place
+  p = got.place
+
+  is_free : p.block.used ≡ false
+  is_free = not_true p.block.used got.here.free
+
+  alone : named p.block.name p.before ≡ 0
+  alone = got.here.alone
+
+  pub enough : n ≤ got.place.block.size
+  enough = fits_size n got.place.block.size (le-leb (up n) (down got.place.block.size) got.here.class)
+
+  pub stands : Stands x (blocks c.room last)
+  stands = rw got.here.stood (omega (arith, times-append x p.before (p.block ∷ p.after), one-eq x p.block.name got.name))
+
+  pub x_below : x < length c.room.nodes
+  x_below = stands-below c.room (length c.room.nodes) last count x bs s.space stands
+
+  pub x_node : node c.room x ≡ record { offset = units got.place.before; size = got.place.block.size; used = got.place.block.used; before = last_or None got.place.before; after = first_or None got.place.after }
+  x_node =
+      let P : List Block → Type 0 = λ b. IsRow c.room None 0 b None in
+      let row = (IsRow-back c.room None 0 p.before (p.block ∷ p.after) None (subst P got.here.stood s.space.row)).0 in
+      ap (λ (i : ℕ). node c.room i) (sym got.name) ∙ row ∙ ap (λ (o : ℕ). record { offset = o; size = p.block.size; used = p.block.used; before = last_or None p.before; after = first_or None p.after }) (omega arith)
+
+  marked : mark_block x true bs ≡ p.before ++ record p.block { used = true } ∷ p.after
+  marked = ap (λ b. mark_block x true b) got.here.stood ∙ ap (λ y. mark_block y true (p.before ++ p.block ∷ p.after)) (sym got.name) ∙ mark_block-at p.before p.block p.after true alone
+
+  -- before the rest is cut off
+  pub stands_marked : (d : Room) (e : blocks d last ≡ mark_block x true (blocks c.room last)) → Stands x (blocks d last)
+  stands_marked d e = rw (e, marked) (omega (arith, times-append x p.before (record p.block { used = true } ∷ p.after), one-eq x p.block.name got.name))
+
+  pub size_marked : (d : Room) (e : blocks d last ≡ mark_block x true (blocks c.room last)) → size_in x (blocks d last) ≡ got.place.block.size
+  size_marked d e = ap (size_in x) (e ∙ marked) ∙ ap (λ y. size_in y (p.before ++ record p.block { used = true } ∷ p.after)) (sym got.name) ∙ size_in-at p.before (record p.block { used = true }) p.after alone
+
+  -- a name that is new among the marked blocks is unused
+  pub unused_rest : (d : Room) (y : ℕ) → blocks d last ≡ mark_block x true (blocks c.room last) → named y (blocks d last) ≡ 0 → y < length c.room.nodes → IsUnused y (view_of max size limit c last acc)
+  unused_rest d y e t b = record {
+    below = omega (arith, s.nodes);
+    absent = ap (λ z. named y z) got.here.stood ∙ (let q = ap (λ z. named y z) (e ∙ marked) in omega (arith, t, times-append y p.before (p.block ∷ p.after), times-append y p.before (record p.block { used = true } ∷ p.after)));
+  }
+
+  pub rest_unlisted : (y : ℕ) → IsUnused y (view_of max size limit c last acc) → IsUnlisted y (slice_set (class_lists max c.links) class (without x (names_at (class_lists max c.links) class)))
+  rest_unlisted y u = unlisted_removed y x class ls w.classes l.1 (unused_unlisted v w y u.absent)
+
+  removed : remove_all (p.block ∷ []) ls ≡ slice_set ls class (without x (names_at ls class))
+  removed = remove_free p.block ls is_free ∙ ap₂ (λ i y. remove i y ls) got.class got.name
+
+  left_free : (b' : Block) (zs : List Block) → b'.used ≡ true → free_units (p.before ++ b' ∷ zs) ≡ free_units p.before + free_units zs
+  left_free b' zs u = free_units-append p.before (b' ∷ zs) ∙ ap (λ k. free_units p.before + k) (free_units-used b' zs u)
+
+  had_free : free ≡ free_units p.before + (p.block.size + free_units p.after)
+  had_free = sym s.total ∙ ap free_units got.here.stood ∙ free_units-append p.before (p.block ∷ p.after) ∙ ap (λ k. free_units p.before + k) (free_units-free p.block p.after is_free)
+
+  pub free_enough : n ≤ free
+  free_enough = omega (arith, had_free, enough)
+
+  abbrev new_blocks : ℕ → List Block
+  new_blocks y = p.before ++ ((free_part y 0 ++ used_block p.block.name n ∷ free_part y (p.block.size - (0 + n))) ++ p.after)
+
+  abbrev new_order : ℕ → List (List ℕ)
+  new_order y = put_all (free_part y 0 ++ used_block p.block.name n ∷ free_part y (p.block.size - (0 + n))) (remove_all (p.block ∷ []) ls)
+
+  concluded : (d : Cells) (last' count' top' acc' y : ℕ) → IsSpace d.room last' count' → Binned max d.links top' → length d.room.nodes ≡ length c.room.nodes → IsUnused y v
+      → blocks d.room last' ≡ new_blocks y → class_lists max d.links ≡ new_order y → free_units (blocks d.room last') ≡ free - n
+      → IsSound max size limit d last' count' top' (free - n) × Allocates n (view_of max size limit c last acc) (view_of max size limit d last' acc') (Some (record { name = x; offset = units p.before }))
+  concluded d last' count' top' acc' y space bins nodes unused blocks_are order_is total =
+      let is = allocate_granted n y v p room got.is in
+      let left : (k : ℕ) → view_of max size limit d last' k ≡ with_accesses k (allocate n y v).view = λ k. same_view v _ _ _ _ k blocks_are order_is ∙ ap (λ (o : Outcome). with_accesses k o.view) (sym is) in
+      let grant : Grant = record { name = x; offset = units p.before } in
+      let answered : Some grant ≡ (allocate n y v).grant = ap₂ (λ (i o : ℕ). let h : Grant = record { name = i; offset = o } in Some h) (sym got.name) (omega arith) ∙ ap (λ (o : Outcome). o.grant) (sym is) in (
+        record {
+          nodes = nodes ∙ s.nodes;
+          least = s.least;
+          space = space;
+          bins = bins;
+          well = subst IsWellFormed (sym (left 0)) (well_counted (allocate n y v).view 0 (well_allocate v w n y unused));
+          total = total;
+        },
+        record { rest = y; unused = unused; answer = answered; view = left acc' },
+      )
+
+  -- the whole of it is granted
+  pub granted_whole : (d : Cells) (top' acc' : ℕ) → got.place.block.size ≡ n → IsSpace d.room last count → blocks d.room last ≡ mark_block x true (blocks c.room last) → Binned max d.links top'
+      → class_lists max d.links ≡ slice_set (class_lists max c.links) class (without x (names_at (class_lists max c.links) class)) → length d.room.nodes ≡ length c.room.nodes → (y : ℕ) → IsUnused y (view_of max size limit c last acc)
+      → IsSound max size limit d last count top' (free - n) × Allocates n (view_of max size limit c last acc) (view_of max size limit d last acc') (Some (record { name = x; offset = units got.place.before }))
+  granted_whole d top' acc' whole space eb bins eo nodes y unused =
+      let none : free_part y (p.block.size - (0 + n)) ≡ [] = free_part-none y (p.block.size - (0 + n)) (omega arith) in
+      let b₁ : record p.block { used = true } ≡ used_block p.block.name n = ap (λ (k : ℕ). used_block p.block.name k) whole in
+      concluded d last count top' acc' y space bins nodes unused
+      (eb ∙ marked ∙ ap (λ (b : Block). p.before ++ b ∷ p.after) b₁ ∙ sym (ap (λ (t : List Block). p.before ++ ((used_block p.block.name n ∷ t) ++ p.after)) none))
+      (eo ∙ sym removed ∙ sym (ap (λ (t : List Block). put_all t (remove_all (p.block ∷ []) ls)) none))
+      (ap free_units (eb ∙ marked) ∙ left_free (record p.block { used = true }) p.after refl ∙ omega (arith, had_free))
+
+  -- a part of it is granted, and the rest stands behind it
+  pub granted_part : (d : Cells) (e : Room) (last' count' top' acc' y : ℕ) → n < got.place.block.size → IsSpace d.room last' count' → blocks e last ≡ mark_block x true (blocks c.room last)
+      → blocks d.room last' ≡ split_block x n y (blocks e last) → Binned max d.links top'
+      → class_lists max d.links ≡ slice_set (slice_set (class_lists max c.links) class (without x (names_at (class_lists max c.links) class))) (down (got.place.block.size - n)) (y ∷ names_at (slice_set (class_lists max c.links) class (without x (names_at (class_lists max c.links) class))) (down (got.place.block.size - n)))
+      → length d.room.nodes ≡ length c.room.nodes → IsUnused y (view_of max size limit c last acc)
+      → IsSound max size limit d last' count' top' (free - n) × Allocates n (view_of max size limit c last acc) (view_of max size limit d last' acc') (Some (record { name = x; offset = units got.place.before }))
+  granted_part d e last' count' top' acc' y part space em eb bins eo nodes unused =
+      let r : p.block.size - (0 + n) ≡ p.block.size - n = omega arith in
+      let some : free_part y (p.block.size - (0 + n)) ≡ free_block y (p.block.size - n) ∷ [] = ap (free_part y) r ∙ free_part-some y (p.block.size - n) (omega arith) in
+      let cut : blocks d.room last' ≡ p.before ++ used_block p.block.name n ∷ free_block y (p.block.size - n) ∷ p.after =
+      eb ∙ ap (split_block x n y) (em ∙ marked) ∙ ap (λ i. split_block i n y (p.before ++ record p.block { used = true } ∷ p.after)) (sym got.name) ∙ split_block-at p.before (record p.block { used = true }) p.after n y alone in
+      concluded d last' count' top' acc' y space bins nodes unused
+      (cut ∙ sym (ap (λ (t : List Block). p.before ++ ((used_block p.block.name n ∷ t) ++ p.after)) some))
+      (eo ∙ ap (λ (o : List (List ℕ)). put_first (down (p.block.size - n)) y o) (sym removed) ∙ sym (ap (λ (t : List Block). put_all t (remove_all (p.block ∷ []) ls)) some))
+      (ap free_units cut ∙ left_free (used_block p.block.name n) (free_block y (p.block.size - n) ∷ p.after) refl ∙ ap (λ k. free_units p.before + k) (free_units-free (free_block y (p.block.size - n)) p.after refl) ∙ omega (arith, had_free, part))
+
+-- a request that is refused
+module _ (max size limit : ℕ) (c : Cells) (last count top free acc n : ℕ) (s : IsSound max size limit c last count top free) where
+  abbrev was : View
+  was = view_of max size limit c last acc
+
+  known : IsWellFormed was
+  known = well_counted (view_of max size limit c last 0) acc s.well
+
+  left_as_it_was : (y acc' : ℕ) → IsUnused y was → allocate n y was ≡ refused was → Allocates n (view_of max size limit c last acc) (view_of max size limit c last acc') None
+  left_as_it_was y acc' u e = record {
+    rest = y;
+    unused = u;
+    answer = ap (λ (o : Outcome). o.grant) (sym e);
+    view = ap (λ (o : Outcome). with_accesses acc' o.view) (sym e);
+  }
+
+  pub is_short : count ≤ 1 → is_short_of 1 (view_of max size limit c last acc) ≡ true
+  is_short h = let long = s.space.full in le-leb limit (length (blocks c.room last) + 1) (omega (arith, s.nodes))
+
+  pub is_not_short : 1 < count → is_short_of 1 (view_of max size limit c last acc) ≡ false
+  is_not_short h = let long = s.space.full in lt-leb limit (length (blocks c.room last) + 1) (omega (arith, s.nodes))
+
+  pub refused_short : (acc' : ℕ) → count ≤ 1 → Allocates n (view_of max size limit c last acc) (view_of max size limit c last acc') None
+  refused_short acc' h = let u = some_unused max size limit c last count top free acc s in left_as_it_was u.0 acc' u.1 (allocate_short n u.0 was (is_short h))
+
+  pub refused_none : (acc' : ℕ) → 1 < count → ((k : ℕ) → up n ≤ k → k < 256 → names_at (class_lists max c.links) k ≡ []) → Allocates n (view_of max size limit c last acc) (view_of max size limit c last acc') None
+  refused_none acc' h none = let u = some_unused max size limit c last count top free acc s in left_as_it_was u.0 acc' u.1 (allocate_none n u.0 was (is_not_short h) (untaken n was known none))

@@ -1,0 +1,120 @@
+-- What joins the chain, the class lists and the view.
+use Rattle.std.proofs.Common.{◌≡◌, ◌≢◌, ℕ, zero, suc, ◌+◌, ◌-◌, ◌<◌, ◌≤◌, Bool, true, false, not, ◌⊎◌, List, [], ◌∷◌, ◌++◌, length, Option, Some, None, if◌then◌else◌, refl, sym, ap, ap₂, subst, ◌∙◌, inl, inr, arith, slice_set, nat_eq}
+use Rattle.std.proofs.lemmas.Bool.{cases_eq, cases_lt, false≢true}
+use Rattle.std.proofs.lemmas.List.{get_or-set_same, get_or-set_other}
+use Rattle.offset_allocator.specs.Classes.{up, down}
+use Rattle.offset_allocator.specs.Named.{Block, View, Place, Outcome, tally, one, is_free, named, listed, names_at, IsWellFormed, IsUnused, taken, is_short_of, serve, allocate, refused, granted, granted_at, free_part, free_block, remove_all, remove, units, times, without}
+use Rattle.offset_allocator.specs.Orders.{Among, IsUnlisted, IsLeastFrom}
+use Rattle.offset_allocator.specs.State.{free_units}
+use Rattle.offset_allocator.proofs.Rows.{one-eq, one-other}
+use Rattle.offset_allocator.proofs.Walks.{among_without}
+use Rattle.offset_allocator.proofs.Sizes.{down_small}
+use Rattle.offset_allocator.proofs.ViewOrders.{tally_append, hit_cases}
+use Rattle.offset_allocator.proofs.ViewReplaced.{listed_named}
+use Rattle.offset_allocator.proofs.ViewTaken.{IsTaken, taken_at, not_taken}
+
+pub among_times : (x : ℕ) (xs : List ℕ) → Among x xs → 1 ≤ times x xs
+among_times x [] a = absurd a
+among_times x (y ∷ ys) a = elim a [
+  | inl e ↦ elim (hit_cases x y) [ inl h ↦ omega (arith, h.1) | inr h ↦ absurd (h.0 e) ]
+  | inr t ↦ let ih = among_times x ys t in omega arith
+]
+
+pub times_among : (x : ℕ) (xs : List ℕ) → 1 ≤ times x xs → Among x xs
+times_among x [] h = absurd (omega arith)
+times_among x (y ∷ ys) h = elim (hit_cases x y) [
+  | inl e ↦ inl e.0
+  | inr n ↦ inr (times_among x ys (omega (arith, n.1)))
+]
+
+-- a name that no free block has is in no list
+pub unlisted : (v : View) → IsWellFormed v → (x : ℕ) → ((c : ℕ) → listed c x v.blocks ≡ 0) → IsUnlisted x v.order
+unlisted v w x h c ch a = omega (arith, among_times x (names_at v.order c) a, w.orders c x, h c)
+
+pub unused_unlisted : (v : View) → IsWellFormed v → (x : ℕ) → named x v.blocks ≡ 0 → IsUnlisted x v.order
+unused_unlisted v w x h = unlisted v w x (λ c. omega (arith, listed_named c x v.blocks))
+
+pub unlisted_removed : (x y c : ℕ) (ls : List (List ℕ)) → length ls ≡ 256 → c < 256 → IsUnlisted x ls → IsUnlisted x (slice_set ls c (without y (names_at ls c)))
+unlisted_removed x y c ls n ch u d dh a =
+    let l : c < length ls = omega arith in
+    elim (cases_eq d c) [
+      | inl e ↦ u c ch (among_without 0 y x (names_at ls c) (subst (λ z. Among x z) (ap (names_at (slice_set ls c (without y (names_at ls c)))) e ∙ get_or-set_same ls c (without y (names_at ls c)) [] l) a))
+      | inr ne ↦ u d dh (subst (λ z. Among x z) (get_or-set_other ls c d (without y (names_at ls c)) [] ne) a)
+    ]
+
+-- the name that the class lists give is the one that a request takes
+pub record TakenHere (n : ℕ) (v : View) (c x : ℕ) : Type 0 where
+  pub place : Place
+  pub is : taken n v ≡ Some place
+  pub name : place.block.name ≡ x
+  pub class : down place.block.size ≡ c
+  pub here : IsTaken n v place
+
+pub taken_here : (n : ℕ) (v : View) → IsWellFormed v → (c x : ℕ) (xs : List ℕ) → IsLeastFrom (up n) v.order c → names_at v.order c ≡ x ∷ xs → TakenHere n v c x
+taken_here n v w c x xs l e = go (taken n v) refl
+  where
+    go : (o : Option Place) → taken n v ≡ o → TakenHere n v c x
+    go None f = absurd (l.2 (not_taken n v w f c l.0))
+    go (Some p) f =
+        let t = taken_at n v w p f in
+        let same : down p.block.size ≡ c = elim (cases_lt c (down p.block.size)) [
+          | inl a ↦ absurd (l.2 (t.least c l.0 a))
+          | inr a ↦ elim (cases_lt (down p.block.size) c) [
+            | inl b ↦ let none : [] ≡ p.block.name ∷ t.behind = sym (l.3 (down p.block.size) t.class b) ∙ t.first in absurd (cc)
+            | inr b ↦ omega arith
+          ]
+        ] in
+        let heads : p.block.name ∷ t.behind ≡ x ∷ xs = sym t.first ∙ ap (names_at v.order) same ∙ e in
+        record { place = p; is = f; name = (cc); class = same; here = t }
+
+pub untaken : (n : ℕ) (v : View) → IsWellFormed v → ((c : ℕ) → up n ≤ c → c < 256 → names_at v.order c ≡ []) → taken n v ≡ None
+untaken n v w h = go (taken n v) refl
+  where
+    go : (o : Option Place) → taken n v ≡ o → taken n v ≡ None
+    go None f = f
+    go (Some p) f =
+        let t = taken_at n v w p f in
+        let none : [] ≡ p.block.name ∷ t.behind = sym (h (down p.block.size) t.class (down_small p.block.size)) ∙ t.first in
+        absurd (cc)
+
+-- the three cases of a request
+pub allocate_granted : (n rest : ℕ) (v : View) (p : Place) → is_short_of 1 v ≡ false → taken n v ≡ Some p → allocate n rest v ≡ granted v n 0 rest rest p
+allocate_granted n rest v p e f = ap (λ (b : Bool). if b then refused v else granted_at v n (λ o. 0) rest rest (taken n v)) e ∙ ap (granted_at v n (λ o. 0) rest rest) f
+
+pub allocate_short : (n rest : ℕ) (v : View) → is_short_of 1 v ≡ true → allocate n rest v ≡ refused v
+allocate_short n rest v e = ap (λ (b : Bool). if b then refused v else granted_at v n (λ o. 0) rest rest (taken n v)) e
+
+pub allocate_none : (n rest : ℕ) (v : View) → is_short_of 1 v ≡ false → taken n v ≡ None → allocate n rest v ≡ refused v
+allocate_none n rest v e f = ap (λ (b : Bool). if b then refused v else granted_at v n (λ o. 0) rest rest (taken n v)) e ∙ ap (granted_at v n (λ o. 0) rest rest) f
+
+-- whatever was counted
+abbrev pub with_accesses : ℕ → View → View
+with_accesses k v = record v { accesses = k }
+
+pub well_counted : (v : View) (k : ℕ) → IsWellFormed v → IsWellFormed (with_accesses k v)
+well_counted v k w = record { some = w.some; distinct = w.distinct; below = w.below; whole = w.whole; apart = w.apart; classes = w.classes; orders = w.orders; room = w.room; spare = w.spare }
+
+-- small parts of steps
+pub free_part-some : (x r : ℕ) → 0 < r → free_part x r ≡ free_block x r ∷ []
+free_part-some x zero l = absurd (omega arith)
+free_part-some x (suc r) l = refl
+
+pub free_part-none : (x r : ℕ) → r ≡ 0 → free_part x r ≡ []
+free_part-none x zero e = refl
+free_part-none x (suc r) e = absurd (omega arith)
+
+pub remove_free : (b : Block) (order : List (List ℕ)) → b.used ≡ false → remove_all (b ∷ []) order ≡ remove (down b.size) b.name order
+remove_free b order e = ap (λ (u : Bool). if u then order else remove (down b.size) b.name order) e
+
+pub not_true : (u : Bool) → not u ≡ true → u ≡ false
+not_true true e = absurd (false≢true e)
+not_true false e = refl
+
+pub free_units-append : (xs ys : List Block) → free_units (xs ++ ys) ≡ free_units xs + free_units ys
+free_units-append xs ys = tally_append (λ (b : Block). if b.used then 0 else b.size) xs ys
+
+pub free_units-free : (b : Block) (bs : List Block) → b.used ≡ false → free_units (b ∷ bs) ≡ b.size + free_units bs
+free_units-free b bs e = ap (λ (u : Bool). (if u then 0 else b.size) + free_units bs) e
+
+pub free_units-used : (b : Block) (bs : List Block) → b.used ≡ true → free_units (b ∷ bs) ≡ free_units bs
+free_units-used b bs e = ap (λ (u : Bool). (if u then 0 else b.size) + free_units bs) e ∙ omega arith

@@ -1,0 +1,52 @@
+-- A standing block of a chain: its node, and what stands around it.
+use Rattle.std.proofs.Common.{◌≡◌, ◌≢◌, ℕ, ◌+◌, ◌-◌, ◌<◌, ◌≤◌, ◌^◌, Bool, true, false, cond, Option, None, Some, List, [], ◌∷◌, ◌++◌, length, get_or, refl, sym, ◌∙◌, ap, arith}
+use Rattle.std.proofs.lemmas.Bool.Decides.{nat_tests}
+use Rattle.offset_allocator.specs.Cells.{Room, Node, node}
+use Rattle.offset_allocator.specs.Space.{first_or, last_or, IsRow, IsChain, spares, Stands}
+use Rattle.offset_allocator.specs.Named.{Block, units, named, times}
+use Rattle.offset_allocator.proofs.Rows.{one-same, one-eq, times-join, times-append, times-first, units-append, IsRow-back}
+use Rattle.offset_allocator.proofs.Found.{Found, find}
+use Rattle.offset_allocator.proofs.Split.{spares-more}
+
+pub record Spot (c : Room) (m x : ℕ) (bs : List Block) : Type 0 where
+  pub front : List Block
+  pub here : Block
+  pub back : List Block
+  pub is : bs ≡ front ++ here ∷ back
+  pub name_is : here.name ≡ x
+  pub absent : named here.name front ≡ 0
+  pub at_x : node c x ≡ record { offset = units front; size = here.size; used = here.used; before = last_or None front; after = first_or None back }
+  pub below : x < m
+  pub end : units front + here.size < 2 ^ 32
+  pub next_stands : (z : ℕ) → first_or None back ≡ Some z → Stands z bs
+
+pub stands-below : (c : Room) (m last count x : ℕ) (bs : List Block) → IsChain c m last count bs → Stands x bs → x < m
+stands-below c m last count x bs h st = let e = h.each x in grind (arith, nat_tests)
+
+pub spare-below : (c : Room) (m last count : ℕ) (bs : List Block) → IsChain c m last (count + 1) bs → get_or c.spare count 0 < m
+spare-below c m last count bs h =
+    let y : ℕ = get_or c.spare count 0 in
+    let e = h.each y in
+    let long = h.full in
+    let taken : spares c (count + 1) ≡ spares c count ++ y ∷ [] = spares-more c count (omega (arith, h.stack)) in
+    let had : times y (spares c (count + 1)) ≡ times y (spares c count) + 1 = rw taken (omega (arith, times-join y (spares c count) (y ∷ []), one-same y)) in
+    grind (arith, nat_tests)
+
+pub spot : (c : Room) (m last count x : ℕ) (bs : List Block) → IsChain c m last count bs → Stands x bs → Spot c m x bs
+spot c m last count x bs h st =
+    let f = find x bs st in
+    let row = rw f.is at h.row in
+    let at_absent : named x f.front ≡ 0 = f.absent in
+    let node_is = (IsRow-back c None 0 f.front (f.here ∷ f.back) None row).0 in
+    record {
+      front = f.front;
+      here = f.here;
+      back = f.back;
+      is = f.is;
+      name_is = f.name_is;
+      absent = rw f.name_is at_absent;
+      at_x = ap (λ (v : ℕ). node c v) (sym f.name_is) ∙ node_is ∙ (ap (λ (o : ℕ). record { offset = o; size = f.here.size; used = f.here.used; before = last_or None f.front; after = first_or None f.back }) (omega arith));
+      below = stands-below c m last count x bs h st;
+      end = omega (arith, h.fits, ap units f.is, units-append f.front (f.here ∷ f.back));
+      next_stands = λ z e. rw f.is (omega (arith, times-append z f.front (f.here ∷ f.back), times-first z f.back e));
+    }

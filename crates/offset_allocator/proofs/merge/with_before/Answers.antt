@@ -1,0 +1,61 @@
+use Rattle.std.proofs.Common.{◌≡◌, ◌≤◌, ◌<◌, ◌∙◌, ℕ, List, length, Some, None, true, false, refl, sym, ap, subst, arith}
+use Rattle.offset_allocator.specs.Classes.{down}
+use Rattle.offset_allocator.specs.Cells.{Room, Links, Node, node}
+use Rattle.offset_allocator.specs.Space.{IsSpace, Stands, blocks, name_after, give_block, join_block}
+use Rattle.offset_allocator.specs.Orders.{class_lists}
+use Rattle.offset_allocator.proofs.Sizes.{down_small}
+use Rattle.offset_allocator.proofs.Merging.{standing, before_pair, kept_none, kept_used, joined_free, listed_before}
+use Rattle.offset_allocator.proofs.merge.with_before.Goals as goal
+
+pub used-requires : goal.used-requires
+used-requires g c =
+    (before_pair c.args.t.now.room c.args.last c.args.spare_count.now c.args.x c.requires.space (standing c.args.t.now.room c.args.last c.args.spare_count.now c.args.x c.requires.space c.requires.standing) c.in-Some.w (sym c.in-Some.ensures.cell)).below
+
+pub size-size-requires : goal.size-size-requires
+size-size-requires g c =
+    (before_pair c.args.t.now.room c.args.last c.args.spare_count.now c.args.x c.requires.space (standing c.args.t.now.room c.args.last c.args.spare_count.now c.args.x c.requires.space c.requires.standing) c.in-Some.w (sym c.in-Some.ensures.cell)).below
+
+pub remove-requires-clause-classed : goal.remove-requires-clause-classed
+remove-requires-clause-classed g c =
+    let s = down_small c.size-size.result in omega (arith, s, c.uint_to_float_round_down.ensures.is)
+
+pub remove-requires-clause-listed : goal.remove-requires-clause-listed
+remove-requires-clause-listed g c =
+    let free : (node c.args.t.now.room c.in-Some.w).used ≡ false = sym c.if-not-used.ensures.cell in
+    listed_before c.args.t.now.room c.args.last c.args.spare_count.now c.args.x c.requires.space (standing c.args.t.now.room c.args.last c.args.spare_count.now c.args.x c.requires.space c.requires.standing) c.in-Some.w (before_pair c.args.t.now.room c.args.last c.args.spare_count.now c.args.x c.requires.space (standing c.args.t.now.room c.args.last c.args.spare_count.now c.args.x c.requires.space c.requires.standing) c.in-Some.w (sym c.in-Some.ensures.cell)) (class_lists g.NI.NodeIndex.MAX c.args.t.now.links) c.requires.listed free _ (c.uint_to_float_round_down.ensures.is ∙ ap down c.size-size.ensures.cell)
+
+pub join_before-requires-clause-standing : goal.join_before-requires-clause-standing
+join_before-requires-clause-standing g c =
+    subst (λ (r : Room). Stands c.in-Some.w (blocks r c.args.last)) (sym c.remove.ensures.room) (before_pair c.args.t.now.room c.args.last c.args.spare_count.now c.args.x c.requires.space (standing c.args.t.now.room c.args.last c.args.spare_count.now c.args.x c.requires.space c.requires.standing) c.in-Some.w (sym c.in-Some.ensures.cell)).stands
+
+pub join_before-requires-clause-next : goal.join_before-requires-clause-next
+join_before-requires-clause-next g c =
+    subst (λ (r : Room). name_after c.in-Some.w (blocks r c.args.last) ≡ Some c.args.x) (sym c.remove.ensures.room) (before_pair c.args.t.now.room c.args.last c.args.spare_count.now c.args.x c.requires.space (standing c.args.t.now.room c.args.last c.args.spare_count.now c.args.x c.requires.space c.requires.standing) c.in-Some.w (sym c.in-Some.ensures.cell)).next
+
+pub returns-then-not-used-clause-blocks : goal.returns-then-not-used-clause-blocks
+returns-then-not-used-clause-blocks g c =
+    let free : (node c.args.t.now.room c.in-Some.w).used ≡ false = sym c.if-not-used.ensures.cell in
+    c.join_before.ensures.blocks ∙ ap (λ (r : Room). give_block c.in-Some.w (blocks r c.args.last)) c.remove.ensures.room ∙ (joined_free c.args.t.now.room c.args.last c.args.spare_count.now c.args.x c.requires.space (standing c.args.t.now.room c.args.last c.args.spare_count.now c.args.x c.requires.space c.requires.standing) c.in-Some.w (before_pair c.args.t.now.room c.args.last c.args.spare_count.now c.args.x c.requires.space (standing c.args.t.now.room c.args.last c.args.spare_count.now c.args.x c.requires.space c.requires.standing) c.in-Some.w (sym c.in-Some.ensures.cell)) free).0
+
+pub returns-then-not-used-clause-lists : goal.returns-then-not-used-clause-lists
+returns-then-not-used-clause-lists g c =
+    let free : (node c.args.t.now.room c.in-Some.w).used ≡ false = sym c.if-not-used.ensures.cell in
+    ap (λ (k : Links). class_lists g.NI.NodeIndex.MAX k) c.join_before.ensures.links ∙ c.remove.ensures.lists ∙ (joined_free c.args.t.now.room c.args.last c.args.spare_count.now c.args.x c.requires.space (standing c.args.t.now.room c.args.last c.args.spare_count.now c.args.x c.requires.space c.requires.standing) c.in-Some.w (before_pair c.args.t.now.room c.args.last c.args.spare_count.now c.args.x c.requires.space (standing c.args.t.now.room c.args.last c.args.spare_count.now c.args.x c.requires.space c.requires.standing) c.in-Some.w (sym c.in-Some.ensures.cell)) free).1 (class_lists g.NI.NodeIndex.MAX c.args.t.now.links) _ (c.uint_to_float_round_down.ensures.is ∙ ap down c.size-size.ensures.cell)
+
+pub returns-else-not-used-clause-blocks : goal.returns-else-not-used-clause-blocks
+returns-else-not-used-clause-blocks g c =
+    let used : (node c.args.t.now.room c.in-Some.w).used ≡ true = sym c.if-not-used.ensures.cell in
+    sym (kept_used c.args.t.now.room c.args.last c.args.spare_count.now c.args.x c.requires.space (standing c.args.t.now.room c.args.last c.args.spare_count.now c.args.x c.requires.space c.requires.standing) c.in-Some.w (before_pair c.args.t.now.room c.args.last c.args.spare_count.now c.args.x c.requires.space (standing c.args.t.now.room c.args.last c.args.spare_count.now c.args.x c.requires.space c.requires.standing) c.in-Some.w (sym c.in-Some.ensures.cell)) used).0
+
+pub returns-else-not-used-clause-lists : goal.returns-else-not-used-clause-lists
+returns-else-not-used-clause-lists g c =
+    let used : (node c.args.t.now.room c.in-Some.w).used ≡ true = sym c.if-not-used.ensures.cell in
+    sym ((kept_used c.args.t.now.room c.args.last c.args.spare_count.now c.args.x c.requires.space (standing c.args.t.now.room c.args.last c.args.spare_count.now c.args.x c.requires.space c.requires.standing) c.in-Some.w (before_pair c.args.t.now.room c.args.last c.args.spare_count.now c.args.x c.requires.space (standing c.args.t.now.room c.args.last c.args.spare_count.now c.args.x c.requires.space c.requires.standing) c.in-Some.w (sym c.in-Some.ensures.cell)) used).1 _)
+
+pub returns-in_default-clause-blocks : goal.returns-in_default-clause-blocks
+returns-in_default-clause-blocks g c =
+    sym (kept_none c.args.t.now.room c.args.last c.args.spare_count.now c.args.x c.requires.space (standing c.args.t.now.room c.args.last c.args.spare_count.now c.args.x c.requires.space c.requires.standing) (sym c.in_default.ensures.cell)).0
+
+pub returns-in_default-clause-lists : goal.returns-in_default-clause-lists
+returns-in_default-clause-lists g c =
+    sym ((kept_none c.args.t.now.room c.args.last c.args.spare_count.now c.args.x c.requires.space (standing c.args.t.now.room c.args.last c.args.spare_count.now c.args.x c.requires.space c.requires.standing) (sym c.in_default.ensures.cell)).1 _)

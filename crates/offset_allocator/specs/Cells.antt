@@ -1,0 +1,72 @@
+-- What the tables hold, without an index type: nodes and spare names, and the links of the class lists.
+use Rattle.std.specs.Prelude.{ℕ, Bool, false, List, Option, Some, None, length, ◌≡◌, ◌≤◌, ◌-◌, ◌++◌, ◌∷◌, [], replicate, map, slice_set, slice_index, slice_index_or, eqb, if◌then◌else◌}
+use Rattle.std.specs.List.{range_with_len}
+
+pub record Node : Type 0 where
+  pub offset : ℕ
+  pub size : ℕ
+  pub used : Bool
+  pub before : Option ℕ
+  pub after : Option ℕ
+
+-- what the chain of blocks works on
+pub record Room : Type 0 where
+  pub nodes : List Node
+  pub spare : List ℕ
+
+-- what the class lists work on; a greatest number stands for no link
+pub record Links : Type 0 where
+  pub newer : List ℕ
+  pub older : List ℕ
+  pub heads : List ℕ
+  pub masks : List ℕ
+
+pub record Cells : Type 0 where
+  pub room : Room
+  pub links : Links
+
+abbrev pub blank : Node
+blank = record { offset = 0; size = 0; used = false; before = None; after = None }
+
+unfoldable pub node : Room → ℕ → Node
+node c x = slice_index_or c.nodes x (record { offset = 0; size = 0; used = false; before = None; after = None })
+
+unfoldable pub put : Room → ℕ → Node → Room
+put c x n = record c { nodes = slice_set c.nodes x n }
+
+unfoldable pub with_spare : Room → ℕ → ℕ → Room
+with_spare c i v = record c { spare = slice_set c.spare i v }
+
+-- a link of this number, where the greatest number stands for no link
+abbrev pub link_of : ℕ → ℕ → Option ℕ
+link_of max n = if eqb n max then None else Some n
+
+abbrev pub links_of : {A : Type 0} → ℕ → (A → ℕ) → List A → List (Option ℕ)
+links_of max number xs = map (λ x. link_of max (number x)) xs
+
+-- one table for each field, as one list of nodes
+unfoldable pub nodes_of : List ℕ → List ℕ → List Bool → List (Option ℕ) → List (Option ℕ) → List Node
+nodes_of os ss us bs fs = map (λ k. record {
+  offset = slice_index os k;
+  size = slice_index ss k;
+  used = slice_index_or us k false;
+  before = slice_index_or bs k None;
+  after = slice_index_or fs k None;
+}) (range_with_len 0 (length os))
+
+-- the tables have one length, of at most the greatest number, and there is a head for each class
+pub record AreShaped (max : ℕ) (c : Cells) : Type 0 where
+  pub spare : length c.room.spare ≡ length c.room.nodes
+  pub newer : length c.links.newer ≡ length c.room.nodes
+  pub older : length c.links.older ≡ length c.room.nodes
+  pub heads : length c.links.heads ≡ 256
+  pub masks : length c.links.masks ≡ 4
+  pub limit : length c.room.nodes ≤ max
+  pub word : length c.room.nodes ≤ 4294967295
+
+-- tables for m nodes, with nothing written
+abbrev pub empty_cells : ℕ → ℕ → Cells
+empty_cells max m = record {
+  room = record { nodes = nodes_of (replicate m 0) (replicate m 0) (replicate m false) (replicate m None) (replicate m None); spare = range_with_len 1 (m - 1) ++ 0 ∷ [] };
+  links = record { newer = replicate m max; older = replicate m max; heads = replicate 256 max; masks = replicate 4 0 };
+}

@@ -1,0 +1,10 @@
+pub mod Cells
+pub mod Classes
+pub mod Count
+pub mod Named
+pub mod Orders
+pub mod Relations
+pub mod Reports
+pub mod Space
+pub mod State
+pub mod View

@@ -1,0 +1,93 @@
+-- The blocks of a space in order, and how linked nodes stand for them.
+use Rattle.std.specs.Prelude.{ℕ, suc, Bool, true, false, List, [], ◌∷◌, ◌++◌, Option, Some, None, ◌==◌, nat_lt, cond, length, take, slice_index, slice_index_or, ◌≡◌, ◌+◌, ◌-◌, ◌^◌, ◌<◌, ◌≤◌}
+use Rattle.std.proofs.Common.{zero}
+use Rattle.std.specs.List.{All}
+use Rattle.offset_allocator.specs.Cells.{Room, Node, node}
+use Rattle.offset_allocator.specs.Named.{Block, units, named, times}
+
+-- the name of the first block, or q where there is none
+abbrev pub first_or : Option ℕ → List Block → Option ℕ
+first_or q [] = q
+first_or q (b ∷ bs) = Some b.name
+
+abbrev pub last_or : Option ℕ → List Block → Option ℕ
+last_or p [] = p
+last_or p (b ∷ bs) = last_or (Some b.name) bs
+
+-- the nodes of the blocks bs, from the offset o on, stand between p and q
+abbrev pub IsRow : Room → Option ℕ → ℕ → List Block → Option ℕ → Type 0
+IsRow c p o [] q = Unit {0}
+IsRow c p o (b ∷ bs) q =
+    (node c b.name ≡ record { offset = o; size = b.size; used = b.used; before = p; after = first_or q bs })
+    × IsRow c (Some b.name) (o + b.size) bs q
+
+-- the blocks as the layer above sees them: from the last one back
+abbrev pub block_at : Room → ℕ → Block
+block_at c k = record { name = k; size = (node c k).size; used = (node c k).used }
+
+abbrev pub walk : Room → ℕ → Option ℕ → List Block → List Block
+walk c zero q rest = rest
+walk c (suc f) None rest = rest
+walk c (suc f) (Some k) rest = walk c f (node c k).before (block_at c k ∷ rest)
+
+unfoldable pub blocks : Room → ℕ → List Block
+blocks c last = walk c (length c.nodes) (Some last) []
+
+-- the unused names
+unfoldable pub spares : Room → ℕ → List ℕ
+spares c count = take count c.spare
+
+pub record IsChain (c : Room) (m last count : ℕ) (bs : List Block) : Type 0 where
+  pub cells : length c.nodes ≡ m
+  pub stack : length c.spare ≡ m
+  pub row : IsRow c None 0 bs None
+  pub ends : last_or None bs ≡ Some last
+  pub each : (k : ℕ) → named k bs + times k (spares c count) ≡ cond (nat_lt k m) 1 0
+  pub idle : (k : ℕ) → named k bs ≡ 0 → (node c k).used ≡ false
+  pub full : length bs + count ≡ m
+  pub fits : units bs < 2 ^ 32
+
+-- the tables hold a chain of nodes that ends in last, and count spare names
+abbrev pub IsSpace : Room → ℕ → ℕ → Type 0
+IsSpace c last count = IsChain c (length c.nodes) last count (blocks c last)
+
+-- the block named x cut to n, and the rest of it as a free block y behind it
+abbrev pub split_block : ℕ → ℕ → ℕ → List Block → List Block
+split_block x n y [] = []
+split_block x n y (b ∷ bs) =
+    cond (b.name == x) (record b { size = n } ∷ record { name = y; size = b.size - n; used = false } ∷ bs) (b ∷ split_block x n y bs)
+
+-- the block named x takes the size of the one behind it, which goes
+abbrev pub absorb : Block → List Block → List Block
+absorb b [] = b ∷ []
+absorb b (d ∷ bs) = record b { size = b.size + d.size } ∷ bs
+
+abbrev pub join_block : ℕ → List Block → List Block
+join_block x [] = []
+join_block x (b ∷ bs) = cond (b.name == x) (absorb b bs) (b ∷ join_block x bs)
+
+-- the name behind x
+abbrev pub name_after : ℕ → List Block → Option ℕ
+name_after x [] = None
+name_after x (b ∷ bs) = cond (b.name == x) (first_or None bs) (name_after x bs)
+
+abbrev pub size_in : ℕ → List Block → ℕ
+size_in x [] = 0
+size_in x (b ∷ bs) = cond (b.name == x) b.size (size_in x bs)
+
+abbrev pub Stands : ℕ → List Block → Type 0
+Stands x bs = 1 ≤ named x bs
+
+-- the block named x made used or free
+abbrev pub mark_block : ℕ → Bool → List Block → List Block
+mark_block x u [] = []
+mark_block x u (b ∷ bs) = cond (b.name == x) (record b { used = u } ∷ bs) (b ∷ mark_block x u bs)
+
+-- the block named w goes into the one behind it
+abbrev pub give : Block → List Block → List Block
+give b [] = b ∷ []
+give b (d ∷ bs) = record d { size = b.size + d.size } ∷ bs
+
+abbrev pub give_block : ℕ → List Block → List Block
+give_block w [] = []
+give_block w (b ∷ bs) = cond (b.name == w) (give b bs) (b ∷ give_block w bs)

@@ -1,0 +1,60 @@
+-- What is true of an allocator's fields.
+use Rattle.std.specs.Prelude.{◌≡◌, ℕ, ◌+◌, ◌<◌, replicate, length, Bool, true, false, List, [], ◌∷◌, ◌++◌, Option, Some, None, if◌then◌else◌}
+use Rattle.offset_allocator.specs.Classes.{down}
+use Rattle.offset_allocator.specs.Cells.{Cells, node}
+use Rattle.offset_allocator.specs.Orders.{Binned, class_lists, Among}
+use Rattle.offset_allocator.specs.Space.{IsSpace, blocks}
+use Rattle.offset_allocator.specs.Named.{View, Block, IsWellFormed, IsUnused, Grant, Outcome, Place, allocate, tally, units, place_of, free_end, without_end, free_start, without_start, is_used_at, free_block, put_first, times, names_at, listed}
+
+-- the units of the free blocks
+abbrev pub free_units : List Block → ℕ
+free_units bs = tally (λ b. if b.used then 0 else b.size) bs
+
+-- what contracts see, of the fields
+abbrev pub view_of : ℕ → ℕ → ℕ → Cells → ℕ → ℕ → View
+view_of max size limit c last accesses = record {
+  size = size;
+  max_allocs = limit;
+  blocks = blocks c.room last;
+  order = class_lists max c.links;
+  accesses = accesses;
+}
+
+pub record IsSound (max size limit : ℕ) (c : Cells) (last count top free : ℕ) : Type 0 where
+  pub nodes : length c.room.nodes ≡ limit
+  pub least : limit + 1 < max
+  pub space : IsSpace c.room last count
+  pub bins : Binned max c.links top
+  pub well : IsWellFormed (view_of max size limit c last 0)
+  pub total : free_units (blocks c.room last) ≡ free
+
+-- every free block is in the list of its class
+abbrev pub AreListed : List Block → List (List ℕ) → Type 0
+AreListed bs ls = (p : Place) → bs ≡ p.before ++ p.block ∷ p.after → p.block.used ≡ false → Among p.block.name (names_at ls (down p.block.size))
+
+-- the block named x joined with a free block directly before it, or after it; and that block
+abbrev pub merged_before : List Block → Option Place → List Block
+merged_before bs None = bs
+merged_before bs (Some p) = without_end p.before ++ record p.block { size = units (free_end p.before) + p.block.size } ∷ p.after
+
+abbrev pub merge_before : ℕ → List Block → List Block
+merge_before x bs = merged_before bs (place_of x bs)
+
+abbrev pub gone_before : Option Place → List Block
+gone_before None = []
+gone_before (Some p) = free_end p.before
+
+abbrev pub merged_after : List Block → Option Place → List Block
+merged_after bs None = bs
+merged_after bs (Some p) = p.before ++ record p.block { size = p.block.size + units (free_start p.after) } ∷ without_start p.after
+
+abbrev pub merge_after : ℕ → List Block → List Block
+merge_after x bs = merged_after bs (place_of x bs)
+
+abbrev pub gone_after : Option Place → List Block
+gone_after None = []
+gone_after (Some p) = free_start p.after
+
+-- the class lists hold the free blocks, each once
+abbrev pub AreFiled : List Block → List (List ℕ) → Type 0
+AreFiled bs ls = (k y : ℕ) → times y (names_at ls k) ≡ listed k y bs

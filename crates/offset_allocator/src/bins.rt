@@ -1,0 +1,150 @@
+// The names of free blocks, in a list for each size class, by links between the nodes, with a two-level mask.
+ghost use Rattle.std.specs.Prelude.{◌≡◌, ◌+◌, ◌<◌, ◌≤◌, ◌≢◌, ℕ, List, [], ◌∷◌, slice_set, length, drop, MatchOption};
+ghost use Rattle.offset_allocator.specs.Named.{names_at, without};
+ghost use Rattle.offset_allocator.specs.Orders.{IsUnlisted, IsLeastFrom, Among, relinked, Masked, flag, class_lists, Binned};
+
+use crate::accesses::Accesses;
+use crate::index::NodeIndex;
+use crate::tables::Tables;
+
+/// The least class from a class on that has a name.
+pub(crate) fn find_at_or_above<NI: NodeIndex>(
+    t: &Tables<NI>,
+    top: u32,
+    class: u32,
+    count: &mut Accesses,
+) -> Option<u32>
+    requires held { Binned NI.MAX t.now.links top }
+    requires classed { class < 256 }
+    ensures least { MatchOption result ((c : ℕ) → class ≤ c → c < 256 → names_at (class_lists NI.MAX t.now.links) c ≡ []) (IsLeastFrom class (class_lists NI.MAX t.now.links)) }
+    ensures count { count.new ≤ count.old + 2 }
+{
+    let word = class / 64;
+    let rest = t.mask(word, count) & (u64::MAX << (class % 64));
+    if rest != 0 {
+        return Some(word * 64 + rest.trailing_zeros());
+    }
+    let words = top & (u32::MAX << (word + 1));
+    if words == 0 {
+        return None;
+    }
+    let found = words.trailing_zeros();
+    Some(found * 64 + t.mask(found, count).trailing_zeros())
+}
+
+/// Puts a name first into a class.
+pub(crate) fn put_first<NI: NodeIndex>(
+    t: &mut Tables<NI>,
+    top: &mut u32,
+    name: u32,
+    class: u32,
+    count: &mut Accesses,
+)
+    requires held { Binned NI.MAX t.old.links top.old }
+    requires named { name < length t.old.links.newer }
+    requires classed { class < 256 }
+    requires fresh { IsUnlisted name (class_lists NI.MAX t.old.links) }
+    ensures held { Binned NI.MAX t.new.links top.new }
+    ensures lists { class_lists NI.MAX t.new.links ≡ slice_set (class_lists NI.MAX t.old.links) class (name ∷ names_at (class_lists NI.MAX t.old.links) class) }
+    ensures room { t.new.room ≡ t.old.room }
+    ensures count { count.new ≤ count.old + 6 }
+{
+    t.shape();
+    let first = t.head(class, count);
+    t.set_older(name, first, count);
+    t.set_newer(name, NI::MAX, count);
+    t.set_head(class, name, count);
+    if first == NI::MAX {
+        let word = class / 64;
+        let mask = t.mask(word, count);
+        t.set_mask(word, mask | 1 << (class % 64), count);
+        *top |= 1 << word;
+    } else {
+        t.set_newer(first, name, count);
+    }
+}
+
+fn link_newer<NI: NodeIndex>(t: &mut Tables<NI>, at: u32, to: u32, count: &mut Accesses)
+    requires at { at ≢ NI.MAX → at < length t.old.links.newer }
+    requires to { to ≤ NI.MAX }
+    ensures cells { t.new ≡ record t.old { links = record t.old.links { newer = relinked NI.MAX t.old.links.newer at to } } }
+    ensures count { count.new ≤ count.old + 1 }
+{
+    if at != NI::MAX {
+        t.set_newer(at, to, count);
+    }
+}
+
+fn link_older<NI: NodeIndex>(t: &mut Tables<NI>, at: u32, to: u32, count: &mut Accesses)
+    requires at { at ≢ NI.MAX → at < length t.old.links.older }
+    requires to { to ≤ NI.MAX }
+    ensures cells { t.new ≡ record t.old { links = record t.old.links { older = relinked NI.MAX t.old.links.older at to } } }
+    ensures count { count.new ≤ count.old + 1 }
+{
+    if at != NI::MAX {
+        t.set_older(at, to, count);
+    }
+}
+
+fn clear_class<NI: NodeIndex>(t: &mut Tables<NI>, top: &mut u32, class: u32, count: &mut Accesses)
+    requires classed { class < 256 }
+    ensures masked { (heads : List ℕ) (h : ℕ) → Masked NI.MAX heads t.old.links.masks top.old → length heads ≡ 256 → flag NI.MAX h ≡ 0 → Masked NI.MAX (slice_set heads class h) t.new.links.masks top.new }
+    ensures rest { t.new ≡ record t.old { links = record t.old.links { masks = t.new.links.masks } } }
+    ensures count { count.new ≤ count.old + 2 }
+{
+    let word = class / 64;
+    let rest = t.mask(word, count) & !(1 << (class % 64));
+    t.set_mask(word, rest, count);
+    if rest == 0 {
+        *top &= !(1 << word);
+    }
+}
+
+/// Takes a name out of its class.
+pub(crate) fn remove<NI: NodeIndex>(
+    t: &mut Tables<NI>,
+    top: &mut u32,
+    name: u32,
+    class: u32,
+    count: &mut Accesses,
+)
+    requires held { Binned NI.MAX t.old.links top.old }
+    requires classed { class < 256 }
+    requires listed { Among name (names_at (class_lists NI.MAX t.old.links) class) }
+    ensures held { Binned NI.MAX t.new.links top.new }
+    ensures lists { class_lists NI.MAX t.new.links ≡ slice_set (class_lists NI.MAX t.old.links) class (without name (names_at (class_lists NI.MAX t.old.links) class)) }
+    ensures room { t.new.room ≡ t.old.room }
+    ensures count { count.new ≤ count.old + 7 }
+{
+    let before = t.newer(name, count);
+    let after = t.older(name, count);
+    link_newer(t, after, before, count);
+    link_older(t, before, after, count);
+    if before == NI::MAX {
+        t.set_head(class, after, count);
+        if after == NI::MAX {
+            clear_class(t, top, class, count);
+        }
+    }
+}
+
+/// Takes the first name out of a class.
+pub(crate) fn take_first<NI: NodeIndex>(
+    t: &mut Tables<NI>,
+    top: &mut u32,
+    class: u32,
+    count: &mut Accesses,
+) -> u32
+    requires held { Binned NI.MAX t.old.links top.old }
+    requires classed { class < 256 }
+    requires full { names_at (class_lists NI.MAX t.old.links) class ≢ [] }
+    ensures first { names_at (class_lists NI.MAX t.old.links) class ≡ result ∷ without result (names_at (class_lists NI.MAX t.old.links) class) }
+    ensures held { Binned NI.MAX t.new.links top.new }
+    ensures lists { class_lists NI.MAX t.new.links ≡ slice_set (class_lists NI.MAX t.old.links) class (without result (names_at (class_lists NI.MAX t.old.links) class)) }
+    ensures room { t.new.room ≡ t.old.room }
+    ensures count { count.new ≤ count.old + 8 }
+{
+    let name = t.head(class, count);
+    remove(t, top, name, class, count);
+    name
+}
