@@ -27,3 +27,10 @@ module _ (none : ℕ) (t : Links) (top : ℕ) (k : Binned none t top) (c : ℕ) 
 
   pub head_first : names_at (class_lists none t) c ≡ x ∷ without x (names_at (class_lists none t) c)
   head_first = chain_head none (length t.newer) k.linked.names_small (slice_index t.newer) (slice_index t.older) none x (names_at (class_lists none t) c) at_class full
+
+  pub head_newer : slice_index t.newer x ≡ none
+  head_newer = first_newer (names_at (class_lists none t) c) at_class full
+    where
+      first_newer : (xs : List ℕ) → Chain none (length t.newer) (slice_index t.newer) (slice_index t.older) none x xs → xs ≢ [] → slice_index t.newer x ≡ none
+      first_newer [] k n = absurd (n refl)
+      first_newer (y ∷ ys) k n = ap (slice_index t.newer) k.0 ∙ k.2

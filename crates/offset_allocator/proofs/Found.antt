@@ -1,7 +1,7 @@
 -- A block found by its name, and the list functions at that place.
 use Rattle.std.proofs.Common.{◌≡◌, ◌≢◌, ℕ, ◌+◌, ◌-◌, ◌<◌, ◌≤◌, Bool, true, false, cond, Option, None, Some, List, [], ◌∷◌, ◌++◌, length, refl, sym, ◌∙◌, ap, arith, inl, inr}
 use Rattle.std.proofs.lemmas.Bool.{cases_eq, eq-eqb, ne_eqb}
-use Rattle.offset_allocator.specs.Space.{first_or, split_block, absorb, join_block, name_after, size_in}
+use Rattle.offset_allocator.specs.Space.{first_or, split_block, absorb, join_block, name_after, offset_in, size_in}
 use Rattle.offset_allocator.specs.Named.{Block, units, named}
 use Rattle.offset_allocator.proofs.Rows.{one-same, one-eq, one-other}
 
@@ -42,3 +42,7 @@ name_after-at (f ∷ fs) b cs h = rw (ne_eqb f.name b.name (head_not b.name f fs
 pub size_in-at : (fs : List Block) (b : Block) (cs : List Block) → named b.name fs ≡ 0 → size_in b.name (fs ++ b ∷ cs) ≡ b.size
 size_in-at [] b cs h = rw (eq-eqb b.name b.name refl)
 size_in-at (f ∷ fs) b cs h = rw (ne_eqb f.name b.name (head_not b.name f fs h)) (size_in-at fs b cs (omega arith))
+
+pub offset_in-at : (fs : List Block) (b : Block) (cs : List Block) → named b.name fs ≡ 0 → offset_in b.name (fs ++ b ∷ cs) ≡ units fs
+offset_in-at [] b cs h = rw (eq-eqb b.name b.name refl)
+offset_in-at (f ∷ fs) b cs h = rw (ne_eqb f.name b.name (head_not b.name f fs h)) (ap (λ o. f.size + o) (offset_in-at fs b cs (omega arith)))

@@ -4,13 +4,14 @@ use Rattle.std.proofs.lemmas.Bool.{false≢true}
 use Rattle.offset_allocator.specs.Classes.{up, down}
 use Rattle.offset_allocator.specs.Cells.{Cells, Room, Node, node}
 use Rattle.offset_allocator.specs.Named.{Block, View, Place, tally, one, is_free, named, listed, names_at, IsWellFormed, units, place_of, is_used_at, free_end, without_end, free_start, without_start, remove_all, put_first, free_block, free, freed_at, joined, remove, times}
-use Rattle.offset_allocator.specs.Space.{IsSpace, Stands, blocks, mark_block}
+use Rattle.offset_allocator.specs.Space.{IsSpace, Stands, blocks, mark_block, size_in}
 use Rattle.offset_allocator.specs.Orders.{Among, IsUnlisted, class_lists, Binned}
-use Rattle.offset_allocator.specs.State.{IsSound, view_of, free_units, AreListed, AreFiled, merge_before, merged_before, gone_before, merge_after, merged_after, gone_after}
-use Rattle.offset_allocator.specs.Relations.{IsLive}
+use Rattle.offset_allocator.specs.State.{Fields, IsSound, view_of, free_units, AreListed, AreFiled, merge_before, merged_before, gone_before, merge_after, merged_after, gone_after}
 use Rattle.offset_allocator.proofs.Joints.{with_accesses}
 use Rattle.offset_allocator.proofs.Rows.{one-eq, times-append}
 use Rattle.offset_allocator.proofs.Marks.{mark_block-at}
+use Rattle.offset_allocator.proofs.Found.{size_in-at}
+use Rattle.offset_allocator.proofs.Spot.{size-told}
 use Rattle.offset_allocator.proofs.Merging.{Standing, standing}
 use Rattle.offset_allocator.proofs.ViewSteps.{place_at, place_here}
 use Rattle.offset_allocator.proofs.ViewOrders.{tally_append, hit_cases, times_remove_all, length_remove_all}
@@ -65,9 +66,26 @@ free_most : (l : List Block) → free_units l ≤ units l
 free_most [] = omega arith
 free_most (b ∷ l) = let ih = free_most l in elim b.used as (λ u. (if u then 0 else b.size) + free_units l ≤ b.size + units l) [ true ↦ omega arith | false ↦ omega arith ]
 
-module _ (max size limit : ℕ) (c : Cells) (last count top total acc x : ℕ) (s : IsSound max size limit c last count top total) (live : is_used_at (place_of x (blocks c.room last)) ≡ true) where
+-- the handle names a used block, as the fields see it
+pub named_live : (u v : View) (x y : ℕ) → u ≡ v → y ≡ x → is_used_at (place_of y v.blocks) ≡ true → is_used_at (place_of x u.blocks) ≡ true
+named_live u v x y e q h = ap₂ (λ (i : ℕ) (z : View). is_used_at (place_of i z.blocks)) (sym q) e ∙ h
+
+-- a release: the field values at its start, and the name of a used block
+module _ (f : Fields) (s : IsSound f.max f.size f.limit f.cells f.last f.count f.top f.free) (x : ℕ) (live : is_used_at (place_of x (blocks f.cells.room f.last)) ≡ true) where
+  abbrev max : ℕ
+  max = f.max
+
+  abbrev c : Cells
+  c = f.cells
+
+  abbrev last : ℕ
+  last = f.last
+
+  abbrev total : ℕ
+  total = f.free
+
   abbrev v : View
-  v = view_of max size limit c last acc
+  v = view_of f.max f.size f.limit f.cells f.last f.accesses
 
   abbrev bs : List Block
   bs = blocks c.room last
@@ -76,13 +94,13 @@ module _ (max size limit : ℕ) (c : Cells) (last count top total acc x : ℕ) (
   ls = class_lists max c.links
 
   w : IsWellFormed v
-  w = well_counted (view_of max size limit c last 0) acc s.well
+  w = well_counted (view_of f.max f.size f.limit f.cells f.last 0) f.accesses s.well
 
-  pub stands : Stands x (blocks c.room last)
+  pub stands : Stands x (blocks f.cells.room f.last)
   stands = live_stands x bs live
 
-  pub at : Standing c.room (blocks c.room last) x
-  at = standing c.room last count x s.space stands
+  pub at : Standing f.cells.room (blocks f.cells.room f.last) x
+  at = standing c.room last f.count x s.space stands
 
   abbrev fs : List Block
   fs = at.place.before
@@ -96,29 +114,35 @@ module _ (max size limit : ℕ) (c : Cells) (last count top total acc x : ℕ) (
   used : b.used ≡ true
   used = sym (ap is_used_at at.is) ∙ live
 
-  pub room_for : total + at.place.block.size < 2 ^ 32
+  pub size_at_x : size_in x (blocks f.cells.room f.last) ≡ at.place.block.size
+  size_at_x = sym (size-told c.room last f.count x s.space stands) ∙ ap (λ (n : Node). n.size) at.at_x
+
+  pub room_for : f.free + at.place.block.size < 2 ^ 32
   room_for =
       let t = ap free_units at.stood ∙ free_units-append fs (b ∷ cs) ∙ ap (λ k. free_units fs + k) (free_units-used b cs used) in
       let u = ap units at.stood ∙ tally_append (λ (d : Block). d.size) fs (b ∷ cs) in
       omega (arith, s.total, t, u, free_most fs, free_most cs, s.space.fits)
 
-  pub listed_first : AreListed (blocks c.room last) (class_lists max c.links)
+  pub listed_first : AreListed (blocks f.cells.room f.last) (class_lists f.max f.cells.links)
   listed_first = filed_listed bs ls w.orders
 
-  -- without the free block before it
+  -- joined with a free block before it
   abbrev b₁ : Block
   b₁ = record b { size = units (free_end fs) + b.size }
 
-  abbrev bs₁ : List Block
-  bs₁ = without_end fs ++ b₁ ∷ cs
+  abbrev pub joined_once : List Block
+  joined_once = without_end at.place.before ++ record at.place.block { size = units (free_end at.place.before) + at.place.block.size } ∷ at.place.after
+
+  abbrev pub left_once : List (List ℕ)
+  left_once = remove_all (free_end at.place.before) (class_lists f.max f.cells.links)
 
   abbrev ls₁ : List (List ℕ)
-  ls₁ = remove_all (free_end fs) ls
+  ls₁ = left_once
 
-  pub first_blocks : merge_before x (blocks c.room last) ≡ without_end at.place.before ++ record at.place.block { size = units (free_end at.place.before) + at.place.block.size } ∷ at.place.after
+  pub first_blocks : merge_before x (blocks f.cells.room f.last) ≡ joined_once
   first_blocks = ap (merged_before bs) at.is
 
-  pub first_lists : remove_all (gone_before (place_of x (blocks c.room last))) (class_lists max c.links) ≡ remove_all (free_end at.place.before) (class_lists max c.links)
+  pub first_lists : remove_all (gone_before (place_of x (blocks f.cells.room f.last))) (class_lists f.max f.cells.links) ≡ left_once
   first_lists = ap (λ o. remove_all (gone_before o) ls) at.is
 
   parts : (k y : ℕ) → listed k y bs ≡ (listed k y (without_end fs) + listed k y (free_end fs)) + (listed k y (free_start cs) + listed k y (without_start cs))
@@ -129,30 +153,52 @@ module _ (max size limit : ℕ) (c : Cells) (last count top total acc x : ℕ) (
       (λ k y. omega (arith, w.orders k y, w.distinct y, listed_named k y bs))
       (λ k y. omega (arith, w.orders k y, parts k y))
 
-  pub filed_first : AreFiled (without_end at.place.before ++ record at.place.block { size = units (free_end at.place.before) + at.place.block.size } ∷ at.place.after) (remove_all (free_end at.place.before) (class_lists max c.links))
+  pub filed_first : AreFiled joined_once left_once
   filed_first k y = omega (arith, removed k y, w.orders k y, parts k y, tally_append (λ d. share k y d) (without_end fs) (b₁ ∷ cs), share_used k y b₁ used, tally_start (λ d. share k y d) cs)
 
   -- without the free block behind it
   alone_first : named x (without_end fs) ≡ 0
   alone_first = omega (arith, at.alone, tally_end (λ (d : Block). one (nat_eq x d.name)) fs)
 
-  pub place_first : place_of x (without_end at.place.before ++ record at.place.block { size = units (free_end at.place.before) + at.place.block.size } ∷ at.place.after) ≡ Some (record { before = without_end at.place.before; block = record at.place.block { size = units (free_end at.place.before) + at.place.block.size }; after = at.place.after })
+  pub place_first : place_of x joined_once ≡ Some (record { before = without_end at.place.before; block = record at.place.block { size = units (free_end at.place.before) + at.place.block.size }; after = at.place.after })
   place_first = place_here x (without_end fs) b₁ cs alone_first (sym at.name)
 
-  pub stands_first : Stands x (without_end at.place.before ++ record at.place.block { size = units (free_end at.place.before) + at.place.block.size } ∷ at.place.after)
+  pub stands_first : Stands x joined_once
   stands_first = omega (arith, times-append x (without_end fs) (b₁ ∷ cs), one-eq x b₁.name at.name)
 
-  abbrev b₂ : Block
-  b₂ = record b { size = (units (free_end fs) + b.size) + units (free_start cs) }
+  -- joined with a free block after it too
+  abbrev pub whole : ℕ
+  whole = (units (free_end at.place.before) + at.place.block.size) + units (free_start at.place.after)
 
-  pub stands_second : Stands x (without_end at.place.before ++ record at.place.block { size = (units (free_end at.place.before) + at.place.block.size) + units (free_start at.place.after) } ∷ without_start at.place.after)
+  abbrev b₂ : Block
+  b₂ = record b { size = whole }
+
+  abbrev pub joined_twice : List Block
+  joined_twice = without_end at.place.before ++ record at.place.block { size = whole } ∷ without_start at.place.after
+
+  abbrev pub left_twice : List (List ℕ)
+  left_twice = remove_all (free_start at.place.after) left_once
+
+  abbrev pub freed_blocks : List Block
+  freed_blocks = without_end at.place.before ++ free_block at.place.block.name whole ∷ without_start at.place.after
+
+  pub second_blocks : merge_after x joined_once ≡ joined_twice
+  second_blocks = ap (merged_after joined_once) place_first
+
+  pub second_lists : remove_all (gone_after (place_of x joined_once)) left_once ≡ left_twice
+  second_lists = ap (λ o. remove_all (gone_after o) left_once) place_first
+
+  pub whole_size : size_in x joined_twice ≡ whole
+  whole_size = ap (λ i. size_in i (without_end fs ++ b₂ ∷ without_start cs)) (sym at.name) ∙ size_in-at (without_end fs) b₂ (without_start cs) (ap (λ i. named i (without_end fs)) at.name ∙ alone_first)
+
+  pub stands_second : Stands x joined_twice
   stands_second = omega (arith, times-append x (without_end fs) (b₂ ∷ without_start cs), one-eq x b₂.name at.name)
 
-  pub marked_second : mark_block x false (without_end at.place.before ++ record at.place.block { size = (units (free_end at.place.before) + at.place.block.size) + units (free_start at.place.after) } ∷ without_start at.place.after)
-      ≡ without_end at.place.before ++ record { name = at.place.block.name; size = (units (free_end at.place.before) + at.place.block.size) + units (free_start at.place.after); used = false } ∷ without_start at.place.after
+  pub marked_second : mark_block x false joined_twice
+      ≡ freed_blocks
   marked_second = ap (λ i. mark_block i false (without_end fs ++ b₂ ∷ without_start cs)) (sym at.name) ∙ mark_block-at (without_end fs) b₂ (without_start cs) false (ap (λ i. named i (without_end fs)) at.name ∙ alone_first)
 
-  pub unlisted_second : IsUnlisted x (remove_all (free_start at.place.after) (remove_all (free_end at.place.before) (class_lists max c.links)))
+  pub unlisted_second : IsUnlisted x left_twice
   unlisted_second k kh a =
       let one_x : named x cs ≡ 0 = omega (arith, w.distinct x, ap (named x) at.stood, tally_append (λ (d : Block). one (nat_eq x d.name)) fs (b ∷ cs), hits) in
       let r = times_remove_all (free_start cs) ls₁ (length_remove_all (free_end fs) ls ∙ w.classes)
@@ -163,21 +209,21 @@ module _ (max size limit : ℕ) (c : Cells) (last count top total acc x : ℕ) (
       hits : one (nat_eq x b.name) ≡ 1
       hits = elim (hit_cases x b.name) [ inl h ↦ h.1 | inr h ↦ absurd (h.0 (sym at.name)) ]
 
-  pub freed : (d : Cells) (last' count' top' acc' : ℕ) → IsSpace d.room last' count' → Binned max d.links top' → length d.room.nodes ≡ length c.room.nodes
-      → blocks d.room last' ≡ without_end at.place.before ++ record { name = at.place.block.name; size = (units (free_end at.place.before) + at.place.block.size) + units (free_start at.place.after); used = false } ∷ without_start at.place.after
-      → class_lists max d.links ≡ put_first (down ((units (free_end at.place.before) + at.place.block.size) + units (free_start at.place.after))) x (remove_all (free_start at.place.after) (remove_all (free_end at.place.before) (class_lists max c.links)))
-      → IsSound max size limit d last' count' top' (total + at.place.block.size) × (view_of max size limit d last' acc' ≡ with_accesses acc' (free x (view_of max size limit c last acc)))
+  pub freed : (d : Cells) (last' count' top' acc' : ℕ) → IsSpace d.room last' count' → Binned max d.links top' → length d.room.nodes ≡ length f.cells.room.nodes
+      → blocks d.room last' ≡ freed_blocks
+      → class_lists f.max d.links ≡ put_first (down whole) x left_twice
+      → IsSound f.max f.size f.limit d last' count' top' (f.free + at.place.block.size) × (view_of f.max f.size f.limit d last' acc' ≡ with_accesses acc' (free x (view_of f.max f.size f.limit f.cells f.last f.accesses)))
   freed d last' count' top' acc' space bins nodes eb eo =
       let gone : List Block = free_end fs ++ ((b ∷ []) ++ free_start cs) in
       let sum : units gone ≡ (units (free_end fs) + b.size) + units (free_start cs) = tally_append (λ (d : Block). d.size) (free_end fs) (b ∷ free_start cs) ∙ omega arith in
       let is : free x v ≡ joined v fs (b ∷ []) b.name cs = ap (freed_at v) at.is in
       let blocks_are : blocks d.room last' ≡ without_end fs ++ ((free_block b.name (units gone) ∷ []) ++ without_start cs) = eb ∙ sym (ap (λ (k : ℕ). without_end fs ++ free_block b.name k ∷ without_start cs) sum) in
       let removes : remove_all gone ls ≡ remove_all (free_start cs) (remove_all (free_end fs) ls) = remove_all-append (free_end fs) (b ∷ free_start cs) ls ∙ remove_used b (free_start cs) (remove_all (free_end fs) ls) used in
-      let order_is : class_lists max d.links ≡ put_first (down (units gone)) b.name (remove_all gone ls) = eo ∙ sym (ap (λ (o : List (List ℕ)). put_first (down (units gone)) b.name o) removes ∙ ap₂ (λ (k i : ℕ). put_first (down k) i (remove_all (free_start cs) (remove_all (free_end fs) ls))) sum at.name) in
-      let left : (k : ℕ) → view_of max size limit d last' k ≡ with_accesses k (free x v) = λ k. same_view v _ _ _ _ k blocks_are order_is ∙ ap (with_accesses k) (sym is) in
+      let order_is : class_lists f.max d.links ≡ put_first (down (units gone)) b.name (remove_all gone ls) = eo ∙ sym (ap (λ (o : List (List ℕ)). put_first (down (units gone)) b.name o) removes ∙ ap₂ (λ (k i : ℕ). put_first (down k) i (remove_all (free_start cs) (remove_all (free_end fs) ls))) sum at.name) in
+      let left : (k : ℕ) → view_of f.max f.size f.limit d last' k ≡ with_accesses k (free x v) = λ k. same_view v _ _ _ _ k blocks_are order_is ∙ ap (with_accesses k) (sym is) in
       let t = ap free_units at.stood ∙ free_units-append fs (b ∷ cs) ∙ ap (λ k. free_units fs + k) (free_units-used b cs used) in
-      let f : Block = free_block b.name ((units (free_end fs) + b.size) + units (free_start cs)) in
-      let new = ap free_units eb ∙ free_units-append (without_end fs) (f ∷ without_start cs) ∙ ap (λ k. free_units (without_end fs) + k) (free_units-free f (without_start cs) refl) in (
+      let freed : Block = free_block b.name ((units (free_end fs) + b.size) + units (free_start cs)) in
+      let new = ap free_units eb ∙ free_units-append (without_end fs) (freed ∷ without_start cs) ∙ ap (λ k. free_units (without_end fs) + k) (free_units-free freed (without_start cs) refl) in (
         record {
           nodes = nodes ∙ s.nodes;
           least = s.least;

@@ -4,13 +4,13 @@ use Rattle.std.proofs.lemmas.Bool.{lt-leb}
 use Rattle.offset_allocator.specs.Classes.{up, down}
 use Rattle.offset_allocator.specs.Cells.{Cells, Room, Node, node}
 use Rattle.offset_allocator.specs.Named.{Block, View, Place, Grant, Outcome, named, names_at, IsWellFormed, IsUnused, is_short_of, allocate, refused, free_part, used_block, free_block, units, remove_all, put_all, remove, put_first, without}
-use Rattle.offset_allocator.specs.Space.{IsSpace, IsChain, IsRow, Stands, blocks, mark_block, split_block, size_in, last_or, first_or}
+use Rattle.offset_allocator.specs.Space.{IsSpace, IsChain, IsRow, Stands, blocks, mark_block, split_block, offset_in, size_in, last_or, first_or}
 use Rattle.offset_allocator.specs.Orders.{Among, IsUnlisted, IsLeastFrom, class_lists, Binned}
-use Rattle.offset_allocator.specs.State.{IsSound, view_of, free_units}
+use Rattle.offset_allocator.specs.State.{Fields, IsSound, view_of, free_units}
 use Rattle.offset_allocator.specs.Relations.{Allocates}
 use Rattle.offset_allocator.proofs.Joints.{with_accesses}
 use Rattle.offset_allocator.proofs.Rows.{one-eq, times-append, IsRow-back}
-use Rattle.offset_allocator.proofs.Found.{split_block-at, size_in-at}
+use Rattle.offset_allocator.proofs.Found.{split_block-at, size_in-at, offset_in-at}
 use Rattle.offset_allocator.proofs.Marks.{mark_block-at}
 use Rattle.offset_allocator.proofs.Spot.{spot, stands-below}
 use Rattle.offset_allocator.proofs.Sizes.{fits_size, down_small}
@@ -21,9 +21,19 @@ use Rattle.offset_allocator.proofs.Joints.{unused_unlisted, unlisted_removed, Ta
 pub same_view : (v : View) (bs bs' : List Block) (os os' : List (List ℕ)) (k : ℕ) → bs ≡ bs' → os ≡ os' → record v { blocks = bs; order = os; accesses = k } ≡ record v { blocks = bs'; order = os'; accesses = k }
 same_view v bs bs' os os' k e f = ap₂ (λ (b : List Block) (o : List (List ℕ)). record v { blocks = b; order = o; accesses = k }) e f
 
-module _ (max size limit : ℕ) (c : Cells) (last count top free acc n class x : ℕ) (s : IsSound max size limit c last count top free) (room : is_short_of 1 (view_of max size limit c last acc) ≡ false) (l : IsLeastFrom (up n) (class_lists max c.links) class) (xs : List ℕ) (first : names_at (class_lists max c.links) class ≡ x ∷ xs) where
+-- a grant: the field values at its start, a class with a free block for n, and the first name there
+module _ (f : Fields) (n class x : ℕ) (s : IsSound f.max f.size f.limit f.cells f.last f.count f.top f.free) (room : is_short_of 1 (view_of f.max f.size f.limit f.cells f.last f.accesses) ≡ false) (l : IsLeastFrom (up n) (class_lists f.max f.cells.links) class) (xs : List ℕ) (first : names_at (class_lists f.max f.cells.links) class ≡ x ∷ xs) where
+  abbrev max : ℕ
+  max = f.max
+
+  abbrev c : Cells
+  c = f.cells
+
+  abbrev last : ℕ
+  last = f.last
+
   abbrev v : View
-  v = view_of max size limit c last acc
+  v = view_of f.max f.size f.limit f.cells f.last f.accesses
 
   abbrev bs : List Block
   bs = blocks c.room last
@@ -31,11 +41,11 @@ module _ (max size limit : ℕ) (c : Cells) (last count top free acc n class x :
   abbrev ls : List (List ℕ)
   ls = class_lists max c.links
 
-  pub w : IsWellFormed (view_of max size limit c last acc)
-  w = well_counted (view_of max size limit c last 0) acc s.well
+  pub w : IsWellFormed (view_of f.max f.size f.limit f.cells f.last f.accesses)
+  w = well_counted (view_of f.max f.size f.limit f.cells f.last 0) f.accesses s.well
 
-  pub got : TakenHere n (view_of max size limit c last acc) class x
-  got = taken_here n (view_of max size limit c last acc) w class x xs l first
+  pub got : TakenHere n (view_of f.max f.size f.limit f.cells f.last f.accesses) class x
+  got = taken_here n (view_of f.max f.size f.limit f.cells f.last f.accesses) w class x xs l first
 
   -- the block that is taken
   abbrev p : Place
@@ -50,36 +60,30 @@ module _ (max size limit : ℕ) (c : Cells) (last count top free acc n class x :
   pub enough : n ≤ got.place.block.size
   enough = fits_size n got.place.block.size (le-leb (up n) (down got.place.block.size) got.here.class)
 
-  pub stands : Stands x (blocks c.room last)
+  pub stands : Stands x (blocks f.cells.room f.last)
   stands = rw got.here.stood (omega (arith, times-append x p.before (p.block ∷ p.after), one-eq x p.block.name got.name))
-
-  pub x_below : x < length c.room.nodes
-  x_below = stands-below c.room (length c.room.nodes) last count x bs s.space stands
-
-  pub x_node : node c.room x ≡ record { offset = units got.place.before; size = got.place.block.size; used = got.place.block.used; before = last_or None got.place.before; after = first_or None got.place.after }
-  x_node =
-      let P : List Block → Type 0 = λ b. IsRow c.room None 0 b None in
-      let row = (IsRow-back c.room None 0 p.before (p.block ∷ p.after) None (subst P got.here.stood s.space.row)).0 in
-      ap (λ (i : ℕ). node c.room i) (sym got.name) ∙ row ∙ ap (λ (o : ℕ). record { offset = o; size = p.block.size; used = p.block.used; before = last_or None p.before; after = first_or None p.after }) (omega arith)
 
   marked : mark_block x true bs ≡ p.before ++ record p.block { used = true } ∷ p.after
   marked = ap (λ b. mark_block x true b) got.here.stood ∙ ap (λ y. mark_block y true (p.before ++ p.block ∷ p.after)) (sym got.name) ∙ mark_block-at p.before p.block p.after true alone
 
   -- before the rest is cut off
-  pub stands_marked : (d : Room) (e : blocks d last ≡ mark_block x true (blocks c.room last)) → Stands x (blocks d last)
+  pub stands_marked : (d : Room) (e : blocks d f.last ≡ mark_block x true (blocks f.cells.room f.last)) → Stands x (blocks d f.last)
   stands_marked d e = rw (e, marked) (omega (arith, times-append x p.before (record p.block { used = true } ∷ p.after), one-eq x p.block.name got.name))
 
-  pub size_marked : (d : Room) (e : blocks d last ≡ mark_block x true (blocks c.room last)) → size_in x (blocks d last) ≡ got.place.block.size
+  pub size_marked : (d : Room) (e : blocks d f.last ≡ mark_block x true (blocks f.cells.room f.last)) → size_in x (blocks d f.last) ≡ got.place.block.size
   size_marked d e = ap (size_in x) (e ∙ marked) ∙ ap (λ y. size_in y (p.before ++ record p.block { used = true } ∷ p.after)) (sym got.name) ∙ size_in-at p.before (record p.block { used = true }) p.after alone
 
+  pub offset_marked : (d : Room) (e : blocks d f.last ≡ mark_block x true (blocks f.cells.room f.last)) → offset_in x (blocks d f.last) ≡ units got.place.before
+  offset_marked d e = ap (offset_in x) (e ∙ marked) ∙ ap (λ y. offset_in y (p.before ++ record p.block { used = true } ∷ p.after)) (sym got.name) ∙ offset_in-at p.before (record p.block { used = true }) p.after alone
+
   -- a name that is new among the marked blocks is unused
-  pub unused_rest : (d : Room) (y : ℕ) → blocks d last ≡ mark_block x true (blocks c.room last) → named y (blocks d last) ≡ 0 → y < length c.room.nodes → IsUnused y (view_of max size limit c last acc)
+  pub unused_rest : (d : Room) (y : ℕ) → blocks d f.last ≡ mark_block x true (blocks f.cells.room f.last) → named y (blocks d f.last) ≡ 0 → y < length f.cells.room.nodes → IsUnused y (view_of f.max f.size f.limit f.cells f.last f.accesses)
   unused_rest d y e t b = record {
     below = omega (arith, s.nodes);
     absent = ap (λ z. named y z) got.here.stood ∙ (let q = ap (λ z. named y z) (e ∙ marked) in omega (arith, t, times-append y p.before (p.block ∷ p.after), times-append y p.before (record p.block { used = true } ∷ p.after)));
   }
 
-  pub rest_unlisted : (y : ℕ) → IsUnused y (view_of max size limit c last acc) → IsUnlisted y (slice_set (class_lists max c.links) class (without x (names_at (class_lists max c.links) class)))
+  pub rest_unlisted : (y : ℕ) → IsUnused y (view_of f.max f.size f.limit f.cells f.last f.accesses) → IsUnlisted y (slice_set (class_lists f.max f.cells.links) class (without x (names_at (class_lists f.max f.cells.links) class)))
   rest_unlisted y u = unlisted_removed y x class ls w.classes l.1 (unused_unlisted v w y u.absent)
 
   removed : remove_all (p.block ∷ []) ls ≡ slice_set ls class (without x (names_at ls class))
@@ -88,10 +92,10 @@ module _ (max size limit : ℕ) (c : Cells) (last count top free acc n class x :
   left_free : (b' : Block) (zs : List Block) → b'.used ≡ true → free_units (p.before ++ b' ∷ zs) ≡ free_units p.before + free_units zs
   left_free b' zs u = free_units-append p.before (b' ∷ zs) ∙ ap (λ k. free_units p.before + k) (free_units-used b' zs u)
 
-  had_free : free ≡ free_units p.before + (p.block.size + free_units p.after)
+  had_free : f.free ≡ free_units p.before + (p.block.size + free_units p.after)
   had_free = sym s.total ∙ ap free_units got.here.stood ∙ free_units-append p.before (p.block ∷ p.after) ∙ ap (λ k. free_units p.before + k) (free_units-free p.block p.after is_free)
 
-  pub free_enough : n ≤ free
+  pub free_enough : n ≤ f.free
   free_enough = omega (arith, had_free, enough)
 
   abbrev new_blocks : ℕ → List Block
@@ -100,12 +104,12 @@ module _ (max size limit : ℕ) (c : Cells) (last count top free acc n class x :
   abbrev new_order : ℕ → List (List ℕ)
   new_order y = put_all (free_part y 0 ++ used_block p.block.name n ∷ free_part y (p.block.size - (0 + n))) (remove_all (p.block ∷ []) ls)
 
-  concluded : (d : Cells) (last' count' top' acc' y : ℕ) → IsSpace d.room last' count' → Binned max d.links top' → length d.room.nodes ≡ length c.room.nodes → IsUnused y v
-      → blocks d.room last' ≡ new_blocks y → class_lists max d.links ≡ new_order y → free_units (blocks d.room last') ≡ free - n
-      → IsSound max size limit d last' count' top' (free - n) × Allocates n (view_of max size limit c last acc) (view_of max size limit d last' acc') (Some (record { name = x; offset = units p.before }))
+  concluded : (d : Cells) (last' count' top' acc' y : ℕ) → IsSpace d.room last' count' → Binned max d.links top' → length d.room.nodes ≡ length f.cells.room.nodes → IsUnused y v
+      → blocks d.room last' ≡ new_blocks y → class_lists f.max d.links ≡ new_order y → free_units (blocks d.room last') ≡ f.free - n
+      → IsSound f.max f.size f.limit d last' count' top' (f.free - n) × Allocates n (view_of f.max f.size f.limit f.cells f.last f.accesses) (view_of f.max f.size f.limit d last' acc') (Some (record { name = x; offset = units p.before }))
   concluded d last' count' top' acc' y space bins nodes unused blocks_are order_is total =
       let is = allocate_granted n y v p room got.is in
-      let left : (k : ℕ) → view_of max size limit d last' k ≡ with_accesses k (allocate n y v).view = λ k. same_view v _ _ _ _ k blocks_are order_is ∙ ap (λ (o : Outcome). with_accesses k o.view) (sym is) in
+      let left : (k : ℕ) → view_of f.max f.size f.limit d last' k ≡ with_accesses k (allocate n y v).view = λ k. same_view v _ _ _ _ k blocks_are order_is ∙ ap (λ (o : Outcome). with_accesses k o.view) (sym is) in
       let grant : Grant = record { name = x; offset = units p.before } in
       let answered : Some grant ≡ (allocate n y v).grant = ap₂ (λ (i o : ℕ). let h : Grant = record { name = i; offset = o } in Some h) (sym got.name) (omega arith) ∙ ap (λ (o : Outcome). o.grant) (sym is) in (
         record {
@@ -120,23 +124,23 @@ module _ (max size limit : ℕ) (c : Cells) (last count top free acc n class x :
       )
 
   -- the whole of it is granted
-  pub granted_whole : (d : Cells) (top' acc' : ℕ) → got.place.block.size ≡ n → IsSpace d.room last count → blocks d.room last ≡ mark_block x true (blocks c.room last) → Binned max d.links top'
-      → class_lists max d.links ≡ slice_set (class_lists max c.links) class (without x (names_at (class_lists max c.links) class)) → length d.room.nodes ≡ length c.room.nodes → (y : ℕ) → IsUnused y (view_of max size limit c last acc)
-      → IsSound max size limit d last count top' (free - n) × Allocates n (view_of max size limit c last acc) (view_of max size limit d last acc') (Some (record { name = x; offset = units got.place.before }))
+  pub granted_whole : (d : Cells) (top' acc' : ℕ) → got.place.block.size ≡ n → IsSpace d.room f.last f.count → blocks d.room f.last ≡ mark_block x true (blocks f.cells.room f.last) → Binned max d.links top'
+      → class_lists f.max d.links ≡ slice_set (class_lists f.max f.cells.links) class (without x (names_at (class_lists f.max f.cells.links) class)) → length d.room.nodes ≡ length f.cells.room.nodes → (y : ℕ) → IsUnused y (view_of f.max f.size f.limit f.cells f.last f.accesses)
+      → IsSound f.max f.size f.limit d f.last f.count top' (f.free - n) × Allocates n (view_of f.max f.size f.limit f.cells f.last f.accesses) (view_of f.max f.size f.limit d f.last acc') (Some (record { name = x; offset = units got.place.before }))
   granted_whole d top' acc' whole space eb bins eo nodes y unused =
       let none : free_part y (p.block.size - (0 + n)) ≡ [] = free_part-none y (p.block.size - (0 + n)) (omega arith) in
       let b₁ : record p.block { used = true } ≡ used_block p.block.name n = ap (λ (k : ℕ). used_block p.block.name k) whole in
-      concluded d last count top' acc' y space bins nodes unused
+      concluded d f.last f.count top' acc' y space bins nodes unused
       (eb ∙ marked ∙ ap (λ (b : Block). p.before ++ b ∷ p.after) b₁ ∙ sym (ap (λ (t : List Block). p.before ++ ((used_block p.block.name n ∷ t) ++ p.after)) none))
       (eo ∙ sym removed ∙ sym (ap (λ (t : List Block). put_all t (remove_all (p.block ∷ []) ls)) none))
       (ap free_units (eb ∙ marked) ∙ left_free (record p.block { used = true }) p.after refl ∙ omega (arith, had_free))
 
   -- a part of it is granted, and the rest stands behind it
-  pub granted_part : (d : Cells) (e : Room) (last' count' top' acc' y : ℕ) → n < got.place.block.size → IsSpace d.room last' count' → blocks e last ≡ mark_block x true (blocks c.room last)
-      → blocks d.room last' ≡ split_block x n y (blocks e last) → Binned max d.links top'
-      → class_lists max d.links ≡ slice_set (slice_set (class_lists max c.links) class (without x (names_at (class_lists max c.links) class))) (down (got.place.block.size - n)) (y ∷ names_at (slice_set (class_lists max c.links) class (without x (names_at (class_lists max c.links) class))) (down (got.place.block.size - n)))
-      → length d.room.nodes ≡ length c.room.nodes → IsUnused y (view_of max size limit c last acc)
-      → IsSound max size limit d last' count' top' (free - n) × Allocates n (view_of max size limit c last acc) (view_of max size limit d last' acc') (Some (record { name = x; offset = units got.place.before }))
+  pub granted_part : (d : Cells) (e : Room) (last' count' top' acc' y : ℕ) → n < got.place.block.size → IsSpace d.room last' count' → blocks e f.last ≡ mark_block x true (blocks f.cells.room f.last)
+      → blocks d.room last' ≡ split_block x n y (blocks e f.last) → Binned max d.links top'
+      → class_lists f.max d.links ≡ slice_set (slice_set (class_lists f.max f.cells.links) class (without x (names_at (class_lists f.max f.cells.links) class))) (down (got.place.block.size - n)) (y ∷ names_at (slice_set (class_lists f.max f.cells.links) class (without x (names_at (class_lists f.max f.cells.links) class))) (down (got.place.block.size - n)))
+      → length d.room.nodes ≡ length f.cells.room.nodes → IsUnused y (view_of f.max f.size f.limit f.cells f.last f.accesses)
+      → IsSound f.max f.size f.limit d last' count' top' (f.free - n) × Allocates n (view_of f.max f.size f.limit f.cells f.last f.accesses) (view_of f.max f.size f.limit d last' acc') (Some (record { name = x; offset = units got.place.before }))
   granted_part d e last' count' top' acc' y part space em eb bins eo nodes unused =
       let r : p.block.size - (0 + n) ≡ p.block.size - n = omega arith in
       let some : free_part y (p.block.size - (0 + n)) ≡ free_block y (p.block.size - n) ∷ [] = ap (free_part y) r ∙ free_part-some y (p.block.size - n) (omega arith) in

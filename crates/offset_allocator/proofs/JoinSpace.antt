@@ -3,13 +3,13 @@ use Rattle.std.proofs.Common.{◌≡◌, ◌≢◌, ℕ, ◌+◌, ◌-◌, ◌<�
 use Rattle.std.proofs.lemmas.Bool.{cases_eq}
 use Rattle.offset_allocator.specs.Cells.{Room, Node, node, put, with_spare}
 use Rattle.offset_allocator.specs.Named.{Block, units, named, times, one}
-use Rattle.offset_allocator.specs.Space.{first_or, last_or, IsRow, IsChain, IsSpace, spares, Stands, blocks, name_after, join_block, give_block}
+use Rattle.offset_allocator.specs.Space.{size_in, first_or, last_or, IsRow, IsChain, IsSpace, spares, Stands, blocks, name_after, join_block, give_block}
 use Rattle.offset_allocator.proofs.Nodes.{node-put, node-put_other, length-put, spare-put, put-put, put-step}
 use Rattle.offset_allocator.proofs.Rows.{one-eq, one-other, times-append, times-first, times-join, units-append, last_or-append}
 use Rattle.offset_allocator.proofs.Found.{join_block-at, name_after-at}
 use Rattle.offset_allocator.proofs.Split.{each-le}
 use Rattle.offset_allocator.proofs.SplitSpace.{IsLinked, length-linked, spare-linked, node-linked_at, node-linked_other}
-use Rattle.offset_allocator.proofs.Spot.{stands-below}
+use Rattle.offset_allocator.proofs.Spot.{stands-below, size-told}
 use Rattle.offset_allocator.proofs.Back.{IsBackJoin, back-row, times-end}
 use Rattle.offset_allocator.proofs.Join.{IsJoin, join-chain, spares-push}
 use Rattle.offset_allocator.proofs.Merging.{Standing, standing, Next, after_next, give_block-at}
@@ -88,9 +88,23 @@ back-chain c d m last count fs e b cs h join cells spare =
     }
 
 -- the call: x stands, with y behind it
-module _ (c : Room) (last count x y : ℕ) (h : IsSpace c last count) (st : Stands x (blocks c last)) (e : name_after x (blocks c last) ≡ Some y) where
+pub record JoinAt (c : Room) (last count x y : ℕ) : Type 0 where
+  pub space : IsSpace c last count
+  pub standing : Stands x (blocks c last)
+  pub next : name_after x (blocks c last) ≡ Some y
+
+module _ (c : Room) (last count x y : ℕ) (j : JoinAt c last count x y) where
   abbrev m : ℕ
   m = length c.nodes
+
+  h : IsSpace c last count
+  h = j.space
+
+  st : Stands x (blocks c last)
+  st = j.standing
+
+  e : name_after x (blocks c last) ≡ Some y
+  e = j.next
 
   s : Standing c (blocks c last) x
   s = standing c last count x h st
@@ -142,13 +156,22 @@ module _ (c : Room) (last count x y : ℕ) (h : IsSpace c last count) (st : Stan
     stands_in z (omega (arith, times-end z fs q)),
   )
 
+  y_stands : Stands y (blocks c last)
+  y_stands = rw n.stood (omega (arith, times-append y fs (b ∷ d ∷ cs), one-eq y d.name n.name))
+
+  pub size_x : (node c x).size ≡ size_in x (blocks c last)
+  size_x = size-told c last count x h st
+
+  pub size_y : (node c y).size ≡ size_in y (blocks c last)
+  size_y = size-told c last count y h y_stands
+
   pub sum_fits : (node c x).size + (node c y).size < 2 ^ 32
   sum_fits = omega (arith, h.fits, ap units n.stood, units-append fs (b ∷ d ∷ cs), ap (λ (v : Node). v.size) s.at_x, n.size)
 
-  pub left : count < m
+  pub left : count < length c.nodes
   left = let long = h.full in omega (arith, ap (λ (l : List Block). length l) n.stood, length-append fs (b ∷ d ∷ cs))
 
-  pub stack : length c.spare ≡ m
+  pub stack : length c.spare ≡ length c.nodes
   stack = h.stack
 
   pub after-below : (z : ℕ) → (node c y).after ≡ Some z → z < m
@@ -236,14 +259,28 @@ module _ (c : Room) (last count x y : ℕ) (h : IsSpace c last count) (st : Stan
       rw list done
 
 -- the calls of the bodies, one after another
-pub joined-from : (t w₁ w₂ : Room) (x y z r : ℕ) (a : Option ℕ) → x < length t.nodes → z ≡ (node t x).size → r ≡ (node t y).size → a ≡ (node t y).after → w₁ ≡ put t x (record (node t x) { size = z + r }) → w₂ ≡ put w₁ x (record (node w₁ x) { after = a }) → w₂ ≡ joined t x y
-joined-from t w₁ w₂ x y z r a l ez er ea e₁ e₂ =
-    let f₁ : w₁ ≡ put t x (record (node t x) { size = (node t x).size + (node t y).size }) = cc in
+pub joined-from : (t w₁ w₂ : Room) (x y z : ℕ) (a : Option ℕ) → x < length t.nodes → z ≡ (node t x).size + (node t y).size → a ≡ (node t y).after → w₁ ≡ put t x (record (node t x) { size = z }) → w₂ ≡ put w₁ x (record (node w₁ x) { after = a }) → w₂ ≡ joined t x y
+joined-from t w₁ w₂ x y z a l ez ea e₁ e₂ =
+    let f₁ : w₁ ≡ put t x (record (node t x) { size = (node t x).size + (node t y).size }) = e₁ ∙ ap (λ s. put t x (record (node t x) { size = s })) ez in
     e₂ ∙ put-step t w₁ x _ (λ v. record v { after = a }) l f₁ ∙ ap (λ i. put t x (record (node t x) { size = (node t x).size + (node t y).size; after = i })) ea
 
-pub backed-from : (t w₁ w₂ w₃ : Room) (w x o z r : ℕ) (a : Option ℕ) → x < length t.nodes → o ≡ (node t w).offset → z ≡ (node t w).size → r ≡ (node t x).size → a ≡ (node t w).before → w₁ ≡ put t x (record (node t x) { offset = o }) → w₂ ≡ put w₁ x (record (node w₁ x) { size = z + r }) → w₃ ≡ put w₂ x (record (node w₂ x) { before = a }) → w₃ ≡ backed t w x
-backed-from t w₁ w₂ w₃ w x o z r a l eo ez er ea e₁ e₂ e₃ =
+pub backed-from : (t w₁ w₂ w₃ : Room) (w x o z : ℕ) (a : Option ℕ) → x < length t.nodes → o ≡ (node t w).offset → z ≡ (node t w).size + (node t x).size → a ≡ (node t w).before → w₁ ≡ put t x (record (node t x) { offset = o }) → w₂ ≡ put w₁ x (record (node w₁ x) { size = z }) → w₃ ≡ put w₂ x (record (node w₂ x) { before = a }) → w₃ ≡ backed t w x
+backed-from t w₁ w₂ w₃ w x o z a l eo ez ea e₁ e₂ e₃ =
     let f₁ : w₁ ≡ put t x (record (node t x) { offset = (node t w).offset }) = cc in
-    let f₂ = e₂ ∙ put-step t w₁ x _ (λ v. record v { size = z + r }) l f₁ in
-    let sum : z + r ≡ (node t w).size + (node t x).size = omega arith in
-    e₃ ∙ put-step t w₂ x _ (λ v. record v { before = a }) l f₂ ∙ ap (λ (k : ℕ). put t x (record (node t x) { offset = (node t w).offset; size = k; before = a })) sum ∙ ap (λ i. put t x (record (node t x) { offset = (node t w).offset; size = (node t w).size + (node t x).size; before = i })) ea
+    let f₂ = e₂ ∙ put-step t w₁ x _ (λ v. record v { size = z }) l f₁ in
+    e₃ ∙ put-step t w₂ x _ (λ v. record v { before = a }) l f₂ ∙ ap (λ (k : ℕ). put t x (record (node t x) { offset = (node t w).offset; size = k; before = a })) ez ∙ ap (λ i. put t x (record (node t x) { offset = (node t w).offset; size = (node t w).size + (node t x).size; before = i })) ea
+
+-- the link of a neighbour after the writes, of a call that knows both sizes
+pub linked-after : (t w₁ w₂ f : Room) (last count x y z : ℕ) (a : Option ℕ) → JoinAt t last count x y → z ≡ size_in x (blocks t last) + size_in y (blocks t last) → a ≡ (node t y).after → w₁ ≡ put t x (record (node t x) { size = z }) → w₂ ≡ put w₁ x (record (node w₁ x) { after = a }) → IsLinked a f w₂ x → IsLinked (node t y).after f (joined t x y) x
+linked-after t w₁ w₂ f last count x y z a j ez ea e₁ e₂ l =
+    let total : z ≡ (node t x).size + (node t y).size = omega (arith, size_x t last count x y j, size_y t last count x y j) in
+    let is = joined-from t w₁ w₂ x y z a (x_below t last count x y j) total ea e₁ e₂ in
+    let P : Option ℕ → Room → Type 0 = λ link w. IsLinked link f w x in
+    subst (λ link. P link (joined t x y)) ea (subst (P a) is l)
+
+pub linked-before : (t w₁ w₂ w₃ f : Room) (last count w x o z : ℕ) (a : Option ℕ) → JoinAt t last count w x → z ≡ size_in w (blocks t last) + size_in x (blocks t last) → o ≡ (node t w).offset → a ≡ (node t w).before → w₁ ≡ put t x (record (node t x) { offset = o }) → w₂ ≡ put w₁ x (record (node w₁ x) { size = z }) → w₃ ≡ put w₂ x (record (node w₂ x) { before = a }) → IsLinkedOn a f w₃ x → IsLinkedOn (node t w).before f (backed t w x) x
+linked-before t w₁ w₂ w₃ f last count w x o z a j ez eo ea e₁ e₂ e₃ l =
+    let total : z ≡ (node t w).size + (node t x).size = omega (arith, size_x t last count w x j, size_y t last count w x j) in
+    let is = backed-from t w₁ w₂ w₃ w x o z a (y_below t last count w x j) eo total ea e₁ e₂ e₃ in
+    let P : Option ℕ → Room → Type 0 = λ link r. IsLinkedOn link f r x in
+    subst (λ link. P link (backed t w x)) ea (subst (P a) is l)

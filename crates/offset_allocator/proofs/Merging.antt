@@ -1,16 +1,16 @@
 -- A block, and the ones beside it.
-use Rattle.std.proofs.Common.{◌≡◌, ◌≢◌, ℕ, zero, suc, ◌+◌, ◌-◌, ◌<◌, ◌≤◌, Bool, true, false, not, cond, List, [], ◌∷◌, ◌++◌, length, Option, Some, None, if◌then◌else◌, refl, sym, ap, ap₂, subst, ◌∙◌, arith, append_assoc, inl, inr}
+use Rattle.std.proofs.Common.{◌≡◌, ◌≢◌, ℕ, zero, suc, ◌+◌, ◌-◌, ◌<◌, ◌≤◌, ◌^◌, Bool, true, false, not, cond, List, [], ◌∷◌, ◌++◌, length, Option, Some, None, if◌then◌else◌, refl, sym, ap, ap₂, subst, ◌∙◌, arith, append_assoc, inl, inr}
 use Rattle.std.proofs.lemmas.Bool.{eq-eqb, ne_eqb}
 use Rattle.offset_allocator.specs.Classes.{down}
 use Rattle.offset_allocator.specs.Cells.{Room, Node, node}
 use Rattle.offset_allocator.specs.Named.{Block, Place, named, units, place_of, free_end, without_end, free_start, without_start, remove_all, remove, is_free, names_at}
-use Rattle.offset_allocator.specs.Space.{IsSpace, IsChain, IsRow, Stands, blocks, last_or, first_or, name_after, give_block, join_block}
+use Rattle.offset_allocator.specs.Space.{IsSpace, IsChain, IsRow, Stands, blocks, last_or, first_or, name_after, size_in, give_block, join_block}
 use Rattle.offset_allocator.specs.Orders.{Among}
 use Rattle.offset_allocator.specs.State.{AreListed, merge_before, merged_before, gone_before, merge_after, merged_after, gone_after}
-use Rattle.offset_allocator.proofs.Rows.{one-eq, times-append, IsRow-back, last_or-append}
+use Rattle.offset_allocator.proofs.Rows.{one-eq, times-append, units-append, IsRow-back, last_or-append}
 use Rattle.offset_allocator.proofs.Split.{each-le}
-use Rattle.offset_allocator.proofs.Found.{name_after-at, join_block-at}
-use Rattle.offset_allocator.proofs.Spot.{stands-below}
+use Rattle.offset_allocator.proofs.Found.{name_after-at, join_block-at, size_in-at}
+use Rattle.offset_allocator.proofs.Spot.{stands-below, size-told}
 use Rattle.offset_allocator.proofs.ViewSteps.{place_at, no_place, place_here}
 
 head_not : (x : ℕ) (f : Block) (fs : List Block) → named x (f ∷ fs) ≡ 0 → f.name ≡ x → ⊥
@@ -54,6 +54,7 @@ pub record Standing (c : Room) (bs : List Block) (x : ℕ) : Type 0 where
   pub alone : named x place.before ≡ 0
   pub at_x : node c x ≡ record { offset = units place.before; size = place.block.size; used = place.block.used; before = last_or None place.before; after = first_or None place.after }
   pub below : x < length c.nodes
+  pub stands : Stands x bs
 
 pub node_at : (c : Room) (fs : List Block) (b : Block) (cs : List Block) (x : ℕ) → IsRow c None 0 (fs ++ b ∷ cs) None → b.name ≡ x → node c x ≡ record { offset = units fs; size = b.size; used = b.used; before = last_or None fs; after = first_or None cs }
 node_at c fs b cs x row e = ap (λ (i : ℕ). node c i) (sym e) ∙ (IsRow-back c None 0 fs (b ∷ cs) None row).0 ∙ ap (λ (o : ℕ). record { offset = o; size = b.size; used = b.used; before = last_or None fs; after = first_or None cs }) (omega arith)
@@ -66,7 +67,7 @@ standing c last count x h st = go (place_of x (blocks c last)) refl
     go (Some p) e =
         let a = place_at x (blocks c last) p e in
         let P : List Block → Type 0 = λ l. IsRow c None 0 l None in
-        record { place = p; is = e; stood = a.0; name = sym a.1; alone = a.2; at_x = node_at c p.before p.block p.after x (subst P a.0 h.row) (sym a.1); below = stands-below c (length c.nodes) last count x (blocks c last) h st }
+        record { place = p; is = e; stood = a.0; name = sym a.1; alone = a.2; at_x = node_at c p.before p.block p.after x (subst P a.0 h.row) (sym a.1); below = stands-below c (length c.nodes) last count x (blocks c last) h st; stands = st }
 
 -- a block w directly before x
 pub record Pair (c : Room) (bs : List Block) (w x : ℕ) (s : Standing c bs x) : Type 0 where
@@ -153,6 +154,19 @@ module _ (c : Room) (last count x : ℕ) (h : IsSpace c last count) (s : Standin
           λ ls k q. ap₂ (λ i y. remove i y ls) (q ∙ ap down p.size) (sym p.name) ∙ sym (ap (λ o. remove_all (gone_before o) ls) s.is ∙ ap (λ l. remove_all l ls) f ∙ ap (λ (u : Bool). if u then ls else remove (down p.here.size) p.here.name ls) free),
         )
 
+    pub given_size : size_in x (give_block w (blocks c last)) ≡ size_in w (blocks c last) + size_in x (blocks c last)
+    given_size =
+        let b : Block = s.place.block in
+        let grown : Block = record s.place.block { size = p.here.size + s.place.block.size } in
+        let apart : named b.name p.front ≡ 0 = ap (λ i. named i p.front) s.name ∙ omega (arith, s.alone, ap (λ l. named x l) p.ends, times-append x p.front (p.here ∷ [])) in
+        ap (λ l. size_in x (give_block w l)) p.stood ∙ ap (λ i. size_in x (give_block i (p.front ++ p.here ∷ b ∷ s.place.after))) (sym p.name) ∙ ap (size_in x) (give_block-at p.front p.here b s.place.after p.alone)
+        ∙ ap (λ i. size_in i (p.front ++ grown ∷ s.place.after)) (sym s.name) ∙ size_in-at p.front grown s.place.after apart
+        ∙ omega (arith, size-told c last count w h p.stands, p.size, size-told c last count x h s.stands, ap (λ (v : Node). v.size) s.at_x)
+
+    pub given_fits : size_in w (blocks c last) + size_in x (blocks c last) < 2 ^ 32
+    given_fits =
+        omega (arith, h.fits, ap units p.stood, units-append p.front (p.here ∷ s.place.block ∷ s.place.after), size-told c last count w h p.stands, p.size, size-told c last count x h s.stands, ap (λ (v : Node). v.size) s.at_x)
+
     pub listed_before : (ls : List (List ℕ)) → AreListed (blocks c last) ls → (node c w).used ≡ false → (k : ℕ) → k ≡ down (node c w).size → Among w (names_at ls k)
     listed_before ls a e k q =
         let P : ℕ → ℕ → Type 0 = λ y i. Among y (names_at ls i) in
@@ -170,6 +184,7 @@ pub record Next (c : Room) (bs : List Block) (y x : ℕ) (s : Standing c bs x) :
   pub used : (node c y).used ≡ here.used
   pub on : (node c y).after ≡ first_or None back
   pub below : y < length c.nodes
+  pub stands : Stands y bs
   pub next : name_after x bs ≡ Some y
 
 started : (l : List Block) (y : ℕ) → first_or None l ≡ Some y → (b : Block) × (r : List Block) × (l ≡ b ∷ r) × (b.name ≡ y)
@@ -204,6 +219,7 @@ module _ (c : Room) (last count x : ℕ) (h : IsSpace c last count) (s : Standin
         used = ap (λ (v : Node). v.used) n;
         on = ap (λ (v : Node). v.after) n;
         below = stands-below c (length c.nodes) last count y all h stands;
+        stands = stands;
         next = ap (name_after x) s.stood ∙ ap (λ i. name_after i (fs ++ b ∷ s.place.after)) (sym s.name) ∙ name_after-at fs b s.place.after alone ∙ sym (ap (λ (v : Node). v.after) s.at_x) ∙ e;
       }
 
@@ -240,6 +256,18 @@ module _ (c : Room) (last count x : ℕ) (h : IsSpace c last count) (s : Standin
               ∙ ap (λ (k : ℕ). s.place.before ++ record s.place.block { size = k } ∷ p.back) (omega arith) ∙ sym (after_at ∙ ap₂ (λ a l. s.place.before ++ record s.place.block { size = s.place.block.size + units l } ∷ a) g f),
           λ ls k q. ap₂ (λ i z. remove i z ls) (q ∙ ap down p.size) (sym p.name) ∙ sym (ap (λ o. remove_all (gone_after o) ls) s.is ∙ ap (λ l. remove_all l ls) f ∙ ap (λ (u : Bool). if u then ls else remove (down p.here.size) p.here.name ls) free),
         )
+
+    pub joined_size : size_in x (join_block x (blocks c last)) ≡ size_in x (blocks c last) + size_in y (blocks c last)
+    joined_size =
+        let b : Block = s.place.block in
+        let grown : Block = record s.place.block { size = s.place.block.size + p.here.size } in
+        ap (λ l. size_in x (join_block x l)) p.stood ∙ ap (λ i. size_in x (join_block i (s.place.before ++ b ∷ p.here ∷ p.back))) (sym s.name) ∙ ap (size_in x) (join_block-at s.place.before b p.here p.back p.alone)
+        ∙ ap (λ i. size_in i (s.place.before ++ grown ∷ p.back)) (sym s.name) ∙ size_in-at s.place.before grown p.back p.alone
+        ∙ omega (arith, size-told c last count y h p.stands, p.size, size-told c last count x h s.stands, ap (λ (v : Node). v.size) s.at_x)
+
+    pub joined_fits : size_in x (blocks c last) + size_in y (blocks c last) < 2 ^ 32
+    joined_fits =
+        omega (arith, h.fits, ap units p.stood, units-append s.place.before (s.place.block ∷ p.here ∷ p.back), size-told c last count y h p.stands, p.size, size-told c last count x h s.stands, ap (λ (v : Node). v.size) s.at_x)
 
     pub listed_next : (ls : List (List ℕ)) → AreListed (blocks c last) ls → (node c y).used ≡ false → (k : ℕ) → k ≡ down (node c y).size → Among y (names_at ls k)
     listed_next ls a e k q =

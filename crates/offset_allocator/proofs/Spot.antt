@@ -2,10 +2,10 @@
 use Rattle.std.proofs.Common.{◌≡◌, ◌≢◌, ℕ, ◌+◌, ◌-◌, ◌<◌, ◌≤◌, ◌^◌, Bool, true, false, cond, Option, None, Some, List, [], ◌∷◌, ◌++◌, length, get_or, refl, sym, ◌∙◌, ap, arith}
 use Rattle.std.proofs.lemmas.Bool.Decides.{nat_tests}
 use Rattle.offset_allocator.specs.Cells.{Room, Node, node}
-use Rattle.offset_allocator.specs.Space.{first_or, last_or, IsRow, IsChain, spares, Stands}
+use Rattle.offset_allocator.specs.Space.{first_or, last_or, IsRow, IsChain, IsSpace, spares, blocks, Stands, size_in, offset_in}
 use Rattle.offset_allocator.specs.Named.{Block, units, named, times}
 use Rattle.offset_allocator.proofs.Rows.{one-same, one-eq, times-join, times-append, times-first, units-append, IsRow-back}
-use Rattle.offset_allocator.proofs.Found.{Found, find}
+use Rattle.offset_allocator.proofs.Found.{Found, find, size_in-at, offset_in-at}
 use Rattle.offset_allocator.proofs.Split.{spares-more}
 
 pub record Spot (c : Room) (m x : ℕ) (bs : List Block) : Type 0 where
@@ -50,3 +50,18 @@ spot c m last count x bs h st =
       end = omega (arith, h.fits, ap units f.is, units-append f.front (f.here ∷ f.back));
       next_stands = λ z e. rw f.is (omega (arith, times-append z f.front (f.here ∷ f.back), times-first z f.back e));
     }
+
+-- the cells of a standing block tell its size and its offset
+module _ (c : Room) (last count x : ℕ) (h : IsSpace c last count) (st : Stands x (blocks c last)) where
+  pub here_below : x < length c.nodes
+  here_below = (spot c (length c.nodes) last count x (blocks c last) h st).below
+
+  pub size-told : (node c x).size ≡ size_in x (blocks c last)
+  size-told =
+      let s = spot c (length c.nodes) last count x (blocks c last) h st in
+      ap (λ v. v.size) s.at_x ∙ sym (ap (λ l. size_in x l) s.is ∙ ap (λ v. size_in v (s.front ++ s.here ∷ s.back)) (sym s.name_is) ∙ size_in-at s.front s.here s.back s.absent)
+
+  pub offset-told : (node c x).offset ≡ offset_in x (blocks c last)
+  offset-told =
+      let s = spot c (length c.nodes) last count x (blocks c last) h st in
+      ap (λ v. v.offset) s.at_x ∙ sym (ap (λ l. offset_in x l) s.is ∙ ap (λ v. offset_in v (s.front ++ s.here ∷ s.back)) (sym s.name_is) ∙ offset_in-at s.front s.here s.back s.absent)

@@ -71,6 +71,11 @@ abbrev pub name_after : ℕ → List Block → Option ℕ
 name_after x [] = None
 name_after x (b ∷ bs) = cond (b.name == x) (first_or None bs) (name_after x bs)
 
+-- the units before the block named x, and its own
+abbrev pub offset_in : ℕ → List Block → ℕ
+offset_in x [] = 0
+offset_in x (b ∷ bs) = cond (b.name == x) 0 (b.size + offset_in x bs)
+
 abbrev pub size_in : ℕ → List Block → ℕ
 size_in x [] = 0
 size_in x (b ∷ bs) = cond (b.name == x) b.size (size_in x bs)

@@ -28,6 +28,18 @@ pub record IsSound (max size limit : ℕ) (c : Cells) (last count top free : ℕ
   pub well : IsWellFormed (view_of max size limit c last 0)
   pub total : free_units (blocks c.room last) ≡ free
 
+-- the fields, with the greatest number of the index type
+pub record Fields : Type 0 where
+  pub max : ℕ
+  pub size : ℕ
+  pub limit : ℕ
+  pub cells : Cells
+  pub last : ℕ
+  pub count : ℕ
+  pub top : ℕ
+  pub free : ℕ
+  pub accesses : ℕ
+
 -- every free block is in the list of its class
 abbrev pub AreListed : List Block → List (List ℕ) → Type 0
 AreListed bs ls = (p : Place) → bs ≡ p.before ++ p.block ∷ p.after → p.block.used ≡ false → Among p.block.name (names_at ls (down p.block.size))

@@ -1,10 +1,10 @@
-// The names of free blocks, in a list for each size class, by links between the nodes, with a two-level mask.
+//! The names of free blocks, in a list for each size class, by links between the nodes, with a two-level mask.
 ghost use Rattle.std.specs.Prelude.{◌≡◌, ◌+◌, ◌<◌, ◌≤◌, ◌≢◌, ℕ, List, [], ◌∷◌, slice_set, length, drop, MatchOption};
 ghost use Rattle.offset_allocator.specs.Named.{names_at, without};
 ghost use Rattle.offset_allocator.specs.Orders.{IsUnlisted, IsLeastFrom, Among, relinked, Masked, flag, class_lists, Binned};
 
 use crate::accesses::Accesses;
-use crate::index::NodeIndex;
+use crate::index::{NodeIndex, link_to, no_link, number};
 use crate::tables::Tables;
 
 /// The least class from a class on that has a name.
@@ -50,42 +50,47 @@ pub(crate) fn put_first<NI: NodeIndex>(
     ensures count { count.new ≤ count.old + 6 }
 {
     t.shape();
+    let link = link_to(name);
     let first = t.head(class, count);
     t.set_older(name, first, count);
-    t.set_newer(name, NI::MAX, count);
-    t.set_head(class, name, count);
-    if first == NI::MAX {
+    t.set_newer(name, no_link(), count);
+    t.set_head(class, link, count);
+    let newest = number(first);
+    if newest == NI::MAX {
         let word = class / 64;
         let mask = t.mask(word, count);
         t.set_mask(word, mask | 1 << (class % 64), count);
         *top |= 1 << word;
     } else {
-        t.set_newer(first, name, count);
+        t.set_newer(newest, link, count);
     }
 }
 
-fn link_newer<NI: NodeIndex>(t: &mut Tables<NI>, at: u32, to: u32, count: &mut Accesses)
-    requires at { at ≢ NI.MAX → at < length t.old.links.newer }
-    requires to { to ≤ NI.MAX }
-    ensures cells { t.new ≡ record t.old { links = record t.old.links { newer = relinked NI.MAX t.old.links.newer at to } } }
+// Links the node that a link names, if any, to a next newer one.
+fn link_newer<NI: NodeIndex>(t: &mut Tables<NI>, at: NI, to: NI, count: &mut Accesses)
+    requires { NI.number at ≢ NI.MAX → NI.number at < length t.old.links.newer }
+    ensures cells { t.new ≡ record t.old { links = record t.old.links { newer = relinked NI.MAX t.old.links.newer (NI.number at) (NI.number to) } } }
     ensures count { count.new ≤ count.old + 1 }
 {
-    if at != NI::MAX {
-        t.set_newer(at, to, count);
+    let name = number(at);
+    if name != NI::MAX {
+        t.set_newer(name, to, count);
     }
 }
 
-fn link_older<NI: NodeIndex>(t: &mut Tables<NI>, at: u32, to: u32, count: &mut Accesses)
-    requires at { at ≢ NI.MAX → at < length t.old.links.older }
-    requires to { to ≤ NI.MAX }
-    ensures cells { t.new ≡ record t.old { links = record t.old.links { older = relinked NI.MAX t.old.links.older at to } } }
+// Links the node that a link names, if any, to a next older one.
+fn link_older<NI: NodeIndex>(t: &mut Tables<NI>, at: NI, to: NI, count: &mut Accesses)
+    requires { NI.number at ≢ NI.MAX → NI.number at < length t.old.links.older }
+    ensures cells { t.new ≡ record t.old { links = record t.old.links { older = relinked NI.MAX t.old.links.older (NI.number at) (NI.number to) } } }
     ensures count { count.new ≤ count.old + 1 }
 {
-    if at != NI::MAX {
-        t.set_older(at, to, count);
+    let name = number(at);
+    if name != NI::MAX {
+        t.set_older(name, to, count);
     }
 }
 
+// Clears the bit of a class, which no longer has a name.
 fn clear_class<NI: NodeIndex>(t: &mut Tables<NI>, top: &mut u32, class: u32, count: &mut Accesses)
     requires classed { class < 256 }
     ensures masked { (heads : List ℕ) (h : ℕ) → Masked NI.MAX heads t.old.links.masks top.old → length heads ≡ 256 → flag NI.MAX h ≡ 0 → Masked NI.MAX (slice_set heads class h) t.new.links.masks top.new }
@@ -120,9 +125,9 @@ pub(crate) fn remove<NI: NodeIndex>(
     let after = t.older(name, count);
     link_newer(t, after, before, count);
     link_older(t, before, after, count);
-    if before == NI::MAX {
+    if number(before) == NI::MAX {
         t.set_head(class, after, count);
-        if after == NI::MAX {
+        if number(after) == NI::MAX {
             clear_class(t, top, class, count);
         }
     }
@@ -142,9 +147,14 @@ pub(crate) fn take_first<NI: NodeIndex>(
     ensures held { Binned NI.MAX t.new.links top.new }
     ensures lists { class_lists NI.MAX t.new.links ≡ slice_set (class_lists NI.MAX t.old.links) class (without result (names_at (class_lists NI.MAX t.old.links) class)) }
     ensures room { t.new.room ≡ t.old.room }
-    ensures count { count.new ≤ count.old + 8 }
+    ensures count { count.new ≤ count.old + 6 }
 {
-    let name = t.head(class, count);
-    remove(t, top, name, class, count);
+    let name = number(t.head(class, count));
+    let after = t.older(name, count);
+    link_newer(t, after, no_link(), count);
+    t.set_head(class, after, count);
+    if number(after) == NI::MAX {
+        clear_class(t, top, class, count);
+    }
     name
 }

@@ -92,7 +92,7 @@ impl<NI: NodeIndex> Allocator<NI> {
         requires room { is_short_of 1 self.old ≡ false }
         requires least { IsLeastFrom (up size) self.old.order class }
         ensures step { Allocates size self.old self.new (Some result) }
-        ensures count { self.new.accesses ≤ self.old.accesses + 29 }
+        ensures count { self.new.accesses ≤ self.old.accesses + 24 }
     {
         let name = bins::take_first(
             &mut self.tables,
@@ -100,14 +100,26 @@ impl<NI: NodeIndex> Allocator<NI> {
             class,
             &mut self.accesses,
         );
-        let offset = self.tables.offset(name, &mut self.accesses);
-        let whole = self.tables.size(name, &mut self.accesses);
         chain::mark(
             &mut self.tables,
             self.last,
             self.spare_count,
             name,
             true,
+            &mut self.accesses,
+        );
+        let offset = chain::offset(
+            &self.tables,
+            self.last,
+            self.spare_count,
+            name,
+            &mut self.accesses,
+        );
+        let whole = chain::size(
+            &self.tables,
+            self.last,
+            self.spare_count,
+            name,
             &mut self.accesses,
         );
         self.free_total -= size;
@@ -117,6 +129,8 @@ impl<NI: NodeIndex> Allocator<NI> {
                 &mut self.last,
                 &mut self.spare_count,
                 name,
+                offset,
+                whole,
                 size,
                 &mut self.accesses,
             );
@@ -153,22 +167,31 @@ impl<NI: NodeIndex> Allocator<NI> {
         ensures step { IsBut (free allocation.name self.old) self.new }
         ensures count { self.new.accesses ≤ self.old.accesses + 128 }
     {
-        let name = tables::number(NI::of_nonmax(allocation.name()));
-        self.free_total += self.tables.size(name, &mut self.accesses);
-        merge::with_before(
+        let name = index::number(NI::of_nonmax(allocation.name()));
+        let size = chain::size(
+            &self.tables,
+            self.last,
+            self.spare_count,
+            name,
+            &mut self.accesses,
+        );
+        self.free_total += size;
+        let size = merge::with_before(
             &mut self.tables,
             &mut self.top_mask,
             self.last,
             &mut self.spare_count,
             name,
+            size,
             &mut self.accesses,
         );
-        merge::with_after(
+        let size = merge::with_after(
             &mut self.tables,
             &mut self.top_mask,
             &mut self.last,
             &mut self.spare_count,
             name,
+            size,
             &mut self.accesses,
         );
         chain::mark(
@@ -179,7 +202,6 @@ impl<NI: NodeIndex> Allocator<NI> {
             false,
             &mut self.accesses,
         );
-        let size = self.tables.size(name, &mut self.accesses);
         self.tables.shape();
         bins::put_first(
             &mut self.tables,
@@ -207,7 +229,7 @@ impl<NI: NodeIndex> Allocator<NI> {
         ensures { result ≡ is_used_at (place_of allocation.name self.now.blocks) }
     {
         self.uses(
-            tables::number(NI::of_nonmax(allocation.name())),
+            index::number(NI::of_nonmax(allocation.name())),
             &mut Accesses::new(),
         )
     }
@@ -216,7 +238,7 @@ impl<NI: NodeIndex> Allocator<NI> {
     pub fn allocation_size(&self, allocation: Allocation<NI>) -> u32
         ensures { result ≡ size_at (place_of allocation.name self.now.blocks) }
     {
-        let name = tables::number(NI::of_nonmax(allocation.name()));
+        let name = index::number(NI::of_nonmax(allocation.name()));
         let mut count = Accesses::new();
         if self.uses(name, &mut count) {
             self.tables.size(name, &mut count)

@@ -1,14 +1,17 @@
-// The cells: the only place that reads or writes them, and counts each access.
-ghost use Rattle.std.specs.Prelude.{◌≡◌, ℕ, ◌+◌, ◌<◌, ◌≤◌, length, slice_set, slice_index, IfOk, IfSome, replicate, map, ◌++◌, ◌∷◌, [], ◌-◌};
+//! The cells: the only place that reads or writes them. Each function touches one cell, and counts it.
+
+ghost use Rattle.std.specs.Prelude.{◌≡◌, ℕ, ◌+◌, ◌-◌, ◌<◌, ◌≤◌, ◌++◌, ◌∷◌, [], length, map, replicate, slice_set, slice_index, vec_capacity, IfOk};
 ghost use Rattle.std.specs.List.{range_with_len};
 ghost use Rattle.offset_allocator.specs.Cells.{AreShaped, empty_cells, link_of, node, put, with_spare};
 
 use crate::accesses::Accesses;
-use crate::index::NodeIndex;
+use crate::index::{NodeIndex, link_to, no_link};
 use std::alloc::{AllocError, Global};
 use std::marker::Model;
 
-/// The tables of nodes, of class heads and of masks, and the stack of spare names.
+/// One table for each field of a node, the newest node of each size class, the masks of the
+/// classes, and the stack of spare names. A link is the number of a node, or the greatest number
+/// of its type, which names none.
 #[derive(Drop)]
 pub(crate) struct Tables<NI: NodeIndex> {
     offset: Vec<u32>,
@@ -35,55 +38,29 @@ impl<NI: NodeIndex> Model for Tables<NI> {
     ghost invariant = { λ t. AreEven NI.MAX t };
 }
 
-// The number of an index.
-pub(crate) fn number<NI: NodeIndex>(index: NI) -> u32
-    ensures number { result ≡ NI.number index }
-    ensures most { result ≤ NI.MAX }
+// An empty table, with room for `length` values.
+fn reserved<T>(alloc: Global, length: usize) -> Result<Vec<T>, AllocError>
+    ensures { IfOk result (λ v. v.items ≡ []) }
 {
-    index.to_usize() as u32
+    Vec::with_capacity(alloc, length)
 }
 
-// The link that an index stands for.
-fn link<NI: NodeIndex>(index: NI) -> Option<u32>
-    ensures { result ≡ link_of NI.MAX (NI.number index) }
-{
-    let number = number(index);
-    if number == NI::MAX {
-        None
-    } else {
-        Some(number)
-    }
-}
-
-// The index that stands for a link.
-fn index<NI: NodeIndex>(link: Option<u32>) -> NI
-    requires { IfSome link (λ z. z < NI.MAX) }
-    ensures { link_of NI.MAX (NI.number result) ≡ link }
-{
-    match link {
-        None => NI::from_u32(NI::MAX),
-        Some(number) => NI::from_u32(number),
-    }
-}
-
-// So many copies of a value.
-fn filled<T: Copy>(alloc: Global, value: T, length: usize) -> Result<Vec<T>, AllocError>
+// A reserved table, filled with one value.
+fn filled<T: Copy>(mut values: Vec<T>, value: T, length: usize) -> Result<Vec<T>, AllocError>
+    requires { values.items ≡ [] }
     ensures { IfOk result (λ v. v.items ≡ replicate length value) }
 {
-    let mut values = Vec::with_capacity(alloc, length)?;
-    for _ in 0..length {
-        values.push(value)?;
-    }
+    values.resize(length, value)?;
     Ok(values)
 }
 
-// The numbers from 1 to below `len`, and 0.
-fn rising<NI: NodeIndex>(alloc: Global, len: u32) -> Result<Vec<NI>, AllocError>
+// A reserved table, filled with the numbers from 1 to below `len`, and 0.
+fn rising<NI: NodeIndex>(mut values: Vec<NI>, len: u32) -> Result<Vec<NI>, AllocError>
+    requires empty { values.items ≡ [] }
     requires least { 0 < len }
     requires most { len ≤ NI.MAX }
     ensures { IfOk result (λ v. map NI.number v.items ≡ range_with_len 1 (len - 1) ++ 0 ∷ []) }
 {
-    let mut values = Vec::with_capacity(alloc, len as usize)?;
     for i in 1..len {
         values.push(NI::from_u32(i))?;
     }
@@ -92,25 +69,34 @@ fn rising<NI: NodeIndex>(alloc: Global, len: u32) -> Result<Vec<NI>, AllocError>
 }
 
 impl<NI: NodeIndex> Tables<NI> {
-    /// Tables for so many nodes, with nothing written.
+    /// Tables for `len` nodes, with nothing written. Every table has its room before any is filled.
     pub(crate) fn with_len(alloc: Global, len: u32) -> Result<Self, AllocError>
         requires least { 0 < len }
         requires most { len ≤ NI.MAX }
         ensures { IfOk result (λ t. t ≡ empty_cells NI.MAX len) }
     {
         let nodes = len as usize;
-        let none = NI::from_u32(NI::MAX);
+        let offset = reserved(alloc, nodes)?;
+        let size = reserved(alloc, nodes)?;
+        let used = reserved(alloc, nodes)?;
+        let before = reserved(alloc, nodes)?;
+        let after = reserved(alloc, nodes)?;
+        let newer = reserved(alloc, nodes)?;
+        let older = reserved(alloc, nodes)?;
+        let heads = reserved(alloc, 256)?;
+        let spare = reserved(alloc, nodes)?;
+        let none = no_link::<NI>();
         Ok(Tables {
-            offset: filled(alloc, 0, nodes)?,
-            size: filled(alloc, 0, nodes)?,
-            used: filled(alloc, false, nodes)?,
-            before: filled(alloc, none, nodes)?,
-            after: filled(alloc, none, nodes)?,
-            newer: filled(alloc, none, nodes)?,
-            older: filled(alloc, none, nodes)?,
-            heads: filled(alloc, none, 256)?,
+            offset: filled(offset, 0, nodes)?,
+            size: filled(size, 0, nodes)?,
+            used: filled(used, false, nodes)?,
+            before: filled(before, none, nodes)?,
+            after: filled(after, none, nodes)?,
+            newer: filled(newer, none, nodes)?,
+            older: filled(older, none, nodes)?,
+            heads: filled(heads, none, 256)?,
             masks: [0; 4],
-            spare: rising(alloc, len)?,
+            spare: rising(spare, len)?,
         })
     }
 
@@ -131,7 +117,7 @@ impl<NI: NodeIndex> Tables<NI> {
         self.offset[name as usize]
     }
 
-    /// Writes it.
+    /// Writes the offset of a node.
     pub(crate) fn set_offset(&mut self, name: u32, offset: u32, count: &mut Accesses)
         requires { name < length self.old.room.nodes }
         ensures cells { self.new ≡ record self.old { room = put self.old.room name (record (node self.old.room name) { offset = offset }) } }
@@ -151,7 +137,7 @@ impl<NI: NodeIndex> Tables<NI> {
         self.size[name as usize]
     }
 
-    /// Writes it.
+    /// Writes the size of a node.
     pub(crate) fn set_size(&mut self, name: u32, size: u32, count: &mut Accesses)
         requires { name < length self.old.room.nodes }
         ensures cells { self.new ≡ record self.old { room = put self.old.room name (record (node self.old.room name) { size = size }) } }
@@ -171,7 +157,7 @@ impl<NI: NodeIndex> Tables<NI> {
         self.used[name as usize]
     }
 
-    /// Writes it.
+    /// Writes whether a node is used.
     pub(crate) fn set_used(&mut self, name: u32, used: bool, count: &mut Accesses)
         requires { name < length self.old.room.nodes }
         ensures cells { self.new ≡ record self.old { room = put self.old.room name (record (node self.old.room name) { used = used }) } }
@@ -181,139 +167,127 @@ impl<NI: NodeIndex> Tables<NI> {
         self.used[name as usize] = used;
     }
 
-    /// The node before a node in space.
-    pub(crate) fn before(&self, name: u32, count: &mut Accesses) -> Option<u32>
+    /// The link to the node before a node in space.
+    pub(crate) fn before(&self, name: u32, count: &mut Accesses) -> NI
         requires { name < length self.now.room.nodes }
-        ensures cell { result ≡ (node self.now.room name).before }
+        ensures cell { link_of NI.MAX (NI.number result) ≡ (node self.now.room name).before }
         ensures count { count.new ≡ count.old + 1 }
     {
         count.tick();
-        link(self.before[name as usize])
+        self.before[name as usize]
     }
 
-    /// Writes it.
-    pub(crate) fn set_before(&mut self, name: u32, before: Option<u32>, count: &mut Accesses)
-        requires name { name < length self.old.room.nodes }
-        requires link { IfSome before (λ z. z < length self.old.room.nodes) }
-        ensures cells { self.new ≡ record self.old { room = put self.old.room name (record (node self.old.room name) { before = before }) } }
+    /// Writes the link to the node before a node in space.
+    pub(crate) fn set_before(&mut self, name: u32, link: NI, count: &mut Accesses)
+        requires { name < length self.old.room.nodes }
+        ensures cells { self.new ≡ record self.old { room = put self.old.room name (record (node self.old.room name) { before = link_of NI.MAX (NI.number link) }) } }
         ensures count { count.new ≡ count.old + 1 }
     {
-        self.shape();
         count.tick();
-        self.before[name as usize] = index(before);
+        self.before[name as usize] = link;
     }
 
-    /// The node after a node in space.
-    pub(crate) fn after(&self, name: u32, count: &mut Accesses) -> Option<u32>
+    /// The link to the node after a node in space.
+    pub(crate) fn after(&self, name: u32, count: &mut Accesses) -> NI
         requires { name < length self.now.room.nodes }
-        ensures cell { result ≡ (node self.now.room name).after }
+        ensures cell { link_of NI.MAX (NI.number result) ≡ (node self.now.room name).after }
         ensures count { count.new ≡ count.old + 1 }
     {
         count.tick();
-        link(self.after[name as usize])
+        self.after[name as usize]
     }
 
-    /// Writes it.
-    pub(crate) fn set_after(&mut self, name: u32, after: Option<u32>, count: &mut Accesses)
-        requires name { name < length self.old.room.nodes }
-        requires link { IfSome after (λ z. z < length self.old.room.nodes) }
-        ensures cells { self.new ≡ record self.old { room = put self.old.room name (record (node self.old.room name) { after = after }) } }
+    /// Writes the link to the node after a node in space.
+    pub(crate) fn set_after(&mut self, name: u32, link: NI, count: &mut Accesses)
+        requires { name < length self.old.room.nodes }
+        ensures cells { self.new ≡ record self.old { room = put self.old.room name (record (node self.old.room name) { after = link_of NI.MAX (NI.number link) }) } }
         ensures count { count.new ≡ count.old + 1 }
     {
-        self.shape();
         count.tick();
-        self.after[name as usize] = index(after);
+        self.after[name as usize] = link;
     }
 
     /// An entry of the stack of spare names.
-    pub(crate) fn spare(&self, place: u32, count: &mut Accesses) -> u32
+    pub(crate) fn spare(&self, place: u32, count: &mut Accesses) -> NI
         requires { place < length self.now.room.spare }
-        ensures cell { result ≡ slice_index self.now.room.spare place }
+        ensures cell { NI.number result ≡ slice_index self.now.room.spare place }
         ensures count { count.new ≡ count.old + 1 }
     {
         count.tick();
-        number(self.spare[place as usize])
+        self.spare[place as usize]
     }
 
-    /// Writes it.
-    pub(crate) fn set_spare(&mut self, place: u32, name: u32, count: &mut Accesses)
-        requires place { place < length self.old.room.spare }
-        requires name { name < length self.old.room.nodes }
-        ensures cells { self.new ≡ record self.old { room = with_spare self.old.room place name } }
+    /// Writes an entry of the stack of spare names.
+    pub(crate) fn set_spare(&mut self, place: u32, name: NI, count: &mut Accesses)
+        requires { place < length self.old.room.spare }
+        ensures cells { self.new ≡ record self.old { room = with_spare self.old.room place (NI.number name) } }
         ensures count { count.new ≡ count.old + 1 }
     {
-        self.shape();
         count.tick();
-        self.spare[place as usize] = NI::from_u32(name);
+        self.spare[place as usize] = name;
     }
 
-    /// The next newer node of a node's class, or the greatest number.
-    pub(crate) fn newer(&self, name: u32, count: &mut Accesses) -> u32
+    /// The link to the next newer node of a node's class.
+    pub(crate) fn newer(&self, name: u32, count: &mut Accesses) -> NI
         requires { name < length self.now.links.newer }
-        ensures cell { result ≡ slice_index self.now.links.newer name }
-        ensures most { result ≤ NI.MAX }
+        ensures cell { NI.number result ≡ slice_index self.now.links.newer name }
         ensures count { count.new ≡ count.old + 1 }
     {
         count.tick();
-        number(self.newer[name as usize])
+        self.newer[name as usize]
     }
 
-    /// Writes it.
-    pub(crate) fn set_newer(&mut self, name: u32, link: u32, count: &mut Accesses)
-        requires name { name < length self.old.links.newer }
-        requires link { link ≤ NI.MAX }
-        ensures cells { self.new ≡ record self.old { links = record self.old.links { newer = slice_set self.old.links.newer name link } } }
+    /// Writes the link to the next newer node of a node's class.
+    pub(crate) fn set_newer(&mut self, name: u32, link: NI, count: &mut Accesses)
+        requires { name < length self.old.links.newer }
+        ensures cells { self.new ≡ record self.old { links = record self.old.links { newer = slice_set self.old.links.newer name (NI.number link) } } }
         ensures count { count.new ≡ count.old + 1 }
     {
         count.tick();
-        self.newer[name as usize] = NI::from_u32(link);
+        self.newer[name as usize] = link;
     }
 
-    /// The next older node of a node's class, or the greatest number.
-    pub(crate) fn older(&self, name: u32, count: &mut Accesses) -> u32
+    /// The link to the next older node of a node's class.
+    pub(crate) fn older(&self, name: u32, count: &mut Accesses) -> NI
         requires { name < length self.now.links.older }
-        ensures cell { result ≡ slice_index self.now.links.older name }
-        ensures most { result ≤ NI.MAX }
+        ensures cell { NI.number result ≡ slice_index self.now.links.older name }
         ensures count { count.new ≡ count.old + 1 }
     {
         count.tick();
-        number(self.older[name as usize])
+        self.older[name as usize]
     }
 
-    /// Writes it.
-    pub(crate) fn set_older(&mut self, name: u32, link: u32, count: &mut Accesses)
-        requires name { name < length self.old.links.older }
-        requires link { link ≤ NI.MAX }
-        ensures cells { self.new ≡ record self.old { links = record self.old.links { older = slice_set self.old.links.older name link } } }
+    /// Writes the link to the next older node of a node's class.
+    pub(crate) fn set_older(&mut self, name: u32, link: NI, count: &mut Accesses)
+        requires { name < length self.old.links.older }
+        ensures cells { self.new ≡ record self.old { links = record self.old.links { older = slice_set self.old.links.older name (NI.number link) } } }
         ensures count { count.new ≡ count.old + 1 }
     {
         count.tick();
-        self.older[name as usize] = NI::from_u32(link);
+        self.older[name as usize] = link;
     }
 
-    /// The newest node of a class, or the greatest number.
-    pub(crate) fn head(&self, class: u32, count: &mut Accesses) -> u32
+    /// The link to the newest node of a class.
+    pub(crate) fn head(&self, class: u32, count: &mut Accesses) -> NI
         requires { class < length self.now.links.heads }
-        ensures cell { result ≡ slice_index self.now.links.heads class }
-        ensures most { result ≤ NI.MAX }
+        ensures cell { NI.number result ≡ slice_index self.now.links.heads class }
         ensures count { count.new ≡ count.old + 1 }
     {
         count.tick();
-        number(self.heads[class as usize])
+        self.heads[class as usize]
     }
 
-    /// Writes it.
-    pub(crate) fn set_head(&mut self, class: u32, link: u32, count: &mut Accesses)
-        requires class { class < length self.old.links.heads }
-        requires link { link ≤ NI.MAX }
-        ensures cells { self.new ≡ record self.old { links = record self.old.links { heads = slice_set self.old.links.heads class link } } }
+    /// Writes the link to the newest node of a class.
+    pub(crate) fn set_head(&mut self, class: u32, link: NI, count: &mut Accesses)
+        requires { class < length self.old.links.heads }
+        ensures cells { self.new ≡ record self.old { links = record self.old.links { heads = slice_set self.old.links.heads class (NI.number link) } } }
         ensures count { count.new ≡ count.old + 1 }
     {
         count.tick();
-        self.heads[class as usize] = NI::from_u32(link);
+        self.heads[class as usize] = link;
     }
 
-    /// A word of the leaf masks.
+    /// A word of the masks: bit `c % 64` of word `c / 64` tells whether class c has a node.
     pub(crate) fn mask(&self, word: u32, count: &mut Accesses) -> u64
         requires { word < 4 }
         ensures cell { result ≡ slice_index self.now.links.masks word }
@@ -323,7 +297,7 @@ impl<NI: NodeIndex> Tables<NI> {
         self.masks[word as usize]
     }
 
-    /// Writes it.
+    /// Writes a word of the masks.
     pub(crate) fn set_mask(&mut self, word: u32, mask: u64, count: &mut Accesses)
         requires { word < 4 }
         ensures cells { self.new ≡ record self.old { links = record self.old.links { masks = slice_set self.old.links.masks word mask } } }

@@ -21,65 +21,65 @@ pub older-after-requires : goal.older-after-requires
 older-after-requires g c =
     name_older g.NI.NodeIndex.MAX c.args.t.now.links c.args.top.now c.requires.held c.args.name c.args.class c.requires.classed c.requires.listed
 
-pub link_newer-requires-clause-at : goal.link_newer-requires-clause-at
-link_newer-requires-clause-at g c =
+pub link_newer-requires : goal.link_newer-requires
+link_newer-requires g c =
     after_in g.NI.NodeIndex.MAX c.args.t.now.links c.args.top.now c.requires.held c.args.name c.args.class c.requires.classed c.requires.listed
     _ _ c.newer-before.ensures.cell c.older-after.ensures.cell
 
-pub link_older-requires-clause-at : goal.link_older-requires-clause-at
-link_older-requires-clause-at g c =
+pub link_older-requires : goal.link_older-requires
+link_older-requires g c =
     rw c.link_newer.ensures.cells (before_in g.NI.NodeIndex.MAX c.args.t.now.links c.args.top.now c.requires.held c.args.name c.args.class c.requires.classed c.requires.listed
     _ _ c.newer-before.ensures.cell c.older-after.ensures.cell)
 
 emptied : (g : Over) (c : goal.After-clear_class g) → Binned g.NI.NodeIndex.MAX c.clear_class.new.t.links c.clear_class.new.top × (class_lists g.NI.NodeIndex.MAX c.clear_class.new.t.links ≡ slice_set (class_lists g.NI.NodeIndex.MAX c.args.t.now.links) c.args.class (without c.args.name (names_at (class_lists g.NI.NodeIndex.MAX c.args.t.now.links) c.args.class))) × (length c.clear_class.new.t.links.newer ≡ length c.args.t.now.links.newer)
 unfolding links
 emptied g c =
-    let z : c.newer-before.result ≡ g.NI.NodeIndex.MAX = omega arith in
-    let y : c.older-after.result ≡ g.NI.NodeIndex.MAX = omega arith in
-    let m : Masked g.NI.NodeIndex.MAX (slice_set c.args.t.now.links.heads c.args.class c.older-after.result) c.clear_class.new.t.links.masks c.clear_class.new.top =
-    c.clear_class.ensures.masked c.args.t.now.links.heads c.older-after.result
+    let z : g.NI.NodeIndex.number c.newer-before.result ≡ g.NI.NodeIndex.MAX = omega arith in
+    let y : (g.NI.NodeIndex.number c.older-after.result) ≡ g.NI.NodeIndex.MAX = omega arith in
+    let m : Masked g.NI.NodeIndex.MAX (slice_set c.args.t.now.links.heads c.args.class (g.NI.NodeIndex.number c.older-after.result)) c.clear_class.new.t.links.masks c.clear_class.new.top =
+    c.clear_class.ensures.masked c.args.t.now.links.heads (g.NI.NodeIndex.number c.older-after.result)
     (rw (c.set_head.ensures.cells, c.link_older.ensures.cells, c.link_newer.ensures.cells) c.requires.held.masked) c.requires.held.linked.heads_len (none_flag _ _ y) in
     first g.NI.NodeIndex.MAX c.args.t.now.links c.args.top.now c.requires.held c.args.name c.args.class c.requires.classed c.requires.listed
     _ _ c.newer-before.ensures.cell c.older-after.ensures.cell _ _ (ap links c.link_newer.ensures.cells) (ap links c.link_older.ensures.cells) _ _ _ z (ap links (rw c.set_head.ensures.cells at c.clear_class.ensures.rest)) m
 
-pub returns-then-after-MAX-clause-held : goal.returns-then-after-MAX-clause-held
-returns-then-after-MAX-clause-held g c = (emptied g c).0
+pub returns-then-number-MAX-2-clause-held : goal.returns-then-number-MAX-2-clause-held
+returns-then-number-MAX-2-clause-held g c = (emptied g c).0
 
-pub returns-then-after-MAX-clause-lists : goal.returns-then-after-MAX-clause-lists
-returns-then-after-MAX-clause-lists g c = (emptied g c).1
+pub returns-then-number-MAX-2-clause-lists : goal.returns-then-number-MAX-2-clause-lists
+returns-then-number-MAX-2-clause-lists g c = (emptied g c).1
 
-pub returns-else-after-MAX-clause-held : goal.returns-else-after-MAX-clause-held
+pub returns-else-number-MAX-2-clause-held : goal.returns-else-number-MAX-2-clause-held
 unfolding links
-returns-else-after-MAX-clause-held g c =
-    let z : c.newer-before.result ≡ g.NI.NodeIndex.MAX = omega arith in
-    let n : c.older-after.result ≢ g.NI.NodeIndex.MAX = omega arith in
+returns-else-number-MAX-2-clause-held g c =
+    let z : g.NI.NodeIndex.number c.newer-before.result ≡ g.NI.NodeIndex.MAX = omega arith in
+    let n : (g.NI.NodeIndex.number c.older-after.result) ≢ g.NI.NodeIndex.MAX = omega arith in
     let m = masks_kept g.NI.NodeIndex.MAX c.args.t.now.links c.args.top.now c.requires.held c.args.name c.args.class c.requires.classed c.requires.listed
     _ _ c.newer-before.ensures.cell c.older-after.ensures.cell _ _ (ap links c.link_newer.ensures.cells) (ap links c.link_older.ensures.cells) z n in
     (first g.NI.NodeIndex.MAX c.args.t.now.links c.args.top.now c.requires.held c.args.name c.args.class c.requires.classed c.requires.listed
     _ _ c.newer-before.ensures.cell c.older-after.ensures.cell _ _ (ap links c.link_newer.ensures.cells) (ap links c.link_older.ensures.cells) c.set_head.new.self.links c.args.t.now.links.masks c.args.top.now z
     (ap links c.set_head.ensures.cells ∙ rw (c.link_older.ensures.cells, c.link_newer.ensures.cells) refl) m).0
 
-pub returns-else-after-MAX-clause-lists : goal.returns-else-after-MAX-clause-lists
+pub returns-else-number-MAX-2-clause-lists : goal.returns-else-number-MAX-2-clause-lists
 unfolding links
-returns-else-after-MAX-clause-lists g c =
-    let z : c.newer-before.result ≡ g.NI.NodeIndex.MAX = omega arith in
-    let n : c.older-after.result ≢ g.NI.NodeIndex.MAX = omega arith in
+returns-else-number-MAX-2-clause-lists g c =
+    let z : g.NI.NodeIndex.number c.newer-before.result ≡ g.NI.NodeIndex.MAX = omega arith in
+    let n : (g.NI.NodeIndex.number c.older-after.result) ≢ g.NI.NodeIndex.MAX = omega arith in
     let m = masks_kept g.NI.NodeIndex.MAX c.args.t.now.links c.args.top.now c.requires.held c.args.name c.args.class c.requires.classed c.requires.listed
     _ _ c.newer-before.ensures.cell c.older-after.ensures.cell _ _ (ap links c.link_newer.ensures.cells) (ap links c.link_older.ensures.cells) z n in
     (first g.NI.NodeIndex.MAX c.args.t.now.links c.args.top.now c.requires.held c.args.name c.args.class c.requires.classed c.requires.listed
     _ _ c.newer-before.ensures.cell c.older-after.ensures.cell _ _ (ap links c.link_newer.ensures.cells) (ap links c.link_older.ensures.cells) c.set_head.new.self.links c.args.t.now.links.masks c.args.top.now z
     (ap links c.set_head.ensures.cells ∙ rw (c.link_older.ensures.cells, c.link_newer.ensures.cells) refl) m).1
 
-pub returns-else-before-MAX-clause-held : goal.returns-else-before-MAX-clause-held
+pub returns-else-number-MAX-clause-held : goal.returns-else-number-MAX-clause-held
 unfolding links
-returns-else-before-MAX-clause-held g c =
-    let n : c.newer-before.result ≢ g.NI.NodeIndex.MAX = omega arith in
+returns-else-number-MAX-clause-held g c =
+    let n : (g.NI.NodeIndex.number c.newer-before.result) ≢ g.NI.NodeIndex.MAX = omega arith in
     (later g.NI.NodeIndex.MAX c.args.t.now.links c.args.top.now c.requires.held c.args.name c.args.class c.requires.classed c.requires.listed
     _ _ c.newer-before.ensures.cell c.older-after.ensures.cell _ _ (ap links c.link_newer.ensures.cells) (ap links c.link_older.ensures.cells) n).0
 
-pub returns-else-before-MAX-clause-lists : goal.returns-else-before-MAX-clause-lists
+pub returns-else-number-MAX-clause-lists : goal.returns-else-number-MAX-clause-lists
 unfolding links
-returns-else-before-MAX-clause-lists g c =
-    let n : c.newer-before.result ≢ g.NI.NodeIndex.MAX = omega arith in
+returns-else-number-MAX-clause-lists g c =
+    let n : (g.NI.NodeIndex.number c.newer-before.result) ≢ g.NI.NodeIndex.MAX = omega arith in
     (later g.NI.NodeIndex.MAX c.args.t.now.links c.args.top.now c.requires.held c.args.name c.args.class c.requires.classed c.requires.listed
     _ _ c.newer-before.ensures.cell c.older-after.ensures.cell _ _ (ap links c.link_newer.ensures.cells) (ap links c.link_older.ensures.cells) n).1

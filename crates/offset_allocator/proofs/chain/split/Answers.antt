@@ -1,40 +1,29 @@
 use Rattle.std.proofs.Common.{◌≡◌, ℕ, ◌+◌, ◌-◌, ◌<◌, ◌≤◌, ◌^◌, length, List, [], ◌∷◌, ◌++◌, MatchOption, IfSome, Option, Some, None, refl, sym, ◌∙◌, ap, arith, subst}
-use Rattle.offset_allocator.specs.Cells.{Cells, Room, Node, node, put}
+use Rattle.offset_allocator.specs.Cells.{Cells, Room, Node, node, put, link_of}
 use Rattle.offset_allocator.specs.Space.{IsSpace, IsChain, Stands, blocks, spares, split_block, size_in}
 use Rattle.offset_allocator.proofs.Nodes.{length-put, in_put}
-use Rattle.offset_allocator.proofs.SplitSpace.{SplitAt, half, IsLinked, apart, y_below, spot_x, size-is, offset-fits, next-below, split-space, if_some, half-from, unused}
+use Rattle.offset_allocator.proofs.SplitSpace.{SplitAt, half, IsLinked, apart, y_below, spot_x, offset-fits, next-below, split-space, if_some, half-from, unused}
+use Rattle.offset_allocator.proofs.Spot.{size-told, offset-told}
 use Rattle.offset_allocator.proofs.Views.{blocks-chain, space-chain}
 use Rattle.offset_allocator.proofs.chain.split.Goals as goal
 use Rattle.offset_allocator.proofs.chain.split.Goals.{After-after-next, After-place, After-set_size, After-set_after}
 use Rattle.offset_allocator.proofs.chain.split.Given.{Over}
 
-pre : (g : Over) (c : After-after-next g) → SplitAt c.args.t.now.room c.args.last.now c.args.spare_count.now c.args.x c.args.n c.spare-y.result
-pre g c = record { space = c.requires.space; standing = c.requires.standing; room = c.requires.room; within = c.requires.within; popped = c.spare-y.ensures.cell }
+pre : (g : Over) (c : After-after-next g) → SplitAt c.args.t.now.room c.args.last.now c.args.spare_count.now c.args.x c.args.n c.number-y.result
+pre g c = record { space = c.requires.space; standing = c.requires.standing; room = c.requires.room; within = omega (arith, c.requires.within, c.requires.size); popped = c.number-y.ensures.number ∙ c.spare.ensures.cell }
 
 pub overflow_add-offset : goal.overflow_add-offset
-overflow_add-offset g c = omega (arith, c.offset-offset.ensures.cell, offset-fits _ _ _ _ _ _ (pre g (goal.at.overflow_add-offset g c).After-after-next))
-
-pub overflow_sub-size : goal.overflow_sub-size
-overflow_sub-size g c = omega (arith, c.size-size.ensures.cell, size-is _ _ _ _ _ _ (pre g (goal.at.overflow_sub-size g c).After-after-next), c.requires.within)
+overflow_add-offset g c =
+    omega (arith, c.requires.offset, offset-told _ _ _ _ c.requires.space c.requires.standing, offset-fits _ _ _ _ _ _ (pre g (goal.at.overflow_add-offset g c).After-after-next))
 
 pub place-requires-clause-name : goal.place-requires-clause-name
 place-requires-clause-name g c = y_below _ _ _ _ _ _ (pre g (goal.at.place-requires-clause-name g c).After-after-next)
 
-pub place-requires-clause-after : goal.place-requires-clause-after
-place-requires-clause-after g c =
-    let p = pre g (goal.at.place-requires-clause-after g c).After-after-next in
-    if_some _ _ (λ z e. next-below _ _ _ _ _ _ p z (sym c.after-next.ensures.cell ∙ e))
+pub place-requires-clause-idle : goal.place-requires-clause-idle
+place-requires-clause-idle g c = c.requires.space.idle _ (unused _ _ _ _ _ _ (pre g (goal.at.place-requires-clause-idle g c).After-after-next))
 
 pub set_size-requires : goal.set_size-requires
 set_size-requires g c = in_put _ _ _ _ _ c.place.ensures.cells (spot_x _ _ _ _ _ _ (pre g (goal.at.set_size-requires g c).After-after-next)).below
-
-pub set_after-requires-clause-name : goal.set_after-requires-clause-name
-set_after-requires-clause-name g c = in_put _ _ _ _ _ c.set_size.ensures.cells (in_put _ _ _ _ _ c.place.ensures.cells (spot_x _ _ _ _ _ _ (pre g (goal.at.set_after-requires-clause-name g c).After-after-next)).below)
-
-pub set_after-requires-clause-link : goal.set_after-requires-clause-link
-set_after-requires-clause-link g c =
-    let p = pre g (goal.at.set_after-requires-clause-link g c).After-after-next in
-    in_put _ _ _ _ _ c.set_size.ensures.cells (in_put _ _ _ _ _ c.place.ensures.cells (y_below _ _ _ _ _ _ p))
 
 pub point_back-requires-clause-link : goal.point_back-requires-clause-link
 point_back-requires-clause-link g c =
@@ -46,21 +35,21 @@ point_back-requires-clause-name g c =
     let p = pre g (goal.at.point_back-requires-clause-name g c).After-after-next in
     in_put _ _ _ _ _ c.set_after.ensures.cells (in_put _ _ _ _ _ c.set_size.ensures.cells (in_put _ _ _ _ _ c.place.ensures.cells (y_below _ _ _ _ _ _ p)))
 
-half_is : (g : Over) (c : goal.After-point_back g) → c.set_after.new.self.room ≡ half c.args.t.now.room c.args.x c.args.n c.spare-y.result
+half_is : (g : Over) (c : goal.After-point_back g) → c.set_after.new.self.room ≡ half c.args.t.now.room c.args.x c.args.n c.number-y.result
 half_is g c =
     let p = pre g (goal.at.returns-clause-space g c).After-after-next in
     let s = spot_x _ _ _ _ _ _ p in
     let room : Cells → Room = λ v. v.room in
-    half-from _ _ _ _ _ _ _ _ _ _ (apart _ _ _ _ _ _ p) s.below c.offset-offset.ensures.cell c.size-size.ensures.cell c.after-next.ensures.cell (ap room c.place.ensures.cells) (ap room c.set_size.ensures.cells) (ap room c.set_after.ensures.cells)
+    half-from _ _ _ _ _ _ _ _ _ _ (apart _ _ _ _ _ _ p) s.below (c.requires.offset ∙ sym (offset-told _ _ _ _ c.requires.space c.requires.standing)) (c.requires.size ∙ sym (size-told _ _ _ _ c.requires.space c.requires.standing)) c.after-next.ensures.cell (ap room c.place.ensures.cells) (ap room c.set_size.ensures.cells) (ap room c.set_after.ensures.cells ∙ ap (λ (l : Option ℕ). put c.set_size.new.self.room c.args.x (record (node c.set_size.new.self.room c.args.x) { after = l })) c.link_to.ensures.link)
 
-linked : (g : Over) (c : goal.After-point_back g) → IsLinked (node c.args.t.now.room c.args.x).after c.point_back.new.t.room (half c.args.t.now.room c.args.x c.args.n c.spare-y.result) c.spare-y.result
+linked : (g : Over) (c : goal.After-point_back g) → IsLinked (node c.args.t.now.room c.args.x).after c.point_back.new.t.room (half c.args.t.now.room c.args.x c.args.n c.number-y.result) c.number-y.result
 linked g c =
-    let P : Option ℕ → Room → Type 0 = λ link w. IsLinked link c.point_back.new.t.room w c.spare-y.result in
-    subst (λ link. P link (half c.args.t.now.room c.args.x c.args.n c.spare-y.result)) c.after-next.ensures.cell (subst (λ w. P c.after-next.result w) (half_is g c) c.point_back.ensures.cells)
+    let P : Option ℕ → Room → Type 0 = λ link w. IsLinked link c.point_back.new.t.room w c.number-y.result in
+    subst (λ link. P link (half c.args.t.now.room c.args.x c.args.n c.number-y.result)) c.after-next.ensures.cell (subst (λ w. P (link_of g.NI.NodeIndex.MAX (g.NI.NodeIndex.number c.after-next.result)) w) (half_is g c) c.point_back.ensures.cells)
 
-done : (g : Over) (c : goal.After-point_back g) → IsChain c.point_back.new.t.room (length c.args.t.now.room.nodes) c.point_back.new.last (c.args.spare_count.now - 1) (split_block c.args.x c.args.n c.spare-y.result (blocks c.args.t.now.room c.args.last.now))
+done : (g : Over) (c : goal.After-point_back g) → IsChain c.point_back.new.t.room (length c.args.t.now.room.nodes) c.point_back.new.last (c.args.spare_count.now - 1) (split_block c.args.x c.args.n c.number-y.result (blocks c.args.t.now.room c.args.last.now))
 done g c =
-    let Q : Option ℕ → Type 0 = λ link. MatchOption link (c.point_back.new.last ≡ c.spare-y.result) (λ _. c.point_back.new.last ≡ c.args.last.now) in
+    let Q : Option ℕ → Type 0 = λ link. MatchOption link (c.point_back.new.last ≡ c.number-y.result) (λ _. c.point_back.new.last ≡ c.args.last.now) in
     split-space _ _ _ _ _ _ (pre g (goal.at.returns-clause-space g c).After-after-next) _ _ (linked g c) (subst Q c.after-next.ensures.cell c.point_back.ensures.last)
 
 pub returns-clause-space : goal.returns-clause-space
@@ -77,3 +66,9 @@ returns-clause-fresh g c = unused _ _ _ _ _ _ (pre g (goal.at.returns-clause-fre
 
 pub returns-clause-below : goal.returns-clause-below
 returns-clause-below g c = y_below _ _ _ _ _ _ (pre g (goal.at.returns-clause-below g c).After-after-next)
+
+pub link_to-requires : goal.link_to-requires
+link_to-requires g c = omega (arith, c.shape.ensures.limit, y_below _ _ _ _ _ _ (pre g (goal.at.link_to-requires g c).After-after-next))
+
+pub set_after-requires : goal.set_after-requires
+set_after-requires g c = in_put _ _ _ _ _ c.set_size.ensures.cells (in_put _ _ _ _ _ c.place.ensures.cells (spot_x _ _ _ _ _ _ (pre g (goal.at.set_after-requires g c).After-after-next)).below)
