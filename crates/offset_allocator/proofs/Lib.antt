@@ -20,6 +20,7 @@ pub mod Removal
 pub mod Removed
 pub mod Rows
 pub mod Sizes
+pub mod Sound
 pub mod Split
 pub mod SplitSpace
 pub mod Spot

@@ -1,12 +1,13 @@
 -- When a request is granted, and how well what it takes fits.
-use Rattle.std.proofs.Common.{◌≡◌, ◌≢◌, ℕ, zero, suc, ◌+◌, ◌-◌, ◌*◌, ◌^◌, ◌<◌, ◌≤◌, Bool, true, false, not, ◌&&◌, ◌⊎◌, ◌↔◌, List, [], ◌∷◌, ◌++◌, length, Option, Some, None, is_some, nat_eq, nat_le, if◌then◌else◌, IsSome, refl, sym, ap, subst, ◌∙◌, inl, inr, arith, eq-eqb, leb-true, leb-false, le_trans}
-use Rattle.offset_allocator.specs.Relations.{Allocates}
+use Rattle.std.proofs.Common.{◌≡◌, ◌≢◌, ℕ, zero, suc, ◌+◌, ◌-◌, ◌*◌, ◌^◌, ◌<◌, ◌≤◌, Bool, true, false, not, ◌&&◌, ◌⊎◌, ◌↔◌, List, [], ◌∷◌, ◌++◌, length, Option, Some, None, is_some, nat_eq, nat_le, if◌then◌else◌, IsSome, refl, sym, ap, ap₂, subst, ◌∙◌, inl, inr, arith, eq-eqb, leb-true, leb-false, le_trans}
+use Rattle.offset_allocator.specs.Relations.{Allocates, IsCutNearBest}
 use Rattle.std.specs.List.{AllByRecursion}
 use Rattle.std.proofs.lemmas.Bool.{cases_lt, true≢false, false≢true}
 use Rattle.offset_allocator.specs.Classes.{value, up, down}
 use Rattle.offset_allocator.specs.Reports.{largest, IsNearBestFit, IsGoodRefusal}
-use Rattle.offset_allocator.specs.Named.{Block, View, Place, Grant, Outcome, is_free, one, times, listed, units, names_at, free_sizes, largest_free, IsWellFormed, taken, is_short_of, refused, granted_at, allocate}
+use Rattle.offset_allocator.specs.Named.{Block, View, Place, Grant, Outcome, is_free, one, times, listed, units, names_at, free_sizes, largest_free, IsWellFormed, taken, is_short_of, refused, granted_at, allocate, place_of}
 use Rattle.offset_allocator.proofs.ViewOrders.{if_value, hit_cases, tally_append}
+use Rattle.offset_allocator.proofs.ViewSteps.{place_here}
 use Rattle.offset_allocator.proofs.ViewTaken.{IsTaken, taken_at, not_taken}
 use Rattle.offset_allocator.proofs.Classes.{serves, near_best, up_law}
 
@@ -125,3 +126,30 @@ pub nearly_taken : (n : ℕ) (v : View) → IsWellFormed v → n ≤ 4294967295 
 nearly_taken n v f small sized p e =
     let t = taken_at n v f p e in
     near_best_fit v f n small sized p t
+
+-- a grant is cut from a near best fit
+module _ (n : ℕ) (v : View) (w : IsWellFormed v) (small : n ≤ 4294967295) (sized : v.size ≤ 4294967295) where
+  cut_at : (p : Place) → taken n v ≡ Some p → (g : Grant) → g.name ≡ p.block.name → IsCutNearBest n v g
+  cut_at p e g name =
+      let t = taken_at n v w p e in
+      record {
+        place = p;
+        there = ap₂ place_of name t.stood ∙ place_here p.block.name p.before p.block p.after t.alone refl;
+        free = not_true p.block.used t.free;
+        fit = near_best_fit v w n small sized p t;
+      }
+    where
+      not_true : (u : Bool) → not u ≡ true → u ≡ false
+      not_true true f = absurd (false≢true f)
+      not_true false f = refl
+
+  cut_if : (rest : ℕ) (o : Option Place) → taken n v ≡ o → (g : Grant) → Some g ≡ (granted_at v n (λ offset. 0) rest rest o).grant → IsCutNearBest n v g
+  cut_if rest None e g h = absurd (cc)
+  cut_if rest (Some p) e g h = cut_at p e g (cc)
+
+  pub cut_near_best : (after : View) (g : Grant) → Allocates n v after (Some g) → IsCutNearBest n v g
+  cut_near_best after g a = go (is_short_of 1 v) a.answer
+    where
+      go : (b : Bool) → Some g ≡ (if b then refused v else granted_at v n (λ offset. 0) a.rest a.rest (taken n v)).grant → IsCutNearBest n v g
+      go true e = absurd (cc)
+      go false e = cut_if a.rest (taken n v) refl g e

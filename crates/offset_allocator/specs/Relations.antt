@@ -1,7 +1,8 @@
 -- What the contracts of an allocator say of its views.
 use Rattle.std.specs.Prelude.{◌≡◌, ◌≢◌, ℕ, ◌<◌, ◌^◌, List, [], ◌∷◌, replicate, Bool, true, false, Option, Some}
 use Rattle.offset_allocator.specs.Classes.{down}
-use Rattle.offset_allocator.specs.Named.{View, Grant, IsUnused, allocate, allocate_aligned, free, extend, reset, free_block, put_first, place_of, is_used_at, is_short_of}
+use Rattle.offset_allocator.specs.Reports.{IsNearBestFit}
+use Rattle.offset_allocator.specs.Named.{View, Grant, Place, free_sizes, IsUnused, allocate, allocate_aligned, free, extend, reset, free_block, put_first, place_of, is_used_at, is_short_of}
 
 -- the view, but for its accesses
 abbrev pub IsBut : View → View → Type 0
@@ -19,6 +20,13 @@ pub record Allocates (n : ℕ) (v w : View) (result : Option Grant) : Type 0 whe
   pub unused : IsUnused rest v
   pub view : IsBut (allocate n rest v).view w
   pub answer : result ≡ (allocate n rest v).grant
+
+-- a grant of n units is cut from a free block that is a near best fit
+pub record IsCutNearBest (n : ℕ) (v : View) (g : Grant) : Type 0 where
+  pub place : Place
+  pub there : place_of g.name v.blocks ≡ Some place
+  pub free : place.block.used ≡ false
+  pub fit : IsNearBestFit n place.block.size (free_sizes v.blocks)
 
 -- one free block of the whole size, under some name
 pub record Resets (v w : View) : Type 0 where

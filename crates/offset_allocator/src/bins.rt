@@ -17,6 +17,7 @@ pub(crate) fn find_at_or_above<NI: NodeIndex>(
     requires held { Binned NI.MAX t.now.links top }
     requires classed { class < 256 }
     ensures least { MatchOption result ((c : ℕ) → class ≤ c → c < 256 → names_at (class_lists NI.MAX t.now.links) c ≡ []) (IsLeastFrom class (class_lists NI.MAX t.now.links)) }
+    ensures grows { count.old ≤ count.new }
     ensures count { count.new ≤ count.old + 2 }
 {
     let word = class / 64;
@@ -47,6 +48,7 @@ pub(crate) fn put_first<NI: NodeIndex>(
     ensures held { Binned NI.MAX t.new.links top.new }
     ensures lists { class_lists NI.MAX t.new.links ≡ slice_set (class_lists NI.MAX t.old.links) class (name ∷ names_at (class_lists NI.MAX t.old.links) class) }
     ensures room { t.new.room ≡ t.old.room }
+    ensures grows { count.old ≤ count.new }
     ensures count { count.new ≤ count.old + 6 }
 {
     t.shape();
@@ -70,6 +72,7 @@ pub(crate) fn put_first<NI: NodeIndex>(
 fn link_newer<NI: NodeIndex>(t: &mut Tables<NI>, at: NI, to: NI, count: &mut Accesses)
     requires { NI.number at ≢ NI.MAX → NI.number at < length t.old.links.newer }
     ensures cells { t.new ≡ record t.old { links = record t.old.links { newer = relinked NI.MAX t.old.links.newer (NI.number at) (NI.number to) } } }
+    ensures grows { count.old ≤ count.new }
     ensures count { count.new ≤ count.old + 1 }
 {
     let name = number(at);
@@ -82,6 +85,7 @@ fn link_newer<NI: NodeIndex>(t: &mut Tables<NI>, at: NI, to: NI, count: &mut Acc
 fn link_older<NI: NodeIndex>(t: &mut Tables<NI>, at: NI, to: NI, count: &mut Accesses)
     requires { NI.number at ≢ NI.MAX → NI.number at < length t.old.links.older }
     ensures cells { t.new ≡ record t.old { links = record t.old.links { older = relinked NI.MAX t.old.links.older (NI.number at) (NI.number to) } } }
+    ensures grows { count.old ≤ count.new }
     ensures count { count.new ≤ count.old + 1 }
 {
     let name = number(at);
@@ -95,6 +99,7 @@ fn clear_class<NI: NodeIndex>(t: &mut Tables<NI>, top: &mut u32, class: u32, cou
     requires classed { class < 256 }
     ensures masked { (heads : List ℕ) (h : ℕ) → Masked NI.MAX heads t.old.links.masks top.old → length heads ≡ 256 → flag NI.MAX h ≡ 0 → Masked NI.MAX (slice_set heads class h) t.new.links.masks top.new }
     ensures rest { t.new ≡ record t.old { links = record t.old.links { masks = t.new.links.masks } } }
+    ensures grows { count.old ≤ count.new }
     ensures count { count.new ≤ count.old + 2 }
 {
     let word = class / 64;
@@ -119,6 +124,7 @@ pub(crate) fn remove<NI: NodeIndex>(
     ensures held { Binned NI.MAX t.new.links top.new }
     ensures lists { class_lists NI.MAX t.new.links ≡ slice_set (class_lists NI.MAX t.old.links) class (without name (names_at (class_lists NI.MAX t.old.links) class)) }
     ensures room { t.new.room ≡ t.old.room }
+    ensures grows { count.old ≤ count.new }
     ensures count { count.new ≤ count.old + 7 }
 {
     let before = t.newer(name, count);
@@ -147,6 +153,7 @@ pub(crate) fn take_first<NI: NodeIndex>(
     ensures held { Binned NI.MAX t.new.links top.new }
     ensures lists { class_lists NI.MAX t.new.links ≡ slice_set (class_lists NI.MAX t.old.links) class (without result (names_at (class_lists NI.MAX t.old.links) class)) }
     ensures room { t.new.room ≡ t.old.room }
+    ensures grows { count.old ≤ count.new }
     ensures count { count.new ≤ count.old + 6 }
 {
     let name = number(t.head(class, count));

@@ -31,6 +31,7 @@ fn point_back<NI: NodeIndex>(t: &mut Tables<NI>, last: &mut u32, link: NI, y: u3
     requires name { y < length t.old.room.nodes }
     ensures cells { MatchOption (link_of NI.MAX (NI.number link)) (t.new.room ≡ t.old.room) (λ z. t.new.room ≡ put t.old.room z (record (node t.old.room z) { before = Some y })) }
     ensures links { t.new.links ≡ t.old.links }
+    ensures grows { count.old ≤ count.new }
     ensures count { count.new ≤ count.old + 1 }
     ensures last { MatchOption (link_of NI.MAX (NI.number link)) (last.new ≡ y) (λ _. last.new ≡ last.old) }
 {
@@ -47,6 +48,7 @@ fn point_on<NI: NodeIndex>(t: &mut Tables<NI>, link: NI, y: u32, count: &mut Acc
     requires name { y < length t.old.room.nodes }
     ensures cells { MatchOption (link_of NI.MAX (NI.number link)) (t.new.room ≡ t.old.room) (λ z. t.new.room ≡ put t.old.room z (record (node t.old.room z) { after = Some y })) }
     ensures links { t.new.links ≡ t.old.links }
+    ensures grows { count.old ≤ count.new }
     ensures count { count.new ≤ count.old + 1 }
 {
     t.shape();
@@ -91,6 +93,7 @@ pub(crate) fn split<NI: NodeIndex>(t: &mut Tables<NI>, last: &mut u32, spare_cou
     ensures left { spare_count.new + 1 ≡ spare_count.old }
     ensures fresh { named result (blocks t.old.room last.old) ≡ 0 }
     ensures below { result < length t.old.room.nodes }
+    ensures grows { count.old ≤ count.new }
     ensures count { count.new ≤ count.old + 9 }
 {
     t.shape();
@@ -116,6 +119,7 @@ pub(crate) fn join_after<NI: NodeIndex>(t: &mut Tables<NI>, last: &mut u32, spar
     ensures blocks { blocks t.new.room last.new ≡ join_block x (blocks t.old.room last.old) }
     ensures links { t.new.links ≡ t.old.links }
     ensures limit { length t.new.room.nodes ≡ length t.old.room.nodes }
+    ensures grows { count.old ≤ count.new }
     ensures count { count.new ≤ count.old + 5 }
 {
     t.shape();
@@ -139,6 +143,7 @@ pub(crate) fn join_before<NI: NodeIndex>(t: &mut Tables<NI>, last: u32, spare_co
     ensures blocks { blocks t.new.room last ≡ give_block w (blocks t.old.room last) }
     ensures links { t.new.links ≡ t.old.links }
     ensures limit { length t.new.room.nodes ≡ length t.old.room.nodes }
+    ensures grows { count.old ≤ count.new }
     ensures count { count.new ≤ count.old + 7 }
 {
     t.shape();

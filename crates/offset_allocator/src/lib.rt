@@ -1,11 +1,12 @@
 // One space, handed out in ranges.
 #![tactic(auto)]
 
-ghost use Rattle.std.specs.Prelude.{◌≡◌, ℕ, ◌+◌, ◌<◌, ◌≤◌, Some, None, Option, false, true, MatchOption, IfOk};
+ghost use Rattle.std.specs.Prelude.{◌≡◌, ◌↔◌, ℕ, ◌+◌, ◌<◌, ◌≤◌, Some, None, Option, false, true, IsSome, IfSome, MatchOption, IfOk, length};
 ghost use Rattle.offset_allocator.specs.Classes.{up, down};
 ghost use Rattle.offset_allocator.specs.Orders.{IsLeastFrom};
-ghost use Rattle.offset_allocator.specs.Named.{is_short_of, free, is_used_at, size_at, place_of};
-ghost use Rattle.offset_allocator.specs.Relations.{Allocates, IsBut, IsFresh, IsLive};
+ghost use Rattle.offset_allocator.specs.Reports.{IsGoodRefusal};
+ghost use Rattle.offset_allocator.specs.Named.{is_short_of, free, free_sizes, largest_free, is_used_at, size_at, place_of};
+ghost use Rattle.offset_allocator.specs.Relations.{Allocates, IsBut, IsCutNearBest, IsFresh, IsLive};
 
 mod accesses;
 mod bins;
@@ -92,6 +93,7 @@ impl<NI: NodeIndex> Allocator<NI> {
         requires room { is_short_of 1 self.old ≡ false }
         requires least { IsLeastFrom (up size) self.old.order class }
         ensures step { Allocates size self.old self.new (Some result) }
+        ensures grows { self.old.accesses ≤ self.new.accesses }
         ensures count { self.new.accesses ≤ self.old.accesses + 24 }
     {
         let name = bins::take_first(
@@ -146,9 +148,20 @@ impl<NI: NodeIndex> Allocator<NI> {
         handle_of(offset, name)
     }
 
-    /// Grants the first `size` units of a free block, unless none fits or no name is left.
+    /// Grants a range of `size` units: the first ones of a free block of the least size class that is
+    /// sure to hold them, and there of the block that became free last. What remains of the block
+    /// stays free, directly behind the range.
+    ///
+    /// `None` where `max_allocs - 1` blocks stand, even for an exact fit, and where only free blocks of
+    /// lesser classes remain; nothing changes then. A request of at least one unit is granted exactly
+    /// when it is at most the `largest_free_region` that the report tells just before. It makes at most
+    /// 26 accesses to the tables, and takes no memory.
     pub fn allocate(&mut self, size: u32) -> Option<Allocation<NI>>
         ensures step { Allocates size self.old self.new result }
+        ensures granted { 1 ≤ size → (IsSome result ↔ (size ≤ largest_free self.old)) }
+        ensures nearly { IfSome result (IsCutNearBest size self.old) }
+        ensures refused { result ≡ None → length self.old.blocks + 1 < self.old.max_allocs → IsGoodRefusal size (free_sizes self.old.blocks) }
+        ensures grows { self.old.accesses ≤ self.new.accesses }
         ensures count { self.new.accesses ≤ self.old.accesses + 64 }
     {
         if self.spare_count <= 1 {
@@ -165,6 +178,7 @@ impl<NI: NodeIndex> Allocator<NI> {
     pub fn free(&mut self, allocation: Allocation<NI>)
         requires live { IsLive allocation.name self.old }
         ensures step { IsBut (free allocation.name self.old) self.new }
+        ensures grows { self.old.accesses ≤ self.new.accesses }
         ensures count { self.new.accesses ≤ self.old.accesses + 128 }
     {
         let name = index::number(NI::of_nonmax(allocation.name()));
@@ -215,6 +229,7 @@ impl<NI: NodeIndex> Allocator<NI> {
     // Whether a name is that of a used block.
     fn uses(&self, name: u32, count: &mut Accesses) -> bool
         ensures used { result ≡ is_used_at (place_of name self.now.blocks) }
+        ensures grows { count.old ≤ count.new }
         ensures count { count.new ≤ count.old + 1 }
     {
         if name < self.max_allocs {

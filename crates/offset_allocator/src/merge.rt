@@ -32,6 +32,7 @@ pub(crate) fn with_before<NI: NodeIndex>(
     ensures lists { class_lists NI.MAX t.new.links ≡ remove_all (gone_before (place_of x (blocks t.old.room last))) (class_lists NI.MAX t.old.links) }
     ensures limit { length t.new.room.nodes ≡ length t.old.room.nodes }
     ensures size { result ≡ size_in x (blocks t.new.room last) }
+    ensures grows { count.old ≤ count.new }
     ensures count { count.new ≤ count.old + 17 }
 {
     if let Some(w) = linked(t.before(x, count)) {
@@ -66,6 +67,7 @@ pub(crate) fn with_after<NI: NodeIndex>(
     ensures lists { class_lists NI.MAX t.new.links ≡ remove_all (gone_after (place_of x (blocks t.old.room last.old))) (class_lists NI.MAX t.old.links) }
     ensures limit { length t.new.room.nodes ≡ length t.old.room.nodes }
     ensures size { result ≡ size_in x (blocks t.new.room last.new) }
+    ensures grows { count.old ≤ count.new }
     ensures count { count.new ≤ count.old + 15 }
 {
     if let Some(y) = linked(t.after(x, count)) {
