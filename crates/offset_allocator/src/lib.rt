@@ -11,10 +11,11 @@ ghost use Rattle.offset_allocator.specs.Relations.{Allocates, IsBut, IsCutNearBe
 mod accesses;
 mod bins;
 mod chain;
+pub mod ext;
 mod handle;
 mod index;
 mod merge;
-mod small_float;
+pub mod small_float;
 mod tables;
 
 pub use accesses::Accesses;

@@ -1,14 +1,18 @@
-// Size classes: sizes to classes and back.
+//! Size classes: sizes to classes and back, as a small float of 5 bits of exponent and 3 of mantissa.
+//! The 256 classes rise in steps of at most an eighth.
 
 ghost use Rattle.std.specs.Prelude.{◌≡◌, ◌<◌, ◌≤◌, ◌%◌, ◌^◌, ◌*◌, ◌-◌, ◌↔◌, ℕ};
 ghost use Rattle.offset_allocator.specs.Classes.{value, up, down};
 
+/// How many bits of a class are its mantissa.
 pub const MANTISSA_BITS: u32 = 3;
-
+/// One more than the greatest mantissa: sizes below it are classes of their own.
 pub const MANTISSA_VALUE: u32 = 8;
-
+/// The bits of the mantissa.
 pub const MANTISSA_MASK: u32 = 7;
 
+/// The least class whose value is at least `size` units. It is at most 240, which no block is of: a
+/// size above 4026531840 fits no class that a 32-bit size reaches.
 pub fn uint_to_float_round_up(size: u32) -> u32
     ensures is { result ≡ up size }
     ensures least { (c : ℕ) → ((result ≤ c) ↔ (size ≤ value c)) }
@@ -21,9 +25,12 @@ pub fn uint_to_float_round_up(size: u32) -> u32
     let mantissa = (size >> start) & MANTISSA_MASK;
     let low_bits = size & ((1 << start) - 1);
     let class = ((start + 1) << MANTISSA_BITS) + mantissa;
+    // a full mantissa carries into the exponent
     if low_bits == 0 { class } else { class + 1 }
 }
 
+/// The greatest class whose value is at most `size` units: the class that a free block of this size
+/// stands in. It is at most 239.
 pub fn uint_to_float_round_down(size: u32) -> u32
     ensures is { result ≡ down size }
     ensures greatest { (c : ℕ) → ((c ≤ result) ↔ (value c ≤ size)) }
@@ -36,6 +43,8 @@ pub fn uint_to_float_round_down(size: u32) -> u32
     ((start + 1) << MANTISSA_BITS) | mantissa
 }
 
+/// The value of a class in units, of which the low 32 bits are told: the values of the classes from 240
+/// on are greater.
 pub fn float_to_uint(float_value: u32) -> u32
     requires { float_value < 256 }
     ensures is { result ≡ value float_value % 2 ^ 32 }
@@ -50,20 +59,4 @@ pub fn float_to_uint(float_value: u32) -> u32
     } else {
         (mantissa | MANTISSA_VALUE) << (exponent - 1)
     }
-}
-
-pub fn min_allocator_size(needed: u32) -> u32
-    requires { needed ≤ 4026531840 }
-    ensures { result ≡ value (up needed) }
-{
-    float_to_uint(uint_to_float_round_up(needed))
-}
-
-// What the classes promise of fits.
-pub fn fit_law(n: u32, b: u32, t: u32)
-    ensures best { up n ≤ down b → (up n ≤ down t → down b ≤ down t) → 9 * n ≤ 8 * t → 8 * b ≤ 9 * t }
-    ensures refusal { (up n ≤ down t → ⊥) → 8 * t < 9 * n }
-    ensures grant { (up n ≤ down b) ↔ (n ≤ value (down b)) }
-{
-    let _numbers = (n, b, t);
 }
