@@ -1,0 +1,50 @@
+-- How a run ends.
+use Rattle.std.proofs.Common.{◌≡◌, ℕ, ◌-◌, ◌<◌, ◌⊎◌, inl, inr, false, List, [], ◌++◌, length, take, drop, Option, Some, None, Ok, Err, sym, ap, ◌∙◌, append_assoc, arith, take-append-drop}
+use Rattle.std.specs.Prelude.{IfSome}
+use Rattle.std.specs.Io.KnownBytes.{Appends}
+use Rattle.std.proofs.lemmas.Bool.{cases_lt}
+use Rattle.std.proofs.lemmas.List.{append-nil, take_rest, length-append, drop_at, drop_all}
+use Rattle.offset_script.specs.declared.faults.ScriptFault.{ScriptFault}
+use Rattle.offset_script.specs.declared.faults.ScriptFault.TheVariants as scripts
+use Rattle.offset_script.specs.declared.faults.RunFault.TheVariants.{Write}
+use Rattle.offset_script.specs.Faults.{as_run_fault}
+use Rattle.offset_script.specs.Grammar.{Plan, meaning_of, Fails}
+use Rattle.offset_script.specs.Running.{RunOf, HasText, Sends, IsAnswered}
+use Rattle.offset_script.specs.Machine.{Answer}
+use Rattle.offset_script.specs.Answers.{text_of}
+use Rattle.offset_script.proofs.Steps.{is_too_long}
+
+-- a front longer
+pub more_parts : (text front rest : List ℕ) (n : ℕ) → text ≡ front ++ rest → text ≡ (front ++ take n rest) ++ take (length rest - n) (drop n rest)
+more_parts text front rest n h = rw take_rest (h ∙ ap (λ (l : List ℕ). front ++ l) (sym (take-append-drop n rest)) ∙ sym (append_assoc front (take n rest) (drop n rest)))
+
+whole_or_long : (bytes text : List ℕ) (left : Option (List ℕ)) → HasText bytes (Some text) left
+    → ((left ≡ Some []) × (text ≡ bytes) × (length bytes < 1048577)) ⊎ ((left ≡ Some (drop 1048577 text)) × (meaning_of bytes ≡ Err scripts.TooLong) × (meaning_of text ≡ Err scripts.TooLong))
+whole_or_long bytes text None h = absurd h.takes
+whole_or_long bytes text (Some rest) h =
+    elim (cases_lt (length bytes) 1048577) [
+      | inl lt ↦ inl (ap Some (h.ends lt), h.takes ∙ ap (λ (l : List ℕ). bytes ++ l) (h.ends lt) ∙ append-nil bytes, lt)
+      | inr le ↦ inr (ap Some (sym (drop_at bytes rest 1048577 (omega (arith, h.most))) ∙ ap (drop 1048577) (sym h.takes)), is_too_long bytes (omega arith), is_too_long text (omega (arith, ap length h.takes, length-append bytes rest)))
+    ]
+
+pub script_failed : (bytes : List ℕ) (f : ScriptFault) (from left old new : Option (List ℕ)) → HasText bytes from left → Fails f (meaning_of bytes) → IfSome from (λ text. RunOf (Err (as_run_fault f)) text left old new)
+script_failed bytes f None left old new h fails = tt
+script_failed bytes scripts.Memory (Some text) left old new h fails = tt
+script_failed bytes scripts.TooLong (Some text) left old new h fails =
+    elim (whole_or_long bytes text left h) [ inl w ↦ (rw (drop_all 1048577 text (omega (arith, w.2, ap length w.1))) w.0, ap meaning_of w.1 ∙ fails) | inr l ↦ (l.0, l.2) ]
+script_failed bytes (scripts.BadHeader n) (Some text) left old new h fails =
+    elim (whole_or_long bytes text left h) [ inl w ↦ (w.0, ap meaning_of w.1 ∙ fails) | inr l ↦ absurd (let e = sym l.1 ∙ fails in cc) ]
+script_failed bytes (scripts.BadLimit n) (Some text) left old new h fails =
+    elim (whole_or_long bytes text left h) [ inl w ↦ (w.0, ap meaning_of w.1 ∙ fails) | inr l ↦ absurd (let e = sym l.1 ∙ fails in cc) ]
+script_failed bytes (scripts.BadCommand n) (Some text) left old new h fails =
+    elim (whole_or_long bytes text left h) [ inl w ↦ (w.0, ap meaning_of w.1 ∙ fails) | inr l ↦ absurd (let e = sym l.1 ∙ fails in cc) ]
+
+pub all_sent : (bytes sent : List ℕ) (plan : Plan) (rs : List Answer) (from left old new : Option (List ℕ)) → HasText bytes from left → meaning_of bytes ≡ Ok plan → IsAnswered plan rs → sent ≡ text_of rs → Appends old new sent → IfSome from (λ text. RunOf (Ok tt) text left old new)
+all_sent bytes sent plan rs None left old new h means played e sends = tt
+all_sent bytes sent plan rs (Some text) left old new h means played e sends =
+    elim (whole_or_long bytes text left h) [ inl w ↦ (w.0, record { plan = plan; answers = rs; played = played; means = ap meaning_of w.1 ∙ means; writes = rw (← e) sends }) | inr l ↦ absurd (let e' = sym l.1 ∙ means in cc) ]
+
+pub front_sent : (bytes sent : List ℕ) (plan : Plan) (rs : List Answer) (from left old new : Option (List ℕ)) → HasText bytes from left → meaning_of bytes ≡ Ok plan → IsAnswered plan rs → sent ≡ text_of rs → Sends false sent old new → IfSome from (λ text. RunOf (Err Write) text left old new)
+front_sent bytes sent plan rs None left old new h means played e sends = tt
+front_sent bytes sent plan rs (Some text) left old new h means played e sends =
+    elim (whole_or_long bytes text left h) [ inl w ↦ (w.0, record { plan = plan; answers = rs; played = played; front = sends.0; back = sends.1; means = ap meaning_of w.1 ∙ means; parts = sym e ∙ sends.2; writes = sends.3 }) | inr l ↦ absurd (let e' = sym l.1 ∙ means in cc) ]

@@ -1,0 +1,10 @@
+pub mod Answers
+pub mod Blocks
+pub mod Devices
+pub mod Faults
+pub mod Grammar
+pub mod Limits
+pub mod Machine
+pub mod Playing
+pub mod Running
+pub mod Spelling

@@ -1,0 +1,154 @@
+//! Where a script comes from, and where its answers go.
+
+ghost use Rattle.std.specs.Prelude.{◌≡◌, ℕ, ◌<◌, ◌≤◌, Bool, true, false, List, Option, length, IfSome, is_some, if◌then◌else◌};
+ghost use Rattle.offset_script.specs.Devices.{Adapter, PullTakes, PushAdds};
+ghost use Rattle.std.specs.Io.KnownBytes.{Keeps};
+
+use std::io::{Read, Write};
+use std::marker::Model;
+
+/// Bytes that come in pieces.
+pub trait Source {
+    // The bytes left, where they are told.
+    ghost left: { Self → Option (List ℕ) };
+
+    // Whether a pull has failed.
+    ghost has_failed: { Self → Bool };
+
+    /// Takes bytes from the front of what is left to the front of `buf`, and answers how many:
+    /// none only at the end of the bytes, or for an empty `buf`. `None` is a failure, which takes nothing.
+    fn pull(&mut self, buf: &mut [u8]) -> Option<usize>
+        ensures count { IfSome result (λ n. n ≤ length buf.new) }
+        ensures bytes { PullTakes (left self.old) (left self.new) result buf.new }
+        ensures failed { has_failed self.new ≡ (if is_some result then has_failed self.old else true) };
+}
+
+/// What takes bytes in pieces.
+pub trait Sink {
+    // The bytes held, where they are told.
+    ghost held: { Self → Option (List ℕ) };
+
+    // Whether a push or a flush has failed.
+    ghost has_failed: { Self → Bool };
+
+    /// Appends bytes from the front of `bytes`, at least one, and answers how many.
+    /// `None` is a failure, which appends nothing.
+    fn push(&mut self, bytes: &[u8]) -> Option<usize>
+        requires { 0 < length bytes.now }
+        ensures least { IfSome result (λ n. 0 < n) }
+        ensures count { IfSome result (λ n. n ≤ length bytes.now) }
+        ensures bytes { PushAdds (held self.old) (held self.new) result bytes.now }
+        ensures failed { has_failed self.new ≡ (if is_some result then has_failed self.old else true) };
+
+    /// Hands on what was appended, and appends nothing itself. `false` is a failure.
+    fn flush(&mut self) -> bool
+        ensures bytes { Keeps (held self.old) (held self.new) }
+        ensures failed { has_failed self.new ≡ (if result then has_failed self.old else true) };
+}
+
+/// A reader as a source. Each call makes one read, and it fails just where that read does.
+#[derive(Drop)]
+pub struct FromRead<R: Read> {
+    inner: R,
+    failed: bool,
+}
+
+impl<R: Read> Model for FromRead<R> {
+    ghost Value = { Adapter R };
+
+    ghost view = { λ s. record { inner = s.inner; has_failed = s.failed } };
+}
+
+impl<R: Read> FromRead<R> {
+    /// A source over a reader. It has not failed.
+    pub fn new(inner: R) -> Self
+        ensures { result ≡ record { inner = inner; has_failed = false } }
+    {
+        FromRead {
+            inner,
+            failed: false,
+        }
+    }
+
+    /// The reader, as the reads have left it.
+    pub fn into_inner(self) -> R
+        ensures { result ≡ self.inner }
+    {
+        let FromRead { inner, failed: _ } = self;
+        inner
+    }
+}
+
+impl<R: Read> Source for FromRead<R> {
+    ghost left = { λ s. R.remaining s.inner };
+
+    ghost has_failed = { λ s. s.has_failed };
+
+    fn pull(&mut self, buf: &mut [u8]) -> Option<usize> {
+        match self.inner.read(buf) {
+            Ok(n) => Some(n),
+            Err(_) => {
+                self.failed = true;
+                None
+            }
+        }
+    }
+}
+
+/// A writer as a sink. Each call makes one write or one flush, and it fails just where that does;
+/// a write that takes 0 bytes is a failure too.
+#[derive(Drop)]
+pub struct IntoWrite<W: Write> {
+    inner: W,
+    failed: bool,
+}
+
+impl<W: Write> Model for IntoWrite<W> {
+    ghost Value = { Adapter W };
+
+    ghost view = { λ s. record { inner = s.inner; has_failed = s.failed } };
+}
+
+impl<W: Write> IntoWrite<W> {
+    /// A sink over a writer. It has not failed.
+    pub fn new(inner: W) -> Self
+        ensures { result ≡ record { inner = inner; has_failed = false } }
+    {
+        IntoWrite {
+            inner,
+            failed: false,
+        }
+    }
+
+    /// The writer, as the writes have left it.
+    pub fn into_inner(self) -> W
+        ensures { result ≡ self.inner }
+    {
+        let IntoWrite { inner, failed: _ } = self;
+        inner
+    }
+}
+
+impl<W: Write> Sink for IntoWrite<W> {
+    ghost held = { λ s. W.contents s.inner };
+
+    ghost has_failed = { λ s. s.has_failed };
+
+    fn push(&mut self, bytes: &[u8]) -> Option<usize> {
+        match self.inner.write(bytes) {
+            Ok(0) | Err(_) => {
+                self.failed = true;
+                None
+            }
+            Ok(n) => Some(n),
+        }
+    }
+
+    fn flush(&mut self) -> bool {
+        let flushed = self.inner.flush().is_ok();
+        if !flushed {
+            self.failed = true;
+        }
+        flushed
+    }
+}

@@ -1,0 +1,88 @@
+//! From a source's bytes to a sink's.
+
+ghost use Rattle.std.specs.Prelude.{◌≡◌, ◌≢◌, true, false, IfOk, IfErr, IfSome, if◌then◌else◌};
+ghost use Rattle.offset_script.specs.Running.{RunOf, Unwritten, HasText, Sends, is_read_fault, is_write_fault, IsReadingFault};
+ghost use Rattle.offset_script.specs.Answers.{all_seen};
+ghost use Rattle.offset_script.specs.Playing.{IsPlayed};
+ghost use Rattle.offset_script.specs.declared.faults.RunFault.TheVariants as faults;
+ghost use Rattle.offset_script.specs.declared.faults.ScriptFault.TheVariants as scripts;
+
+use crate::answers::{Answer, answer_text};
+use crate::devices::{Sink, Source};
+use crate::faults::RunFault;
+use crate::playing::play;
+use crate::reading::{MAX_TEXT, parse};
+use crate::scripts::{IndexWidth, Script};
+use std::alloc::{AllocError, Global};
+
+/// How many bytes are asked for at once.
+const PIECE: usize = 16384;
+
+/// All bytes of the source, or the first `MAX_TEXT + 1`. It stops at the first failure.
+fn read_text<S: Source>(alloc: Global, input: &mut S) -> Result<Vec<u8>, RunFault>
+    ensures text { IfOk result (λ text. HasText text.items (S.left input.old) (S.left input.new)) }
+    ensures failed { S.has_failed input.new ≡ (if is_read_fault result then true else S.has_failed input.old) }
+    ensures fault { IfErr result IsReadingFault }
+{
+    let mut text = Vec::new(alloc);
+    let mut piece = [0u8; PIECE];
+    while text.len() <= MAX_TEXT {
+        let room = (MAX_TEXT + 1 - text.len()).min(PIECE);
+        match input.pull(&mut piece[..room]) {
+            None => return Err(RunFault::Read),
+            Some(0) => break,
+            Some(n) => text.extend_from_slice(&piece[..n])?,
+        }
+    }
+    Ok(text)
+}
+
+/// Sends all bytes, and then flushes, also where there are none. It stops at the first failure, and tries nothing again.
+fn send<K: Sink>(output: &mut K, text: &[u8]) -> bool
+    ensures sent { Sends result text.now (K.held output.old) (K.held output.new) }
+    ensures failed { K.has_failed output.new ≡ (if result then K.has_failed output.old else true) }
+{
+    let mut rest = text;
+    while !rest.is_empty() {
+        match output.push(rest) {
+            None => return false,
+            Some(n) => rest = &rest[n..],
+        }
+    }
+    output.flush()
+}
+
+// The answers to a script, by an allocator of its index width.
+fn answers(alloc: Global, script: &Script) -> Result<Vec<Answer>, AllocError>
+    ensures { IfOk result
+        (λ v. IsPlayed script.now.size script.now.max_allocs script.now.commands.items (all_seen v.items)) }
+{
+    match script.index {
+        IndexWidth::Bits16 => play::<u16>(alloc, script.size, script.max_allocs, &script.commands),
+        IndexWidth::Bits32 => play::<u32>(alloc, script.size, script.max_allocs, &script.commands),
+    }
+}
+
+/// Reads a script to its end, plays it, writes the text of its answers, and then flushes.
+///
+/// Nothing is written unless the whole text is a script. Reading stops behind 1,048,577 bytes, which are too
+/// many. `Read` comes just where the source failed in this call, and `Write` just where the sink did: then a
+/// beginning of the text stands written. No failed call is tried again. A want of memory is `Memory`.
+pub fn run<S: Source, K: Sink>(alloc: Global, input: &mut S, output: &mut K) -> Result<(), RunFault>
+    ensures of_text { IfSome (S.left input.old)
+        (λ text. RunOf result text (S.left input.new) (K.held output.old) (K.held output.new)) }
+    ensures unwritten { Unwritten result (K.held output.old) (K.held output.new) }
+    ensures memory { result ≢ Err (faults.Script scripts.Memory) }
+    ensures read { S.has_failed input.new ≡ (if is_read_fault result then true else S.has_failed input.old) }
+    ensures write { K.has_failed output.new ≡ (if is_write_fault result then true else K.has_failed output.old) }
+{
+    let text = read_text(alloc, input)?;
+    let script = parse(alloc, &text)?;
+    let answers = answers(alloc, &script)?;
+    let text = answer_text(alloc, &answers)?;
+    if send(output, text.as_bytes()) {
+        Ok(())
+    } else {
+        Err(RunFault::Write)
+    }
+}

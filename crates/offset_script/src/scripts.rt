@@ -1,0 +1,53 @@
+//! What a script says.
+
+ghost use Rattle.std.specs.Prelude.{◌≤◌, All, IsTrue};
+ghost use Rattle.offset_script.specs.Limits.{greatest_limit, is_powered};
+
+/// One line of a script after its header. Sizes are in units of the space.
+#[derive(Clone, Copy, PartialEq, Debug)]
+pub enum Command {
+    /// Grant so many units.
+    Alloc(u32),
+    /// Release the grant of this number.
+    Free(u32),
+    /// Tell the units of the grant of this number.
+    Size(u32),
+    /// Tell what is free in all, and the greatest class value of a free block.
+    Report,
+    /// Tell the classes that have a free block.
+    Full,
+    /// Make the whole space free.
+    Reset,
+    /// Grant so many units from a multiple of the second number on, which is a power of two.
+    Align(u32, u32),
+    /// Add so many units at the end of the space.
+    Extend(u32),
+}
+
+/// How many bits the allocator's names have.
+#[derive(Clone, Copy, PartialEq, Debug)]
+pub enum IndexWidth {
+    Bits16,
+    Bits32,
+}
+
+/// The first line of a script that says something.
+#[derive(Clone, Copy, PartialEq, Debug)]
+pub struct Header {
+    pub size: u32,
+    pub max_allocs: u32,
+    pub index: IndexWidth,
+}
+
+/// A whole script: a space of `size` units, its node limit, the width of its names, and its commands.
+/// Its limit is admitted for its width, and each alignment is a power of two.
+#[derive(Drop)]
+pub struct Script {
+    pub size: u32,
+    pub max_allocs: u32,
+    pub index: IndexWidth,
+    pub commands: Vec<Command>,
+    pub ghost low: { 2 ≤ max_allocs },
+    pub ghost high: { max_allocs ≤ greatest_limit index },
+    pub ghost powers: { All (λ c. IsTrue (is_powered c)) commands.items },
+}
