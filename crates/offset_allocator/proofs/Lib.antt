@@ -9,6 +9,7 @@ pub mod Found
 pub mod Freeing
 pub mod Fresh
 pub mod Granting
+pub mod Greatest
 pub mod Join
 pub mod JoinSpace
 pub mod Joints

@@ -7,4 +7,5 @@ pub mod Relations
 pub mod Reports
 pub mod Space
 pub mod State
+pub mod Told
 pub mod View

@@ -1,6 +1,7 @@
 // The names of free blocks, in a list for each size class, by links between the nodes, with a two-level mask.
 ghost use Rattle.std.specs.Prelude.{◌≡◌, ◌+◌, ◌<◌, ◌≤◌, ◌≢◌, ℕ, List, [], ◌∷◌, slice_set, length, drop, MatchOption};
 ghost use Rattle.offset_allocator.specs.Named.{names_at, without};
+ghost use Rattle.offset_allocator.specs.Told.{IsGreatestClass};
 ghost use Rattle.offset_allocator.specs.Orders.{IsUnlisted, IsLeastFrom, Among, relinked, Masked, flag, class_lists, Binned};
 
 use crate::accesses::Accesses;
@@ -30,6 +31,23 @@ pub(crate) fn find_at_or_above<NI: NodeIndex>(
     }
     let found = words.trailing_zeros();
     Some(found * 64 + t.mask(found, count).trailing_zeros())
+}
+
+/// The greatest class that has a name.
+pub(crate) fn greatest<NI: NodeIndex>(
+    t: &Tables<NI>,
+    top: u32,
+    count: &mut Accesses,
+) -> Option<u32>
+    requires { Binned NI.MAX t.now.links top }
+    ensures greatest { MatchOption result ((c : ℕ) → c < 256 → names_at (class_lists NI.MAX t.now.links) c ≡ []) (IsGreatestClass (class_lists NI.MAX t.now.links)) }
+    ensures count { MatchOption result (count.new ≡ count.old) (λ _. count.new ≡ count.old + 1) }
+{
+    if top == 0 {
+        return None;
+    }
+    let word = 31 - top.leading_zeros();
+    Some(word * 64 + (63 - t.mask(word, count).leading_zeros()))
 }
 
 /// Puts a name first into a class.

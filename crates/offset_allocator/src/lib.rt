@@ -13,12 +13,14 @@ mod chain;
 mod handle;
 mod index;
 mod merge;
+mod reports;
 mod small_float;
 mod tables;
 
 pub use accesses::Accesses;
 pub use handle::Allocation;
 pub use index::{NodeIndex, NodeIndexNonMax, NonMaxU16, NonMaxU32};
+pub use reports::{StorageReport, StorageReportFull, StorageReportFullRegion};
 use small_float::{uint_to_float_round_down, uint_to_float_round_up};
 use std::alloc::{AllocError, Global};
 use std::marker::Model;
