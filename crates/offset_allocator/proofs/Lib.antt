@@ -19,6 +19,7 @@ pub mod Nodes
 pub mod Ops
 pub mod Removal
 pub mod Removed
+pub mod Reporting
 pub mod Rows
 pub mod Sizes
 pub mod Split

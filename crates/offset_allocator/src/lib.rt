@@ -6,6 +6,7 @@ ghost use Rattle.offset_allocator.specs.Classes.{up, down};
 ghost use Rattle.offset_allocator.specs.Orders.{IsLeastFrom};
 ghost use Rattle.offset_allocator.specs.Named.{is_short_of, free, is_used_at, size_at, place_of};
 ghost use Rattle.offset_allocator.specs.Relations.{Allocates, IsBut, IsFresh, IsLive};
+ghost use Rattle.offset_allocator.specs.Told.{IsReport};
 
 mod accesses;
 mod bins;
@@ -21,7 +22,7 @@ pub use accesses::Accesses;
 pub use handle::Allocation;
 pub use index::{NodeIndex, NodeIndexNonMax, NonMaxU16, NonMaxU32};
 pub use reports::{StorageReport, StorageReportFull, StorageReportFullRegion};
-use small_float::{uint_to_float_round_down, uint_to_float_round_up};
+use small_float::{float_to_uint, uint_to_float_round_down, uint_to_float_round_up};
 use std::alloc::{AllocError, Global};
 use std::marker::Model;
 use tables::Tables;
@@ -225,5 +226,34 @@ impl<NI: NodeIndex> Allocator<NI> {
         } else {
             0
         }
+    }
+
+    // The short report, with a count of its accesses.
+    pub(crate) fn storage_report_counted(&self, count: &mut Accesses) -> StorageReport
+        ensures report { IsReport result self.now }
+        ensures count { count.new ≤ count.old + 8 }
+    {
+        if self.spare_count <= 1 {
+            return StorageReport {
+                total_free_space: 0,
+                largest_free_region: 0,
+            };
+        }
+        let largest_free_region = match bins::greatest(&self.tables, self.top_mask, count) {
+            None => 0,
+            Some(class) => float_to_uint(class),
+        };
+        StorageReport {
+            total_free_space: self.free_total,
+            largest_free_region,
+        }
+    }
+
+    /// The free space in short: the units of all free blocks, and the greatest request that is sure to be granted.
+    /// Both are 0 where the node limit's last block stands.
+    pub fn storage_report(&self) -> StorageReport
+        ensures { IsReport result self.now }
+    {
+        self.storage_report_counted(&mut Accesses::new())
     }
 }
