@@ -3,6 +3,7 @@ pub mod Binned
 pub mod Bits
 pub mod Changes
 pub mod Classes
+pub mod Counting
 pub mod Find
 pub mod First
 pub mod Found
@@ -13,6 +14,7 @@ pub mod Greatest
 pub mod Join
 pub mod JoinSpace
 pub mod Joints
+pub mod Lengths
 pub mod Marks
 pub mod Merging
 pub mod Nodes

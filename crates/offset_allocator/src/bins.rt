@@ -2,7 +2,7 @@
 ghost use Rattle.std.specs.Prelude.{◌≡◌, ◌+◌, ◌<◌, ◌≤◌, ◌≢◌, ℕ, List, [], ◌∷◌, slice_set, length, drop, MatchOption};
 ghost use Rattle.offset_allocator.specs.Named.{names_at, without};
 ghost use Rattle.offset_allocator.specs.Told.{IsGreatestClass};
-ghost use Rattle.offset_allocator.specs.Orders.{IsUnlisted, IsLeastFrom, Among, relinked, Masked, flag, class_lists, Binned};
+ghost use Rattle.offset_allocator.specs.Orders.{IsUnlisted, IsLeastFrom, Among, relinked, Linked, Masked, flag, class_lists, Binned};
 
 use crate::accesses::Accesses;
 use crate::index::NodeIndex;
@@ -48,6 +48,23 @@ pub(crate) fn greatest<NI: NodeIndex>(
     }
     let word = 31 - top.leading_zeros();
     Some(word * 64 + (63 - t.mask(word, count).leading_zeros()))
+}
+
+/// The number of the names of a class.
+pub(crate) fn length_of<NI: NodeIndex>(t: &Tables<NI>, class: u32, count: &mut Accesses) -> u32
+    requires linked { Linked NI.MAX t.now.links.newer t.now.links.older t.now.links.heads (class_lists NI.MAX t.now.links) }
+    requires classed { class < 256 }
+    ensures names { result ≡ length (names_at (class_lists NI.MAX t.now.links) class) }
+    ensures count { count.new ≡ count.old + 1 + result }
+{
+    t.shape();
+    let mut names = 0;
+    let mut name = t.head(class, count);
+    while name != NI::MAX {
+        names += 1;
+        name = t.older(name, count);
+    }
+    names
 }
 
 /// Puts a name first into a class.

@@ -1,12 +1,12 @@
 // One space, handed out in ranges.
 #![tactic(auto)]
 
-ghost use Rattle.std.specs.Prelude.{◌≡◌, ℕ, ◌+◌, ◌<◌, ◌≤◌, Some, None, Option, false, true, MatchOption, IfOk};
+ghost use Rattle.std.specs.Prelude.{◌≡◌, ℕ, ◌+◌, ◌*◌, ◌<◌, ◌≤◌, length, Some, None, Option, false, true, MatchOption, IfOk};
 ghost use Rattle.offset_allocator.specs.Classes.{up, down};
 ghost use Rattle.offset_allocator.specs.Orders.{IsLeastFrom};
-ghost use Rattle.offset_allocator.specs.Named.{is_short_of, free, is_used_at, size_at, place_of};
+ghost use Rattle.offset_allocator.specs.Named.{is_short_of, free, is_used_at, size_at, place_of, free_sizes};
 ghost use Rattle.offset_allocator.specs.Relations.{Allocates, IsBut, IsFresh, IsLive};
-ghost use Rattle.offset_allocator.specs.Told.{IsReport};
+ghost use Rattle.offset_allocator.specs.Told.{IsReport, IsFullReport};
 
 mod accesses;
 mod bins;
@@ -255,5 +255,27 @@ impl<NI: NodeIndex> Allocator<NI> {
         ensures { IsReport result self.now }
     {
         self.storage_report_counted(&mut Accesses::new())
+    }
+
+    // The full report, with a count of its accesses.
+    pub(crate) fn storage_report_full_counted(&self, count: &mut Accesses) -> StorageReportFull
+        ensures report { IsFullReport result self.now }
+        ensures count { count.new ≤ count.old + 512 + 2 * length (free_sizes self.now.blocks) }
+    {
+        let mut report = StorageReportFull::default();
+        for class in 0..256u32 {
+            report.free_regions[class as usize] = StorageReportFullRegion {
+                size: float_to_uint(class),
+                count: bins::length_of(&self.tables, class, count),
+            };
+        }
+        report
+    }
+
+    /// The free blocks, class by class, at the node limit too. It goes over all free blocks.
+    pub fn storage_report_full(&self) -> StorageReportFull
+        ensures { IsFullReport result self.now }
+    {
+        self.storage_report_full_counted(&mut Accesses::new())
     }
 }
