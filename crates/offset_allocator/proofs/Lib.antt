@@ -19,6 +19,7 @@ pub mod Marks
 pub mod Merging
 pub mod Nodes
 pub mod Ops
+pub mod Overwritten
 pub mod Removal
 pub mod Removed
 pub mod Reporting

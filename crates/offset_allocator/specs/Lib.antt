@@ -6,6 +6,7 @@ pub mod Orders
 pub mod Relations
 pub mod Reports
 pub mod Space
+pub mod Start
 pub mod State
 pub mod Told
 pub mod View

@@ -5,7 +5,9 @@ ghost use Rattle.std.specs.Prelude.{◌≡◌, ℕ, ◌+◌, ◌*◌, ◌<◌, �
 ghost use Rattle.offset_allocator.specs.Classes.{up, down};
 ghost use Rattle.offset_allocator.specs.Orders.{IsLeastFrom};
 ghost use Rattle.offset_allocator.specs.Named.{is_short_of, free, is_used_at, size_at, place_of, free_sizes};
-ghost use Rattle.offset_allocator.specs.Relations.{Allocates, IsBut, IsFresh, IsLive};
+ghost use Rattle.offset_allocator.specs.Relations.{Allocates, IsBut, IsFresh, IsLive, Resets};
+ghost use Rattle.offset_allocator.specs.Cells.{empty_cells};
+ghost use Rattle.offset_allocator.specs.Start.{IsStarted};
 ghost use Rattle.offset_allocator.specs.Told.{IsReport, IsFullReport};
 
 mod accesses;
@@ -59,6 +61,27 @@ fn handle_of<NI: NodeIndex>(offset: u32, name: u32) -> Allocation<NI>
     Allocation::make(offset, NI::from_u32(name).to_nonmax().unwrap())
 }
 
+// Makes the whole space one free block, under the name 0, in tables with nothing written. It answers the top mask.
+fn start<NI: NodeIndex>(tables: &mut Tables<NI>, size: u32, max_allocs: u32) -> u32
+    requires empty { tables.old ≡ empty_cells NI.MAX max_allocs }
+    requires least { 2 ≤ max_allocs }
+    requires most { max_allocs + 1 < NI.MAX }
+    ensures { IsStarted NI.MAX size max_allocs tables.new result }
+{
+    let mut count = Accesses::new();
+    let mut top_mask = 0;
+    tables.set_size(0, size, &mut count);
+    tables.shape();
+    bins::put_first(
+        tables,
+        &mut top_mask,
+        0,
+        uint_to_float_round_down(size),
+        &mut count,
+    );
+    top_mask
+}
+
 impl<NI: NodeIndex> Allocator<NI> {
     /// A space with so many nodes.
     pub fn with_max_allocs(alloc: Global, size: u32, max_allocs: u32) -> Result<Self, AllocError>
@@ -67,17 +90,7 @@ impl<NI: NodeIndex> Allocator<NI> {
         ensures { IfOk result (IsFresh size max_allocs) }
     {
         let mut tables = Tables::with_len(alloc, max_allocs)?;
-        let mut count = Accesses::new();
-        let mut top_mask = 0;
-        tables.set_size(0, size, &mut count);
-        tables.shape();
-        bins::put_first(
-            &mut tables,
-            &mut top_mask,
-            0,
-            uint_to_float_round_down(size),
-            &mut count,
-        );
+        let top_mask = start(&mut tables, size, max_allocs);
         Ok(Allocator {
             size,
             max_allocs,
@@ -88,6 +101,18 @@ impl<NI: NodeIndex> Allocator<NI> {
             tables,
             accesses: Accesses::new(),
         })
+    }
+
+    /// Makes the whole space one free block again, in place. It takes no memory and always succeeds. The block of
+    /// every earlier handle is gone.
+    pub fn reset(&mut self)
+        ensures step { Resets self.old self.new }
+    {
+        self.tables.clear();
+        self.top_mask = start(&mut self.tables, self.size, self.max_allocs);
+        self.free_total = self.size;
+        self.spare_count = self.max_allocs - 1;
+        self.last = 0;
     }
 
     // Grants the first units of the newest block of a class.
