@@ -6,6 +6,7 @@ pub mod Classes
 pub mod Counting
 pub mod Find
 pub mod First
+pub mod Formed
 pub mod Found
 pub mod Freeing
 pub mod Fresh

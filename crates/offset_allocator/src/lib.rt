@@ -1,10 +1,10 @@
 // One space, handed out in ranges.
 #![tactic(auto)]
 
-ghost use Rattle.std.specs.Prelude.{◌≡◌, ℕ, ◌+◌, ◌*◌, ◌<◌, ◌≤◌, length, Some, None, Option, false, true, MatchOption, IfOk};
+ghost use Rattle.std.specs.Prelude.{◌≡◌, ℕ, ◌+◌, ◌*◌, ◌<◌, ◌≤◌, length, ◌-◌, ◌↔◌, min, IsTrue, Some, None, Option, false, true, MatchOption, IfOk};
 ghost use Rattle.offset_allocator.specs.Classes.{up, down};
 ghost use Rattle.offset_allocator.specs.Orders.{IsLeastFrom};
-ghost use Rattle.offset_allocator.specs.Named.{is_short_of, free, is_used_at, size_at, place_of, free_sizes};
+ghost use Rattle.offset_allocator.specs.Named.{IsWellFormed, is_short_of, free, is_used_at, size_at, place_of, free_sizes};
 ghost use Rattle.offset_allocator.specs.Relations.{Allocates, IsBut, IsFresh, IsLive, Resets};
 ghost use Rattle.offset_allocator.specs.Cells.{empty_cells};
 ghost use Rattle.offset_allocator.specs.Start.{IsStarted};
@@ -15,6 +15,7 @@ mod bins;
 mod chain;
 mod handle;
 mod index;
+pub mod laws;
 mod merge;
 mod reports;
 mod small_float;
@@ -26,6 +27,7 @@ pub use index::{NodeIndex, NodeIndexNonMax, NonMaxU16, NonMaxU32};
 pub use reports::{StorageReport, StorageReportFull, StorageReportFullRegion};
 use small_float::{float_to_uint, uint_to_float_round_down, uint_to_float_round_up};
 use std::alloc::{AllocError, Global};
+use std::fmt;
 use std::marker::Model;
 use tables::Tables;
 
@@ -83,6 +85,15 @@ fn start<NI: NodeIndex>(tables: &mut Tables<NI>, size: u32, max_allocs: u32) -> 
 }
 
 impl<NI: NodeIndex> Allocator<NI> {
+    /// A space of `size` units, all free, with the lesser of 131072 and `NI::MAX - 2` as the node limit.
+    ///
+    /// An error comes only where memory was refused. Then nothing is made.
+    pub fn new(alloc: Global, size: u32) -> Result<Self, AllocError>
+        ensures { IfOk result (IsFresh size (min 131072 (NI.MAX - 2))) }
+    {
+        Self::with_max_allocs(alloc, size, 131072u32.min(NI::MAX - 2))
+    }
+
     /// A space with so many nodes.
     pub fn with_max_allocs(alloc: Global, size: u32, max_allocs: u32) -> Result<Self, AllocError>
         requires least { 2 ≤ max_allocs }
@@ -230,27 +241,52 @@ impl<NI: NodeIndex> Allocator<NI> {
         }
     }
 
-    /// Whether the handle's name is that of a used block.
-    pub fn is_live(&self, allocation: Allocation<NI>) -> bool
-        ensures { result ≡ is_used_at (place_of allocation.name self.now.blocks) }
+    /// The blocks and the class lists agree.
+    pub(crate) fn formed(&self)
+        ensures { IsWellFormed self.now }
     {
-        self.uses(
-            tables::number(NI::of_nonmax(allocation.name())),
-            &mut Accesses::new(),
-        )
+        let _ = &self.size;
     }
 
-    /// The size of the used block of the handle's name, or 0.
-    pub fn allocation_size(&self, allocation: Allocation<NI>) -> u32
-        ensures { result ≡ size_at (place_of allocation.name self.now.blocks) }
+    // Whether a handle is live, with a count of the accesses.
+    pub(crate) fn is_live_counted(&self, allocation: Allocation<NI>, count: &mut Accesses) -> bool
+        ensures live { IsTrue result ↔ IsLive allocation.name self.now }
+        ensures count { count.new ≤ count.old + 8 }
+    {
+        self.uses(tables::number(NI::of_nonmax(allocation.name())), count)
+    }
+
+    /// Whether the handle is live here: its name is the name of a used block. `free` asks for exactly this.
+    ///
+    /// A handle whose block was freed is live again where a newer grant has its name.
+    pub fn is_live(&self, allocation: Allocation<NI>) -> bool
+        ensures { IsTrue result ↔ IsLive allocation.name self.now }
+    {
+        self.is_live_counted(allocation, &mut Accesses::new())
+    }
+
+    // The size of a granted range, with a count of the accesses.
+    pub(crate) fn allocation_size_counted(
+        &self,
+        allocation: Allocation<NI>,
+        count: &mut Accesses,
+    ) -> u32
+        ensures size { result ≡ size_at (place_of allocation.name self.now.blocks) }
+        ensures count { count.new ≤ count.old + 8 }
     {
         let name = tables::number(NI::of_nonmax(allocation.name()));
-        let mut count = Accesses::new();
-        if self.uses(name, &mut count) {
-            self.tables.size(name, &mut count)
+        if self.uses(name, count) {
+            self.tables.size(name, count)
         } else {
             0
         }
+    }
+
+    /// The units of the range that a live handle has: exactly what was asked for. It is 0 where the handle isn't live.
+    pub fn allocation_size(&self, allocation: Allocation<NI>) -> u32
+        ensures { result ≡ size_at (place_of allocation.name self.now.blocks) }
+    {
+        self.allocation_size_counted(allocation, &mut Accesses::new())
     }
 
     // The short report, with a count of its accesses.
@@ -302,5 +338,12 @@ impl<NI: NodeIndex> Allocator<NI> {
         ensures { IsFullReport result self.now }
     {
         self.storage_report_full_counted(&mut Accesses::new())
+    }
+}
+
+/// The text is that of the short report.
+impl<NI: NodeIndex> fmt::Debug for Allocator<NI> {
+    fn fmt<W: fmt::Write>(&self, f: &mut fmt::Formatter<W>) -> fmt::Result {
+        fmt::Debug::fmt(&self.storage_report(), f)
     }
 }
