@@ -76,8 +76,8 @@ module _ (none : ℕ) (newer older heads masks : List ℕ) (top : ℕ) (ls : Lis
           let (t, r, bit_one, bit_zeros) = bit_top in
           let t_is : 63 - count_leading_zeros 64 n ≡ t = omega arith in
           let above : (d : ℕ) → w * 64 + t < d → d < 256 → names_at ls d ≡ [] = λ d l h.
-              ⊎_elim
-              (λ (x : w < d / 64). clear_word d h (zeros (d / 64) (omega arith)))
-              (λ (x : d / 64 ≤ w). let e : d / 64 ≡ w = omega arith in clear d h (rw (e, ← ne) (bit_zeros (d % 64) (omega arith))))
-              (cases_lt w (d / 64)) in
+          ⊎_elim
+          (λ (x : w < d / 64). clear_word d h (zeros (d / 64) (omega arith)))
+          (λ (x : d / 64 ≤ w). let e : d / 64 ≡ w = omega arith in clear d h (rw (e, ← ne) (bit_zeros (d % 64) (omega arith))))
+          (cases_lt w (d / 64)) in
           rw t_is (omega arith, full_at w t (omega arith) (omega arith) (rw (← ne) bit_one), above)

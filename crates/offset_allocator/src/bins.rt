@@ -34,11 +34,7 @@ pub(crate) fn find_at_or_above<NI: NodeIndex>(
 }
 
 /// The greatest class that has a name.
-pub(crate) fn greatest<NI: NodeIndex>(
-    t: &Tables<NI>,
-    top: u32,
-    count: &mut Accesses,
-) -> Option<u32>
+pub(crate) fn greatest<NI: NodeIndex>(t: &Tables<NI>, top: u32, count: &mut Accesses) -> Option<u32>
     requires { Binned NI.MAX t.now.links top }
     ensures greatest { MatchOption result ((c : ℕ) → c < 256 → names_at (class_lists NI.MAX t.now.links) c ≡ []) (IsGreatestClass (class_lists NI.MAX t.now.links)) }
     ensures count { MatchOption result (count.new ≡ count.old) (λ _. count.new ≡ count.old + 1) }

@@ -4,11 +4,11 @@ ghost use Rattle.offset_allocator.specs.Named.{size_at, place_of, free_sizes};
 ghost use Rattle.offset_allocator.specs.Relations.{IsLive, IsBut, IsUndone};
 ghost use Rattle.offset_allocator.specs.Told.{IsReport, IsFullReport, IsGranted};
 
+use crate::Allocator;
 use crate::accesses::Accesses;
 use crate::handle::Allocation;
 use crate::index::NodeIndex;
 use crate::reports::{StorageReport, StorageReportFull};
-use crate::Allocator;
 
 /// As `Allocator::is_live`. The count grows by at most 8.
 pub fn is_live_counted<NI: NodeIndex>(

@@ -310,8 +310,8 @@ impl<NI: NodeIndex> Allocator<NI> {
         }
     }
 
-    /// The free space in short: the units of all free blocks, and the greatest request that is sure to be granted.
-    /// Both are 0 where the node limit's last block stands.
+    /// The free space in short: the units of all free blocks, and the greatest request that would be granted. Both are
+    /// 0 where the node limit's last block stands, `max_allocs - 1` blocks in all.
     pub fn storage_report(&self) -> StorageReport
         ensures { IsReport result self.now }
     {

@@ -8,8 +8,8 @@ ghost use Rattle.std.specs.Prelude.{◌≡◌, replicate};
 pub struct StorageReport {
     /// The units of all free blocks together.
     pub total_free_space: u32,
-    /// The greatest request that is sure to be granted: the value of the greatest class that has a free block, or 0
-    /// where no block is free. That block itself may be larger by up to an eighth of it.
+    /// The value of the greatest class that has a free block, or 0 where no block is free. A request for 1 unit or more
+    /// is granted exactly where it is at most this. The block itself may be larger, by less than an eighth of this.
     pub largest_free_region: u32,
 }
 
@@ -43,7 +43,7 @@ impl Default for StorageReportFull {
 
     fn default() -> Self {
         StorageReportFull {
-            free_regions: [StorageReportFullRegion { size: 0, count: 0 }; 256],
+            free_regions: [StorageReportFullRegion::default(); 256],
         }
     }
 }
