@@ -3,6 +3,7 @@ pub mod Classes
 pub mod Count
 pub mod Named
 pub mod Orders
+pub mod Parts
 pub mod Relations
 pub mod Reports
 pub mod Space

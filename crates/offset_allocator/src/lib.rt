@@ -1,11 +1,11 @@
 // One space, handed out in ranges.
 #![tactic(auto)]
 
-ghost use Rattle.std.specs.Prelude.{◌≡◌, ℕ, ◌+◌, ◌*◌, ◌<◌, ◌≤◌, length, ◌-◌, ◌↔◌, min, IsTrue, Some, None, Option, false, true, MatchOption, IfOk};
+ghost use Rattle.std.specs.Prelude.{◌≡◌, ◌≢◌, ℕ, ◌+◌, ◌*◌, ◌<◌, ◌≤◌, length, ◌-◌, ◌↔◌, min, IsTrue, Some, None, Option, false, true, MatchOption, IfOk};
 ghost use Rattle.offset_allocator.specs.Classes.{up, down};
 ghost use Rattle.offset_allocator.specs.Orders.{IsLeastFrom};
-ghost use Rattle.offset_allocator.specs.Named.{IsWellFormed, is_short_of, free, is_used_at, size_at, place_of, free_sizes};
-ghost use Rattle.offset_allocator.specs.Relations.{Allocates, IsBut, IsFresh, IsLive, Resets};
+ghost use Rattle.offset_allocator.specs.Named.{IsWellFormed, IsUnused, is_short_of, free, is_used_at, size_at, place_of, free_sizes};
+ghost use Rattle.offset_allocator.specs.Relations.{Allocates, Aligns, IsBut, IsFresh, IsLive, IsPowerOfTwo, Resets};
 ghost use Rattle.offset_allocator.specs.Cells.{empty_cells};
 ghost use Rattle.offset_allocator.specs.Start.{IsStarted};
 ghost use Rattle.offset_allocator.specs.Told.{IsReport, IsFullReport};
@@ -17,6 +17,7 @@ mod handle;
 mod index;
 pub mod laws;
 mod merge;
+mod parts;
 mod reports;
 mod small_float;
 mod tables;
@@ -183,6 +184,71 @@ impl<NI: NodeIndex> Allocator<NI> {
         match bins::find_at_or_above(&self.tables, self.top_mask, least, &mut self.accesses) {
             None => None,
             Some(class) => Some(self.grant(class, size)),
+        }
+    }
+
+    // Two names are unused, where two more blocks may stand.
+    fn spares(&self)
+        ensures { is_short_of 2 self.now ≡ false → (z : ℕ) → (y : ℕ) × IsUnused y self.now × (y ≢ z) }
+    {
+        let _ = &self.size;
+    }
+
+    // Grants units of the newest block of a class, from the first multiple of `align` in it on.
+    fn grant_aligned(&mut self, class: u32, size: u32, align: u32) -> Allocation<NI>
+        requires power { 1 < align }
+        requires fits { size + align - 1 ≤ 4294967295 }
+        requires room { is_short_of 2 self.old ≡ false }
+        requires least { IsLeastFrom (up (size + align - 1)) self.old.order class }
+        ensures step { Aligns size align self.old self.new (Some result) }
+        ensures count { self.new.accesses ≤ self.old.accesses + 48 }
+    {
+        let name = bins::take_first(
+            &mut self.tables,
+            &mut self.top_mask,
+            class,
+            &mut self.accesses,
+        );
+        let offset = self.tables.offset(name, &mut self.accesses);
+        let whole = self.tables.size(name, &mut self.accesses);
+        let padding = (align - offset % align) % align;
+        parts::carve(
+            &mut self.tables,
+            &mut self.top_mask,
+            &mut self.last,
+            &mut self.spare_count,
+            name,
+            padding,
+            size,
+            whole - (padding + size),
+            &mut self.accesses,
+        );
+        self.free_total -= size;
+        handle_of(offset + padding, name)
+    }
+
+    /// Grants `size` units that begin at a multiple of `align`, a power of two.
+    ///
+    /// It takes the block that a request for `size + align - 1` units would take. What of it lies before the granted
+    /// units, and what lies behind them, stays free. It answers `None` where such a request finds no block or is too
+    /// large for a number of 32 bits, or, with `align` above 1, where fewer than two more blocks may stand. A refusal
+    /// leaves all blocks as they were. With `align` 1 the call is `allocate`.
+    pub fn allocate_aligned(&mut self, size: u32, align: u32) -> Option<Allocation<NI>>
+        requires power { IsPowerOfTwo align }
+        ensures step { Aligns size align self.old self.new result }
+        ensures count { self.new.accesses ≤ self.old.accesses + 128 }
+    {
+        self.spares();
+        if align <= 1 {
+            return self.allocate(size);
+        }
+        if self.spare_count <= 2 || size > u32::MAX - (align - 1) {
+            return None;
+        }
+        let least = uint_to_float_round_up(size + (align - 1));
+        match bins::find_at_or_above(&self.tables, self.top_mask, least, &mut self.accesses) {
+            None => None,
+            Some(class) => Some(self.grant_aligned(class, size, align)),
         }
     }
 

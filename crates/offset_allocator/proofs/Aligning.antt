@@ -1,0 +1,206 @@
+-- What an aligned grant leaves of the whole allocator.
+use Rattle.std.proofs.Common.{◌≡◌, ◌≢◌, ℕ, zero, suc, ◌+◌, ◌-◌, ◌%◌, ◌<◌, ◌≤◌, ◌^◌, ◌⊎◌, Bool, true, false, List, [], ◌∷◌, ◌++◌, length, Option, Some, None, refl, sym, ap, ap₂, subst, ◌∙◌, inl, inr, arith, slice_set, nat_le, nat_lt, if◌then◌else◌, le-leb}
+use Rattle.std.proofs.lemmas.Bool.{cases_lt, lt-leb, lt-ltb, le-ltb}
+use Rattle.offset_allocator.specs.Classes.{up, down}
+use Rattle.offset_allocator.specs.Cells.{Cells, Room, Node, node}
+use Rattle.offset_allocator.specs.Named.{Block, View, Place, Grant, Outcome, named, names_at, IsWellFormed, IsUnused, is_short_of, taken, allocate, allocate_aligned, padding_to, greatest, refused, granted, granted_at, serve, free_part, used_block, units, remove_all, put_all, remove, without, place_of}
+use Rattle.offset_allocator.specs.Space.{IsSpace, Stands, blocks, size_in}
+use Rattle.offset_allocator.specs.Orders.{IsUnlisted, IsLeastFrom, class_lists, Binned}
+use Rattle.offset_allocator.specs.State.{IsSound, view_of, free_units}
+use Rattle.offset_allocator.specs.Relations.{Allocates, Aligns}
+use Rattle.offset_allocator.specs.Parts.{carved, carved_at, AreUnlisted}
+use Rattle.offset_allocator.proofs.Found.{size_in-at}
+use Rattle.offset_allocator.proofs.Granting as grant
+use Rattle.offset_allocator.proofs.Spares.{another, spare_room, less_short}
+use Rattle.offset_allocator.proofs.ViewTaken.{padding_small, well_aligned}
+use Rattle.offset_allocator.proofs.ViewSteps.{place_here}
+use Rattle.offset_allocator.proofs.Joints.{with_accesses, TakenHere, unused_unlisted, unlisted_removed, well_counted, remove_free, not_true, free_part-none, free_units-append, free_units-free, free_units-used}
+
+-- the cases of an aligned request
+pub aligned_one : (n align f r : ℕ) (v : View) → align ≤ 1 → allocate_aligned n align f r v ≡ allocate n r v
+aligned_one n align f r v l = ap (λ (b : Bool). if b then allocate n r v else if nat_lt greatest (n + align - 1) then refused v else serve 2 (n + align - 1) n (padding_to align) f r v) (le-leb align 1 l)
+
+module _ (n align f r : ℕ) (v : View) (big : 1 < align) where
+  aligned_more : allocate_aligned n align f r v ≡ (if nat_lt greatest (n + align - 1) then refused v else serve 2 (n + align - 1) n (padding_to align) f r v)
+  aligned_more = ap (λ (b : Bool). if b then allocate n r v else if nat_lt greatest (n + align - 1) then refused v else serve 2 (n + align - 1) n (padding_to align) f r v) (lt-leb align 1 big)
+
+  pub aligned_past : greatest < n + align - 1 → allocate_aligned n align f r v ≡ refused v
+  aligned_past l = aligned_more ∙ ap (λ (b : Bool). if b then refused v else serve 2 (n + align - 1) n (padding_to align) f r v) (lt-ltb greatest (n + align - 1) l)
+
+  aligned_within : n + align - 1 ≤ greatest → allocate_aligned n align f r v ≡ serve 2 (n + align - 1) n (padding_to align) f r v
+  aligned_within l = aligned_more ∙ ap (λ (b : Bool). if b then refused v else serve 2 (n + align - 1) n (padding_to align) f r v) (le-ltb greatest (n + align - 1) l)
+
+  pub aligned_short : is_short_of 2 v ≡ true → allocate_aligned n align f r v ≡ refused v
+  aligned_short e = elim (cases_lt greatest (n + align - 1)) [
+    | inl l ↦ aligned_past l
+    | inr l ↦ aligned_within l ∙ ap (λ (b : Bool). if b then refused v else granted_at v n (padding_to align) f r (taken (n + align - 1) v)) e
+  ]
+
+  served : n + align - 1 ≤ greatest → is_short_of 2 v ≡ false → allocate_aligned n align f r v ≡ granted_at v n (padding_to align) f r (taken (n + align - 1) v)
+  served l e = aligned_within l ∙ ap (λ (b : Bool). if b then refused v else granted_at v n (padding_to align) f r (taken (n + align - 1) v)) e
+
+  pub aligned_none : n + align - 1 ≤ greatest → is_short_of 2 v ≡ false → taken (n + align - 1) v ≡ None → allocate_aligned n align f r v ≡ refused v
+  aligned_none l e t = served l e ∙ ap (granted_at v n (padding_to align) f r) t
+
+  pub aligned_granted : n + align - 1 ≤ greatest → is_short_of 2 v ≡ false → (p : Place) → taken (n + align - 1) v ≡ Some p → allocate_aligned n align f r v ≡ granted v n (padding_to align (units p.before)) f r p
+  aligned_granted l e p t = served l e ∙ ap (granted_at v n (padding_to align) f r) t
+
+part_any : (x y n : ℕ) → n ≡ 0 → free_part x n ≡ free_part y n
+part_any x y n e = free_part-none x n e ∙ sym (free_part-none y n e)
+
+free_part_units : (x n : ℕ) (bs : List Block) → free_units (free_part x n ++ bs) ≡ n + free_units bs
+free_part_units x zero bs = omega arith
+free_part_units x (suc n) bs = refl
+
+-- a request that is granted
+module _ (max size limit : ℕ) (c : Cells) (last count top free acc n align class x : ℕ) (s : IsSound max size limit c last count top free) (big : 1 < align) (fits : n + align - 1 ≤ 4294967295) (room : is_short_of 2 (view_of max size limit c last acc) ≡ false) (l : IsLeastFrom (up (n + align - 1)) (class_lists max c.links) class) (xs : List ℕ) (first : names_at (class_lists max c.links) class ≡ x ∷ xs) where
+  abbrev v : View
+  v = view_of max size limit c last acc
+
+  abbrev bs : List Block
+  bs = blocks c.room last
+
+  abbrev ls : List (List ℕ)
+  ls = class_lists max c.links
+
+  w : IsWellFormed v
+  w = well_counted (view_of max size limit c last 0) acc s.well
+
+  room_one : is_short_of 1 v ≡ false
+  room_one = less_short v room
+
+  pub got : TakenHere (n + align - 1) (view_of max size limit c last acc) class x
+  got = grant.got max size limit c last count top free acc (n + align - 1) class x s room_one l xs first
+
+  abbrev p : Place
+  p = got.place
+
+  abbrev padding : ℕ
+  padding = padding_to align (units got.place.before)
+
+  is_free : p.block.used ≡ false
+  is_free = not_true p.block.used got.here.free
+
+  pub stands : Stands x (blocks c.room last)
+  stands = grant.stands max size limit c last count top free acc (n + align - 1) class x s room_one l xs first
+
+  pub x_below : x < length c.room.nodes
+  x_below = grant.x_below max size limit c last count top free acc (n + align - 1) class x s room_one l xs first
+
+  pub offset_is : (node c.room x).offset ≡ units got.place.before
+  unfolding got
+  offset_is = ap (λ (k : Node). k.offset) (grant.x_node max size limit c last count top free acc (n + align - 1) class x s room_one l xs first)
+
+  pub size_is : (node c.room x).size ≡ got.place.block.size
+  unfolding got
+  size_is = ap (λ (k : Node). k.size) (grant.x_node max size limit c last count top free acc (n + align - 1) class x s room_one l xs first)
+
+  pub enough : padding_to align (units got.place.before) + n ≤ got.place.block.size
+  unfolding got
+  enough =
+      let a = grant.enough max size limit c last count top free acc (n + align - 1) class x s room_one l xs first in
+      let b = padding_small align (units (grant.got max size limit c last count top free acc (n + align - 1) class x s room_one l xs first).place.before) big in
+      omega arith
+
+  pub free_enough : n ≤ free
+  free_enough = let a = grant.free_enough max size limit c last count top free acc (n + align - 1) class x s room_one l xs first in omega arith
+
+  pub listed_size : size_in x (blocks c.room last) ≡ got.place.block.size
+  listed_size = ap (size_in x) got.here.stood ∙ ap (λ y. size_in y (p.before ++ p.block ∷ p.after)) (sym got.name) ∙ size_in-at p.before p.block p.after got.here.alone
+
+  pub unlisted : AreUnlisted (blocks c.room last) (slice_set (class_lists max c.links) class (without x (names_at (class_lists max c.links) class)))
+  unlisted y e = unlisted_removed y x class ls w.classes l.1 (unused_unlisted v w y e)
+
+  removed : remove_all (p.block ∷ []) ls ≡ slice_set ls class (without x (names_at ls class))
+  removed = remove_free p.block ls is_free ∙ ap₂ (λ i y. remove i y ls) got.class got.name
+
+  placed : place_of x bs ≡ Some p
+  placed = ap (place_of x) got.here.stood ∙ place_here x p.before p.block p.after (ap (λ i. named i p.before) (sym got.name) ∙ got.here.alone) (sym got.name)
+
+  had_free : free ≡ free_units p.before + (p.block.size + free_units p.after)
+  had_free = sym s.total ∙ ap free_units got.here.stood ∙ free_units-append p.before (p.block ∷ p.after) ∙ ap (λ k. free_units p.before + k) (free_units-free p.block p.after is_free)
+
+  abbrev left : ℕ
+  left = p.block.size - (padding + n)
+
+  abbrev parts : ℕ → ℕ → List Block
+  parts f r = free_part f padding ++ used_block p.block.name n ∷ free_part r left
+
+  -- names for both parts, whether these have units or not
+  record Names (f r : ℕ) : Type 0 where
+    front : ℕ
+    rest : ℕ
+    front_unused : IsUnused front v
+    rest_unused : IsUnused rest v
+    apart : front ≢ rest
+    same_front : free_part f padding ≡ free_part front padding
+    same_rest : free_part r left ≡ free_part rest left
+
+  named_parts : (f r : ℕ) → (0 < padding → IsUnused f v) → (0 < left → IsUnused r v) → (0 < padding → 0 < left → f ≢ r) → Names f r
+  named_parts f r uf ur ne =
+      let many : 2 ≤ count = let k = spare_room max size limit c last count top free acc s room in omega arith in
+      let other = another max size limit c last count top free acc s many in
+      elim (cases_lt 0 padding) [
+        | inl a ↦ elim (cases_lt 0 left) [
+          | inl b ↦ record { front = f; rest = r; front_unused = uf a; rest_unused = ur b; apart = ne a b; same_front = refl; same_rest = refl }
+          | inr b ↦ let o = other f in record { front = f; rest = o.0; front_unused = uf a; rest_unused = o.1; apart = λ q. o.2 (sym q); same_front = refl; same_rest = part_any r o.0 left (omega arith) }
+        ]
+        | inr a ↦ elim (cases_lt 0 left) [
+          | inl b ↦ let o = other r in record { front = o.0; rest = r; front_unused = o.1; rest_unused = ur b; apart = o.2; same_front = part_any f o.0 padding (omega arith); same_rest = refl }
+          | inr b ↦ let q = other 0 in let o = other q.0 in record { front = o.0; rest = q.0; front_unused = o.1; rest_unused = q.1; apart = o.2; same_front = part_any f o.0 padding (omega arith); same_rest = part_any r q.0 left (omega arith) }
+        ]
+      ]
+
+  unused_in : (y : ℕ) → (named y (blocks c.room last) ≡ 0) × (y < length c.room.nodes) → IsUnused y v
+  unused_in y h = record { below = let n = s.nodes in let b = h.1 in omega arith; absent = h.0 }
+
+  pub aligned : (d : Cells) (last' count' top' acc' f r : ℕ) → IsSpace d.room last' count' → Binned max d.links top' → length d.room.nodes ≡ length c.room.nodes
+      → blocks d.room last' ≡ carved x (padding_to align (units got.place.before)) n f r (blocks c.room last)
+      → class_lists max d.links ≡ put_all (free_part f (padding_to align (units got.place.before)) ++ used_block x n ∷ free_part r (got.place.block.size - (padding_to align (units got.place.before) + n))) (slice_set (class_lists max c.links) class (without x (names_at (class_lists max c.links) class)))
+      → (0 < padding_to align (units got.place.before) → (named f (blocks c.room last) ≡ 0) × (f < length c.room.nodes))
+      → (0 < got.place.block.size - (padding_to align (units got.place.before) + n) → (named r (blocks c.room last) ≡ 0) × (r < length c.room.nodes))
+      → (0 < padding_to align (units got.place.before) → 0 < got.place.block.size - (padding_to align (units got.place.before) + n) → f ≢ r)
+      → IsSound max size limit d last' count' top' (free - n) × Aligns n align (view_of max size limit c last acc) (view_of max size limit d last' acc') (Some (record { name = x; offset = units got.place.before + padding_to align (units got.place.before) }))
+  aligned d last' count' top' acc' f r space bins nodes eb eo uf ur ne =
+      let k = named_parts f r (λ q. unused_in f (uf q)) (λ q. unused_in r (ur q)) ne in
+      let is = aligned_granted n align k.front k.rest v big fits room p got.is in
+      let same : parts f r ≡ parts k.front k.rest = ap₂ (λ (a b : List Block). a ++ used_block p.block.name n ∷ b) k.same_front k.same_rest in
+      let blocks_are : blocks d.room last' ≡ p.before ++ (parts k.front k.rest ++ p.after) = eb ∙ ap (carved_at padding n f r bs) placed ∙ ap (λ (q : List Block). p.before ++ (q ++ p.after)) same in
+      let order_is : class_lists max d.links ≡ put_all (parts k.front k.rest) (remove_all (p.block ∷ []) ls) =
+      eo ∙ ap (λ (i : ℕ). put_all (free_part f padding ++ used_block i n ∷ free_part r left) (slice_set ls class (without x (names_at ls class)))) (sym got.name) ∙ ap (put_all (parts f r)) (sym removed) ∙ ap (λ (q : List Block). put_all q (remove_all (p.block ∷ []) ls)) same in
+      let after_is : (j : ℕ) → view_of max size limit d last' j ≡ with_accesses j (allocate_aligned n align k.front k.rest v).view = λ j. grant.same_view v _ _ _ _ j blocks_are order_is ∙ ap (λ (o : Outcome). with_accesses j o.view) (sym is) in
+      let told : Grant = record { name = x; offset = units p.before + padding } in
+      let answered : Some told ≡ (allocate_aligned n align k.front k.rest v).grant = ap (λ (i : ℕ). let h : Grant = record { name = i; offset = units p.before + padding } in Some h) (sym got.name) ∙ ap (λ (o : Outcome). o.grant) (sym is) in
+      let well = well_aligned v w n align k.front k.rest k.rest_unused (λ _. (k.front_unused, k.apart)) in
+      let units_are : free_units (blocks d.room last') ≡ free_units p.before + (padding + (left + free_units p.after)) =
+      ap free_units blocks_are ∙ free_units-append p.before (parts k.front k.rest ++ p.after) ∙ ap (λ (q : ℕ). free_units p.before + q)
+      (free_units-append (parts k.front k.rest) p.after ∙ ap (λ (q : ℕ). q + free_units p.after) (free_part_units k.front padding (used_block p.block.name n ∷ free_part k.rest left) ∙ ap (λ (q : ℕ). padding + q) (free_units-used (used_block p.block.name n) (free_part k.rest left) refl ∙ ap free_units (sym (append_none (free_part k.rest left))) ∙ free_part_units k.rest left [])) ∙ omega arith) in (
+        record {
+          nodes = nodes ∙ s.nodes;
+          least = s.least;
+          space = space;
+          bins = bins;
+          well = subst IsWellFormed (sym (after_is 0)) (well_counted (allocate_aligned n align k.front k.rest v).view 0 well);
+          total = units_are ∙ (let e = had_free in let m = enough in omega arith);
+        },
+        record { front = k.front; rest = k.rest; unused = k.rest_unused; apart = λ _. (k.front_unused, k.apart); answer = answered; view = after_is acc' },
+      )
+    where
+      append_none : (l : List Block) → l ++ [] ≡ l
+      append_none [] = refl
+      append_none (b ∷ l) = ap (λ t. b ∷ t) (append_none l)
+
+-- a request that is refused, or that any offset serves
+module _ (max size limit : ℕ) (c : Cells) (last count top free acc n align : ℕ) (s : IsSound max size limit c last count top free) where
+  abbrev was : View
+  was = view_of max size limit c last acc
+
+  pub left_as_it_was : (acc' f r : ℕ) → IsUnused r (view_of max size limit c last acc) → (is_short_of 2 (view_of max size limit c last acc) ≡ false → IsUnused f (view_of max size limit c last acc) × (f ≢ r)) → allocate_aligned n align f r (view_of max size limit c last acc) ≡ refused (view_of max size limit c last acc) → Aligns n align (view_of max size limit c last acc) (view_of max size limit c last acc') None
+  left_as_it_was acc' f r u a e = record {
+    front = f;
+    rest = r;
+    unused = u;
+    apart = a;
+    answer = ap (λ (o : Outcome). o.grant) (sym e);
+    view = ap (λ (o : Outcome). with_accesses acc' o.view) (sym e);
+  }
