@@ -1,10 +1,10 @@
 // One space, handed out in ranges.
 #![tactic(auto)]
 
-ghost use Rattle.std.specs.Prelude.{◌≡◌, ◌≢◌, ℕ, ◌+◌, ◌*◌, ◌<◌, ◌≤◌, length, ◌-◌, ◌↔◌, min, IsTrue, Some, None, Option, false, true, MatchOption, IfOk};
+ghost use Rattle.std.specs.Prelude.{◌≡◌, ℕ, ◌+◌, ◌*◌, ◌<◌, ◌≤◌, length, ◌-◌, ◌↔◌, min, IsTrue, Some, None, Option, false, true, MatchOption, IfOk};
 ghost use Rattle.offset_allocator.specs.Classes.{up, down};
 ghost use Rattle.offset_allocator.specs.Orders.{IsLeastFrom};
-ghost use Rattle.offset_allocator.specs.Named.{IsWellFormed, IsUnused, is_short_of, free, is_used_at, size_at, place_of, free_sizes};
+ghost use Rattle.offset_allocator.specs.Named.{IsWellFormed, is_short_of, free, is_used_at, size_at, place_of, free_sizes};
 ghost use Rattle.offset_allocator.specs.Relations.{Allocates, Aligns, IsBut, IsFresh, IsLive, IsPowerOfTwo, Resets};
 ghost use Rattle.offset_allocator.specs.Cells.{empty_cells};
 ghost use Rattle.offset_allocator.specs.Start.{IsStarted};
@@ -187,13 +187,6 @@ impl<NI: NodeIndex> Allocator<NI> {
         }
     }
 
-    // Two names are unused, where two more blocks may stand.
-    fn spares(&self)
-        ensures { is_short_of 2 self.now ≡ false → (z : ℕ) → (y : ℕ) × IsUnused y self.now × (y ≢ z) }
-    {
-        let _ = &self.size;
-    }
-
     // Grants units of the newest block of a class, from the first multiple of `align` in it on.
     fn grant_aligned(&mut self, class: u32, size: u32, align: u32) -> Allocation<NI>
         requires power { 1 < align }
@@ -238,11 +231,14 @@ impl<NI: NodeIndex> Allocator<NI> {
         ensures step { Aligns size align self.old self.new result }
         ensures count { self.new.accesses ≤ self.old.accesses + 128 }
     {
-        self.spares();
+        let spare_count = self.spare_count;
         if align <= 1 {
             return self.allocate(size);
         }
-        if self.spare_count <= 2 || size > u32::MAX - (align - 1) {
+        if spare_count <= 2 {
+            return None;
+        }
+        if size > u32::MAX - (align - 1) {
             return None;
         }
         let least = uint_to_float_round_up(size + (align - 1));
