@@ -6,6 +6,7 @@ pub mod Changes
 pub mod Classes
 pub mod Counting
 pub mod Cuts
+pub mod Extending
 pub mod Find
 pub mod First
 pub mod Formed

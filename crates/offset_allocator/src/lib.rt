@@ -4,8 +4,8 @@
 ghost use Rattle.std.specs.Prelude.{◌≡◌, ℕ, ◌+◌, ◌*◌, ◌<◌, ◌≤◌, length, ◌-◌, ◌↔◌, min, IsTrue, Some, None, Option, false, true, MatchOption, IfOk};
 ghost use Rattle.offset_allocator.specs.Classes.{up, down};
 ghost use Rattle.offset_allocator.specs.Orders.{IsLeastFrom};
-ghost use Rattle.offset_allocator.specs.Named.{IsWellFormed, is_short_of, free, is_used_at, size_at, place_of, free_sizes};
-ghost use Rattle.offset_allocator.specs.Relations.{Allocates, Aligns, IsBut, IsFresh, IsLive, IsPowerOfTwo, Resets};
+ghost use Rattle.offset_allocator.specs.Named.{IsWellFormed, ends_used, is_short_of, free, is_used_at, size_at, place_of, free_sizes};
+ghost use Rattle.offset_allocator.specs.Relations.{Allocates, Aligns, Extends, IsBut, IsFresh, IsLive, IsPowerOfTwo, Resets};
 ghost use Rattle.offset_allocator.specs.Cells.{empty_cells};
 ghost use Rattle.offset_allocator.specs.Start.{IsStarted};
 ghost use Rattle.offset_allocator.specs.Told.{IsReport, IsFullReport};
@@ -246,6 +246,105 @@ impl<NI: NodeIndex> Allocator<NI> {
             None => None,
             Some(class) => Some(self.grant_aligned(class, size, align)),
         }
+    }
+
+    // Adds units to the last block, which is free.
+    fn widen(&mut self, more: u32)
+        requires more { 0 < more }
+        requires fits { self.old.size + more ≤ 4294967295 }
+        requires idle { ends_used self.old.blocks ≡ false }
+        ensures step { Extends more self.old self.new true }
+        ensures count { self.new.accesses ≤ self.old.accesses + 16 }
+    {
+        let whole = self.tables.size(self.last, &mut self.accesses);
+        bins::remove(
+            &mut self.tables,
+            &mut self.top_mask,
+            self.last,
+            uint_to_float_round_down(whole),
+            &mut self.accesses,
+        );
+        chain::grow(
+            &mut self.tables,
+            self.last,
+            self.spare_count,
+            more,
+            &mut self.accesses,
+        );
+        self.tables.shape();
+        bins::put_first(
+            &mut self.tables,
+            &mut self.top_mask,
+            self.last,
+            uint_to_float_round_down(whole + more),
+            &mut self.accesses,
+        );
+        self.size += more;
+        self.free_total += more;
+    }
+
+    // Puts a free block behind the last one, which is used.
+    fn append(&mut self, more: u32)
+        requires more { 0 < more }
+        requires fits { self.old.size + more ≤ 4294967295 }
+        requires used { ends_used self.old.blocks ≡ true }
+        requires room { is_short_of 1 self.old ≡ false }
+        ensures step { Extends more self.old self.new true }
+        ensures count { self.new.accesses ≤ self.old.accesses + 21 }
+    {
+        let end = self.last;
+        let whole = self.tables.size(end, &mut self.accesses);
+        let name = chain::split(
+            &mut self.tables,
+            &mut self.last,
+            &mut self.spare_count,
+            end,
+            whole,
+            &mut self.accesses,
+        );
+        chain::grow(
+            &mut self.tables,
+            self.last,
+            self.spare_count,
+            more,
+            &mut self.accesses,
+        );
+        self.tables.shape();
+        bins::put_first(
+            &mut self.tables,
+            &mut self.top_mask,
+            name,
+            uint_to_float_round_down(more),
+            &mut self.accesses,
+        );
+        self.size += more;
+        self.free_total += more;
+    }
+
+    /// Adds `more` units at the end of the space: to the last block where that is free, or else as a new free block.
+    ///
+    /// It answers `false` where the space would have more than 4294967295 units, or where its last block is used and
+    /// no further block may stand. All blocks then stay as they were. With 0 units it answers `true`.
+    pub fn extend(&mut self, more: u32) -> bool
+        ensures step { Extends more self.old self.new result }
+        ensures count { self.new.accesses ≤ self.old.accesses + 128 }
+    {
+        let size = self.size;
+        if more == 0 {
+            return true;
+        }
+        if more > u32::MAX - size {
+            return false;
+        }
+        if !self.tables.used(self.last, &mut self.accesses) {
+            self.widen(more);
+            return true;
+        }
+        if self.spare_count <= 1 {
+            return false;
+        }
+        self.append(more);
+        true
     }
 
     /// Gives a granted range back. It is joined with the free ranges beside it.
