@@ -1,11 +1,11 @@
 -- What an aligned grant leaves of the whole allocator.
-use Rattle.std.proofs.Common.{◌≡◌, ◌≢◌, ℕ, zero, suc, ◌+◌, ◌-◌, ◌%◌, ◌<◌, ◌≤◌, ◌^◌, ◌⊎◌, Bool, true, false, List, [], ◌∷◌, ◌++◌, length, Option, Some, None, refl, sym, ap, ap₂, subst, ◌∙◌, inl, inr, arith, slice_set, nat_le, nat_lt, if◌then◌else◌, le-leb}
+use Rattle.std.proofs.Common.{◌≡◌, ◌≢◌, ℕ, zero, suc, ◌+◌, ◌-◌, ◌<◌, ◌≤◌, ◌^◌, Bool, true, false, List, [], ◌∷◌, ◌++◌, length, Option, Some, None, refl, sym, ap, ap₂, subst, ◌∙◌, inl, inr, arith, slice_set, nat_le, nat_lt, if◌then◌else◌, le-leb}
 use Rattle.std.proofs.lemmas.Bool.{cases_lt, lt-leb, lt-ltb, le-ltb, true≢false}
-use Rattle.offset_allocator.specs.Classes.{up, down}
+use Rattle.offset_allocator.specs.Classes.{up}
 use Rattle.offset_allocator.specs.Cells.{Cells, Room, Node, node}
 use Rattle.offset_allocator.specs.Named.{Block, View, Place, Grant, Outcome, named, names_at, IsWellFormed, IsUnused, is_short_of, taken, allocate, allocate_aligned, padding_to, greatest, refused, granted, granted_at, serve, free_part, used_block, units, remove_all, put_all, remove, without, place_of}
 use Rattle.offset_allocator.specs.Space.{IsSpace, Stands, blocks, size_in}
-use Rattle.offset_allocator.specs.Orders.{IsUnlisted, IsLeastFrom, class_lists, Binned}
+use Rattle.offset_allocator.specs.Orders.{IsLeastFrom, class_lists, Binned}
 use Rattle.offset_allocator.specs.State.{IsSound, view_of, free_units}
 use Rattle.offset_allocator.specs.Relations.{Allocates, Aligns}
 use Rattle.offset_allocator.specs.Parts.{carved, carved_at, AreUnlisted}
@@ -241,12 +241,12 @@ module _ (max size limit : ℕ) (c : Cells) (last count top free acc n align cla
       → IsSound max size limit d last' count' top' (free - n) × Aligns n align (view_of max size limit c last acc) (view_of max size limit d last' acc') (Some (record { name = x; offset = offset + padding_to align offset }))
   aligned_call t offset whole rm lists oe we d last' count' top' acc' f r =
       let Q : Room → List (List ℕ) → ℕ → ℕ → Type 0 = λ room ol o wh. IsSpace d.room last' count' → Binned max d.links top' → length d.room.nodes ≡ length room.nodes
-          → blocks d.room last' ≡ carved x (padding_to align o) n f r (blocks room last)
-          → class_lists max d.links ≡ put_all (free_part f (padding_to align o) ++ used_block x n ∷ free_part r (wh - (padding_to align o + n))) ol
-          → (0 < padding_to align o → (named f (blocks room last) ≡ 0) × (f < length room.nodes))
-          → (0 < wh - (padding_to align o + n) → (named r (blocks room last) ≡ 0) × (r < length room.nodes))
-          → (0 < padding_to align o → 0 < wh - (padding_to align o + n) → f ≢ r)
-          → IsSound max size limit d last' count' top' (free - n) × Aligns n align (view_of max size limit c last acc) (view_of max size limit d last' acc') (Some (record { name = x; offset = o + padding_to align o })) in
+      → blocks d.room last' ≡ carved x (padding_to align o) n f r (blocks room last)
+      → class_lists max d.links ≡ put_all (free_part f (padding_to align o) ++ used_block x n ∷ free_part r (wh - (padding_to align o + n))) ol
+      → (0 < padding_to align o → (named f (blocks room last) ≡ 0) × (f < length room.nodes))
+      → (0 < wh - (padding_to align o + n) → (named r (blocks room last) ≡ 0) × (r < length room.nodes))
+      → (0 < padding_to align o → 0 < wh - (padding_to align o + n) → f ≢ r)
+      → IsSound max size limit d last' count' top' (free - n) × Aligns n align (view_of max size limit c last acc) (view_of max size limit d last' acc') (Some (record { name = x; offset = o + padding_to align o })) in
       let first_is : Q c.room (slice_set (class_lists max c.links) class (without x (names_at (class_lists max c.links) class))) (units got.place.before) got.place.block.size = aligned d last' count' top' acc' f r in
       let o_is : offset ≡ units got.place.before = oe ∙ ap (λ (m : Room). (node m x).offset) rm ∙ offset_is in
       let w_is : whole ≡ got.place.block.size = we ∙ ap (λ (m : Room). (node m x).size) rm ∙ size_is in

@@ -1,11 +1,10 @@
 -- The names of a class are as many as its free blocks.
-use Rattle.std.proofs.Common.{◌≡◌, ◌≢◌, ℕ, zero, suc, ◌+◌, ◌-◌, ◌*◌, ◌%◌, ◌^◌, ◌<◌, ◌≤◌, Bool, true, false, not, cond, ◌&&◌, List, [], ◌∷◌, ◌++◌, length, nat_eq, nat_lt, if◌then◌else◌, refl, sym, ap, subst, ◌∙◌, inl, inr, arith, eq-eqb, ne_eqb}
-use Rattle.std.proofs.lemmas.Bool.{cases_lt, cases_eq}
+use Rattle.std.proofs.Common.{◌≡◌, ℕ, zero, suc, ◌+◌, ◌*◌, ◌≤◌, true, false, not, cond, ◌&&◌, List, [], ◌∷◌, length, nat_eq, nat_lt, if◌then◌else◌, refl, sym, ap, ◌∙◌, inl, inr, arith, eq-eqb, ne_eqb}
+use Rattle.std.proofs.lemmas.Bool.{cases_eq}
 use Rattle.std.proofs.lemmas.Bool.Decides.{nat_tests}
 use Rattle.offset_allocator.specs.Classes.{down}
 use Rattle.offset_allocator.specs.Reports.{count_of}
 use Rattle.offset_allocator.specs.Named.{Block, View, is_free, one, times, listed, names_at, free_sizes, IsWellFormed}
-use Rattle.offset_allocator.proofs.Sizes.{down_small}
 use Rattle.offset_allocator.proofs.ViewOrders.{hit_cases}
 
 -- a list with one name fewer

@@ -1,17 +1,16 @@
 -- Names and sizes of blocks that are taken apart.
-use Rattle.std.proofs.Common.{◌≡◌, ◌≢◌, ℕ, zero, suc, ◌+◌, ◌-◌, ◌<◌, ◌≤◌, Bool, true, false, cond, Option, None, Some, List, [], ◌∷◌, ◌++◌, length, refl, sym, ◌∙◌, ap, ap₂, subst, arith, inl, inr, append_assoc, slice_set, nat_eq}
+use Rattle.std.proofs.Common.{◌≡◌, ◌≢◌, ℕ, zero, suc, ◌+◌, ◌-◌, ◌<◌, ◌≤◌, Bool, true, Some, List, [], ◌∷◌, ◌++◌, length, refl, sym, ◌∙◌, ap, subst, arith, inl, inr, append_assoc, nat_eq}
 use Rattle.std.proofs.lemmas.Bool.{cases_eq, eq-eqb, ne_eqb}
 use Rattle.std.proofs.lemmas.List.{get_or-set_same, get_or-set_other}
-use Rattle.offset_allocator.specs.Classes.{down}
-use Rattle.offset_allocator.specs.Named.{Block, Place, named, units, one, names_at, place_of, free_part, free_block, used_block, put_first, put_all}
+use Rattle.offset_allocator.specs.Named.{Block, named, one, names_at, place_of, free_part, free_block, used_block, put_first, put_all}
 use Rattle.offset_allocator.specs.Orders.{Among, IsUnlisted}
-use Rattle.offset_allocator.specs.Space.{blocks, mark_block, split_block, size_in, Stands}
-use Rattle.offset_allocator.specs.Parts.{split_front, with_front, with_rest, carved, carved_at, AreUnlisted}
+use Rattle.offset_allocator.specs.Space.{mark_block, split_block, size_in, Stands}
+use Rattle.offset_allocator.specs.Parts.{split_front, with_front, with_rest, carved, carved_at}
 use Rattle.offset_allocator.proofs.Rows.{one-eq, one-other, times-append}
-use Rattle.offset_allocator.proofs.Found.{Found, find, split_block-at, size_in-at}
+use Rattle.offset_allocator.proofs.Found.{find, split_block-at, size_in-at}
 use Rattle.offset_allocator.proofs.Marks.{mark_block-at}
 use Rattle.offset_allocator.proofs.Fronts.{split_front-at}
-use Rattle.offset_allocator.proofs.ViewSteps.{place_at, place_here}
+use Rattle.offset_allocator.proofs.ViewSteps.{place_here}
 
 pub with_front-some : (x n y : ℕ) (bs : List Block) → 0 < n → with_front x n y bs ≡ split_front x n y bs
 with_front-some x zero y bs l = absurd (omega arith)

@@ -1,25 +1,25 @@
 -- What more units at the end leave of the whole allocator.
-use Rattle.std.proofs.Common.{◌≡◌, ◌≢◌, ℕ, zero, suc, ◌+◌, ◌-◌, ◌<◌, ◌≤◌, ◌^◌, Bool, true, false, not, ◌&&◌, ◌||◌, List, [], ◌∷◌, ◌++◌, length, Option, Some, None, refl, sym, ap, ap₂, subst, ◌∙◌, inl, inr, arith, slice_set, nat_le, nat_lt, nat_eq, if◌then◌else◌, le-leb, append_assoc}
-use Rattle.std.proofs.lemmas.Bool.{cases_eq, cases_lt, lt-leb, lt-ltb, le-ltb, true≢false, ne_eqb}
+use Rattle.std.proofs.Common.{◌≡◌, ℕ, zero, suc, ◌+◌, ◌-◌, ◌<◌, ◌≤◌, ◌^◌, Bool, true, false, not, ◌&&◌, ◌||◌, List, [], ◌∷◌, ◌++◌, length, refl, sym, ap, ap₂, subst, ◌∙◌, inl, inr, arith, slice_set, nat_lt, nat_eq, if◌then◌else◌, append_assoc}
+use Rattle.std.proofs.lemmas.Bool.{cases_eq, lt-ltb, le-ltb, true≢false, ne_eqb}
 use Rattle.std.proofs.lemmas.List.{get_or-set_same, get_or-set_other}
 use Rattle.offset_allocator.specs.Classes.{down}
-use Rattle.offset_allocator.specs.Cells.{Cells, Room, Node, node}
-use Rattle.offset_allocator.specs.Named.{Block, View, Extension, named, names_at, times, listed, one, is_free, IsWellFormed, IsUnused, is_short_of, greatest, free_block, units, remove_all, put_all, put_first, remove, without, free_end, without_end, ends_used, name_or, extended, is_extendable, extend}
-use Rattle.offset_allocator.specs.Space.{IsSpace, Stands, blocks, size_in, split_block}
+use Rattle.offset_allocator.specs.Cells.{Cells, Node, node}
+use Rattle.offset_allocator.specs.Named.{Block, View, Extension, named, names_at, listed, one, is_free, IsWellFormed, IsUnused, is_short_of, greatest, free_block, units, remove_all, put_all, put_first, remove, without, free_end, without_end, ends_used, name_or, extended, is_extendable, extend}
+use Rattle.offset_allocator.specs.Space.{IsSpace, blocks, size_in, split_block}
 use Rattle.offset_allocator.specs.Orders.{Among, IsUnlisted, class_lists, Binned}
 use Rattle.offset_allocator.specs.State.{IsSound, view_of, free_units}
 use Rattle.offset_allocator.specs.Relations.{Extends}
 use Rattle.offset_allocator.specs.Parts.{grow_last}
 use Rattle.offset_allocator.proofs.Found.{split_block-at, size_in-at}
-use Rattle.offset_allocator.proofs.Rows.{units-append, times-append, one-eq}
+use Rattle.offset_allocator.proofs.Rows.{units-append, one-eq}
 use Rattle.offset_allocator.proofs.Growing.{IsLast, last_is, grow_last-at}
 use Rattle.offset_allocator.proofs.Merging.{end_free, end_used}
 use Rattle.offset_allocator.proofs.Granting.{same_view}
 use Rattle.offset_allocator.proofs.Unused.{some_unused}
-use Rattle.offset_allocator.proofs.ViewOrders.{tally_append, hit_cases, times_without_self}
+use Rattle.offset_allocator.proofs.ViewOrders.{tally_append, times_without_self}
 use Rattle.offset_allocator.proofs.ViewReplaced.{listed_named}
 use Rattle.offset_allocator.proofs.ViewTaken.{well_extended}
-use Rattle.offset_allocator.proofs.Joints.{with_accesses, among_times, times_among, unused_unlisted, well_counted, remove_free, free_units-append, free_units-free, free_units-used}
+use Rattle.offset_allocator.proofs.Joints.{with_accesses, among_times, times_among, unused_unlisted, well_counted, remove_free, free_units-append, free_units-free}
 
 pub ends_last : (fs : List Block) (b : Block) → ends_used (fs ++ b ∷ []) ≡ b.used
 ends_last [] b = refl
@@ -212,7 +212,7 @@ module _ (max size limit : ℕ) (c : Cells) (last count top free acc more : ℕ)
           let blocks_are : blocks d.room last ≡ (extended more u.0 v).blocks = after_is ∙ ap (λ (t : Block). fs ++ t ∷ []) same ∙ ap₂ (λ (l g : List Block). l ++ (free_block (name_or u.0 g) (units g + more) ∷ [])) (sym kept) (sym gone) in
           let removed : slice_set ls k (without last (names_at ls k)) ≡ remove_all (b ∷ []) ls = sym (remove_free b ls b_free ∙ ap₂ (λ i y. remove i y ls) (sym (ke ∙ ap down size_at_end)) end.name) in
           let order_is : class_lists max d.links ≡ (extended more u.0 v).order = eo ∙ ap₂ (λ (m : ℕ) (o : List (List ℕ)). put_first (down m) last o) size_is removed ∙ ap (λ i. put_first (down ((b.size + 0) + more)) i (remove_all (b ∷ []) ls)) (sym end.name)
-              ∙ ap (λ (g : List Block). put_all (free_block (name_or u.0 g) (units g + more) ∷ []) (remove_all g ls)) (sym gone) in
+          ∙ ap (λ (g : List Block). put_all (free_block (name_or u.0 g) (units g + more) ∷ []) (remove_all g ls)) (sym gone) in
           let had : free ≡ free_units fs + b.size = sym s.total ∙ ap free_units end.is ∙ free_units-append fs (b ∷ []) ∙ (let q = free_units-free b [] b_free in omega arith) in
           let total : free_units (blocks d.room last) ≡ free + more = ap free_units after_is ∙ free_units-append fs (record b { size = b.size + more } ∷ []) ∙ (let q = free_units-free (record b { size = b.size + more }) [] b_free in omega arith) in
           concluded d last count' top' acc' u.0 u.1

@@ -1,8 +1,8 @@
 -- What it leaves to cut a free block off the front of a block.
-use Rattle.std.proofs.Common.{◌≡◌, ◌≢◌, ℕ, zero, suc, ◌+◌, ◌-◌, ◌<◌, ◌≤◌, ◌^◌, Bool, true, false, cond, Option, None, Some, List, [], ◌∷◌, ◌++◌, length, get_or, refl, sym, ◌∙◌, ap, arith, inl, inr, length-append, MatchOption, subst, nat_eq}
+use Rattle.std.proofs.Common.{◌≡◌, ◌≢◌, ℕ, ◌+◌, ◌-◌, ◌<◌, ◌≤◌, false, Option, None, Some, List, [], ◌∷◌, ◌++◌, length, get_or, refl, sym, ◌∙◌, ap, arith, inl, inr, length-append, subst, nat_eq}
 use Rattle.std.proofs.lemmas.Bool.{cases_eq, eq-eqb, ne_eqb}
 use Rattle.offset_allocator.specs.Cells.{Room, Node, node, put}
-use Rattle.offset_allocator.specs.Space.{first_or, last_or, IsRow, IsChain, spares, blocks}
+use Rattle.offset_allocator.specs.Space.{last_or, IsRow, IsChain, spares, blocks}
 use Rattle.offset_allocator.specs.Named.{Block, units, named, times, one}
 use Rattle.offset_allocator.specs.Parts.{split_front}
 use Rattle.offset_allocator.proofs.Nodes.{node-put, node-put_other, length-put, spare-put, put-step}

@@ -1,14 +1,14 @@
 -- What it leaves to add units to the last block.
-use Rattle.std.proofs.Common.{◌≡◌, ◌≢◌, ℕ, ◌+◌, ◌-◌, ◌<◌, ◌≤◌, ◌^◌, Bool, true, false, Option, None, Some, List, [], ◌∷◌, ◌++◌, length, refl, sym, ◌∙◌, ap, arith, length-append, subst}
+use Rattle.std.proofs.Common.{◌≡◌, ◌≢◌, ℕ, ◌+◌, ◌<◌, ◌≤◌, ◌^◌, None, Some, List, [], ◌∷◌, ◌++◌, length, refl, sym, ◌∙◌, ap, arith, length-append, subst}
 use Rattle.offset_allocator.specs.Named.{Block, units, named}
 use Rattle.offset_allocator.specs.Cells.{Room, Node, node, put}
-use Rattle.offset_allocator.specs.Space.{first_or, last_or, IsRow, IsChain, IsSpace, Stands, spares, blocks}
+use Rattle.offset_allocator.specs.Space.{last_or, IsRow, IsChain, IsSpace, Stands, blocks}
 use Rattle.offset_allocator.specs.Parts.{grow_last}
 use Rattle.offset_allocator.proofs.Nodes.{node-put, node-put_other, length-put, spare-put}
 use Rattle.offset_allocator.proofs.Rows.{one-eq, times-append, units-append, last_or-append, IsRow-front, IsRow-back, IsRow-append, IsRow-kept}
 use Rattle.offset_allocator.proofs.Back.{times-end}
 use Rattle.offset_allocator.proofs.Split.{each-le, spares-same}
-use Rattle.offset_allocator.proofs.Merging.{Ended, ended, node_at}
+use Rattle.offset_allocator.proofs.Merging.{ended, node_at}
 use Rattle.offset_allocator.proofs.Spot.{stands-below}
 
 pub grow_last-at : (more : ℕ) (fs : List Block) (b : Block) → grow_last more (fs ++ b ∷ []) ≡ fs ++ record b { size = b.size + more } ∷ []

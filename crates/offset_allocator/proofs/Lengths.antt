@@ -1,6 +1,5 @@
 -- A walk along the links of a class list, one name at a time.
-use Rattle.std.proofs.Common.{◌≡◌, ◌≢◌, ◌<◌, ◌≤◌, ℕ, zero, suc, ◌+◌, ◌-◌, List, [], ◌∷◌, refl, sym, ap, subst, ◌∙◌, arith, length, slice_index, slice_index_or}
-use Rattle.std.proofs.lemmas.Bool.{eq-eqb}
+use Rattle.std.proofs.Common.{◌≡◌, ◌≢◌, ◌<◌, ◌≤◌, ℕ, ◌+◌, List, [], ◌∷◌, refl, sym, ap, subst, arith, length, slice_index}
 use Rattle.offset_allocator.specs.Named.{names_at}
 use Rattle.offset_allocator.specs.Orders.{Chain, Linked, walk}
 use Rattle.offset_allocator.proofs.Walks.{chain_fits, walk_is}

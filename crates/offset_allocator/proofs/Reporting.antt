@@ -1,19 +1,19 @@
 -- What the short report tells is so.
-use Rattle.std.proofs.Common.{◌≡◌, ◌≢◌, ℕ, zero, suc, ◌+◌, ◌-◌, ◌*◌, ◌%◌, ◌^◌, ◌<◌, ◌≤◌, ◌⊎◌, Bool, true, false, not, ◌&&◌, List, [], ◌∷◌, length, sum, nat_eq, nat_le, if◌then◌else◌, refl, sym, ap, subst, ◌∙◌, inl, inr, arith, le_trans, leb-true, leb-false, le-leb}
-use Rattle.std.proofs.lemmas.Bool.{cases_lt, true≢false}
+use Rattle.std.proofs.Common.{◌≡◌, ℕ, ◌+◌, ◌%◌, ◌^◌, ◌<◌, ◌≤◌, Bool, true, false, ◌&&◌, List, [], ◌∷◌, sum, nat_eq, if◌then◌else◌, refl, sym, ap, ◌∙◌, inl, inr, arith, le_trans}
+use Rattle.std.proofs.lemmas.Bool.{cases_lt}
 use Rattle.std.proofs.lemmas.List.Sums.{sum_by-cons}
 use Rattle.std.proofs.lemmas.Bool.Decides.{nat_tests}
 use Rattle.offset_allocator.specs.Classes.{value, down}
 use Rattle.offset_allocator.specs.Reports.{largest}
 use Rattle.offset_allocator.specs.Cells.{Cells}
-use Rattle.offset_allocator.specs.Named.{Block, View, is_free, one, times, listed, units, names_at, free_sizes, total_free, largest_free, IsWellFormed, is_short_of}
+use Rattle.offset_allocator.specs.Named.{Block, View, is_free, one, times, listed, names_at, free_sizes, total_free, largest_free, IsWellFormed, is_short_of}
 use Rattle.offset_allocator.specs.Orders.{class_lists}
 use Rattle.offset_allocator.specs.State.{IsSound, view_of, free_units}
 use Rattle.offset_allocator.specs.Told.{IsGreatestClass}
 use Rattle.offset_allocator.specs.Space.{blocks}
 use Rattle.offset_allocator.proofs.Sizes.{down_small}
 use Rattle.offset_allocator.proofs.Classes.{down_law, value_grows}
-use Rattle.offset_allocator.proofs.ViewOrders.{if_value, hit_cases}
+use Rattle.offset_allocator.proofs.ViewOrders.{hit_cases}
 use Rattle.offset_allocator.proofs.ViewFits.{Stands, stands_listed, reported, reports_all, sized_below}
 
 pub free_units_sum : (bs : List Block) → free_units bs ≡ sum (free_sizes bs)

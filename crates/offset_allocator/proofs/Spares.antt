@@ -1,10 +1,10 @@
 -- Two names that are unused.
-use Rattle.std.proofs.Common.{◌≡◌, ◌≢◌, ℕ, ◌+◌, ◌-◌, ◌<◌, ◌≤◌, Bool, true, false, List, [], ◌∷◌, ◌++◌, length, get_or, refl, sym, ◌∙◌, ap, arith, subst, inl, inr, leb-false, leb-true, le-leb}
+use Rattle.std.proofs.Common.{◌≡◌, ◌≢◌, ℕ, ◌+◌, ◌-◌, ◌<◌, ◌≤◌, true, false, List, [], ◌∷◌, ◌++◌, length, get_or, sym, ◌∙◌, ap, arith, inl, inr, leb-false, le-leb}
 use Rattle.std.proofs.lemmas.Bool.{cases_eq, lt-leb}
 use Rattle.std.proofs.lemmas.Bool.Decides.{nat_tests}
 use Rattle.offset_allocator.specs.Cells.{Cells, Room}
 use Rattle.offset_allocator.specs.Named.{View, IsUnused, times, named, is_short_of}
-use Rattle.offset_allocator.specs.Space.{IsChain, IsSpace, blocks, spares}
+use Rattle.offset_allocator.specs.Space.{IsSpace, blocks, spares}
 use Rattle.offset_allocator.specs.State.{IsSound, view_of}
 use Rattle.offset_allocator.proofs.Rows.{one-same, one-eq, times-join}
 use Rattle.offset_allocator.proofs.Split.{spares-more}
@@ -41,10 +41,15 @@ module _ (c : Room) (last count : ℕ) (h : IsSpace c last count) where
       let s₂ = spare_new next_spare (omega arith) in
       elim (cases_eq first_spare z) [
         | inr n ↦ (first_spare, s₁.0, s₁.1, n)
-        | inl e ↦ (next_spare, s₂.0, s₂.1, λ q.
-            let o = one-eq first_spare next_spare (q ∙ sym e) in
-            let k = h.each first_spare in
-            absurd (grind (arith, nat_tests)))
+        | inl e ↦ (
+          next_spare,
+          s₂.0,
+          s₂.1,
+          λ q.
+              let o = one-eq first_spare next_spare (q ∙ sym e) in
+              let k = h.each first_spare in
+              absurd (grind (arith, nat_tests)),
+        )
       ]
 
 module _ (max size limit : ℕ) (c : Cells) (last count top free acc : ℕ) (s : IsSound max size limit c last count top free) where

@@ -1,5 +1,5 @@
 -- Blocks that are taken apart, and a last block that grows.
-use Rattle.std.specs.Prelude.{◌≡◌, ℕ, zero, suc, true, false, List, [], ◌∷◌, ◌++◌, ◌==◌, cond, ◌+◌, ◌-◌, Option, Some, None}
+use Rattle.std.specs.Prelude.{◌≡◌, ℕ, zero, suc, false, List, [], ◌∷◌, ◌++◌, ◌==◌, cond, ◌+◌, ◌-◌, Option, Some, None}
 use Rattle.offset_allocator.specs.Named.{Block, Place, named, place_of, free_part, used_block}
 use Rattle.offset_allocator.specs.Orders.{IsUnlisted}
 use Rattle.offset_allocator.specs.Space.{split_block}

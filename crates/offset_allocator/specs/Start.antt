@@ -1,8 +1,8 @@
 -- The state that a space starts from.
-use Rattle.std.specs.Prelude.{◌≡◌, ℕ, ◌-◌, List, [], ◌∷◌, replicate}
+use Rattle.std.specs.Prelude.{◌≡◌, ℕ, ◌-◌, [], ◌∷◌, replicate}
 use Rattle.offset_allocator.specs.Classes.{down}
 use Rattle.offset_allocator.specs.Cells.{Cells}
-use Rattle.offset_allocator.specs.Named.{View, free_block, put_first}
+use Rattle.offset_allocator.specs.Named.{free_block, put_first}
 use Rattle.offset_allocator.specs.State.{IsSound, view_of}
 
 -- the tables hold one free block of size units, under the name 0, and all other names are spare

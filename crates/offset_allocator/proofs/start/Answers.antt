@@ -1,10 +1,7 @@
-use Rattle.std.proofs.Common.{ap, sym, ◌∙◌, arith, ◌≤◌, ◌<◌, ◌+◌, ◌≡◌, ℕ, ◌∷◌, List, [], replicate, subst, length, slice_set}
-use Rattle.offset_allocator.specs.Classes.{down}
-use Rattle.offset_allocator.specs.Cells.{Cells, Room, Links, node, put, empty_cells}
+use Rattle.std.proofs.Common.{ap, sym, ◌∙◌, arith, ◌<◌, ◌≡◌, ℕ, List, [], replicate, subst, length}
+use Rattle.offset_allocator.specs.Cells.{Cells, Links, node, put, empty_cells}
 use Rattle.offset_allocator.specs.Named.{put_first}
 use Rattle.offset_allocator.specs.Orders.{class_lists, Binned, IsUnlisted}
-use Rattle.offset_allocator.specs.State.{view_of}
-use Rattle.offset_allocator.proofs.Fresh.{fresh}
 use Rattle.offset_allocator.proofs.Sizes.{down_small}
 use Rattle.offset_allocator.proofs.Fresh.{nodes-empty, empty_binned, empty_unlisted, started}
 use Rattle.offset_allocator.proofs.start.Goals as goal

@@ -1,4 +1,4 @@
-use Rattle.std.proofs.Common.{◌≡◌, ◌≢◌, ◌<◌, ◌≤◌, ◌+◌, ◌-◌, ◌∙◌, ◌^◌, ℕ, List, [], Some, None, false, arith, ap, subst, sym}
+use Rattle.std.proofs.Common.{◌≡◌, ◌≢◌, ◌<◌, ◌≤◌, ◌+◌, ◌-◌, ◌∙◌, ℕ, [], Some, None, false, arith, ap, subst}
 use Rattle.offset_allocator.specs.Classes.{up}
 use Rattle.offset_allocator.specs.Named.{View, IsUnused, is_short_of, names_at, greatest}
 use Rattle.offset_allocator.specs.Orders.{class_lists}
@@ -13,8 +13,8 @@ pub returns-then-align-le1-clause-step : goal.returns-then-align-le1-clause-step
 returns-then-align-le1-clause-step g c =
     let P : View → Type 0 = λ u. is_short_of 2 u ≡ false → (z : ℕ) → (y : ℕ) × IsUnused y u × (y ≢ z) in
     let other : P c.args.self.now = subst P c.self.view_is (λ room z.
-        let k = spare_room g.NI.NodeIndex.MAX c.self.inside.size c.self.inside.max_allocs c.self.inside.tables c.self.inside.last c.self.inside.spare_count c.self.inside.top_mask c.self.inside.free_total c.self.inside.accesses c.self.invariant room in
-        another g.NI.NodeIndex.MAX c.self.inside.size c.self.inside.max_allocs c.self.inside.tables c.self.inside.last c.self.inside.spare_count c.self.inside.top_mask c.self.inside.free_total c.self.inside.accesses c.self.invariant (omega arith) z) in
+    let k = spare_room g.NI.NodeIndex.MAX c.self.inside.size c.self.inside.max_allocs c.self.inside.tables c.self.inside.last c.self.inside.spare_count c.self.inside.top_mask c.self.inside.free_total c.self.inside.accesses c.self.invariant room in
+    another g.NI.NodeIndex.MAX c.self.inside.size c.self.inside.max_allocs c.self.inside.tables c.self.inside.last c.self.inside.spare_count c.self.inside.top_mask c.self.inside.free_total c.self.inside.accesses c.self.invariant (omega arith) z) in
     aligned_from c.args.size c.args.align c.args.self.now c.allocate.new.self c.allocate.result (omega arith) other c.allocate.ensures.step
 
 pub returns-then-spare_count-le2-clause-step : goal.returns-then-spare_count-le2-clause-step

@@ -1,14 +1,12 @@
-use Rattle.std.proofs.Common.{◌≡◌, ◌<◌, ◌≤◌, ◌+◌, ◌-◌, ◌∙◌, ◌^◌, ℕ, List, length, true, false, arith, ap, subst, sym, slice_set}
-use Rattle.offset_allocator.specs.Classes.{down}
+use Rattle.std.proofs.Common.{◌≡◌, ◌≤◌, ◌+◌, ◌∙◌, ℕ, length, true, false, arith, ap, subst, sym}
 use Rattle.offset_allocator.specs.Cells.{Room, Links}
-use Rattle.offset_allocator.specs.Named.{View, ends_used, is_short_of, names_at, put_first, units, without}
+use Rattle.offset_allocator.specs.Named.{View, ends_used, is_short_of, put_first, units}
 use Rattle.offset_allocator.specs.Space.{IsSpace, blocks, split_block}
 use Rattle.offset_allocator.specs.Orders.{IsUnlisted, class_lists}
 use Rattle.offset_allocator.specs.State.{view_of}
 use Rattle.offset_allocator.specs.Relations.{Extends}
 use Rattle.offset_allocator.specs.Parts.{grow_last}
 use Rattle.offset_allocator.proofs.Sizes.{down_small}
-use Rattle.offset_allocator.proofs.Growing.{last_small}
 use Rattle.offset_allocator.proofs.Extending.{end, size_at_end, size_in_end, free_fits, split_fits, append_unlisted, appended}
 use Rattle.offset_allocator.proofs.Allocator.append.Goals as goal
 

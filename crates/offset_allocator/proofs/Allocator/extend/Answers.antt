@@ -1,5 +1,4 @@
-use Rattle.std.proofs.Common.{◌≡◌, ◌<◌, ◌≤◌, ◌+◌, ◌∙◌, ℕ, true, false, arith, subst, sym}
-use Rattle.offset_allocator.specs.Cells.{node}
+use Rattle.std.proofs.Common.{◌<◌, ◌+◌, ◌∙◌, true, false, arith, subst, sym}
 use Rattle.offset_allocator.specs.Named.{View, greatest}
 use Rattle.offset_allocator.specs.State.{view_of}
 use Rattle.offset_allocator.specs.Relations.{Extends}

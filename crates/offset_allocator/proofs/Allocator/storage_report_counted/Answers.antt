@@ -1,4 +1,4 @@
-use Rattle.std.proofs.Common.{◌≡◌, ℕ, sym, subst, ap, ◌∙◌, ◌<◌, arith}
+use Rattle.std.proofs.Common.{◌≡◌, ℕ, sym, subst, ◌<◌, arith}
 use Rattle.offset_allocator.specs.Named.{View, total_free, largest_free}
 use Rattle.offset_allocator.specs.State.{view_of}
 use Rattle.offset_allocator.proofs.Reporting.{report_none, report_some}

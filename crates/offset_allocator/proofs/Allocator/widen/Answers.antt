@@ -1,8 +1,8 @@
-use Rattle.std.proofs.Common.{◌≡◌, ◌<◌, ◌≤◌, ◌+◌, ◌-◌, ◌∙◌, ◌^◌, ℕ, List, length, true, false, arith, ap, subst, sym, slice_set}
+use Rattle.std.proofs.Common.{◌≡◌, ◌<◌, ◌≤◌, ◌+◌, ◌∙◌, ℕ, List, length, true, false, arith, ap, subst, sym, slice_set}
 use Rattle.offset_allocator.specs.Classes.{down}
 use Rattle.offset_allocator.specs.Cells.{Room, Links}
-use Rattle.offset_allocator.specs.Named.{View, ends_used, is_short_of, names_at, put_first, units, without}
-use Rattle.offset_allocator.specs.Space.{IsSpace, blocks, split_block}
+use Rattle.offset_allocator.specs.Named.{View, ends_used, names_at, put_first, without}
+use Rattle.offset_allocator.specs.Space.{IsSpace, blocks}
 use Rattle.offset_allocator.specs.Orders.{IsUnlisted, class_lists}
 use Rattle.offset_allocator.specs.State.{view_of}
 use Rattle.offset_allocator.specs.Relations.{Extends}

@@ -1,6 +1,4 @@
-use Rattle.std.proofs.Common.{◌≡◌, ◌≤◌, ℕ, sym, subst, arith, [], ◌∷◌, replicate}
-use Rattle.offset_allocator.specs.Classes.{down}
-use Rattle.offset_allocator.specs.Named.{free_block, put_first}
+use Rattle.std.proofs.Common.{◌≡◌, ℕ, sym, subst, arith}
 use Rattle.offset_allocator.specs.State.{view_of}
 use Rattle.offset_allocator.proofs.Fresh.{fresh}
 use Rattle.offset_allocator.proofs.Allocator.with_max_allocs.Goals as goal

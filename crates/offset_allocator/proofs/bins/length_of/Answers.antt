@@ -1,4 +1,4 @@
-use Rattle.std.proofs.Common.{◌≡◌, ◌≢◌, ◌+◌, ◌<◌, ◌≤◌, ℕ, subst, sym, ap, ◌∙◌, arith, length, slice_index}
+use Rattle.std.proofs.Common.{◌≡◌, ◌≢◌, ℕ, subst, sym, ap, arith, length, slice_index}
 use Rattle.offset_allocator.proofs.Lengths.{names_from, IsTail, start, step, tail_fits, nothing_after}
 use Rattle.offset_allocator.proofs.bins.length_of.Goals as goal
 

@@ -1,5 +1,5 @@
-use Rattle.std.proofs.Common.{◌≡◌, ◌+◌, ◌<◌, ◌∙◌, ◌^◌, ℕ, ap, length, arith}
-use Rattle.offset_allocator.specs.Cells.{Cells, Room, Node, node, put}
+use Rattle.std.proofs.Common.{◌+◌, ◌∙◌, ℕ, ap, length, arith}
+use Rattle.offset_allocator.specs.Cells.{Cells, node, put}
 use Rattle.offset_allocator.specs.Space.{blocks, IsChain}
 use Rattle.offset_allocator.specs.Parts.{grow_last}
 use Rattle.offset_allocator.proofs.Growing.{last_is, last_small, grown-space}

@@ -1,6 +1,5 @@
-use Rattle.std.proofs.Common.{◌≡◌, ◌∙◌, ℕ, Bool, false, Option, Some}
-use Rattle.offset_allocator.specs.Cells.{Node, node, put}
-use Rattle.offset_allocator.proofs.Nodes.{length-put, put-next}
+use Rattle.std.proofs.Common.{◌∙◌, false, Some}
+use Rattle.offset_allocator.proofs.Nodes.{put-next}
 use Rattle.offset_allocator.proofs.chain.place_front.Goals as goal
 
 pub returns-clause-cells : goal.returns-clause-cells

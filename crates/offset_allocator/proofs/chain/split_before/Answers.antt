@@ -1,8 +1,8 @@
-use Rattle.std.proofs.Common.{◌≡◌, ℕ, ◌+◌, ◌-◌, ◌<◌, ◌≤◌, ◌^◌, length, List, [], ◌∷◌, ◌++◌, MatchOption, IfSome, Option, Some, None, refl, sym, ◌∙◌, ap, arith, subst}
-use Rattle.offset_allocator.specs.Cells.{Cells, Room, Node, node, put}
-use Rattle.offset_allocator.specs.Space.{IsSpace, IsChain, Stands, blocks, spares, size_in}
+use Rattle.std.proofs.Common.{◌≡◌, ℕ, ◌-◌, length, Option, sym, ◌∙◌, ap, arith, subst}
+use Rattle.offset_allocator.specs.Cells.{Cells, Room, node}
+use Rattle.offset_allocator.specs.Space.{IsChain, blocks}
 use Rattle.offset_allocator.specs.Parts.{split_front}
-use Rattle.offset_allocator.proofs.Nodes.{length-put, in_put}
+use Rattle.offset_allocator.proofs.Nodes.{in_put}
 use Rattle.offset_allocator.proofs.SplitSpace.{SplitAt, apart, y_below, spot_x, size-is, offset-fits, if_some, unused}
 use Rattle.offset_allocator.proofs.JoinSpace.{IsLinkedOn}
 use Rattle.offset_allocator.proofs.Fronts.{fronted, before-low, front-space, fronted-from}

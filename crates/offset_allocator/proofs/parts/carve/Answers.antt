@@ -1,9 +1,9 @@
-use Rattle.std.proofs.Common.{◌≡◌, ◌+◌, ◌<◌, ◌≤◌, ◌∙◌, ℕ, List, true, ap, subst, sym, length}
+use Rattle.std.proofs.Common.{◌≡◌, ◌<◌, ◌∙◌, ℕ, true, ap, subst, sym, length}
 use Rattle.offset_allocator.specs.Cells.{Links}
-use Rattle.offset_allocator.specs.Named.{Block, named}
+use Rattle.offset_allocator.specs.Named.{named}
 use Rattle.offset_allocator.specs.Space.{Stands, blocks, mark_block, size_in}
 use Rattle.offset_allocator.specs.Orders.{IsUnlisted, class_lists}
-use Rattle.offset_allocator.specs.Parts.{with_front, with_rest}
+use Rattle.offset_allocator.specs.Parts.{with_rest}
 use Rattle.offset_allocator.proofs.Cuts.{is_carved, named_mark}
 use Rattle.offset_allocator.proofs.parts.carve.Goals as goal
 

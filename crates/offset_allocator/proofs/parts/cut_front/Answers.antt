@@ -1,5 +1,4 @@
-use Rattle.std.proofs.Common.{◌≡◌, ◌≢◌, ◌+◌, ◌<◌, ◌≤◌, ◌∙◌, ℕ, List, arith, ap, subst, sym}
-use Rattle.offset_allocator.specs.Classes.{down}
+use Rattle.std.proofs.Common.{◌≡◌, ◌≢◌, ◌<◌, ◌∙◌, ℕ, List, arith, ap, subst, sym}
 use Rattle.offset_allocator.specs.Cells.{Room, Links}
 use Rattle.offset_allocator.specs.Named.{named, names_at, put_first}
 use Rattle.offset_allocator.specs.Space.{blocks}

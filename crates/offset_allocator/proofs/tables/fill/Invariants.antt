@@ -1,4 +1,4 @@
-use Rattle.std.proofs.Common.{◌≡◌, ◌<◌, ℕ, length, replicate, take}
+use Rattle.std.proofs.Common.{◌≡◌, length, replicate, take}
 use Rattle.offset_allocator.proofs.tables.fill.Given as goal
 
 abbrev pub invariant-loop-i : goal.invariant-loop-i
