@@ -45,11 +45,11 @@ pub spare-on : (link : Option ℕ) (d w : Room) (y : ℕ) → IsLinkedOn link d 
 spare-on None d w y e = rw e
 spare-on (Some z) d w y e = rw e (spare-put w z _)
 
-node-on_at : (link : Option ℕ) (d w : Room) (y z : ℕ) → IsLinkedOn link d w y → link ≡ Some z → z < length w.nodes → node d z ≡ record (node w z) { after = Some y }
+pub node-on_at : (link : Option ℕ) (d w : Room) (y z : ℕ) → IsLinkedOn link d w y → link ≡ Some z → z < length w.nodes → node d z ≡ record (node w z) { after = Some y }
 node-on_at None d w y z e q l = cc
 node-on_at (Some z') d w y z e q l = let same : z' ≡ z = cc in rw (← same, e) (node-put w z' _ (rw same l))
 
-node-on_other : (link : Option ℕ) (d w : Room) (y k : ℕ) → IsLinkedOn link d w y → link ≢ Some k → node d k ≡ node w k
+pub node-on_other : (link : Option ℕ) (d w : Room) (y k : ℕ) → IsLinkedOn link d w y → link ≢ Some k → node d k ≡ node w k
 node-on_other None d w y k e ne = rw e
 node-on_other (Some z) d w y k e ne = rw e (node-put_other w z _ k (λ q. ne (ap (λ v. Some v) (sym q))))
 

@@ -65,3 +65,6 @@ module _ (c : Room) (last count x : ℕ) (h : IsSpace c last count) (st : Stands
   offset-told =
       let s = spot c (length c.nodes) last count x (blocks c last) h st in
       ap (λ v. v.offset) s.at_x ∙ sym (ap (λ l. offset_in x l) s.is ∙ ap (λ v. offset_in v (s.front ++ s.here ∷ s.back)) (sym s.name_is) ∙ offset_in-at s.front s.here s.back s.absent)
+
+  pub here_fits : size_in x (blocks c last) < 2 ^ 32
+  here_fits = let s = spot c (length c.nodes) last count x (blocks c last) h st in omega (arith, size-told, ap (λ v. v.size) s.at_x, s.end)

@@ -16,7 +16,7 @@ abbrev pub Stands : Block → List Block → Type 0
 Stands b [] = ⊥
 Stands b (c ∷ bs) = (b ≡ c) ⊎ Stands b bs
 
-stands_listed : (b : Block) (bs : List Block) → Stands b bs → is_free b ≡ true → 1 ≤ listed (down b.size) b.name bs
+pub stands_listed : (b : Block) (bs : List Block) → Stands b bs → is_free b ≡ true → 1 ≤ listed (down b.size) b.name bs
 stands_listed b [] i f = absurd i
 stands_listed b (c ∷ bs) (inl e) f = subst (λ (d : Block). 1 ≤ listed (down b.size) b.name (d ∷ bs)) e (rw (f, eq-eqb (down b.size) (down b.size) refl, eq-eqb b.name b.name refl) (omega arith))
 stands_listed b (c ∷ bs) (inr i) f = let ih = stands_listed b bs i f in omega arith
@@ -28,7 +28,7 @@ all_free P (b ∷ bs) h = if_value b.used (free_sizes bs) (b.size ∷ free_sizes
     (λ e. all_free P bs (λ c i. h c (inr i)))
     (λ e. (h b (inl refl) (ap not e), all_free P bs (λ c i. h c (inr i))))
 
-reported : (n : ℕ) (bs : List Block) → 1 ≤ n → n ≤ largest (free_sizes bs) → (b : Block) × (Stands b bs) × (is_free b ≡ true) × (n ≤ value (down b.size))
+pub reported : (n : ℕ) (bs : List Block) → 1 ≤ n → n ≤ largest (free_sizes bs) → (b : Block) × (Stands b bs) × (is_free b ≡ true) × (n ≤ value (down b.size))
 reported n [] l = λ h. absurd (omega arith)
 reported n (b ∷ bs) l = if_value b.used (free_sizes bs) (b.size ∷ free_sizes bs) (λ ns. n ≤ largest ns → (c : Block) × (Stands c (b ∷ bs)) × (is_free c ≡ true) × (n ≤ value (down c.size)))
     (λ e h. let r = reported n bs l h in (r.0, inr r.1, r.2, r.3))
@@ -37,7 +37,7 @@ reported n (b ∷ bs) l = if_value b.used (free_sizes bs) (b.size ∷ free_sizes
       | inr m ↦ (b, inl refl, ap not e, m)
     ])
 
-reports_all : (b : Block) (bs : List Block) → Stands b bs → is_free b ≡ true → value (down b.size) ≤ largest (free_sizes bs)
+pub reports_all : (b : Block) (bs : List Block) → Stands b bs → is_free b ≡ true → value (down b.size) ≤ largest (free_sizes bs)
 reports_all b [] i f = absurd i
 reports_all b (c ∷ bs) (inl e) f = if_value c.used (free_sizes bs) (c.size ∷ free_sizes bs) (λ ns. value (down b.size) ≤ largest ns)
     (λ g. absurd (true≢false (sym f ∙ ap is_free e ∙ ap not g)))
@@ -51,7 +51,7 @@ stands_middle [] b ys = inl refl
 stands_middle (x ∷ xs) b ys = inr (stands_middle xs b ys)
 
 -- a block that stands is no larger than all of them
-sized_below : (b : Block) (bs : List Block) → Stands b bs → b.size ≤ units bs
+pub sized_below : (b : Block) (bs : List Block) → Stands b bs → b.size ≤ units bs
 sized_below b [] i = absurd i
 sized_below b (c ∷ bs) (inl e) = let s = ap (λ (x : Block). x.size) e in omega arith
 sized_below b (c ∷ bs) (inr i) = let ih = sized_below b bs i in omega arith

@@ -3,8 +3,11 @@ pub mod Classes
 pub mod Count
 pub mod Named
 pub mod Orders
+pub mod Parts
 pub mod Relations
 pub mod Reports
 pub mod Space
+pub mod Start
 pub mod State
+pub mod Told
 pub mod View

@@ -1,7 +1,8 @@
 //! The names of free blocks, in a list for each size class, by links between the nodes, with a two-level mask.
 ghost use Rattle.std.specs.Prelude.{◌≡◌, ◌+◌, ◌<◌, ◌≤◌, ◌≢◌, ℕ, List, [], ◌∷◌, slice_set, length, drop, MatchOption};
 ghost use Rattle.offset_allocator.specs.Named.{names_at, without};
-ghost use Rattle.offset_allocator.specs.Orders.{IsUnlisted, IsLeastFrom, Among, relinked, Masked, flag, class_lists, Binned};
+ghost use Rattle.offset_allocator.specs.Told.{IsGreatestClass};
+ghost use Rattle.offset_allocator.specs.Orders.{IsUnlisted, IsLeastFrom, Among, relinked, Linked, Masked, flag, class_lists, Binned};
 
 use crate::accesses::Accesses;
 use crate::index::{NodeIndex, link_to, no_link, number};
@@ -31,6 +32,36 @@ pub(crate) fn find_at_or_above<NI: NodeIndex>(
     }
     let found = words.trailing_zeros();
     Some(found * 64 + t.mask(found, count).trailing_zeros())
+}
+
+/// The greatest class that has a name.
+pub(crate) fn greatest<NI: NodeIndex>(t: &Tables<NI>, top: u32, count: &mut Accesses) -> Option<u32>
+    requires { Binned NI.MAX t.now.links top }
+    ensures greatest { MatchOption result ((c : ℕ) → c < 256 → names_at (class_lists NI.MAX t.now.links) c ≡ []) (IsGreatestClass (class_lists NI.MAX t.now.links)) }
+    ensures count { MatchOption result (count.new ≡ count.old) (λ _. count.new ≡ count.old + 1) }
+{
+    if top == 0 {
+        return None;
+    }
+    let word = 31 - top.leading_zeros();
+    Some(word * 64 + (63 - t.mask(word, count).leading_zeros()))
+}
+
+/// The number of the names of a class.
+pub(crate) fn length_of<NI: NodeIndex>(t: &Tables<NI>, class: u32, count: &mut Accesses) -> u32
+    requires linked { Linked NI.MAX t.now.links.newer t.now.links.older t.now.links.heads (class_lists NI.MAX t.now.links) }
+    requires classed { class < 256 }
+    ensures names { result ≡ length (names_at (class_lists NI.MAX t.now.links) class) }
+    ensures count { count.new ≡ count.old + 1 + result }
+{
+    t.shape();
+    let mut names = 0;
+    let mut name = number(t.head(class, count));
+    while name != NI::MAX {
+        names += 1;
+        name = number(t.older(name, count));
+    }
+    names
 }
 
 /// Puts a name first into a class.

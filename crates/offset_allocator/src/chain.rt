@@ -1,9 +1,10 @@
 //! The blocks of the space, linked in space order, and the stack of unused names.
 
 ghost use Rattle.std.specs.Prelude.{◌≡◌, ℕ, ◌+◌, ◌-◌, ◌<◌, ◌≤◌, ◌^◌, length, List, [], ◌∷◌, ◌++◌, MatchOption, IfSome, Bool, false, Some, None};
-ghost use Rattle.offset_allocator.specs.Named.{named, is_used_at, place_of};
+ghost use Rattle.offset_allocator.specs.Named.{named, units};
 ghost use Rattle.offset_allocator.specs.Cells.{Node, node, put, link_of};
 ghost use Rattle.offset_allocator.specs.Space.{IsSpace, Stands, blocks, spares, split_block, join_block, give_block, mark_block, offset_in, size_in, name_after};
+ghost use Rattle.offset_allocator.specs.Parts.{split_front, grow_last};
 
 use crate::accesses::Accesses;
 use crate::index::{NodeIndex, link_to, linked, number};
@@ -168,4 +169,86 @@ pub(crate) fn mark<NI: NodeIndex>(t: &mut Tables<NI>, last: u32, spare_count: u3
     ensures count { count.new ≡ count.old + 1 }
 {
     t.set_used(x, used, count);
+}
+
+// Writes the cells of the unused node y, for a free block before the block x.
+#[tactic(auto, using(crate::proofs::Nodes::lengths))]
+fn place_front<NI: NodeIndex>(
+    t: &mut Tables<NI>,
+    y: u32,
+    offset: u32,
+    size: u32,
+    before: NI,
+    x: u32,
+    count: &mut Accesses,
+)
+    requires name { y < length t.old.room.nodes }
+    requires idle { (node t.old.room y).used ≡ false }
+    requires after { x < length t.old.room.nodes }
+    ensures count { count.new ≡ count.old + 4 }
+    ensures cells { t.new ≡ record t.old { room = put t.old.room y (record { offset = offset; size = size; used = false; before = link_of NI.MAX (NI.number before); after = Some x }) } }
+{
+    t.shape();
+    t.set_offset(y, offset, count);
+    t.set_size(y, size, count);
+    t.set_before(y, before, count);
+    t.set_after(y, link_to(x), count);
+}
+
+/// Cuts the first n units off the block x. They become a free block directly before it, under the
+/// name that is answered.
+pub(crate) fn split_before<NI: NodeIndex>(
+    t: &mut Tables<NI>,
+    last: u32,
+    spare_count: &mut u32,
+    x: u32,
+    n: u32,
+    count: &mut Accesses,
+) -> u32
+    requires space { IsSpace t.old.room last spare_count.old }
+    requires standing { Stands x (blocks t.old.room last) }
+    requires room { 0 < spare_count.old }
+    requires within { n ≤ size_in x (blocks t.old.room last) }
+    ensures space { IsSpace t.new.room last spare_count.new }
+    ensures blocks { blocks t.new.room last ≡ split_front x n result (blocks t.old.room last) }
+    ensures links { t.new.links ≡ t.old.links }
+    ensures limit { length t.new.room.nodes ≡ length t.old.room.nodes }
+    ensures left { spare_count.new + 1 ≡ spare_count.old }
+    ensures fresh { named result (blocks t.old.room last) ≡ 0 }
+    ensures below { result < length t.old.room.nodes }
+    ensures grows { count.old ≤ count.new }
+    ensures count { count.new ≤ count.old + 12 }
+{
+    t.shape();
+    *spare_count -= 1;
+    let y = number(t.spare(*spare_count, count));
+    let offset = t.offset(x, count);
+    let size = t.size(x, count);
+    let link = t.before(x, count);
+    place_front(t, y, offset, n, link, x, count);
+    t.set_offset(x, offset + n, count);
+    t.set_size(x, size - n, count);
+    t.set_before(x, link_to(y), count);
+    point_on(t, link, y, count);
+    y
+}
+
+/// Adds units to the last block.
+pub(crate) fn grow<NI: NodeIndex>(
+    t: &mut Tables<NI>,
+    last: u32,
+    spare_count: u32,
+    more: u32,
+    count: &mut Accesses,
+)
+    requires space { IsSpace t.old.room last spare_count }
+    requires fits { units (blocks t.old.room last) + more < 2 ^ 32 }
+    ensures space { IsSpace t.new.room last spare_count }
+    ensures blocks { blocks t.new.room last ≡ grow_last more (blocks t.old.room last) }
+    ensures links { t.new.links ≡ t.old.links }
+    ensures limit { length t.new.room.nodes ≡ length t.old.room.nodes }
+    ensures count { count.new ≡ count.old + 2 }
+{
+    let size = t.size(last, count);
+    t.set_size(last, size + more, count);
 }

@@ -1,12 +1,15 @@
 // One space, handed out in ranges.
 #![tactic(auto)]
 
-ghost use Rattle.std.specs.Prelude.{◌≡◌, ◌↔◌, ℕ, ◌+◌, ◌<◌, ◌≤◌, Some, None, Option, false, true, IsSome, IfSome, MatchOption, IfOk, length};
+ghost use Rattle.std.specs.Prelude.{◌≡◌, ◌↔◌, ℕ, ◌+◌, ◌-◌, ◌*◌, ◌<◌, ◌≤◌, min, Some, None, Option, false, true, IsTrue, IsSome, IfSome, MatchOption, IfOk, length};
 ghost use Rattle.offset_allocator.specs.Classes.{up, down};
+ghost use Rattle.offset_allocator.specs.Cells.{empty_cells};
 ghost use Rattle.offset_allocator.specs.Orders.{IsLeastFrom};
 ghost use Rattle.offset_allocator.specs.Reports.{IsGoodRefusal};
-ghost use Rattle.offset_allocator.specs.Named.{is_short_of, free, free_sizes, largest_free, is_used_at, size_at, place_of};
-ghost use Rattle.offset_allocator.specs.Relations.{Allocates, IsBut, IsCutNearBest, IsFresh, IsLive};
+ghost use Rattle.offset_allocator.specs.Named.{IsWellFormed, ends_used, is_short_of, free, free_sizes, largest_free, is_used_at, size_at, place_of};
+ghost use Rattle.offset_allocator.specs.Relations.{Allocates, Aligns, Extends, IsBut, IsCutNearBest, IsFresh, IsLive, IsPowerOfTwo, Resets};
+ghost use Rattle.offset_allocator.specs.Start.{IsStarted};
+ghost use Rattle.offset_allocator.specs.Told.{IsReport, IsFullReport};
 
 mod accesses;
 mod bins;
@@ -14,15 +17,20 @@ mod chain;
 pub mod ext;
 mod handle;
 mod index;
+pub mod laws;
 mod merge;
+mod parts;
+mod reports;
 pub mod small_float;
 mod tables;
 
 pub use accesses::Accesses;
 pub use handle::Allocation;
 pub use index::{NodeIndex, NodeIndexNonMax, NonMaxU16, NonMaxU32};
-use small_float::{uint_to_float_round_down, uint_to_float_round_up};
+pub use reports::{StorageReport, StorageReportFull, StorageReportFullRegion};
+use small_float::{float_to_uint, uint_to_float_round_down, uint_to_float_round_up};
 use std::alloc::{AllocError, Global};
+use std::fmt;
 use std::marker::Model;
 use tables::Tables;
 
@@ -58,7 +66,37 @@ fn handle_of<NI: NodeIndex>(offset: u32, name: u32) -> Allocation<NI>
     Allocation::make(offset, NI::from_u32(name).to_nonmax().unwrap())
 }
 
+// Makes the whole space one free block, under the name 0, in tables with nothing written. It answers the top mask.
+fn start<NI: NodeIndex>(tables: &mut Tables<NI>, size: u32, max_allocs: u32) -> u32
+    requires empty { tables.old ≡ empty_cells NI.MAX max_allocs }
+    requires least { 2 ≤ max_allocs }
+    requires most { max_allocs + 1 < NI.MAX }
+    ensures { IsStarted NI.MAX size max_allocs tables.new result }
+{
+    let mut count = Accesses::new();
+    let mut top_mask = 0;
+    tables.set_size(0, size, &mut count);
+    tables.shape();
+    bins::put_first(
+        tables,
+        &mut top_mask,
+        0,
+        uint_to_float_round_down(size),
+        &mut count,
+    );
+    top_mask
+}
+
 impl<NI: NodeIndex> Allocator<NI> {
+    /// A space of `size` units, all free, with the lesser of 131072 and `NI::MAX - 2` as the node limit.
+    ///
+    /// An error comes only where memory was refused. Then nothing is made.
+    pub fn new(alloc: Global, size: u32) -> Result<Self, AllocError>
+        ensures { IfOk result (IsFresh size (min 131072 (NI.MAX - 2))) }
+    {
+        Self::with_max_allocs(alloc, size, 131072u32.min(NI::MAX - 2))
+    }
+
     /// A space with so many nodes.
     pub fn with_max_allocs(alloc: Global, size: u32, max_allocs: u32) -> Result<Self, AllocError>
         requires least { 2 ≤ max_allocs }
@@ -66,17 +104,7 @@ impl<NI: NodeIndex> Allocator<NI> {
         ensures { IfOk result (IsFresh size max_allocs) }
     {
         let mut tables = Tables::with_len(alloc, max_allocs)?;
-        let mut count = Accesses::new();
-        let mut top_mask = 0;
-        tables.set_size(0, size, &mut count);
-        tables.shape();
-        bins::put_first(
-            &mut tables,
-            &mut top_mask,
-            0,
-            uint_to_float_round_down(size),
-            &mut count,
-        );
+        let top_mask = start(&mut tables, size, max_allocs);
         Ok(Allocator {
             size,
             max_allocs,
@@ -87,6 +115,18 @@ impl<NI: NodeIndex> Allocator<NI> {
             tables,
             accesses: Accesses::new(),
         })
+    }
+
+    /// Makes the whole space one free block again, in place. It takes no memory and always succeeds. The block of
+    /// every earlier handle is gone.
+    pub fn reset(&mut self)
+        ensures step { Resets self.old self.new }
+    {
+        self.tables.clear();
+        self.top_mask = start(&mut self.tables, self.size, self.max_allocs);
+        self.free_total = self.size;
+        self.spare_count = self.max_allocs - 1;
+        self.last = 0;
     }
 
     // Grants the first units of the newest block of a class.
@@ -175,6 +215,186 @@ impl<NI: NodeIndex> Allocator<NI> {
         }
     }
 
+    // Grants units of the newest block of a class, from the first multiple of `align` in it on.
+    fn grant_aligned(&mut self, class: u32, size: u32, align: u32) -> Allocation<NI>
+        requires power { 1 < align }
+        requires fits { size + align - 1 ≤ 4294967295 }
+        requires room { is_short_of 2 self.old ≡ false }
+        requires least { IsLeastFrom (up (size + align - 1)) self.old.order class }
+        ensures step { Aligns size align self.old self.new (Some result) }
+        ensures grows { self.old.accesses ≤ self.new.accesses }
+        ensures count { self.new.accesses ≤ self.old.accesses + 48 }
+    {
+        let name = bins::take_first(
+            &mut self.tables,
+            &mut self.top_mask,
+            class,
+            &mut self.accesses,
+        );
+        let offset = self.tables.offset(name, &mut self.accesses);
+        let whole = self.tables.size(name, &mut self.accesses);
+        let padding = (align - offset % align) % align;
+        parts::carve(
+            &mut self.tables,
+            &mut self.top_mask,
+            &mut self.last,
+            &mut self.spare_count,
+            name,
+            padding,
+            size,
+            whole - (padding + size),
+            &mut self.accesses,
+        );
+        self.free_total -= size;
+        handle_of(offset + padding, name)
+    }
+
+    /// Grants `size` units that begin at a multiple of `align`, a power of two.
+    ///
+    /// It takes the block that a request for `size + align - 1` units would take. What of it lies before the granted
+    /// units, and what lies behind them, stays free. It answers `None` where such a request finds no block or is too
+    /// large for a number of 32 bits, or, with `align` above 1, where fewer than two more blocks may stand. A refusal
+    /// leaves all blocks as they were. With `align` 1 the call is `allocate`.
+    pub fn allocate_aligned(&mut self, size: u32, align: u32) -> Option<Allocation<NI>>
+        requires power { IsPowerOfTwo align }
+        ensures step { Aligns size align self.old self.new result }
+        ensures grows { self.old.accesses ≤ self.new.accesses }
+        ensures count { self.new.accesses ≤ self.old.accesses + 128 }
+    {
+        let spare_count = self.spare_count;
+        if align <= 1 {
+            return self.allocate(size);
+        }
+        if spare_count <= 2 {
+            return None;
+        }
+        if size > u32::MAX - (align - 1) {
+            return None;
+        }
+        let least = uint_to_float_round_up(size + (align - 1));
+        match bins::find_at_or_above(&self.tables, self.top_mask, least, &mut self.accesses) {
+            None => None,
+            Some(class) => Some(self.grant_aligned(class, size, align)),
+        }
+    }
+
+    // Adds units to the last block, which is free.
+    fn widen(&mut self, more: u32)
+        requires more { 0 < more }
+        requires fits { self.old.size + more ≤ 4294967295 }
+        requires idle { ends_used self.old.blocks ≡ false }
+        ensures step { Extends more self.old self.new true }
+        ensures grows { self.old.accesses ≤ self.new.accesses }
+        ensures count { self.new.accesses ≤ self.old.accesses + 16 }
+    {
+        let whole = self.tables.size(self.last, &mut self.accesses);
+        bins::remove(
+            &mut self.tables,
+            &mut self.top_mask,
+            self.last,
+            uint_to_float_round_down(whole),
+            &mut self.accesses,
+        );
+        chain::grow(
+            &mut self.tables,
+            self.last,
+            self.spare_count,
+            more,
+            &mut self.accesses,
+        );
+        self.tables.shape();
+        bins::put_first(
+            &mut self.tables,
+            &mut self.top_mask,
+            self.last,
+            uint_to_float_round_down(whole + more),
+            &mut self.accesses,
+        );
+        self.size += more;
+        self.free_total += more;
+    }
+
+    // Puts a free block behind the last one, which is used.
+    fn append(&mut self, more: u32)
+        requires more { 0 < more }
+        requires fits { self.old.size + more ≤ 4294967295 }
+        requires used { ends_used self.old.blocks ≡ true }
+        requires room { is_short_of 1 self.old ≡ false }
+        ensures step { Extends more self.old self.new true }
+        ensures grows { self.old.accesses ≤ self.new.accesses }
+        ensures count { self.new.accesses ≤ self.old.accesses + 21 }
+    {
+        let end = self.last;
+        let offset = chain::offset(
+            &self.tables,
+            self.last,
+            self.spare_count,
+            end,
+            &mut self.accesses,
+        );
+        let whole = chain::size(
+            &self.tables,
+            self.last,
+            self.spare_count,
+            end,
+            &mut self.accesses,
+        );
+        let name = chain::split(
+            &mut self.tables,
+            &mut self.last,
+            &mut self.spare_count,
+            end,
+            offset,
+            whole,
+            whole,
+            &mut self.accesses,
+        );
+        chain::grow(
+            &mut self.tables,
+            self.last,
+            self.spare_count,
+            more,
+            &mut self.accesses,
+        );
+        self.tables.shape();
+        bins::put_first(
+            &mut self.tables,
+            &mut self.top_mask,
+            name,
+            uint_to_float_round_down(more),
+            &mut self.accesses,
+        );
+        self.size += more;
+        self.free_total += more;
+    }
+
+    /// Adds `more` units at the end of the space: to the last block where that is free, or else as a new free block.
+    ///
+    /// It answers `false` where the space would have more than 4294967295 units, or where its last block is used and
+    /// no further block may stand. All blocks then stay as they were. With 0 units it answers `true`.
+    pub fn extend(&mut self, more: u32) -> bool
+        ensures step { Extends more self.old self.new result }
+        ensures grows { self.old.accesses ≤ self.new.accesses }
+        ensures count { self.new.accesses ≤ self.old.accesses + 128 }
+    {
+        let size = self.size;
+        if more == 0 {
+            return true;
+        }
+        if more > u32::MAX - size {
+            return false;
+        }
+        if !self.tables.used(self.last, &mut self.accesses) {
+            self.widen(more);
+            return true;
+        }
+        if self.spare_count <= 1 {
+            return false;
+        }
+        self.append(more);
+        true
+    }
+
     /// Gives a granted range back. It is joined with the free ranges beside it.
     pub fn free(&mut self, allocation: Allocation<NI>)
         requires live { IsLive allocation.name self.old }
@@ -240,26 +460,113 @@ impl<NI: NodeIndex> Allocator<NI> {
         }
     }
 
-    /// Whether the handle's name is that of a used block.
-    pub fn is_live(&self, allocation: Allocation<NI>) -> bool
-        ensures { result ≡ is_used_at (place_of allocation.name self.now.blocks) }
+    /// The blocks and the class lists agree.
+    pub(crate) fn formed(&self)
+        ensures { IsWellFormed self.now }
     {
-        self.uses(
-            index::number(NI::of_nonmax(allocation.name())),
-            &mut Accesses::new(),
-        )
+        let _ = &self.size;
     }
 
-    /// The size of the used block of the handle's name, or 0.
-    pub fn allocation_size(&self, allocation: Allocation<NI>) -> u32
-        ensures { result ≡ size_at (place_of allocation.name self.now.blocks) }
+    // Whether a handle is live, with a count of the accesses.
+    pub(crate) fn is_live_counted(&self, allocation: Allocation<NI>, count: &mut Accesses) -> bool
+        ensures live { IsTrue result ↔ IsLive allocation.name self.now }
+        ensures grows { count.old ≤ count.new }
+        ensures count { count.new ≤ count.old + 8 }
+    {
+        self.uses(index::number(NI::of_nonmax(allocation.name())), count)
+    }
+
+    /// Whether the handle is live here: its name is the name of a used block. `free` asks for exactly this.
+    ///
+    /// A handle whose block was freed is live again where a newer grant has its name.
+    pub fn is_live(&self, allocation: Allocation<NI>) -> bool
+        ensures { IsTrue result ↔ IsLive allocation.name self.now }
+    {
+        self.is_live_counted(allocation, &mut Accesses::new())
+    }
+
+    // The size of a granted range, with a count of the accesses.
+    pub(crate) fn allocation_size_counted(
+        &self,
+        allocation: Allocation<NI>,
+        count: &mut Accesses,
+    ) -> u32
+        ensures size { result ≡ size_at (place_of allocation.name self.now.blocks) }
+        ensures grows { count.old ≤ count.new }
+        ensures count { count.new ≤ count.old + 8 }
     {
         let name = index::number(NI::of_nonmax(allocation.name()));
-        let mut count = Accesses::new();
-        if self.uses(name, &mut count) {
-            self.tables.size(name, &mut count)
+        if self.uses(name, count) {
+            self.tables.size(name, count)
         } else {
             0
         }
+    }
+
+    /// The units of the range that a live handle has: exactly what was asked for. It is 0 where the handle isn't live.
+    pub fn allocation_size(&self, allocation: Allocation<NI>) -> u32
+        ensures { result ≡ size_at (place_of allocation.name self.now.blocks) }
+    {
+        self.allocation_size_counted(allocation, &mut Accesses::new())
+    }
+
+    // The short report, with a count of its accesses.
+    pub(crate) fn storage_report_counted(&self, count: &mut Accesses) -> StorageReport
+        ensures report { IsReport result self.now }
+        ensures grows { count.old ≤ count.new }
+        ensures count { count.new ≤ count.old + 8 }
+    {
+        if self.spare_count <= 1 {
+            return StorageReport {
+                total_free_space: 0,
+                largest_free_region: 0,
+            };
+        }
+        let largest_free_region = match bins::greatest(&self.tables, self.top_mask, count) {
+            None => 0,
+            Some(class) => float_to_uint(class),
+        };
+        StorageReport {
+            total_free_space: self.free_total,
+            largest_free_region,
+        }
+    }
+
+    /// The free space in short: the units of all free blocks, and the greatest request that would be granted. Both are
+    /// 0 where the node limit's last block stands, `max_allocs - 1` blocks in all.
+    pub fn storage_report(&self) -> StorageReport
+        ensures { IsReport result self.now }
+    {
+        self.storage_report_counted(&mut Accesses::new())
+    }
+
+    // The full report, with a count of its accesses.
+    pub(crate) fn storage_report_full_counted(&self, count: &mut Accesses) -> StorageReportFull
+        ensures report { IsFullReport result self.now }
+        ensures grows { count.old ≤ count.new }
+        ensures count { count.new ≤ count.old + 512 + 2 * length (free_sizes self.now.blocks) }
+    {
+        let mut report = StorageReportFull::default();
+        for class in 0..256u32 {
+            report.free_regions[class as usize] = StorageReportFullRegion {
+                size: float_to_uint(class),
+                count: bins::length_of(&self.tables, class, count),
+            };
+        }
+        report
+    }
+
+    /// The free blocks, class by class, at the node limit too. It goes over all free blocks.
+    pub fn storage_report_full(&self) -> StorageReportFull
+        ensures { IsFullReport result self.now }
+    {
+        self.storage_report_full_counted(&mut Accesses::new())
+    }
+}
+
+/// The text is that of the short report.
+impl<NI: NodeIndex> fmt::Debug for Allocator<NI> {
+    fn fmt<W: fmt::Write>(&self, f: &mut fmt::Formatter<W>) -> fmt::Result {
+        fmt::Debug::fmt(&self.storage_report(), f)
     }
 }

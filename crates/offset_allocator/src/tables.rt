@@ -68,6 +68,28 @@ fn rising<NI: NodeIndex>(mut values: Vec<NI>, len: u32) -> Result<Vec<NI>, Alloc
     Ok(values)
 }
 
+// Writes one value over a whole table.
+fn fill<T: Copy>(values: &mut Vec<T>, value: T)
+    ensures { values.new.items ≡ replicate (length values.old.items) value }
+{
+    for i in 0..values.len() {
+        values[i] = value;
+    }
+}
+
+// Writes the numbers from 1 to below the length, and 0, over a table.
+fn renumber<NI: NodeIndex>(values: &mut Vec<NI>)
+    requires least { 0 < length values.old.items }
+    requires most { length values.old.items ≤ NI.MAX }
+    ensures { map NI.number values.new.items ≡ range_with_len 1 (length values.old.items - 1) ++ 0 ∷ [] }
+{
+    let last = values.len() - 1;
+    for i in 0..last {
+        values[i] = NI::from_u32(i as u32 + 1);
+    }
+    values[last] = NI::from_u32(0);
+}
+
 impl<NI: NodeIndex> Tables<NI> {
     /// Tables for `len` nodes, with nothing written. Every table has its room before any is filled.
     pub(crate) fn with_len(alloc: Global, len: u32) -> Result<Self, AllocError>
@@ -98,6 +120,24 @@ impl<NI: NodeIndex> Tables<NI> {
             masks: [0; 4],
             spare: rising(spare, len)?,
         })
+    }
+
+    /// Overwrites the tables, so that nothing is written.
+    pub(crate) fn clear(&mut self)
+        requires { 0 < length self.old.room.nodes }
+        ensures { self.new ≡ empty_cells NI.MAX (length self.old.room.nodes) }
+    {
+        let none = no_link::<NI>();
+        fill(&mut self.offset, 0);
+        fill(&mut self.size, 0);
+        fill(&mut self.used, false);
+        fill(&mut self.before, none);
+        fill(&mut self.after, none);
+        fill(&mut self.newer, none);
+        fill(&mut self.older, none);
+        fill(&mut self.heads, none);
+        self.masks = [0; 4];
+        renumber(&mut self.spare);
     }
 
     /// The tables keep their lengths.

@@ -1,0 +1,371 @@
+-- What an aligned grant leaves of the whole allocator.
+use Rattle.std.proofs.Common.{◌≡◌, ◌≢◌, ℕ, zero, suc, ◌+◌, ◌-◌, ◌<◌, ◌≤◌, ◌^◌, Bool, true, false, List, [], ◌∷◌, ◌++◌, length, Option, Some, None, refl, sym, ap, ap₂, subst, ◌∙◌, inl, inr, arith, slice_set, nat_le, nat_lt, if◌then◌else◌, le-leb}
+use Rattle.std.proofs.lemmas.Bool.{cases_lt, lt-leb, lt-ltb, le-ltb, true≢false}
+use Rattle.offset_allocator.specs.Classes.{up}
+use Rattle.offset_allocator.specs.Cells.{Cells, Room, Node, node}
+use Rattle.offset_allocator.specs.Named.{Block, View, Place, Grant, Outcome, named, names_at, IsWellFormed, IsUnused, is_short_of, taken, allocate, allocate_aligned, padding_to, greatest, refused, granted, granted_at, serve, free_part, used_block, units, remove_all, put_all, remove, without, place_of}
+use Rattle.offset_allocator.specs.Space.{IsSpace, Stands, blocks, offset_in, size_in}
+use Rattle.offset_allocator.specs.Orders.{IsLeastFrom, class_lists, Binned}
+use Rattle.offset_allocator.specs.State.{Fields, IsSound, view_of, free_units}
+use Rattle.offset_allocator.specs.Relations.{Allocates, Aligns}
+use Rattle.offset_allocator.specs.Parts.{carved, carved_at, AreUnlisted}
+use Rattle.offset_allocator.proofs.Rows.{units-append}
+use Rattle.offset_allocator.proofs.Found.{size_in-at, offset_in-at}
+use Rattle.offset_allocator.proofs.Spot.{here_below, size-told, offset-told}
+use Rattle.offset_allocator.proofs.Granting as grant
+use Rattle.offset_allocator.proofs.Spares.{another, spare_room, no_room, some_room, less_short}
+use Rattle.offset_allocator.proofs.Unused.{some_unused}
+use Rattle.offset_allocator.proofs.ViewTaken.{padding_small, well_aligned}
+use Rattle.offset_allocator.proofs.ViewSteps.{place_here}
+use Rattle.offset_allocator.proofs.Joints.{with_accesses, untaken, TakenHere, unused_unlisted, unlisted_removed, well_counted, remove_free, not_true, free_part-none, free_units-append, free_units-free, free_units-used}
+
+-- the cases of an aligned request
+pub aligned_one : (n align f r : ℕ) (v : View) → align ≤ 1 → allocate_aligned n align f r v ≡ allocate n r v
+aligned_one n align f r v l = ap (λ (b : Bool). if b then allocate n r v else if nat_lt greatest (n + align - 1) then refused v else serve 2 (n + align - 1) n (padding_to align) f r v) (le-leb align 1 l)
+
+module _ (n align f r : ℕ) (v : View) (big : 1 < align) where
+  aligned_more : allocate_aligned n align f r v ≡ (if nat_lt greatest (n + align - 1) then refused v else serve 2 (n + align - 1) n (padding_to align) f r v)
+  aligned_more = ap (λ (b : Bool). if b then allocate n r v else if nat_lt greatest (n + align - 1) then refused v else serve 2 (n + align - 1) n (padding_to align) f r v) (lt-leb align 1 big)
+
+  pub aligned_past : greatest < n + align - 1 → allocate_aligned n align f r v ≡ refused v
+  aligned_past l = aligned_more ∙ ap (λ (b : Bool). if b then refused v else serve 2 (n + align - 1) n (padding_to align) f r v) (lt-ltb greatest (n + align - 1) l)
+
+  aligned_within : n + align - 1 ≤ greatest → allocate_aligned n align f r v ≡ serve 2 (n + align - 1) n (padding_to align) f r v
+  aligned_within l = aligned_more ∙ ap (λ (b : Bool). if b then refused v else serve 2 (n + align - 1) n (padding_to align) f r v) (le-ltb greatest (n + align - 1) l)
+
+  pub aligned_short : is_short_of 2 v ≡ true → allocate_aligned n align f r v ≡ refused v
+  aligned_short e = elim (cases_lt greatest (n + align - 1)) [
+    | inl l ↦ aligned_past l
+    | inr l ↦ aligned_within l ∙ ap (λ (b : Bool). if b then refused v else granted_at v n (padding_to align) f r (taken (n + align - 1) v)) e
+  ]
+
+  served : n + align - 1 ≤ greatest → is_short_of 2 v ≡ false → allocate_aligned n align f r v ≡ granted_at v n (padding_to align) f r (taken (n + align - 1) v)
+  served l e = aligned_within l ∙ ap (λ (b : Bool). if b then refused v else granted_at v n (padding_to align) f r (taken (n + align - 1) v)) e
+
+  pub aligned_none : n + align - 1 ≤ greatest → is_short_of 2 v ≡ false → taken (n + align - 1) v ≡ None → allocate_aligned n align f r v ≡ refused v
+  aligned_none l e t = served l e ∙ ap (granted_at v n (padding_to align) f r) t
+
+  pub aligned_granted : n + align - 1 ≤ greatest → is_short_of 2 v ≡ false → (p : Place) → taken (n + align - 1) v ≡ Some p → allocate_aligned n align f r v ≡ granted v n (padding_to align (units p.before)) f r p
+  aligned_granted l e p t = served l e ∙ ap (granted_at v n (padding_to align) f r) t
+
+part_any : (x y n : ℕ) → n ≡ 0 → free_part x n ≡ free_part y n
+part_any x y n e = free_part-none x n e ∙ sym (free_part-none y n e)
+
+free_part_units : (x n : ℕ) (bs : List Block) → free_units (free_part x n ++ bs) ≡ n + free_units bs
+free_part_units x zero bs = omega arith
+free_part_units x (suc n) bs = refl
+
+-- a request that is granted
+pub record AlignedCall (max size limit : ℕ) (c : Cells) (last count top free acc n align class x : ℕ) : Type 0 where
+  pub sound : IsSound max size limit c last count top free
+  pub big : 1 < align
+  pub fits : n + align - 1 ≤ 4294967295
+  pub room : is_short_of 2 (view_of max size limit c last acc) ≡ false
+  pub least : IsLeastFrom (up (n + align - 1)) (class_lists max c.links) class
+  pub behind : List ℕ
+  pub first : names_at (class_lists max c.links) class ≡ x ∷ behind
+
+module _ (max size limit : ℕ) (c : Cells) (last count top free acc n align class x : ℕ) (h : AlignedCall max size limit c last count top free acc n align class x) where
+  s : IsSound max size limit c last count top free
+  s = h.sound
+
+  big : 1 < align
+  big = h.big
+
+  fits : n + align - 1 ≤ 4294967295
+  fits = h.fits
+
+  room : is_short_of 2 (view_of max size limit c last acc) ≡ false
+  room = h.room
+
+  l : IsLeastFrom (up (n + align - 1)) (class_lists max c.links) class
+  l = h.least
+
+  abbrev xs : List ℕ
+  xs = h.behind
+
+  first : names_at (class_lists max c.links) class ≡ x ∷ h.behind
+  first = h.first
+
+  abbrev v : View
+  v = view_of max size limit c last acc
+
+  abbrev bs : List Block
+  bs = blocks c.room last
+
+  abbrev ls : List (List ℕ)
+  ls = class_lists max c.links
+
+  w : IsWellFormed v
+  w = well_counted (view_of max size limit c last 0) acc s.well
+
+  abbrev fields : Fields
+  fields = record { max = max; size = size; limit = limit; cells = c; last = last; count = count; top = top; free = free; accesses = acc }
+
+  room_one : is_short_of 1 v ≡ false
+  room_one = less_short v room
+
+  pub got : TakenHere (n + align - 1) (view_of max size limit c last acc) class x
+  got = grant.got fields (n + align - 1) class x s room_one l xs first
+
+  abbrev p : Place
+  p = got.place
+
+  abbrev padding : ℕ
+  padding = padding_to align (units got.place.before)
+
+  is_free : p.block.used ≡ false
+  is_free = not_true p.block.used got.here.free
+
+  pub stands : Stands x (blocks c.room last)
+  stands = grant.stands fields (n + align - 1) class x s room_one l xs first
+
+  pub x_below : x < length c.room.nodes
+  x_below = here_below c.room last count x s.space stands
+
+  pub listed_size : size_in x (blocks c.room last) ≡ got.place.block.size
+  listed_size = ap (size_in x) got.here.stood ∙ ap (λ y. size_in y (p.before ++ p.block ∷ p.after)) (sym got.name) ∙ size_in-at p.before p.block p.after got.here.alone
+
+  pub offset_is : (node c.room x).offset ≡ units got.place.before
+  offset_is = offset-told c.room last count x s.space stands ∙ ap (offset_in x) got.here.stood ∙ ap (λ y. offset_in y (p.before ++ p.block ∷ p.after)) (sym got.name) ∙ offset_in-at p.before p.block p.after got.here.alone
+
+  pub size_is : (node c.room x).size ≡ got.place.block.size
+  size_is = size-told c.room last count x s.space stands ∙ listed_size
+
+  pub enough : padding_to align (units got.place.before) + n ≤ got.place.block.size
+  unfolding got
+  enough =
+      let a = grant.enough fields (n + align - 1) class x s room_one l xs first in
+      let b = padding_small align (units (grant.got fields (n + align - 1) class x s room_one l xs first).place.before) big in
+      omega arith
+
+  pub offset_fits : units got.place.before + padding_to align (units got.place.before) < 2 ^ 32
+  offset_fits =
+      let e = enough in
+      let u = ap units got.here.stood in
+      let t = units-append p.before (p.block ∷ p.after) in
+      let f = s.space.fits in
+      omega arith
+
+  pub free_enough : n ≤ free
+  free_enough = let a = grant.free_enough fields (n + align - 1) class x s room_one l xs first in omega arith
+
+  pub unlisted : AreUnlisted (blocks c.room last) (slice_set (class_lists max c.links) class (without x (names_at (class_lists max c.links) class)))
+  unlisted y e = unlisted_removed y x class ls w.classes l.1 (unused_unlisted v w y e)
+
+  removed : remove_all (p.block ∷ []) ls ≡ slice_set ls class (without x (names_at ls class))
+  removed = remove_free p.block ls is_free ∙ ap₂ (λ i y. remove i y ls) got.class got.name
+
+  placed : place_of x bs ≡ Some p
+  placed = ap (place_of x) got.here.stood ∙ place_here x p.before p.block p.after (ap (λ i. named i p.before) (sym got.name) ∙ got.here.alone) (sym got.name)
+
+  had_free : free ≡ free_units p.before + (p.block.size + free_units p.after)
+  had_free = sym s.total ∙ ap free_units got.here.stood ∙ free_units-append p.before (p.block ∷ p.after) ∙ ap (λ k. free_units p.before + k) (free_units-free p.block p.after is_free)
+
+  abbrev left : ℕ
+  left = p.block.size - (padding + n)
+
+  abbrev parts : ℕ → ℕ → List Block
+  parts f r = free_part f padding ++ used_block p.block.name n ∷ free_part r left
+
+  -- names for both parts, whether these have units or not
+  record Names (f r : ℕ) : Type 0 where
+    front : ℕ
+    rest : ℕ
+    front_unused : IsUnused front v
+    rest_unused : IsUnused rest v
+    apart : front ≢ rest
+    same_front : free_part f padding ≡ free_part front padding
+    same_rest : free_part r left ≡ free_part rest left
+
+  named_parts : (f r : ℕ) → (0 < padding → IsUnused f v) → (0 < left → IsUnused r v) → (0 < padding → 0 < left → f ≢ r) → Names f r
+  named_parts f r uf ur ne =
+      let many : 2 ≤ count = let k = spare_room max size limit c last count top free acc s room in omega arith in
+      let other = another max size limit c last count top free acc s many in
+      elim (cases_lt 0 padding) [
+        | inl a ↦ elim (cases_lt 0 left) [
+          | inl b ↦ record { front = f; rest = r; front_unused = uf a; rest_unused = ur b; apart = ne a b; same_front = refl; same_rest = refl }
+          | inr b ↦ let o = other f in record { front = f; rest = o.0; front_unused = uf a; rest_unused = o.1; apart = λ q. o.2 (sym q); same_front = refl; same_rest = part_any r o.0 left (omega arith) }
+        ]
+        | inr a ↦ elim (cases_lt 0 left) [
+          | inl b ↦ let o = other r in record { front = o.0; rest = r; front_unused = o.1; rest_unused = ur b; apart = o.2; same_front = part_any f o.0 padding (omega arith); same_rest = refl }
+          | inr b ↦ let q = other 0 in let o = other q.0 in record { front = o.0; rest = q.0; front_unused = o.1; rest_unused = q.1; apart = o.2; same_front = part_any f o.0 padding (omega arith); same_rest = part_any r q.0 left (omega arith) }
+        ]
+      ]
+
+  unused_in : (y : ℕ) → (named y (blocks c.room last) ≡ 0) × (y < length c.room.nodes) → IsUnused y v
+  unused_in y h = record { below = let n = s.nodes in let b = h.1 in omega arith; absent = h.0 }
+
+  pub aligned : (d : Cells) (last' count' top' acc' f r : ℕ) → IsSpace d.room last' count' → Binned max d.links top' → length d.room.nodes ≡ length c.room.nodes
+      → blocks d.room last' ≡ carved x (padding_to align (units got.place.before)) n f r (blocks c.room last)
+      → class_lists max d.links ≡ put_all (free_part f (padding_to align (units got.place.before)) ++ used_block x n ∷ free_part r (got.place.block.size - (padding_to align (units got.place.before) + n))) (slice_set (class_lists max c.links) class (without x (names_at (class_lists max c.links) class)))
+      → (0 < padding_to align (units got.place.before) → (named f (blocks c.room last) ≡ 0) × (f < length c.room.nodes))
+      → (0 < got.place.block.size - (padding_to align (units got.place.before) + n) → (named r (blocks c.room last) ≡ 0) × (r < length c.room.nodes))
+      → (0 < padding_to align (units got.place.before) → 0 < got.place.block.size - (padding_to align (units got.place.before) + n) → f ≢ r)
+      → IsSound max size limit d last' count' top' (free - n) × Aligns n align (view_of max size limit c last acc) (view_of max size limit d last' acc') (Some (record { name = x; offset = units got.place.before + padding_to align (units got.place.before) }))
+  aligned d last' count' top' acc' f r space bins nodes eb eo uf ur ne =
+      let k = named_parts f r (λ q. unused_in f (uf q)) (λ q. unused_in r (ur q)) ne in
+      let is = aligned_granted n align k.front k.rest v big fits room p got.is in
+      let same : parts f r ≡ parts k.front k.rest = ap₂ (λ (a b : List Block). a ++ used_block p.block.name n ∷ b) k.same_front k.same_rest in
+      let blocks_are : blocks d.room last' ≡ p.before ++ (parts k.front k.rest ++ p.after) = eb ∙ ap (carved_at padding n f r bs) placed ∙ ap (λ (q : List Block). p.before ++ (q ++ p.after)) same in
+      let order_is : class_lists max d.links ≡ put_all (parts k.front k.rest) (remove_all (p.block ∷ []) ls) =
+      eo ∙ ap (λ (i : ℕ). put_all (free_part f padding ++ used_block i n ∷ free_part r left) (slice_set ls class (without x (names_at ls class)))) (sym got.name) ∙ ap (put_all (parts f r)) (sym removed) ∙ ap (λ (q : List Block). put_all q (remove_all (p.block ∷ []) ls)) same in
+      let after_is : (j : ℕ) → view_of max size limit d last' j ≡ with_accesses j (allocate_aligned n align k.front k.rest v).view = λ j. grant.same_view v _ _ _ _ j blocks_are order_is ∙ ap (λ (o : Outcome). with_accesses j o.view) (sym is) in
+      let told : Grant = record { name = x; offset = units p.before + padding } in
+      let answered : Some told ≡ (allocate_aligned n align k.front k.rest v).grant = ap (λ (i : ℕ). let h : Grant = record { name = i; offset = units p.before + padding } in Some h) (sym got.name) ∙ ap (λ (o : Outcome). o.grant) (sym is) in
+      let well = well_aligned v w n align k.front k.rest k.rest_unused (λ _. (k.front_unused, k.apart)) in
+      let units_are : free_units (blocks d.room last') ≡ free_units p.before + (padding + (left + free_units p.after)) =
+      ap free_units blocks_are ∙ free_units-append p.before (parts k.front k.rest ++ p.after) ∙ ap (λ (q : ℕ). free_units p.before + q)
+      (free_units-append (parts k.front k.rest) p.after ∙ ap (λ (q : ℕ). q + free_units p.after) (free_part_units k.front padding (used_block p.block.name n ∷ free_part k.rest left) ∙ ap (λ (q : ℕ). padding + q) (free_units-used (used_block p.block.name n) (free_part k.rest left) refl ∙ ap free_units (sym (append_none (free_part k.rest left))) ∙ free_part_units k.rest left [])) ∙ omega arith) in (
+        record {
+          nodes = nodes ∙ s.nodes;
+          least = s.least;
+          space = space;
+          bins = bins;
+          well = subst IsWellFormed (sym (after_is 0)) (well_counted (allocate_aligned n align k.front k.rest v).view 0 well);
+          total = units_are ∙ (let e = had_free in let m = enough in omega arith);
+        },
+        record { front = k.front; rest = k.rest; unused = k.rest_unused; apart = λ _. (k.front_unused, k.apart); answer = answered; view = after_is acc' },
+      )
+    where
+      append_none : (l : List Block) → l ++ [] ≡ l
+      append_none [] = refl
+      append_none (b ∷ l) = ap (λ t. b ∷ t) (append_none l)
+
+  -- the same over what the code reads
+  pub aligned_call : (t : Cells) (offset whole : ℕ) → t.room ≡ c.room → class_lists max t.links ≡ slice_set (class_lists max c.links) class (without x (names_at (class_lists max c.links) class)) → offset ≡ (node t.room x).offset → whole ≡ (node t.room x).size
+      → (d : Cells) (last' count' top' acc' f r : ℕ) → IsSpace d.room last' count' → Binned max d.links top' → length d.room.nodes ≡ length t.room.nodes
+      → blocks d.room last' ≡ carved x (padding_to align offset) n f r (blocks t.room last)
+      → class_lists max d.links ≡ put_all (free_part f (padding_to align offset) ++ used_block x n ∷ free_part r (whole - (padding_to align offset + n))) (class_lists max t.links)
+      → (0 < padding_to align offset → (named f (blocks t.room last) ≡ 0) × (f < length t.room.nodes))
+      → (0 < whole - (padding_to align offset + n) → (named r (blocks t.room last) ≡ 0) × (r < length t.room.nodes))
+      → (0 < padding_to align offset → 0 < whole - (padding_to align offset + n) → f ≢ r)
+      → IsSound max size limit d last' count' top' (free - n) × Aligns n align (view_of max size limit c last acc) (view_of max size limit d last' acc') (Some (record { name = x; offset = offset + padding_to align offset }))
+  aligned_call t offset whole rm lists oe we d last' count' top' acc' f r =
+      let Q : Room → List (List ℕ) → ℕ → ℕ → Type 0 = λ room ol o wh. IsSpace d.room last' count' → Binned max d.links top' → length d.room.nodes ≡ length room.nodes
+      → blocks d.room last' ≡ carved x (padding_to align o) n f r (blocks room last)
+      → class_lists max d.links ≡ put_all (free_part f (padding_to align o) ++ used_block x n ∷ free_part r (wh - (padding_to align o + n))) ol
+      → (0 < padding_to align o → (named f (blocks room last) ≡ 0) × (f < length room.nodes))
+      → (0 < wh - (padding_to align o + n) → (named r (blocks room last) ≡ 0) × (r < length room.nodes))
+      → (0 < padding_to align o → 0 < wh - (padding_to align o + n) → f ≢ r)
+      → IsSound max size limit d last' count' top' (free - n) × Aligns n align (view_of max size limit c last acc) (view_of max size limit d last' acc') (Some (record { name = x; offset = o + padding_to align o })) in
+      let first_is : Q c.room (slice_set (class_lists max c.links) class (without x (names_at (class_lists max c.links) class))) (units got.place.before) got.place.block.size = aligned d last' count' top' acc' f r in
+      let o_is : offset ≡ units got.place.before = oe ∙ ap (λ (m : Room). (node m x).offset) rm ∙ offset_is in
+      let w_is : whole ≡ got.place.block.size = we ∙ ap (λ (m : Room). (node m x).size) rm ∙ size_is in
+      subst (λ (m : Room). Q m (class_lists max t.links) offset whole) (sym rm)
+      (subst (λ (ol : List (List ℕ)). Q c.room ol offset whole) (sym lists)
+      (subst (λ (o : ℕ). Q c.room (slice_set (class_lists max c.links) class (without x (names_at (class_lists max c.links) class))) o whole) (sym o_is)
+      (subst (λ (k : ℕ). Q c.room (slice_set (class_lists max c.links) class (without x (names_at (class_lists max c.links) class))) (units got.place.before) k) (sym w_is) first_is)))
+
+  -- what the call of `carve` asks for
+  pub carve_asks : (t : Cells) (offset whole : ℕ) → t.room ≡ c.room → class_lists max t.links ≡ slice_set (class_lists max c.links) class (without x (names_at (class_lists max c.links) class)) → offset ≡ (node t.room x).offset → whole ≡ (node t.room x).size
+      → Stands x (blocks t.room last) × (padding_to align offset + n ≤ whole) × (padding_to align offset + n + (whole - (padding_to align offset + n)) ≡ size_in x (blocks t.room last)) × AreUnlisted (blocks t.room last) (class_lists max t.links) × (offset + padding_to align offset < 2 ^ 32)
+  carve_asks t offset whole rm lists oe we =
+      let o_is : offset ≡ units got.place.before = oe ∙ ap (λ (m : Room). (node m x).offset) rm ∙ offset_is in
+      let w_is : whole ≡ got.place.block.size = we ∙ ap (λ (m : Room). (node m x).size) rm ∙ size_is in
+      let inside : padding_to align offset + n ≤ whole = subst (λ (o : ℕ). padding_to align o + n ≤ whole) (sym o_is) (subst (λ (k : ℕ). padding_to align (units got.place.before) + n ≤ k) (sym w_is) enough) in
+      let sized : size_in x (blocks t.room last) ≡ whole = ap (λ (m : Room). size_in x (blocks m last)) rm ∙ listed_size ∙ sym w_is in
+      let sum : padding_to align offset + n + (whole - (padding_to align offset + n)) ≡ whole = all_of (padding_to align offset + n) whole inside in (
+        subst (λ (m : Room). Stands x (blocks m last)) (sym rm) stands,
+        inside,
+        sum ∙ sym sized,
+        subst (λ (m : Room). AreUnlisted (blocks m last) (class_lists max t.links)) (sym rm) (subst (λ (ol : List (List ℕ)). AreUnlisted (blocks c.room last) ol) (sym lists) unlisted),
+        subst (λ (o : ℕ). o + padding_to align o < 2 ^ 32) (sym o_is) offset_fits,
+      )
+    where
+      all_of : (a b : ℕ) → a ≤ b → a + (b - a) ≡ b
+      all_of a b q = omega arith
+
+-- a request that is refused, or that any offset serves
+module _ (max size limit : ℕ) (c : Cells) (last count top free acc n align : ℕ) (s : IsSound max size limit c last count top free) where
+  abbrev was : View
+  was = view_of max size limit c last acc
+
+  pub left_as_it_was : (acc' f r : ℕ) → IsUnused r (view_of max size limit c last acc) → (is_short_of 2 (view_of max size limit c last acc) ≡ false → IsUnused f (view_of max size limit c last acc) × (f ≢ r)) → allocate_aligned n align f r (view_of max size limit c last acc) ≡ refused (view_of max size limit c last acc) → Aligns n align (view_of max size limit c last acc) (view_of max size limit c last acc') None
+  left_as_it_was acc' f r u a e = record {
+    front = f;
+    rest = r;
+    unused = u;
+    apart = a;
+    answer = ap (λ (o : Outcome). o.grant) (sym e);
+    view = ap (λ (o : Outcome). with_accesses acc' o.view) (sym e);
+  }
+
+  -- an unused name for a rest, and another for a front
+  record Pair : Type 0 where
+    front : ℕ
+    rest : ℕ
+    unused : IsUnused rest (view_of max size limit c last acc)
+    apart : is_short_of 2 (view_of max size limit c last acc) ≡ false → IsUnused front (view_of max size limit c last acc) × (front ≢ rest)
+
+  pair : Pair
+  pair =
+      let u = some_unused max size limit c last count top free acc s in
+      elim (cases_lt 2 count) [
+        | inl l ↦ let o = another max size limit c last count top free acc s (omega arith) u.0 in record { front = o.0; rest = u.0; unused = u.1; apart = λ _. (o.1, o.2) }
+        | inr l ↦ record { front = u.0; rest = u.0; unused = u.1; apart = λ e. absurd (true≢false (sym (no_room max size limit c last count top free acc s l) ∙ e)) }
+      ]
+
+  pub refused_full : (acc' : ℕ) → 1 < align → count ≤ 2 → Aligns n align (view_of max size limit c last acc) (view_of max size limit c last acc') None
+  refused_full acc' big l = left_as_it_was acc' pair.front pair.rest pair.unused pair.apart (aligned_short n align pair.front pair.rest was big (no_room max size limit c last count top free acc s l))
+
+  pub refused_past : (acc' : ℕ) → 1 < align → greatest < n + align - 1 → Aligns n align (view_of max size limit c last acc) (view_of max size limit c last acc') None
+  refused_past acc' big l = left_as_it_was acc' pair.front pair.rest pair.unused pair.apart (aligned_past n align pair.front pair.rest was big l)
+
+  pub refused_none : (acc' : ℕ) → 1 < align → n + align - 1 ≤ greatest → 2 < count → ((k : ℕ) → up (n + align - 1) ≤ k → k < 256 → names_at (class_lists max c.links) k ≡ []) → Aligns n align (view_of max size limit c last acc) (view_of max size limit c last acc') None
+  refused_none acc' big l room none =
+      let well = well_counted (view_of max size limit c last 0) acc s.well in
+      left_as_it_was acc' pair.front pair.rest pair.unused pair.apart (aligned_none n align pair.front pair.rest was big l (some_room max size limit c last count top free acc s room) (untaken (n + align - 1) was well none))
+
+-- an aligned request with alignment 1
+pub aligned_from : (n align : ℕ) (v w : View) (r : Option Grant) → align ≤ 1 → (is_short_of 2 v ≡ false → (z : ℕ) → (y : ℕ) × IsUnused y v × (y ≢ z)) → Allocates n v w r → Aligns n align v w r
+aligned_from n align v w r one other a = go (is_short_of 2 v) refl
+  where
+    with_front : (f : ℕ) → (is_short_of 2 v ≡ false → IsUnused f v × (f ≢ a.rest)) → Aligns n align v w r
+    with_front f k = record {
+      front = f;
+      rest = a.rest;
+      unused = a.unused;
+      apart = k;
+      view = a.view ∙ ap (λ (o : Outcome). with_accesses w.accesses o.view) (sym (aligned_one n align f a.rest v one));
+      answer = a.answer ∙ ap (λ (o : Outcome). o.grant) (sym (aligned_one n align f a.rest v one));
+    }
+
+    go : (b : Bool) → is_short_of 2 v ≡ b → Aligns n align v w r
+    go true e = with_front a.rest (λ q. absurd (true≢false (sym e ∙ q)))
+    go false e = let o = other e a.rest in with_front o.0 (λ _. (o.1, o.2))
+
+-- accesses before an aligned request change nothing else
+counted : ℕ → Outcome → Outcome
+counted k o = record { view = with_accesses k o.view; grant = o.grant }
+
+granted_counted : (k n : ℕ) (padding_at : ℕ → ℕ) (f r : ℕ) (v : View) (o : Option Place) → granted_at (with_accesses k v) n padding_at f r o ≡ counted k (granted_at v n padding_at f r o)
+unfolding counted
+granted_counted k n padding_at f r v None = refl
+granted_counted k n padding_at f r v (Some p) = refl
+
+choice_counted : (k : ℕ) (v : View) (b : Bool) (o o' : Outcome) → o ≡ counted k o' → (if b then refused (with_accesses k v) else o) ≡ counted k (if b then refused v else o')
+unfolding counted
+choice_counted k v true o o' e = refl
+choice_counted k v false o o' e = e
+
+pair_counted : (k : ℕ) (b : Bool) (o o' q q' : Outcome) → o ≡ counted k o' → q ≡ counted k q' → (if b then o else q) ≡ counted k (if b then o' else q')
+pair_counted k true o o' q q' e f = e
+pair_counted k false o o' q q' e f = f
+
+aligned_counted : (k n align f r : ℕ) (v : View) → allocate_aligned n align f r (with_accesses k v) ≡ counted k (allocate_aligned n align f r v)
+aligned_counted k n align f r v =
+    pair_counted k (nat_le align 1) _ _ _ _
+    (choice_counted k v (is_short_of 1 v) _ _ (granted_counted k n (λ o. 0) r r v (taken n v)))
+    (choice_counted k v (nat_lt greatest (n + align - 1)) _ _ (choice_counted k v (is_short_of 2 v) _ _ (granted_counted k n (padding_to align) f r v (taken (n + align - 1) v))))
+
+pub aligns_counted : (k n align : ℕ) (v w : View) (r : Option Grant) → Aligns n align (with_accesses k v) w r → Aligns n align v w r
+unfolding counted
+aligns_counted k n align v w r a = record {
+  front = a.front;
+  rest = a.rest;
+  unused = record { below = a.unused.below; absent = a.unused.absent };
+  apart = λ e. let p = a.apart e in (record { below = p.0.below; absent = p.0.absent }, p.1);
+  view = a.view ∙ ap (λ (o : Outcome). with_accesses w.accesses o.view) (aligned_counted k n align a.front a.rest v);
+  answer = a.answer ∙ ap (λ (o : Outcome). o.grant) (aligned_counted k n align a.front a.rest v);
+}

@@ -1,0 +1,248 @@
+-- What more units at the end leave of the whole allocator.
+use Rattle.std.proofs.Common.{◌≡◌, ℕ, zero, suc, ◌+◌, ◌-◌, ◌<◌, ◌≤◌, ◌^◌, Bool, true, false, not, ◌&&◌, ◌||◌, List, [], ◌∷◌, ◌++◌, length, refl, sym, ap, ap₂, subst, ◌∙◌, inl, inr, arith, slice_set, nat_lt, nat_eq, if◌then◌else◌, append_assoc}
+use Rattle.std.proofs.lemmas.Bool.{cases_eq, lt-ltb, le-ltb, true≢false, ne_eqb}
+use Rattle.std.proofs.lemmas.List.{get_or-set_same, get_or-set_other}
+use Rattle.offset_allocator.specs.Classes.{down}
+use Rattle.offset_allocator.specs.Cells.{Cells, Node, node}
+use Rattle.offset_allocator.specs.Named.{Block, View, Extension, named, names_at, listed, one, is_free, IsWellFormed, IsUnused, is_short_of, greatest, free_block, units, remove_all, put_all, put_first, remove, without, free_end, without_end, ends_used, name_or, extended, is_extendable, extend}
+use Rattle.offset_allocator.specs.Space.{IsSpace, blocks, size_in, split_block}
+use Rattle.offset_allocator.specs.Orders.{Among, IsUnlisted, class_lists, Binned}
+use Rattle.offset_allocator.specs.State.{IsSound, view_of, free_units}
+use Rattle.offset_allocator.specs.Relations.{Extends}
+use Rattle.offset_allocator.specs.Parts.{grow_last}
+use Rattle.offset_allocator.proofs.Found.{split_block-at, size_in-at}
+use Rattle.offset_allocator.proofs.Rows.{units-append, one-eq}
+use Rattle.offset_allocator.proofs.Growing.{IsLast, last_is, grow_last-at}
+use Rattle.offset_allocator.proofs.Merging.{end_free, end_used}
+use Rattle.offset_allocator.proofs.Granting.{same_view}
+use Rattle.offset_allocator.proofs.Unused.{some_unused}
+use Rattle.offset_allocator.proofs.ViewOrders.{tally_append, times_without_self}
+use Rattle.offset_allocator.proofs.ViewReplaced.{listed_named}
+use Rattle.offset_allocator.proofs.ViewTaken.{well_extended}
+use Rattle.offset_allocator.proofs.Joints.{with_accesses, among_times, times_among, unused_unlisted, well_counted, remove_free, free_units-append, free_units-free}
+
+pub ends_last : (fs : List Block) (b : Block) → ends_used (fs ++ b ∷ []) ≡ b.used
+ends_last [] b = refl
+ends_last (f ∷ []) b = refl
+ends_last (f ∷ g ∷ fs) b = ends_last (g ∷ fs) b
+
+-- the cases of an extension
+pub extended_is : (more x : ℕ) (v : View) → 0 < more → is_extendable more v ≡ true → extend more x v ≡ record { view = extended more x v; done = true }
+extended_is zero x v l e = absurd (omega arith)
+extended_is (suc more) x v l e = ap (λ (b : Bool). if b then record { view = extended (suc more) x v; done = true } else record { view = v; done = false }) e
+
+pub unextended_is : (more x : ℕ) (v : View) → 0 < more → is_extendable more v ≡ false → extend more x v ≡ record { view = v; done = false }
+unextended_is zero x v l e = absurd (omega arith)
+unextended_is (suc more) x v l e = ap (λ (b : Bool). if b then record { view = extended (suc more) x v; done = true } else record { view = v; done = false }) e
+
+extendable_if : (a b c : Bool) → a ≡ false → (b ≡ true → c ≡ false) → not (a || (b && c)) ≡ true
+extendable_if true b c e f = absurd (true≢false e)
+extendable_if false true c e f = ap not (f refl)
+extendable_if false false c e f = refl
+
+past_if : (a b : Bool) → a ≡ true → not (a || b) ≡ false
+past_if true b e = refl
+past_if false b e = absurd (true≢false (sym e))
+
+full_if : (a b c : Bool) → b ≡ true → c ≡ true → not (a || (b && c)) ≡ false
+full_if true b c e f = refl
+full_if false true true e f = refl
+full_if false true false e f = absurd (true≢false (sym f))
+full_if false false c e f = absurd (true≢false (sym e))
+
+free_most : (l : List Block) → free_units l ≤ units l
+free_most [] = omega arith
+free_most (b ∷ l) = let ih = free_most l in elim b.used as (λ u. (if u then 0 else b.size) + free_units l ≤ b.size + units l) [ true ↦ omega arith | false ↦ omega arith ]
+
+module _ (max size limit : ℕ) (c : Cells) (last count top free acc more : ℕ) (s : IsSound max size limit c last count top free) where
+  abbrev v : View
+  v = view_of max size limit c last acc
+
+  abbrev bs : List Block
+  bs = blocks c.room last
+
+  abbrev ls : List (List ℕ)
+  ls = class_lists max c.links
+
+  w : IsWellFormed v
+  w = well_counted (view_of max size limit c last 0) acc s.well
+
+  pub end : IsLast c.room last
+  end = last_is c.room last count s.space
+
+  abbrev fs : List Block
+  fs = end.front
+
+  abbrev b : Block
+  b = end.block
+
+  pub size_at_end : (node c.room last).size ≡ end.block.size
+  size_at_end = ap (λ (n : Node). n.size) end.at
+
+  pub used_at_end : (node c.room last).used ≡ ends_used (blocks c.room last)
+  used_at_end = ap (λ (n : Node). n.used) end.at ∙ sym (ap ends_used end.is ∙ ends_last fs b)
+
+  pub size_in_end : size_in last (blocks c.room last) ≡ end.block.size
+  size_in_end = ap (size_in last) end.is ∙ ap (λ i. size_in i (fs ++ b ∷ [])) (sym end.name) ∙ size_in-at fs b [] end.alone
+
+  pub left_as_it_was : (acc' : ℕ) → 0 < more → is_extendable more (view_of max size limit c last acc) ≡ false → Extends more (view_of max size limit c last acc) (view_of max size limit c last acc') false
+  left_as_it_was acc' pos e =
+      let u = some_unused max size limit c last count top free acc s in
+      let is = unextended_is more u.0 v pos e in
+      record { name = u.0; unused = u.1; view = ap (λ (x : Extension). with_accesses acc' x.view) (sym is); answer = ap (λ (x : Extension). x.done) (sym is) }
+
+  pub past : (acc' : ℕ) → 0 < more → greatest < size + more → Extends more (view_of max size limit c last acc) (view_of max size limit c last acc') false
+  past acc' pos l = left_as_it_was acc' pos (past_if (nat_lt greatest (size + more)) (ends_used bs && is_short_of 1 v) (lt-ltb greatest (size + more) l))
+
+  pub full : (acc' : ℕ) → 0 < more → ends_used (blocks c.room last) ≡ true → is_short_of 1 (view_of max size limit c last acc) ≡ true → Extends more (view_of max size limit c last acc) (view_of max size limit c last acc') false
+  full acc' pos u f = left_as_it_was acc' pos (full_if (nat_lt greatest (size + more)) (ends_used bs) (is_short_of 1 v) u f)
+
+  module _ (pos : 0 < more) (fits : size + more ≤ 4294967295) where
+    pub units_fit : units (blocks c.room last) + more < 2 ^ 32
+    units_fit = let e = s.well.whole in omega arith
+
+    pub free_fits : free + more < 2 ^ 32
+    free_fits = let t = s.total in let m = free_most bs in let f = units_fit in omega arith
+
+    concluded : (d : Cells) (last' count' top' acc' x : ℕ) → IsUnused x v → is_extendable more v ≡ true → IsSpace d.room last' count' → Binned max d.links top' → length d.room.nodes ≡ length c.room.nodes
+        → blocks d.room last' ≡ (extended more x v).blocks → class_lists max d.links ≡ (extended more x v).order → free_units (blocks d.room last') ≡ free + more
+        → IsSound max (size + more) limit d last' count' top' (free + more) × Extends more v (view_of max (size + more) limit d last' acc') true
+    concluded d last' count' top' acc' x u e space bins nodes eb eo total =
+        let is = extended_is more x v pos e in
+        let left : (k : ℕ) → view_of max (size + more) limit d last' k ≡ with_accesses k (extended more x v) = λ k. same_view (extended more x v) _ _ _ _ k eb eo in (
+          record {
+            nodes = nodes ∙ s.nodes;
+            least = s.least;
+            space = space;
+            bins = bins;
+            well = subst IsWellFormed (sym (left 0)) (well_counted (extended more x v) 0 (well_extended v w more x u e));
+            total = total;
+          },
+          record { name = x; unused = u; view = left acc' ∙ ap (λ (y : Extension). with_accesses acc' y.view) (sym is); answer = ap (λ (y : Extension). y.done) (sym is) },
+        )
+
+    -- behind a used block
+    module _ (used : ends_used (blocks c.room last) ≡ true) where
+      b_used : b.used ≡ true
+      b_used = sym (ends_last fs b) ∙ ap ends_used (sym end.is) ∙ used
+
+      pub split_is : (y n : ℕ) → n ≡ (node c.room last).size → split_block last n y (blocks c.room last) ≡ blocks c.room last ++ free_block y 0 ∷ []
+      split_is y n e =
+          let n_is : n ≡ b.size = e ∙ size_at_end in
+          let none : b.size - b.size ≡ 0 = omega arith in
+          ap (split_block last n y) end.is ∙ ap₂ (λ i k. split_block i k y (fs ++ b ∷ [])) (sym end.name) n_is ∙ split_block-at fs b [] b.size y end.alone ∙ ap (λ (k : ℕ). fs ++ b ∷ free_block y k ∷ []) none
+          ∙ sym (append_assoc fs (b ∷ []) (free_block y 0 ∷ [])) ∙ ap (λ (l : List Block). l ++ free_block y 0 ∷ []) (sym end.is)
+
+      pub split_fits : (y n : ℕ) → n ≡ (node c.room last).size → units (split_block last n y (blocks c.room last)) + more < 2 ^ 32
+      split_fits y n e = let a = ap units (split_is y n e) in let p = units-append bs (free_block y 0 ∷ []) in let f = units_fit in omega arith
+
+      pub appended : (room : is_short_of 1 (view_of max size limit c last acc) ≡ false) (d : Cells) (last' count' top' acc' y n : ℕ) → n ≡ (node c.room last).size → IsSpace d.room last' count' → Binned max d.links top' → length d.room.nodes ≡ length c.room.nodes
+          → blocks d.room last' ≡ grow_last more (split_block last n y (blocks c.room last)) → class_lists max d.links ≡ put_first (down more) y (class_lists max c.links) → named y (blocks c.room last) ≡ 0 → y < length c.room.nodes
+          → IsSound max (size + more) limit d last' count' top' (free + more) × Extends more (view_of max size limit c last acc) (view_of max (size + more) limit d last' acc') true
+      appended room d last' count' top' acc' y n e space bins nodes eb eo new below =
+          let ends = end_used fs b b_used in
+          let gone : free_end bs ≡ [] = ap free_end end.is ∙ ends.0 in
+          let kept : without_end bs ≡ bs = ap without_end end.is ∙ ends.1 ∙ sym end.is in
+          let sum : 0 + more ≡ more = omega arith in
+          let after_is : blocks d.room last' ≡ bs ++ free_block y (0 + more) ∷ [] = eb ∙ ap (grow_last more) (split_is y n e) ∙ grow_last-at more bs (free_block y 0) in
+          let blocks_are : blocks d.room last' ≡ (extended more y v).blocks = after_is ∙ ap₂ (λ (l g : List Block). l ++ (free_block (name_or y g) (units g + more) ∷ [])) (sym kept) (sym gone) in
+          let order_is : class_lists max d.links ≡ (extended more y v).order = eo ∙ ap (λ (k : ℕ). put_first (down k) y ls) (sym sum) ∙ ap (λ (g : List Block). put_all (free_block (name_or y g) (units g + more) ∷ []) (remove_all g ls)) (sym gone) in
+          let total : free_units (blocks d.room last') ≡ free + more = ap free_units after_is ∙ free_units-append bs (free_block y (0 + more) ∷ []) ∙ (let t = s.total in let k = free_units-free (free_block y (0 + more)) [] refl in omega arith) in
+          concluded d last' count' top' acc' y (record { below = let m = s.nodes in omega arith; absent = new })
+          (extendable_if (nat_lt greatest (size + more)) (ends_used bs) (is_short_of 1 v) (le-ltb greatest (size + more) fits) (λ _. room))
+          space bins nodes blocks_are order_is total
+
+      pub append_unlisted : (y : ℕ) → named y (blocks c.room last) ≡ 0 → IsUnlisted y (class_lists max c.links)
+      append_unlisted y e = unused_unlisted v w y e
+
+    -- a free block
+    module _ (idle : ends_used (blocks c.room last) ≡ false) where
+      b_free : b.used ≡ false
+      b_free = sym (ends_last fs b) ∙ ap ends_used (sym end.is) ∙ idle
+
+      share : (k : ℕ) → listed k last bs ≡ one (nat_eq k (down b.size))
+      share k =
+          let a = ap (listed k last) end.is in
+          let t = tally_append (λ (d : Block). one (is_free d && (nat_eq k (down d.size) && nat_eq last d.name))) fs (b ∷ []) in
+          let z = listed_named k last fs in
+          let q : named last fs ≡ 0 = ap (λ i. named i fs) (sym end.name) ∙ end.alone in
+          let own : one (is_free b && (nat_eq k (down b.size) && nat_eq last b.name)) ≡ one (nat_eq k (down b.size)) = ap (λ (u : Bool). one (not u && (nat_eq k (down b.size) && nat_eq last b.name))) b_free ∙ one_and (nat_eq k (down b.size)) (nat_eq last b.name) (one-eq last b.name end.name) in
+          omega arith
+        where
+          one_and : (p q : Bool) → one q ≡ 1 → one (p && q) ≡ one p
+          one_and true q e = e
+          one_and false q e = refl
+
+      pub widen_listed : (k : ℕ) → k ≡ down (node c.room last).size → Among last (names_at (class_lists max c.links) k)
+      widen_listed k e =
+          let q : k ≡ down b.size = e ∙ ap down size_at_end in
+          let o = one-eq k (down b.size) (sym q) in
+          times_among last (names_at ls k) (let f = w.orders k last in let t = share k in omega arith)
+
+      pub widen_unlisted : (k : ℕ) → k < 256 → k ≡ down (node c.room last).size → IsUnlisted last (slice_set (class_lists max c.links) k (without last (names_at (class_lists max c.links) k)))
+      widen_unlisted k small e d dh a =
+          let q : k ≡ down b.size = e ∙ ap down size_at_end in
+          let long = w.classes in
+          elim (cases_eq d k) [
+            | inl same ↦ let l : k < length ls = omega arith in
+                let r = ap (λ i. names_at (slice_set ls k (without last (names_at ls k))) i) same ∙ get_or-set_same ls k (without last (names_at ls k)) [] l in
+                let t = among_times last _ (subst (λ (z : List ℕ). Among last z) r a) in
+                let n = times_without_self last (names_at ls k) in omega arith
+            | inr ne ↦
+                let r = get_or-set_other ls k d (without last (names_at ls k)) [] ne in
+                let t = among_times last _ (subst (λ (z : List ℕ). Among last z) r a) in
+                let f = w.orders d last in
+                let h = share d in
+                let o : one (nat_eq d (down b.size)) ≡ 0 = ap one (ne_eqb d (down b.size) (λ z. ne (z ∙ sym q))) in
+                omega arith
+          ]
+
+      pub widened : (d : Cells) (count' top' acc' k n : ℕ) → n ≡ (node c.room last).size → k ≡ down (node c.room last).size → IsSpace d.room last count' → Binned max d.links top' → length d.room.nodes ≡ length c.room.nodes
+          → blocks d.room last ≡ grow_last more (blocks c.room last) → class_lists max d.links ≡ put_first (down (n + more)) last (slice_set (class_lists max c.links) k (without last (names_at (class_lists max c.links) k)))
+          → IsSound max (size + more) limit d last count' top' (free + more) × Extends more (view_of max size limit c last acc) (view_of max (size + more) limit d last acc') true
+      widened d count' top' acc' k n ne ke space bins nodes eb eo =
+          let ends = end_free fs b b_free in
+          let gone : free_end bs ≡ b ∷ [] = ap free_end end.is ∙ ends.0 in
+          let kept : without_end bs ≡ fs = ap without_end end.is ∙ ends.1 in
+          let u = some_unused max size limit c last count top free acc s in
+          let size_is : n + more ≡ (b.size + 0) + more = let q = ne ∙ size_at_end in omega arith in
+          let sum : b.size + more ≡ (b.size + 0) + more = omega arith in
+          let after_is : blocks d.room last ≡ fs ++ record b { size = b.size + more } ∷ [] = eb ∙ ap (grow_last more) end.is ∙ grow_last-at more fs b in
+          let same : record b { size = b.size + more } ≡ free_block b.name ((b.size + 0) + more) = ap₂ (λ (k : ℕ) (q : Bool). let t : Block = record { name = b.name; size = k; used = q } in t) sum b_free in
+          let blocks_are : blocks d.room last ≡ (extended more u.0 v).blocks = after_is ∙ ap (λ (t : Block). fs ++ t ∷ []) same ∙ ap₂ (λ (l g : List Block). l ++ (free_block (name_or u.0 g) (units g + more) ∷ [])) (sym kept) (sym gone) in
+          let removed : slice_set ls k (without last (names_at ls k)) ≡ remove_all (b ∷ []) ls = sym (remove_free b ls b_free ∙ ap₂ (λ i y. remove i y ls) (sym (ke ∙ ap down size_at_end)) end.name) in
+          let order_is : class_lists max d.links ≡ (extended more u.0 v).order = eo ∙ ap₂ (λ (m : ℕ) (o : List (List ℕ)). put_first (down m) last o) size_is removed ∙ ap (λ i. put_first (down ((b.size + 0) + more)) i (remove_all (b ∷ []) ls)) (sym end.name)
+          ∙ ap (λ (g : List Block). put_all (free_block (name_or u.0 g) (units g + more) ∷ []) (remove_all g ls)) (sym gone) in
+          let had : free ≡ free_units fs + b.size = sym s.total ∙ ap free_units end.is ∙ free_units-append fs (b ∷ []) ∙ (let q = free_units-free b [] b_free in omega arith) in
+          let total : free_units (blocks d.room last) ≡ free + more = ap free_units after_is ∙ free_units-append fs (record b { size = b.size + more } ∷ []) ∙ (let q = free_units-free (record b { size = b.size + more }) [] b_free in omega arith) in
+          concluded d last count' top' acc' u.0 u.1
+          (extendable_if (nat_lt greatest (size + more)) (ends_used bs) (is_short_of 1 v) (le-ltb greatest (size + more) fits) (λ t. absurd (true≢false (sym t ∙ idle))))
+          space bins nodes blocks_are order_is total
+
+-- nothing more
+pub extends_nothing : (more : ℕ) (v : View) (y : ℕ) → IsUnused y v → more ≡ 0 → Extends more v v true
+extends_nothing zero v y u e = record { name = y; unused = u; view = refl; answer = refl }
+extends_nothing (suc more) v y u e = absurd (omega arith)
+
+-- accesses before an extension change nothing else
+counted : ℕ → Extension → Extension
+counted k e = record { view = with_accesses k e.view; done = e.done }
+
+choice_counted : (k : ℕ) (b : Bool) (p q p' q' : Extension) → p ≡ counted k p' → q ≡ counted k q' → (if b then p else q) ≡ counted k (if b then p' else q')
+choice_counted k true p q p' q' e f = e
+choice_counted k false p q p' q' e f = f
+
+extend_counted : (k more x : ℕ) (u : View) → extend more x (with_accesses k u) ≡ counted k (extend more x u)
+unfolding counted
+extend_counted k zero x u = refl
+extend_counted k (suc more) x u =
+    choice_counted k (is_extendable (suc more) u) (record { view = extended (suc more) x (with_accesses k u); done = true }) (record { view = with_accesses k u; done = false }) (record { view = extended (suc more) x u; done = true }) (record { view = u; done = false }) refl refl
+
+pub extends_counted : (k more : ℕ) (u w : View) (done : Bool) → Extends more (with_accesses k u) w done → Extends more u w done
+unfolding counted
+extends_counted k more u w done a = record {
+  name = a.name;
+  unused = record { below = a.unused.below; absent = a.unused.absent };
+  view = a.view ∙ ap (λ (e : Extension). with_accesses w.accesses e.view) (extend_counted k more a.name u);
+  answer = a.answer ∙ ap (λ (e : Extension). e.done) (extend_counted k more a.name u);
+}

@@ -1,0 +1,15 @@
+use Rattle.std.proofs.Common.{◌≡◌, ◌+◌, length}
+use Rattle.offset_allocator.specs.Named.{names_at}
+use Rattle.offset_allocator.specs.Orders.{class_lists}
+use Rattle.offset_allocator.proofs.Lengths.{names_from, IsTail}
+use Rattle.offset_allocator.proofs.bins.length_of.Given as goal
+
+abbrev pub invariant-loop-name : goal.invariant-loop-name
+invariant-loop-name g l = record {
+  tail : IsTail g.NI.NodeIndex.MAX l.t.links.newer l.t.links.older l.name;
+  counted : l.names + length (names_from g.NI.NodeIndex.MAX l.t.links.older l.name) ≡ length (names_at (class_lists g.NI.NodeIndex.MAX l.t.links) l.class);
+  accesses : l.count ≡ l.fn.count + 1 + l.names;
+}
+
+abbrev pub decreases-loop-name : goal.decreases-loop-name
+decreases-loop-name g l = length (names_from g.NI.NodeIndex.MAX l.t.links.older l.name)

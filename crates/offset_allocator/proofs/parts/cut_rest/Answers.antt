@@ -1,0 +1,11 @@
+use Rattle.std.proofs.Common.{arith, ◌≤◌}
+use Rattle.offset_allocator.proofs.Sizes.{down_small}
+use Rattle.offset_allocator.proofs.Spot.{here_fits}
+use Rattle.offset_allocator.proofs.parts.cut_rest.Goals as goal
+
+pub put_first-requires-clause-classed : goal.put_first-requires-clause-classed
+put_first-requires-clause-classed g c =
+    let s = down_small c.args.left in omega (arith, s, c.uint_to_float_round_down.ensures.is)
+
+pub overflow_add-n : goal.overflow_add-n
+overflow_add-n g c = omega (arith, c.requires.whole, here_fits _ _ _ _ c.requires.space c.requires.standing)

@@ -1,0 +1,11 @@
+-- The state that a space starts from.
+use Rattle.std.specs.Prelude.{◌≡◌, ℕ, ◌-◌, [], ◌∷◌, replicate}
+use Rattle.offset_allocator.specs.Classes.{down}
+use Rattle.offset_allocator.specs.Cells.{Cells}
+use Rattle.offset_allocator.specs.Named.{free_block, put_first}
+use Rattle.offset_allocator.specs.State.{IsSound, view_of}
+
+-- the tables hold one free block of size units, under the name 0, and all other names are spare
+pub record IsStarted (max size limit : ℕ) (c : Cells) (top : ℕ) : Type 0 where
+  pub sound : IsSound max size limit c 0 (limit - 1) top size
+  pub view : view_of max size limit c 0 0 ≡ record { size = size; max_allocs = limit; blocks = free_block 0 size ∷ []; order = put_first (down size) 0 (replicate 256 []); accesses = 0 }

@@ -1,0 +1,80 @@
+// The calls that leave an allocator as it is, with a count of their accesses, and the law that a grant can be undone.
+ghost use Rattle.std.specs.Prelude.{◌≡◌, ◌≤◌, ◌+◌, ◌*◌, ◌↔◌, IsTrue, length};
+ghost use Rattle.offset_allocator.specs.Named.{size_at, place_of, free_sizes};
+ghost use Rattle.offset_allocator.specs.Relations.{IsLive, IsBut, IsUndone};
+ghost use Rattle.offset_allocator.specs.Told.{IsReport, IsFullReport, IsGranted};
+
+use crate::Allocator;
+use crate::accesses::Accesses;
+use crate::handle::Allocation;
+use crate::index::NodeIndex;
+use crate::reports::{StorageReport, StorageReportFull};
+
+/// As `Allocator::is_live`. The count grows by at most 8.
+pub fn is_live_counted<NI: NodeIndex>(
+    allocator: &Allocator<NI>,
+    allocation: Allocation<NI>,
+    count: &mut Accesses,
+) -> bool
+    ensures live { IsTrue result ↔ IsLive allocation.name allocator.now }
+    ensures grows { count.old ≤ count.new }
+    ensures count { count.new ≤ count.old + 8 }
+{
+    allocator.is_live_counted(allocation, count)
+}
+
+/// As `Allocator::allocation_size`. The count grows by at most 8.
+pub fn allocation_size_counted<NI: NodeIndex>(
+    allocator: &Allocator<NI>,
+    allocation: Allocation<NI>,
+    count: &mut Accesses,
+) -> u32
+    ensures size { result ≡ size_at (place_of allocation.name allocator.now.blocks) }
+    ensures grows { count.old ≤ count.new }
+    ensures count { count.new ≤ count.old + 8 }
+{
+    allocator.allocation_size_counted(allocation, count)
+}
+
+/// As `Allocator::storage_report`. The count grows by at most 8.
+pub fn storage_report_counted<NI: NodeIndex>(
+    allocator: &Allocator<NI>,
+    count: &mut Accesses,
+) -> StorageReport
+    ensures report { IsReport result allocator.now }
+    ensures grows { count.old ≤ count.new }
+    ensures count { count.new ≤ count.old + 8 }
+{
+    allocator.storage_report_counted(count)
+}
+
+/// As `Allocator::storage_report_full`. The count grows by at most 512, and 2 for each free block.
+pub fn storage_report_full_counted<NI: NodeIndex>(
+    allocator: &Allocator<NI>,
+    count: &mut Accesses,
+) -> StorageReportFull
+    ensures report { IsFullReport result allocator.now }
+    ensures grows { count.old ≤ count.new }
+    ensures count { count.new ≤ count.old + 512 + 2 * length (free_sizes allocator.now.blocks) }
+{
+    allocator.storage_report_full_counted(count)
+}
+
+/// Grants a request for `n` units and gives the grant back at once. The blocks, their names and the class lists are
+/// then as they were. It is `false` where the request was refused.
+///
+/// The contract says this of each grant that a request for `n` can be given here, whichever unused name its rest takes.
+pub fn undo<NI: NodeIndex>(allocator: &mut Allocator<NI>, n: u32) -> bool
+    ensures undone { IsUndone n allocator.old }
+    ensures same { IsBut allocator.old allocator.new }
+    ensures granted { IsTrue result ↔ IsGranted n allocator.old }
+{
+    allocator.formed();
+    match allocator.allocate(n) {
+        None => false,
+        Some(allocation) => {
+            allocator.free(allocation);
+            true
+        }
+    }
+}
