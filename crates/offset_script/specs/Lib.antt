@@ -1,3 +1,4 @@
+pub mod Agreement
 pub mod Answers
 pub mod Blocks
 pub mod Devices
@@ -7,4 +8,5 @@ pub mod Limits
 pub mod Machine
 pub mod Playing
 pub mod Running
+pub mod Serving
 pub mod Spelling

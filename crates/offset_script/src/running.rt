@@ -53,6 +53,7 @@ fn send<K: Sink>(output: &mut K, text: &[u8]) -> bool
 }
 
 // The answers to a script, by an allocator of its index width.
+#[tactic(auto, unfolding(crate::specs::Playing::IsPlayed))]
 fn answers(alloc: Global, script: &Script) -> Result<Vec<Answer>, AllocError>
     ensures { IfOk result
         (λ v. IsPlayed script.now.size script.now.max_allocs script.now.commands.items (all_seen v.items)) }

@@ -2,10 +2,39 @@
 #![tactic(auto)]
 
 #[cfg(test)]
+mod adapters;
+#[cfg(test)]
 mod classes;
+#[cfg(test)]
+mod faults;
+#[cfg(test)]
+mod fronts;
+#[cfg(test)]
+mod fronts_with_answers;
 #[cfg(test)]
 mod grants;
 #[cfg(test)]
+mod headers;
+#[cfg(test)]
+mod lengths;
+#[cfg(test)]
+mod lines;
+#[cfg(test)]
+mod parsing;
+#[cfg(test)]
+mod reads;
+#[cfg(test)]
+mod releases;
+#[cfg(test)]
+mod rows;
+#[cfg(test)]
 mod steps;
 #[cfg(test)]
+mod support;
+#[cfg(test)]
 mod tiny;
+pub mod uses;
+#[cfg(test)]
+mod writes;
+#[cfg(test)]
+mod writes_of_answers;

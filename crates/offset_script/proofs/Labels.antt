@@ -1,0 +1,169 @@
+-- Blocks with both their names and their tags.
+use Rattle.std.proofs.Common.{◌≡◌, ℕ, zero, suc, ◌+◌, ◌<◌, ◌≤◌, Bool, true, false, not, ◌&&◌, ◌⊎◌, List, [], ◌∷◌, ◌++◌, map, nat_eq, if◌then◌else◌, refl, sym, ap, ap₂, subst, ◌∙◌, inl, inr, arith, eq-eqb, ne_eqb, append_assoc}
+use Rattle.std.proofs.lemmas.Bool.{cases_lt, true≢false, false≢true}
+use Rattle.offset_allocator.specs.Classes.{down}
+use Rattle.offset_script.specs.Blocks.{Tag, Live, Free, is_free, has_number, stamp}
+use Rattle.offset_script.specs.Blocks as plain
+use Rattle.offset_allocator.specs.Named.{Block, View, one, times, named, listed, names_at, put_all, remove_all, IsWellFormed, IsUnused}
+use Rattle.offset_script.specs.Agreement.{Label, by_name, by_tag, stamp_of, IsFalling}
+use Rattle.offset_script.proofs.Well.{count, hit}
+use Rattle.offset_allocator.proofs.ViewOrders.{tally_append, hit_cases, length_remove_all}
+use Rattle.offset_script.proofs.Falling.{falling_remove_all, falling_same, falling_put_all, IsRising}
+use Rattle.offset_allocator.proofs.ViewReplaced.{tally_three, listed_named, orders_replaced}
+
+-- the blocks by name
+abbrev pub names : List Label → List Block
+names ls = map by_name ls
+
+-- the blocks by tag
+abbrev pub tags : List Label → List plain.Block
+tags ls = map by_tag ls
+
+-- a map over two lists
+pub map_both : {A B : Type 0} (f : A → B) (xs ys : List A) → map f (xs ++ ys) ≡ map f xs ++ map f ys
+map_both f [] ys = refl
+map_both f (x ∷ xs) ys = ap (λ l. f x ∷ l) (map_both f xs ys)
+
+-- a map over three lists
+pub map_three : {A B : Type 0} (f : A → B) (xs ys zs : List A) → map f (xs ++ (ys ++ zs)) ≡ map f xs ++ (map f ys ++ map f zs)
+map_three f xs ys zs = map_both f xs (ys ++ zs) ∙ ap (λ l. map f xs ++ l) (map_both f ys zs)
+
+-- a mapped list that is parted was parted before
+pub map_split : {A B : Type 0} (f : A → B) (ls : List A) (before : List B) (b : B) (after : List B) → map f ls ≡ before ++ b ∷ after
+    → (xs : List A) × (x : A) × (ys : List A) × (ls ≡ xs ++ x ∷ ys) × (map f xs ≡ before) × (f x ≡ b) × (map f ys ≡ after)
+map_split f [] [] b after e = absurd (cc)
+map_split f [] (c ∷ before) b after e = absurd (cc)
+map_split f (l ∷ ls) [] b after e = ([], l, ls, refl, refl, (cc), (cc))
+map_split {A = A} {B = B} f (l ∷ ls) (c ∷ before) b after e =
+    more (map_split f ls before b after (cc)) (cc)
+  where
+    more : ((xs : List A) × (x : A) × (ys : List A) × (ls ≡ xs ++ x ∷ ys) × (map f xs ≡ before) × (f x ≡ b) × (map f ys ≡ after)) → f l ≡ c
+        → (xs : List A) × (x : A) × (ys : List A) × (l ∷ ls ≡ xs ++ x ∷ ys) × (map f xs ≡ c ∷ before) × (f x ≡ b) × (map f ys ≡ after)
+    more r head = (l ∷ r.0, r.1, r.2, ap (λ z. l ∷ z) r.3, ap₂ (λ x xs. x ∷ xs) head r.4, r.5, r.6)
+
+-- stamps
+pub stamp_none : (x : ℕ) (ls : List Label) → named x (names ls) ≡ 0 → stamp_of x ls ≡ 0
+stamp_none x [] e = refl
+stamp_none x (l ∷ ls) e = elim (hit_cases x l.name) [
+  | inl i ↦ absurd (let k = i.1 in omega arith)
+  | inr i ↦ let ih = stamp_none x ls (omega arith) in rw (ne_eqb x l.name i.0) (omega arith)
+]
+
+-- f gives the stamp of each of these labels
+abbrev pub GivesStamps : (ℕ → ℕ) → List Label → Type 0
+GivesStamps f [] = Unit {0}
+GivesStamps f (l ∷ ls) = (f l.name ≡ stamp l.tag) × GivesStamps f ls
+
+-- what gives the stamps of two lists gives those of each
+pub gives_parts : (f : ℕ → ℕ) (xs ys : List Label) → GivesStamps f (xs ++ ys) → GivesStamps f xs × GivesStamps f ys
+gives_parts f [] ys g = (tt, g)
+gives_parts f (x ∷ xs) ys g = let r = gives_parts f xs ys g.1 in ((g.0, r.0), r.1)
+
+stamp_append : (x : ℕ) (xs ys : List Label) → stamp_of x (xs ++ ys) ≡ stamp_of x xs + stamp_of x ys
+stamp_append x xs ys = tally_append (λ (l : Label). if nat_eq x l.name then stamp l.tag else 0) xs ys
+
+named_append : (x : ℕ) (xs ys : List Label) → named x (names (xs ++ ys)) ≡ named x (names xs) + named x (names ys)
+named_append x xs ys = ap (named x) (map_both by_name xs ys) ∙ tally_append (λ (b : Block). one (nat_eq x b.name)) (names xs) (names ys)
+
+stamp_at : (before : List Label) (l : Label) (after : List Label) → named l.name (names (before ++ l ∷ after)) ≤ 1 → stamp_of l.name (before ++ l ∷ after) ≡ stamp l.tag
+stamp_at before l after most = elim (hit_cases l.name l.name) [
+  | inl i ↦
+      let k = i.1 in
+      let n = named_append l.name before (l ∷ after) in
+      let a = stamp_none l.name before (omega arith) in
+      let b = stamp_none l.name after (omega arith) in
+      let s = stamp_append l.name before (l ∷ after) in
+      s ∙ rw (eq-eqb l.name l.name refl) (omega arith)
+  | inr i ↦ absurd (i.0 refl)
+]
+
+gives_from : (before ls : List Label) → ((x : ℕ) → named x (names (before ++ ls)) ≤ 1) → GivesStamps (λ x. stamp_of x (before ++ ls)) ls
+gives_from before [] most = tt
+gives_from before (l ∷ ls) most =
+    let same : (before ++ l ∷ []) ++ ls ≡ before ++ l ∷ ls = simp append_assoc in
+    (stamp_at before l ls (most l.name), subst (λ all. GivesStamps (λ x. stamp_of x all) ls) same (gives_from (before ++ l ∷ []) ls (λ x. subst (λ all. named x (names all) ≤ 1) (sym same) (most x))))
+
+-- where names stand once, the stamp of a name is that of its block
+pub gives_all : (ls : List Label) → ((x : ℕ) → named x (names ls) ≤ 1) → GivesStamps (λ x. stamp_of x ls) ls
+gives_all ls most = gives_from [] ls most
+
+-- every stamp is below t
+some_or_none : (n : ℕ) → (n ≡ 0) ⊎ (1 ≤ n)
+some_or_none zero = inl refl
+some_or_none (suc n) = inr (omega arith)
+
+stamp_or_zero : (t : Tag) → (stamp t ≡ 0) ⊎ ((s : ℕ) × (t ≡ Free s))
+stamp_or_zero (Live k) = inl refl
+stamp_or_zero (Free s) = inr (s, refl)
+
+hit_self : (s : ℕ) → hit (Free s) (Free s) ≡ 1
+hit_self s = ap (λ (b : Bool). elim b [ true ↦ 1 | false ↦ 0 ]) (eq-eqb s s refl)
+
+pub stamps_below : (t : ℕ) (ls : List Label) → ((x : ℕ) → named x (names ls) ≤ 1) → ((x : ℕ) → t ≤ x → count (Free x) (tags ls) ≡ 0) → 1 ≤ t → (x : ℕ) → stamp_of x ls < t
+stamps_below t [] most low pos x = omega arith
+stamps_below t (l ∷ ls) most low pos x = elim (hit_cases x l.name) [
+  | inl i ↦
+      let k = i.1 in
+      let m = most x in
+      let z = stamp_none x ls (omega arith) in
+      rw (eq-eqb x l.name i.0) (elim (stamp_or_zero l.tag) [
+        | inl e ↦ omega arith
+        | inr r ↦ let e = ap stamp r.1 in elim (cases_lt r.0 t) [ inl b ↦ omega arith | inr b ↦ absurd (let c = low r.0 b in let h = ap (hit (Free r.0)) r.1 in let s = hit_self r.0 in omega arith) ]
+      ])
+  | inr i ↦ let k = i.1 in let ih = stamps_below t ls (λ y. let m = most y in omega arith) (λ y b. let c = low y b in omega arith) pos x in rw (ne_eqb x l.name i.0) (omega arith)
+]
+
+-- the stamps of free blocks that are put in rise from t on
+abbrev pub Rises : ℕ → List Label → Type 0
+Rises t [] = Unit {0}
+Rises t (l ∷ ls) = (is_free l.tag ≡ false → Rises t ls) × (is_free l.tag ≡ true → (t ≤ stamp l.tag) × Rises (stamp l.tag + 1) ls)
+
+not_true : (b : Bool) → not b ≡ true → b ≡ false
+not_true true e = absurd (false≢true e)
+not_true false e = refl
+
+not_false : (b : Bool) → not b ≡ false → b ≡ true
+not_false true e = refl
+not_false false e = absurd (true≢false e)
+
+rises_named : (f : ℕ → ℕ) (t : ℕ) (ls : List Label) → GivesStamps f ls → Rises t ls → IsRising f t (names ls)
+rises_named f t [] g r = tt
+rises_named f t (l ∷ ls) g r = (
+  λ e. rises_named f t ls g.1 (r.0 (not_true _ e)),
+  λ e. let r' = r.1 (not_false _ e) in (omega (arith, g.0, r'.0), subst (λ n. IsRising f (n + 1) (names ls)) (sym g.0) (rises_named f (stamp l.tag + 1) ls g.1 r'.1)),
+)
+
+-- new blocks in place of old ones, where the new stamps are above the old
+pub newest_replaced : (v : View) (before old new after : List Label) → IsWellFormed v → v.blocks ≡ names (before ++ (old ++ after)) → ((x : ℕ) → named x (names (before ++ (new ++ after))) ≤ 1)
+    → ((x : ℕ) → 1 ≤ named x (names new) → (1 ≤ named x (names old)) ⊎ IsUnused x v) → (t : ℕ) → ((x : ℕ) → stamp_of x (before ++ (old ++ after)) < t) → Rises t new
+    → ((c : ℕ) → IsFalling (λ x. stamp_of x (before ++ (old ++ after))) (names_at v.order c))
+    → (c : ℕ) → IsFalling (λ x. stamp_of x (before ++ (new ++ after))) (names_at (put_all (names new) (remove_all (names old) v.order)) c)
+newest_replaced v before old new after w e distinct origin t low rises newest = falling_put_all f' t (names new) (remove_all (names old) v.order) (length_remove_all (names old) v.order ∙ w.classes)
+    (λ d. falling_same f f' _ (same d) (falling_remove_all f (names old) v.order w.classes newest d))
+    (λ d y m. let s = same d y m in let l = low y in omega arith)
+    (rises_named f' t new (gives_parts f' new after (gives_parts f' before (new ++ after) (gives_all _ distinct)).1).0 rises)
+  where
+    f : ℕ → ℕ
+    f x = stamp_of x (before ++ (old ++ after))
+
+    f' : ℕ → ℕ
+    f' x = stamp_of x (before ++ (new ++ after))
+
+    parted : v.blocks ≡ names before ++ (names old ++ names after)
+    parted = e ∙ map_three by_name before old after
+
+    same : (d y : ℕ) → 1 ≤ times y (names_at (remove_all (names old) v.order) d) → f y ≡ f' y
+    same d y m =
+        let r = orders_replaced v (names before) (names old) [] (names after) w parted d y in
+        let o = w.orders d y in
+        let listed_parts = ap (listed d y) parted ∙ tally_three (λ (b : Block). one (not b.used && (nat_eq d (down b.size) && nat_eq y b.name))) (names before) (names old) (names after) in
+        let named_parts = ap (named y) parted ∙ tally_three (λ (b : Block). one (nat_eq y b.name)) (names before) (names old) (names after) in
+        let most = w.distinct y in
+        let b = listed_named d y (names before) in
+        let a = listed_named d y (names after) in
+        let gone : named y (names old) ≡ 0 = omega arith in
+        let absent : named y (names new) ≡ 0 = elim (some_or_none (named y (names new))) [
+          | inl z ↦ z
+          | inr s ↦ elim (origin y s) [ inl i ↦ absurd (omega arith) | inr u ↦ absurd (let k = u.absent in omega arith) ]
+        ] in
+        omega (arith, tally_three (λ (l : Label). if nat_eq y l.name then stamp l.tag else 0) before old after, tally_three (λ (l : Label). if nat_eq y l.name then stamp l.tag else 0) before new after, stamp_none y old gone, stamp_none y new absent)

@@ -1,0 +1,14 @@
+use Rattle.std.proofs.Common.{◌≡◌, map, take, drop, ◌++◌}
+use Rattle.offset_script.specs.Answers.{seen}
+use Rattle.offset_script.specs.Machine.{answers, after, start}
+use Rattle.offset_script.specs.Serving.{Stands}
+use Rattle.offset_script.proofs.playing.play.Given as goal
+
+-- the answers so far and those to what is left are those to all
+abbrev pub invariant-loop-command : goal.invariant-loop-command
+invariant-loop-command g l =
+    let state = after (take l.command-index l.commands) (start l.size l.max_allocs) in
+    record {
+      stands : Stands l.player.space l.player.handles.items state;
+      told : map seen l.found.items ++ answers (drop l.command-index l.commands) state ≡ answers l.commands (start l.size l.max_allocs);
+    }

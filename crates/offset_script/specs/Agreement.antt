@@ -1,0 +1,86 @@
+-- When a named view, with the handles kept for its grants, shows the blocks of a plain state.
+use Rattle.std.specs.Prelude.{◌≡◌, ℕ, zero, suc, ◌+◌, ◌<◌, ◌≤◌, not, List, [], ◌∷◌, map, Option, Some, None, slice_index_or, nat_eq, if◌then◌else◌}
+use Rattle.offset_allocator.specs.Named.{Block, View, Grant, tally, times, names_at}
+use Rattle.offset_script.specs.declared.scripts.Command.{Command}
+use Rattle.offset_script.specs.Blocks.{Tag, is_free, has_number, stamp}
+use Rattle.offset_script.specs.Blocks as plain
+use Rattle.offset_script.specs.Machine.{State, Answer, start, after}
+use Rattle.offset_script.specs.Machine as machine
+
+-- a block with both its name and its tag
+pub record Label : Type 0 where
+  pub name : ℕ
+  pub size : ℕ
+  pub tag : Tag
+
+-- a labelled block as the named view has it
+abbrev pub by_name : Label → Block
+by_name l = record { name = l.name; size = l.size; used = not (is_free l.tag) }
+
+-- a labelled block as the plain state has it
+abbrev pub by_tag : Label → plain.Block
+by_tag l = record { size = l.size; tag = l.tag }
+
+-- the stamp of the block of a name
+abbrev pub stamp_of : ℕ → List Label → ℕ
+stamp_of x ls = tally (λ l. if nat_eq x l.name then stamp l.tag else 0) ls
+
+-- each name's stamp is above those of the names behind it
+abbrev pub IsFalling : (ℕ → ℕ) → List ℕ → Type 0
+IsFalling f [] = Unit {0}
+IsFalling f (x ∷ xs) = ((y : ℕ) → 1 ≤ times y xs → f y < f x) × IsFalling f xs
+
+-- the name of the block of grant k
+abbrev pub name_of : ℕ → List Label → Option ℕ
+name_of k [] = None
+name_of k (l ∷ ls) = if has_number k l.tag then Some l.name else name_of k ls
+
+-- the view and the plain state show the same blocks, the newest come first in each class, and the name kept for each grant is that of its block
+pub record Agrees (v : View) (kept : ℕ → Option ℕ) (s : State) : Type 0 where
+  pub labels : List Label
+  pub view : v.blocks ≡ map by_name labels
+  pub state : s.blocks ≡ map by_tag labels
+  pub limit : s.limit ≡ v.max_allocs
+  pub newest : (c : ℕ) → IsFalling (λ x. stamp_of x labels) (names_at v.order c)
+  pub handles : (k : ℕ) → kept k ≡ name_of k labels
+
+-- a state that the plain machine reaches
+pub record IsReached (s : State) : Type 0 where
+  pub size : ℕ
+  pub limit : ℕ
+  pub commands : List Command
+  pub admitted : 2 ≤ limit
+  pub reached : s ≡ after commands (start size limit)
+
+-- the name in a handle, if there is one
+abbrev pub name_in : Option Grant → Option ℕ
+name_in None = None
+name_in (Some h) = Some h.name
+
+-- the name of the handle kept for grant k, where handle k - 1 is that of grant k
+abbrev pub kept : List (Option Grant) → ℕ → Option ℕ
+kept hs zero = None
+kept hs (suc k) = name_in (slice_index_or hs k None)
+
+-- the answer to a request, when g grants were made before it
+abbrev pub answer_of : ℕ → Option Grant → Answer
+answer_of g None = machine.Refused
+answer_of g (Some a) = machine.Grant (g + 1) a.offset
+
+-- the kept names, with x as that of grant k
+abbrev pub keeps : ℕ → ℕ → (ℕ → Option ℕ) → ℕ → Option ℕ
+keeps k x kept j = if nat_eq j k then Some x else kept j
+
+-- the kept names, without that of grant k
+abbrev pub forgets : ℕ → (ℕ → Option ℕ) → ℕ → Option ℕ
+forgets k kept j = if nat_eq j k then None else kept j
+
+-- the names kept after a request, when g grants were made before it
+abbrev pub kept_of : ℕ → Option Grant → (ℕ → Option ℕ) → ℕ → Option ℕ
+kept_of g None kept = kept
+kept_of g (Some a) kept = keeps (g + 1) a.name kept
+
+-- the grants made after a request, when g were made before it
+abbrev pub granted_of : ℕ → Option Grant → ℕ
+granted_of g None = g
+granted_of g (Some a) = g + 1

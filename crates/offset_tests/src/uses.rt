@@ -1,0 +1,33 @@
+//! A use of `run` over bytes in memory, proved by the contract of `run` alone.
+
+ghost use Rattle.std.specs.Prelude.{◌≡◌, [], Some, Ok, Err, IfOk};
+ghost use Rattle.offset_script.specs.declared.faults.ScriptFault.{ScriptFault};
+ghost use Rattle.offset_script.specs.declared.faults.RunFault.TheVariants as faults;
+ghost use Rattle.offset_script.specs.Grammar.{meaning_of};
+ghost use Rattle.offset_script.specs.Running.{WritesAnswers};
+
+use offset_script::{FromRead, IntoWrite, RunFault, run};
+use std::alloc::Global;
+
+/// The answer text of a script, or the fault of its first faulty line.
+pub fn answered(alloc: Global, text: &[u8]) -> Result<Vec<u8>, RunFault>
+    ensures answers { IfOk result (λ bytes. WritesAnswers text.now (Some []) (Some bytes.items)) }
+    ensures fault { (f : ScriptFault) → result ≡ Err (faults.Script f) → meaning_of text.now ≡ Err f }
+{
+    let mut output = IntoWrite::new(Vec::new(alloc));
+    run(alloc, &mut FromRead::new(text), &mut output)?;
+    Ok(output.into_inner())
+}
+
+#[cfg(test)]
+mod tests {
+    use super::*;
+    use std::test::Fail;
+
+    #[test]
+    fn answers_a_header_alone(rt: HostRuntime) -> Result<(), Fail> {
+        let text = b"space 10 nodes 4 index 16\n".as_slice();
+        assert!(rt; answered(rt.alloc(), text)?.is_empty());
+        Ok(())
+    }
+}
