@@ -39,7 +39,7 @@ module _ (n align f r : ℕ) (v : View) (big : 1 < align) where
     | inr l ↦ aligned_within l ∙ ap (λ (b : Bool). if b then refused v else granted_at v n (padding_to align) f r (taken (n + align - 1) v)) e
   ]
 
-  served : n + align - 1 ≤ greatest → is_short_of 2 v ≡ false → allocate_aligned n align f r v ≡ granted_at v n (padding_to align) f r (taken (n + align - 1) v)
+  pub served : n + align - 1 ≤ greatest → is_short_of 2 v ≡ false → allocate_aligned n align f r v ≡ granted_at v n (padding_to align) f r (taken (n + align - 1) v)
   served l e = aligned_within l ∙ ap (λ (b : Bool). if b then refused v else granted_at v n (padding_to align) f r (taken (n + align - 1) v)) e
 
   pub aligned_none : n + align - 1 ≤ greatest → is_short_of 2 v ≡ false → taken (n + align - 1) v ≡ None → allocate_aligned n align f r v ≡ refused v

@@ -1,3 +1,4 @@
+pub mod AlignedFits
 pub mod Aligning
 pub mod Back
 pub mod Binned

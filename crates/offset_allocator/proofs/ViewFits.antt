@@ -9,7 +9,7 @@ use Rattle.offset_allocator.specs.Named.{Block, View, Place, Grant, Outcome, is_
 use Rattle.offset_allocator.proofs.ViewOrders.{if_value, hit_cases, tally_append}
 use Rattle.offset_allocator.proofs.ViewSteps.{place_here}
 use Rattle.offset_allocator.proofs.ViewTaken.{IsTaken, taken_at, not_taken}
-use Rattle.offset_allocator.proofs.Classes.{serves, near_best, up_law}
+use Rattle.offset_allocator.proofs.Classes.{serves, near_best, up_law, down_law}
 
 -- b stands in a list
 abbrev pub Stands : Block → List Block → Type 0
@@ -78,7 +78,7 @@ module _ (v : View) (w : IsWellFormed v) (n : ℕ) (small : n ≤ 4294967295) (s
     | inr l ↦ absurd (there b i f (not_taken n v w e (down b.size) (serves n b.size word (fits_word b i) l)))
   ])
 
-  taken_exactly : 1 ≤ n → (o : Option Place) → taken n v ≡ o → (is_some o ≡ true) ↔ (n ≤ largest (free_sizes v.blocks))
+  pub taken_exactly : 1 ≤ n → (o : Option Place) → taken n v ≡ o → (is_some o ≡ true) ↔ (n ≤ largest (free_sizes v.blocks))
   taken_exactly l None e = (
     λ f. absurd (false≢true f),
     λ m. let r = reported n v.blocks l m in absurd (there r.0 r.1 r.2 (not_taken n v w e (down r.0.size) ((up_law n (down r.0.size) word).1 r.3))),
@@ -101,6 +101,18 @@ module _ (v : View) (w : IsWellFormed v) (n : ℕ) (small : n ≤ 4294967295) (s
       go : (b : Bool) → (is_some (if b then refused v else granted_at v n (λ offset. 0) rest rest (taken n v)).grant ≡ true) ↔ (n ≤ (if b then 0 else largest (free_sizes v.blocks)))
       go true = (λ f. absurd (false≢true f), λ m. absurd (omega arith))
       go false = let t = taken_exactly l (taken n v) refl in (λ f. t.0 (sym (some_grant rest (taken n v)) ∙ f), λ m. some_grant rest (taken n v) ∙ t.1 m)
+
+-- no region that is reported is greater than the space
+pub largest_small : (v : View) → IsWellFormed v → v.size ≤ 4294967295 → (n : ℕ) → 1 ≤ n → n ≤ largest (free_sizes v.blocks) → n ≤ 4294967295
+largest_small v w sized n some l =
+    let r = reported n v.blocks some l in
+    let fits = fits_word v w 0 (omega arith) sized r.0 r.1 in
+    let d = (down_law r.0.size (down r.0.size) fits).0 (omega arith) in
+    omega arith
+
+-- a request that is greater than any space is refused well
+pub refusal_past : (v : View) → IsWellFormed v → v.size ≤ 4294967295 → (n : ℕ) → 4294967295 < n → IsGoodRefusal n (free_sizes v.blocks)
+refusal_past v w sized n l = all_free (λ z. 8 * z < 9 * n) v.blocks (λ b i f. let s = sized_below b v.blocks i in let whole = w.whole in omega arith)
 
 pub some_same : (X : Type 0) (o : Option X) → (IsSome o) ↔ (is_some o ≡ true)
 some_same X o = (λ f. f, λ f. f)
@@ -129,7 +141,7 @@ nearly_taken n v f small sized p e =
 
 -- a grant is cut from a near best fit
 module _ (n : ℕ) (v : View) (w : IsWellFormed v) (small : n ≤ 4294967295) (sized : v.size ≤ 4294967295) where
-  cut_at : (p : Place) → taken n v ≡ Some p → (g : Grant) → g.name ≡ p.block.name → IsCutNearBest n v g
+  pub cut_at : (p : Place) → taken n v ≡ Some p → (g : Grant) → g.name ≡ p.block.name → IsCutNearBest n v g
   cut_at p e g name =
       let t = taken_at n v w p e in
       record {

@@ -258,6 +258,11 @@ impl<NI: NodeIndex> Allocator<NI> {
     pub fn allocate_aligned(&mut self, size: u32, align: u32) -> Option<Allocation<NI>>
         requires power { IsPowerOfTwo align }
         ensures step { Aligns size align self.old self.new result }
+        ensures granted { 1 ≤ size + align - 1 → (IsSome result
+            ↔ ((length self.old.blocks + min align 2 < self.old.max_allocs) × (size + align - 1 ≤ largest_free self.old))) }
+        ensures nearly { IfSome result (IsCutNearBest (size + align - 1) self.old) }
+        ensures refused { result ≡ None → length self.old.blocks + min align 2 < self.old.max_allocs
+            → IsGoodRefusal (size + align - 1) (free_sizes self.old.blocks) }
         ensures grows { self.old.accesses ≤ self.new.accesses }
         ensures count { self.new.accesses ≤ self.old.accesses + 128 }
     {

@@ -1,11 +1,13 @@
-use Rattle.std.proofs.Common.{◌≡◌, ◌≢◌, ◌<◌, ◌≤◌, ◌+◌, ◌-◌, ◌∙◌, ℕ, [], Some, None, false, arith, ap, subst}
+use Rattle.std.proofs.Common.{◌≡◌, ◌≢◌, ◌<◌, ◌≤◌, ◌+◌, ◌-◌, ◌∙◌, ℕ, [], Some, None, false, arith, refl, ap, subst}
 use Rattle.offset_allocator.specs.Classes.{up}
 use Rattle.offset_allocator.specs.Named.{View, IsUnused, is_short_of, names_at, greatest}
 use Rattle.offset_allocator.specs.Orders.{class_lists}
-use Rattle.offset_allocator.specs.State.{view_of}
+use Rattle.offset_allocator.specs.State.{Fields, view_of}
 use Rattle.offset_allocator.specs.Relations.{Aligns}
 use Rattle.offset_allocator.proofs.Classes.{below_value_up}
 use Rattle.offset_allocator.proofs.Spares.{another, spare_room}
+use Rattle.offset_allocator.proofs.AlignedFits.{aligned_exactly, aligned_refusal, aligned_near}
+use Rattle.offset_allocator.proofs.Sound.{known_sound}
 use Rattle.offset_allocator.proofs.Aligning.{aligned_from, aligns_counted, refused_full, refused_past, refused_none}
 use Rattle.offset_allocator.proofs.Allocator.allocate_aligned.Goals as goal
 
@@ -46,3 +48,39 @@ pub returns-in-Some-clause-step : goal.returns-in-Some-clause-step
 returns-in-Some-clause-step g c =
     let P : View → Type 0 = λ u. Aligns c.args.size c.args.align u c.grant_aligned.new.self (Some c.grant_aligned.result) in
     subst P c.self.view_is (aligns_counted c.find_at_or_above.new.count c.args.size c.args.align (view_of g.NI.NodeIndex.MAX c.self.inside.size c.self.inside.max_allocs c.self.inside.tables c.self.inside.last c.self.inside.accesses) c.grant_aligned.new.self (Some c.grant_aligned.result) c.grant_aligned.ensures.step)
+
+pub returns-then-size-align-clause-granted : goal.returns-then-size-align-clause-granted
+returns-then-size-align-clause-granted g c =
+    let f : Fields = record { max = g.NI.NodeIndex.MAX; size = c.self.inside.size; limit = c.self.inside.max_allocs; cells = c.self.inside.tables; last = c.self.inside.last; count = c.self.inside.spare_count; top = c.self.inside.top_mask; free = c.self.inside.free_total; accesses = c.self.inside.accesses } in
+    let known = known_sound f c.self.invariant c.args.self.now c.self.view_is in
+    aligned_exactly c.args.size c.args.align c.args.self.now _ None known.0 known.1 (omega arith) (omega arith) (returns-then-size-align-clause-step g c)
+
+pub returns-then-size-align-clause-refused : goal.returns-then-size-align-clause-refused
+returns-then-size-align-clause-refused g c =
+    let f : Fields = record { max = g.NI.NodeIndex.MAX; size = c.self.inside.size; limit = c.self.inside.max_allocs; cells = c.self.inside.tables; last = c.self.inside.last; count = c.self.inside.spare_count; top = c.self.inside.top_mask; free = c.self.inside.free_total; accesses = c.self.inside.accesses } in
+    let known = known_sound f c.self.invariant c.args.self.now c.self.view_is in
+    aligned_refusal c.args.size c.args.align c.args.self.now _ None known.0 known.1 (omega arith) (omega arith) (returns-then-size-align-clause-step g c)
+
+pub returns-in-None-clause-granted : goal.returns-in-None-clause-granted
+returns-in-None-clause-granted g c =
+    let f : Fields = record { max = g.NI.NodeIndex.MAX; size = c.self.inside.size; limit = c.self.inside.max_allocs; cells = c.self.inside.tables; last = c.self.inside.last; count = c.self.inside.spare_count; top = c.self.inside.top_mask; free = c.self.inside.free_total; accesses = c.self.inside.accesses } in
+    let known = known_sound f c.self.invariant c.args.self.now c.self.view_is in
+    aligned_exactly c.args.size c.args.align c.args.self.now _ None known.0 known.1 (omega arith) (omega arith) (returns-in-None-clause-step g c)
+
+pub returns-in-None-clause-refused : goal.returns-in-None-clause-refused
+returns-in-None-clause-refused g c =
+    let f : Fields = record { max = g.NI.NodeIndex.MAX; size = c.self.inside.size; limit = c.self.inside.max_allocs; cells = c.self.inside.tables; last = c.self.inside.last; count = c.self.inside.spare_count; top = c.self.inside.top_mask; free = c.self.inside.free_total; accesses = c.self.inside.accesses } in
+    let known = known_sound f c.self.invariant c.args.self.now c.self.view_is in
+    aligned_refusal c.args.size c.args.align c.args.self.now _ None known.0 known.1 (omega arith) (omega arith) (returns-in-None-clause-step g c)
+
+pub returns-in-Some-clause-granted : goal.returns-in-Some-clause-granted
+returns-in-Some-clause-granted g c =
+    let f : Fields = record { max = g.NI.NodeIndex.MAX; size = c.self.inside.size; limit = c.self.inside.max_allocs; cells = c.self.inside.tables; last = c.self.inside.last; count = c.self.inside.spare_count; top = c.self.inside.top_mask; free = c.self.inside.free_total; accesses = c.self.inside.accesses } in
+    let known = known_sound f c.self.invariant c.args.self.now c.self.view_is in
+    aligned_exactly c.args.size c.args.align c.args.self.now _ (Some c.grant_aligned.result) known.0 known.1 (omega arith) (omega arith) (returns-in-Some-clause-step g c)
+
+pub returns-in-Some-clause-nearly : goal.returns-in-Some-clause-nearly
+returns-in-Some-clause-nearly g c =
+    let f : Fields = record { max = g.NI.NodeIndex.MAX; size = c.self.inside.size; limit = c.self.inside.max_allocs; cells = c.self.inside.tables; last = c.self.inside.last; count = c.self.inside.spare_count; top = c.self.inside.top_mask; free = c.self.inside.free_total; accesses = c.self.inside.accesses } in
+    let known = known_sound f c.self.invariant c.args.self.now c.self.view_is in
+    aligned_near c.args.size c.args.align c.args.self.now _ (Some c.grant_aligned.result) known.0 known.1 (omega arith) (omega arith) (returns-in-Some-clause-step g c) c.grant_aligned.result refl
