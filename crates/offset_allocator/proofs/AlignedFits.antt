@@ -59,15 +59,15 @@ module _ (n align : ℕ) (v w : View) (r : Option Grant) (known : IsWellFormed v
   exactly : (is_some r ≡ true) ↔ ((length v.blocks + 2 < v.max_allocs) × (needed ≤ largest_free v))
   exactly = (
     λ h.
-      let o = was_open h in
-      let l = was_within h in
-      let t = taken_exactly v known needed l sized (omega arith) (taken needed v) refl in
-      (o, subst (λ m. needed ≤ m) (sym (reported_open o)) (t.0 (sym (some_grant (taken needed v)) ∙ ap is_some (sym (open_is l (is_open o))) ∙ h))),
+        let o = was_open h in
+        let l = was_within h in
+        let t = taken_exactly v known needed l sized (omega arith) (taken needed v) refl in
+        (o, subst (λ m. needed ≤ m) (sym (reported_open o)) (t.0 (sym (some_grant (taken needed v)) ∙ ap is_some (sym (open_is l (is_open o))) ∙ h))),
     λ m.
-      let l = subst (λ k. needed ≤ k) (reported_open m.0) m.1 in
-      let small = largest_small v known sized needed (omega arith) l in
-      let t = taken_exactly v known needed small sized (omega arith) (taken needed v) refl in
-      ap is_some (open_is small (is_open m.0)) ∙ some_grant (taken needed v) ∙ t.1 l,
+        let l = subst (λ k. needed ≤ k) (reported_open m.0) m.1 in
+        let small = largest_small v known sized needed (omega arith) l in
+        let t = taken_exactly v known needed small sized (omega arith) (taken needed v) refl in
+        ap is_some (open_is small (is_open m.0)) ∙ some_grant (taken needed v) ∙ t.1 l,
   )
 
   refusal : r ≡ None → length v.blocks + 2 < v.max_allocs → IsGoodRefusal needed (free_sizes v.blocks)

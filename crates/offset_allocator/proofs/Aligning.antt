@@ -2,7 +2,7 @@
 use Rattle.std.proofs.Common.{◌≡◌, ◌≢◌, ℕ, zero, suc, ◌+◌, ◌-◌, ◌<◌, ◌≤◌, ◌^◌, Bool, true, false, List, [], ◌∷◌, ◌++◌, length, Option, Some, None, refl, sym, ap, ap₂, subst, ◌∙◌, inl, inr, arith, slice_set, nat_le, nat_lt, if◌then◌else◌, le-leb}
 use Rattle.std.proofs.lemmas.Bool.{cases_lt, lt-leb, lt-ltb, le-ltb, true≢false}
 use Rattle.offset_allocator.specs.Classes.{up}
-use Rattle.offset_allocator.specs.Cells.{Cells, Room, Node, node}
+use Rattle.offset_allocator.specs.Cells.{Cells, Room, node}
 use Rattle.offset_allocator.specs.Named.{Block, View, Place, Grant, Outcome, named, names_at, IsWellFormed, IsUnused, is_short_of, taken, allocate, allocate_aligned, padding_to, greatest, refused, granted, granted_at, serve, free_part, used_block, units, remove_all, put_all, remove, without, place_of}
 use Rattle.offset_allocator.specs.Space.{IsSpace, Stands, blocks, offset_in, size_in}
 use Rattle.offset_allocator.specs.Orders.{IsLeastFrom, class_lists, Binned}

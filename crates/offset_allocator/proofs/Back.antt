@@ -1,11 +1,10 @@
 -- What the writes of `join_before` leave.
-use Rattle.std.proofs.Common.{◌≡◌, ◌≢◌, ℕ, zero, suc, ◌+◌, ◌-◌, ◌<◌, ◌≤◌, ◌^◌, Bool, true, false, cond, Option, None, Some, List, [], ◌∷◌, ◌++◌, length, get_or, take, set, refl, sym, ◌∙◌, ap, arith, inl, inr, length-append, add_assoc}
+use Rattle.std.proofs.Common.{◌≡◌, ◌≢◌, ℕ, ◌+◌, ◌≤◌, Bool, false, Option, None, Some, List, [], ◌∷◌, ◌++◌, refl, sym, ◌∙◌, arith, inl, inr}
 use Rattle.std.proofs.lemmas.Bool.{cases_eq}
-use Rattle.offset_allocator.specs.Cells.{Room, Node, node}
-use Rattle.offset_allocator.specs.Space.{first_or, last_or, IsRow, IsChain, spares}
+use Rattle.offset_allocator.specs.Cells.{Room, node}
+use Rattle.offset_allocator.specs.Space.{last_or, IsRow}
 use Rattle.offset_allocator.specs.Named.{Block, units, named}
-use Rattle.offset_allocator.proofs.Rows.{one-same, one-eq, one-other, times-join, times-append, times-first, units-append, last_or-append, IsRow-front, IsRow-back, IsRow-append, IsRow-kept, IsRow-moved}
-use Rattle.offset_allocator.proofs.Split.{each-le}
+use Rattle.offset_allocator.proofs.Rows.{one-same, one-eq, times-append, IsRow-front, IsRow-back, IsRow-append, IsRow-kept}
 
 pub times-last : (k p : ℕ) (bs : List Block) → last_or (Some p) bs ≡ Some k → (named k bs ≡ 0) → p ≡ k
 times-last k p [] e h = cc

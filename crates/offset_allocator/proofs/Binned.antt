@@ -1,7 +1,7 @@
 -- The operations on the tables as a row of writes.
-use Rattle.std.proofs.Common.{◌≡◌, ◌≢◌, ◌<◌, ◌≤◌, ℕ, ◌+◌, ◌-◌, ◌*◌, ◌/◌, ◌%◌, ◌^◌, List, [], ◌∷◌, refl, sym, ap, subst, ◌∙◌, arith, length, slice_index, slice_index_or, slice_set, bit_or, bit_and}
+use Rattle.std.proofs.Common.{◌≡◌, ◌≢◌, ◌<◌, ℕ, ◌*◌, ◌/◌, ◌%◌, ◌^◌, List, ◌∷◌, refl, sym, subst, ◌∙◌, arith, length, slice_index, slice_set, bit_or}
 use Rattle.offset_allocator.specs.Named.{names_at}
-use Rattle.offset_allocator.specs.Orders.{Among, flag, Linked, Masked, IsUnlisted, lists_of, Binned, class_lists}
+use Rattle.offset_allocator.specs.Orders.{flag, Linked, Masked, IsUnlisted, lists_of, Binned, class_lists}
 use Rattle.offset_allocator.specs.Cells.{Links}
 use Rattle.offset_allocator.proofs.Find.{flag_name}
 use Rattle.offset_allocator.proofs.Changes.{lists_are, masked_same, masked_set}

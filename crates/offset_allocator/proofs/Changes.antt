@@ -1,9 +1,9 @@
 -- The tables after a change of one class: the links, what contracts see, and the masks.
-use Rattle.std.proofs.Common.{◌≡◌, ◌≢◌, ◌<◌, ◌≤◌, ◌⊎◌, ℕ, zero, suc, ◌+◌, ◌-◌, ◌*◌, ◌/◌, ◌%◌, ◌^◌, List, [], ◌∷◌, map, refl, sym, ap, subst, ◌∙◌, inl, inr, ⊎_elim, arith, Bool, true, false, cond, not, eqb, length, get_or, set, slice_index, slice_index_or, slice_set, bit_and, bit_or, w32, w64}
+use Rattle.std.proofs.Common.{◌≡◌, ◌≢◌, ◌<◌, ◌⊎◌, ℕ, ◌*◌, ◌/◌, ◌%◌, ◌^◌, List, [], map, refl, sym, ap, subst, ◌∙◌, inl, inr, arith, length, slice_index, slice_set, bit_and, bit_or, w32, w64}
 use Rattle.std.specs.Int.{bit_at, bit_not}
-use Rattle.std.proofs.lemmas.Nat.{or_lt, one_shl, and_le_l, div-mul-add, mod-mul-add, pow_below}
-use Rattle.std.proofs.lemmas.Nat.Bits.{bit_at_set_same, bit_at_set_other, bit_at_clear_same, bit_at_clear_other, bit_at-zero, bit_at-lt}
-use Rattle.std.proofs.lemmas.Bool.{cases_lt, cases_eq, eqb-true, eq-eqb}
+use Rattle.std.proofs.lemmas.Nat.{or_lt, one_shl, and_le_l, pow_below}
+use Rattle.std.proofs.lemmas.Nat.Bits.{bit_at_set_same, bit_at_set_other, bit_at_clear_same, bit_at_clear_other, bit_at-zero}
+use Rattle.std.proofs.lemmas.Bool.{cases_eq}
 use Rattle.std.proofs.lemmas.List.{length-set, length-map, get_or-set_same, get_or-set_other, get_or-map, ext_get_or}
 use Rattle.offset_allocator.specs.Named.{names_at}
 use Rattle.offset_allocator.specs.Orders.{Chain, Among, walk, lists_of, flag, mark, Linked, Masked}

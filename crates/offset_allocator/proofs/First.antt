@@ -1,9 +1,9 @@
 -- The first name of a class.
-use Rattle.std.proofs.Common.{◌≡◌, ◌≢◌, ◌<◌, ◌≤◌, ℕ, List, [], ◌∷◌, refl, sym, ap, subst, ◌∙◌, inl, inr, arith, length, slice_index}
+use Rattle.std.proofs.Common.{◌≡◌, ◌≢◌, ◌<◌, ◌≤◌, ℕ, List, [], ◌∷◌, refl, sym, ap, subst, ◌∙◌, inl, length, slice_index}
 use Rattle.std.proofs.lemmas.Bool.{eq-eqb}
 use Rattle.offset_allocator.specs.Named.{names_at, without}
 use Rattle.offset_allocator.specs.Cells.{Links}
-use Rattle.offset_allocator.specs.Orders.{Chain, Among, Linked, Binned, class_lists}
+use Rattle.offset_allocator.specs.Orders.{Chain, Among, Binned, class_lists}
 use Rattle.offset_allocator.proofs.Walks.{without_absent, once}
 
 module _ (none m : ℕ) (small : m ≤ none) (nw od : ℕ → ℕ) (b h : ℕ) where

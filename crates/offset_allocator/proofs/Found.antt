@@ -1,9 +1,9 @@
 -- A block found by its name, and the list functions at that place.
-use Rattle.std.proofs.Common.{◌≡◌, ◌≢◌, ℕ, ◌+◌, ◌-◌, ◌<◌, ◌≤◌, Bool, true, false, cond, Option, None, Some, List, [], ◌∷◌, ◌++◌, length, refl, sym, ◌∙◌, ap, arith, inl, inr}
+use Rattle.std.proofs.Common.{◌≡◌, ℕ, ◌+◌, ◌-◌, ◌≤◌, false, None, List, [], ◌∷◌, ◌++◌, refl, sym, ap, arith, inl, inr}
 use Rattle.std.proofs.lemmas.Bool.{cases_eq, eq-eqb, ne_eqb}
-use Rattle.offset_allocator.specs.Space.{first_or, split_block, absorb, join_block, name_after, offset_in, size_in}
+use Rattle.offset_allocator.specs.Space.{first_or, split_block, join_block, name_after, offset_in, size_in}
 use Rattle.offset_allocator.specs.Named.{Block, units, named}
-use Rattle.offset_allocator.proofs.Rows.{one-same, one-eq, one-other}
+use Rattle.offset_allocator.proofs.Rows.{one-eq, one-other}
 
 -- bs cut at its first block named x
 pub record Found (x : ℕ) (bs : List Block) : Type 0 where

@@ -1,11 +1,11 @@
 -- What it leaves of the whole allocator to free a block.
-use Rattle.std.proofs.Common.{◌≡◌, ◌≢◌, ℕ, zero, suc, ◌+◌, ◌-◌, ◌<◌, ◌≤◌, ◌^◌, Bool, true, false, not, ◌&&◌, List, [], ◌∷◌, ◌++◌, length, Option, Some, None, if◌then◌else◌, refl, sym, ap, ap₂, subst, ◌∙◌, arith, nat_eq, slice_set, inl, inr}
+use Rattle.std.proofs.Common.{◌≡◌, ℕ, ◌+◌, ◌<◌, ◌≤◌, ◌^◌, Bool, true, false, not, ◌&&◌, List, [], ◌∷◌, ◌++◌, length, Option, Some, None, if◌then◌else◌, refl, sym, ap, ap₂, subst, ◌∙◌, arith, nat_eq, inl, inr}
 use Rattle.std.proofs.lemmas.Bool.{false≢true}
-use Rattle.offset_allocator.specs.Classes.{up, down}
-use Rattle.offset_allocator.specs.Cells.{Cells, Room, Node, node}
-use Rattle.offset_allocator.specs.Named.{Block, View, Place, tally, one, is_free, named, listed, names_at, IsWellFormed, units, place_of, is_used_at, free_end, without_end, free_start, without_start, remove_all, put_first, free_block, free, freed_at, joined, remove, times}
+use Rattle.offset_allocator.specs.Classes.{down}
+use Rattle.offset_allocator.specs.Cells.{Cells, Node}
+use Rattle.offset_allocator.specs.Named.{Block, View, Place, one, is_free, named, listed, names_at, IsWellFormed, units, place_of, is_used_at, free_end, without_end, free_start, without_start, remove_all, put_first, free_block, free, freed_at, joined, remove, times}
 use Rattle.offset_allocator.specs.Space.{IsSpace, Stands, blocks, mark_block, size_in}
-use Rattle.offset_allocator.specs.Orders.{Among, IsUnlisted, class_lists, Binned}
+use Rattle.offset_allocator.specs.Orders.{IsUnlisted, class_lists, Binned}
 use Rattle.offset_allocator.specs.State.{Fields, IsSound, view_of, free_units, AreListed, AreFiled, merge_before, merged_before, gone_before, merge_after, merged_after, gone_after}
 use Rattle.offset_allocator.proofs.Joints.{with_accesses}
 use Rattle.offset_allocator.proofs.Rows.{one-eq, times-append}

@@ -1,7 +1,5 @@
 -- A fresh space.
-use Rattle.std.proofs.Common.{◌≡◌, ◌≢◌, ℕ, zero, suc, ◌+◌, ◌-◌, ◌/◌, ◌%◌, ◌<◌, ◌≤◌, ◌^◌, Bool, true, false, cond, Option, None, Some, List, [], ◌∷◌, ◌++◌, length, get_or, take, replicate, refl, sym, ◌∙◌, ap, ap₂, subst, arith, inl, inr, nat_lt, add-one, slice_index, length-append, nat_eq}
-use Rattle.std.specs.Int.{bit_at}
-use Rattle.offset_allocator.specs.Orders.{flag}
+use Rattle.std.proofs.Common.{◌≡◌, ◌≢◌, ℕ, zero, suc, ◌+◌, ◌-◌, ◌/◌, ◌%◌, ◌<◌, ◌≤◌, ◌^◌, Bool, false, cond, Option, None, List, [], ◌∷◌, ◌++◌, length, get_or, take, replicate, refl, sym, ◌∙◌, ap, ap₂, subst, arith, inl, inr, nat_lt, add-one, slice_index, length-append, nat_eq}
 use Rattle.std.proofs.lemmas.Bool.{eq-eqb}
 use Rattle.std.specs.List.{range_with_len}
 use Rattle.std.proofs.lemmas.List.{get_or_append_left, take_more, get_or_past, length-replicate, get_or-replicate}
@@ -10,9 +8,9 @@ use Rattle.std.proofs.lemmas.Nat.Bits.{bit_at-zero}
 use Rattle.std.proofs.lemmas.Bool.{cases_eq, cases_lt}
 use Rattle.std.proofs.lemmas.Bool.Decides.{nat_tests}
 use Rattle.offset_allocator.specs.Classes.{down}
-use Rattle.offset_allocator.specs.Cells.{Cells, Room, Links, Node, node, put, nodes_of, empty_cells}
-use Rattle.offset_allocator.specs.Named.{Block, View, IsWellFormed, free_block, units, put_first, named, names_at, times, one}
-use Rattle.offset_allocator.specs.Space.{IsChain, spares, blocks}
+use Rattle.offset_allocator.specs.Cells.{Cells, Room, Node, node, put, empty_cells}
+use Rattle.offset_allocator.specs.Named.{Block, View, IsWellFormed, free_block, put_first, named, names_at, times, one}
+use Rattle.offset_allocator.specs.Space.{IsChain, spares}
 use Rattle.offset_allocator.specs.Orders.{Linked, Masked, Binned, class_lists, Among, IsUnlisted}
 use Rattle.offset_allocator.specs.State.{IsSound, view_of, free_units}
 use Rattle.offset_allocator.proofs.Nodes.{node-put, node-put_other, length-put, spare-put}

@@ -1,20 +1,19 @@
 -- What a grant leaves of the whole allocator.
-use Rattle.std.proofs.Common.{◌≡◌, ◌≢◌, ℕ, zero, suc, ◌+◌, ◌-◌, ◌<◌, ◌≤◌, ◌^◌, Bool, true, false, List, [], ◌∷◌, ◌++◌, length, Option, Some, None, refl, sym, ap, ap₂, subst, ◌∙◌, arith, slice_set, le-leb}
+use Rattle.std.proofs.Common.{◌≡◌, ℕ, ◌+◌, ◌-◌, ◌<◌, ◌≤◌, true, false, List, [], ◌∷◌, ◌++◌, length, Some, None, refl, sym, ap, ap₂, subst, ◌∙◌, arith, slice_set, le-leb}
 use Rattle.std.proofs.lemmas.Bool.{lt-leb}
 use Rattle.offset_allocator.specs.Classes.{up, down}
-use Rattle.offset_allocator.specs.Cells.{Cells, Room, Node, node}
+use Rattle.offset_allocator.specs.Cells.{Cells, Room}
 use Rattle.offset_allocator.specs.Named.{Block, View, Place, Grant, Outcome, named, names_at, IsWellFormed, IsUnused, is_short_of, allocate, refused, free_part, used_block, free_block, units, remove_all, put_all, remove, put_first, without}
-use Rattle.offset_allocator.specs.Space.{IsSpace, IsChain, IsRow, Stands, blocks, mark_block, split_block, offset_in, size_in, last_or, first_or}
-use Rattle.offset_allocator.specs.Orders.{Among, IsUnlisted, IsLeastFrom, class_lists, Binned}
+use Rattle.offset_allocator.specs.Space.{IsSpace, Stands, blocks, mark_block, split_block, offset_in, size_in}
+use Rattle.offset_allocator.specs.Orders.{IsUnlisted, IsLeastFrom, class_lists, Binned}
 use Rattle.offset_allocator.specs.State.{Fields, IsSound, view_of, free_units}
 use Rattle.offset_allocator.specs.Relations.{Allocates}
 use Rattle.offset_allocator.proofs.Joints.{with_accesses}
-use Rattle.offset_allocator.proofs.Rows.{one-eq, times-append, IsRow-back}
+use Rattle.offset_allocator.proofs.Rows.{one-eq, times-append}
 use Rattle.offset_allocator.proofs.Found.{split_block-at, size_in-at, offset_in-at}
 use Rattle.offset_allocator.proofs.Marks.{mark_block-at}
-use Rattle.offset_allocator.proofs.Spot.{spot, stands-below}
-use Rattle.offset_allocator.proofs.Sizes.{fits_size, down_small}
-use Rattle.offset_allocator.proofs.ViewTaken.{IsTaken, well_allocate}
+use Rattle.offset_allocator.proofs.Sizes.{fits_size}
+use Rattle.offset_allocator.proofs.ViewTaken.{well_allocate}
 use Rattle.offset_allocator.proofs.Unused.{some_unused}
 use Rattle.offset_allocator.proofs.Joints.{unused_unlisted, unlisted_removed, TakenHere, taken_here, allocate_granted, allocate_short, allocate_none, untaken, well_counted, free_part-some, free_part-none, remove_free, not_true, free_units-append, free_units-free, free_units-used}
 

@@ -1,10 +1,10 @@
 -- The writes of `join_after` and `join_before`, at the level of the list of blocks.
-use Rattle.std.proofs.Common.{◌≡◌, ◌≢◌, ℕ, ◌+◌, ◌-◌, ◌<◌, ◌≤◌, ◌^◌, Bool, true, false, cond, Option, None, Some, List, [], ◌∷◌, ◌++◌, length, get_or, set, refl, sym, ◌∙◌, ap, arith, MatchOption, IfSome, subst, length-append, length-set, inl, inr, nat_eq}
+use Rattle.std.proofs.Common.{◌≡◌, ◌≢◌, ℕ, ◌+◌, ◌<◌, ◌≤◌, ◌^◌, false, Option, None, Some, List, [], ◌∷◌, ◌++◌, length, set, refl, sym, ◌∙◌, ap, arith, MatchOption, subst, length-append, length-set, inl, inr, nat_eq}
 use Rattle.std.proofs.lemmas.Bool.{cases_eq}
 use Rattle.offset_allocator.specs.Cells.{Room, Node, node, put, with_spare}
 use Rattle.offset_allocator.specs.Named.{Block, units, named, times, one}
-use Rattle.offset_allocator.specs.Space.{size_in, first_or, last_or, IsRow, IsChain, IsSpace, spares, Stands, blocks, name_after, join_block, give_block}
-use Rattle.offset_allocator.proofs.Nodes.{node-put, node-put_other, length-put, spare-put, put-put, put-step}
+use Rattle.offset_allocator.specs.Space.{size_in, first_or, last_or, IsChain, IsSpace, spares, Stands, blocks, name_after, join_block, give_block}
+use Rattle.offset_allocator.proofs.Nodes.{node-put, node-put_other, length-put, spare-put, put-step}
 use Rattle.offset_allocator.proofs.Rows.{one-eq, one-other, times-append, times-first, times-join, units-append, last_or-append}
 use Rattle.offset_allocator.proofs.Found.{join_block-at, name_after-at}
 use Rattle.offset_allocator.proofs.Split.{each-le}

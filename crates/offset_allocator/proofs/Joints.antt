@@ -1,12 +1,11 @@
 -- What joins the chain, the class lists and the view.
-use Rattle.std.proofs.Common.{◌≡◌, ◌≢◌, ℕ, zero, suc, ◌+◌, ◌-◌, ◌<◌, ◌≤◌, Bool, true, false, not, ◌⊎◌, List, [], ◌∷◌, ◌++◌, length, Option, Some, None, if◌then◌else◌, refl, sym, ap, ap₂, subst, ◌∙◌, inl, inr, arith, slice_set, nat_eq}
+use Rattle.std.proofs.Common.{◌≡◌, ℕ, zero, suc, ◌+◌, ◌<◌, ◌≤◌, Bool, true, false, not, List, [], ◌∷◌, ◌++◌, length, Option, Some, None, if◌then◌else◌, refl, sym, ap, subst, ◌∙◌, inl, inr, arith, slice_set}
 use Rattle.std.proofs.lemmas.Bool.{cases_eq, cases_lt, false≢true}
 use Rattle.std.proofs.lemmas.List.{get_or-set_same, get_or-set_other}
 use Rattle.offset_allocator.specs.Classes.{up, down}
-use Rattle.offset_allocator.specs.Named.{Block, View, Place, Outcome, tally, one, is_free, named, listed, names_at, IsWellFormed, IsUnused, taken, is_short_of, serve, allocate, refused, granted, granted_at, free_part, free_block, remove_all, remove, units, times, without}
+use Rattle.offset_allocator.specs.Named.{Block, View, Place, named, listed, names_at, IsWellFormed, taken, is_short_of, allocate, refused, granted, granted_at, free_part, free_block, remove_all, remove, times, without}
 use Rattle.offset_allocator.specs.Orders.{Among, IsUnlisted, IsLeastFrom}
 use Rattle.offset_allocator.specs.State.{free_units}
-use Rattle.offset_allocator.proofs.Rows.{one-eq, one-other}
 use Rattle.offset_allocator.proofs.Walks.{among_without}
 use Rattle.offset_allocator.proofs.Sizes.{down_small}
 use Rattle.offset_allocator.proofs.ViewOrders.{tally_append, hit_cases}

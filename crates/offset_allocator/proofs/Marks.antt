@@ -1,14 +1,14 @@
 -- What it leaves to make a block used or free.
-use Rattle.std.proofs.Common.{◌≡◌, ◌≢◌, ℕ, ◌+◌, ◌-◌, ◌<◌, ◌≤◌, ◌^◌, Bool, true, false, cond, Option, None, Some, List, [], ◌∷◌, ◌++◌, length, refl, sym, ◌∙◌, ap, arith, inl, inr, length-append, subst}
-use Rattle.std.proofs.lemmas.Bool.{cases_eq, eq-eqb, ne_eqb}
-use Rattle.offset_allocator.specs.Named.{Block, units, named}
-use Rattle.offset_allocator.specs.Cells.{Room, Node, node, put}
-use Rattle.offset_allocator.specs.Space.{first_or, last_or, IsRow, IsChain, IsSpace, Stands, spares, blocks, mark_block}
+use Rattle.std.proofs.Common.{◌≡◌, ◌≢◌, ℕ, ◌<◌, ◌≤◌, Bool, None, List, [], ◌∷◌, ◌++◌, length, refl, sym, ◌∙◌, ap, arith, length-append, subst}
+use Rattle.std.proofs.lemmas.Bool.{eq-eqb, ne_eqb}
+use Rattle.offset_allocator.specs.Named.{Block, named}
+use Rattle.offset_allocator.specs.Cells.{Room, node, put}
+use Rattle.offset_allocator.specs.Space.{IsChain, IsSpace, Stands, blocks, mark_block}
 use Rattle.offset_allocator.proofs.Nodes.{node-put, node-put_other, length-put, spare-put}
 use Rattle.offset_allocator.proofs.Rows.{one-eq, times-append, units-append, last_or-append}
 use Rattle.offset_allocator.proofs.Split.{each-le, spares-same}
 use Rattle.offset_allocator.proofs.Back.{used-row}
-use Rattle.offset_allocator.proofs.Spot.{Spot, spot}
+use Rattle.offset_allocator.proofs.Spot.{spot}
 
 head_not : (x : ℕ) (f : Block) (fs : List Block) → named x (f ∷ fs) ≡ 0 → f.name ≡ x → ⊥
 head_not x f fs h e = omega (arith, one-eq x f.name e)

@@ -1,17 +1,17 @@
 -- A block, and the ones beside it.
-use Rattle.std.proofs.Common.{◌≡◌, ◌≢◌, ℕ, zero, suc, ◌+◌, ◌-◌, ◌<◌, ◌≤◌, ◌^◌, Bool, true, false, not, cond, List, [], ◌∷◌, ◌++◌, length, Option, Some, None, if◌then◌else◌, refl, sym, ap, ap₂, subst, ◌∙◌, arith, append_assoc, inl, inr}
+use Rattle.std.proofs.Common.{◌≡◌, ℕ, ◌+◌, ◌<◌, ◌^◌, Bool, true, false, not, List, [], ◌∷◌, ◌++◌, length, Option, Some, None, if◌then◌else◌, refl, sym, ap, ap₂, subst, ◌∙◌, arith, append_assoc}
 use Rattle.std.proofs.lemmas.Bool.{eq-eqb, ne_eqb}
 use Rattle.offset_allocator.specs.Classes.{down}
 use Rattle.offset_allocator.specs.Cells.{Room, Node, node}
-use Rattle.offset_allocator.specs.Named.{Block, Place, named, units, place_of, free_end, without_end, free_start, without_start, remove_all, remove, is_free, names_at}
-use Rattle.offset_allocator.specs.Space.{IsSpace, IsChain, IsRow, Stands, blocks, last_or, first_or, name_after, size_in, give_block, join_block}
+use Rattle.offset_allocator.specs.Named.{Block, Place, named, units, place_of, free_end, without_end, free_start, without_start, remove_all, remove, names_at}
+use Rattle.offset_allocator.specs.Space.{IsSpace, IsRow, Stands, blocks, last_or, first_or, name_after, size_in, give_block, join_block}
 use Rattle.offset_allocator.specs.Orders.{Among}
 use Rattle.offset_allocator.specs.State.{AreListed, merge_before, merged_before, gone_before, merge_after, merged_after, gone_after}
-use Rattle.offset_allocator.proofs.Rows.{one-eq, times-append, units-append, IsRow-back, last_or-append}
+use Rattle.offset_allocator.proofs.Rows.{one-eq, times-append, units-append, IsRow-back}
 use Rattle.offset_allocator.proofs.Split.{each-le}
 use Rattle.offset_allocator.proofs.Found.{name_after-at, join_block-at, size_in-at}
 use Rattle.offset_allocator.proofs.Spot.{stands-below, size-told}
-use Rattle.offset_allocator.proofs.ViewSteps.{place_at, no_place, place_here}
+use Rattle.offset_allocator.proofs.ViewSteps.{place_at, no_place}
 
 head_not : (x : ℕ) (f : Block) (fs : List Block) → named x (f ∷ fs) ≡ 0 → f.name ≡ x → ⊥
 head_not x f fs h e = omega (arith, one-eq x f.name e)

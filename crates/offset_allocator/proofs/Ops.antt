@@ -1,12 +1,11 @@
 -- What each operation leaves of the links.
-use Rattle.std.proofs.Common.{◌≡◌, ◌≢◌, ◌<◌, ◌≤◌, ◌⊎◌, ℕ, zero, suc, ◌+◌, ◌-◌, ◌*◌, ◌/◌, ◌%◌, ◌^◌, List, [], ◌∷◌, refl, sym, ap, subst, ◌∙◌, inl, inr, ⊎_elim, arith, Bool, true, false, cond, not, eqb, length, get_or, set, slice_index, slice_index_or, slice_set, bit_and, bit_or, w32, w64}
-use Rattle.std.proofs.lemmas.Bool.{cases_lt, cases_eq, eqb-true, eq-eqb}
+use Rattle.std.proofs.Common.{◌≡◌, ◌≢◌, ◌<◌, ℕ, ◌*◌, ◌/◌, ◌%◌, ◌^◌, List, [], ◌∷◌, refl, sym, subst, ◌∙◌, inl, inr, arith, length, slice_index, slice_index_or, slice_set, bit_or}
 use Rattle.std.proofs.lemmas.List.{length-set, get_or-set_same, get_or-set_other, get_or_read}
 use Rattle.offset_allocator.specs.Named.{names_at}
 use Rattle.offset_allocator.specs.Orders.{Chain, Among, flag, Linked, Masked, IsUnlisted, Orders, lists_of}
-use Rattle.offset_allocator.proofs.Find.{ne-eqb, flag_name}
-use Rattle.offset_allocator.proofs.Walks.{frame, relink, removed, without_absent, among_without, once, name_below, older_among, newer_among, newer_of_first}
-use Rattle.offset_allocator.proofs.Changes.{linked_after, lists_are, masked_set, masked_same, masked_clear, masked_clear_word}
+use Rattle.offset_allocator.proofs.Find.{flag_name}
+use Rattle.offset_allocator.proofs.Walks.{relink, name_below}
+use Rattle.offset_allocator.proofs.Changes.{linked_after, lists_are, masked_set, masked_same}
 
 module _ (none : ℕ) where
   pub orders_same : (a b : List (List ℕ)) (n m : ℕ) → a ≡ b → n ≡ m → ◌≡◌ {A = Orders} (record { lists = a; limit = n }) (record { lists = b; limit = m })

@@ -1,13 +1,12 @@
 -- What it leaves of the links to take a name out of its list.
-use Rattle.std.proofs.Common.{◌≡◌, ◌≢◌, ◌<◌, ◌≤◌, ◌⊎◌, ℕ, zero, suc, ◌+◌, ◌-◌, List, [], ◌∷◌, refl, sym, ap, subst, ◌∙◌, inl, inr, ⊎_elim, arith, Bool, true, false, cond, not, eqb, length, get_or, set, slice_index, slice_index_or, slice_set, drop}
-use Rattle.std.proofs.lemmas.Bool.{cases_lt, cases_eq, eqb-true, eq-eqb}
+use Rattle.std.proofs.Common.{◌≡◌, ◌≢◌, ◌<◌, ◌⊎◌, ℕ, List, sym, subst, ◌∙◌, inl, inr, arith, cond, eqb, length, slice_index, slice_set}
+use Rattle.std.proofs.lemmas.Bool.{cases_eq, eq-eqb}
 use Rattle.std.proofs.lemmas.List.{length-set, get_or-set_same, get_or-set_other, set-get_or}
 use Rattle.offset_allocator.specs.Named.{names_at, without}
-use Rattle.offset_allocator.specs.Orders.{Chain, Among, relinked, flag, Linked, Masked, Orders, lists_of}
+use Rattle.offset_allocator.specs.Orders.{Chain, Among, relinked, Linked, Masked}
 use Rattle.offset_allocator.proofs.Find.{ne-eqb, flag_name}
-use Rattle.offset_allocator.proofs.Walks.{removed, without_absent, among_without, once, name_below, older_among, newer_among, newer_of_first, first_after}
+use Rattle.offset_allocator.proofs.Walks.{removed, among_without, name_below, older_among, newer_among, newer_of_first, first_after}
 use Rattle.offset_allocator.proofs.Changes.{linked_after, masked_same}
-use Rattle.offset_allocator.proofs.Ops.{cell_read, head_below}
 
 module _ (none : ℕ) where
   pub relinked_length : (xs : List ℕ) (i v : ℕ) → length ((relinked none) xs i v) ≡ length xs

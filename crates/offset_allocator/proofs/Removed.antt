@@ -1,7 +1,7 @@
 -- Taking a name out, as a row of writes.
-use Rattle.std.proofs.Common.{◌≡◌, ◌≢◌, ◌<◌, ◌≤◌, ℕ, List, [], ◌∷◌, refl, sym, ap, subst, ◌∙◌, arith, length, slice_index, slice_index_or, slice_set}
+use Rattle.std.proofs.Common.{◌≡◌, ◌≢◌, ◌<◌, ℕ, List, refl, arith, length, slice_index, slice_set}
 use Rattle.offset_allocator.specs.Named.{names_at, without}
-use Rattle.offset_allocator.specs.Orders.{Among, relinked, flag, Linked, Masked, lists_of, Binned, class_lists}
+use Rattle.offset_allocator.specs.Orders.{Among, relinked, Masked, Binned, class_lists}
 use Rattle.offset_allocator.specs.Cells.{Links}
 use Rattle.offset_allocator.proofs.Removal.{first_removed, later_removed, after_below, before_below, name_in, relinked_length, masks_stay}
 use Rattle.offset_allocator.proofs.Binned.{binned}

@@ -1,8 +1,8 @@
 -- Rows of linked nodes: cut, joined, and left alone by writes elsewhere.
-use Rattle.std.proofs.Common.{◌≡◌, ◌≢◌, ℕ, zero, suc, ◌+◌, ◌-◌, ◌<◌, ◌≤◌, Bool, true, false, cond, Option, None, Some, List, [], ◌∷◌, ◌++◌, length, refl, sym, ◌∙◌, ap, arith, eqb, add_assoc, zero-add, add-zero, subst, ◌⊎◌, inl, inr, nat_eq}
-use Rattle.std.proofs.lemmas.Bool.{cases_eq, eq-eqb, ne_eqb}
-use Rattle.offset_allocator.specs.Cells.{Room, Node, node}
-use Rattle.offset_allocator.specs.Space.{first_or, last_or, IsRow, walk, block_at}
+use Rattle.std.proofs.Common.{◌≡◌, ◌≢◌, ℕ, zero, suc, ◌+◌, ◌≤◌, Option, None, Some, List, [], ◌∷◌, ◌++◌, length, refl, sym, ◌∙◌, arith, add_assoc, zero-add, add-zero, nat_eq}
+use Rattle.std.proofs.lemmas.Bool.{eq-eqb, ne_eqb}
+use Rattle.offset_allocator.specs.Cells.{Room, node}
+use Rattle.offset_allocator.specs.Space.{first_or, last_or, IsRow, walk}
 use Rattle.offset_allocator.specs.Named.{Block, units, named, times, one}
 
 pub one-same : (k : ℕ) → one (nat_eq k k) ≡ 1

@@ -1,5 +1,5 @@
 -- What the fields' invariant tells of the view.
-use Rattle.std.proofs.Common.{◌≡◌, ◌≤◌, ◌∙◌, ℕ, sym, ap, subst, arith}
+use Rattle.std.proofs.Common.{◌≡◌, ◌≤◌, ap, subst, arith}
 use Rattle.offset_allocator.specs.Named.{View, IsWellFormed}
 use Rattle.offset_allocator.specs.State.{Fields, IsSound, view_of}
 use Rattle.offset_allocator.proofs.Joints.{well_counted}

@@ -1,11 +1,11 @@
 -- What the writes of `split` leave.
-use Rattle.std.proofs.Common.{◌≡◌, ◌≢◌, ℕ, zero, suc, ◌+◌, ◌-◌, ◌<◌, ◌≤◌, ◌^◌, Bool, true, false, cond, Option, None, Some, List, [], ◌∷◌, ◌++◌, length, get_or, take, refl, sym, ◌∙◌, ap, arith, inl, inr, length-append, nat_eq}
+use Rattle.std.proofs.Common.{◌≡◌, ◌≢◌, ℕ, ◌+◌, ◌-◌, ◌<◌, ◌≤◌, false, None, Some, List, [], ◌∷◌, ◌++◌, length, get_or, take, refl, sym, ◌∙◌, ap, arith, inl, inr, length-append, nat_eq}
 use Rattle.std.proofs.lemmas.List.{take_more}
-use Rattle.std.proofs.lemmas.Bool.{cases_eq, ltb-true}
-use Rattle.offset_allocator.specs.Cells.{Room, Node, node}
+use Rattle.std.proofs.lemmas.Bool.{cases_eq}
+use Rattle.offset_allocator.specs.Cells.{Room, node}
 use Rattle.offset_allocator.specs.Space.{first_or, last_or, IsRow, IsChain, spares}
 use Rattle.offset_allocator.specs.Named.{Block, units, named, times, one}
-use Rattle.offset_allocator.proofs.Rows.{one-same, one-eq, one-other, times-join, times-append, times-first, units-append, last_or-append, last_or-first, IsRow-front, IsRow-back, IsRow-append, IsRow-kept, IsRow-moved}
+use Rattle.offset_allocator.proofs.Rows.{one-same, one-eq, one-other, times-join, times-append, times-first, units-append, last_or-append, IsRow-front, IsRow-back, IsRow-append, IsRow-kept, IsRow-moved}
 
 -- the cells d after the block x, with cs behind it, was cut to n
 pub record IsCut (c d : Room) (x : ℕ) (cs : List Block) (n y : ℕ) : Type 0 where

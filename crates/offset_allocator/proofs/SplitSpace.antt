@@ -1,14 +1,13 @@
 -- The writes of `split`, at the level of the list of blocks.
-use Rattle.std.proofs.Common.{◌≡◌, ◌≢◌, ℕ, ◌+◌, ◌-◌, ◌<◌, ◌≤◌, ◌^◌, Bool, true, false, cond, Option, None, Some, List, [], ◌∷◌, ◌++◌, length, get_or, refl, sym, ◌∙◌, ap, arith, MatchOption, IfSome, subst, nat_eq}
+use Rattle.std.proofs.Common.{◌≡◌, ◌≢◌, ℕ, ◌+◌, ◌-◌, ◌<◌, ◌≤◌, ◌^◌, false, Option, None, Some, List, [], ◌∷◌, ◌++◌, length, get_or, refl, sym, ◌∙◌, ap, arith, MatchOption, IfSome, subst, nat_eq}
 use Rattle.offset_allocator.specs.Cells.{Room, Node, node, put}
-use Rattle.offset_allocator.specs.Space.{first_or, last_or, IsRow, IsChain, IsSpace, spares, Stands, blocks, size_in, split_block}
-use Rattle.offset_allocator.specs.Named.{Block, units, named, one}
+use Rattle.offset_allocator.specs.Space.{first_or, IsChain, IsSpace, spares, Stands, blocks, size_in, split_block}
+use Rattle.offset_allocator.specs.Named.{Block, named, one}
 use Rattle.offset_allocator.proofs.Nodes.{node-put, node-put_other, length-put, spare-put, put-put}
 use Rattle.offset_allocator.proofs.Rows.{one-same, one-eq, times-join, times-append, times-first}
 use Rattle.offset_allocator.proofs.Found.{split_block-at, size_in-at}
 use Rattle.offset_allocator.proofs.Split.{IsCut, split-chain, each-le, spares-more, spares-same}
 use Rattle.offset_allocator.proofs.Spot.{Spot, spot, spare-below, stands-below}
-use Rattle.offset_allocator.proofs.Views.{blocks-chain, space-chain}
 
 abbrev pub rest : Room → ℕ → ℕ → Node
 rest c x n = record { offset = (node c x).offset + n; size = (node c x).size - n; used = false; before = Some x; after = (node c x).after }

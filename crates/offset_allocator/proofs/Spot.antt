@@ -1,11 +1,11 @@
 -- A standing block of a chain: its node, and what stands around it.
-use Rattle.std.proofs.Common.{◌≡◌, ◌≢◌, ℕ, ◌+◌, ◌-◌, ◌<◌, ◌≤◌, ◌^◌, Bool, true, false, cond, Option, None, Some, List, [], ◌∷◌, ◌++◌, length, get_or, refl, sym, ◌∙◌, ap, arith}
+use Rattle.std.proofs.Common.{◌≡◌, ℕ, ◌+◌, ◌<◌, ◌^◌, None, Some, List, [], ◌∷◌, ◌++◌, length, get_or, sym, ◌∙◌, ap, arith}
 use Rattle.std.proofs.lemmas.Bool.Decides.{nat_tests}
-use Rattle.offset_allocator.specs.Cells.{Room, Node, node}
-use Rattle.offset_allocator.specs.Space.{first_or, last_or, IsRow, IsChain, IsSpace, spares, blocks, Stands, size_in, offset_in}
+use Rattle.offset_allocator.specs.Cells.{Room, node}
+use Rattle.offset_allocator.specs.Space.{first_or, last_or, IsChain, IsSpace, spares, blocks, Stands, size_in, offset_in}
 use Rattle.offset_allocator.specs.Named.{Block, units, named, times}
-use Rattle.offset_allocator.proofs.Rows.{one-same, one-eq, times-join, times-append, times-first, units-append, IsRow-back}
-use Rattle.offset_allocator.proofs.Found.{Found, find, size_in-at, offset_in-at}
+use Rattle.offset_allocator.proofs.Rows.{one-same, times-join, times-append, times-first, units-append, IsRow-back}
+use Rattle.offset_allocator.proofs.Found.{find, size_in-at, offset_in-at}
 use Rattle.offset_allocator.proofs.Split.{spares-more}
 
 pub record Spot (c : Room) (m x : ℕ) (bs : List Block) : Type 0 where

@@ -1,7 +1,7 @@
 -- What reads of cells tell of the view.
-use Rattle.std.proofs.Common.{◌≡◌, ℕ, ◌+◌, ◌<◌, ◌≤◌, Bool, true, false, List, ◌∷◌, ◌++◌, length, Option, None, Some, if◌then◌else◌, refl, sym, ap, subst, ◌∙◌, arith}
+use Rattle.std.proofs.Common.{◌≡◌, ℕ, ◌≤◌, Bool, true, false, List, Option, None, Some, if◌then◌else◌, refl, sym, ap, subst, ◌∙◌}
 use Rattle.offset_allocator.specs.Cells.{Cells, Node, node}
-use Rattle.offset_allocator.specs.Named.{Block, View, Place, named, place_of, is_used_at, size_at}
+use Rattle.offset_allocator.specs.Named.{Block, Place, place_of, is_used_at, size_at}
 use Rattle.offset_allocator.specs.Space.{blocks, IsRow}
 use Rattle.offset_allocator.specs.State.{IsSound}
 use Rattle.offset_allocator.proofs.Merging.{node_at}

@@ -1,7 +1,7 @@
 -- A name that is unused.
-use Rattle.std.proofs.Common.{◌≡◌, ℕ, ◌+◌, ◌-◌, ◌<◌, ◌≤◌, List, [], ◌∷◌, ◌++◌, length, get_or, sym, ◌∙◌, ap, arith, subst}
+use Rattle.std.proofs.Common.{◌≡◌, ℕ, ◌+◌, ◌-◌, ◌≤◌, [], ◌∷◌, ◌++◌, length, get_or, arith}
 use Rattle.offset_allocator.specs.Cells.{Cells}
-use Rattle.offset_allocator.specs.Named.{View, IsUnused, times}
+use Rattle.offset_allocator.specs.Named.{IsUnused, times}
 use Rattle.offset_allocator.specs.Space.{IsChain, blocks, spares}
 use Rattle.offset_allocator.specs.State.{IsSound, view_of}
 use Rattle.offset_allocator.proofs.Rows.{one-same, times-join}

@@ -1,12 +1,12 @@
 -- When a request is granted, and how well what it takes fits.
-use Rattle.std.proofs.Common.{◌≡◌, ◌≢◌, ℕ, zero, suc, ◌+◌, ◌-◌, ◌*◌, ◌^◌, ◌<◌, ◌≤◌, Bool, true, false, not, ◌&&◌, ◌⊎◌, ◌↔◌, List, [], ◌∷◌, ◌++◌, length, Option, Some, None, is_some, nat_eq, nat_le, if◌then◌else◌, IsSome, refl, sym, ap, ap₂, subst, ◌∙◌, inl, inr, arith, eq-eqb, leb-true, leb-false, le_trans}
+use Rattle.std.proofs.Common.{◌≡◌, ℕ, ◌+◌, ◌*◌, ◌^◌, ◌<◌, ◌≤◌, Bool, true, false, not, ◌⊎◌, ◌↔◌, List, [], ◌∷◌, ◌++◌, length, Option, Some, None, is_some, if◌then◌else◌, IsSome, refl, sym, ap, ap₂, subst, ◌∙◌, inl, inr, arith, eq-eqb, leb-true, le_trans}
 use Rattle.offset_allocator.specs.Relations.{Allocates, IsCutNearBest}
 use Rattle.std.specs.List.{AllByRecursion}
 use Rattle.std.proofs.lemmas.Bool.{cases_lt, true≢false, false≢true}
-use Rattle.offset_allocator.specs.Classes.{value, up, down}
+use Rattle.offset_allocator.specs.Classes.{value, down}
 use Rattle.offset_allocator.specs.Reports.{largest, IsNearBestFit, IsGoodRefusal}
-use Rattle.offset_allocator.specs.Named.{Block, View, Place, Grant, Outcome, is_free, one, times, listed, units, names_at, free_sizes, largest_free, IsWellFormed, taken, is_short_of, refused, granted_at, allocate, place_of}
-use Rattle.offset_allocator.proofs.ViewOrders.{if_value, hit_cases, tally_append}
+use Rattle.offset_allocator.specs.Named.{Block, View, Place, Grant, is_free, times, listed, units, names_at, free_sizes, largest_free, IsWellFormed, taken, is_short_of, refused, granted_at, allocate, place_of}
+use Rattle.offset_allocator.proofs.ViewOrders.{if_value}
 use Rattle.offset_allocator.proofs.ViewSteps.{place_here}
 use Rattle.offset_allocator.proofs.ViewTaken.{IsTaken, taken_at, not_taken}
 use Rattle.offset_allocator.proofs.Classes.{serves, near_best, up_law, down_law}

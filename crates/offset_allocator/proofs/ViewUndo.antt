@@ -1,11 +1,11 @@
 -- A request that is granted, and released at once, leaves no trace.
-use Rattle.std.proofs.Common.{◌≡◌, ◌≢◌, ℕ, zero, suc, ◌+◌, ◌-◌, ◌<◌, ◌≤◌, Bool, true, false, not, cond, ◌&&◌, ◌⊎◌, List, [], ◌∷◌, ◌++◌, length, Option, Some, None, nat_eq, slice_set, if◌then◌else◌, refl, sym, ap, ap₂, subst, ◌∙◌, inl, inr, arith, eq-eqb, ne_eqb, append_assoc}
-use Rattle.std.proofs.lemmas.List.{set-get_or, length-set}
-use Rattle.std.proofs.lemmas.Bool.{true≢false, false≢true}
+use Rattle.std.proofs.Common.{◌≡◌, ℕ, zero, suc, ◌+◌, ◌-◌, ◌<◌, Bool, true, false, not, ◌&&◌, List, [], ◌∷◌, ◌++◌, length, Option, Some, None, slice_set, if◌then◌else◌, refl, sym, ap, ap₂, subst, ◌∙◌, inl, inr, arith, eq-eqb, ne_eqb}
+use Rattle.std.proofs.lemmas.List.{set-get_or}
+use Rattle.std.proofs.lemmas.Bool.{false≢true}
 use Rattle.offset_allocator.specs.Classes.{up, down}
-use Rattle.offset_allocator.specs.Named.{Block, View, Place, Grant, is_free, used_block, free_block, one, units, times, named, listed, starts_free, IsApart, names_at, put_first, without, remove, put_all, remove_all, free_start, without_start, free_end, without_end, free_part, IsWellFormed, IsUnused, replaced, place_of, granted, granted_at, joined, freed_at, free, taken, allocate, is_short_of, refused, is_used_at}
+use Rattle.offset_allocator.specs.Named.{Block, View, Place, Grant, is_free, used_block, free_block, units, times, starts_free, IsApart, names_at, put_first, without, remove, put_all, remove_all, free_start, without_start, free_end, without_end, free_part, IsWellFormed, IsUnused, place_of, granted, granted_at, freed_at, free, taken, allocate, is_short_of, refused, is_used_at}
 use Rattle.offset_allocator.specs.Relations.{IsUndone, IsBut, IsLive, Allocates}
-use Rattle.offset_allocator.proofs.ViewOrders.{tally_append, hit_cases, names_same, length_remove, times_remove}
+use Rattle.offset_allocator.proofs.ViewOrders.{hit_cases, names_same, length_remove, times_remove}
 use Rattle.offset_allocator.proofs.ViewReplaced.{listed_named}
 use Rattle.offset_allocator.proofs.ViewApart.{apart_parts, first_false, second_false, ends_free}
 use Rattle.offset_allocator.proofs.ViewSteps.{place_here}

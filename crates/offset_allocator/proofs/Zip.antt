@@ -6,7 +6,7 @@ use Rattle.std.proofs.lemmas.List.FromFn.{length-map-range_with_len, get_or-map-
 use Rattle.std.proofs.Math.Seq.{get_or-append_seam}
 use Rattle.std.proofs.lemmas.Bool.{cases_eq, cases_lt}
 use Rattle.std.proofs.lemmas.Grind.{common_steps}
-use Rattle.offset_allocator.specs.Cells.{Cells, Room, Links, Node, blank, nodes_of, node, put, link_of, links_of, AreShaped}
+use Rattle.offset_allocator.specs.Cells.{Cells, Links, Node, blank, nodes_of, node, put, link_of, links_of, AreShaped}
 use Rattle.offset_allocator.specs.View.{cells_of, AreEven}
 use Rattle.offset_allocator.specs.declared.tables.Tables.TheInside.{Inside}
 

@@ -1,6 +1,5 @@
 -- The 256 lists of names, as links in tables, and the masks that say which are not empty.
-use Rattle.std.specs.Prelude.{ℕ, ◌≡◌, ◌<◌, ◌≤◌, ◌+◌, ◌/◌, ◌%◌, ◌^◌, ◌⊎◌, Bool, cond, not, nat_eq, nat_lt, zero, suc, List, [], ◌∷◌, map, length, slice_index, slice_index_or, slice_set}
-use Rattle.std.specs.List.{filter}
+use Rattle.std.specs.Prelude.{ℕ, ◌≡◌, ◌<◌, ◌≤◌, ◌/◌, ◌%◌, ◌^◌, ◌⊎◌, cond, nat_eq, zero, suc, List, [], ◌∷◌, map, length, slice_index, slice_set}
 use Rattle.std.specs.Int.{bit_at}
 use Rattle.offset_allocator.specs.Cells.{Links}
 use Rattle.offset_allocator.specs.Named.{names_at}

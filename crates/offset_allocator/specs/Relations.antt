@@ -1,5 +1,5 @@
 -- What the contracts of an allocator say of its views.
-use Rattle.std.specs.Prelude.{◌≡◌, ◌≢◌, ℕ, ◌<◌, ◌^◌, List, [], ◌∷◌, replicate, Bool, true, false, Option, Some}
+use Rattle.std.specs.Prelude.{◌≡◌, ◌≢◌, ℕ, ◌<◌, ◌^◌, [], ◌∷◌, replicate, Bool, true, false, Option, Some}
 use Rattle.offset_allocator.specs.Classes.{down}
 use Rattle.offset_allocator.specs.Reports.{IsNearBestFit}
 use Rattle.offset_allocator.specs.Named.{View, Grant, Place, free_sizes, IsUnused, allocate, allocate_aligned, free, extend, reset, free_block, put_first, place_of, is_used_at, is_short_of}

@@ -1,8 +1,7 @@
 -- The blocks of a space in order, and how linked nodes stand for them.
-use Rattle.std.specs.Prelude.{ℕ, suc, Bool, true, false, List, [], ◌∷◌, ◌++◌, Option, Some, None, ◌==◌, nat_lt, cond, length, take, slice_index, slice_index_or, ◌≡◌, ◌+◌, ◌-◌, ◌^◌, ◌<◌, ◌≤◌}
+use Rattle.std.specs.Prelude.{ℕ, suc, Bool, false, List, [], ◌∷◌, Option, Some, None, ◌==◌, nat_lt, cond, length, take, ◌≡◌, ◌+◌, ◌-◌, ◌^◌, ◌<◌, ◌≤◌}
 use Rattle.std.proofs.Common.{zero}
-use Rattle.std.specs.List.{All}
-use Rattle.offset_allocator.specs.Cells.{Room, Node, node}
+use Rattle.offset_allocator.specs.Cells.{Room, node}
 use Rattle.offset_allocator.specs.Named.{Block, units, named, times}
 
 -- the name of the first block, or q where there is none

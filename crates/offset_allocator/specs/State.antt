@@ -1,10 +1,10 @@
 -- What is true of an allocator's fields.
-use Rattle.std.specs.Prelude.{◌≡◌, ℕ, ◌+◌, ◌<◌, replicate, length, Bool, true, false, List, [], ◌∷◌, ◌++◌, Option, Some, None, if◌then◌else◌}
+use Rattle.std.specs.Prelude.{◌≡◌, ℕ, ◌+◌, ◌<◌, length, false, List, [], ◌∷◌, ◌++◌, Option, Some, None, if◌then◌else◌}
 use Rattle.offset_allocator.specs.Classes.{down}
-use Rattle.offset_allocator.specs.Cells.{Cells, node}
+use Rattle.offset_allocator.specs.Cells.{Cells}
 use Rattle.offset_allocator.specs.Orders.{Binned, class_lists, Among}
 use Rattle.offset_allocator.specs.Space.{IsSpace, blocks}
-use Rattle.offset_allocator.specs.Named.{View, Block, IsWellFormed, IsUnused, Grant, Outcome, Place, allocate, tally, units, place_of, free_end, without_end, free_start, without_start, is_used_at, free_block, put_first, times, names_at, listed}
+use Rattle.offset_allocator.specs.Named.{View, Block, IsWellFormed, Place, tally, units, place_of, free_end, without_end, free_start, without_start, times, names_at, listed}
 
 -- the units of the free blocks
 abbrev pub free_units : List Block → ℕ

@@ -12,7 +12,15 @@ use crate::tables::Tables;
 
 // Writes the cells of the unused node y, for a free block.
 #[tactic(auto, using(crate::proofs::Nodes::lengths))]
-fn place<NI: NodeIndex>(t: &mut Tables<NI>, y: u32, offset: u32, size: u32, before: u32, after: NI, count: &mut Accesses)
+fn place<NI: NodeIndex>(
+    t: &mut Tables<NI>,
+    y: u32,
+    offset: u32,
+    size: u32,
+    before: u32,
+    after: NI,
+    count: &mut Accesses,
+)
     requires name { y < length t.old.room.nodes }
     requires idle { (node t.old.room y).used ≡ false }
     requires before { before < length t.old.room.nodes }
@@ -27,7 +35,13 @@ fn place<NI: NodeIndex>(t: &mut Tables<NI>, y: u32, offset: u32, size: u32, befo
 }
 
 // Makes y the node before the one that a link names, or the last one.
-fn point_back<NI: NodeIndex>(t: &mut Tables<NI>, last: &mut u32, link: NI, y: u32, count: &mut Accesses)
+fn point_back<NI: NodeIndex>(
+    t: &mut Tables<NI>,
+    last: &mut u32,
+    link: NI,
+    y: u32,
+    count: &mut Accesses,
+)
     requires link { IfSome (link_of NI.MAX (NI.number link)) (λ z. z < length t.old.room.nodes) }
     requires name { y < length t.old.room.nodes }
     ensures cells { MatchOption (link_of NI.MAX (NI.number link)) (t.new.room ≡ t.old.room) (λ z. t.new.room ≡ put t.old.room z (record (node t.old.room z) { before = Some y })) }
@@ -59,7 +73,13 @@ fn point_on<NI: NodeIndex>(t: &mut Tables<NI>, link: NI, y: u32, count: &mut Acc
 }
 
 /// The offset of the block x.
-pub(crate) fn offset<NI: NodeIndex>(t: &Tables<NI>, last: u32, spare_count: u32, x: u32, count: &mut Accesses) -> u32
+pub(crate) fn offset<NI: NodeIndex>(
+    t: &Tables<NI>,
+    last: u32,
+    spare_count: u32,
+    x: u32,
+    count: &mut Accesses,
+) -> u32
     requires space { IsSpace t.now.room last spare_count }
     requires standing { Stands x (blocks t.now.room last) }
     ensures offset { result ≡ offset_in x (blocks t.now.room last) }
@@ -69,7 +89,13 @@ pub(crate) fn offset<NI: NodeIndex>(t: &Tables<NI>, last: u32, spare_count: u32,
 }
 
 /// The size of the block x.
-pub(crate) fn size<NI: NodeIndex>(t: &Tables<NI>, last: u32, spare_count: u32, x: u32, count: &mut Accesses) -> u32
+pub(crate) fn size<NI: NodeIndex>(
+    t: &Tables<NI>,
+    last: u32,
+    spare_count: u32,
+    x: u32,
+    count: &mut Accesses,
+) -> u32
     requires space { IsSpace t.now.room last spare_count }
     requires standing { Stands x (blocks t.now.room last) }
     ensures size { result ≡ size_in x (blocks t.now.room last) }
@@ -80,7 +106,16 @@ pub(crate) fn size<NI: NodeIndex>(t: &Tables<NI>, last: u32, spare_count: u32, x
 
 /// Cuts the block x, of this offset and size, to n units. The rest becomes a free block directly
 /// behind it, under the name that is answered.
-pub(crate) fn split<NI: NodeIndex>(t: &mut Tables<NI>, last: &mut u32, spare_count: &mut u32, x: u32, offset: u32, size: u32, n: u32, count: &mut Accesses) -> u32
+pub(crate) fn split<NI: NodeIndex>(
+    t: &mut Tables<NI>,
+    last: &mut u32,
+    spare_count: &mut u32,
+    x: u32,
+    offset: u32,
+    size: u32,
+    n: u32,
+    count: &mut Accesses,
+) -> u32
     requires space { IsSpace t.old.room last.old spare_count.old }
     requires standing { Stands x (blocks t.old.room last.old) }
     requires room { 0 < spare_count.old }
@@ -110,7 +145,15 @@ pub(crate) fn split<NI: NodeIndex>(t: &mut Tables<NI>, last: &mut u32, spare_cou
 
 /// Joins the free block y into the block x directly before it; total is the size of both. The name
 /// y is unused again.
-pub(crate) fn join_after<NI: NodeIndex>(t: &mut Tables<NI>, last: &mut u32, spare_count: &mut u32, x: u32, y: u32, total: u32, count: &mut Accesses)
+pub(crate) fn join_after<NI: NodeIndex>(
+    t: &mut Tables<NI>,
+    last: &mut u32,
+    spare_count: &mut u32,
+    x: u32,
+    y: u32,
+    total: u32,
+    count: &mut Accesses,
+)
     requires space { IsSpace t.old.room last.old spare_count.old }
     requires standing { Stands x (blocks t.old.room last.old) }
     requires next { name_after x (blocks t.old.room last.old) ≡ Some y }
@@ -134,7 +177,15 @@ pub(crate) fn join_after<NI: NodeIndex>(t: &mut Tables<NI>, last: &mut u32, spar
 
 /// Joins the free block w into the block x directly behind it; total is the size of both. The name
 /// w is unused again.
-pub(crate) fn join_before<NI: NodeIndex>(t: &mut Tables<NI>, last: u32, spare_count: &mut u32, w: u32, x: u32, total: u32, count: &mut Accesses)
+pub(crate) fn join_before<NI: NodeIndex>(
+    t: &mut Tables<NI>,
+    last: u32,
+    spare_count: &mut u32,
+    w: u32,
+    x: u32,
+    total: u32,
+    count: &mut Accesses,
+)
     requires space { IsSpace t.old.room last spare_count.old }
     requires standing { Stands w (blocks t.old.room last) }
     requires next { name_after w (blocks t.old.room last) ≡ Some x }
@@ -159,7 +210,14 @@ pub(crate) fn join_before<NI: NodeIndex>(t: &mut Tables<NI>, last: u32, spare_co
 }
 
 /// Makes the block x used or free.
-pub(crate) fn mark<NI: NodeIndex>(t: &mut Tables<NI>, last: u32, spare_count: u32, x: u32, used: bool, count: &mut Accesses)
+pub(crate) fn mark<NI: NodeIndex>(
+    t: &mut Tables<NI>,
+    last: u32,
+    spare_count: u32,
+    x: u32,
+    used: bool,
+    count: &mut Accesses,
+)
     requires space { IsSpace t.old.room last spare_count }
     requires standing { Stands x (blocks t.old.room last) }
     ensures space { IsSpace t.new.room last spare_count }

@@ -66,23 +66,28 @@ fn handle_of<NI: NodeIndex>(offset: u32, name: u32) -> Allocation<NI>
     Allocation::make(offset, NI::from_u32(name).to_nonmax().unwrap())
 }
 
-// Makes the whole space one free block, under the name 0, in tables with nothing written. It answers the top mask.
-fn start<NI: NodeIndex>(tables: &mut Tables<NI>, size: u32, max_allocs: u32) -> u32
+// Makes the whole space one free block, under the name 0, in tables with nothing written. It answers
+// the top mask.
+fn start<NI: NodeIndex>(
+    tables: &mut Tables<NI>,
+    size: u32,
+    max_allocs: u32,
+    count: &mut Accesses,
+) -> u32
     requires empty { tables.old ≡ empty_cells NI.MAX max_allocs }
     requires least { 2 ≤ max_allocs }
     requires most { max_allocs + 1 < NI.MAX }
     ensures { IsStarted NI.MAX size max_allocs tables.new result }
 {
-    let mut count = Accesses::new();
     let mut top_mask = 0;
-    tables.set_size(0, size, &mut count);
+    tables.set_size(0, size, count);
     tables.shape();
     bins::put_first(
         tables,
         &mut top_mask,
         0,
         uint_to_float_round_down(size),
-        &mut count,
+        count,
     );
     top_mask
 }
@@ -97,14 +102,17 @@ impl<NI: NodeIndex> Allocator<NI> {
         Self::with_max_allocs(alloc, size, 131072u32.min(NI::MAX - 2))
     }
 
-    /// A space with so many nodes.
+    /// A space of `size` units, all free, with `max_allocs` as the node limit: at most `max_allocs - 1`
+    /// blocks stand at a time, so at most `max_allocs - 2` grants are live.
+    ///
+    /// An error comes only where memory was refused. Then nothing is made.
     pub fn with_max_allocs(alloc: Global, size: u32, max_allocs: u32) -> Result<Self, AllocError>
         requires least { 2 ≤ max_allocs }
         requires most { max_allocs + 1 < NI.MAX }
         ensures { IfOk result (IsFresh size max_allocs) }
     {
         let mut tables = Tables::with_len(alloc, max_allocs)?;
-        let top_mask = start(&mut tables, size, max_allocs);
+        let top_mask = start(&mut tables, size, max_allocs, &mut Accesses::new());
         Ok(Allocator {
             size,
             max_allocs,
@@ -117,13 +125,18 @@ impl<NI: NodeIndex> Allocator<NI> {
         })
     }
 
-    /// Makes the whole space one free block again, in place. It takes no memory and always succeeds. The block of
-    /// every earlier handle is gone.
+    /// Makes the whole space one free block again, in place. It takes no memory and always succeeds.
+    /// The block of every earlier handle is gone.
     pub fn reset(&mut self)
         ensures step { Resets self.old self.new }
     {
         self.tables.clear();
-        self.top_mask = start(&mut self.tables, self.size, self.max_allocs);
+        self.top_mask = start(
+            &mut self.tables,
+            self.size,
+            self.max_allocs,
+            &mut self.accesses,
+        );
         self.free_total = self.size;
         self.spare_count = self.max_allocs - 1;
         self.last = 0;
@@ -213,6 +226,167 @@ impl<NI: NodeIndex> Allocator<NI> {
             None => None,
             Some(class) => Some(self.grant(class, size)),
         }
+    }
+
+    /// Gives a granted range back. It is joined with the free ranges beside it.
+    pub fn free(&mut self, allocation: Allocation<NI>)
+        requires live { IsLive allocation.name self.old }
+        ensures step { IsBut (free allocation.name self.old) self.new }
+        ensures grows { self.old.accesses ≤ self.new.accesses }
+        ensures count { self.new.accesses ≤ self.old.accesses + 128 }
+    {
+        let name = index::number(NI::of_nonmax(allocation.name()));
+        let size = chain::size(
+            &self.tables,
+            self.last,
+            self.spare_count,
+            name,
+            &mut self.accesses,
+        );
+        self.free_total += size;
+        let size = merge::with_before(
+            &mut self.tables,
+            &mut self.top_mask,
+            self.last,
+            &mut self.spare_count,
+            name,
+            size,
+            &mut self.accesses,
+        );
+        let size = merge::with_after(
+            &mut self.tables,
+            &mut self.top_mask,
+            &mut self.last,
+            &mut self.spare_count,
+            name,
+            size,
+            &mut self.accesses,
+        );
+        chain::mark(
+            &mut self.tables,
+            self.last,
+            self.spare_count,
+            name,
+            false,
+            &mut self.accesses,
+        );
+        self.tables.shape();
+        bins::put_first(
+            &mut self.tables,
+            &mut self.top_mask,
+            name,
+            uint_to_float_round_down(size),
+            &mut self.accesses,
+        );
+    }
+
+    // Whether a name is that of a used block.
+    fn uses(&self, name: u32, count: &mut Accesses) -> bool
+        ensures used { result ≡ is_used_at (place_of name self.now.blocks) }
+        ensures grows { count.old ≤ count.new }
+        ensures count { count.new ≤ count.old + 1 }
+    {
+        if name < self.max_allocs {
+            self.tables.used(name, count)
+        } else {
+            false
+        }
+    }
+
+    // Whether a handle is live, with a count of the accesses.
+    pub(crate) fn is_live_counted(&self, allocation: Allocation<NI>, count: &mut Accesses) -> bool
+        ensures live { IsTrue result ↔ IsLive allocation.name self.now }
+        ensures grows { count.old ≤ count.new }
+        ensures count { count.new ≤ count.old + 8 }
+    {
+        self.uses(index::number(NI::of_nonmax(allocation.name())), count)
+    }
+
+    /// Whether the handle is live here: its name is the name of a used block. `free` asks for exactly this.
+    ///
+    /// A handle whose block was freed is live again where a newer grant has its name.
+    pub fn is_live(&self, allocation: Allocation<NI>) -> bool
+        ensures { IsTrue result ↔ IsLive allocation.name self.now }
+    {
+        self.is_live_counted(allocation, &mut Accesses::new())
+    }
+
+    // The size of a granted range, with a count of the accesses.
+    pub(crate) fn allocation_size_counted(
+        &self,
+        allocation: Allocation<NI>,
+        count: &mut Accesses,
+    ) -> u32
+        ensures size { result ≡ size_at (place_of allocation.name self.now.blocks) }
+        ensures grows { count.old ≤ count.new }
+        ensures count { count.new ≤ count.old + 8 }
+    {
+        let name = index::number(NI::of_nonmax(allocation.name()));
+        if self.uses(name, count) {
+            self.tables.size(name, count)
+        } else {
+            0
+        }
+    }
+
+    /// The units of the range that a live handle has: exactly what was asked for. It is 0 where the handle isn't live.
+    pub fn allocation_size(&self, allocation: Allocation<NI>) -> u32
+        ensures { result ≡ size_at (place_of allocation.name self.now.blocks) }
+    {
+        self.allocation_size_counted(allocation, &mut Accesses::new())
+    }
+
+    // The short report, with a count of its accesses.
+    pub(crate) fn storage_report_counted(&self, count: &mut Accesses) -> StorageReport
+        ensures report { IsReport result self.now }
+        ensures grows { count.old ≤ count.new }
+        ensures count { count.new ≤ count.old + 8 }
+    {
+        if self.spare_count < 2 {
+            return StorageReport {
+                total_free_space: 0,
+                largest_free_region: 0,
+            };
+        }
+        let largest_free_region = match bins::greatest(&self.tables, self.top_mask, count) {
+            None => 0,
+            Some(class) => float_to_uint(class),
+        };
+        StorageReport {
+            total_free_space: self.free_total,
+            largest_free_region,
+        }
+    }
+
+    /// The free space in short: the units of all free blocks, and the greatest request that would be granted. Both are
+    /// 0 where the node limit's last block stands, `max_allocs - 1` blocks in all.
+    pub fn storage_report(&self) -> StorageReport
+        ensures { IsReport result self.now }
+    {
+        self.storage_report_counted(&mut Accesses::new())
+    }
+
+    // The full report, with a count of its accesses.
+    pub(crate) fn storage_report_full_counted(&self, count: &mut Accesses) -> StorageReportFull
+        ensures report { IsFullReport result self.now }
+        ensures grows { count.old ≤ count.new }
+        ensures count { count.new ≤ count.old + 512 + 2 * length (free_sizes self.now.blocks) }
+    {
+        let mut report = StorageReportFull::default();
+        for class in 0..256u32 {
+            report.free_regions[class as usize] = StorageReportFullRegion {
+                size: float_to_uint(class),
+                count: bins::length_of(&self.tables, class, count),
+            };
+        }
+        report
+    }
+
+    /// The free blocks, class by class, at the node limit too. It goes over all free blocks.
+    pub fn storage_report_full(&self) -> StorageReportFull
+        ensures { IsFullReport result self.now }
+    {
+        self.storage_report_full_counted(&mut Accesses::new())
     }
 
     // Grants units of the newest block of a class, from the first multiple of `align` in it on.
@@ -393,76 +567,11 @@ impl<NI: NodeIndex> Allocator<NI> {
             self.widen(more);
             return true;
         }
-        if self.spare_count <= 1 {
+        if self.spare_count < 2 {
             return false;
         }
         self.append(more);
         true
-    }
-
-    /// Gives a granted range back. It is joined with the free ranges beside it.
-    pub fn free(&mut self, allocation: Allocation<NI>)
-        requires live { IsLive allocation.name self.old }
-        ensures step { IsBut (free allocation.name self.old) self.new }
-        ensures grows { self.old.accesses ≤ self.new.accesses }
-        ensures count { self.new.accesses ≤ self.old.accesses + 128 }
-    {
-        let name = index::number(NI::of_nonmax(allocation.name()));
-        let size = chain::size(
-            &self.tables,
-            self.last,
-            self.spare_count,
-            name,
-            &mut self.accesses,
-        );
-        self.free_total += size;
-        let size = merge::with_before(
-            &mut self.tables,
-            &mut self.top_mask,
-            self.last,
-            &mut self.spare_count,
-            name,
-            size,
-            &mut self.accesses,
-        );
-        let size = merge::with_after(
-            &mut self.tables,
-            &mut self.top_mask,
-            &mut self.last,
-            &mut self.spare_count,
-            name,
-            size,
-            &mut self.accesses,
-        );
-        chain::mark(
-            &mut self.tables,
-            self.last,
-            self.spare_count,
-            name,
-            false,
-            &mut self.accesses,
-        );
-        self.tables.shape();
-        bins::put_first(
-            &mut self.tables,
-            &mut self.top_mask,
-            name,
-            uint_to_float_round_down(size),
-            &mut self.accesses,
-        );
-    }
-
-    // Whether a name is that of a used block.
-    fn uses(&self, name: u32, count: &mut Accesses) -> bool
-        ensures used { result ≡ is_used_at (place_of name self.now.blocks) }
-        ensures grows { count.old ≤ count.new }
-        ensures count { count.new ≤ count.old + 1 }
-    {
-        if name < self.max_allocs {
-            self.tables.used(name, count)
-        } else {
-            false
-        }
     }
 
     /// The blocks and the class lists agree.
@@ -470,102 +579,6 @@ impl<NI: NodeIndex> Allocator<NI> {
         ensures { IsWellFormed self.now }
     {
         let _ = &self.size;
-    }
-
-    // Whether a handle is live, with a count of the accesses.
-    pub(crate) fn is_live_counted(&self, allocation: Allocation<NI>, count: &mut Accesses) -> bool
-        ensures live { IsTrue result ↔ IsLive allocation.name self.now }
-        ensures grows { count.old ≤ count.new }
-        ensures count { count.new ≤ count.old + 8 }
-    {
-        self.uses(index::number(NI::of_nonmax(allocation.name())), count)
-    }
-
-    /// Whether the handle is live here: its name is the name of a used block. `free` asks for exactly this.
-    ///
-    /// A handle whose block was freed is live again where a newer grant has its name.
-    pub fn is_live(&self, allocation: Allocation<NI>) -> bool
-        ensures { IsTrue result ↔ IsLive allocation.name self.now }
-    {
-        self.is_live_counted(allocation, &mut Accesses::new())
-    }
-
-    // The size of a granted range, with a count of the accesses.
-    pub(crate) fn allocation_size_counted(
-        &self,
-        allocation: Allocation<NI>,
-        count: &mut Accesses,
-    ) -> u32
-        ensures size { result ≡ size_at (place_of allocation.name self.now.blocks) }
-        ensures grows { count.old ≤ count.new }
-        ensures count { count.new ≤ count.old + 8 }
-    {
-        let name = index::number(NI::of_nonmax(allocation.name()));
-        if self.uses(name, count) {
-            self.tables.size(name, count)
-        } else {
-            0
-        }
-    }
-
-    /// The units of the range that a live handle has: exactly what was asked for. It is 0 where the handle isn't live.
-    pub fn allocation_size(&self, allocation: Allocation<NI>) -> u32
-        ensures { result ≡ size_at (place_of allocation.name self.now.blocks) }
-    {
-        self.allocation_size_counted(allocation, &mut Accesses::new())
-    }
-
-    // The short report, with a count of its accesses.
-    pub(crate) fn storage_report_counted(&self, count: &mut Accesses) -> StorageReport
-        ensures report { IsReport result self.now }
-        ensures grows { count.old ≤ count.new }
-        ensures count { count.new ≤ count.old + 8 }
-    {
-        if self.spare_count <= 1 {
-            return StorageReport {
-                total_free_space: 0,
-                largest_free_region: 0,
-            };
-        }
-        let largest_free_region = match bins::greatest(&self.tables, self.top_mask, count) {
-            None => 0,
-            Some(class) => float_to_uint(class),
-        };
-        StorageReport {
-            total_free_space: self.free_total,
-            largest_free_region,
-        }
-    }
-
-    /// The free space in short: the units of all free blocks, and the greatest request that would be granted. Both are
-    /// 0 where the node limit's last block stands, `max_allocs - 1` blocks in all.
-    pub fn storage_report(&self) -> StorageReport
-        ensures { IsReport result self.now }
-    {
-        self.storage_report_counted(&mut Accesses::new())
-    }
-
-    // The full report, with a count of its accesses.
-    pub(crate) fn storage_report_full_counted(&self, count: &mut Accesses) -> StorageReportFull
-        ensures report { IsFullReport result self.now }
-        ensures grows { count.old ≤ count.new }
-        ensures count { count.new ≤ count.old + 512 + 2 * length (free_sizes self.now.blocks) }
-    {
-        let mut report = StorageReportFull::default();
-        for class in 0..256u32 {
-            report.free_regions[class as usize] = StorageReportFullRegion {
-                size: float_to_uint(class),
-                count: bins::length_of(&self.tables, class, count),
-            };
-        }
-        report
-    }
-
-    /// The free blocks, class by class, at the node limit too. It goes over all free blocks.
-    pub fn storage_report_full(&self) -> StorageReportFull
-        ensures { IsFullReport result self.now }
-    {
-        self.storage_report_full_counted(&mut Accesses::new())
     }
 }
 

@@ -1,5 +1,4 @@
-use Rattle.std.proofs.Common.{ap, subst, arith, refl, ◌↔◌, Some, IsSome, ◌∙◌, sym, ◌≡◌, ◌≤◌, ◌<◌, ℕ, List, [], None}
-use Rattle.offset_allocator.specs.Classes.{up}
+use Rattle.std.proofs.Common.{subst, arith, refl, ◌↔◌, Some, IsSome, ◌≡◌, ◌≤◌, ◌<◌, ℕ, [], None}
 use Rattle.offset_allocator.specs.Named.{View, names_at, largest_free}
 use Rattle.offset_allocator.specs.Orders.{class_lists}
 use Rattle.offset_allocator.specs.State.{view_of}

@@ -26,8 +26,8 @@ pub widen-requires-clause-idle : goal.widen-requires-clause-idle
 widen-requires-clause-idle g c =
     sym (used_at_end g.NI.NodeIndex.MAX c.self.inside.size c.self.inside.max_allocs c.self.inside.tables c.self.inside.last c.self.inside.spare_count c.self.inside.top_mask c.self.inside.free_total c.self.inside.accesses c.args.more c.self.invariant) ∙ sym c.if-not-used.ensures.cell
 
-pub returns-then-self-le1-clause-step : goal.returns-then-self-le1-clause-step
-returns-then-self-le1-clause-step g c =
+pub returns-then-self-lt2-clause-step : goal.returns-then-self-lt2-clause-step
+returns-then-self-lt2-clause-step g c =
     let P : View → Type 0 = λ u. Extends c.args.more u (view_of g.NI.NodeIndex.MAX c.self.inside.size c.self.inside.max_allocs c.self.inside.tables c.self.inside.last c.used.new.count) false in
     let used = sym (used_at_end g.NI.NodeIndex.MAX c.self.inside.size c.self.inside.max_allocs c.self.inside.tables c.self.inside.last c.self.inside.spare_count c.self.inside.top_mask c.self.inside.free_total c.self.inside.accesses c.args.more c.self.invariant) ∙ sym c.if-not-used.ensures.cell in
     subst P c.self.view_is (full g.NI.NodeIndex.MAX c.self.inside.size c.self.inside.max_allocs c.self.inside.tables c.self.inside.last c.self.inside.spare_count c.self.inside.top_mask c.self.inside.free_total c.self.inside.accesses c.args.more c.self.invariant c.used.new.count (omega arith) used (is_short g.NI.NodeIndex.MAX c.self.inside.size c.self.inside.max_allocs c.self.inside.tables c.self.inside.last c.self.inside.spare_count c.self.inside.top_mask c.self.inside.free_total c.self.inside.accesses c.args.more c.self.invariant (omega arith)))

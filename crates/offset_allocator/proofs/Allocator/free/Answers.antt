@@ -1,7 +1,7 @@
-use Rattle.std.proofs.Common.{◌≡◌, ◌≤◌, ◌<◌, ◌+◌, ◌∙◌, ◌^◌, ℕ, List, length, true, false, sym, ap, ap₂, subst, arith}
+use Rattle.std.proofs.Common.{◌≡◌, ◌+◌, ◌∙◌, ℕ, List, length, false, sym, ap, ap₂, subst, arith}
 use Rattle.offset_allocator.specs.Classes.{down}
 use Rattle.offset_allocator.specs.Cells.{Room, Links}
-use Rattle.offset_allocator.specs.Named.{Block, View, place_of, is_used_at, remove_all, put_first, free}
+use Rattle.offset_allocator.specs.Named.{View, place_of, remove_all, put_first, free}
 use Rattle.offset_allocator.specs.Space.{IsSpace, Stands, blocks, mark_block, size_in}
 use Rattle.offset_allocator.specs.Orders.{class_lists, IsUnlisted}
 use Rattle.offset_allocator.specs.State.{Fields, IsSound, view_of, AreListed, merge_after, gone_after}
@@ -134,4 +134,3 @@ returns-clause-step g c =
     let nodes = ap (λ (r : Room). length r.nodes) c.put_first.ensures.room ∙ c.mark.ensures.limit ∙ c.with_after-size.ensures.limit ∙ c.with_before-size.ensures.limit in
     let R : View → ℕ → Type 0 = λ u i. view_of f.max f.size f.limit c.put_first.new.t c.with_after-size.new.last c.put_first.new.count ≡ with_accesses c.put_first.new.count (free i u) in
     subst (λ i. R c.args.self.now i) (sym xe) (subst (λ u. R u x) c.self.view_is (freed f c.self.invariant x live c.put_first.new.t c.with_after-size.new.last c.with_after-size.new.spare_count c.put_first.new.top c.put_first.new.count space c.put_first.ensures.held nodes (ap (λ (r : Room). blocks r c.with_after-size.new.last) c.put_first.ensures.room ∙ eb₃) order).1)
-

@@ -1,10 +1,10 @@
-use Rattle.std.proofs.Common.{◌≡◌, ℕ, ◌+◌, ◌-◌, ◌<◌, ◌≤◌, ◌∙◌, List, ◌∷◌, length, Option, Some, true, false, sym, ap, ap₂, subst, arith, slice_set, refl}
+use Rattle.std.proofs.Common.{◌≡◌, ℕ, ◌-◌, ◌∙◌, List, length, Some, true, false, sym, ap, ap₂, subst, arith, slice_set}
 use Rattle.offset_allocator.specs.Classes.{up, down}
-use Rattle.offset_allocator.specs.Cells.{Cells, Room, Links}
+use Rattle.offset_allocator.specs.Cells.{Room, Links}
 use Rattle.offset_allocator.specs.Named.{View, Grant, is_short_of, IsUnused, units, names_at, without, put_first}
 use Rattle.offset_allocator.specs.Space.{blocks, mark_block, IsSpace, Stands}
 use Rattle.offset_allocator.specs.Orders.{Binned, IsLeastFrom, class_lists, IsUnlisted}
-use Rattle.offset_allocator.specs.State.{Fields, IsSound, view_of}
+use Rattle.offset_allocator.specs.State.{Fields, view_of}
 use Rattle.offset_allocator.specs.Relations.{Allocates}
 use Rattle.offset_allocator.proofs.Sizes.{down_small}
 use Rattle.offset_allocator.proofs.Unused.{some_unused}
@@ -127,19 +127,18 @@ returns-clause-step g c =
     let S : View → View → Grant → Type 0 = λ old new h. Allocates c.args.size old new (Some h) in
     let was : View = view_of f.max f.size f.limit f.cells f.last f.accesses in
     elim c.if-whole-size.branch [
-    | then-whole-size w ↦
-        let y : ℕ = w.split-rest.result in
-        let unused : IsUnused y (view_of f.max f.size f.limit f.cells f.last f.accesses) = unused_rest f c.args.size c.args.class x c.self.invariant room least _ c.take_first-name.ensures.first c.mark.new.t.room y eb w.split-rest.ensures.fresh (omega (arith, w.split-rest.ensures.below, c.mark.ensures.limit, ap (λ (r : Room). length r.nodes) rm)) in
-        let lists : class_lists f.max w.split-rest.new.t.links ≡ slice_set (class_lists f.max f.cells.links) c.args.class (without x (names_at (class_lists f.max f.cells.links) c.args.class)) = ap (λ (k : Links). class_lists f.max k) (w.split-rest.ensures.links ∙ c.mark.ensures.links) ∙ c.take_first-name.ensures.lists in
-        let order : class_lists f.max w.put_first.new.t.links ≡ put_first (down ((got f c.args.size c.args.class x c.self.invariant room least _ c.take_first-name.ensures.first).place.block.size - c.args.size)) y (slice_set (class_lists f.max f.cells.links) c.args.class (without x (names_at (class_lists f.max f.cells.links) c.args.class))) = w.put_first.ensures.lists ∙ ap₂ (λ k o. put_first k y o) (w.uint_to_float_round_down.ensures.is ∙ ap (λ (k : ℕ). down (k - c.args.size)) sized) lists in
-        let space = subst (λ (r : Room). IsSpace r w.split-rest.new.last w.split-rest.new.spare_count) (sym w.put_first.ensures.room) w.split-rest.ensures.space in
-        let nodes = ap (λ (r : Room). length r.nodes) w.put_first.ensures.room ∙ w.split-rest.ensures.limit ∙ c.mark.ensures.limit ∙ ap (λ (r : Room). length r.nodes) rm in
-        subst (S c.args.self.now c.if-whole-size.self) (sym handle) (subst (λ u. S u c.if-whole-size.self answer) c.self.view_is (subst (λ u. S was u answer) (sym w.self-is) (granted_part f c.args.size c.args.class x c.self.invariant room least _ c.take_first-name.ensures.first w.put_first.new.t c.mark.new.t.room w.split-rest.new.last w.split-rest.new.spare_count w.put_first.new.top w.put_first.new.count y (omega (arith, sized, w.if-whole-size.true)) space eb (ap (λ (r : Room). blocks r w.split-rest.new.last) w.put_first.ensures.room ∙ w.split-rest.ensures.blocks) w.put_first.ensures.held order nodes unused).1))
-    | else-whole-size w ↦
-        let lists : class_lists f.max c.mark.new.t.links ≡ slice_set (class_lists f.max f.cells.links) c.args.class (without x (names_at (class_lists f.max f.cells.links) c.args.class)) = ap (λ (k : Links). class_lists f.max k) c.mark.ensures.links ∙ c.take_first-name.ensures.lists in
-        let bins = subst (λ (k : Links). Binned f.max k c.take_first-name.new.top) (sym c.mark.ensures.links) c.take_first-name.ensures.held in
-        let nodes = c.mark.ensures.limit ∙ ap (λ (r : Room). length r.nodes) rm in
-        let u = some_unused f.max f.size f.limit f.cells f.last f.count f.top f.free f.accesses c.self.invariant in
-        subst (S c.args.self.now c.if-whole-size.self) (sym handle) (subst (λ u. S u c.if-whole-size.self answer) c.self.view_is (subst (λ u. S was u answer) (sym w.self-is) (granted_whole f c.args.size c.args.class x c.self.invariant room least _ c.take_first-name.ensures.first c.mark.new.t c.take_first-name.new.top c.size-whole.new.count (omega (arith, sized, enough f c.args.size c.args.class x c.self.invariant room least _ c.take_first-name.ensures.first, w.if-whole-size.false)) c.mark.ensures.space eb bins lists nodes u.0 u.1).1))
+      | then-whole-size w ↦
+          let y : ℕ = w.split-rest.result in
+          let unused : IsUnused y (view_of f.max f.size f.limit f.cells f.last f.accesses) = unused_rest f c.args.size c.args.class x c.self.invariant room least _ c.take_first-name.ensures.first c.mark.new.t.room y eb w.split-rest.ensures.fresh (omega (arith, w.split-rest.ensures.below, c.mark.ensures.limit, ap (λ (r : Room). length r.nodes) rm)) in
+          let lists : class_lists f.max w.split-rest.new.t.links ≡ slice_set (class_lists f.max f.cells.links) c.args.class (without x (names_at (class_lists f.max f.cells.links) c.args.class)) = ap (λ (k : Links). class_lists f.max k) (w.split-rest.ensures.links ∙ c.mark.ensures.links) ∙ c.take_first-name.ensures.lists in
+          let order : class_lists f.max w.put_first.new.t.links ≡ put_first (down ((got f c.args.size c.args.class x c.self.invariant room least _ c.take_first-name.ensures.first).place.block.size - c.args.size)) y (slice_set (class_lists f.max f.cells.links) c.args.class (without x (names_at (class_lists f.max f.cells.links) c.args.class))) = w.put_first.ensures.lists ∙ ap₂ (λ k o. put_first k y o) (w.uint_to_float_round_down.ensures.is ∙ ap (λ (k : ℕ). down (k - c.args.size)) sized) lists in
+          let space = subst (λ (r : Room). IsSpace r w.split-rest.new.last w.split-rest.new.spare_count) (sym w.put_first.ensures.room) w.split-rest.ensures.space in
+          let nodes = ap (λ (r : Room). length r.nodes) w.put_first.ensures.room ∙ w.split-rest.ensures.limit ∙ c.mark.ensures.limit ∙ ap (λ (r : Room). length r.nodes) rm in
+          subst (S c.args.self.now c.if-whole-size.self) (sym handle) (subst (λ u. S u c.if-whole-size.self answer) c.self.view_is (subst (λ u. S was u answer) (sym w.self-is) (granted_part f c.args.size c.args.class x c.self.invariant room least _ c.take_first-name.ensures.first w.put_first.new.t c.mark.new.t.room w.split-rest.new.last w.split-rest.new.spare_count w.put_first.new.top w.put_first.new.count y (omega (arith, sized, w.if-whole-size.true)) space eb (ap (λ (r : Room). blocks r w.split-rest.new.last) w.put_first.ensures.room ∙ w.split-rest.ensures.blocks) w.put_first.ensures.held order nodes unused).1))
+      | else-whole-size w ↦
+          let lists : class_lists f.max c.mark.new.t.links ≡ slice_set (class_lists f.max f.cells.links) c.args.class (without x (names_at (class_lists f.max f.cells.links) c.args.class)) = ap (λ (k : Links). class_lists f.max k) c.mark.ensures.links ∙ c.take_first-name.ensures.lists in
+          let bins = subst (λ (k : Links). Binned f.max k c.take_first-name.new.top) (sym c.mark.ensures.links) c.take_first-name.ensures.held in
+          let nodes = c.mark.ensures.limit ∙ ap (λ (r : Room). length r.nodes) rm in
+          let u = some_unused f.max f.size f.limit f.cells f.last f.count f.top f.free f.accesses c.self.invariant in
+          subst (S c.args.self.now c.if-whole-size.self) (sym handle) (subst (λ u. S u c.if-whole-size.self answer) c.self.view_is (subst (λ u. S was u answer) (sym w.self-is) (granted_whole f c.args.size c.args.class x c.self.invariant room least _ c.take_first-name.ensures.first c.mark.new.t c.take_first-name.new.top c.size-whole.new.count (omega (arith, sized, enough f c.args.size c.args.class x c.self.invariant room least _ c.take_first-name.ensures.first, w.if-whole-size.false)) c.mark.ensures.space eb bins lists nodes u.0 u.1).1))
     ]
-

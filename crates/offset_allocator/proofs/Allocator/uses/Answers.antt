@@ -1,4 +1,4 @@
-use Rattle.std.proofs.Common.{ap, sym, ◌∙◌, arith, ◌≤◌}
+use Rattle.std.proofs.Common.{ap, sym, ◌∙◌, arith}
 use Rattle.offset_allocator.specs.Named.{View, is_used_at, place_of}
 use Rattle.offset_allocator.proofs.Told.{used_told, none_past}
 use Rattle.offset_allocator.proofs.Allocator.uses.Goals as goal

@@ -1,4 +1,4 @@
-use Rattle.std.proofs.Common.{refl, ℕ, ◌≡◌, ◌≢◌, ◌<◌, ◌≤◌, ◌^◌, ◌/◌, ◌*◌, ◌%◌, sym, ap, ◌∙◌, arith, List, ◌∷◌, length, slice_set, bit_or}
+use Rattle.std.proofs.Common.{◌≡◌, ◌≢◌, ap, arith, ◌∷◌, slice_set}
 use Rattle.std.proofs.lemmas.List.{length-set}
 use Rattle.offset_allocator.specs.Named.{names_at}
 use Rattle.offset_allocator.specs.Cells.{Cells, Links}

@@ -1,4 +1,4 @@
-use Rattle.std.proofs.Common.{ℕ, ◌≡◌, ◌≢◌, ◌<◌, ◌≤◌, Bool, refl, sym, ap, ◌∙◌, arith, length, slice_set, List}
+use Rattle.std.proofs.Common.{ℕ, ◌≡◌, ◌≢◌, refl, ap, ◌∙◌, arith, length, slice_set}
 use Rattle.std.proofs.lemmas.Bool.{eq-eqb}
 use Rattle.offset_allocator.specs.Named.{names_at, without}
 use Rattle.offset_allocator.specs.Cells.{Cells, Links}

@@ -1,4 +1,4 @@
-use Rattle.std.proofs.Common.{◌≡◌, ◌∙◌, ℕ, Bool, false, Option, Some, ap}
+use Rattle.std.proofs.Common.{◌∙◌, ℕ, Bool, false, Option, ap}
 use Rattle.offset_allocator.specs.Cells.{Cells, put, link_of}
 use Rattle.offset_allocator.proofs.Nodes.{put-next}
 use Rattle.offset_allocator.proofs.chain.place_front.Goals as goal

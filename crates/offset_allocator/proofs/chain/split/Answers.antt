@@ -1,7 +1,7 @@
-use Rattle.std.proofs.Common.{◌≡◌, ℕ, ◌+◌, ◌-◌, ◌<◌, ◌≤◌, ◌^◌, length, List, [], ◌∷◌, ◌++◌, MatchOption, IfSome, Option, Some, None, refl, sym, ◌∙◌, ap, arith, subst}
-use Rattle.offset_allocator.specs.Cells.{Cells, Room, Node, node, put, link_of}
-use Rattle.offset_allocator.specs.Space.{IsSpace, IsChain, Stands, blocks, spares, split_block, size_in}
-use Rattle.offset_allocator.proofs.Nodes.{length-put, in_put}
+use Rattle.std.proofs.Common.{◌≡◌, ℕ, ◌-◌, length, MatchOption, Option, sym, ◌∙◌, ap, arith, subst}
+use Rattle.offset_allocator.specs.Cells.{Cells, Room, node, put, link_of}
+use Rattle.offset_allocator.specs.Space.{IsChain, blocks, split_block}
+use Rattle.offset_allocator.proofs.Nodes.{in_put}
 use Rattle.offset_allocator.proofs.SplitSpace.{SplitAt, half, IsLinked, apart, y_below, spot_x, offset-fits, next-below, split-space, if_some, half-from, unused}
 use Rattle.offset_allocator.proofs.Spot.{size-told, offset-told}
 use Rattle.offset_allocator.proofs.Views.{blocks-chain, space-chain}

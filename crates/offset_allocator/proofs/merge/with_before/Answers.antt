@@ -1,7 +1,7 @@
-use Rattle.std.proofs.Common.{◌≡◌, ◌≤◌, ◌<◌, ◌+◌, ◌∙◌, ℕ, List, length, Some, None, true, false, refl, sym, ap, subst, arith}
+use Rattle.std.proofs.Common.{◌≡◌, ◌+◌, ◌∙◌, Some, true, false, sym, ap, subst, arith}
 use Rattle.offset_allocator.specs.Classes.{down}
-use Rattle.offset_allocator.specs.Cells.{Room, Links, Node, node}
-use Rattle.offset_allocator.specs.Space.{IsSpace, Stands, blocks, name_after, size_in, give_block, join_block}
+use Rattle.offset_allocator.specs.Cells.{Room, Links, node}
+use Rattle.offset_allocator.specs.Space.{Stands, blocks, name_after, size_in, give_block}
 use Rattle.offset_allocator.specs.Orders.{class_lists}
 use Rattle.offset_allocator.proofs.Sizes.{down_small}
 use Rattle.offset_allocator.proofs.Spot.{size-told}
@@ -91,7 +91,6 @@ pub returns-in_default-clause-lists : goal.returns-in_default-clause-lists
 returns-in_default-clause-lists g c =
     let s = standing c.args.t.now.room c.args.last c.args.spare_count.now c.args.x c.requires.space c.requires.standing in
     sym ((kept_none c.args.t.now.room c.args.last c.args.spare_count.now c.args.x c.requires.space s (sym (c.in_default.ensures ∙ c.before-2.ensures.cell))).1 _)
-
 
 pub overflow_add-more : goal.overflow_add-more
 overflow_add-more g c =

@@ -1,4 +1,4 @@
-use Rattle.std.proofs.Common.{refl, ◌≡◌, ◌≤◌, ◌<◌, ◌∙◌, rules, arith, ap, sym, length}
+use Rattle.std.proofs.Common.{refl, ◌≡◌, ◌<◌, ◌∙◌, arith, ap, sym, length}
 use Rattle.std.proofs.lemmas.List.{length-replicate}
 use Rattle.std.proofs.lemmas.Bool.{eq-eqb}
 use Rattle.offset_allocator.specs.Cells.{Cells, links_of}
