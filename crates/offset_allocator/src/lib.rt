@@ -321,7 +321,7 @@ impl<NI: NodeIndex> Allocator<NI> {
         ensures grows { count.old ≤ count.new }
         ensures count { count.new ≤ count.old + 8 }
     {
-        let name = index::number(NI::of_nonmax(allocation.name()));
+        let name = index::number::<NI>(NI::of_nonmax(allocation.name()));
         if self.uses(name, count) {
             self.tables.size(name, count)
         } else {
