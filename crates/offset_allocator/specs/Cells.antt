@@ -2,6 +2,7 @@
 use Rattle.std.specs.Prelude.{ℕ, Bool, false, List, Option, Some, None, length, ◌≡◌, ◌≤◌, ◌-◌, ◌++◌, ◌∷◌, [], replicate, map, slice_set, slice_index, slice_index_or, eqb, if◌then◌else◌}
 use Rattle.std.specs.List.{range_with_len}
 
+-- a node, whatever tables hold its fields
 pub record Node : Type 0 where
   pub offset : ℕ
   pub size : ℕ
@@ -21,19 +22,24 @@ pub record Links : Type 0 where
   pub heads : List ℕ
   pub masks : List ℕ
 
+-- what all tables hold
 pub record Cells : Type 0 where
   pub room : Room
   pub links : Links
 
+-- a node with nothing written
 abbrev pub blank : Node
 blank = record { offset = 0; size = 0; used = false; before = None; after = None }
 
+-- the node of a name
 unfoldable pub node : Room → ℕ → Node
 node c x = slice_index_or c.nodes x (record { offset = 0; size = 0; used = false; before = None; after = None })
 
+-- the nodes, with another node under a name
 unfoldable pub put : Room → ℕ → Node → Room
 put c x n = record c { nodes = slice_set c.nodes x n }
 
+-- the stack of spare names, with another name at a place
 unfoldable pub with_spare : Room → ℕ → ℕ → Room
 with_spare c i v = record c { spare = slice_set c.spare i v }
 
@@ -41,6 +47,7 @@ with_spare c i v = record c { spare = slice_set c.spare i v }
 abbrev pub link_of : ℕ → ℕ → Option ℕ
 link_of max n = if eqb n max then None else Some n
 
+-- the links of these numbers
 abbrev pub links_of : {A : Type 0} → ℕ → (A → ℕ) → List A → List (Option ℕ)
 links_of max number xs = map (λ x. link_of max (number x)) xs
 

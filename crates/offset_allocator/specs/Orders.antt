@@ -13,6 +13,7 @@ walk none older (suc k) h = cond (nat_eq h none) [] (h ∷ (walk none) older k (
 unfoldable pub lists_of : ℕ → List ℕ → List ℕ → List (List ℕ)
 lists_of none older heads = map ((walk none) older (length older)) heads
 
+-- a name stands in a list
 abbrev pub Among : ℕ → List ℕ → Type 0
 Among x [] = ⊥
 Among x (y ∷ ys) = (x ≡ y) ⊎ Among x ys

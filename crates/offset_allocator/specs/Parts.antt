@@ -25,6 +25,7 @@ abbrev pub carved_at : ℕ → ℕ → ℕ → ℕ → List Block → Option Pla
 carved_at padding n front rest bs None = bs
 carved_at padding n front rest bs (Some p) = p.before ++ ((free_part front padding ++ used_block p.block.name n ∷ free_part rest (p.block.size - (padding + n))) ++ p.after)
 
+-- a free front, n used units, and a free rest stand for the block named x
 abbrev pub carved : ℕ → ℕ → ℕ → ℕ → ℕ → List Block → List Block
 carved x padding n front rest bs = carved_at padding n front rest bs (place_of x bs)
 

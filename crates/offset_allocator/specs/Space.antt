@@ -9,6 +9,7 @@ abbrev pub first_or : Option ℕ → List Block → Option ℕ
 first_or q [] = q
 first_or q (b ∷ bs) = Some b.name
 
+-- the name of the last block, or p where there is none
 abbrev pub last_or : Option ℕ → List Block → Option ℕ
 last_or p [] = p
 last_or p (b ∷ bs) = last_or (Some b.name) bs
@@ -24,11 +25,13 @@ IsRow c p o (b ∷ bs) q =
 abbrev pub block_at : Room → ℕ → Block
 block_at c k = record { name = k; size = (node c k).size; used = (node c k).used }
 
+-- the blocks from a link back, before those that were met already
 abbrev pub walk : Room → ℕ → Option ℕ → List Block → List Block
 walk c zero q rest = rest
 walk c (suc f) None rest = rest
 walk c (suc f) (Some k) rest = walk c f (node c k).before (block_at c k ∷ rest)
 
+-- the blocks of the space, in order: a walk back from the last one
 unfoldable pub blocks : Room → ℕ → List Block
 blocks c last = walk c (length c.nodes) (Some last) []
 
@@ -36,6 +39,7 @@ blocks c last = walk c (length c.nodes) (Some last) []
 unfoldable pub spares : Room → ℕ → List ℕ
 spares c count = take count c.spare
 
+-- the tables hold the blocks bs, which end in last, and count spare names
 pub record IsChain (c : Room) (m last count : ℕ) (bs : List Block) : Type 0 where
   pub cells : length c.nodes ≡ m
   pub stack : length c.spare ≡ m
@@ -61,6 +65,7 @@ abbrev pub absorb : Block → List Block → List Block
 absorb b [] = b ∷ []
 absorb b (d ∷ bs) = record b { size = b.size + d.size } ∷ bs
 
+-- the block named x joined with the one behind it
 abbrev pub join_block : ℕ → List Block → List Block
 join_block x [] = []
 join_block x (b ∷ bs) = cond (b.name == x) (absorb b bs) (b ∷ join_block x bs)
@@ -75,10 +80,12 @@ abbrev pub offset_in : ℕ → List Block → ℕ
 offset_in x [] = 0
 offset_in x (b ∷ bs) = cond (b.name == x) 0 (b.size + offset_in x bs)
 
+-- the size of the block named x
 abbrev pub size_in : ℕ → List Block → ℕ
 size_in x [] = 0
 size_in x (b ∷ bs) = cond (b.name == x) b.size (size_in x bs)
 
+-- a block of this name stands
 abbrev pub Stands : ℕ → List Block → Type 0
 Stands x bs = 1 ≤ named x bs
 
@@ -92,6 +99,7 @@ abbrev pub give : Block → List Block → List Block
 give b [] = b ∷ []
 give b (d ∷ bs) = record d { size = b.size + d.size } ∷ bs
 
+-- the block named w joined into the one behind it
 abbrev pub give_block : ℕ → List Block → List Block
 give_block w [] = []
 give_block w (b ∷ bs) = cond (b.name == w) (give b bs) (b ∷ give_block w bs)

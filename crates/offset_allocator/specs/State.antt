@@ -20,6 +20,7 @@ view_of max size limit c last accesses = record {
   accesses = accesses;
 }
 
+-- what is true of the fields between two calls
 pub record IsSound (max size limit : ℕ) (c : Cells) (last count top free : ℕ) : Type 0 where
   pub nodes : length c.room.nodes ≡ limit
   pub least : limit + 1 < max
@@ -44,25 +45,30 @@ pub record Fields : Type 0 where
 abbrev pub AreListed : List Block → List (List ℕ) → Type 0
 AreListed bs ls = (p : Place) → bs ≡ p.before ++ p.block ∷ p.after → p.block.used ≡ false → Among p.block.name (names_at ls (down p.block.size))
 
--- the block named x joined with a free block directly before it, or after it; and that block
+-- the block at a place joined with a free block directly before it
 abbrev pub merged_before : List Block → Option Place → List Block
 merged_before bs None = bs
 merged_before bs (Some p) = without_end p.before ++ record p.block { size = units (free_end p.before) + p.block.size } ∷ p.after
 
+-- the block named x joined with a free block directly before it
 abbrev pub merge_before : ℕ → List Block → List Block
 merge_before x bs = merged_before bs (place_of x bs)
 
+-- the free block directly before a place, which goes when they are joined
 abbrev pub gone_before : Option Place → List Block
 gone_before None = []
 gone_before (Some p) = free_end p.before
 
+-- the block at a place joined with a free block directly after it
 abbrev pub merged_after : List Block → Option Place → List Block
 merged_after bs None = bs
 merged_after bs (Some p) = p.before ++ record p.block { size = p.block.size + units (free_start p.after) } ∷ without_start p.after
 
+-- the block named x joined with a free block directly after it
 abbrev pub merge_after : ℕ → List Block → List Block
 merge_after x bs = merged_after bs (place_of x bs)
 
+-- the free block directly after a place, which goes when they are joined
 abbrev pub gone_after : Option Place → List Block
 gone_after None = []
 gone_after (Some p) = free_start p.after

@@ -10,9 +10,11 @@ use Rattle.offset_script.specs.Machine.{Answer, Grant, Refused, Freed, Gone, Siz
 
 -- ---- answers, without where they lie in memory
 
+-- a row as the plain machine has it
 abbrev pub row_seen : FullRow → Row
 row_seen row = record { class = row.class; size = row.size; count = row.count }
 
+-- an answer as the plain machine gives it
 abbrev pub seen : RustAnswer → Answer
 seen (variants.Grant number offset) = Grant number offset
 seen variants.Refused = Refused
@@ -24,17 +26,21 @@ seen (variants.Full rows) = Full (map row_seen rows.items)
 seen variants.Reset = Reset
 seen variants.Extended = Extended
 
+-- the answers as the plain machine gives them
 abbrev pub all_seen : List RustAnswer → List Answer
 all_seen given = map seen given
 
 -- ---- their text
 
+-- what ends a line
 abbrev pub line_end : List ℕ
 line_end = 10 ∷ []
 
+-- the line of a row
 abbrev pub row_line : Row → List ℕ
 row_line row = codes "class " ++ decimal row.class ++ codes " size " ++ decimal row.size ++ codes " count " ++ decimal row.count ++ line_end
 
+-- the lines of rows
 abbrev pub rows_text : List Row → List ℕ
 rows_text rows = flat_map row_line rows
 
@@ -50,5 +56,6 @@ lines_of_answer (Full rows) = codes "full " ++ decimal (length rows) ++ line_end
 lines_of_answer Reset = codes "reset" ++ line_end
 lines_of_answer Extended = codes "extended" ++ line_end
 
+-- the text of the answers
 abbrev pub text_of : List Answer → List ℕ
 text_of answers = flat_map lines_of_answer answers

@@ -29,6 +29,7 @@ parts_after at (Some rest) = parts at rest
 abbrev pub is_number : List ℕ → Bool
 is_number word = nat_lt 0 (length word) && nat_le (length word) 10 && all_ascii_digits word && nat_lt (digits_value 10 word) (2 ^ 32)
 
+-- the number that a word spells
 unfoldable pub number_of : List ℕ → Option ℕ
 number_of word = if is_number word then Some (digits_value 10 word) else None
 
@@ -111,6 +112,7 @@ lines_of_parts [] = []
 lines_of_parts (part ∷ []) = if length part == 0 then [] else part ∷ []
 lines_of_parts (part ∷ next ∷ more) = part ∷ lines_of_parts (next ∷ more)
 
+-- the lines of a text
 abbrev pub lines_of : List ℕ → List (List ℕ)
 lines_of text = lines_of_parts (parts 10 text)
 
@@ -124,6 +126,7 @@ pub record Line : Type 0 where
   pub number : ℕ
   pub text : List ℕ
 
+-- lines with their numbers, from n on
 abbrev pub numbered_from : ℕ → List (List ℕ) → List Line
 numbered_from n [] = []
 numbered_from n (line ∷ more) = record { number = n; text = line } ∷ numbered_from (n + 1) more
@@ -165,6 +168,7 @@ unfoldable pub plan_of : ℕ → List Line → Result Plan ScriptFault
 plan_of end [] = Err (BadHeader end)
 plan_of end (line ∷ more) = judged line.number (header_of line.text) >>=! λ h. commands_of more >>=! λ cs. Ok (record { header = h; commands = cs })
 
+-- how many line ends a text has
 abbrev pub line_ends : List ℕ → ℕ
 line_ends text = count_by (λ b. b == 10) text
 
@@ -174,6 +178,7 @@ meaning_of text = if nat_lt 1048576 (length text) then Err TooLong else plan_of 
 
 -- ---- what a reader returned
 
+-- a script, without where it lies in memory
 abbrev pub view : Script → Plan
 view s = record { header = record { size = s.size; max_allocs = s.max_allocs; index = s.index }; commands = s.commands.items }
 
@@ -185,6 +190,7 @@ Fails (BadHeader n) meaning = meaning ≡ Err (BadHeader n)
 Fails (BadLimit n) meaning = meaning ≡ Err (BadLimit n)
 Fails (BadCommand n) meaning = meaning ≡ Err (BadCommand n)
 
+-- what a reader returned is the meaning, or a want of memory
 abbrev pub Gives : {X Y : Type 0} → (X → Y) → Result X ScriptFault → Result Y ScriptFault → Type 0
 Gives show (Ok x) meaning = meaning ≡ Ok (show x)
 Gives show (Err e) meaning = Fails e meaning
