@@ -1,10 +1,10 @@
 //! Size classes, against the tables of their values.
 
+use offset_allocator::Allocator;
 use offset_allocator::ext::min_allocator_size;
 use offset_allocator::small_float::{
     float_to_uint, uint_to_float_round_down, uint_to_float_round_up,
 };
-use offset_allocator::Allocator;
 use std::test::Fail;
 
 // The first value and the step of each group of eight classes.
