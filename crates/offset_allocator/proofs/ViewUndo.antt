@@ -3,8 +3,8 @@ use Rattle.std.proofs.Common.{◌≡◌, ℕ, zero, suc, ◌+◌, ◌-◌, ◌<�
 use Rattle.std.proofs.lemmas.List.{set-get_or}
 use Rattle.std.proofs.lemmas.Bool.{false≢true}
 use Rattle.offset_allocator.specs.Classes.{up, down}
-use Rattle.offset_allocator.specs.Named.{Block, View, Place, Grant, is_free, used_block, free_block, units, times, starts_free, IsApart, names_at, put_first, without, remove, put_all, remove_all, free_start, without_start, free_end, without_end, free_part, IsWellFormed, IsUnused, place_of, granted, granted_at, freed_at, free, taken, allocate, is_short_of, refused, is_used_at}
-use Rattle.offset_allocator.specs.Relations.{IsUndone, IsBut, IsLive, Allocates}
+use Rattle.offset_allocator.specs.Named.{Block, View, Place, Grant, is_free, used_block, free_block, units, times, starts_free, IsApart, names_at, put_first, without, remove, put_all, remove_all, free_start, without_start, free_end, without_end, free_part, IsWellFormed, IsUnused, place_of, granted, granted_at, freed_at, free, taken, allocate, is_short_of, refused}
+use Rattle.offset_allocator.specs.Relations.{IsUndone, IsBut, Allocates}
 use Rattle.offset_allocator.proofs.ViewOrders.{hit_cases, names_same, length_remove, times_remove}
 use Rattle.offset_allocator.proofs.ViewReplaced.{listed_named}
 use Rattle.offset_allocator.proofs.ViewApart.{apart_parts, first_false, second_false, ends_free}
@@ -144,20 +144,6 @@ is_undone n v w rest g u e = go (is_short_of 1 v) e
     go : (b : Bool) → (if b then refused v else granted_at v n (λ offset. 0) rest rest (taken n v)).grant ≡ Some g → free g.name (if b then refused v else granted_at v n (λ offset. 0) rest rest (taken n v)).view ≡ v
     go true e = absurd (cc)
     go false e = undone_if v w n rest u (taken n v) refl g e
-
--- a grant is live
-live_if : (v w : View) → IsWellFormed v → (n rest : ℕ) (o : Option Place) → taken n v ≡ o → (g : Grant) → Some g ≡ (granted_at v n (λ offset. 0) rest rest o).grant → IsBut (granted_at v n (λ offset. 0) rest rest o).view w → IsLive g.name w
-live_if v w f n rest None e g h but = absurd (cc)
-live_if v w f n rest (Some p) e g h but =
-    let name : g.name ≡ p.block.name = cc in
-    ap is_used_at (ap₂ place_of name (ap (λ (x : View). x.blocks) but) ∙ place_here p.block.name p.before (used_block p.block.name n) (free_part rest (p.block.size - (0 + n)) ++ p.after) (taken_at n v f p e).alone refl)
-
-pub allocated_live : (n : ℕ) (v w : View) (g : Grant) → IsWellFormed v → Allocates n v w (Some g) → IsLive g.name w
-allocated_live n v w g f a = go (is_short_of 1 v) a.answer a.view
-  where
-    go : (b : Bool) → Some g ≡ (if b then refused v else granted_at v n (λ offset. 0) a.rest a.rest (taken n v)).grant → IsBut (if b then refused v else granted_at v n (λ offset. 0) a.rest a.rest (taken n v)).view w → IsLive g.name w
-    go true e but = absurd (cc)
-    go false e but = live_if v w f n a.rest (taken n v) refl g e but
 
 free_but : (v : View) (x accesses : ℕ) (o : Option Place) → freed_at (record v { accesses = accesses }) o ≡ record (freed_at v o) { accesses = accesses }
 free_but v x accesses None = refl

@@ -5,6 +5,7 @@ ghost use Rattle.std.specs.Prelude.{◌≡◌, ◌↔◌, ℕ, ◌+◌, ◌-◌,
 ghost use Rattle.offset_allocator.specs.Classes.{up, down};
 ghost use Rattle.offset_allocator.specs.Cells.{empty_cells};
 ghost use Rattle.offset_allocator.specs.Orders.{IsLeastFrom};
+ghost use Rattle.offset_allocator.specs.Ranges.{range_of, KeepsOthers, KeepsRanges};
 ghost use Rattle.offset_allocator.specs.Reports.{IsGoodRefusal};
 ghost use Rattle.offset_allocator.specs.Named.{IsWellFormed, ends_used, is_short_of, free, free_sizes, largest_free, is_used_at, size_at, place_of};
 ghost use Rattle.offset_allocator.specs.Relations.{Allocates, Aligns, Extends, IsBut, IsCutNearBest, IsFresh, IsLive, IsPowerOfTwo, Resets};
@@ -212,6 +213,10 @@ impl<NI: NodeIndex> Allocator<NI> {
     /// 26 accesses to the tables, and takes no memory.
     pub fn allocate(&mut self, size: u32) -> Option<Allocation<NI>>
         ensures step { Allocates size self.old self.new result }
+        ensures live { IfSome result (λ h. IsLive h.name self.new) }
+        ensures fresh { IfSome result (λ h. range_of h.name self.old ≡ None) }
+        ensures range { IfSome result (λ h. range_of h.name self.new ≡ Some (record { offset = h.offset; size = size })) }
+        ensures kept { KeepsRanges self.old self.new }
         ensures granted { 1 ≤ size → (IsSome result ↔ (size ≤ largest_free self.old)) }
         ensures nearly { IfSome result (IsCutNearBest size self.old) }
         ensures refused { result ≡ None → length self.old.blocks + 1 < self.old.max_allocs → IsGoodRefusal size (free_sizes self.old.blocks) }
@@ -232,6 +237,8 @@ impl<NI: NodeIndex> Allocator<NI> {
     pub fn free(&mut self, allocation: Allocation<NI>)
         requires live { IsLive allocation.name self.old }
         ensures step { IsBut (free allocation.name self.old) self.new }
+        ensures gone { range_of allocation.name self.new ≡ None }
+        ensures others { KeepsOthers allocation.name self.old self.new }
         ensures grows { self.old.accesses ≤ self.new.accesses }
         ensures count { self.new.accesses ≤ self.old.accesses + 128 }
     {
@@ -432,6 +439,10 @@ impl<NI: NodeIndex> Allocator<NI> {
     pub fn allocate_aligned(&mut self, size: u32, align: u32) -> Option<Allocation<NI>>
         requires power { IsPowerOfTwo align }
         ensures step { Aligns size align self.old self.new result }
+        ensures live { IfSome result (λ h. IsLive h.name self.new) }
+        ensures fresh { IfSome result (λ h. range_of h.name self.old ≡ None) }
+        ensures range { IfSome result (λ h. range_of h.name self.new ≡ Some (record { offset = h.offset; size = size })) }
+        ensures kept { KeepsRanges self.old self.new }
         ensures granted { 1 ≤ size + align - 1 → (IsSome result
             ↔ ((length self.old.blocks + min align 2 < self.old.max_allocs) × (size + align - 1 ≤ largest_free self.old))) }
         ensures nearly { IfSome result (IsCutNearBest (size + align - 1) self.old) }
@@ -553,6 +564,7 @@ impl<NI: NodeIndex> Allocator<NI> {
     /// no further block may stand. All blocks then stay as they were. With 0 units it answers `true`.
     pub fn extend(&mut self, more: u32) -> bool
         ensures step { Extends more self.old self.new result }
+        ensures kept { KeepsRanges self.old self.new }
         ensures grows { self.old.accesses ≤ self.new.accesses }
         ensures count { self.new.accesses ≤ self.old.accesses + 128 }
     {

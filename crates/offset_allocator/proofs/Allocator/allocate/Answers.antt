@@ -8,6 +8,8 @@ use Rattle.offset_allocator.proofs.ViewFits.{allocated_exactly, refused_well, cu
 use Rattle.offset_allocator.proofs.Sound.{known_sound}
 use Rattle.offset_allocator.proofs.Classes.{below_value_up}
 use Rattle.offset_allocator.proofs.Granting.{refused_short, refused_none}
+use Rattle.offset_allocator.specs.Ranges.{range_of, KeepsRanges}
+use Rattle.offset_allocator.proofs.Ranges.{allocated_holds, live_range}
 use Rattle.offset_allocator.proofs.Allocator.allocate.Goals as goal
 
 pub returns-then-self-le1-clause-step : goal.returns-then-self-le1-clause-step
@@ -56,3 +58,38 @@ returns-in-Some-clause-nearly g c =
     let near = cut_near_best c.args.size v known.0 (omega arith) known.1 c.grant.new.self c.grant.result c.grant.ensures.step in
     let P : View → Type 0 = λ u. IsCutNearBest c.args.size u c.grant.result in
     subst P c.self.view_is (record { place = near.place; there = near.there; free = near.free; fit = near.fit })
+
+-- the range that is granted
+pub returns-in-Some-clause-live : goal.returns-in-Some-clause-live
+returns-in-Some-clause-live g c =
+    let f : Fields = record { max = g.NI.NodeIndex.MAX; size = c.self.inside.size; limit = c.self.inside.max_allocs; cells = c.self.inside.tables; last = c.self.inside.last; count = c.self.inside.spare_count; top = c.self.inside.top_mask; free = c.self.inside.free_total; accesses = c.find_at_or_above.new.count } in
+    let v : View = view_of f.max f.size f.limit f.cells f.last f.accesses in
+    let known = known_sound f c.self.invariant v refl in
+    let holds = allocated_holds c.args.size v c.grant.new.self c.grant.result known.0 c.grant.ensures.step in
+    live_range c.grant.result.name c.grant.new.self _ holds.range
+
+pub returns-in-Some-clause-fresh : goal.returns-in-Some-clause-fresh
+returns-in-Some-clause-fresh g c =
+    let f : Fields = record { max = g.NI.NodeIndex.MAX; size = c.self.inside.size; limit = c.self.inside.max_allocs; cells = c.self.inside.tables; last = c.self.inside.last; count = c.self.inside.spare_count; top = c.self.inside.top_mask; free = c.self.inside.free_total; accesses = c.find_at_or_above.new.count } in
+    let v : View = view_of f.max f.size f.limit f.cells f.last f.accesses in
+    let known = known_sound f c.self.invariant v refl in
+    let holds = allocated_holds c.args.size v c.grant.new.self c.grant.result known.0 c.grant.ensures.step in
+    let P : View → Type 0 = λ u. range_of c.grant.result.name u ≡ None in
+    subst P c.self.view_is holds.fresh
+
+pub returns-in-Some-clause-range : goal.returns-in-Some-clause-range
+returns-in-Some-clause-range g c =
+    let f : Fields = record { max = g.NI.NodeIndex.MAX; size = c.self.inside.size; limit = c.self.inside.max_allocs; cells = c.self.inside.tables; last = c.self.inside.last; count = c.self.inside.spare_count; top = c.self.inside.top_mask; free = c.self.inside.free_total; accesses = c.find_at_or_above.new.count } in
+    let v : View = view_of f.max f.size f.limit f.cells f.last f.accesses in
+    let known = known_sound f c.self.invariant v refl in
+    let holds = allocated_holds c.args.size v c.grant.new.self c.grant.result known.0 c.grant.ensures.step in
+    holds.range
+
+pub returns-in-Some-clause-kept : goal.returns-in-Some-clause-kept
+returns-in-Some-clause-kept g c =
+    let f : Fields = record { max = g.NI.NodeIndex.MAX; size = c.self.inside.size; limit = c.self.inside.max_allocs; cells = c.self.inside.tables; last = c.self.inside.last; count = c.self.inside.spare_count; top = c.self.inside.top_mask; free = c.self.inside.free_total; accesses = c.find_at_or_above.new.count } in
+    let v : View = view_of f.max f.size f.limit f.cells f.last f.accesses in
+    let known = known_sound f c.self.invariant v refl in
+    let holds = allocated_holds c.args.size v c.grant.new.self c.grant.result known.0 c.grant.ensures.step in
+    let P : View → Type 0 = λ u. KeepsRanges u c.grant.new.self in
+    subst P c.self.view_is holds.kept

@@ -9,6 +9,7 @@ use Rattle.offset_allocator.proofs.Spares.{another, spare_room}
 use Rattle.offset_allocator.proofs.AlignedFits.{aligned_exactly, aligned_refusal, aligned_near}
 use Rattle.offset_allocator.proofs.Sound.{known_sound}
 use Rattle.offset_allocator.proofs.Aligning.{aligned_from, aligns_counted, refused_full, refused_past, refused_none}
+use Rattle.offset_allocator.proofs.Ranges.{aligned_holds, live_range}
 use Rattle.offset_allocator.proofs.Allocator.allocate_aligned.Goals as goal
 
 pub returns-then-align-le1-clause-step : goal.returns-then-align-le1-clause-step
@@ -84,3 +85,32 @@ returns-in-Some-clause-nearly g c =
     let f : Fields = record { max = g.NI.NodeIndex.MAX; size = c.self.inside.size; limit = c.self.inside.max_allocs; cells = c.self.inside.tables; last = c.self.inside.last; count = c.self.inside.spare_count; top = c.self.inside.top_mask; free = c.self.inside.free_total; accesses = c.self.inside.accesses } in
     let known = known_sound f c.self.invariant c.args.self.now c.self.view_is in
     aligned_near c.args.size c.args.align c.args.self.now _ (Some c.grant_aligned.result) known.0 known.1 (omega arith) (omega arith) (returns-in-Some-clause-step g c) c.grant_aligned.result refl
+
+-- the range that is granted
+pub returns-in-Some-clause-live : goal.returns-in-Some-clause-live
+returns-in-Some-clause-live g c =
+    let f : Fields = record { max = g.NI.NodeIndex.MAX; size = c.self.inside.size; limit = c.self.inside.max_allocs; cells = c.self.inside.tables; last = c.self.inside.last; count = c.self.inside.spare_count; top = c.self.inside.top_mask; free = c.self.inside.free_total; accesses = c.self.inside.accesses } in
+    let known = known_sound f c.self.invariant c.args.self.now c.self.view_is in
+    let holds = aligned_holds c.args.size c.args.align c.args.self.now c.grant_aligned.new.self c.grant_aligned.result known.0 (returns-in-Some-clause-step g c) in
+    live_range c.grant_aligned.result.name c.grant_aligned.new.self _ holds.range
+
+pub returns-in-Some-clause-fresh : goal.returns-in-Some-clause-fresh
+returns-in-Some-clause-fresh g c =
+    let f : Fields = record { max = g.NI.NodeIndex.MAX; size = c.self.inside.size; limit = c.self.inside.max_allocs; cells = c.self.inside.tables; last = c.self.inside.last; count = c.self.inside.spare_count; top = c.self.inside.top_mask; free = c.self.inside.free_total; accesses = c.self.inside.accesses } in
+    let known = known_sound f c.self.invariant c.args.self.now c.self.view_is in
+    let holds = aligned_holds c.args.size c.args.align c.args.self.now c.grant_aligned.new.self c.grant_aligned.result known.0 (returns-in-Some-clause-step g c) in
+    holds.fresh
+
+pub returns-in-Some-clause-range : goal.returns-in-Some-clause-range
+returns-in-Some-clause-range g c =
+    let f : Fields = record { max = g.NI.NodeIndex.MAX; size = c.self.inside.size; limit = c.self.inside.max_allocs; cells = c.self.inside.tables; last = c.self.inside.last; count = c.self.inside.spare_count; top = c.self.inside.top_mask; free = c.self.inside.free_total; accesses = c.self.inside.accesses } in
+    let known = known_sound f c.self.invariant c.args.self.now c.self.view_is in
+    let holds = aligned_holds c.args.size c.args.align c.args.self.now c.grant_aligned.new.self c.grant_aligned.result known.0 (returns-in-Some-clause-step g c) in
+    holds.range
+
+pub returns-in-Some-clause-kept : goal.returns-in-Some-clause-kept
+returns-in-Some-clause-kept g c =
+    let f : Fields = record { max = g.NI.NodeIndex.MAX; size = c.self.inside.size; limit = c.self.inside.max_allocs; cells = c.self.inside.tables; last = c.self.inside.last; count = c.self.inside.spare_count; top = c.self.inside.top_mask; free = c.self.inside.free_total; accesses = c.self.inside.accesses } in
+    let known = known_sound f c.self.invariant c.args.self.now c.self.view_is in
+    let holds = aligned_holds c.args.size c.args.align c.args.self.now c.grant_aligned.new.self c.grant_aligned.result known.0 (returns-in-Some-clause-step g c) in
+    holds.kept

@@ -8,6 +8,8 @@ use Rattle.offset_allocator.specs.State.{Fields, IsSound, view_of, AreListed, me
 use Rattle.offset_allocator.proofs.Joints.{with_accesses}
 use Rattle.offset_allocator.proofs.Sizes.{down_small}
 use Rattle.offset_allocator.proofs.Freeing.{stands, at, size_at_x, room_for, listed_first, filed_listed, joined_once, left_once, joined_twice, left_twice, freed_blocks, whole, whole_size, first_blocks, first_lists, second_blocks, second_lists, filed_first, stands_first, stands_second, marked_second, unlisted_second, freed, named_live}
+use Rattle.offset_allocator.proofs.Ranges.{freed_gone, freed_others}
+use Rattle.offset_allocator.proofs.Sound.{known_sound}
 use Rattle.offset_allocator.proofs.Allocator.free.Goals as goal
 
 pub size-size-requires-clause-standing : goal.size-size-requires-clause-standing
@@ -134,3 +136,15 @@ returns-clause-step g c =
     let nodes = ap (λ (r : Room). length r.nodes) c.put_first.ensures.room ∙ c.mark.ensures.limit ∙ c.with_after-size.ensures.limit ∙ c.with_before-size.ensures.limit in
     let R : View → ℕ → Type 0 = λ u i. view_of f.max f.size f.limit c.put_first.new.t c.with_after-size.new.last c.put_first.new.count ≡ with_accesses c.put_first.new.count (free i u) in
     subst (λ i. R c.args.self.now i) (sym xe) (subst (λ u. R u x) c.self.view_is (freed f c.self.invariant x live c.put_first.new.t c.with_after-size.new.last c.with_after-size.new.spare_count c.put_first.new.top c.put_first.new.count space c.put_first.ensures.held nodes (ap (λ (r : Room). blocks r c.with_after-size.new.last) c.put_first.ensures.room ∙ eb₃) order).1)
+
+pub returns-clause-gone : goal.returns-clause-gone
+returns-clause-gone g c =
+    let f : Fields = record { max = g.NI.NodeIndex.MAX; size = c.self.inside.size; limit = c.self.inside.max_allocs; cells = c.self.inside.tables; last = c.self.inside.last; count = c.self.inside.spare_count; top = c.self.inside.top_mask; free = c.self.inside.free_total; accesses = c.self.inside.accesses } in
+    let known = known_sound f c.self.invariant c.args.self.now c.self.view_is in
+    freed_gone c.args.allocation.name c.args.self.now _ known.0 c.requires.live (returns-clause-step g c)
+
+pub returns-clause-others : goal.returns-clause-others
+returns-clause-others g c =
+    let f : Fields = record { max = g.NI.NodeIndex.MAX; size = c.self.inside.size; limit = c.self.inside.max_allocs; cells = c.self.inside.tables; last = c.self.inside.last; count = c.self.inside.spare_count; top = c.self.inside.top_mask; free = c.self.inside.free_total; accesses = c.self.inside.accesses } in
+    let known = known_sound f c.self.invariant c.args.self.now c.self.view_is in
+    freed_others c.args.allocation.name c.args.self.now _ known.0 c.requires.live (returns-clause-step g c)

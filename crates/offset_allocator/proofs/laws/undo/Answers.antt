@@ -1,8 +1,5 @@
-use Rattle.offset_allocator.proofs.ViewUndo.{is_undone, allocated_live, undo_same}
+use Rattle.offset_allocator.proofs.ViewUndo.{is_undone, undo_same}
 use Rattle.offset_allocator.proofs.laws.undo.Goals as goal
-
-pub free-requires : goal.free-requires
-free-requires g c = record { live = allocated_live c.args.n c.args.allocator.now c.allocate.new.self c.in-Some.allocation c.formed.ensures c.in-Some.ensures.step }
 
 pub returns-in-Some-clause-undone : goal.returns-in-Some-clause-undone
 returns-in-Some-clause-undone g c = is_undone c.args.n c.args.allocator.now c.formed.ensures

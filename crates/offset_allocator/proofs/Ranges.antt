@@ -1,0 +1,374 @@
+-- What each call leaves of the ranges of live handles.
+use Rattle.std.proofs.Common.{◌≡◌, ◌≢◌, ℕ, zero, suc, ◌+◌, ◌-◌, ◌≤◌, Bool, true, false, not, ◌&&◌, List, [], ◌∷◌, ◌++◌, Option, Some, None, nat_eq, nat_lt, nat_le, if◌then◌else◌, refl, sym, ap, subst, ◌∙◌, inl, inr, arith, append_assoc, add-zero, add_assoc, le-leb, leb-false, eq-eqb, ne_eqb}
+use Rattle.std.proofs.lemmas.Bool.{false≢true}
+use Rattle.offset_allocator.specs.Named.{Block, View, Place, Grant, Outcome, one, units, named, used_block, free_block, free_part, free_start, without_start, free_end, without_end, IsWellFormed, IsUnused, place_of, is_used_at, taken, is_short_of, refused, granted, granted_at, allocate, allocate_aligned, padding_to, serve, freed_at, free, greatest, name_or, extended, is_extendable, Extension, extend}
+use Rattle.offset_allocator.specs.Classes.{up, down}
+use Rattle.offset_allocator.specs.Ranges.{Range, range_at, range_of, AreDisjoint, KeepsOthers, KeepsRanges}
+use Rattle.offset_allocator.specs.Relations.{IsBut, IsLive, Allocates, Aligns, Extends}
+use Rattle.offset_allocator.proofs.ViewOrders.{if_value, tally_append, hit_cases}
+use Rattle.offset_allocator.proofs.ViewSteps.{place_at, no_place}
+use Rattle.offset_allocator.proofs.ViewApart.{joined_parts, end_parts}
+use Rattle.offset_allocator.proofs.Sizes.{fits_size}
+use Rattle.offset_allocator.proofs.ViewTaken.{taken_at, tally_end, tally_start, well_allocate, well_aligned, well_free, well_extended, padding_small}
+
+-- the range of the used block named x, where the first of the blocks has this offset
+abbrev range_from : ℕ → ℕ → List Block → Option Range
+range_from x offset [] = None
+range_from x offset (b ∷ bs) = if b.used && nat_eq x b.name then Some (record { offset = offset; size = b.size }) else range_from x (offset + b.size) bs
+
+-- no used block of these is named x
+HasNone : ℕ → List Block → Type 0
+HasNone x [] = Unit {0}
+HasNone x (b ∷ bs) = ((b.used && nat_eq x b.name) ≡ false) × HasNone x bs
+
+pass : (x offset : ℕ) (b : Block) (bs : List Block) → (b.used && nat_eq x b.name) ≡ false → range_from x offset (b ∷ bs) ≡ range_from x (offset + b.size) bs
+pass x offset b bs e = ap (λ (t : Bool). if t then Some (record { offset = offset; size = b.size }) else range_from x (offset + b.size) bs) e
+
+past : (x offset : ℕ) (bs cs : List Block) → HasNone x bs → range_from x offset (bs ++ cs) ≡ range_from x (offset + units bs) cs
+unfolding HasNone
+past x offset [] cs h = rw (add-zero offset)
+past x offset (b ∷ bs) cs h = pass x offset b (bs ++ cs) h.0 ∙ past x (offset + b.size) bs cs h.1 ∙ rw (add_assoc offset b.size (units bs)) refl
+
+-- blocks of the same units in the place of others
+swapped : (x offset : ℕ) (fs old new cs : List Block) → units new ≡ units old → HasNone x old → HasNone x new → range_from x offset (fs ++ (new ++ cs)) ≡ range_from x offset (fs ++ (old ++ cs))
+swapped x offset [] old new cs e h k = past x offset new cs k ∙ ap (λ n. range_from x (offset + n) cs) e ∙ sym (past x offset old cs h)
+swapped x offset (f ∷ fs) old new cs e h k = ap (λ r. if f.used && nat_eq x f.name then Some (record { offset = offset; size = f.size }) else r) (swapped x (offset + f.size) fs old new cs e h k)
+
+none_named : (x : ℕ) (bs : List Block) → named x bs ≡ 0 → HasNone x bs
+unfolding HasNone
+none_named x [] e = tt
+none_named x (b ∷ bs) e = elim (hit_cases x b.name) [
+  | inl h ↦ absurd (let k = h.1 in omega arith)
+  | inr n ↦ (ap (λ t. b.used && t) (ne_eqb x b.name n.0) ∙ and_false b.used, none_named x bs (let k = n.1 in omega arith))
+]
+  where
+    and_false : (u : Bool) → (u && false) ≡ false
+    and_false true = refl
+    and_false false = refl
+
+none_free : (x y n : ℕ) → HasNone x (free_part y n)
+unfolding HasNone
+none_free x y zero = tt
+none_free x y (suc n) = (refl, tt)
+
+none_other : (x y n : ℕ) → x ≢ y → HasNone x (used_block y n ∷ [])
+unfolding HasNone
+none_other x y n d = (ne_eqb x y d, tt)
+
+none_append : (x : ℕ) (bs cs : List Block) → HasNone x bs → HasNone x cs → HasNone x (bs ++ cs)
+unfolding HasNone
+none_append x [] cs h k = k
+none_append x (b ∷ bs) cs h k = (h.0, none_append x bs cs h.1 k)
+
+part_units : (y n : ℕ) → units (free_part y n) ≡ n
+part_units y zero = refl
+part_units y (suc n) = omega arith
+
+-- a name that stands once stands beside its block nowhere
+beside : (x : ℕ) (before : List Block) (b : Block) (after : List Block) → x ≡ b.name → named x (before ++ b ∷ after) ≤ 1 → (named x before ≡ 0) × (named x after ≡ 0)
+beside x before b after e most = elim (hit_cases x b.name) [
+  | inl h ↦ let t = tally_append (λ (b : Block). one (nat_eq x b.name)) before (b ∷ after) in let k = h.1 in (omega arith, omega arith)
+  | inr h ↦ absurd (h.0 e)
+]
+
+-- a name that no used block of these has
+nothing : (x offset : ℕ) (bs : List Block) → HasNone x bs → range_from x offset bs ≡ None
+unfolding HasNone
+nothing x offset [] h = refl
+nothing x offset (b ∷ bs) h = pass x offset b bs h.0 ∙ nothing x (offset + b.size) bs h.1
+
+none_idle : (x : ℕ) (b : Block) → b.used ≡ false → HasNone x (b ∷ [])
+unfolding HasNone
+none_idle x b e = (ap (λ (u : Bool). u && nat_eq x b.name) e, tt)
+
+-- a used block, found
+found : (x offset n : ℕ) (cs : List Block) → range_from x offset (used_block x n ∷ cs) ≡ Some (record { offset = offset; size = n })
+found x offset n cs = ap (λ (t : Bool). if t then Some (record { offset = offset; size = n }) else range_from x (offset + n) cs) (eq-eqb x x refl)
+
+-- a name that stands once, at a block that is used or not
+placed : (x : ℕ) (before : List Block) (b : Block) (after : List Block) → x ≡ b.name → named x (before ++ b ∷ after) ≤ 1
+    → range_from x 0 (before ++ b ∷ after) ≡ (if b.used then Some (record { offset = units before; size = b.size }) else None)
+placed x before b after e most =
+    let alone = beside x before b after e most in
+    past x 0 before (b ∷ after) (none_named x before alone.0)
+    ∙ ap (λ (t : Bool). if b.used && t then Some (record { offset = 0 + units before; size = b.size }) else range_from x (0 + units before + b.size) after) (eq-eqb x b.name e)
+    ∙ either b.used (nothing x (0 + units before + b.size) after (none_named x after alone.1))
+  where
+    zeroed : 0 + units before ≡ units before
+    zeroed = omega arith
+
+    either : (u : Bool) → range_from x (0 + units before + b.size) after ≡ None → (if u && true then Some (record { offset = 0 + units before; size = b.size }) else range_from x (0 + units before + b.size) after) ≡ (if u then Some (record { offset = units before; size = b.size }) else None)
+    either true f = ap (λ (o : ℕ). Some (record { offset = o; size = b.size })) zeroed
+    either false f = f
+
+range_go : (x : ℕ) (bs : List Block) → named x bs ≤ 1 → (o : Option Place) → place_of x bs ≡ o → range_at o ≡ range_from x 0 bs
+range_go x bs most None e = sym (nothing x 0 bs (none_named x bs (no_place x bs e)))
+range_go x bs most (Some p) e =
+    let at = place_at x bs p e in
+    sym (ap (λ l. range_from x 0 l) at.0 ∙ placed x p.before p.block p.after at.1 (let k = ap (named x) at.0 in omega arith))
+
+range_is : (x : ℕ) (v : View) → IsWellFormed v → range_of x v ≡ range_from x 0 v.blocks
+range_is x v f = range_go x v.blocks (f.distinct x) (place_of x v.blocks) refl
+
+-- a grant
+module _ (v : View) (n padding front rest : ℕ) (p : Place) (stood : v.blocks ≡ p.before ++ p.block ∷ p.after) (idle : p.block.used ≡ false) (once : named p.block.name v.blocks ≤ 1) (enough : padding + n ≤ p.block.size) where
+  abbrev new : List Block
+  new = free_part front padding ++ used_block p.block.name n ∷ free_part rest (p.block.size - (padding + n))
+
+  alone : (named p.block.name p.before ≡ 0) × (named p.block.name p.after ≡ 0)
+  alone = beside p.block.name p.before p.block p.after refl (let k = ap (named p.block.name) stood in omega arith)
+
+  same_units : units new ≡ units (p.block ∷ [])
+  same_units =
+      let a = tally_append (λ (b : Block). b.size) (free_part front padding) (used_block p.block.name n ∷ free_part rest (p.block.size - (padding + n))) in
+      let l = part_units front padding in
+      let r = part_units rest (p.block.size - (padding + n)) in
+      omega arith
+
+  granted_others : (y : ℕ) → y ≢ p.block.name → range_from y 0 (granted v n padding front rest p).view.blocks ≡ range_from y 0 v.blocks
+  granted_others y d =
+      swapped y 0 p.before (p.block ∷ []) new p.after same_units (none_idle y p.block idle)
+      (none_append y (free_part front padding) _ (none_free y front padding) (none_append y (used_block p.block.name n ∷ []) (free_part rest (p.block.size - (padding + n))) (none_other y p.block.name n d) (none_free y rest (p.block.size - (padding + n)))))
+      ∙ sym (ap (λ l. range_from y 0 l) stood)
+
+  granted_range : range_from p.block.name 0 (granted v n padding front rest p).view.blocks ≡ Some (record { offset = units p.before + padding; size = n })
+  granted_range =
+      past p.block.name 0 p.before (new ++ p.after) (none_named p.block.name p.before alone.0)
+      ∙ ap (λ o. range_from p.block.name o (new ++ p.after)) (let zeroed : 0 + units p.before ≡ units p.before = omega arith in zeroed)
+      ∙ ap (λ l. range_from p.block.name (units p.before) l) (append_assoc (free_part front padding) (used_block p.block.name n ∷ free_part rest (p.block.size - (padding + n))) p.after)
+      ∙ past p.block.name (units p.before) (free_part front padding) _ (none_free p.block.name front padding)
+      ∙ ap (λ o. range_from p.block.name (units p.before + o) (used_block p.block.name n ∷ (free_part rest (p.block.size - (padding + n)) ++ p.after))) (part_units front padding)
+      ∙ found p.block.name (units p.before + padding) n (free_part rest (p.block.size - (padding + n)) ++ p.after)
+
+  granted_before : range_from p.block.name 0 v.blocks ≡ None
+  granted_before =
+      ap (λ l. range_from p.block.name 0 l) stood
+      ∙ nothing p.block.name 0 (p.before ++ p.block ∷ p.after) (none_append p.block.name p.before (p.block ∷ p.after) (none_named p.block.name p.before alone.0) (none_append p.block.name (p.block ∷ []) p.after (none_idle p.block.name p.block idle) (none_named p.block.name p.after alone.1)))
+
+-- two ranges
+beyond : (x offset : ℕ) (bs : List Block) (r : Range) → range_from x offset bs ≡ Some r → (offset ≤ r.offset) × (r.offset + r.size ≤ offset + units bs)
+beyond x offset [] r e = absurd (cc)
+beyond x offset (b ∷ bs) r e = either (b.used && nat_eq x b.name) (beyond x (offset + b.size) bs r) e
+  where
+    either : (t : Bool) → (range_from x (offset + b.size) bs ≡ Some r → (offset + b.size ≤ r.offset) × (r.offset + r.size ≤ offset + b.size + units bs)) → (if t then Some (record { offset = offset; size = b.size }) else range_from x (offset + b.size) bs) ≡ Some r → (offset ≤ r.offset) × (r.offset + r.size ≤ offset + (b.size + units bs))
+    either true later e = let q : (let z : Range = record { offset = offset; size = b.size } in z) ≡ r = cc in let o = ap (λ (z : Range). z.offset) q in let n = ap (λ (z : Range). z.size) q in (omega arith, omega arith)
+    either false later e = let ih = later e in let a = ih.0 in let z = ih.1 in (omega arith, omega arith)
+
+both : (x y : ℕ) (u : Bool) (z : ℕ) → x ≢ y → (u && nat_eq x z) ≡ true → (u && nat_eq y z) ≡ true → ⊥
+both x y true z d e f = elim (hit_cases x z) [
+  | inl h ↦ elim (hit_cases y z) [ inl k ↦ d (h.0 ∙ sym k.0) | inr k ↦ false≢true (sym (ne_eqb y z k.0) ∙ f) ]
+  | inr h ↦ false≢true (sym (ne_eqb x z h.0) ∙ e)
+]
+both x y false z d e f = false≢true e
+
+apart : (x y offset : ℕ) (bs : List Block) (r s : Range) → x ≢ y → range_from x offset bs ≡ Some r → range_from y offset bs ≡ Some s → AreDisjoint r s
+apart x y offset [] r s d e f = absurd (cc)
+apart x y offset (b ∷ bs) r s d e f = either (b.used && nat_eq x b.name) (b.used && nat_eq y b.name) (both x y b.used b.name d) (apart x y (offset + b.size) bs r s d) e f
+  where
+    either : (t u : Bool) → (t ≡ true → u ≡ true → ⊥) → (range_from x (offset + b.size) bs ≡ Some r → range_from y (offset + b.size) bs ≡ Some s → AreDisjoint r s)
+        → (if t then Some (record { offset = offset; size = b.size }) else range_from x (offset + b.size) bs) ≡ Some r
+        → (if u then Some (record { offset = offset; size = b.size }) else range_from y (offset + b.size) bs) ≡ Some s → AreDisjoint r s
+    either true true n later e f = absurd (n refl refl)
+    either true false n later e f =
+        let q : (let z : Range = record { offset = offset; size = b.size } in z) ≡ r = cc in
+        let o = ap (λ (z : Range). z.offset) q in
+        let k = ap (λ (z : Range). z.size) q in
+        let l = (beyond y (offset + b.size) bs s f).0 in
+        inl (omega arith)
+    either false true n later e f =
+        let q : (let z : Range = record { offset = offset; size = b.size } in z) ≡ s = cc in
+        let o = ap (λ (z : Range). z.offset) q in
+        let k = ap (λ (z : Range). z.size) q in
+        let l = (beyond x (offset + b.size) bs r e).0 in
+        inr (omega arith)
+    either false false n later e f = later e f
+
+-- the ranges of two live handles share no unit
+pub live_disjoint : (v : View) → IsWellFormed v → (x y : ℕ) (r s : Range) → x ≢ y → range_of x v ≡ Some r → range_of y v ≡ Some s → AreDisjoint r s
+live_disjoint v f x y r s d e g = apart x y 0 v.blocks r s d (sym (range_is x v f) ∙ e) (sym (range_is y v f) ∙ g)
+
+-- the range of a live handle lies in the space
+pub live_inside : (v : View) → IsWellFormed v → (x : ℕ) (r : Range) → range_of x v ≡ Some r → r.offset + r.size ≤ v.size
+live_inside v f x r e = let b = (beyond x 0 v.blocks r (sym (range_is x v f) ∙ e)).1 in let w = f.whole in omega arith
+
+-- what a request for n units leaves of the ranges
+pub record Holds (n : ℕ) (v w : View) (g : Grant) : Type 0 where
+  pub fresh : range_of g.name v ≡ None
+  pub range : range_of g.name w ≡ Some (record { offset = g.offset; size = n })
+  pub kept : KeepsRanges v w
+
+Gives : ℕ → View → View → Option Grant → Type 0
+Gives n v w None = KeepsRanges v w
+Gives n v w (Some g) = Holds n v w g
+
+-- what keeps all ranges but that of a name which was not live keeps all live ones
+kept_others : (x : ℕ) (v w : View) → range_of x v ≡ None → KeepsOthers x v w → KeepsRanges v w
+kept_others x v w fresh others y r e = elim (hit_cases y x) [
+  | inl h ↦ absurd (let same = ap (λ z. range_of z v) h.0 in let no : (let o : Option Range = None in o) ≡ Some r = sym fresh ∙ sym same ∙ e in cc)
+  | inr h ↦ others y h.0 ∙ e
+]
+
+idle : (u : Bool) → not u ≡ true → u ≡ false
+idle true e = absurd (false≢true e)
+idle false e = refl
+
+gives : (v : View) → IsWellFormed v → (needed n : ℕ) (padding_at : ℕ → ℕ) → ((o : ℕ) → padding_at o + n ≤ needed) → (front rest : ℕ) (o : Option Place) → taken needed v ≡ o
+    → IsWellFormed (granted_at v n padding_at front rest o).view → Gives n v (granted_at v n padding_at front rest o).view (granted_at v n padding_at front rest o).grant
+unfolding Gives
+gives v f needed n padding_at enough front rest None e after = λ x r e. e
+gives v f needed n padding_at enough front rest (Some p) e after =
+    let t = taken_at needed v f p e in
+    let padding = padding_at (units p.before) in
+    let size = fits_size needed p.block.size (le-leb (up needed) (down p.block.size) t.class) in
+    let wide : padding + n ≤ p.block.size = let h = enough (units p.before) in omega arith in
+    let unused = idle p.block.used t.free in
+    let once = f.distinct p.block.name in
+    let w = (granted v n padding front rest p).view in
+    let fresh = range_is p.block.name v f ∙ granted_before v n padding front rest p t.stood unused once wide in
+    record {
+      fresh = fresh;
+      range = range_is p.block.name w after ∙ granted_range v n padding front rest p t.stood unused once wide;
+      kept = kept_others p.block.name v w fresh (λ y d. range_is y w after ∙ granted_others v n padding front rest p t.stood unused once wide y d ∙ sym (range_is y v f));
+    }
+
+given : (n : ℕ) (v w : View) (o : Outcome) (g : Option Grant) → Gives n v o.view o.grant → g ≡ o.grant → IsBut o.view w → Gives n v w g
+unfolding Gives
+given n v w o g h answer but = subst (Gives n v w) (sym answer) (subst (λ u. Gives n v u o.grant) (sym but) (counted o.grant h))
+  where
+    counted : (g : Option Grant) → Gives n v o.view g → Gives n v (record o.view { accesses = w.accesses }) g
+    counted None h = h
+    counted (Some x) h = record { fresh = h.fresh; range = h.range; kept = h.kept }
+
+nothing_given : (n : ℕ) (v : View) → Gives n v v None
+unfolding Gives
+nothing_given n v = λ x r k. k
+
+-- requests
+gives_allocate : (n rest : ℕ) (v : View) → IsWellFormed v → IsUnused rest v → Gives n v (allocate n rest v).view (allocate n rest v).grant
+gives_allocate n rest v f u = if_value (is_short_of 1 v) (refused v) (granted_at v n (λ offset. 0) rest rest (taken n v)) (λ (o : Outcome). IsWellFormed o.view → Gives n v o.view o.grant)
+    (λ e h. nothing_given n v)
+    (λ e h. gives v f n n (λ offset. 0) (λ o. omega arith) rest rest (taken n v) refl h)
+    (well_allocate v f n rest u)
+
+gives_aligned : (n align front rest : ℕ) (v : View) → IsWellFormed v → IsUnused rest v → IsWellFormed (allocate_aligned n align front rest v).view → Gives n v (allocate_aligned n align front rest v).view (allocate_aligned n align front rest v).grant
+gives_aligned n align front rest v f u = if_value (nat_le align 1) (allocate n rest v) (if nat_lt greatest (n + align - 1) then refused v else serve 2 (n + align - 1) n (padding_to align) front rest v) (λ (o : Outcome). IsWellFormed o.view → Gives n v o.view o.grant)
+    (λ e h. gives_allocate n rest v f u)
+    (λ e. if_value (nat_lt greatest (n + align - 1)) (refused v) (serve 2 (n + align - 1) n (padding_to align) front rest v) (λ (o : Outcome). IsWellFormed o.view → Gives n v o.view o.grant)
+    (λ k h. nothing_given n v)
+    (λ k. if_value (is_short_of 2 v) (refused v) (granted_at v n (padding_to align) front rest (taken (n + align - 1) v)) (λ (o : Outcome). IsWellFormed o.view → Gives n v o.view o.grant)
+    (λ l h. nothing_given n v)
+    (λ l h. gives v f (n + align - 1) n (padding_to align) (λ o. let b = leb-false align 1 e in let s = padding_small align o b in omega arith) front rest (taken (n + align - 1) v) refl h)))
+
+held : (n : ℕ) (v w : View) (g : Grant) → Gives n v w (Some g) → Holds n v w g
+unfolding Gives
+held n v w g h = h
+
+kept : (n : ℕ) (v w : View) (g : Option Grant) → Gives n v w g → KeepsRanges v w
+unfolding Gives
+kept n v w None h = h
+kept n v w (Some g) h = h.kept
+
+pub allocated_holds : (n : ℕ) (v w : View) (g : Grant) → IsWellFormed v → Allocates n v w (Some g) → Holds n v w g
+allocated_holds n v w g f a = held n v w g (given n v w (allocate n a.rest v) (Some g) (gives_allocate n a.rest v f a.unused) a.answer a.view)
+
+pub allocated_keeps : (n : ℕ) (v w : View) (g : Option Grant) → IsWellFormed v → Allocates n v w g → KeepsRanges v w
+allocated_keeps n v w g f a = kept n v w g (given n v w (allocate n a.rest v) g (gives_allocate n a.rest v f a.unused) a.answer a.view)
+
+aligned_gives : (n align : ℕ) (v w : View) (g : Option Grant) → IsWellFormed v → Aligns n align v w g → Gives n v w g
+aligned_gives n align v w g f a = given n v w (allocate_aligned n align a.front a.rest v) g (gives_aligned n align a.front a.rest v f a.unused (well_aligned v f n align a.front a.rest a.unused a.apart)) a.answer a.view
+
+pub aligned_holds : (n align : ℕ) (v w : View) (g : Grant) → IsWellFormed v → Aligns n align v w (Some g) → Holds n v w g
+aligned_holds n align v w g f a = held n v w g (aligned_gives n align v w (Some g) f a)
+
+pub aligned_keeps : (n align : ℕ) (v w : View) (g : Option Grant) → IsWellFormed v → Aligns n align v w g → KeepsRanges v w
+aligned_keeps n align v w g f a = kept n v w g (aligned_gives n align v w g f a)
+
+-- a live name, and its range
+pub live_range : (x : ℕ) (v : View) (r : Range) → range_of x v ≡ Some r → IsLive x v
+live_range x v r e = either (place_of x v.blocks) e
+  where
+    used : (p : Place) (u : Bool) → (if u then Some (record { offset = units p.before; size = p.block.size }) else None) ≡ Some r → u ≡ true
+    used p true e = refl
+    used p false e = absurd (cc)
+
+    either : (o : Option Place) → range_at o ≡ Some r → is_used_at o ≡ true
+    either None e = absurd (cc)
+    either (Some p) e = used p p.block.used e
+
+-- a release
+none_if : (x : ℕ) (b : Block) (u : Bool) → b.used ≡ u → (bs : List Block) → HasNone x (if not u then b ∷ [] else [])
+unfolding HasNone
+none_if x b true e bs = tt
+none_if x b false e bs = none_idle x b e
+
+none_start : (x : ℕ) (bs : List Block) → HasNone x (free_start bs)
+unfolding HasNone
+none_start x [] = tt
+none_start x (b ∷ bs) = none_if x b b.used refl bs
+
+none_end : (x : ℕ) (bs : List Block) → HasNone x (free_end bs)
+unfolding HasNone
+none_end x [] = tt
+none_end x (b ∷ []) = none_if x b b.used refl []
+none_end x (b ∷ c ∷ bs) = none_end x (c ∷ bs)
+
+none_beside : (x y : ℕ) → y ≢ x → (b : Block) → x ≡ b.name → HasNone y (b ∷ [])
+unfolding HasNone
+none_beside x y d b e = (ap (λ t. b.used && t) (ne_eqb y b.name (λ k. d (k ∙ sym e))) ∙ right b.used, tt)
+  where
+    right : (u : Bool) → (u && false) ≡ false
+    right true = refl
+    right false = refl
+
+freed_if : (x : ℕ) (v : View) → IsWellFormed v → (o : Option Place) → place_of x v.blocks ≡ o → is_used_at o ≡ true → IsWellFormed (freed_at v o) → (range_of x (freed_at v o) ≡ None) × KeepsOthers x v (freed_at v o)
+freed_if x v f None e live after = absurd (false≢true live)
+freed_if x v f (Some p) e live after =
+    let at = place_at x v.blocks p e in
+    let alone = beside x p.before p.block p.after at.1 (let k = ap (named x) at.0 in let d = f.distinct x in omega arith) in
+    let w = freed_at v (Some p) in
+    let old = free_end p.before ++ ((p.block ∷ []) ++ free_start p.after) in
+    let stood = at.0 ∙ joined_parts p.before (p.block ∷ []) p.after in
+    let gone : HasNone x w.blocks = none_append x (without_end p.before) (free_block p.block.name (units old) ∷ without_start p.after)
+    (none_named x (without_end p.before) (let t = tally_end (λ (b : Block). one (nat_eq x b.name)) p.before in let k = alone.0 in omega arith))
+    (none_append x (free_block p.block.name (units old) ∷ []) (without_start p.after) (none_idle x (free_block p.block.name (units old)) refl) (none_named x (without_start p.after) (let t = tally_start (λ (b : Block). one (nat_eq x b.name)) p.after in let k = alone.1 in omega arith))) in (
+      range_is x w after ∙ nothing x 0 w.blocks gone,
+      λ y d. range_is y w after ∙ swapped y 0 (without_end p.before) old (free_block p.block.name (units old) ∷ []) (without_start p.after) (omega arith)
+          (none_append y (free_end p.before) _ (none_end y p.before) (none_append y (p.block ∷ []) (free_start p.after) (none_beside x y d p.block at.1) (none_start y p.after)))
+          (none_idle y (free_block p.block.name (units old)) refl)
+          ∙ sym (ap (λ l. range_from y 0 l) stood) ∙ sym (range_is y v f),
+    )
+
+freed : (x : ℕ) (v w : View) → IsWellFormed v → IsLive x v → IsBut (free x v) w → (range_of x w ≡ None) × KeepsOthers x v w
+freed x v w f live but =
+    let h = freed_if x v f (place_of x v.blocks) refl live (well_free v f x) in
+    (ap (range_of x) but ∙ h.0, λ y d. ap (range_of y) but ∙ h.1 y d)
+
+pub freed_gone : (x : ℕ) (v w : View) → IsWellFormed v → IsLive x v → IsBut (free x v) w → range_of x w ≡ None
+freed_gone x v w f live but = (freed x v w f live but).0
+
+pub freed_others : (x : ℕ) (v w : View) → IsWellFormed v → IsLive x v → IsBut (free x v) w → KeepsOthers x v w
+freed_others x v w f live but = (freed x v w f live but).1
+
+-- more units at the end
+shut : (x offset : ℕ) (bs cs : List Block) → HasNone x cs → range_from x offset (bs ++ cs) ≡ range_from x offset bs
+shut x offset [] cs h = nothing x offset cs h
+shut x offset (b ∷ bs) cs h = ap (λ r. if b.used && nat_eq x b.name then Some (record { offset = offset; size = b.size }) else r) (shut x (offset + b.size) bs cs h)
+
+extended_keeps : (more y : ℕ) (v : View) → IsWellFormed v → IsWellFormed (extended more y v) → KeepsRanges v (extended more y v)
+extended_keeps more y v f after x r e =
+    let last : Block = free_block (name_or y (free_end v.blocks)) (units (free_end v.blocks) + more) in
+    range_is x (extended more y v) after
+    ∙ shut x 0 (without_end v.blocks) (last ∷ []) (none_idle x last refl)
+    ∙ sym (shut x 0 (without_end v.blocks) (free_end v.blocks) (none_end x v.blocks))
+    ∙ sym (ap (λ l. range_from x 0 l) (end_parts v.blocks))
+    ∙ sym (range_is x v f)
+    ∙ e
+
+keeps_if : (more y : ℕ) (v : View) → IsWellFormed v → IsUnused y v → KeepsRanges v (extend more y v).view
+keeps_if zero y v f u = λ x r e. e
+keeps_if (suc more) y v f u = if_value (is_extendable (suc more) v) (let d : Extension = record { view = extended (suc more) y v; done = true } in d) (record { view = v; done = false }) (λ (d : Extension). KeepsRanges v d.view)
+    (λ e. extended_keeps (suc more) y v f (well_extended v f (suc more) y u e))
+    (λ e x r k. k)
+
+pub extends_keeps : (more : ℕ) (v w : View) (done : Bool) → IsWellFormed v → Extends more v w done → KeepsRanges v w
+extends_keeps more v w done f a x r e = ap (range_of x) a.view ∙ keeps_if more a.name v f a.unused x r e
