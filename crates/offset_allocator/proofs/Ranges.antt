@@ -201,11 +201,11 @@ Gives : ℕ → View → View → Option Grant → Type 0
 Gives n v w None = KeepsRanges v w
 Gives n v w (Some g) = Holds n v w g
 
--- what keeps all ranges but that of a name which was not live keeps all live ones
-kept_others : (x : ℕ) (v w : View) → range_of x v ≡ None → KeepsOthers x v w → KeepsRanges v w
-kept_others x v w fresh others y r e = elim (hit_cases y x) [
+-- the range of a name that was not live is given back: all live ranges stayed where they were
+pub given_back : (x : ℕ) (v w z : View) → range_of x v ≡ None → KeepsRanges v w → KeepsOthers x w z → KeepsRanges v z
+given_back x v w z fresh kept others y r e = elim (hit_cases y x) [
   | inl h ↦ absurd (let same = ap (λ z. range_of z v) h.0 in let no : (let o : Option Range = None in o) ≡ Some r = sym fresh ∙ sym same ∙ e in cc)
-  | inr h ↦ others y h.0 ∙ e
+  | inr h ↦ others y h.0 ∙ kept y r e
 ]
 
 idle : (u : Bool) → not u ≡ true → u ≡ false
@@ -228,7 +228,7 @@ gives v f needed n padding_at enough front rest (Some p) e after =
     record {
       fresh = fresh;
       range = range_is p.block.name w after ∙ granted_range v n padding front rest p t.stood unused once wide;
-      kept = kept_others p.block.name v w fresh (λ y d. range_is y w after ∙ granted_others v n padding front rest p t.stood unused once wide y d ∙ sym (range_is y v f));
+      kept = given_back p.block.name v v w fresh (λ x r e. e) (λ y d. range_is y w after ∙ granted_others v n padding front rest p t.stood unused once wide y d ∙ sym (range_is y v f));
     }
 
 given : (n : ℕ) (v w : View) (o : Outcome) (g : Option Grant) → Gives n v o.view o.grant → g ≡ o.grant → IsBut o.view w → Gives n v w g
