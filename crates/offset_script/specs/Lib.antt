@@ -4,6 +4,7 @@ pub mod Blocks
 pub mod Devices
 pub mod Faults
 pub mod Grammar
+pub mod Histories
 pub mod Limits
 pub mod Machine
 pub mod Playing
