@@ -11,3 +11,4 @@ pub mod Playing
 pub mod Running
 pub mod Serving
 pub mod Spelling
+pub mod Totals

@@ -6,6 +6,7 @@ ghost use Rattle.offset_script.specs.declared.scripts.Header.{Header};
 ghost use Rattle.offset_script.specs.Grammar.{command_of, header_of};
 ghost use Rattle.offset_script.specs.Histories.{EmptySpaceContinuesAsFresh, ExtendedSpaceIsLarger, NestLeavesNoTrace, ReleasesCommute};
 ghost use Rattle.offset_script.specs.Spelling.{IsSpelling, IsHeaderSpelling};
+ghost use Rattle.offset_script.specs.Totals.{FewAreLive, FullSpaceRefuses, SizesAddUp};
 
 /// A line is a command just where it spells it.
 pub fn one_spelling()
@@ -35,4 +36,19 @@ pub fn releases_commute()
 /// Grants that are released in the reverse order, with whatever is granted and released between, leave no trace.
 pub fn a_nest_leaves_no_trace()
     ensures { NestLeavesNoTrace }
+{}
+
+/// After any commands, live and free units add up to the size, with what extensions added.
+pub fn sizes_add_up()
+    ensures { SizesAddUp }
+{}
+
+/// After any commands, at most `limit - 2` grants are live.
+pub fn few_are_live()
+    ensures { FewAreLive }
+{}
+
+/// Where `limit - 1` blocks stand, every request is refused, and the report tells 0 and 0.
+pub fn a_full_space_refuses()
+    ensures { FullSpaceRefuses }
 {}
