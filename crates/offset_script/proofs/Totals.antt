@@ -1,5 +1,5 @@
 -- The sums of sizes, and the numbers of live blocks, that every call keeps.
-use Rattle.std.proofs.Common.{◌≡◌, ℕ, zero, suc, ◌+◌, ◌-◌, ◌<◌, ◌≤◌, Bool, true, false, ◌&&◌, ◌||◌, ◌⊎◌, List, [], ◌∷◌, ◌++◌, length, nat_le, nat_lt, if◌then◌else◌, refl, sym, ap, subst, ◌∙◌, inl, inr, arith, le-leb, length-append, sum}
+use Rattle.std.proofs.Common.{◌≡◌, ℕ, zero, suc, ◌+◌, ◌-◌, ◌≤◌, Bool, true, false, ◌&&◌, ◌||◌, List, [], ◌∷◌, ◌++◌, length, nat_le, nat_lt, if◌then◌else◌, refl, sym, ap, subst, ◌∙◌, inl, inr, arith, le-leb, length-append, sum}
 use Rattle.std.proofs.lemmas.List.Sums.{sum_by-cons}
 use Rattle.offset_allocator.specs.Named.{greatest, padding_to}
 use Rattle.offset_allocator.specs.Reports.{largest}
@@ -11,7 +11,7 @@ use Rattle.offset_script.specs.Machine as machine
 use Rattle.offset_script.specs.Histories.{KeepsSpace}
 use Rattle.offset_script.specs.Totals.{live_units, live_blocks, added, added_by, SizesAddUp, FewAreLive, FullSpaceRefuses}
 use Rattle.offset_script.proofs.Well.{whole, chosen_at, found_at, granted_blocks}
-use Rattle.offset_script.proofs.Nests.{Does, Only, Granted, Released, does}
+use Rattle.offset_script.proofs.Nests.{does}
 
 total-append : (xs ys : List Block) → total (xs ++ ys) ≡ total xs + total ys
 total-append [] ys = omega arith
