@@ -26,6 +26,7 @@ pub mod Merging
 pub mod Nodes
 pub mod Ops
 pub mod Overwritten
+pub mod Ranges
 pub mod Removal
 pub mod Removed
 pub mod Reporting

@@ -4,6 +4,7 @@ pub mod Count
 pub mod Named
 pub mod Orders
 pub mod Parts
+pub mod Ranges
 pub mod Relations
 pub mod Reports
 pub mod Space
