@@ -1,8 +1,8 @@
 -- What an allocator's users lean on, whatever was asked of it before.
-use Rattle.std.specs.Prelude.{◌≡◌, ◌≢◌, ◌↔◌, ◌⊎◌, ℕ, ◌+◌, ◌%◌, ◌≤◌, List, ◌++◌, length, sum, Some, None, true, IsTrue, IsSome, if◌then◌else◌}
+use Rattle.std.specs.Prelude.{◌≡◌, ◌≢◌, ◌↔◌, ◌⊎◌, ℕ, ◌+◌, ◌%◌, ◌≤◌, List, ◌++◌, length, sum, Some, None, true, false, IsTrue, IsSome, if◌then◌else◌}
 use Rattle.std.specs.List.{AllByRecursion}
 use Rattle.offset_allocator.specs.Classes.{value, up}
-use Rattle.offset_allocator.specs.Named.{Block, View, Grant, Place, is_free, tally, units, used_of, free_sizes, total_free, largest_free, place_of, size_at, IsUnused, greatest, padding_to, allocate, allocate_aligned}
+use Rattle.offset_allocator.specs.Named.{Block, View, Grant, Place, is_free, tally, units, used_of, free_sizes, total_free, largest_free, place_of, is_short_of, IsUnused, greatest, padding_to, allocate, allocate_aligned}
 use Rattle.offset_allocator.specs.Relations.{IsFresh}
 
 -- the units of the used blocks
@@ -41,9 +41,14 @@ AreFew v = used_of v.blocks + 2 ≤ v.max_allocs
 abbrev pub RefusesWhenFull : View → Type 0
 RefusesWhenFull v = v.max_allocs ≤ length v.blocks + 1 → ((n rest : ℕ) → (allocate n rest v).grant ≡ None) × ((n align front rest : ℕ) → (allocate_aligned n align front rest v).grant ≡ None) × (total_free v ≡ 0) × (largest_free v ≡ 0)
 
--- a granted request for n units has a block of n units
+-- a granted request for n units has the range of n units from its offset on
 abbrev pub GrantsExactly : View → Type 0
-GrantsExactly v = (n rest : ℕ) (g : Grant) → IsUnused rest v → (allocate n rest v).grant ≡ Some g → size_at (place_of g.name (allocate n rest v).view.blocks) ≡ n
+GrantsExactly v = (n rest : ℕ) (g : Grant) → (allocate n rest v).grant ≡ Some g → IsRange (allocate n rest v).view g.name g.offset n
+
+-- so has a granted aligned request, and its offset is a multiple of align
+abbrev pub AlignsExactly : View → Type 0
+AlignsExactly v = (n align front rest : ℕ) (g : Grant) → 1 ≤ align → (is_short_of 2 v ≡ false → IsUnused front v) → (allocate_aligned n align front rest v).grant ≡ Some g
+    → IsRange (allocate_aligned n align front rest v).view g.name g.offset n × (g.offset % align ≡ 0)
 
 -- with a limit of at least 3, a fresh space grants n units exactly where it has the value of the class that n is rounded up to
 abbrev pub FreshGrants : Type 0

@@ -2,7 +2,7 @@
 // laws that hold of every allocator. The functions of those do nothing.
 ghost use Rattle.std.specs.Prelude.{◌≡◌, ◌≤◌, ◌+◌, ◌*◌, ◌↔◌, IsTrue, length};
 ghost use Rattle.offset_allocator.specs.Named.{size_at, place_of, free_sizes};
-ghost use Rattle.offset_allocator.specs.Ranges.{AddsUp, AreDisjoint, AreFew, AreWithin, FreshGrants, GrantsExactly, PaddingIsLeast, RefusesWhenFull, StandAlone};
+ghost use Rattle.offset_allocator.specs.Ranges.{AddsUp, AlignsExactly, AreDisjoint, AreFew, AreWithin, FreshGrants, GrantsExactly, PaddingIsLeast, RefusesWhenFull, StandAlone};
 ghost use Rattle.offset_allocator.specs.Relations.{IsLive, IsBut, IsUndone};
 ghost use Rattle.offset_allocator.specs.Told.{IsReport, IsFullReport, IsGranted};
 
@@ -117,9 +117,11 @@ pub fn a_full_space_refuses<NI: NodeIndex>(allocator: &Allocator<NI>)
     allocator.formed();
 }
 
-/// A granted range has exactly the units that were asked for.
+/// A granted range has exactly the units that were asked for, from the offset in its handle on. That of an aligned
+/// request begins at a multiple of the alignment.
 pub fn grants_are_exact<NI: NodeIndex>(allocator: &Allocator<NI>)
-    ensures { GrantsExactly allocator.now }
+    ensures plain { GrantsExactly allocator.now }
+    ensures aligned { AlignsExactly allocator.now }
 {
     allocator.formed();
 }

@@ -4,7 +4,7 @@ use Rattle.offset_script.specs.declared.scripts.Command.{Command}
 use Rattle.offset_script.specs.declared.scripts.Command.TheVariants as command
 use Rattle.offset_script.specs.Blocks.{Free, Block, block, has_number, total, free_sizes, chosen, place_of, ends_live, joined}
 use Rattle.offset_allocator.specs.Named.{greatest, padding_to}
-use Rattle.offset_script.specs.Machine.{State, Answer, Outcome, step, answers, after, serve, grant, grant_or_refuse, is_short_of, answers_only, leaves, release, size_at, report, full_report, reset, extend, stamp_of_call, stamp_of_front}
+use Rattle.offset_script.specs.Machine.{State, Answer, Outcome, step, answers, after, serve, grant, grant_or_refuse, is_short_of, answers_only, leaves, release, size_at, report, reset, extend, stamp_of_call}
 use Rattle.offset_script.specs.Machine as machine
 use Rattle.offset_allocator.specs.Reports.{largest, rows_below}
 use Rattle.offset_script.proofs.Pairs.{Kind, Lives, Frees, Pair, pair, left_tag, right_tag, lefts, rights, In, in_left, in_right, Agree, AllAgree, SameOrder, PairPlace, whole, left_place, right_place}

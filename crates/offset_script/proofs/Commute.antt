@@ -7,7 +7,7 @@ use Rattle.offset_allocator.specs.Classes.{up, down}
 use Rattle.offset_allocator.specs.Reports.{largest, rows_below}
 use Rattle.offset_script.specs.Blocks.{Tag, Live, Free, Block, block, is_free, has_number, total, free_sizes, Place, here, behind, fits, is_taken_before, choose, chosen, place_of, free_start, without_start, ends_live, joined}
 use Rattle.offset_allocator.specs.Named.{greatest, padding_to}
-use Rattle.offset_script.specs.Machine.{State, Answer, Outcome, start, step, answers, after, serve, grant, grant_or_refuse, is_short_of, answers_only, leaves, release, size_at, report, stamp_of_call}
+use Rattle.offset_script.specs.Machine.{State, Outcome, start, step, after, serve, grant_or_refuse, is_short_of, answers_only, leaves, release, size_at, stamp_of_call}
 use Rattle.offset_script.specs.Machine as machine
 use Rattle.offset_script.specs.Histories.{holder, outline, widened, is_among, collapse_block, collapse, placeless, frees, ReleasesCommute}
 use Rattle.offset_script.proofs.Pairs.{Kind, Lives, Frees, Pair, pair, left_tag, right_tag, left, right, lefts, rights, In, same_free, same_length, same_total, same_sizes, same_ends_live, PairPlace, left_place, right_place, pair_place_of, left_place_of, right_place_of}

@@ -6,9 +6,9 @@ use Rattle.offset_script.specs.declared.scripts.Command.TheVariants as command
 use Rattle.offset_allocator.specs.Classes.{up, down}
 use Rattle.offset_script.specs.Blocks.{Live, Free, is_free, total, Place, chosen, place_of, joined}
 use Rattle.offset_allocator.specs.Named.{greatest, padding_to}
-use Rattle.offset_script.specs.Machine.{State, Answer, Outcome, start, step, answers, after, serve, grant, grant_or_refuse, is_short_of, answers_only, leaves, release, size_at, report, full_report, stamp_of_call, stamp_of_front}
+use Rattle.offset_script.specs.Machine.{State, Answer, Outcome, start, step, after, serve, grant, grant_or_refuse, is_short_of, answers_only, leaves, release, size_at, full_report, stamp_of_call}
 use Rattle.offset_script.specs.Machine as machine
-use Rattle.offset_script.specs.Histories.{renumbered, raised, IsGrant, KeepsSpace, Nest, settled, ContinuesAsBefore, NestLeavesNoTrace}
+use Rattle.offset_script.specs.Histories.{IsGrant, KeepsSpace, Nest, settled, NestLeavesNoTrace}
 use Rattle.offset_script.specs.Histories as history
 use Rattle.offset_script.proofs.Pairs.{Kind, Lives, Frees, left_tag, right_tag, left, right, lefts, rights}
 use Rattle.offset_script.proofs.Alike.{Alike, Matched, alike_answers}
