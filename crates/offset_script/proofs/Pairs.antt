@@ -37,7 +37,7 @@ abbrev pub rights : List Pair → List Block
 rights [] = []
 rights (q ∷ p) = right q ∷ rights p
 
--- the pair stands in the list
+-- a pair stands in the list
 abbrev pub In : Pair → List Pair → Type 0
 In q [] = ⊥
 In q (x ∷ p) = (q ≡ x) ⊎ In q p

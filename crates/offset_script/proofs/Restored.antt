@@ -192,7 +192,7 @@ older s w p n u e tag f best z t i same =
         self : hit (Free t) (Free t) ≡ 1
         self = elim (hit_cases t t) [ inl h ↦ h.1 | inr h ↦ absurd (h.0 refl) ]
 
--- the pairs after a grant, part by part
+-- the pairs after a grant, one part after the other
 record Parts (ps : List Pair) (p : Place) (n padding front k rest : ℕ) : Type 0 where
   before : List Pair
   front_bit : List Pair
@@ -217,6 +217,9 @@ single : (ps : List Pair) (x : Block) (ys : List Block) → lefts ps ≡ x ∷ y
 single [] x ys e = absurd (no_head _ _ (sym e))
 single (q ∷ ps) x ys e = record { first = q; back = ps; whole = refl; on_first = head_of _ _ _ _ e; on_back = tail_of _ _ _ _ e }
 
+whole_parts : (ps xs a fs b : List Pair) (l : Pair) (c rs ys : List Pair) → ps ≡ xs ++ a → a ≡ fs ++ b → b ≡ l ∷ c → c ≡ rs ++ ys → ps ≡ xs ++ (fs ++ (l ∷ (rs ++ ys)))
+whole_parts ps xs a fs b l c rs ys e f g h = e ∙ ap (λ z. xs ++ z) (f ∙ ap (λ z. fs ++ z) (g ∙ ap (λ z. l ∷ z) h))
+
 parts_of : (ps : List Pair) (p : Place) (n padding front k rest : ℕ) → granted_blocks p n padding front k rest ≡ lefts ps → Parts ps p n padding front k rest
 parts_of ps p n padding front k rest e =
     let a = split ps p.before (free_block padding front ++ (block n (Live k) ∷ (free_block (p.block.size - (padding + n)) rest ++ p.after))) (sym e) in
@@ -229,7 +232,7 @@ parts_of ps p n padding front k rest e =
       live = c.first;
       rest_bit = d.front;
       after = d.back;
-      whole = a.whole ∙ ap (λ l. a.front ++ l) (b.whole ∙ ap (λ l. b.front ++ l) (c.whole ∙ ap (λ l. c.first ∷ l) d.whole));
+      whole = whole_parts ps a.front a.back b.front b.back c.first c.back d.front d.back a.whole b.whole c.whole d.whole;
       on_before = a.on_front;
       on_front = b.on_front;
       on_live = c.on_first;
