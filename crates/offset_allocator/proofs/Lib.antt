@@ -1,5 +1,6 @@
 pub mod AlignedFits
 pub mod Aligning
+pub mod Always
 pub mod Back
 pub mod Binned
 pub mod Bits

@@ -1,3 +1,4 @@
+pub mod Always
 pub mod Cells
 pub mod Classes
 pub mod Count

@@ -1,6 +1,8 @@
-// The calls that leave an allocator as it is, with a count of their accesses, and the law that a grant can be undone.
+// The calls that leave an allocator as it is, with a count of their accesses, the law that a grant can be undone, and
+// laws that hold of every allocator. The functions of those do nothing.
 ghost use Rattle.std.specs.Prelude.{◌≡◌, ◌≤◌, ◌+◌, ◌*◌, ◌↔◌, IsTrue, length};
 ghost use Rattle.offset_allocator.specs.Named.{size_at, place_of, free_sizes};
+ghost use Rattle.offset_allocator.specs.Always.{AddsUp, AreFew, AreWithin, FreshGrants, KeepApart, PaddingIsLeast, RefusesWhenFull, StandAlone};
 ghost use Rattle.offset_allocator.specs.Relations.{IsLive, IsBut, IsUndone};
 ghost use Rattle.offset_allocator.specs.Told.{IsReport, IsFullReport, IsGranted};
 
@@ -78,3 +80,50 @@ pub fn undo<NI: NodeIndex>(allocator: &mut Allocator<NI>, n: u32) -> bool
         }
     }
 }
+
+/// The units of the used and of the free blocks add up to the size of the space.
+pub fn sizes_add_up<NI: NodeIndex>(allocator: &Allocator<NI>)
+    ensures { AddsUp allocator.now }
+{
+    allocator.formed();
+}
+
+/// The granted ranges lie in the space, and no two of them have a unit in common.
+pub fn ranges_are_disjoint<NI: NodeIndex>(allocator: &Allocator<NI>)
+    ensures within { AreWithin allocator.now }
+    ensures disjoint { KeepApart allocator.now }
+{
+    allocator.formed();
+}
+
+/// Between two granted ranges, and at each end of the space, at most one free block stands.
+pub fn free_blocks_stand_alone<NI: NodeIndex>(allocator: &Allocator<NI>)
+    ensures { StandAlone allocator.now }
+{
+    allocator.formed();
+}
+
+/// At most `max_allocs - 2` ranges are granted.
+pub fn few_are_live<NI: NodeIndex>(allocator: &Allocator<NI>)
+    ensures { AreFew allocator.now }
+{
+    allocator.formed();
+}
+
+/// Where `max_allocs - 1` blocks stand, every request is refused, and the report tells 0 and 0.
+pub fn a_full_space_refuses<NI: NodeIndex>(allocator: &Allocator<NI>)
+    ensures { RefusesWhenFull allocator.now }
+{
+    allocator.formed();
+}
+
+/// With a limit of at least 3, a fresh space grants a request exactly where it has as many units as the value of the
+/// class that the request is rounded up to: those that `min_allocator_size` tells.
+pub fn a_fresh_space_grants()
+    ensures { FreshGrants }
+{}
+
+/// The units before an aligned grant take its offset to a multiple of the alignment, and fewer would not.
+pub fn padding_is_least()
+    ensures { PaddingIsLeast }
+{}

@@ -1,7 +1,7 @@
 // One space, handed out in ranges.
 #![tactic(auto)]
 
-ghost use Rattle.std.specs.Prelude.{◌≡◌, ◌↔◌, ℕ, ◌+◌, ◌-◌, ◌*◌, ◌<◌, ◌≤◌, min, Some, None, Option, false, true, IsTrue, IsSome, IfSome, MatchOption, IfOk, length};
+ghost use Rattle.std.specs.Prelude.{◌≡◌, ◌↔◌, ℕ, ◌+◌, ◌-◌, ◌*◌, ◌%◌, ◌<◌, ◌≤◌, min, Some, None, Option, false, true, IsTrue, IsSome, IfSome, MatchOption, IfOk, length};
 ghost use Rattle.offset_allocator.specs.Classes.{up, down};
 ghost use Rattle.offset_allocator.specs.Cells.{empty_cells};
 ghost use Rattle.offset_allocator.specs.Orders.{IsLeastFrom};
@@ -442,6 +442,7 @@ impl<NI: NodeIndex> Allocator<NI> {
         ensures live { IfSome result (λ h. IsLive h.name self.new) }
         ensures fresh { IfSome result (λ h. range_of h.name self.old ≡ None) }
         ensures range { IfSome result (λ h. range_of h.name self.new ≡ Some (record { offset = h.offset; size = size })) }
+        ensures aligned { IfSome result (λ h. h.offset % align ≡ 0) }
         ensures kept { KeepsRanges self.old self.new }
         ensures granted { 1 ≤ size + align - 1 → (IsSome result
             ↔ ((length self.old.blocks + min align 2 < self.old.max_allocs) × (size + align - 1 ≤ largest_free self.old))) }

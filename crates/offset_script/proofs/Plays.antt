@@ -1,5 +1,5 @@
 -- A loop over commands: one more command, and one more answer.
-use Rattle.std.proofs.Common.{◌≡◌, ℕ, zero, suc, ◌+◌, ◌<◌, List, [], ◌∷◌, ◌++◌, length, map, take, drop, get_or, refl, sym, ap, ap₂, ◌∙◌, arith, add-one}
+use Rattle.std.proofs.Common.{◌≡◌, ℕ, zero, suc, ◌+◌, ◌<◌, ◌≤◌, List, [], ◌∷◌, ◌++◌, length, map, take, drop, get_or, refl, sym, ap, ap₂, ◌∙◌, arith, add-one, append-nil}
 use Rattle.offset_script.specs.declared.scripts.Command.{Command}
 use Rattle.offset_script.specs.declared.answers.Answer as program
 use Rattle.offset_script.specs.Machine.{State, Answer, step, answers, after}
@@ -35,3 +35,13 @@ told_more cs s i d found left x all h f e told = rw add-one
     ∙ map_told found x (answers (drop (suc i) cs) (after (take (suc i) cs) s))
     ∙ ap (λ l. map seen found ++ l) (ap₂ (λ y t. y ∷ answers (drop (suc i) cs) t) e (after_suc cs s i d h) ∙ sym (answers_suc cs (after (take i cs) s) i d h))
     ∙ told)
+
+all_past : (cs : List Command) (i : ℕ) (t : State) → length cs ≤ i → answers (drop i cs) t ≡ []
+all_past [] zero t h = refl
+all_past [] (suc i) t h = refl
+all_past (c ∷ cs) zero t h = absurd (omega arith)
+all_past (c ∷ cs) (suc i) t h = all_past cs i t (omega arith)
+
+-- where nothing is left, the answers so far are those to all
+pub told_all : (cs : List Command) (s : State) (i : ℕ) (found : List program.Answer) (all : List Answer) → length cs ≤ i → map seen found ++ answers (drop i cs) (after (take i cs) s) ≡ all → map seen found ≡ all
+told_all cs s i found all h told = sym (append-nil (map seen found)) ∙ ap (λ l. map seen found ++ l) (sym (all_past cs i (after (take i cs) s) h)) ∙ told

@@ -1,10 +1,12 @@
-//! How the lines of a script are spelled, as laws on what `parse` reads. The functions do nothing.
+//! Laws on what `parse` reads and on what `play` answers. The functions do nothing.
 
 ghost use Rattle.std.specs.Prelude.{◌≡◌, ◌↔◌, ℕ, List};
 ghost use Rattle.offset_script.specs.declared.scripts.Command.{Command};
 ghost use Rattle.offset_script.specs.declared.scripts.Header.{Header};
 ghost use Rattle.offset_script.specs.Grammar.{command_of, header_of};
+ghost use Rattle.offset_script.specs.Histories.{EmptySpaceContinuesAsFresh, ExtendedSpaceIsLarger, NestLeavesNoTrace, ReleasesCommute};
 ghost use Rattle.offset_script.specs.Spelling.{IsSpelling, IsHeaderSpelling};
+ghost use Rattle.offset_script.specs.Totals.{FewAreLive, FullSpaceRefuses, SizesAddUp};
 
 /// A line is a command just where it spells it.
 pub fn one_spelling()
@@ -14,4 +16,39 @@ pub fn one_spelling()
 /// A line is a header in form just where it spells it.
 pub fn one_header_spelling()
     ensures { (h : Header) (line : List ℕ) → (header_of line ≡ Some h) ↔ IsHeaderSpelling h line }
+{}
+
+/// A space without live blocks answers like a fresh one of its size.
+pub fn an_empty_space_continues_as_fresh()
+    ensures { EmptySpaceContinuesAsFresh }
+{}
+
+/// A fresh space that is extended answers like a fresh one of the greater size.
+pub fn an_extended_space_is_larger()
+    ensures { ExtendedSpaceIsLarger }
+{}
+
+/// A row of releases leaves the same space in any order.
+pub fn releases_commute()
+    ensures { ReleasesCommute }
+{}
+
+/// Grants that are released in the reverse order, with whatever is granted and released between, leave no trace.
+pub fn a_nest_leaves_no_trace()
+    ensures { NestLeavesNoTrace }
+{}
+
+/// After any commands, live and free units add up to the size, with what extensions added.
+pub fn sizes_add_up()
+    ensures { SizesAddUp }
+{}
+
+/// After any commands, at most `limit - 2` grants are live.
+pub fn few_are_live()
+    ensures { FewAreLive }
+{}
+
+/// Where `limit - 1` blocks stand, every request is refused, and the report tells 0 and 0.
+pub fn a_full_space_refuses()
+    ensures { FullSpaceRefuses }
 {}

@@ -3,6 +3,7 @@
 ghost use Rattle.std.specs.Prelude.{◌≡◌, ◌+◌, ◌<◌, ◌≤◌, All, IfOk, IfSome, IsTrue, length, map, vec_len};
 ghost use Rattle.offset_script.specs.Agreement.{kept, name_in};
 ghost use Rattle.offset_script.specs.Answers.{seen};
+ghost use Rattle.offset_script.specs.Histories.{RestartsFresh, RowsCommute, NestsLeaveNoTrace};
 ghost use Rattle.offset_script.specs.Limits.{is_powered};
 ghost use Rattle.offset_script.specs.Machine.{answers, start};
 ghost use Rattle.offset_script.specs.Serving.{IsKept, IsServing, IsSwept, Serves, Stands};
@@ -193,8 +194,11 @@ pub fn play<NI: NodeIndex>(
     requires low { 2 ≤ max_allocs }
     requires high { max_allocs + 1 < NI.MAX }
     requires powers { All (λ c. IsTrue (is_powered c)) commands.now }
-    ensures { IfOk result (λ found. map seen found.items
+    ensures answers { IfOk result (λ found. map seen found.items
         ≡ answers commands.now (start size max_allocs)) }
+    ensures fresh { IfOk result (λ found. RestartsFresh size max_allocs commands.now (map seen found.items)) }
+    ensures rows { IfOk result (λ found. RowsCommute size max_allocs commands.now (map seen found.items)) }
+    ensures nests { IfOk result (λ found. NestsLeaveNoTrace size max_allocs commands.now (map seen found.items)) }
 {
     let mut player: Player<NI> = Player::start(alloc, size, max_allocs)?;
     let mut found = Vec::new(alloc);

@@ -28,6 +28,14 @@ pub fn place_mesh(
     }
 }
 
+/// The ranges of two live meshes share no vertex.
+pub fn are_apart(vertices: &Allocator, one: Allocation, other: Allocation)
+    requires distinct { one.name ≢ other.name }
+    ensures { (r s : Range) → range_of one.name vertices.now ≡ Some r → range_of other.name vertices.now ≡ Some s → AreDisjoint r s }
+{
+    laws::ranges_are_disjoint(vertices);
+}
+
 /// Grants vertices that the report has just promised. It cannot fail.
 pub fn place_promised(vertices: &mut Allocator, n: u32) -> Allocation
     requires some { 1 ≤ n }
@@ -70,7 +78,17 @@ pub fn allocate_or_grow(space: &mut Allocator, n: u32, more: u32) -> Option<Allo
     }
 }
 
+/// A uniform buffer, at a multiple of 256 units, as a device asks for.
+pub fn place_uniforms(heap: &mut Allocator, n: u32) -> Option<Allocation>
+    ensures aligned { IfSome result (λ h. h.offset % 256 ≡ 0) }
+    ensures range { IfSome result (λ h. range_of h.name heap.new ≡ Some (record { offset = h.offset; size = n })) }
+    ensures kept { KeepsRanges heap.old heap.new }
+{
+    heap.allocate_aligned(n, 256)
+}
+
 /// What a tenant may take of a space, and what it has.
+#[derive(Drop)]
 pub struct Tenant {
     /// The most units that it may hold.
     pub quota: u32,

@@ -56,3 +56,14 @@ fn a_frame_leaves_the_space_as_it_was(rt: HostRuntime) -> Result<(), Fail> {
     assert_eq!(rt; space.storage_report().total_free_space, 100);
     Ok(())
 }
+
+#[test]
+fn uniforms_begin_at_a_multiple_of_256(rt: HostRuntime) -> Result<(), Fail> {
+    let mut heap = Allocator::new(rt.alloc(), 4096)?;
+    assert!(rt; heap.allocate(3).is_some());
+    match place_uniforms(&mut heap, 100) {
+        None => assert!(rt; false),
+        Some(allocation) => assert_eq!(rt; allocation.offset, 256),
+    }
+    Ok(())
+}

@@ -9,6 +9,7 @@ use Rattle.offset_allocator.proofs.Spares.{another, spare_room}
 use Rattle.offset_allocator.proofs.AlignedFits.{aligned_exactly, aligned_refusal, aligned_near}
 use Rattle.offset_allocator.proofs.Sound.{known_sound}
 use Rattle.offset_allocator.proofs.Aligning.{aligned_from, aligns_counted, refused_full, refused_past, refused_none}
+use Rattle.offset_allocator.proofs.Always.{aligned_multiple}
 use Rattle.offset_allocator.proofs.Ranges.{aligned_holds, live_range}
 use Rattle.offset_allocator.proofs.Allocator.allocate_aligned.Goals as goal
 
@@ -114,3 +115,6 @@ returns-in-Some-clause-kept g c =
     let known = known_sound f c.self.invariant c.args.self.now c.self.view_is in
     let holds = aligned_holds c.args.size c.args.align c.args.self.now c.grant_aligned.new.self c.grant_aligned.result known.0 (returns-in-Some-clause-step g c) in
     holds.kept
+
+pub returns-in-Some-clause-aligned : goal.returns-in-Some-clause-aligned
+returns-in-Some-clause-aligned g c = aligned_multiple c.args.size c.args.align c.args.self.now c.grant_aligned.new.self c.grant_aligned.result (omega arith) (returns-in-Some-clause-step g c)

@@ -1,0 +1,117 @@
+-- A state without live blocks continues as a fresh one, and a fresh one that is extended as a larger one.
+use Rattle.std.proofs.Common.{◌≡◌, ℕ, zero, suc, ◌+◌, ◌-◌, ◌*◌, ◌<◌, ◌≤◌, true, false, ◌&&◌, ◌||◌, List, [], ◌∷◌, length, map, IsTrue, nat_lt, if◌then◌else◌, refl, sym, ap, ap₂, subst, subst₂, le-ltb, ◌∙◌, inl, inr, arith, le-leb}
+use Rattle.std.proofs.lemmas.Bool.{cases_lt, lt-leb, true≢false}
+use Rattle.std.specs.List.{AllByRecursion}
+use Rattle.offset_allocator.specs.Named.{greatest}
+use Rattle.offset_script.specs.declared.scripts.Command.{Command}
+use Rattle.offset_script.specs.declared.scripts.Command.TheVariants as command
+use Rattle.offset_script.specs.Blocks.{Tag, Live, Free, Block, block, is_free, total}
+use Rattle.offset_script.specs.Machine.{State, Answer, start, step, answers, after, answers_only, leaves}
+use Rattle.offset_script.specs.Machine as machine
+use Rattle.offset_script.specs.Histories.{renumbered, raised, lowered, EmptySpaceContinuesAsFresh, ExtendedSpaceIsLarger}
+use Rattle.offset_script.proofs.Pairs.{Frees, Pair, pair, In, Agree}
+use Rattle.offset_script.proofs.Alike.{Alike, alike_answers}
+use Rattle.offset_script.proofs.Well.{Well, Apart, count, hit_cases, well_start, well_after}
+
+-- one free block
+abbrev IsOneFree : List Block → Type 0
+IsOneFree bs = (n x : ℕ) × (bs ≡ block n (Free x) ∷ [])
+
+free_tag : (t : Tag) → IsTrue (is_free t) → (x : ℕ) × (t ≡ Free x)
+free_tag (Free x) h = (x, refl)
+free_tag (Live k) h = absurd (grind (arith, h))
+
+one_free : (bs : List Block) → 1 ≤ length bs → Apart bs → AllByRecursion (λ b. IsTrue (is_free b.tag)) bs → IsOneFree bs
+one_free [] some a f = absurd (omega arith)
+one_free (b ∷ []) some a f = let t = free_tag b.tag f.0 in (b.size, t.0, ap (λ t. block b.size t ∷ []) t.1)
+one_free (b ∷ c ∷ bs) some a f =
+    let t = free_tag b.tag f.0 in
+    let u = free_tag c.tag f.1.0 in
+    absurd (true≢false (ap (λ t. is_free t && true) (sym t.1) ∙ ap (λ u. is_free b.tag && is_free u) (sym u.1) ∙ a.0))
+
+lowered_past : (g k : ℕ) → k ≤ g → lowered g k ≤ 0
+lowered_past g k h = subst (λ b. (if b then 0 else k - g) ≤ 0) (sym (le-leb k g h)) (omega arith)
+
+lowered_future : (g k : ℕ) → g < k → lowered g k + g ≡ k
+lowered_future g k h = subst (λ b. (if b then 0 else k - g) + g ≡ k) (sym (lt-leb k g h)) (omega arith)
+
+alike_fresh : (s : State) (n x : ℕ) → s.blocks ≡ block n (Free x) ∷ [] → x < 2 * (s.calls + 1) → Alike (lowered s.grants) s.grants s (start (total s.blocks) s.limit)
+alike_fresh s n x e h = record {
+  limit = refl;
+  pairs = q ∷ [];
+  left_blocks = e;
+  right_blocks = ap (λ m. block m (Free 0) ∷ []) (ap total e ∙ omega arith);
+  matched = λ p i. elim i [ inl same ↦ subst (λ (z : Pair). Rattle.offset_script.proofs.Alike.Matched (lowered s.grants) (2 * (s.calls + 1)) 2 z.kind) (sym same) (h, omega arith) | inr none ↦ absurd none ];
+  agree = λ a b i j. only a b i j;
+  grants = omega arith;
+  past = λ k l. lowered_past s.grants k l;
+  future = λ k l. lowered_future s.grants k l;
+}
+  where
+    q : Pair
+    q = pair n (Frees x 0)
+
+    only : (a b : Pair) → In a (q ∷ []) → In b (q ∷ []) → Agree a b
+    only a b (inl i) (inl j) = subst₂ Agree (sym i) (sym j) (λ same. le-ltb x x (omega arith))
+    only a b (inl i) (inr j) = absurd j
+    only a b (inr i) j = absurd i
+
+stamp_below : (s : State) → Well s → (n x : ℕ) → s.blocks ≡ block n (Free x) ∷ [] → x < 2 * (s.calls + 1)
+stamp_below s w n x e = elim (cases_lt x (2 * (s.calls + 1))) [
+  | inl l ↦ l
+  | inr l ↦ let o = w.stamped x l in let c = ap (count (Free x)) e in elim (hit_cases x x) [ inl same ↦ absurd (omega arith) | inr differ ↦ absurd (differ.0 refl) ]
+]
+
+pub fresh_law : EmptySpaceContinuesAsFresh
+fresh_law size limit h cs none =
+    let s = after cs (start size limit) in
+    let w : Well s = well_after cs _ (well_start size limit h) in
+    let f : IsOneFree s.blocks = one_free s.blocks w.some w.apart none in
+    λ more. alike_answers _ _ more s (start (total s.blocks) s.limit) (alike_fresh s f.0 f.1 f.2 (stamp_below s w f.0 f.1 f.2))
+
+-- a fresh space that is extended
+raised_none : (a : Answer) → raised 0 a ≡ a
+raised_none (machine.Grant k offset) = ap (λ n. machine.Grant n offset) (let e : k + 0 ≡ k = omega arith in e)
+raised_none machine.Refused = refl
+raised_none machine.Freed = refl
+raised_none machine.Gone = refl
+raised_none (machine.Size n) = refl
+raised_none (machine.Report f l) = refl
+raised_none (machine.Full rows) = refl
+raised_none machine.Reset = refl
+raised_none machine.Extended = refl
+
+lowered_none : (k : ℕ) → lowered 0 k ≡ k
+lowered_none k = elim (cases_lt 0 k) [ inl l ↦ let h = lowered_future 0 k l in omega (arith, h) | inr l ↦ let h = lowered_past 0 k l in omega (arith, h, l) ]
+
+renumbered_none : (c : Command) → renumbered (lowered 0) c ≡ c
+renumbered_none (command.Alloc n) = refl
+renumbered_none (command.Free k) = ap command.Free (lowered_none k)
+renumbered_none (command.Size k) = ap command.Size (lowered_none k)
+renumbered_none command.Report = refl
+renumbered_none command.Full = refl
+renumbered_none command.Reset = refl
+renumbered_none (command.Align n align) = refl
+renumbered_none (command.Extend more) = refl
+
+map_same : {A : Type 0} (f : A → A) → ((x : A) → f x ≡ x) → (xs : List A) → map f xs ≡ xs
+map_same f h [] = refl
+map_same f h (x ∷ xs) = ap₂ (λ y ys. y ∷ ys) (h x) (map_same f h xs)
+
+-- one free block before any grant, whatever its stamp
+abbrev alone : ℕ → ℕ → ℕ → State
+alone limit n x = record { limit = limit; blocks = block n (Free x) ∷ []; calls = 1; grants = 0 }
+
+alone_is_fresh : (limit n x : ℕ) → x < 4 → (cs : List Command) → answers cs (alone limit n x) ≡ answers cs (start n limit)
+alone_is_fresh limit n x h cs =
+    alike_answers _ _ cs (alone limit n x) (start (total (alone limit n x).blocks) limit) (alike_fresh (alone limit n x) n x refl (omega arith))
+    ∙ map_same (raised 0) raised_none _
+    ∙ ap₂ (λ l m. answers l (start m limit)) (map_same (renumbered (lowered 0)) renumbered_none cs) (let e : n + 0 ≡ n = omega arith in e)
+
+extended : (size more limit : ℕ) → nat_lt greatest (size + 0 + suc more) ≡ false → (step (command.Extend (suc more)) (start size limit)).state ≡ alone limit (size + suc more) 3
+extended size more limit e = ap (λ b. (if b || false then answers_only (start size limit) machine.Refused else leaves (start size limit) (block (size + suc more + 0) (Free 3) ∷ []) machine.Extended).state) e
+    ∙ ap (λ n. alone limit n 3) (let h : size + suc more + 0 ≡ size + suc more = omega arith in h)
+
+pub extended_law : ExtendedSpaceIsLarger
+extended_law size zero limit h cs = alone_is_fresh limit size 0 (omega arith) cs ∙ ap (λ n. answers cs (start n limit)) (let e : size ≡ size + 0 = omega arith in e)
+extended_law size (suc more) limit h cs = ap (answers cs) (extended size more limit (le-ltb greatest (size + 0 + suc more) (omega arith))) ∙ alone_is_fresh limit (size + suc more) 3 (omega arith) cs

@@ -1,0 +1,230 @@
+-- A nest leaves no trace.
+use Rattle.std.proofs.Common.{length, ◌≡◌, ◌≢◌, ℕ, zero, suc, ◌+◌, ◌-◌, ◌*◌, ◌<◌, ◌≤◌, Bool, true, false, ◌&&◌, ◌⊎◌, List, [], ◌∷◌, ◌++◌, Option, Some, None, nat_eq, nat_lt, nat_le, if◌then◌else◌, refl, sym, ap, subst, ◌∙◌, inl, inr, arith, leb-false, le-leb, ne_eqb}
+use Rattle.std.proofs.lemmas.Bool.{cases_lt, lt-leb, false≢true}
+use Rattle.offset_script.specs.declared.scripts.Command.{Command}
+use Rattle.offset_script.specs.declared.scripts.Command.TheVariants as command
+use Rattle.offset_allocator.specs.Classes.{up, down}
+use Rattle.offset_script.specs.Blocks.{Live, Free, is_free, total, Place, chosen, place_of, joined}
+use Rattle.offset_allocator.specs.Named.{greatest, padding_to}
+use Rattle.offset_script.specs.Machine.{State, Answer, Outcome, start, step, after, serve, grant, grant_or_refuse, is_short_of, answers_only, leaves, release, size_at, full_report, stamp_of_call}
+use Rattle.offset_script.specs.Machine as machine
+use Rattle.offset_script.specs.Histories.{IsGrant, KeepsSpace, Nest, settled, NestLeavesNoTrace}
+use Rattle.offset_script.specs.Histories as history
+use Rattle.offset_script.proofs.Pairs.{Kind, Lives, Frees, left_tag, right_tag, left, right, lefts, rights}
+use Rattle.offset_script.proofs.Alike.{Alike, Matched, alike_answers}
+use Rattle.offset_script.proofs.Well.{Well, count, chosen_at, well_start, well_after, well_step}
+use Rattle.offset_allocator.proofs.Sizes.{fits_size}
+use Rattle.offset_script.proofs.Similar.{SameNumber, Similar, similar_refl, similar_sym, similar_trans}
+use Rattle.offset_script.proofs.Restored.{Restored, restored, stands_count, stands_left, stands_right}
+
+-- What a call does that keeps the space: it only answers, or grants, or releases.
+abbrev pub IsQuiet : Answer → Type 0
+IsQuiet (machine.Grant k offset) = ⊥
+IsQuiet machine.Freed = ⊥
+IsQuiet a = Unit {0}
+
+pub record Granted (s : State) (o : Outcome) : Type 0 where
+  pub needed : ℕ
+  pub n : ℕ
+  pub padding : ℕ
+  pub place : Place
+  pub room : length s.blocks + 1 < s.limit
+  pub chose : chosen needed s.blocks ≡ Some place
+  pub within : padding + n ≤ place.block.size
+  pub is : o ≡ grant s n padding place
+
+pub record Released (s : State) (o : Outcome) : Type 0 where
+  pub number : ℕ
+  pub place : Place
+  pub found : place_of number s.blocks ≡ Some place
+  pub is : o ≡ leaves s (joined place.before place.block.size (stamp_of_call s) place.after) machine.Freed
+
+pub record Only (s : State) (o : Outcome) : Type 0 where
+  pub answer : Answer
+  pub quiet : IsQuiet answer
+  pub is : o ≡ answers_only s answer
+
+abbrev pub Does : State → Outcome → Type 0
+Does s o = Only s o ⊎ (Granted s o ⊎ Released s o)
+
+does_if : (s : State) (b : Bool) (o p : Outcome) → (b ≡ true → Does s o) → (b ≡ false → Does s p) → Does s (if b then o else p)
+does_if s true o p f g = f refl
+does_if s false o p f g = g refl
+
+only : (s : State) (a : Answer) → IsQuiet a → Does s (answers_only s a)
+only s a q = inl (record { answer = a; quiet = q; is = refl })
+
+both_right : (x y : Bool) → (x && y) ≡ true → y ≡ true
+both_right true y e = e
+both_right false y e = absurd (false≢true e)
+
+does_grant : (s : State) → length s.blocks + 1 < s.limit → (needed n : ℕ) (padding_at : ℕ → ℕ) → ((o : ℕ) → padding_at o + n ≤ needed) → (p : Option Place) → chosen needed s.blocks ≡ p → Does s (grant_or_refuse s n padding_at p)
+does_grant s room needed n padding_at h None e = only s machine.Refused tt
+does_grant s room needed n padding_at h (Some p) e = inr (inl (record {
+  needed = needed;
+  n = n;
+  padding = padding_at (total p.before);
+  place = p;
+  room = room;
+  chose = e;
+  within = let c = chosen_at needed s.blocks p e in let l = fits_size needed p.block.size (both_right (is_free p.block.tag) (nat_le (up needed) (down p.block.size)) c.1) in let m = h (total p.before) in omega arith;
+  is = refl;
+}))
+
+does_serve : (s : State) (spare : ℕ) → 1 ≤ spare → (needed n : ℕ) (padding_at : ℕ → ℕ) → ((o : ℕ) → padding_at o + n ≤ needed) → Does s (serve s spare needed n padding_at)
+does_serve s spare some needed n padding_at h = does_if s (is_short_of spare s) (answers_only s machine.Refused) (grant_or_refuse s n padding_at (chosen needed s.blocks)) (λ e. only s machine.Refused tt) (λ e. does_grant s (let l = leb-false s.limit (length s.blocks + spare) e in omega arith) needed n padding_at h (chosen needed s.blocks) refl)
+
+does_release : (s : State) (k : ℕ) (o : Option Place) → place_of k s.blocks ≡ o → Does s (release s o)
+does_release s k None e = only s machine.Gone tt
+does_release s k (Some p) e = inr (inr (record { number = k; place = p; found = e; is = refl }))
+
+quiet_size : (o : Option Place) → IsQuiet (size_at o)
+quiet_size None = tt
+quiet_size (Some p) = tt
+
+quiet_report : (b : Bool) (x y : ℕ) → IsQuiet (if b then machine.Report 0 0 else machine.Report x y)
+quiet_report true x y = tt
+quiet_report false x y = tt
+
+padding_fits : (n align o : ℕ) → 1 < align → padding_to align o + n ≤ n + align - 1
+padding_fits n align o h = omega arith
+
+pub does : (c : Command) (s : State) → KeepsSpace c → Does s (step c s)
+does (command.Alloc n) s k = does_serve s 1 (omega arith) n n (λ offset. 0) (λ o. omega arith)
+does (command.Free k) s h = does_release s k (place_of k s.blocks) refl
+does (command.Size k) s h = only s _ (quiet_size (place_of k s.blocks))
+does command.Report s h = only s _ (quiet_report (is_short_of 1 s) _ _)
+does command.Full s h = only s (full_report s) tt
+does command.Reset s h = absurd h
+does (command.Align n align) s h = does_if s (nat_le align 1) (step (command.Alloc n) s) (if nat_lt greatest (n + align - 1) then answers_only s machine.Refused else serve s 2 (n + align - 1) n (padding_to align))
+    (λ e. does_serve s 1 (omega arith) n n (λ offset. 0) (λ o. omega arith))
+    (λ e. does_if s (nat_lt greatest (n + align - 1)) (answers_only s machine.Refused) (serve s 2 (n + align - 1) n (padding_to align)) (λ f. only s machine.Refused tt)
+    (λ f. does_serve s 2 (omega arith) (n + align - 1) n (padding_to align) (λ o. padding_fits n align o (leb-false align 1 e))))
+does (command.Extend more) s h = absurd h
+
+-- what a nest keeps
+pub record Traceless (s t : State) : Type 0 where
+  pub limit : t.limit ≡ s.limit
+  pub blocks : Similar s.blocks t.blocks
+  pub grants : s.grants ≤ t.grants
+
+traceless_trans : (s t u : State) → Traceless s t → Traceless t u → Traceless s u
+traceless_trans s t u a b = record { limit = b.limit ∙ a.limit; blocks = similar_trans s.blocks t.blocks u.blocks a.blocks b.blocks; grants = omega (arith, a.grants, b.grants) }
+
+after-append : (xs ys : List Command) (s : State) → after (xs ++ ys) s ≡ after ys (after xs s)
+after-append [] ys s = refl
+after-append (c ∷ xs) ys s = after-append xs ys (step c s).state
+
+traceless_only : (s : State) (o : Outcome) → Only s o → Traceless s o.state
+traceless_only s o q = subst (λ (x : Outcome). Traceless s x.state) (sym q.is) (record { limit = refl; blocks = similar_refl s.blocks; grants = omega arith })
+
+-- a call that neither grants nor releases
+traceless_quiet : (c : Command) (s : State) → KeepsSpace c → ((k : ℕ) → IsGrant (step c s).answer k → ⊥) → (step c s).answer ≢ machine.Freed → Traceless s (step c s).state
+traceless_quiet c s k g f = elim (does c s k) [
+  | inl q ↦ traceless_only s _ q
+  | inr (inl d) ↦ absurd (g (s.grants + 1) (_, ap (λ (x : Outcome). x.answer) d.is))
+  | inr (inr d) ↦ absurd (f (ap (λ (x : Outcome). x.answer) d.is))
+]
+
+-- a call that grants
+not_quiet : (a : Answer) (k offset : ℕ) → IsQuiet a → a ≡ machine.Grant k offset → ⊥
+not_quiet a k offset q e = subst IsQuiet e q
+
+granted_is : (c : Command) (s : State) (k : ℕ) → KeepsSpace c → IsGrant (step c s).answer k → Granted s (step c s) × (k ≡ s.grants + 1)
+granted_is c s k h g = elim (does c s h) [
+  | inl q ↦ absurd (not_quiet q.answer k g.0 q.quiet (ap (λ (x : Outcome). x.answer) (sym q.is) ∙ g.1))
+  | inr (inl d) ↦ (d, number _ _ _ _ (sym g.1 ∙ ap (λ (x : Outcome). x.answer) d.is))
+  | inr (inr d) ↦ absurd (freed k g.0 (ap (λ (x : Outcome). x.answer) (sym d.is) ∙ g.1))
+]
+  where
+    number : (k j o p : ℕ) → machine.Grant k o ≡ machine.Grant j p → k ≡ j
+    number k j o p e = cc
+
+    freed : (k o : ℕ) → machine.Freed ≡ machine.Grant k o → ⊥
+    freed k o e = cc
+
+-- a grant, a nest, and its release
+traceless_release : (s t : State) (k : ℕ) → (r : Restored s t) → k ≡ s.grants + 1 → s.limit ≡ t.limit → s.grants ≤ t.grants → Traceless s (step (command.Free k) t).state
+traceless_release s t k r e l g = subst (λ o. Traceless s (release t o).state) (sym (ap (λ j. place_of j t.blocks) e ∙ r.found)) (record { limit = sym l; blocks = r.similar; grants = g })
+
+traceless_pair : (c : Command) (s : State) (k : ℕ) → Well s → KeepsSpace c → IsGrant (step c s).answer k → (t : State) → Well t → Traceless (step c s).state t → Traceless s (step (command.Free k) t).state
+traceless_pair c s k w h g t v m =
+    let d = granted_is c s k h g in
+    let p = d.0.place in
+    let found = chosen_at d.0.needed s.blocks p d.0.chose in
+    let m' : Traceless (grant s d.0.n d.0.padding p).state t = subst (λ (o : Outcome). Traceless o.state t) d.0.is m in
+    traceless_release s t k (restored s w p d.0.needed d.0.n d.0.padding found.0 found.1 found.2 d.0.within t v m'.blocks) d.1 (sym m'.limit) (let l : s.grants + 1 ≤ t.grants = m'.grants in omega arith)
+
+pub traceless : {s : State} {cs : List Command} → Nest s cs → Well s → Traceless s (after cs s)
+traceless (history.done {s = s}) w = record { limit = refl; blocks = similar_refl s.blocks; grants = omega arith }
+traceless (history.quiet {s = s} {c = c} {cs = cs} h g f rest) w = traceless_trans s (step c s).state (after cs (step c s).state) (traceless_quiet c s h g f) (traceless rest (well_step c s w))
+traceless (history.paired {s = s} {c = c} {k = k} {inner = inner} {outer = outer} h g i o) w =
+    let s1 = (step c s).state in
+    let w1 : Well s1 = well_step c s w in
+    let s2 = after inner s1 in
+    let w2 : Well s2 = well_after inner s1 w1 in
+    let s3 = (step (command.Free k) s2).state in
+    let same : after (inner ++ command.Free k ∷ []) s1 ≡ s3 = after-append inner (command.Free k ∷ []) s1 in
+    let a : Traceless s s3 = traceless_pair c s k w h g s2 w2 (traceless i w1) in
+    let b : Traceless s3 (after outer s3) = subst (λ x. Traceless x (after outer x)) same (traceless o (subst Well (sym same) (well_step (command.Free k) s2 w2))) in
+    subst (Traceless s) (sym (after-append inner (command.Free k ∷ outer) s1)) (traceless_trans s s3 (after outer s3) a b)
+
+-- numbers after a nest
+settled_cases : (g j k : ℕ) → ((k ≤ g) × (settled g j k ≡ k)) ⊎ (((g < k) × (k ≤ g + j) × (settled g j k ≡ 0)) ⊎ ((g + j < k) × (settled g j k ≡ k - j)))
+settled_cases g j k = elim (cases_lt g k) [
+  | inl l ↦ elim (cases_lt (g + j) k) [
+    | inl m ↦ inr (inr (m, ap (λ b. if b then k else if nat_le k (g + j) then 0 else k - j) (lt-leb k g l) ∙ ap (λ b. if b then 0 else k - j) (lt-leb k (g + j) m)))
+    | inr m ↦ inr (inl (l, m, ap (λ b. if b then k else if nat_le k (g + j) then 0 else k - j) (lt-leb k g l) ∙ ap (λ b. if b then 0 else k - j) (le-leb k (g + j) m)))
+  ]
+  | inr l ↦ inl (l, ap (λ b. if b then k else if nat_le k (g + j) then 0 else k - j) (le-leb k g l))
+]
+
+settled_number : (g j i k : ℕ) → 1 ≤ i → i ≤ g → nat_eq k i ≡ nat_eq (settled g j k) i
+settled_number g j i k one most = elim (settled_cases g j k) [
+  | inl h ↦ ap (λ x. nat_eq x i) (sym h.1)
+  | inr (inl h) ↦ ne_eqb k i (λ e. omega arith) ∙ sym (ne_eqb (settled g j k) i (λ e. omega arith))
+  | inr (inr h) ↦ ne_eqb k i (λ e. omega arith) ∙ sym (ne_eqb (settled g j k) i (λ e. omega arith))
+]
+
+settled_past : (g j k : ℕ) → k ≤ g + j → settled g j k ≤ g
+settled_past g j k l = elim (settled_cases g j k) [ inl h ↦ omega arith | inr (inl h) ↦ omega arith | inr (inr h) ↦ absurd (omega arith) ]
+
+settled_future : (g j k : ℕ) → g + j < k → settled g j k + j ≡ k
+settled_future g j k l = elim (settled_cases g j k) [ inl h ↦ absurd (omega arith) | inr (inl h) ↦ absurd (omega arith) | inr (inr h) ↦ omega arith ]
+
+-- what stands is below the next stamp, and its number is one of those granted
+stamp_below : (s : State) → Well s → (x : ℕ) → 1 ≤ count (Free x) s.blocks → x < 2 * (s.calls + 1)
+stamp_below s w x c = elim (cases_lt x (2 * (s.calls + 1))) [ inl l ↦ l | inr l ↦ let o = w.stamped x l in absurd (omega arith) ]
+
+number_within : (s : State) → Well s → (k : ℕ) → 1 ≤ count (Live k) s.blocks → (1 ≤ k) × (k ≤ s.grants)
+number_within s w zero c = let o = w.from_one in absurd (omega arith)
+number_within s w (suc k) c = elim (cases_lt s.grants (suc k)) [ inl l ↦ let o = w.granted (suc k) l in absurd (omega arith) | inr l ↦ (omega arith, l) ]
+
+matched_kind : (s t : State) → Well s → Well t → (j : ℕ) (q : Kind) → SameNumber q → 1 ≤ count (left_tag q) t.blocks → 1 ≤ count (right_tag q) s.blocks → Matched (settled s.grants j) (2 * (t.calls + 1)) (2 * (s.calls + 1)) q
+matched_kind s t w v j (Lives i i') e c d = λ k. let b = number_within s w i' d in subst (λ x. nat_eq k x ≡ nat_eq (settled s.grants j k) i') (sym e) (settled_number s.grants j i' k b.0 b.1)
+matched_kind s t w v j (Frees x y) e c d = (stamp_below t v x c, stamp_below s w y d)
+
+alike_after : (s t : State) → Well s → Well t → Traceless s t → Alike (settled s.grants (t.grants - s.grants)) (t.grants - s.grants) t s
+alike_after s t w v m = record {
+  limit = m.limit;
+  pairs = turned.pairs;
+  left_blocks = turned.left_blocks;
+  right_blocks = turned.right_blocks;
+  matched = λ q i. matched_kind s t w v (t.grants - s.grants) q.kind (turned.numbers q i)
+      (subst (λ bs. 1 ≤ count (left_tag q.kind) bs) (sym turned.left_blocks) (stands_count (left q) (lefts turned.pairs) (stands_left q turned.pairs i)))
+      (subst (λ bs. 1 ≤ count (right_tag q.kind) bs) (sym turned.right_blocks) (stands_count (right q) (rights turned.pairs) (stands_right q turned.pairs i)));
+  agree = turned.agree;
+  grants = omega (arith, m.grants);
+  past = λ k l. settled_past s.grants (t.grants - s.grants) k (omega (arith, m.grants));
+  future = λ k l. settled_future s.grants (t.grants - s.grants) k (omega (arith, m.grants));
+}
+  where
+    turned : Similar t.blocks s.blocks
+    turned = similar_sym s.blocks t.blocks m.blocks
+
+pub nest_law : NestLeavesNoTrace
+nest_law size limit h cs nest n =
+    let s = after cs (start size limit) in
+    let w : Well s = well_after cs (start size limit) (well_start size limit h) in
+    let t = after nest s in
+    λ more. alike_answers (settled s.grants (t.grants - s.grants)) (t.grants - s.grants) more t s (alike_after s t w (well_after nest s w) (traceless n w))

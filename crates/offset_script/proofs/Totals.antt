@@ -1,0 +1,198 @@
+-- The sums of sizes, and the numbers of live blocks, that every call keeps.
+use Rattle.std.proofs.Common.{◌≡◌, ℕ, zero, suc, ◌+◌, ◌-◌, ◌≤◌, Bool, true, false, ◌&&◌, ◌||◌, List, [], ◌∷◌, ◌++◌, length, nat_le, nat_lt, if◌then◌else◌, refl, sym, ap, subst, ◌∙◌, inl, inr, arith, le-leb, length-append, sum}
+use Rattle.std.proofs.lemmas.List.Sums.{sum_by-cons}
+use Rattle.offset_allocator.specs.Named.{greatest, padding_to}
+use Rattle.offset_allocator.specs.Reports.{largest}
+use Rattle.offset_script.specs.declared.scripts.Command.{Command}
+use Rattle.offset_script.specs.declared.scripts.Command.TheVariants as command
+use Rattle.offset_script.specs.Blocks.{Live, Free, Block, block, is_free, total, free_sizes, Place, chosen, free_block, free_start, without_start, free_end, without_end, ends_live, joined}
+use Rattle.offset_script.specs.Machine.{State, Outcome, start, step, after, is_short_of, answers_only, leaves, serve, grant_or_refuse, stamp_of_call, stamp_of_front}
+use Rattle.offset_script.specs.Machine as machine
+use Rattle.offset_script.specs.Histories.{KeepsSpace}
+use Rattle.offset_script.specs.Totals.{live_units, live_blocks, added, added_by, SizesAddUp, FewAreLive, FullSpaceRefuses}
+use Rattle.offset_script.proofs.Well.{whole, chosen_at, found_at, granted_blocks}
+use Rattle.offset_script.proofs.Nests.{does}
+
+total-append : (xs ys : List Block) → total (xs ++ ys) ≡ total xs + total ys
+total-append [] ys = omega arith
+total-append (b ∷ xs) ys = let ih = total-append xs ys in omega (arith, ih)
+
+total_free_block : (n s : ℕ) → total (free_block n s) ≡ n
+total_free_block zero s = refl
+total_free_block (suc n) s = omega arith
+
+total_start : (bs : List Block) → free_start bs + total (without_start bs) ≡ total bs
+total_start [] = refl
+total_start (b ∷ bs) = either (is_free b.tag)
+  where
+    either : (x : Bool) → (if x then b.size else 0) + total (if x then bs else b ∷ bs) ≡ b.size + total bs
+    either true = refl
+    either false = omega arith
+
+total_end : (bs : List Block) → free_end bs + total (without_end bs) ≡ total bs
+total_end [] = refl
+total_end (b ∷ []) = either (is_free b.tag)
+  where
+    either : (x : Bool) → (if x then b.size else 0) + total (if x then [] else b ∷ []) ≡ b.size + 0
+    either true = refl
+    either false = omega arith
+total_end (b ∷ c ∷ bs) = let ih = total_end (c ∷ bs) in omega (arith, ih)
+
+total_joined : (xs : List Block) (n s : ℕ) (ys : List Block) → total (joined xs n s ys) ≡ total xs + (n + total ys)
+total_joined xs n s ys = omega (arith, total-append (without_end xs) (block (free_end xs + n + free_start ys) (Free s) ∷ without_start ys), total_end xs, total_start ys)
+
+total_granted : (p : Place) (n padding front k rest : ℕ) → padding + n ≤ p.block.size → total (granted_blocks p n padding front k rest) ≡ total (whole p)
+total_granted p n padding front k rest h = omega (arith, total-append p.before (p.block ∷ p.after), total-append p.before (free_block padding front ++ (block n (Live k) ∷ (free_block (p.block.size - (padding + n)) rest ++ p.after))), total-append (free_block padding front) (block n (Live k) ∷ (free_block (p.block.size - (padding + n)) rest ++ p.after)), total-append (free_block (p.block.size - (padding + n)) rest) p.after, total_free_block padding front, total_free_block (p.block.size - (padding + n)) rest)
+
+live-append : (xs ys : List Block) → live_blocks (xs ++ ys) ≡ live_blocks xs + live_blocks ys
+live-append [] ys = omega arith
+live-append (b ∷ xs) ys = let ih = live-append xs ys in omega (arith, ih)
+
+live_free_block : (n s : ℕ) → live_blocks (free_block n s) ≡ 0
+live_free_block zero s = refl
+live_free_block (suc n) s = refl
+
+live_length : (bs : List Block) → live_blocks bs ≤ length bs
+live_length [] = omega arith
+live_length (b ∷ bs) = let ih = live_length bs in either (is_free b.tag) ih
+  where
+    either : (x : Bool) → live_blocks bs ≤ length bs → (if x then 0 else 1) + live_blocks bs ≤ suc (length bs)
+    either true h = omega arith
+    either false h = omega arith
+
+live_start : (bs : List Block) → live_blocks (without_start bs) ≡ live_blocks bs
+live_start [] = refl
+live_start (b ∷ bs) = either (is_free b.tag) refl
+  where
+    either : (x : Bool) → is_free b.tag ≡ x → live_blocks (if x then bs else b ∷ bs) ≡ (if is_free b.tag then 0 else 1) + live_blocks bs
+    either true e = let h : live_blocks bs ≡ 0 + live_blocks bs = omega arith in h ∙ ap (λ x. (if x then 0 else 1) + live_blocks bs) (sym e)
+    either false e = refl
+
+live_end : (bs : List Block) → live_blocks (without_end bs) ≡ live_blocks bs
+live_end [] = refl
+live_end (b ∷ []) = either (is_free b.tag) refl
+  where
+    either : (x : Bool) → is_free b.tag ≡ x → live_blocks (if x then [] else b ∷ []) ≡ (if is_free b.tag then 0 else 1) + 0
+    either true e = ap (λ x. (if x then 0 else 1) + 0) (sym e)
+    either false e = refl
+live_end (b ∷ c ∷ bs) = let ih = live_end (c ∷ bs) in omega (arith, ih)
+
+live_joined : (xs : List Block) (n s : ℕ) (ys : List Block) → live_blocks (joined xs n s ys) ≡ live_blocks xs + live_blocks ys
+live_joined xs n s ys = omega (arith, live-append (without_end xs) (block (free_end xs + n + free_start ys) (Free s) ∷ without_start ys), live_end xs, live_start ys)
+
+live_granted : (p : Place) (n padding front k rest : ℕ) → live_blocks (granted_blocks p n padding front k rest) ≡ live_blocks p.before + (1 + live_blocks p.after)
+live_granted p n padding front k rest = omega (arith, live-append p.before (free_block padding front ++ (block n (Live k) ∷ (free_block (p.block.size - (padding + n)) rest ++ p.after))), live-append (free_block padding front) (block n (Live k) ∷ (free_block (p.block.size - (padding + n)) rest ++ p.after)), live-append (free_block (p.block.size - (padding + n)) rest) p.after, live_free_block padding front, live_free_block (p.block.size - (padding + n)) rest)
+
+-- a command that keeps the space keeps the sum
+total_kept : (c : Command) (s : State) → KeepsSpace c → total (step c s).state.blocks ≡ total s.blocks
+total_kept c s k = elim (does c s k) [
+  | inl q ↦ ap (λ (o : Outcome). total o.state.blocks) q.is
+  | inr (inl d) ↦ ap (λ (o : Outcome). total o.state.blocks) d.is ∙ total_granted d.place d.n d.padding (stamp_of_front s) (s.grants + 1) (stamp_of_call s) d.within ∙ ap total (sym (chosen_at d.needed s.blocks d.place d.chose).0)
+  | inr (inr d) ↦ ap (λ (o : Outcome). total o.state.blocks) d.is ∙ total_joined d.place.before d.place.block.size (stamp_of_call s) d.place.after ∙ sym (total-append d.place.before (d.place.block ∷ d.place.after)) ∙ ap total (sym (found_at d.number s.blocks d.place d.found).0)
+]
+
+-- what a command leaves has as many units more as it adds
+Adds : Command → State → Outcome → Type 0
+Adds c s o = total o.state.blocks ≡ total s.blocks + added c o.answer
+
+adds_if : (c : Command) (s : State) (b : Bool) (o p : Outcome) → Adds c s o → Adds c s p → Adds c s (if b then o else p)
+adds_if c s true o p f g = f
+adds_if c s false o p f g = g
+
+adds_none : (n m : ℕ) → n ≡ m → n ≡ m + 0
+adds_none n m e = omega arith
+
+adds_step : (c : Command) (s : State) → Adds c s (step c s)
+unfolding Adds
+adds_step (command.Alloc n) s = adds_none _ _ (total_kept (command.Alloc n) s tt)
+adds_step (command.Free k) s = adds_none _ _ (total_kept (command.Free k) s tt)
+adds_step (command.Size k) s = adds_none _ _ refl
+adds_step command.Report s = adds_none _ _ refl
+adds_step command.Full s = adds_none _ _ refl
+adds_step command.Reset s = refl
+adds_step (command.Align n align) s = adds_none _ _ (total_kept (command.Align n align) s tt)
+adds_step (command.Extend zero) s = adds_none _ _ refl
+adds_step (command.Extend (suc more)) s = adds_if (command.Extend (suc more)) s (nat_lt greatest (total s.blocks + suc more) || (ends_live s.blocks && is_short_of 1 s)) (answers_only s machine.Refused) (leaves s (joined s.blocks (suc more) (stamp_of_call s) []) machine.Extended)
+    (adds_none _ _ refl) (let j = total_joined s.blocks (suc more) (stamp_of_call s) [] in omega arith)
+
+adds_all : (cs : List Command) (s : State) → total (after cs s).blocks ≡ total s.blocks + added_by cs s
+unfolding Adds
+adds_all [] s = omega arith
+adds_all (c ∷ cs) s = let a = adds_step c s in let ih = adds_all cs (step c s).state in omega arith
+
+-- the live and the free units of a list
+parted : (bs : List Block) → live_units bs + sum (free_sizes bs) ≡ total bs
+parted [] = refl
+parted (b ∷ bs) = let ih = parted bs in either (is_free b.tag) ih
+  where
+    either : (x : Bool) → live_units bs + sum (free_sizes bs) ≡ total bs → ((if x then 0 else b.size) + live_units bs) + sum (if x then b.size ∷ free_sizes bs else free_sizes bs) ≡ b.size + total bs
+    either true ih = one_more ih
+      where
+        one_more : live_units bs + sum (free_sizes bs) ≡ total bs → (0 + live_units bs) + sum (b.size ∷ free_sizes bs) ≡ b.size + total bs
+        one_more ih = let e : sum (b.size ∷ free_sizes bs) ≡ b.size + sum (free_sizes bs) = sum_by-cons (λ n. n) b.size (free_sizes bs) in omega (arith, e, ih)
+    either false ih = one_more ih
+      where
+        one_more : live_units bs + sum (free_sizes bs) ≡ total bs → (b.size + live_units bs) + sum (free_sizes bs) ≡ b.size + total bs
+        one_more ih = omega arith
+
+pub sums_law : SizesAddUp
+sums_law size limit cs = let p = parted (after cs (start size limit)).blocks in let a = adds_all cs (start size limit) in omega arith
+
+-- an outcome where no more than limit - 2 blocks are live
+Few : State → Outcome → Type 0
+Few s o = (live_blocks o.state.blocks + 2 ≤ s.limit) × (o.state.limit ≡ s.limit)
+
+few_if : (s : State) (b : Bool) (o p : Outcome) → Few s o → Few s p → Few s (if b then o else p)
+few_if s true o p f g = f
+few_if s false o p f g = g
+
+few_kept : (c : Command) (s : State) → KeepsSpace c → live_blocks s.blocks + 2 ≤ s.limit → Few s (step c s)
+unfolding Few
+few_kept c s k h = elim (does c s k) [
+  | inl q ↦ subst (Few s) (sym q.is) (h, refl)
+  | inr (inl d) ↦ subst (Few s) (sym d.is) (let r = d.room in
+      (omega (arith, r, live_granted d.place d.n d.padding (stamp_of_front s) (s.grants + 1) (stamp_of_call s), ap length (chosen_at d.needed s.blocks d.place d.chose).0, length-append d.place.before (d.place.block ∷ d.place.after), live_length d.place.before, live_length d.place.after), refl))
+  | inr (inr d) ↦ subst (Few s) (sym d.is)
+      (omega (arith, live_joined d.place.before d.place.block.size (stamp_of_call s) d.place.after, ap live_blocks (found_at d.number s.blocks d.place d.found).0, live-append d.place.before (d.place.block ∷ d.place.after), h), refl)
+]
+
+few_step : (c : Command) (s : State) → live_blocks s.blocks + 2 ≤ s.limit → Few s (step c s)
+unfolding Few
+few_step (command.Alloc n) s h = few_kept (command.Alloc n) s tt h
+few_step (command.Free k) s h = few_kept (command.Free k) s tt h
+few_step (command.Size k) s h = (h, refl)
+few_step command.Report s h = (h, refl)
+few_step command.Full s h = (h, refl)
+few_step command.Reset s h = (omega arith, refl)
+few_step (command.Align n align) s h = few_kept (command.Align n align) s tt h
+few_step (command.Extend zero) s h = (h, refl)
+few_step (command.Extend (suc more)) s h = few_if s (nat_lt greatest (total s.blocks + suc more) || (ends_live s.blocks && is_short_of 1 s)) (answers_only s machine.Refused) (leaves s (joined s.blocks (suc more) (stamp_of_call s) []) machine.Extended)
+    (h, refl) (let j = live_joined s.blocks (suc more) (stamp_of_call s) [] in omega arith, refl)
+
+few_all : (cs : List Command) (s : State) (limit : ℕ) → s.limit ≡ limit → live_blocks s.blocks + 2 ≤ limit → live_blocks (after cs s).blocks + 2 ≤ limit
+unfolding Few
+few_all [] s limit e h = h
+few_all (c ∷ cs) s limit e h = let f = few_step c s (omega arith) in few_all cs (step c s).state limit (f.1 ∙ e) (omega (arith, f.0))
+
+pub few_law : FewAreLive
+few_law size limit h cs = few_all cs (start size limit) limit refl h
+
+-- a full space is short of any number of blocks
+short_too : (s : State) (spare : ℕ) → 1 ≤ spare → s.limit ≤ length s.blocks + 1 → is_short_of spare s ≡ true
+short_too s spare some h = le-leb s.limit (length s.blocks + spare) (omega arith)
+
+refused : (s : State) (spare needed n : ℕ) (padding_at : ℕ → ℕ) → 1 ≤ spare → s.limit ≤ length s.blocks + 1 → (serve s spare needed n padding_at).answer ≡ machine.Refused
+refused s spare needed n padding_at some h = ap (λ b. (if b then answers_only s machine.Refused else grant_or_refuse s n padding_at (chosen needed s.blocks)).answer) (short_too s spare some h)
+
+refused_if : (b : Bool) (o p : Outcome) → o.answer ≡ machine.Refused → p.answer ≡ machine.Refused → (if b then o else p).answer ≡ machine.Refused
+refused_if true o p f g = f
+refused_if false o p f g = g
+
+pub full_law : FullSpaceRefuses
+full_law s h = (
+  λ n. refused s 1 n n (λ offset. 0) (omega arith) h,
+  λ n align. refused_if (nat_le align 1) (step (command.Alloc n) s) (if nat_lt greatest (n + align - 1) then answers_only s machine.Refused else serve s 2 (n + align - 1) n (padding_to align))
+      (refused s 1 n n (λ offset. 0) (omega arith) h)
+      (refused_if (nat_lt greatest (n + align - 1)) (answers_only s machine.Refused) (serve s 2 (n + align - 1) n (padding_to align)) refl (refused s 2 (n + align - 1) n (padding_to align) (omega arith) h)),
+  ap (λ b. if b then machine.Report 0 0 else machine.Report (sum (free_sizes s.blocks)) (largest (free_sizes s.blocks))) (short_too s 1 (omega arith) h),
+)
