@@ -4,7 +4,7 @@ use std::test::Fail;
 #[test]
 fn a_mesh_is_placed_whole_or_not_at_all(rt: HostRuntime) -> Result<(), Fail> {
     let mut vertices = Allocator::new(rt.alloc(), 100)?;
-    let (outer, inner) = place_mesh(&mut vertices, 60, 30).unwrap();
+    let (outer, inner) = place_mesh(&mut vertices, 60, 30).expect(&rt, "room for both");
     assert_eq!(rt; (outer.offset, inner.offset), (0, 60));
     assert!(rt; place_mesh(&mut vertices, 5, 6).is_none());
     assert_eq!(rt; vertices.storage_report().total_free_space, 10);
