@@ -14,9 +14,8 @@ struct allocator {
     uint32_t size, max_allocs, top_mask, spare_count, free_total, last;
     uint32_t *offsets, *sizes;
     bool *used;
-    name_t *before, *after, *newer, *older, *spare;
+    name_t *before, *after, *newer, *older, *heads, *spare;
     uint64_t masks[4];
-    name_t heads[256];
 };
 
 struct step { uint32_t slot, size; };
@@ -29,9 +28,7 @@ static inline uint32_t class_below(uint32_t size) {
 }
 
 static inline uint32_t class_above(uint32_t size) {
-    if (size < 8) return size;
-    uint32_t start = 28 - __builtin_clz(size);
-    return (start << 3) + (size >> start) + ((size & ((1u << start) - 1)) != 0);
+    return size == 0 ? 0 : class_below(size - 1) + 1;
 }
 
 static inline void put_first(struct allocator *a, name_t name, uint32_t class) {
@@ -141,7 +138,7 @@ static void reset(struct allocator *a) {
     memset(a->after, 0xff, names * sizeof(name_t));
     memset(a->newer, 0xff, names * sizeof(name_t));
     memset(a->older, 0xff, names * sizeof(name_t));
-    memset(a->heads, 0xff, sizeof a->heads);
+    memset(a->heads, 0xff, 256 * sizeof(name_t));
     memset(a->masks, 0, sizeof a->masks);
     for (size_t i = 0; i + 1 < names; i++) a->spare[i] = (name_t)(i + 1);
     a->spare[names - 1] = 0;
@@ -163,8 +160,10 @@ static bool make(struct allocator *a, uint32_t size, uint32_t max_allocs) {
     a->after = malloc(names * sizeof(name_t));
     a->newer = malloc(names * sizeof(name_t));
     a->older = malloc(names * sizeof(name_t));
+    a->heads = malloc(256 * sizeof(name_t));
     a->spare = malloc(names * sizeof(name_t));
-    if (!a->offsets || !a->sizes || !a->used || !a->before || !a->after || !a->newer || !a->older || !a->spare)
+    if (!a->offsets || !a->sizes || !a->used || !a->before || !a->after || !a->newer || !a->older || !a->heads ||
+        !a->spare)
         return false;
     reset(a);
     return true;
@@ -172,7 +171,7 @@ static bool make(struct allocator *a, uint32_t size, uint32_t max_allocs) {
 
 static void drop(struct allocator *a) {
     free(a->offsets), free(a->sizes), free(a->used), free(a->before), free(a->after), free(a->newer), free(a->older),
-        free(a->spare);
+        free(a->heads), free(a->spare);
 }
 
 // The same player as the other sides': it asks whether a handle is live before it gives it back.

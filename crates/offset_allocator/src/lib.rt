@@ -292,7 +292,7 @@ impl<NI: NodeIndex> Allocator<NI> {
             &mut self.tables,
             &mut self.top_mask,
             self.last,
-            uint_to_float_round_down(whole),
+            whole,
             &mut self.accesses,
         );
         chain::grow(
