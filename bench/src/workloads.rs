@@ -65,14 +65,15 @@ impl Random {
 
 const STEPS: usize = 1_000_000;
 
-/// Random slots: once all were met, half of them are full.
+/// Fills so many slots, and then empties and fills a random one, again and again.
 fn random(slots: u32, bits: u32) -> Work {
     let mut random = Random(0x9e3779b97f4a7c15);
-    let mut order = random.shuffled(slots);
-    order.truncate(slots as usize / 2);
-    let filled = order.len();
-    let mut steps: Vec<Step> = order.into_iter().map(|slot| Step { slot, size: random.size(bits) }).collect();
-    steps.extend((filled..STEPS.max(2 * filled)).map(|_| Step { slot: random.below(slots), size: random.size(bits) }));
+    let mut steps: Vec<Step> = (0..slots).map(|slot| Step { slot, size: random.size(bits) }).collect();
+    while steps.len() < STEPS + slots as usize {
+        let slot = random.below(slots);
+        steps.push(Step { slot, size: random.size(bits) });
+        steps.push(Step { slot, size: random.size(bits) });
+    }
     Work::Steps { slots: slots as usize, steps }
 }
 
@@ -121,18 +122,18 @@ pub fn all() -> Vec<Workload> {
     let mut add = |name: &str, width, space, nodes, work| {
         found.push(Workload { name: name.to_string(), width, space, nodes, work })
     };
-    add("random, 1k live", Bits32, SPACE, NODES, random(2_000, 12));
-    add("random, 16k live", Bits32, SPACE, NODES, random(32_000, 12));
-    add("random, 60k live", Bits32, SPACE, NODES, random(120_000, 12));
-    add("random, 300 of 1,024", Bits32, SPACE, 1_024, random(600, 12));
-    add("tight, with refusals", Bits32, 300_000, NODES, random(4_000, 12));
+    add("random, 1k live", Bits32, SPACE, NODES, random(1_000, 12));
+    add("random, 16k live", Bits32, SPACE, NODES, random(16_000, 12));
+    add("random, 60k live", Bits32, SPACE, NODES, random(60_000, 12));
+    add("random, 300 of 1,024", Bits32, SPACE, 1_024, random(300, 12));
+    add("tight, with refusals", Bits32, 300_000, NODES, random(2_000, 12));
     add("bump, then free in order", Bits32, SPACE, NODES, waves(60_000, 12, |_| (0..60_000).collect()));
     add("bump, then free in reverse", Bits32, SPACE, NODES, waves(60_000, 12, |_| (0..60_000).rev().collect()));
     add("bump, then free at random", Bits32, SPACE, NODES, waves(60_000, 12, |r| r.shuffled(60_000)));
     add("fragmenting mix", Bits32, SPACE, NODES, fragments(120_000));
-    add("u16: random, 1k live", Bits16, 65_535, 65_000, random(2_000, 6));
-    add("u16: random, 16k live", Bits16, 65_535, 65_000, random(32_000, 1));
-    add("u16: random, 300 of 1,024", Bits16, 65_535, 1_024, random(600, 7));
+    add("u16: random, 1k live", Bits16, 65_535, 65_000, random(1_000, 6));
+    add("u16: random, 16k live", Bits16, 65_535, 65_000, random(16_000, 1));
+    add("u16: random, 300 of 1,024", Bits16, 65_535, 1_024, random(300, 7));
     add("u16: tight, with refusals", Bits16, 20_000, 65_000, random(4_000, 6));
     add("u16: bump, then free at random", Bits16, 65_535, 65_000, waves(10_000, 2, |r| r.shuffled(10_000)));
     add("make 131,072 nodes", Bits32, SPACE, NODES, Work::Make { times: 100 });
@@ -141,7 +142,7 @@ pub fn all() -> Vec<Workload> {
     add("u16: reset 65,000 nodes", Bits16, 65_535, 65_000, Work::Reset { times: 100 });
     for bits in 10..=20 {
         let nodes = 1 << bits;
-        add(&format!("growth, {nodes} nodes"), Bits32, u32::MAX, nodes, random(nodes / 2, 12));
+        add(&format!("growth, {nodes} nodes"), Bits32, u32::MAX, nodes, random(nodes / 4, 12));
     }
     found
 }
