@@ -28,7 +28,7 @@ static inline uint32_t class_below(uint32_t size) {
 }
 
 static inline uint32_t class_above(uint32_t size) {
-    return size == 0 ? 0 : class_below(size - 1) + 1;
+    return size <= 8 ? size : class_below(size - 1) + 1;
 }
 
 static inline void put_first(struct allocator *a, name_t name, uint32_t class) {

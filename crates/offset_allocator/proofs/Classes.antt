@@ -159,8 +159,15 @@ start_fits n l h = let (e, q, low, high) = top n l h in omega arith
 pub down_small : (n : ℕ) → n < 8 → down n ≡ n
 down_small n h = rw (value_small n h) at (down_value n (omega arith))
 
-pub up_small : (n : ℕ) → n < 8 → up n ≡ n
-up_small n h = rw (value_small n h) at (up_value n (omega arith))
+value_eight : value 8 ≡ 8
+value_eight = value_at 0 0 (omega arith)
+
+pub up_small : (n : ℕ) → n ≤ 8 → up n ≡ n
+up_small n h =
+    ⊎_elim
+    (λ (l : n < 8). rw (value_small n l) at (up_value n (omega arith)))
+    (λ (l : 8 ≤ n). let e : n ≡ 8 = omega arith in rw e (rw value_eight at (up_value 8 (omega arith))))
+    (cases_lt n 8)
 
 -- n in the class k of group s + 1, by its rest r
 module _ (n s k r : ℕ) (ks : k < 8) (ss : s ≤ 28) (split : n ≡ (8 + k) * 2 ^ s + r) (rs : r < 2 ^ s) where

@@ -63,7 +63,7 @@ fn handle_of<NI: NodeIndex>(offset: u32, name: u32) -> Allocation<NI>
     requires { name < NI.MAX }
     ensures { result ≡ record { name = name; offset = offset } }
 {
-    Allocation::make(offset, NI::from_u32(name).to_nonmax().unwrap())
+    Allocation::make(offset, NI::from_u32(name).to_name())
 }
 
 // Makes the whole space one free block, under the name 0, in tables with nothing written. It answers the top mask.

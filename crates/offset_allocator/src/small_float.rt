@@ -18,8 +18,8 @@ pub fn uint_to_float_round_up(size: u32) -> u32
     ensures least { (c : ℕ) → ((result ≤ c) ↔ (size ≤ value c)) }
     ensures waste { 8 * (value result - size) ≤ size }
 {
-    if size == 0 {
-        return 0;
+    if size <= MANTISSA_VALUE {
+        return size;
     }
     // the class behind the last one whose value is too small
     uint_to_float_round_down(size - 1) + 1
