@@ -192,8 +192,8 @@ pub(crate) fn take_first<NI: NodeIndex>(
 {
     let name = number(t.head(class, count));
     let after = t.older(name, count);
-    t.set_head(class, after, count);
     link_newer(t, after, no_link(), count);
+    t.set_head(class, after, count);
     if number(after) == NI::MAX {
         clear_class(t, top, class, count);
     }
