@@ -1,6 +1,6 @@
 -- Laws of the size classes.
 use Rattle.std.proofs.Common.{◌≡◌, ◌≢◌, ◌<◌, ◌≤◌, ℕ, zero, suc, ◌+◌, ◌-◌, ◌*◌, ◌/◌, ◌%◌, ◌^◌, Bool, true, false, cond, leb, bit_and, bit_or, refl, sym, ap, ◌∙◌, inl, inr, ◌⊎◌, ⊎_elim, ◌↔◌, arith, rules, add-one}
-use Rattle.std.proofs.lemmas.Nat.{pow_pos, div-mul-add, mod-mul-add, and_mask, or_comm, or_shifted, leading_top, shr_split, one_shl, pow-add, mod_below, le-div, div_below}
+use Rattle.std.proofs.lemmas.Nat.{pow_pos, div-mul-add, mod-mul-add, and_mask, or_comm, or_shifted, leading_top, shr_split, pow-add, mod_below, le-div, div_below}
 use Rattle.std.proofs.lemmas.Bool.{cases_lt, lt-ltb, le-ltb, le-leb}
 use Rattle.std.proofs.Math.Nat.{pow-suc}
 use Rattle.std.proofs.Math.Pow.{pow_mono}
@@ -147,12 +147,11 @@ cut n e l h =
     (n / 2 ^ e - 8, omega arith, q, sym t, mod_below n (2 ^ e) p)
 
 -- the parts of n that the code reads: the start s of the mantissa, the mantissa k and the bits below it
-pub parts : (n s : ℕ) → 8 ≤ n → n < 2 ^ 32 → s + count_leading_zeros 32 n ≡ 28 → (k : ℕ) × (k < 8) × (bit_and (n / 2 ^ s) 7 ≡ k) × (n ≡ (8 + k) * 2 ^ s + n % 2 ^ s) × (n % 2 ^ s < 2 ^ s)
+pub parts : (n s : ℕ) → 8 ≤ n → n < 2 ^ 32 → s + count_leading_zeros 32 n ≡ 28 → (k : ℕ) × (k < 8) × (n / 2 ^ s ≡ 8 + k) × (n ≡ (8 + k) * 2 ^ s + n % 2 ^ s) × (n % 2 ^ s < 2 ^ s)
 parts n s l h q =
     let (e, q', low, high) = top n l h in
     let es : e ≡ s = omega arith in
-    let (k, kl, d, split, r) = cut n s (rw (← es) low) (rw (← es) high) in
-    (k, kl, and_mask (n / 2 ^ s) 3 ∙ (rw d (omega arith)), split, r)
+    cut n s (rw (← es) low) (rw (← es) high)
 
 pub start_fits : (n : ℕ) → 8 ≤ n → n < 2 ^ 32 → count_leading_zeros 32 n ≤ 28
 start_fits n l h = let (e, q, low, high) = top n l h in omega arith
@@ -160,8 +159,15 @@ start_fits n l h = let (e, q, low, high) = top n l h in omega arith
 pub down_small : (n : ℕ) → n < 8 → down n ≡ n
 down_small n h = rw (value_small n h) at (down_value n (omega arith))
 
-pub up_small : (n : ℕ) → n < 8 → up n ≡ n
-up_small n h = rw (value_small n h) at (up_value n (omega arith))
+value_eight : value 8 ≡ 8
+value_eight = value_at 0 0 (omega arith)
+
+pub up_small : (n : ℕ) → n ≤ 8 → up n ≡ n
+up_small n h =
+    ⊎_elim
+    (λ (l : n < 8). rw (value_small n l) at (up_value n (omega arith)))
+    (λ (l : 8 ≤ n). let e : n ≡ 8 = omega arith in rw e (rw value_eight at (up_value 8 (omega arith))))
+    (cases_lt n 8)
 
 -- n in the class k of group s + 1, by its rest r
 module _ (n s k r : ℕ) (ks : k < 8) (ss : s ≤ 28) (split : n ≡ (8 + k) * 2 ^ s + r) (rs : r < 2 ^ s) where
@@ -169,40 +175,13 @@ module _ (n s k r : ℕ) (ks : k < 8) (ss : s ≤ 28) (split : n ≡ (8 + k) * 2
   down_at =
       down_is n ((s + 1) * 8 + k) (omega arith) (rw (value_at s k ks) (omega arith)) (rw (value_next s k ks) (omega arith))
 
-  up_exact : r ≡ 0 → up n ≡ (s + 1) * 8 + k
-  up_exact z =
-      let e : n ≡ value ((s + 1) * 8 + k) = rw (value_at s k ks) (omega arith) in
-      rw e (up_value ((s + 1) * 8 + k) (omega arith))
-
-  up_rounded : 0 < r → up n ≡ (s + 1) * 8 + k + 1
-  up_rounded p =
-      up_next n ((s + 1) * 8 + k) (omega arith) (rw (value_at s k ks) (omega arith)) (rw (value_next s k ks) (omega arith))
-
 module _ (n s : ℕ) (l : 8 ≤ n) (h : n < 2 ^ 32) (q : s + count_leading_zeros 32 n ≡ 28) where
-  pub down_code : bit_or ((s + 1) * 8 % 4294967296) (bit_and (n / 2 ^ s) 7) ≡ down n
+  pub down_code : s * 8 % 4294967296 + n / 2 ^ s ≡ down n
   down_code =
-      let (k, kl, m, split, r) = parts n s l h q in
+      let (k, kl, d, split, r) = parts n s l h q in
       let ss : s ≤ 28 = omega arith in
-      let e : (s + 1) * 8 % 4294967296 ≡ (s + 1) * 8 = omega arith in
-      rw (e, m) (or_shifted (s + 1) 3 k kl ∙ sym (down_at n s k (n % 2 ^ s) kl ss split r))
-
-  low_bits : bit_and n (1 * 2 ^ s % 4294967296 - 1) ≡ n % 2 ^ s
-  low_bits = rw (one_shl s 32 (omega arith)) (and_mask n s)
-
-  pub up_code_exact : bit_and n (1 * 2 ^ s % 4294967296 - 1) ≡ 0 → (s + 1) * 8 % 4294967296 + bit_and (n / 2 ^ s) 7 ≡ up n
-  up_code_exact z =
-      let (k, kl, m, split, r) = parts n s l h q in
-      let ss : s ≤ 28 = omega arith in
-      let e : (s + 1) * 8 % 4294967296 ≡ (s + 1) * 8 = omega arith in
-      rw (e, m) (sym (up_exact n s k (n % 2 ^ s) kl ss split r (sym low_bits ∙ z)))
-
-  pub up_code_rounded : bit_and n (1 * 2 ^ s % 4294967296 - 1) ≢ 0 → (s + 1) * 8 % 4294967296 + bit_and (n / 2 ^ s) 7 + 1 ≡ up n
-  up_code_rounded z =
-      let (k, kl, m, split, r) = parts n s l h q in
-      let ss : s ≤ 28 = omega arith in
-      let e : (s + 1) * 8 % 4294967296 ≡ (s + 1) * 8 = omega arith in
-      let z' : n % 2 ^ s ≢ 0 = λ w. z (low_bits ∙ w) in
-      rw (e, m) (sym (up_rounded n s k (n % 2 ^ s) kl ss split r (omega arith)))
+      let e : s * 8 % 4294967296 ≡ s * 8 = omega arith in
+      rw (e, d) (sym (down_at n s k (n % 2 ^ s) kl ss split r ∙ omega arith))
 
 pub value_code_small : (c : ℕ) → c / 8 ≡ 0 → bit_and c 7 ≡ value c % 4294967296
 value_code_small c z =
@@ -262,6 +241,26 @@ down_law n c h =
       λ k. let r : value c ≤ value d = value_grows c d k in omega arith,
       λ k. ⊎_elim (λ (s : d < c). let r : value (d + 1) ≤ value c = value_grows (d + 1) c (omega arith) in absurd (omega arith)) (λ (s : c ≤ d). s) (cases_lt d c),
     )
+
+-- rounding up goes one class behind the last one that is too small
+pub up_behind : (n : ℕ) → 0 < n → n < 2 ^ 32 → down (n - 1) + 1 ≡ up n
+up_behind n p h =
+    let m : n - 1 < 2 ^ 32 = omega arith in
+    let least = up_law n in
+    let greatest = down_law (n - 1) in
+    let reached : n ≤ value (down (n - 1) + 1) =
+    ⊎_elim
+    (λ (w : value (down (n - 1) + 1) < n). let x = (greatest (down (n - 1) + 1) m).1 (omega arith) in absurd (omega arith))
+    (λ (w : n ≤ value (down (n - 1) + 1)). w)
+    (cases_lt (value (down (n - 1) + 1)) n) in
+    let most : up n ≤ down (n - 1) + 1 = (least (down (n - 1) + 1) h).1 reached in
+    let below : value (down (n - 1)) ≤ n - 1 = (greatest (down (n - 1)) m).0 (omega arith) in
+    let apart : down (n - 1) < up n =
+    ⊎_elim
+    (λ (w : down (n - 1) < up n). w)
+    (λ (w : up n ≤ down (n - 1)). let x = (least (down (n - 1)) h).0 w in absurd (omega arith))
+    (cases_lt (down (n - 1)) (up n)) in
+    omega arith
 
 -- rounding up adds at most an eighth
 pub step_small : (c : ℕ) → 8 * (value (c + 1) - value c) ≤ value c + 8

@@ -1,11 +1,13 @@
 //! The names of free blocks, in a list for each size class, by links between the nodes, with a two-level mask.
 ghost use Rattle.std.specs.Prelude.{◌≡◌, ◌+◌, ◌<◌, ◌≤◌, ◌≢◌, ℕ, List, [], ◌∷◌, slice_set, length, drop, MatchOption};
+ghost use Rattle.offset_allocator.specs.Classes.{down};
 ghost use Rattle.offset_allocator.specs.Named.{names_at, without};
 ghost use Rattle.offset_allocator.specs.Told.{IsGreatestClass};
 ghost use Rattle.offset_allocator.specs.Orders.{IsUnlisted, IsLeastFrom, Among, relinked, Linked, Masked, flag, class_lists, Binned};
 
 use crate::accesses::Accesses;
 use crate::index::{NodeIndex, link_to, no_link, number};
+use crate::small_float::uint_to_float_round_down;
 use crate::tables::Tables;
 
 /// The least class from a class on that has a name.
@@ -141,19 +143,18 @@ fn clear_class<NI: NodeIndex>(t: &mut Tables<NI>, top: &mut u32, class: u32, cou
     }
 }
 
-/// Takes a name out of its class.
+/// Takes a name out of the class of this size.
 pub(crate) fn remove<NI: NodeIndex>(
     t: &mut Tables<NI>,
     top: &mut u32,
     name: u32,
-    class: u32,
+    size: u32,
     count: &mut Accesses,
 )
     requires held { Binned NI.MAX t.old.links top.old }
-    requires classed { class < 256 }
-    requires listed { Among name (names_at (class_lists NI.MAX t.old.links) class) }
+    requires listed { Among name (names_at (class_lists NI.MAX t.old.links) (down size)) }
     ensures held { Binned NI.MAX t.new.links top.new }
-    ensures lists { class_lists NI.MAX t.new.links ≡ slice_set (class_lists NI.MAX t.old.links) class (without name (names_at (class_lists NI.MAX t.old.links) class)) }
+    ensures lists { class_lists NI.MAX t.new.links ≡ slice_set (class_lists NI.MAX t.old.links) (down size) (without name (names_at (class_lists NI.MAX t.old.links) (down size))) }
     ensures room { t.new.room ≡ t.old.room }
     ensures grows { count.old ≤ count.new }
     ensures count { count.new ≤ count.old + 7 }
@@ -163,6 +164,8 @@ pub(crate) fn remove<NI: NodeIndex>(
     link_newer(t, after, before, count);
     link_older(t, before, after, count);
     if number(before) == NI::MAX {
+        // only the first name has to find its class
+        let class = uint_to_float_round_down(size);
         t.set_head(class, after, count);
         if number(after) == NI::MAX {
             clear_class(t, top, class, count);

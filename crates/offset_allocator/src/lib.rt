@@ -64,7 +64,7 @@ fn handle_of<NI: NodeIndex>(offset: u32, name: u32) -> Allocation<NI>
     requires { name < NI.MAX }
     ensures { result ≡ record { name = name; offset = offset } }
 {
-    Allocation::make(offset, NI::from_u32(name).to_nonmax().unwrap())
+    Allocation::make(offset, NI::from_u32(name).to_name())
 }
 
 // Makes the whole space one free block, under the name 0, in tables with nothing written. It answers
@@ -483,7 +483,7 @@ impl<NI: NodeIndex> Allocator<NI> {
             &mut self.tables,
             &mut self.top_mask,
             self.last,
-            uint_to_float_round_down(whole),
+            whole,
             &mut self.accesses,
         );
         chain::grow(

@@ -7,7 +7,6 @@ ghost use Rattle.offset_allocator.specs.State.{AreListed, merge_before, gone_bef
 
 use crate::accesses::Accesses;
 use crate::index::{NodeIndex, linked};
-use crate::small_float::uint_to_float_round_down;
 use crate::tables::Tables;
 use crate::{bins, chain};
 
@@ -38,7 +37,7 @@ pub(crate) fn with_before<NI: NodeIndex>(
     if let Some(w) = linked(t.before(x, count)) {
         if !t.used(w, count) {
             let more = chain::size(t, last, *spare_count, w, count);
-            bins::remove(t, top, w, uint_to_float_round_down(more), count);
+            bins::remove(t, top, w, more, count);
             chain::join_before(t, last, spare_count, w, x, more + size, count);
             return more + size;
         }
@@ -73,7 +72,7 @@ pub(crate) fn with_after<NI: NodeIndex>(
     if let Some(y) = linked(t.after(x, count)) {
         if !t.used(y, count) {
             let more = chain::size(t, *last, *spare_count, y, count);
-            bins::remove(t, top, y, uint_to_float_round_down(more), count);
+            bins::remove(t, top, y, more, count);
             chain::join_after(t, last, spare_count, x, y, size + more, count);
             return size + more;
         }

@@ -18,15 +18,11 @@ pub fn uint_to_float_round_up(size: u32) -> u32
     ensures least { (c : ℕ) → ((result ≤ c) ↔ (size ≤ value c)) }
     ensures waste { 8 * (value result - size) ≤ size }
 {
-    if size < MANTISSA_VALUE {
+    if size <= MANTISSA_VALUE {
         return size;
     }
-    let start = 31 - MANTISSA_BITS - size.leading_zeros();
-    let mantissa = (size >> start) & MANTISSA_MASK;
-    let low_bits = size & ((1 << start) - 1);
-    let class = ((start + 1) << MANTISSA_BITS) + mantissa;
-    // a full mantissa carries into the exponent
-    if low_bits == 0 { class } else { class + 1 }
+    // the class behind the last one whose value is too small
+    uint_to_float_round_down(size - 1) + 1
 }
 
 /// The greatest class whose value is at most `size` units: the class that a free block of this size
@@ -38,9 +34,10 @@ pub fn uint_to_float_round_down(size: u32) -> u32
     if size < MANTISSA_VALUE {
         return size;
     }
-    let start = 31 - MANTISSA_BITS - size.leading_zeros();
-    let mantissa = (size >> start) & MANTISSA_MASK;
-    ((start + 1) << MANTISSA_BITS) | mantissa
+    let exponent = 31 - size.leading_zeros();
+    let start = exponent - MANTISSA_BITS;
+    // the leading one of the size carries into the exponent
+    (start << MANTISSA_BITS) + (size >> start)
 }
 
 /// The value of a class in units, of which the low 32 bits are told: the values of the classes from 240

@@ -54,27 +54,33 @@ fn filled<T: Copy>(mut values: Vec<T>, value: T, length: usize) -> Result<Vec<T>
     Ok(values)
 }
 
-// A reserved table, filled with the numbers from 1 to below `len`, and 0.
-fn rising<NI: NodeIndex>(mut values: Vec<NI>, len: u32) -> Result<Vec<NI>, AllocError>
-    requires empty { values.items ≡ [] }
-    requires least { 0 < len }
-    requires most { len ≤ NI.MAX }
-    ensures { IfOk result (λ v. map NI.number v.items ≡ range_with_len 1 (len - 1) ++ 0 ∷ []) }
+// Writes one value over a slice.
+fn fill_cells<T: Copy>(cells: &mut [T], value: T)
+    ensures { cells.new ≡ replicate (length cells.old) value }
 {
-    for i in 1..len {
-        values.push(NI::from_u32(i))?;
+    for i in 0..cells.len() {
+        cells[i] = value;
     }
-    values.push(NI::from_u32(0))?;
-    Ok(values)
 }
 
-// Writes one value over a whole table.
+// Writes one value over a whole table. As a slice: there no write can move the table, and many go at once.
 fn fill<T: Copy>(values: &mut Vec<T>, value: T)
     ensures { values.new.items ≡ replicate (length values.old.items) value }
 {
-    for i in 0..values.len() {
-        values[i] = value;
+    fill_cells(values, value);
+}
+
+// Writes the numbers from 1 to below the length, and 0, over a slice.
+fn renumber_cells<NI: NodeIndex>(cells: &mut [NI])
+    requires least { 0 < length cells.old }
+    requires most { length cells.old ≤ NI.MAX }
+    ensures { map NI.number cells.new ≡ range_with_len 1 (length cells.old - 1) ++ 0 ∷ [] }
+{
+    let last = cells.len() - 1;
+    for i in 0..last {
+        cells[i] = NI::from_u32(i as u32 + 1);
     }
+    cells[last] = NI::from_u32(0);
 }
 
 // Writes the numbers from 1 to below the length, and 0, over a table.
@@ -83,11 +89,19 @@ fn renumber<NI: NodeIndex>(values: &mut Vec<NI>)
     requires most { length values.old.items ≤ NI.MAX }
     ensures { map NI.number values.new.items ≡ range_with_len 1 (length values.old.items - 1) ++ 0 ∷ [] }
 {
-    let last = values.len() - 1;
-    for i in 0..last {
-        values[i] = NI::from_u32(i as u32 + 1);
-    }
-    values[last] = NI::from_u32(0);
+    renumber_cells(values);
+}
+
+// A reserved table, filled with the numbers from 1 to below `len`, and 0.
+fn rising<NI: NodeIndex>(values: Vec<NI>, len: u32) -> Result<Vec<NI>, AllocError>
+    requires empty { values.items ≡ [] }
+    requires least { 0 < len }
+    requires most { len ≤ NI.MAX }
+    ensures { IfOk result (λ v. map NI.number v.items ≡ range_with_len 1 (len - 1) ++ 0 ∷ []) }
+{
+    let mut values = filled(values, NI::from_u32(0), len as usize)?;
+    renumber(&mut values);
+    Ok(values)
 }
 
 impl<NI: NodeIndex> Tables<NI> {

@@ -3,7 +3,6 @@ use Rattle.offset_allocator.specs.Classes.{down}
 use Rattle.offset_allocator.specs.Cells.{Room, Links, node}
 use Rattle.offset_allocator.specs.Space.{blocks, name_after, size_in, join_block}
 use Rattle.offset_allocator.specs.Orders.{class_lists}
-use Rattle.offset_allocator.proofs.Sizes.{down_small}
 use Rattle.offset_allocator.proofs.Spot.{size-told}
 use Rattle.offset_allocator.proofs.Merging.{standing, after_next, kept_last, kept_next, joined_next, listed_next, joined_size, joined_fits}
 use Rattle.offset_allocator.proofs.merge.with_after.Goals as goal
@@ -20,16 +19,12 @@ size-more-requires-clause-standing g c =
     let p = after_next c.args.t.now.room c.args.last.now c.args.spare_count.now c.args.x c.requires.space s c.in-Some.y (sym (c.in-Some.ensures ∙ c.after.ensures.cell)) in
     p.stands
 
-pub remove-requires-clause-classed : goal.remove-requires-clause-classed
-remove-requires-clause-classed g c =
-    let s = down_small c.size-more.result in omega (arith, s, c.uint_to_float_round_down.ensures.is)
-
 pub remove-requires-clause-listed : goal.remove-requires-clause-listed
 remove-requires-clause-listed g c =
     let s = standing c.args.t.now.room c.args.last.now c.args.spare_count.now c.args.x c.requires.space c.requires.standing in
     let p = after_next c.args.t.now.room c.args.last.now c.args.spare_count.now c.args.x c.requires.space s c.in-Some.y (sym (c.in-Some.ensures ∙ c.after.ensures.cell)) in
     let free : (node c.args.t.now.room c.in-Some.y).used ≡ false = sym c.if-not-used.ensures.cell in
-    listed_next c.args.t.now.room c.args.last.now c.args.spare_count.now c.args.x c.requires.space s c.in-Some.y p (class_lists g.NI.NodeIndex.MAX c.args.t.now.links) c.requires.listed free _ (c.uint_to_float_round_down.ensures.is ∙ ap down (c.size-more.ensures.size ∙ sym (size-told c.args.t.now.room c.args.last.now c.args.spare_count.now c.in-Some.y c.requires.space p.stands)))
+    listed_next c.args.t.now.room c.args.last.now c.args.spare_count.now c.args.x c.requires.space s c.in-Some.y p (class_lists g.NI.NodeIndex.MAX c.args.t.now.links) c.requires.listed free _ (ap down (c.size-more.ensures.size ∙ sym (size-told c.args.t.now.room c.args.last.now c.args.spare_count.now c.in-Some.y c.requires.space p.stands)))
 
 pub join_after-requires-clause-next : goal.join_after-requires-clause-next
 join_after-requires-clause-next g c =
@@ -53,7 +48,7 @@ returns-then-not-used-clause-lists g c =
     let s = standing c.args.t.now.room c.args.last.now c.args.spare_count.now c.args.x c.requires.space c.requires.standing in
     let p = after_next c.args.t.now.room c.args.last.now c.args.spare_count.now c.args.x c.requires.space s c.in-Some.y (sym (c.in-Some.ensures ∙ c.after.ensures.cell)) in
     let free : (node c.args.t.now.room c.in-Some.y).used ≡ false = sym c.if-not-used.ensures.cell in
-    ap (λ (k : Links). class_lists g.NI.NodeIndex.MAX k) c.join_after.ensures.links ∙ c.remove.ensures.lists ∙ (joined_next c.args.t.now.room c.args.last.now c.args.spare_count.now c.args.x c.requires.space s c.in-Some.y p free).1 (class_lists g.NI.NodeIndex.MAX c.args.t.now.links) _ (c.uint_to_float_round_down.ensures.is ∙ ap down (c.size-more.ensures.size ∙ sym (size-told c.args.t.now.room c.args.last.now c.args.spare_count.now c.in-Some.y c.requires.space p.stands)))
+    ap (λ (k : Links). class_lists g.NI.NodeIndex.MAX k) c.join_after.ensures.links ∙ c.remove.ensures.lists ∙ (joined_next c.args.t.now.room c.args.last.now c.args.spare_count.now c.args.x c.requires.space s c.in-Some.y p free).1 (class_lists g.NI.NodeIndex.MAX c.args.t.now.links) _ (ap down (c.size-more.ensures.size ∙ sym (size-told c.args.t.now.room c.args.last.now c.args.spare_count.now c.in-Some.y c.requires.space p.stands)))
 
 pub returns-then-not-used-clause-size : goal.returns-then-not-used-clause-size
 returns-then-not-used-clause-size g c =

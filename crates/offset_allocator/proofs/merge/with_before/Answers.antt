@@ -3,7 +3,6 @@ use Rattle.offset_allocator.specs.Classes.{down}
 use Rattle.offset_allocator.specs.Cells.{Room, Links, node}
 use Rattle.offset_allocator.specs.Space.{Stands, blocks, name_after, size_in, give_block}
 use Rattle.offset_allocator.specs.Orders.{class_lists}
-use Rattle.offset_allocator.proofs.Sizes.{down_small}
 use Rattle.offset_allocator.proofs.Spot.{size-told}
 use Rattle.offset_allocator.proofs.Merging.{standing, before_pair, kept_none, kept_used, joined_free, listed_before, given_size, given_fits}
 use Rattle.offset_allocator.proofs.merge.with_before.Goals as goal
@@ -20,16 +19,12 @@ size-more-requires-clause-standing g c =
     let p = before_pair c.args.t.now.room c.args.last c.args.spare_count.now c.args.x c.requires.space s c.in-Some.w (sym (c.in-Some.ensures ∙ c.before-2.ensures.cell)) in
     p.stands
 
-pub remove-requires-clause-classed : goal.remove-requires-clause-classed
-remove-requires-clause-classed g c =
-    let s = down_small c.size-more.result in omega (arith, s, c.uint_to_float_round_down.ensures.is)
-
 pub remove-requires-clause-listed : goal.remove-requires-clause-listed
 remove-requires-clause-listed g c =
     let s = standing c.args.t.now.room c.args.last c.args.spare_count.now c.args.x c.requires.space c.requires.standing in
     let p = before_pair c.args.t.now.room c.args.last c.args.spare_count.now c.args.x c.requires.space s c.in-Some.w (sym (c.in-Some.ensures ∙ c.before-2.ensures.cell)) in
     let free : (node c.args.t.now.room c.in-Some.w).used ≡ false = sym c.if-not-used.ensures.cell in
-    listed_before c.args.t.now.room c.args.last c.args.spare_count.now c.args.x c.requires.space s c.in-Some.w p (class_lists g.NI.NodeIndex.MAX c.args.t.now.links) c.requires.listed free _ (c.uint_to_float_round_down.ensures.is ∙ ap down (c.size-more.ensures.size ∙ sym (size-told c.args.t.now.room c.args.last c.args.spare_count.now c.in-Some.w c.requires.space p.stands)))
+    listed_before c.args.t.now.room c.args.last c.args.spare_count.now c.args.x c.requires.space s c.in-Some.w p (class_lists g.NI.NodeIndex.MAX c.args.t.now.links) c.requires.listed free _ (ap down (c.size-more.ensures.size ∙ sym (size-told c.args.t.now.room c.args.last c.args.spare_count.now c.in-Some.w c.requires.space p.stands)))
 
 pub join_before-requires-clause-standing : goal.join_before-requires-clause-standing
 join_before-requires-clause-standing g c =
@@ -59,7 +54,7 @@ returns-then-not-used-clause-lists g c =
     let s = standing c.args.t.now.room c.args.last c.args.spare_count.now c.args.x c.requires.space c.requires.standing in
     let p = before_pair c.args.t.now.room c.args.last c.args.spare_count.now c.args.x c.requires.space s c.in-Some.w (sym (c.in-Some.ensures ∙ c.before-2.ensures.cell)) in
     let free : (node c.args.t.now.room c.in-Some.w).used ≡ false = sym c.if-not-used.ensures.cell in
-    ap (λ (k : Links). class_lists g.NI.NodeIndex.MAX k) c.join_before.ensures.links ∙ c.remove.ensures.lists ∙ (joined_free c.args.t.now.room c.args.last c.args.spare_count.now c.args.x c.requires.space s c.in-Some.w p free).1 (class_lists g.NI.NodeIndex.MAX c.args.t.now.links) _ (c.uint_to_float_round_down.ensures.is ∙ ap down (c.size-more.ensures.size ∙ sym (size-told c.args.t.now.room c.args.last c.args.spare_count.now c.in-Some.w c.requires.space p.stands)))
+    ap (λ (k : Links). class_lists g.NI.NodeIndex.MAX k) c.join_before.ensures.links ∙ c.remove.ensures.lists ∙ (joined_free c.args.t.now.room c.args.last c.args.spare_count.now c.args.x c.requires.space s c.in-Some.w p free).1 (class_lists g.NI.NodeIndex.MAX c.args.t.now.links) _ (ap down (c.size-more.ensures.size ∙ sym (size-told c.args.t.now.room c.args.last c.args.spare_count.now c.in-Some.w c.requires.space p.stands)))
 
 pub returns-then-not-used-clause-size : goal.returns-then-not-used-clause-size
 returns-then-not-used-clause-size g c =

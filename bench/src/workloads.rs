@@ -1,0 +1,148 @@
+//! What is run: lists of steps over slots, and makings and resets of tables.
+
+#[repr(C)]
+#[derive(Clone, Copy)]
+pub struct Step {
+    pub slot: u32,
+    /// What is asked for where the slot is empty; a full one is released.
+    pub size: u32,
+}
+
+#[derive(Clone, Copy)]
+pub enum Width {
+    Bits16,
+    Bits32,
+}
+
+pub enum Work {
+    Steps { slots: usize, steps: Vec<Step> },
+    Make { times: u32 },
+    Reset { times: u32 },
+}
+
+pub struct Workload {
+    pub name: String,
+    pub width: Width,
+    pub space: u32,
+    pub nodes: u32,
+    pub work: Work,
+}
+
+impl Workload {
+    pub fn count(&self) -> usize {
+        match &self.work {
+            Work::Steps { steps, .. } => steps.len(),
+            Work::Make { times } | Work::Reset { times } => *times as usize,
+        }
+    }
+}
+
+/// The same numbers in each run (xorshift).
+struct Random(u64);
+
+impl Random {
+    fn below(&mut self, n: u32) -> u32 {
+        self.0 ^= self.0 << 13;
+        self.0 ^= self.0 >> 7;
+        self.0 ^= self.0 << 17;
+        (((self.0 >> 32) * u64::from(n)) >> 32) as u32
+    }
+
+    /// From 1 to 2 to the power of `bits`, small ones more often.
+    fn size(&mut self, bits: u32) -> u32 {
+        let most = 1 << (1 + self.below(bits));
+        1 + self.below(most)
+    }
+
+    fn shuffled(&mut self, count: u32) -> Vec<u32> {
+        let mut order: Vec<u32> = (0..count).collect();
+        for i in (1..count).rev() {
+            order.swap(i as usize, self.below(i + 1) as usize);
+        }
+        order
+    }
+}
+
+const STEPS: usize = 1_000_000;
+
+/// Fills so many slots, and then empties and fills a random one, again and again.
+fn random(slots: u32, bits: u32) -> Work {
+    let mut random = Random(0x9e3779b97f4a7c15);
+    let mut steps: Vec<Step> = (0..slots).map(|slot| Step { slot, size: random.size(bits) }).collect();
+    while steps.len() < STEPS + slots as usize {
+        let slot = random.below(slots);
+        steps.push(Step { slot, size: random.size(bits) });
+        steps.push(Step { slot, size: random.size(bits) });
+    }
+    Work::Steps { slots: slots as usize, steps }
+}
+
+/// Fills all slots, and empties them in the order that is given, again and again.
+fn waves(slots: u32, bits: u32, order: impl Fn(&mut Random) -> Vec<u32>) -> Work {
+    let mut random = Random(0x2545f4914f6cdd1d);
+    let mut steps = Vec::new();
+    while steps.len() < STEPS {
+        for slot in 0..slots {
+            steps.push(Step { slot, size: random.size(bits) });
+        }
+        for slot in order(&mut random) {
+            steps.push(Step { slot, size: 0 });
+        }
+    }
+    Work::Steps { slots: slots as usize, steps }
+}
+
+/// Fills the space with small ranges, opens every second one, asks for larger ones that no gap holds, and empties all.
+fn fragments(slots: u32) -> Work {
+    let mut random = Random(0xd1342543de82ef95);
+    let mut steps = Vec::new();
+    let full = slots / 2;
+    while steps.len() < STEPS {
+        for slot in 0..full {
+            steps.push(Step { slot, size: 1 + random.below(24) });
+        }
+        for slot in (0..full).step_by(2) {
+            steps.push(Step { slot, size: 0 });
+        }
+        for slot in full..full + full / 4 {
+            steps.push(Step { slot, size: 25 + random.below(200) });
+        }
+        for slot in (1..full).step_by(2).chain(full..full + full / 4) {
+            steps.push(Step { slot, size: 0 });
+        }
+    }
+    Work::Steps { slots: slots as usize, steps }
+}
+
+pub fn all() -> Vec<Workload> {
+    use Width::{Bits16, Bits32};
+    const NODES: u32 = 131_072;
+    const SPACE: u32 = 1 << 28;
+    let mut found = Vec::new();
+    let mut add = |name: &str, width, space, nodes, work| {
+        found.push(Workload { name: name.to_string(), width, space, nodes, work })
+    };
+    add("random, 1k live", Bits32, SPACE, NODES, random(1_000, 12));
+    add("random, 16k live", Bits32, SPACE, NODES, random(16_000, 12));
+    add("random, 60k live", Bits32, SPACE, NODES, random(60_000, 12));
+    add("random, 300 of 1,024", Bits32, SPACE, 1_024, random(300, 12));
+    add("tight, with refusals", Bits32, 300_000, NODES, random(2_000, 12));
+    add("bump, then free in order", Bits32, SPACE, NODES, waves(60_000, 12, |_| (0..60_000).collect()));
+    add("bump, then free in reverse", Bits32, SPACE, NODES, waves(60_000, 12, |_| (0..60_000).rev().collect()));
+    add("bump, then free at random", Bits32, SPACE, NODES, waves(60_000, 12, |r| r.shuffled(60_000)));
+    add("fragmenting mix", Bits32, SPACE, NODES, fragments(120_000));
+    add("u16: random, 1k live", Bits16, 65_535, 65_000, random(1_000, 6));
+    add("u16: random, 16k live", Bits16, 65_535, 65_000, random(16_000, 1));
+    add("u16: random, 300 of 1,024", Bits16, 65_535, 1_024, random(300, 7));
+    add("u16: tight, with refusals", Bits16, 20_000, 65_000, random(4_000, 6));
+    add("u16: bump, then free at random", Bits16, 65_535, 65_000, waves(10_000, 2, |r| r.shuffled(10_000)));
+    add("make 131,072 nodes", Bits32, SPACE, NODES, Work::Make { times: 100 });
+    add("reset 131,072 nodes", Bits32, SPACE, NODES, Work::Reset { times: 100 });
+    add("u16: make 65,000 nodes", Bits16, 65_535, 65_000, Work::Make { times: 100 });
+    add("u16: reset 65,000 nodes", Bits16, 65_535, 65_000, Work::Reset { times: 100 });
+    for bits in 10..=20 {
+        let nodes = 1 << bits;
+        add(&format!("growth, {nodes} nodes"), Bits32, u32::MAX, nodes, random(nodes / 4, 12));
+    }
+    found
+}

@@ -1,9 +1,0 @@
-use Rattle.std.proofs.Common.{◌≡◌, length, map, take}
-use Rattle.std.specs.List.{range_with_len}
-use Rattle.offset_allocator.proofs.tables.renumber.Given as goal
-
-abbrev pub invariant-loop-i : goal.invariant-loop-i
-invariant-loop-i g l = record {
-  even : length l.values.items ≡ length l.initial.values.items;
-  written : map g.NI.NodeIndex.number (take l.i l.values.items) ≡ range_with_len 1 l.i;
-}

@@ -1,0 +1,106 @@
+//! Plays random scripts on our program and on the original, and compares the answers line by line.
+//!
+//! `compare PROGRAM COUNT FIRST` plays the scripts of the numbers from FIRST on. A number always gives the same script.
+mod original;
+mod scripts;
+
+use scripts::{Script, Width};
+use std::collections::BTreeMap;
+use std::io::{Read, Write};
+use std::process::{Command, Stdio};
+use std::sync::atomic::{AtomicU64, Ordering};
+use std::sync::Mutex;
+
+/// What our program writes for a script.
+fn ours(program: &str, script: &Script) -> String {
+    let mut child = Command::new(program)
+        .stdin(Stdio::piped())
+        .stdout(Stdio::piped())
+        .spawn()
+        .expect("our program starts");
+    // a script is shorter than a pipe is long, so this waits for nobody
+    child.stdin.take().unwrap().write_all(script.text().as_bytes()).expect("our program reads");
+    let mut out = String::new();
+    child.stdout.take().unwrap().read_to_string(&mut out).expect("our program writes text");
+    let status = child.wait().expect("our program ends");
+    if !status.success() {
+        out += &format!("{status}\n");
+    }
+    out
+}
+
+/// The original cuts offsets to the width of its indices; nothing else is left out.
+fn as_the_original_tells(line: &str, width: Width) -> String {
+    match (width, line.split_once(" at ")) {
+        (Width::Bits16, Some((grant, offset))) => format!("{grant} at {}", offset.parse::<u32>().unwrap() as u16),
+        _ => line.to_string(),
+    }
+}
+
+/// The answers of our program, or the first line that differs.
+fn compared(program: &str, script: &Script) -> Result<Vec<String>, String> {
+    let ours = ours(program, script);
+    let theirs = original::play(script);
+    let ours: Vec<String> = ours.lines().map(|line| as_the_original_tells(line, script.width)).collect();
+    let theirs: Vec<&str> = theirs.lines().collect();
+    for i in 0..ours.len().max(theirs.len()) {
+        let (a, b) = (ours.get(i).map(String::as_str), theirs.get(i).copied());
+        if a != b {
+            return Err(format!("line {}: ours {a:?}, the original {b:?}\n{}", i + 1, script.text()));
+        }
+    }
+    Ok(ours)
+}
+
+/// How often each answer came, by its first word, and the scripts that differ.
+#[derive(Default)]
+struct Tally {
+    answers: BTreeMap<String, u64>,
+    narrow: u64,
+    differing: Vec<(u64, String)>,
+}
+
+impl Tally {
+    fn add(&mut self, number: u64, script: &Script, found: Result<Vec<String>, String>) {
+        self.narrow += u64::from(script.width == Width::Bits16);
+        match found {
+            Ok(lines) => {
+                for line in lines {
+                    let word = line.split(' ').next().unwrap_or_default();
+                    *self.answers.entry(word.to_string()).or_default() += 1;
+                }
+            }
+            Err(fault) => self.differing.push((number, fault)),
+        }
+    }
+}
+
+fn main() {
+    let words: Vec<String> = std::env::args().skip(1).collect();
+    let [program, count, first] = &words[..] else { panic!("compare PROGRAM COUNT FIRST") };
+    let (count, first): (u64, u64) = (count.parse().unwrap(), first.parse().unwrap());
+    let next = AtomicU64::new(first);
+    let tally = Mutex::new(Tally::default());
+    std::thread::scope(|scope| {
+        for _ in 0..std::thread::available_parallelism().map_or(4, |n| n.get()) {
+            scope.spawn(|| loop {
+                let number = next.fetch_add(1, Ordering::Relaxed);
+                if number >= first + count {
+                    return;
+                }
+                let script = scripts::script(number);
+                let found = compared(program, &script);
+                tally.lock().unwrap().add(number, &script, found);
+            });
+        }
+    });
+    let tally = tally.into_inner().unwrap();
+    for (number, fault) in tally.differing.iter().take(3) {
+        println!("script {number}, {fault}");
+    }
+    let answers: Vec<String> = tally.answers.iter().map(|(word, n)| format!("{n} {word}")).collect();
+    println!("{count} scripts from number {first}, {} of them with indices of 16 bits", tally.narrow);
+    println!("equal lines: {}, of these {}", tally.answers.values().sum::<u64>(), answers.join(", "));
+    println!("scripts that differ: {}", tally.differing.len());
+    std::process::exit(i32::from(!tally.differing.is_empty()));
+}
