@@ -18,6 +18,7 @@ abbrev pub Matched : (ℕ → ℕ) → ℕ → ℕ → Kind → Type 0
 Matched r x y (Lives j j') = (k : ℕ) → nat_eq k j ≡ nat_eq (r k) j'
 Matched r x y (Frees s s') = (s < x) × (s' < y)
 
+-- s answers as t, where the number of a grant in s is that in t with d added, and r takes those of s to those of t
 pub record Alike (r : ℕ → ℕ) (d : ℕ) (s t : State) : Type 0 where
   pub limit : s.limit ≡ t.limit
   pub pairs : List Pair

@@ -14,6 +14,7 @@ use Rattle.offset_script.proofs.Pairs.{Kind, Lives, Frees, Pair, pair, left_tag,
 use Rattle.offset_script.proofs.Well.{Well, count, hit, hit_cases, count-append, starts_free, Apart, apart_parts, found_at, not_found, well_start, well_after, well_step}
 use Rattle.offset_script.proofs.Similar.{SameNumber}
 
+-- sizes, and the numbers of live blocks
 abbrev Outline : Type 0
 Outline = List (ℕ × Option ℕ)
 
@@ -179,6 +180,7 @@ record SameSpace (s t : State) : Type 0 where
   right_blocks : t.blocks ≡ rights pairs
   numbers : (q : Pair) → In q pairs → SameNumber q.kind
 
+-- two lists of blocks of the same sizes and numbers
 record Paired (bs cs : List Block) : Type 0 where
   pairs : List Pair
   left_blocks : bs ≡ lefts pairs

@@ -18,11 +18,14 @@ use Rattle.offset_script.proofs.Similar.{SameNumber, Similar, similar_refl, simi
 use Rattle.offset_script.proofs.Restored.{Restored, restored, stands_count, stands_left, stands_right}
 
 -- What a call does that keeps the space: it only answers, or grants, or releases.
+
+-- an answer that tells neither a grant nor a release
 abbrev pub IsQuiet : Answer → Type 0
 IsQuiet (machine.Grant k offset) = ⊥
 IsQuiet machine.Freed = ⊥
 IsQuiet a = Unit {0}
 
+-- a grant of n units, behind padding units, of the block that is chosen for needed units
 pub record Granted (s : State) (o : Outcome) : Type 0 where
   pub needed : ℕ
   pub n : ℕ
@@ -33,17 +36,20 @@ pub record Granted (s : State) (o : Outcome) : Type 0 where
   pub within : padding + n ≤ place.block.size
   pub is : o ≡ grant s n padding place
 
+-- a release of the grant that stands at a place
 pub record Released (s : State) (o : Outcome) : Type 0 where
   pub number : ℕ
   pub place : Place
   pub found : place_of number s.blocks ≡ Some place
   pub is : o ≡ leaves s (joined place.before place.block.size (stamp_of_call s) place.after) machine.Freed
 
+-- such an answer, and nothing else
 pub record Only (s : State) (o : Outcome) : Type 0 where
   pub answer : Answer
   pub quiet : IsQuiet answer
   pub is : o ≡ answers_only s answer
 
+-- one of the three
 abbrev pub Does : State → Outcome → Type 0
 Does s o = Only s o ⊎ (Granted s o ⊎ Released s o)
 

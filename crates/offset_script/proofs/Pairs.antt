@@ -4,35 +4,44 @@ use Rattle.std.proofs.lemmas.Bool.{false≢true}
 use Rattle.offset_allocator.specs.Classes.{up, down}
 use Rattle.offset_script.specs.Blocks.{Tag, Live, Free, Block, block, is_free, has_number, stamp, total, free_sizes, Place, here, behind, fits, is_taken_before, choose, chosen, behind_if_found, place_of, free_block, free_start, without_start, free_end, without_end, ends_live, joined}
 
+-- two blocks at one place: both live, with their numbers, or both free, with their stamps
 pub data Kind : Type 0 where
   Lives : ℕ → ℕ → Kind
   Frees : ℕ → ℕ → Kind
 
+-- two blocks of one size
 pub record Pair : Type 0 where
   pub size : ℕ
   pub kind : Kind
 
+-- two blocks of n units
 abbrev pub pair : ℕ → Kind → Pair
 pair n k = record { size = n; kind = k }
 
+-- the tag of the first block of a pair
 abbrev pub left_tag : Kind → Tag
 left_tag (Lives j k) = Live j
 left_tag (Frees s u) = Free s
 
+-- the tag of the second block of a pair
 abbrev pub right_tag : Kind → Tag
 right_tag (Lives j k) = Live k
 right_tag (Frees s u) = Free u
 
+-- the first block of a pair
 abbrev pub left : Pair → Block
 left q = block q.size (left_tag q.kind)
 
+-- the second block of a pair
 abbrev pub right : Pair → Block
 right q = block q.size (right_tag q.kind)
 
+-- the first blocks of a list of pairs
 abbrev pub lefts : List Pair → List Block
 lefts [] = []
 lefts (q ∷ p) = left q ∷ lefts p
 
+-- the second blocks of a list of pairs
 abbrev pub rights : List Pair → List Block
 rights [] = []
 rights (q ∷ p) = right q ∷ rights p
@@ -95,11 +104,12 @@ same_ends_live [] = refl
 same_ends_live (q ∷ []) = ap (λ b. if b then false else true) (same_free q.kind)
 same_ends_live (q ∷ x ∷ p) = same_ends_live (x ∷ p)
 
--- the pairs without a free one at their start, or at their end
+-- the pairs without a free one at their start
 abbrev pub pairs_without_start : List Pair → List Pair
 pairs_without_start [] = []
 pairs_without_start (q ∷ p) = if is_free (left_tag q.kind) then p else q ∷ p
 
+-- the pairs without a free one at their end
 abbrev pub pairs_without_end : List Pair → List Pair
 pairs_without_end [] = []
 pairs_without_end (q ∷ []) = if is_free (left_tag q.kind) then [] else q ∷ []
@@ -170,15 +180,19 @@ pub record PairPlace : Type 0 where
   pub pair : Pair
   pub after : List Pair
 
+-- the place of the first blocks
 abbrev pub left_place : PairPlace → Place
 left_place c = record { before = lefts c.before; block = left c.pair; after = lefts c.after }
 
+-- the place of the second blocks
 abbrev pub right_place : PairPlace → Place
 right_place c = record { before = rights c.before; block = right c.pair; after = rights c.after }
 
+-- the place of the first pair of a list
 abbrev pub pair_here : Pair → List Pair → PairPlace
 pair_here q p = record { before = []; pair = q; after = p }
 
+-- a place, where one more pair stands before all
 abbrev pub pair_behind : Pair → PairPlace → PairPlace
 pair_behind q c = record { before = q ∷ c.before; pair = c.pair; after = c.after }
 
@@ -186,11 +200,12 @@ pair_behind q c = record { before = q ∷ c.before; pair = c.pair; after = c.aft
 abbrev pub whole : PairPlace → List Pair
 whole c = c.before ++ c.pair ∷ c.after
 
--- where the block of grant k stands, by the numbers on the left
+-- a place that may be missing, where one more pair stands before all
 abbrev pub pair_behind_if_found : Pair → Option PairPlace → Option PairPlace
 pair_behind_if_found q None = None
 pair_behind_if_found q (Some c) = Some (pair_behind q c)
 
+-- where the block of grant k stands, by the numbers on the left
 abbrev pub pair_place_of : ℕ → List Pair → Option PairPlace
 pair_place_of k [] = None
 pair_place_of k (q ∷ p) = if has_number k (left_tag q.kind) then Some (pair_here q p) else pair_behind_if_found q (pair_place_of k p)
@@ -237,11 +252,12 @@ pub found_in : (k : ℕ) (p : List Pair) (c : PairPlace) → pair_place_of k p �
 unfolding FoundIn
 found_in k p c e = subst (FoundIn p) e (found_in_all k p)
 
--- where a request for n takes its units, by the stamps on the left
+-- of the first pair of a list and the one chosen behind it, where a request for n takes its units
 abbrev pub pair_choose : ℕ → Pair → List Pair → Option PairPlace → Option PairPlace
 pair_choose n q p None = if fits n (left q) then Some (pair_here q p) else None
 pair_choose n q p (Some c) = if fits n (left q) && is_taken_before (left q) (left c.pair) then Some (pair_here q p) else Some (pair_behind q c)
 
+-- where a request for n takes its units, by the stamps on the left
 abbrev pub pair_chosen : ℕ → List Pair → Option PairPlace
 pair_chosen n [] = None
 pair_chosen n (q ∷ p) = pair_choose n q p (pair_chosen n p)
@@ -260,9 +276,11 @@ SameOrder (Frees s u) (Frees t v) = nat_lt s t ≡ nat_lt u v
 SameOrder (Frees s u) (Lives j k) = Unit {0}
 SameOrder (Lives j k) y = Unit {0}
 
+-- two pairs whose stamps stand in the same order, if they are of one class
 abbrev pub Agree : Pair → Pair → Type 0
 Agree a b = nat_eq (down a.size) (down b.size) ≡ true → SameOrder a.kind b.kind
 
+-- any two of these pairs agree
 abbrev pub AllAgree : List Pair → Type 0
 AllAgree p = (a b : Pair) → In a p → In b p → Agree a b
 

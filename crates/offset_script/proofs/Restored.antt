@@ -206,6 +206,7 @@ record Parts (ps : List Pair) (p : Place) (n padding front k rest : ℕ) : Type 
   on_rest : lefts rest_bit ≡ free_block (p.block.size - (padding + n)) rest
   on_after : lefts after ≡ p.after
 
+-- pairs whose first has x on its left, and whose others have ys
 record Single (ps : List Pair) (x : Block) (ys : List Block) : Type 0 where
   first : Pair
   back : List Pair

@@ -12,6 +12,7 @@ use Rattle.offset_script.specs.Histories as history
 abbrev row_of : ℕ → ℕ → ℕ → Row
 row_of c s n = record { class = c; size = s; count = n }
 
+-- the limit, the age and the class of blocks, and numbers that are gone
 full_at_the_limit : answers (command.Alloc 10 ∷ command.Alloc 10 ∷ command.Free 1 ∷ command.Alloc 10 ∷ command.Report ∷ command.Full ∷ []) (start 100 4) ≡ answer.Grant 1 0 ∷ answer.Grant 2 10 ∷ answer.Freed ∷ answer.Refused ∷ answer.Report 0 0 ∷ answer.Full (row_of 10 10 1 ∷ row_of 34 80 1 ∷ []) ∷ []
 unfolding value least_below greatest_below up down
 full_at_the_limit = refl
@@ -24,33 +25,10 @@ released_numbers_are_gone : answers (command.Alloc 20 ∷ command.Alloc 4 ∷ co
 unfolding value least_below greatest_below up down
 released_numbers_are_gone = refl
 
+-- aligned requests
 aligned : answers (command.Alloc 10 ∷ command.Align 8 16 ∷ command.Report ∷ []) (start 100 16) ≡ answer.Grant 1 0 ∷ answer.Grant 2 16 ∷ answer.Report 82 72 ∷ []
 unfolding value least_below greatest_below up down
 aligned = refl
-
-reset : answers (command.Alloc 10 ∷ command.Reset ∷ command.Free 1 ∷ command.Alloc 10 ∷ command.Size 2 ∷ command.Report ∷ []) (start 50 8) ≡ answer.Grant 1 0 ∷ answer.Reset ∷ answer.Gone ∷ answer.Grant 2 0 ∷ answer.Size 10 ∷ answer.Report 40 40 ∷ []
-unfolding value least_below greatest_below up down
-reset = refl
-
-extended : answers (command.Alloc 8 ∷ command.Extend 20 ∷ command.Alloc 20 ∷ command.Report ∷ command.Extend 5 ∷ command.Full ∷ []) (start 10 4) ≡ answer.Grant 1 0 ∷ answer.Extended ∷ answer.Grant 2 8 ∷ answer.Report 0 0 ∷ answer.Extended ∷ answer.Full (row_of 7 7 1 ∷ []) ∷ []
-unfolding value least_below greatest_below up down
-extended = refl
-
-whole_space_again : answers (command.Alloc 10 ∷ command.Alloc 20 ∷ command.Free 1 ∷ command.Free 2 ∷ command.Alloc 48 ∷ command.Size 3 ∷ command.Free 1 ∷ []) (start 48 8) ≡ answer.Grant 1 0 ∷ answer.Grant 2 10 ∷ answer.Freed ∷ answer.Freed ∷ answer.Grant 3 0 ∷ answer.Size 48 ∷ answer.Gone ∷ []
-unfolding value least_below greatest_below up down
-whole_space_again = refl
-
-whole_space_at_once : answers (command.Alloc 48 ∷ command.Size 1 ∷ command.Free 0 ∷ []) (start 48 8) ≡ answer.Grant 1 0 ∷ answer.Size 48 ∷ answer.Gone ∷ []
-unfolding value least_below greatest_below up down
-whole_space_at_once = refl
-
-nest : answers (command.Alloc 10 ∷ command.Alloc 10 ∷ command.Alloc 10 ∷ command.Alloc 10 ∷ command.Free 1 ∷ command.Free 3 ∷ command.Alloc 5 ∷ command.Alloc 7 ∷ command.Free 6 ∷ command.Free 5 ∷ command.Alloc 10 ∷ command.Alloc 10 ∷ command.Report ∷ []) (start 100 16) ≡ answer.Grant 1 0 ∷ answer.Grant 2 10 ∷ answer.Grant 3 20 ∷ answer.Grant 4 30 ∷ answer.Freed ∷ answer.Freed ∷ answer.Grant 5 20 ∷ answer.Grant 6 0 ∷ answer.Freed ∷ answer.Freed ∷ answer.Grant 7 20 ∷ answer.Grant 8 0 ∷ answer.Report 60 60 ∷ []
-unfolding value least_below greatest_below up down
-nest = refl
-
-no_nest : answers (command.Alloc 10 ∷ command.Alloc 10 ∷ command.Alloc 10 ∷ command.Alloc 10 ∷ command.Free 1 ∷ command.Free 3 ∷ command.Alloc 5 ∷ command.Alloc 7 ∷ command.Free 5 ∷ command.Free 6 ∷ command.Alloc 10 ∷ command.Alloc 10 ∷ command.Report ∷ []) (start 100 16) ≡ answer.Grant 1 0 ∷ answer.Grant 2 10 ∷ answer.Grant 3 20 ∷ answer.Grant 4 30 ∷ answer.Freed ∷ answer.Freed ∷ answer.Grant 5 20 ∷ answer.Grant 6 0 ∷ answer.Freed ∷ answer.Freed ∷ answer.Grant 7 0 ∷ answer.Grant 8 20 ∷ answer.Report 60 60 ∷ []
-unfolding value least_below greatest_below up down
-no_nest = refl
 
 aligned_without_padding : answers (command.Align 16 16 ∷ command.Align 16 16 ∷ command.Full ∷ []) (start 64 8) ≡ answer.Grant 1 0 ∷ answer.Grant 2 16 ∷ answer.Full (row_of 24 32 1 ∷ []) ∷ []
 unfolding value least_below greatest_below up down
@@ -68,6 +46,15 @@ aligned_of_no_units : answers (command.Alloc 3 ∷ command.Align 0 16 ∷ comman
 unfolding value least_below greatest_below up down
 aligned_of_no_units = refl
 
+-- a reset, and extensions
+reset : answers (command.Alloc 10 ∷ command.Reset ∷ command.Free 1 ∷ command.Alloc 10 ∷ command.Size 2 ∷ command.Report ∷ []) (start 50 8) ≡ answer.Grant 1 0 ∷ answer.Reset ∷ answer.Gone ∷ answer.Grant 2 0 ∷ answer.Size 10 ∷ answer.Report 40 40 ∷ []
+unfolding value least_below greatest_below up down
+reset = refl
+
+extended : answers (command.Alloc 8 ∷ command.Extend 20 ∷ command.Alloc 20 ∷ command.Report ∷ command.Extend 5 ∷ command.Full ∷ []) (start 10 4) ≡ answer.Grant 1 0 ∷ answer.Extended ∷ answer.Grant 2 8 ∷ answer.Report 0 0 ∷ answer.Extended ∷ answer.Full (row_of 7 7 1 ∷ []) ∷ []
+unfolding value least_below greatest_below up down
+extended = refl
+
 extended_behind_live_and_free : answers (command.Alloc 12 ∷ command.Alloc 8 ∷ command.Free 1 ∷ command.Alloc 5 ∷ command.Extend 1 ∷ command.Extend 0 ∷ command.Free 2 ∷ command.Extend 1 ∷ command.Full ∷ []) (start 20 4) ≡ answer.Grant 1 0 ∷ answer.Grant 2 12 ∷ answer.Freed ∷ answer.Grant 3 0 ∷ answer.Refused ∷ answer.Extended ∷ answer.Freed ∷ answer.Extended ∷ answer.Full (row_of 16 16 1 ∷ []) ∷ []
 unfolding value least_below greatest_below up down
 extended_behind_live_and_free = refl
@@ -84,6 +71,33 @@ extended_past_the_greatest : answers (command.Extend 1 ∷ command.Extend 0 ∷ 
 unfolding value least_below greatest_below up down
 extended_past_the_greatest = refl
 
+-- the whole space, after releases and at once
+whole_space_again : answers (command.Alloc 10 ∷ command.Alloc 20 ∷ command.Free 1 ∷ command.Free 2 ∷ command.Alloc 48 ∷ command.Size 3 ∷ command.Free 1 ∷ []) (start 48 8) ≡ answer.Grant 1 0 ∷ answer.Grant 2 10 ∷ answer.Freed ∷ answer.Freed ∷ answer.Grant 3 0 ∷ answer.Size 48 ∷ answer.Gone ∷ []
+unfolding value least_below greatest_below up down
+whole_space_again = refl
+
+whole_space_at_once : answers (command.Alloc 48 ∷ command.Size 1 ∷ command.Free 0 ∷ []) (start 48 8) ≡ answer.Grant 1 0 ∷ answer.Size 48 ∷ answer.Gone ∷ []
+unfolding value least_below greatest_below up down
+whole_space_at_once = refl
+
+-- a nest, and releases that are none
+nest : answers (command.Alloc 10 ∷ command.Alloc 10 ∷ command.Alloc 10 ∷ command.Alloc 10 ∷ command.Free 1 ∷ command.Free 3 ∷ command.Alloc 5 ∷ command.Alloc 7 ∷ command.Free 6 ∷ command.Free 5 ∷ command.Alloc 10 ∷ command.Alloc 10 ∷ command.Report ∷ []) (start 100 16) ≡ answer.Grant 1 0 ∷ answer.Grant 2 10 ∷ answer.Grant 3 20 ∷ answer.Grant 4 30 ∷ answer.Freed ∷ answer.Freed ∷ answer.Grant 5 20 ∷ answer.Grant 6 0 ∷ answer.Freed ∷ answer.Freed ∷ answer.Grant 7 20 ∷ answer.Grant 8 0 ∷ answer.Report 60 60 ∷ []
+unfolding value least_below greatest_below up down
+nest = refl
+
+no_nest : answers (command.Alloc 10 ∷ command.Alloc 10 ∷ command.Alloc 10 ∷ command.Alloc 10 ∷ command.Free 1 ∷ command.Free 3 ∷ command.Alloc 5 ∷ command.Alloc 7 ∷ command.Free 5 ∷ command.Free 6 ∷ command.Alloc 10 ∷ command.Alloc 10 ∷ command.Report ∷ []) (start 100 16) ≡ answer.Grant 1 0 ∷ answer.Grant 2 10 ∷ answer.Grant 3 20 ∷ answer.Grant 4 30 ∷ answer.Freed ∷ answer.Freed ∷ answer.Grant 5 20 ∷ answer.Grant 6 0 ∷ answer.Freed ∷ answer.Freed ∷ answer.Grant 7 0 ∷ answer.Grant 8 20 ∷ answer.Report 60 60 ∷ []
+unfolding value least_below greatest_below up down
+no_nest = refl
+
+-- what stands before the nest of the row above, and that it is one
+before_nest : State
+before_nest = after (command.Alloc 10 ∷ command.Alloc 10 ∷ command.Alloc 10 ∷ command.Alloc 10 ∷ command.Free 1 ∷ command.Free 3 ∷ []) (start 100 16)
+
+is_nest : Nest before_nest (command.Alloc 5 ∷ command.Alloc 7 ∷ command.Free 6 ∷ command.Free 5 ∷ [])
+unfolding before_nest value least_below greatest_below up down
+is_nest = history.paired {k = 5} {inner = command.Alloc 7 ∷ command.Free 6 ∷ []} {outer = []} tt (20, refl) (history.paired {k = 6} {inner = []} {outer = []} tt (0, refl) history.done history.done) history.done
+
+-- requests of no units, of the greatest sizes, and of sizes between classes
 grants_of_no_units : answers (command.Alloc 0 ∷ command.Alloc 0 ∷ command.Alloc 0 ∷ command.Alloc 0 ∷ command.Free 2 ∷ command.Full ∷ command.Alloc 0 ∷ command.Free 3 ∷ command.Alloc 0 ∷ command.Report ∷ []) (start 6 5) ≡ answer.Grant 1 0 ∷ answer.Grant 2 0 ∷ answer.Grant 3 0 ∷ answer.Refused ∷ answer.Freed ∷ answer.Full (row_of 0 0 1 ∷ row_of 6 6 1 ∷ []) ∷ answer.Refused ∷ answer.Freed ∷ answer.Grant 4 0 ∷ answer.Report 6 6 ∷ []
 unfolding value least_below greatest_below up down
 grants_of_no_units = refl
@@ -100,6 +114,7 @@ exact_size_between_classes : answers (command.Alloc 17 ∷ command.Alloc 16 ∷ 
 unfolding value least_below greatest_below up down
 exact_size_between_classes = refl
 
+-- three releases in all orders
 releases_1_2_3 : answers (command.Alloc 10 ∷ command.Alloc 10 ∷ command.Alloc 10 ∷ command.Alloc 10 ∷ command.Free 1 ∷ command.Free 2 ∷ command.Free 3 ∷ command.Full ∷ []) (start 60 8) ≡ answer.Grant 1 0 ∷ answer.Grant 2 10 ∷ answer.Grant 3 20 ∷ answer.Grant 4 30 ∷ answer.Freed ∷ answer.Freed ∷ answer.Freed ∷ answer.Full (row_of 18 20 1 ∷ row_of 23 30 1 ∷ []) ∷ []
 unfolding value least_below greatest_below up down
 releases_1_2_3 = refl
@@ -124,6 +139,12 @@ releases_3_2_1 : answers (command.Alloc 10 ∷ command.Alloc 10 ∷ command.Allo
 unfolding value least_below greatest_below up down
 releases_3_2_1 = refl
 
+-- the collapse of three grants, and what their releases leave
+collapsed : collapse (1 ∷ 2 ∷ 3 ∷ []) (outline (after (command.Alloc 10 ∷ command.Alloc 10 ∷ command.Alloc 10 ∷ command.Alloc 10 ∷ []) (start 60 8)).blocks) ≡ outline (after (command.Alloc 10 ∷ command.Alloc 10 ∷ command.Alloc 10 ∷ command.Alloc 10 ∷ frees (3 ∷ 1 ∷ 2 ∷ [])) (start 60 8)).blocks
+unfolding value least_below greatest_below up down
+collapsed = refl
+
+-- rounding up and down to a class
 up_0 : up 0 ≡ 0
 unfolding value least_below greatest_below up down
 up_0 = refl
@@ -204,6 +225,7 @@ down_4294967295 : down 4294967295 ≡ 239
 unfolding value least_below greatest_below up down
 down_4294967295 = refl
 
+-- values of classes
 value_239 : value 239 ≡ 4026531840
 unfolding value
 value_239 = refl
@@ -227,16 +249,3 @@ value_30 = refl
 value_207 : value 207 ≡ 251658240
 unfolding value
 value_207 = refl
-
--- what stands before the nest of the row above, and that it is one
-before_nest : State
-before_nest = after (command.Alloc 10 ∷ command.Alloc 10 ∷ command.Alloc 10 ∷ command.Alloc 10 ∷ command.Free 1 ∷ command.Free 3 ∷ []) (start 100 16)
-
-is_nest : Nest before_nest (command.Alloc 5 ∷ command.Alloc 7 ∷ command.Free 6 ∷ command.Free 5 ∷ [])
-unfolding before_nest value least_below greatest_below up down
-is_nest = history.paired {k = 5} {inner = command.Alloc 7 ∷ command.Free 6 ∷ []} {outer = []} tt (20, refl) (history.paired {k = 6} {inner = []} {outer = []} tt (0, refl) history.done history.done) history.done
-
--- the collapse of three grants, and what their releases leave
-collapsed : collapse (1 ∷ 2 ∷ 3 ∷ []) (outline (after (command.Alloc 10 ∷ command.Alloc 10 ∷ command.Alloc 10 ∷ command.Alloc 10 ∷ []) (start 60 8)).blocks) ≡ outline (after (command.Alloc 10 ∷ command.Alloc 10 ∷ command.Alloc 10 ∷ command.Alloc 10 ∷ frees (3 ∷ 1 ∷ 2 ∷ [])) (start 60 8)).blocks
-unfolding value least_below greatest_below up down
-collapsed = refl

@@ -4,10 +4,12 @@ use Rattle.offset_allocator.specs.Classes.{down}
 use Rattle.offset_script.specs.Blocks.{Tag, Live, Free, Block, block}
 use Rattle.offset_script.proofs.Pairs.{Kind, Lives, Frees, Pair, pair, left_tag, right_tag, left, right, lefts, rights, In, Agree, AllAgree, SameOrder}
 
+-- a live pair has one number
 abbrev pub SameNumber : Kind → Type 0
 SameNumber (Lives i j) = i ≡ j
 SameNumber (Frees s u) = Unit {0}
 
+-- two lists that differ only in stamps, which stand in the same order in each class
 pub record Similar (bs cs : List Block) : Type 0 where
   pub pairs : List Pair
   pub left_blocks : bs ≡ lefts pairs
@@ -15,11 +17,12 @@ pub record Similar (bs cs : List Block) : Type 0 where
   pub numbers : (q : Pair) → In q pairs → SameNumber q.kind
   pub agree : AllAgree pairs
 
--- to itself
+-- a tag with itself
 abbrev twin : Tag → Kind
 twin (Live k) = Lives k k
 twin (Free s) = Frees s s
 
+-- each block with itself
 abbrev twins : List Block → List Pair
 twins [] = []
 twins (b ∷ bs) = pair b.size (twin b.tag) ∷ twins bs
@@ -70,6 +73,7 @@ glued (Lives i j) (Frees s u) = Lives i i
 glued (Frees s u) (Frees t v) = Frees s v
 glued (Frees s u) (Lives i j) = Frees s s
 
+-- the first blocks of one list of pairs with the second ones of another
 abbrev composed : List Pair → List Pair → List Pair
 composed [] p = []
 composed (q ∷ ps) [] = []
@@ -165,11 +169,12 @@ similar_trans xs bs cs a b = record {
         (a.agree f.first g.first f.in_first g.in_first (subst₂ (λ m n. nat_eq (down m) (down n) ≡ true) f.size g.size e))
         (b.agree f.second g.second f.in_second g.in_second (subst₂ (λ m n. nat_eq (down m) (down n) ≡ true) (f.size ∙ ap (λ (b : Block). b.size) f.same) (g.size ∙ ap (λ (b : Block). b.size) g.same) e)))
 
--- the other way round
+-- two tags the other way round
 abbrev flipped : Kind → Kind
 flipped (Lives i j) = Lives j i
 flipped (Frees s u) = Frees u s
 
+-- the pairs the other way round
 abbrev flips : List Pair → List Pair
 flips [] = []
 flips (q ∷ p) = pair q.size (flipped q.kind) ∷ flips p
