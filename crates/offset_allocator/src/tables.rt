@@ -46,6 +46,7 @@ fn reserved<T>(alloc: Global, length: usize) -> Result<Vec<T>, AllocError>
 }
 
 // A reserved table, filled with one value.
+#[inline(always)]
 fn filled<T: Copy>(mut values: Vec<T>, value: T, length: usize) -> Result<Vec<T>, AllocError>
     requires { values.items ≡ [] }
     ensures { IfOk result (λ v. v.items ≡ replicate length value) }
