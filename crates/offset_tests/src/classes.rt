@@ -1,14 +1,14 @@
 //! Size classes, against the tables of their values.
 
+use offset_allocator::Allocator;
 use offset_allocator::ext::min_allocator_size;
 use offset_allocator::small_float::{
     float_to_uint, uint_to_float_round_down, uint_to_float_round_up,
 };
-use offset_allocator::Allocator;
 use std::test::Fail;
 
 // The first value and the step of each group of eight classes.
-const GROUPS: [(u64, u64); 32] = [
+pub const GROUPS: [(u64, u64); 32] = [
     (0, 1),
     (8, 1),
     (16, 2),

@@ -3,13 +3,18 @@
 use crate::steps::Step::{Grants, Refuses};
 use crate::steps::follow;
 use crate::tiny::Tiny;
-use offset_allocator::{Allocator, NonMaxU16, NonMaxU32, NodeIndex};
+use offset_allocator::{Allocator, NodeIndex, NonMaxU16, NonMaxU32};
 use std::test::Fail;
 
 #[test]
 fn the_block_limit_refuses(rt: HostRuntime) -> Result<(), Fail> {
     let mut allocator = Allocator::<u32>::with_max_allocs(rt.alloc(), 100, 3)?;
-    follow(&rt, rt.alloc(), &mut allocator, &[Grants(10, 0), Refuses(10), Refuses(0)])
+    follow(
+        &rt,
+        rt.alloc(),
+        &mut allocator,
+        &[Grants(10, 0), Refuses(10), Refuses(0)],
+    )
 }
 
 #[test]
@@ -21,13 +26,23 @@ fn a_limit_of_two_grants_nothing(rt: HostRuntime) -> Result<(), Fail> {
 #[test]
 fn only_a_class_that_is_sure_to_fit_grants(rt: HostRuntime) -> Result<(), Fail> {
     let mut allocator = Allocator::<u32>::with_max_allocs(rt.alloc(), 17, 4)?;
-    follow(&rt, rt.alloc(), &mut allocator, &[Refuses(17), Grants(16, 0), Grants(1, 16)])
+    follow(
+        &rt,
+        rt.alloc(),
+        &mut allocator,
+        &[Refuses(17), Grants(16, 0), Grants(1, 16)],
+    )
 }
 
 #[test]
 fn an_empty_space_grants_nothing_once(rt: HostRuntime) -> Result<(), Fail> {
     let mut allocator = Allocator::<u32>::with_max_allocs(rt.alloc(), 0, 8)?;
-    follow(&rt, rt.alloc(), &mut allocator, &[Refuses(1), Grants(0, 0), Refuses(0)])
+    follow(
+        &rt,
+        rt.alloc(),
+        &mut allocator,
+        &[Refuses(1), Grants(0, 0), Refuses(0)],
+    )
 }
 
 #[test]
@@ -50,7 +65,12 @@ fn the_greatest_sizes(rt: HostRuntime) -> Result<(), Fail> {
 #[test]
 fn offsets_pass_a_narrow_index(rt: HostRuntime) -> Result<(), Fail> {
     let mut allocator = Allocator::<u16>::with_max_allocs(rt.alloc(), 100_000, 8)?;
-    follow(&rt, rt.alloc(), &mut allocator, &[Grants(70_000, 0), Grants(1_000, 70_000)])
+    follow(
+        &rt,
+        rt.alloc(),
+        &mut allocator,
+        &[Grants(70_000, 0), Grants(1_000, 70_000)],
+    )
 }
 
 #[test]
@@ -58,7 +78,10 @@ fn the_numbers_of_indices(rt: HostRuntime) {
     assert!(rt; NonMaxU16::new(65_535).is_none());
     assert!(rt; NonMaxU32::new(4_294_967_295).is_none());
     assert_eq!(rt; NonMaxU16::new(65_534).map(|n| n.get()), Some(65_534));
-    assert_eq!(rt; NonMaxU32::new(4_294_967_294).map(|n| n.get()), Some(4_294_967_294));
+    assert_eq!(rt;
+        NonMaxU32::new(4_294_967_294).map(|n| n.get()),
+        Some(4_294_967_294)
+    );
     assert_eq!(rt; <u16 as NodeIndex>::from_u32(65_536), 0);
     assert_eq!(rt; Tiny::from_u32(12).to_usize(), 4);
 }
