@@ -28,6 +28,8 @@ mod lengths;
 #[cfg(test)]
 mod lines;
 #[cfg(test)]
+mod mixed;
+#[cfg(test)]
 mod original;
 #[cfg(test)]
 mod parsing;
@@ -39,6 +41,8 @@ mod releases;
 mod reports;
 #[cfg(test)]
 mod rows;
+#[cfg(test)]
+mod slow;
 #[cfg(test)]
 mod steps;
 #[cfg(test)]
