@@ -17,7 +17,11 @@ fn spares<NI: NodeIndex>(allocator: &Allocator<NI>) -> u32 {
         tables,
         accesses,
     } = allocator;
-    let _scalars: [&u32; 6] = [size, max_allocs, free_total, top_mask, spare_count, last];
+    let _size: &u32 = size;
+    let _max_allocs: &u32 = max_allocs;
+    let _free_total: &u32 = free_total;
+    let _top_mask: &u32 = top_mask;
+    let _last: &u32 = last;
     let _tables: &Tables<NI> = tables;
     let _accesses: &Accesses = accesses;
     *spare_count
