@@ -1,6 +1,7 @@
 //! Once an allocator is made, its calls ask for no memory.
 
-use crate::ladder::{Attempt, FINE, Outcome, refusals, right_if};
+use crate::attempts::{Attempt, Outcome, refused_if, right_if};
+use crate::ladder::{FINE, refusals};
 use offset_allocator::laws::undo;
 use offset_allocator::{Allocation, Allocator, NodeIndex};
 use offset_script::play;
@@ -98,10 +99,7 @@ fn answers(allocator: &mut Allocator<u32>) -> u64 {
     let mut state = 1u64;
     let mut answers = 0u64;
     for _ in 0..1_000u32 {
-        state = state
-            .wrapping_mul(1_103_515_245)
-            .wrapping_add(12_345)
-            % 2_147_483_648;
+        state = state.wrapping_mul(1_103_515_245).wrapping_add(12_345) % 2_147_483_648;
         let number = state / 65_536;
         let answer = called(
             allocator,
@@ -118,53 +116,51 @@ fn made(alloc: Global) -> Result<Allocator<u32>, AllocError> {
     Allocator::with_max_allocs(alloc, 1_000, 12)
 }
 
-// Where making an allocator is refused, no call can be made. Else all calls answer as with ample memory.
+fn sum(alloc: Global) -> Result<u64, AllocError> {
+    let mut allocator = made(alloc)?;
+    Ok(answers(&mut allocator))
+}
+
+// Makes an allocator and the calls. They are refused just where an allocator alone is, and else they answer as with
+// ample memory.
 #[derive(Drop)]
-struct Calls {
+struct WithCalls {
     wanted: u64,
 }
 
-impl Attempt for Calls {
-    fn outcome(&self, alloc: Global) -> Outcome {
-        let made_alone = made(alloc).is_ok();
-        match made(alloc) {
-            Err(_) => {
-                if made_alone {
-                    Outcome::Wrong
-                } else {
-                    Outcome::Refused
-                }
-            }
-            Ok(mut allocator) => {
-                right_if(made_alone && answers(&mut allocator) == self.wanted)
-            }
+impl Attempt for WithCalls {
+    fn outcome(&mut self, alloc: Global) -> Outcome {
+        let is_made = made(alloc).is_ok();
+        match sum(alloc) {
+            Err(_) => refused_if(!is_made),
+            Ok(sum) => right_if(is_made && sum == self.wanted),
         }
     }
 }
 
 #[test]
 fn calls_ask_for_no_memory(rt: HostRuntime) -> Result<(), Fail> {
-    let wanted = answers(&mut made(rt.alloc())?);
-    assert!(rt; refusals(&rt, rt.alloc(), FINE, &Calls { wanted })? >= 9);
+    let wanted = sum(rt.alloc())?;
+    assert!(rt; refusals(&rt, rt.alloc(), FINE, &mut WithCalls { wanted })? >= 1);
     Ok(())
 }
 
-// A script without commands is refused at least where its allocator is.
+// Plays a script without commands. It is refused wherever an allocator alone is.
 #[derive(Drop)]
-struct NoCommands;
+struct WithoutCommands;
 
-impl Attempt for NoCommands {
-    fn outcome(&self, alloc: Global) -> Outcome {
-        let made_alone = made(alloc).is_ok();
+impl Attempt for WithoutCommands {
+    fn outcome(&mut self, alloc: Global) -> Outcome {
+        let is_made = made(alloc).is_ok();
         match play::<u32>(alloc, 1_000, 12, &[]) {
             Err(_) => Outcome::Refused,
-            Ok(answers) => right_if(made_alone && answers.is_empty()),
+            Ok(answers) => right_if(is_made && answers.is_empty()),
         }
     }
 }
 
 #[test]
 fn playing_makes_an_allocator(rt: HostRuntime) -> Result<(), Fail> {
-    assert!(rt; refusals(&rt, rt.alloc(), FINE, &NoCommands)? >= 9);
+    assert!(rt; refusals(&rt, rt.alloc(), FINE, &mut WithoutCommands)? >= 1);
     Ok(())
 }

@@ -7,6 +7,8 @@
 #[cfg(test)]
 mod allocators;
 #[cfg(test)]
+mod attempts;
+#[cfg(test)]
 mod calls;
 #[cfg(test)]
 mod ladder;
