@@ -19,7 +19,7 @@ const SPACES: [(u32, u32); 5] = [
 
 const LENGTH: u32 = 2_000;
 
-// Numbers below 32768 in a fixed order without a pattern.
+// Numbers below 32768: the high bits of a linear congruence, from the state 1 on.
 #[derive(Drop)]
 struct Numbers {
     state: u64,
@@ -33,13 +33,14 @@ impl Numbers {
     }
 }
 
-// Of which commands a script is made.
+// Of which commands a script is made. What a number leaves by 8 or by 16 picks the command, and the quotient its units or
+// its grant.
 #[derive(Clone, Copy)]
 enum Mix {
-    // Requests in half of the commands, releases in three of eight, and reports.
+    // Of 8 commands four requests, three releases, and a report.
     Plain,
-    // All commands: of 16, five requests, three aligned ones, four or five releases, an extension, a size, a report,
-    // and now and then a reset.
+    // Of 16 commands five requests, three aligned ones, an extension, a size, a report, four releases, and one that is a
+    // reset once in 32 times and else a release.
     Whole,
 }
 
