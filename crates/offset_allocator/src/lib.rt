@@ -24,6 +24,8 @@ mod parts;
 mod reports;
 pub mod small_float;
 mod tables;
+#[cfg(test)]
+mod tests;
 
 pub use accesses::Accesses;
 pub use handle::Allocation;

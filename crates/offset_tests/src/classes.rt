@@ -8,7 +8,7 @@ use offset_allocator::small_float::{
 use std::test::Fail;
 
 // The first value and the step of each group of eight classes.
-const GROUPS: [(u64, u64); 32] = [
+pub const GROUPS: [(u64, u64); 32] = [
     (0, 1),
     (8, 1),
     (16, 2),

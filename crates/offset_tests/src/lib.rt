@@ -4,7 +4,11 @@
 #[cfg(test)]
 mod adapters;
 #[cfg(test)]
+mod alignment;
+#[cfg(test)]
 mod classes;
+#[cfg(test)]
+mod extension;
 #[cfg(test)]
 mod faults;
 #[cfg(test)]
@@ -14,11 +18,19 @@ mod fronts_with_answers;
 #[cfg(test)]
 mod grants;
 #[cfg(test)]
+mod handles;
+#[cfg(test)]
 mod headers;
+#[cfg(test)]
+mod index_types;
 #[cfg(test)]
 mod lengths;
 #[cfg(test)]
 mod lines;
+#[cfg(test)]
+mod mixed;
+#[cfg(test)]
+mod original;
 #[cfg(test)]
 mod parsing;
 #[cfg(test)]
@@ -26,7 +38,11 @@ mod reads;
 #[cfg(test)]
 mod releases;
 #[cfg(test)]
+mod reports;
+#[cfg(test)]
 mod rows;
+#[cfg(test)]
+mod slow;
 #[cfg(test)]
 mod steps;
 #[cfg(test)]

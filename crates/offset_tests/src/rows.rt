@@ -5,7 +5,7 @@ use offset_script::{FromRead, IntoWrite, run};
 use std::alloc::Global;
 use std::test::Fail;
 
-const ROWS: [(&[u8], &[u8]); 22] = [
+pub const ROWS: [(&[u8], &[u8]); 22] = [
     (
         b"space 100 nodes 16 index 32\nalloc 10\nalloc 20\n",
         b"grant 1 at 0\ngrant 2 at 10\n",

@@ -1,49 +1,187 @@
 //! Calls of one allocator, as rows of a table.
 
+use offset_allocator::laws::undo;
 use offset_allocator::{Allocation, Allocator, NodeIndex};
 use std::alloc::Global;
 use std::process::Abort;
 use std::test::Fail;
 
 /// A call, and what it has to answer. Grants are numbered from 0.
+#[derive(Clone, Copy)]
 pub enum Step {
     /// A request of this size is granted at this offset.
     Grants(u32, u32),
     /// A request of this size is refused.
     Refuses(u32),
+    /// A request of this size at a multiple of the second number is granted at this offset.
+    Aligns(u32, u32, u32),
+    /// A request of this size at a multiple of the second number is refused.
+    RefusesAligned(u32, u32),
     /// The grant of this number is live, is freed, and is not live then.
     Frees(usize),
+    /// The same with a copy of the handle that has another offset.
+    FreesAltered(usize, u32),
+    /// The grant of this number is live, and has this size.
+    Lives(usize, u32),
+    /// The grant of this number is not live.
+    Gone(usize),
+    /// The space takes so many units more, or refuses them.
+    Extends(u32, bool),
+    /// A request of this size is granted and freed at once, or refused.
+    Undoes(u32, bool),
+    /// The whole space is free.
+    Resets,
+    /// The short report tells this total, and this largest region.
+    Reports(u32, u32),
+    /// The full report tells these classes, with their sizes and counts, and no free block besides.
+    Counts(&'static [(usize, u32, u32)]),
 }
 
 fn release<NI: NodeIndex>(rt: &impl Abort, allocator: &mut Allocator<NI>, handle: Allocation<NI>) {
     assert!(rt; allocator.is_live(handle));
     allocator.free(handle);
+    expect_gone(rt, allocator, handle);
+}
+
+fn expect_gone<NI: NodeIndex>(rt: &impl Abort, allocator: &Allocator<NI>, handle: Allocation<NI>) {
     assert!(rt; !allocator.is_live(handle));
     assert_eq!(rt; allocator.allocation_size(handle), 0);
 }
 
+fn expect_live<NI: NodeIndex>(
+    rt: &impl Abort,
+    allocator: &Allocator<NI>,
+    handle: Allocation<NI>,
+    size: u32,
+) {
+    assert!(rt; allocator.is_live(handle));
+    assert_eq!(rt; allocator.allocation_size(handle), size);
+}
+
+fn expect_report<NI: NodeIndex>(
+    rt: &impl Abort,
+    allocator: &Allocator<NI>,
+    total: u32,
+    largest: u32,
+) {
+    let report = allocator.storage_report();
+    assert_eq!(rt; report.total_free_space, total);
+    assert_eq!(rt; report.largest_free_region, largest);
+}
+
+fn expect_counts<NI: NodeIndex>(
+    rt: &impl Abort,
+    alloc: Global,
+    allocator: &Allocator<NI>,
+    wanted: &[(usize, u32, u32)],
+) -> Result<(), Fail> {
+    let report = allocator.storage_report_full();
+    let mut found = Vec::new(alloc);
+    for class in 0..256usize {
+        let region = report.free_regions[class];
+        if region.count > 0 {
+            found.push((class, region.size, region.count))?;
+        }
+    }
+    assert_eq!(rt; found.as_slice(), wanted);
+    Ok(())
+}
+
+#[tactic(auto, using(offset_script::proofs::Powers::power_of_two))]
+fn request<NI: NodeIndex>(
+    rt: &impl Abort,
+    allocator: &mut Allocator<NI>,
+    size: u32,
+    align: u32,
+) -> Option<Allocation<NI>> {
+    assert!(rt; align.is_power_of_two());
+    allocator.allocate_aligned(size, align)
+}
+
+fn keep<NI: NodeIndex>(
+    rt: &impl Abort,
+    allocator: &Allocator<NI>,
+    handles: &mut Vec<Allocation<NI>>,
+    granted: Option<Allocation<NI>>,
+    size: u32,
+    offset: u32,
+) -> Result<(), Fail> {
+    match granted {
+        None => assert!(rt; false, "a request of {size} is refused"),
+        Some(handle) => {
+            assert_eq!(rt; handle.offset, offset, "a request of {size}");
+            expect_live(rt, allocator, handle, size);
+            handles.push(handle)?;
+        }
+    }
+    Ok(())
+}
+
+fn grant_of<NI: NodeIndex>(
+    rt: &impl Abort,
+    handles: &[Allocation<NI>],
+    number: usize,
+) -> Allocation<NI> {
+    assert!(rt; number < handles.len(), "no grant {number}");
+    handles[number]
+}
+
 fn take<NI: NodeIndex>(
     rt: &impl Abort,
+    alloc: Global,
     allocator: &mut Allocator<NI>,
     handles: &mut Vec<Allocation<NI>>,
     step: &Step,
 ) -> Result<(), Fail> {
     match step {
-        Step::Grants(size, offset) => match allocator.allocate(*size) {
-            None => assert!(rt; false, "a request of {size} is refused"),
-            Some(handle) => {
-                assert_eq!(rt; handle.offset, *offset, "a request of {size}");
-                assert_eq!(rt; allocator.allocation_size(handle), *size);
-                handles.push(handle)?;
-            }
-        },
+        Step::Grants(size, offset) => {
+            let granted = allocator.allocate(*size);
+            keep(rt, allocator, handles, granted, *size, *offset)?;
+        }
         Step::Refuses(size) => {
             assert!(rt; allocator.allocate(*size).is_none(), "a request of {size}");
         }
-        Step::Frees(number) => match handles.get(*number) {
-            None => assert!(rt; false, "no grant {number}"),
-            Some(handle) => release(rt, allocator, *handle),
-        },
+        Step::Aligns(size, align, offset) => {
+            let granted = request(rt, allocator, *size, *align);
+            keep(rt, allocator, handles, granted, *size, *offset)?;
+        }
+        Step::RefusesAligned(size, align) => {
+            let granted = request(rt, allocator, *size, *align);
+            assert!(rt; granted.is_none(), "a request of {size} at {align}");
+        }
+        Step::Frees(number) => release(rt, allocator, grant_of(rt, handles, *number)),
+        Step::FreesAltered(number, offset) => {
+            let mut handle = grant_of(rt, handles, *number);
+            handle.offset = *offset;
+            release(rt, allocator, handle);
+        }
+        Step::Lives(number, size) => {
+            expect_live(rt, allocator, grant_of(rt, handles, *number), *size);
+        }
+        Step::Gone(number) => expect_gone(rt, allocator, grant_of(rt, handles, *number)),
+        Step::Extends(more, grown) => {
+            assert_eq!(rt; allocator.extend(*more), *grown, "{more} more");
+        }
+        Step::Undoes(size, granted) => {
+            assert_eq!(rt; undo(allocator, *size), *granted, "a request of {size}");
+        }
+        Step::Resets => allocator.reset(),
+        Step::Reports(total, largest) => expect_report(rt, allocator, *total, *largest),
+        Step::Counts(wanted) => expect_counts(rt, alloc, allocator, wanted)?,
+    }
+    Ok(())
+}
+
+/// Makes the calls in order. The handles of the grants come behind those that were there.
+pub fn proceed<NI: NodeIndex>(
+    rt: &impl Abort,
+    alloc: Global,
+    allocator: &mut Allocator<NI>,
+    handles: &mut Vec<Allocation<NI>>,
+    steps: &[Step],
+) -> Result<(), Fail> {
+    for step in steps {
+        take(rt, alloc, allocator, handles, step)?;
     }
     Ok(())
 }
@@ -55,9 +193,5 @@ pub fn follow<NI: NodeIndex>(
     allocator: &mut Allocator<NI>,
     steps: &[Step],
 ) -> Result<(), Fail> {
-    let mut handles = Vec::new(alloc);
-    for step in steps {
-        take(rt, allocator, &mut handles, step)?;
-    }
-    Ok(())
+    proceed(rt, alloc, allocator, &mut Vec::new(alloc), steps)
 }

@@ -1,0 +1,109 @@
+//! Spaces that grow.
+
+use crate::steps::Step::{Counts, Extends, Frees, Gone, Grants, Refuses, Reports, Resets};
+use crate::steps::follow;
+use offset_allocator::Allocator;
+use std::test::Fail;
+
+// A free last block grows also where no further block may stand.
+#[test]
+fn widens_a_free_last_block_at_the_block_limit(rt: HostRuntime) -> Result<(), Fail> {
+    let mut allocator = Allocator::<u32>::with_max_allocs(rt.alloc(), 10, 4)?;
+    follow(
+        &rt,
+        rt.alloc(),
+        &mut allocator,
+        &[
+            Grants(8, 0),
+            Extends(20, true),
+            Grants(20, 8),
+            Reports(0, 0),
+            Extends(5, true),
+            Counts(&[(7, 7, 1)]),
+        ],
+    )
+}
+
+#[test]
+fn refuses_behind_a_used_last_block_at_the_block_limit(rt: HostRuntime) -> Result<(), Fail> {
+    let mut allocator = Allocator::<u32>::with_max_allocs(rt.alloc(), 20, 4)?;
+    follow(
+        &rt,
+        rt.alloc(),
+        &mut allocator,
+        &[
+            Grants(12, 0),
+            Grants(8, 12),
+            Frees(0),
+            Grants(5, 0),
+            Extends(1, false),
+            Extends(0, true),
+            Frees(1),
+            Extends(1, true),
+            Counts(&[(16, 16, 1)]),
+        ],
+    )
+}
+
+// Growing inside its class makes a block the newest.
+#[test]
+fn a_grown_block_is_the_newest(rt: HostRuntime) -> Result<(), Fail> {
+    let mut allocator = Allocator::<u32>::with_max_allocs(rt.alloc(), 66, 8)?;
+    follow(
+        &rt,
+        rt.alloc(),
+        &mut allocator,
+        &[
+            Grants(32, 0),
+            Grants(1, 32),
+            Frees(0),
+            Extends(1, true),
+            Grants(32, 33),
+        ],
+    )
+}
+
+#[test]
+fn a_reset_keeps_the_present_size(rt: HostRuntime) -> Result<(), Fail> {
+    let mut allocator = Allocator::<u16>::with_max_allocs(rt.alloc(), 10, 4)?;
+    follow(
+        &rt,
+        rt.alloc(),
+        &mut allocator,
+        &[
+            Grants(10, 0),
+            Extends(6, true),
+            Resets,
+            Gone(0),
+            Reports(16, 16),
+        ],
+    )
+}
+
+#[test]
+fn the_greatest_space_does_not_grow(rt: HostRuntime) -> Result<(), Fail> {
+    let mut allocator = Allocator::<u32>::with_max_allocs(rt.alloc(), 4_294_967_295, 4)?;
+    follow(
+        &rt,
+        rt.alloc(),
+        &mut allocator,
+        &[Extends(1, false), Extends(0, true)],
+    )
+}
+
+// The size of the space may reach the greatest number.
+#[test]
+fn an_empty_space_grows_to_the_greatest(rt: HostRuntime) -> Result<(), Fail> {
+    let mut allocator = Allocator::<u32>::with_max_allocs(rt.alloc(), 0, 4)?;
+    follow(
+        &rt,
+        rt.alloc(),
+        &mut allocator,
+        &[
+            Refuses(1),
+            Extends(4_294_967_295, true),
+            Reports(4_294_967_295, 4_026_531_840),
+            Grants(4_026_531_840, 0),
+        ],
+    )
+}

@@ -1,0 +1,92 @@
+//! Handles that are stale, doubled, altered or of another space.
+
+use crate::steps::Step::{Frees, FreesAltered, Gone, Grants, Lives};
+use crate::steps::{follow, proceed};
+use offset_allocator::{Allocation, Allocator};
+use std::alloc::Global;
+use std::process::Abort;
+use std::test::Fail;
+
+// A stale handle is live again as the handle of the newer grant that has its name.
+#[test]
+fn a_stale_handle(rt: HostRuntime) -> Result<(), Fail> {
+    let mut allocator = Allocator::<u32>::new(rt.alloc(), 64)?;
+    follow(
+        &rt,
+        rt.alloc(),
+        &mut allocator,
+        &[
+            Grants(8, 0),
+            Frees(0),
+            Gone(0),
+            Grants(8, 0),
+            Lives(0, 8),
+            Frees(0),
+            Gone(1),
+        ],
+    )
+}
+
+// The name alone counts.
+#[test]
+fn a_handle_with_another_offset(rt: HostRuntime) -> Result<(), Fail> {
+    let mut allocator = Allocator::<u32>::with_max_allocs(rt.alloc(), 64, 8)?;
+    follow(
+        &rt,
+        rt.alloc(),
+        &mut allocator,
+        &[
+            Grants(8, 0),
+            Grants(8, 8),
+            FreesAltered(0, 8),
+            Gone(0),
+            Lives(1, 8),
+            Grants(8, 0),
+        ],
+    )
+}
+
+// The handles of a space with many names.
+fn of_another_space(rt: &impl Abort, alloc: Global) -> Result<Vec<Allocation<u32>>, Fail> {
+    let mut allocator = Allocator::<u32>::with_max_allocs(alloc, 198, 200)?;
+    let mut handles = Vec::new(alloc);
+    for offset in 0..198u32 {
+        proceed(
+            rt,
+            alloc,
+            &mut allocator,
+            &mut handles,
+            &[Grants(1, offset)],
+        )?;
+    }
+    Ok(handles)
+}
+
+// How many of the handles are live. Each of these has this size, and all others have the size 0.
+fn count_live(
+    rt: &impl Abort,
+    allocator: &Allocator<u32>,
+    handles: &[Allocation<u32>],
+    size: u32,
+) -> u32 {
+    let mut count = 0u32;
+    for handle in handles {
+        if allocator.is_live(*handle) {
+            count = count.saturating_add(1);
+            assert_eq!(rt; allocator.allocation_size(*handle), size);
+        } else {
+            assert_eq!(rt; allocator.allocation_size(*handle), 0);
+        }
+    }
+    count
+}
+
+#[test]
+fn handles_of_another_space(rt: HostRuntime) -> Result<(), Fail> {
+    let handles = of_another_space(&rt, rt.alloc())?;
+    let mut allocator = Allocator::<u32>::with_max_allocs(rt.alloc(), 64, 4)?;
+    assert_eq!(rt; count_live(&rt, &allocator, &handles, 0), 0);
+    follow(&rt, rt.alloc(), &mut allocator, &[Grants(5, 0)])?;
+    assert!(rt; count_live(&rt, &allocator, &handles, 5) <= 1);
+    Ok(())
+}

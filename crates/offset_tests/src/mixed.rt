@@ -1,0 +1,189 @@
+//! Long scripts of mixed commands, against the slow program.
+
+use crate::slow::Space;
+use crate::tiny::Tiny;
+use offset_allocator::NodeIndex;
+use offset_script::{Answer, Command, Script, parse, play};
+use std::alloc::{AllocError, Global};
+use std::process::Abort;
+use std::test::Fail;
+
+// Sizes of spaces, with their node limits.
+const SPACES: [(u32, u32); 5] = [
+    (0, 4),
+    (100, 3),
+    (5_000, 8),
+    (5_000, 64),
+    (4_294_967_295, 400),
+];
+
+const LENGTH: u32 = 2_000;
+
+// Numbers below 32768: the high bits of a linear congruence, from the state 1 on.
+#[derive(Drop)]
+struct Numbers {
+    state: u64,
+}
+
+impl Numbers {
+    fn advance(&mut self) -> u32 {
+        let state = self.state.wrapping_mul(1_103_515_245).wrapping_add(12_345) % 2_147_483_648;
+        self.state = state;
+        (state / 65_536) as u32
+    }
+}
+
+// Of which commands a script is made. What a number leaves by 8 or by 16 picks the command, and the quotient its units or
+// its grant.
+#[derive(Clone, Copy)]
+enum Mix {
+    // Of 8 commands four requests, three releases, and a report.
+    Plain,
+    // Of 16 commands five requests, three aligned ones, an extension, a size, a report, four releases, and one that is a
+    // reset once in 32 times and else a release.
+    Whole,
+}
+
+// The number of a grant that was made, or one beside those.
+fn grant_of(number: u32, grants: u64) -> u32 {
+    number % (grants.min(1_000_000) as u32 + 2)
+}
+
+fn report_of(number: u32) -> Command {
+    if number % 2 == 0 {
+        Command::Report
+    } else {
+        Command::Full
+    }
+}
+
+impl Mix {
+    fn command(self, number: u32, grants: u64) -> Command {
+        match self {
+            Mix::Plain => plain(number % 8, number / 8, grants),
+            Mix::Whole => whole(number % 16, number / 16, grants),
+        }
+    }
+}
+
+fn plain(kind: u32, number: u32, grants: u64) -> Command {
+    match kind {
+        0..=3 => Command::Alloc(number % 300),
+        4..=6 => Command::Free(grant_of(number, grants)),
+        _ => report_of(number),
+    }
+}
+
+fn whole(kind: u32, number: u32, grants: u64) -> Command {
+    match kind {
+        0..=4 => Command::Alloc(number % 300),
+        5..=7 => Command::Align(number % 60, 1 << (number % 7)),
+        8 => Command::Extend(number % 50),
+        9 => Command::Size(grant_of(number, grants)),
+        10 => report_of(number),
+        11 => {
+            if number % 32 == 0 {
+                Command::Reset
+            } else {
+                Command::Free(grant_of(number, grants))
+            }
+        }
+        _ => Command::Free(grant_of(number, grants)),
+    }
+}
+
+fn put_line(text: &mut String, command: Command) -> Result<(), AllocError> {
+    match command {
+        Command::Alloc(size) => writeln!(text, "alloc {size}"),
+        Command::Free(number) => writeln!(text, "free {number}"),
+        Command::Size(number) => writeln!(text, "size {number}"),
+        Command::Report => writeln!(text, "report"),
+        Command::Full => writeln!(text, "full"),
+        Command::Reset => writeln!(text, "reset"),
+        Command::Align(size, align) => writeln!(text, "align {size} {align}"),
+        Command::Extend(more) => writeln!(text, "extend {more}"),
+    }
+}
+
+// Writes the text of a script, and gives the slow program's answers. Which grants a command names depends on how
+// many were made before it.
+fn mixed(
+    alloc: Global,
+    text: &mut String,
+    size: u32,
+    limit: u32,
+    mix: Mix,
+) -> Result<Vec<Answer>, AllocError> {
+    writeln!(text, "space {size} nodes {limit} index 16")?;
+    let mut space = Space::new(alloc, size, limit)?;
+    let mut numbers = Numbers { state: 1 };
+    let mut answers = Vec::new(alloc);
+    for _ in 0..LENGTH {
+        let command = mix.command(numbers.advance(), space.grants);
+        put_line(text, command)?;
+        answers.push(space.answer(alloc, command)?)?;
+    }
+    Ok(answers)
+}
+
+fn expect_answer(
+    rt: &impl Abort,
+    alloc: Global,
+    number: usize,
+    found: &Answer,
+    wanted: &Answer,
+) -> Result<(), Fail> {
+    let found = format!(in alloc; "{found:?}")?;
+    let wanted = format!(in alloc; "{wanted:?}")?;
+    assert_eq!(rt; found.as_str(), wanted.as_str(), "command {number}");
+    Ok(())
+}
+
+fn expect_played<NI: NodeIndex>(
+    rt: &impl Abort,
+    alloc: Global,
+    script: &Script,
+    wanted: &[Answer],
+) -> Result<(), Fail> {
+    assert!(rt; script.max_allocs < NI::MAX - 1);
+    let answers = play::<NI>(alloc, script.size, script.max_allocs, &script.commands)?;
+    assert_eq!(rt; answers.len(), wanted.len());
+    for (number, (found, wanted)) in answers.iter().zip(wanted.iter()).enumerate() {
+        expect_answer(rt, alloc, number, found, wanted)?;
+    }
+    Ok(())
+}
+
+fn expect_mixed(
+    rt: &impl Abort,
+    alloc: Global,
+    size: u32,
+    limit: u32,
+    mix: Mix,
+) -> Result<(), Fail> {
+    let mut text = String::new(alloc);
+    let wanted = mixed(alloc, &mut text, size, limit, mix)?;
+    let script = parse(alloc, text.as_bytes())?;
+    expect_played::<u32>(rt, alloc, &script, &wanted)?;
+    expect_played::<u16>(rt, alloc, &script, &wanted)?;
+    if limit <= 5 {
+        expect_played::<Tiny>(rt, alloc, &script, &wanted)?;
+    }
+    Ok(())
+}
+
+#[test]
+fn plays_mixed_scripts(rt: HostRuntime) -> Result<(), Fail> {
+    for (size, limit) in SPACES {
+        expect_mixed(&rt, rt.alloc(), size, limit, Mix::Plain)?;
+    }
+    Ok(())
+}
+
+#[test]
+fn plays_mixed_scripts_of_all_commands(rt: HostRuntime) -> Result<(), Fail> {
+    for (size, limit) in SPACES {
+        expect_mixed(&rt, rt.alloc(), size, limit, Mix::Whole)?;
+    }
+    Ok(())
+}

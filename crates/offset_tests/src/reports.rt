@@ -1,0 +1,132 @@
+//! What the reports tell.
+
+use crate::classes::GROUPS;
+use crate::steps::Step::{Counts, Grants, Refuses, Reports, Undoes};
+use crate::steps::follow;
+use offset_allocator::{Allocator, StorageReportFull, StorageReportFullRegion};
+use std::test::Fail;
+
+// The largest region is the value of a class, and not the size of the block.
+#[test]
+fn tells_the_value_of_a_class(rt: HostRuntime) -> Result<(), Fail> {
+    let mut allocator = Allocator::<u32>::new(rt.alloc(), 17)?;
+    follow(
+        &rt,
+        rt.alloc(),
+        &mut allocator,
+        &[Reports(17, 16), Refuses(17), Grants(16, 0)],
+    )
+}
+
+#[test]
+fn tells_free_blocks_at_the_block_limit(rt: HostRuntime) -> Result<(), Fail> {
+    let mut allocator = Allocator::<u32>::with_max_allocs(rt.alloc(), 100, 3)?;
+    follow(
+        &rt,
+        rt.alloc(),
+        &mut allocator,
+        &[
+            Grants(10, 0),
+            Refuses(10),
+            Reports(0, 0),
+            Counts(&[(35, 88, 1)]),
+        ],
+    )
+}
+
+#[test]
+fn tells_a_space_that_grants_nothing(rt: HostRuntime) -> Result<(), Fail> {
+    let mut allocator = Allocator::<u32>::with_max_allocs(rt.alloc(), 100, 2)?;
+    follow(
+        &rt,
+        rt.alloc(),
+        &mut allocator,
+        &[
+            Refuses(1),
+            Refuses(0),
+            Reports(0, 0),
+            Counts(&[(36, 96, 1)]),
+        ],
+    )
+}
+
+#[test]
+fn tells_an_empty_space(rt: HostRuntime) -> Result<(), Fail> {
+    let mut allocator = Allocator::<u32>::new(rt.alloc(), 0)?;
+    follow(
+        &rt,
+        rt.alloc(),
+        &mut allocator,
+        &[Reports(0, 0), Refuses(1), Grants(0, 0), Refuses(0)],
+    )
+}
+
+#[test]
+fn tells_the_greatest_space(rt: HostRuntime) -> Result<(), Fail> {
+    let mut allocator = Allocator::<u32>::with_max_allocs(rt.alloc(), 4_294_967_295, 8)?;
+    follow(
+        &rt,
+        rt.alloc(),
+        &mut allocator,
+        &[
+            Reports(4_294_967_295, 4_026_531_840),
+            Refuses(4_026_531_841),
+            Grants(4_026_531_840, 0),
+            Reports(268_435_455, 251_658_240),
+        ],
+    )
+}
+
+#[test]
+fn foretells_requests(rt: HostRuntime) -> Result<(), Fail> {
+    let mut allocator = Allocator::<u32>::with_max_allocs(rt.alloc(), 143, 3)?;
+    follow(
+        &rt,
+        rt.alloc(),
+        &mut allocator,
+        &[
+            Reports(143, 128),
+            Refuses(129),
+            Undoes(128, true),
+            Reports(143, 128),
+            Grants(128, 0),
+            Undoes(0, false),
+        ],
+    )
+}
+
+#[test]
+fn names_the_fields_of_the_short_report(rt: HostRuntime) -> Result<(), Fail> {
+    let allocator = Allocator::<u32>::new(rt.alloc(), 17)?;
+    assert_eq!(rt;
+        format!(in rt.alloc(); "{allocator:?}")?.as_str(),
+        "StorageReport { total_free_space: 17, largest_free_region: 16 }"
+    );
+    Ok(())
+}
+
+#[test]
+fn has_defaults_of_zeros(rt: HostRuntime) {
+    let region = StorageReportFullRegion::default();
+    assert_eq!(rt; (region.size, region.count), (0, 0));
+    for region in StorageReportFull::default().free_regions {
+        assert_eq!(rt; (region.size, region.count), (0, 0));
+    }
+}
+
+// The values of the greatest classes lose their high bits.
+#[test]
+fn tells_the_values_of_all_classes(rt: HostRuntime) -> Result<(), Fail> {
+    let allocator = Allocator::<u32>::with_max_allocs(rt.alloc(), 100, 2)?;
+    let report = allocator.storage_report_full();
+    for class in 0..256usize {
+        let (first, step) = GROUPS[class / 8];
+        let value = first.saturating_add(step.saturating_mul(class as u64 % 8)) % 4_294_967_296;
+        assert_eq!(rt;
+            u64::from(report.free_regions[class].size),
+            value,
+            "class {class}"
+        );
+    }
+    Ok(())
+}
