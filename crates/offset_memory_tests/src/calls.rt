@@ -1,6 +1,6 @@
 //! Once an allocator is made, its calls ask for no memory.
 
-use crate::attempts::{Attempt, Outcome, refused_if, right_if};
+use crate::attempts::{Attempt, Outcome, all_memory, refused_if, right_if};
 use crate::ladder::{FINE, refusals};
 use offset_allocator::laws::undo;
 use offset_allocator::{Allocation, Allocator, NodeIndex};
@@ -112,13 +112,27 @@ fn answers(allocator: &mut Allocator<u32>) -> u64 {
     answers
 }
 
+// The node tables are larger than all others, and the last of them is made last. So hardly any memory is left over where
+// an allocator is made for the first time.
+const NODES: u32 = 1_000;
+
 fn made(alloc: Global) -> Result<Allocator<u32>, AllocError> {
-    Allocator::with_max_allocs(alloc, 1_000, 12)
+    Allocator::with_max_allocs(alloc, 1_000, NODES)
 }
 
 fn sum(alloc: Global) -> Result<u64, AllocError> {
     let mut allocator = made(alloc)?;
     Ok(answers(&mut allocator))
+}
+
+#[test]
+fn calls_answer_without_any_memory(rt: HostRuntime) -> Result<(), Fail> {
+    let wanted = sum(rt.alloc())?;
+    let mut allocator = made(rt.alloc())?;
+    let _rest = all_memory(rt.alloc())?;
+    assert!(rt; Vec::<u8>::with_capacity(rt.alloc(), 1).is_err());
+    assert_eq!(rt; answers(&mut allocator), wanted);
+    Ok(())
 }
 
 // Makes an allocator and the calls. They are refused just where an allocator alone is, and else they answer as with
@@ -152,7 +166,7 @@ struct WithoutCommands;
 impl Attempt for WithoutCommands {
     fn outcome(&mut self, alloc: Global) -> Outcome {
         let is_made = made(alloc).is_ok();
-        match play::<u32>(alloc, 1_000, 12, &[]) {
+        match play::<u32>(alloc, 1_000, NODES, &[]) {
             Err(_) => Outcome::Refused,
             Ok(answers) => right_if(is_made && answers.is_empty()),
         }

@@ -47,6 +47,8 @@ impl Ladder {
         for _ in 0..steps.count {
             rungs.push(Vec::with_capacity(alloc, steps.size)?)?;
         }
+        // The lowest comes first. Blocks are taken from the low end too, and so each keeps its place from step to step.
+        rungs.reverse();
         let mut ladder = Ladder {
             size: steps.size,
             rungs,
