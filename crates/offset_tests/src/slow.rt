@@ -102,6 +102,7 @@ fn joined(alloc: Global, blocks: &[Block], now: u64) -> Result<Vec<Block>, Alloc
 }
 
 impl Space {
+    /// A space of `size` units, all free.
     pub fn new(alloc: Global, size: u32, limit: u32) -> Result<Self, AllocError> {
         Ok(Space {
             blocks: vec![in alloc; Block::free(u64::from(size), 0)]?,

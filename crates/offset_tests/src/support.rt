@@ -20,6 +20,7 @@ pub struct Reader<'a> {
 }
 
 impl<'a> Reader<'a> {
+    /// A reader that gives all of the text and never fails.
     pub fn new(text: &'a [u8], piece: usize) -> Self {
         Reader {
             text,
@@ -66,6 +67,7 @@ pub struct Writer {
 }
 
 impl Writer {
+    /// A writer that takes all and never fails.
     pub fn new(alloc: Global, piece: usize) -> Self {
         Writer {
             taken: Vec::new(alloc),
