@@ -1,5 +1,5 @@
-// The calls that leave an allocator as it is, with a count of their accesses, the law that a grant can be undone, and
-// laws that hold of every allocator. The functions of those do nothing.
+//! The calls that leave an allocator as it is, with a count of their accesses, the law that a grant can be undone, and
+//! laws that hold of every allocator. The functions of those do nothing.
 ghost use Rattle.std.specs.Prelude.{◌≡◌, ◌≤◌, ◌+◌, ◌*◌, ◌↔◌, IsTrue, length};
 ghost use Rattle.offset_allocator.specs.Named.{size_at, place_of, free_sizes};
 ghost use Rattle.offset_allocator.specs.Always.{AddsUp, AreFew, AreWithin, FreshGrants, KeepApart, PaddingIsLeast, RefusesWhenFull, StandAlone};

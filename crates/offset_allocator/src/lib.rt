@@ -1,4 +1,13 @@
-// One space, handed out in ranges.
+//! Ranges of one contiguous space of `size` units, handed out and taken back in constant work. The space itself is
+//! never touched.
+//!
+//! ```
+//! let mut vertices = Allocator::<u32>::new(alloc, 1 << 20)?;
+//! if let Some(mesh) = vertices.allocate(3000) {
+//!     // mesh.offset is the first vertex of the range
+//!     vertices.free(mesh);
+//! }
+//! ```
 #![tactic(auto)]
 
 ghost use Rattle.std.specs.Prelude.{◌≡◌, ◌↔◌, ℕ, ◌+◌, ◌-◌, ◌*◌, ◌%◌, ◌<◌, ◌≤◌, min, Some, None, Option, false, true, IsTrue, IsSome, IfSome, MatchOption, IfOk, length};
@@ -38,6 +47,8 @@ use std::marker::Model;
 use tables::Tables;
 
 /// One space, and what of it is granted.
+///
+/// `NI` is the type of the links between nodes. It sets how many nodes there can be, and nothing of the answers.
 #[derive(Drop)]
 pub struct Allocator<NI: NodeIndex = u32> {
     size: u32,
@@ -235,7 +246,11 @@ impl<NI: NodeIndex> Allocator<NI> {
         }
     }
 
-    /// Gives a granted range back. It is joined with the free ranges beside it.
+    /// Gives a granted range back. Its units are free at once, in one block with the free ranges directly before
+    /// and behind it, and that block is the newest of its class.
+    ///
+    /// Only the handle's name counts, and not its public `offset`. It makes at most 40 accesses to the tables,
+    /// and takes no memory.
     pub fn free(&mut self, allocation: Allocation<NI>)
         requires live { IsLive allocation.name self.old }
         ensures step { IsBut (free allocation.name self.old) self.new }

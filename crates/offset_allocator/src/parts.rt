@@ -1,4 +1,4 @@
-// Takes a block apart: a free front, a used middle, and a free rest.
+//! Takes a block apart: a free front, a used middle, and a free rest.
 ghost use Rattle.std.specs.Prelude.{◌≡◌, ◌≢◌, ℕ, ◌+◌, ◌-◌, ◌<◌, ◌≤◌, length, List, [], ◌∷◌, ◌++◌};
 ghost use Rattle.offset_allocator.specs.Named.{named, free_part, used_block, put_all};
 ghost use Rattle.offset_allocator.specs.Space.{IsSpace, Stands, blocks, size_in};

@@ -1,4 +1,4 @@
-// What is told of the free space.
+//! What is told of the free space.
 ghost use Rattle.std.specs.Prelude.{◌≡◌, replicate};
 
 /// The free space of an allocator, in short.

@@ -34,8 +34,11 @@ pub enum IndexWidth {
 /// The first line of a script that says something.
 #[derive(Clone, Copy, PartialEq, Debug)]
 pub struct Header {
+    /// The units of the space.
     pub size: u32,
+    /// The node limit.
     pub max_allocs: u32,
+    /// The width of the names.
     pub index: IndexWidth,
 }
 
@@ -43,9 +46,13 @@ pub struct Header {
 /// Its limit is admitted for its width, and each alignment is a power of two.
 #[derive(Drop)]
 pub struct Script {
+    /// The units of the space.
     pub size: u32,
+    /// The node limit.
     pub max_allocs: u32,
+    /// The width of the names.
     pub index: IndexWidth,
+    /// The commands, in their order.
     pub commands: Vec<Command>,
     pub ghost low: { 2 ≤ max_allocs },
     pub ghost high: { max_allocs ≤ greatest_limit index },
