@@ -1,12 +1,16 @@
 //! Uses of `offset_allocator`, as a caller writes them.
 #![tactic(auto, using(offset_allocator::proofs::Ranges::given_back))]
 
-ghost use Rattle.std.specs.Prelude.{◌≡◌, ◌≢◌, ◌↔◌, ℕ, ◌+◌, ◌*◌, ◌≤◌, ◌%◌, Some, None, IfSome, IfNone, IsSome, IfOk, length};
+ghost use Rattle.std.specs.Prelude.{◌≡◌, ◌≢◌, ◌↔◌, ℕ, ◌+◌, ◌*◌, ◌<◌, ◌≤◌, ◌%◌, Some, None, IfSome, IfNone, IsSome, IsTrue, IfOk, All, map, length};
 ghost use Rattle.offset_allocator.specs.Named.{largest_free, free_sizes};
 ghost use Rattle.offset_allocator.specs.Ranges.{Range, range_of, AreDisjoint, KeepsRanges, KeepsOthers};
 ghost use Rattle.offset_allocator.specs.Relations.{IsLive, IsBut};
+ghost use Rattle.offset_script.specs.Answers.{seen};
+ghost use Rattle.offset_script.specs.Limits.{is_powered};
 
 use offset_allocator::{Accesses, Allocation, Allocator, NodeIndex, laws};
+use offset_script::{Answer, Command, play};
+use std::alloc::{AllocError, Global};
 
 /// Two ranges of vertices, for the outer and the inner hull of a mesh, or none at all.
 pub fn place_mesh(
@@ -129,6 +133,23 @@ pub fn frame<NI: NodeIndex>(space: &mut Allocator<NI>, n: u32, count: &mut Acces
             size <= report.total_free_space
         }
     }
+}
+
+/// One list of commands, played with names of 16 bits and of 32. The answers are equal.
+pub fn replay(
+    alloc: Global,
+    size: u32,
+    max_allocs: u32,
+    commands: &[Command],
+) -> Result<(Vec<Answer>, Vec<Answer>), AllocError>
+    requires low { 2 ≤ max_allocs }
+    requires high { max_allocs + 1 < 65535 }
+    requires powers { All (λ c. IsTrue (is_powered c)) commands.now }
+    ensures { IfOk result (λ both. map seen both.0.items ≡ map seen both.1.items) }
+{
+    let narrow = play::<u16>(alloc, size, max_allocs, commands)?;
+    let wide = play::<u32>(alloc, size, max_allocs, commands)?;
+    Ok((narrow, wide))
 }
 
 #[cfg(test)]

@@ -67,3 +67,21 @@ fn uniforms_begin_at_a_multiple_of_256(rt: HostRuntime) -> Result<(), Fail> {
     }
     Ok(())
 }
+
+#[test]
+fn both_widths_answer_alike(rt: HostRuntime) -> Result<(), Fail> {
+    let (narrow, wide) = replay(
+        rt.alloc(),
+        100,
+        16,
+        &[Command::Alloc(10), Command::Free(1), Command::Alloc(7)],
+    )?;
+    for answers in [&narrow, &wide] {
+        assert_eq!(rt; answers.len(), 3);
+        match &answers[2] {
+            Answer::Grant { number, offset } => assert_eq!(rt; (*number, *offset), (2, 0)),
+            _ => assert!(rt; false),
+        }
+    }
+    Ok(())
+}
