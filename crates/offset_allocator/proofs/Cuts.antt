@@ -4,29 +4,13 @@ use Rattle.std.proofs.lemmas.Bool.{cases_eq, eq-eqb, ne_eqb}
 use Rattle.std.proofs.lemmas.List.{get_or-set_same, get_or-set_other}
 use Rattle.offset_allocator.specs.Named.{Block, named, one, names_at, place_of, free_part, free_block, used_block, put_first, put_all}
 use Rattle.offset_allocator.specs.Orders.{Among, IsUnlisted}
-use Rattle.offset_allocator.specs.Space.{mark_block, split_block, size_in, Stands}
+use Rattle.offset_allocator.specs.Space.{mark_block, size_in, Stands}
 use Rattle.offset_allocator.specs.Parts.{split_front, with_front, with_rest, carved, carved_at}
 use Rattle.offset_allocator.proofs.Rows.{one-eq, one-other, times-append}
 use Rattle.offset_allocator.proofs.Found.{find, split_block-at, size_in-at}
 use Rattle.offset_allocator.proofs.Marks.{mark_block-at}
 use Rattle.offset_allocator.proofs.Fronts.{split_front-at}
 use Rattle.offset_allocator.proofs.ViewSteps.{place_here}
-
-pub with_front-some : (x n y : ℕ) (bs : List Block) → 0 < n → with_front x n y bs ≡ split_front x n y bs
-with_front-some x zero y bs l = absurd (omega arith)
-with_front-some x (suc n) y bs l = refl
-
-pub with_front-none : (x n y : ℕ) (bs : List Block) → n ≡ 0 → with_front x n y bs ≡ bs
-with_front-none x zero y bs e = refl
-with_front-none x (suc n) y bs e = absurd (omega arith)
-
-pub with_rest-some : (x n left y : ℕ) (bs : List Block) → 0 < left → with_rest x n left y bs ≡ split_block x n y bs
-with_rest-some x n zero y bs l = absurd (omega arith)
-with_rest-some x n (suc left) y bs l = refl
-
-pub with_rest-none : (x n left y : ℕ) (bs : List Block) → left ≡ 0 → with_rest x n left y bs ≡ bs
-with_rest-none x n zero y bs e = refl
-with_rest-none x n (suc left) y bs e = absurd (omega arith)
 
 -- names
 pub named_mark : (k x : ℕ) (u : Bool) (bs : List Block) → named k (mark_block x u bs) ≡ named k bs

@@ -5,12 +5,12 @@ use Rattle.std.proofs.lemmas.List.{get_or-set_same, get_or-set_other}
 use Rattle.offset_allocator.specs.Classes.{down}
 use Rattle.offset_allocator.specs.Cells.{Cells, Node, node}
 use Rattle.offset_allocator.specs.Named.{Block, View, Extension, named, names_at, listed, one, is_free, IsWellFormed, IsUnused, is_short_of, greatest, free_block, units, remove_all, put_all, put_first, remove, without, free_end, without_end, ends_used, name_or, extended, is_extendable, extend}
-use Rattle.offset_allocator.specs.Space.{IsSpace, blocks, size_in, split_block}
+use Rattle.offset_allocator.specs.Space.{IsSpace, blocks, split_block}
 use Rattle.offset_allocator.specs.Orders.{Among, IsUnlisted, class_lists, Binned}
 use Rattle.offset_allocator.specs.State.{IsSound, view_of, free_units}
 use Rattle.offset_allocator.specs.Relations.{Extends}
 use Rattle.offset_allocator.specs.Parts.{grow_last}
-use Rattle.offset_allocator.proofs.Found.{split_block-at, size_in-at}
+use Rattle.offset_allocator.proofs.Found.{split_block-at}
 use Rattle.offset_allocator.proofs.Rows.{units-append, one-eq}
 use Rattle.offset_allocator.proofs.Growing.{IsLast, last_is, grow_last-at}
 use Rattle.offset_allocator.proofs.Merging.{end_free, end_used}
@@ -81,9 +81,6 @@ module _ (max size limit : ℕ) (c : Cells) (last count top free acc more : ℕ)
 
   pub used_at_end : (node c.room last).used ≡ ends_used (blocks c.room last)
   used_at_end = ap (λ (n : Node). n.used) end.at ∙ sym (ap ends_used end.is ∙ ends_last fs b)
-
-  pub size_in_end : size_in last (blocks c.room last) ≡ end.block.size
-  size_in_end = ap (size_in last) end.is ∙ ap (λ i. size_in i (fs ++ b ∷ [])) (sym end.name) ∙ size_in-at fs b [] end.alone
 
   pub left_as_it_was : (acc' : ℕ) → 0 < more → is_extendable more (view_of max size limit c last acc) ≡ false → Extends more (view_of max size limit c last acc) (view_of max size limit c last acc') false
   left_as_it_was acc' pos e =
@@ -223,26 +220,3 @@ module _ (max size limit : ℕ) (c : Cells) (last count top free acc more : ℕ)
 pub extends_nothing : (more : ℕ) (v : View) (y : ℕ) → IsUnused y v → more ≡ 0 → Extends more v v true
 extends_nothing zero v y u e = record { name = y; unused = u; view = refl; answer = refl }
 extends_nothing (suc more) v y u e = absurd (omega arith)
-
--- accesses before an extension change nothing else
-counted : ℕ → Extension → Extension
-counted k e = record { view = with_accesses k e.view; done = e.done }
-
-choice_counted : (k : ℕ) (b : Bool) (p q p' q' : Extension) → p ≡ counted k p' → q ≡ counted k q' → (if b then p else q) ≡ counted k (if b then p' else q')
-choice_counted k true p q p' q' e f = e
-choice_counted k false p q p' q' e f = f
-
-extend_counted : (k more x : ℕ) (u : View) → extend more x (with_accesses k u) ≡ counted k (extend more x u)
-unfolding counted
-extend_counted k zero x u = refl
-extend_counted k (suc more) x u =
-    choice_counted k (is_extendable (suc more) u) (record { view = extended (suc more) x (with_accesses k u); done = true }) (record { view = with_accesses k u; done = false }) (record { view = extended (suc more) x u; done = true }) (record { view = u; done = false }) refl refl
-
-pub extends_counted : (k more : ℕ) (u w : View) (done : Bool) → Extends more (with_accesses k u) w done → Extends more u w done
-unfolding counted
-extends_counted k more u w done a = record {
-  name = a.name;
-  unused = record { below = a.unused.below; absent = a.unused.absent };
-  view = a.view ∙ ap (λ (e : Extension). with_accesses w.accesses e.view) (extend_counted k more a.name u);
-  answer = a.answer ∙ ap (λ (e : Extension). e.done) (extend_counted k more a.name u);
-}

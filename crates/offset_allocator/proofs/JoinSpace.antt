@@ -1,8 +1,8 @@
 -- The writes of `join_after` and `join_before`, at the level of the list of blocks.
-use Rattle.std.proofs.Common.{◌≡◌, ◌≢◌, ℕ, ◌+◌, ◌<◌, ◌≤◌, ◌^◌, false, Option, None, Some, List, [], ◌∷◌, ◌++◌, length, set, refl, sym, ◌∙◌, ap, arith, MatchOption, subst, length-append, length-set, inl, inr, nat_eq}
+use Rattle.std.proofs.Common.{◌≡◌, ◌≢◌, ℕ, ◌+◌, ◌<◌, ◌≤◌, false, Option, None, Some, List, [], ◌∷◌, ◌++◌, length, set, refl, sym, ◌∙◌, ap, arith, MatchOption, subst, length-append, length-set, inl, inr, nat_eq}
 use Rattle.std.proofs.lemmas.Bool.{cases_eq}
 use Rattle.offset_allocator.specs.Cells.{Room, Node, node, put, with_spare}
-use Rattle.offset_allocator.specs.Named.{Block, units, named, times, one}
+use Rattle.offset_allocator.specs.Named.{Block, named, times, one}
 use Rattle.offset_allocator.specs.Space.{size_in, first_or, last_or, IsChain, IsSpace, spares, Stands, blocks, name_after, join_block, give_block}
 use Rattle.offset_allocator.proofs.Nodes.{node-put, node-put_other, length-put, spare-put, put-step}
 use Rattle.offset_allocator.proofs.Rows.{one-eq, one-other, times-append, times-first, times-join, units-append, last_or-append}
@@ -164,9 +164,6 @@ module _ (c : Room) (last count x y : ℕ) (j : JoinAt c last count x y) where
 
   pub size_y : (node c y).size ≡ size_in y (blocks c last)
   size_y = size-told c last count y h y_stands
-
-  pub sum_fits : (node c x).size + (node c y).size < 2 ^ 32
-  sum_fits = omega (arith, h.fits, ap units n.stood, units-append fs (b ∷ d ∷ cs), ap (λ (v : Node). v.size) s.at_x, n.size)
 
   pub left : count < length c.nodes
   left = let long = h.full in omega (arith, ap (λ (l : List Block). length l) n.stood, length-append fs (b ∷ d ∷ cs))

@@ -5,15 +5,9 @@ use Rattle.offset_allocator.specs.Named.{names_at}
 use Rattle.offset_allocator.specs.Orders.{Chain, Among, flag, Linked, Masked, IsUnlisted, Orders, lists_of}
 use Rattle.offset_allocator.proofs.Find.{flag_name}
 use Rattle.offset_allocator.proofs.Walks.{relink, name_below}
-use Rattle.offset_allocator.proofs.Changes.{linked_after, lists_are, masked_set, masked_same}
+use Rattle.offset_allocator.proofs.Changes.{linked_after, masked_set, masked_same}
 
 module _ (none : ℕ) where
-  pub orders_same : (a b : List (List ℕ)) (n m : ℕ) → a ≡ b → n ≡ m → ◌≡◌ {A = Orders} (record { lists = a; limit = n }) (record { lists = b; limit = m })
-  orders_same a b n m e f = cc
-
-  pub linked_seen : (newer older heads : List ℕ) (ls : List (List ℕ)) → (Linked none) newer older heads ls → (Linked none) newer older heads ((lists_of none) older heads)
-  linked_seen newer older heads ls k = subst (λ z. (Linked none) newer older heads z) (sym ((lists_are none) newer older heads ls k)) k
-
   first_among : (m : ℕ) (nw od : ℕ → ℕ) (b h : ℕ) (xs : List ℕ) → (Chain none) m nw od b h xs → h ≢ none → Among h xs
   first_among m nw od b h [] c n = absurd (n c)
   first_among m nw od b h (x ∷ xs) c n = inl c.0

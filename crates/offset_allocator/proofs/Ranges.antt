@@ -271,17 +271,11 @@ kept n v w (Some g) h = h.kept
 pub allocated_holds : (n : ℕ) (v w : View) (g : Grant) → IsWellFormed v → Allocates n v w (Some g) → Holds n v w g
 allocated_holds n v w g f a = held n v w g (given n v w (allocate n a.rest v) (Some g) (gives_allocate n a.rest v f a.unused) a.answer a.view)
 
-pub allocated_keeps : (n : ℕ) (v w : View) (g : Option Grant) → IsWellFormed v → Allocates n v w g → KeepsRanges v w
-allocated_keeps n v w g f a = kept n v w g (given n v w (allocate n a.rest v) g (gives_allocate n a.rest v f a.unused) a.answer a.view)
-
 aligned_gives : (n align : ℕ) (v w : View) (g : Option Grant) → IsWellFormed v → Aligns n align v w g → Gives n v w g
 aligned_gives n align v w g f a = given n v w (allocate_aligned n align a.front a.rest v) g (gives_aligned n align a.front a.rest v f a.unused (well_aligned v f n align a.front a.rest a.unused a.apart)) a.answer a.view
 
 pub aligned_holds : (n align : ℕ) (v w : View) (g : Grant) → IsWellFormed v → Aligns n align v w (Some g) → Holds n v w g
 aligned_holds n align v w g f a = held n v w g (aligned_gives n align v w (Some g) f a)
-
-pub aligned_keeps : (n align : ℕ) (v w : View) (g : Option Grant) → IsWellFormed v → Aligns n align v w g → KeepsRanges v w
-aligned_keeps n align v w g f a = kept n v w g (aligned_gives n align v w g f a)
 
 -- a live name, and its range
 pub live_range : (x : ℕ) (v : View) (r : Range) → range_of x v ≡ Some r → IsLive x v

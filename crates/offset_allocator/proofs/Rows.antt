@@ -23,10 +23,6 @@ pub times-first : (k : ℕ) (bs : List Block) → first_or None bs ≡ Some k �
 times-first k [] e = cc
 times-first k (b ∷ bs) e = let same : b.name ≡ k = cc in omega (arith, one-eq k b.name same)
 
-pub last_or-first : (p q : Option ℕ) (bs : List Block) (z : ℕ) → first_or None bs ≡ Some z → last_or p bs ≡ last_or q bs
-last_or-first p q [] z e = cc
-last_or-first p q (b ∷ bs) z e = refl
-
 pub times-append : (k : ℕ) (fs bs : List Block) → named k (fs ++ bs) ≡ named k fs + named k bs
 times-append k [] bs = sym (zero-add _)
 times-append k (a ∷ fs) bs = omega (arith, times-append k fs bs)

@@ -6,7 +6,7 @@ use Rattle.offset_allocator.specs.Named.{Block, named, one}
 use Rattle.offset_allocator.proofs.Nodes.{node-put, node-put_other, length-put, spare-put, put-put}
 use Rattle.offset_allocator.proofs.Rows.{one-same, one-eq, times-join, times-append, times-first}
 use Rattle.offset_allocator.proofs.Found.{split_block-at, size_in-at}
-use Rattle.offset_allocator.proofs.Split.{IsCut, split-chain, each-le, spares-more, spares-same}
+use Rattle.offset_allocator.proofs.Split.{IsCut, split-chain, each-le, spares-more}
 use Rattle.offset_allocator.proofs.Spot.{Spot, spot, spare-below, stands-below}
 
 abbrev pub rest : Room → ℕ → ℕ → Node
@@ -146,13 +146,6 @@ module _ (c : Room) (last count x n y : ℕ) (h : SplitAt c last count x n y) wh
       (last-some last last' y s.back moved') in
       let e : split_block x n y (blocks c last) ≡ s.front ++ record s.here { size = n } ∷ record { name = y; size = s.here.size - n; used = false } ∷ s.back = ap (λ l. split_block x n y l) list ∙ ap (λ v. split_block v n y (s.front ++ s.here ∷ s.back)) (sym s.name_is) ∙ split_block-at s.front s.here s.back n y s.absent in
       rw e done
-
-  pub split-spares : (d : Room) → d.spare ≡ c.spare → spares c count ≡ spares d (count - 1) ++ y ∷ []
-  split-spares d e =
-      let long = chain.full in
-      let room = h.room in
-      let same : (count - 1) + 1 ≡ count = omega arith in
-      ap (λ k. spares c k) (sym same) ∙ rw (spares-same c d (count - 1) e, h.popped) (spares-more c (count - 1) (omega (arith, chain.stack)))
 
 pub if_some : (a : Option ℕ) (m : ℕ) → ((z : ℕ) → a ≡ Some z → z < m) → IfSome a (λ z. z < m)
 if_some None m h = tt

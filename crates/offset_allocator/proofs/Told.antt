@@ -37,10 +37,3 @@ module _ (max size limit : ℕ) (c : Cells) (last count top total x : ℕ) (s : 
       go (Some p) e =
           let h = s.well.below x l in
           sym used_told ∙ s.space.idle x (h)
-
-pub size_none : (x : ℕ) (bs : List Block) → is_used_at (place_of x bs) ≡ false → 0 ≡ size_at (place_of x bs)
-size_none x bs u = go (place_of x bs) u
-  where
-    go : (o : Option Place) → is_used_at o ≡ false → 0 ≡ size_at o
-    go None e = refl
-    go (Some p) e = sym (ap (λ (t : Bool). if t then p.block.size else 0) e)

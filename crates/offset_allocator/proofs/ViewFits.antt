@@ -134,11 +134,6 @@ refused_well n v w r f small sized a none room = go (is_short_of 1 v) refl (sym 
     go true e h = absurd (let l = leb-true v.max_allocs (length v.blocks + 1) e in omega arith)
     go false e h = refusal_if n v a.rest f small sized (taken n v) refl h
 
-pub nearly_taken : (n : ℕ) (v : View) → IsWellFormed v → n ≤ 4294967295 → v.size ≤ 4294967295 → (p : Place) → taken n v ≡ Some p → IsNearBestFit n p.block.size (free_sizes v.blocks)
-nearly_taken n v f small sized p e =
-    let t = taken_at n v f p e in
-    near_best_fit v f n small sized p t
-
 -- a grant is cut from a near best fit
 module _ (n : ℕ) (v : View) (w : IsWellFormed v) (small : n ≤ 4294967295) (sized : v.size ≤ 4294967295) where
   pub cut_at : (p : Place) → taken n v ≡ Some p → (g : Grant) → g.name ≡ p.block.name → IsCutNearBest n v g

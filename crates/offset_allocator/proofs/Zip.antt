@@ -1,12 +1,11 @@
 -- Tables of fields as one list of nodes.
-use Rattle.std.proofs.Common.{IfSome, ◌≡◌, ◌≢◌, ℕ, zero, suc, replicate, ◌+◌, ◌-◌, ◌++◌, ◌∷◌, [], length-append, ◌<◌, ◌≤◌, Bool, false, Option, None, Some, List, length, map, set, get_or, refl, sym, ◌∙◌, ap, arith, inl, inr, length-set, get_or-set_same, get_or-set_other}
+use Rattle.std.proofs.Common.{◌≡◌, ◌≢◌, ℕ, zero, suc, replicate, ◌+◌, ◌-◌, ◌++◌, ◌∷◌, [], length-append, ◌<◌, ◌≤◌, Bool, false, Option, None, List, length, map, set, get_or, refl, sym, ◌∙◌, ap, arith, inl, inr, length-set, get_or-set_same, get_or-set_other}
 use Rattle.std.specs.List.{range_with_len}
 use Rattle.std.proofs.lemmas.List.{same_lists, length-map, map-append, get_or_append_left}
 use Rattle.std.proofs.lemmas.List.FromFn.{length-map-range_with_len, get_or-map-range_with_len, length-range_with_len, get_or-range_with_len}
 use Rattle.std.proofs.Math.Seq.{get_or-append_seam}
 use Rattle.std.proofs.lemmas.Bool.{cases_eq, cases_lt}
-use Rattle.std.proofs.lemmas.Grind.{common_steps}
-use Rattle.offset_allocator.specs.Cells.{Cells, Links, Node, blank, nodes_of, node, put, link_of, links_of, AreShaped}
+use Rattle.offset_allocator.specs.Cells.{Cells, Links, Node, blank, nodes_of, node, put, links_of, AreShaped}
 use Rattle.offset_allocator.specs.View.{cells_of, AreEven}
 use Rattle.offset_allocator.specs.declared.tables.Tables.TheInside.{Inside}
 
@@ -109,17 +108,6 @@ module _ (os ss : List ℕ) (us : List Bool) (bs fs : List (Option ℕ)) (spare 
   pub read : node c.room x ≡ record { offset = get_or os x 0; size = get_or ss x 0; used = get_or us x false; before = get_or bs x None; after = get_or fs x None }
   unfolding node
   read = rw (← e) (get_or-nodes_of os ss us bs fs x blank in_offsets)
-
--- links, by number
-pub link_of-max : (max n : ℕ) → n ≡ max → link_of max n ≡ None
-link_of-max max n e = grind (arith, common_steps)
-
-pub link_of-some : (max n : ℕ) → n < max → link_of max n ≡ Some n
-link_of-some max n l = grind (arith, common_steps)
-
-pub some_below : (a : Option ℕ) (m k : ℕ) → IfSome a (λ z. z < m) → m ≤ k → IfSome a (λ z. z < k)
-some_below None m k h l = tt
-some_below (Some z) m k h l = omega arith
 
 pub shaped : {A B : Type 0} (max : ℕ) (number : A → ℕ) (t : Inside A B) → AreEven max t → max ≤ 4294967295 → AreShaped max (cells_of max number t)
 shaped max number t h w =
