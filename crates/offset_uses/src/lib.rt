@@ -7,6 +7,7 @@ ghost use Rattle.offset_allocator.specs.Ranges.{Range, range_of, AreDisjoint, Ke
 ghost use Rattle.offset_allocator.specs.Relations.{IsLive, IsBut};
 ghost use Rattle.offset_script.specs.Answers.{seen};
 ghost use Rattle.offset_script.specs.Limits.{is_powered};
+ghost use Rattle.offset_script.specs.Machine.{answers, start};
 
 use offset_allocator::{Accesses, Allocation, Allocator, NodeIndex, laws};
 use offset_script::{Answer, Command, play};
@@ -70,6 +71,7 @@ pub fn place_what_fits(vertices: &mut Allocator, n: u32) -> Option<(Allocation, 
 /// A request that lets the space grow where it would be refused.
 pub fn allocate_or_grow(space: &mut Allocator, n: u32, more: u32) -> Option<Allocation>
     ensures range { IfSome result (λ h. range_of h.name space.new ≡ Some (record { offset = h.offset; size = n })) }
+    ensures granted { 1 ≤ n → n ≤ largest_free space.old → IsSome result }
     ensures kept { KeepsRanges space.old space.new }
 {
     if let Some(allocation) = space.allocate(n) {
@@ -85,6 +87,7 @@ pub fn allocate_or_grow(space: &mut Allocator, n: u32, more: u32) -> Option<Allo
 /// A uniform buffer, at a multiple of 256 units, as a device asks for.
 pub fn place_uniforms(heap: &mut Allocator, n: u32) -> Option<Allocation>
     ensures aligned { IfSome result (λ h. h.offset % 256 ≡ 0) }
+    ensures granted { IsSome result ↔ ((length heap.old.blocks + 2 < heap.old.max_allocs) × (n + 255 ≤ largest_free heap.old)) }
     ensures range { IfSome result (λ h. range_of h.name heap.new ≡ Some (record { offset = h.offset; size = n })) }
     ensures kept { KeepsRanges heap.old heap.new }
 {
@@ -107,6 +110,7 @@ pub fn charge(space: &mut Allocator, tenant: &mut Tenant, n: u32) -> Option<Allo
     ensures quota { tenant.new.quota ≡ tenant.old.quota }
     ensures charged { IfSome result (λ _. tenant.new.held ≡ tenant.old.held + n) }
     ensures refused { result ≡ None → tenant.new ≡ tenant.old }
+    ensures granted { 1 ≤ n → tenant.old.held + n ≤ tenant.old.quota → (IsSome result ↔ (n ≤ largest_free space.old)) }
     ensures range { IfSome result (λ h. range_of h.name space.new ≡ Some (record { offset = h.offset; size = n })) }
     ensures kept { KeepsRanges space.old space.new }
 {
@@ -145,7 +149,8 @@ pub fn replay(
     requires low { 2 ≤ max_allocs }
     requires high { max_allocs + 1 < 65535 }
     requires powers { All (λ c. IsTrue (is_powered c)) commands.now }
-    ensures { IfOk result (λ both. map seen both.0.items ≡ map seen both.1.items) }
+    ensures answers { IfOk result (λ both. map seen both.0.items ≡ answers commands.now (start size max_allocs)) }
+    ensures alike { IfOk result (λ both. map seen both.0.items ≡ map seen both.1.items) }
 {
     let narrow = play::<u16>(alloc, size, max_allocs, commands)?;
     let wide = play::<u32>(alloc, size, max_allocs, commands)?;
