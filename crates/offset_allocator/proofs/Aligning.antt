@@ -6,7 +6,7 @@ use Rattle.offset_allocator.specs.Cells.{Cells, Room, node}
 use Rattle.offset_allocator.specs.Named.{Block, View, Place, Grant, Outcome, named, names_at, IsWellFormed, IsUnused, is_short_of, taken, allocate, allocate_aligned, padding_to, greatest, refused, granted, granted_at, serve, free_part, used_block, units, remove_all, put_all, remove, without, place_of}
 use Rattle.offset_allocator.specs.Space.{IsSpace, Stands, blocks, offset_in, size_in}
 use Rattle.offset_allocator.specs.Orders.{IsLeastFrom, class_lists, Binned}
-use Rattle.offset_allocator.specs.State.{Fields, IsSound, view_of, free_units}
+use Rattle.offset_allocator.specs.State.{Fields, AreSound, IsSound, shown, view_of, free_units}
 use Rattle.offset_allocator.specs.Relations.{Allocates, Aligns}
 use Rattle.offset_allocator.specs.Parts.{carved, carved_at, AreUnlisted}
 use Rattle.offset_allocator.proofs.Rows.{units-append}
@@ -56,17 +56,17 @@ free_part_units x zero bs = omega arith
 free_part_units x (suc n) bs = refl
 
 -- a request that is granted
-pub record AlignedCall (max size limit : ℕ) (c : Cells) (last count top free acc n align class x : ℕ) : Type 0 where
-  pub sound : IsSound max size limit c last count top free
+pub record AlignedCall (it : Fields) (n align class x : ℕ) : Type 0 where
+  pub sound : AreSound it
   pub big : 1 < align
   pub fits : n + align - 1 ≤ 4294967295
-  pub room : is_short_of 2 (view_of max size limit c last acc) ≡ false
-  pub least : IsLeastFrom (up (n + align - 1)) (class_lists max c.links) class
+  pub room : is_short_of 2 (shown it) ≡ false
+  pub least : IsLeastFrom (up (n + align - 1)) (class_lists it.max it.cells.links) class
   pub behind : List ℕ
-  pub first : names_at (class_lists max c.links) class ≡ x ∷ behind
+  pub first : names_at (class_lists it.max it.cells.links) class ≡ x ∷ behind
 
-module _ (max size limit : ℕ) (c : Cells) (last count top free acc n align class x : ℕ) (h : AlignedCall max size limit c last count top free acc n align class x) where
-  s : IsSound max size limit c last count top free
+module _ (it : Fields) (n align class x : ℕ) (h : AlignedCall it n align class x) where
+  s : AreSound it
   s = h.sound
 
   big : 1 < align
@@ -75,37 +75,37 @@ module _ (max size limit : ℕ) (c : Cells) (last count top free acc n align cla
   fits : n + align - 1 ≤ 4294967295
   fits = h.fits
 
-  room : is_short_of 2 (view_of max size limit c last acc) ≡ false
+  room : is_short_of 2 (shown it) ≡ false
   room = h.room
 
-  l : IsLeastFrom (up (n + align - 1)) (class_lists max c.links) class
+  l : IsLeastFrom (up (n + align - 1)) (class_lists it.max it.cells.links) class
   l = h.least
 
   abbrev xs : List ℕ
   xs = h.behind
 
-  first : names_at (class_lists max c.links) class ≡ x ∷ h.behind
+  first : names_at (class_lists it.max it.cells.links) class ≡ x ∷ h.behind
   first = h.first
 
   abbrev v : View
-  v = view_of max size limit c last acc
+  v = shown it
 
   abbrev bs : List Block
-  bs = blocks c.room last
+  bs = blocks it.cells.room it.last
 
   abbrev ls : List (List ℕ)
-  ls = class_lists max c.links
+  ls = class_lists it.max it.cells.links
 
   w : IsWellFormed v
-  w = well_counted (view_of max size limit c last 0) acc s.well
+  w = well_counted (shown (record it { accesses = 0 })) it.accesses s.well
 
   abbrev fields : Fields
-  fields = record { max = max; size = size; limit = limit; cells = c; last = last; count = count; top = top; free = free; accesses = acc }
+  fields = record { max = it.max; size = it.size; limit = it.limit; cells = it.cells; last = it.last; count = it.count; top = it.top; free = it.free; accesses = it.accesses }
 
   room_one : is_short_of 1 v ≡ false
   room_one = less_short v room
 
-  pub got : TakenHere (n + align - 1) (view_of max size limit c last acc) class x
+  pub got : TakenHere (n + align - 1) (shown it) class x
   got = grant.got fields (n + align - 1) class x s room_one l xs first
 
   abbrev p : Place
@@ -117,20 +117,20 @@ module _ (max size limit : ℕ) (c : Cells) (last count top free acc n align cla
   is_free : p.block.used ≡ false
   is_free = not_true p.block.used got.here.free
 
-  pub stands : Stands x (blocks c.room last)
+  pub stands : Stands x (blocks it.cells.room it.last)
   stands = grant.stands fields (n + align - 1) class x s room_one l xs first
 
-  pub x_below : x < length c.room.nodes
-  x_below = here_below c.room last count x s.space stands
+  pub x_below : x < length it.cells.room.nodes
+  x_below = here_below it.cells.room it.last it.count x s.space stands
 
-  pub listed_size : size_in x (blocks c.room last) ≡ got.place.block.size
+  pub listed_size : size_in x (blocks it.cells.room it.last) ≡ got.place.block.size
   listed_size = ap (size_in x) got.here.stood ∙ ap (λ y. size_in y (p.before ++ p.block ∷ p.after)) (sym got.name) ∙ size_in-at p.before p.block p.after got.here.alone
 
-  pub offset_is : (node c.room x).offset ≡ units got.place.before
-  offset_is = offset-told c.room last count x s.space stands ∙ ap (offset_in x) got.here.stood ∙ ap (λ y. offset_in y (p.before ++ p.block ∷ p.after)) (sym got.name) ∙ offset_in-at p.before p.block p.after got.here.alone
+  pub offset_is : (node it.cells.room x).offset ≡ units got.place.before
+  offset_is = offset-told it.cells.room it.last it.count x s.space stands ∙ ap (offset_in x) got.here.stood ∙ ap (λ y. offset_in y (p.before ++ p.block ∷ p.after)) (sym got.name) ∙ offset_in-at p.before p.block p.after got.here.alone
 
-  pub size_is : (node c.room x).size ≡ got.place.block.size
-  size_is = size-told c.room last count x s.space stands ∙ listed_size
+  pub size_is : (node it.cells.room x).size ≡ got.place.block.size
+  size_is = size-told it.cells.room it.last it.count x s.space stands ∙ listed_size
 
   pub enough : padding_to align (units got.place.before) + n ≤ got.place.block.size
   unfolding got
@@ -147,10 +147,10 @@ module _ (max size limit : ℕ) (c : Cells) (last count top free acc n align cla
       let f = s.space.fits in
       omega arith
 
-  pub free_enough : n ≤ free
+  pub free_enough : n ≤ it.free
   free_enough = let a = grant.free_enough fields (n + align - 1) class x s room_one l xs first in omega arith
 
-  pub unlisted : AreUnlisted (blocks c.room last) (slice_set (class_lists max c.links) class (without x (names_at (class_lists max c.links) class)))
+  pub unlisted : AreUnlisted (blocks it.cells.room it.last) (slice_set (class_lists it.max it.cells.links) class (without x (names_at (class_lists it.max it.cells.links) class)))
   unlisted y e = unlisted_removed y x class ls w.classes l.1 (unused_unlisted v w y e)
 
   removed : remove_all (p.block ∷ []) ls ≡ slice_set ls class (without x (names_at ls class))
@@ -159,7 +159,7 @@ module _ (max size limit : ℕ) (c : Cells) (last count top free acc n align cla
   placed : place_of x bs ≡ Some p
   placed = ap (place_of x) got.here.stood ∙ place_here x p.before p.block p.after (ap (λ i. named i p.before) (sym got.name) ∙ got.here.alone) (sym got.name)
 
-  had_free : free ≡ free_units p.before + (p.block.size + free_units p.after)
+  had_free : it.free ≡ free_units p.before + (p.block.size + free_units p.after)
   had_free = sym s.total ∙ ap free_units got.here.stood ∙ free_units-append p.before (p.block ∷ p.after) ∙ ap (λ k. free_units p.before + k) (free_units-free p.block p.after is_free)
 
   abbrev left : ℕ
@@ -180,8 +180,8 @@ module _ (max size limit : ℕ) (c : Cells) (last count top free acc n align cla
 
   named_parts : (f r : ℕ) → (0 < padding → IsUnused f v) → (0 < left → IsUnused r v) → (0 < padding → 0 < left → f ≢ r) → Names f r
   named_parts f r uf ur ne =
-      let many : 2 ≤ count = let k = spare_room max size limit c last count top free acc s room in omega arith in
-      let other = another max size limit c last count top free acc s many in
+      let many : 2 ≤ it.count = let k = spare_room it s room in omega arith in
+      let other = another it s many in
       elim (cases_lt 0 padding) [
         | inl a ↦ elim (cases_lt 0 left) [
           | inl b ↦ record { front = f; rest = r; front_unused = uf a; rest_unused = ur b; apart = ne a b; same_front = refl; same_rest = refl }
@@ -193,24 +193,24 @@ module _ (max size limit : ℕ) (c : Cells) (last count top free acc n align cla
         ]
       ]
 
-  unused_in : (y : ℕ) → (named y (blocks c.room last) ≡ 0) × (y < length c.room.nodes) → IsUnused y v
+  unused_in : (y : ℕ) → (named y (blocks it.cells.room it.last) ≡ 0) × (y < length it.cells.room.nodes) → IsUnused y v
   unused_in y h = record { below = let n = s.nodes in let b = h.1 in omega arith; absent = h.0 }
 
-  pub aligned : (d : Cells) (last' count' top' acc' f r : ℕ) → IsSpace d.room last' count' → Binned max d.links top' → length d.room.nodes ≡ length c.room.nodes
-      → blocks d.room last' ≡ carved x (padding_to align (units got.place.before)) n f r (blocks c.room last)
-      → class_lists max d.links ≡ put_all (free_part f (padding_to align (units got.place.before)) ++ used_block x n ∷ free_part r (got.place.block.size - (padding_to align (units got.place.before) + n))) (slice_set (class_lists max c.links) class (without x (names_at (class_lists max c.links) class)))
-      → (0 < padding_to align (units got.place.before) → (named f (blocks c.room last) ≡ 0) × (f < length c.room.nodes))
-      → (0 < got.place.block.size - (padding_to align (units got.place.before) + n) → (named r (blocks c.room last) ≡ 0) × (r < length c.room.nodes))
+  pub aligned : (d : Cells) (last' count' top' acc' f r : ℕ) → IsSpace d.room last' count' → Binned it.max d.links top' → length d.room.nodes ≡ length it.cells.room.nodes
+      → blocks d.room last' ≡ carved x (padding_to align (units got.place.before)) n f r (blocks it.cells.room it.last)
+      → class_lists it.max d.links ≡ put_all (free_part f (padding_to align (units got.place.before)) ++ used_block x n ∷ free_part r (got.place.block.size - (padding_to align (units got.place.before) + n))) (slice_set (class_lists it.max it.cells.links) class (without x (names_at (class_lists it.max it.cells.links) class)))
+      → (0 < padding_to align (units got.place.before) → (named f (blocks it.cells.room it.last) ≡ 0) × (f < length it.cells.room.nodes))
+      → (0 < got.place.block.size - (padding_to align (units got.place.before) + n) → (named r (blocks it.cells.room it.last) ≡ 0) × (r < length it.cells.room.nodes))
       → (0 < padding_to align (units got.place.before) → 0 < got.place.block.size - (padding_to align (units got.place.before) + n) → f ≢ r)
-      → IsSound max size limit d last' count' top' (free - n) × Aligns n align (view_of max size limit c last acc) (view_of max size limit d last' acc') (Some (record { name = x; offset = units got.place.before + padding_to align (units got.place.before) }))
+      → IsSound it.max it.size it.limit d last' count' top' (it.free - n) × Aligns n align (shown it) (view_of it.max it.size it.limit d last' acc') (Some (record { name = x; offset = units got.place.before + padding_to align (units got.place.before) }))
   aligned d last' count' top' acc' f r space bins nodes eb eo uf ur ne =
       let k = named_parts f r (λ q. unused_in f (uf q)) (λ q. unused_in r (ur q)) ne in
       let is = aligned_granted n align k.front k.rest v big fits room p got.is in
       let same : parts f r ≡ parts k.front k.rest = ap₂ (λ (a b : List Block). a ++ used_block p.block.name n ∷ b) k.same_front k.same_rest in
       let blocks_are : blocks d.room last' ≡ p.before ++ (parts k.front k.rest ++ p.after) = eb ∙ ap (carved_at padding n f r bs) placed ∙ ap (λ (q : List Block). p.before ++ (q ++ p.after)) same in
-      let order_is : class_lists max d.links ≡ put_all (parts k.front k.rest) (remove_all (p.block ∷ []) ls) =
+      let order_is : class_lists it.max d.links ≡ put_all (parts k.front k.rest) (remove_all (p.block ∷ []) ls) =
       eo ∙ ap (λ (i : ℕ). put_all (free_part f padding ++ used_block i n ∷ free_part r left) (slice_set ls class (without x (names_at ls class)))) (sym got.name) ∙ ap (put_all (parts f r)) (sym removed) ∙ ap (λ (q : List Block). put_all q (remove_all (p.block ∷ []) ls)) same in
-      let after_is : (j : ℕ) → view_of max size limit d last' j ≡ with_accesses j (allocate_aligned n align k.front k.rest v).view = λ j. grant.same_view v _ _ _ _ j blocks_are order_is ∙ ap (λ (o : Outcome). with_accesses j o.view) (sym is) in
+      let after_is : (j : ℕ) → view_of it.max it.size it.limit d last' j ≡ with_accesses j (allocate_aligned n align k.front k.rest v).view = λ j. grant.same_view v _ _ _ _ j blocks_are order_is ∙ ap (λ (o : Outcome). with_accesses j o.view) (sym is) in
       let told : Grant = record { name = x; offset = units p.before + padding } in
       let answered : Some told ≡ (allocate_aligned n align k.front k.rest v).grant = ap (λ (i : ℕ). let h : Grant = record { name = i; offset = units p.before + padding } in Some h) (sym got.name) ∙ ap (λ (o : Outcome). o.grant) (sym is) in
       let well = well_aligned v w n align k.front k.rest k.rest_unused (λ _. (k.front_unused, k.apart)) in
@@ -233,43 +233,43 @@ module _ (max size limit : ℕ) (c : Cells) (last count top free acc n align cla
       append_none (b ∷ l) = ap (λ t. b ∷ t) (append_none l)
 
   -- the same over what the code reads
-  pub aligned_call : (t : Cells) (offset whole : ℕ) → t.room ≡ c.room → class_lists max t.links ≡ slice_set (class_lists max c.links) class (without x (names_at (class_lists max c.links) class)) → offset ≡ (node t.room x).offset → whole ≡ (node t.room x).size
-      → (d : Cells) (last' count' top' acc' f r : ℕ) → IsSpace d.room last' count' → Binned max d.links top' → length d.room.nodes ≡ length t.room.nodes
-      → blocks d.room last' ≡ carved x (padding_to align offset) n f r (blocks t.room last)
-      → class_lists max d.links ≡ put_all (free_part f (padding_to align offset) ++ used_block x n ∷ free_part r (whole - (padding_to align offset + n))) (class_lists max t.links)
-      → (0 < padding_to align offset → (named f (blocks t.room last) ≡ 0) × (f < length t.room.nodes))
-      → (0 < whole - (padding_to align offset + n) → (named r (blocks t.room last) ≡ 0) × (r < length t.room.nodes))
+  pub aligned_call : (t : Cells) (offset whole : ℕ) → t.room ≡ it.cells.room → class_lists it.max t.links ≡ slice_set (class_lists it.max it.cells.links) class (without x (names_at (class_lists it.max it.cells.links) class)) → offset ≡ (node t.room x).offset → whole ≡ (node t.room x).size
+      → (d : Cells) (last' count' top' acc' f r : ℕ) → IsSpace d.room last' count' → Binned it.max d.links top' → length d.room.nodes ≡ length t.room.nodes
+      → blocks d.room last' ≡ carved x (padding_to align offset) n f r (blocks t.room it.last)
+      → class_lists it.max d.links ≡ put_all (free_part f (padding_to align offset) ++ used_block x n ∷ free_part r (whole - (padding_to align offset + n))) (class_lists it.max t.links)
+      → (0 < padding_to align offset → (named f (blocks t.room it.last) ≡ 0) × (f < length t.room.nodes))
+      → (0 < whole - (padding_to align offset + n) → (named r (blocks t.room it.last) ≡ 0) × (r < length t.room.nodes))
       → (0 < padding_to align offset → 0 < whole - (padding_to align offset + n) → f ≢ r)
-      → IsSound max size limit d last' count' top' (free - n) × Aligns n align (view_of max size limit c last acc) (view_of max size limit d last' acc') (Some (record { name = x; offset = offset + padding_to align offset }))
+      → IsSound it.max it.size it.limit d last' count' top' (it.free - n) × Aligns n align (shown it) (view_of it.max it.size it.limit d last' acc') (Some (record { name = x; offset = offset + padding_to align offset }))
   aligned_call t offset whole rm lists oe we d last' count' top' acc' f r =
-      let Q : Room → List (List ℕ) → ℕ → ℕ → Type 0 = λ room ol o wh. IsSpace d.room last' count' → Binned max d.links top' → length d.room.nodes ≡ length room.nodes
-      → blocks d.room last' ≡ carved x (padding_to align o) n f r (blocks room last)
-      → class_lists max d.links ≡ put_all (free_part f (padding_to align o) ++ used_block x n ∷ free_part r (wh - (padding_to align o + n))) ol
-      → (0 < padding_to align o → (named f (blocks room last) ≡ 0) × (f < length room.nodes))
-      → (0 < wh - (padding_to align o + n) → (named r (blocks room last) ≡ 0) × (r < length room.nodes))
+      let Q : Room → List (List ℕ) → ℕ → ℕ → Type 0 = λ room ol o wh. IsSpace d.room last' count' → Binned it.max d.links top' → length d.room.nodes ≡ length room.nodes
+      → blocks d.room last' ≡ carved x (padding_to align o) n f r (blocks room it.last)
+      → class_lists it.max d.links ≡ put_all (free_part f (padding_to align o) ++ used_block x n ∷ free_part r (wh - (padding_to align o + n))) ol
+      → (0 < padding_to align o → (named f (blocks room it.last) ≡ 0) × (f < length room.nodes))
+      → (0 < wh - (padding_to align o + n) → (named r (blocks room it.last) ≡ 0) × (r < length room.nodes))
       → (0 < padding_to align o → 0 < wh - (padding_to align o + n) → f ≢ r)
-      → IsSound max size limit d last' count' top' (free - n) × Aligns n align (view_of max size limit c last acc) (view_of max size limit d last' acc') (Some (record { name = x; offset = o + padding_to align o })) in
-      let first_is : Q c.room (slice_set (class_lists max c.links) class (without x (names_at (class_lists max c.links) class))) (units got.place.before) got.place.block.size = aligned d last' count' top' acc' f r in
+      → IsSound it.max it.size it.limit d last' count' top' (it.free - n) × Aligns n align (shown it) (view_of it.max it.size it.limit d last' acc') (Some (record { name = x; offset = o + padding_to align o })) in
+      let first_is : Q it.cells.room (slice_set (class_lists it.max it.cells.links) class (without x (names_at (class_lists it.max it.cells.links) class))) (units got.place.before) got.place.block.size = aligned d last' count' top' acc' f r in
       let o_is : offset ≡ units got.place.before = oe ∙ ap (λ (m : Room). (node m x).offset) rm ∙ offset_is in
       let w_is : whole ≡ got.place.block.size = we ∙ ap (λ (m : Room). (node m x).size) rm ∙ size_is in
-      subst (λ (m : Room). Q m (class_lists max t.links) offset whole) (sym rm)
-      (subst (λ (ol : List (List ℕ)). Q c.room ol offset whole) (sym lists)
-      (subst (λ (o : ℕ). Q c.room (slice_set (class_lists max c.links) class (without x (names_at (class_lists max c.links) class))) o whole) (sym o_is)
-      (subst (λ (k : ℕ). Q c.room (slice_set (class_lists max c.links) class (without x (names_at (class_lists max c.links) class))) (units got.place.before) k) (sym w_is) first_is)))
+      subst (λ (m : Room). Q m (class_lists it.max t.links) offset whole) (sym rm)
+      (subst (λ (ol : List (List ℕ)). Q it.cells.room ol offset whole) (sym lists)
+      (subst (λ (o : ℕ). Q it.cells.room (slice_set (class_lists it.max it.cells.links) class (without x (names_at (class_lists it.max it.cells.links) class))) o whole) (sym o_is)
+      (subst (λ (k : ℕ). Q it.cells.room (slice_set (class_lists it.max it.cells.links) class (without x (names_at (class_lists it.max it.cells.links) class))) (units got.place.before) k) (sym w_is) first_is)))
 
   -- what the call of `carve` asks for
-  pub carve_asks : (t : Cells) (offset whole : ℕ) → t.room ≡ c.room → class_lists max t.links ≡ slice_set (class_lists max c.links) class (without x (names_at (class_lists max c.links) class)) → offset ≡ (node t.room x).offset → whole ≡ (node t.room x).size
-      → Stands x (blocks t.room last) × (padding_to align offset + n ≤ whole) × (padding_to align offset + n + (whole - (padding_to align offset + n)) ≡ size_in x (blocks t.room last)) × AreUnlisted (blocks t.room last) (class_lists max t.links) × (offset + padding_to align offset < 2 ^ 32)
+  pub carve_asks : (t : Cells) (offset whole : ℕ) → t.room ≡ it.cells.room → class_lists it.max t.links ≡ slice_set (class_lists it.max it.cells.links) class (without x (names_at (class_lists it.max it.cells.links) class)) → offset ≡ (node t.room x).offset → whole ≡ (node t.room x).size
+      → Stands x (blocks t.room it.last) × (padding_to align offset + n ≤ whole) × (padding_to align offset + n + (whole - (padding_to align offset + n)) ≡ size_in x (blocks t.room it.last)) × AreUnlisted (blocks t.room it.last) (class_lists it.max t.links) × (offset + padding_to align offset < 2 ^ 32)
   carve_asks t offset whole rm lists oe we =
       let o_is : offset ≡ units got.place.before = oe ∙ ap (λ (m : Room). (node m x).offset) rm ∙ offset_is in
       let w_is : whole ≡ got.place.block.size = we ∙ ap (λ (m : Room). (node m x).size) rm ∙ size_is in
       let inside : padding_to align offset + n ≤ whole = subst (λ (o : ℕ). padding_to align o + n ≤ whole) (sym o_is) (subst (λ (k : ℕ). padding_to align (units got.place.before) + n ≤ k) (sym w_is) enough) in
-      let sized : size_in x (blocks t.room last) ≡ whole = ap (λ (m : Room). size_in x (blocks m last)) rm ∙ listed_size ∙ sym w_is in
+      let sized : size_in x (blocks t.room it.last) ≡ whole = ap (λ (m : Room). size_in x (blocks m it.last)) rm ∙ listed_size ∙ sym w_is in
       let sum : padding_to align offset + n + (whole - (padding_to align offset + n)) ≡ whole = all_of (padding_to align offset + n) whole inside in (
-        subst (λ (m : Room). Stands x (blocks m last)) (sym rm) stands,
+        subst (λ (m : Room). Stands x (blocks m it.last)) (sym rm) stands,
         inside,
         sum ∙ sym sized,
-        subst (λ (m : Room). AreUnlisted (blocks m last) (class_lists max t.links)) (sym rm) (subst (λ (ol : List (List ℕ)). AreUnlisted (blocks c.room last) ol) (sym lists) unlisted),
+        subst (λ (m : Room). AreUnlisted (blocks m it.last) (class_lists it.max t.links)) (sym rm) (subst (λ (ol : List (List ℕ)). AreUnlisted (blocks it.cells.room it.last) ol) (sym lists) unlisted),
         subst (λ (o : ℕ). o + padding_to align o < 2 ^ 32) (sym o_is) offset_fits,
       )
     where
@@ -277,11 +277,11 @@ module _ (max size limit : ℕ) (c : Cells) (last count top free acc n align cla
       all_of a b q = omega arith
 
 -- a request that is refused, or that any offset serves
-module _ (max size limit : ℕ) (c : Cells) (last count top free acc n align : ℕ) (s : IsSound max size limit c last count top free) where
+module _ (it : Fields) (n align : ℕ) (s : AreSound it) where
   abbrev was : View
-  was = view_of max size limit c last acc
+  was = shown it
 
-  pub left_as_it_was : (acc' f r : ℕ) → IsUnused r (view_of max size limit c last acc) → (is_short_of 2 (view_of max size limit c last acc) ≡ false → IsUnused f (view_of max size limit c last acc) × (f ≢ r)) → allocate_aligned n align f r (view_of max size limit c last acc) ≡ refused (view_of max size limit c last acc) → Aligns n align (view_of max size limit c last acc) (view_of max size limit c last acc') None
+  pub left_as_it_was : (acc' f r : ℕ) → IsUnused r (shown it) → (is_short_of 2 (shown it) ≡ false → IsUnused f (shown it) × (f ≢ r)) → allocate_aligned n align f r (shown it) ≡ refused (shown it) → Aligns n align (shown it) (shown (record it { accesses = acc' })) None
   left_as_it_was acc' f r u a e = record {
     front = f;
     rest = r;
@@ -295,27 +295,27 @@ module _ (max size limit : ℕ) (c : Cells) (last count top free acc n align : �
   record Pair : Type 0 where
     front : ℕ
     rest : ℕ
-    unused : IsUnused rest (view_of max size limit c last acc)
-    apart : is_short_of 2 (view_of max size limit c last acc) ≡ false → IsUnused front (view_of max size limit c last acc) × (front ≢ rest)
+    unused : IsUnused rest (shown it)
+    apart : is_short_of 2 (shown it) ≡ false → IsUnused front (shown it) × (front ≢ rest)
 
   pair : Pair
   pair =
-      let u = some_unused max size limit c last count top free acc s in
-      elim (cases_lt 2 count) [
-        | inl l ↦ let o = another max size limit c last count top free acc s (omega arith) u.0 in record { front = o.0; rest = u.0; unused = u.1; apart = λ _. (o.1, o.2) }
-        | inr l ↦ record { front = u.0; rest = u.0; unused = u.1; apart = λ e. absurd (true≢false (sym (no_room max size limit c last count top free acc s l) ∙ e)) }
+      let u = some_unused it s in
+      elim (cases_lt 2 it.count) [
+        | inl l ↦ let o = another it s (omega arith) u.0 in record { front = o.0; rest = u.0; unused = u.1; apart = λ _. (o.1, o.2) }
+        | inr l ↦ record { front = u.0; rest = u.0; unused = u.1; apart = λ e. absurd (true≢false (sym (no_room it s l) ∙ e)) }
       ]
 
-  pub refused_full : (acc' : ℕ) → 1 < align → count ≤ 2 → Aligns n align (view_of max size limit c last acc) (view_of max size limit c last acc') None
-  refused_full acc' big l = left_as_it_was acc' pair.front pair.rest pair.unused pair.apart (aligned_short n align pair.front pair.rest was big (no_room max size limit c last count top free acc s l))
+  pub refused_full : (acc' : ℕ) → 1 < align → it.count ≤ 2 → Aligns n align (shown it) (shown (record it { accesses = acc' })) None
+  refused_full acc' big l = left_as_it_was acc' pair.front pair.rest pair.unused pair.apart (aligned_short n align pair.front pair.rest was big (no_room it s l))
 
-  pub refused_past : (acc' : ℕ) → 1 < align → greatest < n + align - 1 → Aligns n align (view_of max size limit c last acc) (view_of max size limit c last acc') None
+  pub refused_past : (acc' : ℕ) → 1 < align → greatest < n + align - 1 → Aligns n align (shown it) (shown (record it { accesses = acc' })) None
   refused_past acc' big l = left_as_it_was acc' pair.front pair.rest pair.unused pair.apart (aligned_past n align pair.front pair.rest was big l)
 
-  pub refused_none : (acc' : ℕ) → 1 < align → n + align - 1 ≤ greatest → 2 < count → ((k : ℕ) → up (n + align - 1) ≤ k → k < 256 → names_at (class_lists max c.links) k ≡ []) → Aligns n align (view_of max size limit c last acc) (view_of max size limit c last acc') None
+  pub refused_none : (acc' : ℕ) → 1 < align → n + align - 1 ≤ greatest → 2 < it.count → ((k : ℕ) → up (n + align - 1) ≤ k → k < 256 → names_at (class_lists it.max it.cells.links) k ≡ []) → Aligns n align (shown it) (shown (record it { accesses = acc' })) None
   refused_none acc' big l room none =
-      let well = well_counted (view_of max size limit c last 0) acc s.well in
-      left_as_it_was acc' pair.front pair.rest pair.unused pair.apart (aligned_none n align pair.front pair.rest was big l (some_room max size limit c last count top free acc s room) (untaken (n + align - 1) was well none))
+      let well = well_counted (shown (record it { accesses = 0 })) it.accesses s.well in
+      left_as_it_was acc' pair.front pair.rest pair.unused pair.apart (aligned_none n align pair.front pair.rest was big l (some_room it s room) (untaken (n + align - 1) was well none))
 
 -- an aligned request with alignment 1
 pub aligned_from : (n align : ℕ) (v w : View) (r : Option Grant) → align ≤ 1 → (is_short_of 2 v ≡ false → (z : ℕ) → (y : ℕ) × IsUnused y v × (y ≢ z)) → Allocates n v w r → Aligns n align v w r

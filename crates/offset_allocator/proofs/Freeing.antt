@@ -6,7 +6,7 @@ use Rattle.offset_allocator.specs.Cells.{Cells, Node}
 use Rattle.offset_allocator.specs.Named.{Block, View, Place, one, is_free, named, listed, names_at, IsWellFormed, units, place_of, is_used_at, free_end, without_end, free_start, without_start, remove_all, put_first, free_block, free, freed_at, joined, remove, times}
 use Rattle.offset_allocator.specs.Space.{IsSpace, Stands, blocks, mark_block, size_in}
 use Rattle.offset_allocator.specs.Orders.{IsUnlisted, class_lists, Binned}
-use Rattle.offset_allocator.specs.State.{Fields, IsSound, view_of, free_units, AreListed, AreFiled, merge_before, merged_before, gone_before, merge_after, merged_after, gone_after}
+use Rattle.offset_allocator.specs.State.{Fields, IsSound, view_of, free_units, AreListed, AreFiled, merge_before, merged_before, gone_before, merge_after, merged_after, gone_after, AreSound, shown}
 use Rattle.offset_allocator.proofs.Joints.{with_accesses}
 use Rattle.offset_allocator.proofs.Rows.{one-eq, times-append}
 use Rattle.offset_allocator.proofs.Marks.{mark_block-at}
@@ -71,7 +71,7 @@ pub named_live : (u v : View) (x y : ℕ) → u ≡ v → y ≡ x → is_used_at
 named_live u v x y e q h = ap₂ (λ (i : ℕ) (z : View). is_used_at (place_of i z.blocks)) (sym q) e ∙ h
 
 -- a release: the field values at its start, and the name of a used block
-module _ (f : Fields) (s : IsSound f.max f.size f.limit f.cells f.last f.count f.top f.free) (x : ℕ) (live : is_used_at (place_of x (blocks f.cells.room f.last)) ≡ true) where
+module _ (f : Fields) (s : AreSound f) (x : ℕ) (live : is_used_at (place_of x (blocks f.cells.room f.last)) ≡ true) where
   abbrev max : ℕ
   max = f.max
 
@@ -85,7 +85,7 @@ module _ (f : Fields) (s : IsSound f.max f.size f.limit f.cells f.last f.count f
   total = f.free
 
   abbrev v : View
-  v = view_of f.max f.size f.limit f.cells f.last f.accesses
+  v = shown f
 
   abbrev bs : List Block
   bs = blocks c.room last
@@ -94,7 +94,7 @@ module _ (f : Fields) (s : IsSound f.max f.size f.limit f.cells f.last f.count f
   ls = class_lists max c.links
 
   w : IsWellFormed v
-  w = well_counted (view_of f.max f.size f.limit f.cells f.last 0) f.accesses s.well
+  w = well_counted (shown (record f { accesses = 0 })) f.accesses s.well
 
   pub stands : Stands x (blocks f.cells.room f.last)
   stands = live_stands x bs live
@@ -212,7 +212,7 @@ module _ (f : Fields) (s : IsSound f.max f.size f.limit f.cells f.last f.count f
   pub freed : (d : Cells) (last' count' top' acc' : ℕ) → IsSpace d.room last' count' → Binned max d.links top' → length d.room.nodes ≡ length f.cells.room.nodes
       → blocks d.room last' ≡ freed_blocks
       → class_lists f.max d.links ≡ put_first (down whole) x left_twice
-      → IsSound f.max f.size f.limit d last' count' top' (f.free + at.place.block.size) × (view_of f.max f.size f.limit d last' acc' ≡ with_accesses acc' (free x (view_of f.max f.size f.limit f.cells f.last f.accesses)))
+      → IsSound f.max f.size f.limit d last' count' top' (f.free + at.place.block.size) × (view_of f.max f.size f.limit d last' acc' ≡ with_accesses acc' (free x (shown f)))
   freed d last' count' top' acc' space bins nodes eb eo =
       let gone : List Block = free_end fs ++ ((b ∷ []) ++ free_start cs) in
       let sum : units gone ≡ (units (free_end fs) + b.size) + units (free_start cs) = tally_append (λ (d : Block). d.size) (free_end fs) (b ∷ free_start cs) ∙ omega arith in

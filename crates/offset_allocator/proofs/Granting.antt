@@ -6,7 +6,7 @@ use Rattle.offset_allocator.specs.Cells.{Cells, Room}
 use Rattle.offset_allocator.specs.Named.{Block, View, Place, Grant, Outcome, named, names_at, IsWellFormed, IsUnused, is_short_of, allocate, refused, free_part, used_block, free_block, units, remove_all, put_all, remove, put_first, without}
 use Rattle.offset_allocator.specs.Space.{IsSpace, Stands, blocks, mark_block, split_block, offset_in, size_in}
 use Rattle.offset_allocator.specs.Orders.{IsUnlisted, IsLeastFrom, class_lists, Binned}
-use Rattle.offset_allocator.specs.State.{Fields, IsSound, view_of, free_units}
+use Rattle.offset_allocator.specs.State.{Fields, AreSound, IsSound, shown, view_of, free_units}
 use Rattle.offset_allocator.specs.Relations.{Allocates}
 use Rattle.offset_allocator.proofs.Joints.{with_accesses}
 use Rattle.offset_allocator.proofs.Rows.{one-eq, times-append}
@@ -21,7 +21,7 @@ pub same_view : (v : View) (bs bs' : List Block) (os os' : List (List ℕ)) (k :
 same_view v bs bs' os os' k e f = ap₂ (λ (b : List Block) (o : List (List ℕ)). record v { blocks = b; order = o; accesses = k }) e f
 
 -- a grant: the field values at its start, a class with a free block for n, and the first name there
-module _ (f : Fields) (n class x : ℕ) (s : IsSound f.max f.size f.limit f.cells f.last f.count f.top f.free) (room : is_short_of 1 (view_of f.max f.size f.limit f.cells f.last f.accesses) ≡ false) (l : IsLeastFrom (up n) (class_lists f.max f.cells.links) class) (xs : List ℕ) (first : names_at (class_lists f.max f.cells.links) class ≡ x ∷ xs) where
+module _ (f : Fields) (n class x : ℕ) (s : AreSound f) (room : is_short_of 1 (shown f) ≡ false) (l : IsLeastFrom (up n) (class_lists f.max f.cells.links) class) (xs : List ℕ) (first : names_at (class_lists f.max f.cells.links) class ≡ x ∷ xs) where
   abbrev max : ℕ
   max = f.max
 
@@ -32,7 +32,7 @@ module _ (f : Fields) (n class x : ℕ) (s : IsSound f.max f.size f.limit f.cell
   last = f.last
 
   abbrev v : View
-  v = view_of f.max f.size f.limit f.cells f.last f.accesses
+  v = shown f
 
   abbrev bs : List Block
   bs = blocks c.room last
@@ -40,11 +40,11 @@ module _ (f : Fields) (n class x : ℕ) (s : IsSound f.max f.size f.limit f.cell
   abbrev ls : List (List ℕ)
   ls = class_lists max c.links
 
-  pub w : IsWellFormed (view_of f.max f.size f.limit f.cells f.last f.accesses)
-  w = well_counted (view_of f.max f.size f.limit f.cells f.last 0) f.accesses s.well
+  pub w : IsWellFormed (shown f)
+  w = well_counted (shown (record f { accesses = 0 })) f.accesses s.well
 
-  pub got : TakenHere n (view_of f.max f.size f.limit f.cells f.last f.accesses) class x
-  got = taken_here n (view_of f.max f.size f.limit f.cells f.last f.accesses) w class x xs l first
+  pub got : TakenHere n (shown f) class x
+  got = taken_here n (shown f) w class x xs l first
 
   -- the block that is taken
   abbrev p : Place
@@ -76,13 +76,13 @@ module _ (f : Fields) (n class x : ℕ) (s : IsSound f.max f.size f.limit f.cell
   offset_marked d e = ap (offset_in x) (e ∙ marked) ∙ ap (λ y. offset_in y (p.before ++ record p.block { used = true } ∷ p.after)) (sym got.name) ∙ offset_in-at p.before (record p.block { used = true }) p.after alone
 
   -- a name that is new among the marked blocks is unused
-  pub unused_rest : (d : Room) (y : ℕ) → blocks d f.last ≡ mark_block x true (blocks f.cells.room f.last) → named y (blocks d f.last) ≡ 0 → y < length f.cells.room.nodes → IsUnused y (view_of f.max f.size f.limit f.cells f.last f.accesses)
+  pub unused_rest : (d : Room) (y : ℕ) → blocks d f.last ≡ mark_block x true (blocks f.cells.room f.last) → named y (blocks d f.last) ≡ 0 → y < length f.cells.room.nodes → IsUnused y (shown f)
   unused_rest d y e t b = record {
     below = omega (arith, s.nodes);
     absent = ap (λ z. named y z) got.here.stood ∙ (let q = ap (λ z. named y z) (e ∙ marked) in omega (arith, t, times-append y p.before (p.block ∷ p.after), times-append y p.before (record p.block { used = true } ∷ p.after)));
   }
 
-  pub rest_unlisted : (y : ℕ) → IsUnused y (view_of f.max f.size f.limit f.cells f.last f.accesses) → IsUnlisted y (slice_set (class_lists f.max f.cells.links) class (without x (names_at (class_lists f.max f.cells.links) class)))
+  pub rest_unlisted : (y : ℕ) → IsUnused y (shown f) → IsUnlisted y (slice_set (class_lists f.max f.cells.links) class (without x (names_at (class_lists f.max f.cells.links) class)))
   rest_unlisted y u = unlisted_removed y x class ls w.classes l.1 (unused_unlisted v w y u.absent)
 
   removed : remove_all (p.block ∷ []) ls ≡ slice_set ls class (without x (names_at ls class))
@@ -105,7 +105,7 @@ module _ (f : Fields) (n class x : ℕ) (s : IsSound f.max f.size f.limit f.cell
 
   concluded : (d : Cells) (last' count' top' acc' y : ℕ) → IsSpace d.room last' count' → Binned max d.links top' → length d.room.nodes ≡ length f.cells.room.nodes → IsUnused y v
       → blocks d.room last' ≡ new_blocks y → class_lists f.max d.links ≡ new_order y → free_units (blocks d.room last') ≡ f.free - n
-      → IsSound f.max f.size f.limit d last' count' top' (f.free - n) × Allocates n (view_of f.max f.size f.limit f.cells f.last f.accesses) (view_of f.max f.size f.limit d last' acc') (Some (record { name = x; offset = units p.before }))
+      → IsSound f.max f.size f.limit d last' count' top' (f.free - n) × Allocates n (shown f) (view_of f.max f.size f.limit d last' acc') (Some (record { name = x; offset = units p.before }))
   concluded d last' count' top' acc' y space bins nodes unused blocks_are order_is total =
       let is = allocate_granted n y v p room got.is in
       let left : (k : ℕ) → view_of f.max f.size f.limit d last' k ≡ with_accesses k (allocate n y v).view = λ k. same_view v _ _ _ _ k blocks_are order_is ∙ ap (λ (o : Outcome). with_accesses k o.view) (sym is) in
@@ -124,8 +124,8 @@ module _ (f : Fields) (n class x : ℕ) (s : IsSound f.max f.size f.limit f.cell
 
   -- the whole of it is granted
   pub granted_whole : (d : Cells) (top' acc' : ℕ) → got.place.block.size ≡ n → IsSpace d.room f.last f.count → blocks d.room f.last ≡ mark_block x true (blocks f.cells.room f.last) → Binned max d.links top'
-      → class_lists f.max d.links ≡ slice_set (class_lists f.max f.cells.links) class (without x (names_at (class_lists f.max f.cells.links) class)) → length d.room.nodes ≡ length f.cells.room.nodes → (y : ℕ) → IsUnused y (view_of f.max f.size f.limit f.cells f.last f.accesses)
-      → IsSound f.max f.size f.limit d f.last f.count top' (f.free - n) × Allocates n (view_of f.max f.size f.limit f.cells f.last f.accesses) (view_of f.max f.size f.limit d f.last acc') (Some (record { name = x; offset = units got.place.before }))
+      → class_lists f.max d.links ≡ slice_set (class_lists f.max f.cells.links) class (without x (names_at (class_lists f.max f.cells.links) class)) → length d.room.nodes ≡ length f.cells.room.nodes → (y : ℕ) → IsUnused y (shown f)
+      → IsSound f.max f.size f.limit d f.last f.count top' (f.free - n) × Allocates n (shown f) (view_of f.max f.size f.limit d f.last acc') (Some (record { name = x; offset = units got.place.before }))
   granted_whole d top' acc' whole space eb bins eo nodes y unused =
       let none : free_part y (p.block.size - (0 + n)) ≡ [] = free_part-none y (p.block.size - (0 + n)) (omega arith) in
       let b₁ : record p.block { used = true } ≡ used_block p.block.name n = ap (λ (k : ℕ). used_block p.block.name k) whole in
@@ -138,8 +138,8 @@ module _ (f : Fields) (n class x : ℕ) (s : IsSound f.max f.size f.limit f.cell
   pub granted_part : (d : Cells) (e : Room) (last' count' top' acc' y : ℕ) → n < got.place.block.size → IsSpace d.room last' count' → blocks e f.last ≡ mark_block x true (blocks f.cells.room f.last)
       → blocks d.room last' ≡ split_block x n y (blocks e f.last) → Binned max d.links top'
       → class_lists f.max d.links ≡ slice_set (slice_set (class_lists f.max f.cells.links) class (without x (names_at (class_lists f.max f.cells.links) class))) (down (got.place.block.size - n)) (y ∷ names_at (slice_set (class_lists f.max f.cells.links) class (without x (names_at (class_lists f.max f.cells.links) class))) (down (got.place.block.size - n)))
-      → length d.room.nodes ≡ length f.cells.room.nodes → IsUnused y (view_of f.max f.size f.limit f.cells f.last f.accesses)
-      → IsSound f.max f.size f.limit d last' count' top' (f.free - n) × Allocates n (view_of f.max f.size f.limit f.cells f.last f.accesses) (view_of f.max f.size f.limit d last' acc') (Some (record { name = x; offset = units got.place.before }))
+      → length d.room.nodes ≡ length f.cells.room.nodes → IsUnused y (shown f)
+      → IsSound f.max f.size f.limit d last' count' top' (f.free - n) × Allocates n (shown f) (view_of f.max f.size f.limit d last' acc') (Some (record { name = x; offset = units got.place.before }))
   granted_part d e last' count' top' acc' y part space em eb bins eo nodes unused =
       let r : p.block.size - (0 + n) ≡ p.block.size - n = omega arith in
       let some : free_part y (p.block.size - (0 + n)) ≡ free_block y (p.block.size - n) ∷ [] = ap (free_part y) r ∙ free_part-some y (p.block.size - n) (omega arith) in
@@ -151,14 +151,14 @@ module _ (f : Fields) (n class x : ℕ) (s : IsSound f.max f.size f.limit f.cell
       (ap free_units cut ∙ left_free (used_block p.block.name n) (free_block y (p.block.size - n) ∷ p.after) refl ∙ ap (λ k. free_units p.before + k) (free_units-free (free_block y (p.block.size - n)) p.after refl) ∙ omega (arith, had_free, part))
 
 -- a request that is refused
-module _ (max size limit : ℕ) (c : Cells) (last count top free acc n : ℕ) (s : IsSound max size limit c last count top free) where
+module _ (it : Fields) (n : ℕ) (s : AreSound it) where
   abbrev was : View
-  was = view_of max size limit c last acc
+  was = shown it
 
   known : IsWellFormed was
-  known = well_counted (view_of max size limit c last 0) acc s.well
+  known = well_counted (shown (record it { accesses = 0 })) it.accesses s.well
 
-  left_as_it_was : (y acc' : ℕ) → IsUnused y was → allocate n y was ≡ refused was → Allocates n (view_of max size limit c last acc) (view_of max size limit c last acc') None
+  left_as_it_was : (y acc' : ℕ) → IsUnused y was → allocate n y was ≡ refused was → Allocates n (shown it) (shown (record it { accesses = acc' })) None
   left_as_it_was y acc' u e = record {
     rest = y;
     unused = u;
@@ -166,14 +166,14 @@ module _ (max size limit : ℕ) (c : Cells) (last count top free acc n : ℕ) (s
     view = ap (λ (o : Outcome). with_accesses acc' o.view) (sym e);
   }
 
-  pub is_short : count ≤ 1 → is_short_of 1 (view_of max size limit c last acc) ≡ true
-  is_short h = let long = s.space.full in le-leb limit (length (blocks c.room last) + 1) (omega (arith, s.nodes))
+  pub is_short : it.count ≤ 1 → is_short_of 1 (shown it) ≡ true
+  is_short h = let long = s.space.full in le-leb it.limit (length (blocks it.cells.room it.last) + 1) (omega (arith, s.nodes))
 
-  pub is_not_short : 1 < count → is_short_of 1 (view_of max size limit c last acc) ≡ false
-  is_not_short h = let long = s.space.full in lt-leb limit (length (blocks c.room last) + 1) (omega (arith, s.nodes))
+  pub is_not_short : 1 < it.count → is_short_of 1 (shown it) ≡ false
+  is_not_short h = let long = s.space.full in lt-leb it.limit (length (blocks it.cells.room it.last) + 1) (omega (arith, s.nodes))
 
-  pub refused_short : (acc' : ℕ) → count ≤ 1 → Allocates n (view_of max size limit c last acc) (view_of max size limit c last acc') None
-  refused_short acc' h = let u = some_unused max size limit c last count top free acc s in left_as_it_was u.0 acc' u.1 (allocate_short n u.0 was (is_short h))
+  pub refused_short : (acc' : ℕ) → it.count ≤ 1 → Allocates n (shown it) (shown (record it { accesses = acc' })) None
+  refused_short acc' h = let u = some_unused it s in left_as_it_was u.0 acc' u.1 (allocate_short n u.0 was (is_short h))
 
-  pub refused_none : (acc' : ℕ) → 1 < count → ((k : ℕ) → up n ≤ k → k < 256 → names_at (class_lists max c.links) k ≡ []) → Allocates n (view_of max size limit c last acc) (view_of max size limit c last acc') None
-  refused_none acc' h none = let u = some_unused max size limit c last count top free acc s in left_as_it_was u.0 acc' u.1 (allocate_none n u.0 was (is_not_short h) (untaken n was known none))
+  pub refused_none : (acc' : ℕ) → 1 < it.count → ((k : ℕ) → up n ≤ k → k < 256 → names_at (class_lists it.max it.cells.links) k ≡ []) → Allocates n (shown it) (shown (record it { accesses = acc' })) None
+  refused_none acc' h none = let u = some_unused it s in left_as_it_was u.0 acc' u.1 (allocate_none n u.0 was (is_not_short h) (untaken n was known none))

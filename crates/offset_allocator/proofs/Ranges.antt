@@ -3,7 +3,7 @@ use Rattle.std.proofs.Common.{◌≡◌, ◌≢◌, ℕ, zero, suc, ◌+◌, ◌
 use Rattle.std.proofs.lemmas.Bool.{false≢true}
 use Rattle.offset_allocator.specs.Named.{Block, View, Place, Grant, Outcome, one, units, named, used_block, free_block, free_part, free_start, without_start, free_end, without_end, IsWellFormed, IsUnused, place_of, is_used_at, taken, is_short_of, refused, granted, granted_at, allocate, allocate_aligned, padding_to, serve, freed_at, free, greatest, name_or, extended, is_extendable, Extension, extend}
 use Rattle.offset_allocator.specs.Classes.{up, down}
-use Rattle.offset_allocator.specs.Ranges.{Range, range_at, range_of, AreDisjoint, KeepsOthers, KeepsRanges}
+use Rattle.offset_allocator.specs.Ranges.{Range, range_at, range_of, AreDisjoint, KeepsAll, KeepsOthers, KeepsRanges}
 use Rattle.offset_allocator.specs.Relations.{IsBut, IsLive, Allocates, Aligns, Extends}
 use Rattle.offset_allocator.proofs.ViewOrders.{if_value, tally_append, hit_cases}
 use Rattle.offset_allocator.proofs.ViewSteps.{place_at, no_place}
@@ -195,10 +195,10 @@ live_inside v f x r e = let b = (beyond x 0 v.blocks r (sym (range_is x v f) ∙
 pub record Holds (n : ℕ) (v w : View) (g : Grant) : Type 0 where
   pub fresh : range_of g.name v ≡ None
   pub range : range_of g.name w ≡ Some (record { offset = g.offset; size = n })
-  pub kept : KeepsRanges v w
+  pub others : KeepsOthers g.name v w
 
 Gives : ℕ → View → View → Option Grant → Type 0
-Gives n v w None = KeepsRanges v w
+Gives n v w None = KeepsAll v w
 Gives n v w (Some g) = Holds n v w g
 
 -- the range of a name that was not live is given back: all live ranges stayed where they were
@@ -215,7 +215,7 @@ idle false e = refl
 gives : (v : View) → IsWellFormed v → (needed n : ℕ) (padding_at : ℕ → ℕ) → ((o : ℕ) → padding_at o + n ≤ needed) → (front rest : ℕ) (o : Option Place) → taken needed v ≡ o
     → IsWellFormed (granted_at v n padding_at front rest o).view → Gives n v (granted_at v n padding_at front rest o).view (granted_at v n padding_at front rest o).grant
 unfolding Gives
-gives v f needed n padding_at enough front rest None e after = λ x r e. e
+gives v f needed n padding_at enough front rest None e after = λ x. refl
 gives v f needed n padding_at enough front rest (Some p) e after =
     let t = taken_at needed v f p e in
     let padding = padding_at (units p.before) in
@@ -228,7 +228,7 @@ gives v f needed n padding_at enough front rest (Some p) e after =
     record {
       fresh = fresh;
       range = range_is p.block.name w after ∙ granted_range v n padding front rest p t.stood unused once wide;
-      kept = given_back p.block.name v v w fresh (λ x r e. e) (λ y d. range_is y w after ∙ granted_others v n padding front rest p t.stood unused once wide y d ∙ sym (range_is y v f));
+      others = λ y d. range_is y w after ∙ granted_others v n padding front rest p t.stood unused once wide y d ∙ sym (range_is y v f);
     }
 
 given : (n : ℕ) (v w : View) (o : Outcome) (g : Option Grant) → Gives n v o.view o.grant → g ≡ o.grant → IsBut o.view w → Gives n v w g
@@ -237,11 +237,11 @@ given n v w o g h answer but = subst (Gives n v w) (sym answer) (subst (λ u. Gi
   where
     counted : (g : Option Grant) → Gives n v o.view g → Gives n v (record o.view { accesses = w.accesses }) g
     counted None h = h
-    counted (Some x) h = record { fresh = h.fresh; range = h.range; kept = h.kept }
+    counted (Some x) h = record { fresh = h.fresh; range = h.range; others = h.others }
 
 nothing_given : (n : ℕ) (v : View) → Gives n v v None
 unfolding Gives
-nothing_given n v = λ x r k. k
+nothing_given n v = λ x. refl
 
 -- requests
 gives_allocate : (n rest : ℕ) (v : View) → IsWellFormed v → IsUnused rest v → Gives n v (allocate n rest v).view (allocate n rest v).grant
@@ -259,14 +259,13 @@ gives_aligned n align front rest v f u = if_value (nat_le align 1) (allocate n r
     (λ l h. nothing_given n v)
     (λ l h. gives v f (n + align - 1) n (padding_to align) (λ o. let b = leb-false align 1 e in let s = padding_small align o b in omega arith) front rest (taken (n + align - 1) v) refl h)))
 
+-- a grant leaves every live range where it was
+pub holds_kept : (n : ℕ) (v w : View) (g : Grant) → Holds n v w g → KeepsRanges v w
+holds_kept n v w g h = given_back g.name v v w h.fresh (λ x r e. e) h.others
+
 held : (n : ℕ) (v w : View) (g : Grant) → Gives n v w (Some g) → Holds n v w g
 unfolding Gives
 held n v w g h = h
-
-kept : (n : ℕ) (v w : View) (g : Option Grant) → Gives n v w g → KeepsRanges v w
-unfolding Gives
-kept n v w None h = h
-kept n v w (Some g) h = h.kept
 
 pub allocated_holds : (n : ℕ) (v w : View) (g : Grant) → IsWellFormed v → Allocates n v w (Some g) → Holds n v w g
 allocated_holds n v w g f a = held n v w g (given n v w (allocate n a.rest v) (Some g) (gives_allocate n a.rest v f a.unused) a.answer a.view)
@@ -348,21 +347,20 @@ shut : (x offset : ℕ) (bs cs : List Block) → HasNone x cs → range_from x o
 shut x offset [] cs h = nothing x offset cs h
 shut x offset (b ∷ bs) cs h = ap (λ r. if b.used && nat_eq x b.name then Some (record { offset = offset; size = b.size }) else r) (shut x (offset + b.size) bs cs h)
 
-extended_keeps : (more y : ℕ) (v : View) → IsWellFormed v → IsWellFormed (extended more y v) → KeepsRanges v (extended more y v)
-extended_keeps more y v f after x r e =
+extended_keeps : (more y : ℕ) (v : View) → IsWellFormed v → IsWellFormed (extended more y v) → KeepsAll v (extended more y v)
+extended_keeps more y v f after x =
     let last : Block = free_block (name_or y (free_end v.blocks)) (units (free_end v.blocks) + more) in
     range_is x (extended more y v) after
     ∙ shut x 0 (without_end v.blocks) (last ∷ []) (none_idle x last refl)
     ∙ sym (shut x 0 (without_end v.blocks) (free_end v.blocks) (none_end x v.blocks))
     ∙ sym (ap (λ l. range_from x 0 l) (end_parts v.blocks))
     ∙ sym (range_is x v f)
-    ∙ e
 
-keeps_if : (more y : ℕ) (v : View) → IsWellFormed v → IsUnused y v → KeepsRanges v (extend more y v).view
-keeps_if zero y v f u = λ x r e. e
-keeps_if (suc more) y v f u = if_value (is_extendable (suc more) v) (let d : Extension = record { view = extended (suc more) y v; done = true } in d) (record { view = v; done = false }) (λ (d : Extension). KeepsRanges v d.view)
+keeps_if : (more y : ℕ) (v : View) → IsWellFormed v → IsUnused y v → KeepsAll v (extend more y v).view
+keeps_if zero y v f u = λ x. refl
+keeps_if (suc more) y v f u = if_value (is_extendable (suc more) v) (let d : Extension = record { view = extended (suc more) y v; done = true } in d) (record { view = v; done = false }) (λ (d : Extension). KeepsAll v d.view)
     (λ e. extended_keeps (suc more) y v f (well_extended v f (suc more) y u e))
-    (λ e x r k. k)
+    (λ e x. refl)
 
-pub extends_keeps : (more : ℕ) (v w : View) (done : Bool) → IsWellFormed v → Extends more v w done → KeepsRanges v w
-extends_keeps more v w done f a x r e = ap (range_of x) a.view ∙ keeps_if more a.name v f a.unused x r e
+pub extends_keeps : (more : ℕ) (v w : View) (done : Bool) → IsWellFormed v → Extends more v w done → KeepsAll v w
+extends_keeps more v w done f a x = ap (range_of x) a.view ∙ keeps_if more a.name v f a.unused x

@@ -5,10 +5,9 @@ use Rattle.std.proofs.lemmas.List.Sums.{sum_by-cons}
 use Rattle.std.proofs.lemmas.Bool.Decides.{nat_tests}
 use Rattle.offset_allocator.specs.Classes.{value, down}
 use Rattle.offset_allocator.specs.Reports.{largest}
-use Rattle.offset_allocator.specs.Cells.{Cells}
 use Rattle.offset_allocator.specs.Named.{Block, View, is_free, one, times, listed, names_at, free_sizes, total_free, largest_free, IsWellFormed, is_short_of}
 use Rattle.offset_allocator.specs.Orders.{class_lists}
-use Rattle.offset_allocator.specs.State.{IsSound, view_of, free_units}
+use Rattle.offset_allocator.specs.State.{Fields, AreSound, shown, free_units}
 use Rattle.offset_allocator.specs.Told.{IsGreatestClass}
 use Rattle.offset_allocator.specs.Space.{blocks}
 use Rattle.offset_allocator.proofs.Sizes.{down_small}
@@ -75,24 +74,24 @@ module _ (v : View) (w : IsWellFormed v) (sized : v.size < 2 ^ 32) where
       let small : value c < 2 ^ 32 = omega (arith, within.0, within.1) in
       omega arith
 
-module _ (max size limit : ℕ) (c : Cells) (last count top free accesses : ℕ) (s : IsSound max size limit c last count top free) (room : 1 < count) where
+module _ (it : Fields) (s : AreSound it) (room : 1 < it.count) where
   abbrev seen : View
-  seen = view_of max size limit c last accesses
+  seen = shown it
 
-  short : is_short_of 1 (view_of max size limit c last accesses) ≡ false
+  short : is_short_of 1 (shown it) ≡ false
   short = let f = s.space.full in let n = s.nodes in grind (arith, nat_tests)
 
-  sized : size < 2 ^ 32
+  sized : it.size < 2 ^ 32
   sized = let w = s.well.whole in let f = s.space.fits in omega arith
 
   well : IsWellFormed seen
   well = let w = s.well in record { some = w.some; distinct = w.distinct; below = w.below; whole = w.whole; apart = w.apart; classes = w.classes; orders = w.orders; room = w.room; spare = w.spare }
 
-  total_told : free ≡ total_free seen
-  total_told = rw short (sym s.total ∙ free_units_sum (blocks c.room last))
+  total_told : it.free ≡ total_free seen
+  total_told = rw short (sym s.total ∙ free_units_sum (blocks it.cells.room it.last))
 
-  pub report_none : ((k : ℕ) → k < 256 → names_at (class_lists max c.links) k ≡ []) → (free ≡ total_free (view_of max size limit c last accesses)) × (0 ≡ largest_free (view_of max size limit c last accesses))
+  pub report_none : ((k : ℕ) → k < 256 → names_at (class_lists it.max it.cells.links) k ≡ []) → (it.free ≡ total_free (shown it)) × (0 ≡ largest_free (shown it))
   report_none e = (total_told, rw short (none_free seen well sized e))
 
-  pub report_some : (k r : ℕ) → IsGreatestClass (class_lists max c.links) k → r ≡ value k % 2 ^ 32 → (free ≡ total_free (view_of max size limit c last accesses)) × (r ≡ largest_free (view_of max size limit c last accesses))
+  pub report_some : (k r : ℕ) → IsGreatestClass (class_lists it.max it.cells.links) k → r ≡ value k % 2 ^ 32 → (it.free ≡ total_free (shown it)) × (r ≡ largest_free (shown it))
   report_some k r e q = (total_told, rw short (q ∙ largest_of seen well sized k e))

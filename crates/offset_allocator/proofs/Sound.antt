@@ -1,11 +1,16 @@
--- What the fields' invariant tells of the view.
-use Rattle.std.proofs.Common.{◌≡◌, ◌≤◌, ap, subst, arith}
+-- The fields of an allocator, and what their invariant tells of the view.
+use Rattle.std.proofs.Common.{◌≡◌, ℕ, ◌≤◌, ap, subst, arith}
 use Rattle.offset_allocator.specs.Named.{View, IsWellFormed}
-use Rattle.offset_allocator.specs.State.{Fields, IsSound, view_of}
+use Rattle.offset_allocator.specs.State.{Fields, AreSound, shown}
+use Rattle.offset_allocator.specs.declared.Allocator.TheInside.{Inside}
 use Rattle.offset_allocator.proofs.Joints.{well_counted}
 
+-- an allocator's fields, with the greatest number of its index type
+abbrev pub fields_of : {A B : Type 0} → ℕ → Inside A B → Fields
+fields_of max a = record { max = max; size = a.size; limit = a.max_allocs; cells = a.tables; last = a.last; count = a.spare_count; top = a.top_mask; free = a.free_total; accesses = a.accesses }
+
 -- the view of sound fields is well formed, and of a size that a word holds
-pub known_sound : (f : Fields) → IsSound f.max f.size f.limit f.cells f.last f.count f.top f.free → (v : View) → view_of f.max f.size f.limit f.cells f.last f.accesses ≡ v → IsWellFormed v × (v.size ≤ 4294967295)
+pub known_sound : (f : Fields) → AreSound f → (v : View) → shown f ≡ v → IsWellFormed v × (v.size ≤ 4294967295)
 known_sound f s v e =
     let whole = s.well.whole in
-    (subst IsWellFormed e (well_counted (view_of f.max f.size f.limit f.cells f.last 0) f.accesses s.well), omega (arith, ap (λ (u : View). u.size) e, s.space.fits))
+    (subst IsWellFormed e (well_counted (shown (record f { accesses = 0 })) f.accesses s.well), omega (arith, ap (λ (u : View). u.size) e, s.space.fits))

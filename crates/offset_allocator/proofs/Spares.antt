@@ -2,10 +2,10 @@
 use Rattle.std.proofs.Common.{◌≡◌, ◌≢◌, ℕ, ◌+◌, ◌-◌, ◌<◌, ◌≤◌, true, false, List, [], ◌∷◌, ◌++◌, length, get_or, sym, ◌∙◌, ap, arith, inl, inr, leb-false, le-leb}
 use Rattle.std.proofs.lemmas.Bool.{cases_eq, lt-leb}
 use Rattle.std.proofs.lemmas.Bool.Decides.{nat_tests}
-use Rattle.offset_allocator.specs.Cells.{Cells, Room}
+use Rattle.offset_allocator.specs.Cells.{Room}
 use Rattle.offset_allocator.specs.Named.{View, IsUnused, times, named, is_short_of}
 use Rattle.offset_allocator.specs.Space.{IsSpace, blocks, spares}
-use Rattle.offset_allocator.specs.State.{IsSound, view_of}
+use Rattle.offset_allocator.specs.State.{Fields, AreSound, shown}
 use Rattle.offset_allocator.proofs.Rows.{one-same, one-eq, times-join}
 use Rattle.offset_allocator.proofs.Split.{spares-more}
 
@@ -52,20 +52,20 @@ module _ (c : Room) (last count : ℕ) (h : IsSpace c last count) where
         )
       ]
 
-module _ (max size limit : ℕ) (c : Cells) (last count top free acc : ℕ) (s : IsSound max size limit c last count top free) where
-  pub another : 2 ≤ count → (z : ℕ) → (y : ℕ) × IsUnused y (view_of max size limit c last acc) × (y ≢ z)
+module _ (it : Fields) (s : AreSound it) where
+  pub another : 2 ≤ it.count → (z : ℕ) → (y : ℕ) × IsUnused y (shown it) × (y ≢ z)
   another l z =
-      let o = other_spare c.room last count s.space l z in
+      let o = other_spare it.cells.room it.last it.count s.space l z in
       (o.0, record { below = let n = s.nodes in let b = o.2 in omega arith; absent = o.1 }, o.3)
 
-  pub spare_room : is_short_of 2 (view_of max size limit c last acc) ≡ false → 3 ≤ count
-  spare_room e = let f = leb-false limit (length (blocks c.room last) + 2) e in let long = s.space.full in let n = s.nodes in omega arith
+  pub spare_room : is_short_of 2 (shown it) ≡ false → 3 ≤ it.count
+  spare_room e = let f = leb-false it.limit (length (blocks it.cells.room it.last) + 2) e in let long = s.space.full in let n = s.nodes in omega arith
 
-  pub no_room : count ≤ 2 → is_short_of 2 (view_of max size limit c last acc) ≡ true
-  no_room h = let long = s.space.full in le-leb limit (length (blocks c.room last) + 2) (omega (arith, s.nodes))
+  pub no_room : it.count ≤ 2 → is_short_of 2 (shown it) ≡ true
+  no_room h = let long = s.space.full in le-leb it.limit (length (blocks it.cells.room it.last) + 2) (omega (arith, s.nodes))
 
-  pub some_room : 2 < count → is_short_of 2 (view_of max size limit c last acc) ≡ false
-  some_room h = let long = s.space.full in lt-leb limit (length (blocks c.room last) + 2) (omega (arith, s.nodes))
+  pub some_room : 2 < it.count → is_short_of 2 (shown it) ≡ false
+  some_room h = let long = s.space.full in lt-leb it.limit (length (blocks it.cells.room it.last) + 2) (omega (arith, s.nodes))
 
 pub less_short : (v : View) → is_short_of 2 v ≡ false → is_short_of 1 v ≡ false
 less_short v e = let f = leb-false v.max_allocs (length v.blocks + 2) e in lt-leb v.max_allocs (length v.blocks + 1) (omega arith)

@@ -155,3 +155,12 @@ undo_same n v w z g f a but =
     ∙ ap (λ (x : View). record (free g.name x) { accesses = z.accesses }) a.view
     ∙ ap (λ (x : View). record x { accesses = z.accesses }) (free_but (allocate n a.rest v).view g.name w.accesses (place_of g.name (allocate n a.rest v).view.blocks))
     ∙ ap (λ (x : View). record x { accesses = z.accesses }) (is_undone n v f a.rest g a.unused (sym a.answer))
+
+-- a grant leaves no trace where it is released, though other requests were refused between
+pub taken_back : (n : ℕ) (v w u z : View) (g : Grant) → IsWellFormed v → Allocates n v w (Some g) → IsBut w u → IsBut (free g.name u) z → IsBut v z
+taken_back n v w u z g f a same but =
+    undo_same n v w z g f a (
+    but
+    ∙ ap (λ (x : View). record (free g.name x) { accesses = z.accesses }) same
+    ∙ ap (λ (x : View). record x { accesses = z.accesses }) (free_but w g.name u.accesses (place_of g.name w.blocks))
+    )

@@ -27,3 +27,7 @@ KeepsRanges v w = (x : ℕ) (r : Range) → range_of x v ≡ Some r → range_of
 -- all ranges but that of one name are as they were
 abbrev pub KeepsOthers : ℕ → View → View → Type 0
 KeepsOthers x v w = (y : ℕ) → y ≢ x → range_of y w ≡ range_of y v
+
+-- all ranges are as they were
+abbrev pub KeepsAll : View → View → Type 0
+KeepsAll v w = (x : ℕ) → range_of x w ≡ range_of x v

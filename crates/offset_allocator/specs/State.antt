@@ -41,6 +41,14 @@ pub record Fields : Type 0 where
   pub free : ℕ
   pub accesses : ℕ
 
+-- what contracts see of them
+abbrev pub shown : Fields → View
+shown it = view_of it.max it.size it.limit it.cells it.last it.accesses
+
+-- what is true of them between two calls
+abbrev pub AreSound : Fields → Type 0
+AreSound it = IsSound it.max it.size it.limit it.cells it.last it.count it.top it.free
+
 -- every free block is in the list of its class
 abbrev pub AreListed : List Block → List (List ℕ) → Type 0
 AreListed bs ls = (p : Place) → bs ≡ p.before ++ p.block ∷ p.after → p.block.used ≡ false → Among p.block.name (names_at ls (down p.block.size))

@@ -1,7 +1,7 @@
 //! The calls that leave an allocator as it is, with a count of their accesses, the law that a grant can be undone, and
 //! laws that hold of every allocator. The functions of those do nothing.
 ghost use Rattle.std.specs.Prelude.{◌≡◌, ◌≤◌, ◌+◌, ◌*◌, ◌↔◌, IsTrue, length};
-ghost use Rattle.offset_allocator.specs.Named.{size_at, place_of, free_sizes};
+ghost use Rattle.offset_allocator.specs.Named.{IsWellFormed, size_at, place_of, free_sizes};
 ghost use Rattle.offset_allocator.specs.Always.{AddsUp, AreFew, AreWithin, FreshGrants, KeepApart, PaddingIsLeast, RefusesWhenFull, StandAlone};
 ghost use Rattle.offset_allocator.specs.Relations.{IsLive, IsBut, IsUndone};
 ghost use Rattle.offset_allocator.specs.Told.{IsReport, IsFullReport, IsGranted};
@@ -79,6 +79,15 @@ pub fn undo<NI: NodeIndex>(allocator: &mut Allocator<NI>, n: u32) -> bool
             true
         }
     }
+}
+
+/// The blocks fill the space, no two free ones side by side, and each class list holds the free blocks of its class.
+///
+/// Lemmas over the definitions ask for this, such as `taken_back` of `proofs/ViewUndo.antt`.
+pub fn is_well_formed<NI: NodeIndex>(allocator: &Allocator<NI>)
+    ensures { IsWellFormed allocator.now }
+{
+    allocator.formed();
 }
 
 /// The units of the used and of the free blocks add up to the size of the space.

@@ -14,7 +14,7 @@ ghost use Rattle.std.specs.Prelude.{◌≡◌, ◌↔◌, ℕ, ◌+◌, ◌-◌,
 ghost use Rattle.offset_allocator.specs.Classes.{up, down};
 ghost use Rattle.offset_allocator.specs.Cells.{empty_cells};
 ghost use Rattle.offset_allocator.specs.Orders.{IsLeastFrom};
-ghost use Rattle.offset_allocator.specs.Ranges.{range_of, KeepsOthers, KeepsRanges};
+ghost use Rattle.offset_allocator.specs.Ranges.{range_of, KeepsAll, KeepsOthers, KeepsRanges};
 ghost use Rattle.offset_allocator.specs.Reports.{IsGoodRefusal};
 ghost use Rattle.offset_allocator.specs.Named.{IsWellFormed, ends_used, is_short_of, free, free_sizes, largest_free, is_used_at, size_at, place_of};
 ghost use Rattle.offset_allocator.specs.Relations.{Allocates, Aligns, Extends, IsBut, IsCutNearBest, IsFresh, IsLive, IsPowerOfTwo, Resets};
@@ -229,7 +229,9 @@ impl<NI: NodeIndex> Allocator<NI> {
         ensures live { IfSome result (λ h. IsLive h.name self.new) }
         ensures fresh { IfSome result (λ h. range_of h.name self.old ≡ None) }
         ensures range { IfSome result (λ h. range_of h.name self.new ≡ Some (record { offset = h.offset; size = size })) }
+        ensures others { IfSome result (λ h. KeepsOthers h.name self.old self.new) }
         ensures kept { KeepsRanges self.old self.new }
+        ensures same { result ≡ None → IsBut self.old self.new }
         ensures granted { 1 ≤ size → (IsSome result ↔ (size ≤ largest_free self.old)) }
         ensures nearly { IfSome result (IsCutNearBest size self.old) }
         ensures refused { result ≡ None → length self.old.blocks + 1 < self.old.max_allocs → IsGoodRefusal size (free_sizes self.old.blocks) }
@@ -460,7 +462,9 @@ impl<NI: NodeIndex> Allocator<NI> {
         ensures fresh { IfSome result (λ h. range_of h.name self.old ≡ None) }
         ensures range { IfSome result (λ h. range_of h.name self.new ≡ Some (record { offset = h.offset; size = size })) }
         ensures aligned { IfSome result (λ h. h.offset % align ≡ 0) }
+        ensures others { IfSome result (λ h. KeepsOthers h.name self.old self.new) }
         ensures kept { KeepsRanges self.old self.new }
+        ensures same { result ≡ None → IsBut self.old self.new }
         ensures granted { 1 ≤ size + align - 1 → (IsSome result
             ↔ ((length self.old.blocks + min align 2 < self.old.max_allocs) × (size + align - 1 ≤ largest_free self.old))) }
         ensures nearly { IfSome result (IsCutNearBest (size + align - 1) self.old) }
@@ -582,7 +586,8 @@ impl<NI: NodeIndex> Allocator<NI> {
     /// no further block may stand. All blocks then stay as they were. With 0 units it answers `true`.
     pub fn extend(&mut self, more: u32) -> bool
         ensures step { Extends more self.old self.new result }
-        ensures kept { KeepsRanges self.old self.new }
+        ensures kept { KeepsAll self.old self.new }
+        ensures same { result ≡ false → IsBut self.old self.new }
         ensures grows { self.old.accesses ≤ self.new.accesses }
         ensures count { self.new.accesses ≤ self.old.accesses + 128 }
     {

@@ -30,9 +30,13 @@ mod lines;
 #[cfg(test)]
 mod mixed;
 #[cfg(test)]
+mod numbers;
+#[cfg(test)]
 mod original;
 #[cfg(test)]
 mod parsing;
+#[cfg(test)]
+mod random_texts;
 #[cfg(test)]
 mod reads;
 #[cfg(test)]
@@ -43,6 +47,8 @@ mod reports;
 mod rows;
 #[cfg(test)]
 mod slow;
+#[cfg(test)]
+mod slow_reading;
 #[cfg(test)]
 mod steps;
 #[cfg(test)]

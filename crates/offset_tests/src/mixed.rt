@@ -1,5 +1,6 @@
 //! Long scripts of mixed commands, against the slow program.
 
+use crate::numbers::Numbers;
 use crate::slow::Space;
 use crate::tiny::Tiny;
 use offset_allocator::NodeIndex;
@@ -18,20 +19,6 @@ const SPACES: [(u32, u32); 5] = [
 ];
 
 const LENGTH: u32 = 2_000;
-
-// Numbers below 32768: the high bits of a linear congruence, from the state 1 on.
-#[derive(Drop)]
-struct Numbers {
-    state: u64,
-}
-
-impl Numbers {
-    fn advance(&mut self) -> u32 {
-        let state = self.state.wrapping_mul(1_103_515_245).wrapping_add(12_345) % 2_147_483_648;
-        self.state = state;
-        (state / 65_536) as u32
-    }
-}
 
 // Of which commands a script is made. What a number leaves by 8 or by 16 picks the command, and the quotient its units or
 // its grant.
@@ -116,7 +103,7 @@ fn mixed(
 ) -> Result<Vec<Answer>, AllocError> {
     writeln!(text, "space {size} nodes {limit} index 16")?;
     let mut space = Space::new(alloc, size, limit)?;
-    let mut numbers = Numbers { state: 1 };
+    let mut numbers = Numbers::new(1);
     let mut answers = Vec::new(alloc);
     for _ in 0..LENGTH {
         let command = mix.command(numbers.advance(), space.grants);

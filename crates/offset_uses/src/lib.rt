@@ -13,7 +13,8 @@ use offset_allocator::{Accesses, Allocation, Allocator, NodeIndex, laws};
 use offset_script::{Answer, Command, play};
 use std::alloc::{AllocError, Global};
 
-/// Two ranges of vertices, for the outer and the inner hull of a mesh, or none at all.
+/// Two ranges of vertices, for the outer and the inner hull of a mesh, or none at all: a refusal leaves the buffer as it was,
+/// the order of its free blocks too.
 pub fn place_mesh(
     vertices: &mut Allocator,
     outer: u32,
@@ -22,7 +23,9 @@ pub fn place_mesh(
     ensures outer { IfSome result (λ hulls. range_of hulls.0.name vertices.new ≡ Some (record { offset = hulls.0.offset; size = outer })) }
     ensures inner { IfSome result (λ hulls. range_of hulls.1.name vertices.new ≡ Some (record { offset = hulls.1.offset; size = inner })) }
     ensures kept { KeepsRanges vertices.old vertices.new }
+    ensures same { result ≡ None → IsBut vertices.old vertices.new }
 {
+    laws::is_well_formed(vertices);
     let one = vertices.allocate(outer)?;
     match vertices.allocate(inner) {
         None => {

@@ -1,21 +1,20 @@
 use Rattle.std.proofs.Common.{subst, arith, refl, ◌↔◌, Some, IsSome, ◌≡◌, ◌≤◌, ◌<◌, ℕ, [], None}
 use Rattle.offset_allocator.specs.Named.{View, names_at, largest_free}
 use Rattle.offset_allocator.specs.Orders.{class_lists}
-use Rattle.offset_allocator.specs.State.{view_of}
+use Rattle.offset_allocator.specs.State.{shown, Fields}
 use Rattle.offset_allocator.specs.Relations.{Allocates, IsCutNearBest}
-use Rattle.offset_allocator.specs.State.{Fields}
 use Rattle.offset_allocator.proofs.ViewFits.{allocated_exactly, refused_well, cut_near_best}
-use Rattle.offset_allocator.proofs.Sound.{known_sound}
+use Rattle.offset_allocator.proofs.Sound.{fields_of, known_sound}
 use Rattle.offset_allocator.proofs.Classes.{below_value_up}
 use Rattle.offset_allocator.proofs.Granting.{refused_short, refused_none}
-use Rattle.offset_allocator.specs.Ranges.{range_of, KeepsRanges}
-use Rattle.offset_allocator.proofs.Ranges.{allocated_holds, live_range}
+use Rattle.offset_allocator.specs.Ranges.{range_of, KeepsOthers, KeepsRanges}
+use Rattle.offset_allocator.proofs.Ranges.{allocated_holds, holds_kept, live_range}
 use Rattle.offset_allocator.proofs.Allocator.allocate.Goals as goal
 
 pub returns-then-self-le1-clause-step : goal.returns-then-self-le1-clause-step
 returns-then-self-le1-clause-step g c =
     let P : View → Type 0 = λ u. Allocates c.args.size u u None in
-    subst P c.self.view_is (refused_short g.NI.NodeIndex.MAX c.self.inside.size c.self.inside.max_allocs c.self.inside.tables c.self.inside.last c.self.inside.spare_count c.self.inside.top_mask c.self.inside.free_total c.self.inside.accesses c.args.size c.self.invariant c.self.inside.accesses c.if-self-le1.true)
+    subst P c.self.view_is (refused_short (fields_of g.NI.NodeIndex.MAX c.self.inside) c.args.size c.self.invariant c.self.inside.accesses c.if-self-le1.true)
 
 pub find_at_or_above-requires-clause-classed : goal.find_at_or_above-requires-clause-classed
 find_at_or_above-requires-clause-classed g c =
@@ -24,36 +23,36 @@ find_at_or_above-requires-clause-classed g c =
 
 pub returns-in-None-clause-step : goal.returns-in-None-clause-step
 returns-in-None-clause-step g c =
-    let new : View = view_of g.NI.NodeIndex.MAX c.self.inside.size c.self.inside.max_allocs c.self.inside.tables c.self.inside.last c.find_at_or_above.new.count in
+    let new : View = shown (record (fields_of g.NI.NodeIndex.MAX c.self.inside) { accesses = c.find_at_or_above.new.count }) in
     let P : View → Type 0 = λ u. Allocates c.args.size u new None in
     let Q : ℕ → Type 0 = λ low. (k : ℕ) → low ≤ k → k < 256 → names_at (class_lists g.NI.NodeIndex.MAX c.self.inside.tables.links) k ≡ [] in
-    subst P c.self.view_is (refused_none g.NI.NodeIndex.MAX c.self.inside.size c.self.inside.max_allocs c.self.inside.tables c.self.inside.last c.self.inside.spare_count c.self.inside.top_mask c.self.inside.free_total c.self.inside.accesses c.args.size c.self.invariant c.find_at_or_above.new.count (omega arith) (subst Q c.uint_to_float_round_up-least.ensures.is c.in-None.ensures.least))
+    subst P c.self.view_is (refused_none (fields_of g.NI.NodeIndex.MAX c.self.inside) c.args.size c.self.invariant c.find_at_or_above.new.count (omega arith) (subst Q c.uint_to_float_round_up-least.ensures.is c.in-None.ensures.least))
 
 pub returns-in-None-clause-granted : goal.returns-in-None-clause-granted
 returns-in-None-clause-granted g c =
-    let f : Fields = record { max = g.NI.NodeIndex.MAX; size = c.self.inside.size; limit = c.self.inside.max_allocs; cells = c.self.inside.tables; last = c.self.inside.last; count = c.self.inside.spare_count; top = c.self.inside.top_mask; free = c.self.inside.free_total; accesses = c.self.inside.accesses } in
+    let f : Fields = fields_of g.NI.NodeIndex.MAX c.self.inside in
     let known = known_sound f c.self.invariant c.args.self.now c.self.view_is in
     allocated_exactly c.args.size c.args.self.now _ None known.0 (omega arith) known.1 (returns-in-None-clause-step g c)
 
 pub returns-in-None-clause-refused : goal.returns-in-None-clause-refused
 returns-in-None-clause-refused g c =
-    let f : Fields = record { max = g.NI.NodeIndex.MAX; size = c.self.inside.size; limit = c.self.inside.max_allocs; cells = c.self.inside.tables; last = c.self.inside.last; count = c.self.inside.spare_count; top = c.self.inside.top_mask; free = c.self.inside.free_total; accesses = c.self.inside.accesses } in
+    let f : Fields = fields_of g.NI.NodeIndex.MAX c.self.inside in
     let known = known_sound f c.self.invariant c.args.self.now c.self.view_is in
     refused_well c.args.size c.args.self.now _ None known.0 (omega arith) known.1 (returns-in-None-clause-step g c)
 
 -- the search for a class counts, and leaves the rest of the view
 pub returns-in-Some-clause-granted : goal.returns-in-Some-clause-granted
 returns-in-Some-clause-granted g c =
-    let f : Fields = record { max = g.NI.NodeIndex.MAX; size = c.self.inside.size; limit = c.self.inside.max_allocs; cells = c.self.inside.tables; last = c.self.inside.last; count = c.self.inside.spare_count; top = c.self.inside.top_mask; free = c.self.inside.free_total; accesses = c.find_at_or_above.new.count } in
-    let v : View = view_of f.max f.size f.limit f.cells f.last f.accesses in
+    let f : Fields = record (fields_of g.NI.NodeIndex.MAX c.self.inside) { accesses = c.find_at_or_above.new.count } in
+    let v : View = shown f in
     let known = known_sound f c.self.invariant v refl in
     let P : View → Type 0 = λ u. 1 ≤ c.args.size → (IsSome (Some c.grant.result) ↔ (c.args.size ≤ largest_free u)) in
     subst P c.self.view_is (allocated_exactly c.args.size v c.grant.new.self (Some c.grant.result) known.0 (omega arith) known.1 c.grant.ensures.step)
 
 pub returns-in-Some-clause-nearly : goal.returns-in-Some-clause-nearly
 returns-in-Some-clause-nearly g c =
-    let f : Fields = record { max = g.NI.NodeIndex.MAX; size = c.self.inside.size; limit = c.self.inside.max_allocs; cells = c.self.inside.tables; last = c.self.inside.last; count = c.self.inside.spare_count; top = c.self.inside.top_mask; free = c.self.inside.free_total; accesses = c.find_at_or_above.new.count } in
-    let v : View = view_of f.max f.size f.limit f.cells f.last f.accesses in
+    let f : Fields = record (fields_of g.NI.NodeIndex.MAX c.self.inside) { accesses = c.find_at_or_above.new.count } in
+    let v : View = shown f in
     let known = known_sound f c.self.invariant v refl in
     let near = cut_near_best c.args.size v known.0 (omega arith) known.1 c.grant.new.self c.grant.result c.grant.ensures.step in
     let P : View → Type 0 = λ u. IsCutNearBest c.args.size u c.grant.result in
@@ -62,16 +61,16 @@ returns-in-Some-clause-nearly g c =
 -- the range that is granted
 pub returns-in-Some-clause-live : goal.returns-in-Some-clause-live
 returns-in-Some-clause-live g c =
-    let f : Fields = record { max = g.NI.NodeIndex.MAX; size = c.self.inside.size; limit = c.self.inside.max_allocs; cells = c.self.inside.tables; last = c.self.inside.last; count = c.self.inside.spare_count; top = c.self.inside.top_mask; free = c.self.inside.free_total; accesses = c.find_at_or_above.new.count } in
-    let v : View = view_of f.max f.size f.limit f.cells f.last f.accesses in
+    let f : Fields = record (fields_of g.NI.NodeIndex.MAX c.self.inside) { accesses = c.find_at_or_above.new.count } in
+    let v : View = shown f in
     let known = known_sound f c.self.invariant v refl in
     let holds = allocated_holds c.args.size v c.grant.new.self c.grant.result known.0 c.grant.ensures.step in
     live_range c.grant.result.name c.grant.new.self _ holds.range
 
 pub returns-in-Some-clause-fresh : goal.returns-in-Some-clause-fresh
 returns-in-Some-clause-fresh g c =
-    let f : Fields = record { max = g.NI.NodeIndex.MAX; size = c.self.inside.size; limit = c.self.inside.max_allocs; cells = c.self.inside.tables; last = c.self.inside.last; count = c.self.inside.spare_count; top = c.self.inside.top_mask; free = c.self.inside.free_total; accesses = c.find_at_or_above.new.count } in
-    let v : View = view_of f.max f.size f.limit f.cells f.last f.accesses in
+    let f : Fields = record (fields_of g.NI.NodeIndex.MAX c.self.inside) { accesses = c.find_at_or_above.new.count } in
+    let v : View = shown f in
     let known = known_sound f c.self.invariant v refl in
     let holds = allocated_holds c.args.size v c.grant.new.self c.grant.result known.0 c.grant.ensures.step in
     let P : View → Type 0 = λ u. range_of c.grant.result.name u ≡ None in
@@ -79,17 +78,25 @@ returns-in-Some-clause-fresh g c =
 
 pub returns-in-Some-clause-range : goal.returns-in-Some-clause-range
 returns-in-Some-clause-range g c =
-    let f : Fields = record { max = g.NI.NodeIndex.MAX; size = c.self.inside.size; limit = c.self.inside.max_allocs; cells = c.self.inside.tables; last = c.self.inside.last; count = c.self.inside.spare_count; top = c.self.inside.top_mask; free = c.self.inside.free_total; accesses = c.find_at_or_above.new.count } in
-    let v : View = view_of f.max f.size f.limit f.cells f.last f.accesses in
+    let f : Fields = record (fields_of g.NI.NodeIndex.MAX c.self.inside) { accesses = c.find_at_or_above.new.count } in
+    let v : View = shown f in
     let known = known_sound f c.self.invariant v refl in
     let holds = allocated_holds c.args.size v c.grant.new.self c.grant.result known.0 c.grant.ensures.step in
     holds.range
 
-pub returns-in-Some-clause-kept : goal.returns-in-Some-clause-kept
-returns-in-Some-clause-kept g c =
-    let f : Fields = record { max = g.NI.NodeIndex.MAX; size = c.self.inside.size; limit = c.self.inside.max_allocs; cells = c.self.inside.tables; last = c.self.inside.last; count = c.self.inside.spare_count; top = c.self.inside.top_mask; free = c.self.inside.free_total; accesses = c.find_at_or_above.new.count } in
-    let v : View = view_of f.max f.size f.limit f.cells f.last f.accesses in
+pub returns-in-Some-clause-others : goal.returns-in-Some-clause-others
+returns-in-Some-clause-others g c =
+    let f : Fields = record (fields_of g.NI.NodeIndex.MAX c.self.inside) { accesses = c.find_at_or_above.new.count } in
+    let v : View = shown f in
     let known = known_sound f c.self.invariant v refl in
     let holds = allocated_holds c.args.size v c.grant.new.self c.grant.result known.0 c.grant.ensures.step in
+    let P : View → Type 0 = λ u. KeepsOthers c.grant.result.name u c.grant.new.self in
+    subst P c.self.view_is holds.others
+
+pub returns-in-Some-clause-kept : goal.returns-in-Some-clause-kept
+returns-in-Some-clause-kept g c =
+    let f : Fields = record (fields_of g.NI.NodeIndex.MAX c.self.inside) { accesses = c.find_at_or_above.new.count } in
+    let v : View = shown f in
+    let known = known_sound f c.self.invariant v refl in
     let P : View → Type 0 = λ u. KeepsRanges u c.grant.new.self in
-    subst P c.self.view_is holds.kept
+    subst P c.self.view_is (holds_kept c.args.size v c.grant.new.self c.grant.result (allocated_holds c.args.size v c.grant.new.self c.grant.result known.0 c.grant.ensures.step))

@@ -9,12 +9,12 @@ use Rattle.offset_allocator.proofs.Joints.{with_accesses}
 use Rattle.offset_allocator.proofs.Sizes.{down_small}
 use Rattle.offset_allocator.proofs.Freeing.{stands, at, size_at_x, room_for, listed_first, filed_listed, joined_once, left_once, joined_twice, left_twice, freed_blocks, whole, whole_size, first_blocks, first_lists, second_blocks, second_lists, filed_first, stands_first, stands_second, marked_second, unlisted_second, freed, named_live}
 use Rattle.offset_allocator.proofs.Ranges.{freed_gone, freed_others}
-use Rattle.offset_allocator.proofs.Sound.{known_sound}
+use Rattle.offset_allocator.proofs.Sound.{fields_of, known_sound}
 use Rattle.offset_allocator.proofs.Allocator.free.Goals as goal
 
 pub size-size-requires-clause-standing : goal.size-size-requires-clause-standing
 size-size-requires-clause-standing g c =
-    let f : Fields = record { max = g.NI.NodeIndex.MAX; size = c.self.inside.size; limit = c.self.inside.max_allocs; cells = c.self.inside.tables; last = c.self.inside.last; count = c.self.inside.spare_count; top = c.self.inside.top_mask; free = c.self.inside.free_total; accesses = c.self.inside.accesses } in
+    let f : Fields = fields_of g.NI.NodeIndex.MAX c.self.inside in
     let x : ℕ = c.number-name.result in
     let xe : c.args.allocation.name ≡ c.number-name.result = sym (c.number-name.ensures.number ∙ c.of_nonmax.ensures.number ∙ c.name.ensures) in
     let live = named_live _ _ _ _ c.self.view_is xe c.requires.live in
@@ -22,7 +22,7 @@ size-size-requires-clause-standing g c =
 
 pub overflow_add-self : goal.overflow_add-self
 overflow_add-self g c =
-    let f : Fields = record { max = g.NI.NodeIndex.MAX; size = c.self.inside.size; limit = c.self.inside.max_allocs; cells = c.self.inside.tables; last = c.self.inside.last; count = c.self.inside.spare_count; top = c.self.inside.top_mask; free = c.self.inside.free_total; accesses = c.self.inside.accesses } in
+    let f : Fields = fields_of g.NI.NodeIndex.MAX c.self.inside in
     let x : ℕ = c.number-name.result in
     let xe : c.args.allocation.name ≡ c.number-name.result = sym (c.number-name.ensures.number ∙ c.of_nonmax.ensures.number ∙ c.name.ensures) in
     let live = named_live _ _ _ _ c.self.view_is xe c.requires.live in
@@ -31,7 +31,7 @@ overflow_add-self g c =
 
 pub with_before-size-requires-clause-standing : goal.with_before-size-requires-clause-standing
 with_before-size-requires-clause-standing g c =
-    let f : Fields = record { max = g.NI.NodeIndex.MAX; size = c.self.inside.size; limit = c.self.inside.max_allocs; cells = c.self.inside.tables; last = c.self.inside.last; count = c.self.inside.spare_count; top = c.self.inside.top_mask; free = c.self.inside.free_total; accesses = c.self.inside.accesses } in
+    let f : Fields = fields_of g.NI.NodeIndex.MAX c.self.inside in
     let x : ℕ = c.number-name.result in
     let xe : c.args.allocation.name ≡ c.number-name.result = sym (c.number-name.ensures.number ∙ c.of_nonmax.ensures.number ∙ c.name.ensures) in
     let live = named_live _ _ _ _ c.self.view_is xe c.requires.live in
@@ -39,7 +39,7 @@ with_before-size-requires-clause-standing g c =
 
 pub with_before-size-requires-clause-listed : goal.with_before-size-requires-clause-listed
 with_before-size-requires-clause-listed g c =
-    let f : Fields = record { max = g.NI.NodeIndex.MAX; size = c.self.inside.size; limit = c.self.inside.max_allocs; cells = c.self.inside.tables; last = c.self.inside.last; count = c.self.inside.spare_count; top = c.self.inside.top_mask; free = c.self.inside.free_total; accesses = c.self.inside.accesses } in
+    let f : Fields = fields_of g.NI.NodeIndex.MAX c.self.inside in
     let x : ℕ = c.number-name.result in
     let xe : c.args.allocation.name ≡ c.number-name.result = sym (c.number-name.ensures.number ∙ c.of_nonmax.ensures.number ∙ c.name.ensures) in
     let live = named_live _ _ _ _ c.self.view_is xe c.requires.live in
@@ -47,7 +47,7 @@ with_before-size-requires-clause-listed g c =
 
 pub with_after-size-requires-clause-standing : goal.with_after-size-requires-clause-standing
 with_after-size-requires-clause-standing g c =
-    let f : Fields = record { max = g.NI.NodeIndex.MAX; size = c.self.inside.size; limit = c.self.inside.max_allocs; cells = c.self.inside.tables; last = c.self.inside.last; count = c.self.inside.spare_count; top = c.self.inside.top_mask; free = c.self.inside.free_total; accesses = c.self.inside.accesses } in
+    let f : Fields = fields_of g.NI.NodeIndex.MAX c.self.inside in
     let x : ℕ = c.number-name.result in
     let xe : c.args.allocation.name ≡ c.number-name.result = sym (c.number-name.ensures.number ∙ c.of_nonmax.ensures.number ∙ c.name.ensures) in
     let live = named_live _ _ _ _ c.self.view_is xe c.requires.live in
@@ -56,7 +56,7 @@ with_after-size-requires-clause-standing g c =
 
 pub with_after-size-requires-clause-listed : goal.with_after-size-requires-clause-listed
 with_after-size-requires-clause-listed g c =
-    let f : Fields = record { max = g.NI.NodeIndex.MAX; size = c.self.inside.size; limit = c.self.inside.max_allocs; cells = c.self.inside.tables; last = c.self.inside.last; count = c.self.inside.spare_count; top = c.self.inside.top_mask; free = c.self.inside.free_total; accesses = c.self.inside.accesses } in
+    let f : Fields = fields_of g.NI.NodeIndex.MAX c.self.inside in
     let x : ℕ = c.number-name.result in
     let xe : c.args.allocation.name ≡ c.number-name.result = sym (c.number-name.ensures.number ∙ c.of_nonmax.ensures.number ∙ c.name.ensures) in
     let live = named_live _ _ _ _ c.self.view_is xe c.requires.live in
@@ -66,7 +66,7 @@ with_after-size-requires-clause-listed g c =
 
 pub mark-requires-clause-standing : goal.mark-requires-clause-standing
 mark-requires-clause-standing g c =
-    let f : Fields = record { max = g.NI.NodeIndex.MAX; size = c.self.inside.size; limit = c.self.inside.max_allocs; cells = c.self.inside.tables; last = c.self.inside.last; count = c.self.inside.spare_count; top = c.self.inside.top_mask; free = c.self.inside.free_total; accesses = c.self.inside.accesses } in
+    let f : Fields = fields_of g.NI.NodeIndex.MAX c.self.inside in
     let x : ℕ = c.number-name.result in
     let xe : c.args.allocation.name ≡ c.number-name.result = sym (c.number-name.ensures.number ∙ c.of_nonmax.ensures.number ∙ c.name.ensures) in
     let live = named_live _ _ _ _ c.self.view_is xe c.requires.live in
@@ -76,7 +76,7 @@ mark-requires-clause-standing g c =
 
 pub put_first-requires-clause-named : goal.put_first-requires-clause-named
 put_first-requires-clause-named g c =
-    let f : Fields = record { max = g.NI.NodeIndex.MAX; size = c.self.inside.size; limit = c.self.inside.max_allocs; cells = c.self.inside.tables; last = c.self.inside.last; count = c.self.inside.spare_count; top = c.self.inside.top_mask; free = c.self.inside.free_total; accesses = c.self.inside.accesses } in
+    let f : Fields = fields_of g.NI.NodeIndex.MAX c.self.inside in
     let x : ℕ = c.number-name.result in
     let xe : c.args.allocation.name ≡ c.number-name.result = sym (c.number-name.ensures.number ∙ c.of_nonmax.ensures.number ∙ c.name.ensures) in
     let live = named_live _ _ _ _ c.self.view_is xe c.requires.live in
@@ -88,7 +88,7 @@ put_first-requires-clause-classed g c =
 
 pub put_first-requires-clause-fresh : goal.put_first-requires-clause-fresh
 put_first-requires-clause-fresh g c =
-    let f : Fields = record { max = g.NI.NodeIndex.MAX; size = c.self.inside.size; limit = c.self.inside.max_allocs; cells = c.self.inside.tables; last = c.self.inside.last; count = c.self.inside.spare_count; top = c.self.inside.top_mask; free = c.self.inside.free_total; accesses = c.self.inside.accesses } in
+    let f : Fields = fields_of g.NI.NodeIndex.MAX c.self.inside in
     let x : ℕ = c.number-name.result in
     let xe : c.args.allocation.name ≡ c.number-name.result = sym (c.number-name.ensures.number ∙ c.of_nonmax.ensures.number ∙ c.name.ensures) in
     let live = named_live _ _ _ _ c.self.view_is xe c.requires.live in
@@ -100,7 +100,7 @@ put_first-requires-clause-fresh g c =
 
 pub invariant_of-self : goal.invariant_of-self
 invariant_of-self g c =
-    let f : Fields = record { max = g.NI.NodeIndex.MAX; size = c.self.inside.size; limit = c.self.inside.max_allocs; cells = c.self.inside.tables; last = c.self.inside.last; count = c.self.inside.spare_count; top = c.self.inside.top_mask; free = c.self.inside.free_total; accesses = c.self.inside.accesses } in
+    let f : Fields = fields_of g.NI.NodeIndex.MAX c.self.inside in
     let x : ℕ = c.number-name.result in
     let xe : c.args.allocation.name ≡ c.number-name.result = sym (c.number-name.ensures.number ∙ c.of_nonmax.ensures.number ∙ c.name.ensures) in
     let live = named_live _ _ _ _ c.self.view_is xe c.requires.live in
@@ -120,7 +120,7 @@ invariant_of-self g c =
 
 pub returns-clause-step : goal.returns-clause-step
 returns-clause-step g c =
-    let f : Fields = record { max = g.NI.NodeIndex.MAX; size = c.self.inside.size; limit = c.self.inside.max_allocs; cells = c.self.inside.tables; last = c.self.inside.last; count = c.self.inside.spare_count; top = c.self.inside.top_mask; free = c.self.inside.free_total; accesses = c.self.inside.accesses } in
+    let f : Fields = fields_of g.NI.NodeIndex.MAX c.self.inside in
     let x : ℕ = c.number-name.result in
     let xe : c.args.allocation.name ≡ c.number-name.result = sym (c.number-name.ensures.number ∙ c.of_nonmax.ensures.number ∙ c.name.ensures) in
     let live = named_live _ _ _ _ c.self.view_is xe c.requires.live in
@@ -139,12 +139,12 @@ returns-clause-step g c =
 
 pub returns-clause-gone : goal.returns-clause-gone
 returns-clause-gone g c =
-    let f : Fields = record { max = g.NI.NodeIndex.MAX; size = c.self.inside.size; limit = c.self.inside.max_allocs; cells = c.self.inside.tables; last = c.self.inside.last; count = c.self.inside.spare_count; top = c.self.inside.top_mask; free = c.self.inside.free_total; accesses = c.self.inside.accesses } in
+    let f : Fields = fields_of g.NI.NodeIndex.MAX c.self.inside in
     let known = known_sound f c.self.invariant c.args.self.now c.self.view_is in
     freed_gone c.args.allocation.name c.args.self.now _ known.0 c.requires.live (returns-clause-step g c)
 
 pub returns-clause-others : goal.returns-clause-others
 returns-clause-others g c =
-    let f : Fields = record { max = g.NI.NodeIndex.MAX; size = c.self.inside.size; limit = c.self.inside.max_allocs; cells = c.self.inside.tables; last = c.self.inside.last; count = c.self.inside.spare_count; top = c.self.inside.top_mask; free = c.self.inside.free_total; accesses = c.self.inside.accesses } in
+    let f : Fields = fields_of g.NI.NodeIndex.MAX c.self.inside in
     let known = known_sound f c.self.invariant c.args.self.now c.self.view_is in
     freed_others c.args.allocation.name c.args.self.now _ known.0 c.requires.live (returns-clause-step g c)

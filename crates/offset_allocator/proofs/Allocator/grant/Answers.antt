@@ -4,8 +4,9 @@ use Rattle.offset_allocator.specs.Cells.{Room, Links}
 use Rattle.offset_allocator.specs.Named.{View, Grant, is_short_of, IsUnused, units, names_at, without, put_first}
 use Rattle.offset_allocator.specs.Space.{blocks, mark_block, IsSpace, Stands}
 use Rattle.offset_allocator.specs.Orders.{Binned, IsLeastFrom, class_lists, IsUnlisted}
-use Rattle.offset_allocator.specs.State.{Fields, view_of}
+use Rattle.offset_allocator.specs.State.{Fields, shown}
 use Rattle.offset_allocator.specs.Relations.{Allocates}
+use Rattle.offset_allocator.proofs.Sound.{fields_of}
 use Rattle.offset_allocator.proofs.Sizes.{down_small}
 use Rattle.offset_allocator.proofs.Unused.{some_unused}
 use Rattle.offset_allocator.proofs.Granting.{got, enough, stands, stands_marked, size_marked, offset_marked, unused_rest, rest_unlisted, free_enough, granted_whole, granted_part}
@@ -14,7 +15,7 @@ use Rattle.offset_allocator.proofs.Allocator.grant.Goals.{then-whole-size, else-
 
 pub mark-requires-clause-standing : goal.mark-requires-clause-standing
 mark-requires-clause-standing g c =
-    let f : Fields = record { max = g.NI.NodeIndex.MAX; size = c.self.inside.size; limit = c.self.inside.max_allocs; cells = c.self.inside.tables; last = c.self.inside.last; count = c.self.inside.spare_count; top = c.self.inside.top_mask; free = c.self.inside.free_total; accesses = c.self.inside.accesses } in
+    let f : Fields = fields_of g.NI.NodeIndex.MAX c.self.inside in
     let x : ℕ = c.take_first-name.result in
     let room = subst (λ (u : View). is_short_of 1 u ≡ false) (sym c.self.view_is) c.requires.room in
     let least = subst (λ (u : View). IsLeastFrom (up c.args.size) u.order c.args.class) (sym c.self.view_is) c.requires.least in
@@ -23,7 +24,7 @@ mark-requires-clause-standing g c =
 
 pub offset-offset-requires-clause-standing : goal.offset-offset-requires-clause-standing
 offset-offset-requires-clause-standing g c =
-    let f : Fields = record { max = g.NI.NodeIndex.MAX; size = c.self.inside.size; limit = c.self.inside.max_allocs; cells = c.self.inside.tables; last = c.self.inside.last; count = c.self.inside.spare_count; top = c.self.inside.top_mask; free = c.self.inside.free_total; accesses = c.self.inside.accesses } in
+    let f : Fields = fields_of g.NI.NodeIndex.MAX c.self.inside in
     let x : ℕ = c.take_first-name.result in
     let room = subst (λ (u : View). is_short_of 1 u ≡ false) (sym c.self.view_is) c.requires.room in
     let least = subst (λ (u : View). IsLeastFrom (up c.args.size) u.order c.args.class) (sym c.self.view_is) c.requires.least in
@@ -33,7 +34,7 @@ offset-offset-requires-clause-standing g c =
 
 pub size-whole-requires-clause-standing : goal.size-whole-requires-clause-standing
 size-whole-requires-clause-standing g c =
-    let f : Fields = record { max = g.NI.NodeIndex.MAX; size = c.self.inside.size; limit = c.self.inside.max_allocs; cells = c.self.inside.tables; last = c.self.inside.last; count = c.self.inside.spare_count; top = c.self.inside.top_mask; free = c.self.inside.free_total; accesses = c.self.inside.accesses } in
+    let f : Fields = fields_of g.NI.NodeIndex.MAX c.self.inside in
     let x : ℕ = c.take_first-name.result in
     let room = subst (λ (u : View). is_short_of 1 u ≡ false) (sym c.self.view_is) c.requires.room in
     let least = subst (λ (u : View). IsLeastFrom (up c.args.size) u.order c.args.class) (sym c.self.view_is) c.requires.least in
@@ -43,7 +44,7 @@ size-whole-requires-clause-standing g c =
 
 pub split-rest-requires-clause-standing : goal.split-rest-requires-clause-standing
 split-rest-requires-clause-standing g c =
-    let f : Fields = record { max = g.NI.NodeIndex.MAX; size = c.self.inside.size; limit = c.self.inside.max_allocs; cells = c.self.inside.tables; last = c.self.inside.last; count = c.self.inside.spare_count; top = c.self.inside.top_mask; free = c.self.inside.free_total; accesses = c.self.inside.accesses } in
+    let f : Fields = fields_of g.NI.NodeIndex.MAX c.self.inside in
     let x : ℕ = c.take_first-name.result in
     let room = subst (λ (u : View). is_short_of 1 u ≡ false) (sym c.self.view_is) c.requires.room in
     let least = subst (λ (u : View). IsLeastFrom (up c.args.size) u.order c.args.class) (sym c.self.view_is) c.requires.least in
@@ -53,7 +54,7 @@ split-rest-requires-clause-standing g c =
 
 pub overflow_sub-self : goal.overflow_sub-self
 overflow_sub-self g c =
-    let f : Fields = record { max = g.NI.NodeIndex.MAX; size = c.self.inside.size; limit = c.self.inside.max_allocs; cells = c.self.inside.tables; last = c.self.inside.last; count = c.self.inside.spare_count; top = c.self.inside.top_mask; free = c.self.inside.free_total; accesses = c.self.inside.accesses } in
+    let f : Fields = fields_of g.NI.NodeIndex.MAX c.self.inside in
     let x : ℕ = c.take_first-name.result in
     let room = subst (λ (u : View). is_short_of 1 u ≡ false) (sym c.self.view_is) c.requires.room in
     let least = subst (λ (u : View). IsLeastFrom (up c.args.size) u.order c.args.class) (sym c.self.view_is) c.requires.least in
@@ -69,20 +70,20 @@ put_first-requires-clause-classed g c =
 
 pub put_first-requires-clause-fresh : goal.put_first-requires-clause-fresh
 put_first-requires-clause-fresh g c =
-    let f : Fields = record { max = g.NI.NodeIndex.MAX; size = c.self.inside.size; limit = c.self.inside.max_allocs; cells = c.self.inside.tables; last = c.self.inside.last; count = c.self.inside.spare_count; top = c.self.inside.top_mask; free = c.self.inside.free_total; accesses = c.self.inside.accesses } in
+    let f : Fields = fields_of g.NI.NodeIndex.MAX c.self.inside in
     let x : ℕ = c.take_first-name.result in
     let room = subst (λ (u : View). is_short_of 1 u ≡ false) (sym c.self.view_is) c.requires.room in
     let least = subst (λ (u : View). IsLeastFrom (up c.args.size) u.order c.args.class) (sym c.self.view_is) c.requires.least in
     let rm : c.take_first-name.new.t.room ≡ f.cells.room = c.take_first-name.ensures.room in
     let eb : blocks c.mark.new.t.room f.last ≡ mark_block x true (blocks f.cells.room f.last) = c.mark.ensures.blocks ∙ ap (λ (r : Room). mark_block x true (blocks r f.last)) rm in
     let y : ℕ = c.split-rest.result in
-    let unused : IsUnused y (view_of f.max f.size f.limit f.cells f.last f.accesses) = unused_rest f c.args.size c.args.class x c.self.invariant room least _ c.take_first-name.ensures.first c.mark.new.t.room y eb c.split-rest.ensures.fresh (omega (arith, c.split-rest.ensures.below, c.mark.ensures.limit, ap (λ (r : Room). length r.nodes) rm)) in
+    let unused : IsUnused y (shown f) = unused_rest f c.args.size c.args.class x c.self.invariant room least _ c.take_first-name.ensures.first c.mark.new.t.room y eb c.split-rest.ensures.fresh (omega (arith, c.split-rest.ensures.below, c.mark.ensures.limit, ap (λ (r : Room). length r.nodes) rm)) in
     let lists : class_lists f.max c.split-rest.new.t.links ≡ slice_set (class_lists f.max f.cells.links) c.args.class (without x (names_at (class_lists f.max f.cells.links) c.args.class)) = ap (λ (k : Links). class_lists f.max k) (c.split-rest.ensures.links ∙ c.mark.ensures.links) ∙ c.take_first-name.ensures.lists in
     subst (λ (o : List (List ℕ)). IsUnlisted y o) (sym lists) (rest_unlisted f c.args.size c.args.class x c.self.invariant room least _ c.take_first-name.ensures.first y unused)
 
 pub invariant_of-self : goal.invariant_of-self
 invariant_of-self g c =
-    let f : Fields = record { max = g.NI.NodeIndex.MAX; size = c.self.inside.size; limit = c.self.inside.max_allocs; cells = c.self.inside.tables; last = c.self.inside.last; count = c.self.inside.spare_count; top = c.self.inside.top_mask; free = c.self.inside.free_total; accesses = c.self.inside.accesses } in
+    let f : Fields = fields_of g.NI.NodeIndex.MAX c.self.inside in
     let x : ℕ = c.take_first-name.result in
     let room = subst (λ (u : View). is_short_of 1 u ≡ false) (sym c.self.view_is) c.requires.room in
     let least = subst (λ (u : View). IsLeastFrom (up c.args.size) u.order c.args.class) (sym c.self.view_is) c.requires.least in
@@ -90,7 +91,7 @@ invariant_of-self g c =
     let eb : blocks c.mark.new.t.room f.last ≡ mark_block x true (blocks f.cells.room f.last) = c.mark.ensures.blocks ∙ ap (λ (r : Room). mark_block x true (blocks r f.last)) rm in
     let sized : c.size-whole.result ≡ (got f c.args.size c.args.class x c.self.invariant room least _ c.take_first-name.ensures.first).place.block.size = c.size-whole.ensures.size ∙ size_marked f c.args.size c.args.class x c.self.invariant room least _ c.take_first-name.ensures.first c.mark.new.t.room eb in
     let y : ℕ = c.split-rest.result in
-    let unused : IsUnused y (view_of f.max f.size f.limit f.cells f.last f.accesses) = unused_rest f c.args.size c.args.class x c.self.invariant room least _ c.take_first-name.ensures.first c.mark.new.t.room y eb c.split-rest.ensures.fresh (omega (arith, c.split-rest.ensures.below, c.mark.ensures.limit, ap (λ (r : Room). length r.nodes) rm)) in
+    let unused : IsUnused y (shown f) = unused_rest f c.args.size c.args.class x c.self.invariant room least _ c.take_first-name.ensures.first c.mark.new.t.room y eb c.split-rest.ensures.fresh (omega (arith, c.split-rest.ensures.below, c.mark.ensures.limit, ap (λ (r : Room). length r.nodes) rm)) in
     let lists : class_lists f.max c.split-rest.new.t.links ≡ slice_set (class_lists f.max f.cells.links) c.args.class (without x (names_at (class_lists f.max f.cells.links) c.args.class)) = ap (λ (k : Links). class_lists f.max k) (c.split-rest.ensures.links ∙ c.mark.ensures.links) ∙ c.take_first-name.ensures.lists in
     let order : class_lists f.max c.put_first.new.t.links ≡ put_first (down ((got f c.args.size c.args.class x c.self.invariant room least _ c.take_first-name.ensures.first).place.block.size - c.args.size)) y (slice_set (class_lists f.max f.cells.links) c.args.class (without x (names_at (class_lists f.max f.cells.links) c.args.class))) = c.put_first.ensures.lists ∙ ap₂ (λ k o. put_first k y o) (c.uint_to_float_round_down.ensures.is ∙ ap (λ (k : ℕ). down (k - c.args.size)) sized) lists in
     let space = subst (λ (r : Room). IsSpace r c.split-rest.new.last c.split-rest.new.spare_count) (sym c.put_first.ensures.room) c.split-rest.ensures.space in
@@ -99,7 +100,7 @@ invariant_of-self g c =
 
 pub invariant_of-self-else-whole-size : goal.invariant_of-self-else-whole-size
 invariant_of-self-else-whole-size g c =
-    let f : Fields = record { max = g.NI.NodeIndex.MAX; size = c.self.inside.size; limit = c.self.inside.max_allocs; cells = c.self.inside.tables; last = c.self.inside.last; count = c.self.inside.spare_count; top = c.self.inside.top_mask; free = c.self.inside.free_total; accesses = c.self.inside.accesses } in
+    let f : Fields = fields_of g.NI.NodeIndex.MAX c.self.inside in
     let x : ℕ = c.take_first-name.result in
     let room = subst (λ (u : View). is_short_of 1 u ≡ false) (sym c.self.view_is) c.requires.room in
     let least = subst (λ (u : View). IsLeastFrom (up c.args.size) u.order c.args.class) (sym c.self.view_is) c.requires.least in
@@ -109,12 +110,12 @@ invariant_of-self-else-whole-size g c =
     let lists : class_lists f.max c.mark.new.t.links ≡ slice_set (class_lists f.max f.cells.links) c.args.class (without x (names_at (class_lists f.max f.cells.links) c.args.class)) = ap (λ (k : Links). class_lists f.max k) c.mark.ensures.links ∙ c.take_first-name.ensures.lists in
     let bins = subst (λ (k : Links). Binned f.max k c.take_first-name.new.top) (sym c.mark.ensures.links) c.take_first-name.ensures.held in
     let nodes = c.mark.ensures.limit ∙ ap (λ (r : Room). length r.nodes) rm in
-    let u = some_unused f.max f.size f.limit f.cells f.last f.count f.top f.free f.accesses c.self.invariant in
+    let u = some_unused f c.self.invariant in
     (granted_whole f c.args.size c.args.class x c.self.invariant room least _ c.take_first-name.ensures.first c.mark.new.t c.take_first-name.new.top 0 (omega (arith, sized, enough f c.args.size c.args.class x c.self.invariant room least _ c.take_first-name.ensures.first, c.if-whole-size.false)) c.mark.ensures.space eb bins lists nodes u.0 u.1).0
 
 pub returns-clause-step : goal.returns-clause-step
 returns-clause-step g c =
-    let f : Fields = record { max = g.NI.NodeIndex.MAX; size = c.self.inside.size; limit = c.self.inside.max_allocs; cells = c.self.inside.tables; last = c.self.inside.last; count = c.self.inside.spare_count; top = c.self.inside.top_mask; free = c.self.inside.free_total; accesses = c.self.inside.accesses } in
+    let f : Fields = fields_of g.NI.NodeIndex.MAX c.self.inside in
     let x : ℕ = c.take_first-name.result in
     let room = subst (λ (u : View). is_short_of 1 u ≡ false) (sym c.self.view_is) c.requires.room in
     let least = subst (λ (u : View). IsLeastFrom (up c.args.size) u.order c.args.class) (sym c.self.view_is) c.requires.least in
@@ -125,11 +126,11 @@ returns-clause-step g c =
     let answer : Grant = record { name = x; offset = units (got f c.args.size c.args.class x c.self.invariant room least _ c.take_first-name.ensures.first).place.before } in
     let handle : c.handle_of.result ≡ answer = c.handle_of.ensures ∙ ap (λ (o : ℕ). let h : Grant = record { name = x; offset = o } in h) offset in
     let S : View → View → Grant → Type 0 = λ old new h. Allocates c.args.size old new (Some h) in
-    let was : View = view_of f.max f.size f.limit f.cells f.last f.accesses in
+    let was : View = shown f in
     elim c.if-whole-size.branch [
       | then-whole-size w ↦
           let y : ℕ = w.split-rest.result in
-          let unused : IsUnused y (view_of f.max f.size f.limit f.cells f.last f.accesses) = unused_rest f c.args.size c.args.class x c.self.invariant room least _ c.take_first-name.ensures.first c.mark.new.t.room y eb w.split-rest.ensures.fresh (omega (arith, w.split-rest.ensures.below, c.mark.ensures.limit, ap (λ (r : Room). length r.nodes) rm)) in
+          let unused : IsUnused y (shown f) = unused_rest f c.args.size c.args.class x c.self.invariant room least _ c.take_first-name.ensures.first c.mark.new.t.room y eb w.split-rest.ensures.fresh (omega (arith, w.split-rest.ensures.below, c.mark.ensures.limit, ap (λ (r : Room). length r.nodes) rm)) in
           let lists : class_lists f.max w.split-rest.new.t.links ≡ slice_set (class_lists f.max f.cells.links) c.args.class (without x (names_at (class_lists f.max f.cells.links) c.args.class)) = ap (λ (k : Links). class_lists f.max k) (w.split-rest.ensures.links ∙ c.mark.ensures.links) ∙ c.take_first-name.ensures.lists in
           let order : class_lists f.max w.put_first.new.t.links ≡ put_first (down ((got f c.args.size c.args.class x c.self.invariant room least _ c.take_first-name.ensures.first).place.block.size - c.args.size)) y (slice_set (class_lists f.max f.cells.links) c.args.class (without x (names_at (class_lists f.max f.cells.links) c.args.class))) = w.put_first.ensures.lists ∙ ap₂ (λ k o. put_first k y o) (w.uint_to_float_round_down.ensures.is ∙ ap (λ (k : ℕ). down (k - c.args.size)) sized) lists in
           let space = subst (λ (r : Room). IsSpace r w.split-rest.new.last w.split-rest.new.spare_count) (sym w.put_first.ensures.room) w.split-rest.ensures.space in
@@ -139,6 +140,6 @@ returns-clause-step g c =
           let lists : class_lists f.max c.mark.new.t.links ≡ slice_set (class_lists f.max f.cells.links) c.args.class (without x (names_at (class_lists f.max f.cells.links) c.args.class)) = ap (λ (k : Links). class_lists f.max k) c.mark.ensures.links ∙ c.take_first-name.ensures.lists in
           let bins = subst (λ (k : Links). Binned f.max k c.take_first-name.new.top) (sym c.mark.ensures.links) c.take_first-name.ensures.held in
           let nodes = c.mark.ensures.limit ∙ ap (λ (r : Room). length r.nodes) rm in
-          let u = some_unused f.max f.size f.limit f.cells f.last f.count f.top f.free f.accesses c.self.invariant in
+          let u = some_unused f c.self.invariant in
           subst (S c.args.self.now c.if-whole-size.self) (sym handle) (subst (λ u. S u c.if-whole-size.self answer) c.self.view_is (subst (λ u. S was u answer) (sym w.self-is) (granted_whole f c.args.size c.args.class x c.self.invariant room least _ c.take_first-name.ensures.first c.mark.new.t c.take_first-name.new.top c.size-whole.new.count (omega (arith, sized, enough f c.args.size c.args.class x c.self.invariant room least _ c.take_first-name.ensures.first, w.if-whole-size.false)) c.mark.ensures.space eb bins lists nodes u.0 u.1).1))
     ]

@@ -7,29 +7,30 @@ use Rattle.offset_allocator.specs.Orders.{IsUnlisted, class_lists}
 use Rattle.offset_allocator.specs.State.{view_of}
 use Rattle.offset_allocator.specs.Relations.{Extends}
 use Rattle.offset_allocator.specs.Parts.{grow_last}
+use Rattle.offset_allocator.proofs.Sound.{fields_of}
 use Rattle.offset_allocator.proofs.Sizes.{down_small}
 use Rattle.offset_allocator.proofs.Growing.{last_small}
 use Rattle.offset_allocator.proofs.Extending.{end, units_fit, free_fits, widen_listed, widen_unlisted, widened}
 use Rattle.offset_allocator.proofs.Allocator.widen.Goals as goal
 
 pub size-whole-requires : goal.size-whole-requires
-size-whole-requires g c = (end g.NI.NodeIndex.MAX c.self.inside.size c.self.inside.max_allocs c.self.inside.tables c.self.inside.last c.self.inside.spare_count c.self.inside.top_mask c.self.inside.free_total c.self.inside.accesses c.args.more c.self.invariant).below
+size-whole-requires g c = (end (fields_of g.NI.NodeIndex.MAX c.self.inside) c.args.more c.self.invariant).below
 
 pub remove-requires-clause-listed : goal.remove-requires-clause-listed
 remove-requires-clause-listed g c =
     let whole_fits : c.self.inside.size + c.args.more ≤ 4294967295 = subst (λ (u : View). u.size + c.args.more ≤ 4294967295) (sym c.self.view_is) c.requires.fits in
     let idle = subst (λ (u : View). ends_used u.blocks ≡ false) (sym c.self.view_is) c.requires.idle in
-    widen_listed g.NI.NodeIndex.MAX c.self.inside.size c.self.inside.max_allocs c.self.inside.tables c.self.inside.last c.self.inside.spare_count c.self.inside.top_mask c.self.inside.free_total c.self.inside.accesses c.args.more c.self.invariant c.requires.more whole_fits idle (down c.size-whole.result) (ap down c.size-whole.ensures.cell)
+    widen_listed (fields_of g.NI.NodeIndex.MAX c.self.inside) c.args.more c.self.invariant c.requires.more whole_fits idle (down c.size-whole.result) (ap down c.size-whole.ensures.cell)
 
 pub overflow_add-whole : goal.overflow_add-whole
 overflow_add-whole g c =
     let whole_fits : c.self.inside.size + c.args.more ≤ 4294967295 = subst (λ (u : View). u.size + c.args.more ≤ 4294967295) (sym c.self.view_is) c.requires.fits in
-    let small = last_small c.self.inside.tables.room c.self.inside.last c.self.inside.spare_count c.args.more c.self.invariant.space (units_fit g.NI.NodeIndex.MAX c.self.inside.size c.self.inside.max_allocs c.self.inside.tables c.self.inside.last c.self.inside.spare_count c.self.inside.top_mask c.self.inside.free_total c.self.inside.accesses c.args.more c.self.invariant c.requires.more whole_fits) in
+    let small = last_small c.self.inside.tables.room c.self.inside.last c.self.inside.spare_count c.args.more c.self.invariant.space (units_fit (fields_of g.NI.NodeIndex.MAX c.self.inside) c.args.more c.self.invariant c.requires.more whole_fits) in
     omega (arith, small, c.size-whole.ensures.cell)
 
 pub put_first-requires-clause-named : goal.put_first-requires-clause-named
 put_first-requires-clause-named g c =
-    let below = (end g.NI.NodeIndex.MAX c.self.inside.size c.self.inside.max_allocs c.self.inside.tables c.self.inside.last c.self.inside.spare_count c.self.inside.top_mask c.self.inside.free_total c.self.inside.accesses c.args.more c.self.invariant).below in
+    let below = (end (fields_of g.NI.NodeIndex.MAX c.self.inside) c.args.more c.self.invariant).below in
     omega (arith, below, c.grow.ensures.limit, ap (λ (r : Room). length r.nodes) c.remove.ensures.room, c.shape.ensures.newer)
 
 pub put_first-requires-clause-classed : goal.put_first-requires-clause-classed
@@ -42,12 +43,12 @@ put_first-requires-clause-fresh g c =
     let idle = subst (λ (u : View). ends_used u.blocks ≡ false) (sym c.self.view_is) c.requires.idle in
     let small = down_small c.size-whole.result in
     let lists = ap (λ (k : Links). class_lists g.NI.NodeIndex.MAX k) c.grow.ensures.links ∙ c.remove.ensures.lists in
-    subst (λ (o : List (List ℕ)). IsUnlisted c.self.inside.last o) (sym lists) (widen_unlisted g.NI.NodeIndex.MAX c.self.inside.size c.self.inside.max_allocs c.self.inside.tables c.self.inside.last c.self.inside.spare_count c.self.inside.top_mask c.self.inside.free_total c.self.inside.accesses c.args.more c.self.invariant c.requires.more whole_fits idle (down c.size-whole.result) small (ap down c.size-whole.ensures.cell))
+    subst (λ (o : List (List ℕ)). IsUnlisted c.self.inside.last o) (sym lists) (widen_unlisted (fields_of g.NI.NodeIndex.MAX c.self.inside) c.args.more c.self.invariant c.requires.more whole_fits idle (down c.size-whole.result) small (ap down c.size-whole.ensures.cell))
 
 pub overflow_add-self-2 : goal.overflow_add-self-2
 overflow_add-self-2 g c =
     let whole_fits : c.self.inside.size + c.args.more ≤ 4294967295 = subst (λ (u : View). u.size + c.args.more ≤ 4294967295) (sym c.self.view_is) c.requires.fits in
-    let small = free_fits g.NI.NodeIndex.MAX c.self.inside.size c.self.inside.max_allocs c.self.inside.tables c.self.inside.last c.self.inside.spare_count c.self.inside.top_mask c.self.inside.free_total c.self.inside.accesses c.args.more c.self.invariant c.requires.more whole_fits in
+    let small = free_fits (fields_of g.NI.NodeIndex.MAX c.self.inside) c.args.more c.self.invariant c.requires.more whole_fits in
     omega arith
 
 pub invariant_of-self : goal.invariant_of-self
@@ -59,7 +60,7 @@ invariant_of-self g c =
     let space = subst (λ (r : Room). IsSpace r c.self.inside.last c.self.inside.spare_count) (sym c.put_first.ensures.room) c.grow.ensures.space in
     let nodes = ap (λ (r : Room). length r.nodes) c.put_first.ensures.room ∙ c.grow.ensures.limit ∙ ap (λ (r : Room). length r.nodes) c.remove.ensures.room in
     let class = ap down c.size-whole.ensures.cell in
-    (widened g.NI.NodeIndex.MAX c.self.inside.size c.self.inside.max_allocs c.self.inside.tables c.self.inside.last c.self.inside.spare_count c.self.inside.top_mask c.self.inside.free_total c.self.inside.accesses c.args.more c.self.invariant c.requires.more whole_fits idle c.put_first.new.t c.self.inside.spare_count c.put_first.new.top 0 (down c.size-whole.result) c.size-whole.result c.size-whole.ensures.cell class space c.put_first.ensures.held nodes room_is lists_are).0
+    (widened (fields_of g.NI.NodeIndex.MAX c.self.inside) c.args.more c.self.invariant c.requires.more whole_fits idle c.put_first.new.t c.self.inside.spare_count c.put_first.new.top 0 (down c.size-whole.result) c.size-whole.result c.size-whole.ensures.cell class space c.put_first.ensures.held nodes room_is lists_are).0
 
 pub returns-clause-step : goal.returns-clause-step
 returns-clause-step g c =
@@ -71,4 +72,4 @@ returns-clause-step g c =
     let nodes = ap (λ (r : Room). length r.nodes) c.put_first.ensures.room ∙ c.grow.ensures.limit ∙ ap (λ (r : Room). length r.nodes) c.remove.ensures.room in
     let class = ap down c.size-whole.ensures.cell in
     let P : View → Type 0 = λ u. Extends c.args.more u (view_of g.NI.NodeIndex.MAX (c.self.inside.size + c.args.more) c.self.inside.max_allocs c.put_first.new.t c.self.inside.last c.put_first.new.count) true in
-    subst P c.self.view_is (widened g.NI.NodeIndex.MAX c.self.inside.size c.self.inside.max_allocs c.self.inside.tables c.self.inside.last c.self.inside.spare_count c.self.inside.top_mask c.self.inside.free_total c.self.inside.accesses c.args.more c.self.invariant c.requires.more whole_fits idle c.put_first.new.t c.self.inside.spare_count c.put_first.new.top c.put_first.new.count (down c.size-whole.result) c.size-whole.result c.size-whole.ensures.cell class space c.put_first.ensures.held nodes room_is lists_are).1
+    subst P c.self.view_is (widened (fields_of g.NI.NodeIndex.MAX c.self.inside) c.args.more c.self.invariant c.requires.more whole_fits idle c.put_first.new.t c.self.inside.spare_count c.put_first.new.top c.put_first.new.count (down c.size-whole.result) c.size-whole.result c.size-whole.ensures.cell class space c.put_first.ensures.held nodes room_is lists_are).1
