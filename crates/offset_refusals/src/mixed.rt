@@ -1,0 +1,138 @@
+//! Calls of every kind on one allocator.
+
+use offset_allocator::laws::{
+    allocation_size_counted, is_live_counted, storage_report_counted, storage_report_full_counted,
+    undo,
+};
+use offset_allocator::{
+    Accesses, Allocation, Allocator, NodeIndex, StorageReport, StorageReportFull,
+};
+
+#[tactic(auto, using(offset_script::proofs::Powers::power_of_two))]
+fn request_aligned<NI: NodeIndex>(
+    allocator: &mut Allocator<NI>,
+    size: u32,
+    align: u32,
+) -> Option<Allocation<NI>> {
+    if align.is_power_of_two() {
+        allocator.allocate_aligned(size, align)
+    } else {
+        None
+    }
+}
+
+// Numbers that are no offset, of the spaces that are called here.
+const NONE: u32 = 100_000;
+
+const GONE: u32 = 200_000;
+
+// Releases a handle, if it is live, and answers its size.
+fn release<NI: NodeIndex>(allocator: &mut Allocator<NI>, handle: Allocation<NI>) -> u32 {
+    if allocator.is_live(handle) {
+        let size = allocator.allocation_size(handle);
+        allocator.free(handle);
+        size
+    } else {
+        GONE
+    }
+}
+
+// Where a handle is kept it is released, and else one is asked for. The answer is an offset, a size, or another number.
+fn grant_or_release<NI: NodeIndex>(
+    allocator: &mut Allocator<NI>,
+    kept: &mut Option<Allocation<NI>>,
+    kind: u32,
+    size: u32,
+) -> u32 {
+    match *kept {
+        Some(handle) => {
+            *kept = None;
+            release(allocator, handle)
+        }
+        None => {
+            *kept = if kind % 2 == 0 {
+                allocator.allocate(size)
+            } else {
+                request_aligned(allocator, size, 8)
+            };
+            match *kept {
+                None => NONE,
+                Some(handle) => handle.offset,
+            }
+        }
+    }
+}
+
+// Both reports, as one number.
+fn folded(short: &StorageReport, full: &StorageReportFull, class: usize) -> u32 {
+    short
+        .total_free_space
+        .wrapping_mul(3)
+        .wrapping_add(short.largest_free_region)
+        .wrapping_mul(3)
+        .wrapping_add(full.free_regions[class % 256].count)
+}
+
+fn reported<NI: NodeIndex>(allocator: &Allocator<NI>, class: usize) -> u32 {
+    let short = allocator.storage_report();
+    let full = allocator.storage_report_full();
+    folded(&short, &full, class)
+}
+
+// The same by the counted calls, and of a kept handle also its size, where it is live.
+fn reported_counted<NI: NodeIndex>(
+    allocator: &Allocator<NI>,
+    kept: Option<Allocation<NI>>,
+    class: usize,
+) -> u32 {
+    let mut count = Accesses::new();
+    let short = storage_report_counted(allocator, &mut count);
+    let full = storage_report_full_counted(allocator, &mut count);
+    let told = folded(&short, &full, class);
+    match kept {
+        Some(handle) if is_live_counted(allocator, handle, &mut count) => told
+            .wrapping_mul(3)
+            .wrapping_add(allocation_size_counted(allocator, handle, &mut count)),
+        _ => told,
+    }
+}
+
+// The answer to a call, as a number.
+fn called<NI: NodeIndex>(
+    allocator: &mut Allocator<NI>,
+    kept: &mut Option<Allocation<NI>>,
+    kind: u32,
+    number: u32,
+) -> u32 {
+    match kind {
+        0..=9 => grant_or_release(allocator, kept, kind, number % 100),
+        10 | 11 => reported(allocator, number as usize),
+        12 => reported_counted(allocator, *kept, number as usize),
+        13 => u32::from(undo(allocator, number % 500)),
+        14 => u32::from(allocator.extend(number % 10)),
+        _ => {
+            if number % 8 == 0 {
+                allocator.reset();
+            }
+            0
+        }
+    }
+}
+
+/// A checksum of the answers to 1,000 calls of every kind. Handles are kept in the list that is given.
+pub fn mixed_calls<NI: NodeIndex>(
+    allocator: &mut Allocator<NI>,
+    kept: &mut [Option<Allocation<NI>>],
+) -> u64 {
+    let mut state = 1u64;
+    let mut sum = 0u64;
+    for _ in 0..1_000u32 {
+        state = state.wrapping_mul(1_103_515_245).wrapping_add(12_345) % 2_147_483_648;
+        let number = state / 65_536;
+        if let Some(kept) = kept.get_mut((number / 16 % 16) as usize) {
+            let answer = called(allocator, kept, (number % 16) as u32, (number / 256) as u32);
+            sum = sum.wrapping_mul(31).wrapping_add(u64::from(answer));
+        }
+    }
+    sum
+}
