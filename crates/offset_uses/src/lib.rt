@@ -1,10 +1,10 @@
 //! Uses of `offset_allocator`, as a caller writes them.
-#![tactic(auto, using(offset_allocator::proofs::Ranges::given_back))]
+#![tactic(auto)]
 
-ghost use Rattle.std.specs.Prelude.{◌≡◌, ◌≢◌, ◌↔◌, ℕ, ◌+◌, ◌*◌, ◌<◌, ◌≤◌, ◌%◌, Some, None, IfSome, IfNone, IsSome, IsTrue, IfOk, All, map, length};
-ghost use Rattle.offset_allocator.specs.Named.{largest_free, free_sizes};
+ghost use Rattle.std.specs.Prelude.{◌≡◌, ◌≢◌, ◌↔◌, ◌⊎◌, ℕ, ◌+◌, ◌*◌, ◌<◌, ◌≤◌, ◌%◌, Some, None, IfSome, IfNone, IsSome, IsTrue, IfOk, All, map, length};
+ghost use Rattle.offset_allocator.specs.Named.{View, Grant, largest_free, total_free, size_at, place_of};
 ghost use Rattle.offset_allocator.specs.Ranges.{Range, range_of, AreDisjoint, KeepsRanges, KeepsOthers};
-ghost use Rattle.offset_allocator.specs.Relations.{IsLive, IsBut};
+ghost use Rattle.offset_allocator.specs.Relations.{Allocates, IsLive, IsBut};
 ghost use Rattle.offset_script.specs.Answers.{seen};
 ghost use Rattle.offset_script.specs.Limits.{is_powered};
 ghost use Rattle.offset_script.specs.Machine.{answers, start};
@@ -13,8 +13,10 @@ use offset_allocator::{Accesses, Allocation, Allocator, NodeIndex, laws};
 use offset_script::{Answer, Command, play};
 use std::alloc::{AllocError, Global};
 
-/// Two ranges of vertices, for the outer and the inner hull of a mesh, or none at all: a refusal leaves the buffer as it was,
-/// the order of its free blocks too.
+/// Two ranges of vertices, for the outer and the inner hull of a mesh, or none at all.
+///
+/// A refusal leaves the buffer as it was, the order of its free blocks too. It comes only where the first range does not
+/// fit, or the second behind it.
 pub fn place_mesh(
     vertices: &mut Allocator,
     outer: u32,
@@ -22,8 +24,11 @@ pub fn place_mesh(
 ) -> Option<(Allocation, Allocation)>
     ensures outer { IfSome result (λ hulls. range_of hulls.0.name vertices.new ≡ Some (record { offset = hulls.0.offset; size = outer })) }
     ensures inner { IfSome result (λ hulls. range_of hulls.1.name vertices.new ≡ Some (record { offset = hulls.1.offset; size = inner })) }
+    ensures apart { IfSome result (λ hulls. AreDisjoint (record { offset = hulls.0.offset; size = outer }) (record { offset = hulls.1.offset; size = inner })) }
     ensures kept { KeepsRanges vertices.old vertices.new }
     ensures same { result ≡ None → IsBut vertices.old vertices.new }
+    ensures refused { result ≡ None → 1 ≤ outer → 1 ≤ inner → (largest_free vertices.old < outer)
+        ⊎ ((w : View) × (g : Grant) × Allocates outer vertices.old w (Some g) × (largest_free w < inner)) }
 {
     laws::is_well_formed(vertices);
     let one = vertices.allocate(outer)?;
@@ -32,7 +37,10 @@ pub fn place_mesh(
             vertices.free(one);
             None
         }
-        Some(other) => Some((one, other)),
+        Some(other) => {
+            laws::ranges_are_disjoint(vertices);
+            Some((one, other))
+        }
     }
 }
 
@@ -125,21 +133,33 @@ pub fn charge(space: &mut Allocator, tenant: &mut Tenant, n: u32) -> Option<Allo
     Some(allocation)
 }
 
-/// One frame: a request, a look at the report and a release, with a count of the reads that leave the space as it is.
-pub fn frame<NI: NodeIndex>(space: &mut Allocator<NI>, n: u32, count: &mut Accesses) -> bool
-    ensures few { space.new.accesses ≤ space.old.accesses + 192 }
-    ensures read { count.new ≤ count.old + 16 }
-    ensures kept { KeepsRanges space.old space.new }
+/// Takes a tenant's range back.
+pub fn refund(space: &mut Allocator, tenant: &mut Tenant, allocation: Allocation)
+    requires live { IsLive allocation.name space.old }
+    requires held { size_at (place_of allocation.name space.old.blocks) ≤ tenant.old.held }
+    ensures quota { tenant.new.quota ≡ tenant.old.quota }
+    ensures held { tenant.new.held + size_at (place_of allocation.name space.old.blocks) ≡ tenant.old.held }
+    ensures gone { range_of allocation.name space.new ≡ None }
+    ensures others { KeepsOthers allocation.name space.old space.new }
 {
-    match space.allocate(n) {
-        None => false,
-        Some(allocation) => {
-            let size = laws::allocation_size_counted(space, allocation, count);
-            let report = laws::storage_report_counted(space, count);
-            space.free(allocation);
-            size <= report.total_free_space
-        }
-    }
+    tenant.held -= space.allocation_size(allocation);
+    space.free(allocation);
+}
+
+/// Units for one frame: they are granted, what is free beside them is told, and they are given back. The space is then as
+/// it was, and the accesses of the frame are bounded, those of the plain look at the space by a count of their own.
+pub fn frame<NI: NodeIndex>(space: &mut Allocator<NI>, n: u32, count: &mut Accesses) -> Option<u32>
+    ensures granted { 1 ≤ n → (IsSome result ↔ (n ≤ largest_free space.old)) }
+    ensures beside { IfSome result (λ left. (w : View) × (g : Grant) × Allocates n space.old w (Some g) × (left ≡ total_free w)) }
+    ensures same { IsBut space.old space.new }
+    ensures few { space.new.accesses ≤ space.old.accesses + 192 }
+    ensures read { count.new ≤ count.old + 8 }
+{
+    laws::is_well_formed(space);
+    let scratch = space.allocate(n)?;
+    let beside = laws::storage_report_counted(space, count).total_free_space;
+    space.free(scratch);
+    Some(beside)
 }
 
 /// One list of commands, played with names of 16 bits and of 32. The answers are equal.

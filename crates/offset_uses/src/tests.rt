@@ -44,6 +44,14 @@ fn a_tenant_stays_within_its_quota(rt: HostRuntime) -> Result<(), Fail> {
     assert!(rt; charge(&mut space, &mut far, 50).is_some());
     assert!(rt; charge(&mut space, &mut near, 6).is_none());
     assert_eq!(rt; (near.held, far.held), (15, 50));
+    match charge(&mut space, &mut near, 5) {
+        None => assert!(rt; false),
+        Some(allocation) => refund(&mut space, &mut near, allocation),
+    }
+    assert_eq!(rt;
+        (near.held, space.storage_report().total_free_space),
+        (15, 35)
+    );
     Ok(())
 }
 
@@ -51,8 +59,8 @@ fn a_tenant_stays_within_its_quota(rt: HostRuntime) -> Result<(), Fail> {
 fn a_frame_leaves_the_space_as_it_was(rt: HostRuntime) -> Result<(), Fail> {
     let mut space = Allocator::<u16>::new(rt.alloc(), 100)?;
     let mut count = Accesses::new();
-    assert!(rt; frame(&mut space, 40, &mut count));
-    assert!(rt; !frame(&mut space, 97, &mut count));
+    assert_eq!(rt; frame(&mut space, 40, &mut count), Some(60));
+    assert_eq!(rt; frame(&mut space, 97, &mut count), None);
     assert_eq!(rt; space.storage_report().total_free_space, 100);
     Ok(())
 }
