@@ -66,10 +66,13 @@ pub fn storage_report_full_counted<NI: NodeIndex>(
 /// then as they were. It is `false` where the request was refused.
 ///
 /// The contract says this of each grant that a request for `n` can be given here, whichever unused name its rest takes.
+/// The count of accesses grows by at most 192.
 pub fn undo<NI: NodeIndex>(allocator: &mut Allocator<NI>, n: u32) -> bool
     ensures undone { IsUndone n allocator.old }
     ensures same { IsBut allocator.old allocator.new }
     ensures granted { IsTrue result ↔ IsGranted n allocator.old }
+    ensures grows { allocator.old.accesses ≤ allocator.new.accesses }
+    ensures count { allocator.new.accesses ≤ allocator.old.accesses + 192 }
 {
     allocator.formed();
     match allocator.allocate(n) {

@@ -91,7 +91,8 @@ fn start<NI: NodeIndex>(
     requires empty { tables.old ≡ empty_cells NI.MAX max_allocs }
     requires least { 2 ≤ max_allocs }
     requires most { max_allocs + 1 < NI.MAX }
-    ensures { IsStarted NI.MAX size max_allocs tables.new result }
+    ensures started { IsStarted NI.MAX size max_allocs tables.new result }
+    ensures grows { count.old ≤ count.new }
 {
     let mut top_mask = 0;
     tables.set_size(0, size, count);
@@ -143,6 +144,7 @@ impl<NI: NodeIndex> Allocator<NI> {
     /// The block of every earlier handle is gone.
     pub fn reset(&mut self)
         ensures step { Resets self.old self.new }
+        ensures grows { self.old.accesses ≤ self.new.accesses }
     {
         self.tables.clear();
         self.top_mask = start(

@@ -27,8 +27,8 @@ put_first-requires-clause-fresh g c =
     let lk : c.set_size.new.self.links ≡ (empty_cells g.NI.NodeIndex.MAX c.args.max_allocs).links = ap (λ (v : Cells). v.links) c.set_size.ensures.cells ∙ ap (λ (v : Cells). v.links) te in
     subst (λ (k : Links). IsUnlisted 0 (class_lists g.NI.NodeIndex.MAX k)) (sym lk) (empty_unlisted g.NI.NodeIndex.MAX c.args.max_allocs c.args.size (omega arith) (omega arith) (omega arith))
 
-pub returns : goal.returns
-returns g c =
+pub returns-clause-started : goal.returns-clause-started
+returns-clause-started g c =
     let te : c.args.tables.now ≡ empty_cells g.NI.NodeIndex.MAX c.args.max_allocs = c.requires.empty in
     let lk : c.set_size.new.self.links ≡ (empty_cells g.NI.NodeIndex.MAX c.args.max_allocs).links = ap (λ (v : Cells). v.links) c.set_size.ensures.cells ∙ ap (λ (v : Cells). v.links) te in
     let rm : c.set_size.new.self.room ≡ put (empty_cells g.NI.NodeIndex.MAX c.args.max_allocs).room 0 (record (node (empty_cells g.NI.NodeIndex.MAX c.args.max_allocs).room 0) { size = c.args.size }) = ap (λ (v : Cells). v.room) c.set_size.ensures.cells ∙ ap (λ (v : Cells). put v.room 0 (record (node v.room 0) { size = c.args.size })) te in
