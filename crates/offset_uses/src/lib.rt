@@ -1,10 +1,10 @@
 //! Uses of `offset_allocator`, as a caller writes them.
 #![tactic(auto)]
 
-ghost use Rattle.std.specs.Prelude.{◌≡◌, ◌≢◌, ◌↔◌, ◌⊎◌, ℕ, ◌+◌, ◌*◌, ◌<◌, ◌≤◌, ◌%◌, Some, None, IfSome, IfNone, IsSome, IsTrue, IfOk, All, map, length};
+ghost use Rattle.std.specs.Prelude.{◌≡◌, ◌≢◌, ◌↔◌, ◌⊎◌, ℕ, ◌+◌, ◌*◌, ◌<◌, ◌≤◌, ◌%◌, Some, None, IfSome, IfNone, IsSome, IsTrue, IfOk, MatchOption, All, map, min, length};
 ghost use Rattle.offset_allocator.specs.Named.{View, Grant, largest_free, total_free, size_at, place_of};
 ghost use Rattle.offset_allocator.specs.Ranges.{Range, range_of, AreDisjoint, KeepsRanges, KeepsOthers};
-ghost use Rattle.offset_allocator.specs.Relations.{Allocates, IsLive, IsBut};
+ghost use Rattle.offset_allocator.specs.Relations.{Aligns, Allocates, IsLive, IsBut};
 ghost use Rattle.offset_script.specs.Answers.{seen};
 ghost use Rattle.offset_script.specs.Limits.{is_powered};
 ghost use Rattle.offset_script.specs.Machine.{answers, start};
@@ -56,6 +56,7 @@ pub fn are_apart(vertices: &Allocator, one: Allocation, other: Allocation)
 pub fn place_promised(vertices: &mut Allocator, n: u32) -> Allocation
     requires some { 1 ≤ n }
     requires promised { n ≤ largest_free vertices.old }
+    ensures step { Allocates n vertices.old vertices.new (Some result) }
     ensures live { IsLive result.name vertices.new }
     ensures range { range_of result.name vertices.new ≡ Some (record { offset = result.offset; size = n }) }
     ensures kept { KeepsRanges vertices.old vertices.new }
@@ -67,8 +68,9 @@ pub fn place_promised(vertices: &mut Allocator, n: u32) -> Allocation
 pub fn place_what_fits(vertices: &mut Allocator, n: u32) -> Option<(Allocation, u32)>
     requires some { 1 ≤ n }
     ensures range { IfSome result (λ got. range_of got.0.name vertices.new ≡ Some (record { offset = got.0.offset; size = got.1 })) }
-    ensures most { IfSome result (λ got. got.1 ≤ n) }
+    ensures most { IfSome result (λ got. got.1 ≡ min n (largest_free vertices.old)) }
     ensures some { IsSome result ↔ (1 ≤ largest_free vertices.old) }
+    ensures step { MatchOption result (IsBut vertices.old vertices.new) (λ got. Allocates got.1 vertices.old vertices.new (Some got.0)) }
     ensures kept { KeepsRanges vertices.old vertices.new }
 {
     let fits = vertices.storage_report().largest_free_region;
@@ -79,10 +81,11 @@ pub fn place_what_fits(vertices: &mut Allocator, n: u32) -> Option<(Allocation, 
     Some((vertices.allocate(size).unwrap(), size))
 }
 
-/// A request that lets the space grow where it would be refused.
+/// A request that lets the space grow where it would be refused. The space may have grown though it still is refused.
 pub fn allocate_or_grow(space: &mut Allocator, n: u32, more: u32) -> Option<Allocation>
     ensures range { IfSome result (λ h. range_of h.name space.new ≡ Some (record { offset = h.offset; size = n })) }
-    ensures granted { 1 ≤ n → n ≤ largest_free space.old → IsSome result }
+    ensures at_once { 1 ≤ n → n ≤ largest_free space.old → IsSome result × Allocates n space.old space.new result }
+    ensures refused { 1 ≤ n → result ≡ None → largest_free space.new < n }
     ensures kept { KeepsRanges space.old space.new }
 {
     if let Some(allocation) = space.allocate(n) {
@@ -97,6 +100,7 @@ pub fn allocate_or_grow(space: &mut Allocator, n: u32, more: u32) -> Option<Allo
 
 /// A uniform buffer, at a multiple of 256 units, as a device asks for.
 pub fn place_uniforms(heap: &mut Allocator, n: u32) -> Option<Allocation>
+    ensures step { Aligns n 256 heap.old heap.new result }
     ensures aligned { IfSome result (λ h. h.offset % 256 ≡ 0) }
     ensures granted { IsSome result ↔ ((length heap.old.blocks + 2 < heap.old.max_allocs) × (n + 255 ≤ largest_free heap.old)) }
     ensures range { IfSome result (λ h. range_of h.name heap.new ≡ Some (record { offset = h.offset; size = n })) }
@@ -114,9 +118,10 @@ pub struct Tenant {
     pub held: u32,
 }
 
-/// Grants units to a tenant, within its quota.
+/// Grants units to a tenant, within its quota. Nothing changes where none are granted.
 pub fn charge(space: &mut Allocator, tenant: &mut Tenant, n: u32) -> Option<Allocation>
     requires within { tenant.old.held ≤ tenant.old.quota }
+    ensures step { MatchOption result (IsBut space.old space.new) (λ h. Allocates n space.old space.new (Some h)) }
     ensures within { tenant.new.held ≤ tenant.new.quota }
     ensures quota { tenant.new.quota ≡ tenant.old.quota }
     ensures charged { IfSome result (λ _. tenant.new.held ≡ tenant.old.held + n) }
