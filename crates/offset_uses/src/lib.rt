@@ -1,10 +1,10 @@
 //! Uses of `offset_allocator`, as a caller writes them.
 #![tactic(auto)]
 
-ghost use Rattle.std.specs.Prelude.{◌≡◌, ◌≢◌, ◌↔◌, ◌⊎◌, ℕ, ◌+◌, ◌*◌, ◌<◌, ◌≤◌, ◌%◌, Some, None, IfSome, IfNone, IsSome, IsTrue, IfOk, MatchOption, All, map, min, length};
+ghost use Rattle.std.specs.Prelude.{◌≡◌, ◌≢◌, ◌↔◌, ◌⊎◌, ℕ, true, false, ◌+◌, ◌*◌, ◌<◌, ◌≤◌, ◌%◌, Some, None, IfSome, IfNone, IsSome, IsTrue, IfOk, MatchOption, All, map, min, length};
 ghost use Rattle.offset_allocator.specs.Named.{View, Grant, largest_free, total_free, size_at, place_of};
 ghost use Rattle.offset_allocator.specs.Ranges.{Range, range_of, AreDisjoint, KeepsRanges, KeepsOthers};
-ghost use Rattle.offset_allocator.specs.Relations.{Aligns, Allocates, IsLive, IsBut};
+ghost use Rattle.offset_allocator.specs.Relations.{Aligns, Allocates, Extends, IsLive, IsBut};
 ghost use Rattle.offset_script.specs.Answers.{seen};
 ghost use Rattle.offset_script.specs.Limits.{is_powered};
 ghost use Rattle.offset_script.specs.Machine.{answers, start};
@@ -15,8 +15,8 @@ use std::alloc::{AllocError, Global};
 
 /// Two ranges of vertices, for the outer and the inner hull of a mesh, or none at all.
 ///
-/// A refusal leaves the buffer as it was, the order of its free blocks too. It comes only where the first range does not
-/// fit, or the second behind it.
+/// A refusal leaves the buffer as it was, the order of its free blocks too. It comes only where the first range is refused,
+/// or the second after it.
 pub fn place_mesh(
     vertices: &mut Allocator,
     outer: u32,
@@ -27,8 +27,9 @@ pub fn place_mesh(
     ensures apart { IfSome result (λ hulls. AreDisjoint (record { offset = hulls.0.offset; size = outer }) (record { offset = hulls.1.offset; size = inner })) }
     ensures kept { KeepsRanges vertices.old vertices.new }
     ensures same { result ≡ None → IsBut vertices.old vertices.new }
-    ensures refused { result ≡ None → 1 ≤ outer → 1 ≤ inner → (largest_free vertices.old < outer)
-        ⊎ ((w : View) × (g : Grant) × Allocates outer vertices.old w (Some g) × (largest_free w < inner)) }
+    ensures placed { IfSome result (λ hulls. (w : View) × Allocates outer vertices.old w (Some hulls.0) × Allocates inner w vertices.new (Some hulls.1)) }
+    ensures refused { result ≡ None → ((w : View) × Allocates outer vertices.old w None)
+        ⊎ ((v w : View) × (g : Grant) × Allocates outer vertices.old v (Some g) × Allocates inner v w None) }
 {
     laws::is_well_formed(vertices);
     let one = vertices.allocate(outer)?;
@@ -86,6 +87,9 @@ pub fn allocate_or_grow(space: &mut Allocator, n: u32, more: u32) -> Option<Allo
     ensures range { IfSome result (λ h. range_of h.name space.new ≡ Some (record { offset = h.offset; size = n })) }
     ensures at_once { 1 ≤ n → n ≤ largest_free space.old → IsSome result × Allocates n space.old space.new result }
     ensures refused { 1 ≤ n → result ≡ None → largest_free space.new < n }
+    ensures step { (IsSome result × Allocates n space.old space.new result)
+        ⊎ ((v w : View) × Allocates n space.old v None × Extends more v w true × Allocates n w space.new result)
+        ⊎ ((v : View) × Allocates n space.old v None × Extends more v space.new false × (result ≡ None)) }
     ensures kept { KeepsRanges space.old space.new }
 {
     if let Some(allocation) = space.allocate(n) {
@@ -152,7 +156,7 @@ pub fn refund(space: &mut Allocator, tenant: &mut Tenant, allocation: Allocation
 }
 
 /// Units for one frame: they are granted, what is free beside them is told, and they are given back. The space is then as
-/// it was, and the accesses of the frame are bounded, those of the plain look at the space by a count of their own.
+/// it was, and the accesses of the frame are bounded, `count` counts those of the report.
 pub fn frame<NI: NodeIndex>(space: &mut Allocator<NI>, n: u32, count: &mut Accesses) -> Option<u32>
     ensures granted { 1 ≤ n → (IsSome result ↔ (n ≤ largest_free space.old)) }
     ensures beside { IfSome result (λ left. (w : View) × (g : Grant) × Allocates n space.old w (Some g) × (left ≡ total_free w)) }
