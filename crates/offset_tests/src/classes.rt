@@ -44,7 +44,7 @@ pub const GROUPS: [(u64, u64); 32] = [
 ];
 
 // Sizes, with the least size of a space that grants them.
-const LEAST_SIZES: [(u32, u32); 41] = [
+const LEAST_SIZES: [(u32, u32); 42] = [
     (0, 0),
     (1, 1),
     (2, 2),
@@ -86,6 +86,7 @@ const LEAST_SIZES: [(u32, u32); 41] = [
     (1_377_073, 1_441_792),
     (9_440_387, 10_485_760),
     (41_994_490, 46_137_344),
+    (68_520_116, 75_497_472),
 ];
 
 #[test]
@@ -140,13 +141,14 @@ fn the_values_of_all_groups(rt: HostRuntime) {
 #[test]
 fn ext_min_allocator_size(rt: HostRuntime) -> Result<(), Fail> {
     for (size, least) in LEAST_SIZES {
-        if size <= 4_026_531_840 {
-            assert_eq!(rt; min_allocator_size(size), least, "{size}");
-        }
-        let mut allocator = Allocator::<u32>::with_max_allocs(rt.alloc(), least, 3)?;
+        assert!(rt; size <= 4_026_531_840);
+        let found = min_allocator_size(size);
+        assert_eq!(rt; found, least, "{size}");
+        let mut allocator = Allocator::<u32>::new(rt.alloc(), found)?;
         assert!(rt; allocator.allocate(size).is_some(), "{size}");
+        let mut small = Allocator::<u32>::with_max_allocs(rt.alloc(), found, 3)?;
+        assert!(rt; small.allocate(size).is_some(), "{size}");
     }
-    assert_eq!(rt; min_allocator_size(68_520_116), 75_497_472);
     assert_eq!(rt; min_allocator_size(4_026_531_840), 4_026_531_840);
     Ok(())
 }

@@ -5,7 +5,7 @@ use offset_script::{FromRead, IntoWrite, run};
 use std::alloc::Global;
 use std::test::Fail;
 
-pub const ROWS: [(&[u8], &[u8]); 22] = [
+pub const ROWS: [(&[u8], &[u8]); 26] = [
     (
         b"space 100 nodes 16 index 32\nalloc 10\nalloc 20\n",
         b"grant 1 at 0\ngrant 2 at 10\n",
@@ -45,6 +45,23 @@ pub const ROWS: [(&[u8], &[u8]); 22] = [
     (
         b"space 10 nodes 4 index 32\nalloc 8\nextend 20\nalloc 20\nreport\nextend 5\nfull\n",
         b"grant 1 at 0\nextended\ngrant 2 at 8\nfree 0 largest 0\nextended\nfull 1\nclass 7 size 7 count 1\n",
+    ),
+    (
+        b"space 20 nodes 4 index 32\nalloc 12\nalloc 8\nfree 1\nalloc 5\nextend 1\nextend 0\nfree 2\nextend 1\nfull\n",
+        b"grant 1 at 0\ngrant 2 at 12\nfreed\ngrant 3 at 0\nnone\nextended\nfreed\nextended\nfull 1\nclass 16 size 16 count 1\n",
+    ),
+    // A block that grows inside its class is the newest.
+    (
+        b"space 66 nodes 8 index 32\nalloc 32\nalloc 1\nfree 1\nextend 1\nalloc 32\n",
+        b"grant 1 at 0\ngrant 2 at 32\nfreed\nextended\ngrant 3 at 33\n",
+    ),
+    (
+        b"space 10 nodes 4 index 16\nalloc 10\nextend 6\nreset\nreport\n",
+        b"grant 1 at 0\nextended\nreset\nfree 16 largest 16\n",
+    ),
+    (
+        b"space 4294967295 nodes 4 index 32\nextend 1\nextend 0\n",
+        b"none\nextended\n",
     ),
     // Skipped lines and leading zeros.
     (

@@ -22,12 +22,21 @@ pub fn answered(alloc: Global, text: &[u8]) -> Result<Vec<u8>, RunFault>
 #[cfg(test)]
 mod tests {
     use super::*;
+    use offset_script::ScriptFault;
     use std::test::Fail;
 
     #[test]
-    fn answers_a_header_alone(rt: HostRuntime) -> Result<(), Fail> {
-        let text = b"space 10 nodes 4 index 16\n".as_slice();
-        assert!(rt; answered(rt.alloc(), text)?.is_empty());
+    fn answers_a_script_in_memory(rt: HostRuntime) -> Result<(), Fail> {
+        let text = b"space 10 nodes 4 index 16\nalloc 3\nalloc 3\n".as_slice();
+        assert_eq!(rt;
+            answered(rt.alloc(), text)?.as_slice(),
+            b"grant 1 at 0\ngrant 2 at 3\n".as_slice()
+        );
+        let faulty = b"space 10 nodes 4 index 16\nalloc\n".as_slice();
+        assert_eq!(rt;
+            answered(rt.alloc(), faulty),
+            Err(RunFault::Script(ScriptFault::BadCommand(2)))
+        );
         Ok(())
     }
 }
