@@ -75,3 +75,13 @@ fn flushes_by_one_flush(rt: HostRuntime) {
         assert_eq!(rt; (writer.writes, writer.flushes), (0, 1));
     }
 }
+
+#[test]
+fn flushes_after_a_failure(rt: HostRuntime) {
+    let mut writer = Writer::new(rt.alloc(), 3);
+    writer.fails_at = 1;
+    let mut output = IntoWrite::new(writer);
+    assert_eq!(rt; output.push(b"abc".as_slice()), None);
+    assert!(rt; output.flush());
+    assert_eq!(rt; output.into_inner().flushes, 1);
+}
