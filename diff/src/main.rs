@@ -6,6 +6,7 @@ mod scripts;
 
 use scripts::{Script, Width};
 use std::collections::BTreeMap;
+use std::fs::File;
 use std::io::{Read, Write};
 use std::process::{Command, Stdio};
 use std::sync::atomic::{AtomicU64, Ordering};
@@ -27,6 +28,48 @@ fn ours(program: &str, script: &Script) -> String {
         out += &format!("{status}\n");
     }
     out
+}
+
+/// Texts that are no scripts, with the line that our program writes to standard error. It ends with status 2.
+const FAULTY: [(&str, &str); 7] = [
+    ("", "line 1: bad header\n"),
+    ("# c\n\n", "line 3: bad header\n"),
+    ("space 10 nodes 4 index 8\n", "line 1: bad header\n"),
+    ("space 10 nodes 65534 index 16\n", "line 1: bad limit\n"),
+    ("space 10 nodes 4 index 32\nalloc 1\nalloc 4294967296\n", "line 3: bad command\n"),
+    ("space 10 nodes 4 index 32\nalloc 1\nalloc 00000000001\n", "line 3: bad command\n"),
+    ("space 10 nodes 4 index 32\nalloc 1\nalign 1 3\n", "line 3: bad command\n"),
+];
+
+/// What our program tells of one run, in which it must not start to write.
+fn expect_fault(program: &str, input: Stdio, text: &[u8], output: Stdio, told: &str, status: i32) {
+    let mut child = Command::new(program)
+        .stdin(input)
+        .stdout(output)
+        .stderr(Stdio::piped())
+        .spawn()
+        .expect("our program starts");
+    if let Some(mut stdin) = child.stdin.take() {
+        stdin.write_all(text).expect("our program reads");
+    }
+    let found = child.wait_with_output().expect("our program ends");
+    assert_eq!(String::from_utf8_lossy(&found.stderr), told);
+    assert_eq!(found.status.code(), Some(status), "{told}");
+    assert!(found.stdout.is_empty(), "{told}");
+}
+
+/// Texts that are no scripts, a text that is too long, and devices that fail.
+fn expect_faults(program: &str) {
+    for (text, told) in FAULTY {
+        expect_fault(program, Stdio::piped(), text.as_bytes(), Stdio::piped(), told, 2);
+    }
+    let long = vec![b'#'; 1_048_577];
+    expect_fault(program, Stdio::piped(), &long, Stdio::piped(), "too long\n", 2);
+    let folder = File::open("/").expect("a folder, which gives no bytes");
+    expect_fault(program, folder.into(), b"", Stdio::piped(), "read failed\n", 4);
+    let full = File::options().write(true).open("/dev/full").expect("a device that takes no bytes");
+    let script = b"space 10 nodes 4 index 32\nalloc 1\n";
+    expect_fault(program, Stdio::piped(), script, full.into(), "write failed\n", 4);
 }
 
 /// The original cuts offsets to the width of its indices; nothing else is left out.
@@ -79,6 +122,7 @@ fn main() {
     let words: Vec<String> = std::env::args().skip(1).collect();
     let [program, count, first] = &words[..] else { panic!("compare PROGRAM COUNT FIRST") };
     let (count, first): (u64, u64) = (count.parse().unwrap(), first.parse().unwrap());
+    expect_faults(program);
     let next = AtomicU64::new(first);
     let tally = Mutex::new(Tally::default());
     std::thread::scope(|scope| {

@@ -118,7 +118,8 @@ impl<NI: NodeIndex> Allocator<NI> {
     }
 
     /// A space of `size` units, all free, with `max_allocs` as the node limit: at most `max_allocs - 1`
-    /// blocks stand at a time, so at most `max_allocs - 2` grants are live.
+    /// blocks stand at a time, so at most `max_allocs - 2` grants are live. The limit is 2 to `NI::MAX - 2`: 65533 for
+    /// `u16`, 4294967293 for `u32`.
     ///
     /// An error comes only where memory was refused. Then nothing is made.
     pub fn with_max_allocs(alloc: Global, size: u32, max_allocs: u32) -> Result<Self, AllocError>
@@ -140,7 +141,7 @@ impl<NI: NodeIndex> Allocator<NI> {
         })
     }
 
-    /// Makes the whole space one free block again, in place. It takes no memory and always succeeds.
+    /// Makes the whole space one free block again, in place. It takes no memory, always succeeds, and goes over all nodes.
     /// The block of every earlier handle is gone.
     pub fn reset(&mut self)
         ensures step { Resets self.old self.new }
@@ -223,9 +224,9 @@ impl<NI: NodeIndex> Allocator<NI> {
     /// stays free, directly behind the range.
     ///
     /// `None` where `max_allocs - 1` blocks stand, even for an exact fit, and where only free blocks of
-    /// lesser classes remain; nothing changes then. A request of at least one unit is granted exactly
+    /// lesser classes remain; blocks, names and class lists are then as they were. A request of at least one unit is granted exactly
     /// when it is at most the `largest_free_region` that the report tells just before. It makes at most
-    /// 26 accesses to the tables, and takes no memory.
+    /// 64 accesses to the tables (26 by the bounds of its parts), and takes no memory.
     pub fn allocate(&mut self, size: u32) -> Option<Allocation<NI>>
         ensures step { Allocates size self.old self.new result }
         ensures live { IfSome result (λ h. IsLive h.name self.new) }
@@ -253,8 +254,8 @@ impl<NI: NodeIndex> Allocator<NI> {
     /// Gives a granted range back. Its units are free at once, in one block with the free ranges directly before
     /// and behind it, and that block is the newest of its class.
     ///
-    /// Only the handle's name counts, and not its public `offset`. It makes at most 40 accesses to the tables,
-    /// and takes no memory.
+    /// Only the handle's name counts, and not its public `offset`. It makes at most 128 accesses to the
+    /// tables (40 by the bounds of its parts), and takes no memory. The handle has to be live, which `is_live` tells.
     pub fn free(&mut self, allocation: Allocation<NI>)
         requires live { IsLive allocation.name self.old }
         ensures step { IsBut (free allocation.name self.old) self.new }
@@ -357,7 +358,8 @@ impl<NI: NodeIndex> Allocator<NI> {
         }
     }
 
-    /// The units of the range that a live handle has: exactly what was asked for. It is 0 where the handle isn't live.
+    /// The units of the range that a live handle has: exactly what was asked for. It is 0 where the handle isn't live, and
+    /// of a live range of no units too.
     pub fn allocation_size(&self, allocation: Allocation<NI>) -> u32
         ensures { result ≡ size_at (place_of allocation.name self.now.blocks) }
     {
@@ -387,7 +389,7 @@ impl<NI: NodeIndex> Allocator<NI> {
     }
 
     /// The free space in short: the units of all free blocks, and the greatest request that would be granted. Both are
-    /// 0 where the node limit's last block stands, `max_allocs - 1` blocks in all.
+    /// 0 where `max_allocs - 1` blocks stand.
     pub fn storage_report(&self) -> StorageReport
         ensures { IsReport result self.now }
     {
@@ -456,7 +458,8 @@ impl<NI: NodeIndex> Allocator<NI> {
     /// It takes the block that a request for `size + align - 1` units would take. What of it lies before the granted
     /// units, and what lies behind them, stays free. It answers `None` where such a request finds no block or is too
     /// large for a number of 32 bits, or, with `align` above 1, where fewer than two more blocks may stand. A refusal
-    /// leaves all blocks as they were. With `align` 1 the call is `allocate`.
+    /// leaves blocks, names and class lists as they were. With `align` 1 the call is `allocate`. It makes at most 128
+    /// accesses to the tables, and takes no memory.
     pub fn allocate_aligned(&mut self, size: u32, align: u32) -> Option<Allocation<NI>>
         requires power { IsPowerOfTwo align }
         ensures step { Aligns size align self.old self.new result }
@@ -585,7 +588,8 @@ impl<NI: NodeIndex> Allocator<NI> {
     /// Adds `more` units at the end of the space: to the last block where that is free, or else as a new free block.
     ///
     /// It answers `false` where the space would have more than 4294967295 units, or where its last block is used and
-    /// no further block may stand. All blocks then stay as they were. With 0 units it answers `true`.
+    /// no further block may stand. Blocks, names and class lists then stay as they were. With 0 units it answers
+    /// `true`. It makes at most 128 accesses to the tables, and takes no memory.
     pub fn extend(&mut self, more: u32) -> bool
         ensures step { Extends more self.old self.new result }
         ensures kept { KeepsAll self.old self.new }

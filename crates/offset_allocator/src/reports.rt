@@ -3,7 +3,7 @@ ghost use Rattle.std.specs.Prelude.{◌≡◌, replicate};
 
 /// The free space of an allocator, in short.
 ///
-/// Both numbers are 0 where the node limit's last block stands, since nothing is granted there.
+/// Both numbers are 0 where `max_allocs - 1` blocks stand, since nothing is granted there.
 #[derive(Debug, Drop)]
 pub struct StorageReport {
     /// The units of all free blocks together.

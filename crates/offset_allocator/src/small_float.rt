@@ -40,8 +40,8 @@ pub fn uint_to_float_round_down(size: u32) -> u32
     (start << MANTISSA_BITS) + (size >> start)
 }
 
-/// The value of a class in units, of which the low 32 bits are told: the values of the classes from 240
-/// on are greater.
+/// The value of a class below 256 in units, of which the low 32 bits are told: the values of the classes
+/// from 240 on are greater.
 pub fn float_to_uint(float_value: u32) -> u32
     requires { float_value < 256 }
     ensures is { result ≡ value float_value % 2 ^ 32 }
