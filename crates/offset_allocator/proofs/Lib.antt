@@ -1,4 +1,3 @@
-pub mod AlignedFits
 pub mod Aligning
 pub mod Always
 pub mod Back
@@ -10,14 +9,11 @@ pub mod Counting
 pub mod Cuts
 pub mod Extending
 pub mod Find
-pub mod First
-pub mod Formed
 pub mod Found
 pub mod Freeing
 pub mod Fresh
 pub mod Fronts
 pub mod Granting
-pub mod Greatest
 pub mod Growing
 pub mod Join
 pub mod JoinSpace
@@ -28,10 +24,10 @@ pub mod Merging
 pub mod Nodes
 pub mod Ops
 pub mod Overwritten
+pub mod Powers
 pub mod Ranges
 pub mod Removal
 pub mod Removed
-pub mod Reporting
 pub mod Rows
 pub mod Sizes
 pub mod Sound

@@ -57,7 +57,7 @@ fn pair_command(name: &[u8], n: u32, a: u32) -> Option<Command>
 }
 
 /// The command that a line is.
-#[tactic(auto, using(crate::proofs::Wording::four_words), unfolding(crate::specs::Grammar::command_of_words))]
+#[tactic(auto, using(crate::proofs::Saying::four_words), unfolding(crate::specs::Grammar::command_of_words))]
 fn command(line: &[u8]) -> Option<Command>
     ensures command { result ≡ command_of line.now }
     ensures powered { IfSome result (λ c. IsTrue (is_powered c)) }
@@ -90,7 +90,7 @@ fn width(word: &[u8]) -> Option<IndexWidth>
 }
 
 /// The header that a line is in form.
-#[tactic(auto, using(crate::proofs::Wording::seven_words), unfolding(crate::specs::Grammar::header_of_words))]
+#[tactic(auto, using(crate::proofs::Saying::seven_words), unfolding(crate::specs::Grammar::header_of_words))]
 fn header(line: &[u8]) -> Option<Header>
     ensures { result ≡ header_of line.now }
 {

@@ -87,7 +87,7 @@ fn expect_counts<NI: NodeIndex>(
     Ok(())
 }
 
-#[tactic(auto, using(offset_script::proofs::Powers::power_of_two))]
+#[tactic(auto, using(offset_allocator::proofs::Powers::power_of_two))]
 fn request<NI: NodeIndex>(
     rt: &impl Abort,
     allocator: &mut Allocator<NI>,

@@ -1,9 +1,15 @@
 use Rattle.std.proofs.Common.{subst}
 use Rattle.offset_allocator.specs.Named.{IsWellFormed}
+use Rattle.offset_allocator.specs.State.{Fields, AreSound, shown}
 use Rattle.offset_allocator.proofs.Sound.{fields_of}
-use Rattle.offset_allocator.proofs.Formed as lemma
 use Rattle.offset_allocator.proofs.Allocator.formed.Goals as goal
+
+-- The blocks and the class lists of a sound allocator agree, whatever its accesses.
+formed : (it : Fields) → AreSound it → IsWellFormed (shown it)
+formed it s =
+    let w = s.well in
+    record { some = w.some; distinct = w.distinct; below = w.below; whole = w.whole; apart = w.apart; classes = w.classes; orders = w.orders; room = w.room; spare = w.spare }
 
 pub returns : goal.returns
 returns g c =
-    subst IsWellFormed c.self.view_is (lemma.formed (fields_of g.NI.NodeIndex.MAX c.self.inside) c.self.invariant)
+    subst IsWellFormed c.self.view_is (formed (fields_of g.NI.NodeIndex.MAX c.self.inside) c.self.invariant)

@@ -1,13 +1,94 @@
-use Rattle.std.proofs.Common.{◌<◌, map, take, length, refl, sym, subst, arith, IsTrue}
+use Rattle.std.proofs.Common.{◌<◌, map, take, length, refl, sym, subst, arith, IsTrue, ◌≡◌, ℕ, zero, suc, ◌+◌, ◌≤◌, List, [], ◌∷◌, ◌++◌, drop, get_or, ap, ap₂, ◌∙◌, add-one, append-nil}
 use Rattle.std.proofs.lemmas.List.Elements.{All-get_or}
 use Rattle.offset_script.specs.Agreement.{IsReached}
 use Rattle.offset_script.specs.Limits.{is_powered}
-use Rattle.offset_script.specs.Machine.{answers, start, after}
+use Rattle.offset_script.specs.Machine.{answers, start, after, State, Answer, step}
 use Rattle.offset_script.specs.Serving.{Stands}
-use Rattle.offset_script.proofs.Plays.{after_more, told_more, told_all}
-use Rattle.offset_script.proofs.Carried.{fresh, rows, nests}
 use Rattle.offset_script.specs.Answers.{seen}
+use Rattle.offset_script.specs.declared.scripts.Command.{Command}
+use Rattle.offset_script.specs.Histories.{RestartsFresh, NestsLeaveNoTrace, RowsCommute, answers_as_before, frees, placeless}
+use Rattle.offset_script.specs.declared.answers.Answer as program
+use Rattle.offset_script.proofs.Fresh.{fresh_law}
+use Rattle.offset_script.proofs.Nests.{nest_law}
+use Rattle.offset_script.proofs.Commute.{commute_law}
 use Rattle.offset_script.proofs.playing.play.Goals as goal
+
+-- A loop over commands: one more command, and one more answer.
+
+-- the state after one more command
+after_suc : (cs : List Command) (s : State) (i : ℕ) (d : Command) → i < length cs → after (take (suc i) cs) s ≡ (step (get_or cs i d) (after (take i cs) s)).state
+after_suc [] s i d h = absurd (omega arith)
+after_suc (c ∷ cs) s zero d h = refl
+after_suc (c ∷ cs) s (suc i) d h = after_suc cs (step c s).state i d (omega arith)
+
+-- the first answer to what is left, and the others
+answers_suc : (cs : List Command) (t : State) (i : ℕ) (d : Command) → i < length cs → answers (drop i cs) t ≡ (step (get_or cs i d) t).answer ∷ answers (drop (suc i) cs) (step (get_or cs i d) t).state
+answers_suc [] t i d h = absurd (omega arith)
+answers_suc (c ∷ cs) t zero d h = refl
+answers_suc (c ∷ cs) t (suc i) d h = answers_suc cs t i d (omega arith)
+
+-- the same, as a loop counts
+after_more : (cs : List Command) (s : State) (i : ℕ) (d : Command) → i < length cs → after (take (i + 1) cs) s ≡ (step (get_or cs i d) (after (take i cs) s)).state
+after_more cs s i d h = rw add-one (after_suc cs s i d h)
+
+-- one more answer, in front of the others
+map_told : (xs : List program.Answer) (x : program.Answer) (as' : List Answer) → map seen (xs ++ x ∷ []) ++ as' ≡ map seen xs ++ (seen x ∷ as')
+map_told [] x as' = refl
+map_told (y ∷ xs) x as' = ap (λ l. seen y ∷ l) (map_told xs x as')
+
+-- the answers so far, one more, and those to what is left
+told_more : (cs : List Command) (s : State) (i : ℕ) (d : Command) (found left : List program.Answer) (x : program.Answer) (all : List Answer) → i < length cs → left ≡ found ++ x ∷ []
+    → seen x ≡ (step (get_or cs i d) (after (take i cs) s)).answer → map seen found ++ answers (drop i cs) (after (take i cs) s) ≡ all
+    → map seen left ++ answers (drop (i + 1) cs) (after (take (i + 1) cs) s) ≡ all
+told_more cs s i d found left x all h f e told = rw add-one
+    (ap (λ l. map seen l ++ answers (drop (suc i) cs) (after (take (suc i) cs) s)) f
+    ∙ map_told found x (answers (drop (suc i) cs) (after (take (suc i) cs) s))
+    ∙ ap (λ l. map seen found ++ l) (ap₂ (λ y t. y ∷ answers (drop (suc i) cs) t) e (after_suc cs s i d h) ∙ sym (answers_suc cs (after (take i cs) s) i d h))
+    ∙ told)
+
+all_past : (cs : List Command) (i : ℕ) (t : State) → length cs ≤ i → answers (drop i cs) t ≡ []
+all_past [] zero t h = refl
+all_past [] (suc i) t h = refl
+all_past (c ∷ cs) zero t h = absurd (omega arith)
+all_past (c ∷ cs) (suc i) t h = all_past cs i t (omega arith)
+
+-- where nothing is left, the answers so far are those to all
+told_all : (cs : List Command) (s : State) (i : ℕ) (found : List program.Answer) (all : List Answer) → length cs ≤ i → map seen found ++ answers (drop i cs) (after (take i cs) s) ≡ all → map seen found ≡ all
+told_all cs s i found all h told = sym (append-nil (map seen found)) ∙ ap (λ l. map seen found ++ l) (sym (all_past cs i (after (take i cs) s) h)) ∙ told
+
+-- What the answers to a list of commands carry of the laws.
+
+-- the answers from a place on
+answers_from : (i : ℕ) (cs : List Command) (s : State) → drop i (answers cs s) ≡ answers (drop i cs) (after (take i cs) s)
+answers_from zero cs s = refl
+answers_from (suc i) [] s = refl
+answers_from (suc i) (c ∷ cs) s = answers_from i cs (step c s).state
+
+fresh : (size limit : ℕ) (cs : List Command) (found : List Answer) → 2 ≤ limit → found ≡ answers cs (start size limit) → RestartsFresh size limit cs found
+fresh size limit cs found h e i none = ap (drop i) e ∙ answers_from i cs (start size limit) ∙ fresh_law size limit h (take i cs) none (drop i cs)
+
+-- the answers behind some commands, and the state there
+answers_past : (xs ys : List Command) (s : State) → drop (length xs) (answers (xs ++ ys) s) ≡ answers ys (after xs s)
+answers_past [] ys s = refl
+answers_past (x ∷ xs) ys s = answers_past xs ys (step x s).state
+
+after_both : (xs ys : List Command) (s : State) → after (xs ++ ys) s ≡ after ys (after xs s)
+after_both [] ys s = refl
+after_both (x ∷ xs) ys s = after_both xs ys (step x s).state
+
+nests : (size limit : ℕ) (cs : List Command) (found : List Answer) → 2 ≤ limit → found ≡ answers cs (start size limit) → NestsLeaveNoTrace size limit cs found
+nests size limit cs found h e before nest rest parts n =
+    let s = start size limit in
+    ap (drop (length (before ++ nest))) (e ∙ ap (λ c. answers c s) parts)
+    ∙ answers_past (before ++ nest) rest s
+    ∙ subst (λ t. answers rest t ≡ answers_as_before (after before s) t rest) (sym (after_both before nest s)) (nest_law size limit h before nest n rest)
+
+rows : (size limit : ℕ) (cs : List Command) (found : List Answer) → 2 ≤ limit → found ≡ answers cs (start size limit) → RowsCommute size limit cs found
+rows size limit cs found h e before ks c rest parts t is =
+    let s = start size limit in
+    ap (λ l. map placeless (take 1 l)) (ap (drop (length (before ++ frees ks))) (e ∙ ap (λ c. answers c s) parts) ∙ answers_past (before ++ frees ks) (c ∷ rest) s)
+    ∙ ap (λ (u : State). placeless (step c u).answer ∷ []) (after_both before (frees ks) s)
+    ∙ ap (λ a. a ∷ []) ((commute_law size limit h before ks).next t is c)
 
 pub call-requires : goal.call-requires
 call-requires g c = record {

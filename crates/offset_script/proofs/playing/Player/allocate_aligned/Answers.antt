@@ -1,7 +1,7 @@
 use Rattle.std.proofs.Common.{sym, subst}
 use Rattle.offset_script.specs.Serving.{Serves}
 use Rattle.offset_script.specs.declared.scripts.Command.TheVariants.{Align}
-use Rattle.offset_script.proofs.Powers.{power_of_two}
+use Rattle.offset_allocator.proofs.Powers.{power_of_two}
 use Rattle.offset_script.proofs.Serving.{aligned_serves, if_ok}
 use Rattle.offset_script.proofs.playing.Player.allocate_aligned.Goals as goal
 
