@@ -1,8 +1,8 @@
--- What each operation leaves of the links.
+-- What is left of the links where a name goes first in its class.
 use Rattle.std.proofs.Common.{◌≡◌, ◌≢◌, ◌<◌, ℕ, ◌*◌, ◌/◌, ◌%◌, ◌^◌, List, [], ◌∷◌, refl, sym, subst, ◌∙◌, inl, inr, arith, length, slice_index, slice_index_or, slice_set, bit_or}
 use Rattle.std.proofs.lemmas.List.{length-set, get_or-set_same, get_or-set_other, get_or_read}
 use Rattle.offset_allocator.specs.Named.{names_at}
-use Rattle.offset_allocator.specs.Orders.{Chain, Among, flag, Linked, Masked, IsUnlisted, Orders, lists_of}
+use Rattle.offset_allocator.specs.Orders.{Chain, Among, flag, Linked, Masked, IsUnlisted}
 use Rattle.offset_allocator.proofs.Find.{flag_name}
 use Rattle.offset_allocator.proofs.Walks.{relink, name_below}
 use Rattle.offset_allocator.proofs.Changes.{linked_after, masked_set, masked_same}
@@ -60,38 +60,3 @@ module _ (none : ℕ) where
           (get_or-set_other (slice_set newer x none) first x x 0 xf ∙ get_or-set_same newer x none 0 xl)
           (λ _. get_or-set_same (slice_set newer x none) first x 0 fl')
           (λ y a b. get_or-set_other (slice_set newer x none) first y x 0 b ∙ get_or-set_other newer x y none 0 a)
-
-  pub cell_read : (xs : List ℕ) (i n v : ℕ) → length xs ≡ n → i < n → v ≡ slice_index_or xs i v → v ≡ slice_index xs i
-  cell_read xs i n v e h r = get_or_read xs i v (omega arith) r 0
-
-  -- ---- for the answers: over the lists that contracts see
-  module _ (newer older heads masks : List ℕ) (top : ℕ) (o : Orders) (k0 : (Linked none) newer older heads ((lists_of none) older heads)) (mk : (Masked none) heads masks top) (le : (lists_of none) older heads ≡ o.lists) (ne : length newer ≡ o.limit) (c : ℕ) (ch : c < 256) where
-    pub seen : (Linked none) newer older heads o.lists
-    seen = subst (λ z. (Linked none) newer older heads z) le k0
-
-    module _ (x first : ℕ) (xl : x < o.limit) (fe : first ≡ slice_index_or heads c first) (fresh : IsUnlisted x o.lists) where
-      first_is : first ≡ slice_index heads c
-      first_is = cell_read heads c 256 first seen.heads_len ch fe
-
-      xn : x < length newer
-      xn = omega arith
-
-      pub put_alone_linked : first ≡ none → (Linked none) (slice_set newer x none) (slice_set older x first) (slice_set heads c x) (slice_set o.lists c (x ∷ names_at o.lists c))
-      put_alone_linked e = put_alone newer older heads o.lists seen c ch x first xn first_is fresh e
-
-      pub put_before_linked : first ≢ none → (Linked none) (slice_set (slice_set newer x none) first x) (slice_set older x first) (slice_set heads c x) (slice_set o.lists c (x ∷ names_at o.lists c))
-      put_before_linked n = put_before newer older heads o.lists seen c ch x first xn first_is fresh n
-
-      pub first_below : first ≢ none → first < length newer
-      first_below n = rw first_is (head_below newer older heads o.lists seen c ch (λ e. n (first_is ∙ e)))
-
-      name_flag : (flag none) x ≡ 1
-      name_flag = (flag_name none) x (omega (arith, k0.names_small))
-
-      pub put_alone_masked : (v : ℕ) → v ≡ slice_index_or masks (c / 64) v → (Masked none) (slice_set heads c x) (slice_set masks (c / 64) (bit_or v (1 * 2 ^ (c % 64) % 18446744073709551616))) (bit_or top (1 * 2 ^ (c / 64) % 4294967296))
-      put_alone_masked v ve = (masked_set none) heads masks top mk c x ch k0.heads_len name_flag v (cell_read masks (c / 64) 4 v mk.masks_len (omega arith) ve)
-
-      pub put_before_masked : first ≢ none → (Masked none) (slice_set heads c x) masks top
-      put_before_masked n =
-          (masked_same none) heads masks top mk c x ch k0.heads_len
-          (name_flag ∙ sym (rw (← first_is) ((flag_name none) first (omega (arith, first_below n, k0.names_small)))))

@@ -48,11 +48,6 @@ pub record Linked (none : ℕ) (newer older heads : List ℕ) (ls : List (List �
   pub chains : (c : ℕ) → c < 256 → (Chain none) (length newer) (slice_index newer) (slice_index older) none (slice_index heads c) (names_at ls c)
   pub apart : (c d x : ℕ) → c < 256 → d < 256 → Among x (names_at ls c) → Among x (names_at ls d) → c ≡ d
 
--- what contracts see
-pub record Orders : Type 0 where
-  pub lists : List (List ℕ)
-  pub limit : ℕ
-
 -- no list has the name
 abbrev pub IsUnlisted : ℕ → List (List ℕ) → Type 0
 IsUnlisted x ls = (c : ℕ) → c < 256 → Among x (names_at ls c) → ⊥

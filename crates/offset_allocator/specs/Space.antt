@@ -21,7 +21,7 @@ IsRow c p o (b ∷ bs) q =
     (node c b.name ≡ record { offset = o; size = b.size; used = b.used; before = p; after = first_or q bs })
     × IsRow c (Some b.name) (o + b.size) bs q
 
--- the blocks as the layer above sees them: from the last one back
+-- the block that the node k stands for
 abbrev pub block_at : Room → ℕ → Block
 block_at c k = record { name = k; size = (node c k).size; used = (node c k).used }
 
@@ -75,7 +75,7 @@ abbrev pub name_after : ℕ → List Block → Option ℕ
 name_after x [] = None
 name_after x (b ∷ bs) = cond (b.name == x) (first_or None bs) (name_after x bs)
 
--- the units before the block named x, and its own
+-- the units before the block named x
 abbrev pub offset_in : ℕ → List Block → ℕ
 offset_in x [] = 0
 offset_in x (b ∷ bs) = cond (b.name == x) 0 (b.size + offset_in x bs)

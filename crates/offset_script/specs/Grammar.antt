@@ -182,7 +182,7 @@ meaning_of text = if nat_lt 1048576 (length text) then Err TooLong else plan_of 
 abbrev pub view : Script → Plan
 view s = record { header = record { size = s.size; max_allocs = s.max_allocs; index = s.index }; commands = s.commands.items }
 
--- What a function returned, seen by view, is the meaning, unless memory ran out.
+-- the fault is that of the meaning; of a want of memory nothing is said
 abbrev pub Fails : {Y : Type 0} → ScriptFault → Result Y ScriptFault → Type 0
 Fails Memory meaning = Unit {0}
 Fails TooLong meaning = meaning ≡ Err TooLong

@@ -8,12 +8,12 @@ ghost use Rattle.offset_script.specs.Histories.{EmptySpaceContinuesAsFresh, Exte
 ghost use Rattle.offset_script.specs.Spelling.{IsSpelling, IsHeaderSpelling};
 ghost use Rattle.offset_script.specs.Totals.{FewAreLive, FullSpaceRefuses, SizesAddUp};
 
-/// A line is a command just where it spells it.
+/// A line means a command exactly where it is a spelling of it.
 pub fn one_spelling()
     ensures { (c : Command) (line : List ℕ) → (command_of line ≡ Some c) ↔ IsSpelling c line }
 {}
 
-/// A line is a header in form just where it spells it.
+/// A line means a header, in form, exactly where it is a spelling of it.
 pub fn one_header_spelling()
     ensures { (h : Header) (line : List ℕ) → (header_of line ≡ Some h) ↔ IsHeaderSpelling h line }
 {}

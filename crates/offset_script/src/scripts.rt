@@ -27,7 +27,9 @@ pub enum Command {
 /// How many bits the allocator's names have.
 #[derive(Clone, Copy, PartialEq, Debug)]
 pub enum IndexWidth {
+    /// `u16`.
     Bits16,
+    /// `u32`.
     Bits32,
 }
 
