@@ -1,9 +1,9 @@
 //! The blocks of the space, linked in space order, and the stack of unused names.
 
-ghost use Rattle.std.specs.Prelude.{◌≡◌, ℕ, ◌+◌, ◌-◌, ◌<◌, ◌≤◌, ◌^◌, length, List, [], ◌∷◌, ◌++◌, MatchOption, IfSome, Bool, false, Some, None};
+ghost use Rattle.std.specs.Prelude.{◌≡◌, ◌+◌, ◌-◌, ◌<◌, ◌≤◌, ◌^◌, length, MatchOption, IfSome, false, Some, None};
 ghost use Rattle.offset_allocator.specs.Named.{named, units};
-ghost use Rattle.offset_allocator.specs.Cells.{Node, node, put, link_of};
-ghost use Rattle.offset_allocator.specs.Space.{IsSpace, Stands, blocks, spares, split_block, join_block, give_block, mark_block, offset_in, size_in, name_after};
+ghost use Rattle.offset_allocator.specs.Cells.{node, put, link_of};
+ghost use Rattle.offset_allocator.specs.Space.{IsSpace, Stands, blocks, split_block, join_block, give_block, mark_block, offset_in, size_in, name_after};
 ghost use Rattle.offset_allocator.specs.Parts.{split_front, grow_last};
 
 use crate::accesses::Accesses;

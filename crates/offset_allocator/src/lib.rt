@@ -10,8 +10,8 @@
 //! ```
 #![tactic(auto)]
 
-ghost use Rattle.std.specs.Prelude.{◌≡◌, ◌↔◌, ℕ, ◌+◌, ◌-◌, ◌*◌, ◌%◌, ◌<◌, ◌≤◌, min, Some, None, Option, false, true, IsTrue, IsSome, IfSome, MatchOption, IfOk, length};
-ghost use Rattle.offset_allocator.specs.Classes.{up, down};
+ghost use Rattle.std.specs.Prelude.{◌≡◌, ◌↔◌, ◌+◌, ◌-◌, ◌*◌, ◌%◌, ◌<◌, ◌≤◌, min, Some, None, Option, false, true, IsTrue, IsSome, IfSome, IfOk, length};
+ghost use Rattle.offset_allocator.specs.Classes.{up};
 ghost use Rattle.offset_allocator.specs.Cells.{empty_cells};
 ghost use Rattle.offset_allocator.specs.Orders.{IsLeastFrom};
 ghost use Rattle.offset_allocator.specs.Ranges.{range_of, KeepsAll, KeepsOthers, KeepsRanges};

@@ -1,5 +1,5 @@
 //! Joins a block with the free blocks beside it, which leave their classes.
-ghost use Rattle.std.specs.Prelude.{◌≡◌, ℕ, ◌+◌, ◌≤◌, length};
+ghost use Rattle.std.specs.Prelude.{◌≡◌, ◌+◌, ◌≤◌, length};
 ghost use Rattle.offset_allocator.specs.Named.{place_of, remove_all};
 ghost use Rattle.offset_allocator.specs.Space.{IsSpace, Stands, blocks, size_in};
 ghost use Rattle.offset_allocator.specs.Orders.{Binned, class_lists};

@@ -1,5 +1,5 @@
 //! Takes a block apart: a free front, a used middle, and a free rest.
-ghost use Rattle.std.specs.Prelude.{◌≡◌, ◌≢◌, ℕ, ◌+◌, ◌-◌, ◌<◌, ◌≤◌, length, List, [], ◌∷◌, ◌++◌};
+ghost use Rattle.std.specs.Prelude.{◌≡◌, ◌≢◌, ◌+◌, ◌<◌, ◌≤◌, length, ◌∷◌, ◌++◌};
 ghost use Rattle.offset_allocator.specs.Named.{named, free_part, used_block, put_all};
 ghost use Rattle.offset_allocator.specs.Space.{IsSpace, Stands, blocks, size_in};
 ghost use Rattle.offset_allocator.specs.Orders.{Binned, class_lists};

@@ -1,11 +1,11 @@
 //! The cells: the only place that reads or writes them. Each function touches one cell, and counts it.
 
-ghost use Rattle.std.specs.Prelude.{◌≡◌, ℕ, ◌+◌, ◌-◌, ◌<◌, ◌≤◌, ◌++◌, ◌∷◌, [], length, map, replicate, slice_set, slice_index, vec_capacity, IfOk};
+ghost use Rattle.std.specs.Prelude.{◌≡◌, ◌+◌, ◌-◌, ◌<◌, ◌≤◌, ◌++◌, ◌∷◌, [], length, map, replicate, slice_set, slice_index, IfOk};
 ghost use Rattle.std.specs.List.{range_with_len};
 ghost use Rattle.offset_allocator.specs.Cells.{AreShaped, empty_cells, link_of, node, put, with_spare};
 
 use crate::accesses::Accesses;
-use crate::index::{NodeIndex, link_to, no_link};
+use crate::index::{NodeIndex, no_link};
 use std::alloc::{AllocError, Global};
 use std::marker::Model;
 

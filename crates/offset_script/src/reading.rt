@@ -1,8 +1,8 @@
 //! Texts as scripts.
 
-ghost use Rattle.std.specs.Prelude.{◌≡◌, length, IfSome, IsTrue};
+ghost use Rattle.std.specs.Prelude.{◌≡◌, IfSome, IsTrue};
 ghost use Rattle.offset_script.specs.Limits.{is_powered};
-ghost use Rattle.offset_script.specs.Grammar.{Gives, Fails, view, plain_command, number_command, pair_command, command_of, width_of, header_of, is_admitted, meaning_of};
+ghost use Rattle.offset_script.specs.Grammar.{Gives, view, plain_command, number_command, pair_command, command_of, width_of, header_of, is_admitted, meaning_of};
 
 use crate::cutting::{cut, number};
 use crate::faults::ScriptFault;

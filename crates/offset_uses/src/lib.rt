@@ -1,7 +1,7 @@
 //! Uses of `offset_allocator`, as a caller writes them.
 #![tactic(auto)]
 
-ghost use Rattle.std.specs.Prelude.{◌≡◌, ◌≢◌, ◌↔◌, ◌⊎◌, ℕ, true, false, ◌+◌, ◌*◌, ◌<◌, ◌≤◌, ◌%◌, Some, None, IfSome, IfNone, IsSome, IsTrue, IfOk, MatchOption, All, map, min, length};
+ghost use Rattle.std.specs.Prelude.{◌≡◌, ◌≢◌, ◌↔◌, ◌⊎◌, true, false, ◌+◌, ◌<◌, ◌≤◌, ◌%◌, Some, None, IfSome, IsSome, IsTrue, IfOk, MatchOption, All, map, min, length};
 ghost use Rattle.offset_allocator.specs.Named.{View, Grant, largest_free, total_free, size_at, place_of};
 ghost use Rattle.offset_allocator.specs.Ranges.{Range, range_of, AreDisjoint, KeepsRanges, KeepsOthers};
 ghost use Rattle.offset_allocator.specs.Relations.{Aligns, Allocates, Extends, IsLive, IsBut};
