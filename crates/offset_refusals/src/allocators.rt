@@ -12,6 +12,7 @@ fn tell_free<NI: NodeIndex>(told: &mut Cells<'_>, allocator: Allocator<NI>) {
     tell_report(told, &allocator.storage_report());
 }
 
+/// One by `new`, with its report.
 pub fn made(alloc: Global, text: &[u8], told: &mut Cells<'_>) -> Result<(), Miss> {
     let script = script(alloc, text)?;
     match script.index {
@@ -21,6 +22,7 @@ pub fn made(alloc: Global, text: &[u8], told: &mut Cells<'_>) -> Result<(), Miss
     Ok(())
 }
 
+/// One by `with_max_allocs`, with its report.
 pub fn limited(alloc: Global, text: &[u8], told: &mut Cells<'_>) -> Result<(), Miss> {
     let script = script(alloc, text)?;
     let (size, limit) = (script.size, script.max_allocs);
@@ -35,6 +37,7 @@ pub fn limited(alloc: Global, text: &[u8], told: &mut Cells<'_>) -> Result<(), M
     Ok(())
 }
 
+/// One by `with_max_allocs`, with a checksum of what 1,000 calls answer.
 pub fn called(alloc: Global, text: &[u8], told: &mut Cells<'_>) -> Result<(), Miss> {
     let script = script(alloc, text)?;
     let (size, limit) = (script.size, script.max_allocs);

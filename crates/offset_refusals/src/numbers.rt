@@ -7,6 +7,7 @@ use std::slice::IterMut;
 /// Cells that numbers are told into. What goes past the last one is lost.
 pub type Cells<'a> = IterMut<'a, u64>;
 
+/// One number.
 pub fn tell(told: &mut Cells<'_>, number: u64) {
     if let Some(cell) = told.next() {
         *cell = number;
@@ -19,10 +20,12 @@ fn tell_all(told: &mut Cells<'_>, numbers: &[u32]) {
     }
 }
 
+/// What is free in all, and the largest region.
 pub fn tell_report(told: &mut Cells<'_>, report: &StorageReport) {
     tell_all(told, &[report.total_free_space, report.largest_free_region]);
 }
 
+/// The fault, with its line where it has one.
 pub fn tell_fault(told: &mut Cells<'_>, fault: ScriptFault) {
     match fault {
         ScriptFault::TooLong => tell_all(told, &[0]),

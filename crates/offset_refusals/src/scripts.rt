@@ -16,6 +16,7 @@ pub fn script(alloc: Global, text: &[u8]) -> Result<Script, Miss> {
     }
 }
 
+/// The script that a text means, or its fault.
 pub fn parsed(alloc: Global, text: &[u8], told: &mut Cells<'_>) -> Result<(), Miss> {
     match parse(alloc, text) {
         Ok(script) => {
@@ -30,6 +31,7 @@ pub fn parsed(alloc: Global, text: &[u8], told: &mut Cells<'_>) -> Result<(), Mi
     }
 }
 
+/// The answers to the commands of a script.
 pub fn played(alloc: Global, text: &[u8], told: &mut Cells<'_>) -> Result<(), Miss> {
     let script = script(alloc, text)?;
     let (size, limit) = (script.size, script.max_allocs);
@@ -41,6 +43,7 @@ pub fn played(alloc: Global, text: &[u8], told: &mut Cells<'_>) -> Result<(), Mi
     Ok(())
 }
 
+/// Each byte that a run writes, and then the fault if there is one.
 pub fn ran(alloc: Global, text: &[u8], told: &mut [u64]) -> Result<(), Miss> {
     let mut output = IntoWrite::new(Sent {
         told: told.iter_mut(),
