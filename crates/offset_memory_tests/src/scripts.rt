@@ -2,7 +2,6 @@
 
 use crate::attempts::{Attempt, Outcome, refused_if, right_if};
 use crate::ladder::{FINE, refusals};
-use offset_allocator::NodeIndex;
 use offset_script::{
     Answer, Command, FromRead, IndexWidth, IntoWrite, RunFault, Script, ScriptFault, parse, play,
     run,
@@ -10,7 +9,6 @@ use offset_script::{
 use std::alloc::Global;
 use std::io;
 use std::io::Write;
-use std::process::Abort;
 use std::test::Fail;
 
 const TEXT: &[u8] =
