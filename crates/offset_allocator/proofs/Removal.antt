@@ -54,9 +54,6 @@ module _ (none : ℕ) where
         ]
 
     -- the head becomes the next name where x stood first
-    next_head : ℕ
-    next_head = cond (eqb (slice_index heads c) x) after (slice_index heads c)
-
     pub removed_linked : (Linked none) ((relinked none) newer after before) ((relinked none) older before after) (slice_set heads c (cond (eqb (slice_index heads c) x) after (slice_index heads c))) (slice_set ls c (without x (names_at ls c)))
     removed_linked =
         let ol = k.older_len in

@@ -53,11 +53,16 @@ use tables::Tables;
 pub struct Allocator<NI: NodeIndex = u32> {
     size: u32,
     max_allocs: u32,
+    // the units of all free blocks
     free_total: u32,
+    // which words of the mask are not 0
     top_mask: u32,
+    // how many names are unused
     spare_count: u32,
+    // the name of the last block in space order
     last: u32,
     tables: Tables<NI>,
+    // takes no bytes at run time
     accesses: Accesses,
 }
 
@@ -619,6 +624,7 @@ impl<NI: NodeIndex> Allocator<NI> {
     pub(crate) fn formed(&self)
         ensures { IsWellFormed self.now }
     {
+        // a look at a field recalls the invariant
         let _ = &self.size;
     }
 }

@@ -1,4 +1,5 @@
-//! The cells: the only place that reads or writes them. Each function touches one cell, and counts it.
+//! The cells: the only place that reads or writes them. A function on a cell touches that one, and counts it;
+//! `with_len` and `clear` go over all cells, and count none.
 
 ghost use Rattle.std.specs.Prelude.{◌≡◌, ◌+◌, ◌-◌, ◌<◌, ◌≤◌, ◌++◌, ◌∷◌, [], length, map, replicate, slice_set, slice_index, IfOk};
 ghost use Rattle.std.specs.List.{range_with_len};
@@ -159,6 +160,7 @@ impl<NI: NodeIndex> Tables<NI> {
     pub(crate) fn shape(&self)
         ensures { AreShaped NI.MAX self.now }
     {
+        // a look at a field recalls the invariant
         let _ = &self.size;
     }
 

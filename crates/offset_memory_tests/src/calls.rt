@@ -8,6 +8,11 @@ use offset_script::play;
 use std::alloc::{AllocError, Global};
 use std::test::Fail;
 
+// Greater than any offset of the space.
+const REFUSED: u32 = 100_000;
+
+const DEAD: u32 = 200_000;
+
 fn request<NI: NodeIndex>(
     allocator: &mut Allocator<NI>,
     kind: u32,
@@ -44,7 +49,7 @@ fn grant_or_free(
         None => {
             *kept = request(allocator, kind, size);
             match kept {
-                None => 100_000,
+                None => REFUSED,
                 Some(handle) => handle.offset,
             }
         }
@@ -55,7 +60,7 @@ fn grant_or_free(
                 allocator.free(handle);
                 size
             } else {
-                200_000
+                DEAD
             }
         }
     }
