@@ -156,7 +156,7 @@ pub fn refund(space: &mut Allocator, tenant: &mut Tenant, allocation: Allocation
 }
 
 /// Units for one frame: they are granted, what is free beside them is told, and they are given back. The space is then as
-/// it was, and the accesses of the frame are bounded, `count` counts those of the report.
+/// it was, and its accesses are bounded; `count` counts those of the report.
 pub fn frame<NI: NodeIndex>(space: &mut Allocator<NI>, n: u32, count: &mut Accesses) -> Option<u32>
     ensures granted { 1 ≤ n → (IsSome result ↔ (n ≤ largest_free space.old)) }
     ensures beside { IfSome result (λ left. (w : View) × (g : Grant) × Allocates n space.old w (Some g) × (left ≡ total_free w)) }

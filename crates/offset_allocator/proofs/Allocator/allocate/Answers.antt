@@ -7,9 +7,11 @@ use Rattle.offset_allocator.proofs.ViewFits.{allocated_exactly, refused_well, cu
 use Rattle.offset_allocator.proofs.Sound.{fields_of, known_sound}
 use Rattle.offset_allocator.proofs.Classes.{below_value_up}
 use Rattle.offset_allocator.proofs.Granting.{refused_short, refused_none}
-use Rattle.offset_allocator.specs.Ranges.{range_of, KeepsOthers, KeepsRanges}
-use Rattle.offset_allocator.proofs.Ranges.{allocated_holds, holds_kept, live_range}
+use Rattle.offset_allocator.specs.Ranges.{range_of}
+use Rattle.offset_allocator.proofs.Ranges.{Holds, allocated_holds, holds_kept, live_range}
 use Rattle.offset_allocator.proofs.Allocator.allocate.Goals as goal
+use Rattle.offset_allocator.proofs.Allocator.allocate.Goals.{After-grant}
+use Rattle.offset_allocator.proofs.Allocator.allocate.Given.{Over}
 
 pub returns-then-self-le1-clause-step : goal.returns-then-self-le1-clause-step
 returns-then-self-le1-clause-step g c =
@@ -58,45 +60,25 @@ returns-in-Some-clause-nearly g c =
     let P : View → Type 0 = λ u. IsCutNearBest c.args.size u c.grant.result in
     subst P c.self.view_is (record { place = near.place; there = near.there; free = near.free; fit = near.fit })
 
--- the range that is granted
-pub returns-in-Some-clause-live : goal.returns-in-Some-clause-live
-returns-in-Some-clause-live g c =
+-- what the grant leaves of the ranges; the search before it counts, and leaves the rest of the view
+holds : (g : Over) (c : After-grant g) → Holds c.args.size c.args.self.now c.grant.new.self c.grant.result
+holds g c =
     let f : Fields = record (fields_of g.NI.NodeIndex.MAX c.self.inside) { accesses = c.find_at_or_above.new.count } in
-    let v : View = shown f in
-    let known = known_sound f c.self.invariant v refl in
-    let holds = allocated_holds c.args.size v c.grant.new.self c.grant.result known.0 c.grant.ensures.step in
-    live_range c.grant.result.name c.grant.new.self _ holds.range
+    let h = allocated_holds c.args.size (shown f) c.grant.new.self c.grant.result (known_sound f c.self.invariant (shown f) refl).0 c.grant.ensures.step in
+    let P : View → Type 0 = λ u. Holds c.args.size u c.grant.new.self c.grant.result in
+    subst P c.self.view_is (record { fresh = h.fresh; range = h.range; others = h.others })
+
+pub returns-in-Some-clause-live : goal.returns-in-Some-clause-live
+returns-in-Some-clause-live g c = live_range c.grant.result.name c.grant.new.self _ (holds g c).range
 
 pub returns-in-Some-clause-fresh : goal.returns-in-Some-clause-fresh
-returns-in-Some-clause-fresh g c =
-    let f : Fields = record (fields_of g.NI.NodeIndex.MAX c.self.inside) { accesses = c.find_at_or_above.new.count } in
-    let v : View = shown f in
-    let known = known_sound f c.self.invariant v refl in
-    let holds = allocated_holds c.args.size v c.grant.new.self c.grant.result known.0 c.grant.ensures.step in
-    let P : View → Type 0 = λ u. range_of c.grant.result.name u ≡ None in
-    subst P c.self.view_is holds.fresh
+returns-in-Some-clause-fresh g c = (holds g c).fresh
 
 pub returns-in-Some-clause-range : goal.returns-in-Some-clause-range
-returns-in-Some-clause-range g c =
-    let f : Fields = record (fields_of g.NI.NodeIndex.MAX c.self.inside) { accesses = c.find_at_or_above.new.count } in
-    let v : View = shown f in
-    let known = known_sound f c.self.invariant v refl in
-    let holds = allocated_holds c.args.size v c.grant.new.self c.grant.result known.0 c.grant.ensures.step in
-    holds.range
+returns-in-Some-clause-range g c = (holds g c).range
 
 pub returns-in-Some-clause-others : goal.returns-in-Some-clause-others
-returns-in-Some-clause-others g c =
-    let f : Fields = record (fields_of g.NI.NodeIndex.MAX c.self.inside) { accesses = c.find_at_or_above.new.count } in
-    let v : View = shown f in
-    let known = known_sound f c.self.invariant v refl in
-    let holds = allocated_holds c.args.size v c.grant.new.self c.grant.result known.0 c.grant.ensures.step in
-    let P : View → Type 0 = λ u. KeepsOthers c.grant.result.name u c.grant.new.self in
-    subst P c.self.view_is holds.others
+returns-in-Some-clause-others g c = (holds g c).others
 
 pub returns-in-Some-clause-kept : goal.returns-in-Some-clause-kept
-returns-in-Some-clause-kept g c =
-    let f : Fields = record (fields_of g.NI.NodeIndex.MAX c.self.inside) { accesses = c.find_at_or_above.new.count } in
-    let v : View = shown f in
-    let known = known_sound f c.self.invariant v refl in
-    let P : View → Type 0 = λ u. KeepsRanges u c.grant.new.self in
-    subst P c.self.view_is (holds_kept c.args.size v c.grant.new.self c.grant.result (allocated_holds c.args.size v c.grant.new.self c.grant.result known.0 c.grant.ensures.step))
+returns-in-Some-clause-kept g c = holds_kept c.args.size c.args.self.now c.grant.new.self c.grant.result (holds g c)

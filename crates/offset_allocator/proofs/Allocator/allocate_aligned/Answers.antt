@@ -11,9 +11,11 @@ use Rattle.offset_allocator.proofs.Spares.{another, spare_room}
 use Rattle.offset_allocator.proofs.Sound.{fields_of, known_sound}
 use Rattle.offset_allocator.proofs.Aligning.{aligned_from, aligns_counted, refused_full, refused_past, refused_none, aligned_one, aligned_past, aligned_short, served}
 use Rattle.offset_allocator.proofs.Always.{aligned_multiple}
-use Rattle.offset_allocator.proofs.Ranges.{aligned_holds, holds_kept, live_range}
+use Rattle.offset_allocator.proofs.Ranges.{Holds, aligned_holds, holds_kept, live_range}
 use Rattle.offset_allocator.proofs.ViewFits.{taken_exactly, good_refusal, refusal_past, cut_at, largest_small, allocated_exactly, refused_well, cut_near_best}
 use Rattle.offset_allocator.proofs.Allocator.allocate_aligned.Goals as goal
+use Rattle.offset_allocator.proofs.Allocator.allocate_aligned.Goals.{After-grant_aligned}
+use Rattle.offset_allocator.proofs.Allocator.allocate_aligned.Given.{Over}
 
 -- When an aligned request is granted, and how well what it takes fits.
 
@@ -212,40 +214,26 @@ returns-in-Some-clause-nearly g c =
     let known = known_sound f c.self.invariant c.args.self.now c.self.view_is in
     aligned_near c.args.size c.args.align c.args.self.now _ (Some c.grant_aligned.result) known.0 known.1 (omega arith) (omega arith) (returns-in-Some-clause-step g c) c.grant_aligned.result refl
 
--- the range that is granted
+-- what the grant leaves of the ranges
+holds : (g : Over) (c : After-grant_aligned g) → Aligns c.args.size c.args.align c.args.self.now c.grant_aligned.new.self (Some c.grant_aligned.result) → Holds c.args.size c.args.self.now c.grant_aligned.new.self c.grant_aligned.result
+holds g c step =
+    let known = known_sound (fields_of g.NI.NodeIndex.MAX c.self.inside) c.self.invariant c.args.self.now c.self.view_is in
+    aligned_holds c.args.size c.args.align c.args.self.now c.grant_aligned.new.self c.grant_aligned.result known.0 step
+
 pub returns-in-Some-clause-live : goal.returns-in-Some-clause-live
-returns-in-Some-clause-live g c =
-    let f : Fields = fields_of g.NI.NodeIndex.MAX c.self.inside in
-    let known = known_sound f c.self.invariant c.args.self.now c.self.view_is in
-    let holds = aligned_holds c.args.size c.args.align c.args.self.now c.grant_aligned.new.self c.grant_aligned.result known.0 (returns-in-Some-clause-step g c) in
-    live_range c.grant_aligned.result.name c.grant_aligned.new.self _ holds.range
+returns-in-Some-clause-live g c = live_range c.grant_aligned.result.name c.grant_aligned.new.self _ (holds g c (returns-in-Some-clause-step g c)).range
 
 pub returns-in-Some-clause-fresh : goal.returns-in-Some-clause-fresh
-returns-in-Some-clause-fresh g c =
-    let f : Fields = fields_of g.NI.NodeIndex.MAX c.self.inside in
-    let known = known_sound f c.self.invariant c.args.self.now c.self.view_is in
-    let holds = aligned_holds c.args.size c.args.align c.args.self.now c.grant_aligned.new.self c.grant_aligned.result known.0 (returns-in-Some-clause-step g c) in
-    holds.fresh
+returns-in-Some-clause-fresh g c = (holds g c (returns-in-Some-clause-step g c)).fresh
 
 pub returns-in-Some-clause-range : goal.returns-in-Some-clause-range
-returns-in-Some-clause-range g c =
-    let f : Fields = fields_of g.NI.NodeIndex.MAX c.self.inside in
-    let known = known_sound f c.self.invariant c.args.self.now c.self.view_is in
-    let holds = aligned_holds c.args.size c.args.align c.args.self.now c.grant_aligned.new.self c.grant_aligned.result known.0 (returns-in-Some-clause-step g c) in
-    holds.range
+returns-in-Some-clause-range g c = (holds g c (returns-in-Some-clause-step g c)).range
 
 pub returns-in-Some-clause-others : goal.returns-in-Some-clause-others
-returns-in-Some-clause-others g c =
-    let f : Fields = fields_of g.NI.NodeIndex.MAX c.self.inside in
-    let known = known_sound f c.self.invariant c.args.self.now c.self.view_is in
-    let holds = aligned_holds c.args.size c.args.align c.args.self.now c.grant_aligned.new.self c.grant_aligned.result known.0 (returns-in-Some-clause-step g c) in
-    holds.others
+returns-in-Some-clause-others g c = (holds g c (returns-in-Some-clause-step g c)).others
 
 pub returns-in-Some-clause-kept : goal.returns-in-Some-clause-kept
-returns-in-Some-clause-kept g c =
-    let f : Fields = fields_of g.NI.NodeIndex.MAX c.self.inside in
-    let known = known_sound f c.self.invariant c.args.self.now c.self.view_is in
-    holds_kept c.args.size c.args.self.now c.grant_aligned.new.self c.grant_aligned.result (aligned_holds c.args.size c.args.align c.args.self.now c.grant_aligned.new.self c.grant_aligned.result known.0 (returns-in-Some-clause-step g c))
+returns-in-Some-clause-kept g c = holds_kept c.args.size c.args.self.now c.grant_aligned.new.self c.grant_aligned.result (holds g c (returns-in-Some-clause-step g c))
 
 pub returns-in-Some-clause-aligned : goal.returns-in-Some-clause-aligned
 returns-in-Some-clause-aligned g c = aligned_multiple c.args.size c.args.align c.args.self.now c.grant_aligned.new.self c.grant_aligned.result (omega arith) (returns-in-Some-clause-step g c)
