@@ -1,15 +1,15 @@
 -- A fresh space.
-use Rattle.std.proofs.Common.{◌≡◌, ◌≢◌, ℕ, zero, suc, ◌+◌, ◌-◌, ◌/◌, ◌%◌, ◌<◌, ◌≤◌, ◌^◌, Bool, false, cond, Option, None, List, [], ◌∷◌, ◌++◌, length, get_or, take, replicate, refl, sym, ◌∙◌, ap, ap₂, subst, arith, inl, inr, nat_lt, add-one, slice_index, length-append, nat_eq}
+use Rattle.std.proofs.Common.{◌≡◌, ◌≢◌, ℕ, zero, suc, ◌+◌, ◌-◌, ◌/◌, ◌%◌, ◌<◌, ◌≤◌, ◌^◌, false, cond, None, List, [], ◌∷◌, ◌++◌, length, get_or, take, replicate, refl, sym, ◌∙◌, ap, ap₂, subst, arith, inl, inr, nat_lt, add-one, slice_index}
 use Rattle.std.proofs.lemmas.Bool.{eq-eqb}
 use Rattle.std.specs.List.{range_with_len}
-use Rattle.std.proofs.lemmas.List.{get_or_append_left, take_more, get_or_past, length-replicate, get_or-replicate}
+use Rattle.std.proofs.lemmas.List.{take_more, length-replicate, get_or-replicate}
 use Rattle.std.proofs.lemmas.List.FromFn.{length-range_with_len, get_or-range_with_len}
 use Rattle.std.proofs.lemmas.Nat.Bits.{bit_at-zero}
-use Rattle.std.proofs.lemmas.Bool.{cases_eq, cases_lt}
+use Rattle.std.proofs.lemmas.Bool.{cases_eq}
 use Rattle.std.proofs.lemmas.Bool.Decides.{nat_tests}
 use Rattle.offset_allocator.specs.Classes.{down}
-use Rattle.offset_allocator.specs.Cells.{Cells, Room, Node, node, put, empty_cells}
-use Rattle.offset_allocator.specs.Named.{Block, View, IsWellFormed, free_block, put_first, named, names_at, times, one}
+use Rattle.offset_allocator.specs.Cells.{Cells, Room, Node, node, put, AreEmpty, AreShaped}
+use Rattle.offset_allocator.specs.Named.{Block, View, IsWellFormed, free_block, put_first, names_at, times}
 use Rattle.offset_allocator.specs.Space.{IsChain, spares}
 use Rattle.offset_allocator.specs.Orders.{Linked, Masked, Binned, class_lists, Among, IsUnlisted}
 use Rattle.offset_allocator.specs.State.{IsSound, view_of, free_units}
@@ -17,63 +17,47 @@ use Rattle.offset_allocator.proofs.Nodes.{node-put, node-put_other, length-put, 
 use Rattle.offset_allocator.proofs.Rows.{one-eq, one-other, times-join}
 use Rattle.offset_allocator.proofs.Binned.{binned}
 use Rattle.offset_allocator.proofs.Views.{blocks-chain, space-chain}
-use Rattle.offset_allocator.proofs.Zip.{length-nodes_of, get_or-nodes_of}
 use Rattle.offset_allocator.proofs.ViewTaken.{well_alone}
 
 -- one free block of the whole size
 abbrev pub fresh : ℕ → ℕ → View
-fresh size limit = record { size = size; max_allocs = limit; blocks = free_block 0 size ∷ []; order = put_first (down size) 0 (replicate 256 []); accesses = 0 }
+fresh size limit = record { size = size; max_allocs = limit; blocks = free_block (limit - 1) size ∷ []; order = put_first (down size) (limit - 1) (replicate 256 []); accesses = 0 }
 
-times-rising : (k j : ℕ) (s : List ℕ) → j ≤ length s → ((i : ℕ) → i < j → get_or s i 0 ≡ i + 1) → one (nat_eq k 0) + times k (take j s) ≡ cond (nat_lt k (j + 1)) 1 0
-times-rising k zero s l h = elim (cases_eq k 0) [
-  | inl e ↦ grind (arith, nat_tests, one-eq k 0 (sym e))
-  | inr ne ↦ grind (arith, nat_tests, one-other k 0 ne)
-]
+times-rising : (k j : ℕ) (s : List ℕ) → j ≤ length s → ((i : ℕ) → i < j → get_or s i 0 ≡ i) → times k (take j s) ≡ cond (nat_lt k j) 1 0
+times-rising k zero s l h = grind (arith, nat_tests)
 times-rising k (suc j) s l h =
     let ih = times-rising k j s (omega arith) (λ i b. h i (omega arith)) in
-    let more : take (suc j) s ≡ take j s ++ (j + 1) ∷ [] = rw (← h j (omega arith), ← add-one j) (take_more s j 0 (omega arith)) in
-    let join = times-join k (take j s) ((j + 1) ∷ []) in
-    rw more (elim (cases_eq k (j + 1)) [
-      | inl e ↦ grind (arith, nat_tests, one-eq k (j + 1) (sym e), ih, join)
-      | inr ne ↦ grind (arith, nat_tests, one-other k (j + 1) ne, ih, join)
+    let more : take (suc j) s ≡ take j s ++ j ∷ [] = ap (λ (i : ℕ). take i s) (sym (add-one j)) ∙ take_more s j 0 (omega arith) ∙ ap (λ (i : ℕ). take j s ++ i ∷ []) (h j (omega arith)) in
+    let join = times-join k (take j s) (j ∷ []) in
+    rw more (elim (cases_eq k j) [
+      | inl e ↦ grind (arith, nat_tests, one-eq k j (sym e), ih, join)
+      | inr ne ↦ grind (arith, nat_tests, one-other k j ne, ih, join)
     ])
 
-past : (c : Room) (k : ℕ) → length c.nodes ≤ k → (node c k).used ≡ false
-unfolding node
-past c k g = ap (λ (n : Node). n.used) (get_or_past c.nodes k _ g)
+-- a node whose block is the whole space
+abbrev pub whole_node : ℕ → Node
+whole_node size = record { offset = 0; size = size; used = false; before = None; after = None }
 
-module _ (max m size : ℕ) (some : 0 < m) (most : m ≤ max) (small : size < 2 ^ 32) where
-  abbrev e : Cells
-  e = empty_cells max m
-
-  pub nodes-empty : length (empty_cells max m).room.nodes ≡ m
-  nodes-empty = length-nodes_of (replicate m 0) (replicate m 0) (replicate m false) (replicate m None) (replicate m None) ∙ length-replicate {A = ℕ} m 0
-
-  node-empty : (k : ℕ) → k < m → node e.room k ≡ record { offset = 0; size = 0; used = false; before = None; after = None }
-  unfolding node
-  node-empty k l =
-      get_or-nodes_of (replicate m 0) (replicate m 0) (replicate m false) (replicate m None) (replicate m None) k _ (rw (length-replicate {A = ℕ} m 0) l)
-      ∙ rw (get_or-replicate {A = ℕ} m k 0 0 l, get_or-replicate {A = Bool} m k false false l, get_or-replicate {A = Option ℕ} m k None None l) refl
-
-  start-chain : (d : Room) → d ≡ put e.room 0 (record (node e.room 0) { size = size }) → IsChain d m 0 (m - 1) (free_block 0 size ∷ [])
+module _ (max m size : ℕ) (some : 0 < m) (small : size < 2 ^ 32) (t : Cells) (s : AreShaped max t) (e : AreEmpty max m t) where
+  start-chain : (d : Room) → d ≡ put t.room (m - 1) (whole_node size) → IsChain d m (m - 1) (m - 1) (free_block (m - 1) size ∷ [])
   unfolding spares
   start-chain d q =
-      let l : 0 < length e.room.nodes = rw nodes-empty some in
-      let zero_is : node d 0 ≡ record { offset = 0; size = size; used = false; before = None; after = None } = rw q (node-put e.room 0 _ l ∙ ap (λ (n : Node). record n { size = size }) (node-empty 0 some)) in
-      let stack_is : d.spare ≡ e.room.spare = rw q (spare-put e.room 0 _) in
-      let long : length e.room.spare ≡ m = omega (arith, length-append (range_with_len 1 (m - 1)) (0 ∷ []), length-range_with_len 1 (m - 1)) in
+      let l : m - 1 < length t.room.nodes = rw e.nodes (omega arith) in
+      let stack_is : d.spare ≡ range_with_len 0 m = rw q (spare-put t.room (m - 1) _ ∙ e.spare) in
+      let long = length-range_with_len 0 m in
       record {
-        cells = rw q (length-put e.room 0 _ ∙ nodes-empty);
+        cells = rw q (length-put t.room (m - 1) _ ∙ e.nodes);
         stack = rw stack_is long;
-        row = (zero_is, tt);
+        row = (rw q (node-put t.room (m - 1) _ l), tt);
         ends = refl;
-        each = λ k. let r = times-rising k (m - 1) e.room.spare (omega arith) (λ i b. get_or_append_left (range_with_len 1 (m - 1)) (0 ∷ []) 0 i (omega (arith, length-range_with_len 1 (m - 1))) ∙ get_or-range_with_len 1 (m - 1) i 0 b ∙ omega arith) in
-            let s : (m - 1) + 1 ≡ m = omega arith in
-            let one : named k (free_block 0 size ∷ []) ≡ one (nat_eq k 0) = omega arith in
-            rw stack_is (ap (λ (n : ℕ). n + times k (take (m - 1) e.room.spare)) one ∙ r ∙ ap (λ n. cond (nat_lt k n) 1 0) s);
+        each = λ k. let r = times-rising k (m - 1) (range_with_len 0 m) (omega arith) (λ i b. get_or-range_with_len 0 m i 0 (omega arith) ∙ omega arith) in
+            rw stack_is (elim (cases_eq k (m - 1)) [
+              | inl i ↦ grind (arith, nat_tests, one-eq k (m - 1) (sym i), r)
+              | inr ne ↦ grind (arith, nat_tests, one-other k (m - 1) ne, r)
+            ]);
         idle = λ k gone.
-            let ne : k ≢ 0 = λ t. omega (arith, gone, one-eq k 0 (sym t)) in
-            let at_k : node d k ≡ node e.room k = rw q (node-put_other e.room 0 _ k ne) in ap (λ (n : Node). n.used) at_k ∙ elim (cases_lt k m) [ inl b ↦ ap (λ (n : Node). n.used) (node-empty k b) | inr g ↦ past e.room k (rw nodes-empty g) ];
+            let ne : k ≢ m - 1 = λ i. omega (arith, gone, one-eq k (m - 1) (sym i)) in
+            let at_k : node d k ≡ node t.room k = rw q (node-put_other t.room (m - 1) _ k ne) in ap (λ (n : Node). n.used) at_k ∙ e.idle k;
         full = omega arith;
         fits = omega arith;
       }
@@ -87,45 +71,45 @@ module _ (max m size : ℕ) (some : 0 < m) (most : m ≤ max) (small : size < 2 
   mask_at : (c : ℕ) → c < 4 → slice_index (replicate 4 0) c ≡ 0
   mask_at c h = get_or-replicate 4 c 0 0 h
 
-  empty_linked : Linked max e.links.newer e.links.older e.links.heads (replicate 256 [])
+  empty_linked : Linked max t.links.newer t.links.older t.links.heads (replicate 256 [])
   empty_linked = record {
-    older_len = length-replicate {A = ℕ} m max ∙ sym (length-replicate {A = ℕ} m max);
-    names_small = omega (arith, length-replicate {A = ℕ} m max);
-    heads_len = length-replicate {A = ℕ} 256 max;
+    older_len = s.older ∙ sym s.newer;
+    names_small = rw s.newer s.limit;
+    heads_len = s.heads;
     lists_len = length-replicate {A = List ℕ} 256 [];
-    chains = λ c h. rw (empty_at c h) (head_at c h);
+    chains = λ c h. rw (empty_at c h, e.heads) (head_at c h);
     apart = λ c d x h _ a _. absurd (rw (empty_at c h) at a);
   }
 
-  empty_masked : Masked max e.links.heads e.links.masks 0
+  empty_masked : Masked max t.links.heads t.links.masks 0
   empty_masked = record {
-    masks_len = refl;
-    bits = λ c h. rw (mask_at (c / 64) (omega arith), head_at c h, eq-eqb max max refl) (bit_at-zero (c % 64));
-    tops = λ w h. rw (mask_at w h) (bit_at-zero w);
+    masks_len = s.masks;
+    bits = λ c h. rw (e.masks, e.heads, mask_at (c / 64) (omega arith), head_at c h, eq-eqb max max refl) (bit_at-zero (c % 64));
+    tops = λ w h. rw (e.masks, mask_at w h) (bit_at-zero w);
     top_small = omega arith;
-    words_small = λ w h. rw (mask_at w h) (omega arith);
+    words_small = λ w h. rw (e.masks, mask_at w h) (omega arith);
   }
 
-  pub empty_binned : Binned max (empty_cells max m).links 0 × (class_lists max (empty_cells max m).links ≡ replicate 256 [])
-  empty_binned = binned max e.links 0 (replicate 256 []) empty_linked empty_masked
+  pub empty_binned : Binned max t.links 0 × (class_lists max t.links ≡ replicate 256 [])
+  empty_binned = binned max t.links 0 (replicate 256 []) empty_linked empty_masked
 
-  pub empty_unlisted : IsUnlisted 0 (class_lists max (empty_cells max m).links)
+  pub empty_unlisted : IsUnlisted (m - 1) (class_lists max t.links)
   empty_unlisted c h a =
-      let b : Among 0 (names_at (replicate 256 []) c) = subst (λ o. Among 0 (names_at o c)) empty_binned.1 a in
+      let b : Among (m - 1) (names_at (replicate 256 []) c) = subst (λ o. Among (m - 1) (names_at o c)) empty_binned.1 a in
       rw (empty_at c h) at b
 
-  pub started : (d : Cells) (top : ℕ) → 2 ≤ m → m + 1 < max → d.room ≡ put (empty_cells max m).room 0 (record (node (empty_cells max m).room 0) { size = size }) → Binned max d.links top → class_lists max d.links ≡ put_first (down size) 0 (replicate 256 [])
-      → IsSound max size m d 0 (m - 1) top size × (view_of max size m d 0 0 ≡ fresh size m)
+  pub started : (d : Cells) (top : ℕ) → 2 ≤ m → m + 1 < max → d.room ≡ put t.room (m - 1) (whole_node size) → Binned max d.links top → class_lists max d.links ≡ put_first (down size) (m - 1) (replicate 256 [])
+      → IsSound max size m d (m - 1) (m - 1) top size × (view_of max size m d (m - 1) 0 ≡ fresh size m)
   started d top two least q bins lists =
       let h = start-chain d.room q in
-      let eb = blocks-chain d.room m 0 (m - 1) (free_block 0 size ∷ []) h in
-      let ev : view_of max size m d 0 0 ≡ fresh size m = ap₂ (λ (b : List Block) (o : List (List ℕ)). let u : View = record { size = size; max_allocs = m; blocks = b; order = o; accesses = 0 } in u) eb lists in (
+      let eb = blocks-chain d.room m (m - 1) (m - 1) (free_block (m - 1) size ∷ []) h in
+      let ev : view_of max size m d (m - 1) 0 ≡ fresh size m = ap₂ (λ (b : List Block) (o : List (List ℕ)). let u : View = record { size = size; max_allocs = m; blocks = b; order = o; accesses = 0 } in u) eb lists in (
         record {
           nodes = h.cells;
           least = least;
-          space = space-chain d.room m 0 (m - 1) (free_block 0 size ∷ []) h;
+          space = space-chain d.room m (m - 1) (m - 1) (free_block (m - 1) size ∷ []) h;
           bins = bins;
-          well = subst IsWellFormed (sym ev) (well_alone (fresh size m) 0 size 0 two (omega arith));
+          well = subst IsWellFormed (sym ev) (well_alone (fresh size m) (m - 1) size 0 two (omega arith));
           total = ap free_units eb ∙ omega arith;
         },
         ev,

@@ -1,11 +1,10 @@
 -- What is left of the links where a name goes first in its class.
-use Rattle.std.proofs.Common.{◌≡◌, ◌≢◌, ◌<◌, ℕ, ◌*◌, ◌/◌, ◌%◌, ◌^◌, List, [], ◌∷◌, refl, sym, subst, ◌∙◌, inl, inr, arith, length, slice_index, slice_index_or, slice_set, bit_or}
-use Rattle.std.proofs.lemmas.List.{length-set, get_or-set_same, get_or-set_other, get_or_read}
+use Rattle.std.proofs.Common.{◌≡◌, ◌≢◌, ◌<◌, ℕ, List, [], ◌∷◌, refl, sym, subst, ◌∙◌, inl, inr, arith, length, slice_index, slice_set}
+use Rattle.std.proofs.lemmas.List.{length-set, get_or-set_same, get_or-set_other}
 use Rattle.offset_allocator.specs.Named.{names_at}
-use Rattle.offset_allocator.specs.Orders.{Chain, Among, flag, Linked, Masked, IsUnlisted}
-use Rattle.offset_allocator.proofs.Find.{flag_name}
+use Rattle.offset_allocator.specs.Orders.{Chain, Among, Linked, IsUnlisted}
 use Rattle.offset_allocator.proofs.Walks.{relink, name_below}
-use Rattle.offset_allocator.proofs.Changes.{linked_after, masked_set, masked_same}
+use Rattle.offset_allocator.proofs.Changes.{linked_after}
 
 module _ (none : ℕ) where
   first_among : (m : ℕ) (nw od : ℕ → ℕ) (b h : ℕ) (xs : List ℕ) → (Chain none) m nw od b h xs → h ≢ none → Among h xs

@@ -1,27 +1,24 @@
--- Vectors of names that are written over from the front.
-use Rattle.std.proofs.Common.{◌≡◌, ℕ, suc, ◌+◌, ◌-◌, ◌<◌, List, [], ◌∷◌, ◌++◌, length, map, take, set, ap, ◌∙◌, arith}
+-- Tables that are numbered from the front.
+use Rattle.std.proofs.Common.{◌≡◌, ℕ, ◌+◌, ◌<◌, List, [], ◌∷◌, ◌++◌, get_or, length, map, take, set, ap, sym, ◌∙◌, inl, inr, arith}
 use Rattle.std.specs.List.{range_with_len}
-use Rattle.std.proofs.lemmas.List.{take_more_set, set_split, drop_all, map-append, length-map, length-append}
-use Rattle.std.proofs.lemmas.List.FromFn.{length-range_with_len}
-use Rattle.offset_allocator.proofs.Zip.{one_more}
+use Rattle.std.proofs.lemmas.Bool.{cases_lt}
+use Rattle.std.proofs.lemmas.List.{same_lists, get_or_append_left, take_more_set, map-append, length-map, length-append}
+use Rattle.std.proofs.lemmas.List.FromFn.{length-range_with_len, get_or-range_with_len}
+use Rattle.std.proofs.Math.Seq.{get_or-append_seam}
 
-pub rising_more : {A : Type 0} (number : A → ℕ) (xs : List A) (i : ℕ) (v : A) → i < length xs → map number (take i xs) ≡ range_with_len 1 i → number v ≡ i + 1 → map number (take (i + 1) (set xs i v)) ≡ range_with_len 1 (i + 1)
+range_more : (n : ℕ) → range_with_len 0 n ++ n ∷ [] ≡ range_with_len 0 (n + 1)
+range_more n = same_lists _ _ (length-append (range_with_len 0 n) (n ∷ []) ∙ (let p = length-range_with_len 0 n in let r = length-range_with_len 0 (n + 1) in omega arith)) (λ j d b. elim (cases_lt j n) [
+  | inl lt ↦ get_or_append_left (range_with_len 0 n) (n ∷ []) d j (rw (length-range_with_len 0 n) lt) ∙ get_or-range_with_len 0 n j d lt ∙ sym (get_or-range_with_len 0 (n + 1) j d (omega arith))
+  | inr ge ↦
+      let same : length (range_with_len 0 n) ≡ j = (let p = length-range_with_len 0 n in let r = length-append (range_with_len 0 n) (n ∷ []) in omega arith) in
+      let last : n ≡ 0 + j = (let p = length-range_with_len 0 n in omega arith) in
+      ap (λ (i : ℕ). get_or (range_with_len 0 n ++ n ∷ []) i d) (sym same) ∙ get_or-append_seam (range_with_len 0 n) n [] d ∙ last ∙ sym (get_or-range_with_len 0 (n + 1) j d (omega arith))
+])
+
+-- one more number written
+pub rising_more : {A : Type 0} (number : A → ℕ) (xs : List A) (i : ℕ) (v : A) → i < length xs → map number (take i xs) ≡ range_with_len 0 i → number v ≡ i → map number (take (i + 1) (set xs i v)) ≡ range_with_len 0 (i + 1)
 rising_more number xs i v l h q =
-    let back : i ≡ i + 1 - 1 = omega arith in
-    let on : i + 1 + 1 - 1 ≡ i + 1 = omega arith in
-    one_more number (take i xs) (take (i + 1) (set xs i v)) v (i + 1) (h ∙ ap (range_with_len 1) back) (omega arith) (take_more_set xs i v l) q ∙ ap (range_with_len 1) on
+    ap (map number) (take_more_set xs i v l) ∙ map-append number (take i xs) (v ∷ []) ∙ ap (λ t. t ++ number v ∷ []) h ∙ ap (λ (n : ℕ). range_with_len 0 i ++ n ∷ []) q ∙ range_more i
 
-pub rising_end : {A : Type 0} (number : A → ℕ) (xs : List A) (n : ℕ) (v : A) → length xs ≡ n + 1 → map number (take n xs) ≡ range_with_len 1 n → number v ≡ 0 → map number (set xs n v) ≡ range_with_len 1 n ++ 0 ∷ []
-rising_end number xs n v l h q =
-    ap (map number) (set_split xs n v (omega arith) ∙ ap (λ rest. take n xs ++ v ∷ rest) (drop_all (suc n) xs (omega arith)))
-    ∙ map-append number (take n xs) (v ∷ [])
-    ∙ ap (λ front. front ++ number v ∷ []) h
-    ∙ ap (λ k. range_with_len 1 n ++ k ∷ []) q
-
-pub length_renumbered : {A : Type 0} (number : A → ℕ) (xs : List A) (n : ℕ) → 0 < n → map number xs ≡ range_with_len 1 (n - 1) ++ 0 ∷ [] → length xs ≡ n
-length_renumbered number xs n l e =
-    let a = length-map xs number in
-    let b = ap (λ (l : List ℕ). length l) e in
-    let p = length-append (range_with_len 1 (n - 1)) (0 ∷ []) in
-    let q = length-range_with_len 1 (n - 1) in
-    omega arith
+pub length_renumbered : {A : Type 0} (number : A → ℕ) (xs : List A) (n : ℕ) → map number xs ≡ range_with_len 0 n → length xs ≡ n
+length_renumbered number xs n e = sym (length-map xs number) ∙ ap (λ (l : List ℕ). length l) e ∙ length-range_with_len 0 n

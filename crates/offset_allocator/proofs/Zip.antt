@@ -1,11 +1,9 @@
 -- Tables of fields as one list of nodes.
-use Rattle.std.proofs.Common.{◌≡◌, ◌≢◌, ℕ, zero, suc, replicate, ◌+◌, ◌-◌, ◌++◌, ◌∷◌, [], length-append, ◌<◌, ◌≤◌, Bool, false, Option, None, List, length, map, set, get_or, refl, sym, ◌∙◌, ap, arith, inl, inr, length-set, get_or-set_same, get_or-set_other}
-use Rattle.std.specs.List.{range_with_len}
-use Rattle.std.proofs.lemmas.List.{same_lists, length-map, map-append, get_or_append_left}
-use Rattle.std.proofs.lemmas.List.FromFn.{length-map-range_with_len, get_or-map-range_with_len, length-range_with_len, get_or-range_with_len}
-use Rattle.std.proofs.Math.Seq.{get_or-append_seam}
+use Rattle.std.proofs.Common.{◌≡◌, ◌≢◌, ℕ, zero, suc, replicate, ◌∷◌, ◌<◌, ◌≤◌, Bool, false, Option, None, List, length, map, set, get_or, refl, sym, ◌∙◌, ap, arith, inl, inr, length-set, get_or-set_same, get_or-set_other}
+use Rattle.std.proofs.lemmas.List.{same_lists, get_or_past, get_or-replicate, length-replicate, length-map}
+use Rattle.std.proofs.lemmas.List.FromFn.{length-map-range_with_len, get_or-map-range_with_len}
 use Rattle.std.proofs.lemmas.Bool.{cases_eq, cases_lt}
-use Rattle.offset_allocator.specs.Cells.{Cells, Links, Node, blank, nodes_of, node, put, links_of, AreShaped}
+use Rattle.offset_allocator.specs.Cells.{Cells, Links, Node, Room, blank, nodes_of, node, put, links_of, AreShaped}
 use Rattle.offset_allocator.specs.View.{cells_of, AreEven}
 use Rattle.offset_allocator.specs.declared.tables.Tables.TheInside.{Inside}
 
@@ -17,6 +15,20 @@ module _ (os ss : List ℕ) (us : List Bool) (bs fs : List (Option ℕ)) where
   pub get_or-nodes_of : (k : ℕ) (d : Node) → k < length os → get_or (nodes_of os ss us bs fs) k d ≡ record { offset = get_or os k 0; size = get_or ss k 0; used = get_or us k false; before = get_or bs k None; after = get_or fs k None }
   unfolding nodes_of
   get_or-nodes_of k d l = get_or-map-range_with_len _ 0 (length os) k k d l (omega arith)
+
+  -- no node is used where each use flag is false
+  pub idle_where : (n : ℕ) → us ≡ replicate n false → (c : Room) → c.nodes ≡ nodes_of os ss us bs fs → (k : ℕ) → (node c k).used ≡ false
+  unfolding node
+  idle_where n e c q k = elim (cases_lt k (length os)) [
+    | inl l ↦ rw (q, get_or-nodes_of k blank l, e) (idle_at n k)
+    | inr g ↦ rw q (ap (λ (v : Node). v.used) (get_or_past (nodes_of os ss us bs fs) k blank (rw length-nodes_of g)))
+  ]
+    where
+      idle_at : (n k : ℕ) → get_or (replicate n false) k false ≡ false
+      idle_at n k = elim (cases_lt k n) [
+        | inl l ↦ get_or-replicate n k false false l
+        | inr g ↦ get_or_past (replicate n false) k false (rw (length-replicate {A = Bool} n false) g)
+      ]
 
 -- lists that differ in one place
 pub set_from : {X : Type 0} (xs ys : List X) (x : ℕ) (v : X) → x < length xs → length ys ≡ length xs → ((d : X) → get_or ys x d ≡ v) → ((k : ℕ) (d : X) → k < length xs → k ≢ x → get_or ys k d ≡ get_or xs k d) → ys ≡ set xs x v
@@ -121,22 +133,6 @@ shaped max number t h w =
       limit = rw n h.limit;
       word = omega (arith, n, h.limit);
     }
-
--- numbers in a row, one more
-pub one_more : {A : Type 0} (number : A → ℕ) (xs ys : List A) (v : A) (i : ℕ) → map number xs ≡ range_with_len 1 (i - 1) → 1 ≤ i → ys ≡ xs ++ v ∷ [] → number v ≡ i → map number ys ≡ range_with_len 1 (i + 1 - 1)
-one_more number xs ys v i h l e q =
-    let k : (i - 1) + 1 ≡ i + 1 - 1 = omega arith in
-    let at : 1 + (i - 1) ≡ i = omega arith in
-    ap (map number) e ∙ map-append number xs (v ∷ []) ∙ ap (λ t. t ++ number v ∷ []) h ∙ ap (λ (n : ℕ). range_with_len 1 (i - 1) ++ n ∷ []) (q ∙ sym at) ∙ range_more 1 (i - 1) ∙ ap (range_with_len 1) k
-  where
-    range_more : (a n : ℕ) → range_with_len a n ++ (a + n) ∷ [] ≡ range_with_len a (n + 1)
-    range_more a n = same_lists _ _ (length-append (range_with_len a n) ((a + n) ∷ []) ∙ (let p = length-range_with_len a n in let r = length-range_with_len a (n + 1) in omega arith)) (λ j d b. elim (cases_lt j n) [
-      | inl lt ↦ get_or_append_left (range_with_len a n) ((a + n) ∷ []) d j (rw (length-range_with_len a n) lt) ∙ get_or-range_with_len a n j d lt ∙ sym (get_or-range_with_len a (n + 1) j d (omega arith))
-      | inr ge ↦
-          let same : length (range_with_len a n) ≡ j = (let p = length-range_with_len a n in let r = length-append (range_with_len a n) ((a + n) ∷ []) in omega arith) in
-          let last : j ≡ n = (let p = length-range_with_len a n in omega arith) in
-          ap (λ (i : ℕ). get_or (range_with_len a n ++ (a + n) ∷ []) i d) (sym same) ∙ get_or-append_seam (range_with_len a n) (a + n) [] d ∙ ap (λ (i : ℕ). a + i) (sym last) ∙ sym (get_or-range_with_len a (n + 1) j d (omega arith))
-    ])
 
 pub map-replicate : {A B : Type 0} (f : A → B) (k : ℕ) (x : A) → map f (replicate k x) ≡ replicate k (f x)
 map-replicate f zero x = refl

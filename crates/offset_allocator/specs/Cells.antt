@@ -1,5 +1,5 @@
 -- What the tables hold, without an index type: nodes and spare names, and the links of the class lists.
-use Rattle.std.specs.Prelude.{ℕ, Bool, false, List, Option, Some, None, length, ◌≡◌, ◌≤◌, ◌-◌, ◌++◌, ◌∷◌, [], replicate, map, slice_set, slice_index, slice_index_or, eqb, if◌then◌else◌}
+use Rattle.std.specs.Prelude.{ℕ, Bool, false, List, Option, Some, None, length, ◌≡◌, ◌≤◌, replicate, map, slice_set, slice_index, slice_index_or, eqb, if◌then◌else◌}
 use Rattle.std.specs.List.{range_with_len}
 
 -- a node, whatever tables hold its fields
@@ -71,9 +71,10 @@ pub record AreShaped (max : ℕ) (c : Cells) : Type 0 where
   pub limit : length c.room.nodes ≤ max
   pub word : length c.room.nodes ≤ 4294967295
 
--- tables for m nodes, with nothing written
-abbrev pub empty_cells : ℕ → ℕ → Cells
-empty_cells max m = record {
-  room = record { nodes = nodes_of (replicate m 0) (replicate m 0) (replicate m false) (replicate m None) (replicate m None); spare = range_with_len 1 (m - 1) ++ 0 ∷ [] };
-  links = record { newer = replicate m max; older = replicate m max; heads = replicate 256 max; masks = replicate 4 0 };
-}
+-- tables for m nodes: none is used, no class has a name, and all names are on the stack
+pub record AreEmpty (max m : ℕ) (c : Cells) : Type 0 where
+  pub nodes : length c.room.nodes ≡ m
+  pub idle : (x : ℕ) → (node c.room x).used ≡ false
+  pub spare : c.room.spare ≡ range_with_len 0 m
+  pub heads : c.links.heads ≡ replicate 256 max
+  pub masks : c.links.masks ≡ replicate 4 0

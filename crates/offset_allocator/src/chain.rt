@@ -10,303 +10,285 @@ use crate::accesses::Accesses;
 use crate::index::{NodeIndex, link_to, linked, number};
 use crate::tables::Tables;
 
-// Writes the cells of the unused node y, for a free block.
+/// Writes the cells of an unused node, for a free block between two links.
 #[tactic(auto, using(crate::proofs::Nodes::lengths))]
-fn place<NI: NodeIndex>(
-    t: &mut Tables<NI>,
-    y: u32,
-    offset: u32,
-    size: u32,
-    before: u32,
-    after: NI,
-    count: &mut Accesses,
-)
-    requires name { y < length t.old.room.nodes }
-    requires idle { (node t.old.room y).used ≡ false }
-    requires before { before < length t.old.room.nodes }
-    ensures count { count.new ≡ count.old + 4 }
-    ensures cells { t.new ≡ record t.old { room = put t.old.room y (record { offset = offset; size = size; used = false; before = Some before; after = link_of NI.MAX (NI.number after) }) } }
-{
-    t.shape();
-    t.set_offset(y, offset, count);
-    t.set_size(y, size, count);
-    t.set_before(y, link_to(before), count);
-    t.set_after(y, after, count);
-}
-
-// Makes y the node before the one that a link names, or the last one.
-fn point_back<NI: NodeIndex>(
-    t: &mut Tables<NI>,
-    last: &mut u32,
-    link: NI,
-    y: u32,
-    count: &mut Accesses,
-)
-    requires link { IfSome (link_of NI.MAX (NI.number link)) (λ z. z < length t.old.room.nodes) }
-    requires name { y < length t.old.room.nodes }
-    ensures cells { MatchOption (link_of NI.MAX (NI.number link)) (t.new.room ≡ t.old.room) (λ z. t.new.room ≡ put t.old.room z (record (node t.old.room z) { before = Some y })) }
-    ensures links { t.new.links ≡ t.old.links }
-    ensures grows { count.old ≤ count.new }
-    ensures count { count.new ≤ count.old + 1 }
-    ensures last { MatchOption (link_of NI.MAX (NI.number link)) (last.new ≡ y) (λ _. last.new ≡ last.old) }
-{
-    t.shape();
-    match linked(link) {
-        Some(z) => t.set_before(z, link_to(y), count),
-        None => *last = y,
-    }
-}
-
-// Makes y the node after the one that a link names.
-fn point_on<NI: NodeIndex>(t: &mut Tables<NI>, link: NI, y: u32, count: &mut Accesses)
-    requires link { IfSome (link_of NI.MAX (NI.number link)) (λ z. z < length t.old.room.nodes) }
-    requires name { y < length t.old.room.nodes }
-    ensures cells { MatchOption (link_of NI.MAX (NI.number link)) (t.new.room ≡ t.old.room) (λ z. t.new.room ≡ put t.old.room z (record (node t.old.room z) { after = Some y })) }
-    ensures links { t.new.links ≡ t.old.links }
-    ensures grows { count.old ≤ count.new }
-    ensures count { count.new ≤ count.old + 1 }
-{
-    t.shape();
-    if let Some(z) = linked(link) {
-        t.set_after(z, link_to(y), count);
-    }
-}
-
-/// The offset of the block x.
-pub(crate) fn offset<NI: NodeIndex>(
-    t: &Tables<NI>,
-    last: u32,
-    spare_count: u32,
-    x: u32,
-    count: &mut Accesses,
-) -> u32
-    requires space { IsSpace t.now.room last spare_count }
-    requires standing { Stands x (blocks t.now.room last) }
-    ensures offset { result ≡ offset_in x (blocks t.now.room last) }
-    ensures count { count.new ≡ count.old + 1 }
-{
-    t.offset(x, count)
-}
-
-/// The size of the block x.
-pub(crate) fn size<NI: NodeIndex>(
-    t: &Tables<NI>,
-    last: u32,
-    spare_count: u32,
-    x: u32,
-    count: &mut Accesses,
-) -> u32
-    requires space { IsSpace t.now.room last spare_count }
-    requires standing { Stands x (blocks t.now.room last) }
-    ensures size { result ≡ size_in x (blocks t.now.room last) }
-    ensures count { count.new ≡ count.old + 1 }
-{
-    t.size(x, count)
-}
-
-/// Cuts the block x, of this offset and size, to n units. The rest becomes a free block directly
-/// behind it, under the name that is answered.
-pub(crate) fn split<NI: NodeIndex>(
-    t: &mut Tables<NI>,
-    last: &mut u32,
-    spare_count: &mut u32,
-    x: u32,
-    offset: u32,
-    size: u32,
-    n: u32,
-    count: &mut Accesses,
-) -> u32
-    requires space { IsSpace t.old.room last.old spare_count.old }
-    requires standing { Stands x (blocks t.old.room last.old) }
-    requires room { 0 < spare_count.old }
-    requires offset { offset ≡ offset_in x (blocks t.old.room last.old) }
-    requires size { size ≡ size_in x (blocks t.old.room last.old) }
-    requires within { n ≤ size }
-    ensures space { IsSpace t.new.room last.new spare_count.new }
-    ensures blocks { blocks t.new.room last.new ≡ split_block x n result (blocks t.old.room last.old) }
-    ensures links { t.new.links ≡ t.old.links }
-    ensures limit { length t.new.room.nodes ≡ length t.old.room.nodes }
-    ensures left { spare_count.new + 1 ≡ spare_count.old }
-    ensures fresh { named result (blocks t.old.room last.old) ≡ 0 }
-    ensures below { result < length t.old.room.nodes }
-    ensures grows { count.old ≤ count.new }
-    ensures count { count.new ≤ count.old + 9 }
-{
-    t.shape();
-    *spare_count -= 1;
-    let y = number(t.spare(*spare_count, count));
-    let next = t.after(x, count);
-    place(t, y, offset + n, size - n, x, next, count);
-    t.set_size(x, n, count);
-    t.set_after(x, link_to(y), count);
-    point_back(t, last, next, y, count);
-    y
-}
-
-/// Joins the free block y into the block x directly before it; total is the size of both. The name
-/// y is unused again.
-pub(crate) fn join_after<NI: NodeIndex>(
-    t: &mut Tables<NI>,
-    last: &mut u32,
-    spare_count: &mut u32,
-    x: u32,
-    y: u32,
-    total: u32,
-    count: &mut Accesses,
-)
-    requires space { IsSpace t.old.room last.old spare_count.old }
-    requires standing { Stands x (blocks t.old.room last.old) }
-    requires next { name_after x (blocks t.old.room last.old) ≡ Some y }
-    requires free { (node t.old.room y).used ≡ false }
-    requires total { total ≡ size_in x (blocks t.old.room last.old) + size_in y (blocks t.old.room last.old) }
-    ensures space { IsSpace t.new.room last.new spare_count.new }
-    ensures blocks { blocks t.new.room last.new ≡ join_block x (blocks t.old.room last.old) }
-    ensures links { t.new.links ≡ t.old.links }
-    ensures limit { length t.new.room.nodes ≡ length t.old.room.nodes }
-    ensures grows { count.old ≤ count.new }
-    ensures count { count.new ≤ count.old + 5 }
-{
-    t.shape();
-    let next = t.after(y, count);
-    t.set_size(x, total, count);
-    t.set_after(x, next, count);
-    point_back(t, last, next, x, count);
-    t.set_spare(*spare_count, link_to(y), count);
-    *spare_count += 1;
-}
-
-/// Joins the free block w into the block x directly behind it; total is the size of both. The name
-/// w is unused again.
-pub(crate) fn join_before<NI: NodeIndex>(
-    t: &mut Tables<NI>,
-    last: u32,
-    spare_count: &mut u32,
-    w: u32,
-    x: u32,
-    total: u32,
-    count: &mut Accesses,
-)
-    requires space { IsSpace t.old.room last spare_count.old }
-    requires standing { Stands w (blocks t.old.room last) }
-    requires next { name_after w (blocks t.old.room last) ≡ Some x }
-    requires free { (node t.old.room w).used ≡ false }
-    requires total { total ≡ size_in w (blocks t.old.room last) + size_in x (blocks t.old.room last) }
-    ensures space { IsSpace t.new.room last spare_count.new }
-    ensures blocks { blocks t.new.room last ≡ give_block w (blocks t.old.room last) }
-    ensures links { t.new.links ≡ t.old.links }
-    ensures limit { length t.new.room.nodes ≡ length t.old.room.nodes }
-    ensures grows { count.old ≤ count.new }
-    ensures count { count.new ≤ count.old + 7 }
-{
-    t.shape();
-    let offset = t.offset(w, count);
-    let link = t.before(w, count);
-    t.set_offset(x, offset, count);
-    t.set_size(x, total, count);
-    t.set_before(x, link, count);
-    point_on(t, link, x, count);
-    t.set_spare(*spare_count, link_to(w), count);
-    *spare_count += 1;
-}
-
-/// Makes the block x used or free.
-pub(crate) fn mark<NI: NodeIndex>(
-    t: &mut Tables<NI>,
-    last: u32,
-    spare_count: u32,
-    x: u32,
-    used: bool,
-    count: &mut Accesses,
-)
-    requires space { IsSpace t.old.room last spare_count }
-    requires standing { Stands x (blocks t.old.room last) }
-    ensures space { IsSpace t.new.room last spare_count }
-    ensures blocks { blocks t.new.room last ≡ mark_block x used (blocks t.old.room last) }
-    ensures links { t.new.links ≡ t.old.links }
-    ensures limit { length t.new.room.nodes ≡ length t.old.room.nodes }
-    ensures count { count.new ≡ count.old + 1 }
-{
-    t.set_used(x, used, count);
-}
-
-// Writes the cells of the unused node y, for a free block before the block x.
-#[tactic(auto, using(crate::proofs::Nodes::lengths))]
-fn place_front<NI: NodeIndex>(
-    t: &mut Tables<NI>,
-    y: u32,
+pub(crate) fn place<NI: NodeIndex>(
+    tables: &mut Tables<NI>,
+    name: u32,
     offset: u32,
     size: u32,
     before: NI,
-    x: u32,
+    after: NI,
     count: &mut Accesses,
 )
-    requires name { y < length t.old.room.nodes }
-    requires idle { (node t.old.room y).used ≡ false }
-    requires after { x < length t.old.room.nodes }
+    requires name { name < length tables.old.room.nodes }
+    requires idle { (node tables.old.room name).used ≡ false }
     ensures count { count.new ≡ count.old + 4 }
-    ensures cells { t.new ≡ record t.old { room = put t.old.room y (record { offset = offset; size = size; used = false; before = link_of NI.MAX (NI.number before); after = Some x }) } }
+    ensures cells { tables.new ≡ record tables.old { room = put tables.old.room name (record { offset = offset; size = size; used = false; before = link_of NI.MAX (NI.number before); after = link_of NI.MAX (NI.number after) }) } }
 {
-    t.shape();
-    t.set_offset(y, offset, count);
-    t.set_size(y, size, count);
-    t.set_before(y, before, count);
-    t.set_after(y, link_to(x), count);
+    tables.set_offset(name, offset, count);
+    tables.set_size(name, size, count);
+    tables.set_before(name, before, count);
+    tables.set_after(name, after, count);
 }
 
-/// Cuts the first n units off the block x. They become a free block directly before it, under the
-/// name that is answered.
-pub(crate) fn split_before<NI: NodeIndex>(
-    t: &mut Tables<NI>,
+// Makes a node the one before the node that a link names, or the last one.
+fn point_back<NI: NodeIndex>(
+    tables: &mut Tables<NI>,
+    last: &mut u32,
+    link: NI,
+    name: u32,
+    count: &mut Accesses,
+)
+    requires link { IfSome (link_of NI.MAX (NI.number link)) (λ after. after < length tables.old.room.nodes) }
+    requires name { name < length tables.old.room.nodes }
+    ensures cells { MatchOption (link_of NI.MAX (NI.number link)) (tables.new.room ≡ tables.old.room) (λ after. tables.new.room ≡ put tables.old.room after (record (node tables.old.room after) { before = Some name })) }
+    ensures links { tables.new.links ≡ tables.old.links }
+    ensures grows { count.old ≤ count.new }
+    ensures count { count.new ≤ count.old + 1 }
+    ensures last { MatchOption (link_of NI.MAX (NI.number link)) (last.new ≡ name) (λ _. last.new ≡ last.old) }
+{
+    tables.shape();
+    match linked(link) {
+        Some(after) => tables.set_before(after, link_to(name), count),
+        None => *last = name,
+    }
+}
+
+// Makes a node the one after the node that a link names.
+fn point_on<NI: NodeIndex>(tables: &mut Tables<NI>, link: NI, name: u32, count: &mut Accesses)
+    requires link { IfSome (link_of NI.MAX (NI.number link)) (λ before. before < length tables.old.room.nodes) }
+    requires name { name < length tables.old.room.nodes }
+    ensures cells { MatchOption (link_of NI.MAX (NI.number link)) (tables.new.room ≡ tables.old.room) (λ before. tables.new.room ≡ put tables.old.room before (record (node tables.old.room before) { after = Some name })) }
+    ensures links { tables.new.links ≡ tables.old.links }
+    ensures grows { count.old ≤ count.new }
+    ensures count { count.new ≤ count.old + 1 }
+{
+    tables.shape();
+    if let Some(before) = linked(link) {
+        tables.set_after(before, link_to(name), count);
+    }
+}
+
+/// The offset of a block.
+pub(crate) fn offset<NI: NodeIndex>(
+    tables: &Tables<NI>,
     last: u32,
-    spare_count: &mut u32,
-    x: u32,
-    n: u32,
+    spare_count: u32,
+    name: u32,
     count: &mut Accesses,
 ) -> u32
-    requires space { IsSpace t.old.room last spare_count.old }
-    requires standing { Stands x (blocks t.old.room last) }
+    requires space { IsSpace tables.now.room last spare_count }
+    requires standing { Stands name (blocks tables.now.room last) }
+    ensures offset { result ≡ offset_in name (blocks tables.now.room last) }
+    ensures count { count.new ≡ count.old + 1 }
+{
+    tables.offset(name, count)
+}
+
+/// The size of a block.
+pub(crate) fn size<NI: NodeIndex>(
+    tables: &Tables<NI>,
+    last: u32,
+    spare_count: u32,
+    name: u32,
+    count: &mut Accesses,
+) -> u32
+    requires space { IsSpace tables.now.room last spare_count }
+    requires standing { Stands name (blocks tables.now.room last) }
+    ensures size { result ≡ size_in name (blocks tables.now.room last) }
+    ensures count { count.new ≡ count.old + 1 }
+{
+    tables.size(name, count)
+}
+
+/// Cuts a block, of this offset and size, to `kept` units. The rest becomes a free block directly behind it, under the
+/// name that is answered.
+pub(crate) fn split<NI: NodeIndex>(
+    tables: &mut Tables<NI>,
+    last: &mut u32,
+    spare_count: &mut u32,
+    name: u32,
+    offset: u32,
+    size: u32,
+    kept: u32,
+    count: &mut Accesses,
+) -> u32
+    requires space { IsSpace tables.old.room last.old spare_count.old }
+    requires standing { Stands name (blocks tables.old.room last.old) }
     requires room { 0 < spare_count.old }
-    requires within { n ≤ size_in x (blocks t.old.room last) }
-    ensures space { IsSpace t.new.room last spare_count.new }
-    ensures blocks { blocks t.new.room last ≡ split_front x n result (blocks t.old.room last) }
-    ensures links { t.new.links ≡ t.old.links }
-    ensures limit { length t.new.room.nodes ≡ length t.old.room.nodes }
+    requires offset { offset ≡ offset_in name (blocks tables.old.room last.old) }
+    requires size { size ≡ size_in name (blocks tables.old.room last.old) }
+    requires within { kept ≤ size }
+    ensures space { IsSpace tables.new.room last.new spare_count.new }
+    ensures blocks { blocks tables.new.room last.new ≡ split_block name kept result (blocks tables.old.room last.old) }
+    ensures links { tables.new.links ≡ tables.old.links }
+    ensures limit { length tables.new.room.nodes ≡ length tables.old.room.nodes }
     ensures left { spare_count.new + 1 ≡ spare_count.old }
-    ensures fresh { named result (blocks t.old.room last) ≡ 0 }
-    ensures below { result < length t.old.room.nodes }
+    ensures fresh { named result (blocks tables.old.room last.old) ≡ 0 }
+    ensures below { result < length tables.old.room.nodes }
+    ensures grows { count.old ≤ count.new }
+    ensures count { count.new ≤ count.old + 9 }
+{
+    tables.shape();
+    *spare_count -= 1;
+    let rest = number(tables.spare(*spare_count, count));
+    let next = tables.after(name, count);
+    place(
+        tables,
+        rest,
+        offset + kept,
+        size - kept,
+        link_to(name),
+        next,
+        count,
+    );
+    tables.set_size(name, kept, count);
+    tables.set_after(name, link_to(rest), count);
+    point_back(tables, last, next, rest, count);
+    rest
+}
+
+/// Joins the free block `following` into the block directly before it; `total` is the size of both. The name `following` is
+/// unused again.
+pub(crate) fn join_after<NI: NodeIndex>(
+    tables: &mut Tables<NI>,
+    last: &mut u32,
+    spare_count: &mut u32,
+    name: u32,
+    following: u32,
+    total: u32,
+    count: &mut Accesses,
+)
+    requires space { IsSpace tables.old.room last.old spare_count.old }
+    requires standing { Stands name (blocks tables.old.room last.old) }
+    requires next { name_after name (blocks tables.old.room last.old) ≡ Some following }
+    requires free { (node tables.old.room following).used ≡ false }
+    requires total { total ≡ size_in name (blocks tables.old.room last.old) + size_in following (blocks tables.old.room last.old) }
+    ensures space { IsSpace tables.new.room last.new spare_count.new }
+    ensures blocks { blocks tables.new.room last.new ≡ join_block name (blocks tables.old.room last.old) }
+    ensures links { tables.new.links ≡ tables.old.links }
+    ensures limit { length tables.new.room.nodes ≡ length tables.old.room.nodes }
+    ensures grows { count.old ≤ count.new }
+    ensures count { count.new ≤ count.old + 5 }
+{
+    tables.shape();
+    let next = tables.after(following, count);
+    tables.set_size(name, total, count);
+    tables.set_after(name, next, count);
+    point_back(tables, last, next, name, count);
+    tables.set_spare(*spare_count, link_to(following), count);
+    *spare_count += 1;
+}
+
+/// Joins the free block `previous` into the block directly behind it; `total` is the size of both. The name `previous` is
+/// unused again.
+pub(crate) fn join_before<NI: NodeIndex>(
+    tables: &mut Tables<NI>,
+    last: u32,
+    spare_count: &mut u32,
+    previous: u32,
+    name: u32,
+    total: u32,
+    count: &mut Accesses,
+)
+    requires space { IsSpace tables.old.room last spare_count.old }
+    requires standing { Stands previous (blocks tables.old.room last) }
+    requires next { name_after previous (blocks tables.old.room last) ≡ Some name }
+    requires free { (node tables.old.room previous).used ≡ false }
+    requires total { total ≡ size_in previous (blocks tables.old.room last) + size_in name (blocks tables.old.room last) }
+    ensures space { IsSpace tables.new.room last spare_count.new }
+    ensures blocks { blocks tables.new.room last ≡ give_block previous (blocks tables.old.room last) }
+    ensures links { tables.new.links ≡ tables.old.links }
+    ensures limit { length tables.new.room.nodes ≡ length tables.old.room.nodes }
+    ensures grows { count.old ≤ count.new }
+    ensures count { count.new ≤ count.old + 7 }
+{
+    tables.shape();
+    let offset = tables.offset(previous, count);
+    let link = tables.before(previous, count);
+    tables.set_offset(name, offset, count);
+    tables.set_size(name, total, count);
+    tables.set_before(name, link, count);
+    point_on(tables, link, name, count);
+    tables.set_spare(*spare_count, link_to(previous), count);
+    *spare_count += 1;
+}
+
+/// Makes a block used or free.
+pub(crate) fn mark<NI: NodeIndex>(
+    tables: &mut Tables<NI>,
+    last: u32,
+    spare_count: u32,
+    name: u32,
+    used: bool,
+    count: &mut Accesses,
+)
+    requires space { IsSpace tables.old.room last spare_count }
+    requires standing { Stands name (blocks tables.old.room last) }
+    ensures space { IsSpace tables.new.room last spare_count }
+    ensures blocks { blocks tables.new.room last ≡ mark_block name used (blocks tables.old.room last) }
+    ensures links { tables.new.links ≡ tables.old.links }
+    ensures limit { length tables.new.room.nodes ≡ length tables.old.room.nodes }
+    ensures count { count.new ≡ count.old + 1 }
+{
+    tables.set_used(name, used, count);
+}
+
+/// Cuts the first `cut` units off a block. They become a free block directly before it, under the name that is
+/// answered.
+pub(crate) fn split_before<NI: NodeIndex>(
+    tables: &mut Tables<NI>,
+    last: u32,
+    spare_count: &mut u32,
+    name: u32,
+    cut: u32,
+    count: &mut Accesses,
+) -> u32
+    requires space { IsSpace tables.old.room last spare_count.old }
+    requires standing { Stands name (blocks tables.old.room last) }
+    requires room { 0 < spare_count.old }
+    requires within { cut ≤ size_in name (blocks tables.old.room last) }
+    ensures space { IsSpace tables.new.room last spare_count.new }
+    ensures blocks { blocks tables.new.room last ≡ split_front name cut result (blocks tables.old.room last) }
+    ensures links { tables.new.links ≡ tables.old.links }
+    ensures limit { length tables.new.room.nodes ≡ length tables.old.room.nodes }
+    ensures left { spare_count.new + 1 ≡ spare_count.old }
+    ensures fresh { named result (blocks tables.old.room last) ≡ 0 }
+    ensures below { result < length tables.old.room.nodes }
     ensures grows { count.old ≤ count.new }
     ensures count { count.new ≤ count.old + 12 }
 {
-    t.shape();
+    tables.shape();
     *spare_count -= 1;
-    let y = number(t.spare(*spare_count, count));
-    let offset = t.offset(x, count);
-    let size = t.size(x, count);
-    let link = t.before(x, count);
-    place_front(t, y, offset, n, link, x, count);
-    t.set_offset(x, offset + n, count);
-    t.set_size(x, size - n, count);
-    t.set_before(x, link_to(y), count);
-    point_on(t, link, y, count);
-    y
+    let front = number(tables.spare(*spare_count, count));
+    let offset = tables.offset(name, count);
+    let size = tables.size(name, count);
+    let link = tables.before(name, count);
+    place(tables, front, offset, cut, link, link_to(name), count);
+    tables.set_offset(name, offset + cut, count);
+    tables.set_size(name, size - cut, count);
+    tables.set_before(name, link_to(front), count);
+    point_on(tables, link, front, count);
+    front
 }
 
 /// Adds units to the last block.
 pub(crate) fn grow<NI: NodeIndex>(
-    t: &mut Tables<NI>,
+    tables: &mut Tables<NI>,
     last: u32,
     spare_count: u32,
     more: u32,
     count: &mut Accesses,
 )
-    requires space { IsSpace t.old.room last spare_count }
-    requires fits { units (blocks t.old.room last) + more < 2 ^ 32 }
-    ensures space { IsSpace t.new.room last spare_count }
-    ensures blocks { blocks t.new.room last ≡ grow_last more (blocks t.old.room last) }
-    ensures links { t.new.links ≡ t.old.links }
-    ensures limit { length t.new.room.nodes ≡ length t.old.room.nodes }
+    requires space { IsSpace tables.old.room last spare_count }
+    requires fits { units (blocks tables.old.room last) + more < 2 ^ 32 }
+    ensures space { IsSpace tables.new.room last spare_count }
+    ensures blocks { blocks tables.new.room last ≡ grow_last more (blocks tables.old.room last) }
+    ensures links { tables.new.links ≡ tables.old.links }
+    ensures limit { length tables.new.room.nodes ≡ length tables.old.room.nodes }
     ensures count { count.new ≡ count.old + 2 }
 {
-    let size = t.size(last, count);
-    t.set_size(last, size + more, count);
+    let size = tables.size(last, count);
+    tables.set_size(last, size + more, count);
 }

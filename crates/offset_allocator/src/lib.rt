@@ -12,7 +12,7 @@
 
 ghost use Rattle.std.specs.Prelude.{◌≡◌, ◌↔◌, ◌+◌, ◌-◌, ◌*◌, ◌%◌, ◌<◌, ◌≤◌, min, Some, None, Option, false, true, IsTrue, IsSome, IfSome, IfOk, length};
 ghost use Rattle.offset_allocator.specs.Classes.{up};
-ghost use Rattle.offset_allocator.specs.Cells.{empty_cells};
+ghost use Rattle.offset_allocator.specs.Cells.{AreEmpty};
 ghost use Rattle.offset_allocator.specs.Orders.{IsLeastFrom};
 ghost use Rattle.offset_allocator.specs.Ranges.{range_of, KeepsAll, KeepsOthers, KeepsRanges};
 ghost use Rattle.offset_allocator.specs.Reports.{IsGoodRefusal};
@@ -38,6 +38,7 @@ mod tests;
 
 pub use accesses::Accesses;
 pub use handle::Allocation;
+use index::no_link;
 pub use index::{NodeIndex, NodeIndexNonMax, NonMaxU16, NonMaxU32};
 pub use reports::{StorageReport, StorageReportFull, StorageReportFullRegion};
 use small_float::{float_to_uint, uint_to_float_round_down, uint_to_float_round_up};
@@ -85,7 +86,7 @@ fn handle_of<NI: NodeIndex>(offset: u32, name: u32) -> Allocation<NI>
     Allocation::make(offset, NI::from_u32(name).to_name())
 }
 
-// Makes the whole space one free block, under the name 0, in tables with nothing written. It answers
+// Makes the whole space one free block, under the last name, in tables with no used node. It answers
 // the top mask.
 fn start<NI: NodeIndex>(
     tables: &mut Tables<NI>,
@@ -93,19 +94,20 @@ fn start<NI: NodeIndex>(
     max_allocs: u32,
     count: &mut Accesses,
 ) -> u32
-    requires empty { tables.old ≡ empty_cells NI.MAX max_allocs }
+    requires empty { AreEmpty NI.MAX max_allocs tables.old }
     requires least { 2 ≤ max_allocs }
     requires most { max_allocs + 1 < NI.MAX }
     ensures started { IsStarted NI.MAX size max_allocs tables.new result }
     ensures grows { count.old ≤ count.new }
 {
     let mut top_mask = 0;
-    tables.set_size(0, size, count);
     tables.shape();
+    let name = max_allocs - 1;
+    chain::place(tables, name, 0, size, no_link(), no_link(), count);
     bins::put_first(
         tables,
         &mut top_mask,
-        0,
+        name,
         uint_to_float_round_down(size),
         count,
     );
@@ -140,7 +142,7 @@ impl<NI: NodeIndex> Allocator<NI> {
             free_total: size,
             top_mask,
             spare_count: max_allocs - 1,
-            last: 0,
+            last: max_allocs - 1,
             tables,
             accesses: Accesses::new(),
         })
@@ -161,7 +163,7 @@ impl<NI: NodeIndex> Allocator<NI> {
         );
         self.free_total = self.size;
         self.spare_count = self.max_allocs - 1;
-        self.last = 0;
+        self.last = self.max_allocs - 1;
     }
 
     // Grants the first units of the newest block of a class.

@@ -1,9 +1,9 @@
 //! The cells: the only place that reads or writes them. A function on a cell touches that one, and counts it;
-//! `with_len` and `clear` go over all cells, and count none.
+//! `with_len` and `clear` go over whole tables, and count none.
 
 ghost use Rattle.std.specs.Prelude.{◌≡◌, ◌+◌, ◌-◌, ◌<◌, ◌≤◌, ◌++◌, ◌∷◌, [], length, map, replicate, slice_set, slice_index, IfOk};
 ghost use Rattle.std.specs.List.{range_with_len};
-ghost use Rattle.offset_allocator.specs.Cells.{AreShaped, empty_cells, link_of, node, put, with_spare};
+ghost use Rattle.offset_allocator.specs.Cells.{AreEmpty, AreShaped, link_of, node, put, with_spare};
 
 use crate::accesses::Accesses;
 use crate::index::{NodeIndex, no_link};
@@ -72,34 +72,29 @@ fn fill<T: Copy>(values: &mut Vec<T>, value: T)
     fill_cells(values, value);
 }
 
-// Writes the numbers from 1 to below the length, and 0, over a slice.
+// Writes the numbers below the length over a slice, in order.
 fn renumber_cells<NI: NodeIndex>(cells: &mut [NI])
-    requires least { 0 < length cells.old }
-    requires most { length cells.old ≤ NI.MAX }
-    ensures { map NI.number cells.new ≡ range_with_len 1 (length cells.old - 1) ++ 0 ∷ [] }
+    requires { length cells.old ≤ NI.MAX }
+    ensures { map NI.number cells.new ≡ range_with_len 0 (length cells.old) }
 {
-    let last = cells.len() - 1;
-    for i in 0..last {
-        cells[i] = NI::from_u32(i as u32 + 1);
+    for i in 0..cells.len() {
+        cells[i] = NI::from_u32(i as u32);
     }
-    cells[last] = NI::from_u32(0);
 }
 
-// Writes the numbers from 1 to below the length, and 0, over a table.
+// Writes the numbers below the length over a table, in order.
 fn renumber<NI: NodeIndex>(values: &mut Vec<NI>)
-    requires least { 0 < length values.old.items }
-    requires most { length values.old.items ≤ NI.MAX }
-    ensures { map NI.number values.new.items ≡ range_with_len 1 (length values.old.items - 1) ++ 0 ∷ [] }
+    requires { length values.old.items ≤ NI.MAX }
+    ensures { map NI.number values.new.items ≡ range_with_len 0 (length values.old.items) }
 {
     renumber_cells(values);
 }
 
-// A reserved table, filled with the numbers from 1 to below `len`, and 0.
+// A reserved table, filled with the numbers below `len`, in order.
 fn rising<NI: NodeIndex>(values: Vec<NI>, len: u32) -> Result<Vec<NI>, AllocError>
     requires empty { values.items ≡ [] }
-    requires least { 0 < len }
     requires most { len ≤ NI.MAX }
-    ensures { IfOk result (λ v. map NI.number v.items ≡ range_with_len 1 (len - 1) ++ 0 ∷ []) }
+    ensures { IfOk result (λ v. map NI.number v.items ≡ range_with_len 0 len) }
 {
     let mut values = filled(values, NI::from_u32(0), len as usize)?;
     renumber(&mut values);
@@ -107,11 +102,10 @@ fn rising<NI: NodeIndex>(values: Vec<NI>, len: u32) -> Result<Vec<NI>, AllocErro
 }
 
 impl<NI: NodeIndex> Tables<NI> {
-    /// Tables for `len` nodes, with nothing written. Every table has its room before any is filled.
+    /// Tables for `len` nodes, none of them used. Every table has its room before any is filled.
     pub(crate) fn with_len(alloc: Global, len: u32) -> Result<Self, AllocError>
-        requires least { 0 < len }
-        requires most { len ≤ NI.MAX }
-        ensures { IfOk result (λ t. t ≡ empty_cells NI.MAX len) }
+        requires { len ≤ NI.MAX }
+        ensures { IfOk result (AreEmpty NI.MAX len) }
     {
         let nodes = len as usize;
         let offset = reserved(alloc, nodes)?;
@@ -138,20 +132,13 @@ impl<NI: NodeIndex> Tables<NI> {
         })
     }
 
-    /// Overwrites the tables, so that nothing is written.
+    /// Makes all nodes unused and all classes empty. The other cells stay: those of a node are written before they are
+    /// read.
     pub(crate) fn clear(&mut self)
-        requires { 0 < length self.old.room.nodes }
-        ensures { self.new ≡ empty_cells NI.MAX (length self.old.room.nodes) }
+        ensures { AreEmpty NI.MAX (length self.old.room.nodes) self.new }
     {
-        let none = no_link::<NI>();
-        fill(&mut self.offset, 0);
-        fill(&mut self.size, 0);
         fill(&mut self.used, false);
-        fill(&mut self.before, none);
-        fill(&mut self.after, none);
-        fill(&mut self.newer, none);
-        fill(&mut self.older, none);
-        fill(&mut self.heads, none);
+        fill(&mut self.heads, no_link::<NI>());
         self.masks = [0; 4];
         renumber(&mut self.spare);
     }

@@ -7,7 +7,6 @@ use Rattle.offset_allocator.proofs.ViewFits.{allocated_exactly, refused_well, cu
 use Rattle.offset_allocator.proofs.Sound.{fields_of, known_sound}
 use Rattle.offset_allocator.proofs.Classes.{below_value_up}
 use Rattle.offset_allocator.proofs.Granting.{refused_short, refused_none}
-use Rattle.offset_allocator.specs.Ranges.{range_of}
 use Rattle.offset_allocator.proofs.Ranges.{Holds, allocated_holds, holds_kept, live_range}
 use Rattle.offset_allocator.proofs.Allocator.allocate.Goals as goal
 use Rattle.offset_allocator.proofs.Allocator.allocate.Goals.{After-grant}

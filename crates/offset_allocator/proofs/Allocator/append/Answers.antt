@@ -50,20 +50,20 @@ invariant_of-self g c =
     let whole_fits : c.self.inside.size + c.args.more ≤ 4294967295 = subst (λ (u : View). u.size + c.args.more ≤ 4294967295) (sym c.self.view_is) c.requires.fits in
     let used = subst (λ (u : View). ends_used u.blocks ≡ true) (sym c.self.view_is) c.requires.used in
     let room = subst (λ (u : View). is_short_of 1 u ≡ false) (sym c.self.view_is) c.requires.room in
-    let room_is : blocks c.put_first.new.t.room c.split-name.new.last ≡ grow_last c.args.more (split_block c.self.inside.last c.size-whole.result c.split-name.result (blocks c.self.inside.tables.room c.self.inside.last)) = ap (λ (r : Room). blocks r c.split-name.new.last) c.put_first.ensures.room ∙ c.grow.ensures.blocks ∙ ap (grow_last c.args.more) c.split-name.ensures.blocks in
+    let room_is : blocks c.put_first.new.tables.room c.split-name.new.last ≡ grow_last c.args.more (split_block c.self.inside.last c.size-whole.result c.split-name.result (blocks c.self.inside.tables.room c.self.inside.last)) = ap (λ (r : Room). blocks r c.split-name.new.last) c.put_first.ensures.room ∙ c.grow.ensures.blocks ∙ ap (grow_last c.args.more) c.split-name.ensures.blocks in
     let lists_are = c.put_first.ensures.lists ∙ ap (λ (k : Links). put_first c.uint_to_float_round_down.result c.split-name.result (class_lists g.NI.NodeIndex.MAX k)) (c.grow.ensures.links ∙ c.split-name.ensures.links) ∙ ap (λ (k : ℕ). put_first k c.split-name.result (class_lists g.NI.NodeIndex.MAX c.self.inside.tables.links)) c.uint_to_float_round_down.ensures.is in
     let space = subst (λ (r : Room). IsSpace r c.split-name.new.last c.split-name.new.spare_count) (sym c.put_first.ensures.room) c.grow.ensures.space in
     let nodes = ap (λ (r : Room). length r.nodes) c.put_first.ensures.room ∙ c.grow.ensures.limit ∙ c.split-name.ensures.limit in
-    (appended (fields_of g.NI.NodeIndex.MAX c.self.inside) c.args.more c.self.invariant c.requires.more whole_fits used room c.put_first.new.t c.split-name.new.last c.split-name.new.spare_count c.put_first.new.top 0 c.split-name.result c.size-whole.result (c.size-whole.ensures.size ∙ sym (size-told _ _ _ _ c.self.invariant.space (end (fields_of g.NI.NodeIndex.MAX c.self.inside) c.args.more c.self.invariant).stands)) space c.put_first.ensures.held nodes room_is lists_are c.split-name.ensures.fresh c.split-name.ensures.below).0
+    (appended (fields_of g.NI.NodeIndex.MAX c.self.inside) c.args.more c.self.invariant c.requires.more whole_fits used room c.put_first.new.tables c.split-name.new.last c.split-name.new.spare_count c.put_first.new.top_mask 0 c.split-name.result c.size-whole.result (c.size-whole.ensures.size ∙ sym (size-told _ _ _ _ c.self.invariant.space (end (fields_of g.NI.NodeIndex.MAX c.self.inside) c.args.more c.self.invariant).stands)) space c.put_first.ensures.held nodes room_is lists_are c.split-name.ensures.fresh c.split-name.ensures.below).0
 
 pub returns-clause-step : goal.returns-clause-step
 returns-clause-step g c =
     let whole_fits : c.self.inside.size + c.args.more ≤ 4294967295 = subst (λ (u : View). u.size + c.args.more ≤ 4294967295) (sym c.self.view_is) c.requires.fits in
     let used = subst (λ (u : View). ends_used u.blocks ≡ true) (sym c.self.view_is) c.requires.used in
     let room = subst (λ (u : View). is_short_of 1 u ≡ false) (sym c.self.view_is) c.requires.room in
-    let room_is : blocks c.put_first.new.t.room c.split-name.new.last ≡ grow_last c.args.more (split_block c.self.inside.last c.size-whole.result c.split-name.result (blocks c.self.inside.tables.room c.self.inside.last)) = ap (λ (r : Room). blocks r c.split-name.new.last) c.put_first.ensures.room ∙ c.grow.ensures.blocks ∙ ap (grow_last c.args.more) c.split-name.ensures.blocks in
+    let room_is : blocks c.put_first.new.tables.room c.split-name.new.last ≡ grow_last c.args.more (split_block c.self.inside.last c.size-whole.result c.split-name.result (blocks c.self.inside.tables.room c.self.inside.last)) = ap (λ (r : Room). blocks r c.split-name.new.last) c.put_first.ensures.room ∙ c.grow.ensures.blocks ∙ ap (grow_last c.args.more) c.split-name.ensures.blocks in
     let lists_are = c.put_first.ensures.lists ∙ ap (λ (k : Links). put_first c.uint_to_float_round_down.result c.split-name.result (class_lists g.NI.NodeIndex.MAX k)) (c.grow.ensures.links ∙ c.split-name.ensures.links) ∙ ap (λ (k : ℕ). put_first k c.split-name.result (class_lists g.NI.NodeIndex.MAX c.self.inside.tables.links)) c.uint_to_float_round_down.ensures.is in
     let space = subst (λ (r : Room). IsSpace r c.split-name.new.last c.split-name.new.spare_count) (sym c.put_first.ensures.room) c.grow.ensures.space in
     let nodes = ap (λ (r : Room). length r.nodes) c.put_first.ensures.room ∙ c.grow.ensures.limit ∙ c.split-name.ensures.limit in
-    let P : View → Type 0 = λ u. Extends c.args.more u (view_of g.NI.NodeIndex.MAX (c.self.inside.size + c.args.more) c.self.inside.max_allocs c.put_first.new.t c.split-name.new.last c.put_first.new.count) true in
-    subst P c.self.view_is (appended (fields_of g.NI.NodeIndex.MAX c.self.inside) c.args.more c.self.invariant c.requires.more whole_fits used room c.put_first.new.t c.split-name.new.last c.split-name.new.spare_count c.put_first.new.top c.put_first.new.count c.split-name.result c.size-whole.result (c.size-whole.ensures.size ∙ sym (size-told _ _ _ _ c.self.invariant.space (end (fields_of g.NI.NodeIndex.MAX c.self.inside) c.args.more c.self.invariant).stands)) space c.put_first.ensures.held nodes room_is lists_are c.split-name.ensures.fresh c.split-name.ensures.below).1
+    let P : View → Type 0 = λ u. Extends c.args.more u (view_of g.NI.NodeIndex.MAX (c.self.inside.size + c.args.more) c.self.inside.max_allocs c.put_first.new.tables c.split-name.new.last c.put_first.new.count) true in
+    subst P c.self.view_is (appended (fields_of g.NI.NodeIndex.MAX c.self.inside) c.args.more c.self.invariant c.requires.more whole_fits used room c.put_first.new.tables c.split-name.new.last c.split-name.new.spare_count c.put_first.new.top_mask c.put_first.new.count c.split-name.result c.size-whole.result (c.size-whole.ensures.size ∙ sym (size-told _ _ _ _ c.self.invariant.space (end (fields_of g.NI.NodeIndex.MAX c.self.inside) c.args.more c.self.invariant).stands)) space c.put_first.ensures.held nodes room_is lists_are c.split-name.ensures.fresh c.split-name.ensures.below).1

@@ -84,18 +84,18 @@ module _ (none : ℕ) (newer older heads masks : List ℕ) (top : ℕ) (ls : Lis
           (cases_lt w (d / 64)) in
           rw t_is (omega arith, full_at w t (omega arith) (omega arith) (rw (← ne) bit_one), above)
 
-pub returns-then-top-eq0-clause-greatest : goal.returns-then-top-eq0-clause-greatest
-returns-then-top-eq0-clause-greatest g c =
-    none_at_all g.NI.NodeIndex.MAX c.args.t.now.links.newer c.args.t.now.links.older c.args.t.now.links.heads c.args.t.now.links.masks c.args.top _ c.requires.linked c.requires.masked c.if-top-eq0.true
+pub returns-then-top_mask-eq0-clause-greatest : goal.returns-then-top_mask-eq0-clause-greatest
+returns-then-top_mask-eq0-clause-greatest g c =
+    none_at_all g.NI.NodeIndex.MAX c.args.tables.now.links.newer c.args.tables.now.links.older c.args.tables.now.links.heads c.args.tables.now.links.masks c.args.top_mask _ c.requires.linked c.requires.masked c.if-top_mask-eq0.true
 
 pub mask-requires : goal.mask-requires
 mask-requires g c =
-    (word_at g.NI.NodeIndex.MAX c.args.t.now.links.newer c.args.t.now.links.older c.args.t.now.links.heads c.args.t.now.links.masks c.args.top _ c.requires.linked c.requires.masked c.if-top-eq0.false).1
+    (word_at g.NI.NodeIndex.MAX c.args.tables.now.links.newer c.args.tables.now.links.older c.args.tables.now.links.heads c.args.tables.now.links.masks c.args.top_mask _ c.requires.linked c.requires.masked c.if-top_mask-eq0.false).1
 
 pub overflow_sub-result : goal.overflow_sub-result
 overflow_sub-result g c =
-    bit_within g.NI.NodeIndex.MAX c.args.t.now.links.newer c.args.t.now.links.older c.args.t.now.links.heads c.args.t.now.links.masks c.args.top _ c.requires.linked c.requires.masked c.if-top-eq0.false _ refl _ c.mask.ensures.cell
+    bit_within g.NI.NodeIndex.MAX c.args.tables.now.links.newer c.args.tables.now.links.older c.args.tables.now.links.heads c.args.tables.now.links.masks c.args.top_mask _ c.requires.linked c.requires.masked c.if-top_mask-eq0.false _ refl _ c.mask.ensures.cell
 
 pub returns-clause-greatest : goal.returns-clause-greatest
 returns-clause-greatest g c =
-    greatest_is g.NI.NodeIndex.MAX c.args.t.now.links.newer c.args.t.now.links.older c.args.t.now.links.heads c.args.t.now.links.masks c.args.top _ c.requires.linked c.requires.masked c.if-top-eq0.false _ refl _ c.mask.ensures.cell
+    greatest_is g.NI.NodeIndex.MAX c.args.tables.now.links.newer c.args.tables.now.links.older c.args.tables.now.links.heads c.args.tables.now.links.masks c.args.top_mask _ c.requires.linked c.requires.masked c.if-top_mask-eq0.false _ refl _ c.mask.ensures.cell

@@ -6,10 +6,10 @@ use Rattle.offset_allocator.proofs.bins.length_of.Given as goal
 
 abbrev pub invariant-loop-name : goal.invariant-loop-name
 invariant-loop-name g l = record {
-  tail : IsTail g.NI.NodeIndex.MAX l.t.links.newer l.t.links.older l.name;
-  counted : l.names + length (names_from g.NI.NodeIndex.MAX l.t.links.older l.name) ≡ length (names_at (class_lists g.NI.NodeIndex.MAX l.t.links) l.class);
+  tail : IsTail g.NI.NodeIndex.MAX l.tables.links.newer l.tables.links.older l.name;
+  counted : l.names + length (names_from g.NI.NodeIndex.MAX l.tables.links.older l.name) ≡ length (names_at (class_lists g.NI.NodeIndex.MAX l.tables.links) l.class);
   accesses : l.count ≡ l.fn.count + 1 + l.names;
 }
 
 abbrev pub decreases-loop-name : goal.decreases-loop-name
-decreases-loop-name g l = length (names_from g.NI.NodeIndex.MAX l.t.links.older l.name)
+decreases-loop-name g l = length (names_from g.NI.NodeIndex.MAX l.tables.links.older l.name)

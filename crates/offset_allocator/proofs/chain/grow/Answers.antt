@@ -16,10 +16,10 @@ overflow_add-size g c = omega (arith, c.size-size.ensures.cell, last_small _ _ _
 pub set_size-requires : goal.set_size-requires
 set_size-requires g c = (last_is _ _ _ c.requires.space).below
 
-done : (g : Over) (c : goal.After-set_size g) → IsChain c.set_size.new.self.room (length c.args.t.now.room.nodes) c.args.last c.args.spare_count (grow_last c.args.more (blocks c.args.t.now.room c.args.last))
+done : (g : Over) (c : goal.After-set_size g) → IsChain c.set_size.new.self.room (length c.args.tables.now.room.nodes) c.args.last c.args.spare_count (grow_last c.args.more (blocks c.args.tables.now.room c.args.last))
 done g c =
     grown-space _ _ _ _ _ c.requires.space c.requires.fits
-    (ap (λ (v : Cells). v.room) c.set_size.ensures.cells ∙ ap (λ (k : ℕ). put c.args.t.now.room c.args.last (record (node c.args.t.now.room c.args.last) { size = k + c.args.more })) c.size-size.ensures.cell)
+    (ap (λ (v : Cells). v.room) c.set_size.ensures.cells ∙ ap (λ (k : ℕ). put c.args.tables.now.room c.args.last (record (node c.args.tables.now.room c.args.last) { size = k + c.args.more })) c.size-size.ensures.cell)
 
 pub returns-clause-space : goal.returns-clause-space
 returns-clause-space g c = space-chain _ _ _ _ _ (done g c)

@@ -9,43 +9,43 @@ use Rattle.offset_allocator.proofs.parts.carve.Goals as goal
 
 pub mark-requires-clause-standing : goal.mark-requires-clause-standing
 mark-requires-clause-standing g c =
-    let k = is_carved c.args.x c.args.padding c.args.n c.args.left c.cut_front-front.result 0 (blocks c.args.t.now.room c.args.last.now) c.requires.standing c.requires.whole c.cut_front-front.ensures.fresh in
-    subst (Stands c.args.x) (sym c.cut_front-front.ensures.blocks) k.stands_front
+    let k = is_carved c.args.name c.args.padding c.args.size c.args.left c.cut_front-front.result 0 (blocks c.args.tables.now.room c.args.last.now) c.requires.standing c.requires.whole c.cut_front-front.ensures.fresh in
+    subst (Stands c.args.name) (sym c.cut_front-front.ensures.blocks) k.stands_front
 
 pub cut_rest-rest-requires-clause-standing : goal.cut_rest-rest-requires-clause-standing
 cut_rest-rest-requires-clause-standing g c =
-    let k = is_carved c.args.x c.args.padding c.args.n c.args.left c.cut_front-front.result 0 (blocks c.args.t.now.room c.args.last.now) c.requires.standing c.requires.whole c.cut_front-front.ensures.fresh in
-    let e = c.mark.ensures.blocks ∙ ap (mark_block c.args.x true) c.cut_front-front.ensures.blocks in
-    subst (Stands c.args.x) (sym e) k.stands_marked
+    let k = is_carved c.args.name c.args.padding c.args.size c.args.left c.cut_front-front.result 0 (blocks c.args.tables.now.room c.args.last.now) c.requires.standing c.requires.whole c.cut_front-front.ensures.fresh in
+    let e = c.mark.ensures.blocks ∙ ap (mark_block c.args.name true) c.cut_front-front.ensures.blocks in
+    subst (Stands c.args.name) (sym e) k.stands_marked
 
 pub cut_rest-rest-requires-clause-whole : goal.cut_rest-rest-requires-clause-whole
 cut_rest-rest-requires-clause-whole g c =
-    let k = is_carved c.args.x c.args.padding c.args.n c.args.left c.cut_front-front.result 0 (blocks c.args.t.now.room c.args.last.now) c.requires.standing c.requires.whole c.cut_front-front.ensures.fresh in
-    let e = c.mark.ensures.blocks ∙ ap (mark_block c.args.x true) c.cut_front-front.ensures.blocks in
-    sym (ap (size_in c.args.x) e ∙ k.size)
+    let k = is_carved c.args.name c.args.padding c.args.size c.args.left c.cut_front-front.result 0 (blocks c.args.tables.now.room c.args.last.now) c.requires.standing c.requires.whole c.cut_front-front.ensures.fresh in
+    let e = c.mark.ensures.blocks ∙ ap (mark_block c.args.name true) c.cut_front-front.ensures.blocks in
+    sym (ap (size_in c.args.name) e ∙ k.size)
 
 pub cut_rest-rest-requires-clause-unlisted : goal.cut_rest-rest-requires-clause-unlisted
 cut_rest-rest-requires-clause-unlisted g c y e =
-    let same = ap (named y) c.mark.ensures.blocks ∙ named_mark y c.args.x true (blocks c.cut_front-front.new.t.room c.args.last.now) in
+    let same = ap (named y) c.mark.ensures.blocks ∙ named_mark y c.args.name true (blocks c.cut_front-front.new.tables.room c.args.last.now) in
     subst (λ (k : Links). IsUnlisted y (class_lists g.NI.NodeIndex.MAX k)) (sym c.mark.ensures.links) (c.cut_front-front.ensures.unlisted y (sym same ∙ e))
 
 pub returns-clause-blocks : goal.returns-clause-blocks
 returns-clause-blocks g c =
-    let k = is_carved c.args.x c.args.padding c.args.n c.args.left c.cut_front-front.result c.cut_rest-rest.result (blocks c.args.t.now.room c.args.last.now) c.requires.standing c.requires.whole c.cut_front-front.ensures.fresh in
-    let e = c.mark.ensures.blocks ∙ ap (mark_block c.args.x true) c.cut_front-front.ensures.blocks in
-    c.cut_rest-rest.ensures.blocks ∙ ap (with_rest c.args.x c.args.n c.args.left c.cut_rest-rest.result) e ∙ k.all
+    let k = is_carved c.args.name c.args.padding c.args.size c.args.left c.cut_front-front.result c.cut_rest-rest.result (blocks c.args.tables.now.room c.args.last.now) c.requires.standing c.requires.whole c.cut_front-front.ensures.fresh in
+    let e = c.mark.ensures.blocks ∙ ap (mark_block c.args.name true) c.cut_front-front.ensures.blocks in
+    c.cut_rest-rest.ensures.blocks ∙ ap (with_rest c.args.name c.args.size c.args.left c.cut_rest-rest.result) e ∙ k.all
 
 pub returns-clause-rest : goal.returns-clause-rest
 returns-clause-rest g c l =
-    let k = is_carved c.args.x c.args.padding c.args.n c.args.left c.cut_front-front.result 0 (blocks c.args.t.now.room c.args.last.now) c.requires.standing c.requires.whole c.cut_front-front.ensures.fresh in
-    let e = c.mark.ensures.blocks ∙ ap (mark_block c.args.x true) c.cut_front-front.ensures.blocks in
+    let k = is_carved c.args.name c.args.padding c.args.size c.args.left c.cut_front-front.result 0 (blocks c.args.tables.now.room c.args.last.now) c.requires.standing c.requires.whole c.cut_front-front.ensures.fresh in
+    let e = c.mark.ensures.blocks ∙ ap (mark_block c.args.name true) c.cut_front-front.ensures.blocks in
     let z = sym (ap (named c.cut_rest-rest.result) e) ∙ c.cut_rest-rest.ensures.fresh l in
-    let same : length c.mark.new.t.room.nodes ≡ length c.args.t.now.room.nodes = c.mark.ensures.limit ∙ c.cut_front-front.ensures.limit in
+    let same : length c.mark.new.tables.room.nodes ≡ length c.args.tables.now.room.nodes = c.mark.ensures.limit ∙ c.cut_front-front.ensures.limit in
     ((k.new c.cut_rest-rest.result z).0, subst (λ (m : ℕ). c.cut_rest-rest.result < m) same (c.cut_rest-rest.ensures.below l))
 
 pub returns-clause-apart : goal.returns-clause-apart
 returns-clause-apart g c q l =
-    let k = is_carved c.args.x c.args.padding c.args.n c.args.left c.cut_front-front.result 0 (blocks c.args.t.now.room c.args.last.now) c.requires.standing c.requires.whole c.cut_front-front.ensures.fresh in
-    let e = c.mark.ensures.blocks ∙ ap (mark_block c.args.x true) c.cut_front-front.ensures.blocks in
+    let k = is_carved c.args.name c.args.padding c.args.size c.args.left c.cut_front-front.result 0 (blocks c.args.tables.now.room c.args.last.now) c.requires.standing c.requires.whole c.cut_front-front.ensures.fresh in
+    let e = c.mark.ensures.blocks ∙ ap (mark_block c.args.name true) c.cut_front-front.ensures.blocks in
     let z = sym (ap (named c.cut_rest-rest.result) e) ∙ c.cut_rest-rest.ensures.fresh l in
     (k.new c.cut_rest-rest.result z).1 q

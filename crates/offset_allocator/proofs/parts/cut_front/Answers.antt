@@ -16,10 +16,10 @@ put_first-requires-clause-classed g c =
 pub returns-clause-unlisted : goal.returns-clause-unlisted
 returns-clause-unlisted g c y e d dh a =
     let small : c.uint_to_float_round_down.result < 256 = let s = down_small c.args.units in omega (arith, s, c.uint_to_float_round_down.ensures.is) in
-    let is : blocks c.put_first.new.t.room c.args.last ≡ split_front c.args.x c.args.units c.split_before-front.result (blocks c.args.t.now.room c.args.last) = ap (λ (r : Room). blocks r c.args.last) c.put_first.ensures.room ∙ c.split_before-front.ensures.blocks in
-    let n = named_front y c.args.x c.args.units c.split_before-front.result (blocks c.args.t.now.room c.args.last) c.requires.standing in
+    let is : blocks c.put_first.new.tables.room c.args.last ≡ split_front c.args.name c.args.units c.split_before-front.result (blocks c.args.tables.now.room c.args.last) = ap (λ (r : Room). blocks r c.args.last) c.put_first.ensures.room ∙ c.split_before-front.ensures.blocks in
+    let n = named_front y c.args.name c.args.units c.split_before-front.result (blocks c.args.tables.now.room c.args.last) c.requires.standing in
     let z = ap (named y) is in
-    let none : named y (blocks c.args.t.now.room c.args.last) ≡ 0 = omega arith in
+    let none : named y (blocks c.args.tables.now.room c.args.last) ≡ 0 = omega arith in
     let differ : y ≢ c.split_before-front.result = λ q. let o = one-eq y c.split_before-front.result (sym q) in omega arith in
     let lists = c.put_first.ensures.lists ∙ ap (λ (k : Links). put_first c.uint_to_float_round_down.result c.split_before-front.result (class_lists g.NI.NodeIndex.MAX k)) c.split_before-front.ensures.links in
-    unlisted_put y c.split_before-front.result c.uint_to_float_round_down.result (class_lists g.NI.NodeIndex.MAX c.args.t.now.links) c.requires.held.linked.lists_len small differ (c.requires.unlisted y none) d dh (subst (λ (o : List (List ℕ)). Among y (names_at o d)) lists a)
+    unlisted_put y c.split_before-front.result c.uint_to_float_round_down.result (class_lists g.NI.NodeIndex.MAX c.args.tables.now.links) c.requires.held.linked.lists_len small differ (c.requires.unlisted y none) d dh (subst (λ (o : List (List ℕ)). Among y (names_at o d)) lists a)

@@ -7,5 +7,5 @@ pub put_first-requires-clause-classed : goal.put_first-requires-clause-classed
 put_first-requires-clause-classed g c =
     let s = down_small c.args.left in omega (arith, s, c.uint_to_float_round_down.ensures.is)
 
-pub overflow_add-n : goal.overflow_add-n
-overflow_add-n g c = omega (arith, c.requires.whole, here_fits _ _ _ _ c.requires.space c.requires.standing)
+pub overflow_add-size : goal.overflow_add-size
+overflow_add-size g c = omega (arith, c.requires.whole, here_fits _ _ _ _ c.requires.space c.requires.standing)

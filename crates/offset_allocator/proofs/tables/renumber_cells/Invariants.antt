@@ -5,5 +5,5 @@ use Rattle.offset_allocator.proofs.tables.renumber_cells.Given as goal
 abbrev pub invariant-loop-i : goal.invariant-loop-i
 invariant-loop-i g l = record {
   even : length l.cells ≡ length l.initial.cells;
-  written : map g.NI.NodeIndex.number (take l.i l.cells) ≡ range_with_len 1 l.i;
+  written : map g.NI.NodeIndex.number (take l.i l.cells) ≡ range_with_len 0 l.i;
 }
