@@ -1,64 +1,129 @@
-use Rattle.std.proofs.Common.{◌≡◌, ℕ, ◌-◌, ◌∙◌, List, length, Some, true, false, sym, ap, ap₂, subst, arith, slice_set}
+use Rattle.std.proofs.Common.{◌≡◌, ℕ, ◌-◌, ◌<◌, ◌≤◌, ◌∙◌, List, ◌∷◌, length, Some, true, false, sym, ap, ap₂, subst, arith, slice_set}
 use Rattle.offset_allocator.specs.Classes.{up, down}
-use Rattle.offset_allocator.specs.Cells.{Room, Links}
-use Rattle.offset_allocator.specs.Named.{View, Grant, is_short_of, IsUnused, units, names_at, without, put_first}
-use Rattle.offset_allocator.specs.Space.{blocks, mark_block, IsSpace, Stands}
+use Rattle.offset_allocator.specs.Cells.{Cells, Room, Links}
+use Rattle.offset_allocator.specs.Named.{View, Place, is_short_of, IsUnused, units, named, names_at, without, put_first}
+use Rattle.offset_allocator.specs.Space.{blocks, mark_block, split_block, IsSpace, Stands, offset_in, size_in}
 use Rattle.offset_allocator.specs.Orders.{Binned, IsLeastFrom, class_lists, IsUnlisted}
-use Rattle.offset_allocator.specs.State.{Fields, shown}
+use Rattle.offset_allocator.specs.State.{Fields, AreSound, shown}
 use Rattle.offset_allocator.specs.Relations.{Allocates}
 use Rattle.offset_allocator.proofs.Sound.{fields_of}
 use Rattle.offset_allocator.proofs.Sizes.{down_small}
 use Rattle.offset_allocator.proofs.Unused.{some_unused}
 use Rattle.offset_allocator.proofs.Granting.{got, enough, stands, stands_marked, size_marked, offset_marked, unused_rest, rest_unlisted, free_enough, granted_whole, granted_part}
 use Rattle.offset_allocator.proofs.Allocator.grant.Goals as goal
-use Rattle.offset_allocator.proofs.Allocator.grant.Goals.{then-whole-size, else-whole-size}
+use Rattle.offset_allocator.proofs.Allocator.grant.Goals.{then-whole-size, else-whole-size, After-take_first-name, After-mark}
+use Rattle.offset_allocator.proofs.Allocator.grant.Given.{Over}
+
+-- a call: sound fields, a class with a free block for n, and the first name there
+record Call (f : Fields) (n class x : ℕ) : Type 0 where
+  sound : AreSound f
+  room : is_short_of 1 (shown f) ≡ false
+  least : IsLeastFrom (up n) (class_lists f.max f.cells.links) class
+  behind : List ℕ
+  first : names_at (class_lists f.max f.cells.links) class ≡ x ∷ behind
+
+-- the tables once that name is off its list, and its block marked
+record Marked (f : Fields) (class x : ℕ) (c : Cells) (top : ℕ) : Type 0 where
+  space : IsSpace c.room f.last f.count
+  bins : Binned f.max c.links top
+  nodes : length c.room.nodes ≡ length f.cells.room.nodes
+  chain : blocks c.room f.last ≡ mark_block x true (blocks f.cells.room f.last)
+  order : class_lists f.max c.links ≡ slice_set (class_lists f.max f.cells.links) class (without x (names_at (class_lists f.max f.cells.links) class))
+
+call : (g : Over) (c : After-take_first-name g) → Call (fields_of g.NI.NodeIndex.MAX c.self.inside) c.args.size c.args.class c.take_first-name.result
+call g c = record {
+  sound = c.self.invariant;
+  room = subst (λ (u : View). is_short_of 1 u ≡ false) (sym c.self.view_is) c.requires.room;
+  least = subst (λ (u : View). IsLeastFrom (up c.args.size) u.order c.args.class) (sym c.self.view_is) c.requires.least;
+  behind = _;
+  first = c.take_first-name.ensures.first;
+}
+
+marked : (g : Over) (c : After-mark g) → Marked (fields_of g.NI.NodeIndex.MAX c.self.inside) c.args.class c.take_first-name.result c.mark.new.tables c.take_first-name.new.top_mask
+marked g c =
+    let room = c.take_first-name.ensures.room in
+    record {
+      space = c.mark.ensures.space;
+      bins = subst (λ (k : Links). Binned g.NI.NodeIndex.MAX k c.take_first-name.new.top_mask) (sym c.mark.ensures.links) c.take_first-name.ensures.held;
+      nodes = c.mark.ensures.limit ∙ ap (λ (r : Room). length r.nodes) room;
+      chain = c.mark.ensures.blocks ∙ ap (λ (r : Room). mark_block c.take_first-name.result true (blocks r c.self.inside.last)) room;
+      order = ap (λ (k : Links). class_lists g.NI.NodeIndex.MAX k) c.mark.ensures.links ∙ c.take_first-name.ensures.lists;
+    }
+
+-- what such tables tell, and what the two ways of granting leave
+module _ {f : Fields} {n class x top : ℕ} {mid : Cells} (p : Call f n class x) (m : Marked f class x mid top) where
+  abbrev place : Place
+  place = (got f n class x p.sound p.room p.least p.behind p.first).place
+
+  still_stands : Stands x (blocks mid.room f.last)
+  still_stands = stands_marked f n class x p.sound p.room p.least p.behind p.first mid.room m.chain
+
+  sized : size_in x (blocks mid.room f.last) ≡ place.block.size
+  sized = size_marked f n class x p.sound p.room p.least p.behind p.first mid.room m.chain
+
+  -- a name that is new there
+  unused : (y : ℕ) → named y (blocks mid.room f.last) ≡ 0 → y < length mid.room.nodes → IsUnused y (shown f)
+  unused y fresh below = unused_rest f n class x p.sound p.room p.least p.behind p.first mid.room y m.chain fresh (omega (arith, below, m.nodes))
+
+  abbrev Granted : Fields → Type 0
+  Granted new = AreSound new × Allocates n (shown f) (shown new) (Some (record { name = x; offset = units place.before }))
+
+  -- in the terms that the body has for the view and the offset
+  told : {new : Fields} {u v : View} {o : ℕ} → Granted new → shown f ≡ u → v ≡ shown new → o ≡ offset_in x (blocks mid.room f.last)
+      → Allocates n u v (Some (record { name = x; offset = o }))
+  told granted was now at =
+      let offset = offset_marked f n class x p.sound p.room p.least p.behind p.first mid.room m.chain in
+      rw (now, at, offset, ← was) granted.1
+
+  -- the whole block
+  whole : (k : ℕ) {w : ℕ} → w ≡ size_in x (blocks mid.room f.last) → w ≤ n → Granted (record f { cells = mid; top = top; free = f.free - n; accesses = k })
+  whole k {w} size fits =
+      let u = some_unused f p.sound in
+      let exact : place.block.size ≡ n = omega (arith, size, sized, fits, enough f n class x p.sound p.room p.least p.behind p.first) in
+      granted_whole f n class x p.sound p.room p.least p.behind p.first mid top k exact m.space m.chain m.bins m.order m.nodes u.0 u.1
+
+  -- a part of it: the rest, named y, is split off and put first in its class
+  part : (k : ℕ) (split d : Cells) {w y low last count top' : ℕ} → w ≡ size_in x (blocks mid.room f.last) → n < w
+      → named y (blocks mid.room f.last) ≡ 0 → y < length mid.room.nodes
+      → IsSpace split.room last count → length split.room.nodes ≡ length mid.room.nodes
+      → blocks split.room last ≡ split_block x n y (blocks mid.room f.last) → split.links ≡ mid.links
+      → low ≡ down (w - n) → d.room ≡ split.room → Binned f.max d.links top' → class_lists f.max d.links ≡ put_first low y (class_lists f.max split.links)
+      → Granted (record f { cells = d; last = last; count = count; top = top'; free = f.free - n; accesses = k })
+  part k split d {w} {y} {low} {last} {count} {top'} size more fresh below space nodes cut links low_is room bins order =
+      let cut_in_two : n < place.block.size = omega (arith, size, sized, more) in
+      let class_is = low_is ∙ ap (λ i. down (i - n)) (size ∙ sized) in
+      let lists = ap (λ (l : Links). class_lists f.max l) links ∙ m.order in
+      let listed = order ∙ ap₂ (λ i o. put_first i y o) class_is lists in
+      let spaced = subst (λ (r : Room). IsSpace r last count) (sym room) space in
+      let chain = ap (λ (r : Room). blocks r last) room ∙ cut in
+      let kept = ap (λ (r : Room). length r.nodes) room ∙ nodes ∙ m.nodes in
+      granted_part f n class x p.sound p.room p.least p.behind p.first d mid.room last count top' k y cut_in_two spaced m.chain chain bins listed kept (unused y fresh below)
 
 pub mark-requires-clause-standing : goal.mark-requires-clause-standing
 mark-requires-clause-standing g c =
-    let f : Fields = fields_of g.NI.NodeIndex.MAX c.self.inside in
-    let x : ℕ = c.take_first-name.result in
-    let room = subst (λ (u : View). is_short_of 1 u ≡ false) (sym c.self.view_is) c.requires.room in
-    let least = subst (λ (u : View). IsLeastFrom (up c.args.size) u.order c.args.class) (sym c.self.view_is) c.requires.least in
-    let rm : c.take_first-name.new.tables.room ≡ f.cells.room = c.take_first-name.ensures.room in
-    subst (λ (r : Room). Stands x (blocks r f.last)) (sym rm) (stands f c.args.size c.args.class x c.self.invariant room least _ c.take_first-name.ensures.first)
+    let p = call g (goal.at.mark-requires-clause-standing g c).After-take_first-name in
+    let stood = stands (fields_of g.NI.NodeIndex.MAX c.self.inside) _ _ _ p.sound p.room p.least p.behind p.first in
+    subst (λ (r : Room). Stands c.take_first-name.result (blocks r c.self.inside.last)) (sym c.take_first-name.ensures.room) stood
 
 pub offset-offset-requires-clause-standing : goal.offset-offset-requires-clause-standing
 offset-offset-requires-clause-standing g c =
-    let f : Fields = fields_of g.NI.NodeIndex.MAX c.self.inside in
-    let x : ℕ = c.take_first-name.result in
-    let room = subst (λ (u : View). is_short_of 1 u ≡ false) (sym c.self.view_is) c.requires.room in
-    let least = subst (λ (u : View). IsLeastFrom (up c.args.size) u.order c.args.class) (sym c.self.view_is) c.requires.least in
-    let rm : c.take_first-name.new.tables.room ≡ f.cells.room = c.take_first-name.ensures.room in
-    let eb : blocks c.mark.new.tables.room f.last ≡ mark_block x true (blocks f.cells.room f.last) = c.mark.ensures.blocks ∙ ap (λ (r : Room). mark_block x true (blocks r f.last)) rm in
-    stands_marked f c.args.size c.args.class x c.self.invariant room least _ c.take_first-name.ensures.first c.mark.new.tables.room eb
+    let here = goal.at.offset-offset-requires-clause-standing g c in
+    still_stands (call g here.After-take_first-name) (marked g here.After-mark)
 
 pub size-whole-requires-clause-standing : goal.size-whole-requires-clause-standing
 size-whole-requires-clause-standing g c =
-    let f : Fields = fields_of g.NI.NodeIndex.MAX c.self.inside in
-    let x : ℕ = c.take_first-name.result in
-    let room = subst (λ (u : View). is_short_of 1 u ≡ false) (sym c.self.view_is) c.requires.room in
-    let least = subst (λ (u : View). IsLeastFrom (up c.args.size) u.order c.args.class) (sym c.self.view_is) c.requires.least in
-    let rm : c.take_first-name.new.tables.room ≡ f.cells.room = c.take_first-name.ensures.room in
-    let eb : blocks c.mark.new.tables.room f.last ≡ mark_block x true (blocks f.cells.room f.last) = c.mark.ensures.blocks ∙ ap (λ (r : Room). mark_block x true (blocks r f.last)) rm in
-    stands_marked f c.args.size c.args.class x c.self.invariant room least _ c.take_first-name.ensures.first c.mark.new.tables.room eb
+    let here = goal.at.size-whole-requires-clause-standing g c in
+    still_stands (call g here.After-take_first-name) (marked g here.After-mark)
 
 pub split-rest-requires-clause-standing : goal.split-rest-requires-clause-standing
 split-rest-requires-clause-standing g c =
-    let f : Fields = fields_of g.NI.NodeIndex.MAX c.self.inside in
-    let x : ℕ = c.take_first-name.result in
-    let room = subst (λ (u : View). is_short_of 1 u ≡ false) (sym c.self.view_is) c.requires.room in
-    let least = subst (λ (u : View). IsLeastFrom (up c.args.size) u.order c.args.class) (sym c.self.view_is) c.requires.least in
-    let rm : c.take_first-name.new.tables.room ≡ f.cells.room = c.take_first-name.ensures.room in
-    let eb : blocks c.mark.new.tables.room f.last ≡ mark_block x true (blocks f.cells.room f.last) = c.mark.ensures.blocks ∙ ap (λ (r : Room). mark_block x true (blocks r f.last)) rm in
-    stands_marked f c.args.size c.args.class x c.self.invariant room least _ c.take_first-name.ensures.first c.mark.new.tables.room eb
+    let here = goal.at.split-rest-requires-clause-standing g c in
+    still_stands (call g here.After-take_first-name) (marked g here.After-mark)
 
 pub overflow_sub-self : goal.overflow_sub-self
 overflow_sub-self g c =
-    let f : Fields = fields_of g.NI.NodeIndex.MAX c.self.inside in
-    let x : ℕ = c.take_first-name.result in
-    let room = subst (λ (u : View). is_short_of 1 u ≡ false) (sym c.self.view_is) c.requires.room in
-    let least = subst (λ (u : View). IsLeastFrom (up c.args.size) u.order c.args.class) (sym c.self.view_is) c.requires.least in
-    free_enough f c.args.size c.args.class x c.self.invariant room least _ c.take_first-name.ensures.first
+    let p = call g (goal.at.overflow_sub-self g c).After-take_first-name in
+    free_enough (fields_of g.NI.NodeIndex.MAX c.self.inside) _ _ _ p.sound p.room p.least p.behind p.first
 
 pub put_first-requires-clause-named : goal.put_first-requires-clause-named
 put_first-requires-clause-named g c =
@@ -70,76 +135,40 @@ put_first-requires-clause-classed g c =
 
 pub put_first-requires-clause-fresh : goal.put_first-requires-clause-fresh
 put_first-requires-clause-fresh g c =
-    let f : Fields = fields_of g.NI.NodeIndex.MAX c.self.inside in
-    let x : ℕ = c.take_first-name.result in
-    let room = subst (λ (u : View). is_short_of 1 u ≡ false) (sym c.self.view_is) c.requires.room in
-    let least = subst (λ (u : View). IsLeastFrom (up c.args.size) u.order c.args.class) (sym c.self.view_is) c.requires.least in
-    let rm : c.take_first-name.new.tables.room ≡ f.cells.room = c.take_first-name.ensures.room in
-    let eb : blocks c.mark.new.tables.room f.last ≡ mark_block x true (blocks f.cells.room f.last) = c.mark.ensures.blocks ∙ ap (λ (r : Room). mark_block x true (blocks r f.last)) rm in
+    let here = goal.at.put_first-requires-clause-fresh g c in
+    let p = call g here.After-take_first-name in
+    let m = marked g here.After-mark in
     let y : ℕ = c.split-rest.result in
-    let unused : IsUnused y (shown f) = unused_rest f c.args.size c.args.class x c.self.invariant room least _ c.take_first-name.ensures.first c.mark.new.tables.room y eb c.split-rest.ensures.fresh (omega (arith, c.split-rest.ensures.below, c.mark.ensures.limit, ap (λ (r : Room). length r.nodes) rm)) in
-    let lists : class_lists f.max c.split-rest.new.tables.links ≡ slice_set (class_lists f.max f.cells.links) c.args.class (without x (names_at (class_lists f.max f.cells.links) c.args.class)) = ap (λ (k : Links). class_lists f.max k) (c.split-rest.ensures.links ∙ c.mark.ensures.links) ∙ c.take_first-name.ensures.lists in
-    subst (λ (o : List (List ℕ)). IsUnlisted y o) (sym lists) (rest_unlisted f c.args.size c.args.class x c.self.invariant room least _ c.take_first-name.ensures.first y unused)
+    let lists = ap (λ (l : Links). class_lists g.NI.NodeIndex.MAX l) c.split-rest.ensures.links ∙ m.order in
+    let new = unused p m y c.split-rest.ensures.fresh c.split-rest.ensures.below in
+    subst (λ o. IsUnlisted y o) (sym lists) (rest_unlisted (fields_of g.NI.NodeIndex.MAX c.self.inside) _ _ _ p.sound p.room p.least p.behind p.first y new)
 
 pub invariant_of-self : goal.invariant_of-self
 invariant_of-self g c =
-    let f : Fields = fields_of g.NI.NodeIndex.MAX c.self.inside in
-    let x : ℕ = c.take_first-name.result in
-    let room = subst (λ (u : View). is_short_of 1 u ≡ false) (sym c.self.view_is) c.requires.room in
-    let least = subst (λ (u : View). IsLeastFrom (up c.args.size) u.order c.args.class) (sym c.self.view_is) c.requires.least in
-    let rm : c.take_first-name.new.tables.room ≡ f.cells.room = c.take_first-name.ensures.room in
-    let eb : blocks c.mark.new.tables.room f.last ≡ mark_block x true (blocks f.cells.room f.last) = c.mark.ensures.blocks ∙ ap (λ (r : Room). mark_block x true (blocks r f.last)) rm in
-    let sized : c.size-whole.result ≡ (got f c.args.size c.args.class x c.self.invariant room least _ c.take_first-name.ensures.first).place.block.size = c.size-whole.ensures.size ∙ size_marked f c.args.size c.args.class x c.self.invariant room least _ c.take_first-name.ensures.first c.mark.new.tables.room eb in
-    let y : ℕ = c.split-rest.result in
-    let unused : IsUnused y (shown f) = unused_rest f c.args.size c.args.class x c.self.invariant room least _ c.take_first-name.ensures.first c.mark.new.tables.room y eb c.split-rest.ensures.fresh (omega (arith, c.split-rest.ensures.below, c.mark.ensures.limit, ap (λ (r : Room). length r.nodes) rm)) in
-    let lists : class_lists f.max c.split-rest.new.tables.links ≡ slice_set (class_lists f.max f.cells.links) c.args.class (without x (names_at (class_lists f.max f.cells.links) c.args.class)) = ap (λ (k : Links). class_lists f.max k) (c.split-rest.ensures.links ∙ c.mark.ensures.links) ∙ c.take_first-name.ensures.lists in
-    let order : class_lists f.max c.put_first.new.tables.links ≡ put_first (down ((got f c.args.size c.args.class x c.self.invariant room least _ c.take_first-name.ensures.first).place.block.size - c.args.size)) y (slice_set (class_lists f.max f.cells.links) c.args.class (without x (names_at (class_lists f.max f.cells.links) c.args.class))) = c.put_first.ensures.lists ∙ ap₂ (λ k o. put_first k y o) (c.uint_to_float_round_down.ensures.is ∙ ap (λ (k : ℕ). down (k - c.args.size)) sized) lists in
-    let space = subst (λ (r : Room). IsSpace r c.split-rest.new.last c.split-rest.new.spare_count) (sym c.put_first.ensures.room) c.split-rest.ensures.space in
-    let nodes = ap (λ (r : Room). length r.nodes) c.put_first.ensures.room ∙ c.split-rest.ensures.limit ∙ c.mark.ensures.limit ∙ ap (λ (r : Room). length r.nodes) rm in
-    (granted_part f c.args.size c.args.class x c.self.invariant room least _ c.take_first-name.ensures.first c.put_first.new.tables c.mark.new.tables.room c.split-rest.new.last c.split-rest.new.spare_count c.put_first.new.top_mask 0 y (omega (arith, sized, c.if-whole-size.true)) space eb (ap (λ (r : Room). blocks r c.split-rest.new.last) c.put_first.ensures.room ∙ c.split-rest.ensures.blocks) c.put_first.ensures.held order nodes unused).0
+    let here = goal.at.invariant_of-self g c in
+    let rest = c.split-rest.ensures in
+    let put = c.put_first.ensures in
+    let granted = part (call g here.After-take_first-name) (marked g here.After-mark) 0 c.split-rest.new.tables c.put_first.new.tables c.size-whole.ensures.size c.if-whole-size.true
+    rest.fresh rest.below rest.space rest.limit rest.blocks rest.links c.uint_to_float_round_down.ensures.is put.room put.held put.lists in
+    granted.0
 
 pub invariant_of-self-else-whole-size : goal.invariant_of-self-else-whole-size
 invariant_of-self-else-whole-size g c =
-    let f : Fields = fields_of g.NI.NodeIndex.MAX c.self.inside in
-    let x : ℕ = c.take_first-name.result in
-    let room = subst (λ (u : View). is_short_of 1 u ≡ false) (sym c.self.view_is) c.requires.room in
-    let least = subst (λ (u : View). IsLeastFrom (up c.args.size) u.order c.args.class) (sym c.self.view_is) c.requires.least in
-    let rm : c.take_first-name.new.tables.room ≡ f.cells.room = c.take_first-name.ensures.room in
-    let eb : blocks c.mark.new.tables.room f.last ≡ mark_block x true (blocks f.cells.room f.last) = c.mark.ensures.blocks ∙ ap (λ (r : Room). mark_block x true (blocks r f.last)) rm in
-    let sized : c.size-whole.result ≡ (got f c.args.size c.args.class x c.self.invariant room least _ c.take_first-name.ensures.first).place.block.size = c.size-whole.ensures.size ∙ size_marked f c.args.size c.args.class x c.self.invariant room least _ c.take_first-name.ensures.first c.mark.new.tables.room eb in
-    let lists : class_lists f.max c.mark.new.tables.links ≡ slice_set (class_lists f.max f.cells.links) c.args.class (without x (names_at (class_lists f.max f.cells.links) c.args.class)) = ap (λ (k : Links). class_lists f.max k) c.mark.ensures.links ∙ c.take_first-name.ensures.lists in
-    let bins = subst (λ (k : Links). Binned f.max k c.take_first-name.new.top_mask) (sym c.mark.ensures.links) c.take_first-name.ensures.held in
-    let nodes = c.mark.ensures.limit ∙ ap (λ (r : Room). length r.nodes) rm in
-    let u = some_unused f c.self.invariant in
-    (granted_whole f c.args.size c.args.class x c.self.invariant room least _ c.take_first-name.ensures.first c.mark.new.tables c.take_first-name.new.top_mask 0 (omega (arith, sized, enough f c.args.size c.args.class x c.self.invariant room least _ c.take_first-name.ensures.first, c.if-whole-size.false)) c.mark.ensures.space eb bins lists nodes u.0 u.1).0
+    let here = goal.at.invariant_of-self-else-whole-size g c in
+    (whole (call g here.After-take_first-name) (marked g here.After-mark) 0 c.size-whole.ensures.size c.if-whole-size.false).0
 
 pub returns-clause-step : goal.returns-clause-step
 returns-clause-step g c =
-    let f : Fields = fields_of g.NI.NodeIndex.MAX c.self.inside in
-    let x : ℕ = c.take_first-name.result in
-    let room = subst (λ (u : View). is_short_of 1 u ≡ false) (sym c.self.view_is) c.requires.room in
-    let least = subst (λ (u : View). IsLeastFrom (up c.args.size) u.order c.args.class) (sym c.self.view_is) c.requires.least in
-    let rm : c.take_first-name.new.tables.room ≡ f.cells.room = c.take_first-name.ensures.room in
-    let eb : blocks c.mark.new.tables.room f.last ≡ mark_block x true (blocks f.cells.room f.last) = c.mark.ensures.blocks ∙ ap (λ (r : Room). mark_block x true (blocks r f.last)) rm in
-    let sized : c.size-whole.result ≡ (got f c.args.size c.args.class x c.self.invariant room least _ c.take_first-name.ensures.first).place.block.size = c.size-whole.ensures.size ∙ size_marked f c.args.size c.args.class x c.self.invariant room least _ c.take_first-name.ensures.first c.mark.new.tables.room eb in
-    let offset : c.offset-offset.result ≡ units (got f c.args.size c.args.class x c.self.invariant room least _ c.take_first-name.ensures.first).place.before = c.offset-offset.ensures.offset ∙ offset_marked f c.args.size c.args.class x c.self.invariant room least _ c.take_first-name.ensures.first c.mark.new.tables.room eb in
-    let answer : Grant = record { name = x; offset = units (got f c.args.size c.args.class x c.self.invariant room least _ c.take_first-name.ensures.first).place.before } in
-    let handle : c.handle_of.result ≡ answer = c.handle_of.ensures ∙ ap (λ (o : ℕ). let h : Grant = record { name = x; offset = o } in h) offset in
-    let S : View → View → Grant → Type 0 = λ old new h. Allocates c.args.size old new (Some h) in
-    let was : View = shown f in
-    elim c.if-whole-size.branch [
+    let here = goal.at.returns-clause-step g c in
+    let p = call g here.After-take_first-name in
+    let m = marked g here.After-mark in
+    let at = c.offset-offset.ensures.offset in
+    rw c.handle_of.ensures (elim c.if-whole-size.branch [
       | then-whole-size w ↦
-          let y : ℕ = w.split-rest.result in
-          let unused : IsUnused y (shown f) = unused_rest f c.args.size c.args.class x c.self.invariant room least _ c.take_first-name.ensures.first c.mark.new.tables.room y eb w.split-rest.ensures.fresh (omega (arith, w.split-rest.ensures.below, c.mark.ensures.limit, ap (λ (r : Room). length r.nodes) rm)) in
-          let lists : class_lists f.max w.split-rest.new.tables.links ≡ slice_set (class_lists f.max f.cells.links) c.args.class (without x (names_at (class_lists f.max f.cells.links) c.args.class)) = ap (λ (k : Links). class_lists f.max k) (w.split-rest.ensures.links ∙ c.mark.ensures.links) ∙ c.take_first-name.ensures.lists in
-          let order : class_lists f.max w.put_first.new.tables.links ≡ put_first (down ((got f c.args.size c.args.class x c.self.invariant room least _ c.take_first-name.ensures.first).place.block.size - c.args.size)) y (slice_set (class_lists f.max f.cells.links) c.args.class (without x (names_at (class_lists f.max f.cells.links) c.args.class))) = w.put_first.ensures.lists ∙ ap₂ (λ k o. put_first k y o) (w.uint_to_float_round_down.ensures.is ∙ ap (λ (k : ℕ). down (k - c.args.size)) sized) lists in
-          let space = subst (λ (r : Room). IsSpace r w.split-rest.new.last w.split-rest.new.spare_count) (sym w.put_first.ensures.room) w.split-rest.ensures.space in
-          let nodes = ap (λ (r : Room). length r.nodes) w.put_first.ensures.room ∙ w.split-rest.ensures.limit ∙ c.mark.ensures.limit ∙ ap (λ (r : Room). length r.nodes) rm in
-          subst (S c.args.self.now c.if-whole-size.self) (sym handle) (subst (λ u. S u c.if-whole-size.self answer) c.self.view_is (subst (λ u. S was u answer) (sym w.self-is) (granted_part f c.args.size c.args.class x c.self.invariant room least _ c.take_first-name.ensures.first w.put_first.new.tables c.mark.new.tables.room w.split-rest.new.last w.split-rest.new.spare_count w.put_first.new.top_mask w.put_first.new.count y (omega (arith, sized, w.if-whole-size.true)) space eb (ap (λ (r : Room). blocks r w.split-rest.new.last) w.put_first.ensures.room ∙ w.split-rest.ensures.blocks) w.put_first.ensures.held order nodes unused).1))
-      | else-whole-size w ↦
-          let lists : class_lists f.max c.mark.new.tables.links ≡ slice_set (class_lists f.max f.cells.links) c.args.class (without x (names_at (class_lists f.max f.cells.links) c.args.class)) = ap (λ (k : Links). class_lists f.max k) c.mark.ensures.links ∙ c.take_first-name.ensures.lists in
-          let bins = subst (λ (k : Links). Binned f.max k c.take_first-name.new.top_mask) (sym c.mark.ensures.links) c.take_first-name.ensures.held in
-          let nodes = c.mark.ensures.limit ∙ ap (λ (r : Room). length r.nodes) rm in
-          let u = some_unused f c.self.invariant in
-          subst (S c.args.self.now c.if-whole-size.self) (sym handle) (subst (λ u. S u c.if-whole-size.self answer) c.self.view_is (subst (λ u. S was u answer) (sym w.self-is) (granted_whole f c.args.size c.args.class x c.self.invariant room least _ c.take_first-name.ensures.first c.mark.new.tables c.take_first-name.new.top_mask c.size-whole.new.count (omega (arith, sized, enough f c.args.size c.args.class x c.self.invariant room least _ c.take_first-name.ensures.first, w.if-whole-size.false)) c.mark.ensures.space eb bins lists nodes u.0 u.1).1))
-    ]
+          let rest = w.split-rest.ensures in
+          let put = w.put_first.ensures in
+          let granted = part p m w.put_first.new.count w.split-rest.new.tables w.put_first.new.tables c.size-whole.ensures.size w.if-whole-size.true
+          rest.fresh rest.below rest.space rest.limit rest.blocks rest.links w.uint_to_float_round_down.ensures.is put.room put.held put.lists in
+          told p m granted c.self.view_is w.self-is at
+      | else-whole-size w ↦ told p m (whole p m c.size-whole.new.count c.size-whole.ensures.size w.if-whole-size.false) c.self.view_is w.self-is at
+    ])

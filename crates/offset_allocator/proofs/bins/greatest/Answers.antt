@@ -27,11 +27,11 @@ mark_full : (w : ℕ) → mark w ≡ 1 → 0 < w
 mark_full w h = elim (cases_eq w 0) [ inl e ↦ let f : mark w ≡ 0 = ap mark e in absurd (omega arith) | inr n ↦ omega arith ]
 
 mark_empty : (none w : ℕ) → mark w ≡ 0 → w ≡ 0
-mark_empty none w h = elim (cases_eq w 0) [ inl e ↦ e | inr n ↦ let f : mark w ≡ 1 = rw ((ne-eqb none) w 0 n) in absurd (omega arith) ]
+mark_empty none w h = elim (cases_eq w 0) [ inl e ↦ e | inr n ↦ let f : mark w ≡ 1 = rw (ne-eqb none w 0 n) in absurd (omega arith) ]
 
-module _ (none : ℕ) (newer older heads masks : List ℕ) (top : ℕ) (ls : List (List ℕ)) (lk : (Linked none) newer older heads ls) (k : (Masked none) heads masks top) where
+module _ (none : ℕ) (newer older heads masks : List ℕ) (top : ℕ) (ls : List (List ℕ)) (lk : Linked none newer older heads ls) (k : Masked none heads masks top) where
   clear : (c : ℕ) → c < 256 → bit_at (slice_index masks (c / 64)) (c % 64) ≡ 0 → names_at ls c ≡ []
-  clear c h z = (flag_of_empty none) (length newer) (slice_index newer) (slice_index older) none (slice_index heads c) (names_at ls c) lk.names_small (lk.chains c h) (sym (k.bits c h) ∙ z)
+  clear c h z = flag_of_empty none (length newer) (slice_index newer) (slice_index older) none (slice_index heads c) (names_at ls c) lk.names_small (lk.chains c h) (sym (k.bits c h) ∙ z)
 
   clear_word : (c : ℕ) → c < 256 → bit_at top (c / 64) ≡ 0 → names_at ls c ≡ []
   clear_word c h z =
@@ -42,7 +42,8 @@ module _ (none : ℕ) (newer older heads masks : List ℕ) (top : ℕ) (ls : Lis
   full_at w t a b z =
       let h : w * 64 + t < 256 = omega arith in
       let one : bit_at (slice_index masks ((w * 64 + t) / 64)) ((w * 64 + t) % 64) ≡ 1 = rw (div-mul-add w 64 t b, mod-mul-add w 64 t b) z in
-      (flag_of_full none) (length newer) (slice_index newer) (slice_index older) none (slice_index heads (w * 64 + t)) (names_at ls (w * 64 + t)) (lk.chains (w * 64 + t) h) (sym (k.bits (w * 64 + t) h) ∙ one)
+      flag_of_full none (length newer) (slice_index newer) (slice_index older) none (slice_index heads (w * 64 + t)) (names_at ls (w * 64 + t))
+      (lk.chains (w * 64 + t) h) (sym (k.bits (w * 64 + t) h) ∙ one)
 
   none_at_all : top ≡ 0 → (c : ℕ) → c < 256 → names_at ls c ≡ []
   none_at_all e c h = clear_word c h (rw e (bit_at-zero (c / 64)))
@@ -85,17 +86,15 @@ module _ (none : ℕ) (newer older heads masks : List ℕ) (top : ℕ) (ls : Lis
           rw t_is (omega arith, full_at w t (omega arith) (omega arith) (rw (← ne) bit_one), above)
 
 pub returns-then-top_mask-eq0-clause-greatest : goal.returns-then-top_mask-eq0-clause-greatest
-returns-then-top_mask-eq0-clause-greatest g c =
-    none_at_all g.NI.NodeIndex.MAX c.args.tables.now.links.newer c.args.tables.now.links.older c.args.tables.now.links.heads c.args.tables.now.links.masks c.args.top_mask _ c.requires.linked c.requires.masked c.if-top_mask-eq0.true
+returns-then-top_mask-eq0-clause-greatest g c = none_at_all _ _ _ _ _ _ _ c.requires.linked c.requires.masked c.if-top_mask-eq0.true
 
 pub mask-requires : goal.mask-requires
-mask-requires g c =
-    (word_at g.NI.NodeIndex.MAX c.args.tables.now.links.newer c.args.tables.now.links.older c.args.tables.now.links.heads c.args.tables.now.links.masks c.args.top_mask _ c.requires.linked c.requires.masked c.if-top_mask-eq0.false).1
+mask-requires g c = (word_at _ _ _ _ _ _ _ c.requires.linked c.requires.masked c.if-top_mask-eq0.false).1
 
 pub overflow_sub-result : goal.overflow_sub-result
 overflow_sub-result g c =
-    bit_within g.NI.NodeIndex.MAX c.args.tables.now.links.newer c.args.tables.now.links.older c.args.tables.now.links.heads c.args.tables.now.links.masks c.args.top_mask _ c.requires.linked c.requires.masked c.if-top_mask-eq0.false _ refl _ c.mask.ensures.cell
+    bit_within _ _ _ _ _ _ _ c.requires.linked c.requires.masked c.if-top_mask-eq0.false _ refl _ c.mask.ensures.cell
 
 pub returns-clause-greatest : goal.returns-clause-greatest
 returns-clause-greatest g c =
-    greatest_is g.NI.NodeIndex.MAX c.args.tables.now.links.newer c.args.tables.now.links.older c.args.tables.now.links.heads c.args.tables.now.links.masks c.args.top_mask _ c.requires.linked c.requires.masked c.if-top_mask-eq0.false _ refl _ c.mask.ensures.cell
+    greatest_is _ _ _ _ _ _ _ c.requires.linked c.requires.masked c.if-top_mask-eq0.false _ refl _ c.mask.ensures.cell
