@@ -148,8 +148,9 @@ impl<NI: NodeIndex> Allocator<NI> {
         })
     }
 
-    /// Makes the whole space one free block again, in place. It takes no memory, always succeeds, and goes over all nodes.
-    /// The block of every earlier handle is gone.
+    /// Makes the whole space one free block again, in place. The block of every earlier handle is gone.
+    ///
+    /// It takes no memory, always succeeds, and goes over the use flags and the spare names of all nodes.
     pub fn reset(&mut self)
         ensures step { Resets self.old self.new }
         ensures grows { self.old.accesses ≤ self.new.accesses }
@@ -230,10 +231,10 @@ impl<NI: NodeIndex> Allocator<NI> {
     /// sure to hold them, and there of the block that became free last. What remains of the block
     /// stays free, directly behind the range.
     ///
-    /// `None` where `max_allocs - 1` blocks stand, even for an exact fit, and where only free blocks of
-    /// lesser classes remain; blocks, names and class lists are then as they were. A request of at least one unit is granted exactly
-    /// when it is at most the `largest_free_region` that the report tells just before. It makes at most
-    /// 64 accesses to the tables (26 by the bounds of its parts), and takes no memory.
+    /// `None` where `max_allocs - 1` blocks stand, even for an exact fit, and where only free blocks of lesser classes
+    /// remain; blocks, names and class lists are then as they were. A request of at least one unit is granted exactly
+    /// when it is at most the `largest_free_region` that the report tells just before. It makes at most 64 accesses to
+    /// the tables (26 by the bounds of its parts), and takes no memory.
     pub fn allocate(&mut self, size: u32) -> Option<Allocation<NI>>
         ensures step { Allocates size self.old self.new result }
         ensures live { IfSome result (λ h. IsLive h.name self.new) }
