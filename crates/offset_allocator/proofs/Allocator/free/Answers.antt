@@ -19,6 +19,7 @@ record Release (f : Fields) (x : ℕ) : Type 0 where
   sound : AreSound f
   live : is_used_at (place_of x (blocks f.cells.room f.last)) ≡ true
 
+-- its fields, which antt finds from its type
 abbrev fields : {f : Fields} {x : ℕ} → Release f x → Fields
 fields {f} r = f
 

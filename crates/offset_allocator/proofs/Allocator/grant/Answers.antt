@@ -11,7 +11,7 @@ use Rattle.offset_allocator.proofs.Sizes.{down_small}
 use Rattle.offset_allocator.proofs.Unused.{some_unused}
 use Rattle.offset_allocator.proofs.Granting.{got, enough, stands, stands_marked, size_marked, offset_marked, unused_rest, rest_unlisted, free_enough, granted_whole, granted_part}
 use Rattle.offset_allocator.proofs.Allocator.grant.Goals as goal
-use Rattle.offset_allocator.proofs.Allocator.grant.Goals.{then-whole-size, else-whole-size, After-take_first-name, After-mark}
+use Rattle.offset_allocator.proofs.Allocator.grant.Goals.{then-whole-size, else-whole-size, After-mark}
 use Rattle.offset_allocator.proofs.Allocator.grant.Given.{Over}
 
 -- a call: sound fields, a class with a free block for n, and the first name there
@@ -23,35 +23,43 @@ record Call (f : Fields) (n class x : ℕ) : Type 0 where
   first : names_at (class_lists f.max f.cells.links) class ≡ x ∷ behind
 
 -- the tables once that name is off its list, and its block marked
-record Marked (f : Fields) (class x : ℕ) (c : Cells) (top : ℕ) : Type 0 where
+record Marked (f : Fields) (n class x : ℕ) (c : Cells) (top : ℕ) : Type 0 where
+  call : Call f n class x
   space : IsSpace c.room f.last f.count
   bins : Binned f.max c.links top
   nodes : length c.room.nodes ≡ length f.cells.room.nodes
   chain : blocks c.room f.last ≡ mark_block x true (blocks f.cells.room f.last)
   order : class_lists f.max c.links ≡ slice_set (class_lists f.max f.cells.links) class (without x (names_at (class_lists f.max f.cells.links) class))
 
-call : (g : Over) (c : After-take_first-name g) → Call (fields_of g.NI.NodeIndex.MAX c.self.inside) c.args.size c.args.class c.take_first-name.result
-call g c = record {
-  sound = c.self.invariant;
-  room = subst (λ (u : View). is_short_of 1 u ≡ false) (sym c.self.view_is) c.requires.room;
-  least = subst (λ (u : View). IsLeastFrom (up c.args.size) u.order c.args.class) (sym c.self.view_is) c.requires.least;
+-- what the contract asks of the view, said of the fields
+called : {f : Fields} {n class x : ℕ} {v : View} {xs : List ℕ} → shown f ≡ v → AreSound f → is_short_of 1 v ≡ false → IsLeastFrom (up n) v.order class
+    → names_at (class_lists f.max f.cells.links) class ≡ x ∷ xs → Call f n class x
+called {n} {class} view sound room least first = record {
+  sound = sound;
+  room = subst (λ u. is_short_of 1 u ≡ false) (sym view) room;
+  least = subst (λ (u : View). IsLeastFrom (up n) u.order class) (sym view) least;
   behind = _;
-  first = c.take_first-name.ensures.first;
+  first = first;
 }
 
-marked : (g : Over) (c : After-mark g) → Marked (fields_of g.NI.NodeIndex.MAX c.self.inside) c.args.class c.take_first-name.result c.mark.new.tables c.take_first-name.new.top_mask
+marked : (g : Over) (c : After-mark g)
+    → Marked (fields_of g.NI.NodeIndex.MAX c.self.inside) c.args.size c.args.class c.take_first-name.result c.mark.new.tables c.take_first-name.new.top_mask
 marked g c =
-    let room = c.take_first-name.ensures.room in
+    let taken = c.take_first-name.ensures in
     record {
+      call = called c.self.view_is c.self.invariant c.requires.room c.requires.least taken.first;
       space = c.mark.ensures.space;
-      bins = subst (λ (k : Links). Binned g.NI.NodeIndex.MAX k c.take_first-name.new.top_mask) (sym c.mark.ensures.links) c.take_first-name.ensures.held;
-      nodes = c.mark.ensures.limit ∙ ap (λ (r : Room). length r.nodes) room;
-      chain = c.mark.ensures.blocks ∙ ap (λ (r : Room). mark_block c.take_first-name.result true (blocks r c.self.inside.last)) room;
-      order = ap (λ (k : Links). class_lists g.NI.NodeIndex.MAX k) c.mark.ensures.links ∙ c.take_first-name.ensures.lists;
+      bins = subst (λ (k : Links). Binned g.NI.NodeIndex.MAX k c.take_first-name.new.top_mask) (sym c.mark.ensures.links) taken.held;
+      nodes = c.mark.ensures.limit ∙ ap (λ (r : Room). length r.nodes) taken.room;
+      chain = c.mark.ensures.blocks ∙ ap (λ (r : Room). mark_block c.take_first-name.result true (blocks r c.self.inside.last)) taken.room;
+      order = ap (λ (k : Links). class_lists g.NI.NodeIndex.MAX k) c.mark.ensures.links ∙ taken.lists;
     }
 
 -- what such tables tell, and what the two ways of granting leave
-module _ {f : Fields} {n class x top : ℕ} {mid : Cells} (p : Call f n class x) (m : Marked f class x mid top) where
+module _ {f : Fields} {n class x top : ℕ} {mid : Cells} (m : Marked f n class x mid top) where
+  abbrev p : Call f n class x
+  p = m.call
+
   abbrev place : Place
   place = (got f n class x p.sound p.room p.least p.behind p.first).place
 
@@ -101,28 +109,22 @@ module _ {f : Fields} {n class x top : ℕ} {mid : Cells} (p : Call f n class x)
 
 pub mark-requires-clause-standing : goal.mark-requires-clause-standing
 mark-requires-clause-standing g c =
-    let p = call g (goal.at.mark-requires-clause-standing g c).After-take_first-name in
+    let p = called c.self.view_is c.self.invariant c.requires.room c.requires.least c.take_first-name.ensures.first in
     let stood = stands (fields_of g.NI.NodeIndex.MAX c.self.inside) _ _ _ p.sound p.room p.least p.behind p.first in
     subst (λ (r : Room). Stands c.take_first-name.result (blocks r c.self.inside.last)) (sym c.take_first-name.ensures.room) stood
 
 pub offset-offset-requires-clause-standing : goal.offset-offset-requires-clause-standing
-offset-offset-requires-clause-standing g c =
-    let here = goal.at.offset-offset-requires-clause-standing g c in
-    still_stands (call g here.After-take_first-name) (marked g here.After-mark)
+offset-offset-requires-clause-standing g c = still_stands (marked g (goal.at.offset-offset-requires-clause-standing g c).After-mark)
 
 pub size-whole-requires-clause-standing : goal.size-whole-requires-clause-standing
-size-whole-requires-clause-standing g c =
-    let here = goal.at.size-whole-requires-clause-standing g c in
-    still_stands (call g here.After-take_first-name) (marked g here.After-mark)
+size-whole-requires-clause-standing g c = still_stands (marked g (goal.at.size-whole-requires-clause-standing g c).After-mark)
 
 pub split-rest-requires-clause-standing : goal.split-rest-requires-clause-standing
-split-rest-requires-clause-standing g c =
-    let here = goal.at.split-rest-requires-clause-standing g c in
-    still_stands (call g here.After-take_first-name) (marked g here.After-mark)
+split-rest-requires-clause-standing g c = still_stands (marked g (goal.at.split-rest-requires-clause-standing g c).After-mark)
 
 pub overflow_sub-self : goal.overflow_sub-self
 overflow_sub-self g c =
-    let p = call g (goal.at.overflow_sub-self g c).After-take_first-name in
+    let p = (marked g (goal.at.overflow_sub-self g c).After-mark).call in
     free_enough (fields_of g.NI.NodeIndex.MAX c.self.inside) _ _ _ p.sound p.room p.least p.behind p.first
 
 pub put_first-requires-clause-named : goal.put_first-requires-clause-named
@@ -135,40 +137,35 @@ put_first-requires-clause-classed g c =
 
 pub put_first-requires-clause-fresh : goal.put_first-requires-clause-fresh
 put_first-requires-clause-fresh g c =
-    let here = goal.at.put_first-requires-clause-fresh g c in
-    let p = call g here.After-take_first-name in
-    let m = marked g here.After-mark in
+    let m = marked g (goal.at.put_first-requires-clause-fresh g c).After-mark in
+    let p = m.call in
     let y : ℕ = c.split-rest.result in
     let lists = ap (λ (l : Links). class_lists g.NI.NodeIndex.MAX l) c.split-rest.ensures.links ∙ m.order in
-    let new = unused p m y c.split-rest.ensures.fresh c.split-rest.ensures.below in
+    let new = unused m y c.split-rest.ensures.fresh c.split-rest.ensures.below in
     subst (λ o. IsUnlisted y o) (sym lists) (rest_unlisted (fields_of g.NI.NodeIndex.MAX c.self.inside) _ _ _ p.sound p.room p.least p.behind p.first y new)
 
 pub invariant_of-self : goal.invariant_of-self
 invariant_of-self g c =
-    let here = goal.at.invariant_of-self g c in
     let rest = c.split-rest.ensures in
     let put = c.put_first.ensures in
-    let granted = part (call g here.After-take_first-name) (marked g here.After-mark) 0 c.split-rest.new.tables c.put_first.new.tables c.size-whole.ensures.size c.if-whole-size.true
+    let granted = part (marked g (goal.at.invariant_of-self g c).After-mark) 0 c.split-rest.new.tables c.put_first.new.tables c.size-whole.ensures.size c.if-whole-size.true
     rest.fresh rest.below rest.space rest.limit rest.blocks rest.links c.uint_to_float_round_down.ensures.is put.room put.held put.lists in
     granted.0
 
 pub invariant_of-self-else-whole-size : goal.invariant_of-self-else-whole-size
 invariant_of-self-else-whole-size g c =
-    let here = goal.at.invariant_of-self-else-whole-size g c in
-    (whole (call g here.After-take_first-name) (marked g here.After-mark) 0 c.size-whole.ensures.size c.if-whole-size.false).0
+    (whole (marked g (goal.at.invariant_of-self-else-whole-size g c).After-mark) 0 c.size-whole.ensures.size c.if-whole-size.false).0
 
 pub returns-clause-step : goal.returns-clause-step
 returns-clause-step g c =
-    let here = goal.at.returns-clause-step g c in
-    let p = call g here.After-take_first-name in
-    let m = marked g here.After-mark in
+    let m = marked g (goal.at.returns-clause-step g c).After-mark in
     let at = c.offset-offset.ensures.offset in
     rw c.handle_of.ensures (elim c.if-whole-size.branch [
       | then-whole-size w ↦
           let rest = w.split-rest.ensures in
           let put = w.put_first.ensures in
-          let granted = part p m w.put_first.new.count w.split-rest.new.tables w.put_first.new.tables c.size-whole.ensures.size w.if-whole-size.true
+          let granted = part m w.put_first.new.count w.split-rest.new.tables w.put_first.new.tables c.size-whole.ensures.size w.if-whole-size.true
           rest.fresh rest.below rest.space rest.limit rest.blocks rest.links w.uint_to_float_round_down.ensures.is put.room put.held put.lists in
-          told p m granted c.self.view_is w.self-is at
-      | else-whole-size w ↦ told p m (whole p m c.size-whole.new.count c.size-whole.ensures.size w.if-whole-size.false) c.self.view_is w.self-is at
+          told m granted c.self.view_is w.self-is at
+      | else-whole-size w ↦ told m (whole m c.size-whole.new.count c.size-whole.ensures.size w.if-whole-size.false) c.self.view_is w.self-is at
     ])
