@@ -27,13 +27,13 @@ pub record Cells : Type 0 where
   pub room : Room
   pub links : Links
 
--- a node with nothing written
+-- what stands for the node of a name past the tables
 abbrev pub blank : Node
 blank = record { offset = 0; size = 0; used = false; before = None; after = None }
 
 -- the node of a name
 unfoldable pub node : Room → ℕ → Node
-node c x = slice_index_or c.nodes x (record { offset = 0; size = 0; used = false; before = None; after = None })
+node c x = slice_index_or c.nodes x blank
 
 -- the nodes, with another node under a name
 unfoldable pub put : Room → ℕ → Node → Room

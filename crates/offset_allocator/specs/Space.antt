@@ -60,7 +60,7 @@ split_block x n y [] = []
 split_block x n y (b ∷ bs) =
     cond (b.name == x) (record b { size = n } ∷ record { name = y; size = b.size - n; used = false } ∷ bs) (b ∷ split_block x n y bs)
 
--- the block named x takes the size of the one behind it, which goes
+-- a block takes the size of the one behind it, which goes
 abbrev pub absorb : Block → List Block → List Block
 absorb b [] = b ∷ []
 absorb b (d ∷ bs) = record b { size = b.size + d.size } ∷ bs
@@ -94,7 +94,7 @@ abbrev pub mark_block : ℕ → Bool → List Block → List Block
 mark_block x u [] = []
 mark_block x u (b ∷ bs) = cond (b.name == x) (record b { used = u } ∷ bs) (b ∷ mark_block x u bs)
 
--- the block named w goes into the one behind it
+-- a block goes into the one behind it
 abbrev pub give : Block → List Block → List Block
 give b [] = b ∷ []
 give b (d ∷ bs) = record d { size = b.size + d.size } ∷ bs

@@ -149,8 +149,8 @@ pub(crate) fn split<NI: NodeIndex>(
     rest
 }
 
-/// Joins the free block `following` into the block directly before it; `total` is the size of both. The name `following` is
-/// unused again.
+/// Joins the free block `following` into the block directly before it; `total` is the size of both. The name
+/// `following` is unused again.
 pub(crate) fn join_after<NI: NodeIndex>(
     tables: &mut Tables<NI>,
     last: &mut u32,
@@ -181,8 +181,8 @@ pub(crate) fn join_after<NI: NodeIndex>(
     *spare_count += 1;
 }
 
-/// Joins the free block `previous` into the block directly behind it; `total` is the size of both. The name `previous` is
-/// unused again.
+/// Joins the free block `previous` into the block directly behind it; `total` is the size of both. The name
+/// `previous` is unused again.
 pub(crate) fn join_before<NI: NodeIndex>(
     tables: &mut Tables<NI>,
     last: u32,

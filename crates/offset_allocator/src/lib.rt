@@ -366,8 +366,8 @@ impl<NI: NodeIndex> Allocator<NI> {
         }
     }
 
-    /// The units of the range that a live handle has: exactly what was asked for. It is 0 where the handle isn't live, and
-    /// of a live range of no units too.
+    /// The units of the range that a live handle has: exactly what was asked for. It is 0 where the handle is not live,
+    /// and for a live range of no units too.
     pub fn allocation_size(&self, allocation: Allocation<NI>) -> u32
         ensures { result ≡ size_at (place_of allocation.name self.now.blocks) }
     {
@@ -435,7 +435,7 @@ impl<NI: NodeIndex> Allocator<NI> {
         requires least { IsLeastFrom (up (size + align - 1)) self.old.order class }
         ensures step { Aligns size align self.old self.new (Some result) }
         ensures grows { self.old.accesses ≤ self.new.accesses }
-        ensures count { self.new.accesses ≤ self.old.accesses + 48 }
+        ensures count { self.new.accesses ≤ self.old.accesses + 43 }
     {
         let name = bins::take_first(
             &mut self.tables,
@@ -547,7 +547,7 @@ impl<NI: NodeIndex> Allocator<NI> {
         requires room { is_short_of 1 self.old ≡ false }
         ensures step { Extends more self.old self.new true }
         ensures grows { self.old.accesses ≤ self.new.accesses }
-        ensures count { self.new.accesses ≤ self.old.accesses + 21 }
+        ensures count { self.new.accesses ≤ self.old.accesses + 19 }
     {
         let end = self.last;
         let offset = chain::offset(

@@ -38,7 +38,7 @@ fn cut_front<NI: NodeIndex>(
     ensures fresh { 0 < units → named result (blocks tables.old.room last) ≡ 0 }
     ensures below { 0 < units → result < length tables.old.room.nodes }
     ensures grows { count.old ≤ count.new }
-    ensures count { count.new ≤ count.old + 19 }
+    ensures count { count.new ≤ count.old + 18 }
 {
     if units == 0 {
         return name;
@@ -81,7 +81,7 @@ fn cut_rest<NI: NodeIndex>(
     ensures fresh { 0 < left → named result (blocks tables.old.room last.old) ≡ 0 }
     ensures below { 0 < left → result < length tables.old.room.nodes }
     ensures grows { count.old ≤ count.new }
-    ensures count { count.new ≤ count.old + 18 }
+    ensures count { count.new ≤ count.old + 16 }
 {
     if left == 0 {
         return name;
@@ -136,7 +136,7 @@ pub(crate) fn carve<NI: NodeIndex>(
     ensures rest { 0 < left → (named result.1 (blocks tables.old.room last.old) ≡ 0) × (result.1 < length tables.old.room.nodes) }
     ensures apart { 0 < padding → 0 < left → result.0 ≢ result.1 }
     ensures grows { count.old ≤ count.new }
-    ensures count { count.new ≤ count.old + 38 }
+    ensures count { count.new ≤ count.old + 35 }
 {
     let front = cut_front(tables, top_mask, *last, spare_count, name, padding, count);
     chain::mark(tables, *last, *spare_count, name, true, count);

@@ -117,8 +117,8 @@ fn answers(allocator: &mut Allocator<u32>) -> u64 {
     answers
 }
 
-// The node tables are larger than all others, and the last of them is made last. So hardly any memory is left over where
-// an allocator is made for the first time.
+// The node tables are larger than all others, and the last of them is made last. So hardly any memory is left over
+// where an allocator is made for the first time.
 const NODES: u32 = 1_000;
 
 fn made(alloc: Global) -> Result<Allocator<u32>, AllocError> {

@@ -1,9 +1,9 @@
 //! All memory is taken, and given back step by step, so that one request of an attempt after another is the first one
 //! that is refused.
 //!
-//! A step is no larger than the least block, and what is given back lies in one place. So a step is hardly ever enough for
-//! two further requests; only small ones behind a large one may be passed over, where what the attempt gave back itself
-//! serves them.
+//! A step is no larger than the least block, and what is given back lies in one place. So a step is hardly ever enough
+//! for two further requests; only small ones behind a large one may be passed over, where what the attempt gave back
+//! itself serves them.
 
 use crate::attempts::{Attempt, Outcome, all_memory};
 use std::alloc::{AllocError, Global};

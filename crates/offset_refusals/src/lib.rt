@@ -2,8 +2,8 @@
 //! The calls promise nothing of their own: what they call is proved.
 //!
 //! Each takes the text of a script, asks for no memory itself, and tells the answer as numbers, into cells of the
-//! caller's. Its result is 0 for an answer, 1 for a want of memory, 2 for a faulty text, 3 for a device that failed, and
-//! 4 where the text that was to be taken is no script.
+//! caller's. Its result is 0 for an answer, 1 for a want of memory, 2 for a faulty text, 3 for a device that failed,
+//! and 4 where the text that was to be taken is no script.
 #![tactic(auto)]
 
 mod allocators;

@@ -35,7 +35,8 @@ abbrev pub name_of : ℕ → List Label → Option ℕ
 name_of k [] = None
 name_of k (l ∷ ls) = if has_number k l.tag then Some l.name else name_of k ls
 
--- the view and the plain state show the same blocks, the newest come first in each class, and the name kept for each grant is that of its block
+-- the view and the plain state show the same blocks, the newest come first in each class, and the name kept for each
+-- grant is that of its block
 pub record Agrees (v : View) (kept : ℕ → Option ℕ) (s : State) : Type 0 where
   pub labels : List Label
   pub view : v.blocks ≡ map by_name labels

@@ -116,6 +116,7 @@ ends_live [] = false
 ends_live (b ∷ []) = if is_free b.tag then false else true
 ends_live (b ∷ c ∷ bs) = ends_live (c ∷ bs)
 
--- n units between two lists become free with stamp s, and a free block directly before them and one directly after are joined with them
+-- n units between two lists become free with stamp s, and a free block directly before them and one directly after are
+-- joined with them
 abbrev pub joined : List Block → ℕ → ℕ → List Block → List Block
 joined before n s after = without_end before ++ block (free_end before + n + free_start after) (Free s) ∷ without_start after

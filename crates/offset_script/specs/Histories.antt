@@ -120,7 +120,8 @@ abbrev pub frees : List ℕ → List Command
 frees [] = []
 frees (k ∷ ks) = command.Free k ∷ frees ks
 
--- a row of releases leaves the sizes and grants of the collapse, and a next command is answered as there, but for the offset of a grant
+-- a row of releases leaves the sizes and grants of the collapse, and a next command is answered as there, but for the
+-- offset of a grant
 pub record Commutes (ks : List ℕ) (s : State) : Type 0 where
   pub space : outline (after (frees ks) s).blocks ≡ collapse ks (outline s.blocks)
   pub next : (t : State) → IsCollapse ks s t → (c : Command) → placeless (step c (after (frees ks) s)).answer ≡ placeless (step c t).answer
@@ -151,7 +152,8 @@ KeepsSpace command.Reset = ⊥
 KeepsSpace (command.Align n align) = Unit {0}
 KeepsSpace (command.Extend more) = ⊥
 
--- from this state on, each block that these commands are granted is released by them, the last granted first, and no other is
+-- from this state on, each block that these commands are granted is released by them, the last granted first, and no
+-- other is
 pub data Nest : State → List Command → Type 0 where
   -- there are none
   done : {s : State} → Nest s []
@@ -162,7 +164,8 @@ pub data Nest : State → List Command → Type 0 where
   paired : {s : State} {c : Command} {k : ℕ} {inner outer : List Command} → KeepsSpace c → IsGrant (step c s).answer k
       → Nest (step c s).state inner → Nest (after (inner ++ command.Free k ∷ []) (step c s).state) outer → Nest s (c ∷ (inner ++ (command.Free k ∷ outer)))
 
--- a grant number as it would be without a nest of j grants, where g were made before it: those of the nest are 0, which no grant has
+-- a grant number as it would be without a nest of j grants, where g were made before it: those of the nest are 0, which
+-- no grant has
 abbrev pub settled : ℕ → ℕ → ℕ → ℕ
 settled g j k = if nat_le k g then k else if nat_le k (g + j) then 0 else k - j
 

@@ -8,7 +8,7 @@ use Rattle.offset_script.specs.Blocks.{Live, Free, Block, block, total, free_siz
 
 -- a space between two calls
 pub record State : Type 0 where
-  -- below this many blocks stand at any time
+  -- fewer than this many blocks stand at any time
   pub limit : ℕ
   -- in space order
   pub blocks : List Block
@@ -54,7 +54,7 @@ answers_only s a = record { state = record s { calls = s.calls + 1 }; answer = a
 abbrev pub leaves : State → List Block → Answer → Outcome
 leaves s bs a = record { state = record s { calls = s.calls + 1; blocks = bs }; answer = a }
 
--- no more than these spare blocks are left below the limit
+-- no more than so many blocks are left up to the limit
 abbrev pub is_short_of : ℕ → State → Bool
 is_short_of spare s = nat_le s.limit (length s.blocks + spare)
 
@@ -74,7 +74,7 @@ abbrev pub grant_or_refuse : State → ℕ → (ℕ → ℕ) → Option Place �
 grant_or_refuse s n padding_at None = answers_only s Refused
 grant_or_refuse s n padding_at (Some p) = grant s n (padding_at (total p.before)) p
 
--- n units of the block that is chosen for a request of needed units, while more than these spare blocks are left
+-- n units of the block that is chosen for a request of needed units, while more than so many blocks are left up to the limit
 abbrev pub serve : State → ℕ → ℕ → ℕ → (ℕ → ℕ) → Outcome
 serve s spare needed n padding_at = if is_short_of spare s then answers_only s Refused else grant_or_refuse s n padding_at (chosen needed s.blocks)
 
@@ -96,7 +96,7 @@ abbrev pub size_at : Option Place → Answer
 size_at None = Gone
 size_at (Some p) = Size p.block.size
 
--- the free units and the greatest class value of a free block, or 0 and 0 where no block is left below the limit
+-- the free units and the greatest class value of a free block, or 0 and 0 where no further block may stand
 abbrev pub report : State → Answer
 report s = if is_short_of 1 s then Report 0 0 else Report (sum (free_sizes s.blocks)) (largest (free_sizes s.blocks))
 

@@ -30,7 +30,7 @@ pub enum Answer {
     Gone,
     /// The units of a grant.
     Size(u32),
-    /// What is free in all, and the greatest class value of a free block.
+    /// What is free in all, and the greatest class value of a free block; both 0 where no further block may stand.
     Report(StorageReport),
     /// The classes that have a free block, rising.
     Full(Vec<FullRow>),

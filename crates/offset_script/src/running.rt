@@ -37,7 +37,8 @@ fn read_text<S: Source>(alloc: Global, input: &mut S) -> Result<Vec<u8>, RunFaul
     Ok(text)
 }
 
-/// Sends all bytes, and then flushes, also where there are none. It stops at the first failure, and tries nothing again.
+/// Sends all bytes, and then flushes, also where there are none. It stops at the first failure, and tries nothing
+/// again.
 fn send<K: Sink>(output: &mut K, text: &[u8]) -> bool
     ensures sent { Sends result text.now (K.held output.old) (K.held output.new) }
     ensures failed { K.has_failed output.new ≡ (if result then K.has_failed output.old else true) }

@@ -12,7 +12,7 @@ pub enum Command {
     Free(u32),
     /// Tell the units of the grant of this number.
     Size(u32),
-    /// Tell what is free in all, and the greatest class value of a free block.
+    /// Tell what is free in all, and the greatest class value of a free block; both 0 where no further block may stand.
     Report,
     /// Tell the classes that have a free block.
     Full,

@@ -20,14 +20,14 @@ const SPACES: [(u32, u32); 5] = [
 
 const LENGTH: u32 = 2_000;
 
-// Of which commands a script is made. What a number leaves by 8 or by 16 picks the command, and the quotient its units or
-// its grant.
+// Of which commands a script is made. What a number leaves by 8 or by 16 picks the command, and the quotient its units
+// or its grant.
 #[derive(Clone, Copy)]
 enum Mix {
     // Of 8 commands four requests, three releases, and a report.
     Plain,
-    // Of 16 commands five requests, three aligned ones, an extension, a size, a report, four releases, and one that is a
-    // reset once in 32 times and else a release.
+    // Of 16 commands five requests, three aligned ones, an extension, a size, a report, four releases, and one that is
+    // a reset once in 32 times and else a release.
     Whole,
 }
 

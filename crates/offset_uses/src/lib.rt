@@ -15,8 +15,8 @@ use std::alloc::{AllocError, Global};
 
 /// Two ranges of vertices, for the outer and the inner hull of a mesh, or none at all.
 ///
-/// A refusal leaves the buffer as it was, the order of its free blocks too. It comes only where the first range is refused,
-/// or the second after it.
+/// A refusal leaves the buffer as it was, the order of its free blocks too. It comes only where the first range is
+/// refused, or the second after it.
 pub fn place_mesh(
     vertices: &mut Allocator,
     outer: u32,
@@ -155,8 +155,8 @@ pub fn refund(space: &mut Allocator, tenant: &mut Tenant, allocation: Allocation
     space.free(allocation);
 }
 
-/// Units for one frame: they are granted, what is free beside them is told, and they are given back. The space is then as
-/// it was, and its accesses are bounded; `count` counts those of the report.
+/// Units for one frame: they are granted, what is free beside them is told, and they are given back. The space is then
+/// as it was, and its accesses are bounded; `count` counts those of the report.
 pub fn frame<NI: NodeIndex>(space: &mut Allocator<NI>, n: u32, count: &mut Accesses) -> Option<u32>
     ensures granted { 1 ≤ n → (IsSome result ↔ (n ≤ largest_free space.old)) }
     ensures beside { IfSome result (λ left. (w : View) × (g : Grant) × Allocates n space.old w (Some g) × (left ≡ total_free w)) }
