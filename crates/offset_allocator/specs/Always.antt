@@ -34,8 +34,8 @@ AreFew v = used_of v.blocks + 2 ≤ v.max_allocs
 abbrev pub RefusesWhenFull : View → Type 0
 RefusesWhenFull v = v.max_allocs ≤ length v.blocks + 1 → ((n rest : ℕ) → (allocate n rest v).grant ≡ None) × ((n align front rest : ℕ) → (allocate_aligned n align front rest v).grant ≡ None) × (total_free v ≡ 0) × (largest_free v ≡ 0)
 
--- with a limit of at least 3, a fresh space grants n units exactly where its size is at least the value of the class that
--- n is rounded up to
+-- with a limit of at least 3, a fresh space grants n units exactly where its size is at least the value of the class
+-- that n is rounded up to
 abbrev pub FreshGrants : Type 0
 FreshGrants = (size max_allocs n rest : ℕ) (v : View) → IsFresh size max_allocs v → 3 ≤ max_allocs → size ≤ greatest → n ≤ greatest → IsSome (allocate n rest v).grant ↔ (value (up n) ≤ size)
 

@@ -129,8 +129,8 @@ pub fn a_full_space_refuses<NI: NodeIndex>(allocator: &Allocator<NI>)
     allocator.formed();
 }
 
-/// With a limit of at least 3, a fresh space grants a request exactly where it has at least as many units as the value of
-/// the class that the request is rounded up to: those that `min_allocator_size` tells.
+/// With a limit of at least 3, a fresh space grants a request exactly where it has at least as many units as the value
+/// of the class that the request is rounded up to: those that `min_allocator_size` tells.
 pub fn a_fresh_space_grants()
     ensures { FreshGrants }
 {}

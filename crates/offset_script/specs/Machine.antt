@@ -74,7 +74,8 @@ abbrev pub grant_or_refuse : State → ℕ → (ℕ → ℕ) → Option Place �
 grant_or_refuse s n padding_at None = answers_only s Refused
 grant_or_refuse s n padding_at (Some p) = grant s n (padding_at (total p.before)) p
 
--- n units of the block that is chosen for a request of needed units, while more than so many blocks are left up to the limit
+-- n units of the block that is chosen for a request of needed units, while more than so many blocks are left up to the
+-- limit
 abbrev pub serve : State → ℕ → ℕ → ℕ → (ℕ → ℕ) → Outcome
 serve s spare needed n padding_at = if is_short_of spare s then answers_only s Refused else grant_or_refuse s n padding_at (chosen needed s.blocks)
 
