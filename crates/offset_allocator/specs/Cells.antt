@@ -71,7 +71,7 @@ pub record AreShaped (max : ℕ) (c : Cells) : Type 0 where
   pub limit : length c.room.nodes ≤ max
   pub word : length c.room.nodes ≤ 4294967295
 
--- tables for m nodes: none is used, no class has a name, and all names are on the stack
+-- tables for m nodes: none is used, no class has a name, and all names are on the stack, in order
 pub record AreEmpty (max m : ℕ) (c : Cells) : Type 0 where
   pub nodes : length c.room.nodes ≡ m
   pub idle : (x : ℕ) → (node c.room x).used ≡ false

@@ -1,6 +1,6 @@
 //! The blocks of the space, linked in space order, and the stack of unused names.
 
-ghost use Rattle.std.specs.Prelude.{◌≡◌, ◌+◌, ◌-◌, ◌<◌, ◌≤◌, ◌^◌, length, MatchOption, IfSome, false, Some, None};
+ghost use Rattle.std.specs.Prelude.{◌≡◌, ◌+◌, ◌<◌, ◌≤◌, ◌^◌, length, MatchOption, IfSome, false, Some, None};
 ghost use Rattle.offset_allocator.specs.Named.{named, units};
 ghost use Rattle.offset_allocator.specs.Cells.{node, put, link_of};
 ghost use Rattle.offset_allocator.specs.Space.{IsSpace, Stands, blocks, split_block, join_block, give_block, mark_block, offset_in, size_in, name_after};
