@@ -26,6 +26,7 @@ pub mod Ops
 pub mod Overwritten
 pub mod Powers
 pub mod Ranges
+pub mod Refusals
 pub mod Removal
 pub mod Removed
 pub mod Rows

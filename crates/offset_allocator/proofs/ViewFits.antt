@@ -46,7 +46,7 @@ reports_all b (c ∷ bs) (inr i) f = if_value c.used (free_sizes bs) (c.size ∷
     (λ g. reports_all b bs i f)
     (λ g. let r = reports_all b bs i f in omega arith)
 
-stands_middle : (xs : List Block) (b : Block) (ys : List Block) → Stands b (xs ++ b ∷ ys)
+pub stands_middle : (xs : List Block) (b : Block) (ys : List Block) → Stands b (xs ++ b ∷ ys)
 stands_middle [] b ys = inl refl
 stands_middle (x ∷ xs) b ys = inr (stands_middle xs b ys)
 

@@ -1,5 +1,5 @@
 -- What the contracts of an allocator say of its views.
-use Rattle.std.specs.Prelude.{◌≡◌, ◌≢◌, ℕ, ◌<◌, ◌^◌, [], ◌∷◌, replicate, Bool, true, false, Option, Some}
+use Rattle.std.specs.Prelude.{◌≡◌, ◌≢◌, ℕ, ◌<◌, [], ◌∷◌, replicate, Bool, true, false, Option, Some}
 use Rattle.offset_allocator.specs.Classes.{down}
 use Rattle.offset_allocator.specs.Reports.{IsNearBestFit}
 use Rattle.offset_allocator.specs.Named.{View, Grant, Place, free_sizes, IsUnused, allocate, allocate_aligned, free, extend, reset, free_block, put_first, place_of, is_used_at, is_short_of}
@@ -57,7 +57,3 @@ pub record Extends (more : ℕ) (v w : View) (done : Bool) : Type 0 where
 -- each granted request for n, released at once, leaves the view as it was
 abbrev pub IsUndone : ℕ → View → Type 0
 IsUndone n v = (rest : ℕ) (g : Grant) → IsUnused rest v → (allocate n rest v).grant ≡ Some g → free g.name (allocate n rest v).view ≡ v
-
--- an alignment that a request may ask for
-abbrev pub IsPowerOfTwo : ℕ → Type 0
-IsPowerOfTwo align = (k : ℕ) × (align ≡ 2 ^ k)

@@ -1,5 +1,7 @@
 -- What is told of an allocator's view: the reports, and the greatest class that has a free block.
-use Rattle.std.specs.Prelude.{◌≡◌, ℕ, ◌%◌, ◌^◌, ◌<◌, false, List, [], IsSome, slice_index_or}
+use Rattle.std.specs.Prelude.{◌≡◌, ℕ, ◌%◌, ◌^◌, ◌<◌, ◌≤◌, false, true, List, [], None, IsSome, sum, slice_index_or}
+use Rattle.offset_allocator.specs.declared.reports.Refusal.{Refusal}
+use Rattle.offset_allocator.specs.declared.reports.Refusal.TheVariants.{Nodes, Space, Fragmented}
 use Rattle.offset_allocator.specs.declared.reports.StorageReport.{StorageReport}
 use Rattle.offset_allocator.specs.declared.reports.StorageReportFull.{StorageReportFull}
 use Rattle.offset_allocator.specs.declared.reports.StorageReportFullRegion.{StorageReportFullRegion}
@@ -19,6 +21,16 @@ IsReport r v = (r.total_free_space ≡ total_free v) × (r.largest_free_region �
 abbrev pub IsFullReport : StorageReportFull → View → Type 0
 IsFullReport r v = (c : ℕ) (d : StorageReportFullRegion) → c < 256 → slice_index_or r.free_regions c d ≡ record { size = value c % 2 ^ 32; count = count_of c (free_sizes v.blocks) }
 
--- a request for n is granted: one block more may stand, and some free block is taken
+-- a request is served that needs room for as many more blocks, and a free block that is sure to hold as many units
+abbrev pub IsServed : ℕ → ℕ → View → Type 0
+IsServed blocks units v = (is_short_of blocks v ≡ false) × IsSome (taken units v)
+
+-- a request for n units is granted
 abbrev pub IsGranted : ℕ → View → Type 0
-IsGranted n v = (is_short_of 1 v ≡ false) × IsSome (taken n v)
+IsGranted n v = IsServed 1 n v
+
+-- why such a request is refused: too few nodes, too few free units, or enough of them in too small pieces
+abbrev pub IsWhy : ℕ → ℕ → View → Refusal → Type 0
+IsWhy blocks units v Nodes = is_short_of blocks v ≡ true
+IsWhy blocks units v Space = (is_short_of blocks v ≡ false) × (sum (free_sizes v.blocks) < units)
+IsWhy blocks units v Fragmented = (is_short_of blocks v ≡ false) × (units ≤ sum (free_sizes v.blocks)) × (taken units v ≡ None)

@@ -1,16 +1,17 @@
 //! The calls that leave an allocator as it is, with a count of their accesses, the law that a grant can be undone, and
 //! laws that hold of every allocator. The functions of those do nothing.
-ghost use Rattle.std.specs.Prelude.{◌≡◌, ◌≤◌, ◌+◌, ◌*◌, ◌↔◌, IsTrue, length};
+ghost use Rattle.std.specs.Prelude.{◌≡◌, ◌≤◌, ◌+◌, ◌-◌, ◌*◌, ◌↔◌, ℕ, IsTrue, IfSome, None, length, min};
+ghost use Rattle.std.specs.Int.{is_power_of_two, IsPowerOfTwo};
 ghost use Rattle.offset_allocator.specs.Named.{IsWellFormed, size_at, place_of, free_sizes};
 ghost use Rattle.offset_allocator.specs.Always.{AddsUp, AreFew, AreWithin, FreshGrants, KeepApart, PaddingIsLeast, RefusesWhenFull, StandAlone};
 ghost use Rattle.offset_allocator.specs.Relations.{IsLive, IsBut, IsUndone};
-ghost use Rattle.offset_allocator.specs.Told.{IsReport, IsFullReport, IsGranted};
+ghost use Rattle.offset_allocator.specs.Told.{IsReport, IsFullReport, IsGranted, IsServed, IsWhy};
 
 use crate::Allocator;
 use crate::accesses::Accesses;
 use crate::handle::Allocation;
 use crate::index::NodeIndex;
-use crate::reports::{StorageReport, StorageReportFull};
+use crate::reports::{Refusal, StorageReport, StorageReportFull};
 
 /// As `Allocator::is_live`. The count grows by at most 8.
 pub fn is_live_counted<NI: NodeIndex>(
@@ -60,6 +61,36 @@ pub fn storage_report_full_counted<NI: NodeIndex>(
     ensures count { count.new ≤ count.old + 512 + 2 * length (free_sizes allocator.now.blocks) }
 {
     allocator.storage_report_full_counted(count)
+}
+
+/// As `Allocator::refusal`. The count grows by at most 8.
+pub fn refusal_counted<NI: NodeIndex>(
+    allocator: &Allocator<NI>,
+    size: u32,
+    count: &mut Accesses,
+) -> Option<Refusal>
+    ensures granted { result ≡ None ↔ IsGranted size allocator.now }
+    ensures why { IfSome result (IsWhy 1 size allocator.now) }
+    ensures grows { count.old ≤ count.new }
+    ensures count { count.new ≤ count.old + 8 }
+{
+    allocator.refusal_counted(1, size as u64, count)
+}
+
+/// As `Allocator::refusal_aligned`. The count grows by at most 8.
+pub fn refusal_aligned_counted<NI: NodeIndex>(
+    allocator: &Allocator<NI>,
+    size: u32,
+    align: u32,
+    count: &mut Accesses,
+) -> Option<Refusal>
+    requires power { IsTrue (is_power_of_two align) }
+    ensures granted { result ≡ None ↔ IsServed (min align 2) (size + align - 1) allocator.now }
+    ensures why { IfSome result (IsWhy (min align 2) (size + align - 1) allocator.now) }
+    ensures grows { count.old ≤ count.new }
+    ensures count { count.new ≤ count.old + 8 }
+{
+    allocator.refusal_counted(align.min(2), size as u64 + (align - 1) as u64, count)
 }
 
 /// Grants a request for `n` units and gives the grant back at once. The blocks, their names and the class lists are
@@ -138,4 +169,9 @@ pub fn a_fresh_space_grants()
 /// The units before an aligned grant take its offset to a multiple of the alignment, and fewer would not.
 pub fn padding_is_least()
     ensures { PaddingIsLeast }
+{}
+
+/// The alignments that `allocate_aligned` admits, those with one bit, are the powers of two.
+pub fn powers_have_one_bit()
+    ensures { (n : ℕ) → IsTrue (is_power_of_two n) ↔ IsPowerOfTwo n }
 {}

@@ -17,9 +17,10 @@ ghost use Rattle.offset_allocator.specs.Orders.{IsLeastFrom};
 ghost use Rattle.offset_allocator.specs.Ranges.{range_of, KeepsAll, KeepsOthers, KeepsRanges};
 ghost use Rattle.offset_allocator.specs.Reports.{IsGoodRefusal};
 ghost use Rattle.offset_allocator.specs.Named.{IsWellFormed, ends_used, is_short_of, free, free_sizes, largest_free, is_used_at, size_at, place_of};
-ghost use Rattle.offset_allocator.specs.Relations.{Allocates, Aligns, Extends, IsBut, IsCutNearBest, IsFresh, IsLive, IsPowerOfTwo, Resets};
+ghost use Rattle.offset_allocator.specs.Relations.{Allocates, Aligns, Extends, IsBut, IsCutNearBest, IsFresh, IsLive, Resets};
 ghost use Rattle.offset_allocator.specs.Start.{IsStarted};
-ghost use Rattle.offset_allocator.specs.Told.{IsReport, IsFullReport};
+ghost use Rattle.offset_allocator.specs.Told.{IsReport, IsFullReport, IsGranted, IsServed, IsWhy};
+ghost use Rattle.std.specs.Int.{is_power_of_two};
 
 mod accesses;
 mod bins;
@@ -40,7 +41,7 @@ pub use accesses::Accesses;
 pub use handle::Allocation;
 use index::no_link;
 pub use index::{NodeIndex, NodeIndexNonMax, NonMaxU16, NonMaxU32};
-pub use reports::{StorageReport, StorageReportFull, StorageReportFullRegion};
+pub use reports::{Refusal, StorageReport, StorageReportFull, StorageReportFullRegion};
 use small_float::{float_to_uint, uint_to_float_round_down, uint_to_float_round_up};
 use std::alloc::{AllocError, Global};
 use std::fmt;
@@ -167,6 +168,35 @@ impl<NI: NodeIndex> Allocator<NI> {
         self.last = self.max_allocs - 1;
     }
 
+    /// The units of the space, with what `extend` added.
+    pub fn size(&self) -> u32
+        ensures { result ≡ self.now.size }
+    {
+        self.size
+    }
+
+    /// The node limit. At most one block less than this exists at a time, free ones included.
+    pub fn max_allocs(&self) -> u32
+        ensures { result ≡ self.now.max_allocs }
+    {
+        self.max_allocs
+    }
+
+    /// The number of blocks, live and free.
+    pub fn block_count(&self) -> u32
+        ensures { result ≡ length self.now.blocks }
+    {
+        self.max_allocs - self.spare_count
+    }
+
+    /// Whether `max_allocs - 1` blocks exist. Then every request is refused, and the short report is 0, 0, until a
+    /// `free` coalesces or `reset` is called.
+    pub fn is_full(&self) -> bool
+        ensures { IsTrue result ↔ (length self.now.blocks + 1 ≡ self.now.max_allocs) }
+    {
+        self.spare_count <= 1
+    }
+
     // Grants the first units of the newest block of a class.
     fn grant(&mut self, class: u32, size: u32) -> Allocation<NI>
         requires room { is_short_of 1 self.old ≡ false }
@@ -244,6 +274,7 @@ impl<NI: NodeIndex> Allocator<NI> {
         ensures kept { KeepsRanges self.old self.new }
         ensures same { result ≡ None → IsBut self.old self.new }
         ensures granted { 1 ≤ size → (IsSome result ↔ (size ≤ largest_free self.old)) }
+        ensures served { IsSome result ↔ IsGranted size self.old }
         ensures nearly { IfSome result (IsCutNearBest size self.old) }
         ensures refused { result ≡ None → length self.old.blocks + 1 < self.old.max_allocs → IsGoodRefusal size (free_sizes self.old.blocks) }
         ensures grows { self.old.accesses ≤ self.new.accesses }
@@ -427,6 +458,57 @@ impl<NI: NodeIndex> Allocator<NI> {
         self.storage_report_full_counted(&mut Accesses::new())
     }
 
+    // Why a request is refused that splits off as many blocks, and takes a block for as many units.
+    pub(crate) fn refusal_counted(
+        &self,
+        blocks: u32,
+        units: u64,
+        count: &mut Accesses,
+    ) -> Option<Refusal>
+        ensures granted { result ≡ None ↔ IsServed blocks units self.now }
+        ensures why { IfSome result (IsWhy blocks units self.now) }
+        ensures grows { count.old ≤ count.new }
+        ensures count { count.new ≤ count.old + 8 }
+    {
+        if self.spare_count <= blocks {
+            return Some(Refusal::Nodes);
+        }
+        if units > self.free_total as u64 {
+            return Some(Refusal::Space);
+        }
+        let least = uint_to_float_round_up(units as u32);
+        match bins::find_at_or_above(&self.tables, self.top_mask, least, count) {
+            None => Some(Refusal::Fragmented),
+            Some(_) => None,
+        }
+    }
+
+    /// Why `allocate(size)` would be refused now, or `None` exactly where it would be granted.
+    ///
+    /// It makes at most 8 accesses to the tables.
+    pub fn refusal(&self, size: u32) -> Option<Refusal>
+        ensures granted { result ≡ None ↔ IsGranted size self.now }
+        ensures why { IfSome result (IsWhy 1 size self.now) }
+    {
+        self.refusal_counted(1, size as u64, &mut Accesses::new())
+    }
+
+    /// Why `allocate_aligned(size, align)` would be refused now, or `None` exactly where it would be granted.
+    ///
+    /// With `align` above 1 two more blocks are needed, and `size + align - 1` units. It makes at most 8 accesses to
+    /// the tables.
+    pub fn refusal_aligned(&self, size: u32, align: u32) -> Option<Refusal>
+        requires power { IsTrue (is_power_of_two align) }
+        ensures granted { result ≡ None ↔ IsServed (min align 2) (size + align - 1) self.now }
+        ensures why { IfSome result (IsWhy (min align 2) (size + align - 1) self.now) }
+    {
+        self.refusal_counted(
+            align.min(2),
+            size as u64 + (align - 1) as u64,
+            &mut Accesses::new(),
+        )
+    }
+
     // Grants units of the newest block of a class, from the first multiple of `align` in it on.
     fn grant_aligned(&mut self, class: u32, size: u32, align: u32) -> Allocation<NI>
         requires power { 1 < align }
@@ -469,7 +551,7 @@ impl<NI: NodeIndex> Allocator<NI> {
     /// leaves blocks, names and class lists as they were. With `align` 1 the call is `allocate`. It makes at most 128
     /// accesses to the tables, and takes no memory.
     pub fn allocate_aligned(&mut self, size: u32, align: u32) -> Option<Allocation<NI>>
-        requires power { IsPowerOfTwo align }
+        requires power { IsTrue (is_power_of_two align) }
         ensures step { Aligns size align self.old self.new result }
         ensures live { IfSome result (λ h. IsLive h.name self.new) }
         ensures fresh { IfSome result (λ h. range_of h.name self.old ≡ None) }
@@ -480,6 +562,7 @@ impl<NI: NodeIndex> Allocator<NI> {
         ensures same { result ≡ None → IsBut self.old self.new }
         ensures granted { 1 ≤ size + align - 1 → (IsSome result
             ↔ ((length self.old.blocks + min align 2 < self.old.max_allocs) × (size + align - 1 ≤ largest_free self.old))) }
+        ensures served { IsSome result ↔ IsServed (min align 2) (size + align - 1) self.old }
         ensures nearly { IfSome result (IsCutNearBest (size + align - 1) self.old) }
         ensures refused { result ≡ None → length self.old.blocks + min align 2 < self.old.max_allocs
             → IsGoodRefusal (size + align - 1) (free_sizes self.old.blocks) }

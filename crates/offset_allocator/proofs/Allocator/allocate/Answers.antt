@@ -1,5 +1,6 @@
-use Rattle.std.proofs.Common.{subst, arith, refl, ◌↔◌, Some, IsSome, ◌≡◌, ◌≤◌, ◌<◌, ℕ, [], None}
-use Rattle.offset_allocator.specs.Named.{View, names_at, largest_free}
+use Rattle.std.proofs.lemmas.Bool.{false≢true}
+use Rattle.std.proofs.Common.{subst, sym, ap, ◌∙◌, is_some, arith, refl, ◌↔◌, Some, IsSome, ◌≡◌, ◌≤◌, ◌<◌, ℕ, [], None}
+use Rattle.offset_allocator.specs.Named.{View, names_at, largest_free, taken}
 use Rattle.offset_allocator.specs.Orders.{class_lists}
 use Rattle.offset_allocator.specs.State.{shown, Fields}
 use Rattle.offset_allocator.specs.Relations.{Allocates, IsCutNearBest}
@@ -7,6 +8,7 @@ use Rattle.offset_allocator.proofs.ViewFits.{allocated_exactly, refused_well, cu
 use Rattle.offset_allocator.proofs.Sound.{fields_of, known_sound}
 use Rattle.offset_allocator.proofs.Classes.{below_value_up}
 use Rattle.offset_allocator.proofs.Granting.{refused_short, refused_none}
+use Rattle.offset_allocator.proofs.Refusals.{none_taken}
 use Rattle.offset_allocator.proofs.Ranges.{Holds, allocated_holds, holds_kept, live_range}
 use Rattle.offset_allocator.proofs.Allocator.allocate.Goals as goal
 use Rattle.offset_allocator.proofs.Allocator.allocate.Goals.{After-grant}
@@ -34,6 +36,13 @@ returns-in-None-clause-granted g c =
     let f : Fields = fields_of g.NI.NodeIndex.MAX c.self.inside in
     let known = known_sound f c.self.invariant c.args.self.now c.self.view_is in
     allocated_exactly c.args.size c.args.self.now _ None known.0 (omega arith) known.1 (returns-in-None-clause-step g c)
+
+pub returns-in-None-clause-served : goal.returns-in-None-clause-served
+returns-in-None-clause-served g c =
+    let P : View → Type 0 = λ u. taken c.args.size u ≡ None in
+    let Q : ℕ → Type 0 = λ low. (k : ℕ) → low ≤ k → k < 256 → names_at (class_lists g.NI.NodeIndex.MAX c.self.inside.tables.links) k ≡ [] in
+    let none = subst P c.self.view_is (none_taken (fields_of g.NI.NodeIndex.MAX c.self.inside) c.self.invariant 1 c.args.size (subst Q c.uint_to_float_round_up-least.ensures.is c.in-None.ensures.least)) in
+    (λ e. absurd (false≢true e), λ h. absurd (false≢true (sym (ap is_some none) ∙ h.1)))
 
 pub returns-in-None-clause-refused : goal.returns-in-None-clause-refused
 returns-in-None-clause-refused g c =

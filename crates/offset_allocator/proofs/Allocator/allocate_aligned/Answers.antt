@@ -11,6 +11,7 @@ use Rattle.offset_allocator.proofs.Spares.{another, spare_room}
 use Rattle.offset_allocator.proofs.Sound.{fields_of, known_sound}
 use Rattle.offset_allocator.proofs.Aligning.{aligned_from, aligns_counted, refused_full, refused_past, refused_none, aligned_one, aligned_past, aligned_short, served}
 use Rattle.offset_allocator.proofs.Always.{aligned_multiple}
+use Rattle.offset_allocator.proofs.Refusals.{none_taken, taken_fits}
 use Rattle.offset_allocator.proofs.Ranges.{Holds, aligned_holds, holds_kept, live_range}
 use Rattle.offset_allocator.proofs.ViewFits.{taken_exactly, good_refusal, refusal_past, cut_at, largest_small, allocated_exactly, refused_well, cut_near_best}
 use Rattle.offset_allocator.proofs.Allocator.allocate_aligned.Goals as goal
@@ -184,6 +185,11 @@ returns-then-size-align-clause-granted g c =
     let known = known_sound f c.self.invariant c.args.self.now c.self.view_is in
     aligned_exactly c.args.size c.args.align c.args.self.now _ None known.0 known.1 (omega arith) (omega arith) (returns-then-size-align-clause-step g c)
 
+pub returns-then-size-align-clause-served : goal.returns-then-size-align-clause-served
+returns-then-size-align-clause-served g c =
+    let known = known_sound (fields_of g.NI.NodeIndex.MAX c.self.inside) c.self.invariant c.args.self.now c.self.view_is in
+    (λ e. absurd (false≢true e), λ h. let l = taken_fits (c.args.size + c.args.align - 1) c.args.self.now known.0 h.1 in absurd (omega (arith, known.1, l)))
+
 pub returns-then-size-align-clause-refused : goal.returns-then-size-align-clause-refused
 returns-then-size-align-clause-refused g c =
     let f : Fields = fields_of g.NI.NodeIndex.MAX c.self.inside in
@@ -195,6 +201,14 @@ returns-in-None-clause-granted g c =
     let f : Fields = fields_of g.NI.NodeIndex.MAX c.self.inside in
     let known = known_sound f c.self.invariant c.args.self.now c.self.view_is in
     aligned_exactly c.args.size c.args.align c.args.self.now _ None known.0 known.1 (omega arith) (omega arith) (returns-in-None-clause-step g c)
+
+pub returns-in-None-clause-served : goal.returns-in-None-clause-served
+returns-in-None-clause-served g c =
+    let P : View → Type 0 = λ u. taken (c.args.size + c.args.align - 1) u ≡ None in
+    let Q : ℕ → Type 0 = λ low. (k : ℕ) → low ≤ k → k < 256 → names_at (class_lists g.NI.NodeIndex.MAX c.self.inside.tables.links) k ≡ [] in
+    let needed : c.args.size + (c.args.align - 1) ≡ c.args.size + c.args.align - 1 = omega arith in
+    let none = subst P c.self.view_is (none_taken (fields_of g.NI.NodeIndex.MAX c.self.inside) c.self.invariant 2 (c.args.size + c.args.align - 1) (subst Q (c.uint_to_float_round_up-least.ensures.is ∙ ap up needed) c.in-None.ensures.least)) in
+    (λ e. absurd (false≢true e), λ h. absurd (false≢true (sym (ap is_some none) ∙ h.1)))
 
 pub returns-in-None-clause-refused : goal.returns-in-None-clause-refused
 returns-in-None-clause-refused g c =

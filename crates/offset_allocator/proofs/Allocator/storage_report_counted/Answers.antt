@@ -1,6 +1,5 @@
 use Rattle.std.proofs.Common.{◌≡◌, ℕ, sym, subst, ◌<◌, arith, ◌+◌, ◌%◌, ◌^◌, ◌≤◌, Bool, true, false, ◌&&◌, List, [], ◌∷◌, sum, nat_eq, if◌then◌else◌, refl, ap, ◌∙◌, inl, inr, le_trans}
 use Rattle.std.proofs.lemmas.Bool.{cases_lt}
-use Rattle.std.proofs.lemmas.List.Sums.{sum_by-cons}
 use Rattle.std.proofs.lemmas.Bool.Decides.{nat_tests}
 use Rattle.offset_allocator.specs.Named.{View, total_free, largest_free, Block, is_free, one, times, listed, names_at, free_sizes, IsWellFormed, is_short_of}
 use Rattle.offset_allocator.specs.State.{shown, Fields, AreSound, free_units}
@@ -9,6 +8,7 @@ use Rattle.offset_allocator.specs.Reports.{largest}
 use Rattle.offset_allocator.specs.Orders.{class_lists}
 use Rattle.offset_allocator.specs.Told.{IsGreatestClass}
 use Rattle.offset_allocator.specs.Space.{blocks}
+use Rattle.offset_allocator.proofs.Refusals.{free_units_sum}
 use Rattle.offset_allocator.proofs.Sound.{fields_of}
 use Rattle.offset_allocator.proofs.Sizes.{down_small}
 use Rattle.offset_allocator.proofs.Classes.{down_law, value_grows}
@@ -18,12 +18,6 @@ use Rattle.offset_allocator.proofs.Allocator.storage_report_counted.Goals.{in-No
 use Rattle.offset_allocator.proofs.Allocator.storage_report_counted.Goals as goal
 
 -- What the short report tells is so.
-free_units_sum : (bs : List Block) → free_units bs ≡ sum (free_sizes bs)
-free_units_sum [] = refl
-free_units_sum (b ∷ bs) =
-    let ih = free_units_sum bs in
-    elim b.used as (λ u. (if u then 0 else b.size) + free_units bs ≡ sum (if u then free_sizes bs else b.size ∷ free_sizes bs)) [ true ↦ omega arith | false ↦ ap (λ n. b.size + n) ih ∙ sym (sum_by-cons (λ (n : ℕ). n) b.size (free_sizes bs)) ]
-
 hit_all : (f : Bool) (c d : ℕ) (r : Bool) → 1 ≤ one (f && (nat_eq c d && r)) → (f ≡ true) × (c ≡ d)
 hit_all true c d r l = (refl, elim (hit_cases c d) [ inl e ↦ e.0 | inr m ↦ absurd (go (nat_eq c d) m.1 l) ])
   where
