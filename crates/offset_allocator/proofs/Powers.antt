@@ -1,10 +1,11 @@
--- The numbers with one bit set are the powers of two.
-use Rattle.std.proofs.Common.{◌≡◌, ℕ, zero, suc, ◌/◌, ◌%◌, ◌^◌, ◌<◌, ◌≤◌, ◌⊎◌, ◌∙◌, ap, inl, inr, refl, arith, count_ones, IsTrue}
+-- The alignments that a request may ask for are the powers of two.
+use Rattle.std.proofs.Common.{◌≡◌, ℕ, zero, suc, ◌+◌, ◌*◌, ◌/◌, ◌%◌, ◌^◌, ◌<◌, ◌≤◌, ◌⊎◌, ◌∙◌, sym, ap, inl, inr, refl, arith, count_ones, IsTrue}
 use Rattle.std.specs.Int.{is_power_of_two, IsPowerOfTwo}
 use Rattle.std.specs.Int.Count.{ones_step}
 use Rattle.std.proofs.lemmas.Nat.{zero_from_ones, ones_le_self}
 use Rattle.std.proofs.lemmas.Bool.Decides.{nat_tests}
-use Rattle.std.proofs.Math.Nat.{pow-suc}
+use Rattle.std.proofs.Math.Nat.{pow-suc, mul_assoc, mul-add, add-mul, mul-zero, div-add-mod}
+use Rattle.offset_allocator.specs.Relations.{IsAlignment}
 
 -- the last bit is 0 or 1
 odd_or_even : (n : ℕ) → (n % 2 ≡ 0) ⊎ (n % 2 ≡ 1)
@@ -15,7 +16,7 @@ odd_or_even n = go (n % 2) (omega arith)
     go (suc zero) l = inr refl
     go (suc (suc r)) l = absurd (omega arith)
 
--- the same, where the number is at most d
+-- a number of at most d with one bit set is a power of two
 power_from : (d n : ℕ) → n ≤ d → count_ones n ≡ 1 → IsPowerOfTwo n
 power_from zero n l e = absurd (omega (arith, ones_le_self n))
 power_from (suc d) n l e =
@@ -25,22 +26,36 @@ power_from (suc d) n l e =
       | inr r ↦ let z = zero_from_ones (n / 2) (omega arith) in (0, omega arith)
     ]
 
--- a number that passes the test is a power of two
-pub power_of_two : (n : ℕ) → IsTrue (is_power_of_two n) → IsPowerOfTwo n
-power_of_two n h = power_from n n (omega arith) (grind (arith, nat_tests))
-
--- a power of two has one bit set
-ones_of_power : (k : ℕ) → count_ones (2 ^ k) ≡ 1
-ones_of_power zero = ones_step 1 ∙ omega (arith, ones_le_self 0)
-ones_of_power (suc k) =
-    let s = ones_step (2 ^ suc k) in
+-- a divisor of a power of two is one
+divisor : (k d q : ℕ) → d * q ≡ 2 ^ k → IsPowerOfTwo d
+divisor zero d zero e = absurd (omega (arith, mul-zero d))
+divisor zero zero (suc q) e = absurd (omega arith)
+divisor zero (suc zero) (suc q) e = (0, omega arith)
+divisor zero (suc (suc d)) (suc q) e =
+    let two : suc (suc d) ≡ 2 + d = omega arith in
+    absurd (omega (arith, ap (λ (n : ℕ). n * suc q) two, add-mul 2 d (suc q)))
+divisor (suc k) d q e =
     let p = pow-suc 2 k in
-    let h : 2 ^ suc k / 2 ≡ 2 ^ k = omega arith in
-    let r : 2 ^ suc k % 2 ≡ 0 = omega arith in
-    omega (arith, s, r, ap count_ones h, ones_of_power k)
+    elim (odd_or_even d) [
+      | inl r ↦
+          let half : 2 * (d / 2) ≡ d = omega arith in
+          let step = ap (λ (n : ℕ). n * q) half in
+          let h = divisor k (d / 2) q (omega (arith, step, mul_assoc 2 (d / 2) q, p, e)) in
+          (suc h.0, omega (arith, pow-suc 2 h.0, h.1))
+      | inr r ↦ elim (odd_or_even q) [
+          | inl s ↦
+              let half : q / 2 + q / 2 ≡ q = omega arith in
+              let step = ap (λ (n : ℕ). d * n) half in
+              divisor k d (q / 2) (omega (arith, step, mul-add d (q / 2) (q / 2), p, e))
+          | inr s ↦
+              let odd : (d / 2 + d / 2) + 1 ≡ d = omega arith in
+              let step = ap (λ (n : ℕ). n * q) odd in
+              absurd (omega (arith, step, add-mul (d / 2 + d / 2) 1 q, add-mul (d / 2) (d / 2) q, p, e))
+        ]
+    ]
 
--- and passes the test
-pub passes : (n : ℕ) → IsPowerOfTwo n → IsTrue (is_power_of_two n)
-passes n h =
-    let one : count_ones n ≡ 1 = ap count_ones h.1 ∙ ones_of_power h.0 in
-    grind (arith, nat_tests)
+-- an alignment is a power of two
+pub power_of_two : (n : ℕ) → IsAlignment n → IsPowerOfTwo n
+power_of_two n (inl e) = divisor 32 n (2 ^ 32 / n) (omega (arith, div-add-mod (2 ^ 32) n))
+power_of_two n (inr (inl h)) = power_from n n (omega arith) (grind (arith, nat_tests))
+power_of_two n (inr (inr h)) = h

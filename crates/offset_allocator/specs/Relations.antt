@@ -1,5 +1,6 @@
 -- What the contracts of an allocator say of its views.
-use Rattle.std.specs.Prelude.{◌≡◌, ◌≢◌, ℕ, ◌<◌, [], ◌∷◌, replicate, Bool, true, false, Option, Some}
+use Rattle.std.specs.Prelude.{◌≡◌, ◌≢◌, ℕ, ◌%◌, ◌^◌, ◌<◌, ◌⊎◌, [], ◌∷◌, replicate, Bool, true, false, IsTrue, Option, Some}
+use Rattle.std.specs.Int.{is_power_of_two, IsPowerOfTwo}
 use Rattle.offset_allocator.specs.Classes.{down}
 use Rattle.offset_allocator.specs.Reports.{IsNearBestFit}
 use Rattle.offset_allocator.specs.Named.{View, Grant, Place, free_sizes, IsUnused, allocate, allocate_aligned, free, extend, reset, free_block, put_first, place_of, is_used_at, is_short_of}
@@ -57,3 +58,7 @@ pub record Extends (more : ℕ) (v w : View) (done : Bool) : Type 0 where
 -- each granted request for n, released at once, leaves the view as it was
 abbrev pub IsUndone : ℕ → View → Type 0
 IsUndone n v = (rest : ℕ) (g : Grant) → IsUnused rest v → (allocate n rest v).grant ≡ Some g → free g.name (allocate n rest v).view ≡ v
+
+-- an alignment that a request may ask for, a power of two: a divisor of 2 ^ 32, or one by std's words
+abbrev pub IsAlignment : ℕ → Type 0
+IsAlignment align = (2 ^ 32 % align ≡ 0) ⊎ IsTrue (is_power_of_two align) ⊎ IsPowerOfTwo align

@@ -1,10 +1,10 @@
 //! The calls that leave an allocator as it is, with a count of their accesses, the law that a grant can be undone, and
 //! laws that hold of every allocator. The functions of those do nothing.
 ghost use Rattle.std.specs.Prelude.{◌≡◌, ◌≤◌, ◌+◌, ◌-◌, ◌*◌, ◌↔◌, ℕ, IsTrue, IfSome, None, length, min};
-ghost use Rattle.std.specs.Int.{is_power_of_two, IsPowerOfTwo};
+ghost use Rattle.std.specs.Int.{IsPowerOfTwo};
 ghost use Rattle.offset_allocator.specs.Named.{IsWellFormed, size_at, place_of, free_sizes};
 ghost use Rattle.offset_allocator.specs.Always.{AddsUp, AreFew, AreWithin, FreshGrants, KeepApart, PaddingIsLeast, RefusesWhenFull, StandAlone};
-ghost use Rattle.offset_allocator.specs.Relations.{IsLive, IsBut, IsUndone};
+ghost use Rattle.offset_allocator.specs.Relations.{IsAlignment, IsLive, IsBut, IsUndone};
 ghost use Rattle.offset_allocator.specs.Told.{IsReport, IsFullReport, IsGranted, IsServed, IsWhy};
 
 use crate::Allocator;
@@ -84,7 +84,7 @@ pub fn refusal_aligned_counted<NI: NodeIndex>(
     align: u32,
     count: &mut Accesses,
 ) -> Option<Refusal>
-    requires power { IsTrue (is_power_of_two align) }
+    requires power { IsAlignment align }
     ensures granted { result ≡ None ↔ IsServed (min align 2) (size + align - 1) allocator.now }
     ensures why { IfSome result (IsWhy (min align 2) (size + align - 1) allocator.now) }
     ensures grows { count.old ≤ count.new }
@@ -171,7 +171,7 @@ pub fn padding_is_least()
     ensures { PaddingIsLeast }
 {}
 
-/// The alignments that `allocate_aligned` admits, those with one bit, are the powers of two.
-pub fn powers_have_one_bit()
-    ensures { (n : ℕ) → IsTrue (is_power_of_two n) ↔ IsPowerOfTwo n }
+/// The alignments that `allocate_aligned` admits are the powers of two.
+pub fn alignments_are_powers()
+    ensures { (n : ℕ) → IsAlignment n ↔ IsPowerOfTwo n }
 {}

@@ -17,10 +17,9 @@ ghost use Rattle.offset_allocator.specs.Orders.{IsLeastFrom};
 ghost use Rattle.offset_allocator.specs.Ranges.{range_of, KeepsAll, KeepsOthers, KeepsRanges};
 ghost use Rattle.offset_allocator.specs.Reports.{IsGoodRefusal};
 ghost use Rattle.offset_allocator.specs.Named.{IsWellFormed, ends_used, is_short_of, free, free_sizes, largest_free, is_used_at, size_at, place_of};
-ghost use Rattle.offset_allocator.specs.Relations.{Allocates, Aligns, Extends, IsBut, IsCutNearBest, IsFresh, IsLive, Resets};
+ghost use Rattle.offset_allocator.specs.Relations.{Allocates, Aligns, Extends, IsAlignment, IsBut, IsCutNearBest, IsFresh, IsLive, Resets};
 ghost use Rattle.offset_allocator.specs.Start.{IsStarted};
 ghost use Rattle.offset_allocator.specs.Told.{IsReport, IsFullReport, IsGranted, IsServed, IsWhy};
-ghost use Rattle.std.specs.Int.{is_power_of_two};
 
 mod accesses;
 mod bins;
@@ -498,7 +497,7 @@ impl<NI: NodeIndex> Allocator<NI> {
     /// With `align` above 1 two more blocks are needed, and `size + align - 1` units. It makes at most 8 accesses to
     /// the tables.
     pub fn refusal_aligned(&self, size: u32, align: u32) -> Option<Refusal>
-        requires power { IsTrue (is_power_of_two align) }
+        requires power { IsAlignment align }
         ensures granted { result ≡ None ↔ IsServed (min align 2) (size + align - 1) self.now }
         ensures why { IfSome result (IsWhy (min align 2) (size + align - 1) self.now) }
     {
@@ -551,7 +550,7 @@ impl<NI: NodeIndex> Allocator<NI> {
     /// leaves blocks, names and class lists as they were. With `align` 1 the call is `allocate`. It makes at most 128
     /// accesses to the tables, and takes no memory.
     pub fn allocate_aligned(&mut self, size: u32, align: u32) -> Option<Allocation<NI>>
-        requires power { IsTrue (is_power_of_two align) }
+        requires power { IsAlignment align }
         ensures step { Aligns size align self.old self.new result }
         ensures live { IfSome result (λ h. IsLive h.name self.new) }
         ensures fresh { IfSome result (λ h. range_of h.name self.old ≡ None) }

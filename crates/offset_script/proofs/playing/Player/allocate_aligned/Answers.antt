@@ -1,12 +1,8 @@
 use Rattle.std.proofs.Common.{sym, subst}
 use Rattle.offset_script.specs.Serving.{Serves}
 use Rattle.offset_script.specs.declared.scripts.Command.TheVariants.{Align}
-use Rattle.offset_allocator.proofs.Powers.{power_of_two}
 use Rattle.offset_script.proofs.Serving.{aligned_serves, if_ok}
 use Rattle.offset_script.proofs.playing.Player.allocate_aligned.Goals as goal
-
-pub allocate_aligned-granted-requires : goal.allocate_aligned-granted-requires
-allocate_aligned-granted-requires g c = record { power = power_of_two _ c.requires }
 
 pub returns : goal.returns
 returns g c = if_ok c.keep.result
