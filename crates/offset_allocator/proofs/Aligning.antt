@@ -120,17 +120,11 @@ module _ (it : Fields) (n align class x : ℕ) (h : AlignedCall it n align class
   pub stands : Stands x (blocks it.cells.room it.last)
   stands = grant.stands fields (n + align - 1) class x s room_one l xs first
 
-  pub x_below : x < length it.cells.room.nodes
-  x_below = here_below it.cells.room it.last it.count x s.space stands
-
   pub listed_size : size_in x (blocks it.cells.room it.last) ≡ got.place.block.size
   listed_size = ap (size_in x) got.here.stood ∙ ap (λ y. size_in y (p.before ++ p.block ∷ p.after)) (sym got.name) ∙ size_in-at p.before p.block p.after got.here.alone
 
-  pub offset_is : (node it.cells.room x).offset ≡ units got.place.before
-  offset_is = offset-told it.cells.room it.last it.count x s.space stands ∙ ap (offset_in x) got.here.stood ∙ ap (λ y. offset_in y (p.before ++ p.block ∷ p.after)) (sym got.name) ∙ offset_in-at p.before p.block p.after got.here.alone
-
-  pub size_is : (node it.cells.room x).size ≡ got.place.block.size
-  size_is = size-told it.cells.room it.last it.count x s.space stands ∙ listed_size
+  pub offset_is : offset_in x (blocks it.cells.room it.last) ≡ units got.place.before
+  offset_is = ap (offset_in x) got.here.stood ∙ ap (λ y. offset_in y (p.before ++ p.block ∷ p.after)) (sym got.name) ∙ offset_in-at p.before p.block p.after got.here.alone
 
   pub enough : padding_to align (units got.place.before) + n ≤ got.place.block.size
   unfolding got
@@ -233,7 +227,7 @@ module _ (it : Fields) (n align class x : ℕ) (h : AlignedCall it n align class
       append_none (b ∷ l) = ap (λ t. b ∷ t) (append_none l)
 
   -- the same over what the code reads
-  pub aligned_call : (t : Cells) (offset whole : ℕ) → t.room ≡ it.cells.room → class_lists it.max t.links ≡ slice_set (class_lists it.max it.cells.links) class (without x (names_at (class_lists it.max it.cells.links) class)) → offset ≡ (node t.room x).offset → whole ≡ (node t.room x).size
+  pub aligned_call : (t : Cells) (offset whole : ℕ) → t.room ≡ it.cells.room → class_lists it.max t.links ≡ slice_set (class_lists it.max it.cells.links) class (without x (names_at (class_lists it.max it.cells.links) class)) → offset ≡ offset_in x (blocks t.room it.last) → whole ≡ size_in x (blocks t.room it.last)
       → (d : Cells) (last' count' top' acc' f r : ℕ) → IsSpace d.room last' count' → Binned it.max d.links top' → length d.room.nodes ≡ length t.room.nodes
       → blocks d.room last' ≡ carved x (padding_to align offset) n f r (blocks t.room it.last)
       → class_lists it.max d.links ≡ put_all (free_part f (padding_to align offset) ++ used_block x n ∷ free_part r (whole - (padding_to align offset + n))) (class_lists it.max t.links)
@@ -250,19 +244,19 @@ module _ (it : Fields) (n align class x : ℕ) (h : AlignedCall it n align class
       → (0 < padding_to align o → 0 < wh - (padding_to align o + n) → f ≢ r)
       → IsSound it.max it.size it.limit d last' count' top' (it.free - n) × Aligns n align (shown it) (view_of it.max it.size it.limit d last' acc') (Some (record { name = x; offset = o + padding_to align o })) in
       let first_is : Q it.cells.room (slice_set (class_lists it.max it.cells.links) class (without x (names_at (class_lists it.max it.cells.links) class))) (units got.place.before) got.place.block.size = aligned d last' count' top' acc' f r in
-      let o_is : offset ≡ units got.place.before = oe ∙ ap (λ (m : Room). (node m x).offset) rm ∙ offset_is in
-      let w_is : whole ≡ got.place.block.size = we ∙ ap (λ (m : Room). (node m x).size) rm ∙ size_is in
+      let o_is : offset ≡ units got.place.before = oe ∙ ap (λ (m : Room). offset_in x (blocks m it.last)) rm ∙ offset_is in
+      let w_is : whole ≡ got.place.block.size = we ∙ ap (λ (m : Room). size_in x (blocks m it.last)) rm ∙ listed_size in
       subst (λ (m : Room). Q m (class_lists it.max t.links) offset whole) (sym rm)
       (subst (λ (ol : List (List ℕ)). Q it.cells.room ol offset whole) (sym lists)
       (subst (λ (o : ℕ). Q it.cells.room (slice_set (class_lists it.max it.cells.links) class (without x (names_at (class_lists it.max it.cells.links) class))) o whole) (sym o_is)
       (subst (λ (k : ℕ). Q it.cells.room (slice_set (class_lists it.max it.cells.links) class (without x (names_at (class_lists it.max it.cells.links) class))) (units got.place.before) k) (sym w_is) first_is)))
 
   -- what the call of `carve` asks for
-  pub carve_asks : (t : Cells) (offset whole : ℕ) → t.room ≡ it.cells.room → class_lists it.max t.links ≡ slice_set (class_lists it.max it.cells.links) class (without x (names_at (class_lists it.max it.cells.links) class)) → offset ≡ (node t.room x).offset → whole ≡ (node t.room x).size
+  pub carve_asks : (t : Cells) (offset whole : ℕ) → t.room ≡ it.cells.room → class_lists it.max t.links ≡ slice_set (class_lists it.max it.cells.links) class (without x (names_at (class_lists it.max it.cells.links) class)) → offset ≡ offset_in x (blocks t.room it.last) → whole ≡ size_in x (blocks t.room it.last)
       → Stands x (blocks t.room it.last) × (padding_to align offset + n ≤ whole) × (padding_to align offset + n + (whole - (padding_to align offset + n)) ≡ size_in x (blocks t.room it.last)) × AreUnlisted (blocks t.room it.last) (class_lists it.max t.links) × (offset + padding_to align offset < 2 ^ 32)
   carve_asks t offset whole rm lists oe we =
-      let o_is : offset ≡ units got.place.before = oe ∙ ap (λ (m : Room). (node m x).offset) rm ∙ offset_is in
-      let w_is : whole ≡ got.place.block.size = we ∙ ap (λ (m : Room). (node m x).size) rm ∙ size_is in
+      let o_is : offset ≡ units got.place.before = oe ∙ ap (λ (m : Room). offset_in x (blocks m it.last)) rm ∙ offset_is in
+      let w_is : whole ≡ got.place.block.size = we ∙ ap (λ (m : Room). size_in x (blocks m it.last)) rm ∙ listed_size in
       let inside : padding_to align offset + n ≤ whole = subst (λ (o : ℕ). padding_to align o + n ≤ whole) (sym o_is) (subst (λ (k : ℕ). padding_to align (units got.place.before) + n ≤ k) (sym w_is) enough) in
       let sized : size_in x (blocks t.room it.last) ≡ whole = ap (λ (m : Room). size_in x (blocks m it.last)) rm ∙ listed_size ∙ sym w_is in
       let sum : padding_to align offset + n + (whole - (padding_to align offset + n)) ≡ whole = all_of (padding_to align offset + n) whole inside in (

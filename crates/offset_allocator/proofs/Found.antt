@@ -1,7 +1,7 @@
 -- A block found by its name, and the list functions at that place.
-use Rattle.std.proofs.Common.{◌≡◌, ℕ, ◌+◌, ◌-◌, ◌≤◌, false, None, List, [], ◌∷◌, ◌++◌, refl, sym, ap, arith, inl, inr}
+use Rattle.std.proofs.Common.{◌≡◌, ℕ, ◌+◌, ◌-◌, ◌≤◌, false, Option, None, Some, List, [], ◌∷◌, ◌++◌, refl, sym, ap, arith, inl, inr}
 use Rattle.std.proofs.lemmas.Bool.{cases_eq, eq-eqb, ne_eqb}
-use Rattle.offset_allocator.specs.Space.{first_or, split_block, join_block, name_after, offset_in, size_in}
+use Rattle.offset_allocator.specs.Space.{first_or, split_block, join_block, last_or, name_before, name_after, offset_in, size_in}
 use Rattle.offset_allocator.specs.Named.{Block, units, named}
 use Rattle.offset_allocator.proofs.Rows.{one-eq, one-other}
 
@@ -38,6 +38,10 @@ join_block-at (f ∷ fs) b e cs h = rw (ne_eqb f.name b.name (head_not b.name f 
 pub name_after-at : (fs : List Block) (b : Block) (cs : List Block) → named b.name fs ≡ 0 → name_after b.name (fs ++ b ∷ cs) ≡ first_or None cs
 name_after-at [] b cs h = rw (eq-eqb b.name b.name refl)
 name_after-at (f ∷ fs) b cs h = rw (ne_eqb f.name b.name (head_not b.name f fs h)) (name_after-at fs b cs (omega arith))
+
+pub name_before-at : (p : Option ℕ) (fs : List Block) (b : Block) (cs : List Block) → named b.name fs ≡ 0 → name_before p b.name (fs ++ b ∷ cs) ≡ last_or p fs
+name_before-at p [] b cs h = rw (eq-eqb b.name b.name refl)
+name_before-at p (f ∷ fs) b cs h = rw (ne_eqb f.name b.name (head_not b.name f fs h)) (name_before-at (Some f.name) fs b cs (omega arith))
 
 pub size_in-at : (fs : List Block) (b : Block) (cs : List Block) → named b.name fs ≡ 0 → size_in b.name (fs ++ b ∷ cs) ≡ b.size
 size_in-at [] b cs h = rw (eq-eqb b.name b.name refl)

@@ -10,13 +10,12 @@ use Rattle.std.proofs.lemmas.Bool.Decides.{nat_tests}
 use Rattle.offset_allocator.specs.Classes.{down}
 use Rattle.offset_allocator.specs.Cells.{Cells, Room, Node, node, put, AreEmpty, AreShaped}
 use Rattle.offset_allocator.specs.Named.{Block, View, IsWellFormed, free_block, put_first, names_at, times}
-use Rattle.offset_allocator.specs.Space.{IsChain, spares}
+use Rattle.offset_allocator.specs.Space.{IsChain, IsSpace, blocks, spares}
 use Rattle.offset_allocator.specs.Orders.{Linked, Masked, Binned, class_lists, Among, IsUnlisted}
 use Rattle.offset_allocator.specs.State.{IsSound, view_of, free_units}
 use Rattle.offset_allocator.proofs.Nodes.{node-put, node-put_other, length-put, spare-put}
 use Rattle.offset_allocator.proofs.Rows.{one-eq, one-other, times-join}
 use Rattle.offset_allocator.proofs.Binned.{binned}
-use Rattle.offset_allocator.proofs.Views.{blocks-chain, space-chain}
 use Rattle.offset_allocator.proofs.ViewTaken.{well_alone}
 
 -- one free block of the whole size
@@ -39,7 +38,7 @@ abbrev pub whole_node : ℕ → Node
 whole_node size = record { offset = 0; size = size; used = false; before = None; after = None }
 
 module _ (max m size : ℕ) (some : 0 < m) (small : size < 2 ^ 32) (t : Cells) (s : AreShaped max t) (e : AreEmpty max m t) where
-  start-chain : (d : Room) → d ≡ put t.room (m - 1) (whole_node size) → IsChain d m (m - 1) (m - 1) (free_block (m - 1) size ∷ [])
+  pub start-chain : (d : Room) → d ≡ put t.room (m - 1) (whole_node size) → IsChain d m (m - 1) (m - 1) (free_block (m - 1) size ∷ [])
   unfolding spares
   start-chain d q =
       let l : m - 1 < length t.room.nodes = rw e.nodes (omega arith) in
@@ -98,16 +97,14 @@ module _ (max m size : ℕ) (some : 0 < m) (small : size < 2 ^ 32) (t : Cells) (
       let b : Among (m - 1) (names_at (replicate 256 []) c) = subst (λ o. Among (m - 1) (names_at o c)) empty_binned.1 a in
       rw (empty_at c h) at b
 
-  pub started : (d : Cells) (top : ℕ) → 2 ≤ m → m + 1 < max → d.room ≡ put t.room (m - 1) (whole_node size) → Binned max d.links top → class_lists max d.links ≡ put_first (down size) (m - 1) (replicate 256 [])
-      → IsSound max size m d (m - 1) (m - 1) top size × (view_of max size m d (m - 1) 0 ≡ fresh size m)
-  started d top two least q bins lists =
-      let h = start-chain d.room q in
-      let eb = blocks-chain d.room m (m - 1) (m - 1) (free_block (m - 1) size ∷ []) h in
+  pub started : (d : Cells) (top : ℕ) → 2 ≤ m → m + 1 < max → length d.room.nodes ≡ m → IsSpace d.room (m - 1) (m - 1) → blocks d.room (m - 1) ≡ free_block (m - 1) size ∷ [] → Binned max d.links top
+      → class_lists max d.links ≡ put_first (down size) (m - 1) (replicate 256 []) → IsSound max size m d (m - 1) (m - 1) top size × (view_of max size m d (m - 1) 0 ≡ fresh size m)
+  started d top two least nodes space eb bins lists =
       let ev : view_of max size m d (m - 1) 0 ≡ fresh size m = ap₂ (λ (b : List Block) (o : List (List ℕ)). let u : View = record { size = size; max_allocs = m; blocks = b; order = o; accesses = 0 } in u) eb lists in (
         record {
-          nodes = h.cells;
+          nodes = nodes;
           least = least;
-          space = space-chain d.room m (m - 1) (m - 1) (free_block (m - 1) size ∷ []) h;
+          space = space;
           bins = bins;
           well = subst IsWellFormed (sym ev) (well_alone (fresh size m) (m - 1) size 0 two (omega arith));
           total = ap free_units eb ∙ omega arith;

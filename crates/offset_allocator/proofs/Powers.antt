@@ -43,15 +43,15 @@ divisor (suc k) d q e =
           let h = divisor k (d / 2) q (omega (arith, step, mul_assoc 2 (d / 2) q, p, e)) in
           (suc h.0, omega (arith, pow-suc 2 h.0, h.1))
       | inr r ↦ elim (odd_or_even q) [
-          | inl s ↦
-              let half : q / 2 + q / 2 ≡ q = omega arith in
-              let step = ap (λ (n : ℕ). d * n) half in
-              divisor k d (q / 2) (omega (arith, step, mul-add d (q / 2) (q / 2), p, e))
-          | inr s ↦
-              let odd : (d / 2 + d / 2) + 1 ≡ d = omega arith in
-              let step = ap (λ (n : ℕ). n * q) odd in
-              absurd (omega (arith, step, add-mul (d / 2 + d / 2) 1 q, add-mul (d / 2) (d / 2) q, p, e))
-        ]
+        | inl s ↦
+            let half : q / 2 + q / 2 ≡ q = omega arith in
+            let step = ap (λ (n : ℕ). d * n) half in
+            divisor k d (q / 2) (omega (arith, step, mul-add d (q / 2) (q / 2), p, e))
+        | inr s ↦
+            let odd : (d / 2 + d / 2) + 1 ≡ d = omega arith in
+            let step = ap (λ (n : ℕ). n * q) odd in
+            absurd (omega (arith, step, add-mul (d / 2 + d / 2) 1 q, add-mul (d / 2) (d / 2) q, p, e))
+      ]
     ]
 
 -- an alignment is a power of two

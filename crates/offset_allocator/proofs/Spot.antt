@@ -2,10 +2,10 @@
 use Rattle.std.proofs.Common.{◌≡◌, ℕ, ◌+◌, ◌<◌, ◌^◌, None, Some, List, [], ◌∷◌, ◌++◌, length, get_or, sym, ◌∙◌, ap, arith}
 use Rattle.std.proofs.lemmas.Bool.Decides.{nat_tests}
 use Rattle.offset_allocator.specs.Cells.{Room, node}
-use Rattle.offset_allocator.specs.Space.{first_or, last_or, IsChain, IsSpace, spares, blocks, Stands, size_in, offset_in}
+use Rattle.offset_allocator.specs.Space.{first_or, last_or, IsChain, IsSpace, spares, blocks, Stands, size_in, offset_in, name_before, name_after}
 use Rattle.offset_allocator.specs.Named.{Block, units, named, times}
 use Rattle.offset_allocator.proofs.Rows.{one-same, times-join, times-append, times-first, units-append, IsRow-back}
-use Rattle.offset_allocator.proofs.Found.{find, size_in-at, offset_in-at}
+use Rattle.offset_allocator.proofs.Found.{find, size_in-at, offset_in-at, name_before-at, name_after-at}
 use Rattle.offset_allocator.proofs.Split.{spares-more}
 
 pub record Spot (c : Room) (m x : ℕ) (bs : List Block) : Type 0 where
@@ -65,6 +65,16 @@ module _ (c : Room) (last count x : ℕ) (h : IsSpace c last count) (st : Stands
   offset-told =
       let s = spot c (length c.nodes) last count x (blocks c last) h st in
       ap (λ v. v.offset) s.at_x ∙ sym (ap (λ l. offset_in x l) s.is ∙ ap (λ v. offset_in v (s.front ++ s.here ∷ s.back)) (sym s.name_is) ∙ offset_in-at s.front s.here s.back s.absent)
+
+  pub before-told : (node c x).before ≡ name_before None x (blocks c last)
+  before-told =
+      let s = spot c (length c.nodes) last count x (blocks c last) h st in
+      ap (λ v. v.before) s.at_x ∙ sym (ap (λ l. name_before None x l) s.is ∙ ap (λ v. name_before None v (s.front ++ s.here ∷ s.back)) (sym s.name_is) ∙ name_before-at None s.front s.here s.back s.absent)
+
+  pub after-told : (node c x).after ≡ name_after x (blocks c last)
+  after-told =
+      let s = spot c (length c.nodes) last count x (blocks c last) h st in
+      ap (λ v. v.after) s.at_x ∙ sym (ap (λ l. name_after x l) s.is ∙ ap (λ v. name_after v (s.front ++ s.here ∷ s.back)) (sym s.name_is) ∙ name_after-at s.front s.here s.back s.absent)
 
   pub here_fits : size_in x (blocks c last) < 2 ^ 32
   here_fits = let s = spot c (length c.nodes) last count x (blocks c last) h st in omega (arith, size-told, ap (λ v. v.size) s.at_x, s.end)

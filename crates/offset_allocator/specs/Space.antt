@@ -75,6 +75,11 @@ abbrev pub name_after : ℕ → List Block → Option ℕ
 name_after x [] = None
 name_after x (b ∷ bs) = cond (b.name == x) (first_or None bs) (name_after x bs)
 
+-- the name directly before x; p is the one before the list
+abbrev pub name_before : Option ℕ → ℕ → List Block → Option ℕ
+name_before p x [] = None
+name_before p x (b ∷ bs) = cond (b.name == x) p (name_before (Some b.name) x bs)
+
 -- the units before the block named x
 abbrev pub offset_in : ℕ → List Block → ℕ
 offset_in x [] = 0

@@ -1,13 +1,13 @@
 //! The blocks of the space, linked in space order, and the stack of unused names.
 
-ghost use Rattle.std.specs.Prelude.{◌≡◌, ◌+◌, ◌<◌, ◌≤◌, ◌^◌, length, MatchOption, IfSome, false, Some, None};
-ghost use Rattle.offset_allocator.specs.Named.{named, units};
-ghost use Rattle.offset_allocator.specs.Cells.{node, put, link_of};
-ghost use Rattle.offset_allocator.specs.Space.{IsSpace, Stands, blocks, split_block, join_block, give_block, mark_block, offset_in, size_in, name_after};
+ghost use Rattle.std.specs.Prelude.{◌≡◌, ◌+◌, ◌-◌, ◌<◌, ◌≤◌, ◌^◌, [], ◌∷◌, length, MatchOption, IfSome, false, Some, None};
+ghost use Rattle.offset_allocator.specs.Named.{free_block, is_used_at, named, place_of, units};
+ghost use Rattle.offset_allocator.specs.Cells.{AreEmpty, node, put, link_of};
+ghost use Rattle.offset_allocator.specs.Space.{IsSpace, Stands, blocks, split_block, join_block, give_block, mark_block, offset_in, size_in, name_before, name_after};
 ghost use Rattle.offset_allocator.specs.Parts.{split_front, grow_last};
 
 use crate::accesses::Accesses;
-use crate::index::{NodeIndex, link_to, linked, number};
+use crate::index::{NodeIndex, link_to, linked, no_link, number};
 use crate::tables::Tables;
 
 /// Writes the cells of an unused node, for a free block between two links.
@@ -30,6 +30,25 @@ pub(crate) fn place<NI: NodeIndex>(
     tables.set_size(name, size, count);
     tables.set_before(name, before, count);
     tables.set_after(name, after, count);
+}
+
+/// Makes the whole space one free block, under the last name, in tables with no used node.
+pub(crate) fn start<NI: NodeIndex>(
+    tables: &mut Tables<NI>,
+    size: u32,
+    max_allocs: u32,
+    count: &mut Accesses,
+)
+    requires empty { AreEmpty NI.MAX max_allocs tables.old }
+    requires some { 0 < max_allocs }
+    ensures space { IsSpace tables.new.room (max_allocs - 1) (max_allocs - 1) }
+    ensures blocks { blocks tables.new.room (max_allocs - 1) ≡ free_block (max_allocs - 1) size ∷ [] }
+    ensures links { tables.new.links ≡ tables.old.links }
+    ensures limit { length tables.new.room.nodes ≡ length tables.old.room.nodes }
+    ensures count { count.new ≡ count.old + 4 }
+{
+    tables.shape();
+    place(tables, max_allocs - 1, 0, size, no_link(), no_link(), count);
 }
 
 // Makes a node the one before the node that a link names, or the last one.
@@ -100,6 +119,54 @@ pub(crate) fn size<NI: NodeIndex>(
     ensures count { count.new ≡ count.old + 1 }
 {
     tables.size(name, count)
+}
+
+/// Whether a name is that of a used block.
+pub(crate) fn is_used<NI: NodeIndex>(
+    tables: &Tables<NI>,
+    last: u32,
+    spare_count: u32,
+    name: u32,
+    count: &mut Accesses,
+) -> bool
+    requires space { IsSpace tables.now.room last spare_count }
+    requires below { name < length tables.now.room.nodes }
+    ensures used { result ≡ is_used_at (place_of name (blocks tables.now.room last)) }
+    ensures count { count.new ≡ count.old + 1 }
+{
+    tables.used(name, count)
+}
+
+/// The name of the block directly before a block, if one is.
+pub(crate) fn before<NI: NodeIndex>(
+    tables: &Tables<NI>,
+    last: u32,
+    spare_count: u32,
+    name: u32,
+    count: &mut Accesses,
+) -> Option<u32>
+    requires space { IsSpace tables.now.room last spare_count }
+    requires standing { Stands name (blocks tables.now.room last) }
+    ensures before { result ≡ name_before None name (blocks tables.now.room last) }
+    ensures count { count.new ≡ count.old + 1 }
+{
+    linked(tables.before(name, count))
+}
+
+/// The name of the block directly after a block, if one is.
+pub(crate) fn after<NI: NodeIndex>(
+    tables: &Tables<NI>,
+    last: u32,
+    spare_count: u32,
+    name: u32,
+    count: &mut Accesses,
+) -> Option<u32>
+    requires space { IsSpace tables.now.room last spare_count }
+    requires standing { Stands name (blocks tables.now.room last) }
+    ensures after { result ≡ name_after name (blocks tables.now.room last) }
+    ensures count { count.new ≡ count.old + 1 }
+{
+    linked(tables.after(name, count))
 }
 
 /// Cuts a block, of this offset and size, to `kept` units. The rest becomes a free block directly behind it, under the

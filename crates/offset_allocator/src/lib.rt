@@ -38,7 +38,6 @@ mod tests;
 
 pub use accesses::Accesses;
 pub use handle::Allocation;
-use index::no_link;
 pub use index::{NodeIndex, NodeIndexNonMax, NonMaxU16, NonMaxU32};
 pub use reports::{Refusal, StorageReport, StorageReportFull, StorageReportFullRegion};
 use small_float::{float_to_uint, uint_to_float_round_down, uint_to_float_round_up};
@@ -102,12 +101,11 @@ fn start<NI: NodeIndex>(
 {
     let mut top_mask = 0;
     tables.shape();
-    let name = max_allocs - 1;
-    chain::place(tables, name, 0, size, no_link(), no_link(), count);
+    chain::start(tables, size, max_allocs, count);
     bins::put_first(
         tables,
         &mut top_mask,
-        name,
+        max_allocs - 1,
         uint_to_float_round_down(size),
         count,
     );
@@ -354,7 +352,7 @@ impl<NI: NodeIndex> Allocator<NI> {
         ensures count { count.new ≤ count.old + 1 }
     {
         if name < self.max_allocs {
-            self.tables.used(name, count)
+            chain::is_used(&self.tables, self.last, self.spare_count, name, count)
         } else {
             false
         }
@@ -390,7 +388,7 @@ impl<NI: NodeIndex> Allocator<NI> {
     {
         let name = index::number::<NI>(NI::of_nonmax(allocation.name()));
         if self.uses(name, count) {
-            self.tables.size(name, count)
+            chain::size(&self.tables, self.last, self.spare_count, name, count)
         } else {
             0
         }
@@ -524,8 +522,20 @@ impl<NI: NodeIndex> Allocator<NI> {
             class,
             &mut self.accesses,
         );
-        let offset = self.tables.offset(name, &mut self.accesses);
-        let whole = self.tables.size(name, &mut self.accesses);
+        let offset = chain::offset(
+            &self.tables,
+            self.last,
+            self.spare_count,
+            name,
+            &mut self.accesses,
+        );
+        let whole = chain::size(
+            &self.tables,
+            self.last,
+            self.spare_count,
+            name,
+            &mut self.accesses,
+        );
         let padding = (align - offset % align) % align;
         parts::carve(
             &mut self.tables,
@@ -594,7 +604,13 @@ impl<NI: NodeIndex> Allocator<NI> {
         ensures grows { self.old.accesses ≤ self.new.accesses }
         ensures count { self.new.accesses ≤ self.old.accesses + 16 }
     {
-        let whole = self.tables.size(self.last, &mut self.accesses);
+        let whole = chain::size(
+            &self.tables,
+            self.last,
+            self.spare_count,
+            self.last,
+            &mut self.accesses,
+        );
         bins::remove(
             &mut self.tables,
             &mut self.top_mask,
@@ -694,7 +710,14 @@ impl<NI: NodeIndex> Allocator<NI> {
         if more > u32::MAX - size {
             return false;
         }
-        if !self.tables.used(self.last, &mut self.accesses) {
+        let used = chain::is_used(
+            &self.tables,
+            self.last,
+            self.spare_count,
+            self.last,
+            &mut self.accesses,
+        );
+        if !used {
             self.widen(more);
             return true;
         }

@@ -6,7 +6,7 @@ ghost use Rattle.offset_allocator.specs.Orders.{Binned, class_lists};
 ghost use Rattle.offset_allocator.specs.State.{AreListed, merge_before, gone_before, merge_after, gone_after};
 
 use crate::accesses::Accesses;
-use crate::index::{NodeIndex, linked};
+use crate::index::NodeIndex;
 use crate::tables::Tables;
 use crate::{bins, chain};
 
@@ -34,8 +34,8 @@ pub(crate) fn with_before<NI: NodeIndex>(
     ensures grows { count.old ≤ count.new }
     ensures count { count.new ≤ count.old + 17 }
 {
-    if let Some(previous) = linked(tables.before(name, count)) {
-        if !tables.used(previous, count) {
+    if let Some(previous) = chain::before(tables, last, *spare_count, name, count) {
+        if !chain::is_used(tables, last, *spare_count, previous, count) {
             let more = chain::size(tables, last, *spare_count, previous, count);
             bins::remove(tables, top_mask, previous, more, count);
             chain::join_before(
@@ -77,8 +77,8 @@ pub(crate) fn with_after<NI: NodeIndex>(
     ensures grows { count.old ≤ count.new }
     ensures count { count.new ≤ count.old + 15 }
 {
-    if let Some(following) = linked(tables.after(name, count)) {
-        if !tables.used(following, count) {
+    if let Some(following) = chain::after(tables, *last, *spare_count, name, count) {
+        if !chain::is_used(tables, *last, *spare_count, following, count) {
             let more = chain::size(tables, *last, *spare_count, following, count);
             bins::remove(tables, top_mask, following, more, count);
             chain::join_after(

@@ -4,6 +4,7 @@ use Rattle.offset_allocator.specs.State.{shown, Fields}
 use Rattle.offset_allocator.specs.Relations.{Extends}
 use Rattle.offset_allocator.proofs.Unused.{some_unused}
 use Rattle.offset_allocator.proofs.Granting.{is_short}
+use Rattle.offset_allocator.proofs.Told.{used_told}
 use Rattle.offset_allocator.proofs.Extending.{end, used_at_end, past, full, extends_nothing}
 use Rattle.offset_allocator.specs.Ranges.{KeepsAll}
 use Rattle.offset_allocator.proofs.Ranges.{extends_keeps}
@@ -22,26 +23,26 @@ returns-then-more-size-clause-step g c =
     let far : greatest < c.self.inside.size + c.args.more = omega arith in
     subst P c.self.view_is (past (fields_of g.NI.NodeIndex.MAX c.self.inside) c.args.more c.self.invariant c.self.inside.accesses (omega arith) far)
 
-pub used-requires : goal.used-requires
-used-requires g c = (end (fields_of g.NI.NodeIndex.MAX c.self.inside) c.args.more c.self.invariant).below
+pub is_used-used-requires-clause-below : goal.is_used-used-requires-clause-below
+is_used-used-requires-clause-below g c = (end (fields_of g.NI.NodeIndex.MAX c.self.inside) c.args.more c.self.invariant).below
 
 pub widen-requires-clause-idle : goal.widen-requires-clause-idle
 widen-requires-clause-idle g c =
-    sym (used_at_end (fields_of g.NI.NodeIndex.MAX c.self.inside) c.args.more c.self.invariant) ∙ sym c.if-not-used.ensures.cell
+    sym (used_at_end (fields_of g.NI.NodeIndex.MAX c.self.inside) c.args.more c.self.invariant) ∙ (used_told _ _ _ _ c.self.invariant.space ∙ sym c.is_used-used.ensures.used ∙ c.if-not-used.true)
 
 pub returns-then-self-lt2-clause-step : goal.returns-then-self-lt2-clause-step
 returns-then-self-lt2-clause-step g c =
-    let P : View → Type 0 = λ u. Extends c.args.more u (shown (record (fields_of g.NI.NodeIndex.MAX c.self.inside) { accesses = c.used.new.count })) false in
-    let used = sym (used_at_end (fields_of g.NI.NodeIndex.MAX c.self.inside) c.args.more c.self.invariant) ∙ sym c.if-not-used.ensures.cell in
-    subst P c.self.view_is (full (fields_of g.NI.NodeIndex.MAX c.self.inside) c.args.more c.self.invariant c.used.new.count (omega arith) used (is_short (fields_of g.NI.NodeIndex.MAX c.self.inside) c.args.more c.self.invariant (omega arith)))
+    let P : View → Type 0 = λ u. Extends c.args.more u (shown (record (fields_of g.NI.NodeIndex.MAX c.self.inside) { accesses = c.is_used-used.new.count })) false in
+    let used = sym (used_at_end (fields_of g.NI.NodeIndex.MAX c.self.inside) c.args.more c.self.invariant) ∙ (used_told _ _ _ _ c.self.invariant.space ∙ sym c.is_used-used.ensures.used ∙ c.if-not-used.false) in
+    subst P c.self.view_is (full (fields_of g.NI.NodeIndex.MAX c.self.inside) c.args.more c.self.invariant c.is_used-used.new.count (omega arith) used (is_short (fields_of g.NI.NodeIndex.MAX c.self.inside) c.args.more c.self.invariant (omega arith)))
 
 pub append-requires-clause-used : goal.append-requires-clause-used
 append-requires-clause-used g c =
-    sym (used_at_end (fields_of g.NI.NodeIndex.MAX c.self.inside) c.args.more c.self.invariant) ∙ sym c.if-not-used.ensures.cell
+    sym (used_at_end (fields_of g.NI.NodeIndex.MAX c.self.inside) c.args.more c.self.invariant) ∙ (used_told _ _ _ _ c.self.invariant.space ∙ sym c.is_used-used.ensures.used ∙ c.if-not-used.false)
 
 pub returns-then-not-used-clause-kept : goal.returns-then-not-used-clause-kept
 returns-then-not-used-clause-kept g c =
-    let f : Fields = record (fields_of g.NI.NodeIndex.MAX c.self.inside) { accesses = c.used.new.count } in
+    let f : Fields = record (fields_of g.NI.NodeIndex.MAX c.self.inside) { accesses = c.is_used-used.new.count } in
     let v : View = shown f in
     let known = known_sound f c.self.invariant v refl in
     let P : View → Type 0 = λ u. KeepsAll u c.widen.new.self in
@@ -49,7 +50,7 @@ returns-then-not-used-clause-kept g c =
 
 pub returns-clause-kept : goal.returns-clause-kept
 returns-clause-kept g c =
-    let f : Fields = record (fields_of g.NI.NodeIndex.MAX c.self.inside) { accesses = c.used.new.count } in
+    let f : Fields = record (fields_of g.NI.NodeIndex.MAX c.self.inside) { accesses = c.is_used-used.new.count } in
     let v : View = shown f in
     let known = known_sound f c.self.invariant v refl in
     let P : View → Type 0 = λ u. KeepsAll u c.append.new.self in

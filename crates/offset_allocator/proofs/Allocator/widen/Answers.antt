@@ -1,4 +1,4 @@
-use Rattle.std.proofs.Common.{◌≡◌, ◌≤◌, ◌<◌, ◌+◌, ℕ, length, true, false, arith, ap}
+use Rattle.std.proofs.Common.{◌≡◌, ◌≤◌, ◌<◌, ◌+◌, ℕ, length, true, false, arith, ap, sym, ◌∙◌}
 use Rattle.offset_allocator.specs.Classes.{down}
 use Rattle.offset_allocator.specs.Cells.{Room}
 use Rattle.offset_allocator.specs.Named.{ends_used}
@@ -8,6 +8,7 @@ use Rattle.offset_allocator.specs.Relations.{Extends}
 use Rattle.offset_allocator.proofs.Sound.{fields_of}
 use Rattle.offset_allocator.proofs.Sizes.{down_small}
 use Rattle.offset_allocator.proofs.Growing.{last_small}
+use Rattle.offset_allocator.proofs.Spot.{size-told}
 use Rattle.offset_allocator.proofs.Extending.{end, units_fit, free_fits, widen_listed, widen_unlisted, widened}
 use Rattle.offset_allocator.proofs.Allocator.widen.Goals as goal
 use Rattle.offset_allocator.proofs.Allocator.widen.Goals.{After-size-whole, After-put_first}
@@ -28,18 +29,18 @@ pre g c = record {
   idle = rw (← c.self.view_is) at c.requires.idle;
 }
 
-pub size-whole-requires : goal.size-whole-requires
-size-whole-requires g c = (end (fields_of g.NI.NodeIndex.MAX c.self.inside) c.args.more c.self.invariant).below
+pub size-whole-requires-clause-standing : goal.size-whole-requires-clause-standing
+size-whole-requires-clause-standing g c = (end (fields_of g.NI.NodeIndex.MAX c.self.inside) c.args.more c.self.invariant).stands
 
 pub remove-requires-clause-listed : goal.remove-requires-clause-listed
 remove-requires-clause-listed g c =
     let p = pre g (goal.at.remove-requires-clause-listed g c).After-size-whole in
-    widen_listed (fields_of g.NI.NodeIndex.MAX c.self.inside) _ p.sound p.some p.fits p.idle _ (ap down c.size-whole.ensures.cell)
+    widen_listed (fields_of g.NI.NodeIndex.MAX c.self.inside) _ p.sound p.some p.fits p.idle _ (ap down (c.size-whole.ensures.size ∙ sym (size-told _ _ _ _ c.self.invariant.space (end (fields_of g.NI.NodeIndex.MAX c.self.inside) c.args.more c.self.invariant).stands)))
 
 pub overflow_add-whole : goal.overflow_add-whole
 overflow_add-whole g c =
     let p = pre g (goal.at.overflow_add-whole g c).After-size-whole in
-    omega (arith, last_small _ _ _ c.args.more p.sound.space (units_fit (fields_of g.NI.NodeIndex.MAX c.self.inside) _ p.sound p.some p.fits), c.size-whole.ensures.cell)
+    omega (arith, last_small _ _ _ c.args.more p.sound.space (units_fit (fields_of g.NI.NodeIndex.MAX c.self.inside) _ p.sound p.some p.fits), (c.size-whole.ensures.size ∙ sym (size-told _ _ _ _ c.self.invariant.space (end (fields_of g.NI.NodeIndex.MAX c.self.inside) c.args.more c.self.invariant).stands)))
 
 pub put_first-requires-clause-named : goal.put_first-requires-clause-named
 put_first-requires-clause-named g c =
@@ -53,7 +54,7 @@ pub put_first-requires-clause-fresh : goal.put_first-requires-clause-fresh
 put_first-requires-clause-fresh g c =
     let p = pre g (goal.at.put_first-requires-clause-fresh g c).After-size-whole in
     rw (c.grow.ensures.links, c.remove.ensures.lists)
-    (widen_unlisted (fields_of g.NI.NodeIndex.MAX c.self.inside) _ p.sound p.some p.fits p.idle _ (down_small c.size-whole.result) (ap down c.size-whole.ensures.cell))
+    (widen_unlisted (fields_of g.NI.NodeIndex.MAX c.self.inside) _ p.sound p.some p.fits p.idle _ (down_small c.size-whole.result) (ap down (c.size-whole.ensures.size ∙ sym (size-told _ _ _ _ c.self.invariant.space (end (fields_of g.NI.NodeIndex.MAX c.self.inside) c.args.more c.self.invariant).stands))))
 
 pub overflow_add-self-2 : goal.overflow_add-self-2
 overflow_add-self-2 g c =
@@ -67,7 +68,7 @@ done : (g : Over) (c : After-put_first g) → Widening (fields_of g.NI.NodeIndex
     × Extends c.args.more (shown (fields_of g.NI.NodeIndex.MAX c.self.inside))
     (view_of g.NI.NodeIndex.MAX (c.self.inside.size + c.args.more) c.self.inside.max_allocs c.put_first.new.tables c.self.inside.last accesses) true
 done g c p accesses =
-    widened _ _ p.sound p.some p.fits p.idle _ _ _ accesses _ _ c.size-whole.ensures.cell (ap down c.size-whole.ensures.cell)
+    widened _ _ p.sound p.some p.fits p.idle _ _ _ accesses _ _ (c.size-whole.ensures.size ∙ sym (size-told _ _ _ _ c.self.invariant.space (end (fields_of g.NI.NodeIndex.MAX c.self.inside) c.args.more c.self.invariant).stands)) (ap down (c.size-whole.ensures.size ∙ sym (size-told _ _ _ _ c.self.invariant.space (end (fields_of g.NI.NodeIndex.MAX c.self.inside) c.args.more c.self.invariant).stands)))
     (rw c.put_first.ensures.room c.grow.ensures.space)
     c.put_first.ensures.held
     (rw c.put_first.ensures.room (rw c.remove.ensures.room at c.grow.ensures.limit))
