@@ -20,7 +20,7 @@ pub(crate) fn find_at_or_above<NI: NodeIndex>(
     requires held { Binned NI.MAX tables.now.links top_mask }
     requires classed { class < 256 }
     ensures least { MatchOption result ((c : ℕ) → class ≤ c → c < 256 → names_at (class_lists NI.MAX tables.now.links) c ≡ []) (IsLeastFrom class (class_lists NI.MAX tables.now.links)) }
-    ensures grows { count.old ≤ count.new }
+    ensures grows { count.old + 1 ≤ count.new }
     ensures count { count.new ≤ count.old + 2 }
 {
     let word = class / 64;
@@ -85,7 +85,7 @@ pub(crate) fn put_first<NI: NodeIndex>(
     ensures held { Binned NI.MAX tables.new.links top_mask.new }
     ensures lists { class_lists NI.MAX tables.new.links ≡ slice_set (class_lists NI.MAX tables.old.links) class (name ∷ names_at (class_lists NI.MAX tables.old.links) class) }
     ensures room { tables.new.room ≡ tables.old.room }
-    ensures grows { count.old ≤ count.new }
+    ensures grows { count.old + 5 ≤ count.new }
     ensures count { count.new ≤ count.old + 6 }
 {
     tables.shape();
@@ -165,7 +165,7 @@ pub(crate) fn remove<NI: NodeIndex>(
     ensures held { Binned NI.MAX tables.new.links top_mask.new }
     ensures lists { class_lists NI.MAX tables.new.links ≡ slice_set (class_lists NI.MAX tables.old.links) (down size) (without name (names_at (class_lists NI.MAX tables.old.links) (down size))) }
     ensures room { tables.new.room ≡ tables.old.room }
-    ensures grows { count.old ≤ count.new }
+    ensures grows { count.old + 2 ≤ count.new }
     ensures count { count.new ≤ count.old + 7 }
 {
     let before = tables.newer(name, count);
@@ -196,7 +196,7 @@ pub(crate) fn take_first<NI: NodeIndex>(
     ensures held { Binned NI.MAX tables.new.links top_mask.new }
     ensures lists { class_lists NI.MAX tables.new.links ≡ slice_set (class_lists NI.MAX tables.old.links) class (without result (names_at (class_lists NI.MAX tables.old.links) class)) }
     ensures room { tables.new.room ≡ tables.old.room }
-    ensures grows { count.old ≤ count.new }
+    ensures grows { count.old + 3 ≤ count.new }
     ensures count { count.new ≤ count.old + 6 }
 {
     let name = number(tables.head(class, count));

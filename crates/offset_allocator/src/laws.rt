@@ -1,8 +1,8 @@
 //! The calls that leave an allocator as it is, with a count of their accesses, the law that a grant can be undone, and
 //! laws that hold of every allocator. The functions of those do nothing.
-ghost use Rattle.std.specs.Prelude.{◌≡◌, ◌≤◌, ◌+◌, ◌-◌, ◌*◌, ◌↔◌, ℕ, IsTrue, IfSome, None, length, min};
+ghost use Rattle.std.specs.Prelude.{◌≡◌, ◌<◌, ◌≤◌, ◌+◌, ◌-◌, ◌*◌, ◌↔◌, ℕ, IsTrue, IfSome, None, length, min};
 ghost use Rattle.std.specs.Int.{IsPowerOfTwo};
-ghost use Rattle.offset_allocator.specs.Named.{IsWellFormed, size_at, place_of, free_sizes};
+ghost use Rattle.offset_allocator.specs.Named.{IsWellFormed, size_at, place_of, free_sizes, largest_free};
 ghost use Rattle.offset_allocator.specs.Always.{AddsUp, AreFew, AreWithin, FreshGrants, KeepApart, PaddingIsLeast, RefusesWhenFull, StandAlone};
 ghost use Rattle.offset_allocator.specs.Relations.{IsAlignment, IsLive, IsBut, IsUndone};
 ghost use Rattle.offset_allocator.specs.Told.{IsReport, IsFullReport, IsGranted, IsServed, IsWhy};
@@ -21,6 +21,7 @@ pub fn is_live_counted<NI: NodeIndex>(
 ) -> bool
     ensures live { IsTrue result ↔ IsLive allocation.name allocator.now }
     ensures grows { count.old ≤ count.new }
+    ensures least { allocation.name < allocator.now.max_allocs → count.old + 1 ≤ count.new }
     ensures count { count.new ≤ count.old + 8 }
 {
     allocator.is_live_counted(allocation, count)
@@ -34,6 +35,7 @@ pub fn allocation_size_counted<NI: NodeIndex>(
 ) -> u32
     ensures size { result ≡ size_at (place_of allocation.name allocator.now.blocks) }
     ensures grows { count.old ≤ count.new }
+    ensures least { IsLive allocation.name allocator.now → count.old + 2 ≤ count.new }
     ensures count { count.new ≤ count.old + 8 }
 {
     allocator.allocation_size_counted(allocation, count)
@@ -46,6 +48,7 @@ pub fn storage_report_counted<NI: NodeIndex>(
 ) -> StorageReport
     ensures report { IsReport result allocator.now }
     ensures grows { count.old ≤ count.new }
+    ensures least { 1 ≤ largest_free allocator.now → count.old + 1 ≤ count.new }
     ensures count { count.new ≤ count.old + 8 }
 {
     allocator.storage_report_counted(count)
@@ -57,7 +60,7 @@ pub fn storage_report_full_counted<NI: NodeIndex>(
     count: &mut Accesses,
 ) -> StorageReportFull
     ensures report { IsFullReport result allocator.now }
-    ensures grows { count.old ≤ count.new }
+    ensures grows { count.old + 256 ≤ count.new }
     ensures count { count.new ≤ count.old + 512 + 2 * length (free_sizes allocator.now.blocks) }
 {
     allocator.storage_report_full_counted(count)
@@ -72,6 +75,7 @@ pub fn refusal_counted<NI: NodeIndex>(
     ensures granted { result ≡ None ↔ IsGranted size allocator.now }
     ensures why { IfSome result (IsWhy 1 size allocator.now) }
     ensures grows { count.old ≤ count.new }
+    ensures least { result ≡ None → count.old + 1 ≤ count.new }
     ensures count { count.new ≤ count.old + 8 }
 {
     allocator.refusal_counted(1, size as u64, count)
@@ -88,6 +92,7 @@ pub fn refusal_aligned_counted<NI: NodeIndex>(
     ensures granted { result ≡ None ↔ IsServed (min align 2) (size + align - 1) allocator.now }
     ensures why { IfSome result (IsWhy (min align 2) (size + align - 1) allocator.now) }
     ensures grows { count.old ≤ count.new }
+    ensures least { result ≡ None → count.old + 1 ≤ count.new }
     ensures count { count.new ≤ count.old + 8 }
 {
     allocator.refusal_counted(align.min(2), size as u64 + (align - 1) as u64, count)
@@ -103,6 +108,7 @@ pub fn undo<NI: NodeIndex>(allocator: &mut Allocator<NI>, n: u32) -> bool
     ensures same { IsBut allocator.old allocator.new }
     ensures granted { IsTrue result ↔ IsGranted n allocator.old }
     ensures grows { allocator.old.accesses ≤ allocator.new.accesses }
+    ensures least { IsTrue result → allocator.old.accesses + 16 ≤ allocator.new.accesses }
     ensures count { allocator.new.accesses ≤ allocator.old.accesses + 192 }
 {
     allocator.formed();

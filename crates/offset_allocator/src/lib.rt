@@ -199,7 +199,7 @@ impl<NI: NodeIndex> Allocator<NI> {
         requires room { is_short_of 1 self.old ≡ false }
         requires least { IsLeastFrom (up size) self.old.order class }
         ensures step { Allocates size self.old self.new (Some result) }
-        ensures grows { self.old.accesses ≤ self.new.accesses }
+        ensures grows { self.old.accesses + 6 ≤ self.new.accesses }
         ensures count { self.new.accesses ≤ self.old.accesses + 24 }
     {
         let name = bins::take_first(
@@ -275,6 +275,7 @@ impl<NI: NodeIndex> Allocator<NI> {
         ensures nearly { IfSome result (IsCutNearBest size self.old) }
         ensures refused { result ≡ None → length self.old.blocks + 1 < self.old.max_allocs → IsGoodRefusal size (free_sizes self.old.blocks) }
         ensures grows { self.old.accesses ≤ self.new.accesses }
+        ensures least { IsSome result → self.old.accesses + 7 ≤ self.new.accesses }
         ensures count { self.new.accesses ≤ self.old.accesses + 64 }
     {
         if self.spare_count <= 1 {
@@ -297,7 +298,7 @@ impl<NI: NodeIndex> Allocator<NI> {
         ensures step { IsBut (free allocation.name self.old) self.new }
         ensures gone { range_of allocation.name self.new ≡ None }
         ensures others { KeepsOthers allocation.name self.old self.new }
-        ensures grows { self.old.accesses ≤ self.new.accesses }
+        ensures grows { self.old.accesses + 9 ≤ self.new.accesses }
         ensures count { self.new.accesses ≤ self.old.accesses + 128 }
     {
         let name = index::number(NI::of_nonmax(allocation.name()));
@@ -349,6 +350,7 @@ impl<NI: NodeIndex> Allocator<NI> {
     fn uses(&self, name: u32, count: &mut Accesses) -> bool
         ensures used { result ≡ is_used_at (place_of name self.now.blocks) }
         ensures grows { count.old ≤ count.new }
+        ensures least { name < self.now.max_allocs → count.old + 1 ≤ count.new }
         ensures count { count.new ≤ count.old + 1 }
     {
         if name < self.max_allocs {
@@ -362,6 +364,7 @@ impl<NI: NodeIndex> Allocator<NI> {
     pub(crate) fn is_live_counted(&self, allocation: Allocation<NI>, count: &mut Accesses) -> bool
         ensures live { IsTrue result ↔ IsLive allocation.name self.now }
         ensures grows { count.old ≤ count.new }
+        ensures least { allocation.name < self.now.max_allocs → count.old + 1 ≤ count.new }
         ensures count { count.new ≤ count.old + 8 }
     {
         self.uses(index::number(NI::of_nonmax(allocation.name())), count)
@@ -384,6 +387,7 @@ impl<NI: NodeIndex> Allocator<NI> {
     ) -> u32
         ensures size { result ≡ size_at (place_of allocation.name self.now.blocks) }
         ensures grows { count.old ≤ count.new }
+        ensures least { IsLive allocation.name self.now → count.old + 2 ≤ count.new }
         ensures count { count.new ≤ count.old + 8 }
     {
         let name = index::number::<NI>(NI::of_nonmax(allocation.name()));
@@ -406,6 +410,7 @@ impl<NI: NodeIndex> Allocator<NI> {
     pub(crate) fn storage_report_counted(&self, count: &mut Accesses) -> StorageReport
         ensures report { IsReport result self.now }
         ensures grows { count.old ≤ count.new }
+        ensures least { 1 ≤ largest_free self.now → count.old + 1 ≤ count.new }
         ensures count { count.new ≤ count.old + 8 }
     {
         if self.spare_count < 2 {
@@ -435,7 +440,7 @@ impl<NI: NodeIndex> Allocator<NI> {
     // The full report, with a count of its accesses.
     pub(crate) fn storage_report_full_counted(&self, count: &mut Accesses) -> StorageReportFull
         ensures report { IsFullReport result self.now }
-        ensures grows { count.old ≤ count.new }
+        ensures grows { count.old + 256 ≤ count.new }
         ensures count { count.new ≤ count.old + 512 + 2 * length (free_sizes self.now.blocks) }
     {
         let mut report = StorageReportFull::default();
@@ -465,6 +470,7 @@ impl<NI: NodeIndex> Allocator<NI> {
         ensures granted { result ≡ None ↔ IsServed blocks units self.now }
         ensures why { IfSome result (IsWhy blocks units self.now) }
         ensures grows { count.old ≤ count.new }
+        ensures least { result ≡ None → count.old + 1 ≤ count.new }
         ensures count { count.new ≤ count.old + 8 }
     {
         if self.spare_count <= blocks {
@@ -513,7 +519,7 @@ impl<NI: NodeIndex> Allocator<NI> {
         requires room { is_short_of 2 self.old ≡ false }
         requires least { IsLeastFrom (up (size + align - 1)) self.old.order class }
         ensures step { Aligns size align self.old self.new (Some result) }
-        ensures grows { self.old.accesses ≤ self.new.accesses }
+        ensures grows { self.old.accesses + 6 ≤ self.new.accesses }
         ensures count { self.new.accesses ≤ self.old.accesses + 43 }
     {
         let name = bins::take_first(
@@ -576,6 +582,7 @@ impl<NI: NodeIndex> Allocator<NI> {
         ensures refused { result ≡ None → length self.old.blocks + min align 2 < self.old.max_allocs
             → IsGoodRefusal (size + align - 1) (free_sizes self.old.blocks) }
         ensures grows { self.old.accesses ≤ self.new.accesses }
+        ensures least { IsSome result → self.old.accesses + 7 ≤ self.new.accesses }
         ensures count { self.new.accesses ≤ self.old.accesses + 128 }
     {
         let spare_count = self.spare_count;
@@ -601,7 +608,7 @@ impl<NI: NodeIndex> Allocator<NI> {
         requires fits { self.old.size + more ≤ 4294967295 }
         requires idle { ends_used self.old.blocks ≡ false }
         ensures step { Extends more self.old self.new true }
-        ensures grows { self.old.accesses ≤ self.new.accesses }
+        ensures grows { self.old.accesses + 10 ≤ self.new.accesses }
         ensures count { self.new.accesses ≤ self.old.accesses + 16 }
     {
         let whole = chain::size(
@@ -644,7 +651,7 @@ impl<NI: NodeIndex> Allocator<NI> {
         requires used { ends_used self.old.blocks ≡ true }
         requires room { is_short_of 1 self.old ≡ false }
         ensures step { Extends more self.old self.new true }
-        ensures grows { self.old.accesses ≤ self.new.accesses }
+        ensures grows { self.old.accesses + 9 ≤ self.new.accesses }
         ensures count { self.new.accesses ≤ self.old.accesses + 19 }
     {
         let end = self.last;
@@ -701,6 +708,7 @@ impl<NI: NodeIndex> Allocator<NI> {
         ensures kept { KeepsAll self.old self.new }
         ensures same { result ≡ false → IsBut self.old self.new }
         ensures grows { self.old.accesses ≤ self.new.accesses }
+        ensures least { result ≡ true → 0 < more → self.old.accesses + 10 ≤ self.new.accesses }
         ensures count { self.new.accesses ≤ self.old.accesses + 128 }
     {
         let size = self.size;

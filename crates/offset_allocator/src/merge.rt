@@ -31,7 +31,7 @@ pub(crate) fn with_before<NI: NodeIndex>(
     ensures lists { class_lists NI.MAX tables.new.links ≡ remove_all (gone_before (place_of name (blocks tables.old.room last))) (class_lists NI.MAX tables.old.links) }
     ensures limit { length tables.new.room.nodes ≡ length tables.old.room.nodes }
     ensures size { result ≡ size_in name (blocks tables.new.room last) }
-    ensures grows { count.old ≤ count.new }
+    ensures grows { count.old + 1 ≤ count.new }
     ensures count { count.new ≤ count.old + 17 }
 {
     if let Some(previous) = chain::before(tables, last, *spare_count, name, count) {
@@ -74,7 +74,7 @@ pub(crate) fn with_after<NI: NodeIndex>(
     ensures lists { class_lists NI.MAX tables.new.links ≡ remove_all (gone_after (place_of name (blocks tables.old.room last.old))) (class_lists NI.MAX tables.old.links) }
     ensures limit { length tables.new.room.nodes ≡ length tables.old.room.nodes }
     ensures size { result ≡ size_in name (blocks tables.new.room last.new) }
-    ensures grows { count.old ≤ count.new }
+    ensures grows { count.old + 1 ≤ count.new }
     ensures count { count.new ≤ count.old + 15 }
 {
     if let Some(following) = chain::after(tables, *last, *spare_count, name, count) {

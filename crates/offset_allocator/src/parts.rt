@@ -135,7 +135,7 @@ pub(crate) fn carve<NI: NodeIndex>(
     ensures front { 0 < padding → (named result.0 (blocks tables.old.room last.old) ≡ 0) × (result.0 < length tables.old.room.nodes) }
     ensures rest { 0 < left → (named result.1 (blocks tables.old.room last.old) ≡ 0) × (result.1 < length tables.old.room.nodes) }
     ensures apart { 0 < padding → 0 < left → result.0 ≢ result.1 }
-    ensures grows { count.old ≤ count.new }
+    ensures grows { count.old + 1 ≤ count.new }
     ensures count { count.new ≤ count.old + 35 }
 {
     let front = cut_front(tables, top_mask, *last, spare_count, name, padding, count);

@@ -102,3 +102,11 @@ returns-clause-report g c =
       | in-None w ↦ subst Q (sym w.largest_free_region-is) (report_none (fields_of g.NI.NodeIndex.MAX c.self.inside) c.self.invariant room w.in-None.ensures.greatest)
       | in-Some w ↦ subst Q (sym w.largest_free_region-is) (report_some (fields_of g.NI.NodeIndex.MAX c.self.inside) c.self.invariant room w.in-Some.class _ w.in-Some.ensures.greatest w.float_to_uint-largest_free_region.ensures.is)
     ])
+
+pub returns-clause-least : goal.returns-clause-least
+returns-clause-least g c l =
+    let r = (returns-clause-report g c).1 in
+    elim c.match-greatest.branch [
+      | in-None w ↦ absurd (omega (arith, l, r, w.largest_free_region-is))
+      | in-Some w ↦ omega (arith, w.in-Some.ensures.count)
+    ]

@@ -10,6 +10,6 @@ abbrev pub invariant-loop-class : goal.invariant-loop-class
 invariant-loop-class g l = record {
   wide : length l.report.free_regions ≡ 256;
   told : (k : ℕ) (d : StorageReportFullRegion) → k < l.class → slice_index_or l.report.free_regions k d ≡ record { size = value k % 2 ^ 32; count = length (names_at (class_lists g.NI.NodeIndex.MAX l.self-inside.tables.links) k) };
-  grows : l.fn.count ≤ l.count;
+  grows : l.fn.count + l.class ≤ l.count;
   accesses : l.count ≤ l.fn.count + l.class + names_below l.class (class_lists g.NI.NodeIndex.MAX l.self-inside.tables.links);
 }
