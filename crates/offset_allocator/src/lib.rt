@@ -189,9 +189,10 @@ impl<NI: NodeIndex> Allocator<NI> {
     /// Whether `max_allocs - 1` blocks exist. Then every request is refused, and the short report is 0, 0, until a
     /// `free` coalesces or `reset` is called.
     pub fn is_full(&self) -> bool
-        ensures { IsTrue result ↔ (length self.now.blocks + 1 ≡ self.now.max_allocs) }
+        ensures limit { IsTrue result ↔ (length self.now.blocks + 1 ≡ self.now.max_allocs) }
+        ensures short { result ≡ is_short_of 1 self.now }
     {
-        self.spare_count <= 1
+        self.block_count() == self.max_allocs - 1
     }
 
     // Grants the first units of the newest block of a class.

@@ -1,7 +1,7 @@
 //! The cells: the only place that reads or writes them. A function on a cell touches that one, and counts it;
 //! `with_len` and `clear` go over whole tables, and count none.
 
-ghost use Rattle.std.specs.Prelude.{◌≡◌, ◌+◌, ◌<◌, ◌≤◌, [], length, map, replicate, slice_set, slice_index, IfOk};
+ghost use Rattle.std.specs.Prelude.{◌≡◌, ◌+◌, ◌<◌, ◌≤◌, [], length, map, replicate, slice_set, slice_index, vec_capacity, IfOk};
 ghost use Rattle.std.specs.List.{range_with_len};
 ghost use Rattle.offset_allocator.specs.Cells.{AreEmpty, AreShaped, link_of, node, put, with_spare};
 
@@ -57,7 +57,8 @@ fn probe<NI: NodeIndex>(alloc: Global, nodes: u32) -> Result<(), AllocError> {
 
 // An empty table, with room for `length` values.
 fn reserved<T>(alloc: Global, length: usize) -> Result<Vec<T>, AllocError>
-    ensures { IfOk result (λ v. v.items ≡ []) }
+    ensures empty { IfOk result (λ v. v.items ≡ []) }
+    ensures exact { IfOk result (λ v. vec_capacity v ≡ length) }
 {
     Vec::with_capacity(alloc, length)
 }

@@ -9,6 +9,8 @@ ghost use Rattle.offset_script.specs.Answers.{seen};
 ghost use Rattle.offset_script.specs.Limits.{is_powered};
 ghost use Rattle.offset_script.specs.Machine.{answers, start};
 
+pub mod daily;
+
 use offset_allocator::{Accesses, Allocation, Allocator, NodeIndex, laws};
 use offset_script::{Answer, Command, play};
 use std::alloc::{AllocError, Global};
