@@ -113,20 +113,21 @@ fn start<NI: NodeIndex>(
 }
 
 impl<NI: NodeIndex> Allocator<NI> {
-    /// A space of `size` units, all free, with the lesser of 131072 and `NI::MAX - 2` as the node limit.
+    /// A space of `size` units, all free, with the smaller of 131072 and `NI::MAX - 2` as the node limit.
     ///
-    /// An error comes only where memory was refused. Then nothing is made.
+    /// An error comes only where an allocation failed. Then nothing is made.
     pub fn new(alloc: Global, size: u32) -> Result<Self, AllocError>
         ensures { IfOk result (IsFresh size (min 131072 (NI.MAX - 2))) }
     {
         Self::with_max_allocs(alloc, size, 131072u32.min(NI::MAX - 2))
     }
 
-    /// A space of `size` units, all free, with `max_allocs` as the node limit: at most `max_allocs - 1`
-    /// blocks stand at a time, so at most `max_allocs - 2` grants are live. The limit is 2 to `NI::MAX - 2`: 65533 for
-    /// `u16`, 4294967293 for `u32`.
+    /// A space of `size` units, all free, with `max_allocs` as the node limit: at most `max_allocs - 1` blocks exist at a
+    /// time, free ones included. A request is granted only while at most `max_allocs - 2` exist, and makes one of them
+    /// live: so at most `max_allocs - 2` grants are live. The limit is 2 to `NI::MAX - 2`: 65533 for `u16`, 4294967293
+    /// for `u32`. It costs 29 bytes a node with `u32`, 19 with `u16`, all of which are written here.
     ///
-    /// An error comes only where memory was refused. Then nothing is made.
+    /// An error comes only where an allocation failed. Then nothing is made.
     pub fn with_max_allocs(alloc: Global, size: u32, max_allocs: u32) -> Result<Self, AllocError>
         requires least { 2 ≤ max_allocs }
         requires most { max_allocs + 1 < NI.MAX }

@@ -1,10 +1,12 @@
 //! The daily use of an allocator, as `CALLING.md` of `offset_allocator` shows it. Each function proves with no file.
 
-ghost use Rattle.std.specs.Prelude.{◌≡◌, ◌↔◌, ◌+◌, ◌<◌, ◌≤◌, ◌%◌, Some, None, Option, IfSome, IfOk, IfErr, IsTrue, length};
+ghost use Rattle.std.specs.Prelude.{◌≡◌, ◌↔◌, ◌+◌, ◌-◌, ◌≤◌, ◌%◌, Some, None, false, not, min, IfSome, IfOk, IfErr, IsSome, IsTrue, length};
+ghost use Rattle.std.specs.Int.{is_power_of_two};
 ghost use Rattle.offset_allocator.specs.Always.{used_units};
+ghost use Rattle.offset_allocator.specs.Named.{free, largest_free};
 ghost use Rattle.offset_allocator.specs.Ranges.{range_of, KeepsRanges, KeepsOthers};
-ghost use Rattle.offset_allocator.specs.Relations.{IsLive};
-ghost use Rattle.offset_allocator.specs.Told.{IsWhy};
+ghost use Rattle.offset_allocator.specs.Relations.{Allocates, IsBut, IsLive, Resets};
+ghost use Rattle.offset_allocator.specs.Told.{IsServed, IsWhy};
 
 use offset_allocator::{Allocation, Allocator, Refusal, laws};
 
@@ -19,6 +21,8 @@ pub fn insert(
     ensures indices { IfSome result (λ mesh. range_of mesh.1.name indices.new ≡ Some (record { offset = mesh.1.offset; size = index_count })) }
     ensures vertices_stay { KeepsRanges vertices.old vertices.new }
     ensures indices_stay { KeepsRanges indices.old indices.new }
+    ensures granted { 1 ≤ vertex_count → 1 ≤ index_count
+        → (IsSome result ↔ ((vertex_count ≤ largest_free vertices.old) × (index_count ≤ largest_free indices.old))) }
 {
     let first = vertices.allocate(vertex_count)?;
     match indices.allocate(index_count) {
@@ -33,8 +37,10 @@ pub fn insert(
 /// Gives a range back, unless its handle is no longer live. It returns whether it was.
 pub fn give_back(space: &mut Allocator, allocation: Allocation) -> bool
     ensures live { IsTrue result ↔ IsLive allocation.name space.old }
-    ensures others { KeepsOthers allocation.name space.old space.new }
+    ensures freed { IsTrue result → IsBut (free allocation.name space.old) space.new }
+    ensures same { result ≡ false → space.new ≡ space.old }
     ensures gone { IsTrue result → range_of allocation.name space.new ≡ None }
+    ensures others { KeepsOthers allocation.name space.old space.new }
 {
     let is_live = space.is_live(allocation);
     if is_live {
@@ -48,6 +54,8 @@ pub fn upload(heap: &mut Allocator, size: u32, align: u32) -> Option<Allocation>
     ensures aligned { IfSome result (λ h. h.offset % align ≡ 0) }
     ensures range { IfSome result (λ h. range_of h.name heap.new ≡ Some (record { offset = h.offset; size = size })) }
     ensures stay { KeepsRanges heap.old heap.new }
+    ensures granted { IsTrue (is_power_of_two align)
+        → (IsSome result ↔ IsServed (min align 2) (size + align - 1) heap.old) }
 {
     if !align.is_power_of_two() {
         return None;
@@ -87,23 +95,21 @@ pub fn granted_units(space: &Allocator) -> Option<u32>
 /// Two spaces for what lives one frame: one is filled while the device reads the other.
 #[derive(Drop)]
 pub struct Ring {
-    even: Allocator,
-    odd: Allocator,
-    is_odd: bool,
+    /// What the even frames are granted.
+    pub even: Allocator,
+    /// What the odd frames are granted.
+    pub odd: Allocator,
+    /// Whether this frame is odd.
+    pub is_odd: bool,
 }
 
 impl Ring {
-    /// A ring of two spaces. The first frame is even.
-    pub fn new(even: Allocator, odd: Allocator) -> Self {
-        Ring {
-            even,
-            odd,
-            is_odd: false,
-        }
-    }
-
-    /// Begins a frame: what was granted two frames ago is gone.
-    pub fn begin(&mut self) {
+    /// Begins a frame: what was granted two frames ago is gone, and what was granted in the last one stays.
+    pub fn begin(&mut self)
+        ensures turn { self.new.is_odd ≡ not self.old.is_odd }
+        ensures odd { IsTrue self.new.is_odd → Resets self.old.odd self.new.odd × (self.new.even ≡ self.old.even) }
+        ensures even { self.new.is_odd ≡ false → Resets self.old.even self.new.even × (self.new.odd ≡ self.old.odd) }
+    {
         self.is_odd = !self.is_odd;
         if self.is_odd {
             self.odd.reset();
@@ -113,7 +119,11 @@ impl Ring {
     }
 
     /// A range that lives until the frame after the next one begins.
-    pub fn take(&mut self, size: u32) -> Option<Allocation> {
+    pub fn take(&mut self, size: u32) -> Option<Allocation>
+        ensures turn { self.new.is_odd ≡ self.old.is_odd }
+        ensures odd { IsTrue self.old.is_odd → Allocates size self.old.odd self.new.odd result × (self.new.even ≡ self.old.even) }
+        ensures even { self.old.is_odd ≡ false → Allocates size self.old.even self.new.even result × (self.new.odd ≡ self.old.odd) }
+    {
         if self.is_odd {
             self.odd.allocate(size)
         } else {

@@ -2,7 +2,7 @@
 #![tactic(auto)]
 
 ghost use Rattle.std.specs.Prelude.{◌≡◌, ◌≢◌, ◌↔◌, ◌⊎◌, true, false, ◌+◌, ◌<◌, ◌≤◌, ◌%◌, Some, None, IfSome, IsSome, IsTrue, IfOk, MatchOption, All, map, min, length};
-ghost use Rattle.offset_allocator.specs.Named.{View, Grant, largest_free, total_free, size_at, place_of};
+ghost use Rattle.offset_allocator.specs.Named.{View, Grant, free, largest_free, total_free, size_at, place_of};
 ghost use Rattle.offset_allocator.specs.Ranges.{Range, range_of, AreDisjoint, KeepsRanges, KeepsOthers};
 ghost use Rattle.offset_allocator.specs.Relations.{Aligns, Allocates, Extends, IsLive, IsBut};
 ghost use Rattle.offset_script.specs.Answers.{seen};
@@ -150,6 +150,7 @@ pub fn refund(space: &mut Allocator, tenant: &mut Tenant, allocation: Allocation
     requires held { size_at (place_of allocation.name space.old.blocks) ≤ tenant.old.held }
     ensures quota { tenant.new.quota ≡ tenant.old.quota }
     ensures held { tenant.new.held + size_at (place_of allocation.name space.old.blocks) ≡ tenant.old.held }
+    ensures step { IsBut (free allocation.name space.old) space.new }
     ensures gone { range_of allocation.name space.new ≡ None }
     ensures others { KeepsOthers allocation.name space.old space.new }
 {

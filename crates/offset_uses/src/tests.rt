@@ -1,4 +1,6 @@
+use super::daily::{Ring, give_back, granted_units, insert, place, upload};
 use super::*;
+use offset_allocator::Refusal;
 use std::test::Fail;
 
 #[test]
@@ -88,6 +90,109 @@ fn both_widths_answer_alike(rt: HostRuntime) -> Result<(), Fail> {
         assert_eq!(rt; answers.len(), 3);
         match &answers[2] {
             Answer::Grant { number, offset } => assert_eq!(rt; (*number, *offset), (2, 0)),
+            _ => assert!(rt; false),
+        }
+    }
+    Ok(())
+}
+
+#[test]
+fn a_mesh_is_in_both_buffers_or_in_none(rt: HostRuntime) -> Result<(), Fail> {
+    let mut vertices = Allocator::new(rt.alloc(), 100)?;
+    let mut indices = Allocator::new(rt.alloc(), 10)?;
+    assert!(rt; insert(&mut vertices, &mut indices, 60, 20).is_none());
+    assert_eq!(rt; vertices.storage_report().total_free_space, 100);
+    let (first, second) = insert(&mut vertices, &mut indices, 60, 10).expect(&rt, "room");
+    assert_eq!(rt; (first.offset, second.offset), (0, 0));
+    assert!(rt; insert(&mut vertices, &mut indices, 1, 1).is_none());
+    assert_eq!(rt; vertices.storage_report().total_free_space, 40);
+    Ok(())
+}
+
+#[test]
+fn a_range_is_given_back_once(rt: HostRuntime) -> Result<(), Fail> {
+    let mut space = Allocator::new(rt.alloc(), 100)?;
+    let range = space.allocate(10).expect(&rt, "room");
+    assert!(rt; give_back(&mut space, range));
+    assert!(rt; !give_back(&mut space, range));
+    assert_eq!(rt; space.storage_report().total_free_space, 100);
+    Ok(())
+}
+
+#[test]
+fn an_upload_is_aligned(rt: HostRuntime) -> Result<(), Fail> {
+    let mut heap = Allocator::new(rt.alloc(), 4096)?;
+    assert!(rt; upload(&mut heap, 3, 3).is_none());
+    assert!(rt; upload(&mut heap, 3, 1).is_some());
+    let range = upload(&mut heap, 100, 64).expect(&rt, "room");
+    assert_eq!(rt; range.offset, 64);
+    Ok(())
+}
+
+#[test]
+fn a_refusal_says_what_to_do(rt: HostRuntime) -> Result<(), Fail> {
+    let mut space = Allocator::new(rt.alloc(), 8)?;
+    // 8 units and 8 more hold 10
+    let range = place(&mut space, 10, 8).expect(&rt, "room");
+    assert_eq!(rt; (range.offset, space.size()), (0, 16));
+    // 6 of the 16 are free, and one more is too few
+    assert_eq!(rt; place(&mut space, 9, 1).err(), Some(Refusal::Space));
+
+    // 48 units in two pieces of 24 do not hold 40
+    let mut pieces = Allocator::new(rt.alloc(), 96)?;
+    let first = pieces.allocate(24).expect(&rt, "room");
+    let _second = pieces.allocate(24).expect(&rt, "room");
+    let third = pieces.allocate(24).expect(&rt, "room");
+    let _fourth = pieces.allocate(24).expect(&rt, "room");
+    assert!(rt; give_back(&mut pieces, first));
+    assert!(rt; give_back(&mut pieces, third));
+    assert_eq!(rt; place(&mut pieces, 40, 8).err(), Some(Refusal::Fragmented));
+
+    // with a limit of 3 two blocks exist at most: one range, and what is free
+    let mut small = Allocator::with_max_allocs(rt.alloc(), 100, 3)?;
+    assert!(rt; small.allocate(10).is_some());
+    assert_eq!(rt; place(&mut small, 10, 8).err(), Some(Refusal::Nodes));
+    Ok(())
+}
+
+#[test]
+fn what_is_granted_is_the_size_less_what_is_free(rt: HostRuntime) -> Result<(), Fail> {
+    let mut space = Allocator::with_max_allocs(rt.alloc(), 100, 4)?;
+    assert!(rt; space.allocate(30).is_some());
+    assert_eq!(rt; granted_units(&space), Some(30));
+    assert!(rt; space.allocate(20).is_some());
+    assert_eq!(rt; granted_units(&space), None);
+    Ok(())
+}
+
+#[test]
+fn a_ring_forgets_the_frame_before_the_last(rt: HostRuntime) -> Result<(), Fail> {
+    let mut ring = Ring {
+        even: Allocator::new(rt.alloc(), 100)?,
+        odd: Allocator::new(rt.alloc(), 100)?,
+        is_odd: false,
+    };
+    assert!(rt; ring.take(60).is_some());
+    ring.begin();
+    assert!(rt; ring.take(60).is_some());
+    assert!(rt; ring.take(60).is_none());
+    ring.begin();
+    let range = ring.take(60).expect(&rt, "room");
+    assert_eq!(rt; range.offset, 0);
+    Ok(())
+}
+
+#[test]
+fn many_commands_are_answered_alike(rt: HostRuntime) -> Result<(), Fail> {
+    let mut commands = Vec::new(rt.alloc());
+    for _ in 0..300u32 {
+        commands.push(Command::Alloc(1))?;
+    }
+    let (narrow, wide) = replay(rt.alloc(), 1000, 400, &commands)?;
+    for answers in [&narrow, &wide] {
+        assert_eq!(rt; answers.len(), 300);
+        match &answers[299] {
+            Answer::Grant { number, offset } => assert_eq!(rt; (*number, *offset), (300, 299)),
             _ => assert!(rt; false),
         }
     }
