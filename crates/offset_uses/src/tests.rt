@@ -182,19 +182,23 @@ fn a_ring_forgets_the_frame_before_the_last(rt: HostRuntime) -> Result<(), Fail>
     Ok(())
 }
 
+// The lines of the README.
 #[test]
-fn many_commands_are_answered_alike(rt: HostRuntime) -> Result<(), Fail> {
-    let mut commands = Vec::new(rt.alloc());
-    for _ in 0..300u32 {
-        commands.push(Command::Alloc(1))?;
-    }
-    let (narrow, wide) = replay(rt.alloc(), 1000, 400, &commands)?;
-    for answers in [&narrow, &wide] {
-        assert_eq!(rt; answers.len(), 300);
-        match &answers[299] {
-            Answer::Grant { number, offset } => assert_eq!(rt; (*number, *offset), (300, 299)),
-            _ => assert!(rt; false),
-        }
-    }
+fn ten_lines(rt: HostRuntime) -> Result<(), Fail> {
+    let alloc = rt.alloc();
+    let mut vertices = Allocator::<u32>::new(alloc, 1 << 20)?;
+    let report = vertices.storage_report();
+    assert_eq!(rt;
+        (report.total_free_space, report.largest_free_region),
+        (1048576, 1048576)
+    );
+    let mesh = vertices.allocate(3000).expect(&rt, "room");
+    assert_eq!(rt; (mesh.offset, vertices.allocation_size(mesh)), (0, 3000));
+    assert_eq!(rt; vertices.refusal(1 << 20), Some(Refusal::Space));
+    let aligned = vertices.allocate_aligned(100, 256).expect(&rt, "room");
+    assert_eq!(rt; aligned.offset % 256, 0);
+    assert!(rt; vertices.is_live(mesh));
+    vertices.free(mesh);
+    assert!(rt; !vertices.is_live(mesh));
     Ok(())
 }
