@@ -4,7 +4,7 @@ ghost use Rattle.std.specs.Prelude.{◌≡◌, ◌↔◌, ◌+◌, ◌-◌, ◌�
 ghost use Rattle.std.specs.Int.{is_power_of_two};
 ghost use Rattle.offset_allocator.specs.Always.{used_units};
 ghost use Rattle.offset_allocator.specs.Named.{free, largest_free};
-ghost use Rattle.offset_allocator.specs.Ranges.{range_of, KeepsRanges, KeepsOthers};
+ghost use Rattle.offset_allocator.specs.Ranges.{range_of, KeepsAll, KeepsOthers};
 ghost use Rattle.offset_allocator.specs.Relations.{Allocates, IsBut, IsLive, Resets};
 ghost use Rattle.offset_allocator.specs.Told.{IsServed, IsWhy};
 
@@ -19,8 +19,8 @@ pub fn insert(
 ) -> Option<(Allocation, Allocation)>
     ensures vertices { IfSome result (λ mesh. range_of mesh.0.name vertices.new ≡ Some (record { offset = mesh.0.offset; size = vertex_count })) }
     ensures indices { IfSome result (λ mesh. range_of mesh.1.name indices.new ≡ Some (record { offset = mesh.1.offset; size = index_count })) }
-    ensures vertices_stay { KeepsRanges vertices.old vertices.new }
-    ensures indices_stay { KeepsRanges indices.old indices.new }
+    ensures others { IfSome result (λ mesh. KeepsOthers mesh.0.name vertices.old vertices.new × KeepsOthers mesh.1.name indices.old indices.new) }
+    ensures refused { result ≡ None → KeepsAll vertices.old vertices.new × KeepsAll indices.old indices.new }
     ensures granted { 1 ≤ vertex_count → 1 ≤ index_count
         → (IsSome result ↔ ((vertex_count ≤ largest_free vertices.old) × (index_count ≤ largest_free indices.old))) }
 {
@@ -53,7 +53,8 @@ pub fn give_back(space: &mut Allocator, allocation: Allocation) -> bool
 pub fn upload(heap: &mut Allocator, size: u32, align: u32) -> Option<Allocation>
     ensures aligned { IfSome result (λ h. h.offset % align ≡ 0) }
     ensures range { IfSome result (λ h. range_of h.name heap.new ≡ Some (record { offset = h.offset; size = size })) }
-    ensures stay { KeepsRanges heap.old heap.new }
+    ensures others { IfSome result (λ h. KeepsOthers h.name heap.old heap.new) }
+    ensures refused { result ≡ None → KeepsAll heap.old heap.new }
     ensures granted { IsTrue (is_power_of_two align)
         → (IsSome result ↔ IsServed (min align 2) (size + align - 1) heap.old) }
 {
@@ -68,7 +69,8 @@ pub fn upload(heap: &mut Allocator, size: u32, align: u32) -> Option<Allocation>
 pub fn place(space: &mut Allocator, size: u32, more: u32) -> Result<Allocation, Refusal>
     ensures range { IfOk result (λ h. range_of h.name space.new ≡ Some (record { offset = h.offset; size = size })) }
     ensures why { IfErr result (IsWhy 1 size space.new) }
-    ensures stay { KeepsRanges space.old space.new }
+    ensures others { IfOk result (λ h. KeepsOthers h.name space.old space.new) }
+    ensures refused { IfErr result (λ _. KeepsAll space.old space.new) }
 {
     if space.refusal(size) == Some(Refusal::Space) {
         // where it cannot grow, the second look says so
