@@ -5,43 +5,8 @@ use offset_allocator::ext::min_allocator_size;
 use offset_allocator::small_float::{
     float_to_uint, uint_to_float_round_down, uint_to_float_round_up,
 };
+use offset_test_base::groups::value_of;
 use std::test::Fail;
-
-// The first value and the step of each group of eight classes.
-pub const GROUPS: [(u64, u64); 32] = [
-    (0, 1),
-    (8, 1),
-    (16, 2),
-    (32, 4),
-    (64, 8),
-    (128, 16),
-    (256, 32),
-    (512, 64),
-    (1_024, 128),
-    (2_048, 256),
-    (4_096, 512),
-    (8_192, 1_024),
-    (16_384, 2_048),
-    (32_768, 4_096),
-    (65_536, 8_192),
-    (131_072, 16_384),
-    (262_144, 32_768),
-    (524_288, 65_536),
-    (1_048_576, 131_072),
-    (2_097_152, 262_144),
-    (4_194_304, 524_288),
-    (8_388_608, 1_048_576),
-    (16_777_216, 2_097_152),
-    (33_554_432, 4_194_304),
-    (67_108_864, 8_388_608),
-    (134_217_728, 16_777_216),
-    (268_435_456, 33_554_432),
-    (536_870_912, 67_108_864),
-    (1_073_741_824, 134_217_728),
-    (2_147_483_648, 268_435_456),
-    (4_294_967_296, 536_870_912),
-    (8_589_934_592, 1_073_741_824),
-];
 
 // Sizes, with the least size of a space that grants them.
 const LEAST_SIZES: [(u32, u32); 42] = [
@@ -125,17 +90,13 @@ fn small_float_float_to_uint(rt: HostRuntime) {
 
 #[test]
 fn the_values_of_all_groups(rt: HostRuntime) {
-    let mut class = 0u32;
-    for (first, step) in GROUPS {
-        for place in 0..8u64 {
-            if class < 256 && first < 1 << 40 && step < 1 << 40 {
-                let value = (first + place * step) % 4_294_967_296;
-                assert_eq!(rt; u64::from(float_to_uint(class)), value, "class {class}");
-                class += 1;
-            }
-        }
+    for class in 0..256u32 {
+        assert_eq!(rt;
+            u64::from(float_to_uint(class)),
+            value_of(class as usize) % 4_294_967_296,
+            "class {class}"
+        );
     }
-    assert_eq!(rt; class, 256);
 }
 
 #[test]

@@ -1,40 +1,38 @@
 //! Handles that are stale, doubled, altered or of another space.
 
+use crate::steps::Limit::{Few, Limited};
 use crate::steps::Step::{Frees, FreesAltered, Gone, Grants, Lives};
-use crate::steps::{follow, proceed};
+use crate::steps::{Step, expect, follow, proceed};
 use offset_allocator::{Allocation, Allocator};
 use std::alloc::Global;
 use std::process::Abort;
 use std::test::Fail;
 
 // A stale handle is live again as the handle of the newer grant that has its name.
+const FREED_TWICE: [Step; 7] = [
+    Grants(8, 0),
+    Frees(0),
+    Gone(0),
+    Grants(8, 0),
+    Lives(0, 8),
+    Frees(0),
+    Gone(1),
+];
+
 #[test]
 fn a_stale_handle(rt: HostRuntime) -> Result<(), Fail> {
-    let mut allocator = Allocator::<u32>::new(rt.alloc(), 64)?;
-    follow(
-        &rt,
-        rt.alloc(),
-        &mut allocator,
-        &[
-            Grants(8, 0),
-            Frees(0),
-            Gone(0),
-            Grants(8, 0),
-            Lives(0, 8),
-            Frees(0),
-            Gone(1),
-        ],
-    )
+    expect(&rt, rt.alloc(), 64, Few, &FREED_TWICE)?;
+    expect(&rt, rt.alloc(), 64, Limited(8), &FREED_TWICE)
 }
 
 // The name alone counts.
 #[test]
 fn a_handle_with_another_offset(rt: HostRuntime) -> Result<(), Fail> {
-    let mut allocator = Allocator::<u32>::with_max_allocs(rt.alloc(), 64, 8)?;
-    follow(
+    expect(
         &rt,
         rt.alloc(),
-        &mut allocator,
+        64,
+        Limited(8),
         &[
             Grants(8, 0),
             Grants(8, 8),

@@ -2,7 +2,8 @@
 
 use offset_allocator::laws::undo;
 use offset_allocator::{Allocation, Allocator, NodeIndex};
-use std::alloc::Global;
+use offset_test_base::tiny::Tiny;
+use std::alloc::{AllocError, Global};
 use std::process::Abort;
 use std::test::Fail;
 
@@ -194,4 +195,67 @@ pub fn follow<NI: NodeIndex>(
     steps: &[Step],
 ) -> Result<(), Fail> {
     proceed(rt, alloc, allocator, &mut Vec::new(alloc), steps)
+}
+
+/// How an allocator is made.
+#[derive(Clone, Copy)]
+pub enum Limit {
+    /// By `new`. The calls need more than four blocks, so that the third index type is left out.
+    Ample,
+    /// By `new`. Four blocks are enough for the calls.
+    Few,
+    /// By `with_max_allocs`, of each index type that admits this limit.
+    Limited(u32),
+}
+
+// No allocator where the limit is not admitted.
+fn made<NI: NodeIndex>(
+    alloc: Global,
+    size: u32,
+    limit: Limit,
+) -> Result<Option<Allocator<NI>>, AllocError> {
+    match limit {
+        Limit::Ample | Limit::Few => Ok(Some(Allocator::new(alloc, size)?)),
+        Limit::Limited(limit) => {
+            if limit < 2 || limit >= NI::MAX - 1 {
+                return Ok(None);
+            }
+            Ok(Some(Allocator::with_max_allocs(alloc, size, limit)?))
+        }
+    }
+}
+
+// How many calls were made.
+fn follow_by<NI: NodeIndex>(
+    rt: &impl Abort,
+    alloc: Global,
+    size: u32,
+    limit: Limit,
+    steps: &[Step],
+) -> Result<usize, Fail> {
+    match made::<NI>(alloc, size, limit)? {
+        None => Ok(0),
+        Some(mut allocator) => {
+            follow(rt, alloc, &mut allocator, steps)?;
+            Ok(steps.len())
+        }
+    }
+}
+
+/// Makes the calls in order on a new allocator, once for each index type that admits it.
+pub fn expect(
+    rt: &impl Abort,
+    alloc: Global,
+    size: u32,
+    limit: Limit,
+    steps: &[Step],
+) -> Result<(), Fail> {
+    let wide = follow_by::<u32>(rt, alloc, size, limit, steps)?;
+    assert!(rt; wide > 0, "no allocator, or no calls");
+    let _narrow = follow_by::<u16>(rt, alloc, size, limit, steps)?;
+    if let Limit::Ample = limit {
+        return Ok(());
+    }
+    let _tiny = follow_by::<Tiny>(rt, alloc, size, limit, steps)?;
+    Ok(())
 }

@@ -1,0 +1,40 @@
+//! Long texts, and what a run writes for them.
+
+use offset_script::{FromRead, IntoWrite, RunFault, run};
+use std::alloc::{AllocError, Global};
+use std::process::Abort;
+
+/// Appends a line as often as this.
+pub fn put_lines(text: &mut String, line: &str, times: u32) -> Result<(), AllocError> {
+    for _ in 0..times {
+        text.push_str(line)?;
+    }
+    Ok(())
+}
+
+/// Appends the answers to requests of 1 unit each in a fresh space: each takes the next unit.
+pub fn put_units(answers: &mut String, grants: u32) -> Result<(), AllocError> {
+    for offset in 0..grants {
+        let number = u64::from(offset) + 1;
+        writeln!(answers, "grant {number} at {offset}")?;
+    }
+    Ok(())
+}
+
+/// A run of the text ends well, and writes this.
+pub fn expect_answers(rt: &impl Abort, alloc: Global, text: &str, wanted: &str) {
+    let mut output = IntoWrite::new(Vec::new(alloc));
+    let result = run(alloc, &mut FromRead::new(text.as_bytes()), &mut output);
+    assert_eq!(rt; result, Ok(()));
+    let written = output.into_inner();
+    assert_eq!(rt; written.len(), wanted.len());
+    assert!(rt; written.as_slice() == wanted.as_bytes(), "other answers");
+}
+
+/// A run of the text ends in this fault, and writes nothing.
+pub fn expect_fault(rt: &impl Abort, alloc: Global, text: &str, wanted: RunFault) {
+    let mut output = IntoWrite::new(Vec::new(alloc));
+    let result = run(alloc, &mut FromRead::new(text.as_bytes()), &mut output);
+    assert_eq!(rt; result, Err(wanted));
+    assert!(rt; output.into_inner().is_empty());
+}
