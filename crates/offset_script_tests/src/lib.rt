@@ -4,6 +4,8 @@
 #[cfg(test)]
 mod adapters;
 #[cfg(test)]
+mod debug_texts;
+#[cfg(test)]
 mod faults;
 #[cfg(test)]
 mod fronts;

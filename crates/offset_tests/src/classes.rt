@@ -1,15 +1,19 @@
 //! Size classes, against the tables of their values.
 
-use offset_allocator::Allocator;
+use crate::steps::Limit::{Few, Limited};
+use crate::steps::Step::Grants;
+use crate::steps::expect;
 use offset_allocator::ext::min_allocator_size;
 use offset_allocator::small_float::{
     float_to_uint, uint_to_float_round_down, uint_to_float_round_up,
 };
 use offset_test_base::groups::value_of;
+use std::alloc::Global;
+use std::process::Abort;
 use std::test::Fail;
 
 // Sizes, with the least size of a space that grants them.
-const LEAST_SIZES: [(u32, u32); 42] = [
+const LEAST_SIZES: [(u32, u32); 43] = [
     (0, 0),
     (1, 1),
     (2, 2),
@@ -52,6 +56,7 @@ const LEAST_SIZES: [(u32, u32); 42] = [
     (9_440_387, 10_485_760),
     (41_994_490, 46_137_344),
     (68_520_116, 75_497_472),
+    (4_026_531_840, 4_026_531_840),
 ];
 
 #[test]
@@ -99,17 +104,18 @@ fn the_values_of_all_groups(rt: HostRuntime) {
     }
 }
 
+// A space of the least size grants the request, also where no more than three nodes are there.
+fn expect_least(rt: &impl Abort, alloc: Global, size: u32, least: u32) -> Result<(), Fail> {
+    assert!(rt; size <= 4_026_531_840);
+    assert_eq!(rt; min_allocator_size(size), least, "{size}");
+    expect(rt, alloc, least, Few, &[Grants(size, 0)])?;
+    expect(rt, alloc, least, Limited(3), &[Grants(size, 0)])
+}
+
 #[test]
 fn ext_min_allocator_size(rt: HostRuntime) -> Result<(), Fail> {
     for (size, least) in LEAST_SIZES {
-        assert!(rt; size <= 4_026_531_840);
-        let found = min_allocator_size(size);
-        assert_eq!(rt; found, least, "{size}");
-        let mut allocator = Allocator::<u32>::new(rt.alloc(), found)?;
-        assert!(rt; allocator.allocate(size).is_some(), "{size}");
-        let mut small = Allocator::<u32>::with_max_allocs(rt.alloc(), found, 3)?;
-        assert!(rt; small.allocate(size).is_some(), "{size}");
+        expect_least(&rt, rt.alloc(), size, least)?;
     }
-    assert_eq!(rt; min_allocator_size(4_026_531_840), 4_026_531_840);
     Ok(())
 }

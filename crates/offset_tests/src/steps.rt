@@ -127,6 +127,24 @@ fn grant_of<NI: NodeIndex>(
     handles[number]
 }
 
+// A step on the handle of a grant.
+fn of_grant<NI: NodeIndex>(
+    rt: &impl Abort,
+    allocator: &mut Allocator<NI>,
+    mut handle: Allocation<NI>,
+    step: &Step,
+) {
+    match step {
+        Step::FreesAltered(_, offset) => {
+            handle.offset = *offset;
+            release(rt, allocator, handle);
+        }
+        Step::Lives(_, size) => expect_live(rt, allocator, handle, *size),
+        Step::Gone(_) => expect_gone(rt, allocator, handle),
+        _ => release(rt, allocator, handle),
+    }
+}
+
 fn take<NI: NodeIndex>(
     rt: &impl Abort,
     alloc: Global,
@@ -150,16 +168,6 @@ fn take<NI: NodeIndex>(
             let granted = request(rt, allocator, *size, *align);
             assert!(rt; granted.is_none(), "a request of {size} at {align}");
         }
-        Step::Frees(number) => release(rt, allocator, grant_of(rt, handles, *number)),
-        Step::FreesAltered(number, offset) => {
-            let mut handle = grant_of(rt, handles, *number);
-            handle.offset = *offset;
-            release(rt, allocator, handle);
-        }
-        Step::Lives(number, size) => {
-            expect_live(rt, allocator, grant_of(rt, handles, *number), *size);
-        }
-        Step::Gone(number) => expect_gone(rt, allocator, grant_of(rt, handles, *number)),
         Step::Extends(more, grown) => {
             assert_eq!(rt; allocator.extend(*more), *grown, "{more} more");
         }
@@ -169,20 +177,10 @@ fn take<NI: NodeIndex>(
         Step::Resets => allocator.reset(),
         Step::Reports(total, largest) => expect_report(rt, allocator, *total, *largest),
         Step::Counts(wanted) => expect_counts(rt, alloc, allocator, wanted)?,
-    }
-    Ok(())
-}
-
-/// Makes the calls in order. The handles of the grants come behind those that were there.
-pub fn proceed<NI: NodeIndex>(
-    rt: &impl Abort,
-    alloc: Global,
-    allocator: &mut Allocator<NI>,
-    handles: &mut Vec<Allocation<NI>>,
-    steps: &[Step],
-) -> Result<(), Fail> {
-    for step in steps {
-        take(rt, alloc, allocator, handles, step)?;
+        Step::Frees(number)
+        | Step::FreesAltered(number, _)
+        | Step::Lives(number, _)
+        | Step::Gone(number) => of_grant(rt, allocator, grant_of(rt, handles, *number), step),
     }
     Ok(())
 }
@@ -194,7 +192,11 @@ pub fn follow<NI: NodeIndex>(
     allocator: &mut Allocator<NI>,
     steps: &[Step],
 ) -> Result<(), Fail> {
-    proceed(rt, alloc, allocator, &mut Vec::new(alloc), steps)
+    let mut handles = Vec::new(alloc);
+    for step in steps {
+        take(rt, alloc, allocator, &mut handles, step)?;
+    }
+    Ok(())
 }
 
 /// How an allocator is made.
@@ -208,8 +210,8 @@ pub enum Limit {
     Limited(u32),
 }
 
-// No allocator where the limit is not admitted.
-fn made<NI: NodeIndex>(
+/// A new allocator, or none where its index type does not admit the limit.
+pub fn made<NI: NodeIndex>(
     alloc: Global,
     size: u32,
     limit: Limit,
