@@ -62,6 +62,17 @@ fn refuses_long_commands(rt: HostRuntime) -> Result<(), Fail> {
     Ok(())
 }
 
+#[test]
+fn skips_many_lines(rt: HostRuntime) -> Result<(), Fail> {
+    let mut text = String::new(rt.alloc());
+    put_lines(&mut text, "\n", 300_000)?;
+    put_lines(&mut text, HEADER, 1)?;
+    put_lines(&mut text, "\n#\n", 200_000)?;
+    put_lines(&mut text, "alloc 1\n", 1)?;
+    expect_answers(&rt, rt.alloc(), &text, "grant 1 at 0\n");
+    Ok(())
+}
+
 // Faults that come after 500,000 empty lines.
 #[test]
 fn counts_many_lines(rt: HostRuntime) -> Result<(), Fail> {

@@ -1,6 +1,6 @@
 //! Scripts of many commands.
 
-use crate::texts::{expect_answers, expect_fault, put_lines, put_units};
+use crate::texts::{Bytes, expect_answers, expect_answers_of, expect_fault, put_lines, put_units};
 use offset_script::{RunFault, ScriptFault};
 use std::test::Fail;
 
@@ -17,6 +17,10 @@ fn plays_the_longest_script(rt: HostRuntime) -> Result<(), Fail> {
     let mut wanted = String::new(rt.alloc());
     put_units(&mut wanted, 131_067)?;
     expect_answers(&rt, rt.alloc(), &text, &wanted);
+    let bytes = Bytes {
+        text: text.as_bytes(),
+    };
+    expect_answers_of(&rt, rt.alloc(), bytes, &wanted);
     put_lines(&mut text, "\n", 1)?;
     let fault = RunFault::Script(ScriptFault::TooLong);
     expect_fault(&rt, rt.alloc(), &text, fault);
@@ -64,5 +68,25 @@ fn counts_many_free_blocks(rt: HostRuntime) -> Result<(), Fail> {
         )?;
         expect_answers(&rt, rt.alloc(), &text, &wanted);
     }
+    Ok(())
+}
+
+// Each round ends in a fresh space, but for the numbers of the grants.
+#[test]
+fn plays_many_commands_of_each_kind(rt: HostRuntime) -> Result<(), Fail> {
+    let mut text = String::from_str(rt.alloc(), "space 100 nodes 8 index 16\n")?;
+    let mut wanted = String::new(rt.alloc());
+    for round in 0..10_000u32 {
+        let number = round + 1;
+        writeln!(text, "align 8 8\nsize {number}\nfree {number}")?;
+        put_lines(&mut text, "extend 0\nreport\nfull\nreset\n", 1)?;
+        writeln!(wanted, "grant {number} at 0")?;
+        put_lines(
+            &mut wanted,
+            "size 8\nfreed\nextended\nfree 100 largest 96\nfull 1\nclass 36 size 96 count 1\nreset\n",
+            1,
+        )?;
+    }
+    expect_answers(&rt, rt.alloc(), &text, &wanted);
     Ok(())
 }

@@ -2,7 +2,25 @@
 
 use offset_script::{FromRead, IntoWrite, RunFault, run};
 use std::alloc::{AllocError, Global};
+use std::io;
+use std::io::Read;
 use std::process::Abort;
+
+/// Gives a text one byte at a time.
+#[derive(Drop)]
+pub struct Bytes<'a> {
+    pub text: &'a [u8],
+}
+
+impl<'a> Read for Bytes<'a> {
+    fn read(&mut self, buf: &mut [u8]) -> io::Result<usize> {
+        let n = buf.len().min(self.text.len()).min(1);
+        let (taken, rest) = self.text.split_at(n);
+        buf[..n].copy_from_slice(taken);
+        self.text = rest;
+        Ok(n)
+    }
+}
 
 /// Appends a line as often as this.
 pub fn put_lines(text: &mut String, line: &str, times: u32) -> Result<(), AllocError> {
@@ -23,8 +41,13 @@ pub fn put_units(answers: &mut String, grants: u32) -> Result<(), AllocError> {
 
 /// A run of the text ends well, and writes this.
 pub fn expect_answers(rt: &impl Abort, alloc: Global, text: &str, wanted: &str) {
+    expect_answers_of(rt, alloc, text.as_bytes(), wanted);
+}
+
+/// A run of what a reader gives ends well, and writes this.
+pub fn expect_answers_of<R: Read + Drop>(rt: &impl Abort, alloc: Global, text: R, wanted: &str) {
     let mut output = IntoWrite::new(Vec::new(alloc));
-    let result = run(alloc, &mut FromRead::new(text.as_bytes()), &mut output);
+    let result = run(alloc, &mut FromRead::new(text), &mut output);
     assert_eq!(rt; result, Ok(()));
     let written = output.into_inner();
     assert_eq!(rt; written.len(), wanted.len());
