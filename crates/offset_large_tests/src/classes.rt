@@ -10,7 +10,7 @@ const FIRST: usize = 1;
 
 const LAST: usize = 200;
 
-// Their blocks, and behind each one unit, which stays used.
+// The sum of their blocks, and of one unit after each, which stays used.
 fn size() -> u64 {
     let mut size = 0u64;
     for class in FIRST..LAST + 1 {

@@ -6,7 +6,7 @@ use std::alloc::{AllocError, Global};
 use std::process::Abort;
 use std::test::Fail;
 
-/// A header but for its bits, the lines behind it, and the answers.
+/// A header without its bits, the lines after it, and the answers.
 pub const ROWS: [(&str, &str, &str); 25] = [
     (
         "space 100 nodes 16 index",

@@ -32,9 +32,9 @@ pub enum Step {
     Undoes(u32, bool),
     /// The whole space is free.
     Resets,
-    /// The short report tells this total, and this largest region.
+    /// The short report has this total, and this largest region.
     Reports(u32, u32),
-    /// The full report tells these classes, with their sizes and counts, and no free block besides.
+    /// The full report has these classes, with their sizes and counts, and no free block besides.
     Counts(&'static [(usize, u32, u32)]),
 }
 

@@ -88,7 +88,7 @@ fn names_each_class_of_the_full_report(rt: HostRuntime) -> Result<(), Fail> {
 }
 
 #[test]
-fn tells_names_as_numbers(rt: HostRuntime) -> Result<(), Fail> {
+fn writes_names_as_numbers(rt: HostRuntime) -> Result<(), Fail> {
     for (value, wanted) in [(0u16, "Some(0)"), (65_534, "Some(65534)"), (65_535, "None")] {
         expect_text(&rt, rt.alloc(), &NonMaxU16::new(value), wanted)?;
     }
