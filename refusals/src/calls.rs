@@ -62,7 +62,7 @@ impl Call {
 }
 
 /// A script of 40 rounds of nearly the same commands, in which each kind occurs.
-pub fn mixed(bits: u64) -> String {
+pub fn mixed(bits: usize) -> String {
     let header = format!("space 2000 nodes 40 index {bits}\n");
     let round = |k: u32| {
         let (size, align) = (k * 37 % 150, 1 << (k % 7));

@@ -20,6 +20,30 @@ const WRITTEN: &str = "grant 1 at 0\ngrant 2 at 10\nfreed\nnone\nfree 0 largest 
 const BAD: &str = "# c\n\nspace 010 nodes 4 index 32\nalloc 0000000001\nalloc 00000000001\n";
 const FAULT: &[u64] = &[3, 5];
 
+/// Whether a constructor asks for the bytes of all its tables in one request, and gives them back, before it asks for
+/// each table.
+const ASKS_FOR_ALL: bool = false;
+
+/// The bytes of each request that a constructor makes: for each node its offset, its size, whether it is used, its two
+/// neighbours and its two links, the newest node of each class, and the spare names. A name has so many bits.
+fn asked(nodes: usize, bits: usize) -> Vec<usize> {
+    let names = nodes * bits / 8;
+    let heads = 256 * bits / 8;
+    let tables = [
+        4 * nodes,
+        4 * nodes,
+        nodes,
+        names,
+        names,
+        names,
+        names,
+        heads,
+        names,
+    ];
+    let all = ASKS_FOR_ALL.then(|| tables.iter().sum());
+    all.into_iter().chain(tables).collect()
+}
+
 #[derive(Default)]
 struct Check {
     runs: u64,
@@ -72,8 +96,24 @@ impl Check {
         told
     }
 
+    /// With ample memory a call makes just these requests, also such as it would pass over if they were refused.
+    fn asks(&mut self, call: Call, text: &str, wanted: &[usize]) {
+        let (_, memory) = with_refusals(0..0, || call.with(text));
+        let asked = memory.asked;
+        self.must(
+            asked == wanted,
+            call,
+            text,
+            format!("{asked:?}, not {wanted:?}"),
+        );
+    }
+
     /// An allocator for a script that has no commands, 1,000 calls on it, and the script itself.
-    fn allocator(&mut self, header: &str, report: &[u64]) {
+    fn allocator(&mut self, nodes: usize, bits: usize, size: u64, report: &[u64]) {
+        let header = &format!("space {size} nodes {nodes} index {bits}");
+        for call in [LIMITED, CALLS, PLAY] {
+            self.asks(call, header, &asked(nodes, bits));
+        }
         let made = self.each(LIMITED, header, 0, &told(ANSWERED, report));
         let wanted = self.ample(CALLS, header);
         let called = self.each(CALLS, header, 0, &wanted);
@@ -103,12 +143,13 @@ fn main() {
     let mut check = Check::default();
     for (bits, most) in [(16, 65_533), (32, 131_072)] {
         let header = format!("space 100 nodes 4 index {bits}");
+        check.asks(NEW, &header, &asked(most, bits));
         check.each(NEW, &header, 0, &told(ANSWERED, &[100, 96]));
-        check.allocator(&header, &[100, 96]);
-        check.allocator(&format!("space 100 nodes 2 index {bits}"), &[0, 0]);
-        check.allocator(&format!("space 1000 nodes 100 index {bits}"), &[1000, 960]);
-        check.allocator(&format!("space 100 nodes {most} index {bits}"), &[100, 96]);
-        let script = told(ANSWERED, &[&[100, 4, bits], SCRIPT].concat());
+        check.allocator(4, bits, 100, &[100, 96]);
+        check.allocator(2, bits, 100, &[0, 0]);
+        check.allocator(100, bits, 1000, &[1000, 960]);
+        check.allocator(most, bits, 100, &[100, 96]);
+        let script = told(ANSWERED, &[&[100, 4, bits as u64], SCRIPT].concat());
         let written: Vec<u64> = WRITTEN.bytes().map(u64::from).collect();
         let (answers, written) = (told(ANSWERED, ANSWERS), told(ANSWERED, &written));
         check.script(

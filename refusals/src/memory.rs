@@ -9,8 +9,8 @@ use std::sync::Mutex;
 pub struct Memory {
     /// The places of the requests to be refused, from 1.
     refuse: Range<u64>,
-    /// Requests of new blocks, and of more for a block.
-    requests: u64,
+    /// The bytes of each request: of a new block, or of more for a block.
+    pub asked: Vec<usize>,
     pub refused: u64,
     /// The blocks that were not given back.
     pub blocks: BTreeMap<usize, Layout>,
@@ -36,9 +36,9 @@ fn served<T>(serve: impl FnOnce(&mut Memory) -> T) -> T {
 }
 
 impl Memory {
-    fn refuses(&mut self) -> bool {
-        self.requests += 1;
-        let refuses = self.refuse.contains(&self.requests);
+    fn refuses(&mut self, size: usize) -> bool {
+        self.asked.push(size);
+        let refuses = self.refuse.contains(&(self.asked.len() as u64));
         self.refused += u64::from(refuses);
         refuses
     }
@@ -78,7 +78,7 @@ const NOTHING: Got = Got {
 
 #[no_mangle]
 extern "C" fn rattle_alloc(size: usize, align: usize) -> Got {
-    served(|memory| match memory.refuses() {
+    served(|memory| match memory.refuses(size) {
         true => NOTHING,
         false => memory.take(size, align),
     })
@@ -94,7 +94,7 @@ extern "C" fn rattle_realloc(from: *mut u8, kept: usize, size: usize, align: usi
             memory.strange += 1;
             return NOTHING;
         };
-        if size > old.size() && memory.refuses() {
+        if size > old.size() && memory.refuses(size) {
             return NOTHING;
         }
         let got = memory.take(size, align);

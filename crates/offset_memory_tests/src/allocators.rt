@@ -3,6 +3,7 @@
 use crate::attempts::{Attempt, Outcome, right_if};
 use crate::ladder::{COARSE, FINE, refusals};
 use offset_allocator::{Allocator, NodeIndex};
+use offset_test_base::tiny::Tiny;
 use std::alloc::{AllocError, Global};
 use std::test::Fail;
 
@@ -12,6 +13,8 @@ enum Constructor {
     New32,
     Limited16(u32),
     Limited32(u32),
+    NewTiny,
+    LimitedTiny(u32),
 }
 
 fn outcome_of<NI: NodeIndex>(made: Result<Allocator<NI>, AllocError>) -> Outcome {
@@ -35,6 +38,8 @@ impl Attempt for Constructor {
             Constructor::New32 => outcome_of(Allocator::<u32>::new(alloc, 100)),
             Constructor::Limited16(limit) => limited::<u16>(alloc, *limit),
             Constructor::Limited32(limit) => limited::<u32>(alloc, *limit),
+            Constructor::NewTiny => outcome_of(Allocator::<Tiny>::new(alloc, 100)),
+            Constructor::LimitedTiny(limit) => limited::<Tiny>(alloc, *limit),
         }
     }
 }
@@ -46,6 +51,8 @@ fn small_allocators(rt: HostRuntime) -> Result<(), Fail> {
         Constructor::Limited32(4),
         Constructor::Limited16(100),
         Constructor::Limited32(100),
+        Constructor::NewTiny,
+        Constructor::LimitedTiny(4),
     ] {
         assert!(rt; refusals(&rt, rt.alloc(), FINE, &mut constructor)? >= 1);
     }

@@ -66,3 +66,9 @@ pub fn all_memory(alloc: Global) -> Result<Vec<Vec<u8>>, AllocError> {
     }
     Ok(blocks)
 }
+
+/// Takes all memory but so many bytes, which lie in one place.
+pub fn all_memory_but(alloc: Global, room: usize) -> Result<Vec<Vec<u8>>, AllocError> {
+    let _room = Vec::<u8>::with_capacity(alloc, room)?;
+    all_memory(alloc)
+}

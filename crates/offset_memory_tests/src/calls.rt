@@ -1,11 +1,13 @@
 //! Once an allocator is made, its calls ask for no memory.
 
-use crate::attempts::{Attempt, Outcome, all_memory, refused_if, right_if};
+use crate::attempts::{Attempt, Outcome, all_memory, all_memory_but, refused_if, right_if};
 use crate::ladder::{FINE, refusals};
 use offset_allocator::laws::undo;
 use offset_allocator::{Allocation, Allocator, NodeIndex};
 use offset_script::play;
+use offset_test_base::tiny::Tiny;
 use std::alloc::{AllocError, Global};
+use std::process::Abort;
 use std::test::Fail;
 
 // Greater than any offset of the space.
@@ -39,9 +41,9 @@ fn request_aligned<NI: NodeIndex>(
 }
 
 // Where a handle is kept it is freed, and else one is asked for. The answer is the offset, or another number.
-fn grant_or_free(
-    allocator: &mut Allocator<u32>,
-    kept: &mut Option<Allocation<u32>>,
+fn grant_or_free<NI: NodeIndex>(
+    allocator: &mut Allocator<NI>,
+    kept: &mut Option<Allocation<NI>>,
     kind: u32,
     size: u32,
 ) -> u32 {
@@ -66,7 +68,7 @@ fn grant_or_free(
     }
 }
 
-fn reported(allocator: &Allocator<u32>, class: usize) -> u32 {
+fn reported<NI: NodeIndex>(allocator: &Allocator<NI>, class: usize) -> u32 {
     let short = allocator.storage_report();
     let full = allocator.storage_report_full();
     short
@@ -78,9 +80,9 @@ fn reported(allocator: &Allocator<u32>, class: usize) -> u32 {
 }
 
 // The answer to a call, as a number.
-fn called(
-    allocator: &mut Allocator<u32>,
-    kept: &mut Option<Allocation<u32>>,
+fn called<NI: NodeIndex>(
+    allocator: &mut Allocator<NI>,
+    kept: &mut Option<Allocation<NI>>,
     kind: u32,
     number: u32,
 ) -> u32 {
@@ -98,21 +100,20 @@ fn called(
     }
 }
 
-// The answers to 1,000 calls of every kind, in one number.
-fn answers(allocator: &mut Allocator<u32>) -> u64 {
-    let mut kept: [Option<Allocation<u32>>; 16] = [None; 16];
+// The answers to 1,000 calls of every kind, in one number. Handles are kept in the list that is given.
+fn answers<NI: NodeIndex>(
+    allocator: &mut Allocator<NI>,
+    kept: &mut [Option<Allocation<NI>>],
+) -> u64 {
     let mut state = 1u64;
     let mut answers = 0u64;
     for _ in 0..1_000u32 {
         state = state.wrapping_mul(1_103_515_245).wrapping_add(12_345) % 2_147_483_648;
         let number = state / 65_536;
-        let answer = called(
-            allocator,
-            &mut kept[(number / 16 % 16) as usize],
-            (number % 16) as u32,
-            (number / 256) as u32,
-        );
-        answers = answers.wrapping_mul(31).wrapping_add(u64::from(answer));
+        if let Some(kept) = kept.get_mut((number / 16 % 16) as usize) {
+            let answer = called(allocator, kept, (number % 16) as u32, (number / 256) as u32);
+            answers = answers.wrapping_mul(31).wrapping_add(u64::from(answer));
+        }
     }
     answers
 }
@@ -126,17 +127,44 @@ fn made(alloc: Global) -> Result<Allocator<u32>, AllocError> {
 }
 
 fn sum(alloc: Global) -> Result<u64, AllocError> {
+    let mut kept: [Option<Allocation<u32>>; 16] = [None; 16];
     let mut allocator = made(alloc)?;
-    Ok(answers(&mut allocator))
+    Ok(answers(&mut allocator, &mut kept))
+}
+
+// The calls answer as ever where not one byte is left.
+fn expect_answers<NI: NodeIndex>(rt: &impl Abort, alloc: Global) -> Result<(), Fail> {
+    let mut kept = vec![in alloc; None; 16]?;
+    let wanted = answers(&mut Allocator::<NI>::new(alloc, 1_000)?, &mut kept);
+    kept.fill(None);
+    let mut allocator = Allocator::<NI>::new(alloc, 1_000)?;
+    let _rest = all_memory(alloc)?;
+    assert!(rt; Vec::<u8>::with_capacity(alloc, 1).is_err());
+    assert_eq!(rt; answers(&mut allocator, &mut kept), wanted);
+    Ok(())
 }
 
 #[test]
 fn calls_answer_without_any_memory(rt: HostRuntime) -> Result<(), Fail> {
+    expect_answers::<u32>(&rt, rt.alloc())?;
+    expect_answers::<u16>(&rt, rt.alloc())?;
+    expect_answers::<Tiny>(&rt, rt.alloc())
+}
+
+const ROOM: usize = 1 << 30;
+
+// Where memory is left in one place alone, a request that took any of it, or a small one that was given back at once,
+// would have split that place.
+#[test]
+fn calls_leave_all_memory_as_it_was(rt: HostRuntime) -> Result<(), Fail> {
     let wanted = sum(rt.alloc())?;
+    let mut kept: [Option<Allocation<u32>>; 16] = [None; 16];
     let mut allocator = made(rt.alloc())?;
-    let _rest = all_memory(rt.alloc())?;
-    assert!(rt; Vec::<u8>::with_capacity(rt.alloc(), 1).is_err());
-    assert_eq!(rt; answers(&mut allocator), wanted);
+    let _rest = all_memory_but(rt.alloc(), ROOM)?;
+    assert_eq!(rt; answers(&mut allocator, &mut kept), wanted);
+    assert!(rt; Vec::<u8>::with_capacity(rt.alloc(), ROOM).is_ok());
+    assert!(rt; Vec::<u8>::with_capacity(rt.alloc(), 16).is_ok());
+    assert!(rt; Vec::<u8>::with_capacity(rt.alloc(), ROOM).is_err());
     Ok(())
 }
 

@@ -14,3 +14,5 @@ mod calls;
 mod ladder;
 #[cfg(test)]
 mod scripts;
+#[cfg(test)]
+mod tables;

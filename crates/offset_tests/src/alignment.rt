@@ -1,28 +1,28 @@
 //! Requests at a multiple of a power of two.
 
+use crate::steps::Limit::Limited;
 use crate::steps::Step::{Aligns, Counts, Frees, Grants, Refuses, RefusesAligned, Reports};
-use crate::steps::follow;
-use offset_allocator::Allocator;
+use crate::steps::expect;
 use std::test::Fail;
 
 #[test]
 fn keeps_the_front_free(rt: HostRuntime) -> Result<(), Fail> {
-    let mut allocator = Allocator::<u32>::with_max_allocs(rt.alloc(), 100, 16)?;
-    follow(
+    expect(
         &rt,
         rt.alloc(),
-        &mut allocator,
+        100,
+        Limited(16),
         &[Grants(10, 0), Aligns(8, 16, 16), Reports(82, 72)],
     )
 }
 
 #[test]
 fn needs_no_front_at_a_multiple(rt: HostRuntime) -> Result<(), Fail> {
-    let mut allocator = Allocator::<u16>::with_max_allocs(rt.alloc(), 64, 8)?;
-    follow(
+    expect(
         &rt,
         rt.alloc(),
-        &mut allocator,
+        64,
+        Limited(8),
         &[
             Aligns(16, 16, 0),
             Aligns(16, 16, 16),
@@ -34,11 +34,11 @@ fn needs_no_front_at_a_multiple(rt: HostRuntime) -> Result<(), Fail> {
 // First the sum is too great, then one spare block is too few.
 #[test]
 fn refuses_sums_and_a_last_spare_block(rt: HostRuntime) -> Result<(), Fail> {
-    let mut allocator = Allocator::<u32>::with_max_allocs(rt.alloc(), 100, 4)?;
-    follow(
+    expect(
         &rt,
         rt.alloc(),
-        &mut allocator,
+        100,
+        Limited(4),
         &[
             RefusesAligned(4_294_967_295, 2),
             RefusesAligned(4_294_967_295, 2_147_483_648),
@@ -52,22 +52,22 @@ fn refuses_sums_and_a_last_spare_block(rt: HostRuntime) -> Result<(), Fail> {
 // Front and rest are of one class, and the rest is the newer.
 #[test]
 fn puts_the_rest_before_the_front(rt: HostRuntime) -> Result<(), Fail> {
-    let mut allocator = Allocator::<u32>::with_max_allocs(rt.alloc(), 15, 8)?;
-    follow(
+    expect(
         &rt,
         rt.alloc(),
-        &mut allocator,
+        15,
+        Limited(8),
         &[Grants(2, 0), Aligns(1, 8, 8), Grants(6, 9)],
     )
 }
 
 #[test]
 fn aligns_no_units(rt: HostRuntime) -> Result<(), Fail> {
-    let mut allocator = Allocator::<u32>::with_max_allocs(rt.alloc(), 40, 8)?;
-    follow(
+    expect(
         &rt,
         rt.alloc(),
-        &mut allocator,
+        40,
+        Limited(8),
         &[Grants(3, 0), Aligns(0, 16, 16), Frees(1), Reports(37, 36)],
     )
 }
@@ -75,11 +75,11 @@ fn aligns_no_units(rt: HostRuntime) -> Result<(), Fail> {
 // As many units as the alignment asks for in the worst case have to be free, and not only those that are used here.
 #[test]
 fn aligns_to_the_greatest_power(rt: HostRuntime) -> Result<(), Fail> {
-    let mut allocator = Allocator::<u32>::with_max_allocs(rt.alloc(), 4_294_967_295, 8)?;
-    follow(
+    expect(
         &rt,
         rt.alloc(),
-        &mut allocator,
+        4_294_967_295,
+        Limited(8),
         &[
             RefusesAligned(1_879_048_194, 2_147_483_648),
             Grants(1, 0),

@@ -1,50 +1,19 @@
 //! Size classes, against the tables of their values.
 
-use offset_allocator::Allocator;
+use crate::steps::Limit::{Few, Limited};
+use crate::steps::Step::Grants;
+use crate::steps::expect;
 use offset_allocator::ext::min_allocator_size;
 use offset_allocator::small_float::{
     float_to_uint, uint_to_float_round_down, uint_to_float_round_up,
 };
+use offset_test_base::groups::value_of;
+use std::alloc::Global;
+use std::process::Abort;
 use std::test::Fail;
 
-// The first value and the step of each group of eight classes.
-pub const GROUPS: [(u64, u64); 32] = [
-    (0, 1),
-    (8, 1),
-    (16, 2),
-    (32, 4),
-    (64, 8),
-    (128, 16),
-    (256, 32),
-    (512, 64),
-    (1_024, 128),
-    (2_048, 256),
-    (4_096, 512),
-    (8_192, 1_024),
-    (16_384, 2_048),
-    (32_768, 4_096),
-    (65_536, 8_192),
-    (131_072, 16_384),
-    (262_144, 32_768),
-    (524_288, 65_536),
-    (1_048_576, 131_072),
-    (2_097_152, 262_144),
-    (4_194_304, 524_288),
-    (8_388_608, 1_048_576),
-    (16_777_216, 2_097_152),
-    (33_554_432, 4_194_304),
-    (67_108_864, 8_388_608),
-    (134_217_728, 16_777_216),
-    (268_435_456, 33_554_432),
-    (536_870_912, 67_108_864),
-    (1_073_741_824, 134_217_728),
-    (2_147_483_648, 268_435_456),
-    (4_294_967_296, 536_870_912),
-    (8_589_934_592, 1_073_741_824),
-];
-
 // Sizes, with the least size of a space that grants them.
-const LEAST_SIZES: [(u32, u32); 42] = [
+const LEAST_SIZES: [(u32, u32); 43] = [
     (0, 0),
     (1, 1),
     (2, 2),
@@ -87,6 +56,7 @@ const LEAST_SIZES: [(u32, u32); 42] = [
     (9_440_387, 10_485_760),
     (41_994_490, 46_137_344),
     (68_520_116, 75_497_472),
+    (4_026_531_840, 4_026_531_840),
 ];
 
 #[test]
@@ -125,30 +95,27 @@ fn small_float_float_to_uint(rt: HostRuntime) {
 
 #[test]
 fn the_values_of_all_groups(rt: HostRuntime) {
-    let mut class = 0u32;
-    for (first, step) in GROUPS {
-        for place in 0..8u64 {
-            if class < 256 && first < 1 << 40 && step < 1 << 40 {
-                let value = (first + place * step) % 4_294_967_296;
-                assert_eq!(rt; u64::from(float_to_uint(class)), value, "class {class}");
-                class += 1;
-            }
-        }
+    for class in 0..256u32 {
+        assert_eq!(rt;
+            u64::from(float_to_uint(class)),
+            value_of(class as usize) % 4_294_967_296,
+            "class {class}"
+        );
     }
-    assert_eq!(rt; class, 256);
+}
+
+// A space of the least size grants the request, also where no more than three nodes are there.
+fn expect_least(rt: &impl Abort, alloc: Global, size: u32, least: u32) -> Result<(), Fail> {
+    assert!(rt; size <= 4_026_531_840);
+    assert_eq!(rt; min_allocator_size(size), least, "{size}");
+    expect(rt, alloc, least, Few, &[Grants(size, 0)])?;
+    expect(rt, alloc, least, Limited(3), &[Grants(size, 0)])
 }
 
 #[test]
 fn ext_min_allocator_size(rt: HostRuntime) -> Result<(), Fail> {
     for (size, least) in LEAST_SIZES {
-        assert!(rt; size <= 4_026_531_840);
-        let found = min_allocator_size(size);
-        assert_eq!(rt; found, least, "{size}");
-        let mut allocator = Allocator::<u32>::new(rt.alloc(), found)?;
-        assert!(rt; allocator.allocate(size).is_some(), "{size}");
-        let mut small = Allocator::<u32>::with_max_allocs(rt.alloc(), found, 3)?;
-        assert!(rt; small.allocate(size).is_some(), "{size}");
+        expect_least(&rt, rt.alloc(), size, least)?;
     }
-    assert_eq!(rt; min_allocator_size(4_026_531_840), 4_026_531_840);
     Ok(())
 }

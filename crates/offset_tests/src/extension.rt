@@ -1,18 +1,18 @@
 //! Spaces that grow.
 
+use crate::steps::Limit::Limited;
 use crate::steps::Step::{Counts, Extends, Frees, Gone, Grants, Refuses, Reports, Resets};
-use crate::steps::follow;
-use offset_allocator::Allocator;
+use crate::steps::expect;
 use std::test::Fail;
 
 // A free last block grows also where no further block may stand.
 #[test]
 fn widens_a_free_last_block_at_the_block_limit(rt: HostRuntime) -> Result<(), Fail> {
-    let mut allocator = Allocator::<u32>::with_max_allocs(rt.alloc(), 10, 4)?;
-    follow(
+    expect(
         &rt,
         rt.alloc(),
-        &mut allocator,
+        10,
+        Limited(4),
         &[
             Grants(8, 0),
             Extends(20, true),
@@ -26,11 +26,11 @@ fn widens_a_free_last_block_at_the_block_limit(rt: HostRuntime) -> Result<(), Fa
 
 #[test]
 fn refuses_behind_a_used_last_block_at_the_block_limit(rt: HostRuntime) -> Result<(), Fail> {
-    let mut allocator = Allocator::<u32>::with_max_allocs(rt.alloc(), 20, 4)?;
-    follow(
+    expect(
         &rt,
         rt.alloc(),
-        &mut allocator,
+        20,
+        Limited(4),
         &[
             Grants(12, 0),
             Grants(8, 12),
@@ -48,11 +48,11 @@ fn refuses_behind_a_used_last_block_at_the_block_limit(rt: HostRuntime) -> Resul
 // Growing inside its class makes a block the newest.
 #[test]
 fn a_grown_block_is_the_newest(rt: HostRuntime) -> Result<(), Fail> {
-    let mut allocator = Allocator::<u32>::with_max_allocs(rt.alloc(), 66, 8)?;
-    follow(
+    expect(
         &rt,
         rt.alloc(),
-        &mut allocator,
+        66,
+        Limited(8),
         &[
             Grants(32, 0),
             Grants(1, 32),
@@ -65,11 +65,11 @@ fn a_grown_block_is_the_newest(rt: HostRuntime) -> Result<(), Fail> {
 
 #[test]
 fn a_reset_keeps_the_present_size(rt: HostRuntime) -> Result<(), Fail> {
-    let mut allocator = Allocator::<u16>::with_max_allocs(rt.alloc(), 10, 4)?;
-    follow(
+    expect(
         &rt,
         rt.alloc(),
-        &mut allocator,
+        10,
+        Limited(4),
         &[
             Grants(10, 0),
             Extends(6, true),
@@ -82,11 +82,11 @@ fn a_reset_keeps_the_present_size(rt: HostRuntime) -> Result<(), Fail> {
 
 #[test]
 fn the_greatest_space_does_not_grow(rt: HostRuntime) -> Result<(), Fail> {
-    let mut allocator = Allocator::<u32>::with_max_allocs(rt.alloc(), 4_294_967_295, 4)?;
-    follow(
+    expect(
         &rt,
         rt.alloc(),
-        &mut allocator,
+        4_294_967_295,
+        Limited(4),
         &[Extends(1, false), Extends(0, true)],
     )
 }
@@ -94,11 +94,11 @@ fn the_greatest_space_does_not_grow(rt: HostRuntime) -> Result<(), Fail> {
 // The size of the space may reach the greatest number.
 #[test]
 fn an_empty_space_grows_to_the_greatest(rt: HostRuntime) -> Result<(), Fail> {
-    let mut allocator = Allocator::<u32>::with_max_allocs(rt.alloc(), 0, 4)?;
-    follow(
+    expect(
         &rt,
         rt.alloc(),
-        &mut allocator,
+        0,
+        Limited(4),
         &[
             Refuses(1),
             Extends(4_294_967_295, true),

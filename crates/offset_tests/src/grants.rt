@@ -1,57 +1,57 @@
 //! What is granted and what is refused.
 
+use crate::steps::Limit::{Few, Limited};
 use crate::steps::Step::{Grants, Refuses};
-use crate::steps::follow;
-use crate::tiny::Tiny;
+use crate::steps::{expect, follow};
 use offset_allocator::{Allocator, NodeIndex, NonMaxU16, NonMaxU32};
+use offset_test_base::tiny::Tiny;
 use std::test::Fail;
 
 #[test]
 fn the_block_limit_refuses(rt: HostRuntime) -> Result<(), Fail> {
-    let mut allocator = Allocator::<u32>::with_max_allocs(rt.alloc(), 100, 3)?;
-    follow(
+    expect(
         &rt,
         rt.alloc(),
-        &mut allocator,
+        100,
+        Limited(3),
         &[Grants(10, 0), Refuses(10), Refuses(0)],
     )
 }
 
 #[test]
 fn a_limit_of_two_grants_nothing(rt: HostRuntime) -> Result<(), Fail> {
-    let mut allocator = Allocator::<u32>::with_max_allocs(rt.alloc(), 100, 2)?;
-    follow(&rt, rt.alloc(), &mut allocator, &[Refuses(1), Refuses(0)])
+    expect(&rt, rt.alloc(), 100, Limited(2), &[Refuses(1), Refuses(0)])
 }
 
 #[test]
 fn only_a_class_that_is_sure_to_fit_grants(rt: HostRuntime) -> Result<(), Fail> {
-    let mut allocator = Allocator::<u32>::with_max_allocs(rt.alloc(), 17, 4)?;
-    follow(
+    expect(
         &rt,
         rt.alloc(),
-        &mut allocator,
+        17,
+        Limited(4),
         &[Refuses(17), Grants(16, 0), Grants(1, 16)],
     )
 }
 
 #[test]
 fn an_empty_space_grants_nothing_once(rt: HostRuntime) -> Result<(), Fail> {
-    let mut allocator = Allocator::<u32>::with_max_allocs(rt.alloc(), 0, 8)?;
-    follow(
+    expect(
         &rt,
         rt.alloc(),
-        &mut allocator,
+        0,
+        Limited(8),
         &[Refuses(1), Grants(0, 0), Refuses(0)],
     )
 }
 
 #[test]
 fn the_greatest_sizes(rt: HostRuntime) -> Result<(), Fail> {
-    let mut allocator = Allocator::<u32>::with_max_allocs(rt.alloc(), 4_294_967_295, 8)?;
-    follow(
+    expect(
         &rt,
         rt.alloc(),
-        &mut allocator,
+        4_294_967_295,
+        Limited(8),
         &[
             Refuses(4_294_967_295),
             Refuses(4_026_531_841),
@@ -64,11 +64,11 @@ fn the_greatest_sizes(rt: HostRuntime) -> Result<(), Fail> {
 
 #[test]
 fn offsets_pass_a_narrow_index(rt: HostRuntime) -> Result<(), Fail> {
-    let mut allocator = Allocator::<u16>::with_max_allocs(rt.alloc(), 100_000, 8)?;
-    follow(
+    expect(
         &rt,
         rt.alloc(),
-        &mut allocator,
+        100_000,
+        Limited(8),
         &[Grants(70_000, 0), Grants(1_000, 70_000)],
     )
 }
@@ -84,4 +84,21 @@ fn the_numbers_of_indices(rt: HostRuntime) {
     );
     assert_eq!(rt; <u16 as NodeIndex>::from_u32(65_536), 0);
     assert_eq!(rt; Tiny::from_u32(12).to_usize(), 4);
+}
+
+// Without a limit of its own, a space takes the greatest that its index type admits.
+#[test]
+fn a_third_index_type_admits_five_nodes(rt: HostRuntime) -> Result<(), Fail> {
+    let mut allocator = Allocator::<Tiny>::new(rt.alloc(), 40)?;
+    follow(
+        &rt,
+        rt.alloc(),
+        &mut allocator,
+        &[Grants(10, 0), Grants(10, 10), Grants(10, 20), Refuses(10)],
+    )
+}
+
+#[test]
+fn a_narrow_index_type_needs_no_limit(rt: HostRuntime) -> Result<(), Fail> {
+    expect(&rt, rt.alloc(), 10, Few, &[Grants(10, 0)])
 }

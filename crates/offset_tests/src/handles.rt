@@ -1,40 +1,38 @@
 //! Handles that are stale, doubled, altered or of another space.
 
+use crate::steps::Limit::{Few, Limited};
 use crate::steps::Step::{Frees, FreesAltered, Gone, Grants, Lives};
-use crate::steps::{follow, proceed};
-use offset_allocator::{Allocation, Allocator};
+use crate::steps::{Step, expect, follow, made};
+use offset_allocator::{Allocation, Allocator, NodeIndex};
 use std::alloc::Global;
 use std::process::Abort;
 use std::test::Fail;
 
 // A stale handle is live again as the handle of the newer grant that has its name.
+const FREED_TWICE: [Step; 7] = [
+    Grants(8, 0),
+    Frees(0),
+    Gone(0),
+    Grants(8, 0),
+    Lives(0, 8),
+    Frees(0),
+    Gone(1),
+];
+
 #[test]
 fn a_stale_handle(rt: HostRuntime) -> Result<(), Fail> {
-    let mut allocator = Allocator::<u32>::new(rt.alloc(), 64)?;
-    follow(
-        &rt,
-        rt.alloc(),
-        &mut allocator,
-        &[
-            Grants(8, 0),
-            Frees(0),
-            Gone(0),
-            Grants(8, 0),
-            Lives(0, 8),
-            Frees(0),
-            Gone(1),
-        ],
-    )
+    expect(&rt, rt.alloc(), 64, Few, &FREED_TWICE)?;
+    expect(&rt, rt.alloc(), 64, Limited(8), &FREED_TWICE)
 }
 
 // The name alone counts.
 #[test]
 fn a_handle_with_another_offset(rt: HostRuntime) -> Result<(), Fail> {
-    let mut allocator = Allocator::<u32>::with_max_allocs(rt.alloc(), 64, 8)?;
-    follow(
+    expect(
         &rt,
         rt.alloc(),
-        &mut allocator,
+        64,
+        Limited(8),
         &[
             Grants(8, 0),
             Grants(8, 8),
@@ -47,26 +45,27 @@ fn a_handle_with_another_offset(rt: HostRuntime) -> Result<(), Fail> {
 }
 
 // The handles of a space with many names.
-fn of_another_space(rt: &impl Abort, alloc: Global) -> Result<Vec<Allocation<u32>>, Fail> {
-    let mut allocator = Allocator::<u32>::with_max_allocs(alloc, 198, 200)?;
+fn of_another_space<NI: NodeIndex>(
+    rt: &impl Abort,
+    alloc: Global,
+) -> Result<Vec<Allocation<NI>>, Fail> {
     let mut handles = Vec::new(alloc);
-    for offset in 0..198u32 {
-        proceed(
-            rt,
-            alloc,
-            &mut allocator,
-            &mut handles,
-            &[Grants(1, offset)],
-        )?;
+    if let Some(mut allocator) = made::<NI>(alloc, 198, Limited(200))? {
+        for _ in 0..198u32 {
+            if let Some(handle) = allocator.allocate(1) {
+                handles.push(handle)?;
+            }
+        }
     }
+    assert_eq!(rt; handles.len(), 198);
     Ok(handles)
 }
 
 // How many of the handles are live. Each of these has this size, and all others have the size 0.
-fn count_live(
+fn count_live<NI: NodeIndex>(
     rt: &impl Abort,
-    allocator: &Allocator<u32>,
-    handles: &[Allocation<u32>],
+    allocator: &Allocator<NI>,
+    handles: &[Allocation<NI>],
     size: u32,
 ) -> u32 {
     let mut count = 0u32;
@@ -81,12 +80,21 @@ fn count_live(
     count
 }
 
+fn expect_foreign<NI: NodeIndex>(rt: &impl Abort, alloc: Global) -> Result<(), Fail> {
+    let handles = of_another_space::<NI>(rt, alloc)?;
+    match made::<NI>(alloc, 64, Limited(4))? {
+        None => assert!(rt; false, "no allocator"),
+        Some(mut allocator) => {
+            assert_eq!(rt; count_live(rt, &allocator, &handles, 0), 0);
+            follow(rt, alloc, &mut allocator, &[Grants(5, 0)])?;
+            assert!(rt; count_live(rt, &allocator, &handles, 5) <= 1);
+        }
+    }
+    Ok(())
+}
+
 #[test]
 fn handles_of_another_space(rt: HostRuntime) -> Result<(), Fail> {
-    let handles = of_another_space(&rt, rt.alloc())?;
-    let mut allocator = Allocator::<u32>::with_max_allocs(rt.alloc(), 64, 4)?;
-    assert_eq!(rt; count_live(&rt, &allocator, &handles, 0), 0);
-    follow(&rt, rt.alloc(), &mut allocator, &[Grants(5, 0)])?;
-    assert!(rt; count_live(&rt, &allocator, &handles, 5) <= 1);
-    Ok(())
+    expect_foreign::<u32>(&rt, rt.alloc())?;
+    expect_foreign::<u16>(&rt, rt.alloc())
 }

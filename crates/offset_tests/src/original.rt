@@ -1,8 +1,8 @@
 //! The tests of the original that are about its allocator, each under its own name.
 
+use crate::steps::Limit::{Ample, Few, Limited};
 use crate::steps::Step::{Counts, Frees, Grants, Reports};
-use crate::steps::{Step, follow};
-use offset_allocator::Allocator;
+use crate::steps::{Step, expect};
 use std::alloc::{AllocError, Global};
 use std::test::Fail;
 
@@ -12,44 +12,35 @@ const PIECE: u32 = 1_048_576;
 
 #[test]
 fn basic_offset_allocator(rt: HostRuntime) -> Result<(), Fail> {
-    let mut allocator = Allocator::<u32>::new(rt.alloc(), SPACE)?;
-    follow(
-        &rt,
-        rt.alloc(),
-        &mut allocator,
-        &[Grants(1_337, 0), Frees(0)],
-    )
+    expect(&rt, rt.alloc(), SPACE, Few, &[Grants(1_337, 0), Frees(0)])
 }
+
+const SIMPLE: [Step; 10] = [
+    Grants(0, 0),
+    Grants(1, 0),
+    Grants(123, 1),
+    Grants(1_234, 124),
+    Frees(0),
+    Frees(1),
+    Frees(2),
+    Frees(3),
+    Grants(SPACE, 0),
+    Frees(4),
+];
 
 #[test]
 fn allocate_offset_allocator_simple(rt: HostRuntime) -> Result<(), Fail> {
-    let mut allocator = Allocator::<u32>::new(rt.alloc(), SPACE)?;
-    follow(
-        &rt,
-        rt.alloc(),
-        &mut allocator,
-        &[
-            Grants(0, 0),
-            Grants(1, 0),
-            Grants(123, 1),
-            Grants(1_234, 124),
-            Frees(0),
-            Frees(1),
-            Frees(2),
-            Frees(3),
-            Grants(SPACE, 0),
-            Frees(4),
-        ],
-    )
+    expect(&rt, rt.alloc(), SPACE, Ample, &SIMPLE)?;
+    expect(&rt, rt.alloc(), SPACE, Limited(8), &SIMPLE)
 }
 
 #[test]
 fn allocate_offset_allocator_merge_trivial(rt: HostRuntime) -> Result<(), Fail> {
-    let mut allocator = Allocator::<u32>::new(rt.alloc(), SPACE)?;
-    follow(
+    expect(
         &rt,
         rt.alloc(),
-        &mut allocator,
+        SPACE,
+        Few,
         &[
             Grants(1_337, 0),
             Frees(0),
@@ -63,11 +54,11 @@ fn allocate_offset_allocator_merge_trivial(rt: HostRuntime) -> Result<(), Fail> 
 
 #[test]
 fn allocate_offset_allocator_reuse_trivial(rt: HostRuntime) -> Result<(), Fail> {
-    let mut allocator = Allocator::<u32>::new(rt.alloc(), SPACE)?;
-    follow(
+    expect(
         &rt,
         rt.alloc(),
-        &mut allocator,
+        SPACE,
+        Few,
         &[
             Grants(1_024, 0),
             Grants(3_456, 1_024),
@@ -83,11 +74,11 @@ fn allocate_offset_allocator_reuse_trivial(rt: HostRuntime) -> Result<(), Fail> 
 
 #[test]
 fn allocate_offset_allocator_reuse_complex(rt: HostRuntime) -> Result<(), Fail> {
-    let mut allocator = Allocator::<u32>::new(rt.alloc(), SPACE)?;
-    follow(
+    expect(
         &rt,
         rt.alloc(),
-        &mut allocator,
+        SPACE,
+        Ample,
         &[
             Grants(1_024, 0),
             Grants(3_456, 1_024),
@@ -157,7 +148,6 @@ fn zero_fragmentation_steps(alloc: Global) -> Result<Vec<Step>, AllocError> {
 
 #[test]
 fn allocate_offset_allocator_zero_fragmentation(rt: HostRuntime) -> Result<(), Fail> {
-    let mut allocator = Allocator::<u32>::new(rt.alloc(), SPACE)?;
     let steps = zero_fragmentation_steps(rt.alloc())?;
-    follow(&rt, rt.alloc(), &mut allocator, &steps)
+    expect(&rt, rt.alloc(), SPACE, Ample, &steps)
 }

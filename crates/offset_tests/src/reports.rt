@@ -1,30 +1,31 @@
 //! What the reports tell.
 
-use crate::classes::GROUPS;
+use crate::steps::Limit::{Few, Limited};
 use crate::steps::Step::{Counts, Grants, Refuses, Reports, Undoes};
-use crate::steps::follow;
+use crate::steps::expect;
 use offset_allocator::{Allocator, StorageReportFull, StorageReportFullRegion};
+use offset_test_base::groups::value_of;
 use std::test::Fail;
 
 // The largest region is the value of a class, and not the size of the block.
 #[test]
 fn tells_the_value_of_a_class(rt: HostRuntime) -> Result<(), Fail> {
-    let mut allocator = Allocator::<u32>::new(rt.alloc(), 17)?;
-    follow(
+    expect(
         &rt,
         rt.alloc(),
-        &mut allocator,
+        17,
+        Few,
         &[Reports(17, 16), Refuses(17), Grants(16, 0)],
     )
 }
 
 #[test]
 fn tells_free_blocks_at_the_block_limit(rt: HostRuntime) -> Result<(), Fail> {
-    let mut allocator = Allocator::<u32>::with_max_allocs(rt.alloc(), 100, 3)?;
-    follow(
+    expect(
         &rt,
         rt.alloc(),
-        &mut allocator,
+        100,
+        Limited(3),
         &[
             Grants(10, 0),
             Refuses(10),
@@ -36,11 +37,11 @@ fn tells_free_blocks_at_the_block_limit(rt: HostRuntime) -> Result<(), Fail> {
 
 #[test]
 fn tells_a_space_that_grants_nothing(rt: HostRuntime) -> Result<(), Fail> {
-    let mut allocator = Allocator::<u32>::with_max_allocs(rt.alloc(), 100, 2)?;
-    follow(
+    expect(
         &rt,
         rt.alloc(),
-        &mut allocator,
+        100,
+        Limited(2),
         &[
             Refuses(1),
             Refuses(0),
@@ -52,22 +53,22 @@ fn tells_a_space_that_grants_nothing(rt: HostRuntime) -> Result<(), Fail> {
 
 #[test]
 fn tells_an_empty_space(rt: HostRuntime) -> Result<(), Fail> {
-    let mut allocator = Allocator::<u32>::new(rt.alloc(), 0)?;
-    follow(
+    expect(
         &rt,
         rt.alloc(),
-        &mut allocator,
+        0,
+        Few,
         &[Reports(0, 0), Refuses(1), Grants(0, 0), Refuses(0)],
     )
 }
 
 #[test]
 fn tells_the_greatest_space(rt: HostRuntime) -> Result<(), Fail> {
-    let mut allocator = Allocator::<u32>::with_max_allocs(rt.alloc(), 4_294_967_295, 8)?;
-    follow(
+    expect(
         &rt,
         rt.alloc(),
-        &mut allocator,
+        4_294_967_295,
+        Limited(8),
         &[
             Reports(4_294_967_295, 4_026_531_840),
             Refuses(4_026_531_841),
@@ -79,11 +80,11 @@ fn tells_the_greatest_space(rt: HostRuntime) -> Result<(), Fail> {
 
 #[test]
 fn foretells_requests(rt: HostRuntime) -> Result<(), Fail> {
-    let mut allocator = Allocator::<u32>::with_max_allocs(rt.alloc(), 143, 3)?;
-    follow(
+    expect(
         &rt,
         rt.alloc(),
-        &mut allocator,
+        143,
+        Limited(3),
         &[
             Reports(143, 128),
             Refuses(129),
@@ -93,16 +94,6 @@ fn foretells_requests(rt: HostRuntime) -> Result<(), Fail> {
             Undoes(0, false),
         ],
     )
-}
-
-#[test]
-fn names_the_fields_of_the_short_report(rt: HostRuntime) -> Result<(), Fail> {
-    let allocator = Allocator::<u32>::new(rt.alloc(), 17)?;
-    assert_eq!(rt;
-        format!(in rt.alloc(); "{allocator:?}")?.as_str(),
-        "StorageReport { total_free_space: 17, largest_free_region: 16 }"
-    );
-    Ok(())
 }
 
 #[test]
@@ -120,11 +111,9 @@ fn tells_the_values_of_all_classes(rt: HostRuntime) -> Result<(), Fail> {
     let allocator = Allocator::<u32>::with_max_allocs(rt.alloc(), 100, 2)?;
     let report = allocator.storage_report_full();
     for class in 0..256usize {
-        let (first, step) = GROUPS[class / 8];
-        let value = first.saturating_add(step.saturating_mul(class as u64 % 8)) % 4_294_967_296;
         assert_eq!(rt;
             u64::from(report.free_regions[class].size),
-            value,
+            value_of(class) % 4_294_967_296,
             "class {class}"
         );
     }

@@ -2,7 +2,8 @@
 
 use offset_allocator::laws::undo;
 use offset_allocator::{Allocation, Allocator, NodeIndex};
-use std::alloc::Global;
+use offset_test_base::tiny::Tiny;
+use std::alloc::{AllocError, Global};
 use std::process::Abort;
 use std::test::Fail;
 
@@ -31,9 +32,9 @@ pub enum Step {
     Undoes(u32, bool),
     /// The whole space is free.
     Resets,
-    /// The short report tells this total, and this largest region.
+    /// The short report has this total, and this largest region.
     Reports(u32, u32),
-    /// The full report tells these classes, with their sizes and counts, and no free block besides.
+    /// The full report has these classes, with their sizes and counts, and no free block besides.
     Counts(&'static [(usize, u32, u32)]),
 }
 
@@ -126,6 +127,24 @@ fn grant_of<NI: NodeIndex>(
     handles[number]
 }
 
+// A step on the handle of a grant.
+fn of_grant<NI: NodeIndex>(
+    rt: &impl Abort,
+    allocator: &mut Allocator<NI>,
+    mut handle: Allocation<NI>,
+    step: &Step,
+) {
+    match step {
+        Step::FreesAltered(_, offset) => {
+            handle.offset = *offset;
+            release(rt, allocator, handle);
+        }
+        Step::Lives(_, size) => expect_live(rt, allocator, handle, *size),
+        Step::Gone(_) => expect_gone(rt, allocator, handle),
+        _ => release(rt, allocator, handle),
+    }
+}
+
 fn take<NI: NodeIndex>(
     rt: &impl Abort,
     alloc: Global,
@@ -149,16 +168,6 @@ fn take<NI: NodeIndex>(
             let granted = request(rt, allocator, *size, *align);
             assert!(rt; granted.is_none(), "a request of {size} at {align}");
         }
-        Step::Frees(number) => release(rt, allocator, grant_of(rt, handles, *number)),
-        Step::FreesAltered(number, offset) => {
-            let mut handle = grant_of(rt, handles, *number);
-            handle.offset = *offset;
-            release(rt, allocator, handle);
-        }
-        Step::Lives(number, size) => {
-            expect_live(rt, allocator, grant_of(rt, handles, *number), *size);
-        }
-        Step::Gone(number) => expect_gone(rt, allocator, grant_of(rt, handles, *number)),
         Step::Extends(more, grown) => {
             assert_eq!(rt; allocator.extend(*more), *grown, "{more} more");
         }
@@ -168,20 +177,10 @@ fn take<NI: NodeIndex>(
         Step::Resets => allocator.reset(),
         Step::Reports(total, largest) => expect_report(rt, allocator, *total, *largest),
         Step::Counts(wanted) => expect_counts(rt, alloc, allocator, wanted)?,
-    }
-    Ok(())
-}
-
-/// Makes the calls in order. The handles of the grants come behind those that were there.
-pub fn proceed<NI: NodeIndex>(
-    rt: &impl Abort,
-    alloc: Global,
-    allocator: &mut Allocator<NI>,
-    handles: &mut Vec<Allocation<NI>>,
-    steps: &[Step],
-) -> Result<(), Fail> {
-    for step in steps {
-        take(rt, alloc, allocator, handles, step)?;
+        Step::Frees(number)
+        | Step::FreesAltered(number, _)
+        | Step::Lives(number, _)
+        | Step::Gone(number) => of_grant(rt, allocator, grant_of(rt, handles, *number), step),
     }
     Ok(())
 }
@@ -193,5 +192,72 @@ pub fn follow<NI: NodeIndex>(
     allocator: &mut Allocator<NI>,
     steps: &[Step],
 ) -> Result<(), Fail> {
-    proceed(rt, alloc, allocator, &mut Vec::new(alloc), steps)
+    let mut handles = Vec::new(alloc);
+    for step in steps {
+        take(rt, alloc, allocator, &mut handles, step)?;
+    }
+    Ok(())
+}
+
+/// How an allocator is made.
+#[derive(Clone, Copy)]
+pub enum Limit {
+    /// By `new`. The calls need more than four blocks, so that the third index type is left out.
+    Ample,
+    /// By `new`. Four blocks are enough for the calls.
+    Few,
+    /// By `with_max_allocs`, of each index type that admits this limit.
+    Limited(u32),
+}
+
+/// A new allocator, or none where its index type does not admit the limit.
+pub fn made<NI: NodeIndex>(
+    alloc: Global,
+    size: u32,
+    limit: Limit,
+) -> Result<Option<Allocator<NI>>, AllocError> {
+    match limit {
+        Limit::Ample | Limit::Few => Ok(Some(Allocator::new(alloc, size)?)),
+        Limit::Limited(limit) => {
+            if limit < 2 || limit >= NI::MAX - 1 {
+                return Ok(None);
+            }
+            Ok(Some(Allocator::with_max_allocs(alloc, size, limit)?))
+        }
+    }
+}
+
+// How many calls were made.
+fn follow_by<NI: NodeIndex>(
+    rt: &impl Abort,
+    alloc: Global,
+    size: u32,
+    limit: Limit,
+    steps: &[Step],
+) -> Result<usize, Fail> {
+    match made::<NI>(alloc, size, limit)? {
+        None => Ok(0),
+        Some(mut allocator) => {
+            follow(rt, alloc, &mut allocator, steps)?;
+            Ok(steps.len())
+        }
+    }
+}
+
+/// Makes the calls in order on a new allocator, once for each index type that admits it.
+pub fn expect(
+    rt: &impl Abort,
+    alloc: Global,
+    size: u32,
+    limit: Limit,
+    steps: &[Step],
+) -> Result<(), Fail> {
+    let wide = follow_by::<u32>(rt, alloc, size, limit, steps)?;
+    assert!(rt; wide > 0, "no allocator, or no calls");
+    let _narrow = follow_by::<u16>(rt, alloc, size, limit, steps)?;
+    if let Limit::Ample = limit {
+        return Ok(());
+    }
+    let _tiny = follow_by::<Tiny>(rt, alloc, size, limit, steps)?;
+    Ok(())
 }

@@ -1,11 +1,9 @@
 //! Scripts, played with each index type.
 
-use crate::rows::ROWS;
-use crate::steps::Step::{Grants, Refuses};
-use crate::steps::follow;
-use crate::tiny::Tiny;
-use offset_allocator::{Allocator, NodeIndex};
+use crate::rows::{ROWS, text_of};
+use offset_allocator::NodeIndex;
 use offset_script::{Script, parse, play};
+use offset_test_base::tiny::Tiny;
 use std::alloc::Global;
 use std::process::Abort;
 use std::test::Fail;
@@ -33,8 +31,9 @@ fn expect_alike(rt: &impl Abort, alloc: Global, text: &[u8]) -> Result<(), Fail>
 
 #[test]
 fn all_index_types_answer_alike(rt: HostRuntime) -> Result<(), Fail> {
-    for (text, _wanted) in ROWS {
-        expect_alike(&rt, rt.alloc(), text)?;
+    for (header, lines, _wanted) in ROWS {
+        let text = text_of(rt.alloc(), header, 32, lines)?;
+        expect_alike(&rt, rt.alloc(), text.as_bytes())?;
     }
     Ok(())
 }
@@ -48,22 +47,4 @@ fn plays_with_a_third_index_type(rt: HostRuntime) -> Result<(), Fail> {
         "[Grant { number: 1, offset: 0 }, Grant { number: 2, offset: 10 }, Grant { number: 3, offset: 20 }, Refused]"
     );
     Ok(())
-}
-
-// Without a limit of its own, a space takes the greatest that its index type admits.
-#[test]
-fn a_third_index_type_admits_five_nodes(rt: HostRuntime) -> Result<(), Fail> {
-    let mut allocator = Allocator::<Tiny>::new(rt.alloc(), 40)?;
-    follow(
-        &rt,
-        rt.alloc(),
-        &mut allocator,
-        &[Grants(10, 0), Grants(10, 10), Grants(10, 20), Refuses(10)],
-    )
-}
-
-#[test]
-fn a_narrow_index_type_needs_no_limit(rt: HostRuntime) -> Result<(), Fail> {
-    let mut allocator = Allocator::<u16>::new(rt.alloc(), 10)?;
-    follow(&rt, rt.alloc(), &mut allocator, &[Grants(10, 0)])
 }

@@ -1,8 +1,8 @@
 //! Commands answered slowly, over a plain list of blocks.
 
-use crate::classes::GROUPS;
 use offset_allocator::StorageReport;
 use offset_script::{Answer, Command, FullRow};
+use offset_test_base::groups::value_of;
 use std::alloc::{AllocError, Global};
 
 const GREATEST: u64 = 4_294_967_295;
@@ -38,13 +38,6 @@ pub struct Space {
     calls: u64,
     /// How many grants were made.
     pub grants: u64,
-}
-
-fn value_of(class: usize) -> u64 {
-    match GROUPS.get(class / 8) {
-        None => u64::MAX,
-        Some((first, step)) => first.saturating_add(step.saturating_mul(class as u64 % 8)),
-    }
 }
 
 // The least class whose value is at least the size.

@@ -2,9 +2,9 @@
 
 use crate::numbers::Numbers;
 use crate::slow::Space;
-use crate::tiny::Tiny;
 use offset_allocator::NodeIndex;
 use offset_script::{Answer, Command, Script, parse, play};
+use offset_test_base::tiny::Tiny;
 use std::alloc::{AllocError, Global};
 use std::process::Abort;
 use std::test::Fail;

@@ -2,8 +2,8 @@
 
 use crate::numbers::Numbers;
 use crate::slow_reading::{Reading, read_slowly, told_slowly};
-use crate::support::told;
 use offset_script::{Script, ScriptFault, parse};
+use offset_test_base::runs::told;
 use std::alloc::{AllocError, Global};
 use std::process::Abort;
 use std::test::Fail;

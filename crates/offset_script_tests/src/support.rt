@@ -1,6 +1,6 @@
 //! What the tests of texts and devices share.
 
-use offset_script::{FromRead, IntoWrite, run};
+pub use offset_test_base::runs::told;
 use std::alloc::Global;
 use std::io;
 use std::io::{Error, ErrorKind, Read, Write};
@@ -103,20 +103,6 @@ impl Write for Writer {
             return Err(Error::from(ErrorKind::Interrupted));
         }
         Ok(())
-    }
-}
-
-/// What a run writes, and behind it the line and the status of its fault.
-pub fn told(alloc: Global, text: &[u8]) -> Result<String, Fail> {
-    let mut output = IntoWrite::new(Vec::new(alloc));
-    let result = run(alloc, &mut FromRead::new(text), &mut output);
-    let written = String::from_utf8(output.into_inner())?;
-    match result {
-        Ok(()) => Ok(written),
-        Err(fault) => {
-            let status = fault.status();
-            Ok(format!(in alloc; "{written}{fault}, status {status}")?)
-        }
     }
 }
 

@@ -1,0 +1,128 @@
+//! Great spaces, and great limits.
+
+use offset_allocator::{Allocation, Allocator, NodeIndex};
+use offset_test_base::tiny::Tiny;
+use std::alloc::Global;
+use std::process::Abort;
+use std::test::Fail;
+
+// Sizes of spaces, with the greatest class value that is no larger.
+const SIZES: [(u32, u32); 6] = [
+    (1_073_741_823, 1_006_632_960),
+    (1_073_741_824, 1_073_741_824),
+    (1_073_741_825, 1_073_741_824),
+    (2_147_483_648, 2_147_483_648),
+    (4_026_531_841, 4_026_531_840),
+    (4_294_967_295, 4_026_531_840),
+];
+
+fn expect_space<NI: NodeIndex>(
+    rt: &impl Abort,
+    mut allocator: Allocator<NI>,
+    size: u32,
+    largest: u32,
+) {
+    let report = allocator.storage_report();
+    assert_eq!(rt; report.total_free_space, size);
+    assert_eq!(rt; report.largest_free_region, largest, "a space of {size}");
+    match allocator.allocate(largest) {
+        None => assert!(rt; false, "a request of {largest} is refused"),
+        Some(handle) => assert_eq!(rt; handle.offset, 0),
+    }
+}
+
+#[test]
+fn makes_great_spaces(rt: HostRuntime) -> Result<(), Fail> {
+    for (size, largest) in SIZES {
+        expect_space(&rt, Allocator::<u32>::new(rt.alloc(), size)?, size, largest);
+        expect_space(&rt, Allocator::<u16>::new(rt.alloc(), size)?, size, largest);
+        expect_space(
+            &rt,
+            Allocator::<Tiny>::new(rt.alloc(), size)?,
+            size,
+            largest,
+        );
+    }
+    Ok(())
+}
+
+// Each request takes the next unit.
+fn take_units<NI: NodeIndex>(
+    rt: &impl Abort,
+    alloc: Global,
+    allocator: &mut Allocator<NI>,
+    count: u32,
+) -> Result<Vec<Allocation<NI>>, Fail> {
+    let mut handles = Vec::new(alloc);
+    for offset in 0..count {
+        match allocator.allocate(1) {
+            None => assert!(rt; false, "the request at {offset} is refused"),
+            Some(handle) => {
+                assert_eq!(rt; handle.offset, offset);
+                handles.push(handle)?;
+            }
+        }
+    }
+    Ok(handles)
+}
+
+fn give_back<NI: NodeIndex>(
+    rt: &impl Abort,
+    allocator: &mut Allocator<NI>,
+    handles: &[Allocation<NI>],
+) {
+    for handle in handles {
+        assert!(rt; allocator.is_live(*handle));
+        assert_eq!(rt; allocator.allocation_size(*handle), 1);
+        allocator.free(*handle);
+        assert!(rt; !allocator.is_live(*handle));
+    }
+}
+
+// As many grants are live as the limit admits, beside one free block, and one request more is refused.
+fn expect_full<NI: NodeIndex>(
+    rt: &impl Abort,
+    alloc: Global,
+    allocator: &mut Allocator<NI>,
+    limit: u32,
+) -> Result<Vec<Allocation<NI>>, Fail> {
+    let handles = take_units(rt, alloc, allocator, limit.saturating_sub(2))?;
+    assert!(rt; allocator.allocate(1).is_none(), "more than {limit} nodes");
+    Ok(handles)
+}
+
+fn expect_free<NI: NodeIndex>(rt: &impl Abort, allocator: &Allocator<NI>) {
+    let report = allocator.storage_report();
+    assert_eq!(rt; report.total_free_space, 4_294_967_295);
+    assert_eq!(rt; report.largest_free_region, 4_026_531_840);
+}
+
+// All grants are released one by one, and then by a reset.
+fn expect_limit<NI: NodeIndex>(rt: &impl Abort, alloc: Global, limit: u32) -> Result<(), Fail> {
+    assert!(rt; 2 <= limit && limit < NI::MAX - 1);
+    let mut allocator = Allocator::<NI>::with_max_allocs(alloc, 4_294_967_295, limit)?;
+    let handles = expect_full(rt, alloc, &mut allocator, limit)?;
+    give_back(rt, &mut allocator, &handles);
+    expect_free(rt, &allocator);
+    let _handles = expect_full(rt, alloc, &mut allocator, limit)?;
+    allocator.reset();
+    expect_free(rt, &allocator);
+    Ok(())
+}
+
+#[test]
+fn grants_as_many_as_a_great_limit_admits(rt: HostRuntime) -> Result<(), Fail> {
+    expect_limit::<u16>(&rt, rt.alloc(), 65_533)?;
+    expect_limit::<u32>(&rt, rt.alloc(), 131_073)?;
+    expect_limit::<u32>(&rt, rt.alloc(), 300_000)
+}
+
+// Without a limit of its own, a space has 131,072 nodes, or as many as the narrow index type admits.
+#[test]
+fn grants_as_many_as_the_limit_of_new_admits(rt: HostRuntime) -> Result<(), Fail> {
+    let mut wide = Allocator::<u32>::new(rt.alloc(), 4_294_967_295)?;
+    let _handles = expect_full(&rt, rt.alloc(), &mut wide, 131_072)?;
+    let mut narrow = Allocator::<u16>::new(rt.alloc(), 4_294_967_295)?;
+    let _handles = expect_full(&rt, rt.alloc(), &mut narrow, 65_533)?;
+    Ok(())
+}

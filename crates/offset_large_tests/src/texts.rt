@@ -1,0 +1,63 @@
+//! Long texts, and what a run writes for them.
+
+use offset_script::{FromRead, IntoWrite, RunFault, run};
+use std::alloc::{AllocError, Global};
+use std::io;
+use std::io::Read;
+use std::process::Abort;
+
+/// Gives a text one byte at a time.
+#[derive(Drop)]
+pub struct Bytes<'a> {
+    pub text: &'a [u8],
+}
+
+impl<'a> Read for Bytes<'a> {
+    fn read(&mut self, buf: &mut [u8]) -> io::Result<usize> {
+        let n = buf.len().min(self.text.len()).min(1);
+        let (taken, rest) = self.text.split_at(n);
+        buf[..n].copy_from_slice(taken);
+        self.text = rest;
+        Ok(n)
+    }
+}
+
+/// Appends a line as often as this.
+pub fn put_lines(text: &mut String, line: &str, times: u32) -> Result<(), AllocError> {
+    for _ in 0..times {
+        text.push_str(line)?;
+    }
+    Ok(())
+}
+
+/// Appends the answers to requests of 1 unit each in a fresh space: each takes the next unit.
+pub fn put_units(answers: &mut String, grants: u32) -> Result<(), AllocError> {
+    for offset in 0..grants {
+        let number = u64::from(offset) + 1;
+        writeln!(answers, "grant {number} at {offset}")?;
+    }
+    Ok(())
+}
+
+/// A run of the text ends well, and writes this.
+pub fn expect_answers(rt: &impl Abort, alloc: Global, text: &str, wanted: &str) {
+    expect_answers_of(rt, alloc, text.as_bytes(), wanted);
+}
+
+/// A run of what a reader gives ends well, and writes this.
+pub fn expect_answers_of<R: Read + Drop>(rt: &impl Abort, alloc: Global, text: R, wanted: &str) {
+    let mut output = IntoWrite::new(Vec::new(alloc));
+    let result = run(alloc, &mut FromRead::new(text), &mut output);
+    assert_eq!(rt; result, Ok(()));
+    let written = output.into_inner();
+    assert_eq!(rt; written.len(), wanted.len());
+    assert!(rt; written.as_slice() == wanted.as_bytes(), "other answers");
+}
+
+/// A run of the text ends in this fault, and writes nothing.
+pub fn expect_fault(rt: &impl Abort, alloc: Global, text: &str, wanted: RunFault) {
+    let mut output = IntoWrite::new(Vec::new(alloc));
+    let result = run(alloc, &mut FromRead::new(text.as_bytes()), &mut output);
+    assert_eq!(rt; result, Err(wanted));
+    assert!(rt; output.into_inner().is_empty());
+}

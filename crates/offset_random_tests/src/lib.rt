@@ -1,0 +1,13 @@
+//! Tests of `offset_script` by random scripts and texts, against a slow program of their own.
+#![tactic(auto)]
+
+#[cfg(test)]
+mod mixed;
+#[cfg(test)]
+mod numbers;
+#[cfg(test)]
+mod random_texts;
+#[cfg(test)]
+mod slow;
+#[cfg(test)]
+mod slow_reading;

@@ -1,0 +1,6 @@
+//! What the crates of tests share.
+#![tactic(auto)]
+
+pub mod groups;
+pub mod runs;
+pub mod tiny;
