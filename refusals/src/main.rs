@@ -22,7 +22,7 @@ const FAULT: &[u64] = &[3, 5];
 
 /// Whether a constructor asks for the bytes of all its tables in one request, and gives them back, before it asks for
 /// each table.
-const ASKS_FOR_ALL: bool = false;
+const ASKS_FOR_ALL: bool = true;
 
 /// The bytes of each request that a constructor makes: for each node its offset, its size, whether it is used, its two
 /// neighbours and its two links, the newest node of each class, and the spare names. A name has so many bits.

@@ -14,6 +14,8 @@ mod handles;
 #[cfg(test)]
 mod original;
 #[cfg(test)]
+mod refusals;
+#[cfg(test)]
 mod reports;
 #[cfg(test)]
 mod steps;

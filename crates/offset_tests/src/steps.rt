@@ -1,7 +1,7 @@
 //! Calls of one allocator, as rows of a table.
 
-use offset_allocator::laws::undo;
-use offset_allocator::{Allocation, Allocator, NodeIndex};
+use offset_allocator::laws::{refusal_aligned_counted, refusal_counted, undo};
+use offset_allocator::{Accesses, Allocation, Allocator, NodeIndex, Refusal};
 use offset_test_base::tiny::Tiny;
 use std::alloc::{AllocError, Global};
 use std::process::Abort;
@@ -32,6 +32,12 @@ pub enum Step {
     Undoes(u32, bool),
     /// The whole space is free.
     Resets,
+    /// A request of this size is refused for this reason.
+    Lacks(u32, Refusal),
+    /// A request of this size at a multiple of the second number is refused for this reason.
+    LacksAligned(u32, u32, Refusal),
+    /// The space has this size, this many blocks, and is full or not.
+    Is(u32, u32, bool),
     /// The short report has this total, and this largest region.
     Reports(u32, u32),
     /// The full report has these classes, with their sizes and counts, and no free block besides.
@@ -88,7 +94,6 @@ fn expect_counts<NI: NodeIndex>(
     Ok(())
 }
 
-#[tactic(auto, using(offset_allocator::proofs::Powers::power_of_two))]
 fn request<NI: NodeIndex>(
     rt: &impl Abort,
     allocator: &mut Allocator<NI>,
@@ -97,6 +102,25 @@ fn request<NI: NodeIndex>(
 ) -> Option<Allocation<NI>> {
     assert!(rt; align.is_power_of_two());
     allocator.allocate_aligned(size, align)
+}
+
+// Why a request is refused, by both calls where it is a plain one. None also where the alignment is no power of two.
+fn refusal<NI: NodeIndex>(allocator: &Allocator<NI>, size: u32, align: u32) -> Option<Refusal> {
+    if !align.is_power_of_two() {
+        return None;
+    }
+    let mut count = Accesses::new();
+    let why = allocator.refusal_aligned(size, align);
+    if why != refusal_aligned_counted(allocator, size, align, &mut count) {
+        return None;
+    }
+    if align == 1 && why != allocator.refusal(size) {
+        return None;
+    }
+    if align == 1 && why != refusal_counted(allocator, size, &mut count) {
+        return None;
+    }
+    why
 }
 
 fn keep<NI: NodeIndex>(
@@ -154,10 +178,12 @@ fn take<NI: NodeIndex>(
 ) -> Result<(), Fail> {
     match step {
         Step::Grants(size, offset) => {
+            assert_eq!(rt; refusal(allocator, *size, 1), None);
             let granted = allocator.allocate(*size);
             keep(rt, allocator, handles, granted, *size, *offset)?;
         }
         Step::Refuses(size) => {
+            assert!(rt; allocator.refusal(*size).is_some());
             assert!(rt; allocator.allocate(*size).is_none(), "a request of {size}");
         }
         Step::Aligns(size, align, offset) => {
@@ -175,6 +201,20 @@ fn take<NI: NodeIndex>(
             assert_eq!(rt; undo(allocator, *size), *granted, "a request of {size}");
         }
         Step::Resets => allocator.reset(),
+        Step::Lacks(size, why) => assert_eq!(rt; refusal(allocator, *size, 1), Some(*why)),
+        Step::LacksAligned(size, align, why) => {
+            assert_eq!(rt; refusal(allocator, *size, *align), Some(*why));
+        }
+        Step::Is(size, blocks, full) => {
+            assert_eq!(rt;
+                (
+                    allocator.size(),
+                    allocator.block_count(),
+                    allocator.is_full()
+                ),
+                (*size, *blocks, *full)
+            );
+        }
         Step::Reports(total, largest) => expect_report(rt, allocator, *total, *largest),
         Step::Counts(wanted) => expect_counts(rt, alloc, allocator, wanted)?,
         Step::Frees(number)

@@ -1,6 +1,8 @@
 use super::daily::{Ring, give_back, granted_units, insert, place, upload};
 use super::*;
 use offset_allocator::Refusal;
+use offset_test_base::tiny::Tiny;
+use std::process::Abort;
 use std::test::Fail;
 
 #[test]
@@ -57,13 +59,18 @@ fn a_tenant_stays_within_its_quota(rt: HostRuntime) -> Result<(), Fail> {
     Ok(())
 }
 
-#[test]
-fn a_frame_leaves_the_space_as_it_was(rt: HostRuntime) -> Result<(), Fail> {
-    let mut space = Allocator::<u16>::new(rt.alloc(), 100)?;
+fn expect_frame<NI: NodeIndex>(rt: &impl Abort, mut space: Allocator<NI>) {
     let mut count = Accesses::new();
     assert_eq!(rt; frame(&mut space, 40, &mut count), Some(60));
     assert_eq!(rt; frame(&mut space, 97, &mut count), None);
     assert_eq!(rt; space.storage_report().total_free_space, 100);
+}
+
+#[test]
+fn a_frame_leaves_the_space_as_it_was(rt: HostRuntime) -> Result<(), Fail> {
+    expect_frame(&rt, Allocator::<u32>::new(rt.alloc(), 100)?);
+    expect_frame(&rt, Allocator::<u16>::new(rt.alloc(), 100)?);
+    expect_frame(&rt, Allocator::<Tiny>::new(rt.alloc(), 100)?);
     Ok(())
 }
 
