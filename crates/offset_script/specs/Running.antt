@@ -58,13 +58,13 @@ RunOf (Err Memory) text left old new = Unit {0}
 RunOf (Err Read) text left old new = Unit {0}
 RunOf (Err Write) text left old new = (left ≡ Some []) × BeginsAnswers text old new
 
--- nothing was written
-abbrev pub Unwritten : Result (Unit {0}) RunFault → Option (List ℕ) → Option (List ℕ) → Type 0
-Unwritten (Ok u) old new = Unit {0}
-Unwritten (Err (Script f)) old new = new ≡ old
-Unwritten (Err Memory) old new = new ≡ old
-Unwritten (Err Read) old new = new ≡ old
-Unwritten (Err Write) old new = Unit {0}
+-- where a run had no answers to write, its sink is as it was
+abbrev pub Untouched : {K : Type 0} → Result (Unit {0}) RunFault → K → K → Type 0
+Untouched (Ok u) old new = Unit {0}
+Untouched (Err (Script f)) old new = new ≡ old
+Untouched (Err Memory) old new = new ≡ old
+Untouched (Err Read) old new = new ≡ old
+Untouched (Err Write) old new = Unit {0}
 
 -- what reading a text left: the whole text, or its first 1,048,577 bytes
 pub record HasText (bytes : List ℕ) (old new : Option (List ℕ)) : Type 0 where

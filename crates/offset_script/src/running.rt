@@ -1,7 +1,7 @@
 //! From a source's bytes to a sink's.
 
-ghost use Rattle.std.specs.Prelude.{◌≡◌, ◌≢◌, true, false, IfOk, IfErr, IfSome, if◌then◌else◌};
-ghost use Rattle.offset_script.specs.Running.{RunOf, Unwritten, HasText, Sends, is_read_fault, is_write_fault, IsReadingFault};
+ghost use Rattle.std.specs.Prelude.{◌≡◌, ◌≢◌, true, false, IfOk, IfErr, IfSome, IsTrue, OnOk, if◌then◌else◌};
+ghost use Rattle.offset_script.specs.Running.{RunOf, Untouched, HasText, Sends, is_read_fault, is_write_fault, IsReadingFault};
 ghost use Rattle.offset_script.specs.Answers.{all_seen};
 ghost use Rattle.offset_script.specs.Playing.{IsPlayed};
 ghost use Rattle.offset_script.specs.declared.faults.RunFault.TheVariants as faults;
@@ -42,6 +42,7 @@ fn read_text<S: Source>(alloc: Global, input: &mut S) -> Result<Vec<u8>, RunFaul
 fn send<K: Sink>(output: &mut K, text: &[u8]) -> bool
     ensures sent { Sends result text.now (K.held output.old) (K.held output.new) }
     ensures failed { K.has_failed output.new ≡ (if result then K.has_failed output.old else true) }
+    ensures flushed { IsTrue result → K.is_flushed output.new ≡ true }
 {
     let mut rest = text;
     while !rest.is_empty() {
@@ -73,7 +74,8 @@ fn answers(alloc: Global, script: &Script) -> Result<Vec<Answer>, AllocError>
 pub fn run<S: Source, K: Sink>(alloc: Global, input: &mut S, output: &mut K) -> Result<(), RunFault>
     ensures of_text { IfSome (S.left input.old)
         (λ text. RunOf result text (S.left input.new) (K.held output.old) (K.held output.new)) }
-    ensures unwritten { Unwritten result (K.held output.old) (K.held output.new) }
+    ensures flushed { OnOk result (K.is_flushed output.new ≡ true) }
+    ensures untouched { Untouched result output.old output.new }
     ensures memory { result ≢ Err (faults.Script scripts.Memory) }
     ensures read { S.has_failed input.new ≡ (if is_read_fault result then true else S.has_failed input.old) }
     ensures write { K.has_failed output.new ≡ (if is_write_fault result then true else K.has_failed output.old) }
