@@ -1,7 +1,7 @@
 //! From a source's bytes to a sink's.
 
-ghost use Rattle.std.specs.Prelude.{◌≡◌, ◌≢◌, true, false, IfOk, IfErr, IfSome, IsTrue, OnOk, if◌then◌else◌};
-ghost use Rattle.offset_script.specs.Running.{RunOf, Untouched, HasText, Sends, is_read_fault, is_write_fault, IsReadingFault};
+ghost use Rattle.std.specs.Prelude.{◌≡◌, ◌≢◌, true, false, IfOk, IfErr, IfSome, OnOk, if◌then◌else◌};
+ghost use Rattle.offset_script.specs.Running.{RunOf, Untouched, HasText, is_read_fault, is_write_fault, IsReadingFault};
 ghost use Rattle.offset_script.specs.Answers.{all_seen};
 ghost use Rattle.offset_script.specs.Playing.{IsPlayed};
 ghost use Rattle.offset_script.specs.declared.faults.RunFault.TheVariants as faults;
@@ -13,6 +13,7 @@ use crate::faults::RunFault;
 use crate::playing::play;
 use crate::reading::{MAX_TEXT, parse};
 use crate::scripts::{IndexWidth, Script};
+use crate::sending::send;
 use std::alloc::{AllocError, Global};
 
 /// How many bytes are asked for at once.
@@ -35,23 +36,6 @@ fn read_text<S: Source>(alloc: Global, input: &mut S) -> Result<Vec<u8>, RunFaul
         }
     }
     Ok(text)
-}
-
-/// Sends all bytes, and then flushes, also where there are none. It stops at the first failure, and tries nothing
-/// again.
-fn send<K: Sink>(output: &mut K, text: &[u8]) -> bool
-    ensures sent { Sends result text.now (K.held output.old) (K.held output.new) }
-    ensures failed { K.has_failed output.new ≡ (if result then K.has_failed output.old else true) }
-    ensures flushed { IsTrue result → K.is_flushed output.new ≡ true }
-{
-    let mut rest = text;
-    while !rest.is_empty() {
-        match output.push(rest) {
-            None => return false,
-            Some(n) => rest = &rest[n..],
-        }
-    }
-    output.flush()
 }
 
 // The answers to a script, by an allocator of its index width.

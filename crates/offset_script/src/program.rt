@@ -1,0 +1,45 @@
+//! What a program does with a script.
+
+ghost use Rattle.std.specs.Prelude.{◌≡◌, ◌++◌, Bool, Result, true, IfSome, MatchResult, OnOk, if◌then◌else◌};
+ghost use Rattle.offset_script.specs.declared.faults.RunFault.{RunFault};
+ghost use Rattle.offset_script.specs.Answers.{line_end};
+ghost use Rattle.offset_script.specs.Faults.{fault_line, status_of};
+ghost use Rattle.offset_script.specs.Running.{RunOf, Sends, Untouched, is_read_fault, is_write_fault};
+
+use crate::devices::{Sink, Source};
+use crate::running::run;
+use crate::sending::send_fault;
+use std::alloc::Global;
+
+/// Runs a script, and where that fails, writes the line of the fault to `errors`. Returns the status to exit with.
+///
+/// The status is 0 exactly where the run went well, 2 for a text that is no script, 3 for a want of memory, and 4 for
+/// a source or a sink that failed. Nothing goes to `errors` in a run that went well. A failure of `errors` changes no
+/// status, and the line takes no memory.
+pub fn run_program<S: Source, K: Sink, E: Sink>(
+    alloc: Global,
+    input: &mut S,
+    output: &mut K,
+    errors: &mut E,
+) -> u8
+    // There is a result of a run, with each clause of `run`, whose status and whose fault's line these are.
+    ensures { (ended : Result (Unit {0}) RunFault)
+        × (result ≡ status_of ended)
+        × MatchResult ended (λ _. errors.new ≡ errors.old) (λ fault. (whole : Bool)
+            × Sends whole (fault_line fault ++ line_end) (E.held errors.old) (E.held errors.new)
+            × (E.has_failed errors.new ≡ (if whole then E.has_failed errors.old else true)))
+        × IfSome (S.left input.old)
+            (λ text. RunOf ended text (S.left input.new) (K.held output.old) (K.held output.new))
+        × OnOk ended (K.is_flushed output.new ≡ true)
+        × Untouched ended output.old output.new
+        × (S.has_failed input.new ≡ (if is_read_fault ended then true else S.has_failed input.old))
+        × (K.has_failed output.new ≡ (if is_write_fault ended then true else K.has_failed output.old)) }
+{
+    match run(alloc, input, output) {
+        Ok(()) => 0,
+        Err(fault) => {
+            let _is_sent = send_fault(errors, fault);
+            fault.status()
+        }
+    }
+}
