@@ -14,7 +14,7 @@ fn place_of(text: &[u8], at: u8) -> Option<usize>
     text.iter().position(|b| *b == at)
 }
 
-/// The part before the first such byte, and what stands after that byte.
+/// The part before the first such byte, and what comes after that byte.
 pub fn cut(text: &[u8], at: u8) -> (&[u8], Option<&[u8]>)
     ensures parts { parts at text.now ≡ result.0.now ∷ parts_after at (option_copied result.1) }
     ensures shorter { IfSome result.1 (λ rest. length rest.now < length text.now) }

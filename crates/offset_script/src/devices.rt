@@ -9,13 +9,13 @@ use std::marker::Model;
 
 /// Bytes that come in pieces.
 pub trait Source {
-    // The bytes left, where they are told.
+    // The bytes left, where they are known.
     ghost left: { Self → Option (List ℕ) };
 
     // Whether a pull has failed.
     ghost has_failed: { Self → Bool };
 
-    /// Takes bytes from the front of what is left to the front of `buf`, and answers how many:
+    /// Takes bytes from the front of what is left to the front of `buf`, and returns how many:
     /// none only at the end of the bytes, or for an empty `buf`. `None` is a failure, which takes nothing.
     fn pull(&mut self, buf: &mut [u8]) -> Option<usize>
         ensures count { IfSome result (λ n. n ≤ length buf.new) }
@@ -25,7 +25,7 @@ pub trait Source {
 
 /// What takes bytes in pieces.
 pub trait Sink {
-    // The bytes held, where they are told.
+    // The bytes held, where they are known.
     ghost held: { Self → Option (List ℕ) };
 
     // Whether a push or a flush has failed.
@@ -34,7 +34,7 @@ pub trait Sink {
     // Whether a flush has succeeded since bytes were last appended.
     ghost is_flushed: { Self → Bool };
 
-    /// Appends bytes from the front of `bytes`, at least one, and answers how many.
+    /// Appends bytes from the front of `bytes`, at least one, and returns how many.
     /// `None` is a failure, which appends nothing.
     fn push(&mut self, bytes: &[u8]) -> Option<usize>
         requires { 0 < length bytes.now }

@@ -13,7 +13,7 @@ use std::fmt;
 pub enum ScriptFault {
     /// The text has more than 1,048,576 bytes.
     TooLong,
-    /// The first line that says something is no header, or there is no such line.
+    /// The first line that is neither empty nor a comment is no header, or there is no such line.
     BadHeader(u32),
     /// The header's node limit is below 2, or above what its index width admits.
     BadLimit(u32),
@@ -42,7 +42,7 @@ impl<T: Drop> From<AllocFailed<T>> for ScriptFault {
 /// Why a run gave up.
 #[derive(Clone, Copy, PartialEq, Debug)]
 pub enum RunFault {
-    /// The text that was read is no script. `run` gives a want of memory as `Memory`.
+    /// The text that was read is no script. Where memory was refused, `run` returns `Memory` and not `Script(Memory)`.
     Script(ScriptFault),
     /// A growth was refused.
     Memory,

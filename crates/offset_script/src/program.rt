@@ -1,7 +1,9 @@
 //! What a program does with a script.
 
-ghost use Rattle.std.specs.Prelude.{◌≡◌, ◌++◌, Bool, Result, true, IfSome, MatchResult, OnOk, if◌then◌else◌};
+ghost use Rattle.std.specs.Prelude.{◌≡◌, ◌≢◌, ◌++◌, Bool, Result, Err, true, IfSome, MatchResult, OnOk, if◌then◌else◌};
 ghost use Rattle.offset_script.specs.declared.faults.RunFault.{RunFault};
+ghost use Rattle.offset_script.specs.declared.faults.RunFault.TheVariants as faults;
+ghost use Rattle.offset_script.specs.declared.faults.ScriptFault.TheVariants as scripts;
 ghost use Rattle.offset_script.specs.Answers.{line_end};
 ghost use Rattle.offset_script.specs.Faults.{fault_line, status_of};
 ghost use Rattle.offset_script.specs.Running.{RunOf, Sends, Untouched, is_read_fault, is_write_fault};
@@ -13,9 +15,9 @@ use std::alloc::Global;
 
 /// Runs a script, and where that fails, writes the line of the fault to `errors`. Returns the status to exit with.
 ///
-/// The status is 0 exactly where the run went well, 2 for a text that is no script, 3 for a want of memory, and 4 for
-/// a source or a sink that failed. Nothing goes to `errors` in a run that went well. A failure of `errors` changes no
-/// status, and the line takes no memory.
+/// The status is 0 exactly where the run is `Ok`, 2 where the text is no script, 3 where memory was refused, and 4
+/// where the source or the sink failed. A run that is `Ok` leaves `errors` as it was. A failure of `errors` changes no
+/// status, and its line takes no memory.
 pub fn run_program<S: Source, K: Sink, E: Sink>(
     alloc: Global,
     input: &mut S,
@@ -24,6 +26,7 @@ pub fn run_program<S: Source, K: Sink, E: Sink>(
 ) -> u8
     // There is a result of a run, with each clause of `run`, whose status and whose fault's line these are.
     ensures { (ended : Result (Unit {0}) RunFault)
+        × (ended ≢ Err (faults.Script scripts.Memory))
         × (result ≡ status_of ended)
         × MatchResult ended (λ _. errors.new ≡ errors.old) (λ fault. (whole : Bool)
             × Sends whole (fault_line fault ++ line_end) (E.held errors.old) (E.held errors.new)

@@ -52,9 +52,9 @@ fn answers(alloc: Global, script: &Script) -> Result<Vec<Answer>, AllocError>
 
 /// Reads a script to its end, plays it, writes the text of its answers, and then flushes.
 ///
-/// Nothing is written unless the whole text is a script. Reading stops behind 1,048,577 bytes, which are too
-/// many. `Read` comes just where the source failed in this call, and `Write` just where the sink did: then a
-/// beginning of the text stands written. No failed call is tried again. A want of memory is `Memory`.
+/// Nothing is written unless the whole text is a script. Reading stops after 1,048,577 bytes, which are too many.
+/// `Read` is returned exactly where the source failed in this call, and `Write` exactly where the sink did: then a
+/// beginning of the text is written. No failed call is tried again. Where memory was refused, the fault is `Memory`.
 pub fn run<S: Source, K: Sink>(alloc: Global, input: &mut S, output: &mut K) -> Result<(), RunFault>
     ensures of_text { IfSome (S.left input.old)
         (λ text. RunOf result text (S.left input.new) (K.held output.old) (K.held output.new)) }
