@@ -8,10 +8,5 @@ fn main(rt: HostRuntime) -> ExitCode {
     let mut input = FromRead::new(rt.stdin());
     let mut output = IntoWrite::new(rt.stdout());
     let mut errors = IntoWrite::new(rt.stderr());
-    ExitCode::from(run_program(
-        rt.alloc(),
-        &mut input,
-        &mut output,
-        &mut errors,
-    ))
+    ExitCode::from(run_program(rt.alloc(), &mut input, &mut output, &mut errors))
 }

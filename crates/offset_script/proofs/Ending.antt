@@ -29,11 +29,11 @@ joined_at text (x ∷ xs) (suc i) d h = ap (λ l. text x ++ l) (joined_at text x
 -- a beginning of the i-th text was sent after those before it
 pub piece_failed : {X : Type 0} (text : X → List ℕ) (xs : List X) (i : ℕ) (d : X) (old mid new : Option (List ℕ)) → i < length xs → Appends old mid (flat_map text (take i xs)) → Sends false (text (get_or xs i d)) mid new → Sends false (flat_map text xs) old new
 piece_failed text xs i d old mid new h before sends = (
-    flat_map text (take i xs) ++ sends.0,
-    sends.1 ++ flat_map text (drop (suc i) xs),
-    joined_at text xs i d h ∙ rw (sends.2, append_assoc sends.0) (sym (append_assoc (flat_map text (take i xs)) sends.0 _)),
-    Appends-trans old mid new _ _ before sends.3,
-  )
+  flat_map text (take i xs) ++ sends.0,
+  sends.1 ++ flat_map text (drop (suc i) xs),
+  joined_at text xs i d h ∙ rw (sends.2, append_assoc sends.0) (sym (append_assoc (flat_map text (take i xs)) sends.0 _)),
+  Appends-trans old mid new _ _ before sends.3,
+)
 
 whole_or_long : (bytes text : List ℕ) (left : Option (List ℕ)) → HasText bytes (Some text) left
     → ((left ≡ Some []) × (text ≡ bytes) × (length bytes < 1048577)) ⊎ ((left ≡ Some (drop 1048577 text)) × (meaning_of bytes ≡ Err scripts.TooLong) × (meaning_of text ≡ Err scripts.TooLong))

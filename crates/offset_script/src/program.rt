@@ -29,10 +29,10 @@ pub fn run_program<S: Source, K: Sink, E: Sink>(
         × (ended ≢ Err (faults.Script scripts.Memory))
         × (result ≡ status_of ended)
         × MatchResult ended (λ _. errors.new ≡ errors.old) (λ fault. (whole : Bool)
-            × Sends whole (fault_line fault ++ line_end) (E.held errors.old) (E.held errors.new)
-            × (E.has_failed errors.new ≡ (if whole then E.has_failed errors.old else true)))
+        × Sends whole (fault_line fault ++ line_end) (E.held errors.old) (E.held errors.new)
+        × (E.has_failed errors.new ≡ (if whole then E.has_failed errors.old else true)))
         × IfSome (S.left input.old)
-            (λ text. RunOf ended text (S.left input.new) (K.held output.old) (K.held output.new))
+        (λ text. RunOf ended text (S.left input.new) (K.held output.old) (K.held output.new))
         × OnOk ended (K.is_flushed output.new ≡ true)
         × Untouched ended output.old output.new
         × (S.has_failed input.new ≡ (if is_read_fault ended then true else S.has_failed input.old))

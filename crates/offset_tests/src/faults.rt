@@ -51,7 +51,10 @@ fn a_good_run_ends_with_0_and_no_line(rt: HostRuntime) -> Result<(), Fail> {
     let writer = || Writer::new(rt.alloc(), 4096);
     let (status, output, errors) = ended(rt.alloc(), Reader::new(TEXT, 4096), writer(), writer());
     assert_eq!(rt; status, 0);
-    assert_eq!(rt; output.taken.as_slice(), b"grant 1 at 0\nfreed\n".as_slice());
+    assert_eq!(rt;
+        output.taken.as_slice(),
+        b"grant 1 at 0\nfreed\n".as_slice()
+    );
     assert_eq!(rt; (errors.writes, errors.flushes), (0, 0));
     Ok(())
 }

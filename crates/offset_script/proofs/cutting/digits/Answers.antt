@@ -6,11 +6,11 @@ use Rattle.offset_script.proofs.cutting.digits.Goals as goal
 
 pub loop-rest-init : goal.loop-rest-init
 loop-rest-init c = (
-    c.told-room,
-    omega arith,
-    length-decimal-le 10 c.args.n (omega arith) (omega arith) (omega arith),
-    rw (drop_all 10 c.args.room.now (omega arith)) (append-nil (decimal c.args.n)),
-  )
+  c.told-room,
+  omega arith,
+  length-decimal-le 10 c.args.n (omega arith) (omega arith) (omega arith),
+  rw (drop_all 10 c.args.room.now (omega arith)) (append-nil (decimal c.args.n)),
+)
 
 pub overflow_sub-at-in-loop-rest : goal.overflow_sub-at-in-loop-rest
 overflow_sub-at-in-loop-rest c =
