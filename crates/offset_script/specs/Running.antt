@@ -1,12 +1,13 @@
 -- What a run leaves.
-use Rattle.std.specs.Prelude.{◌≡◌, ℕ, ◌<◌, ◌≤◌, Bool, true, false, List, [], ◌++◌, length, drop, Option, Some, Result, Ok, Err}
+use Rattle.std.specs.Prelude.{◌≡◌, ℕ, ◌<◌, ◌≤◌, Bool, true, false, List, [], ◌++◌, length, drop, Option, Some, Result, Ok, Err, if◌then◌else◌}
 use Rattle.std.specs.Io.KnownBytes.{Consumes, Appends, IsAtEnd}
 use Rattle.offset_script.specs.declared.faults.ScriptFault.TheVariants as scripts
 use Rattle.offset_script.specs.declared.faults.RunFault.{RunFault}
 use Rattle.offset_script.specs.declared.faults.RunFault.TheVariants.{Script, Memory, Read, Write}
 use Rattle.offset_script.specs.Grammar.{Plan, meaning_of}
 use Rattle.offset_script.specs.Machine.{Answer}
-use Rattle.offset_script.specs.Answers.{text_of}
+use Rattle.offset_script.specs.Answers.{line_end, text_of}
+use Rattle.offset_script.specs.Faults.{fault_line}
 use Rattle.offset_script.specs.Playing.{IsPlayed}
 
 -- these may be the answers to a script
@@ -76,6 +77,12 @@ pub record HasText (bytes : List ℕ) (old new : Option (List ℕ)) : Type 0 whe
 abbrev pub Sends : Bool → List ℕ → Option (List ℕ) → Option (List ℕ) → Type 0
 Sends true text old new = Appends old new text
 Sends false text old new = (front : List ℕ) × (back : List ℕ) × (text ≡ front ++ back) × Appends old new front
+
+-- the line of a fault was appended to a sink with its line end, or a beginning of them where the sink failed
+pub record WritesFault (fault : RunFault) (old new : Option (List ℕ)) (had_failed has_failed : Bool) : Type 0 where
+  pub whole : Bool
+  pub sends : Sends whole (fault_line fault ++ line_end) old new
+  pub failed : has_failed ≡ (if whole then had_failed else true)
 
 -- a fault that reading can have
 abbrev pub IsReadingFault : RunFault → Type 0

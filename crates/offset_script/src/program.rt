@@ -1,12 +1,11 @@
 //! What a program does with a script.
 
-ghost use Rattle.std.specs.Prelude.{◌≡◌, ◌≢◌, ◌++◌, Bool, Result, Err, true, IfSome, MatchResult, OnOk, if◌then◌else◌};
+ghost use Rattle.std.specs.Prelude.{◌≡◌, ◌≢◌, Result, Err, true, IfSome, MatchResult, OnOk, if◌then◌else◌};
 ghost use Rattle.offset_script.specs.declared.faults.RunFault.{RunFault};
 ghost use Rattle.offset_script.specs.declared.faults.RunFault.TheVariants as faults;
 ghost use Rattle.offset_script.specs.declared.faults.ScriptFault.TheVariants as scripts;
-ghost use Rattle.offset_script.specs.Answers.{line_end};
-ghost use Rattle.offset_script.specs.Faults.{fault_line, status_of};
-ghost use Rattle.offset_script.specs.Running.{RunOf, Sends, Untouched, is_read_fault, is_write_fault};
+ghost use Rattle.offset_script.specs.Faults.{status_of};
+ghost use Rattle.offset_script.specs.Running.{RunOf, Untouched, WritesFault, is_read_fault, is_write_fault};
 
 use crate::devices::{Sink, Source};
 use crate::running::run;
@@ -28,9 +27,8 @@ pub fn run_program<S: Source, K: Sink, E: Sink>(
     ensures { (ended : Result (Unit {0}) RunFault)
         × (ended ≢ Err (faults.Script scripts.Memory))
         × (result ≡ status_of ended)
-        × MatchResult ended (λ _. errors.new ≡ errors.old) (λ fault. (whole : Bool)
-        × Sends whole (fault_line fault ++ line_end) (E.held errors.old) (E.held errors.new)
-        × (E.has_failed errors.new ≡ (if whole then E.has_failed errors.old else true)))
+        × MatchResult ended (λ _. errors.new ≡ errors.old) (λ fault. WritesFault fault
+        (E.held errors.old) (E.held errors.new) (E.has_failed errors.old) (E.has_failed errors.new))
         × IfSome (S.left input.old)
         (λ text. RunOf ended text (S.left input.new) (K.held output.old) (K.held output.new))
         × OnOk ended (K.is_flushed output.new ≡ true)
