@@ -1,5 +1,5 @@
 -- What a run leaves.
-use Rattle.std.specs.Prelude.{◌≡◌, ℕ, ◌<◌, ◌≤◌, Bool, true, false, List, [], ◌++◌, length, drop, Option, Some, Result, Ok, Err, if◌then◌else◌}
+use Rattle.std.specs.Prelude.{◌≡◌, ℕ, ◌<◌, ◌≤◌, Bool, true, false, List, [], ◌++◌, length, drop, Option, Some, Result, Ok, Err, IsTrue, if◌then◌else◌}
 use Rattle.std.specs.Io.KnownBytes.{Consumes, Appends, IsAtEnd}
 use Rattle.offset_script.specs.declared.faults.ScriptFault.TheVariants as scripts
 use Rattle.offset_script.specs.declared.faults.RunFault.{RunFault}
@@ -78,11 +78,13 @@ abbrev pub Sends : Bool → List ℕ → Option (List ℕ) → Option (List ℕ)
 Sends true text old new = Appends old new text
 Sends false text old new = (front : List ℕ) × (back : List ℕ) × (text ≡ front ++ back) × Appends old new front
 
--- the line of a fault was appended to a sink with its line end, or a beginning of them where the sink failed
-pub record WritesFault (fault : RunFault) (old new : Option (List ℕ)) (had_failed has_failed : Bool) : Type 0 where
+-- the line of a fault was appended to a sink with its line end, and flushed, or a beginning of them was appended and the
+-- sink failed
+pub record WritesFault (fault : RunFault) (old new : Option (List ℕ)) (had_failed has_failed is_flushed : Bool) : Type 0 where
   pub whole : Bool
   pub sends : Sends whole (fault_line fault ++ line_end) old new
   pub failed : has_failed ≡ (if whole then had_failed else true)
+  pub flushed : IsTrue whole → is_flushed ≡ true
 
 -- a fault that reading can have
 abbrev pub IsReadingFault : RunFault → Type 0

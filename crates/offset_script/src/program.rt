@@ -28,7 +28,8 @@ pub fn run_program<S: Source, K: Sink, E: Sink>(
         × (ended ≢ Err (faults.Script scripts.Memory))
         × (result ≡ status_of ended)
         × MatchResult ended (λ _. errors.new ≡ errors.old) (λ fault. WritesFault fault
-        (E.held errors.old) (E.held errors.new) (E.has_failed errors.old) (E.has_failed errors.new))
+        (E.held errors.old) (E.held errors.new) (E.has_failed errors.old) (E.has_failed errors.new)
+        (E.is_flushed errors.new))
         × IfSome (S.left input.old)
         (λ text. RunOf ended text (S.left input.new) (K.held output.old) (K.held output.new))
         × OnOk ended (K.is_flushed output.new ≡ true)
