@@ -1,7 +1,9 @@
 -- How a run ends.
-use Rattle.std.proofs.Common.{◌≡◌, ℕ, ◌-◌, ◌<◌, ◌⊎◌, inl, inr, false, List, [], ◌++◌, length, take, drop, Option, Some, None, Ok, Err, sym, ap, ◌∙◌, append_assoc, arith, take-append-drop}
+use Rattle.std.proofs.Common.{◌≡◌, ℕ, zero, suc, ◌-◌, ◌<◌, ◌⊎◌, inl, inr, false, List, [], ◌∷◌, ◌++◌, length, take, drop, get_or, refl, Option, Some, None, Ok, Err, sym, ap, ◌∙◌, append_assoc, arith, take-append-drop}
 use Rattle.std.specs.Prelude.{IfSome}
 use Rattle.std.specs.Io.KnownBytes.{Appends}
+use Rattle.std.specs.List.{flat_map}
+use Rattle.std.proofs.KnownBytes.{Appends-trans}
 use Rattle.std.proofs.lemmas.Bool.{cases_lt}
 use Rattle.std.proofs.lemmas.List.{append-nil, take_rest, length-append, drop_at, drop_all}
 use Rattle.offset_script.specs.declared.faults.ScriptFault.{ScriptFault}
@@ -17,6 +19,21 @@ use Rattle.offset_script.proofs.Steps.{is_too_long}
 -- a front longer
 pub more_parts : (text front rest : List ℕ) (n : ℕ) → text ≡ front ++ rest → text ≡ (front ++ take n rest) ++ take (length rest - n) (drop n rest)
 more_parts text front rest n h = rw take_rest (h ∙ ap (λ (l : List ℕ). front ++ l) (sym (take-append-drop n rest)) ∙ sym (append_assoc front (take n rest) (drop n rest)))
+
+-- some texts joined, parted at the i-th
+joined_at : {X : Type 0} (text : X → List ℕ) (xs : List X) (i : ℕ) (d : X) → i < length xs → flat_map text xs ≡ flat_map text (take i xs) ++ (text (get_or xs i d) ++ flat_map text (drop (suc i) xs))
+joined_at text [] i d h = absurd (omega arith)
+joined_at text (x ∷ xs) zero d h = refl
+joined_at text (x ∷ xs) (suc i) d h = ap (λ l. text x ++ l) (joined_at text xs i d (omega arith)) ∙ sym (append_assoc (text x) _ _)
+
+-- a beginning of the i-th text was sent after those before it
+pub piece_failed : {X : Type 0} (text : X → List ℕ) (xs : List X) (i : ℕ) (d : X) (old mid new : Option (List ℕ)) → i < length xs → Appends old mid (flat_map text (take i xs)) → Sends false (text (get_or xs i d)) mid new → Sends false (flat_map text xs) old new
+piece_failed text xs i d old mid new h before sends = (
+  flat_map text (take i xs) ++ sends.0,
+  sends.1 ++ flat_map text (drop (suc i) xs),
+  joined_at text xs i d h ∙ rw (sends.2, append_assoc sends.0) (sym (append_assoc (flat_map text (take i xs)) sends.0 _)),
+  Appends-trans old mid new _ _ before sends.3,
+)
 
 whole_or_long : (bytes text : List ℕ) (left : Option (List ℕ)) → HasText bytes (Some text) left
     → ((left ≡ Some []) × (text ≡ bytes) × (length bytes < 1048577)) ⊎ ((left ≡ Some (drop 1048577 text)) × (meaning_of bytes ≡ Err scripts.TooLong) × (meaning_of text ≡ Err scripts.TooLong))

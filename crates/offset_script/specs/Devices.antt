@@ -2,10 +2,16 @@
 use Rattle.std.specs.Prelude.{◌≡◌, ℕ, ◌<◌, Bool, List, length, take, Option, MatchOption}
 use Rattle.std.specs.Io.KnownBytes.{Consumes, Appends, Keeps, IsAtEnd}
 
--- a reader or a writer, and whether a call of it has failed
-pub record Adapter (D : Type 0) : Type 0 where
-  pub inner : D
+-- a reader, and whether a read of it has failed
+pub record Reading (R : Type 0) : Type 0 where
+  pub inner : R
   pub has_failed : Bool
+
+-- a writer, whether a write or a flush of it has failed, and whether a flush has succeeded since the last write that did
+pub record Writing (W : Type 0) : Type 0 where
+  pub inner : W
+  pub has_failed : Bool
+  pub is_flushed : Bool
 
 -- a pull took the bytes that it gave, none only at the end or with no room, and none where it failed
 abbrev pub PullTakes : Option (List ℕ) → Option (List ℕ) → Option ℕ → List ℕ → Type 0

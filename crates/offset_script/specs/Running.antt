@@ -1,12 +1,13 @@
 -- What a run leaves.
-use Rattle.std.specs.Prelude.{◌≡◌, ℕ, ◌<◌, ◌≤◌, Bool, true, false, List, [], ◌++◌, length, drop, Option, Some, Result, Ok, Err}
+use Rattle.std.specs.Prelude.{◌≡◌, ℕ, ◌<◌, ◌≤◌, Bool, true, false, List, [], ◌++◌, length, drop, Option, Some, Result, Ok, Err, IsTrue, if◌then◌else◌}
 use Rattle.std.specs.Io.KnownBytes.{Consumes, Appends, IsAtEnd}
 use Rattle.offset_script.specs.declared.faults.ScriptFault.TheVariants as scripts
 use Rattle.offset_script.specs.declared.faults.RunFault.{RunFault}
 use Rattle.offset_script.specs.declared.faults.RunFault.TheVariants.{Script, Memory, Read, Write}
 use Rattle.offset_script.specs.Grammar.{Plan, meaning_of}
 use Rattle.offset_script.specs.Machine.{Answer}
-use Rattle.offset_script.specs.Answers.{text_of}
+use Rattle.offset_script.specs.Answers.{line_end, text_of}
+use Rattle.offset_script.specs.Faults.{fault_line}
 use Rattle.offset_script.specs.Playing.{IsPlayed}
 
 -- these may be the answers to a script
@@ -58,13 +59,13 @@ RunOf (Err Memory) text left old new = Unit {0}
 RunOf (Err Read) text left old new = Unit {0}
 RunOf (Err Write) text left old new = (left ≡ Some []) × BeginsAnswers text old new
 
--- nothing was written
-abbrev pub Unwritten : Result (Unit {0}) RunFault → Option (List ℕ) → Option (List ℕ) → Type 0
-Unwritten (Ok u) old new = Unit {0}
-Unwritten (Err (Script f)) old new = new ≡ old
-Unwritten (Err Memory) old new = new ≡ old
-Unwritten (Err Read) old new = new ≡ old
-Unwritten (Err Write) old new = Unit {0}
+-- where a run had no answers to write, its sink is as it was
+abbrev pub Untouched : {K : Type 0} → Result (Unit {0}) RunFault → K → K → Type 0
+Untouched (Ok u) old new = Unit {0}
+Untouched (Err (Script f)) old new = new ≡ old
+Untouched (Err Memory) old new = new ≡ old
+Untouched (Err Read) old new = new ≡ old
+Untouched (Err Write) old new = Unit {0}
 
 -- what reading a text left: the whole text, or its first 1,048,577 bytes
 pub record HasText (bytes : List ℕ) (old new : Option (List ℕ)) : Type 0 where
@@ -76,6 +77,14 @@ pub record HasText (bytes : List ℕ) (old new : Option (List ℕ)) : Type 0 whe
 abbrev pub Sends : Bool → List ℕ → Option (List ℕ) → Option (List ℕ) → Type 0
 Sends true text old new = Appends old new text
 Sends false text old new = (front : List ℕ) × (back : List ℕ) × (text ≡ front ++ back) × Appends old new front
+
+-- the line of a fault was appended to a sink with its line end, and flushed, or a beginning of them was appended and the
+-- sink failed
+pub record WritesFault (fault : RunFault) (old new : Option (List ℕ)) (had_failed has_failed is_flushed : Bool) : Type 0 where
+  pub whole : Bool
+  pub sends : Sends whole (fault_line fault ++ line_end) old new
+  pub failed : has_failed ≡ (if whole then had_failed else true)
+  pub flushed : IsTrue whole → is_flushed ≡ true
 
 -- a fault that reading can have
 abbrev pub IsReadingFault : RunFault → Type 0

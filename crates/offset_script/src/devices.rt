@@ -1,7 +1,7 @@
 //! Where a script comes from, and where its answers go.
 
 ghost use Rattle.std.specs.Prelude.{◌≡◌, ℕ, ◌<◌, ◌≤◌, Bool, true, false, List, Option, length, IfSome, is_some, if◌then◌else◌};
-ghost use Rattle.offset_script.specs.Devices.{Adapter, PullTakes, PushAdds};
+ghost use Rattle.offset_script.specs.Devices.{Reading, Writing, PullTakes, PushAdds};
 ghost use Rattle.std.specs.Io.KnownBytes.{Keeps};
 
 use std::io::{Read, Write};
@@ -9,13 +9,13 @@ use std::marker::Model;
 
 /// Bytes that come in pieces.
 pub trait Source {
-    // The bytes left, where they are told.
+    // The bytes left, where they are known.
     ghost left: { Self → Option (List ℕ) };
 
     // Whether a pull has failed.
     ghost has_failed: { Self → Bool };
 
-    /// Takes bytes from the front of what is left to the front of `buf`, and answers how many:
+    /// Takes bytes from the front of what is left to the front of `buf`, and returns how many:
     /// none only at the end of the bytes, or for an empty `buf`. `None` is a failure, which takes nothing.
     fn pull(&mut self, buf: &mut [u8]) -> Option<usize>
         ensures count { IfSome result (λ n. n ≤ length buf.new) }
@@ -25,25 +25,30 @@ pub trait Source {
 
 /// What takes bytes in pieces.
 pub trait Sink {
-    // The bytes held, where they are told.
+    // The bytes held, where they are known.
     ghost held: { Self → Option (List ℕ) };
 
     // Whether a push or a flush has failed.
     ghost has_failed: { Self → Bool };
 
-    /// Appends bytes from the front of `bytes`, at least one, and answers how many.
+    // Whether a flush has succeeded since bytes were last appended.
+    ghost is_flushed: { Self → Bool };
+
+    /// Appends bytes from the front of `bytes`, at least one, and returns how many.
     /// `None` is a failure, which appends nothing.
     fn push(&mut self, bytes: &[u8]) -> Option<usize>
         requires { 0 < length bytes.now }
         ensures least { IfSome result (λ n. 0 < n) }
         ensures count { IfSome result (λ n. n ≤ length bytes.now) }
         ensures bytes { PushAdds (held self.old) (held self.new) result bytes.now }
-        ensures failed { has_failed self.new ≡ (if is_some result then has_failed self.old else true) };
+        ensures failed { has_failed self.new ≡ (if is_some result then has_failed self.old else true) }
+        ensures flushed { is_flushed self.new ≡ (if is_some result then false else is_flushed self.old) };
 
     /// Hands on what was appended, and appends nothing itself. `false` is a failure.
     fn flush(&mut self) -> bool
         ensures bytes { Keeps (held self.old) (held self.new) }
-        ensures failed { has_failed self.new ≡ (if result then has_failed self.old else true) };
+        ensures failed { has_failed self.new ≡ (if result then has_failed self.old else true) }
+        ensures flushed { is_flushed self.new ≡ (if result then true else is_flushed self.old) };
 }
 
 /// A reader as a source. Each call makes one read, and it fails just where that read does.
@@ -54,7 +59,7 @@ pub struct FromRead<R: Read> {
 }
 
 impl<R: Read> Model for FromRead<R> {
-    ghost Value = { Adapter R };
+    ghost Value = { Reading R };
 
     ghost view = { λ s. record { inner = s.inner; has_failed = s.failed } };
 }
@@ -101,22 +106,24 @@ impl<R: Read> Source for FromRead<R> {
 pub struct IntoWrite<W: Write> {
     inner: W,
     failed: bool,
+    flushed: bool,
 }
 
 impl<W: Write> Model for IntoWrite<W> {
-    ghost Value = { Adapter W };
+    ghost Value = { Writing W };
 
-    ghost view = { λ s. record { inner = s.inner; has_failed = s.failed } };
+    ghost view = { λ s. record { inner = s.inner; has_failed = s.failed; is_flushed = s.flushed } };
 }
 
 impl<W: Write> IntoWrite<W> {
-    /// A sink over a writer. It has not failed.
+    /// A sink over a writer. It has not failed, and is not flushed.
     pub fn new(inner: W) -> Self
-        ensures { result ≡ record { inner = inner; has_failed = false } }
+        ensures { result ≡ record { inner = inner; has_failed = false; is_flushed = false } }
     {
         IntoWrite {
             inner,
             failed: false,
+            flushed: false,
         }
     }
 
@@ -124,7 +131,11 @@ impl<W: Write> IntoWrite<W> {
     pub fn into_inner(self) -> W
         ensures { result ≡ self.inner }
     {
-        let IntoWrite { inner, failed: _ } = self;
+        let IntoWrite {
+            inner,
+            failed: _,
+            flushed: _,
+        } = self;
         inner
     }
 }
@@ -134,21 +145,31 @@ impl<W: Write> Sink for IntoWrite<W> {
 
     ghost has_failed = { λ s. s.has_failed };
 
+    ghost is_flushed = { λ s. s.is_flushed };
+
     fn push(&mut self, bytes: &[u8]) -> Option<usize> {
         match self.inner.write(bytes) {
             Ok(0) | Err(_) => {
                 self.failed = true;
                 None
             }
-            Ok(n) => Some(n),
+            Ok(n) => {
+                self.flushed = false;
+                Some(n)
+            }
         }
     }
 
     fn flush(&mut self) -> bool {
-        let flushed = self.inner.flush().is_ok();
-        if !flushed {
-            self.failed = true;
+        match self.inner.flush() {
+            Ok(()) => {
+                self.flushed = true;
+                true
+            }
+            Err(_) => {
+                self.failed = true;
+                false
+            }
         }
-        flushed
     }
 }

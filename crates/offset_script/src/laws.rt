@@ -1,4 +1,4 @@
-//! Laws on what `parse` reads and on what `play` answers. The functions do nothing.
+//! Laws on what `parse` reads and on the answers of `play`. The functions do nothing.
 
 ghost use Rattle.std.specs.Prelude.{◌≡◌, ◌↔◌, ℕ, List};
 ghost use Rattle.offset_script.specs.declared.scripts.Command.{Command};
@@ -18,12 +18,12 @@ pub fn one_header_spelling()
     ensures { (h : Header) (line : List ℕ) → (header_of line ≡ Some h) ↔ IsHeaderSpelling h line }
 {}
 
-/// A space without live blocks answers like a fresh one of its size.
+/// A space without live blocks continues as a fresh one of its size.
 pub fn an_empty_space_continues_as_fresh()
     ensures { EmptySpaceContinuesAsFresh }
 {}
 
-/// A fresh space that is extended answers like a fresh one of the greater size.
+/// A fresh space that is extended continues as a fresh one of the greater size.
 pub fn an_extended_space_is_larger()
     ensures { ExtendedSpaceIsLarger }
 {}
@@ -33,7 +33,8 @@ pub fn releases_commute()
     ensures { ReleasesCommute }
 {}
 
-/// Grants that are released in the reverse order, with whatever is granted and released between, leave no trace.
+/// A nest leaves no trace: each of its grants is released in it, the last first, what lies between a grant and its
+/// release is a nest too, no other grant is released, and nothing is reset or extended.
 pub fn a_nest_leaves_no_trace()
     ensures { NestLeavesNoTrace }
 {}
@@ -48,7 +49,7 @@ pub fn few_are_live()
     ensures { FewAreLive }
 {}
 
-/// Where `limit - 1` blocks stand, every request is refused, and the report tells 0 and 0.
+/// A space of `limit - 1` blocks refuses every request, and its report is 0 and 0.
 pub fn a_full_space_refuses()
     ensures { FullSpaceRefuses }
 {}

@@ -1,4 +1,4 @@
-//! The lines of a text that say something.
+//! The lines of a text that are neither empty nor comments.
 
 ghost use Rattle.std.specs.Prelude.{◌≡◌, ◌+◌, ◌-◌, ◌<◌, ◌^◌, ◌∷◌, [], if◌then◌else◌, length, MatchOption};
 ghost use Rattle.offset_script.specs.Grammar.{is_skipped, said_from, line_ends};
@@ -57,7 +57,7 @@ impl<'a> Lines<'a> {
         (number, line)
     }
 
-    /// The next line that says something, and its number.
+    /// The next line that is neither empty nor a comment, and its number.
     pub fn next_line(&mut self) -> Option<(u32, &'a [u8])>
         ensures line { MatchOption result
             (said_from self.old.number self.old.rest.now ≡ [])

@@ -17,7 +17,7 @@ use std::alloc::{AllocError, Global};
 #[derive(Drop)]
 struct Player<NI: NodeIndex> {
     space: Allocator<NI>,
-    // The handle of grant k stands at k - 1, while the grant does.
+    // The handle of grant k is at k - 1 while the grant is live.
     handles: Vec<Option<Allocation<NI>>>,
     // So many of the first handles were swept by resets.
     swept: usize,
@@ -39,7 +39,7 @@ impl<NI: NodeIndex> Player<NI> {
         })
     }
 
-    // The handle of the grant of this number, while the grant stands.
+    // The handle of the grant of this number, while it is live.
     fn handle(&self, number: u32) -> Option<Allocation<NI>>
         ensures name { name_in result ≡ kept self.now.handles.items number }
         ensures within { IfSome result (λ h. (1 ≤ number)
@@ -131,7 +131,7 @@ impl<NI: NodeIndex> Player<NI> {
         Ok(Answer::Full(rows))
     }
 
-    // No grant stands any more, and the next one has the next number.
+    // No grant is live any more, and the next one has the next number.
     fn reset(&mut self) -> Answer
         ensures { Serves self.old.space self.old.handles.items
             self.new.space self.new.handles.items Command.Reset result }

@@ -130,10 +130,10 @@ impl Header {
 
 /// The script that a text is, or the fault of its first faulty line.
 ///
-/// A text of more than 1,048,576 bytes is `TooLong`. Lines end with LF and are counted from 1; empty lines
-/// and those that begin with `#` say nothing. The first other line has to be a header, `BadHeader` where it
-/// is not in form, or where there is none, and `BadLimit` where its limit is not admitted. Each later one has
-/// to be a command, and is `BadCommand` else. `Memory` comes only where a growth was refused.
+/// A text of more than 1,048,576 bytes is `TooLong`. Lines end with LF and are counted from 1; empty lines and those
+/// that begin with `#` are skipped. The first other line has to be a header: `BadHeader` where it is not in form, or
+/// where there is none, and `BadLimit` where its limit is not admitted. Each later one has to be a command, or is
+/// `BadCommand`. `Memory` is returned only where a growth was refused.
 #[tactic(auto, using(crate::proofs::Steps::is_too_long, crate::proofs::Steps::has_no_header, crate::proofs::Steps::has_bad_form, crate::proofs::Steps::has_bad_limit, crate::proofs::Steps::has_header, crate::proofs::Steps::has_bad_command, crate::proofs::Steps::goes_on, crate::proofs::Steps::is_read))]
 pub fn parse(alloc: Global, text: &[u8]) -> Result<Script, ScriptFault>
     ensures { Gives view result (meaning_of text.now) }

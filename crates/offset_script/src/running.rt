@@ -1,7 +1,7 @@
 //! From a source's bytes to a sink's.
 
-ghost use Rattle.std.specs.Prelude.{◌≡◌, ◌≢◌, true, false, IfOk, IfErr, IfSome, if◌then◌else◌};
-ghost use Rattle.offset_script.specs.Running.{RunOf, Unwritten, HasText, Sends, is_read_fault, is_write_fault, IsReadingFault};
+ghost use Rattle.std.specs.Prelude.{◌≡◌, ◌≢◌, true, false, IfOk, IfErr, IfSome, OnOk, if◌then◌else◌};
+ghost use Rattle.offset_script.specs.Running.{RunOf, Untouched, HasText, is_read_fault, is_write_fault, IsReadingFault};
 ghost use Rattle.offset_script.specs.Answers.{all_seen};
 ghost use Rattle.offset_script.specs.Playing.{IsPlayed};
 ghost use Rattle.offset_script.specs.declared.faults.RunFault.TheVariants as faults;
@@ -13,6 +13,7 @@ use crate::faults::RunFault;
 use crate::playing::play;
 use crate::reading::{MAX_TEXT, parse};
 use crate::scripts::{IndexWidth, Script};
+use crate::sending::send;
 use std::alloc::{AllocError, Global};
 
 /// How many bytes are asked for at once.
@@ -37,22 +38,6 @@ fn read_text<S: Source>(alloc: Global, input: &mut S) -> Result<Vec<u8>, RunFaul
     Ok(text)
 }
 
-/// Sends all bytes, and then flushes, also where there are none. It stops at the first failure, and tries nothing
-/// again.
-fn send<K: Sink>(output: &mut K, text: &[u8]) -> bool
-    ensures sent { Sends result text.now (K.held output.old) (K.held output.new) }
-    ensures failed { K.has_failed output.new ≡ (if result then K.has_failed output.old else true) }
-{
-    let mut rest = text;
-    while !rest.is_empty() {
-        match output.push(rest) {
-            None => return false,
-            Some(n) => rest = &rest[n..],
-        }
-    }
-    output.flush()
-}
-
 // The answers to a script, by an allocator of its index width.
 #[tactic(auto, unfolding(crate::specs::Playing::IsPlayed))]
 fn answers(alloc: Global, script: &Script) -> Result<Vec<Answer>, AllocError>
@@ -67,13 +52,14 @@ fn answers(alloc: Global, script: &Script) -> Result<Vec<Answer>, AllocError>
 
 /// Reads a script to its end, plays it, writes the text of its answers, and then flushes.
 ///
-/// Nothing is written unless the whole text is a script. Reading stops behind 1,048,577 bytes, which are too
-/// many. `Read` comes just where the source failed in this call, and `Write` just where the sink did: then a
-/// beginning of the text stands written. No failed call is tried again. A want of memory is `Memory`.
+/// Nothing is written unless the whole text is a script. Reading stops after 1,048,577 bytes, which are too many.
+/// `Read` is returned exactly where the source failed in this call, and `Write` exactly where the sink did: then a
+/// beginning of the text is written. No failed call is tried again. Where memory was refused, the fault is `Memory`.
 pub fn run<S: Source, K: Sink>(alloc: Global, input: &mut S, output: &mut K) -> Result<(), RunFault>
     ensures of_text { IfSome (S.left input.old)
         (λ text. RunOf result text (S.left input.new) (K.held output.old) (K.held output.new)) }
-    ensures unwritten { Unwritten result (K.held output.old) (K.held output.new) }
+    ensures flushed { OnOk result (K.is_flushed output.new ≡ true) }
+    ensures untouched { Untouched result output.old output.new }
     ensures memory { result ≢ Err (faults.Script scripts.Memory) }
     ensures read { S.has_failed input.new ≡ (if is_read_fault result then true else S.has_failed input.old) }
     ensures write { K.has_failed output.new ≡ (if is_write_fault result then true else K.has_failed output.old) }

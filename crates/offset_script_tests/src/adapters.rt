@@ -35,6 +35,19 @@ fn pulls_nothing_by_one_read(rt: HostRuntime) {
     assert_eq!(rt; input.into_inner().reads, 1);
 }
 
+// A buffer without room, and one of more room than a run asks for.
+#[test]
+fn pulls_into_any_buffer_by_one_read(rt: HostRuntime) -> Result<(), Fail> {
+    let text = vec![in rt.alloc(); b'a'; 100_000]?;
+    let mut input = FromRead::new(Reader::new(&text, 100_000));
+    assert_eq!(rt; input.pull(&mut []), Some(0));
+    let mut buf = vec![in rt.alloc(); 0u8; 90_000]?;
+    assert_eq!(rt; input.pull(&mut buf), Some(90_000));
+    let reader = input.into_inner();
+    assert_eq!(rt; (reader.reads, reader.text.len()), (2, 10_000));
+    Ok(())
+}
+
 #[test]
 fn pushes_by_one_write(rt: HostRuntime) {
     let mut output = IntoWrite::new(Writer::new(rt.alloc(), 3));
@@ -42,6 +55,16 @@ fn pushes_by_one_write(rt: HostRuntime) {
     let writer = output.into_inner();
     assert_eq!(rt; writer.taken.as_slice(), b"abc".as_slice());
     assert_eq!(rt; (writer.writes, writer.flushes), (1, 0));
+}
+
+#[test]
+fn pushes_much_by_one_write(rt: HostRuntime) -> Result<(), Fail> {
+    let text = vec![in rt.alloc(); b'a'; 100_000]?;
+    let mut output = IntoWrite::new(Writer::new(rt.alloc(), 100_000));
+    assert_eq!(rt; output.push(&text), Some(100_000));
+    let writer = output.into_inner();
+    assert_eq!(rt; (writer.writes, writer.taken.len()), (1, 100_000));
+    Ok(())
 }
 
 #[test]

@@ -1,0 +1,47 @@
+//! What a program does with a script.
+
+ghost use Rattle.std.specs.Prelude.{◌≡◌, ◌≢◌, Result, Err, true, IfSome, MatchResult, OnOk, if◌then◌else◌};
+ghost use Rattle.offset_script.specs.declared.faults.RunFault.{RunFault};
+ghost use Rattle.offset_script.specs.declared.faults.RunFault.TheVariants as faults;
+ghost use Rattle.offset_script.specs.declared.faults.ScriptFault.TheVariants as scripts;
+ghost use Rattle.offset_script.specs.Faults.{status_of};
+ghost use Rattle.offset_script.specs.Running.{RunOf, Untouched, WritesFault, is_read_fault, is_write_fault};
+
+use crate::devices::{Sink, Source};
+use crate::running::run;
+use crate::sending::send_fault;
+use std::alloc::Global;
+
+/// Runs a script, and where that fails, writes the line of the fault to `errors`. Returns the status to exit with.
+///
+/// The status is 0 exactly where the run is `Ok`, 2 where the text is no script, 3 where memory was refused, and 4
+/// where the source or the sink failed. A run that is `Ok` leaves `errors` as it was. A failure of `errors` changes no
+/// status, and its line takes no memory.
+pub fn run_program<S: Source, K: Sink, E: Sink>(
+    alloc: Global,
+    input: &mut S,
+    output: &mut K,
+    errors: &mut E,
+) -> u8
+    // There is a result of a run, with each clause of `run`, whose status and whose fault's line these are.
+    ensures { (ended : Result (Unit {0}) RunFault)
+        × (ended ≢ Err (faults.Script scripts.Memory))
+        × (result ≡ status_of ended)
+        × MatchResult ended (λ _. errors.new ≡ errors.old) (λ fault. WritesFault fault
+        (E.held errors.old) (E.held errors.new) (E.has_failed errors.old) (E.has_failed errors.new)
+        (E.is_flushed errors.new))
+        × IfSome (S.left input.old)
+        (λ text. RunOf ended text (S.left input.new) (K.held output.old) (K.held output.new))
+        × OnOk ended (K.is_flushed output.new ≡ true)
+        × Untouched ended output.old output.new
+        × (S.has_failed input.new ≡ (if is_read_fault ended then true else S.has_failed input.old))
+        × (K.has_failed output.new ≡ (if is_write_fault ended then true else K.has_failed output.old)) }
+{
+    match run(alloc, input, output) {
+        Ok(()) => 0,
+        Err(fault) => {
+            let _is_sent = send_fault(errors, fault);
+            fault.status()
+        }
+    }
+}
