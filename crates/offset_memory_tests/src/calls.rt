@@ -27,7 +27,6 @@ fn request<NI: NodeIndex>(
     }
 }
 
-#[tactic(auto, using(offset_allocator::proofs::Powers::power_of_two))]
 fn request_aligned<NI: NodeIndex>(
     allocator: &mut Allocator<NI>,
     size: u32,

@@ -4,7 +4,7 @@ use crate::attempts::{Attempt, Outcome, refused_if, right_if};
 use crate::ladder::{FINE, refusals};
 use offset_script::{
     Answer, Command, FromRead, IndexWidth, IntoWrite, RunFault, Script, ScriptFault, parse, play,
-    run,
+    run, run_program,
 };
 use std::alloc::Global;
 use std::io;
@@ -135,10 +135,30 @@ impl Attempt for RunsFaulty {
     }
 }
 
+// The program: where memory is refused, it ends with status 3, one line of errors, and nothing else written.
+#[derive(Drop)]
+struct RunsProgram;
+
+impl Attempt for RunsProgram {
+    fn outcome(&mut self, alloc: Global) -> Outcome {
+        let mut output = IntoWrite::new(Expected::new(ANSWERS));
+        let mut errors = IntoWrite::new(Expected::new(b"out of memory\n"));
+        let status = run_program(alloc, &mut FromRead::new(TEXT), &mut output, &mut errors);
+        let output = output.into_inner();
+        let errors = errors.into_inner();
+        match status {
+            0 => right_if(output.left.is_empty() && !output.differs && errors.is_untouched),
+            3 => refused_if(output.is_untouched && errors.left.is_empty() && !errors.differs),
+            _ => Outcome::Wrong,
+        }
+    }
+}
+
 #[test]
 fn running(rt: HostRuntime) -> Result<(), Fail> {
     assert!(rt; refusals(&rt, rt.alloc(), FINE, &mut Runs)? >= 1);
     assert!(rt; refusals(&rt, rt.alloc(), FINE, &mut RunsFaulty)? >= 1);
+    assert!(rt; refusals(&rt, rt.alloc(), FINE, &mut RunsProgram)? >= 1);
     Ok(())
 }
 

@@ -8,7 +8,6 @@ use offset_allocator::{
     Accesses, Allocation, Allocator, NodeIndex, StorageReport, StorageReportFull,
 };
 
-#[tactic(auto, using(offset_allocator::proofs::Powers::power_of_two))]
 fn request_aligned<NI: NodeIndex>(
     allocator: &mut Allocator<NI>,
     size: u32,
