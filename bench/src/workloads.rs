@@ -114,6 +114,31 @@ fn fragments(slots: u32) -> Work {
     Work::Steps { slots: slots as usize, steps }
 }
 
+/// The buffers of a real game, again and again: a slot for each grant, which its script releases.
+fn trace(text: &str) -> Workload {
+    let mut lines = text.lines();
+    let header: Vec<&str> = lines.next().unwrap_or_default().split(' ').collect();
+    let ["space", space, "nodes", nodes, "index", "32"] = header[..] else { panic!("the header of the trace") };
+    let mut once = Vec::new();
+    let mut slots = 0;
+    for line in lines {
+        let words: Vec<&str> = line.split(' ').collect();
+        match words[..] {
+            ["alloc", size] => {
+                once.push(Step { slot: slots, size: size.parse().unwrap() });
+                slots += 1;
+            }
+            ["free", number] => once.push(Step { slot: number.parse::<u32>().unwrap() - 1, size: 0 }),
+            ["report"] => {}
+            _ => panic!("a command of the trace: {line}"),
+        }
+    }
+    // all slots are empty in the end
+    let steps = once.repeat(STEPS.div_ceil(once.len()));
+    let work = Work::Steps { slots: slots as usize, steps };
+    Workload { name: "voxel game".to_string(), width: Width::Bits32, space: space.parse().unwrap(), nodes: nodes.parse().unwrap(), work }
+}
+
 pub fn all() -> Vec<Workload> {
     use Width::{Bits16, Bits32};
     const NODES: u32 = 131_072;
@@ -144,5 +169,7 @@ pub fn all() -> Vec<Workload> {
         let nodes = 1 << bits;
         add(&format!("growth, {nodes} nodes"), Bits32, u32::MAX, nodes, random(nodes / 4, 12));
     }
+    // behind the other workloads with `u32`
+    found.insert(9, trace(include_str!("../traces/voxel-game.script")));
     found
 }

@@ -1,7 +1,9 @@
 //! Every public call with random handles and numbers. A call panics exactly where its condition is not met, with the
 //! words of the table, and has then changed nothing. Each grant has its units alone.
 //!
-//! `cargo test` builds with the tests of sums and of `debug_assert` on: a sum that wraps would panic here.
+//! With `debug_assertions` alone, as `cargo test` builds: a sum that wraps panics then.
+#![cfg(debug_assertions)]
+
 use offset_allocator_proved::ext::min_allocator_size;
 use offset_allocator_proved::small_float::{float_to_uint, uint_to_float_round_down, uint_to_float_round_up};
 use offset_allocator_proved::{laws, Accesses, Allocation, Allocator, Global, NodeIndex, NonMaxU16, NonMaxU32, StorageReportFull};
@@ -222,7 +224,6 @@ fn numbers(random: &mut Random) {
 
 #[test]
 fn no_other_panic() {
-    assert!(cfg!(debug_assertions), "sums are tested only so");
     // hundreds of panics are expected: they are not to be printed
     let printed = std::panic::take_hook();
     std::panic::set_hook(Box::new(|_| {}));
