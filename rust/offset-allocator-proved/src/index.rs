@@ -28,6 +28,7 @@ pub trait NodeIndex: Clone + Copy + Default {
     fn to_nonmax(self) -> Option<Self::NonMax>;
 
     /// The name of this number, which is not `MAX`.
+    #[inline]
     fn to_name(self) -> Self::NonMax {
         assert!(self.to_usize() < <Self as NodeIndex>::MAX as usize, "MAX is the name of no node");
         self.to_nonmax().unwrap()
@@ -124,6 +125,7 @@ impl NodeIndex for u32 {
         NonMaxU32::new(self)
     }
 
+    #[inline]
     fn to_name(self) -> NonMaxU32 {
         assert!(self.to_usize() < <Self as NodeIndex>::MAX as usize, "MAX is the name of no node");
         NonMaxU32 { value: self }
@@ -198,6 +200,7 @@ impl NodeIndex for u16 {
         NonMaxU16::new(self)
     }
 
+    #[inline]
     fn to_name(self) -> NonMaxU16 {
         assert!(self.to_usize() < <Self as NodeIndex>::MAX as usize, "MAX is the name of no node");
         NonMaxU16 { value: self }

@@ -1,7 +1,7 @@
 //! The memory of the tables: a vector whose growth can be refused. By hand, over that of `alloc`.
 
 use core::fmt;
-use core::ops::{Deref, DerefMut};
+use core::ops::{Deref, DerefMut, Index, IndexMut};
 
 /// The memory allocator of the program: the one that `alloc` uses.
 #[derive(Clone, Copy, Debug, Default)]
@@ -39,6 +39,36 @@ impl<T> Vec<T> {
         self.0.try_reserve_exact(more).map_err(|_| AllocError)?;
         self.0.resize(length, value);
         Ok(())
+    }
+}
+
+// The panic of a cell that is not there. It has no number in it, so that a test of a place is one comparison and a
+// jump. No call comes here: that each place is in its table is proved.
+#[cold]
+#[inline(never)]
+fn outside() -> ! {
+    panic!("a place outside of a table")
+}
+
+impl<T> Index<usize> for Vec<T> {
+    type Output = T;
+
+    #[inline(always)]
+    fn index(&self, place: usize) -> &T {
+        match self.0.get(place) {
+            Some(value) => value,
+            None => outside(),
+        }
+    }
+}
+
+impl<T> IndexMut<usize> for Vec<T> {
+    #[inline(always)]
+    fn index_mut(&mut self, place: usize) -> &mut T {
+        match self.0.get_mut(place) {
+            Some(value) => value,
+            None => outside(),
+        }
     }
 }
 

@@ -79,6 +79,7 @@ impl<W: Write> IntoWrite<W> {
 }
 
 impl<W: Write> Sink for IntoWrite<W> {
+    #[inline]
     fn push(&mut self, bytes: &[u8]) -> Option<usize> {
         assert!(!bytes.is_empty(), "at least one byte must be pushed");
         match self.inner.write(bytes) {
