@@ -81,16 +81,16 @@ fn main() {
     let words: Vec<&str> = words.iter().map(String::as_str).collect();
     match words[..] {
         ["list"] => {
-            for w in workloads::all() {
-                println!("{}\t{}", w.name, w.count());
+            for w in workloads::all(None) {
+                println!("{}\t{}\t{}", w.name, w.count(), w.function());
             }
         }
         ["play", name, side, what] => {
-            let w = workloads::all().into_iter().find(|w| w.name == name).expect("a workload's name");
-            println!("{}", run(&w, side, what == "none"));
+            let w = &workloads::all(Some(name))[0];
+            println!("{}", run(w, side, what == "none"));
         }
         ["time"] => {
-            for w in workloads::all() {
+            for w in workloads::all(None) {
                 let sums = SIDES.map(|side| run(&w, side, false));
                 assert!(sums.iter().all(|s| *s == sums[0]), "{}: the answers differ: {sums:?}", w.name);
                 let [original, ours, erased, c] = times(&w);
