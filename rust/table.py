@@ -16,7 +16,7 @@ ROOTS = {
 #![no_std]
 #![forbid(unsafe_code)]
 #![warn(missing_docs)]
-#![allow(LINTS)]
+#![expect(LINTS)]
 
 extern crate alloc;
 
@@ -26,7 +26,7 @@ pub use memory::{AllocError, Global};
 """,
     "offset_script": """#![doc = include_str!("../README.md")]
 #![forbid(unsafe_code)]
-#![allow(LINTS)]
+#![expect(LINTS)]
 
 mod memory;
 
@@ -34,7 +34,8 @@ pub use memory::{AllocError, Global, String, Vec};
 """,
 }
 
-# Lints that the sources meet by their form, and why the form is theirs. Each is about style.
+# Lints that the sources meet by their form, and why the form is theirs. Each is about style. `rustc` and clippy warn of
+# one that is met no more.
 LINTS = {
     "offset_allocator": {
         "clippy::derivable_impls": "an `impl Default` is where a contract says what the value is",

@@ -17,11 +17,11 @@
 #![no_std]
 #![forbid(unsafe_code)]
 #![warn(missing_docs)]
-#![allow(clippy::derivable_impls)] // an `impl Default` is where a contract says what the value is
-#![allow(clippy::manual_map)] // a `match` needs no closure, whose calls would need a proof
-#![allow(clippy::needless_range_loop)] // so is a loop over places proved in few words
-#![allow(clippy::too_many_arguments)] // functions over the tables take the numbers that they change one by one
-#![allow(unused_variables)] // parameters that only contracts read
+#![expect(clippy::derivable_impls)] // an `impl Default` is where a contract says what the value is
+#![expect(clippy::manual_map)] // a `match` needs no closure, whose calls would need a proof
+#![expect(clippy::needless_range_loop)] // so is a loop over places proved in few words
+#![expect(clippy::too_many_arguments)] // functions over the tables take the numbers that they change one by one
+#![expect(unused_variables)] // parameters that only contracts read
 
 extern crate alloc;
 
