@@ -47,7 +47,7 @@ LINTS = {
     "offset_script": {},
 }
 
-# Names of std that stand for something else here, or for nothing: the reason is beside each.
+# Names of std that are something else here, or nothing: the reason is beside each.
 IMPORTS = {
     "std::alloc::AllocError": "crate::memory::AllocError",  # no stable Rust has it
     "std::alloc::AllocFailed": None,                        # a refused push gives an AllocError here

@@ -1,4 +1,4 @@
-//! Ours as plain Rust, behind the same calls as the other sides.
+//! Ours as plain Rust, with the same calls as the other sides.
 use crate::workloads::Step;
 use offset_allocator_proved::{Allocation, Allocator, Global, NodeIndex};
 

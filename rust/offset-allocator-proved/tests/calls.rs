@@ -80,7 +80,7 @@ fn grows_and_resets() {
 
 #[test]
 fn node_limits() {
-    // a limit of 4 lets 3 blocks stand: two ranges, and the rest
+    // a limit of 4 admits 3 blocks: two ranges, and the rest
     let mut a = space(100, 4);
     let first = a.allocate(1).unwrap();
     a.allocate(1).unwrap();
@@ -88,7 +88,7 @@ fn node_limits() {
     assert_eq!(a.storage_report().total_free_space, 0);
     assert_eq!(a.storage_report().largest_free_region, 0);
     a.free(first);
-    assert!(a.allocate(1).is_none(), "three blocks stand: a free one, a used one, the rest");
+    assert!(a.allocate(1).is_none(), "there are three blocks: a free one, a used one, the rest");
     assert!(Allocator::<u16>::with_max_allocs(Global, u32::MAX, 65_533).is_ok());
     assert!(Allocator::<u16>::new(Global, 5).unwrap().allocate(5).is_some());
 }

@@ -17,7 +17,7 @@ struct Frame {
 fn main() {
     let mut space: Allocator = Allocator::new(BUFFER);
     let mut frames = VecDeque::new();
-    // the live ranges by their first byte: the byte behind them, and their frame
+    // the live ranges by their first byte: the byte after them, and their frame
     let mut live = BTreeMap::new();
     let mut refused = 0;
     let mut random = 7u32;
@@ -42,7 +42,7 @@ fn main() {
                     let before = live.range(..range.offset).next_back();
                     assert!(before.map_or(true, |(_, (end, _))| *end <= range.offset), "in the range before");
                     let after = live.range(range.offset..).next();
-                    assert!(after.map_or(true, |(start, _)| end <= *start), "in the range behind");
+                    assert!(after.map_or(true, |(start, _)| end <= *start), "in the range after");
                     live.insert(range.offset, (end, number));
                     frame.ranges.push(range);
                 }

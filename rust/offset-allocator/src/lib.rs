@@ -82,7 +82,7 @@ where
     /// # Panics
     ///
     /// Where the allocation is not live here: it was freed, a reset took it, or another allocator made it. One whose
-    /// node a newer allocation has cannot be told from that.
+    /// node a newer allocation has cannot be distinguished from that.
     pub fn free(&mut self, allocation: Allocation<NI>) {
         self.proved.free(allocation.proved);
     }

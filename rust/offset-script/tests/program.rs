@@ -31,7 +31,7 @@ fn the_stored_script() {
 #[test]
 fn every_command() {
     let script = "# all eight\nspace 100 nodes 16 index 16\nalloc 10\nalign 4 8\nsize 2\nfree 1\nfree 1\nreport\nfull\nextend 28\nalloc 129\nreset\nreport\n";
-    // 10 units; 4 from 16 on, with 6 free before them and 80 behind; then the front joins the freed 10
+    // 10 units; 4 from 16 on, with 6 free before them and 80 after; then the front joins the freed 10
     let answers = "grant 1 at 0\ngrant 2 at 16\nsize 4\nfreed\ngone\nfree 96 largest 80\nfull 2\nclass 16 size 16 count 1\nclass 34 size 80 count 1\nextended\nnone\nreset\nfree 128 largest 128\n";
     expect(script.as_bytes(), 0, answers, "");
 }
