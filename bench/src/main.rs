@@ -1,7 +1,8 @@
-//! Runs the workloads on three allocators, and prints a row for each workload and side.
+//! Runs the workloads on four allocators, and prints a row for each workload and side.
 //!
 //! `measure time` prints times, `measure list` names, and `measure play NAME SIDE all|none` makes one run with all of
 //! its steps or with none, for a counter of instructions.
+mod erased;
 mod original;
 mod workloads;
 
@@ -17,7 +18,7 @@ macro_rules! sides { ($($play:ident $renew:ident)*) => {
 sides! { offset_play_32 offset_renew_32 offset_play_16 offset_renew_16 tuned_play_32 tuned_renew_32 tuned_play_16 tuned_renew_16 }
 
 const RUNS: usize = 9;
-const SIDES: [&str; 3] = ["original", "ours", "c"];
+const SIDES: [&str; 4] = ["original", "ours", "erased", "c"];
 
 /// One run on a side, without its steps if `none`: what is left is the price of making the tables.
 fn run(w: &Workload, side: &str, none: bool) -> u64 {
@@ -28,6 +29,8 @@ fn run(w: &Workload, side: &str, none: bool) -> u64 {
                 ("original", Width::Bits16) => original::original_play_16,
                 ("ours", Width::Bits32) => offset_play_32,
                 ("ours", Width::Bits16) => offset_play_16,
+                ("erased", Width::Bits32) => erased::erased_play_32,
+                ("erased", Width::Bits16) => erased::erased_play_16,
                 (_, Width::Bits32) => tuned_play_32,
                 (_, Width::Bits16) => tuned_play_16,
             };
@@ -48,6 +51,8 @@ fn renew(w: &Workload, side: &str, resets: u32) -> u64 {
         ("original", Width::Bits16) => original::original_renew_16,
         ("ours", Width::Bits32) => offset_renew_32,
         ("ours", Width::Bits16) => offset_renew_16,
+        ("erased", Width::Bits32) => erased::erased_renew_32,
+        ("erased", Width::Bits16) => erased::erased_renew_16,
         (_, Width::Bits32) => tuned_renew_32,
         (_, Width::Bits16) => tuned_renew_16,
     };
@@ -55,8 +60,8 @@ fn renew(w: &Workload, side: &str, resets: u32) -> u64 {
 }
 
 /// The least of all runs, in nanoseconds a step; the sides take turns.
-fn times(w: &Workload) -> [f64; 3] {
-    let mut least = [[f64::MAX; 2]; 3];
+fn times(w: &Workload) -> [f64; 4] {
+    let mut least = [[f64::MAX; 2]; 4];
     for _ in 0..RUNS {
         for (s, side) in SIDES.iter().enumerate() {
             for none in [false, true] {
@@ -76,20 +81,20 @@ fn main() {
     let words: Vec<&str> = words.iter().map(String::as_str).collect();
     match words[..] {
         ["list"] => {
-            for w in workloads::all() {
-                println!("{}\t{}", w.name, w.count());
+            for w in workloads::all(None) {
+                println!("{}\t{}\t{}", w.name, w.count(), w.function());
             }
         }
         ["play", name, side, what] => {
-            let w = workloads::all().into_iter().find(|w| w.name == name).expect("a workload's name");
-            println!("{}", run(&w, side, what == "none"));
+            let w = &workloads::all(Some(name))[0];
+            println!("{}", run(w, side, what == "none"));
         }
         ["time"] => {
-            for w in workloads::all() {
+            for w in workloads::all(None) {
                 let sums = SIDES.map(|side| run(&w, side, false));
                 assert!(sums.iter().all(|s| *s == sums[0]), "{}: the answers differ: {sums:?}", w.name);
-                let [original, ours, c] = times(&w);
-                println!("{}\t{}\t{original}\t{ours}\t{c}\t{:016x}", w.name, w.nodes, sums[0]);
+                let [original, ours, erased, c] = times(&w);
+                println!("{}\t{}\t{original}\t{ours}\t{erased}\t{c}\t{:016x}", w.name, w.nodes, sums[0]);
             }
         }
         _ => panic!("measure time | list | play NAME SIDE all|none"),

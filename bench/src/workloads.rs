@@ -35,6 +35,16 @@ impl Workload {
             Work::Make { times } | Work::Reset { times } => *times as usize,
         }
     }
+
+    /// What the measured function of a side is called, behind the side's own word.
+    pub fn function(&self) -> &str {
+        match (&self.work, self.width) {
+            (Work::Steps { .. }, Width::Bits32) => "play_32",
+            (Work::Steps { .. }, Width::Bits16) => "play_16",
+            (_, Width::Bits32) => "renew_32",
+            (_, Width::Bits16) => "renew_16",
+        }
+    }
 }
 
 /// The same numbers in each run (xorshift).
@@ -114,35 +124,62 @@ fn fragments(slots: u32) -> Work {
     Work::Steps { slots: slots as usize, steps }
 }
 
-pub fn all() -> Vec<Workload> {
+/// The buffers of a real game, again and again: a slot for each grant, which its script releases.
+fn trace(text: &str) -> Work {
+    let mut lines = text.lines();
+    assert_eq!(lines.next(), Some("space 268435456 nodes 16384 index 32"));
+    let mut once = Vec::new();
+    let mut slots = 0;
+    for line in lines {
+        let words: Vec<&str> = line.split(' ').collect();
+        match words[..] {
+            ["alloc", size] => {
+                once.push(Step { slot: slots, size: size.parse().unwrap() });
+                slots += 1;
+            }
+            ["free", number] => once.push(Step { slot: number.parse::<u32>().unwrap() - 1, size: 0 }),
+            ["report"] => {}
+            _ => panic!("a command of the trace: {line}"),
+        }
+    }
+    // all slots are empty in the end
+    let steps = once.repeat(STEPS.div_ceil(once.len()));
+    Work::Steps { slots: slots as usize, steps }
+}
+
+/// All workloads, or the one of this name: only that is made then.
+pub fn all(only: Option<&str>) -> Vec<Workload> {
     use Width::{Bits16, Bits32};
     const NODES: u32 = 131_072;
     const SPACE: u32 = 1 << 28;
     let mut found = Vec::new();
-    let mut add = |name: &str, width, space, nodes, work| {
-        found.push(Workload { name: name.to_string(), width, space, nodes, work })
+    let mut add = |name: &str, width, space, nodes, work: &dyn Fn() -> Work| {
+        if only.map_or(true, |only| only == name) {
+            found.push(Workload { name: name.to_string(), width, space, nodes, work: work() });
+        }
     };
-    add("random, 1k live", Bits32, SPACE, NODES, random(1_000, 12));
-    add("random, 16k live", Bits32, SPACE, NODES, random(16_000, 12));
-    add("random, 60k live", Bits32, SPACE, NODES, random(60_000, 12));
-    add("random, 300 of 1,024", Bits32, SPACE, 1_024, random(300, 12));
-    add("tight, with refusals", Bits32, 300_000, NODES, random(2_000, 12));
-    add("bump, then free in order", Bits32, SPACE, NODES, waves(60_000, 12, |_| (0..60_000).collect()));
-    add("bump, then free in reverse", Bits32, SPACE, NODES, waves(60_000, 12, |_| (0..60_000).rev().collect()));
-    add("bump, then free at random", Bits32, SPACE, NODES, waves(60_000, 12, |r| r.shuffled(60_000)));
-    add("fragmenting mix", Bits32, SPACE, NODES, fragments(120_000));
-    add("u16: random, 1k live", Bits16, 65_535, 65_000, random(1_000, 6));
-    add("u16: random, 16k live", Bits16, 65_535, 65_000, random(16_000, 1));
-    add("u16: random, 300 of 1,024", Bits16, 65_535, 1_024, random(300, 7));
-    add("u16: tight, with refusals", Bits16, 20_000, 65_000, random(4_000, 6));
-    add("u16: bump, then free at random", Bits16, 65_535, 65_000, waves(10_000, 2, |r| r.shuffled(10_000)));
-    add("make 131,072 nodes", Bits32, SPACE, NODES, Work::Make { times: 100 });
-    add("reset 131,072 nodes", Bits32, SPACE, NODES, Work::Reset { times: 100 });
-    add("u16: make 65,000 nodes", Bits16, 65_535, 65_000, Work::Make { times: 100 });
-    add("u16: reset 65,000 nodes", Bits16, 65_535, 65_000, Work::Reset { times: 100 });
+    add("random, 1k live", Bits32, SPACE, NODES, &|| random(1_000, 12));
+    add("random, 16k live", Bits32, SPACE, NODES, &|| random(16_000, 12));
+    add("random, 60k live", Bits32, SPACE, NODES, &|| random(60_000, 12));
+    add("random, 300 of 1,024", Bits32, SPACE, 1_024, &|| random(300, 12));
+    add("tight, with refusals", Bits32, 300_000, NODES, &|| random(2_000, 12));
+    add("bump, then free in order", Bits32, SPACE, NODES, &|| waves(60_000, 12, |_| (0..60_000).collect()));
+    add("bump, then free in reverse", Bits32, SPACE, NODES, &|| waves(60_000, 12, |_| (0..60_000).rev().collect()));
+    add("bump, then free at random", Bits32, SPACE, NODES, &|| waves(60_000, 12, |r| r.shuffled(60_000)));
+    add("fragmenting mix", Bits32, SPACE, NODES, &|| fragments(120_000));
+    add("voxel game", Bits32, SPACE, 16_384, &|| trace(include_str!("../traces/voxel-game.script")));
+    add("u16: random, 1k live", Bits16, 65_535, 65_000, &|| random(1_000, 6));
+    add("u16: random, 16k live", Bits16, 65_535, 65_000, &|| random(16_000, 1));
+    add("u16: random, 300 of 1,024", Bits16, 65_535, 1_024, &|| random(300, 7));
+    add("u16: tight, with refusals", Bits16, 20_000, 65_000, &|| random(4_000, 6));
+    add("u16: bump, then free at random", Bits16, 65_535, 65_000, &|| waves(10_000, 2, |r| r.shuffled(10_000)));
+    add("make 131,072 nodes", Bits32, SPACE, NODES, &|| Work::Make { times: 100 });
+    add("reset 131,072 nodes", Bits32, SPACE, NODES, &|| Work::Reset { times: 100 });
+    add("u16: make 65,000 nodes", Bits16, 65_535, 65_000, &|| Work::Make { times: 100 });
+    add("u16: reset 65,000 nodes", Bits16, 65_535, 65_000, &|| Work::Reset { times: 100 });
     for bits in 10..=20 {
         let nodes = 1 << bits;
-        add(&format!("growth, {nodes} nodes"), Bits32, u32::MAX, nodes, random(nodes / 4, 12));
+        add(&format!("growth, {nodes} nodes"), Bits32, u32::MAX, nodes, &|| random(nodes / 4, 12));
     }
     found
 }

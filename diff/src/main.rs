@@ -1,6 +1,6 @@
 //! Plays random scripts on our program and on the original, and compares the answers line by line.
 //!
-//! `compare PROGRAM COUNT FIRST` plays the scripts of the numbers from FIRST on. A number always gives the same script.
+//! `compare PROGRAM COUNT FIRST` plays the trace of a game, and the scripts of the numbers from FIRST on. A number always gives the same script.
 mod original;
 mod scripts;
 
@@ -19,7 +19,7 @@ fn ours(program: &str, script: &Script) -> String {
         .stdout(Stdio::piped())
         .spawn()
         .expect("our program starts");
-    // a script is shorter than a pipe is long, so this waits for nobody
+    // it reads all before it writes, so this waits for nobody
     child.stdin.take().unwrap().write_all(script.text().as_bytes()).expect("our program reads");
     let mut out = String::new();
     child.stdout.take().unwrap().read_to_string(&mut out).expect("our program writes text");
@@ -123,6 +123,11 @@ fn main() {
     let [program, count, first] = &words[..] else { panic!("compare PROGRAM COUNT FIRST") };
     let (count, first): (u64, u64) = (count.parse().unwrap(), first.parse().unwrap());
     expect_faults(program);
+    let trace = scripts::read(include_str!("../../bench/traces/voxel-game.script"));
+    match compared(program, &trace) {
+        Ok(lines) => println!("the trace of a game: {} equal lines", lines.len()),
+        Err(fault) => panic!("the trace of a game, {fault}"),
+    }
     let next = AtomicU64::new(first);
     let tally = Mutex::new(Tally::default());
     std::thread::scope(|scope| {

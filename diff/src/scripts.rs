@@ -43,6 +43,22 @@ impl Script {
     }
 }
 
+/// The script of a text, which has one line for each command and no others.
+pub fn read(text: &str) -> Script {
+    let number = |word: &str| word.parse().expect("a number of the script");
+    let mut lines = text.lines().map(|line| line.split(' ').collect::<Vec<&str>>());
+    let header = lines.next().unwrap_or_default();
+    let ["space", space, "nodes", nodes, "index", bits] = header[..] else { panic!("a header: {header:?}") };
+    let width = if bits == "16" { Width::Bits16 } else { Width::Bits32 };
+    let commands = lines.map(|words| match words[..] {
+        ["alloc", n] => Command::Alloc(number(n)),
+        ["free", n] => Command::Free(number(n)),
+        ["report"] => Command::Report,
+        _ => panic!("a command: {words:?}"),
+    });
+    Script { space: number(space), max_allocs: number(nodes), width, commands: commands.collect() }
+}
+
 /// A number that is a multiple of the golden ratio's fraction, stirred (splitmix64).
 struct Random(u64);
 

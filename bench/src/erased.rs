@@ -1,0 +1,59 @@
+//! Ours as plain Rust, with the same calls as the other sides.
+use crate::workloads::Step;
+use offset_allocator_proved::{Allocation, Allocator, Global, NodeIndex};
+
+#[inline(always)]
+fn take<NI: NodeIndex>(space: &mut Allocator<NI>, slot: &mut Option<Allocation<NI>>, size: u32) -> u64 {
+    match *slot {
+        None => match space.allocate(size) {
+            None => 1 << 32,
+            Some(handle) => {
+                *slot = Some(handle);
+                handle.offset.into()
+            }
+        },
+        Some(handle) => {
+            *slot = None;
+            // asserts itself that the handle is live
+            space.free(handle);
+            1 << 33
+        }
+    }
+}
+
+#[inline(always)]
+unsafe fn play<NI: NodeIndex>(size: u32, max_allocs: u32, slots: usize, steps: *const Step, count: usize) -> u64 {
+    let steps = std::slice::from_raw_parts(steps, count);
+    let mut space = Allocator::<NI>::with_max_allocs(Global, size, max_allocs).unwrap();
+    let mut slots: Vec<Option<Allocation<NI>>> = vec![None; slots];
+    let mut sum = 0u64;
+    for step in steps {
+        if let Some(slot) = slots.get_mut(step.slot as usize) {
+            sum = sum.wrapping_mul(31).wrapping_add(take(&mut space, slot, step.size));
+        }
+    }
+    sum
+}
+
+fn renew<NI: NodeIndex>(size: u32, max_allocs: u32, resets: u32) -> u64 {
+    let mut space = Allocator::<NI>::with_max_allocs(Global, size, max_allocs).unwrap();
+    for _ in 0..resets {
+        space.reset();
+    }
+    space.storage_report().total_free_space.into()
+}
+
+macro_rules! exported { ($play:ident $renew:ident $width:ty) => {
+    #[no_mangle]
+    #[inline(never)]
+    pub unsafe extern "C" fn $play(size: u32, max_allocs: u32, slots: usize, steps: *const Step, count: usize) -> u64 {
+        play::<$width>(size, max_allocs, slots, steps, count)
+    }
+    #[no_mangle]
+    #[inline(never)]
+    pub unsafe extern "C" fn $renew(size: u32, max_allocs: u32, resets: u32) -> u64 {
+        renew::<$width>(size, max_allocs, resets)
+    }
+} }
+exported! { erased_play_32 erased_renew_32 u32 }
+exported! { erased_play_16 erased_renew_16 u16 }

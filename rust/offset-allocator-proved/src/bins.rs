@@ -1,0 +1,148 @@
+// Printed by rust/erase from crates/offset_allocator/src/bins.rt: change it there.
+
+//! The names of free blocks, in a list for each size class, by links between the nodes, with a two-level mask.
+
+use crate::accesses::Accesses;
+use crate::index::{NodeIndex, link_to, no_link, number};
+use crate::small_float::uint_to_float_round_down;
+use crate::tables::Tables;
+
+/// The least class from a class on that has a name.
+pub(crate) fn find_at_or_above<NI: NodeIndex>(
+    tables: &Tables<NI>,
+    top_mask: u32,
+    class: u32,
+    count: &mut Accesses,
+) -> Option<u32> {
+    let word = class / 64;
+    let rest = tables.mask(word, count) & (u64::MAX << (class % 64));
+    if rest != 0 {
+        return Some(word * 64 + rest.trailing_zeros());
+    }
+    let words = top_mask & (u32::MAX << (word + 1));
+    if words == 0 {
+        return None;
+    }
+    let found = words.trailing_zeros();
+    Some(found * 64 + tables.mask(found, count).trailing_zeros())
+}
+
+/// The greatest class that has a name.
+pub(crate) fn greatest<NI: NodeIndex>(
+    tables: &Tables<NI>,
+    top_mask: u32,
+    count: &mut Accesses,
+) -> Option<u32> {
+    if top_mask == 0 {
+        return None;
+    }
+    let word = 31 - top_mask.leading_zeros();
+    Some(word * 64 + (63 - tables.mask(word, count).leading_zeros()))
+}
+
+/// The number of the names of a class.
+pub(crate) fn length_of<NI: NodeIndex>(tables: &Tables<NI>, class: u32, count: &mut Accesses) -> u32 {
+    tables.shape();
+    let mut names = 0;
+    let mut name = number(tables.head(class, count));
+    while name != NI::MAX {
+        names += 1;
+        name = number(tables.older(name, count));
+    }
+    names
+}
+
+/// Puts a name first into a class.
+pub(crate) fn put_first<NI: NodeIndex>(
+    tables: &mut Tables<NI>,
+    top_mask: &mut u32,
+    name: u32,
+    class: u32,
+    count: &mut Accesses,
+) {
+    tables.shape();
+    let link = link_to(name);
+    let first = tables.head(class, count);
+    tables.set_older(name, first, count);
+    tables.set_newer(name, no_link(), count);
+    tables.set_head(class, link, count);
+    let newest = number(first);
+    if newest == NI::MAX {
+        let word = class / 64;
+        let mask = tables.mask(word, count);
+        tables.set_mask(word, mask | 1 << (class % 64), count);
+        *top_mask |= 1 << word;
+    } else {
+        tables.set_newer(newest, link, count);
+    }
+}
+
+// Links the node that a link names, if any, to a next newer one.
+fn link_newer<NI: NodeIndex>(tables: &mut Tables<NI>, at: NI, to: NI, count: &mut Accesses) {
+    let name = number(at);
+    if name != NI::MAX {
+        tables.set_newer(name, to, count);
+    }
+}
+
+// Links the node that a link names, if any, to a next older one.
+fn link_older<NI: NodeIndex>(tables: &mut Tables<NI>, at: NI, to: NI, count: &mut Accesses) {
+    let name = number(at);
+    if name != NI::MAX {
+        tables.set_older(name, to, count);
+    }
+}
+
+// Clears the bit of a class, which no longer has a name.
+fn clear_class<NI: NodeIndex>(
+    tables: &mut Tables<NI>,
+    top_mask: &mut u32,
+    class: u32,
+    count: &mut Accesses,
+) {
+    let word = class / 64;
+    let rest = tables.mask(word, count) & !(1 << (class % 64));
+    tables.set_mask(word, rest, count);
+    if rest == 0 {
+        *top_mask &= !(1 << word);
+    }
+}
+
+/// Takes a name out of the class of this size.
+pub(crate) fn remove<NI: NodeIndex>(
+    tables: &mut Tables<NI>,
+    top_mask: &mut u32,
+    name: u32,
+    size: u32,
+    count: &mut Accesses,
+) {
+    let before = tables.newer(name, count);
+    let after = tables.older(name, count);
+    link_newer(tables, after, before, count);
+    link_older(tables, before, after, count);
+    if number(before) == NI::MAX {
+        // only the first name has to find its class
+        let class = uint_to_float_round_down(size);
+        tables.set_head(class, after, count);
+        if number(after) == NI::MAX {
+            clear_class(tables, top_mask, class, count);
+        }
+    }
+}
+
+/// Takes the first name out of a class.
+pub(crate) fn take_first<NI: NodeIndex>(
+    tables: &mut Tables<NI>,
+    top_mask: &mut u32,
+    class: u32,
+    count: &mut Accesses,
+) -> u32 {
+    let name = number(tables.head(class, count));
+    let after = tables.older(name, count);
+    link_newer(tables, after, no_link(), count);
+    tables.set_head(class, after, count);
+    if number(after) == NI::MAX {
+        clear_class(tables, top_mask, class, count);
+    }
+    name
+}

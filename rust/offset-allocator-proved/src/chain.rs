@@ -1,0 +1,189 @@
+// Printed by rust/erase from crates/offset_allocator/src/chain.rt: change it there.
+
+//! The blocks of the space, linked in space order, and the stack of unused names.
+
+use crate::accesses::Accesses;
+use crate::index::{NodeIndex, link_to, linked, number};
+use crate::tables::Tables;
+
+/// Writes the cells of an unused node, for a free block between two links.
+pub(crate) fn place<NI: NodeIndex>(
+    tables: &mut Tables<NI>,
+    name: u32,
+    offset: u32,
+    size: u32,
+    before: NI,
+    after: NI,
+    count: &mut Accesses,
+) {
+    tables.set_offset(name, offset, count);
+    tables.set_size(name, size, count);
+    tables.set_before(name, before, count);
+    tables.set_after(name, after, count);
+}
+
+// Makes a node the one before the node that a link names, or the last one.
+fn point_back<NI: NodeIndex>(
+    tables: &mut Tables<NI>,
+    last: &mut u32,
+    link: NI,
+    name: u32,
+    count: &mut Accesses,
+) {
+    tables.shape();
+    match linked(link) {
+        Some(after) => tables.set_before(after, link_to(name), count),
+        None => *last = name,
+    }
+}
+
+// Makes a node the one after the node that a link names.
+fn point_on<NI: NodeIndex>(tables: &mut Tables<NI>, link: NI, name: u32, count: &mut Accesses) {
+    tables.shape();
+    if let Some(before) = linked(link) {
+        tables.set_after(before, link_to(name), count);
+    }
+}
+
+/// The offset of a block.
+pub(crate) fn offset<NI: NodeIndex>(
+    tables: &Tables<NI>,
+    last: u32,
+    spare_count: u32,
+    name: u32,
+    count: &mut Accesses,
+) -> u32 {
+    tables.offset(name, count)
+}
+
+/// The size of a block.
+pub(crate) fn size<NI: NodeIndex>(
+    tables: &Tables<NI>,
+    last: u32,
+    spare_count: u32,
+    name: u32,
+    count: &mut Accesses,
+) -> u32 {
+    tables.size(name, count)
+}
+
+/// Cuts a block, of this offset and size, to `kept` units. The rest becomes a free block directly behind it, under the
+/// name that is answered.
+pub(crate) fn split<NI: NodeIndex>(
+    tables: &mut Tables<NI>,
+    last: &mut u32,
+    spare_count: &mut u32,
+    name: u32,
+    offset: u32,
+    size: u32,
+    kept: u32,
+    count: &mut Accesses,
+) -> u32 {
+    tables.shape();
+    *spare_count -= 1;
+    let rest = number(tables.spare(*spare_count, count));
+    let next = tables.after(name, count);
+    place(
+        tables,
+        rest,
+        offset + kept,
+        size - kept,
+        link_to(name),
+        next,
+        count,
+    );
+    tables.set_size(name, kept, count);
+    tables.set_after(name, link_to(rest), count);
+    point_back(tables, last, next, rest, count);
+    rest
+}
+
+/// Joins the free block `following` into the block directly before it; `total` is the size of both. The name
+/// `following` is unused again.
+pub(crate) fn join_after<NI: NodeIndex>(
+    tables: &mut Tables<NI>,
+    last: &mut u32,
+    spare_count: &mut u32,
+    name: u32,
+    following: u32,
+    total: u32,
+    count: &mut Accesses,
+) {
+    tables.shape();
+    let next = tables.after(following, count);
+    tables.set_size(name, total, count);
+    tables.set_after(name, next, count);
+    point_back(tables, last, next, name, count);
+    tables.set_spare(*spare_count, link_to(following), count);
+    *spare_count += 1;
+}
+
+/// Joins the free block `previous` into the block directly behind it; `total` is the size of both. The name
+/// `previous` is unused again.
+pub(crate) fn join_before<NI: NodeIndex>(
+    tables: &mut Tables<NI>,
+    last: u32,
+    spare_count: &mut u32,
+    previous: u32,
+    name: u32,
+    total: u32,
+    count: &mut Accesses,
+) {
+    tables.shape();
+    let offset = tables.offset(previous, count);
+    let link = tables.before(previous, count);
+    tables.set_offset(name, offset, count);
+    tables.set_size(name, total, count);
+    tables.set_before(name, link, count);
+    point_on(tables, link, name, count);
+    tables.set_spare(*spare_count, link_to(previous), count);
+    *spare_count += 1;
+}
+
+/// Makes a block used or free.
+pub(crate) fn mark<NI: NodeIndex>(
+    tables: &mut Tables<NI>,
+    last: u32,
+    spare_count: u32,
+    name: u32,
+    used: bool,
+    count: &mut Accesses,
+) {
+    tables.set_used(name, used, count);
+}
+
+/// Cuts the first `cut` units off a block. They become a free block directly before it, under the name that is
+/// answered.
+pub(crate) fn split_before<NI: NodeIndex>(
+    tables: &mut Tables<NI>,
+    last: u32,
+    spare_count: &mut u32,
+    name: u32,
+    cut: u32,
+    count: &mut Accesses,
+) -> u32 {
+    tables.shape();
+    *spare_count -= 1;
+    let front = number(tables.spare(*spare_count, count));
+    let offset = tables.offset(name, count);
+    let size = tables.size(name, count);
+    let link = tables.before(name, count);
+    place(tables, front, offset, cut, link, link_to(name), count);
+    tables.set_offset(name, offset + cut, count);
+    tables.set_size(name, size - cut, count);
+    tables.set_before(name, link_to(front), count);
+    point_on(tables, link, front, count);
+    front
+}
+
+/// Adds units to the last block.
+pub(crate) fn grow<NI: NodeIndex>(
+    tables: &mut Tables<NI>,
+    last: u32,
+    spare_count: u32,
+    more: u32,
+    count: &mut Accesses,
+) {
+    let size = tables.size(last, count);
+    tables.set_size(last, size + more, count);
+}

@@ -1,0 +1,35 @@
+// Printed by rust/erase from crates/offset_allocator/src/handle.rt: change it there.
+
+//! The handle of a grant.
+
+use crate::index::{NodeIndex, NodeIndexNonMax};
+use core::marker::PhantomData;
+
+/// A granted range. Its name tells it from the other ranges of its space.
+#[derive(Copy)]
+pub struct Allocation<NI: NodeIndex = u32, N: NodeIndexNonMax = <NI as NodeIndex>::NonMax> {
+    /// The place of the range's first unit.
+    pub offset: u32,
+    metadata: N,
+    index: PhantomData<NI>,
+}
+
+impl<NI: NodeIndex, N: NodeIndexNonMax> Clone for Allocation<NI, N> {
+    fn clone(&self) -> Self {
+        *self
+    }
+}
+
+impl<NI: NodeIndex, N: NodeIndexNonMax> Allocation<NI, N> {
+    pub(crate) fn make(offset: u32, metadata: N) -> Self {
+        Allocation {
+            offset,
+            metadata,
+            index: PhantomData,
+        }
+    }
+
+    pub(crate) fn name(self) -> N {
+        self.metadata
+    }
+}

@@ -1,0 +1,99 @@
+// Printed by rust/erase from crates/offset_allocator/src/laws.rt: change it there.
+
+//! The calls that leave an allocator as it is, with a count of their accesses, the law that a grant can be undone, and
+//! laws that hold of every allocator. The functions of those do nothing.
+
+use crate::Allocator;
+use crate::accesses::Accesses;
+use crate::handle::Allocation;
+use crate::index::NodeIndex;
+use crate::reports::{StorageReport, StorageReportFull};
+
+/// As `Allocator::is_live`. The count grows by at most 8.
+pub fn is_live_counted<NI: NodeIndex>(
+    allocator: &Allocator<NI>,
+    allocation: Allocation<NI>,
+    count: &mut Accesses,
+) -> bool {
+    allocator.is_live_counted(allocation, count)
+}
+
+/// As `Allocator::allocation_size`. The count grows by at most 8.
+pub fn allocation_size_counted<NI: NodeIndex>(
+    allocator: &Allocator<NI>,
+    allocation: Allocation<NI>,
+    count: &mut Accesses,
+) -> u32 {
+    allocator.allocation_size_counted(allocation, count)
+}
+
+/// As `Allocator::storage_report`. The count grows by at most 8.
+pub fn storage_report_counted<NI: NodeIndex>(
+    allocator: &Allocator<NI>,
+    count: &mut Accesses,
+) -> StorageReport {
+    allocator.storage_report_counted(count)
+}
+
+/// As `Allocator::storage_report_full`. The count grows by at most 512, and 2 for each free block.
+pub fn storage_report_full_counted<NI: NodeIndex>(
+    allocator: &Allocator<NI>,
+    count: &mut Accesses,
+) -> StorageReportFull {
+    allocator.storage_report_full_counted(count)
+}
+
+/// Grants a request for `n` units and gives the grant back at once. The blocks, their names and the class lists are
+/// then as they were. It is `false` where the request was refused.
+///
+/// The contract says this of each grant that a request for `n` can be given here, whichever unused name its rest takes.
+/// The count of accesses grows by at most 192.
+pub fn undo<NI: NodeIndex>(allocator: &mut Allocator<NI>, n: u32) -> bool {
+    allocator.formed();
+    match allocator.allocate(n) {
+        None => false,
+        Some(allocation) => {
+            allocator.free(allocation);
+            true
+        }
+    }
+}
+
+/// The blocks fill the space, no two free ones side by side, and each class list holds the free blocks of its class.
+///
+/// Lemmas over the definitions ask for this, such as `taken_back` of `proofs/ViewUndo.antt`.
+pub fn is_well_formed<NI: NodeIndex>(allocator: &Allocator<NI>) {
+    allocator.formed();
+}
+
+/// The units of the used and of the free blocks add up to the size of the space.
+pub fn sizes_add_up<NI: NodeIndex>(allocator: &Allocator<NI>) {
+    allocator.formed();
+}
+
+/// The granted ranges lie in the space, and no two of them have a unit in common.
+pub fn ranges_are_disjoint<NI: NodeIndex>(allocator: &Allocator<NI>) {
+    allocator.formed();
+}
+
+/// Between two granted ranges, and at each end of the space, at most one free block stands.
+pub fn free_blocks_stand_alone<NI: NodeIndex>(allocator: &Allocator<NI>) {
+    allocator.formed();
+}
+
+/// At most `max_allocs - 2` ranges are granted.
+pub fn few_are_live<NI: NodeIndex>(allocator: &Allocator<NI>) {
+    allocator.formed();
+}
+
+/// Where `max_allocs - 1` blocks stand, every request is refused, and the report tells 0 and 0.
+pub fn a_full_space_refuses<NI: NodeIndex>(allocator: &Allocator<NI>) {
+    allocator.formed();
+}
+
+/// With a limit of at least 3, a fresh space grants a request exactly where it has at least as many units as the value
+/// of the class that the request is rounded up to: those that `min_allocator_size` tells.
+pub fn a_fresh_space_grants() {}
+
+/// The units before an aligned grant take its offset to a multiple of the alignment, and fewer would not.
+pub fn padding_is_least() {}

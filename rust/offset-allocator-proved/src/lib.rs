@@ -1,0 +1,516 @@
+// Printed by rust/erase from crates/offset_allocator/src/lib.rt: change it there.
+
+//! Ranges of one contiguous space of `size` units, handed out and taken back in constant work. The space itself is
+//! never touched.
+//!
+//! ```
+//! # use offset_allocator_proved::*;
+//! # let alloc = Global;
+//! let mut vertices = Allocator::<u32>::new(alloc, 1 << 20)?;
+//! if let Some(mesh) = vertices.allocate(3000) {
+//!     // mesh.offset is the first vertex of the range
+//!     vertices.free(mesh);
+//! }
+//! # Ok::<(), AllocError>(())
+//! ```
+#![doc = include_str!("../README.md")]
+#![no_std]
+#![forbid(unsafe_code)]
+#![warn(missing_docs)]
+#![expect(clippy::derivable_impls)] // an `impl Default` is where a contract says what the value is
+#![expect(clippy::manual_map)] // a `match` needs no closure, whose calls would need a proof
+#![expect(clippy::needless_range_loop)] // so is a loop over places proved in few words
+#![expect(clippy::too_many_arguments)] // functions over the tables take the numbers that they change one by one
+#![expect(unused_variables)] // parameters that only contracts read
+
+extern crate alloc;
+
+mod memory;
+
+pub use memory::{AllocError, Global};
+
+mod accesses;
+mod bins;
+mod chain;
+pub mod ext;
+mod handle;
+mod index;
+pub mod laws;
+mod merge;
+mod parts;
+mod reports;
+pub mod small_float;
+mod tables;
+
+pub use accesses::Accesses;
+pub use handle::Allocation;
+use index::no_link;
+pub use index::{NodeIndex, NodeIndexNonMax, NonMaxU16, NonMaxU32};
+pub use reports::{StorageReport, StorageReportFull, StorageReportFullRegion};
+use small_float::{float_to_uint, uint_to_float_round_down, uint_to_float_round_up};
+use core::fmt;
+use tables::Tables;
+
+/// One space, and what of it is granted.
+///
+/// `NI` is the type of the links between nodes. It sets how many nodes there can be, and nothing of the answers.
+pub struct Allocator<NI: NodeIndex = u32> {
+    size: u32,
+    max_allocs: u32,
+    // the units of all free blocks
+    free_total: u32,
+    // which words of the mask are not 0
+    top_mask: u32,
+    // how many names are unused
+    spare_count: u32,
+    // the name of the last block in space order
+    last: u32,
+    tables: Tables<NI>,
+    // takes no bytes at run time
+    accesses: Accesses,
+}
+
+// The handle of a name.
+fn handle_of<NI: NodeIndex>(offset: u32, name: u32) -> Allocation<NI> {
+    Allocation::make(offset, NI::from_u32(name).to_name())
+}
+
+// Makes the whole space one free block, under the last name, in tables with no used node. It answers
+// the top mask.
+fn start<NI: NodeIndex>(
+    tables: &mut Tables<NI>,
+    size: u32,
+    max_allocs: u32,
+    count: &mut Accesses,
+) -> u32 {
+    let mut top_mask = 0;
+    tables.shape();
+    let name = max_allocs - 1;
+    chain::place(tables, name, 0, size, no_link(), no_link(), count);
+    bins::put_first(
+        tables,
+        &mut top_mask,
+        name,
+        uint_to_float_round_down(size),
+        count,
+    );
+    top_mask
+}
+
+impl<NI: NodeIndex> Allocator<NI> {
+    /// A space of `size` units, all free, with the lesser of 131072 and `NI::MAX - 2` as the node limit.
+    ///
+    /// An error comes only where memory was refused. Then nothing is made.
+    pub fn new(alloc: Global, size: u32) -> Result<Self, AllocError> {
+        Self::with_max_allocs(alloc, size, 131072u32.min(NI::MAX - 2))
+    }
+
+    /// A space of `size` units, all free, with `max_allocs` as the node limit: at most `max_allocs - 1`
+    /// blocks stand at a time, so at most `max_allocs - 2` grants are live. The limit is 2 to `NI::MAX - 2`: 65533 for
+    /// `u16`, 4294967293 for `u32`.
+    ///
+    /// An error comes only where memory was refused. Then nothing is made.
+    pub fn with_max_allocs(alloc: Global, size: u32, max_allocs: u32) -> Result<Self, AllocError> {
+        assert!(2 <= max_allocs, "max_allocs must be at least 2");
+        assert!(max_allocs < NI::MAX - 1, "max_allocs must be at most NI::MAX - 2");
+        let mut tables = Tables::with_len(alloc, max_allocs)?;
+        let top_mask = start(&mut tables, size, max_allocs, &mut Accesses::new());
+        Ok(Allocator {
+            size,
+            max_allocs,
+            free_total: size,
+            top_mask,
+            spare_count: max_allocs - 1,
+            last: max_allocs - 1,
+            tables,
+            accesses: Accesses::new(),
+        })
+    }
+
+    /// Makes the whole space one free block again, in place. The block of every earlier handle is gone.
+    ///
+    /// It takes no memory, always succeeds, and goes over the use flags and the spare names of all nodes.
+    pub fn reset(&mut self) {
+        self.tables.clear();
+        self.top_mask = start(
+            &mut self.tables,
+            self.size,
+            self.max_allocs,
+            &mut self.accesses,
+        );
+        self.free_total = self.size;
+        self.spare_count = self.max_allocs - 1;
+        self.last = self.max_allocs - 1;
+    }
+
+    // Grants the first units of the newest block of a class.
+    fn grant(&mut self, class: u32, size: u32) -> Allocation<NI> {
+        let name = bins::take_first(
+            &mut self.tables,
+            &mut self.top_mask,
+            class,
+            &mut self.accesses,
+        );
+        chain::mark(
+            &mut self.tables,
+            self.last,
+            self.spare_count,
+            name,
+            true,
+            &mut self.accesses,
+        );
+        let offset = chain::offset(
+            &self.tables,
+            self.last,
+            self.spare_count,
+            name,
+            &mut self.accesses,
+        );
+        let whole = chain::size(
+            &self.tables,
+            self.last,
+            self.spare_count,
+            name,
+            &mut self.accesses,
+        );
+        self.free_total -= size;
+        if whole > size {
+            let rest = chain::split(
+                &mut self.tables,
+                &mut self.last,
+                &mut self.spare_count,
+                name,
+                offset,
+                whole,
+                size,
+                &mut self.accesses,
+            );
+            self.tables.shape();
+            bins::put_first(
+                &mut self.tables,
+                &mut self.top_mask,
+                rest,
+                uint_to_float_round_down(whole - size),
+                &mut self.accesses,
+            );
+        }
+        handle_of(offset, name)
+    }
+
+    /// Grants a range of `size` units: the first ones of a free block of the least size class that is
+    /// sure to hold them, and there of the block that became free last. What remains of the block
+    /// stays free, directly behind the range.
+    ///
+    /// `None` where `max_allocs - 1` blocks stand, even for an exact fit, and where only free blocks of lesser classes
+    /// remain; blocks, names and class lists are then as they were. A request of at least one unit is granted exactly
+    /// when it is at most the `largest_free_region` that the report tells just before. It makes at most 64 accesses to
+    /// the tables (26 by the bounds of its parts), and takes no memory.
+    pub fn allocate(&mut self, size: u32) -> Option<Allocation<NI>> {
+        if self.spare_count <= 1 {
+            return None;
+        }
+        let least = uint_to_float_round_up(size);
+        match bins::find_at_or_above(&self.tables, self.top_mask, least, &mut self.accesses) {
+            None => None,
+            Some(class) => Some(self.grant(class, size)),
+        }
+    }
+
+    /// Gives a granted range back. Its units are free at once, in one block with the free ranges directly before
+    /// and behind it, and that block is the newest of its class.
+    ///
+    /// Only the handle's name counts, and not its public `offset`. It makes at most 128 accesses to the
+    /// tables (40 by the bounds of its parts), and takes no memory. The handle has to be live, which `is_live` tells.
+    pub fn free(&mut self, allocation: Allocation<NI>) {
+        assert!(self.is_live(allocation), "the handle must be live");
+        let name = index::number(NI::of_nonmax(allocation.name()));
+        let size = chain::size(
+            &self.tables,
+            self.last,
+            self.spare_count,
+            name,
+            &mut self.accesses,
+        );
+        self.free_total += size;
+        let size = merge::with_before(
+            &mut self.tables,
+            &mut self.top_mask,
+            self.last,
+            &mut self.spare_count,
+            name,
+            size,
+            &mut self.accesses,
+        );
+        let size = merge::with_after(
+            &mut self.tables,
+            &mut self.top_mask,
+            &mut self.last,
+            &mut self.spare_count,
+            name,
+            size,
+            &mut self.accesses,
+        );
+        chain::mark(
+            &mut self.tables,
+            self.last,
+            self.spare_count,
+            name,
+            false,
+            &mut self.accesses,
+        );
+        self.tables.shape();
+        bins::put_first(
+            &mut self.tables,
+            &mut self.top_mask,
+            name,
+            uint_to_float_round_down(size),
+            &mut self.accesses,
+        );
+    }
+
+    // Whether a name is that of a used block.
+    fn uses(&self, name: u32, count: &mut Accesses) -> bool {
+        if name < self.max_allocs {
+            self.tables.used(name, count)
+        } else {
+            false
+        }
+    }
+
+    // Whether a handle is live, with a count of the accesses.
+    pub(crate) fn is_live_counted(&self, allocation: Allocation<NI>, count: &mut Accesses) -> bool {
+        self.uses(index::number(NI::of_nonmax(allocation.name())), count)
+    }
+
+    /// Whether the handle is live here: its name is the name of a used block. `free` asks for exactly this.
+    ///
+    /// A handle whose block was freed is live again where a newer grant has its name.
+    pub fn is_live(&self, allocation: Allocation<NI>) -> bool {
+        self.is_live_counted(allocation, &mut Accesses::new())
+    }
+
+    // The size of a granted range, with a count of the accesses.
+    pub(crate) fn allocation_size_counted(
+        &self,
+        allocation: Allocation<NI>,
+        count: &mut Accesses,
+    ) -> u32 {
+        let name = index::number::<NI>(NI::of_nonmax(allocation.name()));
+        if self.uses(name, count) {
+            self.tables.size(name, count)
+        } else {
+            0
+        }
+    }
+
+    /// The units of the range that a live handle has: exactly what was asked for. It is 0 where the handle is not live,
+    /// and for a live range of no units too.
+    pub fn allocation_size(&self, allocation: Allocation<NI>) -> u32 {
+        self.allocation_size_counted(allocation, &mut Accesses::new())
+    }
+
+    // The short report, with a count of its accesses.
+    pub(crate) fn storage_report_counted(&self, count: &mut Accesses) -> StorageReport {
+        if self.spare_count < 2 {
+            return StorageReport {
+                total_free_space: 0,
+                largest_free_region: 0,
+            };
+        }
+        let largest_free_region = match bins::greatest(&self.tables, self.top_mask, count) {
+            None => 0,
+            Some(class) => float_to_uint(class),
+        };
+        StorageReport {
+            total_free_space: self.free_total,
+            largest_free_region,
+        }
+    }
+
+    /// The free space in short: the units of all free blocks, and the greatest request that would be granted. Both are
+    /// 0 where `max_allocs - 1` blocks stand.
+    pub fn storage_report(&self) -> StorageReport {
+        self.storage_report_counted(&mut Accesses::new())
+    }
+
+    // The full report, with a count of its accesses.
+    pub(crate) fn storage_report_full_counted(&self, count: &mut Accesses) -> StorageReportFull {
+        let mut report = StorageReportFull::default();
+        for class in 0..256u32 {
+            report.free_regions[class as usize] = StorageReportFullRegion {
+                size: float_to_uint(class),
+                count: bins::length_of(&self.tables, class, count),
+            };
+        }
+        report
+    }
+
+    /// The free blocks, class by class, at the node limit too. It goes over all free blocks.
+    pub fn storage_report_full(&self) -> StorageReportFull {
+        self.storage_report_full_counted(&mut Accesses::new())
+    }
+
+    // Grants units of the newest block of a class, from the first multiple of `align` in it on.
+    fn grant_aligned(&mut self, class: u32, size: u32, align: u32) -> Allocation<NI> {
+        let name = bins::take_first(
+            &mut self.tables,
+            &mut self.top_mask,
+            class,
+            &mut self.accesses,
+        );
+        let offset = self.tables.offset(name, &mut self.accesses);
+        let whole = self.tables.size(name, &mut self.accesses);
+        let padding = (align - offset % align) % align;
+        parts::carve(
+            &mut self.tables,
+            &mut self.top_mask,
+            &mut self.last,
+            &mut self.spare_count,
+            name,
+            padding,
+            size,
+            whole - (padding + size),
+            &mut self.accesses,
+        );
+        self.free_total -= size;
+        handle_of(offset + padding, name)
+    }
+
+    /// Grants `size` units that begin at a multiple of `align`, a power of two.
+    ///
+    /// It takes the block that a request for `size + align - 1` units would take. What of it lies before the granted
+    /// units, and what lies behind them, stays free. It answers `None` where such a request finds no block or is too
+    /// large for a number of 32 bits, or, with `align` above 1, where fewer than two more blocks may stand. A refusal
+    /// leaves blocks, names and class lists as they were. With `align` 1 the call is `allocate`. It makes at most 128
+    /// accesses to the tables, and takes no memory.
+    pub fn allocate_aligned(&mut self, size: u32, align: u32) -> Option<Allocation<NI>> {
+        assert!(align.is_power_of_two(), "align must be a power of two");
+        let spare_count = self.spare_count;
+        if align <= 1 {
+            return self.allocate(size);
+        }
+        if spare_count <= 2 {
+            return None;
+        }
+        if size > u32::MAX - (align - 1) {
+            return None;
+        }
+        let least = uint_to_float_round_up(size + (align - 1));
+        match bins::find_at_or_above(&self.tables, self.top_mask, least, &mut self.accesses) {
+            None => None,
+            Some(class) => Some(self.grant_aligned(class, size, align)),
+        }
+    }
+
+    // Adds units to the last block, which is free.
+    fn widen(&mut self, more: u32) {
+        let whole = self.tables.size(self.last, &mut self.accesses);
+        bins::remove(
+            &mut self.tables,
+            &mut self.top_mask,
+            self.last,
+            whole,
+            &mut self.accesses,
+        );
+        chain::grow(
+            &mut self.tables,
+            self.last,
+            self.spare_count,
+            more,
+            &mut self.accesses,
+        );
+        self.tables.shape();
+        bins::put_first(
+            &mut self.tables,
+            &mut self.top_mask,
+            self.last,
+            uint_to_float_round_down(whole + more),
+            &mut self.accesses,
+        );
+        self.size += more;
+        self.free_total += more;
+    }
+
+    // Puts a free block behind the last one, which is used.
+    fn append(&mut self, more: u32) {
+        let end = self.last;
+        let offset = chain::offset(
+            &self.tables,
+            self.last,
+            self.spare_count,
+            end,
+            &mut self.accesses,
+        );
+        let whole = chain::size(
+            &self.tables,
+            self.last,
+            self.spare_count,
+            end,
+            &mut self.accesses,
+        );
+        let name = chain::split(
+            &mut self.tables,
+            &mut self.last,
+            &mut self.spare_count,
+            end,
+            offset,
+            whole,
+            whole,
+            &mut self.accesses,
+        );
+        chain::grow(
+            &mut self.tables,
+            self.last,
+            self.spare_count,
+            more,
+            &mut self.accesses,
+        );
+        self.tables.shape();
+        bins::put_first(
+            &mut self.tables,
+            &mut self.top_mask,
+            name,
+            uint_to_float_round_down(more),
+            &mut self.accesses,
+        );
+        self.size += more;
+        self.free_total += more;
+    }
+
+    /// Adds `more` units at the end of the space: to the last block where that is free, or else as a new free block.
+    ///
+    /// It answers `false` where the space would have more than 4294967295 units, or where its last block is used and
+    /// no further block may stand. Blocks, names and class lists then stay as they were. With 0 units it answers
+    /// `true`. It makes at most 128 accesses to the tables, and takes no memory.
+    pub fn extend(&mut self, more: u32) -> bool {
+        let size = self.size;
+        if more == 0 {
+            return true;
+        }
+        if more > u32::MAX - size {
+            return false;
+        }
+        if !self.tables.used(self.last, &mut self.accesses) {
+            self.widen(more);
+            return true;
+        }
+        if self.spare_count < 2 {
+            return false;
+        }
+        self.append(more);
+        true
+    }
+
+    /// The blocks and the class lists agree.
+    pub(crate) fn formed(&self) {
+        // a look at a field recalls the invariant
+        let _ = &self.size;
+    }
+}
+
+/// The text is that of the short report.
+impl<NI: NodeIndex> fmt::Debug for Allocator<NI> {
+    fn fmt(&self, f: &mut fmt::Formatter<'_>) -> fmt::Result {
+        fmt::Debug::fmt(&self.storage_report(), f)
+    }
+}

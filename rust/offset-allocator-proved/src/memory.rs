@@ -1,0 +1,89 @@
+//! The memory of the tables: a vector whose growth can be refused. By hand, over that of `alloc`.
+
+use core::fmt;
+use core::ops::{Deref, DerefMut, Index, IndexMut};
+
+/// The memory allocator of the program: the one that `alloc` uses.
+#[derive(Clone, Copy, Debug, Default)]
+pub struct Global;
+
+/// Memory was refused.
+#[derive(Clone, Copy, Debug, PartialEq, Eq)]
+pub struct AllocError;
+
+impl fmt::Display for AllocError {
+    fn fmt(&self, f: &mut fmt::Formatter<'_>) -> fmt::Result {
+        f.write_str("out of memory")
+    }
+}
+
+impl core::error::Error for AllocError {}
+
+/// A table.
+pub(crate) struct Vec<T>(alloc::vec::Vec<T>);
+
+impl<T> Vec<T> {
+    /// No value, and room for exactly `capacity` of them.
+    pub(crate) fn with_capacity(_: Global, capacity: usize) -> Result<Self, AllocError> {
+        let mut values = alloc::vec::Vec::new();
+        values.try_reserve_exact(capacity).map_err(|_| AllocError)?;
+        Ok(Vec(values))
+    }
+
+    /// Fills up to `length` values.
+    pub(crate) fn resize(&mut self, length: usize, value: T) -> Result<(), AllocError>
+    where
+        T: Clone,
+    {
+        let more = length.saturating_sub(self.0.len());
+        self.0.try_reserve_exact(more).map_err(|_| AllocError)?;
+        self.0.resize(length, value);
+        Ok(())
+    }
+}
+
+// The panic of a cell that is not there. It has no number in it, so that a test of a place is one comparison and a
+// jump. No call comes here: that each place is in its table is proved.
+#[cold]
+#[inline(never)]
+fn outside() -> ! {
+    panic!("a place outside of a table")
+}
+
+impl<T> Index<usize> for Vec<T> {
+    type Output = T;
+
+    #[inline(always)]
+    fn index(&self, place: usize) -> &T {
+        match self.0.get(place) {
+            Some(value) => value,
+            None => outside(),
+        }
+    }
+}
+
+impl<T> IndexMut<usize> for Vec<T> {
+    #[inline(always)]
+    fn index_mut(&mut self, place: usize) -> &mut T {
+        match self.0.get_mut(place) {
+            Some(value) => value,
+            None => outside(),
+        }
+    }
+}
+
+impl<T> Deref for Vec<T> {
+    type Target = [T];
+
+    #[inline]
+    fn deref(&self) -> &[T] {
+        &self.0
+    }
+}
+
+impl<T> DerefMut for Vec<T> {
+    #[inline]
+    fn deref_mut(&mut self) -> &mut [T] {
+        &mut self.0
+    }
+}

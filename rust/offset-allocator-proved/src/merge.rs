@@ -1,0 +1,66 @@
+// Printed by rust/erase from crates/offset_allocator/src/merge.rt: change it there.
+
+//! Joins a block with the free blocks beside it, which leave their classes.
+
+use crate::accesses::Accesses;
+use crate::index::{NodeIndex, linked};
+use crate::tables::Tables;
+use crate::{bins, chain};
+
+/// Joins a free block directly before a block of this size into it, and answers its size then.
+pub(crate) fn with_before<NI: NodeIndex>(
+    tables: &mut Tables<NI>,
+    top_mask: &mut u32,
+    last: u32,
+    spare_count: &mut u32,
+    name: u32,
+    size: u32,
+    count: &mut Accesses,
+) -> u32 {
+    if let Some(previous) = linked(tables.before(name, count)) {
+        if !tables.used(previous, count) {
+            let more = chain::size(tables, last, *spare_count, previous, count);
+            bins::remove(tables, top_mask, previous, more, count);
+            chain::join_before(
+                tables,
+                last,
+                spare_count,
+                previous,
+                name,
+                more + size,
+                count,
+            );
+            return more + size;
+        }
+    }
+    size
+}
+
+/// Joins a free block directly after a block of this size into it, and answers its size then.
+pub(crate) fn with_after<NI: NodeIndex>(
+    tables: &mut Tables<NI>,
+    top_mask: &mut u32,
+    last: &mut u32,
+    spare_count: &mut u32,
+    name: u32,
+    size: u32,
+    count: &mut Accesses,
+) -> u32 {
+    if let Some(following) = linked(tables.after(name, count)) {
+        if !tables.used(following, count) {
+            let more = chain::size(tables, *last, *spare_count, following, count);
+            bins::remove(tables, top_mask, following, more, count);
+            chain::join_after(
+                tables,
+                last,
+                spare_count,
+                name,
+                following,
+                size + more,
+                count,
+            );
+            return size + more;
+        }
+    }
+    size
+}

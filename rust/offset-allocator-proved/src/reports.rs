@@ -1,0 +1,46 @@
+// Printed by rust/erase from crates/offset_allocator/src/reports.rt: change it there.
+
+//! What is told of the free space.
+
+/// The free space of an allocator, in short.
+///
+/// Both numbers are 0 where `max_allocs - 1` blocks stand, since nothing is granted there.
+#[derive(Debug)]
+pub struct StorageReport {
+    /// The units of all free blocks together.
+    pub total_free_space: u32,
+    /// The value of the greatest class that has a free block, or 0 where no block is free. A request for 1 unit or more
+    /// is granted exactly where it is at most this. The block itself may be larger, by less than an eighth of this.
+    pub largest_free_region: u32,
+}
+
+/// One size class in the full report.
+#[derive(Clone, Copy, Debug)]
+pub struct StorageReportFullRegion {
+    /// The value of the class: each of its blocks has at least so many units. The values of the classes 240 to 255 are
+    /// told modulo 2 to the power of 32; no block is of these classes.
+    pub size: u32,
+    /// How many free blocks are of the class.
+    pub count: u32,
+}
+
+impl Default for StorageReportFullRegion {
+    fn default() -> Self {
+        StorageReportFullRegion { size: 0, count: 0 }
+    }
+}
+
+/// The free blocks of an allocator, class by class. It tells them at the node limit too.
+#[derive(Debug)]
+pub struct StorageReportFull {
+    /// The size classes from 0 to 255.
+    pub free_regions: [StorageReportFullRegion; 256],
+}
+
+impl Default for StorageReportFull {
+    fn default() -> Self {
+        StorageReportFull {
+            free_regions: [StorageReportFullRegion::default(); 256],
+        }
+    }
+}

@@ -1,0 +1,46 @@
+// Printed by rust/erase from crates/offset_allocator/src/small_float.rt: change it there.
+
+//! Size classes: sizes to classes and back, as a small float of 5 bits of exponent and 3 of mantissa.
+//! Each size below 8 is a class of its own; from there on the 256 classes rise in steps of at most an eighth.
+
+/// How many bits of a class are its mantissa.
+pub const MANTISSA_BITS: u32 = 3;
+/// One more than the greatest mantissa: sizes below it are classes of their own.
+pub const MANTISSA_VALUE: u32 = 8;
+/// The bits of the mantissa.
+pub const MANTISSA_MASK: u32 = 7;
+
+/// The least class whose value is at least `size` units. It is at most 240, which no block is of: a
+/// size above 4026531840 fits no class that a 32-bit size reaches.
+pub fn uint_to_float_round_up(size: u32) -> u32 {
+    if size <= MANTISSA_VALUE {
+        return size;
+    }
+    // the class behind the last one whose value is too small
+    uint_to_float_round_down(size - 1) + 1
+}
+
+/// The greatest class whose value is at most `size` units: the class that a free block of this size
+/// stands in. It is at most 239.
+pub fn uint_to_float_round_down(size: u32) -> u32 {
+    if size < MANTISSA_VALUE {
+        return size;
+    }
+    let exponent = 31 - size.leading_zeros();
+    let start = exponent - MANTISSA_BITS;
+    // the leading one of the size carries into the exponent
+    (start << MANTISSA_BITS) + (size >> start)
+}
+
+/// The value of a class below 256 in units, of which the low 32 bits are told: the values of the classes
+/// from 240 on are greater.
+pub fn float_to_uint(float_value: u32) -> u32 {
+    assert!(float_value < 256, "float_value must be below 256");
+    let exponent = float_value >> MANTISSA_BITS;
+    let mantissa = float_value & MANTISSA_MASK;
+    if exponent == 0 {
+        mantissa
+    } else {
+        (mantissa | MANTISSA_VALUE) << (exponent - 1)
+    }
+}

@@ -1,0 +1,232 @@
+// Printed by rust/erase from crates/offset_allocator/src/tables.rt: change it there.
+
+//! The cells: the only place that reads or writes them. A function on a cell touches that one, and counts it;
+//! `with_len` and `clear` go over whole tables, and count none.
+
+use crate::memory::Vec;
+use crate::accesses::Accesses;
+use crate::index::{NodeIndex, no_link};
+use crate::memory::{AllocError, Global};
+
+/// One table for each field of a node, the newest node of each size class, the masks of the
+/// classes, and the stack of spare names. A link is the number of a node, or the greatest number
+/// of its type, which names none.
+pub(crate) struct Tables<NI: NodeIndex> {
+    offset: Vec<u32>,
+    size: Vec<u32>,
+    used: Vec<bool>,
+    before: Vec<NI>,
+    after: Vec<NI>,
+    newer: Vec<NI>,
+    older: Vec<NI>,
+    heads: Vec<NI>,
+    masks: [u64; 4],
+    spare: Vec<NI>,
+}
+
+// An empty table, with room for `length` values.
+fn reserved<T>(alloc: Global, length: usize) -> Result<Vec<T>, AllocError> {
+    Vec::with_capacity(alloc, length)
+}
+
+// A reserved table, filled with one value.
+#[inline(always)]
+fn filled<T: Copy>(mut values: Vec<T>, value: T, length: usize) -> Result<Vec<T>, AllocError> {
+    values.resize(length, value)?;
+    Ok(values)
+}
+
+// Writes one value over a slice.
+fn fill_cells<T: Copy>(cells: &mut [T], value: T) {
+    for i in 0..cells.len() {
+        cells[i] = value;
+    }
+}
+
+// Writes one value over a whole table. As a slice: there no write can move the table, and many go at once.
+fn fill<T: Copy>(values: &mut Vec<T>, value: T) {
+    fill_cells(values, value);
+}
+
+// Writes the numbers below the length over a slice, in order.
+fn renumber_cells<NI: NodeIndex>(cells: &mut [NI]) {
+    for i in 0..cells.len() {
+        cells[i] = NI::from_u32(i as u32);
+    }
+}
+
+// Writes the numbers below the length over a table, in order.
+fn renumber<NI: NodeIndex>(values: &mut Vec<NI>) {
+    renumber_cells(values);
+}
+
+// A reserved table, filled with the numbers below `len`, in order.
+fn rising<NI: NodeIndex>(values: Vec<NI>, len: u32) -> Result<Vec<NI>, AllocError> {
+    let mut values = filled(values, NI::from_u32(0), len as usize)?;
+    renumber(&mut values);
+    Ok(values)
+}
+
+impl<NI: NodeIndex> Tables<NI> {
+    /// Tables for `len` nodes, none of them used. Every table has its room before any is filled.
+    pub(crate) fn with_len(alloc: Global, len: u32) -> Result<Self, AllocError> {
+        let nodes = len as usize;
+        let offset = reserved(alloc, nodes)?;
+        let size = reserved(alloc, nodes)?;
+        let used = reserved(alloc, nodes)?;
+        let before = reserved(alloc, nodes)?;
+        let after = reserved(alloc, nodes)?;
+        let newer = reserved(alloc, nodes)?;
+        let older = reserved(alloc, nodes)?;
+        let heads = reserved(alloc, 256)?;
+        let spare = reserved(alloc, nodes)?;
+        let none = no_link::<NI>();
+        Ok(Tables {
+            offset: filled(offset, 0, nodes)?,
+            size: filled(size, 0, nodes)?,
+            used: filled(used, false, nodes)?,
+            before: filled(before, none, nodes)?,
+            after: filled(after, none, nodes)?,
+            newer: filled(newer, none, nodes)?,
+            older: filled(older, none, nodes)?,
+            heads: filled(heads, none, 256)?,
+            masks: [0; 4],
+            spare: rising(spare, len)?,
+        })
+    }
+
+    /// Makes all nodes unused and all classes empty, and puts all names on the spare stack. The other fields of a node
+    /// stay: they are written before they are read.
+    pub(crate) fn clear(&mut self) {
+        fill(&mut self.used, false);
+        fill(&mut self.heads, no_link::<NI>());
+        self.masks = [0; 4];
+        renumber(&mut self.spare);
+    }
+
+    /// The tables keep their lengths.
+    pub(crate) fn shape(&self) {
+        // a look at a field recalls the invariant
+        let _ = &self.size;
+    }
+
+    /// The offset of a node.
+    pub(crate) fn offset(&self, name: u32, count: &mut Accesses) -> u32 {
+        count.tick();
+        self.offset[name as usize]
+    }
+
+    /// Writes the offset of a node.
+    pub(crate) fn set_offset(&mut self, name: u32, offset: u32, count: &mut Accesses) {
+        count.tick();
+        self.offset[name as usize] = offset;
+    }
+
+    /// The size of a node.
+    pub(crate) fn size(&self, name: u32, count: &mut Accesses) -> u32 {
+        count.tick();
+        self.size[name as usize]
+    }
+
+    /// Writes the size of a node.
+    pub(crate) fn set_size(&mut self, name: u32, size: u32, count: &mut Accesses) {
+        count.tick();
+        self.size[name as usize] = size;
+    }
+
+    /// Whether a node is used.
+    pub(crate) fn used(&self, name: u32, count: &mut Accesses) -> bool {
+        count.tick();
+        self.used[name as usize]
+    }
+
+    /// Writes whether a node is used.
+    pub(crate) fn set_used(&mut self, name: u32, used: bool, count: &mut Accesses) {
+        count.tick();
+        self.used[name as usize] = used;
+    }
+
+    /// The link to the node before a node in space.
+    pub(crate) fn before(&self, name: u32, count: &mut Accesses) -> NI {
+        count.tick();
+        self.before[name as usize]
+    }
+
+    /// Writes the link to the node before a node in space.
+    pub(crate) fn set_before(&mut self, name: u32, link: NI, count: &mut Accesses) {
+        count.tick();
+        self.before[name as usize] = link;
+    }
+
+    /// The link to the node after a node in space.
+    pub(crate) fn after(&self, name: u32, count: &mut Accesses) -> NI {
+        count.tick();
+        self.after[name as usize]
+    }
+
+    /// Writes the link to the node after a node in space.
+    pub(crate) fn set_after(&mut self, name: u32, link: NI, count: &mut Accesses) {
+        count.tick();
+        self.after[name as usize] = link;
+    }
+
+    /// An entry of the stack of spare names.
+    pub(crate) fn spare(&self, place: u32, count: &mut Accesses) -> NI {
+        count.tick();
+        self.spare[place as usize]
+    }
+
+    /// Writes an entry of the stack of spare names.
+    pub(crate) fn set_spare(&mut self, place: u32, name: NI, count: &mut Accesses) {
+        count.tick();
+        self.spare[place as usize] = name;
+    }
+
+    /// The link to the next newer node of a node's class.
+    pub(crate) fn newer(&self, name: u32, count: &mut Accesses) -> NI {
+        count.tick();
+        self.newer[name as usize]
+    }
+
+    /// Writes the link to the next newer node of a node's class.
+    pub(crate) fn set_newer(&mut self, name: u32, link: NI, count: &mut Accesses) {
+        count.tick();
+        self.newer[name as usize] = link;
+    }
+
+    /// The link to the next older node of a node's class.
+    pub(crate) fn older(&self, name: u32, count: &mut Accesses) -> NI {
+        count.tick();
+        self.older[name as usize]
+    }
+
+    /// Writes the link to the next older node of a node's class.
+    pub(crate) fn set_older(&mut self, name: u32, link: NI, count: &mut Accesses) {
+        count.tick();
+        self.older[name as usize] = link;
+    }
+
+    /// The link to the newest node of a class.
+    pub(crate) fn head(&self, class: u32, count: &mut Accesses) -> NI {
+        count.tick();
+        self.heads[class as usize]
+    }
+
+    /// Writes the link to the newest node of a class.
+    pub(crate) fn set_head(&mut self, class: u32, link: NI, count: &mut Accesses) {
+        count.tick();
+        self.heads[class as usize] = link;
+    }
+
+    /// A word of the masks: bit `c % 64` of word `c / 64` tells whether class c has a node.
+    pub(crate) fn mask(&self, word: u32, count: &mut Accesses) -> u64 {
+        count.tick();
+        self.masks[word as usize]
+    }
+
+    /// Writes a word of the masks.
+    pub(crate) fn set_mask(&mut self, word: u32, mask: u64, count: &mut Accesses) {
+        count.tick();
+        self.masks[word as usize] = mask;
+    }
+}

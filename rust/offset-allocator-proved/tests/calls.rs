@@ -1,0 +1,145 @@
+//! Each public call once, with values by hand.
+use offset_allocator_proved::ext::min_allocator_size;
+use offset_allocator_proved::small_float::{float_to_uint, uint_to_float_round_down, uint_to_float_round_up};
+use offset_allocator_proved::{laws, Accesses, AllocError, Allocator, Global, NodeIndex, NonMaxU16, NonMaxU32};
+
+fn space(size: u32, max_allocs: u32) -> Allocator {
+    Allocator::with_max_allocs(Global, size, max_allocs).unwrap()
+}
+
+#[test]
+fn grants_and_releases() {
+    let mut a = space(100, 16);
+    let first = a.allocate(10).unwrap();
+    let second = a.allocate(20).unwrap();
+    assert_eq!((first.offset, second.offset), (0, 10));
+    assert_eq!((a.allocation_size(first), a.allocation_size(second)), (10, 20));
+    // 70 units lie in the class of 64
+    assert_eq!(a.storage_report().total_free_space, 70);
+    assert_eq!(a.storage_report().largest_free_region, 64);
+    assert!(a.allocate(71).is_none());
+    a.free(first);
+    assert!(!a.is_live(first));
+    assert_eq!(a.allocation_size(first), 0);
+    assert_eq!(a.storage_report().largest_free_region, 64);
+    a.free(second);
+    // 100 units lie in the class of 96
+    assert_eq!(a.storage_report().largest_free_region, 96);
+    assert_eq!(format!("{a:?}"), "StorageReport { total_free_space: 100, largest_free_region: 96 }");
+}
+
+#[test]
+fn a_small_gap_is_filled_first() {
+    let mut a = space(1024, 16);
+    let first = a.allocate(16).unwrap();
+    let _second = a.allocate(16).unwrap();
+    a.free(first);
+    assert_eq!(a.allocate(16).unwrap().offset, 0);
+    assert_eq!(a.allocate(16).unwrap().offset, 32);
+}
+
+#[test]
+fn reports_by_class() {
+    let mut a = space(100, 16);
+    let first = a.allocate(10).unwrap();
+    a.allocate(20).unwrap();
+    a.free(first);
+    let report = a.storage_report_full();
+    let rows: Vec<_> = (0..256).filter(|c| report.free_regions[*c].count > 0).collect();
+    // 10 units are of class 10, and 70 of class 32 = 8 * 4, whose value is 8 << 3
+    assert_eq!(rows, [10, 32]);
+    assert_eq!((report.free_regions[10].size, report.free_regions[10].count), (10, 1));
+    assert_eq!((report.free_regions[32].size, report.free_regions[32].count), (64, 1));
+    assert_eq!((report.free_regions[239].size, report.free_regions[240].size), (4_026_531_840, 0));
+}
+
+#[test]
+fn aligned_grants() {
+    let mut a = space(1000, 16);
+    a.allocate(3).unwrap();
+    let b = a.allocate_aligned(10, 64).unwrap();
+    assert_eq!((b.offset, a.allocation_size(b)), (64, 10));
+    assert_eq!(a.allocate_aligned(5, 1).unwrap().offset, 3);
+    assert!(a.allocate_aligned(1, 1 << 31).is_none());
+    assert!(a.allocate_aligned(u32::MAX, 2).is_none());
+}
+
+#[test]
+fn grows_and_resets() {
+    let mut a = space(10, 16);
+    let whole = a.allocate(10).unwrap();
+    assert!(a.allocate(1).is_none());
+    assert!(a.extend(6));
+    assert_eq!(a.allocate(6).unwrap().offset, 10);
+    assert!(a.extend(0));
+    assert!(!a.extend(u32::MAX));
+    a.reset();
+    assert!(!a.is_live(whole));
+    assert_eq!(a.allocate(16).unwrap().offset, 0);
+}
+
+#[test]
+fn node_limits() {
+    // a limit of 4 admits 3 blocks: two ranges, and the rest
+    let mut a = space(100, 4);
+    let first = a.allocate(1).unwrap();
+    a.allocate(1).unwrap();
+    assert!(a.allocate(1).is_none());
+    assert_eq!(a.storage_report().total_free_space, 0);
+    assert_eq!(a.storage_report().largest_free_region, 0);
+    a.free(first);
+    assert!(a.allocate(1).is_none(), "there are three blocks: a free one, a used one, the rest");
+    assert!(Allocator::<u16>::with_max_allocs(Global, u32::MAX, 65_533).is_ok());
+    assert!(Allocator::<u16>::new(Global, 5).unwrap().allocate(5).is_some());
+}
+
+#[test]
+fn offsets_have_32_bits_for_every_index_type() {
+    let mut a = Allocator::<u16>::with_max_allocs(Global, u32::MAX, 16).unwrap();
+    a.allocate(1 << 30).unwrap();
+    assert_eq!(a.allocate(1).unwrap().offset, 1 << 30);
+}
+
+#[test]
+fn classes() {
+    assert_eq!((uint_to_float_round_up(118), uint_to_float_round_down(118)), (39, 38));
+    assert_eq!((float_to_uint(38), float_to_uint(39)), (112, 120));
+    assert_eq!(min_allocator_size(118), 120);
+    assert_eq!(min_allocator_size(4_026_531_840), 4_026_531_840);
+}
+
+#[test]
+fn names() {
+    assert_eq!(NonMaxU32::new(u32::MAX), None);
+    assert_eq!(NonMaxU16::new(u16::MAX), None);
+    assert_eq!(NonMaxU32::new(7).unwrap().get(), 7);
+    assert_eq!(NonMaxU16::new(7).unwrap().get(), 7);
+    assert_eq!(format!("{} {:?}", NonMaxU32::default(), NonMaxU16::default()), "0 0");
+    assert_eq!(u32::of_nonmax(9u32.to_name()), 9);
+    assert_eq!(u16::of_nonmax(9u16.to_nonmax().unwrap()), 9);
+    assert_eq!((<u32 as NodeIndex>::MAX, <u16 as NodeIndex>::MAX), (u32::MAX, 65_535));
+}
+
+#[test]
+fn the_calls_of_laws_change_nothing() {
+    let mut a = space(100, 16);
+    let h = a.allocate(10).unwrap();
+    let mut count = Accesses::new();
+    assert!(laws::is_live_counted(&a, h, &mut count));
+    assert_eq!(laws::allocation_size_counted(&a, h, &mut count), 10);
+    assert_eq!(laws::storage_report_counted(&a, &mut count).total_free_space, 90);
+    assert_eq!(laws::storage_report_full_counted(&a, &mut count).free_regions[35].count, 1);
+    assert!(laws::undo(&mut a, 88));
+    assert!(!laws::undo(&mut a, 89));
+    laws::sizes_add_up(&a);
+    assert_eq!(a.storage_report().total_free_space, 90);
+    assert_eq!(std::mem::size_of::<Accesses>(), 0);
+}
+
+#[test]
+fn what_it_is() {
+    fn is_free_to_move<T: Send + Sync + 'static>() {}
+    is_free_to_move::<Allocator<u16>>();
+    fn is_an_error<T: std::error::Error>() {}
+    is_an_error::<AllocError>();
+}

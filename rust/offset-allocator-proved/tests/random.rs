@@ -1,0 +1,238 @@
+//! Every public call with random handles and numbers. A call panics exactly where its condition is not met, with the
+//! words of the table, and has then changed nothing. Each grant has its units alone.
+//!
+//! With `debug_assertions` alone, as `cargo test` builds: a sum that wraps panics then.
+#![cfg(debug_assertions)]
+
+use offset_allocator_proved::ext::min_allocator_size;
+use offset_allocator_proved::small_float::{float_to_uint, uint_to_float_round_down, uint_to_float_round_up};
+use offset_allocator_proved::{laws, Accesses, Allocation, Allocator, Global, NodeIndex, NonMaxU16, NonMaxU32, StorageReportFull};
+use std::panic::{catch_unwind, AssertUnwindSafe};
+
+const ALLOCATORS: u64 = 300;
+const CALLS: u64 = 400;
+
+/// splitmix64
+struct Random(u64);
+
+impl Random {
+    fn next(&mut self) -> u64 {
+        self.0 = self.0.wrapping_add(0x9e37_79b9_7f4a_7c15);
+        let mut z = self.0;
+        z = (z ^ (z >> 30)).wrapping_mul(0xbf58_476d_1ce4_e5b9);
+        z = (z ^ (z >> 27)).wrapping_mul(0x94d0_49bb_1331_11eb);
+        z ^ (z >> 31)
+    }
+
+    fn below(&mut self, n: u32) -> u32 {
+        (self.next() % u64::from(n)) as u32
+    }
+
+    /// Any number: of few bits, of many, or beside a power of two.
+    fn any(&mut self) -> u32 {
+        let bits = self.below(33);
+        let number = (self.next() & ((1 << bits) - 1)) as u32;
+        match self.below(3) {
+            0 => number,
+            1 => (1u32 << (bits % 32)).wrapping_add(self.below(3)).wrapping_sub(1),
+            _ => u32::MAX - (number >> (bits / 2)),
+        }
+    }
+}
+
+/// What the call returns, or what its panic says.
+fn result<T>(call: impl FnOnce() -> T) -> Result<T, String> {
+    catch_unwind(AssertUnwindSafe(call)).map_err(|panic| match panic.downcast::<&str>() {
+        Ok(told) => told.to_string(),
+        Err(panic) => *panic.downcast::<String>().unwrap(),
+    })
+}
+
+fn expect<T>(found: Result<T, String>, met: bool, told: &str) -> Option<T> {
+    match found {
+        Ok(value) => {
+            assert!(met, "no panic: {told}");
+            Some(value)
+        }
+        Err(panic) => {
+            assert!(!met, "a panic: {panic}");
+            assert_eq!(panic, told);
+            None
+        }
+    }
+}
+
+/// An allocator beside a plain list of its live ranges.
+struct Pair<NI: NodeIndex> {
+    space: Allocator<NI>,
+    size: u32,
+    live: Vec<(Allocation<NI>, u32)>,
+}
+
+impl<NI: NodeIndex> Pair<NI> {
+    fn grant(&mut self, found: Option<Allocation<NI>>, size: u32, align: u32) {
+        let Some(handle) = found else { return };
+        let (start, end) = (u64::from(handle.offset), u64::from(handle.offset) + u64::from(size));
+        assert!(end <= u64::from(self.size));
+        assert_eq!(handle.offset % align, 0);
+        for (other, size) in &self.live {
+            let (first, last) = (u64::from(other.offset), u64::from(other.offset) + u64::from(*size));
+            assert!(end <= first || last <= start, "two ranges have a unit in common");
+        }
+        self.live.push((handle, size));
+    }
+
+    fn check(&self) {
+        for (handle, size) in &self.live {
+            assert!(self.space.is_live(*handle));
+            assert_eq!(self.space.allocation_size(*handle), *size);
+        }
+        let held: u32 = self.live.iter().map(|(_, size)| size).sum();
+        let report = self.space.storage_report();
+        assert!([0, self.size - held].contains(&report.total_free_space));
+        assert!(report.largest_free_region <= report.total_free_space);
+    }
+
+    fn call(&mut self, random: &mut Random, handles: &mut Vec<Allocation<NI>>) {
+        let mut count = Accesses::new();
+        match random.below(16) {
+            0..=3 => {
+                let size = if random.below(2) == 0 { random.any() } else { random.below(self.size / 8 + 2) };
+                let most = self.space.storage_report().largest_free_region;
+                let found = result(|| self.space.allocate(size)).unwrap();
+                assert!(size == 0 || found.is_some() == (size <= most));
+                handles.extend(found);
+                self.grant(found, size, 1);
+            }
+            4..=5 => {
+                let size = if random.below(2) == 0 { random.any() } else { random.below(self.size / 8 + 2) };
+                let align = if random.below(3) == 0 { random.any() } else { 1 << random.below(32) };
+                let found = result(|| self.space.allocate_aligned(size, align));
+                if let Some(found) = expect(found, align.count_ones() == 1, "align must be a power of two") {
+                    handles.extend(found);
+                    self.grant(found, size, align);
+                }
+            }
+            6..=10 if !handles.is_empty() => {
+                // of this allocator or of another one, live or not
+                let mut handle = handles[random.below(handles.len() as u32) as usize];
+                handle.offset ^= random.below(2) * random.any();
+                let is_live = result(|| self.space.is_live(handle)).unwrap();
+                assert_eq!(laws::is_live_counted(&self.space, handle, &mut count), is_live);
+                let size = result(|| self.space.allocation_size(handle)).unwrap();
+                assert_eq!(laws::allocation_size_counted(&self.space, handle, &mut count), size);
+                let before = self.space.storage_report_full().free_regions.map(|region| region.count);
+                let found = result(|| self.space.free(handle));
+                if expect(found, is_live, "the handle must be live").is_some() {
+                    assert!(!self.space.is_live(handle));
+                    let live = &self.space;
+                    let there = self.live.len();
+                    self.live.retain(|(other, _)| live.is_live(*other));
+                    assert_eq!(self.live.len() + 1, there);
+                } else {
+                    assert_eq!(self.space.storage_report_full().free_regions.map(|region| region.count), before);
+                    assert_eq!(size, 0);
+                }
+            }
+            11 => {
+                let more = if random.below(2) == 0 { random.any() } else { random.below(100) };
+                if result(|| self.space.extend(more)).unwrap() {
+                    self.size += more;
+                }
+            }
+            12 => {
+                let most = self.space.storage_report().largest_free_region;
+                let size = random.any();
+                let granted = result(|| laws::undo(&mut self.space, size)).unwrap();
+                assert!(size == 0 || granted == (size <= most));
+            }
+            13 => {
+                let report: StorageReportFull = result(|| self.space.storage_report_full()).unwrap();
+                let counted = laws::storage_report_full_counted(&self.space, &mut count);
+                assert_eq!(report.free_regions.map(|r| r.count), counted.free_regions.map(|r| r.count));
+                laws::storage_report_counted(&self.space, &mut count);
+                assert!(!format!("{:?} {report:?}", self.space).is_empty());
+            }
+            14 if random.below(20) == 0 => {
+                result(|| self.space.reset()).unwrap();
+                self.live.clear();
+            }
+            _ => {
+                laws::is_well_formed(&self.space);
+                laws::sizes_add_up(&self.space);
+                laws::ranges_are_disjoint(&self.space);
+                laws::free_blocks_stand_alone(&self.space);
+                laws::few_are_live(&self.space);
+                laws::a_full_space_refuses(&self.space);
+            }
+        }
+        self.check();
+    }
+}
+
+fn play<NI: NodeIndex>(random: &mut Random) {
+    // of earlier allocators, so that many of them are not live, or name another range
+    let mut handles = Vec::new();
+    for _ in 0..ALLOCATORS {
+        let size = random.any();
+        // a limit that is admitted and large would only take memory
+        let max_allocs = match random.below(5) {
+            0 => random.below(4),
+            1 => NI::MAX - random.below(4),
+            _ => random.below(200),
+        };
+        let met = 2 <= max_allocs && max_allocs < NI::MAX - 1;
+        if met && max_allocs > 1_000_000 {
+            continue;
+        }
+        let told = if max_allocs < 2 { "max_allocs must be at least 2" } else { "max_allocs must be at most NI::MAX - 2" };
+        let Some(space) = expect(result(|| Allocator::with_max_allocs(Global, size, max_allocs)), met, told) else { continue };
+        let mut pair = Pair { space: space.unwrap(), size, live: Vec::new() };
+        for _ in 0..CALLS {
+            pair.call(random, &mut handles);
+        }
+        handles.truncate(500);
+    }
+    let mut pair = Pair { space: Allocator::<NI>::new(Global, u32::MAX).unwrap(), size: u32::MAX, live: Vec::new() };
+    for _ in 0..CALLS {
+        pair.call(random, &mut handles);
+    }
+}
+
+fn numbers(random: &mut Random) {
+    for _ in 0..100_000 {
+        let n = random.any();
+        let (up, down) = (uint_to_float_round_up(n), uint_to_float_round_down(n));
+        assert!(down <= up && up <= down + 1 && up <= 240);
+        expect(result(|| float_to_uint(n)), n < 256, "float_value must be below 256");
+        let least = expect(result(|| min_allocator_size(n)), n <= 4_026_531_840, "needed_object_size must be at most 4026531840");
+        assert!(least.map_or(true, |least| least >= n));
+        assert_eq!(NonMaxU32::new(n).map(NonMaxU32::get), Some(n).filter(|n| *n < u32::MAX));
+        let narrow = n as u16;
+        assert_eq!(NonMaxU16::new(narrow).map(NonMaxU16::get), Some(narrow).filter(|n| *n < u16::MAX));
+        let told = "MAX is the name of no node";
+        if let Some(name) = expect(result(|| n.to_name()), n < u32::MAX, told) {
+            assert_eq!(u32::of_nonmax(name), n);
+        }
+        if let Some(name) = expect(result(|| narrow.to_name()), narrow < u16::MAX, told) {
+            assert_eq!(u16::of_nonmax(name), narrow);
+        }
+        assert_eq!(n.to_nonmax().map(u32::of_nonmax), Some(n).filter(|n| *n < u32::MAX));
+        assert_eq!((NodeIndex::to_usize(narrow), u16::from_u32(n)), (narrow as usize, narrow));
+    }
+}
+
+#[test]
+fn no_other_panic() {
+    // hundreds of panics are expected: they are not to be printed
+    let printed = std::panic::take_hook();
+    std::panic::set_hook(Box::new(|_| {}));
+    let found = result(|| {
+        let mut random = Random(14);
+        play::<u32>(&mut random);
+        play::<u16>(&mut random);
+        numbers(&mut random);
+    });
+    std::panic::set_hook(printed);
+    found.unwrap();
+}

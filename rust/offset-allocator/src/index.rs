@@ -1,0 +1,156 @@
+//! The index types of the original, as those of the proved library.
+
+use core::fmt::{self, Debug, Display};
+use core::num::{NonZeroU16, NonZeroU32};
+
+use offset_allocator_proved as proved;
+
+/// The type of the links between nodes: it bounds how many allocations there can be.
+///
+/// The two types here, `u32` and `u16`, are lawful. An own type has to keep every number up to `MAX` through
+/// `from_u32` and `to_usize`, and its `NonMax` every number but `MAX`.
+pub trait NodeIndex: Clone + Copy + Default {
+    /// The numbers of this type but the greatest.
+    type NonMax: NodeIndexNonMax + TryFrom<Self> + Into<Self>;
+
+    /// The greatest number.
+    const MAX: u32;
+
+    /// The value of a number. Of one above `MAX` some bits are lost.
+    fn from_u32(val: u32) -> Self;
+
+    /// The number, as an index.
+    fn to_usize(self) -> usize;
+}
+
+/// The numbers of a [`NodeIndex`] but the greatest.
+pub trait NodeIndexNonMax: Clone + Copy + PartialEq + Default + Debug + Display {
+    /// The number, as an index.
+    fn to_usize(self) -> usize;
+}
+
+/// An index type of the proved library.
+#[derive(Clone, Copy, Default)]
+pub struct Index<NI>(NI);
+
+/// A name of the proved library.
+#[derive(Clone, Copy, Default, PartialEq, Debug)]
+pub struct Name<N>(N);
+
+impl<N: Display> Display for Name<N> {
+    fn fmt(&self, f: &mut fmt::Formatter<'_>) -> fmt::Result {
+        Display::fmt(&self.0, f)
+    }
+}
+
+impl<N: NodeIndexNonMax> proved::NodeIndexNonMax for Name<N> {
+    #[inline]
+    fn to_usize(self) -> usize {
+        self.0.to_usize()
+    }
+}
+
+impl<NI: NodeIndex> proved::NodeIndex for Index<NI> {
+    type NonMax = Name<NI::NonMax>;
+
+    const MAX: u32 = NI::MAX;
+
+    #[inline]
+    fn from_u32(val: u32) -> Self {
+        Index(NI::from_u32(val))
+    }
+
+    #[inline]
+    fn to_usize(self) -> usize {
+        self.0.to_usize()
+    }
+
+    #[inline]
+    fn to_nonmax(self) -> Option<Self::NonMax> {
+        NI::NonMax::try_from(self.0).ok().map(Name)
+    }
+
+    #[inline]
+    fn of_nonmax(n: Self::NonMax) -> Self {
+        Index(n.0.into())
+    }
+}
+
+macro_rules! index { ($int:ident, $nonmax:ident, $nonzero:ident) => {
+    // kept as what is missing to the greatest number, so that an `Option` of it takes no more bytes
+    #[doc = concat!("The numbers of a `", stringify!($int), "` but the greatest.")]
+    #[derive(Clone, Copy, PartialEq, Eq)]
+    pub struct $nonmax($nonzero);
+
+    impl Default for $nonmax {
+        fn default() -> Self {
+            $nonmax($nonzero::MAX)
+        }
+    }
+
+    impl Debug for $nonmax {
+        fn fmt(&self, f: &mut fmt::Formatter<'_>) -> fmt::Result {
+            Debug::fmt(&$int::from(*self), f)
+        }
+    }
+
+    impl Display for $nonmax {
+        fn fmt(&self, f: &mut fmt::Formatter<'_>) -> fmt::Result {
+            Display::fmt(&$int::from(*self), f)
+        }
+    }
+
+    impl From<$nonmax> for $int {
+        #[inline]
+        fn from(name: $nonmax) -> $int {
+            !name.0.get()
+        }
+    }
+
+    impl TryFrom<$int> for $nonmax {
+        type Error = IsMax;
+
+        #[inline]
+        fn try_from(number: $int) -> Result<Self, IsMax> {
+            $nonzero::new(!number).map($nonmax).ok_or(IsMax)
+        }
+    }
+
+    impl NodeIndexNonMax for $nonmax {
+        #[inline]
+        fn to_usize(self) -> usize {
+            $int::from(self) as usize
+        }
+    }
+
+    impl NodeIndex for $int {
+        type NonMax = $nonmax;
+
+        const MAX: u32 = $int::MAX as u32;
+
+        #[inline]
+        fn from_u32(val: u32) -> Self {
+            val as $int
+        }
+
+        #[inline]
+        fn to_usize(self) -> usize {
+            self as usize
+        }
+    }
+} }
+
+/// The greatest number is no name.
+#[derive(Clone, Copy, Debug, PartialEq, Eq)]
+pub struct IsMax;
+
+impl Display for IsMax {
+    fn fmt(&self, f: &mut fmt::Formatter<'_>) -> fmt::Result {
+        f.write_str("the greatest number is no name")
+    }
+}
+
+impl core::error::Error for IsMax {}
+
+index!(u32, NonMaxU32, NonZeroU32);
+index!(u16, NonMaxU16, NonZeroU16);

@@ -1,0 +1,57 @@
+//! Replays what a real game asked of its buffers, and checks each range that is granted.
+//!
+//! `trace [FILE]`: a script, or else `bench/traces/voxel-game.script`.
+
+use offset_script::{parse, play, Answer, Command, Global, IndexWidth};
+use std::collections::{BTreeMap, HashMap};
+use std::error::Error;
+
+fn main() -> Result<(), Box<dyn Error>> {
+    let own = concat!(env!("CARGO_MANIFEST_DIR"), "/../../bench/traces/voxel-game.script").to_string();
+    let file = std::env::args().nth(1).unwrap_or(own);
+    let text = std::fs::read(&file).map_err(|error| format!("{file}: {error}"))?;
+    let script = parse(Global, &text).map_err(|fault| format!("{file}: {fault:?}"))?;
+    let answers = match script.index {
+        IndexWidth::Bits16 => play::<u16>(Global, script.size, script.max_allocs, &script.commands)?,
+        IndexWidth::Bits32 => play::<u32>(Global, script.size, script.max_allocs, &script.commands)?,
+    };
+
+    // the live ranges: their ends by their first unit, and their first unit by the number of their grant
+    let (mut ends, mut starts) = (BTreeMap::new(), HashMap::new());
+    let mut size = u64::from(script.size);
+    let (mut grants, mut refused, mut held, mut most, mut reach) = (0u64, 0u64, 0u64, 0u64, 0u64);
+    for (command, answer) in script.commands.iter().zip(&answers) {
+        match (*command, answer) {
+            (Command::Alloc(n) | Command::Align(n, _), Answer::Grant { number, offset }) => {
+                let (start, end) = (u64::from(*offset), u64::from(*offset) + u64::from(n));
+                assert!(end <= size, "grant {number} ends in the space");
+                if n > 0 {
+                    let before = ends.range(..end).next_back();
+                    assert!(before.map_or(true, |(_, last)| *last <= start), "grant {number} has its units alone");
+                    ends.insert(start, end);
+                }
+                starts.insert(*number, (start, n));
+                grants += 1;
+                held += u64::from(n);
+                most = most.max(held);
+                reach = reach.max(end);
+            }
+            (Command::Alloc(_) | Command::Align(..), Answer::Refused) => refused += 1,
+            (Command::Free(number), Answer::Freed) => {
+                let (start, n) = starts.remove(&u64::from(number)).ok_or("a grant is freed once")?;
+                if n > 0 {
+                    ends.remove(&start);
+                }
+                held -= u64::from(n);
+            }
+            (Command::Reset, Answer::Reset) => {
+                (ends, starts, held) = (BTreeMap::new(), HashMap::new(), 0);
+            }
+            (Command::Extend(n), Answer::Extended) => size += u64::from(n),
+            _ => {}
+        }
+    }
+    println!("{} commands: {grants} grants, {refused} refusals, {} live at the end", answers.len(), starts.len());
+    println!("at most {most} units were held, and none from {reach} on was: {:.2} of what was held", reach as f64 / most as f64);
+    Ok(())
+}

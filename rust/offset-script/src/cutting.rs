@@ -1,0 +1,33 @@
+// Printed by rust/erase from crates/offset_script/src/cutting.rt: change it there.
+
+//! Words and numbers.
+
+/// The most digits that a number has.
+const MOST_DIGITS: usize = 10;
+
+fn place_of(text: &[u8], at: u8) -> Option<usize> {
+    text.iter().position(|b| *b == at)
+}
+
+/// The part before the first such byte, and what stands after that byte.
+pub fn cut(text: &[u8], at: u8) -> (&[u8], Option<&[u8]>) {
+    match place_of(text, at) {
+        None => (text, None),
+        Some(i) => (&text[..i], Some(&text[i + 1..])),
+    }
+}
+
+/// The number that 1 to 10 digits spell, where it fits.
+pub fn number(word: &[u8]) -> Option<u32> {
+    if word.is_empty() || word.len() > MOST_DIGITS {
+        return None;
+    }
+    let mut n = 0u64;
+    for b in word {
+        if !b.is_ascii_digit() {
+            return None;
+        }
+        n = n * 10 + u64::from(*b - b'0');
+    }
+    u32::try_from(n).ok()
+}

@@ -1,0 +1,101 @@
+// Printed by rust/erase from crates/offset_script/src/devices.rt: change it there.
+
+//! Where a script comes from, and where its answers go.
+
+use std::io::{Read, Write};
+
+/// Bytes that come in pieces.
+pub trait Source {
+    /// Takes bytes from the front of what is left to the front of `buf`, and answers how many:
+    /// none only at the end of the bytes, or for an empty `buf`. `None` is a failure, which takes nothing.
+    fn pull(&mut self, buf: &mut [u8]) -> Option<usize>;
+}
+
+/// What takes bytes in pieces.
+pub trait Sink {
+    /// Appends bytes from the front of `bytes`, at least one, and answers how many.
+    /// `None` is a failure, which appends nothing.
+    fn push(&mut self, bytes: &[u8]) -> Option<usize>;
+
+    /// Hands on what was appended, and appends nothing itself. `false` is a failure.
+    fn flush(&mut self) -> bool;
+}
+
+/// A reader as a source. Each call makes one read, and it fails just where that read does.
+pub struct FromRead<R: Read> {
+    inner: R,
+    failed: bool,
+}
+
+impl<R: Read> FromRead<R> {
+    /// A source over a reader. It has not failed.
+    pub fn new(inner: R) -> Self {
+        FromRead {
+            inner,
+            failed: false,
+        }
+    }
+
+    /// The reader, as the reads have left it.
+    pub fn into_inner(self) -> R {
+        let FromRead { inner, failed: _ } = self;
+        inner
+    }
+}
+
+impl<R: Read> Source for FromRead<R> {
+    fn pull(&mut self, buf: &mut [u8]) -> Option<usize> {
+        match self.inner.read(buf) {
+            Ok(n) => Some(n),
+            Err(_) => {
+                self.failed = true;
+                None
+            }
+        }
+    }
+}
+
+/// A writer as a sink. Each call makes one write or one flush, and it fails just where that does;
+/// a write that takes 0 bytes is a failure too.
+pub struct IntoWrite<W: Write> {
+    inner: W,
+    failed: bool,
+}
+
+impl<W: Write> IntoWrite<W> {
+    /// A sink over a writer. It has not failed.
+    pub fn new(inner: W) -> Self {
+        IntoWrite {
+            inner,
+            failed: false,
+        }
+    }
+
+    /// The writer, as the writes have left it.
+    pub fn into_inner(self) -> W {
+        let IntoWrite { inner, failed: _ } = self;
+        inner
+    }
+}
+
+impl<W: Write> Sink for IntoWrite<W> {
+    #[inline]
+    fn push(&mut self, bytes: &[u8]) -> Option<usize> {
+        assert!(!bytes.is_empty(), "at least one byte must be pushed");
+        match self.inner.write(bytes) {
+            Ok(0) | Err(_) => {
+                self.failed = true;
+                None
+            }
+            Ok(n) => Some(n),
+        }
+    }
+
+    fn flush(&mut self) -> bool {
+        let flushed = self.inner.flush().is_ok();
+        if !flushed {
+            self.failed = true;
+        }
+        flushed
+    }
+}

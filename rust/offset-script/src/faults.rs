@@ -1,0 +1,84 @@
+// Printed by rust/erase from crates/offset_script/src/faults.rt: change it there.
+
+//! What is wrong with a script, and with a run.
+
+use crate::memory::AllocError;
+use core::fmt;
+
+/// Why a text gave no script. The number carried is that of the line, from 1.
+#[derive(Clone, Copy, PartialEq, Debug)]
+pub enum ScriptFault {
+    /// The text has more than 1,048,576 bytes.
+    TooLong,
+    /// The first line that says something is no header, or there is no such line.
+    BadHeader(u32),
+    /// The header's node limit is below 2, or above what its index width admits.
+    BadLimit(u32),
+    /// A later line is no command.
+    BadCommand(u32),
+    /// A growth was refused.
+    Memory,
+}
+
+impl From<AllocError> for ScriptFault {
+    fn from(_e: AllocError) -> ScriptFault {
+        ScriptFault::Memory
+    }
+}
+
+/// Why a run gave up.
+#[derive(Clone, Copy, PartialEq, Debug)]
+pub enum RunFault {
+    /// The text that was read is no script. `run` gives a want of memory as `Memory`.
+    Script(ScriptFault),
+    /// A growth was refused.
+    Memory,
+    /// The source failed.
+    Read,
+    /// The sink failed.
+    Write,
+}
+
+impl RunFault {
+    /// The status that a program ends with: 2 for the text, 3 for memory, and 4 for a device.
+    pub fn status(&self) -> u8 {
+        match self {
+            RunFault::Script(ScriptFault::Memory) | RunFault::Memory => 3,
+            RunFault::Script(_) => 2,
+            RunFault::Read | RunFault::Write => 4,
+        }
+    }
+}
+
+impl fmt::Display for RunFault {
+    fn fmt(&self, f: &mut fmt::Formatter<'_>) -> fmt::Result {
+        match self {
+            RunFault::Script(ScriptFault::TooLong) => write!(f, "too long"),
+            RunFault::Script(ScriptFault::BadHeader(line)) => write!(f, "line {line}: bad header"),
+            RunFault::Script(ScriptFault::BadLimit(line)) => write!(f, "line {line}: bad limit"),
+            RunFault::Script(ScriptFault::BadCommand(line)) => {
+                write!(f, "line {line}: bad command")
+            }
+            RunFault::Script(ScriptFault::Memory) | RunFault::Memory => {
+                write!(f, "out of memory")
+            }
+            RunFault::Read => write!(f, "read failed"),
+            RunFault::Write => write!(f, "write failed"),
+        }
+    }
+}
+
+impl From<ScriptFault> for RunFault {
+    fn from(fault: ScriptFault) -> RunFault {
+        match fault {
+            ScriptFault::Memory => RunFault::Memory,
+            other => RunFault::Script(other),
+        }
+    }
+}
+
+impl From<AllocError> for RunFault {
+    fn from(_e: AllocError) -> RunFault {
+        RunFault::Memory
+    }
+}

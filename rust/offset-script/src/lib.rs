@@ -1,0 +1,28 @@
+// Printed by rust/erase from crates/offset_script/src/lib.rt: change it there.
+
+//! Scripts of offset allocation: text to commands, and answers to text.
+#![doc = include_str!("../README.md")]
+#![forbid(unsafe_code)]
+
+mod memory;
+
+pub use memory::{AllocError, Global, String, Vec};
+
+mod answers;
+mod cutting;
+mod devices;
+mod faults;
+pub mod laws;
+mod lines;
+mod playing;
+mod reading;
+mod running;
+mod scripts;
+
+pub use answers::{Answer, FullRow};
+pub use devices::{FromRead, IntoWrite, Sink, Source};
+pub use faults::{RunFault, ScriptFault};
+pub use playing::play;
+pub use reading::parse;
+pub use running::run;
+pub use scripts::{Command, IndexWidth, Script};

@@ -1,0 +1,152 @@
+// Printed by rust/erase from crates/offset_script/src/playing.rt: change it there.
+
+//! Scripts, played.
+
+use crate::memory::Vec;
+use crate::answers::{Answer, FullRow};
+use crate::scripts::Command;
+use offset_allocator::{Allocation, Allocator, NodeIndex};
+use crate::memory::{AllocError, Global};
+
+/// A space, with the handles of the grants that were made of it.
+struct Player<NI: NodeIndex> {
+    space: Allocator<NI>,
+    // The handle of grant k stands at k - 1, while the grant does.
+    handles: Vec<Option<Allocation<NI>>>,
+    // So many of the first handles were swept by resets.
+    swept: usize,
+}
+
+impl<NI: NodeIndex> Player<NI> {
+    // A free space, and no grants.
+    fn start(alloc: Global, size: u32, max_allocs: u32) -> Result<Self, AllocError> {
+        Ok(Player {
+            space: Allocator::with_max_allocs(alloc, size, max_allocs)?,
+            handles: Vec::new(alloc),
+            swept: 0,
+        })
+    }
+
+    // The handle of the grant of this number, while the grant stands.
+    fn handle(&self, number: u32) -> Option<Allocation<NI>> {
+        if number == 0 {
+            return None;
+        }
+        match self.handles.get(number as usize - 1) {
+            Some(handle) => *handle,
+            None => None,
+        }
+    }
+
+    // The answer to a request. The handle of a grant is kept under the next number.
+    fn keep(&mut self, granted: Option<Allocation<NI>>) -> Result<Answer, AllocError> {
+        match granted {
+            None => Ok(Answer::Refused),
+            Some(handle) => {
+                self.handles.push(Some(handle))?;
+                Ok(Answer::Grant {
+                    number: self.handles.len() as u64,
+                    offset: handle.offset,
+                })
+            }
+        }
+    }
+
+    fn allocate(&mut self, size: u32) -> Result<Answer, AllocError> {
+        let granted = self.space.allocate(size);
+        self.keep(granted)
+    }
+
+    fn release(&mut self, number: u32) -> Answer {
+        match self.handle(number) {
+            None => Answer::Gone,
+            Some(handle) => {
+                self.space.free(handle);
+                self.handles[number as usize - 1] = None;
+                Answer::Freed
+            }
+        }
+    }
+
+    fn size(&self, number: u32) -> Answer {
+        match self.handle(number) {
+            None => Answer::Gone,
+            Some(handle) => Answer::Size(self.space.allocation_size(handle)),
+        }
+    }
+
+    fn report(&self) -> Answer {
+        Answer::Report(self.space.storage_report())
+    }
+
+    fn full(&self, alloc: Global) -> Result<Answer, AllocError> {
+        let report = self.space.storage_report_full();
+        let mut rows = Vec::new(alloc);
+        for class in 0..256u32 {
+            let region = report.free_regions[class as usize];
+            if region.count > 0 {
+                rows.push(FullRow {
+                    class,
+                    size: region.size,
+                    count: region.count,
+                })?;
+            }
+        }
+        Ok(Answer::Full(rows))
+    }
+
+    // No grant stands any more, and the next one has the next number.
+    fn reset(&mut self) -> Answer {
+        self.space.reset();
+        for i in self.swept..self.handles.len() {
+            self.handles[i] = None;
+        }
+        self.swept = self.handles.len();
+        Answer::Reset
+    }
+
+    fn allocate_aligned(&mut self, size: u32, align: u32) -> Result<Answer, AllocError> {
+        let granted = self.space.allocate_aligned(size, align);
+        self.keep(granted)
+    }
+
+    fn extend(&mut self, more: u32) -> Answer {
+        if self.space.extend(more) {
+            Answer::Extended
+        } else {
+            Answer::Refused
+        }
+    }
+
+    // The answer to one command.
+    fn call(&mut self, alloc: Global, command: Command) -> Result<Answer, AllocError> {
+        match command {
+            Command::Alloc(size) => self.allocate(size),
+            Command::Free(number) => Ok(self.release(number)),
+            Command::Size(number) => Ok(self.size(number)),
+            Command::Report => Ok(self.report()),
+            Command::Full => self.full(alloc),
+            Command::Reset => Ok(self.reset()),
+            Command::Align(size, align) => self.allocate_aligned(size, align),
+            Command::Extend(more) => Ok(self.extend(more)),
+        }
+    }
+}
+
+/// The answers to the commands in order, one for each, from one free block of `size` units.
+pub fn play<NI: NodeIndex>(
+    alloc: Global,
+    size: u32,
+    max_allocs: u32,
+    commands: &[Command],
+) -> Result<Vec<Answer>, AllocError> {
+    assert!(2 <= max_allocs, "max_allocs must be at least 2");
+    assert!(max_allocs < NI::MAX - 1, "max_allocs must be at most NI::MAX - 2");
+    assert!(commands.iter().all(|c| !matches!(c, Command::Align(_, align) if !align.is_power_of_two())), "each alignment must be a power of two");
+    let mut player: Player<NI> = Player::start(alloc, size, max_allocs)?;
+    let mut found = Vec::new(alloc);
+    for command in commands {
+        found.push(player.call(alloc, *command)?)?;
+    }
+    Ok(found)
+}

@@ -1,0 +1,143 @@
+// Printed by rust/erase from crates/offset_script/src/reading.rt: change it there.
+
+//! Texts as scripts.
+
+use crate::memory::Vec;
+use crate::cutting::{cut, number};
+use crate::faults::ScriptFault;
+use crate::lines::Lines;
+use crate::scripts::{Command, Header, IndexWidth, Script};
+use crate::memory::Global;
+
+/// The greatest number of bytes of a script.
+pub const MAX_TEXT: usize = 1_048_576;
+
+fn plain_command(name: &[u8]) -> Option<Command> {
+    if name == b"report".as_slice() {
+        Some(Command::Report)
+    } else if name == b"full".as_slice() {
+        Some(Command::Full)
+    } else if name == b"reset".as_slice() {
+        Some(Command::Reset)
+    } else {
+        None
+    }
+}
+
+fn number_command(name: &[u8], n: u32) -> Option<Command> {
+    if name == b"alloc".as_slice() {
+        Some(Command::Alloc(n))
+    } else if name == b"free".as_slice() {
+        Some(Command::Free(n))
+    } else if name == b"size".as_slice() {
+        Some(Command::Size(n))
+    } else if name == b"extend".as_slice() {
+        Some(Command::Extend(n))
+    } else {
+        None
+    }
+}
+
+fn pair_command(name: &[u8], n: u32, a: u32) -> Option<Command> {
+    if name == b"align".as_slice() && a.is_power_of_two() {
+        Some(Command::Align(n, a))
+    } else {
+        None
+    }
+}
+
+/// The command that a line is.
+fn command(line: &[u8]) -> Option<Command> {
+    let (name, rest) = cut(line, b' ');
+    let Some(rest) = rest else {
+        return plain_command(name);
+    };
+    let (first, rest) = cut(rest, b' ');
+    let Some(rest) = rest else {
+        return number_command(name, number(first)?);
+    };
+    let (second, rest) = cut(rest, b' ');
+    if let Some(_more) = rest {
+        return None;
+    }
+    pair_command(name, number(first)?, number(second)?)
+}
+
+fn width(word: &[u8]) -> Option<IndexWidth> {
+    if word == b"16".as_slice() {
+        Some(IndexWidth::Bits16)
+    } else if word == b"32".as_slice() {
+        Some(IndexWidth::Bits32)
+    } else {
+        None
+    }
+}
+
+/// The header that a line is in form.
+fn header(line: &[u8]) -> Option<Header> {
+    let (space, rest) = cut(line, b' ');
+    let (size, rest) = cut(rest?, b' ');
+    let (nodes, rest) = cut(rest?, b' ');
+    let (max_allocs, rest) = cut(rest?, b' ');
+    let (index, rest) = cut(rest?, b' ');
+    let (bits, rest) = cut(rest?, b' ');
+    if let Some(_more) = rest {
+        return None;
+    }
+    if space != b"space".as_slice()
+        || nodes != b"nodes".as_slice()
+        || index != b"index".as_slice()
+    {
+        return None;
+    }
+    Some(Header {
+        size: number(size)?,
+        max_allocs: number(max_allocs)?,
+        index: width(bits)?,
+    })
+}
+
+impl Header {
+    fn is_admitted(&self) -> bool {
+        let greatest = match self.index {
+            IndexWidth::Bits16 => 65533,
+            IndexWidth::Bits32 => 4_294_967_293,
+        };
+        2 <= self.max_allocs && self.max_allocs <= greatest
+    }
+}
+
+/// The script that a text is, or the fault of its first faulty line.
+///
+/// A text of more than 1,048,576 bytes is `TooLong`. Lines end with LF and are counted from 1; empty lines
+/// and those that begin with `#` say nothing. The first other line has to be a header, `BadHeader` where it
+/// is not in form, or where there is none, and `BadLimit` where its limit is not admitted. Each later one has
+/// to be a command, and is `BadCommand` else. `Memory` comes only where a growth was refused.
+pub fn parse(alloc: Global, text: &[u8]) -> Result<Script, ScriptFault> {
+    if text.len() > MAX_TEXT {
+        return Err(ScriptFault::TooLong);
+    }
+    let mut lines = Lines::of(text);
+    let Some((line, words)) = lines.next_line() else {
+        return Err(ScriptFault::BadHeader(lines.number));
+    };
+    let Some(header) = header(words) else {
+        return Err(ScriptFault::BadHeader(line));
+    };
+    if !header.is_admitted() {
+        return Err(ScriptFault::BadLimit(line));
+    }
+    let mut commands = Vec::new(alloc);
+    while let Some((line, words)) = lines.next_line() {
+        let Some(command) = command(words) else {
+            return Err(ScriptFault::BadCommand(line));
+        };
+        commands.push(command)?;
+    }
+    Ok(Script {
+        size: header.size,
+        max_allocs: header.max_allocs,
+        index: header.index,
+        commands,
+    })
+}

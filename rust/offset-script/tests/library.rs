@@ -1,0 +1,48 @@
+//! The library's calls, and the conditions of the table.
+use offset_script::{parse, play, run, Answer, Command, FromRead, Global, IndexWidth, IntoWrite, RunFault, ScriptFault, Sink};
+
+#[test]
+fn reads_and_plays() {
+    let script = parse(Global, b"space 100 nodes 16 index 32\nalloc 10\nfree 1\n").unwrap();
+    assert_eq!((script.size, script.max_allocs, script.index), (100, 16, IndexWidth::Bits32));
+    assert_eq!(script.commands[..], [Command::Alloc(10), Command::Free(1)]);
+    let answers = play::<u32>(Global, script.size, script.max_allocs, &script.commands).unwrap();
+    assert!(matches!(answers[..], [Answer::Grant { number: 1, offset: 0 }, Answer::Freed]));
+    assert_eq!(parse(Global, b"space 1\n").err(), Some(ScriptFault::BadHeader(1)));
+}
+
+#[test]
+fn runs_over_any_reader_and_writer() {
+    let mut input = FromRead::new(&b"space 100 nodes 16 index 16\nalloc 10\n"[..]);
+    let mut output = IntoWrite::new(Vec::new());
+    run(Global, &mut input, &mut output).unwrap();
+    assert_eq!(output.into_inner(), b"grant 1 at 0\n");
+    let mut wrong = FromRead::new(&b"x"[..]);
+    let fault = run(Global, &mut wrong, &mut IntoWrite::new(Vec::new())).unwrap_err();
+    assert_eq!((fault, fault.status()), (RunFault::Script(ScriptFault::BadHeader(1)), 2));
+    assert_eq!(fault.to_string(), "line 1: bad header");
+}
+
+#[test]
+#[should_panic(expected = "max_allocs must be at least 2")]
+fn too_few_nodes() {
+    let _ = play::<u32>(Global, 10, 1, &[]);
+}
+
+#[test]
+#[should_panic(expected = "max_allocs must be at most NI::MAX - 2")]
+fn too_many_nodes() {
+    let _ = play::<u16>(Global, 10, 65_534, &[]);
+}
+
+#[test]
+#[should_panic(expected = "each alignment must be a power of two")]
+fn a_wrong_alignment() {
+    let _ = play::<u32>(Global, 10, 4, &[Command::Alloc(1), Command::Align(1, 6)]);
+}
+
+#[test]
+#[should_panic(expected = "at least one byte must be pushed")]
+fn no_byte() {
+    IntoWrite::new(Vec::new()).push(&[]);
+}
