@@ -86,7 +86,7 @@ REQUIRES = [
     ("2 ≤ max_allocs", "2 <= max_allocs", "max_allocs must be at least 2"),
     ("max_allocs + 1 < NI.MAX", "max_allocs < NI::MAX - 1", "max_allocs must be at most NI::MAX - 2"),
     ("IsLive allocation.name self.old", "self.is_live(allocation)", "the handle must be live"),
-    ("IsPowerOfTwo align", "align.is_power_of_two()", "align must be a power of two"),
+    ("IsAlignment align", "align.is_power_of_two()", "align must be a power of two"),
     ("needed_object_size ≤ 4026531840", "needed_object_size <= 4026531840", "needed_object_size must be at most 4026531840"),
     ("float_value < 256", "float_value < 256", "float_value must be below 256"),
     ("number self < MAX", "self.to_usize() < <Self as NodeIndex>::MAX as usize", "MAX is the name of no node"),

@@ -3,7 +3,7 @@
 //! The blocks of the space, linked in space order, and the stack of unused names.
 
 use crate::accesses::Accesses;
-use crate::index::{NodeIndex, link_to, linked, number};
+use crate::index::{NodeIndex, link_to, linked, no_link, number};
 use crate::tables::Tables;
 
 /// Writes the cells of an unused node, for a free block between two links.
@@ -20,6 +20,17 @@ pub(crate) fn place<NI: NodeIndex>(
     tables.set_size(name, size, count);
     tables.set_before(name, before, count);
     tables.set_after(name, after, count);
+}
+
+/// Makes the whole space one free block, under the last name, in tables with no used node.
+pub(crate) fn start<NI: NodeIndex>(
+    tables: &mut Tables<NI>,
+    size: u32,
+    max_allocs: u32,
+    count: &mut Accesses,
+) {
+    tables.shape();
+    place(tables, max_allocs - 1, 0, size, no_link(), no_link(), count);
 }
 
 // Makes a node the one before the node that a link names, or the last one.
@@ -65,6 +76,39 @@ pub(crate) fn size<NI: NodeIndex>(
     count: &mut Accesses,
 ) -> u32 {
     tables.size(name, count)
+}
+
+/// Whether a name is that of a used block.
+pub(crate) fn is_used<NI: NodeIndex>(
+    tables: &Tables<NI>,
+    last: u32,
+    spare_count: u32,
+    name: u32,
+    count: &mut Accesses,
+) -> bool {
+    tables.used(name, count)
+}
+
+/// The name of the block directly before a block, if one is.
+pub(crate) fn before<NI: NodeIndex>(
+    tables: &Tables<NI>,
+    last: u32,
+    spare_count: u32,
+    name: u32,
+    count: &mut Accesses,
+) -> Option<u32> {
+    linked(tables.before(name, count))
+}
+
+/// The name of the block directly after a block, if one is.
+pub(crate) fn after<NI: NodeIndex>(
+    tables: &Tables<NI>,
+    last: u32,
+    spare_count: u32,
+    name: u32,
+    count: &mut Accesses,
+) -> Option<u32> {
+    linked(tables.after(name, count))
 }
 
 /// Cuts a block, of this offset and size, to `kept` units. The rest becomes a free block directly behind it, under the

@@ -3,6 +3,7 @@
 //! The handle of a grant.
 
 use crate::index::{NodeIndex, NodeIndexNonMax};
+use core::fmt;
 use core::marker::PhantomData;
 
 /// A granted range. Its name tells it from the other ranges of its space.
@@ -17,6 +18,23 @@ pub struct Allocation<NI: NodeIndex = u32, N: NodeIndexNonMax = <NI as NodeIndex
 impl<NI: NodeIndex, N: NodeIndexNonMax> Clone for Allocation<NI, N> {
     fn clone(&self) -> Self {
         *self
+    }
+}
+
+/// Two handles are equal where name and offset are.
+impl<NI: NodeIndex, N: NodeIndexNonMax> PartialEq for Allocation<NI, N> {
+    fn eq(&self, other: &Self) -> bool {
+        self.offset == other.offset && self.metadata == other.metadata
+    }
+}
+
+/// The text is that of a struct with the offset and, as `metadata`, the name.
+impl<NI: NodeIndex, N: NodeIndexNonMax> fmt::Debug for Allocation<NI, N> {
+    fn fmt(&self, f: &mut fmt::Formatter<'_>) -> fmt::Result {
+        f.debug_struct("Allocation")
+            .field("offset", &self.offset)
+            .field("metadata", &self.metadata)
+            .finish()
     }
 }
 

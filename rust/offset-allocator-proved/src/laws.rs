@@ -7,7 +7,7 @@ use crate::Allocator;
 use crate::accesses::Accesses;
 use crate::handle::Allocation;
 use crate::index::NodeIndex;
-use crate::reports::{StorageReport, StorageReportFull};
+use crate::reports::{Refusal, StorageReport, StorageReportFull};
 
 /// As `Allocator::is_live`. The count grows by at most 8.
 pub fn is_live_counted<NI: NodeIndex>(
@@ -41,6 +41,26 @@ pub fn storage_report_full_counted<NI: NodeIndex>(
     count: &mut Accesses,
 ) -> StorageReportFull {
     allocator.storage_report_full_counted(count)
+}
+
+/// As `Allocator::refusal`. The count grows by at most 8.
+pub fn refusal_counted<NI: NodeIndex>(
+    allocator: &Allocator<NI>,
+    size: u32,
+    count: &mut Accesses,
+) -> Option<Refusal> {
+    allocator.refusal_counted(1, size as u64, count)
+}
+
+/// As `Allocator::refusal_aligned`. The count grows by at most 8.
+pub fn refusal_aligned_counted<NI: NodeIndex>(
+    allocator: &Allocator<NI>,
+    size: u32,
+    align: u32,
+    count: &mut Accesses,
+) -> Option<Refusal> {
+    assert!(align.is_power_of_two(), "align must be a power of two");
+    allocator.refusal_counted(align.min(2), size as u64 + (align - 1) as u64, count)
 }
 
 /// Grants a request for `n` units and gives the grant back at once. The blocks, their names and the class lists are
@@ -97,3 +117,6 @@ pub fn a_fresh_space_grants() {}
 
 /// The units before an aligned grant take its offset to a multiple of the alignment, and fewer would not.
 pub fn padding_is_least() {}
+
+/// The alignments that `allocate_aligned` admits are the powers of two.
+pub fn alignments_are_powers() {}

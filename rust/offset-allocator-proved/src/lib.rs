@@ -44,9 +44,8 @@ mod tables;
 
 pub use accesses::Accesses;
 pub use handle::Allocation;
-use index::no_link;
 pub use index::{NodeIndex, NodeIndexNonMax, NonMaxU16, NonMaxU32};
-pub use reports::{StorageReport, StorageReportFull, StorageReportFullRegion};
+pub use reports::{Refusal, StorageReport, StorageReportFull, StorageReportFullRegion};
 use small_float::{float_to_uint, uint_to_float_round_down, uint_to_float_round_up};
 use core::fmt;
 use tables::Tables;
@@ -85,12 +84,11 @@ fn start<NI: NodeIndex>(
 ) -> u32 {
     let mut top_mask = 0;
     tables.shape();
-    let name = max_allocs - 1;
-    chain::place(tables, name, 0, size, no_link(), no_link(), count);
+    chain::start(tables, size, max_allocs, count);
     bins::put_first(
         tables,
         &mut top_mask,
-        name,
+        max_allocs - 1,
         uint_to_float_round_down(size),
         count,
     );
@@ -98,18 +96,19 @@ fn start<NI: NodeIndex>(
 }
 
 impl<NI: NodeIndex> Allocator<NI> {
-    /// A space of `size` units, all free, with the lesser of 131072 and `NI::MAX - 2` as the node limit.
+    /// A space of `size` units, all free, with the smaller of 131072 and `NI::MAX - 2` as the node limit.
     ///
-    /// An error comes only where memory was refused. Then nothing is made.
+    /// An error comes only where an allocation failed. Then nothing is made.
     pub fn new(alloc: Global, size: u32) -> Result<Self, AllocError> {
         Self::with_max_allocs(alloc, size, 131072u32.min(NI::MAX - 2))
     }
 
-    /// A space of `size` units, all free, with `max_allocs` as the node limit: at most `max_allocs - 1`
-    /// blocks stand at a time, so at most `max_allocs - 2` grants are live. The limit is 2 to `NI::MAX - 2`: 65533 for
-    /// `u16`, 4294967293 for `u32`.
+    /// A space of `size` units, all free, with `max_allocs` as the node limit: at most `max_allocs - 1` blocks exist at a
+    /// time, free ones included. A request is granted only while at most `max_allocs - 2` exist, and makes one of them
+    /// live: so at most `max_allocs - 2` grants are live. The limit is 2 to `NI::MAX - 2`: 65533 for `u16`, 4294967293
+    /// for `u32`. It costs 29 bytes a node with `u32`, 19 with `u16`, all of which are written here.
     ///
-    /// An error comes only where memory was refused. Then nothing is made.
+    /// An error comes only where an allocation failed. Then nothing is made.
     pub fn with_max_allocs(alloc: Global, size: u32, max_allocs: u32) -> Result<Self, AllocError> {
         assert!(2 <= max_allocs, "max_allocs must be at least 2");
         assert!(max_allocs < NI::MAX - 1, "max_allocs must be at most NI::MAX - 2");
@@ -141,6 +140,27 @@ impl<NI: NodeIndex> Allocator<NI> {
         self.free_total = self.size;
         self.spare_count = self.max_allocs - 1;
         self.last = self.max_allocs - 1;
+    }
+
+    /// The units of the space, with what `extend` added.
+    pub fn size(&self) -> u32 {
+        self.size
+    }
+
+    /// The node limit. At most one block less than this exists at a time, free ones included.
+    pub fn max_allocs(&self) -> u32 {
+        self.max_allocs
+    }
+
+    /// The number of blocks, live and free.
+    pub fn block_count(&self) -> u32 {
+        self.max_allocs - self.spare_count
+    }
+
+    /// Whether `max_allocs - 1` blocks exist. Then every request is refused, and the short report is 0, 0, until a
+    /// `free` coalesces or `reset` is called.
+    pub fn is_full(&self) -> bool {
+        self.block_count() == self.max_allocs - 1
     }
 
     // Grants the first units of the newest block of a class.
@@ -271,7 +291,7 @@ impl<NI: NodeIndex> Allocator<NI> {
     // Whether a name is that of a used block.
     fn uses(&self, name: u32, count: &mut Accesses) -> bool {
         if name < self.max_allocs {
-            self.tables.used(name, count)
+            chain::is_used(&self.tables, self.last, self.spare_count, name, count)
         } else {
             false
         }
@@ -297,7 +317,7 @@ impl<NI: NodeIndex> Allocator<NI> {
     ) -> u32 {
         let name = index::number::<NI>(NI::of_nonmax(allocation.name()));
         if self.uses(name, count) {
-            self.tables.size(name, count)
+            chain::size(&self.tables, self.last, self.spare_count, name, count)
         } else {
             0
         }
@@ -350,6 +370,46 @@ impl<NI: NodeIndex> Allocator<NI> {
         self.storage_report_full_counted(&mut Accesses::new())
     }
 
+    // Why a request is refused that splits off as many blocks, and takes a block for as many units.
+    pub(crate) fn refusal_counted(
+        &self,
+        blocks: u32,
+        units: u64,
+        count: &mut Accesses,
+    ) -> Option<Refusal> {
+        if self.spare_count <= blocks {
+            return Some(Refusal::Nodes);
+        }
+        if units > self.free_total as u64 {
+            return Some(Refusal::Space);
+        }
+        let least = uint_to_float_round_up(units as u32);
+        match bins::find_at_or_above(&self.tables, self.top_mask, least, count) {
+            None => Some(Refusal::Fragmented),
+            Some(_) => None,
+        }
+    }
+
+    /// Why `allocate(size)` would be refused now, or `None` exactly where it would be granted.
+    ///
+    /// It makes at most 8 accesses to the tables.
+    pub fn refusal(&self, size: u32) -> Option<Refusal> {
+        self.refusal_counted(1, size as u64, &mut Accesses::new())
+    }
+
+    /// Why `allocate_aligned(size, align)` would be refused now, or `None` exactly where it would be granted.
+    ///
+    /// With `align` above 1 two more blocks are needed, and `size + align - 1` units. It makes at most 8 accesses to
+    /// the tables.
+    pub fn refusal_aligned(&self, size: u32, align: u32) -> Option<Refusal> {
+        assert!(align.is_power_of_two(), "align must be a power of two");
+        self.refusal_counted(
+            align.min(2),
+            size as u64 + (align - 1) as u64,
+            &mut Accesses::new(),
+        )
+    }
+
     // Grants units of the newest block of a class, from the first multiple of `align` in it on.
     fn grant_aligned(&mut self, class: u32, size: u32, align: u32) -> Allocation<NI> {
         let name = bins::take_first(
@@ -358,8 +418,20 @@ impl<NI: NodeIndex> Allocator<NI> {
             class,
             &mut self.accesses,
         );
-        let offset = self.tables.offset(name, &mut self.accesses);
-        let whole = self.tables.size(name, &mut self.accesses);
+        let offset = chain::offset(
+            &self.tables,
+            self.last,
+            self.spare_count,
+            name,
+            &mut self.accesses,
+        );
+        let whole = chain::size(
+            &self.tables,
+            self.last,
+            self.spare_count,
+            name,
+            &mut self.accesses,
+        );
         let padding = (align - offset % align) % align;
         parts::carve(
             &mut self.tables,
@@ -404,7 +476,13 @@ impl<NI: NodeIndex> Allocator<NI> {
 
     // Adds units to the last block, which is free.
     fn widen(&mut self, more: u32) {
-        let whole = self.tables.size(self.last, &mut self.accesses);
+        let whole = chain::size(
+            &self.tables,
+            self.last,
+            self.spare_count,
+            self.last,
+            &mut self.accesses,
+        );
         bins::remove(
             &mut self.tables,
             &mut self.top_mask,
@@ -490,7 +568,14 @@ impl<NI: NodeIndex> Allocator<NI> {
         if more > u32::MAX - size {
             return false;
         }
-        if !self.tables.used(self.last, &mut self.accesses) {
+        let used = chain::is_used(
+            &self.tables,
+            self.last,
+            self.spare_count,
+            self.last,
+            &mut self.accesses,
+        );
+        if !used {
             self.widen(more);
             return true;
         }

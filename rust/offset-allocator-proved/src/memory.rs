@@ -27,7 +27,8 @@ impl<T> Vec<T> {
     pub(crate) fn with_capacity(_: Global, capacity: usize) -> Result<Self, AllocError> {
         let mut values = alloc::vec::Vec::new();
         values.try_reserve_exact(capacity).map_err(|_| AllocError)?;
-        Ok(Vec(values))
+        // an optimizer may leave out a request whose memory is given back unused, and with it the refusal
+        Ok(Vec(core::hint::black_box(values)))
     }
 
     /// Fills up to `length` values.

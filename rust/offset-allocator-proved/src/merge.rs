@@ -3,7 +3,7 @@
 //! Joins a block with the free blocks beside it, which leave their classes.
 
 use crate::accesses::Accesses;
-use crate::index::{NodeIndex, linked};
+use crate::index::NodeIndex;
 use crate::tables::Tables;
 use crate::{bins, chain};
 
@@ -17,8 +17,8 @@ pub(crate) fn with_before<NI: NodeIndex>(
     size: u32,
     count: &mut Accesses,
 ) -> u32 {
-    if let Some(previous) = linked(tables.before(name, count)) {
-        if !tables.used(previous, count) {
+    if let Some(previous) = chain::before(tables, last, *spare_count, name, count) {
+        if !chain::is_used(tables, last, *spare_count, previous, count) {
             let more = chain::size(tables, last, *spare_count, previous, count);
             bins::remove(tables, top_mask, previous, more, count);
             chain::join_before(
@@ -46,8 +46,8 @@ pub(crate) fn with_after<NI: NodeIndex>(
     size: u32,
     count: &mut Accesses,
 ) -> u32 {
-    if let Some(following) = linked(tables.after(name, count)) {
-        if !tables.used(following, count) {
+    if let Some(following) = chain::after(tables, *last, *spare_count, name, count) {
+        if !chain::is_used(tables, *last, *spare_count, following, count) {
             let more = chain::size(tables, *last, *spare_count, following, count);
             bins::remove(tables, top_mask, following, more, count);
             chain::join_after(

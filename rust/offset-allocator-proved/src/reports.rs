@@ -14,6 +14,18 @@ pub struct StorageReport {
     pub largest_free_region: u32,
 }
 
+/// Why a request is refused.
+#[derive(Clone, Copy, Debug, PartialEq)]
+pub enum Refusal {
+    /// No further block may exist, or for an aligned request no two. Take another space, or free ranges first.
+    Nodes,
+    /// The request needs more units than all free blocks have together. Extend the space, or free ranges first.
+    Space,
+    /// The free units would do, but no free block is of a class whose blocks are all large enough. Free or move
+    /// ranges beside free blocks first.
+    Fragmented,
+}
+
 /// One size class in the full report.
 #[derive(Clone, Copy, Debug)]
 pub struct StorageReportFullRegion {

@@ -24,6 +24,22 @@ pub(crate) struct Tables<NI: NodeIndex> {
     spare: Vec<NI>,
 }
 
+// Asks for the bytes of all tables at once, and gives them back. A system that promises more memory than it has would
+// grant each table, and end the program when they are filled; this one request it refuses. A link is taken to have
+// the bytes that its numbers need, as those of `u16` and `u32` have.
+fn probe<NI: NodeIndex>(alloc: Global, nodes: u32) -> Result<(), AllocError> {
+    let link: usize = if NI::MAX < 256 {
+        1
+    } else if NI::MAX < 65536 {
+        2
+    } else {
+        4
+    };
+    let node = 4 + 4 + 1 + 5 * link;
+    let _all: Vec<u8> = Vec::with_capacity(alloc, node * nodes as usize + 256 * link)?;
+    Ok(())
+}
+
 // An empty table, with room for `length` values.
 fn reserved<T>(alloc: Global, length: usize) -> Result<Vec<T>, AllocError> {
     Vec::with_capacity(alloc, length)
@@ -71,6 +87,7 @@ impl<NI: NodeIndex> Tables<NI> {
     /// Tables for `len` nodes, none of them used. Every table has its room before any is filled.
     pub(crate) fn with_len(alloc: Global, len: u32) -> Result<Self, AllocError> {
         let nodes = len as usize;
+        probe::<NI>(alloc, len)?;
         let offset = reserved(alloc, nodes)?;
         let size = reserved(alloc, nodes)?;
         let used = reserved(alloc, nodes)?;

@@ -20,8 +20,10 @@ fn taken<NI: NodeIndex>(nodes: u32) -> u64 {
 fn bytes_of_a_node() {
     // the thread's own memory is there before
     taken::<u32>(100);
-    // each table is large enough to be mapped by itself: at most a page, and a header, more than its cells
-    let nodes = 1_000_000;
+    // each table is large enough to be mapped by itself: at most a page, and a header, more than its cells. And all
+    // together are more than the 32 MiB up to which the C library, once such a piece is given back, serves the next
+    // ones from its heap.
+    let nodes = 2_000_000;
     let found = taken::<u32>(nodes as u32);
     assert!((29 * nodes..29 * nodes + 9 * 8192).contains(&found), "{found}");
     assert!(std::mem::size_of::<Allocator<u32>>() <= 9 * 24 + 4 * 8 + 6 * 4);

@@ -27,11 +27,12 @@ pub enum Answer {
     Refused,
     /// The units of the grant are free again.
     Freed,
-    /// No grant of that number stands, and the space is as it was.
+    /// No grant of that number is live, and the space is as it was.
     Gone,
     /// The units of a grant.
     Size(u32),
-    /// What is free in all, and the greatest class value of a free block; both 0 where no further block may stand.
+    /// The free units in all, and the greatest class value of a free block; both 0 where the space has as many blocks
+    /// as its limit allows.
     Report(StorageReport),
     /// The classes that have a free block, rising.
     Full(Vec<FullRow>),
@@ -80,7 +81,7 @@ fn put_answer(out: &mut String, answer: &Answer) -> Result<(), AllocError> {
     }
 }
 
-/// The text of the answers: a line for each, and for a full report a line for each row besides.
+/// The text of the answers: a line for each, and after that of a full report a line for each row.
 pub fn answer_text(alloc: Global, answers: &[Answer]) -> Result<String, AllocError> {
     let mut out = String::new(alloc);
     for answer in answers {

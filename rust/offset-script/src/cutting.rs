@@ -3,13 +3,13 @@
 //! Words and numbers.
 
 /// The most digits that a number has.
-const MOST_DIGITS: usize = 10;
+pub const MOST_DIGITS: usize = 10;
 
 fn place_of(text: &[u8], at: u8) -> Option<usize> {
     text.iter().position(|b| *b == at)
 }
 
-/// The part before the first such byte, and what stands after that byte.
+/// The part before the first such byte, and what comes after that byte.
 pub fn cut(text: &[u8], at: u8) -> (&[u8], Option<&[u8]>) {
     match place_of(text, at) {
         None => (text, None),
@@ -30,4 +30,17 @@ pub fn number(word: &[u8]) -> Option<u32> {
         n = n * 10 + u64::from(*b - b'0');
     }
     u32::try_from(n).ok()
+}
+
+/// The digits of a number, without leading zeros.
+pub fn digits(n: u32, room: &mut [u8; MOST_DIGITS]) -> &[u8] {
+    let mut rest = n;
+    let mut at = MOST_DIGITS - 1;
+    while rest >= 10 {
+        room[at] = b'0' + (rest % 10) as u8;
+        rest /= 10;
+        at -= 1;
+    }
+    room[at] = b'0' + rest as u8;
+    &room[at..]
 }

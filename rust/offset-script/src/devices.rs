@@ -6,14 +6,14 @@ use std::io::{Read, Write};
 
 /// Bytes that come in pieces.
 pub trait Source {
-    /// Takes bytes from the front of what is left to the front of `buf`, and answers how many:
+    /// Takes bytes from the front of what is left to the front of `buf`, and returns how many:
     /// none only at the end of the bytes, or for an empty `buf`. `None` is a failure, which takes nothing.
     fn pull(&mut self, buf: &mut [u8]) -> Option<usize>;
 }
 
 /// What takes bytes in pieces.
 pub trait Sink {
-    /// Appends bytes from the front of `bytes`, at least one, and answers how many.
+    /// Appends bytes from the front of `bytes`, at least one, and returns how many.
     /// `None` is a failure, which appends nothing.
     fn push(&mut self, bytes: &[u8]) -> Option<usize>;
 
@@ -60,20 +60,26 @@ impl<R: Read> Source for FromRead<R> {
 pub struct IntoWrite<W: Write> {
     inner: W,
     failed: bool,
+    flushed: bool,
 }
 
 impl<W: Write> IntoWrite<W> {
-    /// A sink over a writer. It has not failed.
+    /// A sink over a writer. It has not failed, and is not flushed.
     pub fn new(inner: W) -> Self {
         IntoWrite {
             inner,
             failed: false,
+            flushed: false,
         }
     }
 
     /// The writer, as the writes have left it.
     pub fn into_inner(self) -> W {
-        let IntoWrite { inner, failed: _ } = self;
+        let IntoWrite {
+            inner,
+            failed: _,
+            flushed: _,
+        } = self;
         inner
     }
 }
@@ -87,15 +93,23 @@ impl<W: Write> Sink for IntoWrite<W> {
                 self.failed = true;
                 None
             }
-            Ok(n) => Some(n),
+            Ok(n) => {
+                self.flushed = false;
+                Some(n)
+            }
         }
     }
 
     fn flush(&mut self) -> bool {
-        let flushed = self.inner.flush().is_ok();
-        if !flushed {
-            self.failed = true;
+        match self.inner.flush() {
+            Ok(()) => {
+                self.flushed = true;
+                true
+            }
+            Err(_) => {
+                self.failed = true;
+                false
+            }
         }
-        flushed
     }
 }

@@ -10,7 +10,7 @@ use core::fmt;
 pub enum ScriptFault {
     /// The text has more than 1,048,576 bytes.
     TooLong,
-    /// The first line that says something is no header, or there is no such line.
+    /// The first line that is neither empty nor a comment is no header, or there is no such line.
     BadHeader(u32),
     /// The header's node limit is below 2, or above what its index width admits.
     BadLimit(u32),
@@ -29,7 +29,7 @@ impl From<AllocError> for ScriptFault {
 /// Why a run gave up.
 #[derive(Clone, Copy, PartialEq, Debug)]
 pub enum RunFault {
-    /// The text that was read is no script. `run` gives a want of memory as `Memory`.
+    /// The text that was read is no script. Where memory was refused, `run` returns `Memory` and not `Script(Memory)`.
     Script(ScriptFault),
     /// A growth was refused.
     Memory,
@@ -48,22 +48,26 @@ impl RunFault {
             RunFault::Read | RunFault::Write => 4,
         }
     }
+
+    /// The line of the text that is at fault, where one is, and what is wrong.
+    pub fn parts(&self) -> (Option<u32>, &'static str) {
+        match self {
+            RunFault::Script(ScriptFault::TooLong) => (None, "too long"),
+            RunFault::Script(ScriptFault::BadHeader(line)) => (Some(*line), "bad header"),
+            RunFault::Script(ScriptFault::BadLimit(line)) => (Some(*line), "bad limit"),
+            RunFault::Script(ScriptFault::BadCommand(line)) => (Some(*line), "bad command"),
+            RunFault::Script(ScriptFault::Memory) | RunFault::Memory => (None, "out of memory"),
+            RunFault::Read => (None, "read failed"),
+            RunFault::Write => (None, "write failed"),
+        }
+    }
 }
 
 impl fmt::Display for RunFault {
     fn fmt(&self, f: &mut fmt::Formatter<'_>) -> fmt::Result {
-        match self {
-            RunFault::Script(ScriptFault::TooLong) => write!(f, "too long"),
-            RunFault::Script(ScriptFault::BadHeader(line)) => write!(f, "line {line}: bad header"),
-            RunFault::Script(ScriptFault::BadLimit(line)) => write!(f, "line {line}: bad limit"),
-            RunFault::Script(ScriptFault::BadCommand(line)) => {
-                write!(f, "line {line}: bad command")
-            }
-            RunFault::Script(ScriptFault::Memory) | RunFault::Memory => {
-                write!(f, "out of memory")
-            }
-            RunFault::Read => write!(f, "read failed"),
-            RunFault::Write => write!(f, "write failed"),
+        match self.parts() {
+            (None, words) => write!(f, "{words}"),
+            (Some(line), words) => write!(f, "line {line}: {words}"),
         }
     }
 }

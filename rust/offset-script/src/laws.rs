@@ -1,6 +1,6 @@
 // Printed by rust/erase from crates/offset_script/src/laws.rt: change it there.
 
-//! Laws on what `parse` reads and on what `play` answers. The functions do nothing.
+//! Laws on what `parse` reads and on the answers of `play`. The functions do nothing.
 
 /// A line means a command exactly where it is a spelling of it.
 pub fn one_spelling() {}
@@ -8,16 +8,17 @@ pub fn one_spelling() {}
 /// A line means a header, in form, exactly where it is a spelling of it.
 pub fn one_header_spelling() {}
 
-/// A space without live blocks answers like a fresh one of its size.
+/// A space without live blocks continues as a fresh one of its size.
 pub fn an_empty_space_continues_as_fresh() {}
 
-/// A fresh space that is extended answers like a fresh one of the greater size.
+/// A fresh space that is extended continues as a fresh one of the greater size.
 pub fn an_extended_space_is_larger() {}
 
 /// A row of releases leaves the same space in any order.
 pub fn releases_commute() {}
 
-/// Grants that are released in the reverse order, with whatever is granted and released between, leave no trace.
+/// A nest leaves no trace: each of its grants is released in it, the last first, what lies between a grant and its
+/// release is a nest too, no other grant is released, and nothing is reset or extended.
 pub fn a_nest_leaves_no_trace() {}
 
 /// After any commands, live and free units add up to the size, with what extensions added.
@@ -26,5 +27,5 @@ pub fn sizes_add_up() {}
 /// After any commands, at most `limit - 2` grants are live.
 pub fn few_are_live() {}
 
-/// Where `limit - 1` blocks stand, every request is refused, and the report tells 0 and 0.
+/// A space of `limit - 1` blocks refuses every request, and its report is 0 and 0.
 pub fn a_full_space_refuses() {}

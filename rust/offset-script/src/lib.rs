@@ -15,14 +15,17 @@ mod faults;
 pub mod laws;
 mod lines;
 mod playing;
+mod program;
 mod reading;
 mod running;
 mod scripts;
+mod sending;
 
 pub use answers::{Answer, FullRow};
 pub use devices::{FromRead, IntoWrite, Sink, Source};
 pub use faults::{RunFault, ScriptFault};
 pub use playing::play;
+pub use program::run_program;
 pub use reading::parse;
 pub use running::run;
 pub use scripts::{Command, IndexWidth, Script};

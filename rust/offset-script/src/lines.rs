@@ -1,6 +1,6 @@
 // Printed by rust/erase from crates/offset_script/src/lines.rt: change it there.
 
-//! The lines of a text that say something.
+//! The lines of a text that are neither empty nor comments.
 
 use crate::cutting::cut;
 
@@ -42,7 +42,7 @@ impl<'a> Lines<'a> {
         (number, line)
     }
 
-    /// The next line that says something, and its number.
+    /// The next line that is neither empty nor a comment, and its number.
     pub fn next_line(&mut self) -> Option<(u32, &'a [u8])> {
         while !self.rest.is_empty() {
             let (number, line) = self.take_line();

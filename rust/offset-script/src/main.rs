@@ -2,18 +2,13 @@
 
 #![forbid(unsafe_code)]
 
-use offset_script::{run, FromRead, Global, IntoWrite};
-use std::io::{stdin, stdout, Write};
+use offset_script::{run_program, FromRead, Global, IntoWrite};
+use std::io::{stderr, stdin, stdout};
 use std::process::ExitCode;
 
 fn main() -> ExitCode {
     let mut input = FromRead::new(stdin().lock());
     let mut output = IntoWrite::new(stdout().lock());
-    match run(Global, &mut input, &mut output) {
-        Ok(()) => ExitCode::SUCCESS,
-        Err(fault) => {
-            let _ = writeln!(std::io::stderr(), "{fault}");
-            ExitCode::from(fault.status())
-        }
-    }
+    let mut errors = IntoWrite::new(stderr().lock());
+    ExitCode::from(run_program(Global, &mut input, &mut output, &mut errors))
 }

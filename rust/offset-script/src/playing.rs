@@ -11,7 +11,7 @@ use crate::memory::{AllocError, Global};
 /// A space, with the handles of the grants that were made of it.
 struct Player<NI: NodeIndex> {
     space: Allocator<NI>,
-    // The handle of grant k stands at k - 1, while the grant does.
+    // The handle of grant k is at k - 1 while the grant is live.
     handles: Vec<Option<Allocation<NI>>>,
     // So many of the first handles were swept by resets.
     swept: usize,
@@ -27,7 +27,7 @@ impl<NI: NodeIndex> Player<NI> {
         })
     }
 
-    // The handle of the grant of this number, while the grant stands.
+    // The handle of the grant of this number, while it is live.
     fn handle(&self, number: u32) -> Option<Allocation<NI>> {
         if number == 0 {
             return None;
@@ -95,7 +95,7 @@ impl<NI: NodeIndex> Player<NI> {
         Ok(Answer::Full(rows))
     }
 
-    // No grant stands any more, and the next one has the next number.
+    // No grant is live any more, and the next one has the next number.
     fn reset(&mut self) -> Answer {
         self.space.reset();
         for i in self.swept..self.handles.len() {

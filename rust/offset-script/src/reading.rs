@@ -109,10 +109,10 @@ impl Header {
 
 /// The script that a text is, or the fault of its first faulty line.
 ///
-/// A text of more than 1,048,576 bytes is `TooLong`. Lines end with LF and are counted from 1; empty lines
-/// and those that begin with `#` say nothing. The first other line has to be a header, `BadHeader` where it
-/// is not in form, or where there is none, and `BadLimit` where its limit is not admitted. Each later one has
-/// to be a command, and is `BadCommand` else. `Memory` comes only where a growth was refused.
+/// A text of more than 1,048,576 bytes is `TooLong`. Lines end with LF and are counted from 1; empty lines and those
+/// that begin with `#` are skipped. The first other line has to be a header: `BadHeader` where it is not in form, or
+/// where there is none, and `BadLimit` where its limit is not admitted. Each later one has to be a command, or is
+/// `BadCommand`. `Memory` is returned only where a growth was refused.
 pub fn parse(alloc: Global, text: &[u8]) -> Result<Script, ScriptFault> {
     if text.len() > MAX_TEXT {
         return Err(ScriptFault::TooLong);

@@ -9,6 +9,7 @@ use crate::faults::RunFault;
 use crate::playing::play;
 use crate::reading::{MAX_TEXT, parse};
 use crate::scripts::{IndexWidth, Script};
+use crate::sending::send;
 use crate::memory::{AllocError, Global};
 
 /// How many bytes are asked for at once.
@@ -29,19 +30,6 @@ fn read_text<S: Source>(alloc: Global, input: &mut S) -> Result<Vec<u8>, RunFaul
     Ok(text)
 }
 
-/// Sends all bytes, and then flushes, also where there are none. It stops at the first failure, and tries nothing
-/// again.
-fn send<K: Sink>(output: &mut K, text: &[u8]) -> bool {
-    let mut rest = text;
-    while !rest.is_empty() {
-        match output.push(rest) {
-            None => return false,
-            Some(n) => rest = &rest[n..],
-        }
-    }
-    output.flush()
-}
-
 // The answers to a script, by an allocator of its index width.
 fn answers(alloc: Global, script: &Script) -> Result<Vec<Answer>, AllocError> {
     match script.index {
@@ -52,9 +40,9 @@ fn answers(alloc: Global, script: &Script) -> Result<Vec<Answer>, AllocError> {
 
 /// Reads a script to its end, plays it, writes the text of its answers, and then flushes.
 ///
-/// Nothing is written unless the whole text is a script. Reading stops behind 1,048,577 bytes, which are too
-/// many. `Read` comes just where the source failed in this call, and `Write` just where the sink did: then a
-/// beginning of the text stands written. No failed call is tried again. A want of memory is `Memory`.
+/// Nothing is written unless the whole text is a script. Reading stops after 1,048,577 bytes, which are too many.
+/// `Read` is returned exactly where the source failed in this call, and `Write` exactly where the sink did: then a
+/// beginning of the text is written. No failed call is tried again. Where memory was refused, the fault is `Memory`.
 pub fn run<S: Source, K: Sink>(alloc: Global, input: &mut S, output: &mut K) -> Result<(), RunFault> {
     let text = read_text(alloc, input)?;
     let script = parse(alloc, &text)?;

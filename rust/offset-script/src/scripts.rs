@@ -11,11 +11,12 @@ pub enum Command {
     Alloc(u32),
     /// Release the grant of this number.
     Free(u32),
-    /// Tell the units of the grant of this number.
+    /// Report the units of the grant of this number.
     Size(u32),
-    /// Tell what is free in all, and the greatest class value of a free block; both 0 where no further block may stand.
+    /// Report the free units in all, and the greatest class value of a free block; both 0 where the space has as many
+    /// blocks as its limit allows.
     Report,
-    /// Tell the classes that have a free block.
+    /// Report the classes that have a free block.
     Full,
     /// Make the whole space free.
     Reset,
@@ -34,7 +35,7 @@ pub enum IndexWidth {
     Bits32,
 }
 
-/// The first line of a script that says something.
+/// The first line of a script that is neither empty nor a comment.
 #[derive(Clone, Copy, PartialEq, Debug)]
 pub struct Header {
     /// The units of the space.

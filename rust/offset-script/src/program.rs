@@ -1,0 +1,28 @@
+// Printed by rust/erase from crates/offset_script/src/program.rt: change it there.
+
+//! What a program does with a script.
+
+use crate::devices::{Sink, Source};
+use crate::running::run;
+use crate::sending::send_fault;
+use crate::memory::Global;
+
+/// Runs a script, and where that fails, writes the line of the fault to `errors`. Returns the status to exit with.
+///
+/// The status is 0 exactly where the run is `Ok`, 2 where the text is no script, 3 where memory was refused, and 4
+/// where the source or the sink failed. A run that is `Ok` leaves `errors` as it was. A failure of `errors` changes no
+/// status, and its line takes no memory.
+pub fn run_program<S: Source, K: Sink, E: Sink>(
+    alloc: Global,
+    input: &mut S,
+    output: &mut K,
+    errors: &mut E,
+) -> u8 {
+    match run(alloc, input, output) {
+        Ok(()) => 0,
+        Err(fault) => {
+            let _is_sent = send_fault(errors, fault);
+            fault.status()
+        }
+    }
+}
