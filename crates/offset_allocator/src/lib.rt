@@ -1,5 +1,5 @@
-//! Ranges of one contiguous space of `size` units, handed out and taken back in constant work. The space itself is
-//! never touched.
+//! Ranges of one contiguous space of `size` units, handed out and taken back with a bounded number of accesses to table
+//! cells. The space itself is never touched.
 //!
 //! ```
 //! let mut vertices = Allocator::<u32>::new(alloc, 1 << 20)?;

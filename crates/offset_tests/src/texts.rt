@@ -1,7 +1,9 @@
 //! The text of each type that has `Debug`.
 
+use crate::steps::Limit::Limited;
+use crate::steps::made;
 use offset_allocator::{
-    Allocator, NodeIndex, NonMaxU16, NonMaxU32, StorageReport, StorageReportFull,
+    Allocator, NodeIndex, NonMaxU16, NonMaxU32, Refusal, StorageReport, StorageReportFull,
     StorageReportFullRegion,
 };
 use offset_test_base::tiny::Tiny;
@@ -100,4 +102,46 @@ fn writes_names_as_numbers(rt: HostRuntime) -> Result<(), Fail> {
         expect_text(&rt, rt.alloc(), &NonMaxU32::new(value), wanted)?;
     }
     Ok(())
+}
+
+// A handle has its offset and its name, which is one of three.
+fn expect_handles<NI: NodeIndex>(rt: &impl Abort, alloc: Global) -> Result<(), Fail> {
+    let Some(mut allocator) = made::<NI>(alloc, 17, Limited(4))? else {
+        assert!(rt; false);
+        return Ok(());
+    };
+    let (Some(first), Some(second)) = (allocator.allocate(5), allocator.allocate(6)) else {
+        assert!(rt; false);
+        return Ok(());
+    };
+    let text = format!(in alloc; "{second:?}")?;
+    let mut found = 0;
+    for name in 0..4u32 {
+        let wanted = format!(in alloc; "Allocation {{ offset: 5, metadata: {name} }}")?;
+        if text.as_str() == wanted.as_str() {
+            found += 1;
+        }
+    }
+    assert_eq!(rt; found, 1u32);
+    let mut moved = first;
+    assert!(rt; first == moved);
+    assert!(rt; first != second);
+    moved.offset = 5;
+    assert!(rt; first != moved);
+    assert!(rt; second != moved);
+    Ok(())
+}
+
+#[test]
+fn handles_have_a_text_and_are_compared(rt: HostRuntime) -> Result<(), Fail> {
+    expect_handles::<u32>(&rt, rt.alloc())?;
+    expect_handles::<u16>(&rt, rt.alloc())?;
+    expect_handles::<Tiny>(&rt, rt.alloc())
+}
+
+#[test]
+fn names_reasons(rt: HostRuntime) -> Result<(), Fail> {
+    expect_text(&rt, rt.alloc(), &Refusal::Nodes, "Nodes")?;
+    expect_text(&rt, rt.alloc(), &Refusal::Space, "Space")?;
+    expect_text(&rt, rt.alloc(), &Refusal::Fragmented, "Fragmented")
 }
