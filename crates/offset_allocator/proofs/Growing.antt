@@ -1,8 +1,8 @@
 -- What it leaves to add units to the last block.
-use Rattle.std.proofs.Common.{◌≡◌, ◌≢◌, ℕ, ◌+◌, ◌<◌, ◌≤◌, ◌^◌, None, Some, List, [], ◌∷◌, ◌++◌, length, refl, sym, ◌∙◌, ap, arith, length-append, subst}
+use Rattle.std.proofs.Common.{◌≡◌, ◌≢◌, ℕ, zero, suc, Option, ◌+◌, ◌<◌, ◌≤◌, ◌^◌, None, Some, List, [], ◌∷◌, ◌++◌, length, refl, sym, ◌∙◌, ap, arith, length-append, subst}
 use Rattle.offset_allocator.specs.Named.{Block, units, named}
 use Rattle.offset_allocator.specs.Cells.{Room, Node, node, put}
-use Rattle.offset_allocator.specs.Space.{last_or, IsRow, IsChain, IsSpace, Stands, blocks}
+use Rattle.offset_allocator.specs.Space.{last_or, IsRow, IsChain, IsSpace, Stands, blocks, walk, block_at}
 use Rattle.offset_allocator.specs.Parts.{grow_last}
 use Rattle.offset_allocator.proofs.Nodes.{node-put, node-put_other, length-put, spare-put}
 use Rattle.offset_allocator.proofs.Rows.{one-eq, times-append, units-append, last_or-append, IsRow-front, IsRow-back, IsRow-append, IsRow-kept}
@@ -79,9 +79,17 @@ grown-space c d last count more h small e =
     let done = grown-chain c d (length c.nodes) last count more s.front s.block (subst P s.is h) (rw s.name s.below) (subst U s.is small) wrote in
     rw (s.is, grow_last-at more s.front s.block) done
 
+-- a walk keeps the units that it met already
+walk_units : (c : Room) (f : ℕ) (link : Option ℕ) (rest : List Block) → units rest ≤ units (walk c f link rest)
+walk_units c zero link rest = omega arith
+walk_units c (suc f) None rest = omega arith
+walk_units c (suc f) (Some k) rest = omega (arith, walk_units c f (node c k).before (block_at c k ∷ rest))
+
 -- the size of a last block leaves room for more units
-pub last_small : (c : Room) (last count more : ℕ) → IsSpace c last count → units (blocks c last) + more < 2 ^ 32 → (node c last).size + more < 2 ^ 32
-last_small c last count more h small =
-    let s = last_is c last count h in
-    let size : (node c last).size ≡ s.block.size = ap (λ (v : Node). v.size) s.at in
-    omega (arith, size, ap units s.is, units-append s.front (s.block ∷ []))
+pub last_small : (c : Room) (last more : ℕ) → last < length c.nodes → units (blocks c last) + more < 2 ^ 32 → (node c last).size + more < 2 ^ 32
+unfolding blocks
+last_small c last more below small = go (length c.nodes) below small
+  where
+    go : (m : ℕ) → last < m → units (walk c m (Some last) []) + more < 2 ^ 32 → (node c last).size + more < 2 ^ 32
+    go zero l s = omega arith
+    go (suc f) l s = omega (arith, walk_units c f (node c last).before (block_at c last ∷ []))

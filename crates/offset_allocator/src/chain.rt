@@ -1,6 +1,6 @@
 //! The blocks of the space, linked in space order, and the stack of unused names.
 
-ghost use Rattle.std.specs.Prelude.{◌≡◌, ◌+◌, ◌-◌, ◌<◌, ◌≤◌, ◌^◌, [], ◌∷◌, length, MatchOption, IfSome, false, Some, None};
+ghost use Rattle.std.specs.Prelude.{ℕ, ◌≡◌, ◌+◌, ◌-◌, ◌<◌, ◌≤◌, ◌^◌, [], ◌∷◌, length, MatchOption, IfSome, false, Some, None};
 ghost use Rattle.offset_allocator.specs.Named.{free_block, is_used_at, named, place_of, units};
 ghost use Rattle.offset_allocator.specs.Cells.{AreEmpty, node, put, link_of};
 ghost use Rattle.offset_allocator.specs.Space.{IsSpace, Stands, blocks, split_block, join_block, give_block, mark_block, offset_in, size_in, name_before, name_after};
@@ -90,48 +90,27 @@ fn point_on<NI: NodeIndex>(tables: &mut Tables<NI>, link: NI, name: u32, count: 
 }
 
 /// The offset of a block.
-pub(crate) fn offset<NI: NodeIndex>(
-    tables: &Tables<NI>,
-    last: u32,
-    spare_count: u32,
-    name: u32,
-    count: &mut Accesses,
-) -> u32
-    requires space { IsSpace tables.now.room last spare_count }
-    requires standing { Stands name (blocks tables.now.room last) }
-    ensures offset { result ≡ offset_in name (blocks tables.now.room last) }
+pub(crate) fn offset<NI: NodeIndex>(tables: &Tables<NI>, name: u32, count: &mut Accesses) -> u32
+    requires { name < length tables.now.room.nodes }
+    ensures offset { (last spare : ℕ) → IsSpace tables.now.room last spare → Stands name (blocks tables.now.room last) → result ≡ offset_in name (blocks tables.now.room last) }
     ensures count { count.new ≡ count.old + 1 }
 {
     tables.offset(name, count)
 }
 
 /// The size of a block.
-pub(crate) fn size<NI: NodeIndex>(
-    tables: &Tables<NI>,
-    last: u32,
-    spare_count: u32,
-    name: u32,
-    count: &mut Accesses,
-) -> u32
-    requires space { IsSpace tables.now.room last spare_count }
-    requires standing { Stands name (blocks tables.now.room last) }
-    ensures size { result ≡ size_in name (blocks tables.now.room last) }
+pub(crate) fn size<NI: NodeIndex>(tables: &Tables<NI>, name: u32, count: &mut Accesses) -> u32
+    requires { name < length tables.now.room.nodes }
+    ensures size { (last spare : ℕ) → IsSpace tables.now.room last spare → Stands name (blocks tables.now.room last) → result ≡ size_in name (blocks tables.now.room last) }
     ensures count { count.new ≡ count.old + 1 }
 {
     tables.size(name, count)
 }
 
 /// Whether a name is that of a used block.
-pub(crate) fn is_used<NI: NodeIndex>(
-    tables: &Tables<NI>,
-    last: u32,
-    spare_count: u32,
-    name: u32,
-    count: &mut Accesses,
-) -> bool
-    requires space { IsSpace tables.now.room last spare_count }
-    requires below { name < length tables.now.room.nodes }
-    ensures used { result ≡ is_used_at (place_of name (blocks tables.now.room last)) }
+pub(crate) fn is_used<NI: NodeIndex>(tables: &Tables<NI>, name: u32, count: &mut Accesses) -> bool
+    requires { name < length tables.now.room.nodes }
+    ensures used { (last spare : ℕ) → IsSpace tables.now.room last spare → result ≡ is_used_at (place_of name (blocks tables.now.room last)) }
     ensures count { count.new ≡ count.old + 1 }
 {
     tables.used(name, count)
@@ -140,14 +119,11 @@ pub(crate) fn is_used<NI: NodeIndex>(
 /// The name of the block directly before a block, if one is.
 pub(crate) fn before<NI: NodeIndex>(
     tables: &Tables<NI>,
-    last: u32,
-    spare_count: u32,
     name: u32,
     count: &mut Accesses,
 ) -> Option<u32>
-    requires space { IsSpace tables.now.room last spare_count }
-    requires standing { Stands name (blocks tables.now.room last) }
-    ensures before { result ≡ name_before None name (blocks tables.now.room last) }
+    requires { name < length tables.now.room.nodes }
+    ensures before { (last spare : ℕ) → IsSpace tables.now.room last spare → Stands name (blocks tables.now.room last) → result ≡ name_before None name (blocks tables.now.room last) }
     ensures count { count.new ≡ count.old + 1 }
 {
     linked(tables.before(name, count))
@@ -156,14 +132,11 @@ pub(crate) fn before<NI: NodeIndex>(
 /// The name of the block directly after a block, if one is.
 pub(crate) fn after<NI: NodeIndex>(
     tables: &Tables<NI>,
-    last: u32,
-    spare_count: u32,
     name: u32,
     count: &mut Accesses,
 ) -> Option<u32>
-    requires space { IsSpace tables.now.room last spare_count }
-    requires standing { Stands name (blocks tables.now.room last) }
-    ensures after { result ≡ name_after name (blocks tables.now.room last) }
+    requires { name < length tables.now.room.nodes }
+    ensures after { (last spare : ℕ) → IsSpace tables.now.room last spare → Stands name (blocks tables.now.room last) → result ≡ name_after name (blocks tables.now.room last) }
     ensures count { count.new ≡ count.old + 1 }
 {
     linked(tables.after(name, count))
@@ -285,16 +258,13 @@ pub(crate) fn join_before<NI: NodeIndex>(
 /// Makes a block used or free.
 pub(crate) fn mark<NI: NodeIndex>(
     tables: &mut Tables<NI>,
-    last: u32,
-    spare_count: u32,
     name: u32,
     used: bool,
     count: &mut Accesses,
 )
-    requires space { IsSpace tables.old.room last spare_count }
-    requires standing { Stands name (blocks tables.old.room last) }
-    ensures space { IsSpace tables.new.room last spare_count }
-    ensures blocks { blocks tables.new.room last ≡ mark_block name used (blocks tables.old.room last) }
+    requires { name < length tables.old.room.nodes }
+    ensures space { (last spare : ℕ) → IsSpace tables.old.room last spare → Stands name (blocks tables.old.room last) → IsSpace tables.new.room last spare }
+    ensures blocks { (last spare : ℕ) → IsSpace tables.old.room last spare → Stands name (blocks tables.old.room last) → blocks tables.new.room last ≡ mark_block name used (blocks tables.old.room last) }
     ensures links { tables.new.links ≡ tables.old.links }
     ensures limit { length tables.new.room.nodes ≡ length tables.old.room.nodes }
     ensures count { count.new ≡ count.old + 1 }
@@ -344,14 +314,13 @@ pub(crate) fn split_before<NI: NodeIndex>(
 pub(crate) fn grow<NI: NodeIndex>(
     tables: &mut Tables<NI>,
     last: u32,
-    spare_count: u32,
     more: u32,
     count: &mut Accesses,
 )
-    requires space { IsSpace tables.old.room last spare_count }
+    requires below { last < length tables.old.room.nodes }
     requires fits { units (blocks tables.old.room last) + more < 2 ^ 32 }
-    ensures space { IsSpace tables.new.room last spare_count }
-    ensures blocks { blocks tables.new.room last ≡ grow_last more (blocks tables.old.room last) }
+    ensures space { (spare : ℕ) → IsSpace tables.old.room last spare → IsSpace tables.new.room last spare }
+    ensures blocks { (spare : ℕ) → IsSpace tables.old.room last spare → blocks tables.new.room last ≡ grow_last more (blocks tables.old.room last) }
     ensures links { tables.new.links ≡ tables.old.links }
     ensures limit { length tables.new.room.nodes ≡ length tables.old.room.nodes }
     ensures count { count.new ≡ count.old + 2 }

@@ -210,28 +210,9 @@ impl<NI: NodeIndex> Allocator<NI> {
             class,
             &mut self.accesses,
         );
-        chain::mark(
-            &mut self.tables,
-            self.last,
-            self.spare_count,
-            name,
-            true,
-            &mut self.accesses,
-        );
-        let offset = chain::offset(
-            &self.tables,
-            self.last,
-            self.spare_count,
-            name,
-            &mut self.accesses,
-        );
-        let whole = chain::size(
-            &self.tables,
-            self.last,
-            self.spare_count,
-            name,
-            &mut self.accesses,
-        );
+        chain::mark(&mut self.tables, name, true, &mut self.accesses);
+        let offset = chain::offset(&self.tables, name, &mut self.accesses);
+        let whole = chain::size(&self.tables, name, &mut self.accesses);
         self.free_total -= size;
         if whole > size {
             let rest = chain::split(
@@ -304,13 +285,7 @@ impl<NI: NodeIndex> Allocator<NI> {
         ensures count { self.new.accesses ≤ self.old.accesses + 128 }
     {
         let name = index::number(NI::of_nonmax(allocation.name()));
-        let size = chain::size(
-            &self.tables,
-            self.last,
-            self.spare_count,
-            name,
-            &mut self.accesses,
-        );
+        let size = chain::size(&self.tables, name, &mut self.accesses);
         self.free_total += size;
         let size = merge::with_before(
             &mut self.tables,
@@ -330,14 +305,7 @@ impl<NI: NodeIndex> Allocator<NI> {
             size,
             &mut self.accesses,
         );
-        chain::mark(
-            &mut self.tables,
-            self.last,
-            self.spare_count,
-            name,
-            false,
-            &mut self.accesses,
-        );
+        chain::mark(&mut self.tables, name, false, &mut self.accesses);
         self.tables.shape();
         bins::put_first(
             &mut self.tables,
@@ -356,7 +324,7 @@ impl<NI: NodeIndex> Allocator<NI> {
         ensures count { count.new ≤ count.old + 1 }
     {
         if name < self.max_allocs {
-            chain::is_used(&self.tables, self.last, self.spare_count, name, count)
+            chain::is_used(&self.tables, name, count)
         } else {
             false
         }
@@ -394,7 +362,7 @@ impl<NI: NodeIndex> Allocator<NI> {
     {
         let name = index::number::<NI>(NI::of_nonmax(allocation.name()));
         if self.uses(name, count) {
-            chain::size(&self.tables, self.last, self.spare_count, name, count)
+            chain::size(&self.tables, name, count)
         } else {
             0
         }
@@ -530,20 +498,8 @@ impl<NI: NodeIndex> Allocator<NI> {
             class,
             &mut self.accesses,
         );
-        let offset = chain::offset(
-            &self.tables,
-            self.last,
-            self.spare_count,
-            name,
-            &mut self.accesses,
-        );
-        let whole = chain::size(
-            &self.tables,
-            self.last,
-            self.spare_count,
-            name,
-            &mut self.accesses,
-        );
+        let offset = chain::offset(&self.tables, name, &mut self.accesses);
+        let whole = chain::size(&self.tables, name, &mut self.accesses);
         let padding = (align - offset % align) % align;
         parts::carve(
             &mut self.tables,
@@ -613,13 +569,7 @@ impl<NI: NodeIndex> Allocator<NI> {
         ensures grows { self.old.accesses + 10 ≤ self.new.accesses }
         ensures count { self.new.accesses ≤ self.old.accesses + 16 }
     {
-        let whole = chain::size(
-            &self.tables,
-            self.last,
-            self.spare_count,
-            self.last,
-            &mut self.accesses,
-        );
+        let whole = chain::size(&self.tables, self.last, &mut self.accesses);
         bins::remove(
             &mut self.tables,
             &mut self.top_mask,
@@ -627,13 +577,7 @@ impl<NI: NodeIndex> Allocator<NI> {
             whole,
             &mut self.accesses,
         );
-        chain::grow(
-            &mut self.tables,
-            self.last,
-            self.spare_count,
-            more,
-            &mut self.accesses,
-        );
+        chain::grow(&mut self.tables, self.last, more, &mut self.accesses);
         self.tables.shape();
         bins::put_first(
             &mut self.tables,
@@ -657,20 +601,8 @@ impl<NI: NodeIndex> Allocator<NI> {
         ensures count { self.new.accesses ≤ self.old.accesses + 19 }
     {
         let end = self.last;
-        let offset = chain::offset(
-            &self.tables,
-            self.last,
-            self.spare_count,
-            end,
-            &mut self.accesses,
-        );
-        let whole = chain::size(
-            &self.tables,
-            self.last,
-            self.spare_count,
-            end,
-            &mut self.accesses,
-        );
+        let offset = chain::offset(&self.tables, end, &mut self.accesses);
+        let whole = chain::size(&self.tables, end, &mut self.accesses);
         let name = chain::split(
             &mut self.tables,
             &mut self.last,
@@ -681,13 +613,7 @@ impl<NI: NodeIndex> Allocator<NI> {
             whole,
             &mut self.accesses,
         );
-        chain::grow(
-            &mut self.tables,
-            self.last,
-            self.spare_count,
-            more,
-            &mut self.accesses,
-        );
+        chain::grow(&mut self.tables, self.last, more, &mut self.accesses);
         self.tables.shape();
         bins::put_first(
             &mut self.tables,
@@ -720,13 +646,7 @@ impl<NI: NodeIndex> Allocator<NI> {
         if more > u32::MAX - size {
             return false;
         }
-        let used = chain::is_used(
-            &self.tables,
-            self.last,
-            self.spare_count,
-            self.last,
-            &mut self.accesses,
-        );
+        let used = chain::is_used(&self.tables, self.last, &mut self.accesses);
         if !used {
             self.widen(more);
             return true;

@@ -34,9 +34,9 @@ pub(crate) fn with_before<NI: NodeIndex>(
     ensures grows { count.old + 1 ≤ count.new }
     ensures count { count.new ≤ count.old + 17 }
 {
-    if let Some(previous) = chain::before(tables, last, *spare_count, name, count) {
-        if !chain::is_used(tables, last, *spare_count, previous, count) {
-            let more = chain::size(tables, last, *spare_count, previous, count);
+    if let Some(previous) = chain::before(tables, name, count) {
+        if !chain::is_used(tables, previous, count) {
+            let more = chain::size(tables, previous, count);
             bins::remove(tables, top_mask, previous, more, count);
             chain::join_before(
                 tables,
@@ -77,9 +77,9 @@ pub(crate) fn with_after<NI: NodeIndex>(
     ensures grows { count.old + 1 ≤ count.new }
     ensures count { count.new ≤ count.old + 15 }
 {
-    if let Some(following) = chain::after(tables, *last, *spare_count, name, count) {
-        if !chain::is_used(tables, *last, *spare_count, following, count) {
-            let more = chain::size(tables, *last, *spare_count, following, count);
+    if let Some(following) = chain::after(tables, name, count) {
+        if !chain::is_used(tables, following, count) {
+            let more = chain::size(tables, following, count);
             bins::remove(tables, top_mask, following, more, count);
             chain::join_after(
                 tables,

@@ -86,7 +86,7 @@ fn cut_rest<NI: NodeIndex>(
     if left == 0 {
         return name;
     }
-    let offset = chain::offset(tables, *last, *spare_count, name, count);
+    let offset = chain::offset(tables, name, count);
     let rest = chain::split(
         tables,
         last,
@@ -139,7 +139,7 @@ pub(crate) fn carve<NI: NodeIndex>(
     ensures count { count.new ≤ count.old + 35 }
 {
     let front = cut_front(tables, top_mask, *last, spare_count, name, padding, count);
-    chain::mark(tables, *last, *spare_count, name, true, count);
+    chain::mark(tables, name, true, count);
     let rest = cut_rest(tables, top_mask, last, spare_count, name, size, left, count);
     (front, rest)
 }

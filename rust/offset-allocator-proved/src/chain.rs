@@ -57,43 +57,23 @@ fn point_on<NI: NodeIndex>(tables: &mut Tables<NI>, link: NI, name: u32, count: 
 }
 
 /// The offset of a block.
-pub(crate) fn offset<NI: NodeIndex>(
-    tables: &Tables<NI>,
-    last: u32,
-    spare_count: u32,
-    name: u32,
-    count: &mut Accesses,
-) -> u32 {
+pub(crate) fn offset<NI: NodeIndex>(tables: &Tables<NI>, name: u32, count: &mut Accesses) -> u32 {
     tables.offset(name, count)
 }
 
 /// The size of a block.
-pub(crate) fn size<NI: NodeIndex>(
-    tables: &Tables<NI>,
-    last: u32,
-    spare_count: u32,
-    name: u32,
-    count: &mut Accesses,
-) -> u32 {
+pub(crate) fn size<NI: NodeIndex>(tables: &Tables<NI>, name: u32, count: &mut Accesses) -> u32 {
     tables.size(name, count)
 }
 
 /// Whether a name is that of a used block.
-pub(crate) fn is_used<NI: NodeIndex>(
-    tables: &Tables<NI>,
-    last: u32,
-    spare_count: u32,
-    name: u32,
-    count: &mut Accesses,
-) -> bool {
+pub(crate) fn is_used<NI: NodeIndex>(tables: &Tables<NI>, name: u32, count: &mut Accesses) -> bool {
     tables.used(name, count)
 }
 
 /// The name of the block directly before a block, if one is.
 pub(crate) fn before<NI: NodeIndex>(
     tables: &Tables<NI>,
-    last: u32,
-    spare_count: u32,
     name: u32,
     count: &mut Accesses,
 ) -> Option<u32> {
@@ -103,8 +83,6 @@ pub(crate) fn before<NI: NodeIndex>(
 /// The name of the block directly after a block, if one is.
 pub(crate) fn after<NI: NodeIndex>(
     tables: &Tables<NI>,
-    last: u32,
-    spare_count: u32,
     name: u32,
     count: &mut Accesses,
 ) -> Option<u32> {
@@ -187,8 +165,6 @@ pub(crate) fn join_before<NI: NodeIndex>(
 /// Makes a block used or free.
 pub(crate) fn mark<NI: NodeIndex>(
     tables: &mut Tables<NI>,
-    last: u32,
-    spare_count: u32,
     name: u32,
     used: bool,
     count: &mut Accesses,
@@ -224,7 +200,6 @@ pub(crate) fn split_before<NI: NodeIndex>(
 pub(crate) fn grow<NI: NodeIndex>(
     tables: &mut Tables<NI>,
     last: u32,
-    spare_count: u32,
     more: u32,
     count: &mut Accesses,
 ) {

@@ -171,28 +171,9 @@ impl<NI: NodeIndex> Allocator<NI> {
             class,
             &mut self.accesses,
         );
-        chain::mark(
-            &mut self.tables,
-            self.last,
-            self.spare_count,
-            name,
-            true,
-            &mut self.accesses,
-        );
-        let offset = chain::offset(
-            &self.tables,
-            self.last,
-            self.spare_count,
-            name,
-            &mut self.accesses,
-        );
-        let whole = chain::size(
-            &self.tables,
-            self.last,
-            self.spare_count,
-            name,
-            &mut self.accesses,
-        );
+        chain::mark(&mut self.tables, name, true, &mut self.accesses);
+        let offset = chain::offset(&self.tables, name, &mut self.accesses);
+        let whole = chain::size(&self.tables, name, &mut self.accesses);
         self.free_total -= size;
         if whole > size {
             let rest = chain::split(
@@ -244,13 +225,7 @@ impl<NI: NodeIndex> Allocator<NI> {
     pub fn free(&mut self, allocation: Allocation<NI>) {
         assert!(self.is_live(allocation), "the handle must be live");
         let name = index::number(NI::of_nonmax(allocation.name()));
-        let size = chain::size(
-            &self.tables,
-            self.last,
-            self.spare_count,
-            name,
-            &mut self.accesses,
-        );
+        let size = chain::size(&self.tables, name, &mut self.accesses);
         self.free_total += size;
         let size = merge::with_before(
             &mut self.tables,
@@ -270,14 +245,7 @@ impl<NI: NodeIndex> Allocator<NI> {
             size,
             &mut self.accesses,
         );
-        chain::mark(
-            &mut self.tables,
-            self.last,
-            self.spare_count,
-            name,
-            false,
-            &mut self.accesses,
-        );
+        chain::mark(&mut self.tables, name, false, &mut self.accesses);
         self.tables.shape();
         bins::put_first(
             &mut self.tables,
@@ -291,7 +259,7 @@ impl<NI: NodeIndex> Allocator<NI> {
     // Whether a name is that of a used block.
     fn uses(&self, name: u32, count: &mut Accesses) -> bool {
         if name < self.max_allocs {
-            chain::is_used(&self.tables, self.last, self.spare_count, name, count)
+            chain::is_used(&self.tables, name, count)
         } else {
             false
         }
@@ -317,7 +285,7 @@ impl<NI: NodeIndex> Allocator<NI> {
     ) -> u32 {
         let name = index::number::<NI>(NI::of_nonmax(allocation.name()));
         if self.uses(name, count) {
-            chain::size(&self.tables, self.last, self.spare_count, name, count)
+            chain::size(&self.tables, name, count)
         } else {
             0
         }
@@ -418,20 +386,8 @@ impl<NI: NodeIndex> Allocator<NI> {
             class,
             &mut self.accesses,
         );
-        let offset = chain::offset(
-            &self.tables,
-            self.last,
-            self.spare_count,
-            name,
-            &mut self.accesses,
-        );
-        let whole = chain::size(
-            &self.tables,
-            self.last,
-            self.spare_count,
-            name,
-            &mut self.accesses,
-        );
+        let offset = chain::offset(&self.tables, name, &mut self.accesses);
+        let whole = chain::size(&self.tables, name, &mut self.accesses);
         let padding = (align - offset % align) % align;
         parts::carve(
             &mut self.tables,
@@ -476,13 +432,7 @@ impl<NI: NodeIndex> Allocator<NI> {
 
     // Adds units to the last block, which is free.
     fn widen(&mut self, more: u32) {
-        let whole = chain::size(
-            &self.tables,
-            self.last,
-            self.spare_count,
-            self.last,
-            &mut self.accesses,
-        );
+        let whole = chain::size(&self.tables, self.last, &mut self.accesses);
         bins::remove(
             &mut self.tables,
             &mut self.top_mask,
@@ -490,13 +440,7 @@ impl<NI: NodeIndex> Allocator<NI> {
             whole,
             &mut self.accesses,
         );
-        chain::grow(
-            &mut self.tables,
-            self.last,
-            self.spare_count,
-            more,
-            &mut self.accesses,
-        );
+        chain::grow(&mut self.tables, self.last, more, &mut self.accesses);
         self.tables.shape();
         bins::put_first(
             &mut self.tables,
@@ -512,20 +456,8 @@ impl<NI: NodeIndex> Allocator<NI> {
     // Puts a free block behind the last one, which is used.
     fn append(&mut self, more: u32) {
         let end = self.last;
-        let offset = chain::offset(
-            &self.tables,
-            self.last,
-            self.spare_count,
-            end,
-            &mut self.accesses,
-        );
-        let whole = chain::size(
-            &self.tables,
-            self.last,
-            self.spare_count,
-            end,
-            &mut self.accesses,
-        );
+        let offset = chain::offset(&self.tables, end, &mut self.accesses);
+        let whole = chain::size(&self.tables, end, &mut self.accesses);
         let name = chain::split(
             &mut self.tables,
             &mut self.last,
@@ -536,13 +468,7 @@ impl<NI: NodeIndex> Allocator<NI> {
             whole,
             &mut self.accesses,
         );
-        chain::grow(
-            &mut self.tables,
-            self.last,
-            self.spare_count,
-            more,
-            &mut self.accesses,
-        );
+        chain::grow(&mut self.tables, self.last, more, &mut self.accesses);
         self.tables.shape();
         bins::put_first(
             &mut self.tables,
@@ -568,13 +494,7 @@ impl<NI: NodeIndex> Allocator<NI> {
         if more > u32::MAX - size {
             return false;
         }
-        let used = chain::is_used(
-            &self.tables,
-            self.last,
-            self.spare_count,
-            self.last,
-            &mut self.accesses,
-        );
+        let used = chain::is_used(&self.tables, self.last, &mut self.accesses);
         if !used {
             self.widen(more);
             return true;

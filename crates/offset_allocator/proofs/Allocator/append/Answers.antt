@@ -6,6 +6,7 @@ use Rattle.offset_allocator.specs.State.{Fields, AreSound, IsSound, shown, view_
 use Rattle.offset_allocator.specs.Relations.{Extends}
 use Rattle.offset_allocator.proofs.Sound.{fields_of}
 use Rattle.offset_allocator.proofs.Sizes.{down_small}
+use Rattle.offset_allocator.proofs.Growing.{last_is}
 use Rattle.offset_allocator.proofs.Spot.{size-told}
 use Rattle.offset_allocator.proofs.Extending.{end, free_fits, split_fits, append_unlisted, appended}
 use Rattle.offset_allocator.proofs.Allocator.append.Goals as goal
@@ -26,17 +27,26 @@ pre g c = record {
   some = c.requires.more;
   fits = rw (← c.self.view_is) at c.requires.fits;
   used = rw (← c.self.view_is) at c.requires.used;
-  whole_is = c.size-whole.ensures.size ∙ sym (size-told _ _ _ _ c.self.invariant.space (end (fields_of g.NI.NodeIndex.MAX c.self.inside) c.args.more c.self.invariant).stands);
+  whole_is = c.size-whole.ensures.size _ _ c.self.invariant.space (end (fields_of g.NI.NodeIndex.MAX c.self.inside) c.args.more c.self.invariant).stands ∙ sym (size-told _ _ _ _ c.self.invariant.space (end (fields_of g.NI.NodeIndex.MAX c.self.inside) c.args.more c.self.invariant).stands);
 }
 
-pub offset-offset-requires-clause-standing : goal.offset-offset-requires-clause-standing
-offset-offset-requires-clause-standing g c = (end (fields_of g.NI.NodeIndex.MAX c.self.inside) c.args.more c.self.invariant).stands
+pub offset-offset-requires : goal.offset-offset-requires
+offset-offset-requires g c = (end (fields_of g.NI.NodeIndex.MAX c.self.inside) c.args.more c.self.invariant).below
 
-pub size-whole-requires-clause-standing : goal.size-whole-requires-clause-standing
-size-whole-requires-clause-standing g c = (end (fields_of g.NI.NodeIndex.MAX c.self.inside) c.args.more c.self.invariant).stands
+pub size-whole-requires : goal.size-whole-requires
+size-whole-requires g c = (end (fields_of g.NI.NodeIndex.MAX c.self.inside) c.args.more c.self.invariant).below
 
 pub split-name-requires-clause-standing : goal.split-name-requires-clause-standing
 split-name-requires-clause-standing g c = (end (fields_of g.NI.NodeIndex.MAX c.self.inside) c.args.more c.self.invariant).stands
+
+pub split-name-requires-clause-offset : goal.split-name-requires-clause-offset
+split-name-requires-clause-offset g c = c.offset-offset.ensures.offset _ _ c.self.invariant.space (end (fields_of g.NI.NodeIndex.MAX c.self.inside) c.args.more c.self.invariant).stands
+
+pub split-name-requires-clause-size : goal.split-name-requires-clause-size
+split-name-requires-clause-size g c = c.size-whole.ensures.size _ _ c.self.invariant.space (end (fields_of g.NI.NodeIndex.MAX c.self.inside) c.args.more c.self.invariant).stands
+
+pub grow-requires-clause-below : goal.grow-requires-clause-below
+grow-requires-clause-below g c = (last_is _ _ _ c.split-name.ensures.space).below
 
 pub grow-requires-clause-fits : goal.grow-requires-clause-fits
 grow-requires-clause-fits g c =
@@ -64,11 +74,12 @@ done : (g : Over) (c : After-put_first g) → Appending (fields_of g.NI.NodeInde
     (view_of g.NI.NodeIndex.MAX (c.self.inside.size + c.args.more) c.self.inside.max_allocs c.put_first.new.tables c.split-name.new.last accesses) true
 done g c p accesses =
     let room : is_short_of 1 (shown (fields_of g.NI.NodeIndex.MAX c.self.inside)) ≡ false = rw (← c.self.view_is) at c.requires.room in
+    let grown = c.grow.ensures.blocks _ c.split-name.ensures.space in
     appended _ _ p.sound p.some p.fits p.used room _ _ _ _ accesses _ _ p.whole_is
-    (rw c.put_first.ensures.room c.grow.ensures.space)
+    (rw c.put_first.ensures.room (c.grow.ensures.space _ c.split-name.ensures.space))
     c.put_first.ensures.held
     (rw c.put_first.ensures.room (c.grow.ensures.limit ∙ c.split-name.ensures.limit))
-    (rw c.put_first.ensures.room (rw c.split-name.ensures.blocks at c.grow.ensures.blocks))
+    (rw c.put_first.ensures.room (rw c.split-name.ensures.blocks at grown))
     (rw (c.grow.ensures.links, c.split-name.ensures.links, c.uint_to_float_round_down.ensures.is) at c.put_first.ensures.lists)
     c.split-name.ensures.fresh c.split-name.ensures.below
 

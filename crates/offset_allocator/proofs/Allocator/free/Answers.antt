@@ -7,6 +7,7 @@ use Rattle.offset_allocator.specs.Orders.{class_lists, IsUnlisted}
 use Rattle.offset_allocator.specs.State.{Fields, AreSound, shown, merge_after, gone_after}
 use Rattle.offset_allocator.proofs.Joints.{with_accesses}
 use Rattle.offset_allocator.proofs.Sizes.{down_small}
+use Rattle.offset_allocator.proofs.Spot.{here_below}
 use Rattle.offset_allocator.proofs.Freeing.{stands, at, size_at_x, room_for, listed_first, filed_listed, joined_once, left_once, joined_twice, left_twice, whole_size, first_blocks, first_lists, second_blocks, second_lists, filed_first, stands_first, stands_second, marked_second, unlisted_second, freed, named_live}
 use Rattle.offset_allocator.proofs.Ranges.{freed_gone, freed_others}
 use Rattle.offset_allocator.proofs.Sound.{fields_of, known_sound}
@@ -77,14 +78,15 @@ done g c k =
     let r = release g here.After-self in
     let f = fields r in
     let joined = twice g here.After-with_after-size r (once g here.After-with_before-size r) in
-    let taken = c.size-size.ensures.size ∙ size_at_x f r.sound x r.live in
+    let stood = subst (λ l. Stands x l) (sym joined.chain) (stands_second _ r.sound _ r.live) in
+    let taken = c.size-size.ensures.size _ _ r.sound.space (stands f r.sound x r.live) ∙ size_at_x f r.sound x r.live in
     let sized = c.with_after-size.ensures.size ∙ ap (size_in x) joined.chain ∙ whole_size f r.sound x r.live in
     let class = c.uint_to_float_round_down.ensures.is ∙ ap down sized in
     let lists = ap (λ l. class_lists f.max l) c.mark.ensures.links ∙ joined.order in
-    let marked = c.mark.ensures.blocks ∙ ap (mark_block x false) joined.chain ∙ marked_second f r.sound x r.live in
+    let marked = c.mark.ensures.blocks _ _ c.with_after-size.ensures.space stood ∙ ap (mark_block x false) joined.chain ∙ marked_second f r.sound x r.live in
     let chain = ap (λ (room : Room). blocks room new.last) c.put_first.ensures.room ∙ marked in
     let order = c.put_first.ensures.lists ∙ ap₂ (λ i o. put_first i x o) class lists in
-    let space = subst (λ (room : Room). IsSpace room new.last new.count) (sym c.put_first.ensures.room) c.mark.ensures.space in
+    let space = subst (λ (room : Room). IsSpace room new.last new.count) (sym c.put_first.ensures.room) (c.mark.ensures.space _ _ c.with_after-size.ensures.space stood) in
     let cells = c.mark.ensures.limit ∙ c.with_after-size.ensures.limit ∙ c.with_before-size.ensures.limit in
     let nodes = ap (λ (room : Room). length room.nodes) c.put_first.ensures.room ∙ cells in
     let left = freed f r.sound x r.live new.cells new.last new.count new.top k space c.put_first.ensures.held nodes chain order in (
@@ -92,15 +94,20 @@ done g c k =
       left.1 ∙ ap₂ (λ i v. with_accesses k (free i v)) (sym (same_name g here.After-self)) c.self.view_is,
     )
 
-pub size-size-requires-clause-standing : goal.size-size-requires-clause-standing
-size-size-requires-clause-standing g c =
-    let r = release g (goal.at.size-size-requires-clause-standing g c).After-self in
-    stands (fields r) r.sound _ r.live
+pub size-size-requires : goal.size-size-requires
+size-size-requires g c =
+    let r = release g (goal.at.size-size-requires g c).After-self in
+    here_below _ _ _ _ r.sound.space (stands (fields r) r.sound _ r.live)
 
 pub overflow_add-self : goal.overflow_add-self
 overflow_add-self g c =
     let r = release g (goal.at.overflow_add-self g c).After-self in
-    omega (arith, c.size-size.ensures.size ∙ size_at_x (fields r) r.sound _ r.live, room_for (fields r) r.sound _ r.live)
+    omega (arith, c.size-size.ensures.size _ _ r.sound.space (stands (fields r) r.sound _ r.live) ∙ size_at_x (fields r) r.sound _ r.live, room_for (fields r) r.sound _ r.live)
+
+pub with_before-size-requires-clause-size : goal.with_before-size-requires-clause-size
+with_before-size-requires-clause-size g c =
+    let r = release g (goal.at.with_before-size-requires-clause-size g c).After-self in
+    c.size-size.ensures.size _ _ r.sound.space (stands (fields r) r.sound _ r.live)
 
 pub with_before-size-requires-clause-standing : goal.with_before-size-requires-clause-standing
 with_before-size-requires-clause-standing g c =
@@ -125,12 +132,12 @@ with_after-size-requires-clause-listed g c =
     let joined = once g here.After-with_before-size r in
     rw (joined.chain, joined.order) (filed_listed _ _ (filed_first (fields r) r.sound _ r.live))
 
-pub mark-requires-clause-standing : goal.mark-requires-clause-standing
-mark-requires-clause-standing g c =
-    let here = goal.at.mark-requires-clause-standing g c in
+pub mark-requires : goal.mark-requires
+mark-requires g c =
+    let here = goal.at.mark-requires g c in
     let r = release g here.After-self in
     let joined = twice g here.After-with_after-size r (once g here.After-with_before-size r) in
-    subst (λ l. Stands c.number-name.result l) (sym joined.chain) (stands_second _ r.sound _ r.live)
+    here_below _ _ _ _ c.with_after-size.ensures.space (subst (λ l. Stands c.number-name.result l) (sym joined.chain) (stands_second _ r.sound _ r.live))
 
 pub put_first-requires-clause-named : goal.put_first-requires-clause-named
 put_first-requires-clause-named g c =

@@ -9,6 +9,7 @@ use Rattle.offset_allocator.specs.Relations.{Allocates}
 use Rattle.offset_allocator.proofs.Sound.{fields_of}
 use Rattle.offset_allocator.proofs.Sizes.{down_small}
 use Rattle.offset_allocator.proofs.Unused.{some_unused}
+use Rattle.offset_allocator.proofs.Spot.{here_below}
 use Rattle.offset_allocator.proofs.Granting.{got, enough, stands, stands_marked, size_marked, offset_marked, unused_rest, rest_unlisted, free_enough, granted_whole, granted_part}
 use Rattle.offset_allocator.proofs.Allocator.grant.Goals as goal
 use Rattle.offset_allocator.proofs.Allocator.grant.Goals.{then-whole-size, else-whole-size, After-mark}
@@ -46,12 +47,16 @@ marked : (g : Over) (c : After-mark g)
     → Marked (fields_of g.NI.NodeIndex.MAX c.self.inside) c.args.size c.args.class c.take_first-name.result c.mark.new.tables c.take_first-name.new.top_mask
 marked g c =
     let taken = c.take_first-name.ensures in
+    let p = called c.self.view_is c.self.invariant c.requires.room c.requires.least taken.first in
+    let was = stands (fields_of g.NI.NodeIndex.MAX c.self.inside) _ _ _ p.sound p.room p.least p.behind p.first in
+    let space = subst (λ (r : Room). IsSpace r c.self.inside.last c.self.inside.spare_count) (sym taken.room) c.self.invariant.space in
+    let stood = subst (λ (r : Room). Stands c.take_first-name.result (blocks r c.self.inside.last)) (sym taken.room) was in
     record {
-      call = called c.self.view_is c.self.invariant c.requires.room c.requires.least taken.first;
-      space = c.mark.ensures.space;
+      call = p;
+      space = c.mark.ensures.space _ _ space stood;
       bins = subst (λ (k : Links). Binned g.NI.NodeIndex.MAX k c.take_first-name.new.top_mask) (sym c.mark.ensures.links) taken.held;
       nodes = c.mark.ensures.limit ∙ ap (λ (r : Room). length r.nodes) taken.room;
-      chain = c.mark.ensures.blocks ∙ ap (λ (r : Room). mark_block c.take_first-name.result true (blocks r c.self.inside.last)) taken.room;
+      chain = c.mark.ensures.blocks _ _ space stood ∙ ap (λ (r : Room). mark_block c.take_first-name.result true (blocks r c.self.inside.last)) taken.room;
       order = ap (λ (k : Links). class_lists g.NI.NodeIndex.MAX k) c.mark.ensures.links ∙ taken.lists;
     }
 
@@ -107,17 +112,30 @@ module _ {f : Fields} {n class x top : ℕ} {mid : Cells} (m : Marked f n class 
       let kept = ap (λ (r : Room). length r.nodes) room ∙ nodes ∙ m.nodes in
       granted_part f n class x p.sound p.room p.least p.behind p.first d mid.room last count top' k y cut_in_two spaced m.chain chain bins listed kept (unused y fresh below)
 
-pub mark-requires-clause-standing : goal.mark-requires-clause-standing
-mark-requires-clause-standing g c =
+pub mark-requires : goal.mark-requires
+mark-requires g c =
     let p = called c.self.view_is c.self.invariant c.requires.room c.requires.least c.take_first-name.ensures.first in
     let stood = stands (fields_of g.NI.NodeIndex.MAX c.self.inside) _ _ _ p.sound p.room p.least p.behind p.first in
-    subst (λ (r : Room). Stands c.take_first-name.result (blocks r c.self.inside.last)) (sym c.take_first-name.ensures.room) stood
+    subst (λ (r : Room). c.take_first-name.result < length r.nodes) (sym c.take_first-name.ensures.room) (here_below _ _ _ _ p.sound.space stood)
 
-pub offset-offset-requires-clause-standing : goal.offset-offset-requires-clause-standing
-offset-offset-requires-clause-standing g c = still_stands (marked g (goal.at.offset-offset-requires-clause-standing g c).After-mark)
+pub offset-offset-requires : goal.offset-offset-requires
+offset-offset-requires g c = let m = marked g (goal.at.offset-offset-requires g c).After-mark in here_below _ _ _ _ m.space (still_stands m)
 
-pub size-whole-requires-clause-standing : goal.size-whole-requires-clause-standing
-size-whole-requires-clause-standing g c = still_stands (marked g (goal.at.size-whole-requires-clause-standing g c).After-mark)
+pub size-whole-requires : goal.size-whole-requires
+size-whole-requires g c = let m = marked g (goal.at.size-whole-requires g c).After-mark in here_below _ _ _ _ m.space (still_stands m)
+
+pub split-rest-requires-clause-space : goal.split-rest-requires-clause-space
+split-rest-requires-clause-space g c = (marked g (goal.at.split-rest-requires-clause-space g c).After-mark).space
+
+pub split-rest-requires-clause-offset : goal.split-rest-requires-clause-offset
+split-rest-requires-clause-offset g c =
+    let m = marked g (goal.at.split-rest-requires-clause-offset g c).After-mark in
+    c.offset-offset.ensures.offset _ _ m.space (still_stands m)
+
+pub split-rest-requires-clause-size : goal.split-rest-requires-clause-size
+split-rest-requires-clause-size g c =
+    let m = marked g (goal.at.split-rest-requires-clause-size g c).After-mark in
+    c.size-whole.ensures.size _ _ m.space (still_stands m)
 
 pub split-rest-requires-clause-standing : goal.split-rest-requires-clause-standing
 split-rest-requires-clause-standing g c = still_stands (marked g (goal.at.split-rest-requires-clause-standing g c).After-mark)
@@ -148,24 +166,27 @@ pub invariant_of-self : goal.invariant_of-self
 invariant_of-self g c =
     let rest = c.split-rest.ensures in
     let put = c.put_first.ensures in
-    let granted = part (marked g (goal.at.invariant_of-self g c).After-mark) 0 c.split-rest.new.tables c.put_first.new.tables c.size-whole.ensures.size c.if-whole-size.true
+    let m = marked g (goal.at.invariant_of-self g c).After-mark in
+    let granted = part m 0 c.split-rest.new.tables c.put_first.new.tables (c.size-whole.ensures.size _ _ m.space (still_stands m)) c.if-whole-size.true
     rest.fresh rest.below rest.space rest.limit rest.blocks rest.links c.uint_to_float_round_down.ensures.is put.room put.held put.lists in
     granted.0
 
 pub invariant_of-self-else-whole-size : goal.invariant_of-self-else-whole-size
 invariant_of-self-else-whole-size g c =
-    (whole (marked g (goal.at.invariant_of-self-else-whole-size g c).After-mark) 0 c.size-whole.ensures.size c.if-whole-size.false).0
+    let m = marked g (goal.at.invariant_of-self-else-whole-size g c).After-mark in
+    (whole m 0 (c.size-whole.ensures.size _ _ m.space (still_stands m)) c.if-whole-size.false).0
 
 pub returns-clause-step : goal.returns-clause-step
 returns-clause-step g c =
     let m = marked g (goal.at.returns-clause-step g c).After-mark in
-    let at = c.offset-offset.ensures.offset in
+    let at = c.offset-offset.ensures.offset _ _ m.space (still_stands m) in
+    let sized = c.size-whole.ensures.size _ _ m.space (still_stands m) in
     rw c.handle_of.ensures (elim c.if-whole-size.branch [
       | then-whole-size w ↦
           let rest = w.split-rest.ensures in
           let put = w.put_first.ensures in
-          let granted = part m w.put_first.new.count w.split-rest.new.tables w.put_first.new.tables c.size-whole.ensures.size w.if-whole-size.true
+          let granted = part m w.put_first.new.count w.split-rest.new.tables w.put_first.new.tables sized w.if-whole-size.true
           rest.fresh rest.below rest.space rest.limit rest.blocks rest.links w.uint_to_float_round_down.ensures.is put.room put.held put.lists in
           told m granted c.self.view_is w.self-is at
-      | else-whole-size w ↦ told m (whole m c.size-whole.new.count c.size-whole.ensures.size w.if-whole-size.false) c.self.view_is w.self-is at
+      | else-whole-size w ↦ told m (whole m c.size-whole.new.count sized w.if-whole-size.false) c.self.view_is w.self-is at
     ])

@@ -6,7 +6,7 @@ use Rattle.offset_allocator.proofs.Allocator.uses.Goals as goal
 
 pub returns-then-name-self-clause-used : goal.returns-then-name-self-clause-used
 returns-then-name-self-clause-used g c =
-    c.is_used.ensures.used ∙ ap (λ (u : View). is_used_at (place_of c.args.name u.blocks)) c.self.view_is
+    c.is_used.ensures.used _ _ c.self.invariant.space ∙ ap (λ (u : View). is_used_at (place_of c.args.name u.blocks)) c.self.view_is
 
 pub returns-else-name-self-clause-used : goal.returns-else-name-self-clause-used
 returns-else-name-self-clause-used g c =

@@ -2,7 +2,7 @@ use Rattle.std.proofs.Common.{◌≡◌, ◌≤◌, ◌<◌, ◌+◌, ℕ, lengt
 use Rattle.offset_allocator.specs.Classes.{down}
 use Rattle.offset_allocator.specs.Cells.{Room}
 use Rattle.offset_allocator.specs.Named.{ends_used}
-use Rattle.offset_allocator.specs.Space.{blocks}
+use Rattle.offset_allocator.specs.Space.{IsSpace, blocks}
 use Rattle.offset_allocator.specs.State.{Fields, AreSound, IsSound, shown, view_of}
 use Rattle.offset_allocator.specs.Relations.{Extends}
 use Rattle.offset_allocator.proofs.Sound.{fields_of}
@@ -29,18 +29,21 @@ pre g c = record {
   idle = rw (← c.self.view_is) at c.requires.idle;
 }
 
-pub size-whole-requires-clause-standing : goal.size-whole-requires-clause-standing
-size-whole-requires-clause-standing g c = (end (fields_of g.NI.NodeIndex.MAX c.self.inside) c.args.more c.self.invariant).stands
+pub size-whole-requires : goal.size-whole-requires
+size-whole-requires g c = (end (fields_of g.NI.NodeIndex.MAX c.self.inside) c.args.more c.self.invariant).below
 
 pub remove-requires-clause-listed : goal.remove-requires-clause-listed
 remove-requires-clause-listed g c =
     let p = pre g (goal.at.remove-requires-clause-listed g c).After-size-whole in
-    widen_listed (fields_of g.NI.NodeIndex.MAX c.self.inside) _ p.sound p.some p.fits p.idle _ (ap down (c.size-whole.ensures.size ∙ sym (size-told _ _ _ _ c.self.invariant.space (end (fields_of g.NI.NodeIndex.MAX c.self.inside) c.args.more c.self.invariant).stands)))
+    widen_listed (fields_of g.NI.NodeIndex.MAX c.self.inside) _ p.sound p.some p.fits p.idle _ (ap down (c.size-whole.ensures.size _ _ c.self.invariant.space (end (fields_of g.NI.NodeIndex.MAX c.self.inside) c.args.more c.self.invariant).stands ∙ sym (size-told _ _ _ _ c.self.invariant.space (end (fields_of g.NI.NodeIndex.MAX c.self.inside) c.args.more c.self.invariant).stands)))
 
 pub overflow_add-whole : goal.overflow_add-whole
 overflow_add-whole g c =
     let p = pre g (goal.at.overflow_add-whole g c).After-size-whole in
-    omega (arith, last_small _ _ _ c.args.more p.sound.space (units_fit (fields_of g.NI.NodeIndex.MAX c.self.inside) _ p.sound p.some p.fits), (c.size-whole.ensures.size ∙ sym (size-told _ _ _ _ c.self.invariant.space (end (fields_of g.NI.NodeIndex.MAX c.self.inside) c.args.more c.self.invariant).stands)))
+    omega (arith, last_small _ _ c.args.more (end (fields_of g.NI.NodeIndex.MAX c.self.inside) c.args.more c.self.invariant).below (units_fit (fields_of g.NI.NodeIndex.MAX c.self.inside) _ p.sound p.some p.fits), (c.size-whole.ensures.size _ _ c.self.invariant.space (end (fields_of g.NI.NodeIndex.MAX c.self.inside) c.args.more c.self.invariant).stands ∙ sym (size-told _ _ _ _ c.self.invariant.space (end (fields_of g.NI.NodeIndex.MAX c.self.inside) c.args.more c.self.invariant).stands)))
+
+pub grow-requires-clause-below : goal.grow-requires-clause-below
+grow-requires-clause-below g c = rw c.remove.ensures.room (end (fields_of g.NI.NodeIndex.MAX c.self.inside) c.args.more c.self.invariant).below
 
 pub put_first-requires-clause-named : goal.put_first-requires-clause-named
 put_first-requires-clause-named g c =
@@ -54,7 +57,7 @@ pub put_first-requires-clause-fresh : goal.put_first-requires-clause-fresh
 put_first-requires-clause-fresh g c =
     let p = pre g (goal.at.put_first-requires-clause-fresh g c).After-size-whole in
     rw (c.grow.ensures.links, c.remove.ensures.lists)
-    (widen_unlisted (fields_of g.NI.NodeIndex.MAX c.self.inside) _ p.sound p.some p.fits p.idle _ (down_small c.size-whole.result) (ap down (c.size-whole.ensures.size ∙ sym (size-told _ _ _ _ c.self.invariant.space (end (fields_of g.NI.NodeIndex.MAX c.self.inside) c.args.more c.self.invariant).stands))))
+    (widen_unlisted (fields_of g.NI.NodeIndex.MAX c.self.inside) _ p.sound p.some p.fits p.idle _ (down_small c.size-whole.result) (ap down (c.size-whole.ensures.size _ _ c.self.invariant.space (end (fields_of g.NI.NodeIndex.MAX c.self.inside) c.args.more c.self.invariant).stands ∙ sym (size-told _ _ _ _ c.self.invariant.space (end (fields_of g.NI.NodeIndex.MAX c.self.inside) c.args.more c.self.invariant).stands))))
 
 pub overflow_add-self-2 : goal.overflow_add-self-2
 overflow_add-self-2 g c =
@@ -68,11 +71,13 @@ done : (g : Over) (c : After-put_first g) → Widening (fields_of g.NI.NodeIndex
     × Extends c.args.more (shown (fields_of g.NI.NodeIndex.MAX c.self.inside))
     (view_of g.NI.NodeIndex.MAX (c.self.inside.size + c.args.more) c.self.inside.max_allocs c.put_first.new.tables c.self.inside.last accesses) true
 done g c p accesses =
-    widened _ _ p.sound p.some p.fits p.idle _ _ _ accesses _ _ (c.size-whole.ensures.size ∙ sym (size-told _ _ _ _ c.self.invariant.space (end (fields_of g.NI.NodeIndex.MAX c.self.inside) c.args.more c.self.invariant).stands)) (ap down (c.size-whole.ensures.size ∙ sym (size-told _ _ _ _ c.self.invariant.space (end (fields_of g.NI.NodeIndex.MAX c.self.inside) c.args.more c.self.invariant).stands)))
-    (rw c.put_first.ensures.room c.grow.ensures.space)
+    let space : IsSpace c.remove.new.tables.room c.self.inside.last c.self.inside.spare_count = rw c.remove.ensures.room c.self.invariant.space in
+    let grown = c.grow.ensures.blocks _ space in
+    widened _ _ p.sound p.some p.fits p.idle _ _ _ accesses _ _ (c.size-whole.ensures.size _ _ c.self.invariant.space (end (fields_of g.NI.NodeIndex.MAX c.self.inside) c.args.more c.self.invariant).stands ∙ sym (size-told _ _ _ _ c.self.invariant.space (end (fields_of g.NI.NodeIndex.MAX c.self.inside) c.args.more c.self.invariant).stands)) (ap down (c.size-whole.ensures.size _ _ c.self.invariant.space (end (fields_of g.NI.NodeIndex.MAX c.self.inside) c.args.more c.self.invariant).stands ∙ sym (size-told _ _ _ _ c.self.invariant.space (end (fields_of g.NI.NodeIndex.MAX c.self.inside) c.args.more c.self.invariant).stands)))
+    (rw c.put_first.ensures.room (c.grow.ensures.space _ space))
     c.put_first.ensures.held
     (rw c.put_first.ensures.room (rw c.remove.ensures.room at c.grow.ensures.limit))
-    (rw c.put_first.ensures.room (rw c.remove.ensures.room at c.grow.ensures.blocks))
+    (rw c.put_first.ensures.room (rw c.remove.ensures.room at grown))
     (rw (c.grow.ensures.links, c.remove.ensures.lists, c.uint_to_float_round_down.ensures.is) at c.put_first.ensures.lists)
 
 pub invariant_of-self : goal.invariant_of-self

@@ -3,4 +3,4 @@ use Rattle.offset_allocator.proofs.Told.{used_told}
 use Rattle.offset_allocator.proofs.chain.is_used.Goals as goal
 
 pub returns-clause-used : goal.returns-clause-used
-returns-clause-used g c = c.used.ensures.cell ∙ used_told _ _ _ _ c.requires.space
+returns-clause-used g c last spare space = c.used.ensures.cell ∙ used_told _ _ _ _ space

@@ -15,32 +15,32 @@ here g c = standing _ _ _ _ c.requires.space c.requires.standing
 
 -- the block directly after it
 next : (g : Over) (c : In-Some g) → Next c.args.tables.now.room (blocks c.args.tables.now.room c.args.last.now) c.in-Some.following c.args.name (here g c)
-next g c = after_next _ _ _ _ c.requires.space (here g c) c.in-Some.following (after-told _ _ _ _ c.requires.space c.requires.standing ∙ sym c.in-Some.ensures.after)
+next g c = after_next _ _ _ _ c.requires.space (here g c) c.in-Some.following (after-told _ _ _ _ c.requires.space c.requires.standing ∙ sym (c.in-Some.ensures.after _ _ c.requires.space c.requires.standing))
 
 -- the class of the size that is read for it
 class_is : (g : Over) (c : In-Some g) (k : ℕ) →
     k ≡ size_in c.in-Some.following (blocks c.args.tables.now.room c.args.last.now) → down k ≡ down (node c.args.tables.now.room c.in-Some.following).size
 class_is g c k e = ap down (e ∙ sym (size-told _ _ _ _ c.requires.space (next g c).stands))
 
-pub is_used-requires-clause-below : goal.is_used-requires-clause-below
-is_used-requires-clause-below g c = (next g (goal.at.is_used-requires-clause-below g c).In-Some).below
+pub is_used-requires : goal.is_used-requires
+is_used-requires g c = (next g (goal.at.is_used-requires g c).In-Some).below
 
-pub size-more-requires-clause-standing : goal.size-more-requires-clause-standing
-size-more-requires-clause-standing g c = (next g (goal.at.size-more-requires-clause-standing g c).In-Some).stands
+pub size-more-requires : goal.size-more-requires
+size-more-requires g c = (next g (goal.at.size-more-requires g c).In-Some).below
 
 pub remove-requires-clause-listed : goal.remove-requires-clause-listed
 remove-requires-clause-listed g c =
     let arm = (goal.at.remove-requires-clause-listed g c).In-Some in
-    listed_next _ _ _ _ c.requires.space _ _ (next g arm) _ c.requires.listed (used_told _ _ _ _ c.requires.space ∙ sym c.if-not-is_used.ensures.used) _ (class_is g arm _ c.size-more.ensures.size)
+    listed_next _ _ _ _ c.requires.space _ _ (next g arm) _ c.requires.listed (used_told _ _ _ _ c.requires.space ∙ sym (c.if-not-is_used.ensures.used _ _ c.requires.space)) _ (class_is g arm _ (c.size-more.ensures.size _ _ c.requires.space (next g arm).stands))
 
 pub join_after-requires-clause-next : goal.join_after-requires-clause-next
 join_after-requires-clause-next g c = rw c.remove.ensures.room (next g (goal.at.join_after-requires-clause-next g c).In-Some).next
 
 pub join_after-requires-clause-free : goal.join_after-requires-clause-free
-join_after-requires-clause-free g c = rw c.remove.ensures.room (used_told _ _ _ _ c.requires.space ∙ sym c.if-not-is_used.ensures.used)
+join_after-requires-clause-free g c = rw c.remove.ensures.room (used_told _ _ _ _ c.requires.space ∙ sym (c.if-not-is_used.ensures.used _ _ c.requires.space))
 
 pub join_after-requires-clause-total : goal.join_after-requires-clause-total
-join_after-requires-clause-total g c = rw c.remove.ensures.room (omega (arith, c.size-more.ensures.size, c.requires.size))
+join_after-requires-clause-total g c = rw c.remove.ensures.room (omega (arith, (c.size-more.ensures.size _ _ c.requires.space (next g (goal.at.join_after-requires-clause-total g c).In-Some).stands), c.requires.size))
 
 -- the blocks that the join leaves
 joined : (g : Over) (c : goal.After-join_after g) → blocks c.join_after.new.tables.room c.join_after.new.last ≡ join_block c.args.name (blocks c.args.tables.now.room c.args.last.now)
@@ -48,39 +48,39 @@ joined g c = rw c.remove.ensures.room at c.join_after.ensures.blocks
 
 pub returns-then-not-is_used-clause-blocks : goal.returns-then-not-is_used-clause-blocks
 returns-then-not-is_used-clause-blocks g c =
-    joined g c ∙ (joined_next _ _ _ _ c.requires.space _ _ (next g (goal.at.returns-then-not-is_used-clause-blocks g c).In-Some) (used_told _ _ _ _ c.requires.space ∙ sym c.if-not-is_used.ensures.used)).0
+    joined g c ∙ (joined_next _ _ _ _ c.requires.space _ _ (next g (goal.at.returns-then-not-is_used-clause-blocks g c).In-Some) (used_told _ _ _ _ c.requires.space ∙ sym (c.if-not-is_used.ensures.used _ _ c.requires.space))).0
 
 pub returns-then-not-is_used-clause-lists : goal.returns-then-not-is_used-clause-lists
 returns-then-not-is_used-clause-lists g c =
     let arm = (goal.at.returns-then-not-is_used-clause-lists g c).In-Some in
-    let gone = (joined_next _ _ _ _ c.requires.space _ _ (next g arm) (used_told _ _ _ _ c.requires.space ∙ sym c.if-not-is_used.ensures.used)).1 _ _ (class_is g arm _ c.size-more.ensures.size) in
+    let gone = (joined_next _ _ _ _ c.requires.space _ _ (next g arm) (used_told _ _ _ _ c.requires.space ∙ sym (c.if-not-is_used.ensures.used _ _ c.requires.space))).1 _ _ (class_is g arm _ (c.size-more.ensures.size _ _ c.requires.space (next g arm).stands)) in
     rw (c.join_after.ensures.links, c.remove.ensures.lists) gone
 
 pub returns-then-not-is_used-clause-size : goal.returns-then-not-is_used-clause-size
 returns-then-not-is_used-clause-size g c =
     let sum = joined_size _ _ _ _ c.requires.space _ _ (next g (goal.at.returns-then-not-is_used-clause-size g c).In-Some) in
-    omega (arith, c.size-more.ensures.size, c.requires.size, sum, ap (size_in c.args.name) (joined g c))
+    omega (arith, (c.size-more.ensures.size _ _ c.requires.space (next g (goal.at.returns-then-not-is_used-clause-size g c).In-Some).stands), c.requires.size, sum, ap (size_in c.args.name) (joined g c))
 
 pub returns-else-not-is_used-clause-blocks : goal.returns-else-not-is_used-clause-blocks
 returns-else-not-is_used-clause-blocks g c =
-    sym (kept_next _ _ _ _ c.requires.space _ _ (next g (goal.at.returns-else-not-is_used-clause-blocks g c).In-Some) (used_told _ _ _ _ c.requires.space ∙ sym c.if-not-is_used.ensures.used)).0
+    sym (kept_next _ _ _ _ c.requires.space _ _ (next g (goal.at.returns-else-not-is_used-clause-blocks g c).In-Some) (used_told _ _ _ _ c.requires.space ∙ sym (c.if-not-is_used.ensures.used _ _ c.requires.space))).0
 
 pub returns-else-not-is_used-clause-lists : goal.returns-else-not-is_used-clause-lists
 returns-else-not-is_used-clause-lists g c =
-    sym ((kept_next _ _ _ _ c.requires.space _ _ (next g (goal.at.returns-else-not-is_used-clause-lists g c).In-Some) (used_told _ _ _ _ c.requires.space ∙ sym c.if-not-is_used.ensures.used)).1 _)
+    sym ((kept_next _ _ _ _ c.requires.space _ _ (next g (goal.at.returns-else-not-is_used-clause-lists g c).In-Some) (used_told _ _ _ _ c.requires.space ∙ sym (c.if-not-is_used.ensures.used _ _ c.requires.space))).1 _)
 
 pub returns-in_default-clause-blocks : goal.returns-in_default-clause-blocks
 returns-in_default-clause-blocks g c =
-    sym (kept_last _ _ _ _ c.requires.space (standing _ _ _ _ c.requires.space c.requires.standing) (after-told _ _ _ _ c.requires.space c.requires.standing ∙ sym c.in_default.ensures.after)).0
+    sym (kept_last _ _ _ _ c.requires.space (standing _ _ _ _ c.requires.space c.requires.standing) (after-told _ _ _ _ c.requires.space c.requires.standing ∙ sym (c.in_default.ensures.after _ _ c.requires.space c.requires.standing))).0
 
 pub returns-in_default-clause-lists : goal.returns-in_default-clause-lists
 returns-in_default-clause-lists g c =
-    sym ((kept_last _ _ _ _ c.requires.space (standing _ _ _ _ c.requires.space c.requires.standing) (after-told _ _ _ _ c.requires.space c.requires.standing ∙ sym c.in_default.ensures.after)).1 _)
+    sym ((kept_last _ _ _ _ c.requires.space (standing _ _ _ _ c.requires.space c.requires.standing) (after-told _ _ _ _ c.requires.space c.requires.standing ∙ sym (c.in_default.ensures.after _ _ c.requires.space c.requires.standing))).1 _)
 
 pub overflow_add-size : goal.overflow_add-size
 overflow_add-size g c =
-    omega (arith, joined_fits _ _ _ _ c.requires.space _ _ (next g (goal.at.overflow_add-size g c).In-Some), c.size-more.ensures.size, c.requires.size)
+    omega (arith, joined_fits _ _ _ _ c.requires.space _ _ (next g (goal.at.overflow_add-size g c).In-Some), (c.size-more.ensures.size _ _ c.requires.space (next g (goal.at.overflow_add-size g c).In-Some).stands), c.requires.size)
 
 pub overflow_add-result : goal.overflow_add-result
 overflow_add-result g c =
-    omega (arith, joined_fits _ _ _ _ c.requires.space _ _ (next g (goal.at.overflow_add-result g c).In-Some), c.size-more.ensures.size, c.requires.size)
+    omega (arith, joined_fits _ _ _ _ c.requires.space _ _ (next g (goal.at.overflow_add-result g c).In-Some), (c.size-more.ensures.size _ _ c.requires.space (next g (goal.at.overflow_add-result g c).In-Some).stands), c.requires.size)

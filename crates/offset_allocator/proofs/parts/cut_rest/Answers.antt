@@ -9,3 +9,6 @@ put_first-requires-clause-classed g c =
 
 pub overflow_add-size : goal.overflow_add-size
 overflow_add-size g c = omega (arith, c.requires.whole, here_fits _ _ _ _ c.requires.space c.requires.standing)
+
+pub split-rest-requires-clause-offset : goal.split-rest-requires-clause-offset
+split-rest-requires-clause-offset g c = c.offset-offset.ensures.offset _ _ c.requires.space c.requires.standing
