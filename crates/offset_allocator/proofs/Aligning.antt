@@ -2,7 +2,7 @@
 use Rattle.std.proofs.Common.{◌≡◌, ◌≢◌, ℕ, zero, suc, ◌+◌, ◌-◌, ◌<◌, ◌≤◌, ◌^◌, Bool, true, false, List, [], ◌∷◌, ◌++◌, length, Option, Some, None, refl, sym, ap, ap₂, subst, ◌∙◌, inl, inr, arith, slice_set, nat_le, nat_lt, if◌then◌else◌, le-leb}
 use Rattle.std.proofs.lemmas.Bool.{cases_lt, lt-leb, lt-ltb, le-ltb, true≢false}
 use Rattle.offset_allocator.specs.Classes.{up}
-use Rattle.offset_allocator.specs.Cells.{Cells, Room, node}
+use Rattle.offset_allocator.specs.Cells.{Cells, Room}
 use Rattle.offset_allocator.specs.Named.{Block, View, Place, Grant, Outcome, named, names_at, IsWellFormed, IsUnused, is_short_of, taken, allocate, allocate_aligned, padding_to, greatest, refused, granted, granted_at, serve, free_part, used_block, units, remove_all, put_all, remove, without, place_of}
 use Rattle.offset_allocator.specs.Space.{IsSpace, Stands, blocks, offset_in, size_in}
 use Rattle.offset_allocator.specs.Orders.{IsLeastFrom, class_lists, Binned}
@@ -11,7 +11,6 @@ use Rattle.offset_allocator.specs.Relations.{Allocates, Aligns}
 use Rattle.offset_allocator.specs.Parts.{carved, carved_at, AreUnlisted}
 use Rattle.offset_allocator.proofs.Rows.{units-append}
 use Rattle.offset_allocator.proofs.Found.{size_in-at, offset_in-at}
-use Rattle.offset_allocator.proofs.Spot.{here_below, size-told, offset-told}
 use Rattle.offset_allocator.proofs.Granting as grant
 use Rattle.offset_allocator.proofs.Spares.{another, spare_room, no_room, some_room, less_short}
 use Rattle.offset_allocator.proofs.Unused.{some_unused}

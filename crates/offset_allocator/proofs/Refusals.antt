@@ -1,6 +1,6 @@
 -- Why a request is refused.
-use Rattle.std.proofs.Common.{◌≡◌, ℕ, ◌+◌, ◌<◌, ◌≤◌, Bool, true, false, not, List, [], ◌∷◌, ◌++◌, length, sum, Option, Some, None, IsSome, is_some, if◌then◌else◌, refl, sym, ap, subst, ◌∙◌, inl, inr, arith, le-leb}
-use Rattle.std.proofs.lemmas.Bool.{lt-leb, true≢false, false≢true}
+use Rattle.std.proofs.Common.{◌≡◌, ℕ, ◌+◌, ◌<◌, ◌≤◌, Bool, true, false, not, List, [], ◌∷◌, length, sum, Option, Some, None, IsSome, if◌then◌else◌, refl, sym, ap, subst, ◌∙◌, inl, inr, arith, le-leb}
+use Rattle.std.proofs.lemmas.Bool.{lt-leb, false≢true}
 use Rattle.std.proofs.lemmas.List.Sums.{sum_by-cons}
 use Rattle.offset_allocator.specs.Classes.{up, down}
 use Rattle.offset_allocator.specs.Orders.{class_lists, IsLeastFrom}
@@ -10,7 +10,6 @@ use Rattle.offset_allocator.specs.State.{Fields, AreSound, shown, free_units}
 use Rattle.offset_allocator.proofs.Joints.{untaken, well_counted}
 use Rattle.offset_allocator.proofs.Sizes.{fits_size}
 use Rattle.offset_allocator.proofs.ViewFits.{Stands, stands_middle}
-use Rattle.offset_allocator.proofs.ViewOrders.{if_value}
 use Rattle.offset_allocator.proofs.ViewTaken.{taken_at, not_taken}
 
 -- the units of the free blocks are the sum of their sizes

@@ -1,5 +1,5 @@
-use Rattle.std.proofs.Common.{ap, ap₂, sym, ◌∙◌, arith, ◌-◌, ℕ, List, [], Option, false, length, replicate, subst}
-use Rattle.offset_allocator.specs.Cells.{Cells, Links, put}
+use Rattle.std.proofs.Common.{ap, sym, ◌∙◌, arith, ◌-◌, ℕ, List, [], length, replicate, subst}
+use Rattle.offset_allocator.specs.Cells.{Links}
 use Rattle.offset_allocator.specs.Named.{put_first}
 use Rattle.offset_allocator.specs.Orders.{class_lists, Binned, IsUnlisted}
 use Rattle.offset_allocator.proofs.Sizes.{down_small}

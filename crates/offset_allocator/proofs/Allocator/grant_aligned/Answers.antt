@@ -1,4 +1,4 @@
-use Rattle.std.proofs.Common.{◌≡◌, ◌<◌, ◌+◌, ◌-◌, length, Some, false, arith, subst, sym}
+use Rattle.std.proofs.Common.{◌≡◌, ◌+◌, ◌-◌, Some, false, arith, subst, sym}
 use Rattle.offset_allocator.specs.Classes.{up}
 use Rattle.offset_allocator.specs.Cells.{Room}
 use Rattle.offset_allocator.specs.Named.{View, Grant, is_short_of}

@@ -1,11 +1,9 @@
 use Rattle.std.proofs.lemmas.Bool.{false≢true}
-use Rattle.std.proofs.Common.{◌≡◌, ◌∙◌, is_some, ◌<◌, ◌≤◌, ◌+◌, ◌^◌, ◌↔◌, ℕ, [], Some, None, false, sum, IsSome, IfSome, subst, sym, ap, arith, refl}
-use Rattle.offset_allocator.specs.Classes.{up}
+use Rattle.std.proofs.Common.{◌≡◌, ◌∙◌, is_some, ◌<◌, ◌≤◌, ℕ, [], None, false, sum, subst, sym, ap, arith, refl}
 use Rattle.offset_allocator.specs.Named.{View, is_short_of, free_sizes, names_at, taken}
 use Rattle.offset_allocator.specs.Orders.{class_lists, IsLeastFrom}
-use Rattle.offset_allocator.specs.State.{Fields, shown}
-use Rattle.offset_allocator.specs.Told.{IsServed, IsWhy}
-use Rattle.offset_allocator.specs.declared.reports.Refusal.TheVariants.{Space, Fragmented}
+use Rattle.offset_allocator.specs.State.{Fields}
+use Rattle.offset_allocator.specs.Told.{IsServed}
 use Rattle.offset_allocator.proofs.Classes.{below_value_up}
 use Rattle.offset_allocator.proofs.Refusals.{is_open, total_is, none_taken, some_taken, taken_within}
 use Rattle.offset_allocator.proofs.Sound.{fields_of, known_sound}

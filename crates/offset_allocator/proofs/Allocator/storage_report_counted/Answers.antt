@@ -1,8 +1,8 @@
-use Rattle.std.proofs.Common.{◌≡◌, ℕ, sym, subst, ◌<◌, arith, ◌+◌, ◌%◌, ◌^◌, ◌≤◌, Bool, true, false, ◌&&◌, List, [], ◌∷◌, sum, nat_eq, if◌then◌else◌, refl, ap, ◌∙◌, inl, inr, le_trans}
+use Rattle.std.proofs.Common.{◌≡◌, ℕ, sym, subst, ◌<◌, arith, ◌%◌, ◌^◌, ◌≤◌, Bool, true, false, ◌&&◌, List, [], ◌∷◌, nat_eq, refl, ap, ◌∙◌, inl, inr, le_trans}
 use Rattle.std.proofs.lemmas.Bool.{cases_lt}
 use Rattle.std.proofs.lemmas.Bool.Decides.{nat_tests}
 use Rattle.offset_allocator.specs.Named.{View, total_free, largest_free, Block, is_free, one, times, listed, names_at, free_sizes, IsWellFormed, is_short_of}
-use Rattle.offset_allocator.specs.State.{shown, Fields, AreSound, free_units}
+use Rattle.offset_allocator.specs.State.{shown, Fields, AreSound}
 use Rattle.offset_allocator.specs.Classes.{value, down}
 use Rattle.offset_allocator.specs.Reports.{largest}
 use Rattle.offset_allocator.specs.Orders.{class_lists}

@@ -1,4 +1,4 @@
-use Rattle.std.proofs.Common.{◌≡◌, ℕ, ◌-◌, ◌∙◌, [], ◌∷◌, Option, false, ap, ap₂, sym, arith, length}
+use Rattle.std.proofs.Common.{ℕ, ◌-◌, ◌∙◌, [], ◌∷◌, Option, false, ap, ap₂, sym, arith}
 use Rattle.offset_allocator.specs.Cells.{Cells, put}
 use Rattle.offset_allocator.specs.Named.{free_block}
 use Rattle.offset_allocator.specs.Space.{IsChain}
