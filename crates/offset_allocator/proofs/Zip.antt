@@ -1,139 +1,133 @@
--- Tables of fields as one list of nodes.
-use Rattle.std.proofs.Common.{◌≡◌, ◌≢◌, ℕ, zero, suc, replicate, ◌∷◌, ◌<◌, ◌≤◌, Bool, false, Option, None, List, length, map, set, get_or, refl, sym, ◌∙◌, ap, arith, inl, inr, length-set, get_or-set_same, get_or-set_other}
-use Rattle.std.proofs.lemmas.List.{same_lists, get_or_past, get_or-replicate, length-replicate, length-map}
-use Rattle.std.proofs.lemmas.List.FromFn.{length-map-range_with_len, get_or-map-range_with_len}
-use Rattle.std.proofs.lemmas.Bool.{cases_eq, cases_lt}
-use Rattle.offset_allocator.specs.Cells.{Cells, Links, Node, Room, blank, nodes_of, node, put, links_of, AreShaped}
-use Rattle.offset_allocator.specs.View.{cells_of, AreEven}
+-- Entries and use flags as one list of nodes.
+use Rattle.std.proofs.Common.{◌≡◌, ℕ, zero, suc, replicate, [], ◌∷◌, ◌<◌, ◌≤◌, Bool, false, List, length, map, set, get_or, refl, sym, ◌∙◌, ap, arith, inl, inr}
+use Rattle.std.proofs.lemmas.List.{get_or_past, get_or-replicate, length-replicate, length-map, map-set, set-get_or}
+use Rattle.std.proofs.lemmas.Slice.Zip.{length-zip}
+use Rattle.std.proofs.Math.Seq.{map-set_same}
+use Rattle.std.proofs.lemmas.Bool.{cases_lt}
+use Rattle.std.specs.List.{zip}
+use Rattle.offset_allocator.specs.Cells.{Cells, Node, Room, blank, node, put, AreShaped}
+use Rattle.offset_allocator.specs.View.{node_of, nodes_of, cells_of, AreEven}
+use Rattle.offset_allocator.specs.declared.tables.Node.{Node as Entry}
 use Rattle.offset_allocator.specs.declared.tables.Tables.TheInside.{Inside}
 
-module _ (os ss : List ℕ) (us : List Bool) (bs fs : List (Option ℕ)) where
-  pub length-nodes_of : length (nodes_of os ss us bs fs) ≡ length os
+module _ {A : Type 0} (max : ℕ) (number : A → ℕ) where
+  pub length-nodes_of : (ns : List (Entry A)) (us : List Bool) → length us ≡ length ns → length (nodes_of max number ns us) ≡ length ns
   unfolding nodes_of
-  length-nodes_of = length-map-range_with_len _ 0 (length os)
+  length-nodes_of ns us even = length-map (zip ns us) (λ p. node_of max number p.0 p.1) ∙ length-zip ns us ∙ omega (arith, even)
 
-  pub get_or-nodes_of : (k : ℕ) (d : Node) → k < length os → get_or (nodes_of os ss us bs fs) k d ≡ record { offset = get_or os k 0; size = get_or ss k 0; used = get_or us k false; before = get_or bs k None; after = get_or fs k None }
+  -- the node of an entry and its use flag
+  pub entry_at : (ns : List (Entry A)) (us : List Bool) (x : ℕ) (n : Entry A) → x < length (nodes_of max number ns us) → n ≡ get_or ns x n → get_or (nodes_of max number ns us) x blank ≡ node_of max number n (get_or (nodes_of max number ns us) x blank).used
   unfolding nodes_of
-  get_or-nodes_of k d l = get_or-map-range_with_len _ 0 (length os) k k d l (omega arith)
+  entry_at [] us x n l e = absurd (omega (arith, l))
+  entry_at (a ∷ ns) [] x n l e = absurd (omega (arith, l))
+  entry_at (a ∷ ns) (u ∷ us) zero n l e = ap (λ m. node_of max number m u) (sym e)
+  entry_at (a ∷ ns) (u ∷ us) (suc x) n l e = entry_at ns us x n (omega (arith, l)) e
+
+  pub flag_at : (ns : List (Entry A)) (us : List Bool) (x : ℕ) → x < length (nodes_of max number ns us) → (get_or (nodes_of max number ns us) x blank).used ≡ get_or us x false
+  unfolding nodes_of
+  flag_at [] us x l = absurd (omega (arith, l))
+  flag_at (a ∷ ns) [] x l = absurd (omega (arith, l))
+  flag_at (a ∷ ns) (u ∷ us) zero l = refl
+  flag_at (a ∷ ns) (u ∷ us) (suc x) l = flag_at ns us x (omega (arith, l))
+
+  entry_set : (ns : List (Entry A)) (us : List Bool) (x : ℕ) (m : Entry A) → nodes_of max number (set ns x m) us ≡ set (nodes_of max number ns us) x (node_of max number m (get_or (nodes_of max number ns us) x blank).used)
+  unfolding nodes_of
+  entry_set [] us x m = refl
+  entry_set (a ∷ ns) [] zero m = refl
+  entry_set (a ∷ ns) [] (suc x) m = refl
+  entry_set (a ∷ ns) (u ∷ us) zero m = refl
+  entry_set (a ∷ ns) (u ∷ us) (suc x) m = ap (λ l. node_of max number a u ∷ l) (entry_set ns us x m)
+
+  flag_set : (ns : List (Entry A)) (us : List Bool) (x : ℕ) (v : Bool) → nodes_of max number ns (set us x v) ≡ set (nodes_of max number ns us) x (record (get_or (nodes_of max number ns us) x blank) { used = v })
+  unfolding nodes_of
+  flag_set [] us x v = refl
+  flag_set (a ∷ ns) [] x v = refl
+  flag_set (a ∷ ns) (u ∷ us) zero v = refl
+  flag_set (a ∷ ns) (u ∷ us) (suc x) v = ap (λ l. node_of max number a u ∷ l) (flag_set ns us x v)
 
   -- no node is used where each use flag is false
-  pub idle_where : (n : ℕ) → us ≡ replicate n false → (c : Room) → c.nodes ≡ nodes_of os ss us bs fs → (k : ℕ) → (node c k).used ≡ false
+  pub idle_where : (ns : List (Entry A)) (us : List Bool) (k : ℕ) → length us ≡ length ns → us ≡ replicate k false → (c : Room) → c.nodes ≡ nodes_of max number ns us → (x : ℕ) → (node c x).used ≡ false
   unfolding node
-  idle_where n e c q k = elim (cases_lt k (length os)) [
-    | inl l ↦ rw (q, get_or-nodes_of k blank l, e) (idle_at n k)
-    | inr g ↦ rw q (ap (λ (v : Node). v.used) (get_or_past (nodes_of os ss us bs fs) k blank (rw length-nodes_of g)))
+  idle_where ns us k even e c q x = elim (cases_lt x (length (nodes_of max number ns us))) [
+    | inl l ↦ rw (q, flag_at ns us x l, e) (get_or-replicate k x false false (omega (arith, l, even, length-nodes_of ns us even, ap length e, length-replicate {A = Bool} k false)))
+    | inr g ↦ rw q (ap (λ (v : Node). v.used) (get_or_past (nodes_of max number ns us) x blank g))
   ]
-    where
-      idle_at : (n k : ℕ) → get_or (replicate n false) k false ≡ false
-      idle_at n k = elim (cases_lt k n) [
-        | inl l ↦ get_or-replicate n k false false l
-        | inr g ↦ get_or_past (replicate n false) k false (rw (length-replicate {A = Bool} n false) g)
-      ]
 
--- lists that differ in one place
-pub set_from : {X : Type 0} (xs ys : List X) (x : ℕ) (v : X) → x < length xs → length ys ≡ length xs → ((d : X) → get_or ys x d ≡ v) → ((k : ℕ) (d : X) → k < length xs → k ≢ x → get_or ys k d ≡ get_or xs k d) → ys ≡ set xs x v
-set_from xs ys x v l e at others =
-    same_lists ys (set xs x v) (e ∙ sym (length-set xs x v)) (λ k d b. elim (cases_eq k x) [
-      | inl same ↦ ap (λ i. get_or ys i d) same ∙ at d ∙ sym (ap (λ i. get_or (set xs x v) i d) same ∙ get_or-set_same xs x v d l)
-      | inr ne ↦ others k d (omega arith) ne ∙ sym (get_or-set_other xs x k v d ne)
-    ])
+module _ {A B : Type 0} (max : ℕ) (number : A → ℕ) (t : Inside A B) {c : Cells} (e : cells_of max number t ≡ c) where
+  abbrev ns : List (Entry A)
+  ns = t.nodes.items
 
-module _ (os ss : List ℕ) (us : List Bool) (bs fs : List (Option ℕ)) (x : ℕ) (l : x < length os) where
-  abbrev was : Node
-  was = get_or (nodes_of os ss us bs fs) x blank
+  abbrev us : List Bool
+  us = t.used.items
 
-  pub nodes_of-offset : (v : ℕ) → nodes_of (set os x v) ss us bs fs ≡ set (nodes_of os ss us bs fs) x (record (get_or (nodes_of os ss us bs fs) x blank) { offset = v })
-  nodes_of-offset v =
-      let n = length-nodes_of os ss us bs fs in
-      let ls = length-set os x v in
-      set_from _ _ x _ (rw n l) (length-nodes_of (set os x v) ss us bs fs ∙ ls ∙ sym n)
-      (λ d. get_or-nodes_of (set os x v) ss us bs fs x d (omega arith) ∙ rw (get_or-nodes_of os ss us bs fs x blank l, get_or-set_same))
-      (λ k d b ne. get_or-nodes_of (set os x v) ss us bs fs k d (omega arith) ∙ rw get_or-set_other (sym (get_or-nodes_of os ss us bs fs k d (omega arith))))
+  -- the cells with other entries or use flags
+  abbrev seen : List (Entry A) → List Bool → Cells
+  seen ns us = record {
+    room = record { nodes = nodes_of max number ns us; spare = map number t.spare.items };
+    links = record { newer = map (λ n. number n.newer) ns; older = map (λ n. number n.older) ns; heads = map number t.heads.items; masks = t.masks };
+  }
 
-  pub nodes_of-size : (v : ℕ) → length ss ≡ length os → nodes_of os (set ss x v) us bs fs ≡ set (nodes_of os ss us bs fs) x (record (get_or (nodes_of os ss us bs fs) x blank) { size = v })
-  nodes_of-size v e =
-      let short : x < length ss = rw e l in
-      let n = length-nodes_of os ss us bs fs in
-      set_from _ _ x _ (rw n l) (length-nodes_of os (set ss x v) us bs fs ∙ sym n)
-      (λ d. get_or-nodes_of os (set ss x v) us bs fs x d l ∙ rw (get_or-nodes_of os ss us bs fs x blank l, get_or-set_same))
-      (λ k d b ne. get_or-nodes_of os (set ss x v) us bs fs k d (omega arith) ∙ rw get_or-set_other (sym (get_or-nodes_of os ss us bs fs k d (omega arith))))
+  in_nodes : (x : ℕ) → x < length c.room.nodes → x < length (nodes_of max number ns us)
+  in_nodes x l = omega (arith, l, ap (λ (v : Cells). length v.room.nodes) e)
 
-  pub nodes_of-used : (v : Bool) → length us ≡ length os → nodes_of os ss (set us x v) bs fs ≡ set (nodes_of os ss us bs fs) x (record (get_or (nodes_of os ss us bs fs) x blank) { used = v })
-  nodes_of-used v e =
-      let short : x < length us = rw e l in
-      let n = length-nodes_of os ss us bs fs in
-      set_from _ _ x _ (rw n l) (length-nodes_of os ss (set us x v) bs fs ∙ sym n)
-      (λ d. get_or-nodes_of os ss (set us x v) bs fs x d l ∙ rw (get_or-nodes_of os ss us bs fs x blank l, get_or-set_same))
-      (λ k d b ne. get_or-nodes_of os ss (set us x v) bs fs k d (omega arith) ∙ rw get_or-set_other (sym (get_or-nodes_of os ss us bs fs k d (omega arith))))
+  -- a name below the number of nodes is below each table's length
+  pub within : (x : ℕ) → length us ≡ length ns → x < length c.room.nodes → x < length ns
+  within x even l = omega (arith, in_nodes x l, length-nodes_of max number ns us even)
 
-  pub nodes_of-before : (v : Option ℕ) → length bs ≡ length os → nodes_of os ss us (set bs x v) fs ≡ set (nodes_of os ss us bs fs) x (record (get_or (nodes_of os ss us bs fs) x blank) { before = v })
-  nodes_of-before v e =
-      let short : x < length bs = rw e l in
-      let n = length-nodes_of os ss us bs fs in
-      set_from _ _ x _ (rw n l) (length-nodes_of os ss us (set bs x v) fs ∙ sym n)
-      (λ d. get_or-nodes_of os ss us (set bs x v) fs x d l ∙ rw (get_or-nodes_of os ss us bs fs x blank l, get_or-set_same))
-      (λ k d b ne. get_or-nodes_of os ss us (set bs x v) fs k d (omega arith) ∙ rw get_or-set_other (sym (get_or-nodes_of os ss us bs fs k d (omega arith))))
-
-  pub nodes_of-after : (v : Option ℕ) → length fs ≡ length os → nodes_of os ss us bs (set fs x v) ≡ set (nodes_of os ss us bs fs) x (record (get_or (nodes_of os ss us bs fs) x blank) { after = v })
-  nodes_of-after v e =
-      let short : x < length fs = rw e l in
-      let n = length-nodes_of os ss us bs fs in
-      set_from _ _ x _ (rw n l) (length-nodes_of os ss us bs (set fs x v) ∙ sym n)
-      (λ d. get_or-nodes_of os ss us bs (set fs x v) x d l ∙ rw (get_or-nodes_of os ss us bs fs x blank l, get_or-set_same))
-      (λ k d b ne. get_or-nodes_of os ss us bs (set fs x v) k d (omega arith) ∙ rw get_or-set_other (sym (get_or-nodes_of os ss us bs fs k d (omega arith))))
-
-abbrev pub seen : List ℕ → List ℕ → List Bool → List (Option ℕ) → List (Option ℕ) → List ℕ → Links → Cells
-seen os ss us bs fs spare links = record { room = record { nodes = nodes_of os ss us bs fs; spare = spare }; links = links }
-
--- a name below the number of nodes is below each table's length
-pub within : (os ss : List ℕ) (us : List Bool) (bs fs : List (Option ℕ)) (spare : List ℕ) (links : Links) (c : Cells) (x : ℕ) → seen os ss us bs fs spare links ≡ c → x < length c.room.nodes → x < length os
-within os ss us bs fs spare links c x e l = omega (arith, ap (λ (v : Cells). length v.room.nodes) e, length-nodes_of os ss us bs fs)
-
-module _ (os ss : List ℕ) (us : List Bool) (bs fs : List (Option ℕ)) (spare : List ℕ) (links : Links) (c : Cells) (e : seen os ss us bs fs spare links ≡ c) (x : ℕ) (l : x < length c.room.nodes) where
-  in_offsets : x < length os
-  in_offsets = within os ss us bs fs spare links c x e l
-
-  with_nodes : (ns : List Node) (n : Node) → ns ≡ set (nodes_of os ss us bs fs) x n → record { room = record { nodes = ns; spare = spare }; links = links } ≡ record (seen os ss us bs fs spare links) { room = put (seen os ss us bs fs spare links).room x n }
-  unfolding put
-  with_nodes ns n q = ap (λ (v : List Node). record (seen os ss us bs fs spare links) { room = record { nodes = v; spare = spare } }) q
-
-  pub seen-offset : (v : ℕ) → seen (set os x v) ss us bs fs spare links ≡ record c { room = put c.room x (record (node c.room x) { offset = v }) }
+  pub read : (x : ℕ) (n : Entry A) → x < length c.room.nodes → n ≡ get_or ns x n → node c.room x ≡ node_of max number n (node c.room x).used
   unfolding node
-  seen-offset v = rw (← e) (with_nodes _ _ (nodes_of-offset os ss us bs fs x in_offsets v))
+  read x n l at = rw (← e) (entry_at max number ns us x n (in_nodes x l) at)
 
-  pub seen-size : (v : ℕ) → length ss ≡ length os → seen os (set ss x v) us bs fs spare links ≡ record c { room = put c.room x (record (node c.room x) { size = v }) }
+  pub read-used : (x : ℕ) → x < length c.room.nodes → (node c.room x).used ≡ get_or us x false
   unfolding node
-  seen-size v same = rw (← e) (with_nodes _ _ (nodes_of-size os ss us bs fs x in_offsets v same))
+  read-used x l = rw (← e) (flag_at max number ns us x (in_nodes x l))
 
-  pub seen-used : (v : Bool) → length us ≡ length os → seen os ss (set us x v) bs fs spare links ≡ record c { room = put c.room x (record (node c.room x) { used = v }) }
-  unfolding node
-  seen-used v same = rw (← e) (with_nodes _ _ (nodes_of-used os ss us bs fs x in_offsets v same))
+  -- an entry written in what the chain of blocks sees: f is the change of the node
+  pub wrote-room : (x : ℕ) (n m : Entry A) (f : Node → Node) → x < length c.room.nodes → n ≡ get_or ns x n → ((u : Bool) → node_of max number m u ≡ f (node_of max number n u)) → number m.newer ≡ number n.newer → number m.older ≡ number n.older
+      → seen (set ns x m) us ≡ record c { room = put c.room x (f (node c.room x)) }
+  unfolding node put
+  wrote-room x n m f l at q newer older =
+      let was = entry_at max number ns us x n (in_nodes x l) at in
+      let nodes = entry_set max number ns us x m ∙ ap (set (nodes_of max number ns us) x) (q (get_or (nodes_of max number ns us) x blank).used ∙ ap f (sym was)) in
+      let same_newer = map-set_same (λ (k : Entry A). number k.newer) ns x m n (newer ∙ ap (λ (k : Entry A). number k.newer) at) in
+      let same_older = map-set_same (λ (k : Entry A). number k.older) ns x m n (older ∙ ap (λ (k : Entry A). number k.older) at) in
+      rw (← e) (rw (nodes, same_newer, same_older) refl)
 
-  pub seen-before : (v : Option ℕ) → length bs ≡ length os → seen os ss us (set bs x v) fs spare links ≡ record c { room = put c.room x (record (node c.room x) { before = v }) }
-  unfolding node
-  seen-before v same = rw (← e) (with_nodes _ _ (nodes_of-before os ss us bs fs x in_offsets v same))
+  pub wrote-used : (x : ℕ) (v : Bool) → seen ns (set us x v) ≡ record c { room = put c.room x (record (node c.room x) { used = v }) }
+  unfolding node put
+  wrote-used x v = rw (← e) (rw (flag_set max number ns us x v) refl)
 
-  pub seen-after : (v : Option ℕ) → length fs ≡ length os → seen os ss us bs (set fs x v) spare links ≡ record c { room = put c.room x (record (node c.room x) { after = v }) }
-  unfolding node
-  seen-after v same = rw (← e) (with_nodes _ _ (nodes_of-after os ss us bs fs x in_offsets v same))
+  -- the chain of blocks sees none of an entry's class links
+  kept : (x : ℕ) (n m : Entry A) → length us ≡ length ns → x < length ns → n ≡ get_or ns x n → ((u : Bool) → node_of max number m u ≡ node_of max number n u) → nodes_of max number (set ns x m) us ≡ nodes_of max number ns us
+  kept x n m even l at q =
+      let was = entry_at max number ns us x n (omega (arith, l, length-nodes_of max number ns us even)) at in
+      entry_set max number ns us x m ∙ ap (set (nodes_of max number ns us) x) (q (get_or (nodes_of max number ns us) x blank).used ∙ sym was) ∙ set-get_or (nodes_of max number ns us) x blank
 
-  pub read : node c.room x ≡ record { offset = get_or os x 0; size = get_or ss x 0; used = get_or us x false; before = get_or bs x None; after = get_or fs x None }
-  unfolding node
-  read = rw (← e) (get_or-nodes_of os ss us bs fs x blank in_offsets)
+  pub wrote-newer : (x : ℕ) (n : Entry A) (link : A) → length us ≡ length ns → x < length c.links.newer → n ≡ get_or ns x n → seen (set ns x (record n { newer = link })) us ≡ record c { links = record c.links { newer = set c.links.newer x (number link) } }
+  wrote-newer x n link even l at =
+      let short : x < length ns = omega (arith, l, ap (λ (v : Cells). length v.links.newer) e, length-map ns (λ (k : Entry A). number k.newer)) in
+      let nodes = kept x n (record n { newer = link }) even short at (λ u. refl) in
+      let newer = map-set (λ (k : Entry A). number k.newer) ns x (record n { newer = link }) in
+      let older = map-set_same (λ (k : Entry A). number k.older) ns x (record n { newer = link }) n (ap (λ (k : Entry A). number k.older) at) in
+      rw (← e) (rw (nodes, newer, older) refl)
+
+  pub wrote-older : (x : ℕ) (n : Entry A) (link : A) → length us ≡ length ns → x < length c.links.older → n ≡ get_or ns x n → seen (set ns x (record n { older = link })) us ≡ record c { links = record c.links { older = set c.links.older x (number link) } }
+  wrote-older x n link even l at =
+      let short : x < length ns = omega (arith, l, ap (λ (v : Cells). length v.links.older) e, length-map ns (λ (k : Entry A). number k.older)) in
+      let nodes = kept x n (record n { older = link }) even short at (λ u. refl) in
+      let newer = map-set_same (λ (k : Entry A). number k.newer) ns x (record n { older = link }) n (ap (λ (k : Entry A). number k.newer) at) in
+      let older = map-set (λ (k : Entry A). number k.older) ns x (record n { older = link }) in
+      rw (← e) (rw (nodes, newer, older) refl)
 
 pub shaped : {A B : Type 0} (max : ℕ) (number : A → ℕ) (t : Inside A B) → AreEven max t → max ≤ 4294967295 → AreShaped max (cells_of max number t)
 shaped max number t h w =
-    let n = length-nodes_of t.offset.items t.size.items t.used.items (links_of max number t.before.items) (links_of max number t.after.items) in
+    let n = length-nodes_of max number t.nodes.items t.used.items h.used in
     record {
       spare = length-map t.spare.items number ∙ h.spare ∙ sym n;
-      newer = length-map t.newer.items number ∙ h.newer ∙ sym n;
-      older = length-map t.older.items number ∙ h.older ∙ sym n;
+      newer = length-map t.nodes.items (λ k. number k.newer) ∙ sym n;
+      older = length-map t.nodes.items (λ k. number k.older) ∙ sym n;
       heads = length-map t.heads.items number ∙ h.heads;
       masks = h.masks;
       limit = rw n h.limit;
       word = omega (arith, n, h.limit);
     }
-
-pub map-replicate : {A B : Type 0} (f : A → B) (k : ℕ) (x : A) → map f (replicate k x) ≡ replicate k (f x)
-map-replicate f zero x = refl
-map-replicate f (suc k) x = ap (λ l. f x ∷ l) (map-replicate f k x)

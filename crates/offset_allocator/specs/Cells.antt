@@ -1,5 +1,5 @@
 -- What the tables hold, without an index type: nodes and spare names, and the links of the class lists.
-use Rattle.std.specs.Prelude.{ℕ, Bool, false, List, Option, Some, None, length, ◌≡◌, ◌≤◌, replicate, map, slice_set, slice_index, slice_index_or, eqb, if◌then◌else◌}
+use Rattle.std.specs.Prelude.{ℕ, Bool, false, List, Option, Some, None, length, ◌≡◌, ◌≤◌, replicate, slice_set, slice_index_or, eqb, if◌then◌else◌}
 use Rattle.std.specs.List.{range_with_len}
 
 -- a node, whatever tables hold its fields
@@ -46,20 +46,6 @@ with_spare c i v = record c { spare = slice_set c.spare i v }
 -- a link of this number, where the greatest number stands for no link
 abbrev pub link_of : ℕ → ℕ → Option ℕ
 link_of max n = if eqb n max then None else Some n
-
--- the links of these numbers
-abbrev pub links_of : {A : Type 0} → ℕ → (A → ℕ) → List A → List (Option ℕ)
-links_of max number xs = map (λ x. link_of max (number x)) xs
-
--- one table for each field, as one list of nodes
-unfoldable pub nodes_of : List ℕ → List ℕ → List Bool → List (Option ℕ) → List (Option ℕ) → List Node
-nodes_of os ss us bs fs = map (λ k. record {
-  offset = slice_index os k;
-  size = slice_index ss k;
-  used = slice_index_or us k false;
-  before = slice_index_or bs k None;
-  after = slice_index_or fs k None;
-}) (range_with_len 0 (length os))
 
 -- the tables have one length, of at most the greatest number, and there is a head for each class
 pub record AreShaped (max : ℕ) (c : Cells) : Type 0 where

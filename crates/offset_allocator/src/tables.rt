@@ -10,18 +10,24 @@ use crate::index::{NodeIndex, no_link};
 use std::alloc::{AllocError, Global};
 use std::marker::Model;
 
-/// One table for each field of a node, the newest node of each size class, the masks of the
-/// classes, and the stack of spare names. A link is the number of a node, or the greatest number
-/// of its type, which names none.
+/// A block's offset and size, the links to its neighbours in space, and the links to the next nodes of its size class.
+/// A link is the number of a node, or the greatest number of its type, which names none.
+#[derive(Clone, Copy)]
+struct Node<NI> {
+    offset: u32,
+    size: u32,
+    before: NI,
+    after: NI,
+    newer: NI,
+    older: NI,
+}
+
+/// The nodes, whether each is used, the newest node of each size class, the masks of the classes, and the stack of
+/// spare names.
 #[derive(Drop)]
 pub(crate) struct Tables<NI: NodeIndex> {
-    offset: Vec<u32>,
-    size: Vec<u32>,
+    nodes: Vec<Node<NI>>,
     used: Vec<bool>,
-    before: Vec<NI>,
-    after: Vec<NI>,
-    newer: Vec<NI>,
-    older: Vec<NI>,
     heads: Vec<NI>,
     masks: [u64; 4],
     spare: Vec<NI>,
@@ -124,26 +130,24 @@ impl<NI: NodeIndex> Tables<NI> {
         requires { len ≤ NI.MAX }
         ensures { IfOk result (AreEmpty NI.MAX len) }
     {
-        let nodes = len as usize;
+        let count = len as usize;
         probe::<NI>(alloc, len)?;
-        let offset = reserved(alloc, nodes)?;
-        let size = reserved(alloc, nodes)?;
-        let used = reserved(alloc, nodes)?;
-        let before = reserved(alloc, nodes)?;
-        let after = reserved(alloc, nodes)?;
-        let newer = reserved(alloc, nodes)?;
-        let older = reserved(alloc, nodes)?;
+        let nodes = reserved(alloc, count)?;
+        let used = reserved(alloc, count)?;
         let heads = reserved(alloc, 256)?;
-        let spare = reserved(alloc, nodes)?;
+        let spare = reserved(alloc, count)?;
         let none = no_link::<NI>();
+        let node = Node {
+            offset: 0,
+            size: 0,
+            before: none,
+            after: none,
+            newer: none,
+            older: none,
+        };
         Ok(Tables {
-            offset: filled(offset, 0, nodes)?,
-            size: filled(size, 0, nodes)?,
-            used: filled(used, false, nodes)?,
-            before: filled(before, none, nodes)?,
-            after: filled(after, none, nodes)?,
-            newer: filled(newer, none, nodes)?,
-            older: filled(older, none, nodes)?,
+            nodes: filled(nodes, node, count)?,
+            used: filled(used, false, count)?,
             heads: filled(heads, none, 256)?,
             masks: [0; 4],
             spare: rising(spare, len)?,
@@ -166,7 +170,7 @@ impl<NI: NodeIndex> Tables<NI> {
         ensures { AreShaped NI.MAX self.now }
     {
         // a look at a field recalls the invariant
-        let _ = &self.size;
+        let _ = &self.nodes;
     }
 
     /// The offset of a node.
@@ -176,7 +180,7 @@ impl<NI: NodeIndex> Tables<NI> {
         ensures count { count.new ≡ count.old + 1 }
     {
         count.tick();
-        self.offset[name as usize]
+        self.nodes[name as usize].offset
     }
 
     /// Writes the offset of a node.
@@ -186,7 +190,7 @@ impl<NI: NodeIndex> Tables<NI> {
         ensures count { count.new ≡ count.old + 1 }
     {
         count.tick();
-        self.offset[name as usize] = offset;
+        self.nodes[name as usize].offset = offset;
     }
 
     /// The size of a node.
@@ -196,7 +200,7 @@ impl<NI: NodeIndex> Tables<NI> {
         ensures count { count.new ≡ count.old + 1 }
     {
         count.tick();
-        self.size[name as usize]
+        self.nodes[name as usize].size
     }
 
     /// Writes the size of a node.
@@ -206,7 +210,7 @@ impl<NI: NodeIndex> Tables<NI> {
         ensures count { count.new ≡ count.old + 1 }
     {
         count.tick();
-        self.size[name as usize] = size;
+        self.nodes[name as usize].size = size;
     }
 
     /// Whether a node is used.
@@ -236,7 +240,7 @@ impl<NI: NodeIndex> Tables<NI> {
         ensures count { count.new ≡ count.old + 1 }
     {
         count.tick();
-        self.before[name as usize]
+        self.nodes[name as usize].before
     }
 
     /// Writes the link to the node before a node in space.
@@ -246,7 +250,7 @@ impl<NI: NodeIndex> Tables<NI> {
         ensures count { count.new ≡ count.old + 1 }
     {
         count.tick();
-        self.before[name as usize] = link;
+        self.nodes[name as usize].before = link;
     }
 
     /// The link to the node after a node in space.
@@ -256,7 +260,7 @@ impl<NI: NodeIndex> Tables<NI> {
         ensures count { count.new ≡ count.old + 1 }
     {
         count.tick();
-        self.after[name as usize]
+        self.nodes[name as usize].after
     }
 
     /// Writes the link to the node after a node in space.
@@ -266,7 +270,7 @@ impl<NI: NodeIndex> Tables<NI> {
         ensures count { count.new ≡ count.old + 1 }
     {
         count.tick();
-        self.after[name as usize] = link;
+        self.nodes[name as usize].after = link;
     }
 
     /// An entry of the stack of spare names.
@@ -296,7 +300,7 @@ impl<NI: NodeIndex> Tables<NI> {
         ensures count { count.new ≡ count.old + 1 }
     {
         count.tick();
-        self.newer[name as usize]
+        self.nodes[name as usize].newer
     }
 
     /// Writes the link to the next newer node of a node's class.
@@ -306,7 +310,7 @@ impl<NI: NodeIndex> Tables<NI> {
         ensures count { count.new ≡ count.old + 1 }
     {
         count.tick();
-        self.newer[name as usize] = link;
+        self.nodes[name as usize].newer = link;
     }
 
     /// The link to the next older node of a node's class.
@@ -316,7 +320,7 @@ impl<NI: NodeIndex> Tables<NI> {
         ensures count { count.new ≡ count.old + 1 }
     {
         count.tick();
-        self.older[name as usize]
+        self.nodes[name as usize].older
     }
 
     /// Writes the link to the next older node of a node's class.
@@ -326,7 +330,7 @@ impl<NI: NodeIndex> Tables<NI> {
         ensures count { count.new ≡ count.old + 1 }
     {
         count.tick();
-        self.older[name as usize] = link;
+        self.nodes[name as usize].older = link;
     }
 
     /// The link to the newest node of a class.
