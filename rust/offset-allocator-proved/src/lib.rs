@@ -1,7 +1,7 @@
 // Printed by rust/erase from crates/offset_allocator/src/lib.rt: change it there.
 
-//! Ranges of one contiguous space of `size` units, handed out and taken back in constant work. The space itself is
-//! never touched.
+//! Ranges of one contiguous space of `size` units, handed out and taken back with a bounded number of accesses to table
+//! cells. The space itself is never touched.
 //!
 //! ```
 //! # use offset_allocator_proved::*;
@@ -21,7 +21,7 @@
 #![expect(clippy::manual_map)] // a `match` needs no closure, whose calls would need a proof
 #![expect(clippy::needless_range_loop)] // so is a loop over places proved in few words
 #![expect(clippy::too_many_arguments)] // functions over the tables take the numbers that they change one by one
-#![expect(unused_variables)] // parameters that only contracts read
+#![expect(unused_variables)] // `last` of `chain::join_before` and `split_before`, which only contracts read
 
 extern crate alloc;
 
