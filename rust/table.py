@@ -42,7 +42,6 @@ LINTS = {
         "clippy::manual_map": "a `match` needs no closure, whose calls would need a proof",
         "clippy::needless_range_loop": "so is a loop over places proved in few words",
         "clippy::too_many_arguments": "functions over the tables take the numbers that they change one by one",
-        "unused_variables": "`last` of `chain::join_before` and `split_before`, which only contracts read",
     },
     "offset_script": {},
 }

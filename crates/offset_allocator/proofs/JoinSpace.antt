@@ -3,7 +3,7 @@ use Rattle.std.proofs.Common.{◌≡◌, ◌≢◌, ℕ, ◌+◌, ◌<◌, ◌�
 use Rattle.std.proofs.lemmas.Bool.{cases_eq}
 use Rattle.offset_allocator.specs.Cells.{Room, Node, node, put, with_spare}
 use Rattle.offset_allocator.specs.Named.{Block, named, times, one}
-use Rattle.offset_allocator.specs.Space.{size_in, first_or, last_or, IsChain, IsSpace, spares, Stands, blocks, name_after, join_block, give_block}
+use Rattle.offset_allocator.specs.Space.{HasPair, size_in, first_or, last_or, IsChain, IsSpace, spares, Stands, blocks, name_after, join_block, give_block}
 use Rattle.offset_allocator.proofs.Nodes.{node-put, node-put_other, length-put, spare-put, put-step}
 use Rattle.offset_allocator.proofs.Rows.{one-eq, one-other, times-append, times-first, times-join, units-append, last_or-append}
 use Rattle.offset_allocator.proofs.Found.{join_block-at, name_after-at}
@@ -87,13 +87,7 @@ back-chain c d m last count fs e b cs h join cells spare =
       fits = omega (arith, h.fits, units-append fs (e ∷ b ∷ cs), units-append fs (b' ∷ cs));
     }
 
--- the call: x stands, with y behind it
-pub record JoinAt (c : Room) (last count x y : ℕ) : Type 0 where
-  pub space : IsSpace c last count
-  pub standing : Stands x (blocks c last)
-  pub next : name_after x (blocks c last) ≡ Some y
-
-module _ (c : Room) (last count x y : ℕ) (j : JoinAt c last count x y) where
+module _ (c : Room) (last count x y : ℕ) (j : HasPair c last count x y) where
   abbrev m : ℕ
   m = length c.nodes
 
@@ -156,7 +150,7 @@ module _ (c : Room) (last count x y : ℕ) (j : JoinAt c last count x y) where
     stands_in z (omega (arith, times-end z fs q)),
   )
 
-  y_stands : Stands y (blocks c last)
+  pub y_stands : Stands y (blocks c last)
   y_stands = rw n.stood (omega (arith, times-append y fs (b ∷ d ∷ cs), one-eq y d.name n.name))
 
   pub size_x : (node c x).size ≡ size_in x (blocks c last)
@@ -268,14 +262,14 @@ backed-from t w₁ w₂ w₃ w x o z a l eo ez ea e₁ e₂ e₃ =
     e₃ ∙ put-step t w₂ x _ (λ v. record v { before = a }) l f₂ ∙ ap (λ (k : ℕ). put t x (record (node t x) { offset = (node t w).offset; size = k; before = a })) ez ∙ ap (λ i. put t x (record (node t x) { offset = (node t w).offset; size = (node t w).size + (node t x).size; before = i })) ea
 
 -- the link of a neighbour after the writes, of a call that knows both sizes
-pub linked-after : (t w₁ w₂ f : Room) (last count x y z : ℕ) (a : Option ℕ) → JoinAt t last count x y → z ≡ size_in x (blocks t last) + size_in y (blocks t last) → a ≡ (node t y).after → w₁ ≡ put t x (record (node t x) { size = z }) → w₂ ≡ put w₁ x (record (node w₁ x) { after = a }) → IsLinked a f w₂ x → IsLinked (node t y).after f (joined t x y) x
+pub linked-after : (t w₁ w₂ f : Room) (last count x y z : ℕ) (a : Option ℕ) → HasPair t last count x y → z ≡ size_in x (blocks t last) + size_in y (blocks t last) → a ≡ (node t y).after → w₁ ≡ put t x (record (node t x) { size = z }) → w₂ ≡ put w₁ x (record (node w₁ x) { after = a }) → IsLinked a f w₂ x → IsLinked (node t y).after f (joined t x y) x
 linked-after t w₁ w₂ f last count x y z a j ez ea e₁ e₂ l =
     let total : z ≡ (node t x).size + (node t y).size = omega (arith, size_x t last count x y j, size_y t last count x y j) in
     let is = joined-from t w₁ w₂ x y z a (x_below t last count x y j) total ea e₁ e₂ in
     let P : Option ℕ → Room → Type 0 = λ link w. IsLinked link f w x in
     subst (λ link. P link (joined t x y)) ea (subst (P a) is l)
 
-pub linked-before : (t w₁ w₂ w₃ f : Room) (last count w x o z : ℕ) (a : Option ℕ) → JoinAt t last count w x → z ≡ size_in w (blocks t last) + size_in x (blocks t last) → o ≡ (node t w).offset → a ≡ (node t w).before → w₁ ≡ put t x (record (node t x) { offset = o }) → w₂ ≡ put w₁ x (record (node w₁ x) { size = z }) → w₃ ≡ put w₂ x (record (node w₂ x) { before = a }) → IsLinkedOn a f w₃ x → IsLinkedOn (node t w).before f (backed t w x) x
+pub linked-before : (t w₁ w₂ w₃ f : Room) (last count w x o z : ℕ) (a : Option ℕ) → HasPair t last count w x → z ≡ size_in w (blocks t last) + size_in x (blocks t last) → o ≡ (node t w).offset → a ≡ (node t w).before → w₁ ≡ put t x (record (node t x) { offset = o }) → w₂ ≡ put w₁ x (record (node w₁ x) { size = z }) → w₃ ≡ put w₂ x (record (node w₂ x) { before = a }) → IsLinkedOn a f w₃ x → IsLinkedOn (node t w).before f (backed t w x) x
 linked-before t w₁ w₂ w₃ f last count w x o z a j ez eo ea e₁ e₂ e₃ l =
     let total : z ≡ (node t w).size + (node t x).size = omega (arith, size_x t last count w x j, size_y t last count w x j) in
     let is = backed-from t w₁ w₂ w₃ w x o z a (y_below t last count w x j) eo total ea e₁ e₂ e₃ in

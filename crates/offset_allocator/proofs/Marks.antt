@@ -47,6 +47,3 @@ mark-space c d last count x u h st e =
     let done = mark-chain c d m last count s.front s.here s.back u (subst P s.is h) (rw s.name_is s.below) (subst Q (sym s.name_is) e) in
     let list : mark_block x u (blocks c last) ≡ s.front ++ record s.here { used = u } ∷ s.back = ap (λ l. mark_block x u l) s.is ∙ ap (λ v. mark_block v u (s.front ++ s.here ∷ s.back)) (sym s.name_is) ∙ mark_block-at s.front s.here s.back u s.absent in
     rw list done
-
-pub mark-below : (c : Room) (last count x : ℕ) → IsSpace c last count → Stands x (blocks c last) → x < length c.nodes
-mark-below c last count x h st = (spot c (length c.nodes) last count x (blocks c last) h st).below

@@ -94,6 +94,17 @@ size_in x (b ∷ bs) = cond (b.name == x) b.size (size_in x bs)
 abbrev pub Stands : ℕ → List Block → Type 0
 Stands x bs = 1 ≤ named x bs
 
+-- the tables hold a chain with a block of this name
+pub record HasBlock (c : Room) (last count x : ℕ) : Type 0 where
+  pub space : IsSpace c last count
+  pub standing : Stands x (blocks c last)
+
+-- the tables hold a chain with a block x directly before a block y
+pub record HasPair (c : Room) (last count x y : ℕ) : Type 0 where
+  pub space : IsSpace c last count
+  pub standing : Stands x (blocks c last)
+  pub next : name_after x (blocks c last) ≡ Some y
+
 -- the block named x made used or free
 abbrev pub mark_block : ℕ → Bool → List Block → List Block
 mark_block x u [] = []

@@ -3,7 +3,7 @@
 ghost use Rattle.std.specs.Prelude.{ℕ, ◌≡◌, ◌+◌, ◌-◌, ◌<◌, ◌≤◌, ◌^◌, [], ◌∷◌, length, MatchOption, IfSome, false, Some, None};
 ghost use Rattle.offset_allocator.specs.Named.{free_block, is_used_at, named, place_of, units};
 ghost use Rattle.offset_allocator.specs.Cells.{AreEmpty, node, put, link_of};
-ghost use Rattle.offset_allocator.specs.Space.{IsSpace, Stands, blocks, split_block, join_block, give_block, mark_block, offset_in, size_in, name_before, name_after};
+ghost use Rattle.offset_allocator.specs.Space.{IsSpace, HasBlock, HasPair, Stands, blocks, split_block, join_block, give_block, mark_block, offset_in, size_in, name_before, name_after};
 ghost use Rattle.offset_allocator.specs.Parts.{split_front, grow_last};
 
 use crate::accesses::Accesses;
@@ -225,20 +225,17 @@ pub(crate) fn join_after<NI: NodeIndex>(
 /// `previous` is unused again.
 pub(crate) fn join_before<NI: NodeIndex>(
     tables: &mut Tables<NI>,
-    last: u32,
     spare_count: &mut u32,
     previous: u32,
     name: u32,
     total: u32,
     count: &mut Accesses,
 )
-    requires space { IsSpace tables.old.room last spare_count.old }
-    requires standing { Stands previous (blocks tables.old.room last) }
-    requires next { name_after previous (blocks tables.old.room last) ≡ Some name }
+    requires pair { (last : ℕ) × HasPair tables.old.room last spare_count.old previous name }
     requires free { (node tables.old.room previous).used ≡ false }
-    requires total { total ≡ size_in previous (blocks tables.old.room last) + size_in name (blocks tables.old.room last) }
-    ensures space { IsSpace tables.new.room last spare_count.new }
-    ensures blocks { blocks tables.new.room last ≡ give_block previous (blocks tables.old.room last) }
+    requires total { total ≡ (node tables.old.room previous).size + (node tables.old.room name).size }
+    ensures space { (last : ℕ) → HasPair tables.old.room last spare_count.old previous name → IsSpace tables.new.room last spare_count.new }
+    ensures blocks { (last : ℕ) → HasPair tables.old.room last spare_count.old previous name → blocks tables.new.room last ≡ give_block previous (blocks tables.old.room last) }
     ensures links { tables.new.links ≡ tables.old.links }
     ensures limit { length tables.new.room.nodes ≡ length tables.old.room.nodes }
     ensures grows { count.old ≤ count.new }
@@ -276,22 +273,20 @@ pub(crate) fn mark<NI: NodeIndex>(
 /// answered.
 pub(crate) fn split_before<NI: NodeIndex>(
     tables: &mut Tables<NI>,
-    last: u32,
     spare_count: &mut u32,
     name: u32,
     cut: u32,
     count: &mut Accesses,
 ) -> u32
-    requires space { IsSpace tables.old.room last spare_count.old }
-    requires standing { Stands name (blocks tables.old.room last) }
+    requires block { (last : ℕ) × HasBlock tables.old.room last spare_count.old name }
     requires room { 0 < spare_count.old }
-    requires within { cut ≤ size_in name (blocks tables.old.room last) }
-    ensures space { IsSpace tables.new.room last spare_count.new }
-    ensures blocks { blocks tables.new.room last ≡ split_front name cut result (blocks tables.old.room last) }
+    requires within { cut ≤ (node tables.old.room name).size }
+    ensures space { (last : ℕ) → HasBlock tables.old.room last spare_count.old name → IsSpace tables.new.room last spare_count.new }
+    ensures blocks { (last : ℕ) → HasBlock tables.old.room last spare_count.old name → blocks tables.new.room last ≡ split_front name cut result (blocks tables.old.room last) }
     ensures links { tables.new.links ≡ tables.old.links }
     ensures limit { length tables.new.room.nodes ≡ length tables.old.room.nodes }
     ensures left { spare_count.new + 1 ≡ spare_count.old }
-    ensures fresh { named result (blocks tables.old.room last) ≡ 0 }
+    ensures fresh { (last : ℕ) → HasBlock tables.old.room last spare_count.old name → named result (blocks tables.old.room last) ≡ 0 }
     ensures below { result < length tables.old.room.nodes }
     ensures grows { count.old ≤ count.new }
     ensures count { count.new ≤ count.old + 12 }

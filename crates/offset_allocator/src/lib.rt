@@ -290,7 +290,6 @@ impl<NI: NodeIndex> Allocator<NI> {
         let size = merge::with_before(
             &mut self.tables,
             &mut self.top_mask,
-            self.last,
             &mut self.spare_count,
             name,
             size,

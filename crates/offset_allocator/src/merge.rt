@@ -1,7 +1,8 @@
 //! Joins a block with the free blocks beside it, which leave their classes.
-ghost use Rattle.std.specs.Prelude.{◌≡◌, ◌+◌, ◌≤◌, length};
+ghost use Rattle.std.specs.Prelude.{ℕ, ◌≡◌, ◌+◌, ◌≤◌, length};
+ghost use Rattle.offset_allocator.specs.Cells.{node};
 ghost use Rattle.offset_allocator.specs.Named.{place_of, remove_all};
-ghost use Rattle.offset_allocator.specs.Space.{IsSpace, Stands, blocks, size_in};
+ghost use Rattle.offset_allocator.specs.Space.{IsSpace, HasBlock, Stands, blocks, size_in};
 ghost use Rattle.offset_allocator.specs.Orders.{Binned, class_lists};
 ghost use Rattle.offset_allocator.specs.State.{AreListed, merge_before, gone_before, merge_after, gone_after};
 
@@ -14,23 +15,20 @@ use crate::{bins, chain};
 pub(crate) fn with_before<NI: NodeIndex>(
     tables: &mut Tables<NI>,
     top_mask: &mut u32,
-    last: u32,
     spare_count: &mut u32,
     name: u32,
     size: u32,
     count: &mut Accesses,
 ) -> u32
-    requires space { IsSpace tables.old.room last spare_count.old }
+    requires block { (last : ℕ) × HasBlock tables.old.room last spare_count.old name × AreListed (blocks tables.old.room last) (class_lists NI.MAX tables.old.links) }
     requires held { Binned NI.MAX tables.old.links top_mask.old }
-    requires standing { Stands name (blocks tables.old.room last) }
-    requires size { size ≡ size_in name (blocks tables.old.room last) }
-    requires listed { AreListed (blocks tables.old.room last) (class_lists NI.MAX tables.old.links) }
-    ensures space { IsSpace tables.new.room last spare_count.new }
+    requires size { size ≡ (node tables.old.room name).size }
+    ensures space { (last : ℕ) → HasBlock tables.old.room last spare_count.old name → IsSpace tables.new.room last spare_count.new }
     ensures held { Binned NI.MAX tables.new.links top_mask.new }
-    ensures blocks { blocks tables.new.room last ≡ merge_before name (blocks tables.old.room last) }
-    ensures lists { class_lists NI.MAX tables.new.links ≡ remove_all (gone_before (place_of name (blocks tables.old.room last))) (class_lists NI.MAX tables.old.links) }
+    ensures blocks { (last : ℕ) → HasBlock tables.old.room last spare_count.old name → blocks tables.new.room last ≡ merge_before name (blocks tables.old.room last) }
+    ensures lists { (last : ℕ) → HasBlock tables.old.room last spare_count.old name → class_lists NI.MAX tables.new.links ≡ remove_all (gone_before (place_of name (blocks tables.old.room last))) (class_lists NI.MAX tables.old.links) }
     ensures limit { length tables.new.room.nodes ≡ length tables.old.room.nodes }
-    ensures size { result ≡ size_in name (blocks tables.new.room last) }
+    ensures size { (last : ℕ) → HasBlock tables.old.room last spare_count.old name → result ≡ size_in name (blocks tables.new.room last) }
     ensures grows { count.old + 1 ≤ count.new }
     ensures count { count.new ≤ count.old + 17 }
 {
@@ -38,15 +36,7 @@ pub(crate) fn with_before<NI: NodeIndex>(
         if !chain::is_used(tables, previous, count) {
             let more = chain::size(tables, previous, count);
             bins::remove(tables, top_mask, previous, more, count);
-            chain::join_before(
-                tables,
-                last,
-                spare_count,
-                previous,
-                name,
-                more + size,
-                count,
-            );
+            chain::join_before(tables, spare_count, previous, name, more + size, count);
             return more + size;
         }
     }

@@ -1,7 +1,8 @@
 //! Takes a block apart: a free front, a used middle, and a free rest.
-ghost use Rattle.std.specs.Prelude.{◌≡◌, ◌≢◌, ◌+◌, ◌<◌, ◌≤◌, length, ◌∷◌, ◌++◌};
+ghost use Rattle.std.specs.Prelude.{ℕ, ◌≡◌, ◌≢◌, ◌+◌, ◌<◌, ◌≤◌, length, ◌∷◌, ◌++◌};
+ghost use Rattle.offset_allocator.specs.Cells.{node};
 ghost use Rattle.offset_allocator.specs.Named.{named, free_part, used_block, put_all};
-ghost use Rattle.offset_allocator.specs.Space.{IsSpace, Stands, blocks, size_in};
+ghost use Rattle.offset_allocator.specs.Space.{IsSpace, HasBlock, Stands, blocks, size_in};
 ghost use Rattle.offset_allocator.specs.Orders.{Binned, class_lists};
 ghost use Rattle.offset_allocator.specs.Parts.{with_front, with_rest, carved, AreUnlisted};
 
@@ -16,26 +17,23 @@ use crate::{bins, chain};
 fn cut_front<NI: NodeIndex>(
     tables: &mut Tables<NI>,
     top_mask: &mut u32,
-    last: u32,
     spare_count: &mut u32,
     name: u32,
     units: u32,
     count: &mut Accesses,
 ) -> u32
-    requires space { IsSpace tables.old.room last spare_count.old }
+    requires block { (last : ℕ) × HasBlock tables.old.room last spare_count.old name × AreUnlisted (blocks tables.old.room last) (class_lists NI.MAX tables.old.links) }
     requires held { Binned NI.MAX tables.old.links top_mask.old }
-    requires standing { Stands name (blocks tables.old.room last) }
     requires room { 0 < spare_count.old }
-    requires within { units ≤ size_in name (blocks tables.old.room last) }
-    requires unlisted { AreUnlisted (blocks tables.old.room last) (class_lists NI.MAX tables.old.links) }
-    ensures space { IsSpace tables.new.room last spare_count.new }
+    requires within { units ≤ (node tables.old.room name).size }
+    ensures space { (last : ℕ) → HasBlock tables.old.room last spare_count.old name → IsSpace tables.new.room last spare_count.new }
     ensures held { Binned NI.MAX tables.new.links top_mask.new }
-    ensures blocks { blocks tables.new.room last ≡ with_front name units result (blocks tables.old.room last) }
+    ensures blocks { (last : ℕ) → HasBlock tables.old.room last spare_count.old name → blocks tables.new.room last ≡ with_front name units result (blocks tables.old.room last) }
     ensures lists { class_lists NI.MAX tables.new.links ≡ put_all (free_part result units) (class_lists NI.MAX tables.old.links) }
-    ensures unlisted { AreUnlisted (blocks tables.new.room last) (class_lists NI.MAX tables.new.links) }
+    ensures unlisted { (last : ℕ) → HasBlock tables.old.room last spare_count.old name → AreUnlisted (blocks tables.old.room last) (class_lists NI.MAX tables.old.links) → AreUnlisted (blocks tables.new.room last) (class_lists NI.MAX tables.new.links) }
     ensures limit { length tables.new.room.nodes ≡ length tables.old.room.nodes }
     ensures left { spare_count.old ≤ spare_count.new + 1 }
-    ensures fresh { 0 < units → named result (blocks tables.old.room last) ≡ 0 }
+    ensures fresh { 0 < units → (last : ℕ) → HasBlock tables.old.room last spare_count.old name → named result (blocks tables.old.room last) ≡ 0 }
     ensures below { 0 < units → result < length tables.old.room.nodes }
     ensures grows { count.old ≤ count.new }
     ensures count { count.new ≤ count.old + 18 }
@@ -43,7 +41,7 @@ fn cut_front<NI: NodeIndex>(
     if units == 0 {
         return name;
     }
-    let front = chain::split_before(tables, last, spare_count, name, units, count);
+    let front = chain::split_before(tables, spare_count, name, units, count);
     tables.shape();
     bins::put_first(
         tables,
@@ -138,7 +136,7 @@ pub(crate) fn carve<NI: NodeIndex>(
     ensures grows { count.old + 1 ≤ count.new }
     ensures count { count.new ≤ count.old + 35 }
 {
-    let front = cut_front(tables, top_mask, *last, spare_count, name, padding, count);
+    let front = cut_front(tables, top_mask, spare_count, name, padding, count);
     chain::mark(tables, name, true, count);
     let rest = cut_rest(tables, top_mask, last, spare_count, name, size, left, count);
     (front, rest)

@@ -144,7 +144,6 @@ pub(crate) fn join_after<NI: NodeIndex>(
 /// `previous` is unused again.
 pub(crate) fn join_before<NI: NodeIndex>(
     tables: &mut Tables<NI>,
-    last: u32,
     spare_count: &mut u32,
     previous: u32,
     name: u32,
@@ -176,7 +175,6 @@ pub(crate) fn mark<NI: NodeIndex>(
 /// answered.
 pub(crate) fn split_before<NI: NodeIndex>(
     tables: &mut Tables<NI>,
-    last: u32,
     spare_count: &mut u32,
     name: u32,
     cut: u32,

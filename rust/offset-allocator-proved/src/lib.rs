@@ -21,7 +21,6 @@
 #![expect(clippy::manual_map)] // a `match` needs no closure, whose calls would need a proof
 #![expect(clippy::needless_range_loop)] // so is a loop over places proved in few words
 #![expect(clippy::too_many_arguments)] // functions over the tables take the numbers that they change one by one
-#![expect(unused_variables)] // `last` of `chain::join_before` and `split_before`, which only contracts read
 
 extern crate alloc;
 
@@ -230,7 +229,6 @@ impl<NI: NodeIndex> Allocator<NI> {
         let size = merge::with_before(
             &mut self.tables,
             &mut self.top_mask,
-            self.last,
             &mut self.spare_count,
             name,
             size,

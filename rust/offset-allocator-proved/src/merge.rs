@@ -11,7 +11,6 @@ use crate::{bins, chain};
 pub(crate) fn with_before<NI: NodeIndex>(
     tables: &mut Tables<NI>,
     top_mask: &mut u32,
-    last: u32,
     spare_count: &mut u32,
     name: u32,
     size: u32,
@@ -21,15 +20,7 @@ pub(crate) fn with_before<NI: NodeIndex>(
         if !chain::is_used(tables, previous, count) {
             let more = chain::size(tables, previous, count);
             bins::remove(tables, top_mask, previous, more, count);
-            chain::join_before(
-                tables,
-                last,
-                spare_count,
-                previous,
-                name,
-                more + size,
-                count,
-            );
+            chain::join_before(tables, spare_count, previous, name, more + size, count);
             return more + size;
         }
     }

@@ -13,7 +13,6 @@ use crate::{bins, chain};
 fn cut_front<NI: NodeIndex>(
     tables: &mut Tables<NI>,
     top_mask: &mut u32,
-    last: u32,
     spare_count: &mut u32,
     name: u32,
     units: u32,
@@ -22,7 +21,7 @@ fn cut_front<NI: NodeIndex>(
     if units == 0 {
         return name;
     }
-    let front = chain::split_before(tables, last, spare_count, name, units, count);
+    let front = chain::split_before(tables, spare_count, name, units, count);
     tables.shape();
     bins::put_first(
         tables,
@@ -84,7 +83,7 @@ pub(crate) fn carve<NI: NodeIndex>(
     left: u32,
     count: &mut Accesses,
 ) -> (u32, u32) {
-    let front = cut_front(tables, top_mask, *last, spare_count, name, padding, count);
+    let front = cut_front(tables, top_mask, spare_count, name, padding, count);
     chain::mark(tables, name, true, count);
     let rest = cut_rest(tables, top_mask, last, spare_count, name, size, left, count);
     (front, rest)

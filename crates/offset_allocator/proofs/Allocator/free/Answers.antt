@@ -7,7 +7,7 @@ use Rattle.offset_allocator.specs.Orders.{class_lists, IsUnlisted}
 use Rattle.offset_allocator.specs.State.{Fields, AreSound, shown, merge_after, gone_after}
 use Rattle.offset_allocator.proofs.Joints.{with_accesses}
 use Rattle.offset_allocator.proofs.Sizes.{down_small}
-use Rattle.offset_allocator.proofs.Spot.{here_below}
+use Rattle.offset_allocator.proofs.Spot.{here_below, size-told}
 use Rattle.offset_allocator.proofs.Freeing.{stands, at, size_at_x, room_for, listed_first, filed_listed, joined_once, left_once, joined_twice, left_twice, whole_size, first_blocks, first_lists, second_blocks, second_lists, filed_first, stands_first, stands_second, marked_second, unlisted_second, freed, named_live}
 use Rattle.offset_allocator.proofs.Ranges.{freed_gone, freed_others}
 use Rattle.offset_allocator.proofs.Sound.{fields_of, known_sound}
@@ -46,8 +46,8 @@ release g c = record { sound = c.self.invariant; live = named_live _ _ _ _ c.sel
 once : (g : Over) (c : After-with_before-size g) (r : Release (fields_of g.NI.NodeIndex.MAX c.self.inside) c.number-name.result)
     → Once r c.with_before-size.new.tables c.self.inside.last
 once g c r = record {
-  chain = c.with_before-size.ensures.blocks ∙ first_blocks _ r.sound _ r.live;
-  order = c.with_before-size.ensures.lists ∙ first_lists _ r.sound _ r.live;
+  chain = c.with_before-size.ensures.blocks _ (record { space = r.sound.space; standing = stands (fields r) r.sound _ r.live }) ∙ first_blocks _ r.sound _ r.live;
+  order = c.with_before-size.ensures.lists _ (record { space = r.sound.space; standing = stands (fields r) r.sound _ r.live }) ∙ first_lists _ r.sound _ r.live;
 }
 
 twice : (g : Over) (c : After-with_after-size g) (r : Release (fields_of g.NI.NodeIndex.MAX c.self.inside) c.number-name.result)
@@ -107,17 +107,23 @@ overflow_add-self g c =
 pub with_before-size-requires-clause-size : goal.with_before-size-requires-clause-size
 with_before-size-requires-clause-size g c =
     let r = release g (goal.at.with_before-size-requires-clause-size g c).After-self in
-    c.size-size.ensures.size _ _ r.sound.space (stands (fields r) r.sound _ r.live)
+    let stood = stands (fields r) r.sound _ r.live in
+    c.size-size.ensures.size _ _ r.sound.space stood ∙ sym (size-told _ _ _ _ r.sound.space stood)
 
-pub with_before-size-requires-clause-standing : goal.with_before-size-requires-clause-standing
-with_before-size-requires-clause-standing g c =
-    let r = release g (goal.at.with_before-size-requires-clause-standing g c).After-self in
-    stands (fields r) r.sound _ r.live
+pub with_before-size-requires-clause-block : goal.with_before-size-requires-clause-block
+with_before-size-requires-clause-block g c =
+    let r = release g (goal.at.with_before-size-requires-clause-block g c).After-self in
+    (_, record { space = r.sound.space; standing = stands (fields r) r.sound _ r.live }, listed_first (fields r) r.sound _ r.live)
 
-pub with_before-size-requires-clause-listed : goal.with_before-size-requires-clause-listed
-with_before-size-requires-clause-listed g c =
-    let r = release g (goal.at.with_before-size-requires-clause-listed g c).After-self in
-    listed_first (fields r) r.sound _ r.live
+pub with_after-size-requires-clause-space : goal.with_after-size-requires-clause-space
+with_after-size-requires-clause-space g c =
+    let r = release g (goal.at.with_after-size-requires-clause-space g c).After-self in
+    c.with_before-size.ensures.space _ (record { space = r.sound.space; standing = stands (fields r) r.sound _ r.live })
+
+pub with_after-size-requires-clause-size : goal.with_after-size-requires-clause-size
+with_after-size-requires-clause-size g c =
+    let r = release g (goal.at.with_after-size-requires-clause-size g c).After-self in
+    c.with_before-size.ensures.size _ (record { space = r.sound.space; standing = stands (fields r) r.sound _ r.live })
 
 pub with_after-size-requires-clause-standing : goal.with_after-size-requires-clause-standing
 with_after-size-requires-clause-standing g c =

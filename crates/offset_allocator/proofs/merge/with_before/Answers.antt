@@ -1,7 +1,7 @@
-use Rattle.std.proofs.Common.{◌≡◌, ◌∙◌, ℕ, sym, ap, arith}
+use Rattle.std.proofs.Common.{◌≡◌, ◌∙◌, ℕ, Some, None, subst, sym, ap, arith}
 use Rattle.offset_allocator.specs.Classes.{down}
-use Rattle.offset_allocator.specs.Cells.{node}
-use Rattle.offset_allocator.specs.Space.{blocks, size_in, give_block}
+use Rattle.offset_allocator.specs.Cells.{Room, node}
+use Rattle.offset_allocator.specs.Space.{HasBlock, HasPair, blocks, size_in, name_before, give_block}
 use Rattle.offset_allocator.proofs.Spot.{size-told, before-told}
 use Rattle.offset_allocator.proofs.Told.{used_told}
 use Rattle.offset_allocator.proofs.Merging.{Standing, Pair, standing, before_pair, kept_none, kept_used, joined_free, listed_before, given_size, given_fits}
@@ -9,81 +9,110 @@ use Rattle.offset_allocator.proofs.merge.with_before.Goals as goal
 use Rattle.offset_allocator.proofs.merge.with_before.Goals.{In-Some}
 use Rattle.offset_allocator.proofs.merge.with_before.Given.{Over}
 
--- where the block stands
-here : (g : Over) (c : In-Some g) → Standing c.args.tables.now.room (blocks c.args.tables.now.room c.args.last) c.args.name
-here g c = standing _ _ _ _ c.requires.space c.requires.standing
+-- the tables hold the block
+abbrev Has : (g : Over) → In-Some g → ℕ → Type 0
+Has g c last = HasBlock c.args.tables.now.room last c.args.spare_count.now c.args.name
+
+-- where it stands
+here : (g : Over) (c : In-Some g) (last : ℕ) (h : Has g c last) → Standing c.args.tables.now.room (blocks c.args.tables.now.room last) c.args.name
+here g c last h = standing _ _ _ _ h.space h.standing
 
 -- the block directly before it
-pair : (g : Over) (c : In-Some g) → Pair c.args.tables.now.room (blocks c.args.tables.now.room c.args.last) c.in-Some.previous c.args.name (here g c)
-pair g c = before_pair _ _ _ _ c.requires.space (here g c) c.in-Some.previous (before-told _ _ _ _ c.requires.space c.requires.standing ∙ sym (c.in-Some.ensures.before _ _ c.requires.space c.requires.standing))
+pair : (g : Over) (c : In-Some g) (last : ℕ) (h : Has g c last) → Pair c.args.tables.now.room (blocks c.args.tables.now.room last) c.in-Some.previous c.args.name (here g c last h)
+pair g c last h = before_pair _ _ _ _ h.space (here g c last h) c.in-Some.previous (before-told _ _ _ _ h.space h.standing ∙ sym (c.in-Some.ensures.before _ _ h.space h.standing))
 
 -- the class of the size that is read for it
-class_is : (g : Over) (c : In-Some g) (k : ℕ) →
-    k ≡ size_in c.in-Some.previous (blocks c.args.tables.now.room c.args.last) → down k ≡ down (node c.args.tables.now.room c.in-Some.previous).size
-class_is g c k e = ap down (e ∙ sym (size-told _ _ _ _ c.requires.space (pair g c).stands))
+class_is : (g : Over) (c : In-Some g) (last : ℕ) → Has g c last → (k : ℕ) →
+    k ≡ size_in c.in-Some.previous (blocks c.args.tables.now.room last) → down k ≡ down (node c.args.tables.now.room c.in-Some.previous).size
+class_is g c last h k e = ap down (e ∙ sym (size-told _ _ _ _ h.space (pair g c last h).stands))
+
+-- both, in tables with the same nodes
+joins : {c d : Room} {last count w x : ℕ} (h : HasBlock c last count x) → Some w ≡ name_before None x (blocks c last) → d ≡ c → HasPair d last count w x
+joins {c} {d} {last} {count} {w} {x} h e same =
+    let p = before_pair _ _ _ _ h.space (standing _ _ _ _ h.space h.standing) w (before-told _ _ _ _ h.space h.standing ∙ sym e) in
+    subst (λ (r : Room). HasPair r last count w x) (sym same) (record { space = h.space; standing = p.stands; next = p.next })
 
 pub is_used-requires : goal.is_used-requires
-is_used-requires g c = (pair g (goal.at.is_used-requires g c).In-Some).below
+is_used-requires g c = (pair g (goal.at.is_used-requires g c).In-Some _ c.requires.block.1).below
 
 pub size-more-requires : goal.size-more-requires
-size-more-requires g c = (pair g (goal.at.size-more-requires g c).In-Some).below
+size-more-requires g c = (pair g (goal.at.size-more-requires g c).In-Some _ c.requires.block.1).below
 
 pub remove-requires-clause-listed : goal.remove-requires-clause-listed
 remove-requires-clause-listed g c =
     let arm = (goal.at.remove-requires-clause-listed g c).In-Some in
-    listed_before _ _ _ _ c.requires.space _ _ (pair g arm) _ c.requires.listed (used_told _ _ _ _ c.requires.space ∙ sym (c.if-not-is_used.ensures.used _ _ c.requires.space)) _ (class_is g arm _ (c.size-more.ensures.size _ _ c.requires.space (pair g arm).stands))
+    listed_before _ _ _ _ c.requires.block.1.space _ _ (pair g arm _ c.requires.block.1) _ c.requires.block.2 (used_told _ _ _ _ c.requires.block.1.space ∙ sym (c.if-not-is_used.ensures.used _ _ c.requires.block.1.space)) _ (class_is g arm _ c.requires.block.1 _ (c.size-more.ensures.size _ _ c.requires.block.1.space (pair g arm _ c.requires.block.1).stands))
 
-pub join_before-requires-clause-standing : goal.join_before-requires-clause-standing
-join_before-requires-clause-standing g c = rw c.remove.ensures.room (pair g (goal.at.join_before-requires-clause-standing g c).In-Some).stands
-
-pub join_before-requires-clause-next : goal.join_before-requires-clause-next
-join_before-requires-clause-next g c = rw c.remove.ensures.room (pair g (goal.at.join_before-requires-clause-next g c).In-Some).next
+pub join_before-requires-clause-pair : goal.join_before-requires-clause-pair
+join_before-requires-clause-pair g c =
+    let h = c.requires.block.1 in
+    (_, joins h (c.in-Some.ensures.before _ _ h.space h.standing) c.remove.ensures.room)
 
 pub join_before-requires-clause-free : goal.join_before-requires-clause-free
-join_before-requires-clause-free g c = rw c.remove.ensures.room (used_told _ _ _ _ c.requires.space ∙ sym (c.if-not-is_used.ensures.used _ _ c.requires.space))
+join_before-requires-clause-free g c = rw c.remove.ensures.room (used_told _ _ _ _ c.requires.block.1.space ∙ sym (c.if-not-is_used.ensures.used _ _ c.requires.block.1.space))
 
 pub join_before-requires-clause-total : goal.join_before-requires-clause-total
-join_before-requires-clause-total g c = rw c.remove.ensures.room (omega (arith, (c.size-more.ensures.size _ _ c.requires.space (pair g (goal.at.join_before-requires-clause-total g c).In-Some).stands), c.requires.size))
+join_before-requires-clause-total g c =
+    let h = c.requires.block.1 in
+    let p = pair g (goal.at.join_before-requires-clause-total g c).In-Some _ h in
+    rw c.remove.ensures.room (omega (arith, c.size-more.ensures.size _ _ h.space p.stands, size-told _ _ _ _ h.space p.stands, c.requires.size))
 
 -- the blocks that the join leaves
-given : (g : Over) (c : goal.After-join_before g) → blocks c.join_before.new.tables.room c.args.last ≡ give_block c.in-Some.previous (blocks c.args.tables.now.room c.args.last)
-given g c = rw c.remove.ensures.room at c.join_before.ensures.blocks
+given : (g : Over) (c : goal.After-join_before g) (last : ℕ) → HasBlock c.args.tables.now.room last c.args.spare_count.now c.args.name → blocks c.join_before.new.tables.room last ≡ give_block c.in-Some.previous (blocks c.args.tables.now.room last)
+given g c last h =
+    let left = c.join_before.ensures.blocks _ (joins h (c.in-Some.ensures.before _ _ h.space h.standing) c.remove.ensures.room) in
+    rw c.remove.ensures.room at left
 
 pub returns-then-not-is_used-clause-blocks : goal.returns-then-not-is_used-clause-blocks
-returns-then-not-is_used-clause-blocks g c =
-    given g c ∙ (joined_free _ _ _ _ c.requires.space _ _ (pair g (goal.at.returns-then-not-is_used-clause-blocks g c).In-Some) (used_told _ _ _ _ c.requires.space ∙ sym (c.if-not-is_used.ensures.used _ _ c.requires.space))).0
+returns-then-not-is_used-clause-blocks g c last h =
+    given g c last h ∙ (joined_free _ _ _ _ h.space _ _ (pair g (goal.at.returns-then-not-is_used-clause-blocks g c).In-Some last h) (used_told _ _ _ _ h.space ∙ sym (c.if-not-is_used.ensures.used _ _ h.space))).0
 
 pub returns-then-not-is_used-clause-lists : goal.returns-then-not-is_used-clause-lists
-returns-then-not-is_used-clause-lists g c =
+returns-then-not-is_used-clause-lists g c last h =
     let arm = (goal.at.returns-then-not-is_used-clause-lists g c).In-Some in
-    let gone = (joined_free _ _ _ _ c.requires.space _ _ (pair g arm) (used_told _ _ _ _ c.requires.space ∙ sym (c.if-not-is_used.ensures.used _ _ c.requires.space))).1 _ _ (class_is g arm _ (c.size-more.ensures.size _ _ c.requires.space (pair g arm).stands)) in
+    let gone = (joined_free _ _ _ _ h.space _ _ (pair g arm last h) (used_told _ _ _ _ h.space ∙ sym (c.if-not-is_used.ensures.used _ _ h.space))).1 _ _ (class_is g arm last h _ (c.size-more.ensures.size _ _ h.space (pair g arm last h).stands)) in
     rw (c.join_before.ensures.links, c.remove.ensures.lists) gone
 
 pub returns-then-not-is_used-clause-size : goal.returns-then-not-is_used-clause-size
-returns-then-not-is_used-clause-size g c =
-    let sum = given_size _ _ _ _ c.requires.space _ _ (pair g (goal.at.returns-then-not-is_used-clause-size g c).In-Some) in
-    omega (arith, (c.size-more.ensures.size _ _ c.requires.space (pair g (goal.at.returns-then-not-is_used-clause-size g c).In-Some).stands), c.requires.size, sum, ap (size_in c.args.name) (given g c))
+returns-then-not-is_used-clause-size g c last h =
+    let sum = given_size _ _ _ _ h.space _ _ (pair g (goal.at.returns-then-not-is_used-clause-size g c).In-Some last h) in
+    omega (arith, (c.size-more.ensures.size _ _ h.space (pair g (goal.at.returns-then-not-is_used-clause-size g c).In-Some last h).stands), c.requires.size, size-told _ _ _ _ h.space h.standing, sum, ap (size_in c.args.name) (given g c last h))
 
 pub returns-else-not-is_used-clause-blocks : goal.returns-else-not-is_used-clause-blocks
-returns-else-not-is_used-clause-blocks g c =
-    sym (kept_used _ _ _ _ c.requires.space _ _ (pair g (goal.at.returns-else-not-is_used-clause-blocks g c).In-Some) (used_told _ _ _ _ c.requires.space ∙ sym (c.if-not-is_used.ensures.used _ _ c.requires.space))).0
+returns-else-not-is_used-clause-blocks g c last h =
+    sym (kept_used _ _ _ _ h.space _ _ (pair g (goal.at.returns-else-not-is_used-clause-blocks g c).In-Some last h) (used_told _ _ _ _ h.space ∙ sym (c.if-not-is_used.ensures.used _ _ h.space))).0
 
 pub returns-else-not-is_used-clause-lists : goal.returns-else-not-is_used-clause-lists
-returns-else-not-is_used-clause-lists g c =
-    sym ((kept_used _ _ _ _ c.requires.space _ _ (pair g (goal.at.returns-else-not-is_used-clause-lists g c).In-Some) (used_told _ _ _ _ c.requires.space ∙ sym (c.if-not-is_used.ensures.used _ _ c.requires.space))).1 _)
+returns-else-not-is_used-clause-lists g c last h =
+    sym ((kept_used _ _ _ _ h.space _ _ (pair g (goal.at.returns-else-not-is_used-clause-lists g c).In-Some last h) (used_told _ _ _ _ h.space ∙ sym (c.if-not-is_used.ensures.used _ _ h.space))).1 _)
 
 pub returns-in_default-clause-blocks : goal.returns-in_default-clause-blocks
-returns-in_default-clause-blocks g c =
-    sym (kept_none _ _ _ _ c.requires.space (standing _ _ _ _ c.requires.space c.requires.standing) (before-told _ _ _ _ c.requires.space c.requires.standing ∙ sym (c.in_default.ensures.before _ _ c.requires.space c.requires.standing))).0
+returns-in_default-clause-blocks g c last h =
+    sym (kept_none _ _ _ _ h.space (standing _ _ _ _ h.space h.standing) (before-told _ _ _ _ h.space h.standing ∙ sym (c.in_default.ensures.before _ _ h.space h.standing))).0
 
 pub returns-in_default-clause-lists : goal.returns-in_default-clause-lists
-returns-in_default-clause-lists g c =
-    sym ((kept_none _ _ _ _ c.requires.space (standing _ _ _ _ c.requires.space c.requires.standing) (before-told _ _ _ _ c.requires.space c.requires.standing ∙ sym (c.in_default.ensures.before _ _ c.requires.space c.requires.standing))).1 _)
+returns-in_default-clause-lists g c last h =
+    sym ((kept_none _ _ _ _ h.space (standing _ _ _ _ h.space h.standing) (before-told _ _ _ _ h.space h.standing ∙ sym (c.in_default.ensures.before _ _ h.space h.standing))).1 _)
 
 pub overflow_add-more : goal.overflow_add-more
 overflow_add-more g c =
-    omega (arith, given_fits _ _ _ _ c.requires.space _ _ (pair g (goal.at.overflow_add-more g c).In-Some), (c.size-more.ensures.size _ _ c.requires.space (pair g (goal.at.overflow_add-more g c).In-Some).stands), c.requires.size)
+    omega (arith, given_fits _ _ _ _ c.requires.block.1.space _ _ (pair g (goal.at.overflow_add-more g c).In-Some _ c.requires.block.1), (c.size-more.ensures.size _ _ c.requires.block.1.space (pair g (goal.at.overflow_add-more g c).In-Some _ c.requires.block.1).stands), c.requires.size, size-told _ _ _ _ c.requires.block.1.space c.requires.block.1.standing)
 
 pub overflow_add-result : goal.overflow_add-result
 overflow_add-result g c =
-    omega (arith, given_fits _ _ _ _ c.requires.space _ _ (pair g (goal.at.overflow_add-result g c).In-Some), (c.size-more.ensures.size _ _ c.requires.space (pair g (goal.at.overflow_add-result g c).In-Some).stands), c.requires.size)
+    omega (arith, given_fits _ _ _ _ c.requires.block.1.space _ _ (pair g (goal.at.overflow_add-result g c).In-Some _ c.requires.block.1), (c.size-more.ensures.size _ _ c.requires.block.1.space (pair g (goal.at.overflow_add-result g c).In-Some _ c.requires.block.1).stands), c.requires.size, size-told _ _ _ _ c.requires.block.1.space c.requires.block.1.standing)
+
+pub returns-then-not-is_used-clause-space : goal.returns-then-not-is_used-clause-space
+returns-then-not-is_used-clause-space g c last h = c.join_before.ensures.space _ (joins h (c.in-Some.ensures.before _ _ h.space h.standing) c.remove.ensures.room)
+
+pub returns-else-not-is_used-clause-space : goal.returns-else-not-is_used-clause-space
+returns-else-not-is_used-clause-space g c last h = h.space
+
+pub returns-in_default-clause-space : goal.returns-in_default-clause-space
+returns-in_default-clause-space g c last h = h.space
+
+pub returns-else-not-is_used-clause-size : goal.returns-else-not-is_used-clause-size
+returns-else-not-is_used-clause-size g c last h = c.requires.size ∙ size-told _ _ _ _ h.space h.standing
+
+pub returns-in_default-clause-size : goal.returns-in_default-clause-size
+returns-in_default-clause-size g c last h = c.requires.size ∙ size-told _ _ _ _ h.space h.standing
