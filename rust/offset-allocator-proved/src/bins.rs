@@ -53,6 +53,7 @@ pub(crate) fn length_of<NI: NodeIndex>(tables: &Tables<NI>, class: u32, count: &
 }
 
 /// Puts a name first into a class.
+#[inline(always)]
 pub(crate) fn put_first<NI: NodeIndex>(
     tables: &mut Tables<NI>,
     top_mask: &mut u32,
@@ -109,6 +110,7 @@ fn clear_class<NI: NodeIndex>(
 }
 
 /// Takes a name out of the class of this size.
+#[inline(always)]
 pub(crate) fn remove<NI: NodeIndex>(
     tables: &mut Tables<NI>,
     top_mask: &mut u32,

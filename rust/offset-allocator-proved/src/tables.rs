@@ -8,17 +8,23 @@ use crate::accesses::Accesses;
 use crate::index::{NodeIndex, no_link};
 use crate::memory::{AllocError, Global};
 
-/// One table for each field of a node, the newest node of each size class, the masks of the
-/// classes, and the stack of spare names. A link is the number of a node, or the greatest number
-/// of its type, which names none.
+/// A block's offset and size, the links to its neighbours in space, and the links to the next nodes of its size class.
+/// A link is the number of a node, or the greatest number of its type, which names none.
+#[derive(Clone, Copy)]
+struct Node<NI> {
+    offset: u32,
+    size: u32,
+    before: NI,
+    after: NI,
+    newer: NI,
+    older: NI,
+}
+
+/// The nodes, whether each is used, the newest node of each size class, the masks of the classes, and the stack of
+/// spare names.
 pub(crate) struct Tables<NI: NodeIndex> {
-    offset: Vec<u32>,
-    size: Vec<u32>,
+    nodes: Vec<Node<NI>>,
     used: Vec<bool>,
-    before: Vec<NI>,
-    after: Vec<NI>,
-    newer: Vec<NI>,
-    older: Vec<NI>,
     heads: Vec<NI>,
     masks: [u64; 4],
     spare: Vec<NI>,
@@ -86,26 +92,24 @@ fn rising<NI: NodeIndex>(values: Vec<NI>, len: u32) -> Result<Vec<NI>, AllocErro
 impl<NI: NodeIndex> Tables<NI> {
     /// Tables for `len` nodes, none of them used. Every table has its room before any is filled.
     pub(crate) fn with_len(alloc: Global, len: u32) -> Result<Self, AllocError> {
-        let nodes = len as usize;
+        let count = len as usize;
         probe::<NI>(alloc, len)?;
-        let offset = reserved(alloc, nodes)?;
-        let size = reserved(alloc, nodes)?;
-        let used = reserved(alloc, nodes)?;
-        let before = reserved(alloc, nodes)?;
-        let after = reserved(alloc, nodes)?;
-        let newer = reserved(alloc, nodes)?;
-        let older = reserved(alloc, nodes)?;
+        let nodes = reserved(alloc, count)?;
+        let used = reserved(alloc, count)?;
         let heads = reserved(alloc, 256)?;
-        let spare = reserved(alloc, nodes)?;
+        let spare = reserved(alloc, count)?;
         let none = no_link::<NI>();
+        let node = Node {
+            offset: 0,
+            size: 0,
+            before: none,
+            after: none,
+            newer: none,
+            older: none,
+        };
         Ok(Tables {
-            offset: filled(offset, 0, nodes)?,
-            size: filled(size, 0, nodes)?,
-            used: filled(used, false, nodes)?,
-            before: filled(before, none, nodes)?,
-            after: filled(after, none, nodes)?,
-            newer: filled(newer, none, nodes)?,
-            older: filled(older, none, nodes)?,
+            nodes: filled(nodes, node, count)?,
+            used: filled(used, false, count)?,
             heads: filled(heads, none, 256)?,
             masks: [0; 4],
             spare: rising(spare, len)?,
@@ -124,31 +128,31 @@ impl<NI: NodeIndex> Tables<NI> {
     /// The tables keep their lengths.
     pub(crate) fn shape(&self) {
         // a look at a field recalls the invariant
-        let _ = &self.size;
+        let _ = &self.nodes;
     }
 
     /// The offset of a node.
     pub(crate) fn offset(&self, name: u32, count: &mut Accesses) -> u32 {
         count.tick();
-        self.offset[name as usize]
+        self.nodes[name as usize].offset
     }
 
     /// Writes the offset of a node.
     pub(crate) fn set_offset(&mut self, name: u32, offset: u32, count: &mut Accesses) {
         count.tick();
-        self.offset[name as usize] = offset;
+        self.nodes[name as usize].offset = offset;
     }
 
     /// The size of a node.
     pub(crate) fn size(&self, name: u32, count: &mut Accesses) -> u32 {
         count.tick();
-        self.size[name as usize]
+        self.nodes[name as usize].size
     }
 
     /// Writes the size of a node.
     pub(crate) fn set_size(&mut self, name: u32, size: u32, count: &mut Accesses) {
         count.tick();
-        self.size[name as usize] = size;
+        self.nodes[name as usize].size = size;
     }
 
     /// Whether a node is used.
@@ -166,25 +170,25 @@ impl<NI: NodeIndex> Tables<NI> {
     /// The link to the node before a node in space.
     pub(crate) fn before(&self, name: u32, count: &mut Accesses) -> NI {
         count.tick();
-        self.before[name as usize]
+        self.nodes[name as usize].before
     }
 
     /// Writes the link to the node before a node in space.
     pub(crate) fn set_before(&mut self, name: u32, link: NI, count: &mut Accesses) {
         count.tick();
-        self.before[name as usize] = link;
+        self.nodes[name as usize].before = link;
     }
 
     /// The link to the node after a node in space.
     pub(crate) fn after(&self, name: u32, count: &mut Accesses) -> NI {
         count.tick();
-        self.after[name as usize]
+        self.nodes[name as usize].after
     }
 
     /// Writes the link to the node after a node in space.
     pub(crate) fn set_after(&mut self, name: u32, link: NI, count: &mut Accesses) {
         count.tick();
-        self.after[name as usize] = link;
+        self.nodes[name as usize].after = link;
     }
 
     /// An entry of the stack of spare names.
@@ -202,25 +206,25 @@ impl<NI: NodeIndex> Tables<NI> {
     /// The link to the next newer node of a node's class.
     pub(crate) fn newer(&self, name: u32, count: &mut Accesses) -> NI {
         count.tick();
-        self.newer[name as usize]
+        self.nodes[name as usize].newer
     }
 
     /// Writes the link to the next newer node of a node's class.
     pub(crate) fn set_newer(&mut self, name: u32, link: NI, count: &mut Accesses) {
         count.tick();
-        self.newer[name as usize] = link;
+        self.nodes[name as usize].newer = link;
     }
 
     /// The link to the next older node of a node's class.
     pub(crate) fn older(&self, name: u32, count: &mut Accesses) -> NI {
         count.tick();
-        self.older[name as usize]
+        self.nodes[name as usize].older
     }
 
     /// Writes the link to the next older node of a node's class.
     pub(crate) fn set_older(&mut self, name: u32, link: NI, count: &mut Accesses) {
         count.tick();
-        self.older[name as usize] = link;
+        self.nodes[name as usize].older = link;
     }
 
     /// The link to the newest node of a class.
