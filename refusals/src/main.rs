@@ -24,22 +24,12 @@ const FAULT: &[u64] = &[3, 5];
 /// each table.
 const ASKS_FOR_ALL: bool = true;
 
-/// The bytes of each request that a constructor makes: for each node its offset, its size, whether it is used, its two
-/// neighbours and its two links, the newest node of each class, and the spare names. A name has so many bits.
+/// The bytes of each request that a constructor makes: the nodes, each with its offset, its size, its two neighbours and
+/// its two links; whether each is used; the newest node of each class; and the spare names. A name has so many bits.
 fn asked(nodes: usize, bits: usize) -> Vec<usize> {
-    let names = nodes * bits / 8;
-    let heads = 256 * bits / 8;
-    let tables = [
-        4 * nodes,
-        4 * nodes,
-        nodes,
-        names,
-        names,
-        names,
-        names,
-        heads,
-        names,
-    ];
+    let name = bits / 8;
+    let node = 4 + 4 + 4 * name;
+    let tables = [node * nodes, nodes, name * 256, name * nodes];
     let all = ASKS_FOR_ALL.then(|| tables.iter().sum());
     all.into_iter().chain(tables).collect()
 }

@@ -117,9 +117,10 @@ fn answers<NI: NodeIndex>(
     answers
 }
 
-// The node tables are larger than all others, and the last of them is made last. So hardly any memory is left over
-// where an allocator is made for the first time.
-const NODES: u32 = 1_000;
+// So many that the use flags, a byte a node, are more than the 1,032 bytes up to which the C library keeps apart a block
+// that is given back. Else the flags and the first names of the classes, both kept apart, would split the memory in
+// which the next allocator is made.
+const NODES: u32 = 2_000;
 
 fn made(alloc: Global) -> Result<Allocator<u32>, AllocError> {
     Allocator::with_max_allocs(alloc, 1_000, NODES)

@@ -6,10 +6,10 @@ use std::test::Fail;
 
 const NODES: u32 = 4_000_000;
 
-// A node has seven tables of 4 bytes, and one of 1 byte; there are 256 classes, of 4 bytes each.
+// A node takes 24 bytes, its spare name 4, and its use flag 1; there are 256 classes, of 4 bytes each.
 const BYTES: usize = 29 * 4_000_000 + 1_024;
 
-// Half of the smallest node table, and more than is lost between the tables.
+// Half of the smallest table of the nodes, and more than is lost between the tables.
 const SPARE: usize = 2_000_000;
 
 #[test]

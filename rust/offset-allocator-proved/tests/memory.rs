@@ -25,6 +25,6 @@ fn bytes_of_a_node() {
     // ones from its heap.
     let nodes = 2_000_000;
     let found = taken::<u32>(nodes as u32);
-    assert!((29 * nodes..29 * nodes + 9 * 8192).contains(&found), "{found}");
-    assert!(std::mem::size_of::<Allocator<u32>>() <= 9 * 24 + 4 * 8 + 6 * 4);
+    assert!((29 * nodes..29 * nodes + 4 * 8192).contains(&found), "{found}");
+    assert!(std::mem::size_of::<Allocator<u32>>() <= 4 * 24 + 4 * 8 + 6 * 4);
 }
