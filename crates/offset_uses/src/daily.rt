@@ -82,7 +82,7 @@ pub fn place(space: &mut Allocator, size: u32, more: u32) -> Result<Allocation, 
     }
 }
 
-/// The units that are granted, unless the space is full: then its report is 0, 0.
+/// The units that are granted, unless the node limit is reached (`is_full`): then the report is 0, 0.
 pub fn granted_units(space: &Allocator) -> Option<u32>
     ensures granted { IfSome result (λ n. n ≡ used_units space.now.blocks) }
     ensures full { result ≡ None ↔ (length space.now.blocks + 1 ≡ space.now.max_allocs) }
