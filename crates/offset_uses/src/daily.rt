@@ -69,6 +69,7 @@ pub fn upload(heap: &mut Allocator, size: u32, align: u32) -> Option<Allocation>
 pub fn place(space: &mut Allocator, size: u32, more: u32) -> Result<Allocation, Refusal>
     ensures range { IfOk result (λ h. range_of h.name space.new ≡ Some (record { offset = h.offset; size = size })) }
     ensures why { IfErr result (IsWhy 1 size space.new) }
+    ensures grown { IfErr result (λ _. IsWhy 1 size space.old Refusal.Space → space.old.size + more ≤ 4294967295 → space.new.size ≡ space.old.size + more) }
     ensures others { IfOk result (λ h. KeepsOthers h.name space.old space.new) }
     ensures refused { IfErr result (λ _. KeepsAll space.old space.new) }
 {
