@@ -84,11 +84,11 @@ does_release : (s : State) (k : ℕ) (o : Option Place) → place_of k s.blocks 
 does_release s k None e = only s machine.Gone tt
 does_release s k (Some p) e = inr (inr (record { number = k; place = p; found = e; is = refl }))
 
-quiet_size : (o : Option Place) → IsQuiet (size_at o)
+pub quiet_size : (o : Option Place) → IsQuiet (size_at o)
 quiet_size None = tt
 quiet_size (Some p) = tt
 
-quiet_report : (b : Bool) (x y : ℕ) → IsQuiet (if b then machine.Report 0 0 else machine.Report x y)
+pub quiet_report : (b : Bool) (x y : ℕ) → IsQuiet (if b then machine.Report 0 0 else machine.Report x y)
 quiet_report true x y = tt
 quiet_report false x y = tt
 
@@ -176,7 +176,7 @@ traceless (history.paired {s = s} {c = c} {k = k} {inner = inner} {outer = outer
     subst (Traceless s) (sym (after-append inner (command.Free k ∷ outer) s1)) (traceless_trans s s3 (after outer s3) a b)
 
 -- numbers after a nest
-settled_cases : (g j k : ℕ) → ((k ≤ g) × (settled g j k ≡ k)) ⊎ (((g < k) × (k ≤ g + j) × (settled g j k ≡ 0)) ⊎ ((g + j < k) × (settled g j k ≡ k - j)))
+pub settled_cases : (g j k : ℕ) → ((k ≤ g) × (settled g j k ≡ k)) ⊎ (((g < k) × (k ≤ g + j) × (settled g j k ≡ 0)) ⊎ ((g + j < k) × (settled g j k ≡ k - j)))
 settled_cases g j k = elim (cases_lt g k) [
   | inl l ↦ elim (cases_lt (g + j) k) [
     | inl m ↦ inr (inr (m, ap (λ b. if b then k else if nat_le k (g + j) then 0 else k - j) (lt-leb k g l) ∙ ap (λ b. if b then 0 else k - j) (lt-leb k (g + j) m)))

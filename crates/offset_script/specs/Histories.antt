@@ -186,3 +186,21 @@ NestLeavesNoTrace = (size limit : ℕ) → 2 ≤ limit → (cs nest : List Comma
 abbrev pub NestsLeaveNoTrace : ℕ → ℕ → List Command → List Answer → Type 0
 NestsLeaveNoTrace size limit cs found = (before nest rest : List Command) → cs ≡ before ++ nest ++ rest → Nest (after before (start size limit)) nest
     → drop (length (before ++ nest)) found ≡ answers_as_before (after before (start size limit)) (after (before ++ nest) (start size limit)) rest
+
+-- A question leaves no trace.
+
+-- a command that only asks
+abbrev pub Asks : Command → Type 0
+Asks (command.Alloc n) = ⊥
+Asks (command.Free k) = ⊥
+Asks (command.Size k) = Unit {0}
+Asks command.Report = Unit {0}
+Asks command.Full = Unit {0}
+Asks command.Reset = ⊥
+Asks (command.Align n align) = ⊥
+Asks (command.Extend more) = ⊥
+
+-- a report, or another question, put anywhere into the commands changes no other answer
+abbrev pub QuestionsChangeNothing : Type 0
+QuestionsChangeNothing = (size limit : ℕ) → 2 ≤ limit → (before : List Command) (q : Command) (rest : List Command) → Asks q
+    → answers (before ++ q ∷ rest) (start size limit) ≡ answers before (start size limit) ++ ((step q (after before (start size limit))).answer ∷ answers rest (after before (start size limit)))

@@ -4,7 +4,7 @@ ghost use Rattle.std.specs.Prelude.{◌≡◌, ◌↔◌, ℕ, List};
 ghost use Rattle.offset_script.specs.declared.scripts.Command.{Command};
 ghost use Rattle.offset_script.specs.declared.scripts.Header.{Header};
 ghost use Rattle.offset_script.specs.Grammar.{command_of, header_of};
-ghost use Rattle.offset_script.specs.Histories.{EmptySpaceContinuesAsFresh, ExtendedSpaceIsLarger, NestLeavesNoTrace, ReleasesCommute};
+ghost use Rattle.offset_script.specs.Histories.{EmptySpaceContinuesAsFresh, ExtendedSpaceIsLarger, NestLeavesNoTrace, QuestionsChangeNothing, ReleasesCommute};
 ghost use Rattle.offset_script.specs.Spelling.{IsSpelling, IsHeaderSpelling};
 ghost use Rattle.offset_script.specs.Totals.{FewAreLive, FullSpaceRefuses, SizesAddUp};
 
@@ -37,6 +37,11 @@ pub fn releases_commute()
 /// release is a nest too, no other grant is released, and nothing is reset or extended.
 pub fn a_nest_leaves_no_trace()
     ensures { NestLeavesNoTrace }
+{}
+
+/// A report, a full report or a question for a size, put anywhere into the commands, changes no other answer.
+pub fn a_question_changes_nothing()
+    ensures { QuestionsChangeNothing }
 {}
 
 /// After any commands, live and free units add up to the size, with what extensions added.
