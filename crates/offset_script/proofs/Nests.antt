@@ -10,6 +10,7 @@ use Rattle.offset_script.specs.Machine.{State, Answer, Outcome, start, step, aft
 use Rattle.offset_script.specs.Machine as machine
 use Rattle.offset_script.specs.Histories.{IsGrant, KeepsSpace, Nest, settled, NestLeavesNoTrace}
 use Rattle.offset_script.specs.Histories as history
+use Rattle.offset_script.specs.Totals.{asked}
 use Rattle.offset_script.proofs.Pairs.{Kind, Lives, Frees, left_tag, right_tag, left, right, lefts, rights}
 use Rattle.offset_script.proofs.Alike.{Alike, Matched, alike_answers}
 use Rattle.offset_script.proofs.Well.{Well, count, chosen_at, well_start, well_after, well_step}
@@ -25,10 +26,9 @@ IsQuiet (machine.Grant k offset) = ⊥
 IsQuiet machine.Freed = ⊥
 IsQuiet a = Unit {0}
 
--- a grant of n units, behind padding units, of the block that is chosen for needed units
-pub record Granted (s : State) (o : Outcome) : Type 0 where
+-- a grant of n units, after padding units, of the block that is chosen for needed units
+pub record Granted (n : ℕ) (s : State) (o : Outcome) : Type 0 where
   pub needed : ℕ
-  pub n : ℕ
   pub padding : ℕ
   pub place : Place
   pub room : length s.blocks + 1 < s.limit
@@ -36,9 +36,10 @@ pub record Granted (s : State) (o : Outcome) : Type 0 where
   pub within : padding + n ≤ place.block.size
   pub is : o ≡ grant s n padding place
 
--- a release of the grant that stands at a place
-pub record Released (s : State) (o : Outcome) : Type 0 where
+-- a release of a live grant
+pub record Released (c : Command) (s : State) (o : Outcome) : Type 0 where
   pub number : ℕ
+  pub frees : c ≡ command.Free number
   pub place : Place
   pub found : place_of number s.blocks ≡ Some place
   pub is : o ≡ leaves s (joined place.before place.block.size (stamp_of_call s) place.after) machine.Freed
@@ -50,39 +51,38 @@ pub record Only (s : State) (o : Outcome) : Type 0 where
   pub is : o ≡ answers_only s answer
 
 -- one of the three
-abbrev pub Does : State → Outcome → Type 0
-Does s o = Only s o ⊎ (Granted s o ⊎ Released s o)
+abbrev pub Does : Command → State → Outcome → Type 0
+Does c s o = Only s o ⊎ (Granted (asked c) s o ⊎ Released c s o)
 
-does_if : (s : State) (b : Bool) (o p : Outcome) → (b ≡ true → Does s o) → (b ≡ false → Does s p) → Does s (if b then o else p)
-does_if s true o p f g = f refl
-does_if s false o p f g = g refl
+does_if : (c : Command) (s : State) (b : Bool) (o p : Outcome) → (b ≡ true → Does c s o) → (b ≡ false → Does c s p) → Does c s (if b then o else p)
+does_if c s true o p f g = f refl
+does_if c s false o p f g = g refl
 
-only : (s : State) (a : Answer) → IsQuiet a → Does s (answers_only s a)
-only s a q = inl (record { answer = a; quiet = q; is = refl })
+only : (c : Command) (s : State) (a : Answer) → IsQuiet a → Does c s (answers_only s a)
+only c s a q = inl (record { answer = a; quiet = q; is = refl })
 
 both_right : (x y : Bool) → (x && y) ≡ true → y ≡ true
 both_right true y e = e
 both_right false y e = absurd (false≢true e)
 
-does_grant : (s : State) → length s.blocks + 1 < s.limit → (needed n : ℕ) (padding_at : ℕ → ℕ) → ((o : ℕ) → padding_at o + n ≤ needed) → (p : Option Place) → chosen needed s.blocks ≡ p → Does s (grant_or_refuse s n padding_at p)
-does_grant s room needed n padding_at h None e = only s machine.Refused tt
-does_grant s room needed n padding_at h (Some p) e = inr (inl (record {
+does_grant : (c : Command) (s : State) → length s.blocks + 1 < s.limit → (needed : ℕ) (padding_at : ℕ → ℕ) → ((o : ℕ) → padding_at o + asked c ≤ needed) → (p : Option Place) → chosen needed s.blocks ≡ p → Does c s (grant_or_refuse s (asked c) padding_at p)
+does_grant c s room needed padding_at h None e = only c s machine.Refused tt
+does_grant c s room needed padding_at h (Some p) e = inr (inl (record {
   needed = needed;
-  n = n;
   padding = padding_at (total p.before);
   place = p;
   room = room;
   chose = e;
-  within = let c = chosen_at needed s.blocks p e in let l = fits_size needed p.block.size (both_right (is_free p.block.tag) (nat_le (up needed) (down p.block.size)) c.1) in let m = h (total p.before) in omega arith;
+  within = let f = chosen_at needed s.blocks p e in let l = fits_size needed p.block.size (both_right (is_free p.block.tag) (nat_le (up needed) (down p.block.size)) f.1) in let m = h (total p.before) in omega arith;
   is = refl;
 }))
 
-does_serve : (s : State) (spare : ℕ) → 1 ≤ spare → (needed n : ℕ) (padding_at : ℕ → ℕ) → ((o : ℕ) → padding_at o + n ≤ needed) → Does s (serve s spare needed n padding_at)
-does_serve s spare some needed n padding_at h = does_if s (is_short_of spare s) (answers_only s machine.Refused) (grant_or_refuse s n padding_at (chosen needed s.blocks)) (λ e. only s machine.Refused tt) (λ e. does_grant s (let l = leb-false s.limit (length s.blocks + spare) e in omega arith) needed n padding_at h (chosen needed s.blocks) refl)
+does_serve : (c : Command) (s : State) (spare : ℕ) → 1 ≤ spare → (needed : ℕ) (padding_at : ℕ → ℕ) → ((o : ℕ) → padding_at o + asked c ≤ needed) → Does c s (serve s spare needed (asked c) padding_at)
+does_serve c s spare some needed padding_at h = does_if c s (is_short_of spare s) (answers_only s machine.Refused) (grant_or_refuse s (asked c) padding_at (chosen needed s.blocks)) (λ e. only c s machine.Refused tt) (λ e. does_grant c s (let l = leb-false s.limit (length s.blocks + spare) e in omega arith) needed padding_at h (chosen needed s.blocks) refl)
 
-does_release : (s : State) (k : ℕ) (o : Option Place) → place_of k s.blocks ≡ o → Does s (release s o)
-does_release s k None e = only s machine.Gone tt
-does_release s k (Some p) e = inr (inr (record { number = k; place = p; found = e; is = refl }))
+does_release : (s : State) (k : ℕ) (o : Option Place) → place_of k s.blocks ≡ o → Does (command.Free k) s (release s o)
+does_release s k None e = only (command.Free k) s machine.Gone tt
+does_release s k (Some p) e = inr (inr (record { number = k; frees = refl; place = p; found = e; is = refl }))
 
 pub quiet_size : (o : Option Place) → IsQuiet (size_at o)
 quiet_size None = tt
@@ -95,17 +95,17 @@ quiet_report false x y = tt
 padding_fits : (n align o : ℕ) → 1 < align → padding_to align o + n ≤ n + align - 1
 padding_fits n align o h = omega arith
 
-pub does : (c : Command) (s : State) → KeepsSpace c → Does s (step c s)
-does (command.Alloc n) s k = does_serve s 1 (omega arith) n n (λ offset. 0) (λ o. omega arith)
+pub does : (c : Command) (s : State) → KeepsSpace c → Does c s (step c s)
+does (command.Alloc n) s k = does_serve (command.Alloc n) s 1 (omega arith) n (λ offset. 0) (λ o. omega arith)
 does (command.Free k) s h = does_release s k (place_of k s.blocks) refl
-does (command.Size k) s h = only s _ (quiet_size (place_of k s.blocks))
-does command.Report s h = only s _ (quiet_report (is_short_of 1 s) _ _)
-does command.Full s h = only s (full_report s) tt
+does (command.Size k) s h = only (command.Size k) s _ (quiet_size (place_of k s.blocks))
+does command.Report s h = only command.Report s _ (quiet_report (is_short_of 1 s) _ _)
+does command.Full s h = only command.Full s (full_report s) tt
 does command.Reset s h = absurd h
-does (command.Align n align) s h = does_if s (nat_le align 1) (step (command.Alloc n) s) (if nat_lt greatest (n + align - 1) then answers_only s machine.Refused else serve s 2 (n + align - 1) n (padding_to align))
-    (λ e. does_serve s 1 (omega arith) n n (λ offset. 0) (λ o. omega arith))
-    (λ e. does_if s (nat_lt greatest (n + align - 1)) (answers_only s machine.Refused) (serve s 2 (n + align - 1) n (padding_to align)) (λ f. only s machine.Refused tt)
-    (λ f. does_serve s 2 (omega arith) (n + align - 1) n (padding_to align) (λ o. padding_fits n align o (leb-false align 1 e))))
+does (command.Align n align) s h = does_if (command.Align n align) s (nat_le align 1) (step (command.Alloc n) s) (if nat_lt greatest (n + align - 1) then answers_only s machine.Refused else serve s 2 (n + align - 1) n (padding_to align))
+    (λ e. does_serve (command.Align n align) s 1 (omega arith) n (λ offset. 0) (λ o. omega arith))
+    (λ e. does_if (command.Align n align) s (nat_lt greatest (n + align - 1)) (answers_only s machine.Refused) (serve s 2 (n + align - 1) n (padding_to align)) (λ f. only (command.Align n align) s machine.Refused tt)
+    (λ f. does_serve (command.Align n align) s 2 (omega arith) (n + align - 1) (padding_to align) (λ o. padding_fits n align o (leb-false align 1 e))))
 does (command.Extend more) s h = absurd h
 
 -- what a nest keeps
@@ -117,7 +117,7 @@ pub record Traceless (s t : State) : Type 0 where
 traceless_trans : (s t u : State) → Traceless s t → Traceless t u → Traceless s u
 traceless_trans s t u a b = record { limit = b.limit ∙ a.limit; blocks = similar_trans s.blocks t.blocks u.blocks a.blocks b.blocks; grants = omega (arith, a.grants, b.grants) }
 
-after-append : (xs ys : List Command) (s : State) → after (xs ++ ys) s ≡ after ys (after xs s)
+pub after-append : (xs ys : List Command) (s : State) → after (xs ++ ys) s ≡ after ys (after xs s)
 after-append [] ys s = refl
 after-append (c ∷ xs) ys s = after-append xs ys (step c s).state
 
@@ -136,7 +136,7 @@ traceless_quiet c s k g f = elim (does c s k) [
 not_quiet : (a : Answer) (k offset : ℕ) → IsQuiet a → a ≡ machine.Grant k offset → ⊥
 not_quiet a k offset q e = subst IsQuiet e q
 
-granted_is : (c : Command) (s : State) (k : ℕ) → KeepsSpace c → IsGrant (step c s).answer k → Granted s (step c s) × (k ≡ s.grants + 1)
+granted_is : (c : Command) (s : State) (k : ℕ) → KeepsSpace c → IsGrant (step c s).answer k → Granted (asked c) s (step c s) × (k ≡ s.grants + 1)
 granted_is c s k h g = elim (does c s h) [
   | inl q ↦ absurd (not_quiet q.answer k g.0 q.quiet (ap (λ (x : Outcome). x.answer) (sym q.is) ∙ g.1))
   | inr (inl d) ↦ (d, number _ _ _ _ (sym g.1 ∙ ap (λ (x : Outcome). x.answer) d.is))
@@ -158,8 +158,8 @@ traceless_pair c s k w h g t v m =
     let d = granted_is c s k h g in
     let p = d.0.place in
     let found = chosen_at d.0.needed s.blocks p d.0.chose in
-    let m' : Traceless (grant s d.0.n d.0.padding p).state t = subst (λ (o : Outcome). Traceless o.state t) d.0.is m in
-    traceless_release s t k (restored s w p d.0.needed d.0.n d.0.padding found.0 found.1 found.2 d.0.within t v m'.blocks) d.1 (sym m'.limit) (let l : s.grants + 1 ≤ t.grants = m'.grants in omega arith)
+    let m' : Traceless (grant s (asked c) d.0.padding p).state t = subst (λ (o : Outcome). Traceless o.state t) d.0.is m in
+    traceless_release s t k (restored s w p d.0.needed (asked c) d.0.padding found.0 found.1 found.2 d.0.within t v m'.blocks) d.1 (sym m'.limit) (let l : s.grants + 1 ≤ t.grants = m'.grants in omega arith)
 
 pub traceless : {s : State} {cs : List Command} → Nest s cs → Well s → Traceless s (after cs s)
 traceless (history.done {s = s}) w = record { limit = refl; blocks = similar_refl s.blocks; grants = omega arith }
@@ -202,7 +202,7 @@ settled_future g j k l = elim (settled_cases g j k) [ inl h ↦ absurd (omega ar
 stamp_below : (s : State) → Well s → (x : ℕ) → 1 ≤ count (Free x) s.blocks → x < 2 * (s.calls + 1)
 stamp_below s w x c = elim (cases_lt x (2 * (s.calls + 1))) [ inl l ↦ l | inr l ↦ let o = w.stamped x l in absurd (omega arith) ]
 
-number_within : (s : State) → Well s → (k : ℕ) → 1 ≤ count (Live k) s.blocks → (1 ≤ k) × (k ≤ s.grants)
+pub number_within : (s : State) → Well s → (k : ℕ) → 1 ≤ count (Live k) s.blocks → (1 ≤ k) × (k ≤ s.grants)
 number_within s w zero c = let o = w.from_one in absurd (omega arith)
 number_within s w (suc k) c = elim (cases_lt s.grants (suc k)) [ inl l ↦ let o = w.granted (suc k) l in absurd (omega arith) | inr l ↦ (omega arith, l) ]
 

@@ -9,19 +9,19 @@ use Rattle.offset_script.specs.Blocks.{Live, Free, Block, block, is_free, total,
 use Rattle.offset_script.specs.Machine.{State, Outcome, start, step, after, is_short_of, answers_only, leaves, serve, grant_or_refuse, stamp_of_call, stamp_of_front}
 use Rattle.offset_script.specs.Machine as machine
 use Rattle.offset_script.specs.Histories.{KeepsSpace}
-use Rattle.offset_script.specs.Totals.{live_units, live_blocks, added, added_by, SizesAddUp, FewAreLive, FullSpaceRefuses}
+use Rattle.offset_script.specs.Totals.{asked, live_units, live_blocks, added, added_by, SizesAddUp, FewAreLive, FullSpaceRefuses}
 use Rattle.offset_script.proofs.Well.{whole, chosen_at, found_at, granted_blocks}
 use Rattle.offset_script.proofs.Nests.{does}
 
-total-append : (xs ys : List Block) → total (xs ++ ys) ≡ total xs + total ys
+pub total-append : (xs ys : List Block) → total (xs ++ ys) ≡ total xs + total ys
 total-append [] ys = omega arith
 total-append (b ∷ xs) ys = let ih = total-append xs ys in omega (arith, ih)
 
-total_free_block : (n s : ℕ) → total (free_block n s) ≡ n
+pub total_free_block : (n s : ℕ) → total (free_block n s) ≡ n
 total_free_block zero s = refl
 total_free_block (suc n) s = omega arith
 
-total_start : (bs : List Block) → free_start bs + total (without_start bs) ≡ total bs
+pub total_start : (bs : List Block) → free_start bs + total (without_start bs) ≡ total bs
 total_start [] = refl
 total_start (b ∷ bs) = either (is_free b.tag)
   where
@@ -29,7 +29,7 @@ total_start (b ∷ bs) = either (is_free b.tag)
     either true = refl
     either false = omega arith
 
-total_end : (bs : List Block) → free_end bs + total (without_end bs) ≡ total bs
+pub total_end : (bs : List Block) → free_end bs + total (without_end bs) ≡ total bs
 total_end [] = refl
 total_end (b ∷ []) = either (is_free b.tag)
   where
@@ -87,12 +87,12 @@ live_granted p n padding front k rest = omega (arith, live-append p.before (free
 total_kept : (c : Command) (s : State) → KeepsSpace c → total (step c s).state.blocks ≡ total s.blocks
 total_kept c s k = elim (does c s k) [
   | inl q ↦ ap (λ (o : Outcome). total o.state.blocks) q.is
-  | inr (inl d) ↦ ap (λ (o : Outcome). total o.state.blocks) d.is ∙ total_granted d.place d.n d.padding (stamp_of_front s) (s.grants + 1) (stamp_of_call s) d.within ∙ ap total (sym (chosen_at d.needed s.blocks d.place d.chose).0)
+  | inr (inl d) ↦ ap (λ (o : Outcome). total o.state.blocks) d.is ∙ total_granted d.place (asked c) d.padding (stamp_of_front s) (s.grants + 1) (stamp_of_call s) d.within ∙ ap total (sym (chosen_at d.needed s.blocks d.place d.chose).0)
   | inr (inr d) ↦ ap (λ (o : Outcome). total o.state.blocks) d.is ∙ total_joined d.place.before d.place.block.size (stamp_of_call s) d.place.after ∙ sym (total-append d.place.before (d.place.block ∷ d.place.after)) ∙ ap total (sym (found_at d.number s.blocks d.place d.found).0)
 ]
 
 -- what a command leaves has as many units more as it adds
-Adds : Command → State → Outcome → Type 0
+pub Adds : Command → State → Outcome → Type 0
 Adds c s o = total o.state.blocks ≡ total s.blocks + added c o.answer
 
 adds_if : (c : Command) (s : State) (b : Bool) (o p : Outcome) → Adds c s o → Adds c s p → Adds c s (if b then o else p)
@@ -102,7 +102,7 @@ adds_if c s false o p f g = g
 adds_none : (n m : ℕ) → n ≡ m → n ≡ m + 0
 adds_none n m e = omega arith
 
-adds_step : (c : Command) (s : State) → Adds c s (step c s)
+pub adds_step : (c : Command) (s : State) → Adds c s (step c s)
 unfolding Adds
 adds_step (command.Alloc n) s = adds_none _ _ (total_kept (command.Alloc n) s tt)
 adds_step (command.Free k) s = adds_none _ _ (total_kept (command.Free k) s tt)
@@ -151,7 +151,7 @@ unfolding Few
 few_kept c s k h = elim (does c s k) [
   | inl q ↦ subst (Few s) (sym q.is) (h, refl)
   | inr (inl d) ↦ subst (Few s) (sym d.is) (let r = d.room in
-      (omega (arith, r, live_granted d.place d.n d.padding (stamp_of_front s) (s.grants + 1) (stamp_of_call s), ap length (chosen_at d.needed s.blocks d.place d.chose).0, length-append d.place.before (d.place.block ∷ d.place.after), live_length d.place.before, live_length d.place.after), refl))
+      (omega (arith, r, live_granted d.place (asked c) d.padding (stamp_of_front s) (s.grants + 1) (stamp_of_call s), ap length (chosen_at d.needed s.blocks d.place d.chose).0, length-append d.place.before (d.place.block ∷ d.place.after), live_length d.place.before, live_length d.place.after), refl))
   | inr (inr d) ↦ subst (Few s) (sym d.is)
       (omega (arith, live_joined d.place.before d.place.block.size (stamp_of_call s) d.place.after, ap live_blocks (found_at d.number s.blocks d.place d.found).0, live-append d.place.before (d.place.block ∷ d.place.after), h), refl)
 ]

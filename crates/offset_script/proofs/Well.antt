@@ -204,7 +204,7 @@ FoundAt : ℕ → List Block → Option Place → Type 0
 FoundAt k bs None = count (Live k) bs ≡ 0
 FoundAt k bs (Some p) = (bs ≡ whole p) × (has_number k p.block.tag ≡ true) × (count (Live k) p.before ≡ 0)
 
-number_hit : (k : ℕ) (t : Tag) → hit (Live k) t ≡ one (has_number k t)
+pub number_hit : (k : ℕ) (t : Tag) → hit (Live k) t ≡ one (has_number k t)
 number_hit k (Live j) = refl
 number_hit k (Free s) = refl
 

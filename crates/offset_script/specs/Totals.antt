@@ -6,6 +6,12 @@ use Rattle.offset_script.specs.Blocks.{Block, is_free, free_sizes}
 use Rattle.offset_script.specs.Machine.{State, Answer, start, step, after}
 use Rattle.offset_script.specs.Machine as machine
 
+-- the units that a command asks for
+abbrev pub asked : Command → ℕ
+asked (command.Alloc n) = n
+asked (command.Align n align) = n
+asked other = 0
+
 -- the units of the live blocks
 abbrev pub live_units : List Block → ℕ
 live_units [] = 0
