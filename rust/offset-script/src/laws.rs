@@ -21,6 +21,9 @@ pub fn releases_commute() {}
 /// release is a nest too, no other grant is released, and nothing is reset or extended.
 pub fn a_nest_leaves_no_trace() {}
 
+/// A report, a full report or a question for a size, put anywhere into the commands, changes no other answer.
+pub fn a_question_changes_nothing() {}
+
 /// After any commands, live and free units add up to the size, with what extensions added.
 pub fn sizes_add_up() {}
 

@@ -4,7 +4,7 @@
 
 use crate::memory::Vec;
 use crate::answers::{Answer, FullRow};
-use crate::scripts::Command;
+use crate::scripts::{Command, IndexWidth, Script};
 use offset_allocator::{Allocation, Allocator, NodeIndex};
 use crate::memory::{AllocError, Global};
 
@@ -149,4 +149,12 @@ pub fn play<NI: NodeIndex>(
         found.push(player.call(alloc, *command)?)?;
     }
     Ok(found)
+}
+
+/// The answers to the commands of a script in order, one for each, by an allocator of the script's index width.
+pub fn play_script(alloc: Global, script: &Script) -> Result<Vec<Answer>, AllocError> {
+    match script.index {
+        IndexWidth::Bits16 => play::<u16>(alloc, script.size, script.max_allocs, &script.commands),
+        IndexWidth::Bits32 => play::<u32>(alloc, script.size, script.max_allocs, &script.commands),
+    }
 }

@@ -3,14 +3,14 @@
 //! From a source's bytes to a sink's.
 
 use crate::memory::Vec;
-use crate::answers::{Answer, answer_text};
+use crate::answers::answer_text;
 use crate::devices::{Sink, Source};
 use crate::faults::RunFault;
-use crate::playing::play;
+use crate::playing::play_script;
 use crate::reading::{MAX_TEXT, parse};
-use crate::scripts::{IndexWidth, Script};
+use crate::scripts::Script;
 use crate::sending::send;
-use crate::memory::{AllocError, Global};
+use crate::memory::Global;
 
 /// How many bytes are asked for at once.
 const PIECE: usize = 16384;
@@ -30,12 +30,13 @@ fn read_text<S: Source>(alloc: Global, input: &mut S) -> Result<Vec<u8>, RunFaul
     Ok(text)
 }
 
-// The answers to a script, by an allocator of its index width.
-fn answers(alloc: Global, script: &Script) -> Result<Vec<Answer>, AllocError> {
-    match script.index {
-        IndexWidth::Bits16 => play::<u16>(alloc, script.size, script.max_allocs, &script.commands),
-        IndexWidth::Bits32 => play::<u32>(alloc, script.size, script.max_allocs, &script.commands),
-    }
+/// The script that a source holds: it is read to its end, or its first 1,048,577 bytes are, which are too many.
+///
+/// `Read` is returned exactly where the source failed in this call, and no failed call is tried again. Where memory was
+/// refused, the fault is `Memory`.
+pub fn read_script<S: Source>(alloc: Global, input: &mut S) -> Result<Script, RunFault> {
+    let text = read_text(alloc, input)?;
+    Ok(parse(alloc, &text)?)
 }
 
 /// Reads a script to its end, plays it, writes the text of its answers, and then flushes.
@@ -44,9 +45,8 @@ fn answers(alloc: Global, script: &Script) -> Result<Vec<Answer>, AllocError> {
 /// `Read` is returned exactly where the source failed in this call, and `Write` exactly where the sink did: then a
 /// beginning of the text is written. No failed call is tried again. Where memory was refused, the fault is `Memory`.
 pub fn run<S: Source, K: Sink>(alloc: Global, input: &mut S, output: &mut K) -> Result<(), RunFault> {
-    let text = read_text(alloc, input)?;
-    let script = parse(alloc, &text)?;
-    let answers = answers(alloc, &script)?;
+    let script = read_script(alloc, input)?;
+    let answers = play_script(alloc, &script)?;
     let text = answer_text(alloc, &answers)?;
     if send(output, text.as_bytes()) {
         Ok(())
