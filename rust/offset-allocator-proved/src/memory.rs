@@ -41,6 +41,18 @@ impl<T> Vec<T> {
         self.0.resize(length, value);
         Ok(())
     }
+
+    /// Adds what an iterator gives.
+    pub(crate) fn extend(
+        &mut self,
+        values: impl ExactSizeIterator<Item = T>,
+    ) -> Result<(), AllocError> {
+        self.0
+            .try_reserve_exact(values.len())
+            .map_err(|_| AllocError)?;
+        self.0.extend(values);
+        Ok(())
+    }
 }
 
 // The panic of a cell that is not there. It has no number in it, so that a test of a place is one comparison and a

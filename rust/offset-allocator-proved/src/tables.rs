@@ -58,6 +58,25 @@ fn filled<T: Copy>(mut values: Vec<T>, value: T, length: usize) -> Result<Vec<T>
     Ok(values)
 }
 
+// A reserved table of nodes, filled. With links of 16 or 32 bits each bit of a node is one, as in no link, so that the
+// table is written as one run of bytes. A function of its own, so that the fill is compiled for this value: among the
+// tests of `with_len` it is not.
+fn blank_nodes<NI: NodeIndex>(
+    nodes: Vec<Node<NI>>,
+    count: usize,
+) -> Result<Vec<Node<NI>>, AllocError> {
+    let none = no_link::<NI>();
+    let node = Node {
+        offset: u32::MAX,
+        size: u32::MAX,
+        before: none,
+        after: none,
+        newer: none,
+        older: none,
+    };
+    filled(nodes, node, count)
+}
+
 // Writes one value over a slice.
 fn fill_cells<T: Copy>(cells: &mut [T], value: T) {
     for i in 0..cells.len() {
@@ -82,10 +101,9 @@ fn renumber<NI: NodeIndex>(values: &mut Vec<NI>) {
     renumber_cells(values);
 }
 
-// A reserved table, filled with the numbers below `len`, in order.
-fn rising<NI: NodeIndex>(values: Vec<NI>, len: u32) -> Result<Vec<NI>, AllocError> {
-    let mut values = filled(values, NI::from_u32(0), len as usize)?;
-    renumber(&mut values);
+// A reserved table, filled with the numbers below `len`, in order, each written once.
+fn rising<NI: NodeIndex>(mut values: Vec<NI>, len: u32) -> Result<Vec<NI>, AllocError> {
+    values.extend((0..len).map(|i| NI::from_u32(i)))?;
     Ok(values)
 }
 
@@ -98,19 +116,10 @@ impl<NI: NodeIndex> Tables<NI> {
         let used = reserved(alloc, count)?;
         let heads = reserved(alloc, 256)?;
         let spare = reserved(alloc, count)?;
-        let none = no_link::<NI>();
-        let node = Node {
-            offset: 0,
-            size: 0,
-            before: none,
-            after: none,
-            newer: none,
-            older: none,
-        };
         Ok(Tables {
-            nodes: filled(nodes, node, count)?,
+            nodes: blank_nodes(nodes, count)?,
             used: filled(used, false, count)?,
-            heads: filled(heads, none, 256)?,
+            heads: filled(heads, no_link::<NI>(), 256)?,
             masks: [0; 4],
             spare: rising(spare, len)?,
         })
