@@ -222,6 +222,7 @@ def main():
         f"At most {most:,} bytes of it live at once. A bisection found the least space that refuses nothing; none of the 1,000 "
         "sizes below it was enough, and none of 1,000 spread from it down to the peak.", "", *space_table(most, least),
     ]
+    assert next(row[3]["ours"] for row in rows if row[0] == TIGHTEST) == 0, f"{TIGHTEST}: we refuse some of it"
     with open(f"{HERE}/PEERS.md", "w") as file:
         file.write("\n".join(shown) + "\n")
     with open(f"{HERE}/peers.svg", "w") as file:
