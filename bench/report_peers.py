@@ -41,7 +41,7 @@ def told(row, side):
     original = times["original"][0]
     if side not in times:
         least = CAP * 1e9 / count
-        return f"over {number(least)}", f"over {least / original:.0f}"
+        return f"over {math.floor(least):,}", f"over {math.floor(least / original)}"
     clock, processor = times[side]
     mark = "" if abs(clock - processor) <= NEAR * clock else "~"
     return f"{mark}{number(clock)}", f"{mark}{clock / original:.2f}"
