@@ -35,6 +35,12 @@ def measured():
         yield name, nodes, count, {side: refused[name, side] for side in SIDES}, {side: row[:2] for side, row in zip(ended, rows)}
 
 
+def busy(times, side):
+    """Whether the time of the clock is not the processor's."""
+    clock, processor = times[side]
+    return abs(clock - processor) > NEAR * clock
+
+
 def told(row, side):
     """The nanoseconds a step, and how many times the original's they are."""
     _name, _nodes, count, _refused, times = row
@@ -42,9 +48,8 @@ def told(row, side):
     if side not in times:
         least = CAP * 1e9 / count
         return f"over {math.floor(least):,}", f"over {math.floor(least / original)}"
-    clock, processor = times[side]
-    mark = "" if abs(clock - processor) <= NEAR * clock else "~"
-    return f"{mark}{number(clock)}", f"{mark}{clock / original:.2f}"
+    marks = ["~" if busy(times, side) else "", "~" if busy(times, side) or busy(times, "original") else ""]
+    return marks[0] + number(times[side][0]), f"{marks[1]}{times[side][0] / original:.2f}"
 
 
 def times_table(rows):
@@ -154,7 +159,8 @@ def short_table(rows, found, most, least):
     for side in SIDES:
         lowest = min(row[4][side][0] / row[4]["original"][0] for row in rows if side in row[4])
         each = [b / live for b, live in zip(bytes_of[side], LIVE) if b is not None]
-        yield f"| {NAMES[side]} | {lowest:.2f} | {most_of(rows, side)} | {min(each):.0f} to {max(each):.0f} | {over(least[side], most)} |"
+        bounds = sorted({f"{min(each):.0f}", f"{max(each):.0f}"}, key=int)
+        yield f"| {NAMES[side]} | {lowest:.2f} | {most_of(rows, side)} | {' to '.join(bounds)} | {over(least[side], most)} |"
 
 
 def apart_by(wanted, space):
@@ -174,7 +180,7 @@ def plot(growth):
     left, top, width, height = 76, 44, 520, 400
     lives = [nodes // 4 for _name, nodes, *_ in growth]
     all_ns = [row[4][side][0] for row in growth for side in row[4]]
-    low, high = 10 ** math.floor(math.log10(min(all_ns))), CAP * 1000
+    low, high = 10 ** math.floor(math.log10(min(all_ns))), max(CAP * 1000, *all_ns)
     x = lambda live: left + width * math.log10(live / lives[0]) / math.log10(lives[-1] / lives[0])
     y = lambda ns: top + height * (1 - math.log10(ns / low) / math.log10(high / low))
     yield text(left, 22, "nanoseconds a step, over live ranges (both axes are logarithmic)", size=13)
@@ -206,12 +212,12 @@ def main():
     growth = [row for row in rows if row[0].startswith("growth")]
     found = list(memory(rows))
     most, least = spaces()
-    versions = "; ".join(f"{', '.join(NAMES[part] for part in PARTS[name])}: {version}" for name, version in VERSIONS.items())
+    versions = "; ".join(f"{' and '.join(NAMES[part] for part in PARTS[name])}: {version}" for name, version in VERSIONS.items())
     shown = [
         "# Beside what an engine would take instead", "",
-        f"{versions}. README.md says how this is measured.", "",
+        f"{versions}. [README.md](README.md#peers) says how this is measured.", "",
         *short_table(rows, found, most, least), "",
-        "Ours and the original with a table just large enough.", "",
+        "Bytes for ours and the original are those of a table just large enough.", "",
         "## Time", "",
         f"Nanoseconds a step. A run that takes more than {CAP} seconds is over what these are for a step. Marked by ~: by the "
         f"clock and of the processor more than {100 * NEAR:.0f}% apart.", "",
@@ -229,6 +235,8 @@ def main():
         file.write('<svg xmlns="http://www.w3.org/2000/svg" width="760" height="500" font-family="sans-serif">'
                    '<rect width="760" height="500" fill="white"/>\n' + "\n".join(plot(growth)) + "\n</svg>\n")
     print("\n".join(shown))
+    marked = sum(busy(row[4], side) for row in rows for side in row[4])
+    print(f"{len(PEERS)} peers, ranges apart; {marked} of {sum(len(row[4]) for row in rows)} times are those of a busy machine")
 
 
 main()
