@@ -1,5 +1,5 @@
 """Times and counts the workloads of the program $1, and writes RESULTS.md and plot.svg into the folder $2."""
-import os, re, subprocess, sys, tempfile
+import os, re, signal, subprocess, sys, tempfile
 from concurrent.futures import ThreadPoolExecutor
 
 MEASURE, HERE = sys.argv[1:3]
@@ -37,15 +37,28 @@ def a_step(name, side, function, steps):
     return inside / steps
 
 
+def apart(name, sides, seconds=0):
+    """How many requests these sides refuse, which have to give the same answers, and ranges that are apart. None where a
+    run takes more seconds; 0 is for no bound."""
+    command = [MEASURE, "check", str(seconds), name, *sides]
+    ended = subprocess.run(command, capture_output=True, text=True)
+    if ended.returncode == -signal.SIGPROF:
+        return None
+    assert ended.returncode == 0, ended.stderr
+    return int(ended.stdout)
+
+
 def measured():
     """For each workload: name, nodes, and for each side nanoseconds and instructions a step."""
-    times = lines("time")
-    kinds = {name: (function, int(count)) for name, count, function in lines("list")}
-    jobs = [(row[0], side) for row in times for side in SIDES]
+    work = lines("list")
     with ThreadPoolExecutor(os.cpu_count()) as pool:
-        counts = dict(zip(jobs, pool.map(lambda job: a_step(*job, *kinds[job[0]]), jobs)))
-    for name, nodes, *ns, _sum in times:
-        yield name, int(nodes), [float(x) for x in ns], [counts[name, side] for side in SIDES]
+        list(pool.map(lambda row: apart(row[0], SIDES), work))
+    times = {name: [float(row[0]) for row in lines("time", name, *SIDES)] for name, *_ in work}
+    jobs = [(name, side, function, int(count)) for name, _nodes, _space, count, function in work for side in SIDES]
+    with ThreadPoolExecutor(os.cpu_count()) as pool:
+        counts = dict(zip([job[:2] for job in jobs], pool.map(lambda job: a_step(*job), jobs)))
+    for name, nodes, *_ in work:
+        yield name, int(nodes), times[name], [counts[name, side] for side in SIDES]
 
 
 def number(x):
@@ -128,7 +141,7 @@ def main():
     head = [
         "# Results", "",
         "Nanoseconds are the least of nine runs, instructions are callgrind's, both a step, without what the tables cost to make.",
-        "All sides gave the same offsets and refusals. In bold: above "
+        "All sides gave the same offsets and refusals, and live ranges are within the space and apart. In bold: above "
         f"{REACH[0]:.2f} of the original's time, {REACH[1]:.2f} of its instructions, or {REACH[2]:.2f} of C's; "
         f"for the erased side above {REACH[3]:.2f} of the original's time, or {REACH[4]:.2f} of its instructions.", "",
     ]
@@ -142,4 +155,5 @@ def main():
     print(f"{len(rows)} workloads, equal answers; {missed} of {len(REACH) * len(rows)} figures miss their reach")
 
 
-main()
+if __name__ == "__main__":
+    main()

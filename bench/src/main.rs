@@ -1,41 +1,35 @@
-//! Runs the workloads on four allocators, and prints a row for each workload and side.
+//! Runs the workloads on the sides that are linked in, and prints what it measures, with tabs between.
 //!
-//! `measure time` prints times, `measure list` names, and `measure play NAME SIDE all|none` makes one run with all of
-//! its steps or with none, for a counter of instructions.
+//! - `measure list`: for each workload its name, nodes, space, steps, and the measured function without its side's word.
+//! - `measure time NAME SIDE...`: for each side nanoseconds a step by the clock and of the processor, and the runs.
+//! - `measure play NAME SIDE all|none`: one run with all of its steps or with none, for a counter of instructions.
+//! - `measure check SECONDS NAME SIDE...`: the refusals of sides with equal answers and ranges that are apart; ends by a
+//!   signal where a run of the first takes more of the processor's time.
+//! - `measure heap NAME SIDE [NODES]`: the bytes of a side when it is made, and the bytes more at the most.
+//! - `measure nodes NAME`: the least limit of nodes with which nothing is refused.
+//! - `measure least SIDE`: the most bytes of the trace that live at once, and the least space that refuses none of it.
+mod check;
 mod erased;
 mod original;
+mod sides;
 mod workloads;
 
+use sides::{Side, REFUSED};
+use std::ffi::{c_char, c_void};
 use std::time::Instant;
-use workloads::{Step, Width, Work, Workload};
-
-macro_rules! sides { ($($play:ident $renew:ident)*) => {
-    extern "C" { $(
-        fn $play(size: u32, max_allocs: u32, slots: usize, steps: *const Step, count: usize) -> u64;
-        fn $renew(size: u32, max_allocs: u32, resets: u32) -> u64;
-    )* }
-} }
-sides! { offset_play_32 offset_renew_32 offset_play_16 offset_renew_16 tuned_play_32 tuned_renew_32 tuned_play_16 tuned_renew_16 }
+use workloads::{Step, Width, Work, Workload, GAME_NODES, GAME_SPACE};
 
 const RUNS: usize = 9;
-const SIDES: [&str; 4] = ["original", "ours", "erased", "c"];
+/// For a run that takes a fifth of a second or more.
+const LONG_RUNS: usize = 3;
+const LONG: f64 = 0.2e9;
 
 /// One run on a side, without its steps if `none`: what is left is the price of making the tables.
-fn run(w: &Workload, side: &str, none: bool) -> u64 {
+fn run(w: &Workload, side: &Side, none: bool) -> u64 {
     match &w.work {
         Work::Steps { slots, steps } => {
-            let play = match (side, w.width) {
-                ("original", Width::Bits32) => original::original_play_32,
-                ("original", Width::Bits16) => original::original_play_16,
-                ("ours", Width::Bits32) => offset_play_32,
-                ("ours", Width::Bits16) => offset_play_16,
-                ("erased", Width::Bits32) => erased::erased_play_32,
-                ("erased", Width::Bits16) => erased::erased_play_16,
-                (_, Width::Bits32) => tuned_play_32,
-                (_, Width::Bits16) => tuned_play_16,
-            };
             let count = if none { 0 } else { steps.len() };
-            unsafe { play(w.space, w.nodes, *slots, steps.as_ptr(), count) }
+            unsafe { side.play[w.width as usize](w.space, w.nodes, *slots, steps.as_ptr(), count) }
         }
         Work::Make { times } => {
             let count = if none { 0 } else { *times };
@@ -45,58 +39,190 @@ fn run(w: &Workload, side: &str, none: bool) -> u64 {
     }
 }
 
-fn renew(w: &Workload, side: &str, resets: u32) -> u64 {
-    let renew = match (side, w.width) {
-        ("original", Width::Bits32) => original::original_renew_32,
-        ("original", Width::Bits16) => original::original_renew_16,
-        ("ours", Width::Bits32) => offset_renew_32,
-        ("ours", Width::Bits16) => offset_renew_16,
-        ("erased", Width::Bits32) => erased::erased_renew_32,
-        ("erased", Width::Bits16) => erased::erased_renew_16,
-        (_, Width::Bits32) => tuned_renew_32,
-        (_, Width::Bits16) => tuned_renew_16,
-    };
-    unsafe { renew(w.space, w.nodes, resets) }
+fn renew(w: &Workload, side: &Side, resets: u32) -> u64 {
+    let renew = side.renew.unwrap_or_else(|| panic!("{} has no tables to make", side.name));
+    unsafe { renew[w.width as usize](w.space, w.nodes, resets) }
 }
 
-/// The least of all runs, in nanoseconds a step; the sides take turns.
-fn times(w: &Workload) -> [f64; 4] {
-    let mut least = [[f64::MAX; 2]; 4];
+extern "C" {
+    fn clock_gettime(clock: i32, time: *mut [i64; 2]) -> i32;
+    fn setitimer(which: i32, interval_and_value: &[[i64; 2]; 2], old: *mut c_void) -> i32;
+    fn dlsym(within: *const c_void, name: *const c_char) -> *const c_void;
+}
+
+/// Nanoseconds that the processor has spent on this thread.
+fn processor() -> f64 {
+    let mut time = [0; 2];
+    assert_eq!(unsafe { clock_gettime(3, &mut time) }, 0);
+    time[0] as f64 * 1e9 + time[1] as f64
+}
+
+/// Nanoseconds of a run, by the clock and of the processor.
+fn timed(w: &Workload, side: &Side, none: bool) -> [f64; 2] {
+    let (start, spent) = (Instant::now(), processor());
+    std::hint::black_box(run(w, side, none));
+    [start.elapsed().as_nanos() as f64, processor() - spent]
+}
+
+/// The least of all runs, in nanoseconds a step, and their number; the sides take turns.
+fn times(w: &Workload, sides: &[Side]) -> Vec<([f64; 2], usize)> {
+    let mut least = vec![[[f64::MAX; 2]; 2]; sides.len()];
+    let mut runs = vec![0; sides.len()];
     for _ in 0..RUNS {
-        for (s, side) in SIDES.iter().enumerate() {
+        for (s, side) in sides.iter().enumerate() {
+            if runs[s] >= LONG_RUNS && least[s][0][0] >= LONG {
+                continue;
+            }
+            runs[s] += 1;
             for none in [false, true] {
-                let start = Instant::now();
-                std::hint::black_box(run(w, side, none));
-                let taken = start.elapsed().as_nanos() as f64;
+                let taken = timed(w, side, none);
                 let best = &mut least[s][none as usize];
-                *best = best.min(taken);
+                *best = [best[0].min(taken[0]), best[1].min(taken[1])];
             }
         }
     }
-    least.map(|[all, none]| (all - none) / w.count() as f64)
+    let a_step = |[all, none]: [[f64; 2]; 2], by: usize| (all[by] - none[by]) / w.count() as f64;
+    least.into_iter().map(|l| [a_step(l, 0), a_step(l, 1)]).zip(runs).collect()
+}
+
+/// Every answer of a side to these steps.
+fn answers(side: &Side, width: Width, space: u32, nodes: u32, slots: usize, steps: &[Step]) -> Vec<u64> {
+    let mut found = vec![0; steps.len()];
+    unsafe { side.answers[width as usize](space, nodes, slots, steps.as_ptr(), steps.len(), found.as_mut_ptr()) };
+    found
+}
+
+fn steps_of(w: &Workload) -> (usize, &[Step]) {
+    match &w.work {
+        Work::Steps { slots, steps } => (*slots, steps),
+        _ => panic!("{} has no steps", w.name),
+    }
+}
+
+/// Ends the program by SIGPROF when the processor has spent so many more seconds on it; 0 for never.
+fn end_after(seconds: i64) {
+    assert_eq!(unsafe { setitimer(2, &[[0, 0], [seconds, 0]], std::ptr::null_mut()) }, 0);
+}
+
+/// The refusals of the sides, where their checksums are equal, and those of ranges that are apart.
+fn checked(w: &Workload, sides: &[Side], seconds: i64) -> usize {
+    check::sees_faults();
+    end_after(seconds);
+    let sum = run(w, &sides[0], false);
+    end_after(0);
+    for side in &sides[1..] {
+        assert_eq!(run(w, side, false), sum, "{}: the answers of {} and {} differ", w.name, side.name, sides[0].name);
+    }
+    let Work::Steps { slots, steps } = &w.work else { return 0 };
+    let answers = answers(&sides[0], w.width, w.space, w.nodes, *slots, steps);
+    let found = answers.iter().fold(0u64, |sum, answer| sum.wrapping_mul(31).wrapping_add(*answer));
+    assert_eq!(found, sum, "{}, {}: the checksum is not that of the answers", w.name, sides[0].name);
+    check::apart(w.space, *slots, steps, &answers).unwrap_or_else(|e| panic!("{}, {}: {e}", w.name, sides[0].name))
+}
+
+/// The most bytes that malloc holds in this run, as the preloaded counter and as the C library count them.
+fn heap(w: &Workload, side: &Side, slots: usize, count: usize) -> [usize; 2] {
+    let found = |name: &std::ffi::CStr| {
+        let found = unsafe { dlsym(std::ptr::null(), name.as_ptr()) };
+        assert!(!found.is_null(), "out/heap.so is to be preloaded");
+        found
+    };
+    let mark: extern "C" fn() = unsafe { std::mem::transmute(found(c"heap_mark")) };
+    let most: extern "C" fn(&mut usize, &mut usize) = unsafe { std::mem::transmute(found(c"heap_most")) };
+    let [mut counted, mut library] = [0; 2];
+    mark();
+    unsafe { side.play[w.width as usize](w.space, w.nodes, slots, steps_of(w).1.as_ptr(), count) };
+    most(&mut counted, &mut library);
+    [counted, library]
+}
+
+/// The least number of which this holds, if it holds of all from some number on; and `high` is one of those.
+fn bisected(mut low: u32, mut high: u32, holds: impl Fn(u32) -> bool) -> u32 {
+    assert!(holds(high), "it does not hold of {high}");
+    while high - low > 1 {
+        let middle = low + (high - low) / 2;
+        if holds(middle) {
+            high = middle;
+        } else {
+            low = middle;
+        }
+    }
+    high
+}
+
+/// The most bytes of the trace that live at once.
+fn peak(steps: &[Step]) -> u32 {
+    let mut held = std::collections::HashMap::new();
+    let (mut now, mut most) = (0, 0);
+    for step in steps {
+        match held.remove(&step.slot) {
+            Some(size) => now -= size,
+            None => {
+                held.insert(step.slot, step.size);
+                now += step.size;
+            }
+        }
+        most = most.max(now);
+    }
+    most
+}
+
+/// The least space that refuses none of the trace. It may refuse some in a larger one: so a bisection finds a size, and
+/// it is looked for a smaller one among the 1,000 sizes below it and 1,000 spread down to the peak, until there is none.
+fn least(side: &Side) -> (u32, u32) {
+    let (slots, steps) = workloads::trace();
+    let grants_all = |space: u32| !answers(side, Width::Bits32, space, GAME_NODES, slots as usize, &steps).contains(&REFUSED);
+    let peak = peak(&steps);
+    let mut found = bisected(peak - 1, GAME_SPACE, grants_all);
+    loop {
+        let spread = (0..1000u64).map(|i| peak + (u64::from(found - peak) * i / 1000) as u32);
+        let below = spread.chain(found.saturating_sub(1000).max(peak)..found);
+        let Some(smaller) = below.filter(|space| *space < found && grants_all(*space)).min() else { return (peak, found) };
+        found = bisected(peak - 1, smaller, grants_all);
+    }
 }
 
 fn main() {
     let words: Vec<String> = std::env::args().skip(1).collect();
     let words: Vec<&str> = words.iter().map(String::as_str).collect();
+    let workload = |name: &str| workloads::all(Some(name)).pop().unwrap_or_else(|| panic!("no workload {name}"));
+    let side = |name: &str| sides::all().into_iter().find(|s| s.name == name).unwrap_or_else(|| panic!("no side {name}"));
+    let sides = |names: &[&str]| names.iter().map(|name| side(name)).collect::<Vec<Side>>();
     match words[..] {
         ["list"] => {
             for w in workloads::all(None) {
-                println!("{}\t{}\t{}", w.name, w.count(), w.function());
+                println!("{}\t{}\t{}\t{}\t{}", w.name, w.nodes, w.space, w.count(), w.function());
             }
         }
-        ["play", name, side, what] => {
-            let w = &workloads::all(Some(name))[0];
-            println!("{}", run(w, side, what == "none"));
-        }
-        ["time"] => {
-            for w in workloads::all(None) {
-                let sums = SIDES.map(|side| run(&w, side, false));
-                assert!(sums.iter().all(|s| *s == sums[0]), "{}: the answers differ: {sums:?}", w.name);
-                let [original, ours, erased, c] = times(&w);
-                println!("{}\t{}\t{original}\t{ours}\t{erased}\t{c}\t{:016x}", w.name, w.nodes, sums[0]);
+        ["time", name, ref names @ ..] => {
+            for ([clock, processor], runs) in times(&workload(name), &sides(names)) {
+                println!("{clock}\t{processor}\t{runs}");
             }
         }
-        _ => panic!("measure time | list | play NAME SIDE all|none"),
+        ["play", name, of, what @ ("all" | "none")] => println!("{}", run(&workload(name), &side(of), what == "none")),
+        ["check", seconds, name, ref names @ ..] => {
+            println!("{}", checked(&workload(name), &sides(names), seconds.parse().unwrap()));
+        }
+        ["heap", name, of, ref nodes @ ..] => {
+            let (mut w, side) = (workload(name), side(of));
+            if let [nodes] = nodes {
+                w.nodes = nodes.parse().unwrap();
+            }
+            let (slots, steps) = steps_of(&w);
+            let made = heap(&w, &side, 0, 0);
+            let (none, all) = (heap(&w, &side, slots, 0), heap(&w, &side, slots, steps.len()));
+            println!("{}\t{}\t{}\t{}", made[0], made[1], all[0] - none[0], all[1] - none[1]);
+        }
+        ["nodes", name] => {
+            let w = workload(name);
+            let (slots, steps) = steps_of(&w);
+            let enough = |nodes| !answers(&side("original"), w.width, w.space, nodes, slots, steps).contains(&REFUSED);
+            println!("{}", bisected(1, w.nodes, enough));
+        }
+        ["least", of] => {
+            let (peak, space) = least(&side(of));
+            println!("{peak}\t{space}");
+        }
+        _ => panic!("measure list | time | play | check | heap | nodes | least"),
     }
 }

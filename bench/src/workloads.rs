@@ -74,6 +74,10 @@ impl Random {
 }
 
 const STEPS: usize = 1_000_000;
+pub const GAME_SPACE: u32 = 1 << 28;
+pub const GAME_NODES: u32 = 16_384;
+/// The least space in which we refuse nothing of the trace: `measure least` finds it.
+pub const GAME_LEAST: u32 = 62_205_308;
 
 /// Fills so many slots, and then empties and fills a random one, again and again.
 fn random(slots: u32, bits: u32) -> Work {
@@ -124,10 +128,11 @@ fn fragments(slots: u32) -> Work {
     Work::Steps { slots: slots as usize, steps }
 }
 
-/// The buffers of a real game, again and again: a slot for each grant, which its script releases.
-fn trace(text: &str) -> Work {
-    let mut lines = text.lines();
-    assert_eq!(lines.next(), Some("space 268435456 nodes 16384 index 32"));
+/// The buffers of a real game, once: how many slots, one for each grant, which its script releases; and the steps.
+pub fn trace() -> (u32, Vec<Step>) {
+    let mut lines = include_str!("../traces/voxel-game.script").lines();
+    let header = format!("space {GAME_SPACE} nodes {GAME_NODES} index 32");
+    assert_eq!(lines.next(), Some(header.as_str()));
     let mut once = Vec::new();
     let mut slots = 0;
     for line in lines {
@@ -142,9 +147,13 @@ fn trace(text: &str) -> Work {
             _ => panic!("a command of the trace: {line}"),
         }
     }
-    // all slots are empty in the end
-    let steps = once.repeat(STEPS.div_ceil(once.len()));
-    Work::Steps { slots: slots as usize, steps }
+    (slots, once)
+}
+
+/// The trace again and again: all slots are empty in the end.
+fn game() -> Work {
+    let (slots, once) = trace();
+    Work::Steps { slots: slots as usize, steps: once.repeat(STEPS.div_ceil(once.len())) }
 }
 
 /// All workloads, or the one of this name: only that is made then.
@@ -167,7 +176,9 @@ pub fn all(only: Option<&str>) -> Vec<Workload> {
     add("bump, then free in reverse", Bits32, SPACE, NODES, &|| waves(60_000, 12, |_| (0..60_000).rev().collect()));
     add("bump, then free at random", Bits32, SPACE, NODES, &|| waves(60_000, 12, |r| r.shuffled(60_000)));
     add("fragmenting mix", Bits32, SPACE, NODES, &|| fragments(120_000));
-    add("voxel game", Bits32, SPACE, 16_384, &|| trace(include_str!("../traces/voxel-game.script")));
+    add("voxel game", Bits32, GAME_SPACE, GAME_NODES, &game);
+    add("voxel game in 65 MB", Bits32, 65_000_000, GAME_NODES, &game);
+    add("voxel game, least space", Bits32, GAME_LEAST, GAME_NODES, &game);
     add("u16: random, 1k live", Bits16, 65_535, 65_000, &|| random(1_000, 6));
     add("u16: random, 16k live", Bits16, 65_535, 65_000, &|| random(16_000, 1));
     add("u16: random, 300 of 1,024", Bits16, 65_535, 1_024, &|| random(300, 7));
@@ -177,9 +188,10 @@ pub fn all(only: Option<&str>) -> Vec<Workload> {
     add("reset 131,072 nodes", Bits32, SPACE, NODES, &|| Work::Reset { times: 100 });
     add("u16: make 65,000 nodes", Bits16, 65_535, 65_000, &|| Work::Make { times: 100 });
     add("u16: reset 65,000 nodes", Bits16, 65_535, 65_000, &|| Work::Reset { times: 100 });
-    for bits in 10..=20 {
+    for bits in [6, 8].into_iter().chain(10..=20) {
         let nodes = 1 << bits;
-        add(&format!("growth, {nodes} nodes"), Bits32, u32::MAX, nodes, &|| random(nodes / 4, 12));
+        // the largest space that all sides take
+        add(&format!("growth, {nodes} nodes"), Bits32, i32::MAX as u32, nodes, &|| random(nodes / 4, 12));
     }
     found
 }

@@ -1,0 +1,242 @@
+"""Measures the peers that are built in beside the original and ours, and writes PEERS.md and peers.svg into the folder $2."""
+import math, os, subprocess
+from concurrent.futures import ThreadPoolExecutor
+from report import COLOURS, HERE, MEASURE, apart, lines, number, text
+
+# seconds that a run may take
+CAP = 5
+# how far the time of the clock and that of the processor may be apart
+NEAR = 0.05
+# what is built of each peer
+PARTS = {"vma": ["vma", "vma_min"], "u_mm": ["u_mm"], "util_vma": ["util_vma"]}
+NAMES = {"original": "original", "ours": "ours", "vma": "VMA", "vma_min": "VMA, least memory", "u_mm": "u_mm", "util_vma": "util_vma_heap"}
+COLOURS = {**COLOURS, "vma": "#d68910", "vma_min": "#7e5109", "u_mm": "#8e44ad", "util_vma": "#148f77"}
+# at so many live ranges
+LIVE = {1_000: "random, 1k live", 16_000: "random, 16k live", 60_000: "random, 60k live"}
+TIGHTEST = "voxel game, least space"
+COUNTED = {**os.environ, "LD_PRELOAD": f"{HERE}/out/heap.so"}
+
+with open(f"{HERE}/out/peers.txt") as file:
+    VERSIONS = dict(line.rstrip("\n").split("\t") for line in file)
+PEERS = [part for name in VERSIONS for part in PARTS[name]]
+SIDES = ["original", "ours", *PEERS]
+
+
+def measured():
+    """For each workload of steps: its name, nodes and steps, the refusals of each side, and the nanoseconds a step by the
+    clock and of the processor: None where it takes too long."""
+    work = [(name, int(nodes), int(count)) for name, nodes, _space, count, function in lines("list") if function.startswith("play")]
+    jobs = [(name, side) for name, *_ in work for side in SIDES]
+    with ThreadPoolExecutor(os.cpu_count()) as pool:
+        refused = dict(zip(jobs, pool.map(lambda job: apart(job[0], [job[1]], CAP), jobs)))
+    for name, nodes, count in work:
+        ended = [side for side in SIDES if refused[name, side] is not None]
+        rows = [[float(x) for x in row] for row in lines("time", name, *ended)]
+        yield name, nodes, count, {side: refused[name, side] for side in SIDES}, {side: row[:2] for side, row in zip(ended, rows)}
+
+
+def busy(times, side):
+    """Whether the time of the clock is not the processor's."""
+    clock, processor = times[side]
+    return abs(clock - processor) > NEAR * clock
+
+
+def told(row, side):
+    """The nanoseconds a step, and how many times the original's they are."""
+    _name, _nodes, count, _refused, times = row
+    original = times["original"][0]
+    if side not in times:
+        least = CAP * 1e9 / count
+        return f"over {math.floor(least):,}", f"over {math.floor(least / original)}"
+    marks = ["~" if busy(times, side) else "", "~" if busy(times, side) or busy(times, "original") else ""]
+    return marks[0] + number(times[side][0]), f"{marks[1]}{times[side][0] / original:.2f}"
+
+
+def times_table(rows):
+    yield "| workload | ns: " + " | ".join(NAMES[s] for s in SIDES) + " | time/original: " + " | ".join(NAMES[s] for s in SIDES[1:]) + " |"
+    yield "|---|" + "---:|" * (2 * len(SIDES) - 1)
+    for row in rows:
+        ns = [told(row, side)[0] for side in SIDES]
+        parts = [told(row, side)[1] for side in SIDES[1:]]
+        yield f"| {row[0]} | " + " | ".join(ns + parts) + " |"
+
+
+def refusals_table(rows):
+    yield "| workload | " + " | ".join(NAMES[s] for s in SIDES[1:]) + " |"
+    yield "|---|" + "---:|" * len(SIDES[1:])
+    for name, _nodes, _count, refused, _times in rows:
+        assert refused["ours"] == refused["original"]
+        if any(refused.values()):
+            cells = ["" if refused[side] is None else f"{refused[side]:,}" for side in SIDES[1:]]
+            yield f"| {name} | " + " | ".join(cells) + " |"
+
+
+def held(name, side, *nodes):
+    """The bytes of a side when it is made, and the bytes more at the most; counted in two ways, which have to agree."""
+    out = subprocess.run([MEASURE, "heap", name, side, *map(str, nodes)], env=COUNTED, check=True, capture_output=True, text=True).stdout
+    made, made_again, more, more_again = map(int, out.split())
+    for one, other in ((made, made_again), (more, more_again)):
+        # an allocation that has pages of its own has another word
+        assert abs(one - other) <= 4096 + one / 100, f"{name}, {side}: {one} bytes, or {other}"
+    return made, more
+
+
+def memory(rows):
+    """For each row of the table: its side and name, the bytes when it is made, and the bytes at so many live ranges."""
+    ended = {(name, side) for name, _nodes, _count, _refused, times in rows for side in times}
+    nodes = {name: int(lines("nodes", name)[0][0]) for name in LIVE.values()}
+    for side in SIDES:
+        made = held(LIVE[1_000], side)[0]
+        yield side, NAMES[side], made, [sum(held(name, side)) if (name, side) in ended else None for name in LIVE.values()]
+        if side in ("original", "ours"):
+            limits = ", ".join(f"{n:,}" for n in nodes.values())
+            yield side, f"{NAMES[side]}, with {limits} nodes", None, [sum(held(name, side, nodes[name])) for name in LIVE.values()]
+
+
+def memory_table(found):
+    yield "| | bytes when made | " + " | ".join(f"a live range of {live:,}" for live in LIVE) + " |"
+    yield "|---|" + "---:|" * (1 + len(LIVE))
+    for _side, name, made, at in found:
+        cells = ["" if made is None else f"{made:,}"] + ["" if b is None else number(b / live) for b, live in zip(at, LIVE)]
+        yield f"| {name} | " + " | ".join(cells) + " |"
+
+
+def peak():
+    """The most bytes of the trace that live at once."""
+    sizes, now, most = [], 0, 0
+    with open(f"{HERE}/traces/voxel-game.script") as file:
+        for line in file:
+            match line.split():
+                case ["alloc", size]:
+                    sizes.append(int(size))
+                    now += sizes[-1]
+                case ["free", which]:
+                    now -= sizes[int(which) - 1]
+            most = max(most, now)
+    return most
+
+
+def spaces():
+    """The most bytes that live at once, and for each side the least space found that refuses none of the trace."""
+    sides = [side for side in SIDES if side != "ours"]
+    with ThreadPoolExecutor(os.cpu_count()) as pool:
+        found = list(pool.map(lambda side: [int(x) for x in lines("least", side)[0]], sides))
+    most = peak()
+    assert all(row[0] == most for row in found), f"{most} bytes at the peak, or {found}"
+    least = {side: row[1] for side, row in zip(sides, found)}
+    # of both the answers are the same
+    least["ours"] = least["original"]
+    space = next(int(row[2]) for row in lines("list") if row[0] == TIGHTEST)
+    assert least["ours"] == space, f"{TIGHTEST}: {space} units, but {least['ours']} are enough"
+    return most, least
+
+
+def over(space, most):
+    return f"{100 * (space / most - 1):.2f}%"
+
+
+def space_table(most, least):
+    yield "| | least space | over the peak |"
+    yield "|---|---:|---:|"
+    for side in SIDES:
+        yield f"| {NAMES[side]} | {least[side]:,} | {over(least[side], most)} |"
+
+
+def most_of(rows, side):
+    """The largest of the parts of the original's time."""
+    parts = [row[4][side][0] / row[4]["original"][0] for row in rows if side in row[4]]
+    late = [told(row, side)[1] for row in rows if side not in row[4]]
+    largest = max(late, key=lambda words: float(words.split()[1]), default="over 0")
+    return largest if float(largest.split()[1]) > max(parts) else f"{max(parts):.2f}" + (" or more" if late else "")
+
+
+def short_table(rows, found, most, least):
+    """A row for each side: what the other tables have of it."""
+    # the last row of each side: a table just large enough
+    bytes_of = {side: at for side, _name, _made, at in found}
+    yield "| | time/original, least | most | bytes a live range | least space over the peak |"
+    yield "|---|---:|---:|---:|---:|"
+    for side in SIDES:
+        lowest = min(row[4][side][0] / row[4]["original"][0] for row in rows if side in row[4])
+        each = [b / live for b, live in zip(bytes_of[side], LIVE) if b is not None]
+        bounds = sorted({f"{min(each):.0f}", f"{max(each):.0f}"}, key=int)
+        yield f"| {NAMES[side]} | {lowest:.2f} | {most_of(rows, side)} | {' to '.join(bounds)} | {over(least[side], most)} |"
+
+
+def apart_by(wanted, space):
+    """The places near the ones that are wanted, this far from each other."""
+    order = sorted(range(len(wanted)), key=lambda i: wanted[i])
+    found = list(wanted)
+    for _ in range(100):
+        for i, j in zip(order, order[1:]):
+            if (lack := space - (found[j] - found[i])) > 0:
+                found[i] -= lack / 2
+                found[j] += lack / 2
+    return found
+
+
+def plot(growth):
+    """A line for each side: nanoseconds a step over live ranges."""
+    left, top, width, height = 76, 44, 520, 400
+    lives = [nodes // 4 for _name, nodes, *_ in growth]
+    all_ns = [row[4][side][0] for row in growth for side in row[4]]
+    low, high = 10 ** math.floor(math.log10(min(all_ns))), max(CAP * 1000, *all_ns)
+    x = lambda live: left + width * math.log10(live / lives[0]) / math.log10(lives[-1] / lives[0])
+    y = lambda ns: top + height * (1 - math.log10(ns / low) / math.log10(high / low))
+    yield text(left, 22, "nanoseconds a step, over live ranges (both axes are logarithmic)", size=13)
+    for decade in range(round(math.log10(low)), 5):
+        for digit in (1, 2, 5):
+            ns = digit * 10 ** decade
+            if low <= ns <= high:
+                yield f'<line x1="{left}" y1="{y(ns):.1f}" x2="{left + width}" y2="{y(ns):.1f}" stroke="{"#bbb" if digit == 1 else "#e5e5e5"}"/>'
+                yield text(left - 6, y(ns) + 4, f"{ns:,}", "end", 11)
+    for live in (20, 100, 1_000, 10_000, 100_000):
+        yield f'<line x1="{x(live):.1f}" y1="{top}" x2="{x(live):.1f}" y2="{top + height}" stroke="#e5e5e5"/>'
+        yield text(x(live), top + height + 18, f"{live:,}", "middle", 11)
+    yield text(left + width / 2, top + height + 38, "live ranges", "middle", 12)
+    ends = {}
+    for side in SIDES:
+        points = [(x(live), y(row[4][side][0])) for live, row in zip(lives, growth) if side in row[4]]
+        drawn = " ".join(f"{a:.1f},{b:.1f}" for a, b in points)
+        yield f'<polyline points="{drawn}" fill="none" stroke="{COLOURS[side]}" stroke-width="2"/>'
+        for a, b in points:
+            yield f'<circle cx="{a:.1f}" cy="{b:.1f}" r="2.5" fill="{COLOURS[side]}"/>'
+        ends.setdefault(points[-1][0], []).append((side, points[-1][1]))
+    for a, here in ends.items():
+        for (side, _), b in zip(here, apart_by([b for _, b in here], 16)):
+            yield text(a + 10, b + 4, NAMES[side]).replace("<text ", f'<text fill="{COLOURS[side]}" ')
+
+
+def main():
+    rows = list(measured())
+    growth = [row for row in rows if row[0].startswith("growth")]
+    found = list(memory(rows))
+    most, least = spaces()
+    versions = "; ".join(f"{' and '.join(NAMES[part] for part in PARTS[name])}: {version}" for name, version in VERSIONS.items())
+    shown = [
+        "# Beside what an engine would take instead", "",
+        f"{versions}. [README.md](README.md#peers) says how this is measured.", "",
+        *short_table(rows, found, most, least), "",
+        "Bytes for ours and the original are those of a table just large enough.", "",
+        "## Time", "",
+        f"Nanoseconds a step. A run that takes more than {CAP} seconds is over what these are for a step. Marked by ~: by the "
+        f"clock and of the processor more than {100 * NEAR:.0f}% apart.", "",
+        *times_table(rows), "",
+        "## Refusals", "", "In the workloads where one refuses anything.", "", *refusals_table(rows), "",
+        "## Memory", "", "Bytes that `malloc` holds, with its own words, at the most, over the live ranges.", "", *memory_table(found), "",
+        "## The least space for the trace", "",
+        f"At most {most:,} bytes of it live at once. A bisection found the least space that refuses nothing; none of the 1,000 "
+        "sizes below it was enough, and none of 1,000 spread from it down to the peak.", "", *space_table(most, least),
+    ]
+    assert next(row[3]["ours"] for row in rows if row[0] == TIGHTEST) == 0, f"{TIGHTEST}: we refuse some of it"
+    with open(f"{HERE}/PEERS.md", "w") as file:
+        file.write("\n".join(shown) + "\n")
+    with open(f"{HERE}/peers.svg", "w") as file:
+        file.write('<svg xmlns="http://www.w3.org/2000/svg" width="760" height="500" font-family="sans-serif">'
+                   '<rect width="760" height="500" fill="white"/>\n' + "\n".join(plot(growth)) + "\n</svg>\n")
+    print("\n".join(shown))
+    marked = sum(busy(row[4], side) for row in rows for side in row[4])
+    print(f"{len(PEERS)} peers, ranges apart; {marked} of {sum(len(row[4]) for row in rows)} times are those of a busy machine")
+
+
+main()
