@@ -1,7 +1,7 @@
 """Measures the peers that are built in beside the original and ours, and writes PEERS.md and peers.svg into the folder $2."""
 import math, os, subprocess
 from concurrent.futures import ThreadPoolExecutor
-from report import COLOURS, HERE, MEASURE, apart, lines, number, text
+from report import COLOURS, HERE, MEASURE, apart, lines, number, spread, text
 
 # seconds that a run may take
 CAP = 5
@@ -163,18 +163,6 @@ def short_table(rows, found, most, least):
         yield f"| {NAMES[side]} | {lowest:.2f} | {most_of(rows, side)} | {' to '.join(bounds)} | {over(least[side], most)} |"
 
 
-def apart_by(wanted, space):
-    """The places near the ones that are wanted, this far from each other."""
-    order = sorted(range(len(wanted)), key=lambda i: wanted[i])
-    found = list(wanted)
-    for _ in range(100):
-        for i, j in zip(order, order[1:]):
-            if (lack := space - (found[j] - found[i])) > 0:
-                found[i] -= lack / 2
-                found[j] += lack / 2
-    return found
-
-
 def plot(growth):
     """A line for each side: nanoseconds a step over live ranges."""
     left, top, width, height = 76, 44, 520, 400
@@ -203,7 +191,7 @@ def plot(growth):
             yield f'<circle cx="{a:.1f}" cy="{b:.1f}" r="2.5" fill="{COLOURS[side]}"/>'
         ends.setdefault(points[-1][0], []).append((side, points[-1][1]))
     for a, here in ends.items():
-        for (side, _), b in zip(here, apart_by([b for _, b in here], 16)):
+        for (side, _), b in zip(here, spread([b for _, b in here], 16)):
             yield text(a + 10, b + 4, NAMES[side]).replace("<text ", f'<text fill="{COLOURS[side]}" ')
 
 
