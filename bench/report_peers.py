@@ -76,7 +76,7 @@ def held(name, side, *nodes):
     out = subprocess.run([MEASURE, "heap", name, side, *map(str, nodes)], env=COUNTED, check=True, capture_output=True, text=True).stdout
     made, made_again, more, more_again = map(int, out.split())
     for one, other in ((made, made_again), (more, more_again)):
-        # an allocation that has pages of its own has another word
+        # the header of a piece with pages of its own is longer
         assert abs(one - other) <= 4096 + one / 100, f"{name}, {side}: {one} bytes, or {other}"
     return made, more
 
@@ -211,7 +211,7 @@ def main():
         f"clock and of the processor more than {100 * NEAR:.0f}% apart.", "",
         *times_table(rows), "",
         "## Refusals", "", "In the workloads where one refuses anything.", "", *refusals_table(rows), "",
-        "## Memory", "", "Bytes that `malloc` holds, with its own words, at the most, over the live ranges.", "", *memory_table(found), "",
+        "## Memory", "", "Bytes that `malloc` holds at the most, its headers included, over the live ranges. Empty: a run takes too long.", "", *memory_table(found), "",
         "## The least space for the trace", "",
         f"At most {most:,} bytes of it live at once. A bisection found the least space that refuses nothing; none of the 1,000 "
         "sizes below it was enough, and none of 1,000 spread from it down to the peak.", "", *space_table(most, least),
