@@ -1,5 +1,5 @@
 """Times and counts the workloads of the program $1, and writes RESULTS.md and plot.svg into the folder $2."""
-import os, re, signal, subprocess, sys, tempfile
+import math, os, re, signal, subprocess, sys, tempfile
 from concurrent.futures import ThreadPoolExecutor
 
 MEASURE, HERE = sys.argv[1:3]
@@ -106,6 +106,18 @@ def bars(rows, top):
             yield f'<rect x="{left}" y="{y + offset}" width="{width * min(value, 1.25) / 1.25:.1f}" height="7" fill="{colour}"/>'
 
 
+def spread(wanted, space):
+    """The places near the ones that are wanted, this far from each other."""
+    order = sorted(range(len(wanted)), key=lambda i: wanted[i])
+    found = list(wanted)
+    for _ in range(100):
+        for i, j in zip(order, order[1:]):
+            if (lack := space - (found[j] - found[i])) > 0:
+                found[i] -= lack / 2
+                found[j] += lack / 2
+    return found
+
+
 def curves(rows, top, title, values):
     """A curve for each side over the number of nodes."""
     left, width, height = 80, 600, 200
@@ -114,14 +126,20 @@ def curves(rows, top, title, values):
     for i in range(5):
         y = top + height * (1 - i / 4)
         yield f'<line x1="{left}" y1="{y}" x2="{left + width}" y2="{y}" stroke="#ddd"/>' + text(left - 6, y + 4, f"{most * i / 4:.0f}", "end", 10)
-    xs = [left + width * i / (len(rows) - 1) for i in range(len(rows))]
+    first, last = rows[0][1], rows[-1][1]
+    xs = [left + width * math.log(row[1] / first) / math.log(last / first) for row in rows]
     for x, row in zip(xs, rows):
-        yield text(x, top + height + 16, f"{row[1]:,}", "middle", 9)
+        # powers of 4: every number is too many
+        if row[1].bit_length() % 2 == 1:
+            yield text(x, top + height + 16, f"{row[1]:,}", "middle", 10)
+    ends = []
     for s, side in enumerate(SIDES):
         ys = [top + height * (1 - values(row)[s] / most) for row in rows]
         points = " ".join(f"{x:.1f},{y:.1f}" for x, y in zip(xs, ys))
         yield f'<polyline points="{points}" fill="none" stroke="{COLOURS[side]}" stroke-width="2"/>'
-        yield text(left + width + 8, ys[-1] + 4, NAMES[side])
+        ends.append(ys[-1])
+    for side, y in zip(SIDES, spread(ends, 13)):
+        yield text(left + width + 8, y + 4, NAMES[side])
 
 
 def plot(work, growth):

@@ -1,7 +1,7 @@
 """Measures the peers that are built in beside the original and ours, and writes PEERS.md and peers.svg into the folder $2."""
 import math, os, subprocess
 from concurrent.futures import ThreadPoolExecutor
-from report import COLOURS, HERE, MEASURE, apart, lines, number, text
+from report import COLOURS, HERE, MEASURE, apart, lines, number, spread, text
 
 # seconds that a run may take
 CAP = 5
@@ -76,7 +76,7 @@ def held(name, side, *nodes):
     out = subprocess.run([MEASURE, "heap", name, side, *map(str, nodes)], env=COUNTED, check=True, capture_output=True, text=True).stdout
     made, made_again, more, more_again = map(int, out.split())
     for one, other in ((made, made_again), (more, more_again)):
-        # an allocation that has pages of its own has another word
+        # the header of a piece with pages of its own is longer
         assert abs(one - other) <= 4096 + one / 100, f"{name}, {side}: {one} bytes, or {other}"
     return made, more
 
@@ -163,18 +163,6 @@ def short_table(rows, found, most, least):
         yield f"| {NAMES[side]} | {lowest:.2f} | {most_of(rows, side)} | {' to '.join(bounds)} | {over(least[side], most)} |"
 
 
-def apart_by(wanted, space):
-    """The places near the ones that are wanted, this far from each other."""
-    order = sorted(range(len(wanted)), key=lambda i: wanted[i])
-    found = list(wanted)
-    for _ in range(100):
-        for i, j in zip(order, order[1:]):
-            if (lack := space - (found[j] - found[i])) > 0:
-                found[i] -= lack / 2
-                found[j] += lack / 2
-    return found
-
-
 def plot(growth):
     """A line for each side: nanoseconds a step over live ranges."""
     left, top, width, height = 76, 44, 520, 400
@@ -203,7 +191,7 @@ def plot(growth):
             yield f'<circle cx="{a:.1f}" cy="{b:.1f}" r="2.5" fill="{COLOURS[side]}"/>'
         ends.setdefault(points[-1][0], []).append((side, points[-1][1]))
     for a, here in ends.items():
-        for (side, _), b in zip(here, apart_by([b for _, b in here], 16)):
+        for (side, _), b in zip(here, spread([b for _, b in here], 16)):
             yield text(a + 10, b + 4, NAMES[side]).replace("<text ", f'<text fill="{COLOURS[side]}" ')
 
 
@@ -223,7 +211,7 @@ def main():
         f"clock and of the processor more than {100 * NEAR:.0f}% apart.", "",
         *times_table(rows), "",
         "## Refusals", "", "In the workloads where one refuses anything.", "", *refusals_table(rows), "",
-        "## Memory", "", "Bytes that `malloc` holds, with its own words, at the most, over the live ranges.", "", *memory_table(found), "",
+        "## Memory", "", "Bytes that `malloc` holds at the most, its headers included, over the live ranges. Empty: a run takes too long.", "", *memory_table(found), "",
         "## The least space for the trace", "",
         f"At most {most:,} bytes of it live at once. A bisection found the least space that refuses nothing; none of the 1,000 "
         "sizes below it was enough, and none of 1,000 spread from it down to the peak.", "", *space_table(most, least),

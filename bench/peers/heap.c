@@ -1,5 +1,5 @@
-// Preloaded into the measuring program: the most bytes that malloc has held since `heap_mark`, with its own words for
-// each piece, counted here and by the C library itself.
+// Preloaded into the measuring program: the most bytes that malloc has held since `heap_mark`, with the header of each
+// piece, counted here and by the C library itself.
 #include <malloc.h>
 #include <stddef.h>
 #include <stdlib.h>
