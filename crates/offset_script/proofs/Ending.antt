@@ -4,14 +4,16 @@ use Rattle.std.specs.Prelude.{IfSome}
 use Rattle.std.specs.Io.KnownBytes.{Appends}
 use Rattle.std.specs.List.{flat_map}
 use Rattle.std.proofs.KnownBytes.{Appends-trans}
-use Rattle.std.proofs.lemmas.Bool.{cases_lt}
+use Rattle.std.proofs.lemmas.Bool.{cases_lt, true≢false}
 use Rattle.std.proofs.lemmas.List.{append-nil, take_rest, length-append, drop_at, drop_all}
 use Rattle.offset_script.specs.declared.faults.ScriptFault.{ScriptFault}
 use Rattle.offset_script.specs.declared.faults.ScriptFault.TheVariants as scripts
-use Rattle.offset_script.specs.declared.faults.RunFault.TheVariants.{Write}
+use Rattle.offset_script.specs.declared.faults.RunFault.{RunFault}
+use Rattle.offset_script.specs.declared.faults.RunFault.TheVariants as faults
+use Rattle.offset_script.specs.declared.scripts.Script.{Script}
 use Rattle.offset_script.specs.Faults.{as_run_fault}
-use Rattle.offset_script.specs.Grammar.{Plan, meaning_of, Fails}
-use Rattle.offset_script.specs.Running.{RunOf, HasText, Sends, IsAnswered}
+use Rattle.offset_script.specs.Grammar.{meaning_of, view, Fails}
+use Rattle.offset_script.specs.Running.{RunOf, ScriptOf, HasText, Sends, IsAnswered, is_write_fault}
 use Rattle.offset_script.specs.Machine.{Answer}
 use Rattle.offset_script.specs.Answers.{text_of}
 use Rattle.offset_script.proofs.Steps.{is_too_long}
@@ -44,24 +46,39 @@ whole_or_long bytes text (Some rest) h =
       | inr le ↦ inr (ap Some (sym (drop_at bytes rest 1048577 (omega (arith, h.most))) ∙ ap (drop 1048577) (sym h.takes)), is_too_long bytes (omega arith), is_too_long text (omega (arith, ap length h.takes, length-append bytes rest)))
     ]
 
-pub script_failed : (bytes : List ℕ) (f : ScriptFault) (from left old new : Option (List ℕ)) → HasText bytes from left → Fails f (meaning_of bytes) → IfSome from (λ text. RunOf (Err (as_run_fault f)) text left old new)
-script_failed bytes f None left old new h fails = tt
-script_failed bytes scripts.Memory (Some text) left old new h fails = tt
-script_failed bytes scripts.TooLong (Some text) left old new h fails =
+pub script_failed : (bytes : List ℕ) (f : ScriptFault) (from left : Option (List ℕ)) → HasText bytes from left → Fails f (meaning_of bytes) → IfSome from (λ text. ScriptOf (Err (as_run_fault f)) text left)
+script_failed bytes f None left h fails = tt
+script_failed bytes scripts.Memory (Some text) left h fails = tt
+script_failed bytes scripts.TooLong (Some text) left h fails =
     elim (whole_or_long bytes text left h) [ inl w ↦ (rw (drop_all 1048577 text (omega (arith, w.2, ap length w.1))) w.0, ap meaning_of w.1 ∙ fails) | inr l ↦ (l.0, l.2) ]
-script_failed bytes (scripts.BadHeader n) (Some text) left old new h fails =
+script_failed bytes (scripts.BadHeader n) (Some text) left h fails =
     elim (whole_or_long bytes text left h) [ inl w ↦ (w.0, ap meaning_of w.1 ∙ fails) | inr l ↦ absurd (let e = sym l.1 ∙ fails in cc) ]
-script_failed bytes (scripts.BadLimit n) (Some text) left old new h fails =
+script_failed bytes (scripts.BadLimit n) (Some text) left h fails =
     elim (whole_or_long bytes text left h) [ inl w ↦ (w.0, ap meaning_of w.1 ∙ fails) | inr l ↦ absurd (let e = sym l.1 ∙ fails in cc) ]
-script_failed bytes (scripts.BadCommand n) (Some text) left old new h fails =
+script_failed bytes (scripts.BadCommand n) (Some text) left h fails =
     elim (whole_or_long bytes text left h) [ inl w ↦ (w.0, ap meaning_of w.1 ∙ fails) | inr l ↦ absurd (let e = sym l.1 ∙ fails in cc) ]
 
-pub all_sent : (bytes sent : List ℕ) (plan : Plan) (rs : List Answer) (from left old new : Option (List ℕ)) → HasText bytes from left → meaning_of bytes ≡ Ok plan → IsAnswered plan rs → sent ≡ text_of rs → Appends old new sent → IfSome from (λ text. RunOf (Ok tt) text left old new)
-all_sent bytes sent plan rs None left old new h means played e sends = tt
-all_sent bytes sent plan rs (Some text) left old new h means played e sends =
-    elim (whole_or_long bytes text left h) [ inl w ↦ (w.0, record { plan = plan; answers = rs; played = played; means = ap meaning_of w.1 ∙ means; writes = rw (← e) sends }) | inr l ↦ absurd (let e' = sym l.1 ∙ means in cc) ]
+pub script_read : (bytes : List ℕ) (script : Script) (from left : Option (List ℕ)) → HasText bytes from left → meaning_of bytes ≡ Ok (view script) → IfSome from (λ text. ScriptOf (Ok script) text left)
+script_read bytes script None left h means = tt
+script_read bytes script (Some text) left h means =
+    elim (whole_or_long bytes text left h) [ inl w ↦ (w.0, ap meaning_of w.1 ∙ means) | inr l ↦ absurd (let e = sym l.1 ∙ means in cc) ]
 
-pub front_sent : (bytes sent : List ℕ) (plan : Plan) (rs : List Answer) (from left old new : Option (List ℕ)) → HasText bytes from left → meaning_of bytes ≡ Ok plan → IsAnswered plan rs → sent ≡ text_of rs → Sends false sent old new → IfSome from (λ text. RunOf (Err Write) text left old new)
-front_sent bytes sent plan rs None left old new h means played e sends = tt
-front_sent bytes sent plan rs (Some text) left old new h means played e sends =
-    elim (whole_or_long bytes text left h) [ inl w ↦ (w.0, record { plan = plan; answers = rs; played = played; front = sends.0; back = sends.1; means = ap meaning_of w.1 ∙ means; parts = sym e ∙ sends.2; writes = sends.3 }) | inr l ↦ absurd (let e' = sym l.1 ∙ means in cc) ]
+-- a run that ends with its reading
+pub not_read : (f : RunFault) (from left old new : Option (List ℕ)) → is_write_fault {T = Script} (Err f) ≡ false → IfSome from (λ text. ScriptOf (Err f) text left) → IfSome from (λ text. RunOf (Err f) text left old new)
+not_read f None left old new w h = tt
+not_read (faults.Script scripts.Memory) (Some text) left old new w h = h
+not_read (faults.Script scripts.TooLong) (Some text) left old new w h = h
+not_read (faults.Script (scripts.BadHeader n)) (Some text) left old new w h = h
+not_read (faults.Script (scripts.BadLimit n)) (Some text) left old new w h = h
+not_read (faults.Script (scripts.BadCommand n)) (Some text) left old new w h = h
+not_read faults.Memory (Some text) left old new w h = tt
+not_read faults.Read (Some text) left old new w h = tt
+not_read faults.Write (Some text) left old new w h = absurd (true≢false w)
+
+pub all_sent : (sent : List ℕ) (script : Script) (rs : List Answer) (from left old new : Option (List ℕ)) → IfSome from (λ text. ScriptOf (Ok script) text left) → IsAnswered (view script) rs → sent ≡ text_of rs → Appends old new sent → IfSome from (λ text. RunOf (Ok tt) text left old new)
+all_sent sent script rs None left old new h played e sends = tt
+all_sent sent script rs (Some text) left old new h played e sends = (h.0, record { plan = view script; answers = rs; played = played; means = h.1; writes = rw (← e) sends })
+
+pub front_sent : (sent : List ℕ) (script : Script) (rs : List Answer) (from left old new : Option (List ℕ)) → IfSome from (λ text. ScriptOf (Ok script) text left) → IsAnswered (view script) rs → sent ≡ text_of rs → Sends false sent old new → IfSome from (λ text. RunOf (Err faults.Write) text left old new)
+front_sent sent script rs None left old new h played e sends = tt
+front_sent sent script rs (Some text) left old new h played e sends = (h.0, record { plan = view script; answers = rs; played = played; front = sends.0; back = sends.1; means = h.1; parts = sym e ∙ sends.2; writes = sends.3 })

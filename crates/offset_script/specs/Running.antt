@@ -4,7 +4,8 @@ use Rattle.std.specs.Io.KnownBytes.{Consumes, Appends, IsAtEnd}
 use Rattle.offset_script.specs.declared.faults.ScriptFault.TheVariants as scripts
 use Rattle.offset_script.specs.declared.faults.RunFault.{RunFault}
 use Rattle.offset_script.specs.declared.faults.RunFault.TheVariants.{Script, Memory, Read, Write}
-use Rattle.offset_script.specs.Grammar.{Plan, meaning_of}
+use Rattle.offset_script.specs.declared.scripts.Script as read
+use Rattle.offset_script.specs.Grammar.{Plan, meaning_of, view}
 use Rattle.offset_script.specs.Machine.{Answer}
 use Rattle.offset_script.specs.Answers.{line_end, text_of}
 use Rattle.offset_script.specs.Faults.{fault_line}
@@ -48,6 +49,16 @@ pub record BeginsAnswers (text : List ℕ) (old new : Option (List ℕ)) : Type 
   pub played : IsAnswered plan answers
   pub parts : text_of answers ≡ front ++ back
   pub writes : Appends old new front
+
+-- What reading a script did with an input whose text is known: what it meant, and what is left of it.
+-- Out of memory, and where the source failed, nothing is said of the text.
+abbrev pub ScriptOf : Result read.Script RunFault → List ℕ → Option (List ℕ) → Type 0
+ScriptOf (Ok script) text left = (left ≡ Some []) × (meaning_of text ≡ Ok (view script))
+ScriptOf (Err (Script scripts.TooLong)) text left = (left ≡ Some (drop 1048577 text)) × (meaning_of text ≡ Err scripts.TooLong)
+ScriptOf (Err (Script f)) text left = (left ≡ Some []) × (meaning_of text ≡ Err f)
+ScriptOf (Err Memory) text left = Unit {0}
+ScriptOf (Err Read) text left = Unit {0}
+ScriptOf (Err Write) text left = Unit {0}
 
 -- What a run did with an input whose text was told: what it meant, what is left of it, and what was written.
 -- Without memory, and where the source failed, nothing is said of the text.

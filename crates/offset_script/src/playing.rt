@@ -2,14 +2,15 @@
 
 ghost use Rattle.std.specs.Prelude.{◌≡◌, ◌+◌, ◌<◌, ◌≤◌, All, IfOk, IfSome, IsTrue, length, map, vec_len};
 ghost use Rattle.offset_script.specs.Agreement.{kept, name_in};
-ghost use Rattle.offset_script.specs.Answers.{seen};
+ghost use Rattle.offset_script.specs.Answers.{all_seen, seen};
 ghost use Rattle.offset_script.specs.Histories.{RestartsFresh, RowsCommute, NestsLeaveNoTrace};
 ghost use Rattle.offset_script.specs.Limits.{is_powered};
 ghost use Rattle.offset_script.specs.Machine.{answers, start};
+ghost use Rattle.offset_script.specs.Playing.{IsPlayed};
 ghost use Rattle.offset_script.specs.Serving.{IsKept, IsServing, IsSwept, Serves, Stands};
 
 use crate::answers::{Answer, FullRow};
-use crate::scripts::Command;
+use crate::scripts::{Command, IndexWidth, Script};
 use offset_allocator::{Allocation, Allocator, NodeIndex};
 use std::alloc::{AllocError, Global};
 
@@ -206,4 +207,16 @@ pub fn play<NI: NodeIndex>(
         found.push(player.call(alloc, *command)?)?;
     }
     Ok(found)
+}
+
+/// The answers to the commands of a script in order, one for each, by an allocator of the script's index width.
+#[tactic(auto, unfolding(crate::specs::Playing::IsPlayed))]
+pub fn play_script(alloc: Global, script: &Script) -> Result<Vec<Answer>, AllocError>
+    ensures { IfOk result
+        (λ v. IsPlayed script.now.size script.now.max_allocs script.now.commands.items (all_seen v.items)) }
+{
+    match script.index {
+        IndexWidth::Bits16 => play::<u16>(alloc, script.size, script.max_allocs, &script.commands),
+        IndexWidth::Bits32 => play::<u32>(alloc, script.size, script.max_allocs, &script.commands),
+    }
 }

@@ -1,20 +1,18 @@
 //! From a source's bytes to a sink's.
 
 ghost use Rattle.std.specs.Prelude.{◌≡◌, ◌≢◌, true, false, IfOk, IfErr, IfSome, OnOk, if◌then◌else◌};
-ghost use Rattle.offset_script.specs.Running.{RunOf, Untouched, HasText, is_read_fault, is_write_fault, IsReadingFault};
-ghost use Rattle.offset_script.specs.Answers.{all_seen};
-ghost use Rattle.offset_script.specs.Playing.{IsPlayed};
+ghost use Rattle.offset_script.specs.Running.{RunOf, ScriptOf, Untouched, HasText, is_read_fault, is_write_fault, IsReadingFault};
 ghost use Rattle.offset_script.specs.declared.faults.RunFault.TheVariants as faults;
 ghost use Rattle.offset_script.specs.declared.faults.ScriptFault.TheVariants as scripts;
 
-use crate::answers::{Answer, answer_text};
+use crate::answers::answer_text;
 use crate::devices::{Sink, Source};
 use crate::faults::RunFault;
-use crate::playing::play;
+use crate::playing::play_script;
 use crate::reading::{MAX_TEXT, parse};
-use crate::scripts::{IndexWidth, Script};
+use crate::scripts::Script;
 use crate::sending::send;
-use std::alloc::{AllocError, Global};
+use std::alloc::Global;
 
 /// How many bytes are asked for at once.
 const PIECE: usize = 16384;
@@ -38,16 +36,18 @@ fn read_text<S: Source>(alloc: Global, input: &mut S) -> Result<Vec<u8>, RunFaul
     Ok(text)
 }
 
-// The answers to a script, by an allocator of its index width.
-#[tactic(auto, unfolding(crate::specs::Playing::IsPlayed))]
-fn answers(alloc: Global, script: &Script) -> Result<Vec<Answer>, AllocError>
-    ensures { IfOk result
-        (λ v. IsPlayed script.now.size script.now.max_allocs script.now.commands.items (all_seen v.items)) }
+/// The script that a source holds: it is read to its end, or its first 1,048,577 bytes are, which are too many.
+///
+/// `Read` is returned exactly where the source failed in this call, and no failed call is tried again. Where memory was
+/// refused, the fault is `Memory`.
+pub fn read_script<S: Source>(alloc: Global, input: &mut S) -> Result<Script, RunFault>
+    ensures of_text { IfSome (S.left input.old) (λ text. ScriptOf result text (S.left input.new)) }
+    ensures memory { result ≢ Err (faults.Script scripts.Memory) }
+    ensures write { is_write_fault result ≡ false }
+    ensures read { S.has_failed input.new ≡ (if is_read_fault result then true else S.has_failed input.old) }
 {
-    match script.index {
-        IndexWidth::Bits16 => play::<u16>(alloc, script.size, script.max_allocs, &script.commands),
-        IndexWidth::Bits32 => play::<u32>(alloc, script.size, script.max_allocs, &script.commands),
-    }
+    let text = read_text(alloc, input)?;
+    Ok(parse(alloc, &text)?)
 }
 
 /// Reads a script to its end, plays it, writes the text of its answers, and then flushes.
@@ -64,9 +64,8 @@ pub fn run<S: Source, K: Sink>(alloc: Global, input: &mut S, output: &mut K) -> 
     ensures read { S.has_failed input.new ≡ (if is_read_fault result then true else S.has_failed input.old) }
     ensures write { K.has_failed output.new ≡ (if is_write_fault result then true else K.has_failed output.old) }
 {
-    let text = read_text(alloc, input)?;
-    let script = parse(alloc, &text)?;
-    let answers = answers(alloc, &script)?;
+    let script = read_script(alloc, input)?;
+    let answers = play_script(alloc, &script)?;
     let text = answer_text(alloc, &answers)?;
     if send(output, text.as_bytes()) {
         Ok(())

@@ -1,0 +1,1 @@
+//! Laws on the lives of grants. The functions do nothing.
