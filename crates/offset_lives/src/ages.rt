@@ -1,0 +1,65 @@
+//! How long grants are live, as colours.
+
+/// A bin of lives: the most calls that such a life lasts, what the legend says, and the class of its
+/// rectangles.
+#[derive(Clone, Copy)]
+pub struct Age {
+    pub most: usize,
+    pub name: &'static str,
+    pub class: &'static str,
+}
+
+/// The bins, rising.
+pub const AGES: [Age; 8] = [
+    Age {
+        most: 10,
+        name: "1 to 10 calls",
+        class: "a",
+    },
+    Age {
+        most: 30,
+        name: "to 30",
+        class: "b",
+    },
+    Age {
+        most: 100,
+        name: "to 100",
+        class: "c",
+    },
+    Age {
+        most: 300,
+        name: "to 300",
+        class: "d",
+    },
+    Age {
+        most: 1_000,
+        name: "to 1,000",
+        class: "e1",
+    },
+    Age {
+        most: 3_000,
+        name: "to 3,000",
+        class: "f",
+    },
+    Age {
+        most: 10_000,
+        name: "to 10,000",
+        class: "h",
+    },
+    Age {
+        most: usize::MAX,
+        name: "longer",
+        class: "i",
+    },
+];
+
+/// The bin of a life of so many calls.
+pub fn age_of(calls: usize) -> usize {
+    let mut bin = 0;
+    for age in AGES {
+        if calls > age.most {
+            bin += 1;
+        }
+    }
+    bin
+}
