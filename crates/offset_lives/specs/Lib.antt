@@ -1,2 +1,3 @@
+pub mod Drawing
 pub mod Lives
 pub mod Reported

@@ -55,11 +55,7 @@ pub const AGES: [Age; 8] = [
 
 /// The bin of a life of so many calls.
 pub fn age_of(calls: usize) -> usize {
-    let mut bin = 0;
-    for age in AGES {
-        if calls > age.most {
-            bin += 1;
-        }
-    }
-    bin
+    AGES.iter()
+        .position(|age| calls <= age.most)
+        .unwrap_or(AGES.len() - 1)
 }

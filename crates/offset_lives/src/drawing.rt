@@ -1,5 +1,8 @@
 //! The picture of a script.
 
+ghost use Rattle.std.specs.Prelude.{IfOk, string_bytes};
+ghost use Rattle.offset_lives.specs.Drawing.{IsPicture};
+
 use crate::course::{Course, course_of};
 use crate::figures::figures_of;
 use crate::legend::{put_legend, put_notes};
@@ -7,7 +10,7 @@ use crate::numbers::Pixels;
 use crate::plots::{Plot, ranges_plot, reports_plot};
 use crate::rectangles::put_grants;
 use crate::steps::{put_marks, put_steps};
-use crate::style::{HEAD, TAIL};
+use crate::style::HEAD;
 use offset_script::Script;
 use std::alloc::{AllocError, Global};
 
@@ -39,13 +42,12 @@ fn put_reports(
     Ok(())
 }
 
-/// The picture of a course, as SVG.
-pub fn drawn(alloc: Global, course: &Course) -> Result<String, AllocError> {
+// What the element `svg` holds, from its attributes on.
+fn body(alloc: Global, course: &Course) -> Result<String, AllocError> {
     let figures = figures_of(alloc, course)?;
     let ranges = ranges_plot(&figures);
     let reports = reports_plot(&figures);
-    let mut out = String::new(alloc);
-    out.push_str(HEAD)?;
+    let mut out = String::from_str(alloc, HEAD)?;
     put_legend(&mut out, &figures, course.max_allocs)?;
     put_beyond(&mut out, &ranges, course)?;
     ranges.put_axes(&mut out, 6, 12)?;
@@ -58,11 +60,23 @@ pub fn drawn(alloc: Global, course: &Course) -> Result<String, AllocError> {
     put_reports(alloc, &mut out, &reports, course)?;
     reports.put_axes(&mut out, 4, 12)?;
     put_notes(&mut out, &figures, drawn)?;
-    out.push_str(TAIL)?;
+    Ok(out)
+}
+
+/// The picture of a course, as SVG.
+pub fn drawn(alloc: Global, course: &Course) -> Result<String, AllocError>
+    ensures { IfOk result (λ text. IsPicture (string_bytes text)) }
+{
+    let body = body(alloc, course)?;
+    let mut out = String::from_str(alloc, "<svg ")?;
+    out.push_str(&body)?;
+    out.push_str("</svg>\n")?;
     Ok(out)
 }
 
 /// The picture of a script, as SVG.
-pub fn picture(alloc: Global, script: &Script) -> Result<String, AllocError> {
+pub fn picture(alloc: Global, script: &Script) -> Result<String, AllocError>
+    ensures { IfOk result (λ text. IsPicture (string_bytes text)) }
+{
     drawn(alloc, &course_of(alloc, script)?)
 }

@@ -7,16 +7,21 @@ use std::fmt;
 pub struct Pixels(pub u32);
 
 impl fmt::Display for Pixels {
+    ghost use Rattle.std.specs.Prelude.{Some};
+    ghost use Rattle.offset_lives.specs.Drawing.{pixels_text};
+
+    ghost output = { λ p. Some (pixels_text p.0) };
+
     fn fmt<W: fmt::Write>(&self, f: &mut fmt::Formatter<W>) -> fmt::Result {
         let whole = self.0 / 100;
-        let rest = self.0 % 100;
-        let tenths = rest / 10;
-        if rest == 0 {
+        let tenths = self.0 / 10 % 10;
+        let hundredths = self.0 % 10;
+        if self.0 % 100 == 0 {
             write!(f, "{whole}")
-        } else if rest % 10 == 0 {
+        } else if hundredths == 0 {
             write!(f, "{whole}.{tenths}")
         } else {
-            write!(f, "{whole}.{rest:02}")
+            write!(f, "{whole}.{tenths}{hundredths}")
         }
     }
 }

@@ -1,5 +1,7 @@
 //! The two plots: where they are, and their axes with round numbers.
 
+ghost use Rattle.std.specs.Prelude.{◌≤◌};
+
 use crate::axes::{Axis, round_step};
 use crate::figures::Figures;
 use crate::numbers::{Grouped, Pixels};
@@ -66,7 +68,9 @@ pub fn reports_plot(figures: &Figures) -> Plot {
 
 impl Plot {
     /// The lower end.
-    pub fn bottom(&self) -> u32 {
+    pub fn bottom(&self) -> u32
+        ensures { result ≤ 120000 }
+    {
         self.units.start + self.units.span
     }
 

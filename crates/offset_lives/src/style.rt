@@ -1,8 +1,8 @@
-//! The fixed parts of the picture.
+//! The fixed part of the picture.
 
-/// The beginning: the colours, for light and for dark backgrounds, and the background itself.
+/// The attributes of the picture, the colours, for light and for dark backgrounds, and the background itself.
 pub const HEAD: &str =
-    "<svg xmlns='http://www.w3.org/2000/svg' width='1200' height='840' viewBox='0 0 1200 840' role='img' aria-label='Ranges of a space over calls'>
+    "xmlns='http://www.w3.org/2000/svg' width='1200' height='840' viewBox='0 0 1200 840' role='img' aria-label='Ranges of a space over calls'>
 <style>
 text{font:14px sans-serif;fill:#1f2328}
 .b0{fill:#fff}.big{font-size:20px;font-weight:bold}.fig{font-size:16px}.e{text-anchor:end}.m{text-anchor:middle}
@@ -18,6 +18,3 @@ text{fill:#e6edf3}
 </style>
 <rect class='b0' width='1200' height='840'/>
 ";
-
-/// The end.
-pub const TAIL: &str = "</svg>\n";
