@@ -51,15 +51,18 @@ fn body(alloc: Global, course: &Course) -> Result<String, AllocError> {
     put_legend(&mut out, &figures, course.max_allocs)?;
     put_beyond(&mut out, &ranges, course)?;
     ranges.put_axes(&mut out, 6, 12)?;
-    let drawn = put_grants(alloc, &mut out, &ranges, &course.lives, figures.calls)?;
+    let merged = put_grants(alloc, &mut out, &ranges, &course.lives, figures.calls)?;
     if figures.refusals > 0 {
         write!(out, "<path class='r' d='")?;
         put_marks(&mut out, &ranges.calls, ranges.bottom(), &course.refused)?;
-        writeln!(out, "'/>")?;
+        writeln!(
+            out,
+            "'/><text class='e refused' x='112' y='562'>refusals</text>"
+        )?;
     }
     put_reports(alloc, &mut out, &reports, course)?;
     reports.put_axes(&mut out, 4, 12)?;
-    put_notes(&mut out, &figures, drawn)?;
+    put_notes(&mut out, merged)?;
     Ok(out)
 }
 

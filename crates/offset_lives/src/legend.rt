@@ -6,14 +6,20 @@ use crate::numbers::{Grouped, Pixels};
 use crate::plots::{LEFT, RANGES_TOP, REPORTS_TOP, WIDTH};
 use std::alloc::AllocError;
 
+// What a word ends in after a number.
+fn plural(count: u32) -> &'static str {
+    if count == 1 { "" } else { "s" }
+}
+
 // The calls, the space, and the node limit.
 fn put_heading(out: &mut String, figures: &Figures, max_allocs: u32) -> Result<(), AllocError> {
     let calls = Grouped(figures.calls);
+    let s = plural(figures.calls);
     let size = Grouped(figures.first_size);
     let nodes = Grouped(max_allocs);
     write!(
         out,
-        "<text class='big' x='24' y='34'>{calls} calls on a space of {size} units"
+        "<text class='big' x='24' y='34'>{calls} call{s} on a space of {size} units"
     )?;
     if figures.largest_size > figures.first_size {
         let largest = Grouped(figures.largest_size);
@@ -23,36 +29,43 @@ fn put_heading(out: &mut String, figures: &Figures, max_allocs: u32) -> Result<(
 }
 
 // Grants and refusals, and what was used.
-fn put_figures(out: &mut String, figures: &Figures) -> Result<(), AllocError> {
+fn put_use(out: &mut String, figures: &Figures) -> Result<(), AllocError> {
     let grants = Grouped(figures.grants);
+    let s = plural(figures.grants);
     let refusals = Grouped(figures.refusals);
+    let ends = plural(figures.refusals);
     let live = Grouped(figures.most_live);
+    write!(
+        out,
+        "<text class='figures' x='24' y='62'>{grants} grant{s}, {refusals} refusal{ends}; at most {live} live at once. "
+    )?;
     let used = Grouped(figures.most_used);
     let size = Grouped(figures.size_then);
     let tenths = u64::from(figures.most_used) * 1000 / u64::from(figures.size_then.max(1));
     let percent = tenths / 10;
     let tenth = tenths % 10;
-    write!(
-        out,
-        "<text class='fig' x='24' y='62'>{grants} grants, {refusals} refusals; at most {live} live at once. "
-    )?;
     writeln!(
         out,
         "Greatest use: {used} of {size} units, {percent}.{tenth} percent.</text>"
-    )?;
+    )
+}
+
+// The largest free region when it was the smallest.
+fn put_worst(out: &mut String, figures: &Figures) -> Result<(), AllocError> {
     let region = Grouped(figures.worst_region);
     let free = Grouped(figures.worst_free);
     let worst = Grouped(figures.worst);
+    let s = plural(figures.worst);
     write!(
         out,
-        "<text class='fig' x='24' y='86'>Largest free region at the worst moment: {region} units, "
+        "<text class='figures' x='24' y='86'>Largest free region at the worst moment: {region} units, "
     )?;
-    writeln!(out, "of {free} free, after {worst} calls.</text>")
+    writeln!(out, "of {free} free, after {worst} call{s}.</text>")
 }
 
 // The colours of the ages.
 fn put_ages(out: &mut String) -> Result<(), AllocError> {
-    write!(out, "<text class='e' x='112' y='119'>live for</text>")?;
+    writeln!(out, "<text class='e' x='112' y='119'>live for</text>")?;
     for (i, age) in AGES.iter().enumerate() {
         let left = Pixels(LEFT + i as u32 * 12_500);
         let text = Pixels(LEFT + i as u32 * 12_500 + 2_200);
@@ -64,52 +77,57 @@ fn put_ages(out: &mut String) -> Result<(), AllocError> {
     Ok(())
 }
 
+// What the colours of the reports mean, and why they may say 0.
+fn put_colours(out: &mut String, figures: &Figures) -> Result<(), AllocError> {
+    let top = Pixels(REPORTS_TOP - 2_300);
+    let base = Pixels(REPORTS_TOP - 1_000);
+    write!(out, "<path class='free' d='M120 {top}h16v14h-16z'/>")?;
+    writeln!(
+        out,
+        "<text x='142' y='{base}'>free units outside the largest free region</text>"
+    )?;
+    write!(out, "<path class='most' d='M440 {top}h16v14h-16z'/>")?;
+    writeln!(out, "<text x='462' y='{base}'>largest free region</text>")?;
+    if figures.full_states > 0 {
+        let right = Pixels(LEFT + WIDTH);
+        let states = Grouped(figures.full_states);
+        let s = plural(figures.full_states);
+        write!(
+            out,
+            "<text class='e' x='{right}' y='{base}'>At the node limit, after {states} call{s}, "
+        )?;
+        writeln!(out, "0 units are reported as free.</text>")?;
+    }
+    Ok(())
+}
+
 /// The text above the plots, and what their colours mean.
 pub fn put_legend(out: &mut String, figures: &Figures, max_allocs: u32) -> Result<(), AllocError> {
     put_heading(out, figures, max_allocs)?;
-    put_figures(out, figures)?;
+    put_use(out, figures)?;
+    put_worst(out, figures)?;
     put_ages(out)?;
     let right = Pixels(LEFT + WIDTH);
     let end = Grouped(figures.largest_size);
-    let over = Pixels(RANGES_TOP - 800);
-    write!(out, "<text x='24' y='{over}'>unit</text>")?;
+    let over = Pixels(RANGES_TOP - 1_000);
+    writeln!(out, "<text x='24' y='{over}'>unit</text>")?;
     writeln!(
         out,
         "<text class='e' x='{right}' y='{over}'>the space ends at {end}</text>"
     )?;
-    let top = Pixels(REPORTS_TOP - 2_300);
-    let base = Pixels(REPORTS_TOP - 1_000);
-    write!(
-        out,
-        "<path class='free k' d='M120 {top}h16v14h-16z'/><text x='142' y='{base}'>free units outside the largest free region</text>"
-    )?;
-    writeln!(
-        out,
-        "<path class='most k' d='M460 {top}h16v14h-16z'/><text x='482' y='{base}'>largest free region</text>"
-    )
+    put_colours(out, figures)
 }
 
-/// The lines below the plots: what was left out or changed so that it can be seen.
-pub fn put_notes(
-    out: &mut String,
-    figures: &Figures,
-    drawn: Option<usize>,
-) -> Result<(), AllocError> {
+/// The line below the plots: what was changed so that it can be seen. Merged grants are in so many rectangles.
+pub fn put_notes(out: &mut String, merged: Option<usize>) -> Result<(), AllocError> {
     write!(
         out,
         "<text x='24' y='828'>Ranges thinner than 0.3 pixels are drawn 0.3 pixels thick."
     )?;
-    if let Some(drawn) = drawn {
+    if let Some(count) = merged {
         write!(
             out,
-            " No titles; those below 0.1 pixels are merged into their neighbours: {drawn} rectangles."
-        )?;
-    }
-    if figures.full_states > 0 {
-        let states = Grouped(figures.full_states);
-        write!(
-            out,
-            " At the node limit after {states} calls: reported as 0."
+            " No titles, and those below 0.1 pixels are merged into their neighbours: {count} rectangles."
         )?;
     }
     writeln!(out, "</text>")
