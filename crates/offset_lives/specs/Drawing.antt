@@ -1,5 +1,5 @@
 -- What drawing a script leaves, and how the picture writes numbers.
-use Rattle.std.specs.Prelude.{◌≡◌, ℕ, ◌+◌, ◌/◌, ◌%◌, List, [], ◌++◌, codes, Option, Some, Result, Ok, Err, nat_eq, nat_lt, drop, if◌then◌else◌}
+use Rattle.std.specs.Prelude.{◌≡◌, ℕ, ◌/◌, ◌%◌, List, [], ◌++◌, codes, Option, Some, Result, Ok, Err, nat_eq, drop, if◌then◌else◌}
 use Rattle.std.specs.Fmt.{decimal}
 use Rattle.std.specs.Io.KnownBytes.{Appends}
 use Rattle.offset_script.specs.declared.faults.ScriptFault.TheVariants as scripts

@@ -48,17 +48,14 @@ fn body(alloc: Global, course: &Course) -> Result<String, AllocError> {
     let ranges = ranges_plot(&figures);
     let reports = reports_plot(&figures);
     let mut out = String::from_str(alloc, HEAD)?;
-    put_legend(&mut out, &figures, course.max_allocs)?;
+    put_legend(&mut out, &figures, course.max_allocs, ranges.units.most)?;
     put_beyond(&mut out, &ranges, course)?;
     ranges.put_axes(&mut out, 6, 12)?;
     let merged = put_grants(alloc, &mut out, &ranges, &course.lives, figures.calls)?;
     if figures.refusals > 0 {
         write!(out, "<path class='r' d='")?;
         put_marks(&mut out, &ranges.calls, ranges.bottom(), &course.refused)?;
-        writeln!(
-            out,
-            "'/><text class='e refused' x='112' y='562'>refusals</text>"
-        )?;
+        writeln!(out, "'/>")?;
     }
     put_reports(alloc, &mut out, &reports, course)?;
     reports.put_axes(&mut out, 4, 12)?;

@@ -3,7 +3,7 @@
 use crate::ages::AGES;
 use crate::figures::Figures;
 use crate::numbers::{Grouped, Pixels};
-use crate::plots::{LEFT, RANGES_TOP, REPORTS_TOP, WIDTH};
+use crate::plots::{LEFT, REPORTS_TOP, WIDTH};
 use std::alloc::AllocError;
 
 // What a word ends in after a number.
@@ -63,18 +63,19 @@ fn put_worst(out: &mut String, figures: &Figures) -> Result<(), AllocError> {
     writeln!(out, "of {free} free, after {worst} call{s}.</text>")
 }
 
-// The colours of the ages.
+// The colours of the ages, and the mark of a refusal.
 fn put_ages(out: &mut String) -> Result<(), AllocError> {
     writeln!(out, "<text class='e' x='112' y='119'>live for</text>")?;
     for (i, age) in AGES.iter().enumerate() {
-        let left = Pixels(LEFT + i as u32 * 12_500);
-        let text = Pixels(LEFT + i as u32 * 12_500 + 2_200);
+        let left = Pixels(LEFT + i as u32 * 11_500);
+        let text = Pixels(LEFT + i as u32 * 11_500 + 2_200);
         let class = age.class;
         let name = age.name;
         write!(out, "<path class='{class}' d='M{left} 107h16v14h-16z'/>")?;
         writeln!(out, "<text x='{text}' y='119'>{name}</text>")?;
     }
-    Ok(())
+    write!(out, "<path class='r' d='M1048 108v12'/>")?;
+    writeln!(out, "<text x='1062' y='119'>refusal</text>")
 }
 
 // What the colours of the reports mean, and why they may say 0.
@@ -84,10 +85,10 @@ fn put_colours(out: &mut String, figures: &Figures) -> Result<(), AllocError> {
     write!(out, "<path class='free' d='M120 {top}h16v14h-16z'/>")?;
     writeln!(
         out,
-        "<text x='142' y='{base}'>free units outside the largest free region</text>"
+        "<text x='142' y='{base}'>free units (the gap: outside the largest free region)</text>"
     )?;
-    write!(out, "<path class='most' d='M440 {top}h16v14h-16z'/>")?;
-    writeln!(out, "<text x='462' y='{base}'>largest free region</text>")?;
+    write!(out, "<path class='most' d='M520 {top}h16v14h-16z'/>")?;
+    writeln!(out, "<text x='542' y='{base}'>largest free region</text>")?;
     if figures.full_states > 0 {
         let right = Pixels(LEFT + WIDTH);
         let states = Grouped(figures.full_states);
@@ -101,20 +102,33 @@ fn put_colours(out: &mut String, figures: &Figures) -> Result<(), AllocError> {
     Ok(())
 }
 
-/// The text above the plots, and what their colours mean.
-pub fn put_legend(out: &mut String, figures: &Figures, max_allocs: u32) -> Result<(), AllocError> {
+// Where the space ends. The plot of the ranges ends at the unit `end`.
+fn put_end(out: &mut String, figures: &Figures, end: u32) -> Result<(), AllocError> {
+    writeln!(out, "<text class='e' x='112' y='139'>unit</text>")?;
+    if figures.first_size < end {
+        write!(out, "<path class='out' d='M120 127h16v14h-16z'/>")?;
+        writeln!(out, "<text x='142' y='139'>not in the space yet</text>")?;
+    }
+    let right = Pixels(LEFT + WIDTH);
+    let size = Grouped(figures.largest_size);
+    writeln!(
+        out,
+        "<text class='e' x='{right}' y='139'>the space ends at {size}</text>"
+    )
+}
+
+/// The text above the plots, and what their colours mean. The plot of the ranges ends at the unit `end`.
+pub fn put_legend(
+    out: &mut String,
+    figures: &Figures,
+    max_allocs: u32,
+    end: u32,
+) -> Result<(), AllocError> {
     put_heading(out, figures, max_allocs)?;
     put_use(out, figures)?;
     put_worst(out, figures)?;
     put_ages(out)?;
-    let right = Pixels(LEFT + WIDTH);
-    let end = Grouped(figures.largest_size);
-    let over = Pixels(RANGES_TOP - 1_000);
-    writeln!(out, "<text x='24' y='{over}'>unit</text>")?;
-    writeln!(
-        out,
-        "<text class='e' x='{right}' y='{over}'>the space ends at {end}</text>"
-    )?;
+    put_end(out, figures, end)?;
     put_colours(out, figures)
 }
 

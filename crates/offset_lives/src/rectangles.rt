@@ -14,17 +14,25 @@ pub const MOST_TITLES: usize = 20_000;
 // The least width and height that is drawn: 0.3 pixels.
 const LEAST: u32 = 30;
 
+// From this width and height on, a rectangle has an edge in the colour of the background: 3 pixels.
+const EDGED: u32 = 300;
+
 // The beginning of a rectangle's element. One that is too thin to be seen becomes 0.3 pixels thick.
 fn put_shape(out: &mut String, shape: &Shape) -> Result<(), AllocError> {
+    let across = shape.width().max(LEAST);
     let high = shape.height().max(LEAST);
     let x = Pixels(shape.left);
     let y = Pixels(shape.bottom.saturating_sub(high));
-    let width = Pixels(shape.width().max(LEAST));
+    let width = Pixels(across);
     let height = Pixels(high);
     write!(
         out,
         "<rect x='{x}' y='{y}' width='{width}' height='{height}'"
-    )
+    )?;
+    if across >= EDGED && high >= EDGED {
+        write!(out, " class='o'")?;
+    }
+    Ok(())
 }
 
 // The title of a life, the last of whose calls is at most this one.

@@ -94,7 +94,7 @@ pub fn put_marks(
         let place = in_tenths(calls.right(call.saturating_add(1) as u64));
         if before != Some(place) {
             let place = Pixels(place);
-            write!(out, "M{place} {top}v8")?;
+            write!(out, "M{place} {top}v12")?;
         }
         before = Some(place);
     }

@@ -6,12 +6,12 @@ pub const HEAD: &str =
 <style>
 text{font:14px sans-serif;fill:#1f2328}
 .big{font-size:18px;font-weight:bold}.figures{font-size:16px}.e{text-anchor:end}.m{text-anchor:middle}
-.back{fill:#fff}.out,.g{fill:#d8dee4}.g{stroke:#d8dee4}.t{stroke:#57606a}.r{stroke:#b00020;stroke-width:1.2}.refused{fill:#b00020}
+.back{fill:#fff}.out,.g{fill:#d8dee4}.g{stroke:#d8dee4}.t{stroke:#57606a}.r{stroke:#b00020;stroke-width:2}.o{stroke:#fff;stroke-width:.7}
 .free{fill:#f4c27a;stroke:#b35900}.most{fill:#cfe3f7;stroke:#1f5fae}
 .a{fill:#2f5fd0}.b{fill:#2f95e0}.c{fill:#1fb0ad}.d{fill:#35a552}.e1{fill:#93b021}.f{fill:#dba40f}.h{fill:#e5742a}.i{fill:#c93a48}
 @media (prefers-color-scheme:dark){
 text{fill:#e6edf3}
-.back{fill:#0d1117}.out,.g{fill:#30363d}.g{stroke:#30363d}.t{stroke:#8b949e}.r{stroke:#ff7b80}.refused{fill:#ff7b80}
+.back{fill:#0d1117}.out,.g{fill:#30363d}.g{stroke:#30363d}.t{stroke:#8b949e}.r{stroke:#ff7b80}.o{stroke:#0d1117}
 .free{fill:#8a5a1c;stroke:#f0a04b}.most{fill:#16324f;stroke:#6cb0f5}
 }
 </style>

@@ -30,15 +30,15 @@ fn draws_a_rectangle_for_each_grant(rt: HostRuntime) -> Result<(), Fail> {
         &picture,
         &[
             // units 0 to 10, from 120 + 105 on, for 3 calls
-            "<rect x='225' y='530' width='315' height='20'><title>grant 1, offset 0, size 10, calls 1-4</title></rect>",
+            "<rect x='225' y='530' width='315' height='20' class='o'><title>grant 1, offset 0, size 10, calls 1-4</title></rect>",
             // units 10 to 30, to the reset
-            "<rect x='330' y='490' width='630' height='40'><title>grant 2, offset 10, size 20, calls 2-8</title></rect>",
+            "<rect x='330' y='490' width='630' height='40' class='o'><title>grant 2, offset 10, size 20, calls 2-8</title></rect>",
             // units 32 to 48: the first multiple of 32 after unit 30
-            "<rect x='435' y='454' width='525' height='32'><title>grant 3, offset 32, size 16, calls 3-8</title></rect>",
+            "<rect x='435' y='454' width='525' height='32' class='o'><title>grant 3, offset 32, size 16, calls 3-8</title></rect>",
             // units 48 to 138, in the space that was extended
-            "<rect x='855' y='274' width='105' height='180'><title>grant 4, offset 48, size 90, calls 7-8</title></rect>",
+            "<rect x='855' y='274' width='105' height='180' class='o'><title>grant 4, offset 48, size 90, calls 7-8</title></rect>",
             // units 0 to 192, to the end of the axis
-            "<rect x='1065' y='166' width='105' height='384'><title>grant 5, offset 0, size 192, calls 9-end</title></rect>",
+            "<rect x='1065' y='166' width='105' height='384' class='o'><title>grant 5, offset 0, size 192, calls 9-end</title></rect>",
         ],
     );
     Ok(())
@@ -52,7 +52,7 @@ fn draws_the_space_and_the_reports(rt: HostRuntime) -> Result<(), Fail> {
         &picture,
         &[
             // the refusal is call 5, at 120 + 525
-            "<path class='r' d='M645 550v8'/>",
+            "<path class='r' d='M645 550v12'/>",
             // to call 6 the space ends at 100, where y is 350
             "<path class='out' d='M120 150H120V350H750V150H1170V150'/>",
             // free units: 100, 90, 70, 54, 64, 64, 164, 74, 200, 8
@@ -89,7 +89,7 @@ fn ends_the_axis_a_little_above_the_highest_unit(rt: HostRuntime) -> Result<(), 
         &rt,
         &picture,
         &[
-            "<rect x='645' y='174.62' width='525' height='375.38'>",
+            "<rect x='645' y='174.62' width='525' height='375.38' class='o'>",
             "<path class='g' d='M120 303.85H1170'/><text class='e' x='112' y='308.85'>40</text>",
             ">the space ends at 1,000<",
         ],

@@ -57,8 +57,8 @@ fn merges_grants_that_touch(rt: HostRuntime) -> Result<(), Fail> {
         &rt,
         &picture,
         &[
-            "<g class='i'>\n<rect x='120.02' y='342' width='1049.98' height='208'/>\n</g>",
-            "<g class='a'>\n<rect x='120' y='150' width='1050' height='192'/>\n</g>",
+            "<g class='i'>\n<rect x='120.02' y='342' width='1049.98' height='208' class='o'/>\n</g>",
+            "<g class='a'>\n<rect x='120' y='150' width='1050' height='192' class='o'/>\n</g>",
             ": 2 rectangles.",
         ],
     );

@@ -1,6 +1,5 @@
-use Rattle.std.proofs.Common.{◌≡◌, ◌∙◌}
 use Rattle.std.specs.Prelude.{string_bytes}
-use Rattle.offset_lives.proofs.Drawn.{all_drawn, front_drawn, not_drawn}
+use Rattle.offset_lives.proofs.Drawn.{front_drawn}
 use Rattle.offset_lives.proofs.program.draw.Goals as goal
 
 pub returns-clause-of_text : goal.returns-clause-of_text
