@@ -13,7 +13,7 @@ pub struct Age {
 pub const AGES: [Age; 8] = [
     Age {
         most: 10,
-        name: "1 to 10 calls",
+        name: "to 10 calls",
         class: "a",
     },
     Age {

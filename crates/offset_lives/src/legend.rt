@@ -65,17 +65,17 @@ fn put_worst(out: &mut String, figures: &Figures) -> Result<(), AllocError> {
 
 // The colours of the ages, and the mark of a refusal.
 fn put_ages(out: &mut String) -> Result<(), AllocError> {
-    writeln!(out, "<text class='e' x='112' y='119'>live for</text>")?;
+    writeln!(out, "<text class='e' x='112' y='113'>live for</text>")?;
     for (i, age) in AGES.iter().enumerate() {
         let left = Pixels(LEFT + i as u32 * 11_500);
         let text = Pixels(LEFT + i as u32 * 11_500 + 2_200);
         let class = age.class;
         let name = age.name;
-        write!(out, "<path class='{class}' d='M{left} 107h16v14h-16z'/>")?;
-        writeln!(out, "<text x='{text}' y='119'>{name}</text>")?;
+        write!(out, "<path class='{class}' d='M{left} 101h16v14h-16z'/>")?;
+        writeln!(out, "<text x='{text}' y='113'>{name}</text>")?;
     }
-    write!(out, "<path class='r' d='M1048 108v12'/>")?;
-    writeln!(out, "<text x='1062' y='119'>refusal</text>")
+    write!(out, "<path class='r' d='M1048 102v12'/>")?;
+    writeln!(out, "<text x='1062' y='113'>refusal</text>")
 }
 
 // What the colours of the reports mean, and why they may say 0.
