@@ -14,42 +14,42 @@ pub const AGES: [Age; 8] = [
     Age {
         most: 10,
         name: "to 10 calls",
-        class: "a",
+        class: "age1",
     },
     Age {
         most: 30,
         name: "to 30",
-        class: "b",
+        class: "age2",
     },
     Age {
         most: 100,
         name: "to 100",
-        class: "c",
+        class: "age3",
     },
     Age {
         most: 300,
         name: "to 300",
-        class: "d",
+        class: "age4",
     },
     Age {
         most: 1_000,
         name: "to 1,000",
-        class: "e1",
+        class: "age5",
     },
     Age {
         most: 3_000,
         name: "to 3,000",
-        class: "f",
+        class: "age6",
     },
     Age {
         most: 10_000,
         name: "to 10,000",
-        class: "h",
+        class: "age7",
     },
     Age {
         most: usize::MAX,
         name: "longer",
-        class: "i",
+        class: "age8",
     },
 ];
 

@@ -81,7 +81,10 @@ const STEPS: [u32; 29] = [
 ];
 
 /// The least round number of which `count` are at least `most`: 1, 2 or 5, and zeros.
-pub fn round_step(most: u32, count: u8) -> u32 {
+pub fn round_step(most: u32, count: u8) -> u32
+    requires { 3 ≤ count }
+    ensures { most ≤ result * count }
+{
     for step in STEPS {
         if u64::from(step) * u64::from(count) >= u64::from(most) {
             return step;

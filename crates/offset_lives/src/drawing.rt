@@ -6,7 +6,6 @@ ghost use Rattle.offset_lives.specs.Drawing.{IsPicture};
 use crate::course::{Course, course_of};
 use crate::figures::figures_of;
 use crate::legend::{put_legend, put_notes};
-use crate::numbers::Pixels;
 use crate::plots::{Plot, ranges_plot, reports_plot};
 use crate::rectangles::put_grants;
 use crate::steps::{put_marks, put_steps};
@@ -53,7 +52,7 @@ fn body(alloc: Global, course: &Course) -> Result<String, AllocError> {
     ranges.put_axes(&mut out, 6, 12)?;
     let merged = put_grants(alloc, &mut out, &ranges, &course.lives, figures.calls)?;
     if figures.refusals > 0 {
-        write!(out, "<path class='r' d='")?;
+        write!(out, "<path class='refusal' d='")?;
         put_marks(&mut out, &ranges.calls, ranges.bottom(), &course.refused)?;
         writeln!(out, "'/>")?;
     }

@@ -36,12 +36,12 @@ pub struct Figures {
     pub full_states: u32,
 }
 
-/// A count, or the greatest number.
+/// A count, or the largest number.
 pub fn counted(count: usize) -> u32 {
     u32::try_from(count).unwrap_or(u32::MAX)
 }
 
-/// Where the range of a life ends, or the greatest number.
+/// Where the range of a life ends, or the largest number.
 pub fn end_of(life: &Life) -> u32 {
     life.offset.saturating_add(life.size)
 }

@@ -1,7 +1,7 @@
 //! What the picture says in words.
 
 use crate::ages::AGES;
-use crate::figures::Figures;
+use crate::figures::{Figures, counted};
 use crate::numbers::{Grouped, Pixels};
 use crate::plots::{LEFT, REPORTS_TOP, WIDTH};
 use std::alloc::AllocError;
@@ -46,7 +46,7 @@ fn put_use(out: &mut String, figures: &Figures) -> Result<(), AllocError> {
     let tenth = tenths % 10;
     writeln!(
         out,
-        "Greatest use: {used} of {size} units, {percent}.{tenth} percent.</text>"
+        "Most in use: {used} of {size} units, {percent}.{tenth} percent.</text>"
     )
 }
 
@@ -65,7 +65,7 @@ fn put_worst(out: &mut String, figures: &Figures) -> Result<(), AllocError> {
 
 // The colours of the ages, and the mark of a refusal.
 fn put_ages(out: &mut String) -> Result<(), AllocError> {
-    writeln!(out, "<text class='e' x='112' y='113'>live for</text>")?;
+    writeln!(out, "<text class='end' x='112' y='113'>live for</text>")?;
     for (i, age) in AGES.iter().enumerate() {
         let left = Pixels(LEFT + i as u32 * 11_500);
         let text = Pixels(LEFT + i as u32 * 11_500 + 2_200);
@@ -74,7 +74,7 @@ fn put_ages(out: &mut String) -> Result<(), AllocError> {
         write!(out, "<path class='{class}' d='M{left} 101h16v14h-16z'/>")?;
         writeln!(out, "<text x='{text}' y='113'>{name}</text>")?;
     }
-    write!(out, "<path class='r' d='M1048 102v12'/>")?;
+    write!(out, "<path class='refusal' d='M1048 102v12'/>")?;
     writeln!(out, "<text x='1062' y='113'>refusal</text>")
 }
 
@@ -95,7 +95,7 @@ fn put_colours(out: &mut String, figures: &Figures) -> Result<(), AllocError> {
         let s = plural(figures.full_states);
         write!(
             out,
-            "<text class='e' x='{right}' y='{base}'>At the node limit, after {states} call{s}, "
+            "<text class='end' x='{right}' y='{base}'>At the node limit, after {states} call{s}, "
         )?;
         writeln!(out, "0 units are reported as free.</text>")?;
     }
@@ -104,7 +104,7 @@ fn put_colours(out: &mut String, figures: &Figures) -> Result<(), AllocError> {
 
 // Where the space ends. The plot of the ranges ends at the unit `end`.
 fn put_end(out: &mut String, figures: &Figures, end: u32) -> Result<(), AllocError> {
-    writeln!(out, "<text class='e' x='112' y='139'>unit</text>")?;
+    writeln!(out, "<text class='end' x='112' y='139'>unit</text>")?;
     if figures.first_size < end {
         write!(out, "<path class='out' d='M120 127h16v14h-16z'/>")?;
         writeln!(out, "<text x='142' y='139'>not in the space yet</text>")?;
@@ -113,7 +113,7 @@ fn put_end(out: &mut String, figures: &Figures, end: u32) -> Result<(), AllocErr
     let size = Grouped(figures.largest_size);
     writeln!(
         out,
-        "<text class='e' x='{right}' y='139'>the space ends at {size}</text>"
+        "<text class='end' x='{right}' y='139'>the space ends at {size}</text>"
     )
 }
 
@@ -139,6 +139,7 @@ pub fn put_notes(out: &mut String, merged: Option<usize>) -> Result<(), AllocErr
         "<text x='24' y='828'>Ranges thinner than 0.3 pixels are drawn 0.3 pixels thick."
     )?;
     if let Some(count) = merged {
+        let count = Grouped(counted(count));
         write!(
             out,
             " No titles, and those below 0.1 pixels are merged into their neighbours: {count} rectangles."

@@ -74,8 +74,10 @@ impl Plot {
         self.units.start + self.units.span
     }
 
-    // The lines across at round numbers of units, with these.
-    fn put_units(&self, out: &mut String, count: u8) -> Result<(), AllocError> {
+    // The lines across at round numbers of units, with these numbers.
+    fn put_units(&self, out: &mut String, count: u8) -> Result<(), AllocError>
+        requires { 3 ≤ count }
+    {
         let step = u64::from(round_step(self.units.most, count));
         let left = Pixels(self.calls.start);
         let right = Pixels(self.calls.start + self.calls.span);
@@ -87,15 +89,17 @@ impl Plot {
                 let line = Pixels(height);
                 let base = Pixels(height + 500);
                 let number = Grouped(value as u32);
-                write!(out, "<path class='g' d='M{left} {line}H{right}'/>")?;
-                writeln!(out, "<text class='e' x='{end}' y='{base}'>{number}</text>")?;
+                write!(out, "<path class='grid' d='M{left} {line}H{right}'/>")?;
+                writeln!(out, "<text class='end' x='{end}' y='{base}'>{number}</text>")?;
             }
         }
         Ok(())
     }
 
-    // The marks below at round numbers of calls, with these.
-    fn put_calls(&self, out: &mut String, count: u8) -> Result<(), AllocError> {
+    // The marks below at round numbers of calls, with these numbers.
+    fn put_calls(&self, out: &mut String, count: u8) -> Result<(), AllocError>
+        requires { 3 ≤ count }
+    {
         let step = u64::from(round_step(self.calls.most, count));
         let bottom = Pixels(self.bottom());
         let base = Pixels(self.bottom() + 2_600);
@@ -104,19 +108,22 @@ impl Plot {
             if value < u64::from(self.calls.most) {
                 let place = Pixels(self.calls.right(value));
                 let number = Grouped(value as u32);
-                write!(out, "<path class='t' d='M{place} {bottom}v10'/>")?;
+                write!(out, "<path class='tick' d='M{place} {bottom}v10'/>")?;
                 writeln!(
                     out,
-                    "<text class='m' x='{place}' y='{base}'>{number}</text>"
+                    "<text class='middle' x='{place}' y='{base}'>{number}</text>"
                 )?;
             }
         }
         let end = Pixels(self.calls.start.saturating_sub(800));
-        writeln!(out, "<text class='e' x='{end}' y='{base}'>call</text>")
+        writeln!(out, "<text class='end' x='{end}' y='{base}'>call</text>")
     }
 
-    /// The numbers on both axes.
-    pub fn put_axes(&self, out: &mut String, lines: u8, marks: u8) -> Result<(), AllocError> {
+    /// The numbers on both axes: at most so many lines across, and marks below, beside those at 0.
+    pub fn put_axes(&self, out: &mut String, lines: u8, marks: u8) -> Result<(), AllocError>
+        requires lines { 3 ≤ lines }
+        requires marks { 3 ≤ marks }
+    {
         self.put_units(out, lines)?;
         self.put_calls(out, marks)
     }

@@ -8,8 +8,8 @@ use crate::plots::Plot;
 use crate::shapes::{Shape, shape_of};
 use std::alloc::{AllocError, Global};
 
-/// The most grants that are drawn with a title each.
-pub const MOST_TITLES: usize = 20_000;
+// The most grants that are drawn with a title each.
+const MOST_TITLES: usize = 20_000;
 
 // The least width and height that is drawn: 0.3 pixels.
 const LEAST: u32 = 30;
@@ -30,7 +30,7 @@ fn put_shape(out: &mut String, shape: &Shape) -> Result<(), AllocError> {
         "<rect x='{x}' y='{y}' width='{width}' height='{height}'"
     )?;
     if across >= EDGED && high >= EDGED {
-        write!(out, " class='o'")?;
+        write!(out, " class='edge'")?;
     }
     Ok(())
 }

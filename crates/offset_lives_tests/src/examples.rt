@@ -30,15 +30,15 @@ fn draws_a_rectangle_for_each_grant(rt: HostRuntime) -> Result<(), Fail> {
         &picture,
         &[
             // units 0 to 10, from 120 + 105 on, for 3 calls
-            "<rect x='225' y='530' width='315' height='20' class='o'><title>grant 1, offset 0, size 10, calls 1-4</title></rect>",
+            "<rect x='225' y='530' width='315' height='20' class='edge'><title>grant 1, offset 0, size 10, calls 1-4</title></rect>",
             // units 10 to 30, to the reset
-            "<rect x='330' y='490' width='630' height='40' class='o'><title>grant 2, offset 10, size 20, calls 2-8</title></rect>",
+            "<rect x='330' y='490' width='630' height='40' class='edge'><title>grant 2, offset 10, size 20, calls 2-8</title></rect>",
             // units 32 to 48: the first multiple of 32 after unit 30
-            "<rect x='435' y='454' width='525' height='32' class='o'><title>grant 3, offset 32, size 16, calls 3-8</title></rect>",
+            "<rect x='435' y='454' width='525' height='32' class='edge'><title>grant 3, offset 32, size 16, calls 3-8</title></rect>",
             // units 48 to 138, in the space that was extended
-            "<rect x='855' y='274' width='105' height='180' class='o'><title>grant 4, offset 48, size 90, calls 7-8</title></rect>",
+            "<rect x='855' y='274' width='105' height='180' class='edge'><title>grant 4, offset 48, size 90, calls 7-8</title></rect>",
             // units 0 to 192, to the end of the axis
-            "<rect x='1065' y='166' width='105' height='384' class='o'><title>grant 5, offset 0, size 192, calls 9-end</title></rect>",
+            "<rect x='1065' y='166' width='105' height='384' class='edge'><title>grant 5, offset 0, size 192, calls 9-end</title></rect>",
         ],
     );
     Ok(())
@@ -52,7 +52,7 @@ fn draws_the_space_and_the_reports(rt: HostRuntime) -> Result<(), Fail> {
         &picture,
         &[
             // the refusal is call 5, at 120 + 525
-            "<path class='r' d='M645 550v12'/>",
+            "<path class='refusal' d='M645 550v12'/>",
             // to call 6 the space ends at 100, where y is 350
             "<path class='out' d='M120 150H120V350H750V150H1170V150'/>",
             // free units: 100, 90, 70, 54, 64, 64, 164, 74, 200, 8
@@ -73,7 +73,7 @@ fn writes_the_numbers_that_matter(rt: HostRuntime) -> Result<(), Fail> {
         &[
             ">9 calls on a space of 100 units, extended to 200, with 16 nodes<",
             // grants 1, 2 and 3 are live together, and grants 2, 3 and 4; 192 units of 200 are 96 percent
-            ">5 grants, 1 refusal; at most 3 live at once. Greatest use: 192 of 200 units, 96.0 percent.<",
+            ">5 grants, 1 refusal; at most 3 live at once. Most in use: 192 of 200 units, 96.0 percent.<",
             ">Largest free region at the worst moment: 8 units, of 8 free, after 9 calls.<",
             ">the space ends at 200<",
         ],
@@ -89,8 +89,8 @@ fn ends_the_axis_a_little_above_the_highest_unit(rt: HostRuntime) -> Result<(), 
         &rt,
         &picture,
         &[
-            "<rect x='645' y='174.62' width='525' height='375.38' class='o'>",
-            "<path class='g' d='M120 303.85H1170'/><text class='e' x='112' y='308.85'>40</text>",
+            "<rect x='645' y='174.62' width='525' height='375.38' class='edge'>",
+            "<path class='grid' d='M120 303.85H1170'/><text class='end' x='112' y='308.85'>40</text>",
             ">the space ends at 1,000<",
         ],
     );
@@ -103,12 +103,12 @@ fn groups_grants_by_age(rt: HostRuntime) -> Result<(), Fail> {
     let text =
         "space 100 nodes 16 index 32\nalloc 1\nalloc 2\nfree 2\nalloc 3\nfree 3\nreport\nreport\nreport\nreport\nreport\nreport\nfree 1\n";
     let picture = drawn(rt.alloc(), text)?;
-    let Some((_, short)) = picture.split_once("<g class='a'>") else {
+    let Some((_, short)) = picture.split_once("<g class='age1'>") else {
         assert!(rt; false, "{picture}");
         return Ok(());
     };
     assert_eq!(rt; rectangles(short), 2);
-    let Some((_, long)) = picture.split_once("<g class='b'>") else {
+    let Some((_, long)) = picture.split_once("<g class='age2'>") else {
         assert!(rt; false, "{picture}");
         return Ok(());
     };

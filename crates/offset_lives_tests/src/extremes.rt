@@ -13,13 +13,14 @@ fn draws_an_empty_script(rt: HostRuntime) -> Result<(), Fail> {
         &picture,
         &[
             ">0 calls on a space of 100 units, with 16 nodes<",
-            ">0 grants, 0 refusals; at most 0 live at once. Greatest use: 0 of 100 units, 0.0 percent.<",
+            ">0 grants, 0 refusals; at most 0 live at once. Most in use: 0 of 100 units, 0.0 percent.<",
             ">Largest free region at the worst moment: 96 units, of 100 free, after 0 calls.<",
             "<path class='free' d='M120 780H120V630H1170V780'/>",
             "<path class='most' d='M120 780H120V636H1170V780'/>",
         ],
     );
-    assert!(rt; !picture.contains("class='r'"));
+    // the legend has the only mark of a refusal
+    expect_once(&rt, &picture, &["class='refusal'"]);
     Ok(())
 }
 
@@ -35,8 +36,8 @@ fn draws_refusals_alone(rt: HostRuntime) -> Result<(), Fail> {
         &rt,
         &picture,
         &[
-            ">0 grants, 3 refusals; at most 0 live at once. Greatest use: 0 of 100 units, 0.0 percent.<",
-            "<path class='r' d='M382.5 550v12M645 550v12M907.5 550v12'/>",
+            ">0 grants, 3 refusals; at most 0 live at once. Most in use: 0 of 100 units, 0.0 percent.<",
+            "<path class='refusal' d='M382.5 550v12M645 550v12M907.5 550v12'/>",
         ],
     );
     Ok(())
@@ -50,7 +51,7 @@ fn draws_a_space_of_no_units(rt: HostRuntime) -> Result<(), Fail> {
         &picture,
         &[
             ">2 calls on a space of 0 units, with 16 nodes<",
-            "Greatest use: 0 of 0 units, 0.0 percent.<",
+            "Most in use: 0 of 0 units, 0.0 percent.<",
         ],
     );
     Ok(())
@@ -83,8 +84,8 @@ fn draws_the_largest_space(rt: HostRuntime) -> Result<(), Fail> {
         &picture,
         &[
             ">1 call on a space of 4,294,967,295 units, with 16 nodes<",
-            "<rect x='645' y='169.05' width='525' height='380.95' class='o'>",
-            "<path class='g' d='M120 171.56H1170'/><text class='e' x='112' y='176.56'>4,000,000,000</text>",
+            "<rect x='645' y='169.05' width='525' height='380.95' class='edge'>",
+            "<path class='grid' d='M120 171.56H1170'/><text class='end' x='112' y='176.56'>4,000,000,000</text>",
         ],
     );
     Ok(())
@@ -103,7 +104,7 @@ fn draws_a_space_that_grows_to_the_largest(rt: HostRuntime) -> Result<(), Fail> 
         &[
             ">3 calls on a space of 10 units, extended to 4,294,967,295, with 16 nodes<",
             ">0 grants, 1 refusal; ",
-            "<path class='r' d='M907.5 550v12'/>",
+            "<path class='refusal' d='M907.5 550v12'/>",
         ],
     );
     Ok(())
@@ -121,7 +122,7 @@ fn draws_the_node_limit(rt: HostRuntime) -> Result<(), Fail> {
         &picture,
         &[
             "<path class='free' d='M120 780H120V630H470V780H1170V780'/>",
-            "<path class='r' d='M820 550v12'/>",
+            "<path class='refusal' d='M820 550v12'/>",
             "Largest free region at the worst moment: 0 units, of 0 free, after 1 call.<",
             "At the node limit, after 2 calls, 0 units are reported as free.",
         ],
@@ -142,9 +143,9 @@ fn ends_lives_at_a_reset(rt: HostRuntime) -> Result<(), Fail> {
         &rt,
         &picture,
         &[
-            "<rect x='270' y='342' width='450' height='208' class='o'><title>grant 1, offset 0, size 52, calls 1-4</title></rect>",
-            "<rect x='420' y='150' width='150' height='192' class='o'><title>grant 2, offset 52, size 48, calls 2-3</title></rect>",
-            "<rect x='870' y='166' width='300' height='384' class='o'><title>grant 3, offset 0, size 96, calls 5-end</title></rect>",
+            "<rect x='270' y='342' width='450' height='208' class='edge'><title>grant 1, offset 0, size 52, calls 1-4</title></rect>",
+            "<rect x='420' y='150' width='150' height='192' class='edge'><title>grant 2, offset 52, size 48, calls 2-3</title></rect>",
+            "<rect x='870' y='166' width='300' height='384' class='edge'><title>grant 3, offset 0, size 96, calls 5-end</title></rect>",
         ],
     );
     Ok(())

@@ -31,8 +31,10 @@ fn merges_20001_grants(rt: HostRuntime) -> Result<(), Fail> {
     let found = rectangles(&picture);
     assert_eq!(rt; count(&picture, "<title>"), 0);
     assert!(rt; found > 1000 && found < 10_000, "{found}");
+    let thousands = found / 1000;
+    let ones = found % 1000;
     let note = format!(in rt.alloc();
-        "No titles, and those below 0.1 pixels are merged into their neighbours: {found} rectangles."
+        "No titles, and those below 0.1 pixels are merged into their neighbours: {thousands},{ones:03} rectangles."
     )?;
     expect_once(
         &rt,
@@ -57,8 +59,8 @@ fn merges_grants_that_touch(rt: HostRuntime) -> Result<(), Fail> {
         &rt,
         &picture,
         &[
-            "<g class='i'>\n<rect x='120.02' y='342' width='1049.98' height='208' class='o'/>\n</g>",
-            "<g class='a'>\n<rect x='120' y='150' width='1050' height='192' class='o'/>\n</g>",
+            "<g class='age8'>\n<rect x='120.02' y='342' width='1049.98' height='208' class='edge'/>\n</g>",
+            "<g class='age1'>\n<rect x='120' y='150' width='1050' height='192' class='edge'/>\n</g>",
             ": 2 rectangles.",
         ],
     );

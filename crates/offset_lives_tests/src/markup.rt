@@ -80,7 +80,7 @@ fn is_well_formed(alloc: Global, text: &str) -> Result<bool, AllocError> {
 
 // What the other tests of this file rest on.
 #[test]
-fn tells_what_is_well_formed(rt: HostRuntime) -> Result<(), Fail> {
+fn knows_what_is_well_formed(rt: HostRuntime) -> Result<(), Fail> {
     for (text, want) in [
         ("<a/>", true),
         ("<a b='c' d='e'>f<g/>h</a>\n", true),

@@ -12,7 +12,7 @@ pub fn drawn(alloc: Global, text: &str) -> Result<String, Fail> {
     Ok(picture(alloc, &script)?)
 }
 
-/// How often a word stands in a text.
+/// How often a word is in a text.
 pub fn count(text: &str, word: &str) -> usize {
     text.matches(word).count()
 }
@@ -22,7 +22,7 @@ pub fn rectangles(text: &str) -> usize {
     count(text, "<rect x=")
 }
 
-/// Each of these texts stands in the picture once.
+/// Each of these texts is in the picture once.
 pub fn expect_once(rt: &impl Abort, text: &str, words: &[&str]) {
     for word in words {
         let found = count(text, word);
