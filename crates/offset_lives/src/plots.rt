@@ -90,7 +90,10 @@ impl Plot {
                 let base = Pixels(height + 500);
                 let number = Grouped(value as u32);
                 write!(out, "<path class='grid' d='M{left} {line}H{right}'/>")?;
-                writeln!(out, "<text class='end' x='{end}' y='{base}'>{number}</text>")?;
+                writeln!(
+                    out,
+                    "<text class='end' x='{end}' y='{base}'>{number}</text>"
+                )?;
             }
         }
         Ok(())
