@@ -1,6 +1,7 @@
-pub mod Apart
-pub mod Backward
-pub mod Ranges
-pub mod Seen
-pub mod Watched
-pub mod Whole
+mod Apart
+mod Backward
+mod Drawn
+mod Ranges
+mod Seen
+mod Watched
+mod Whole

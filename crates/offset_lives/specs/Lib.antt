@@ -1,3 +1,4 @@
+pub mod Drawing
 pub mod Ends
 pub mod Lives
 pub mod Reported

@@ -1,6 +1,7 @@
 //! What the crates of tests share.
 #![tactic(auto)]
 
+pub mod devices;
 pub mod groups;
 pub mod runs;
 pub mod tiny;

@@ -1,0 +1,47 @@
+-- What drawing a script leaves, and how the picture writes numbers.
+use Rattle.std.specs.Prelude.{◌≡◌, ℕ, ◌/◌, ◌%◌, List, [], ◌++◌, codes, Option, Some, Result, Ok, Err, nat_eq, drop, if◌then◌else◌}
+use Rattle.std.specs.Fmt.{decimal}
+use Rattle.std.specs.Io.KnownBytes.{Appends}
+use Rattle.offset_script.specs.declared.faults.ScriptFault.TheVariants as scripts
+use Rattle.offset_script.specs.declared.faults.RunFault.{RunFault}
+use Rattle.offset_script.specs.declared.faults.RunFault.TheVariants.{Script, Memory, Read, Write}
+use Rattle.offset_script.specs.Grammar.{Plan, meaning_of}
+
+-- ---- numbers
+
+-- hundredths of a pixel, in pixels: at most two decimals, none of them a last zero
+abbrev pub pixels_text : ℕ → List ℕ
+pixels_text n = decimal (n / 100) ++ (if nat_eq (n % 100) 0 then [] else codes "." ++ decimal (n / 10 % 10) ++ (if nat_eq (n % 10) 0 then [] else decimal (n % 10)))
+
+-- ---- the picture
+
+-- a text is one element, svg
+abbrev pub IsPicture : List ℕ → Type 0
+IsPicture text = (body : List ℕ) × (text ≡ codes "<svg " ++ body ++ codes "</svg>\n")
+
+-- text meant a script, and the whole of a picture was written
+pub record WritesPicture (text : List ℕ) (old new : Option (List ℕ)) : Type 0 where
+  pub plan : Plan
+  pub picture : List ℕ
+  pub means : meaning_of text ≡ Ok plan
+  pub whole : IsPicture picture
+  pub writes : Appends old new picture
+
+-- text meant a script, and a beginning of a picture was written
+pub record BeginsPicture (text : List ℕ) (old new : Option (List ℕ)) : Type 0 where
+  pub plan : Plan
+  pub front : List ℕ
+  pub back : List ℕ
+  pub means : meaning_of text ≡ Ok plan
+  pub whole : IsPicture (front ++ back)
+  pub writes : Appends old new front
+
+-- What drawing did with an input whose text is known: what it meant, what is left of it, and what was written.
+-- Out of memory, and where the source failed, nothing is said of the text.
+abbrev pub DrawOf : Result (Unit {0}) RunFault → List ℕ → Option (List ℕ) → Option (List ℕ) → Option (List ℕ) → Type 0
+DrawOf (Ok u) text left old new = (left ≡ Some []) × WritesPicture text old new
+DrawOf (Err (Script scripts.TooLong)) text left old new = (left ≡ Some (drop 1048577 text)) × (meaning_of text ≡ Err scripts.TooLong)
+DrawOf (Err (Script f)) text left old new = (left ≡ Some []) × (meaning_of text ≡ Err f)
+DrawOf (Err Memory) text left old new = Unit {0}
+DrawOf (Err Read) text left old new = Unit {0}
+DrawOf (Err Write) text left old new = (left ≡ Some []) × BeginsPicture text old new

@@ -1,0 +1,149 @@
+//! What the picture says in words.
+
+use crate::ages::AGES;
+use crate::figures::{Figures, counted};
+use crate::numbers::{Grouped, Pixels};
+use crate::plots::{LEFT, REPORTS_TOP, WIDTH};
+use std::alloc::AllocError;
+
+// What a word ends in after a number.
+fn plural(count: u32) -> &'static str {
+    if count == 1 { "" } else { "s" }
+}
+
+// The calls, the space, and the node limit.
+fn put_heading(out: &mut String, figures: &Figures, max_allocs: u32) -> Result<(), AllocError> {
+    let calls = Grouped(figures.calls);
+    let s = plural(figures.calls);
+    let size = Grouped(figures.first_size);
+    let nodes = Grouped(max_allocs);
+    write!(
+        out,
+        "<text class='big' x='24' y='34'>{calls} call{s} on a space of {size} units"
+    )?;
+    if figures.largest_size > figures.first_size {
+        let largest = Grouped(figures.largest_size);
+        write!(out, ", extended to {largest}")?;
+    }
+    writeln!(out, ", with {nodes} nodes</text>")
+}
+
+// Grants and refusals, and what was used.
+fn put_use(out: &mut String, figures: &Figures) -> Result<(), AllocError> {
+    let grants = Grouped(figures.grants);
+    let s = plural(figures.grants);
+    let refusals = Grouped(figures.refusals);
+    let ends = plural(figures.refusals);
+    let live = Grouped(figures.most_live);
+    write!(
+        out,
+        "<text class='figures' x='24' y='62'>{grants} grant{s}, {refusals} refusal{ends}; at most {live} live at once. "
+    )?;
+    let used = Grouped(figures.most_used);
+    let size = Grouped(figures.size_then);
+    let tenths = u64::from(figures.most_used) * 1000 / u64::from(figures.size_then.max(1));
+    let percent = tenths / 10;
+    let tenth = tenths % 10;
+    writeln!(
+        out,
+        "Most in use: {used} of {size} units, {percent}.{tenth} percent.</text>"
+    )
+}
+
+// The largest free region when it was the smallest.
+fn put_worst(out: &mut String, figures: &Figures) -> Result<(), AllocError> {
+    let region = Grouped(figures.worst_region);
+    let free = Grouped(figures.worst_free);
+    let worst = Grouped(figures.worst);
+    let s = plural(figures.worst);
+    write!(
+        out,
+        "<text class='figures' x='24' y='86'>Largest free region at the worst moment: {region} units, "
+    )?;
+    writeln!(out, "of {free} free, after {worst} call{s}.</text>")
+}
+
+// The colours of the ages, and the mark of a refusal.
+fn put_ages(out: &mut String) -> Result<(), AllocError> {
+    writeln!(out, "<text class='end' x='112' y='113'>live for</text>")?;
+    for (i, age) in AGES.iter().enumerate() {
+        let left = Pixels(LEFT + i as u32 * 11_500);
+        let text = Pixels(LEFT + i as u32 * 11_500 + 2_200);
+        let class = age.class;
+        let name = age.name;
+        write!(out, "<path class='{class}' d='M{left} 101h16v14h-16z'/>")?;
+        writeln!(out, "<text x='{text}' y='113'>{name}</text>")?;
+    }
+    write!(out, "<path class='refusal' d='M1048 102v12'/>")?;
+    writeln!(out, "<text x='1062' y='113'>refusal</text>")
+}
+
+// What the colours of the reports mean, and why they may say 0.
+fn put_colours(out: &mut String, figures: &Figures) -> Result<(), AllocError> {
+    let top = Pixels(REPORTS_TOP - 2_300);
+    let base = Pixels(REPORTS_TOP - 1_000);
+    write!(out, "<path class='free' d='M120 {top}h16v14h-16z'/>")?;
+    writeln!(
+        out,
+        "<text x='142' y='{base}'>free units (the gap: outside the largest free region)</text>"
+    )?;
+    write!(out, "<path class='most' d='M520 {top}h16v14h-16z'/>")?;
+    writeln!(out, "<text x='542' y='{base}'>largest free region</text>")?;
+    if figures.full_states > 0 {
+        let right = Pixels(LEFT + WIDTH);
+        let states = Grouped(figures.full_states);
+        let s = plural(figures.full_states);
+        write!(
+            out,
+            "<text class='end' x='{right}' y='{base}'>At the node limit, after {states} call{s}, "
+        )?;
+        writeln!(out, "0 units are reported as free.</text>")?;
+    }
+    Ok(())
+}
+
+// Where the space ends. The plot of the ranges ends at the unit `end`.
+fn put_end(out: &mut String, figures: &Figures, end: u32) -> Result<(), AllocError> {
+    writeln!(out, "<text class='end' x='112' y='139'>unit</text>")?;
+    if figures.first_size < end {
+        write!(out, "<path class='out' d='M120 127h16v14h-16z'/>")?;
+        writeln!(out, "<text x='142' y='139'>not in the space yet</text>")?;
+    }
+    let right = Pixels(LEFT + WIDTH);
+    let size = Grouped(figures.largest_size);
+    writeln!(
+        out,
+        "<text class='end' x='{right}' y='139'>the space ends at {size}</text>"
+    )
+}
+
+/// The text above the plots, and what their colours mean. The plot of the ranges ends at the unit `end`.
+pub fn put_legend(
+    out: &mut String,
+    figures: &Figures,
+    max_allocs: u32,
+    end: u32,
+) -> Result<(), AllocError> {
+    put_heading(out, figures, max_allocs)?;
+    put_use(out, figures)?;
+    put_worst(out, figures)?;
+    put_ages(out)?;
+    put_end(out, figures, end)?;
+    put_colours(out, figures)
+}
+
+/// The line below the plots: what was changed so that it can be seen. Merged grants are in so many rectangles.
+pub fn put_notes(out: &mut String, merged: Option<usize>) -> Result<(), AllocError> {
+    write!(
+        out,
+        "<text x='24' y='828'>Ranges thinner than 0.3 pixels are drawn 0.3 pixels thick."
+    )?;
+    if let Some(count) = merged {
+        let count = Grouped(counted(count));
+        write!(
+            out,
+            " No titles, and those below 0.1 pixels are merged into their neighbours: {count} rectangles."
+        )?;
+    }
+    writeln!(out, "</text>")
+}

@@ -1,0 +1,67 @@
+//! What a program does with a script that is to be drawn.
+
+ghost use Rattle.std.specs.Prelude.{◌≡◌, ◌≢◌, Result, Err, true, IfSome, MatchResult, OnOk, if◌then◌else◌};
+ghost use Rattle.offset_lives.specs.Drawing.{DrawOf};
+ghost use Rattle.offset_script.specs.declared.faults.RunFault.{RunFault};
+ghost use Rattle.offset_script.specs.declared.faults.RunFault.TheVariants as faults;
+ghost use Rattle.offset_script.specs.declared.faults.ScriptFault.TheVariants as scripts;
+ghost use Rattle.offset_script.specs.Faults.{status_of};
+ghost use Rattle.offset_script.specs.Running.{Untouched, WritesFault, is_read_fault, is_write_fault};
+
+use crate::drawing::picture;
+use offset_script::{RunFault, Sink, Source, read_script, send, send_fault};
+use std::alloc::Global;
+
+// Reads a script to its end, draws it, writes the picture, and then flushes.
+fn draw<S: Source, K: Sink>(alloc: Global, input: &mut S, output: &mut K) -> Result<(), RunFault>
+    ensures of_text { IfSome (S.left input.old)
+        (λ text. DrawOf result text (S.left input.new) (K.held output.old) (K.held output.new)) }
+    ensures flushed { OnOk result (K.is_flushed output.new ≡ true) }
+    ensures untouched { Untouched result output.old output.new }
+    ensures memory { result ≢ Err (faults.Script scripts.Memory) }
+    ensures read { S.has_failed input.new ≡ (if is_read_fault result then true else S.has_failed input.old) }
+    ensures write { K.has_failed output.new ≡ (if is_write_fault result then true else K.has_failed output.old) }
+{
+    let script = read_script(alloc, input)?;
+    let text = picture(alloc, &script)?;
+    if send(output, text.as_bytes()) {
+        Ok(())
+    } else {
+        Err(RunFault::Write)
+    }
+}
+
+/// Draws a script, and where that fails, writes the line of the fault to `errors`. Returns the status to exit with.
+///
+/// The status is 0 exactly where a whole picture was written and flushed, 2 where the text is no script, 3 where memory was
+/// refused, and 4 where the source or the sink failed. Nothing is written to `output` unless the whole text is a script. A
+/// picture that was written leaves `errors` as it was. A failure of `errors` changes no status, and its line takes no
+/// memory.
+pub fn draw_program<S: Source, K: Sink, E: Sink>(
+    alloc: Global,
+    input: &mut S,
+    output: &mut K,
+    errors: &mut E,
+) -> u8
+    // There is a result of a drawing, whose status and whose fault's line these are.
+    ensures { (ended : Result (Unit {0}) RunFault)
+        × (ended ≢ Err (faults.Script scripts.Memory))
+        × (result ≡ status_of ended)
+        × MatchResult ended (λ _. errors.new ≡ errors.old) (λ fault. WritesFault fault
+        (E.held errors.old) (E.held errors.new) (E.has_failed errors.old) (E.has_failed errors.new)
+        (E.is_flushed errors.new))
+        × IfSome (S.left input.old)
+        (λ text. DrawOf ended text (S.left input.new) (K.held output.old) (K.held output.new))
+        × OnOk ended (K.is_flushed output.new ≡ true)
+        × Untouched ended output.old output.new
+        × (S.has_failed input.new ≡ (if is_read_fault ended then true else S.has_failed input.old))
+        × (K.has_failed output.new ≡ (if is_write_fault ended then true else K.has_failed output.old)) }
+{
+    match draw(alloc, input, output) {
+        Ok(()) => 0,
+        Err(fault) => {
+            let _is_sent = send_fault(errors, fault);
+            fault.status()
+        }
+    }
+}

@@ -1,0 +1,111 @@
+//! A rectangle for each grant.
+
+use crate::ages::AGES;
+use crate::living::Life;
+use crate::merging::merged;
+use crate::numbers::Pixels;
+use crate::plots::Plot;
+use crate::shapes::{Shape, shape_of};
+use std::alloc::{AllocError, Global};
+
+// The most grants that are drawn with a title each.
+const MOST_TITLES: usize = 20_000;
+
+// The least width and height that is drawn: 0.3 pixels.
+const LEAST: u32 = 30;
+
+// From this width and height on, a rectangle has an edge in the colour of the background: 3 pixels.
+const EDGED: u32 = 300;
+
+// The beginning of a rectangle's element. One that is too thin to be seen becomes 0.3 pixels thick.
+fn put_shape(out: &mut String, shape: &Shape) -> Result<(), AllocError> {
+    let across = shape.width().max(LEAST);
+    let high = shape.height().max(LEAST);
+    let x = Pixels(shape.left);
+    let y = Pixels(shape.bottom.saturating_sub(high));
+    let width = Pixels(across);
+    let height = Pixels(high);
+    write!(
+        out,
+        "<rect x='{x}' y='{y}' width='{width}' height='{height}'"
+    )?;
+    if across >= EDGED && high >= EDGED {
+        write!(out, " class='edge'")?;
+    }
+    Ok(())
+}
+
+// The title of a life, the last of whose calls is at most this one.
+fn put_title(out: &mut String, life: &Life, calls: u32) -> Result<(), AllocError> {
+    let number = life.number;
+    let offset = life.offset;
+    let size = life.size;
+    let first = life.first.saturating_add(1);
+    let last = life.last.saturating_add(1);
+    write!(
+        out,
+        "<title>grant {number}, offset {offset}, size {size}, calls {first}-"
+    )?;
+    if last > calls as usize {
+        write!(out, "end</title>")
+    } else {
+        write!(out, "{last}</title>")
+    }
+}
+
+// The rectangles of the lives of an age, each with its title.
+fn put_titled(
+    out: &mut String,
+    plot: &Plot,
+    lives: &[Life],
+    age: usize,
+    calls: u32,
+) -> Result<(), AllocError> {
+    for life in lives {
+        let shape = shape_of(plot, life);
+        if shape.age == age {
+            put_shape(out, &shape)?;
+            out.push('>')?;
+            put_title(out, life, calls)?;
+            writeln!(out, "</rect>")?;
+        }
+    }
+    Ok(())
+}
+
+// The rectangles of an age, without titles.
+fn put_plain(out: &mut String, shapes: &[Shape], age: usize) -> Result<(), AllocError> {
+    for shape in shapes {
+        if shape.age == age {
+            put_shape(out, shape)?;
+            writeln!(out, "/>")?;
+        }
+    }
+    Ok(())
+}
+
+/// The rectangles of lives in groups by their age, the longest lives first. Where these are many, they have no titles,
+/// and tiny ones are merged: then it returns how many were drawn.
+pub fn put_grants(
+    alloc: Global,
+    out: &mut String,
+    plot: &Plot,
+    lives: &[Life],
+    calls: u32,
+) -> Result<Option<usize>, AllocError> {
+    let shapes = if lives.len() > MOST_TITLES {
+        Some(merged(alloc, plot, lives)?)
+    } else {
+        None
+    };
+    for age in (0..AGES.len()).rev() {
+        let class = AGES[age].class;
+        writeln!(out, "<g class='{class}'>")?;
+        match &shapes {
+            None => put_titled(out, plot, lives, age, calls)?,
+            Some(shapes) => put_plain(out, shapes, age)?,
+        }
+        writeln!(out, "</g>")?;
+    }
+    Ok(shapes.as_ref().map(|shapes| shapes.len()))
+}
