@@ -43,7 +43,7 @@ end_back cs i j c k e d = ap (λ l. end_from j l k) d ∙ either (leaves k c)
     either true = omega (arith, e)
     either false = omega arith
 
-same_begun : (j : ℕ) (c : Command) (a : Answer) (f g : ℕ → ℕ) → ((k offset : ℕ) → a ≡ machine.Grant k offset → f k ≡ g k) → begun j c a f ≡ begun j c a g
+pub same_begun : (j : ℕ) (c : Command) (a : Answer) (f g : ℕ → ℕ) → ((k offset : ℕ) → a ≡ machine.Grant k offset → f k ≡ g k) → begun j c a f ≡ begun j c a g
 same_begun j c (machine.Grant k offset) f g h = rw (h k offset refl) refl
 same_begun j c machine.Refused f g h = refl
 same_begun j c machine.Freed f g h = refl

@@ -1,6 +1,7 @@
 mod Apart
 mod Backward
 mod Drawn
+mod Quieter
 mod Ranges
 mod Seen
 mod Watched

@@ -1,4 +1,5 @@
 pub mod Drawing
 pub mod Ends
 pub mod Lives
+pub mod Quiet
 pub mod Reported

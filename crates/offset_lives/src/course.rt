@@ -1,6 +1,7 @@
 //! The course of a script: all that is drawn of it.
 
 use crate::living::{Life, lives};
+use crate::quiet::without_full;
 use crate::reporting::reports;
 use offset_allocator::StorageReport;
 use offset_script::{Answer, Command, Script, play_script};
@@ -42,13 +43,14 @@ fn growth(alloc: Global, script: &Script) -> Result<(Vec<u32>, Vec<usize>), Allo
     Ok((sizes, refused))
 }
 
-/// Plays a script.
+/// Plays a script, without its full reports.
 pub fn course_of(alloc: Global, script: &Script) -> Result<Course, AllocError> {
-    let (sizes, refused) = growth(alloc, script)?;
+    let script = without_full(alloc, script)?;
+    let (sizes, refused) = growth(alloc, &script)?;
     Ok(Course {
         max_allocs: script.max_allocs,
-        lives: lives(alloc, script)?,
-        reports: reports(alloc, script)?,
+        lives: lives(alloc, &script)?,
+        reports: reports(alloc, &script)?,
         sizes,
         refused,
     })

@@ -14,6 +14,7 @@ mod merging;
 mod numbers;
 mod plots;
 mod program;
+mod quiet;
 mod rectangles;
 mod reporting;
 mod shapes;

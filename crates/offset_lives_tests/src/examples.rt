@@ -116,3 +116,19 @@ fn groups_grants_by_age(rt: HostRuntime) -> Result<(), Fail> {
     assert!(rt; long.contains("<title>grant 1, offset 0, size 1, calls 1-12</title>"));
     Ok(())
 }
+
+// Either is one more call, of which nothing else is drawn.
+#[test]
+fn draws_a_full_report_as_a_report(rt: HostRuntime) -> Result<(), Fail> {
+    let full = drawn(
+        rt.alloc(),
+        "space 100 nodes 16 index 32\nalloc 10\nfull\nfree 1\n",
+    )?;
+    let short = drawn(
+        rt.alloc(),
+        "space 100 nodes 16 index 32\nalloc 10\nreport\nfree 1\n",
+    )?;
+    assert_eq!(rt; full, short);
+    assert_eq!(rt; rectangles(&full), 1);
+    Ok(())
+}
