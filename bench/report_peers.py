@@ -192,7 +192,9 @@ def plot(growth):
         ends.setdefault(points[-1][0], []).append((side, points[-1][1]))
     for a, here in ends.items():
         for (side, _), b in zip(here, spread([b for _, b in here], 16)):
-            yield text(a + 10, b + 4, NAMES[side]).replace("<text ", f'<text fill="{COLOURS[side]}" ')
+            # white around it, where a line goes through
+            paint = f'fill="{COLOURS[side]}" stroke="white" stroke-width="4" paint-order="stroke"'
+            yield text(a + 10, b + 4, NAMES[side]).replace("<text", f"<text {paint}")
 
 
 def main():
