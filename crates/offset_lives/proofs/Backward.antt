@@ -69,9 +69,9 @@ lives_back cs given i j c a back new o end e d b same is grown before =
 
 -- an answer found, as the plain machine gives it
 pub seen_at : (cs : List Command) (s : State) (all : List program.Answer) (j : ℕ) (x : program.Answer) → map seen all ≡ answers cs s → j < length cs → x ≡ get_or all j x → get_or (answers cs s) j (seen x) ≡ seen x
-seen_at cs s all j x told h e =
+seen_at cs s all j x played h e =
     let n = answers_count cs s in
-    ap (λ l. get_or l j (seen x)) (sym told) ∙ get_or-map seen all j x (seen x) (omega (arith, ap length told, length-map all seen)) ∙ ap seen (sym e)
+    ap (λ l. get_or l j (seen x)) (sym played) ∙ get_or-map seen all j x (seen x) (omega (arith, ap length played, length-map all seen)) ∙ ap seen (sym e)
 
 -- what is left from a command on
 pub left_at : {X : Type 0} (xs : List X) (i j : ℕ) (x : X) → i ≡ j + 1 → j < length xs → get_or xs j x ≡ x → drop j xs ≡ x ∷ drop i xs

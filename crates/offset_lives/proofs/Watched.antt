@@ -73,10 +73,10 @@ is_report (c ∷ cs) s (suc i) l d = is_report cs (step c s).state i (omega arit
 -- an answer found at a second place is the report there
 pub found_report : (size limit : ℕ) → 2 ≤ limit → (cs : List Command) (all : List program.Answer) (i : ℕ) (x : program.Answer) → i ≤ length cs → map seen all ≡ answers (watched cs) (start size limit) → x ≡ get_or all (2 * i) x
     → seen x ≡ get_or (reports_of size limit cs) i (seen x)
-found_report size limit h cs all i x l told e =
+found_report size limit h cs all i x l played e =
     let s = start size limit in
-    ap seen e ∙ sym (get_or-map seen all (2 * i) x (seen x) (let m = length-map all seen in omega (arith, ap length told, m, answers_watched cs s)))
-    ∙ ap (λ xs. get_or xs (2 * i) (seen x)) told ∙ report_at size limit h cs [] s s refl (λ more. refl) i l (seen x)
+    ap seen e ∙ sym (get_or-map seen all (2 * i) x (seen x) (let m = length-map all seen in omega (arith, ap length played, m, answers_watched cs s)))
+    ∙ ap (λ xs. get_or xs (2 * i) (seen x)) played ∙ report_at size limit h cs [] s s refl (λ more. refl) i l (seen x)
 
 kept : (o : Option StorageReport) (r : StorageReport) (a : Answer) → option_map report_seen o ≡ Some a → o ≡ Some r → report_seen r ≡ a
 kept o r a e f = inside (report_seen r) a (ap (option_map report_seen) (sym f) ∙ e)
