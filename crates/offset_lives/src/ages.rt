@@ -53,7 +53,7 @@ pub const AGES: [Age; 8] = [
     },
 ];
 
-/// The bin of a life of so many calls.
+/// The bin of a life, by the number of its calls.
 pub fn age_of(calls: usize) -> usize {
     AGES.iter()
         .position(|age| calls <= age.most)

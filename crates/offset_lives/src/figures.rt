@@ -101,7 +101,7 @@ impl Figures {
         }
     }
 
-    // Goes on with a state: so many live grants and units in a space of this size, and its report.
+    // Adds a state: how many grants and units are live in a space of this size, and its report.
     fn see(&mut self, state: u32, live: u32, used: u32, size: u32, report: &StorageReport) {
         self.most_live = live.max(self.most_live);
         if used > self.most_used {

@@ -132,7 +132,7 @@ pub fn put_legend(
     put_colours(out, figures)
 }
 
-/// The line below the plots: what was changed so that it can be seen. Merged grants are in so many rectangles.
+/// The line below the plots: what was drawn larger to be seen, and in how many rectangles merged grants are.
 pub fn put_notes(out: &mut String, merged: Option<usize>) -> Result<(), AllocError> {
     write!(
         out,

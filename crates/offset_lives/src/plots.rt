@@ -122,7 +122,7 @@ impl Plot {
         writeln!(out, "<text class='end' x='{end}' y='{base}'>call</text>")
     }
 
-    /// The numbers on both axes: at most so many lines across, and marks below, beside those at 0.
+    /// The numbers on both axes: at most `lines` lines across and `marks` marks below, beside those at 0.
     pub fn put_axes(&self, out: &mut String, lines: u8, marks: u8) -> Result<(), AllocError>
         requires lines { 3 ≤ lines }
         requires marks { 3 ≤ marks }
