@@ -1,13 +1,14 @@
-"""Times and counts the workloads of the program $1, and writes RESULTS.md and plot.svg into the folder $2."""
+"""Measures the workloads of the program $1, and writes RESULTS.md and plot.svg into the folder $2."""
 import math, os, re, signal, subprocess, sys, tempfile
 from concurrent.futures import ThreadPoolExecutor
 
 MEASURE, HERE = sys.argv[1:3]
-# the sides, and the word that their measured functions begin with
+# the sides, and the prefix of their measured functions
 SIDES = {"original": "original", "ours": "offset", "erased": "erased", "c": "tuned"}
-# callgrind takes each byte that one instruction of memset writes for an instruction: memset is to use vectors
+# callgrind counts each byte that a `rep stosb` of memset writes as an instruction, so memset must use vectors
 COUNTED = {**os.environ, "GLIBC_TUNABLES": "glibc.cpu.x86_rep_stosb_threshold=4000000000"}
-# ours: of the original's time, of its instructions, of C's instructions; erased: of the original's time and instructions
+# larger ratios are bold: ours to the original's time, to its instructions, to C's; erased to the original's time, to
+# its instructions
 REACH = (0.75, 0.60, 1.05, 0.85, 0.75)
 
 
@@ -16,30 +17,30 @@ def lines(*words):
     return [line.split("\t") for line in out.splitlines()]
 
 
-def counted(name, side, function, what):
-    """The instructions of one run: inside of the measured function, and of the whole program."""
+def instructions(name, side, function, what):
+    """The instructions of one run: inside the measured function, and of the whole program."""
     with tempfile.NamedTemporaryFile() as file:
         command = ["valgrind", "--tool=callgrind", "--callgrind-out-file=" + file.name, MEASURE, "play", name, side, what]
         subprocess.run(command, check=True, capture_output=True, env=COUNTED)
-        told = subprocess.run(["callgrind_annotate", "--inclusive=yes", "--threshold=100", file.name],
-                              check=True, capture_output=True, text=True).stdout
-    rows = re.findall(r"^ *([\d,]+) \([ \d.]+%\) +(?:\S*:(\w+)(?: \[.*)?|(PROGRAM TOTALS))$", told, re.M)
+        report = subprocess.run(["callgrind_annotate", "--inclusive=yes", "--threshold=100", file.name],
+                                check=True, capture_output=True, text=True).stdout
+    rows = re.findall(r"^ *([\d,]+) \([ \d.]+%\) +(?:\S*:(\w+)(?: \[.*)?|(PROGRAM TOTALS))$", report, re.M)
     found = {function or total: int(count.replace(",", "")) for count, function, total in reversed(rows)}
-    # a run that makes nothing calls nothing
+    # a run without constructions calls nothing
     return found.get(f"{SIDES[side]}_{function}", 0), found["PROGRAM TOTALS"]
 
 
 def a_step(name, side, function, steps):
-    """The instructions of a step, without what the tables cost to make; found in two ways, which have to agree."""
-    inside, whole = (a - b for a, b in zip(counted(name, side, function, "all"), counted(name, side, function, "none")))
-    # what is loaded at a first call, and the loop that makes tables
+    """The instructions of a step, without the construction of the tables, computed in two ways, which have to agree."""
+    inside, whole = (a - b for a, b in zip(instructions(name, side, function, "all"), instructions(name, side, function, "none")))
+    # they differ by what is loaded at a first call, and by the loop that constructs tables
     assert abs(whole - inside) < 50_000 + whole / 500, f"{name}, {side}: {inside} inside the calls, {whole} in all"
     return inside / steps
 
 
-def apart(name, sides, seconds=0):
-    """How many requests these sides refuse, which have to give the same answers, and ranges that are apart. None where a
-    run takes more seconds; 0 is for no bound."""
+def refusals(name, sides, seconds=0):
+    """The number of requests that these sides refuse, after a check that their answers are equal and no live ranges
+    overlap. None where a run takes more than these seconds; 0 means no bound."""
     command = [MEASURE, "check", str(seconds), name, *sides]
     ended = subprocess.run(command, capture_output=True, text=True)
     if ended.returncode == -signal.SIGPROF:
@@ -48,11 +49,11 @@ def apart(name, sides, seconds=0):
     return int(ended.stdout)
 
 
-def measured():
-    """For each workload: name, nodes, and for each side nanoseconds and instructions a step."""
+def measurements():
+    """For each workload its name and nodes, and for each side nanoseconds and instructions a step."""
     work = lines("list")
     with ThreadPoolExecutor(os.cpu_count()) as pool:
-        list(pool.map(lambda row: apart(row[0], SIDES), work))
+        list(pool.map(lambda row: refusals(row[0], SIDES), work))
     times = {name: [float(row[0]) for row in lines("time", name, *SIDES)] for name, *_ in work}
     jobs = [(name, side, function, int(count)) for name, _nodes, _space, count, function in work for side in SIDES]
     with ThreadPoolExecutor(os.cpu_count()) as pool:
@@ -66,11 +67,11 @@ def number(x):
 
 
 def ratios(ns, count):
-    """Ours and the erased one, as REACH has them."""
+    """The ratios of ours and of the erased side, in the order of REACH."""
     return ns[1] / ns[0], count[1] / count[0], count[1] / count[3], ns[2] / ns[0], count[2] / count[0]
 
 
-def told(value, most):
+def cell(value, most):
     return f"{value:.2f}" if value <= most else f"**{value:.2f}**"
 
 
@@ -79,7 +80,7 @@ def table(rows):
            "| ours: time/original | instructions/original | instructions/C | erased: time/original | instructions/original |")
     yield "|---|" + "---:|" * 13
     for name, _nodes, ns, count in rows:
-        cells = [number(x) for x in ns + count] + [told(r, m) for r, m in zip(ratios(ns, count), REACH)]
+        cells = [number(x) for x in ns + count] + [cell(r, m) for r, m in zip(ratios(ns, count), REACH)]
         yield f"| {name} | " + " | ".join(cells) + " |"
 
 
@@ -92,7 +93,7 @@ def text(x, y, words, anchor="start", size=12):
 
 
 def bars(rows, top):
-    """Our time and our instructions, as parts of the original's."""
+    """Our time and our instructions, relative to the original's."""
     left, width, height = 260, 420, 22
     yield text(left, top - 24, "ours, where the original is 1: time (dark), instructions (light)", size=13)
     bottom = top + height * len(rows)
@@ -107,7 +108,7 @@ def bars(rows, top):
 
 
 def spread(wanted, space):
-    """The places near the ones that are wanted, this far from each other."""
+    """Places near the wanted ones, at least `space` from each other."""
     order = sorted(range(len(wanted)), key=lambda i: wanted[i])
     found = list(wanted)
     for _ in range(100):
@@ -129,7 +130,7 @@ def curves(rows, top, title, values):
     first, last = rows[0][1], rows[-1][1]
     xs = [left + width * math.log(row[1] / first) / math.log(last / first) for row in rows]
     for x, row in zip(xs, rows):
-        # powers of 4: every number is too many
+        # powers of 4 only, since there is no room for all numbers
         if row[1].bit_length() % 2 == 1:
             yield text(x, top + height + 16, f"{row[1]:,}", "middle", 10)
     ends = []
@@ -152,16 +153,17 @@ def plot(work, growth):
 
 
 def main():
-    rows = list(measured())
+    rows = list(measurements())
     growth = [row for row in rows if row[0].startswith("growth")]
     work = [row for row in rows if row not in growth]
     missed = sum(r > m for row in rows for r, m in zip(ratios(*row[2:]), REACH))
     head = [
         "# Results", "",
-        "Nanoseconds are the least of nine runs, instructions are callgrind's, both a step, without what the tables cost to make.",
-        "All sides gave the same offsets and refusals, and live ranges are within the space and apart. In bold: above "
+        "Times are the fastest of nine runs, in nanoseconds; instructions are counted by callgrind. Both are per step, without the "
+        "construction of the tables.",
+        "All sides returned the same offsets and refusals, and no live ranges overlap or leave the space. In bold: more than "
         f"{REACH[0]:.2f} of the original's time, {REACH[1]:.2f} of its instructions, or {REACH[2]:.2f} of C's; "
-        f"for the erased side above {REACH[3]:.2f} of the original's time, or {REACH[4]:.2f} of its instructions.", "",
+        f"for the erased side more than {REACH[3]:.2f} of the original's time, or {REACH[4]:.2f} of its instructions.", "",
     ]
     shown = [*head, *table(work), "", "## Over the size of the tables", "",
              "Random steps with a quarter of the nodes live.", "", *table(growth)]

@@ -1,17 +1,17 @@
-"""Measures the peers that are built in beside the original and ours, and writes PEERS.md and peers.svg into the folder $2."""
+"""Measures the linked peers beside the original and ours, and writes PEERS.md and peers.svg into the folder $2."""
 import math, os, subprocess
 from concurrent.futures import ThreadPoolExecutor
-from report import COLOURS, HERE, MEASURE, apart, lines, number, spread, text
+from report import COLOURS, HERE, MEASURE, lines, number, refusals, spread, text
 
-# seconds that a run may take
+# the seconds that a run may take
 CAP = 5
-# how far the time of the clock and that of the processor may be apart
+# how much the time by the clock and that of the processor may differ
 NEAR = 0.05
-# what is built of each peer
+# the sides that are built of each peer
 PARTS = {"vma": ["vma", "vma_min"], "u_mm": ["u_mm"], "util_vma": ["util_vma"]}
 NAMES = {"original": "original", "ours": "ours", "vma": "VMA", "vma_min": "VMA, least memory", "u_mm": "u_mm", "util_vma": "util_vma_heap"}
 COLOURS = {**COLOURS, "vma": "#d68910", "vma_min": "#7e5109", "u_mm": "#8e44ad", "util_vma": "#148f77"}
-# at so many live ranges
+# workloads by their number of live ranges
 LIVE = {1_000: "random, 1k live", 16_000: "random, 16k live", 60_000: "random, 60k live"}
 TIGHTEST = "voxel game, least space"
 COUNTED = {**os.environ, "LD_PRELOAD": f"{HERE}/out/heap.so"}
@@ -22,13 +22,18 @@ PEERS = [part for name in VERSIONS for part in PARTS[name]]
 SIDES = ["original", "ours", *PEERS]
 
 
-def measured():
+def measurements():
     """For each workload of steps: its name, nodes and steps, the refusals of each side, and the nanoseconds a step by the
     clock and of the processor: None where it takes too long."""
-    work = [(name, int(nodes), int(count)) for name, nodes, _space, count, function in lines("list") if function.startswith("play")]
+    # peers have no reset
+    work = [
+        (name, int(nodes), int(count))
+        for name, nodes, _space, count, function in lines("list")
+        if function.startswith("play") and "reset" not in name
+    ]
     jobs = [(name, side) for name, *_ in work for side in SIDES]
     with ThreadPoolExecutor(os.cpu_count()) as pool:
-        refused = dict(zip(jobs, pool.map(lambda job: apart(job[0], [job[1]], CAP), jobs)))
+        refused = dict(zip(jobs, pool.map(lambda job: refusals(job[0], [job[1]], CAP), jobs)))
     for name, nodes, count in work:
         ended = [side for side in SIDES if refused[name, side] is not None]
         rows = [[float(x) for x in row] for row in lines("time", name, *ended)]
@@ -36,18 +41,18 @@ def measured():
 
 
 def busy(times, side):
-    """Whether the time of the clock is not the processor's."""
+    """Whether the time by the clock differs too much from that of the processor."""
     clock, processor = times[side]
     return abs(clock - processor) > NEAR * clock
 
 
-def told(row, side):
-    """The nanoseconds a step, and how many times the original's they are."""
+def time_cells(row, side):
+    """The nanoseconds a step, and their ratio to the original's, as texts."""
     _name, _nodes, count, _refused, times = row
     original = times["original"][0]
     if side not in times:
-        least = CAP * 1e9 / count
-        return f"over {math.floor(least):,}", f"over {math.floor(least / original)}"
+        bound = CAP * 1e9 / count
+        return f"over {math.floor(bound):,}", f"over {math.floor(bound / original)}"
     marks = ["~" if busy(times, side) else "", "~" if busy(times, side) or busy(times, "original") else ""]
     return marks[0] + number(times[side][0]), f"{marks[1]}{times[side][0] / original:.2f}"
 
@@ -56,9 +61,9 @@ def times_table(rows):
     yield "| workload | ns: " + " | ".join(NAMES[s] for s in SIDES) + " | time/original: " + " | ".join(NAMES[s] for s in SIDES[1:]) + " |"
     yield "|---|" + "---:|" * (2 * len(SIDES) - 1)
     for row in rows:
-        ns = [told(row, side)[0] for side in SIDES]
-        parts = [told(row, side)[1] for side in SIDES[1:]]
-        yield f"| {row[0]} | " + " | ".join(ns + parts) + " |"
+        ns = [time_cells(row, side)[0] for side in SIDES]
+        ratios = [time_cells(row, side)[1] for side in SIDES[1:]]
+        yield f"| {row[0]} | " + " | ".join(ns + ratios) + " |"
 
 
 def refusals_table(rows):
@@ -71,30 +76,30 @@ def refusals_table(rows):
             yield f"| {name} | " + " | ".join(cells) + " |"
 
 
-def held(name, side, *nodes):
-    """The bytes of a side when it is made, and the bytes more at the most; counted in two ways, which have to agree."""
+def heap_bytes(name, side, *nodes):
+    """The bytes of a side after construction, and the most that a run adds, counted in two ways that have to agree."""
     out = subprocess.run([MEASURE, "heap", name, side, *map(str, nodes)], env=COUNTED, check=True, capture_output=True, text=True).stdout
     made, made_again, more, more_again = map(int, out.split())
     for one, other in ((made, made_again), (more, more_again)):
-        # the header of a piece with pages of its own is longer
+        # a block with its own pages has a longer header
         assert abs(one - other) <= 4096 + one / 100, f"{name}, {side}: {one} bytes, or {other}"
     return made, more
 
 
 def memory(rows):
-    """For each row of the table: its side and name, the bytes when it is made, and the bytes at so many live ranges."""
+    """For each row of the table its side and name, the bytes after construction, and those at each number of ranges."""
     ended = {(name, side) for name, _nodes, _count, _refused, times in rows for side in times}
     nodes = {name: int(lines("nodes", name)[0][0]) for name in LIVE.values()}
     for side in SIDES:
-        made = held(LIVE[1_000], side)[0]
-        yield side, NAMES[side], made, [sum(held(name, side)) if (name, side) in ended else None for name in LIVE.values()]
+        made = heap_bytes(LIVE[1_000], side)[0]
+        yield side, NAMES[side], made, [sum(heap_bytes(name, side)) if (name, side) in ended else None for name in LIVE.values()]
         if side in ("original", "ours"):
             limits = ", ".join(f"{n:,}" for n in nodes.values())
-            yield side, f"{NAMES[side]}, with {limits} nodes", None, [sum(held(name, side, nodes[name])) for name in LIVE.values()]
+            yield side, f"{NAMES[side]}, with {limits} nodes", None, [sum(heap_bytes(name, side, nodes[name])) for name in LIVE.values()]
 
 
 def memory_table(found):
-    yield "| | bytes when made | " + " | ".join(f"a live range of {live:,}" for live in LIVE) + " |"
+    yield "| | bytes after construction | " + " | ".join(f"a live range of {live:,}" for live in LIVE) + " |"
     yield "|---|" + "---:|" * (1 + len(LIVE))
     for _side, name, made, at in found:
         cells = ["" if made is None else f"{made:,}"] + ["" if b is None else number(b / live) for b, live in zip(at, LIVE)]
@@ -102,7 +107,7 @@ def memory_table(found):
 
 
 def peak():
-    """The most bytes of the trace that live at once."""
+    """The most bytes of the trace that are live at once."""
     sizes, now, most = [], 0, 0
     with open(f"{HERE}/traces/voxel-game.script") as file:
         for line in file:
@@ -117,50 +122,50 @@ def peak():
 
 
 def spaces():
-    """The most bytes that live at once, and for each side the least space found that refuses none of the trace."""
+    """The most bytes that are live at once, and for each side the smallest space that refuses none of the trace."""
     sides = [side for side in SIDES if side != "ours"]
     with ThreadPoolExecutor(os.cpu_count()) as pool:
         found = list(pool.map(lambda side: [int(x) for x in lines("least", side)[0]], sides))
     most = peak()
     assert all(row[0] == most for row in found), f"{most} bytes at the peak, or {found}"
-    least = {side: row[1] for side, row in zip(sides, found)}
-    # of both the answers are the same
-    least["ours"] = least["original"]
+    smallest = {side: row[1] for side, row in zip(sides, found)}
+    # both have the same answers
+    smallest["ours"] = smallest["original"]
     space = next(int(row[2]) for row in lines("list") if row[0] == TIGHTEST)
-    assert least["ours"] == space, f"{TIGHTEST}: {space} units, but {least['ours']} are enough"
-    return most, least
+    assert smallest["ours"] == space, f"{TIGHTEST}: {space} units, but {smallest['ours']} are enough"
+    return most, smallest
 
 
 def over(space, most):
     return f"{100 * (space / most - 1):.2f}%"
 
 
-def space_table(most, least):
-    yield "| | least space | over the peak |"
+def space_table(most, smallest):
+    yield "| | smallest space | over the peak |"
     yield "|---|---:|---:|"
     for side in SIDES:
-        yield f"| {NAMES[side]} | {least[side]:,} | {over(least[side], most)} |"
+        yield f"| {NAMES[side]} | {smallest[side]:,} | {over(smallest[side], most)} |"
 
 
 def most_of(rows, side):
-    """The largest of the parts of the original's time."""
-    parts = [row[4][side][0] / row[4]["original"][0] for row in rows if side in row[4]]
-    late = [told(row, side)[1] for row in rows if side not in row[4]]
+    """The largest ratio to the original's time."""
+    ratios = [row[4][side][0] / row[4]["original"][0] for row in rows if side in row[4]]
+    late = [time_cells(row, side)[1] for row in rows if side not in row[4]]
     largest = max(late, key=lambda words: float(words.split()[1]), default="over 0")
-    return largest if float(largest.split()[1]) > max(parts) else f"{max(parts):.2f}" + (" or more" if late else "")
+    return largest if float(largest.split()[1]) > max(ratios) else f"{max(ratios):.2f}" + (" or more" if late else "")
 
 
-def short_table(rows, found, most, least):
-    """A row for each side: what the other tables have of it."""
-    # the last row of each side: a table just large enough
+def short_table(rows, found, most, smallest):
+    """A row for each side: a summary of the other tables."""
+    # the last row of a side is that of a table just large enough
     bytes_of = {side: at for side, _name, _made, at in found}
-    yield "| | time/original, least | most | bytes a live range | least space over the peak |"
+    yield "| | time/original, smallest | largest | bytes a live range | smallest space over the peak |"
     yield "|---|---:|---:|---:|---:|"
     for side in SIDES:
         lowest = min(row[4][side][0] / row[4]["original"][0] for row in rows if side in row[4])
         each = [b / live for b, live in zip(bytes_of[side], LIVE) if b is not None]
         bounds = sorted({f"{min(each):.0f}", f"{max(each):.0f}"}, key=int)
-        yield f"| {NAMES[side]} | {lowest:.2f} | {most_of(rows, side)} | {' to '.join(bounds)} | {over(least[side], most)} |"
+        yield f"| {NAMES[side]} | {lowest:.2f} | {most_of(rows, side)} | {' to '.join(bounds)} | {over(smallest[side], most)} |"
 
 
 def plot(growth):
@@ -192,31 +197,31 @@ def plot(growth):
         ends.setdefault(points[-1][0], []).append((side, points[-1][1]))
     for a, here in ends.items():
         for (side, _), b in zip(here, spread([b for _, b in here], 16)):
-            # white around it, where a line goes through
+            # a white outline, where a line crosses the text
             paint = f'fill="{COLOURS[side]}" stroke="white" stroke-width="4" paint-order="stroke"'
             yield text(a + 10, b + 4, NAMES[side]).replace("<text", f"<text {paint}")
 
 
 def main():
-    rows = list(measured())
+    rows = list(measurements())
     growth = [row for row in rows if row[0].startswith("growth")]
     found = list(memory(rows))
-    most, least = spaces()
+    most, smallest = spaces()
     versions = "; ".join(f"{' and '.join(NAMES[part] for part in PARTS[name])}: {version}" for name, version in VERSIONS.items())
     shown = [
-        "# Beside what an engine would take instead", "",
+        "# Beside what an engine would use instead", "",
         f"{versions}. [README.md](README.md#peers) says how this is measured.", "",
-        *short_table(rows, found, most, least), "",
-        "Bytes for ours and the original are those of a table just large enough.", "",
+        *short_table(rows, found, most, smallest), "",
+        "The bytes of ours and of the original are those of a table just large enough.", "",
         "## Time", "",
-        f"Nanoseconds a step. A run that takes more than {CAP} seconds is over what these are for a step. Marked by ~: by the "
-        f"clock and of the processor more than {100 * NEAR:.0f}% apart.", "",
+        f"Nanoseconds a step. *Over*: the run takes more than {CAP} seconds, and so more than this a step. Marked by ~: the time by "
+        f"the clock and that of the processor differ by more than {100 * NEAR:.0f}%.", "",
         *times_table(rows), "",
-        "## Refusals", "", "In the workloads where one refuses anything.", "", *refusals_table(rows), "",
-        "## Memory", "", "Bytes that `malloc` holds at the most, its headers included, over the live ranges. Empty: a run takes too long.", "", *memory_table(found), "",
-        "## The least space for the trace", "",
-        f"At most {most:,} bytes of it live at once. A bisection found the least space that refuses nothing; none of the 1,000 "
-        "sizes below it was enough, and none of 1,000 spread from it down to the peak.", "", *space_table(most, least),
+        "## Refusals", "", "In the workloads in which any side refuses a request.", "", *refusals_table(rows), "",
+        "## Memory", "", "The most bytes that `malloc` holds at any time, its headers included, divided by the live ranges. Empty: the run takes too long.", "", *memory_table(found), "",
+        "## The smallest space for the trace", "",
+        f"At most {most:,} bytes of it are live at once. A bisection found the smallest space that refuses nothing; none of the "
+        "1,000 sizes below it is enough, and none of 1,000 spread from it down to the peak.", "", *space_table(most, smallest),
     ]
     assert next(row[3]["ours"] for row in rows if row[0] == TIGHTEST) == 0, f"{TIGHTEST}: we refuse some of it"
     with open(f"{HERE}/PEERS.md", "w") as file:

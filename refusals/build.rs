@@ -1,4 +1,4 @@
-//! Links the static library, anew wherever it has changed.
+//! Links the static library, again whenever it has changed.
 
 fn main() {
     let folder = "../crates/offset_refusals/out";

@@ -1,7 +1,7 @@
 """What `erase` may do besides leaving out contracts: the one table that a reader has to judge.
 
-Nothing here names a crate's own logic. Texts are compared by their tokens, so layout does not matter.
-An entry that meets nothing in the sources stops `erase`, so that none outlives its reason.
+No entry depends on what a crate computes. Texts are compared by their tokens, so layout does not matter.
+An entry that is not used by the sources stops `erase`, so that none outlives its reason.
 """
 
 # Crate of the sources, folder of the erased crate, and the modules that are written by hand there.
@@ -10,7 +10,7 @@ CRATES = [
     ("offset_script", "offset-script", {"memory"}),
 ]
 
-# In the root file this takes the place of `#![tactic(auto)]`.
+# In the root file this replaces `#![tactic(auto)]`.
 ROOTS = {
     "offset_allocator": """#![doc = include_str!("../README.md")]
 #![no_std]
@@ -34,8 +34,8 @@ pub use memory::{AllocError, Global, String, Vec};
 """,
 }
 
-# Lints that the sources meet by their form, and why the form is theirs. Each is about style. `rustc` and clippy warn of
-# one that is met no more.
+# Lints that the form of the sources causes, each with the reason for that form. All are about style. `rustc` and clippy
+# warn of one that no longer occurs.
 LINTS = {
     "offset_allocator": {
         "clippy::derivable_impls": "an `impl Default` is where a contract says what the value is",
@@ -46,41 +46,41 @@ LINTS = {
     "offset_script": {},
 }
 
-# Names of std that are something else here, or nothing: the reason is beside each.
+# Names of std that have another path here, or none, each with the reason.
 IMPORTS = {
     "std::alloc::AllocError": "crate::memory::AllocError",  # no stable Rust has it
-    "std::alloc::AllocFailed": None,                        # a refused push gives an AllocError here
+    "std::alloc::AllocFailed": None,                        # a push that fails gives an AllocError here
     "std::alloc::Global": "crate::memory::Global",          # no stable Rust has it
     "std::fmt": "core::fmt",                                # the library has no std
     "std::io::Read": "std::io::Read",                       # the same
     "std::io::Write": "std::io::Write",                     # the same
-    "std::marker::Model": None,                             # the view of contracts, which are erased
+    "std::marker::Model": None,                             # the model of a type, for contracts, which are erased
     "std::marker::PhantomData": "core::marker::PhantomData",  # the library has no std
 }
 
-# Names that need no import there, and here come from the hand-written module.
+# Names that need no import in Rattle, and here come from the hand-written module.
 PRELUDE = {"Vec": "crate::memory::Vec", "String": "crate::memory::String"}
 
-# Exact pairs: the text of the source, the text here, and why.
+# Exact replacements: the text of the source, the text here, and the reason.
 PAIRS = [
     (
         "fn clone(&self) -> Result<Self, AllocError> { Ok(*self) }",
         "fn clone(&self) -> Self {\n        *self\n    }",
-        "there a clone may take memory; Rust's does not return a Result",
+        "in Rattle a clone may take memory; Rust's does not return a Result",
     ),
     (
         "fn fmt<W: fmt::Write>(&self, f: &mut fmt::Formatter<W>) -> fmt::Result",
         "fn fmt(&self, f: &mut fmt::Formatter<'_>) -> fmt::Result",
-        "there the formatter has a type of its own for each writer",
+        "in Rattle the formatter has its own type for each writer",
     ),
     (
         "impl<T: Drop> From<AllocFailed<T>> for ScriptFault { fn from(_e: AllocFailed<T>) -> ScriptFault { ScriptFault::Memory } }",
         "",
-        "a refused push gives an AllocError here, from which there is a conversion beside it",
+        "a push that fails gives an AllocError here, which has its own conversion",
     ),
 ]
 
-# What a public function asks of its caller: the clause, the test that is made at the call, and what its panic says.
+# What a public function requires of its caller: the clause, the test that is made at the call, and the panic's message.
 REQUIRES = [
     ("2 ≤ max_allocs", "2 <= max_allocs", "max_allocs must be at least 2"),
     ("max_allocs + 1 < NI.MAX", "max_allocs < NI::MAX - 1", "max_allocs must be at most NI::MAX - 2"),
@@ -92,13 +92,13 @@ REQUIRES = [
     ("length text.now < 2 ^ 32 - 1", "text.len() < u32::MAX as usize", "a text must be shorter than 4294967295 bytes"),
     ("0 < length bytes.now", "!bytes.is_empty()", "at least one byte must be pushed"),
     (
-        "All (λ c. IsTrue (is_powered c)) commands.now",
+        "All (λ c. IsTrue (has_valid_alignment c)) commands.now",
         "commands.iter().all(|c| !matches!(c, Command::Align(_, align) if !align.is_power_of_two()))",
         "each alignment must be a power of two",
     ),
 ]
 
-# Hidden lines round each example in the documentation, so that `cargo test` runs it.
+# Hidden lines around each example in the documentation, so that `cargo test` runs it.
 EXAMPLES = {
     "offset_allocator": (
         ["# use offset_allocator_proved::*;", "# let alloc = Global;"],
@@ -110,6 +110,6 @@ EXAMPLES = {
     ),
 }
 
-# Words of code that come out as they are. Any other word of a ghost, a proof or a test stops `erase`.
+# Attributes and macros that are printed as they are. Any other stops `erase`.
 ATTRIBUTES = {"inline", "must_use", "repr", "cold"}
 MACROS = {"write", "writeln", "matches"}

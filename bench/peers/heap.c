@@ -1,5 +1,5 @@
-// Preloaded into the measuring program: the most bytes that malloc has held since `heap_mark`, with the header of each
-// piece, counted here and by the C library itself.
+// A wrapper of malloc, preloaded into the measuring program: it counts the most bytes that malloc has held since
+// `heap_mark`, the header of each block included, and takes the same number from the C library.
 #include <malloc.h>
 #include <stddef.h>
 #include <stdlib.h>
@@ -10,25 +10,25 @@ extern void __libc_free(void *);
 
 static size_t held, base[2], most[2];
 
-static size_t piece(void *p) { return p ? malloc_usable_size(p) + sizeof(size_t) : 0; }
+static size_t block_bytes(void *p) { return p ? malloc_usable_size(p) + sizeof(size_t) : 0; }
 
-static size_t of_the_library(void) {
+static size_t library_bytes(void) {
     struct mallinfo2 all = mallinfo2();
     return all.uordblks + all.hblkhd;
 }
 
-static void *got(void *p) {
-    held += piece(p);
+static void *count_block(void *p) {
+    held += block_bytes(p);
     if (held > most[0]) {
         most[0] = held;
-        most[1] = of_the_library();
+        most[1] = library_bytes();
     }
     return p;
 }
 
 void heap_mark(void) {
     base[0] = most[0] = held;
-    base[1] = most[1] = of_the_library();
+    base[1] = most[1] = library_bytes();
 }
 
 void heap_most(size_t *counted, size_t *library) {
@@ -36,9 +36,9 @@ void heap_most(size_t *counted, size_t *library) {
     *library = most[1] - base[1];
 }
 
-void *malloc(size_t size) { return got(__libc_malloc(size)); }
-void *calloc(size_t count, size_t size) { return got(__libc_calloc(count, size)); }
-void *memalign(size_t align, size_t size) { return got(__libc_memalign(align, size)); }
+void *malloc(size_t size) { return count_block(__libc_malloc(size)); }
+void *calloc(size_t count, size_t size) { return count_block(__libc_calloc(count, size)); }
+void *memalign(size_t align, size_t size) { return count_block(__libc_memalign(align, size)); }
 void *aligned_alloc(size_t align, size_t size) { return memalign(align, size); }
 
 int posix_memalign(void **to, size_t align, size_t size) {
@@ -49,11 +49,11 @@ int posix_memalign(void **to, size_t align, size_t size) {
 }
 
 void *realloc(void *p, size_t size) {
-    held -= piece(p);
-    return got(__libc_realloc(p, size));
+    held -= block_bytes(p);
+    return count_block(__libc_realloc(p, size));
 }
 
 void free(void *p) {
-    held -= piece(p);
+    held -= block_bytes(p);
     __libc_free(p);
 }

@@ -1,4 +1,4 @@
-// The peers that are linked in. LINKED(each) is `each(NAME)` for each of them.
+// The table of the linked peers. LINKED(each) is `each(NAME)` for each of them.
 #include <stddef.h>
 #include <stdint.h>
 

@@ -1,5 +1,4 @@
-// u_mm of Mesa: first fit over a list of free blocks, of which the one that was freed last comes first. Alignment 1. Its
-// sizes are `int`.
+// u_mm of Mesa: first fit over a list of free blocks, the last freed first, with alignment 1. Its sizes are `int`.
 #include <stdint.h>
 #include <stdlib.h>
 #include "util/u_mm.c"

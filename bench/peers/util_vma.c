@@ -1,5 +1,5 @@
-// util_vma_heap of Mesa: first fit over a sorted list of holes, from the top of the space, as it does unless told
-// otherwise. Alignment 1. Its address 0 is a refusal, so the space begins at 1. The caller keeps the size of a range.
+// util_vma_heap of Mesa: first fit over a sorted list of holes, from the top of the space, as is its default, with
+// alignment 1. Its address 0 means a refusal, so the space begins at 1. The caller keeps the size of a range.
 #include <stdint.h>
 #include <stdlib.h>
 #include "util/vma.c"

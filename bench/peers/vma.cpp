@@ -1,5 +1,5 @@
-// VmaVirtualBlock of the Vulkan Memory Allocator: a two-level segregated fit, with STRATEGY: 0, its usual one, or
-// another of its flags. Alignment 1.
+// VmaVirtualBlock of the Vulkan Memory Allocator: a two-level segregated fit, with alignment 1. STRATEGY is 0, for its
+// usual strategy, or one of its flags.
 #include <cstdint>
 #include <cstdlib>
 #define VMA_IMPLEMENTATION
@@ -12,9 +12,9 @@ struct space { VmaVirtualBlock block; };
 struct slot { VmaVirtualAllocation range; };
 
 static bool make(struct space *space, uint32_t size) {
-    VmaVirtualBlockCreateInfo wanted = {};
-    wanted.size = size;
-    return vmaCreateVirtualBlock(&wanted, &space->block) == VK_SUCCESS;
+    VmaVirtualBlockCreateInfo info = {};
+    info.size = size;
+    return vmaCreateVirtualBlock(&info, &space->block) == VK_SUCCESS;
 }
 
 static void drop(struct space *space) {
@@ -25,11 +25,11 @@ static void drop(struct space *space) {
 static inline bool is_live(const struct slot *slot) { return slot->range != VK_NULL_HANDLE; }
 
 static inline uint64_t allocate(struct space *space, struct slot *slot, uint32_t size) {
-    VmaVirtualAllocationCreateInfo wanted = {};
-    wanted.size = size;
-    wanted.flags = STRATEGY;
+    VmaVirtualAllocationCreateInfo request = {};
+    request.size = size;
+    request.flags = STRATEGY;
     VkDeviceSize offset;
-    if (vmaVirtualAllocate(space->block, &wanted, &slot->range, &offset) == VK_SUCCESS) return offset;
+    if (vmaVirtualAllocate(space->block, &request, &slot->range, &offset) == VK_SUCCESS) return offset;
     return 1ull << 32;
 }
 

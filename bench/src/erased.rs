@@ -14,7 +14,7 @@ fn take<NI: NodeIndex>(space: &mut Allocator<NI>, slot: &mut Option<Allocation<N
         },
         Some(handle) => {
             *slot = None;
-            // asserts itself that the handle is live
+            // asserts that the handle is live
             space.free(handle);
             1 << 33
         }
@@ -28,22 +28,20 @@ unsafe fn play<NI: NodeIndex>(size: u32, max_allocs: u32, slots: usize, steps: *
     let mut slots: Vec<Option<Allocation<NI>>> = vec![None; slots];
     let mut sum = 0u64;
     for step in steps {
-        if let Some(slot) = slots.get_mut(step.slot as usize) {
-            sum = sum.wrapping_mul(31).wrapping_add(take(&mut space, slot, step.size));
+        match slots.get_mut(step.slot as usize) {
+            None => space.reset(),
+            Some(slot) => sum = sum.wrapping_mul(31).wrapping_add(take(&mut space, slot, step.size)),
         }
     }
     sum
 }
 
-fn renew<NI: NodeIndex>(size: u32, max_allocs: u32, resets: u32) -> u64 {
-    let mut space = Allocator::<NI>::with_max_allocs(Global, size, max_allocs).unwrap();
-    for _ in 0..resets {
-        space.reset();
-    }
+fn make<NI: NodeIndex>(size: u32, max_allocs: u32) -> u64 {
+    let space = Allocator::<NI>::with_max_allocs(Global, size, max_allocs).unwrap();
     space.storage_report().total_free_space.into()
 }
 
-macro_rules! exported { ($play:ident $renew:ident $width:ty) => {
+macro_rules! exported { ($play:ident $make:ident $width:ty) => {
     #[no_mangle]
     #[inline(never)]
     pub unsafe extern "C" fn $play(size: u32, max_allocs: u32, slots: usize, steps: *const Step, count: usize) -> u64 {
@@ -51,9 +49,9 @@ macro_rules! exported { ($play:ident $renew:ident $width:ty) => {
     }
     #[no_mangle]
     #[inline(never)]
-    pub unsafe extern "C" fn $renew(size: u32, max_allocs: u32, resets: u32) -> u64 {
-        renew::<$width>(size, max_allocs, resets)
+    pub unsafe extern "C" fn $make(size: u32, max_allocs: u32) -> u64 {
+        make::<$width>(size, max_allocs)
     }
 } }
-exported! { erased_play_32 erased_renew_32 u32 }
-exported! { erased_play_16 erased_renew_16 u16 }
+exported! { erased_play_32 erased_make_32 u32 }
+exported! { erased_play_16 erased_make_16 u16 }

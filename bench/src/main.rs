@@ -1,13 +1,15 @@
-//! Runs the workloads on the sides that are linked in, and prints what it measures, with tabs between.
+//! Runs the workloads on the linked sides, and prints its measurements, separated by tabs.
 //!
-//! - `measure list`: for each workload its name, nodes, space, steps, and the measured function without its side's word.
-//! - `measure time NAME SIDE...`: for each side nanoseconds a step by the clock and of the processor, and the runs.
+//! - `measure list`: each workload's name, nodes, space, steps, and measured function without the prefix of its side.
+//! - `measure time NAME SIDE...`: for each side nanoseconds a step, by the clock and of the processor, and the runs.
 //! - `measure play NAME SIDE all|none`: one run with all of its steps or with none, for a counter of instructions.
-//! - `measure check SECONDS NAME SIDE...`: the refusals of sides with equal answers and ranges that are apart; ends by a
-//!   signal where a run of the first takes more of the processor's time.
-//! - `measure heap NAME SIDE [NODES]`: the bytes of a side when it is made, and the bytes more at the most.
-//! - `measure nodes NAME`: the least limit of nodes with which nothing is refused.
-//! - `measure least SIDE`: the most bytes of the trace that live at once, and the least space that refuses none of it.
+//! - `measure check SECONDS NAME SIDE...`: the number of refusals, after a check that the sides have equal answers and
+//!   that no live ranges overlap; it ends by a signal where a run of the first side takes more processor time.
+//! - `measure heap NAME SIDE [NODES]`: the bytes of a side after construction, and the most bytes that a run adds to
+//!   them.
+//! - `measure nodes NAME`: the smallest node limit with which nothing is refused.
+//! - `measure least SIDE`: the most bytes of the trace that are live at once, and the smallest space that refuses none
+//!   of it.
 mod check;
 mod erased;
 mod original;
@@ -17,14 +19,14 @@ mod workloads;
 use sides::{Side, REFUSED};
 use std::ffi::{c_char, c_void};
 use std::time::Instant;
-use workloads::{Step, Width, Work, Workload, GAME_NODES, GAME_SPACE};
+use workloads::{Step, Width, Work, Workload, GAME_NODES, GAME_SPACE, RESET};
 
 const RUNS: usize = 9;
-/// For a run that takes a fifth of a second or more.
+/// The number of runs where each takes a fifth of a second or more.
 const LONG_RUNS: usize = 3;
 const LONG: f64 = 0.2e9;
 
-/// One run on a side, without its steps if `none`: what is left is the price of making the tables.
+/// One run on a side. With `none` it has no steps, and only constructs the tables.
 fn run(w: &Workload, side: &Side, none: bool) -> u64 {
     match &w.work {
         Work::Steps { slots, steps } => {
@@ -32,16 +34,11 @@ fn run(w: &Workload, side: &Side, none: bool) -> u64 {
             unsafe { side.play[w.width as usize](w.space, w.nodes, *slots, steps.as_ptr(), count) }
         }
         Work::Make { times } => {
+            let make = side.make.unwrap_or_else(|| panic!("{} has no tables to make", side.name));
             let count = if none { 0 } else { *times };
-            (0..count).fold(0, |sum, _| sum + renew(w, side, 0))
+            (0..count).fold(0, |sum, _| sum + unsafe { make[w.width as usize](w.space, w.nodes) })
         }
-        Work::Reset { times } => renew(w, side, if none { 0 } else { *times }),
     }
-}
-
-fn renew(w: &Workload, side: &Side, resets: u32) -> u64 {
-    let renew = side.renew.unwrap_or_else(|| panic!("{} has no tables to make", side.name));
-    unsafe { renew[w.width as usize](w.space, w.nodes, resets) }
 }
 
 extern "C" {
@@ -57,32 +54,32 @@ fn processor() -> f64 {
     time[0] as f64 * 1e9 + time[1] as f64
 }
 
-/// Nanoseconds of a run, by the clock and of the processor.
-fn timed(w: &Workload, side: &Side, none: bool) -> [f64; 2] {
+/// The nanoseconds of a run, by the clock and of the processor.
+fn time_run(w: &Workload, side: &Side, none: bool) -> [f64; 2] {
     let (start, spent) = (Instant::now(), processor());
     std::hint::black_box(run(w, side, none));
     [start.elapsed().as_nanos() as f64, processor() - spent]
 }
 
-/// The least of all runs, in nanoseconds a step, and their number; the sides take turns.
+/// The time of the fastest run, in nanoseconds a step, and the number of runs; the sides take turns.
 fn times(w: &Workload, sides: &[Side]) -> Vec<([f64; 2], usize)> {
-    let mut least = vec![[[f64::MAX; 2]; 2]; sides.len()];
+    let mut fastest = vec![[[f64::MAX; 2]; 2]; sides.len()];
     let mut runs = vec![0; sides.len()];
     for _ in 0..RUNS {
         for (s, side) in sides.iter().enumerate() {
-            if runs[s] >= LONG_RUNS && least[s][0][0] >= LONG {
+            if runs[s] >= LONG_RUNS && fastest[s][0][0] >= LONG {
                 continue;
             }
             runs[s] += 1;
             for none in [false, true] {
-                let taken = timed(w, side, none);
-                let best = &mut least[s][none as usize];
+                let taken = time_run(w, side, none);
+                let best = &mut fastest[s][none as usize];
                 *best = [best[0].min(taken[0]), best[1].min(taken[1])];
             }
         }
     }
     let a_step = |[all, none]: [[f64; 2]; 2], by: usize| (all[by] - none[by]) / w.count() as f64;
-    least.into_iter().map(|l| [a_step(l, 0), a_step(l, 1)]).zip(runs).collect()
+    fastest.into_iter().map(|l| [a_step(l, 0), a_step(l, 1)]).zip(runs).collect()
 }
 
 /// Every answer of a side to these steps.
@@ -99,14 +96,14 @@ fn steps_of(w: &Workload) -> (usize, &[Step]) {
     }
 }
 
-/// Ends the program by SIGPROF when the processor has spent so many more seconds on it; 0 for never.
+/// Ends the program by SIGPROF when the processor has spent this many more seconds on it; 0 for never.
 fn end_after(seconds: i64) {
     assert_eq!(unsafe { setitimer(2, &[[0, 0], [seconds, 0]], std::ptr::null_mut()) }, 0);
 }
 
-/// The refusals of the sides, where their checksums are equal, and those of ranges that are apart.
-fn checked(w: &Workload, sides: &[Side], seconds: i64) -> usize {
-    check::sees_faults();
+/// Checks that the sides have equal checksums, and that no live ranges overlap. Returns the number of refusals.
+fn check_sides(w: &Workload, sides: &[Side], seconds: i64) -> usize {
+    check::assert_finds_faults();
     end_after(seconds);
     let sum = run(w, &sides[0], false);
     end_after(0);
@@ -115,12 +112,13 @@ fn checked(w: &Workload, sides: &[Side], seconds: i64) -> usize {
     }
     let Work::Steps { slots, steps } = &w.work else { return 0 };
     let answers = answers(&sides[0], w.width, w.space, w.nodes, *slots, steps);
-    let found = answers.iter().fold(0u64, |sum, answer| sum.wrapping_mul(31).wrapping_add(*answer));
+    let answered = answers.iter().zip(steps).filter(|(_, step)| step.slot != RESET);
+    let found = answered.fold(0u64, |sum, (answer, _)| sum.wrapping_mul(31).wrapping_add(*answer));
     assert_eq!(found, sum, "{}, {}: the checksum is not that of the answers", w.name, sides[0].name);
-    check::apart(w.space, *slots, steps, &answers).unwrap_or_else(|e| panic!("{}, {}: {e}", w.name, sides[0].name))
+    check::check_ranges(w.space, *slots, steps, &answers).unwrap_or_else(|e| panic!("{}, {}: {e}", w.name, sides[0].name))
 }
 
-/// The most bytes that malloc holds in this run, as the preloaded counter and as the C library count them.
+/// The most bytes that malloc holds in this run, by the preloaded wrapper and by the C library.
 fn heap(w: &Workload, side: &Side, slots: usize, count: usize) -> [usize; 2] {
     let found = |name: &std::ffi::CStr| {
         let found = unsafe { dlsym(std::ptr::null(), name.as_ptr()) };
@@ -136,8 +134,8 @@ fn heap(w: &Workload, side: &Side, slots: usize, count: usize) -> [usize; 2] {
     [counted, library]
 }
 
-/// The least number of which this holds, if it holds of all from some number on; and `high` is one of those.
-fn bisected(mut low: u32, mut high: u32, holds: impl Fn(u32) -> bool) -> u32 {
+/// The smallest number above `low` for which `holds` is true, if it is true for all larger ones; `high` is one of them.
+fn bisect(mut low: u32, mut high: u32, holds: impl Fn(u32) -> bool) -> u32 {
     assert!(holds(high), "it does not hold of {high}");
     while high - low > 1 {
         let middle = low + (high - low) / 2;
@@ -150,7 +148,7 @@ fn bisected(mut low: u32, mut high: u32, holds: impl Fn(u32) -> bool) -> u32 {
     high
 }
 
-/// The most bytes of the trace that live at once.
+/// The most bytes of the trace that are live at once.
 fn peak(steps: &[Step]) -> u32 {
     let mut held = std::collections::HashMap::new();
     let (mut now, mut most) = (0, 0);
@@ -167,18 +165,19 @@ fn peak(steps: &[Step]) -> u32 {
     most
 }
 
-/// The least space that refuses none of the trace. It may refuse some in a larger one: so a bisection finds a size, and
-/// it is looked for a smaller one among the 1,000 sizes below it and 1,000 spread down to the peak, until there is none.
-fn least(side: &Side) -> (u32, u32) {
+/// The peak of live bytes, and the smallest space that refuses none of the trace. A larger space may refuse some of it.
+/// So after each bisection 1,000 sizes right below the result are tried, and 1,000 spread from the peak on, until none
+/// of them is enough.
+fn smallest_space(side: &Side) -> (u32, u32) {
     let (slots, steps) = workloads::trace();
     let grants_all = |space: u32| !answers(side, Width::Bits32, space, GAME_NODES, slots as usize, &steps).contains(&REFUSED);
     let peak = peak(&steps);
-    let mut found = bisected(peak - 1, GAME_SPACE, grants_all);
+    let mut found = bisect(peak - 1, GAME_SPACE, grants_all);
     loop {
         let spread = (0..1000u64).map(|i| peak + (u64::from(found - peak) * i / 1000) as u32);
         let below = spread.chain(found.saturating_sub(1000).max(peak)..found);
         let Some(smaller) = below.filter(|space| *space < found && grants_all(*space)).min() else { return (peak, found) };
-        found = bisected(peak - 1, smaller, grants_all);
+        found = bisect(peak - 1, smaller, grants_all);
     }
 }
 
@@ -201,7 +200,7 @@ fn main() {
         }
         ["play", name, of, what @ ("all" | "none")] => println!("{}", run(&workload(name), &side(of), what == "none")),
         ["check", seconds, name, ref names @ ..] => {
-            println!("{}", checked(&workload(name), &sides(names), seconds.parse().unwrap()));
+            println!("{}", check_sides(&workload(name), &sides(names), seconds.parse().unwrap()));
         }
         ["heap", name, of, ref nodes @ ..] => {
             let (mut w, side) = (workload(name), side(of));
@@ -217,10 +216,10 @@ fn main() {
             let w = workload(name);
             let (slots, steps) = steps_of(&w);
             let enough = |nodes| !answers(&side("original"), w.width, w.space, nodes, slots, steps).contains(&REFUSED);
-            println!("{}", bisected(1, w.nodes, enough));
+            println!("{}", bisect(1, w.nodes, enough));
         }
         ["least", of] => {
-            let (peak, space) = least(&side(of));
+            let (peak, space) = smallest_space(&side(of));
             println!("{peak}\t{space}");
         }
         _ => panic!("measure list | time | play | check | heap | nodes | least"),

@@ -1,8 +1,8 @@
-//! The original, behind the same calls as the other sides.
+//! The original, with the same calls as the other sides.
 use crate::workloads::Step;
 use offset_allocator::{Allocation, Allocator, NodeIndex};
 
-/// Offsets have the width of names there.
+/// An offset of the original, which has the index type.
 trait Offset: NodeIndex {
     fn offset(self) -> u64;
 }
@@ -29,7 +29,7 @@ fn take<NI: Offset>(space: &mut Allocator<NI>, slot: &mut Option<Allocation<NI>>
         },
         Some(handle) => {
             *slot = None;
-            // asserts itself that the handle is live
+            // asserts that the handle is live
             space.free(handle);
             1 << 33
         }
@@ -43,22 +43,20 @@ unsafe fn play<NI: Offset>(size: u32, max_allocs: u32, slots: usize, steps: *con
     let mut slots: Vec<Option<Allocation<NI>>> = vec![None; slots];
     let mut sum = 0u64;
     for step in steps {
-        if let Some(slot) = slots.get_mut(step.slot as usize) {
-            sum = sum.wrapping_mul(31).wrapping_add(take(&mut space, slot, step.size));
+        match slots.get_mut(step.slot as usize) {
+            None => space.reset(),
+            Some(slot) => sum = sum.wrapping_mul(31).wrapping_add(take(&mut space, slot, step.size)),
         }
     }
     sum
 }
 
-fn renew<NI: Offset>(size: u32, max_allocs: u32, resets: u32) -> u64 {
-    let mut space = Allocator::<NI>::with_max_allocs(size, max_allocs);
-    for _ in 0..resets {
-        space.reset();
-    }
+fn make<NI: Offset>(size: u32, max_allocs: u32) -> u64 {
+    let space = Allocator::<NI>::with_max_allocs(size, max_allocs);
     space.storage_report().total_free_space.into()
 }
 
-macro_rules! exported { ($play:ident $renew:ident $width:ty) => {
+macro_rules! exported { ($play:ident $make:ident $width:ty) => {
     #[no_mangle]
     #[inline(never)]
     pub unsafe extern "C" fn $play(size: u32, max_allocs: u32, slots: usize, steps: *const Step, count: usize) -> u64 {
@@ -66,9 +64,9 @@ macro_rules! exported { ($play:ident $renew:ident $width:ty) => {
     }
     #[no_mangle]
     #[inline(never)]
-    pub unsafe extern "C" fn $renew(size: u32, max_allocs: u32, resets: u32) -> u64 {
-        renew::<$width>(size, max_allocs, resets)
+    pub unsafe extern "C" fn $make(size: u32, max_allocs: u32) -> u64 {
+        make::<$width>(size, max_allocs)
     }
 } }
-exported! { original_play_32 original_renew_32 u32 }
-exported! { original_play_16 original_renew_16 u16 }
+exported! { original_play_32 original_make_32 u32 }
+exported! { original_play_16 original_make_16 u16 }

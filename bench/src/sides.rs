@@ -1,32 +1,32 @@
-//! The sides: each plays steps by one call. The peers are those that are linked in.
+//! The sides. Each plays steps by one call. The peers are those that are linked.
 use crate::workloads::Step;
 use crate::{erased, original};
 use std::ffi::{c_char, CStr};
 
 pub type Play = unsafe extern "C" fn(u32, u32, usize, *const Step, usize) -> u64;
-/// The same steps, with every answer written down.
+/// Plays the steps, and stores every answer.
 pub type Answers = unsafe extern "C" fn(u32, u32, usize, *const Step, usize, *mut u64) -> u64;
-pub type Renew = unsafe extern "C" fn(u32, u32, u32) -> u64;
+pub type Make = unsafe extern "C" fn(u32, u32) -> u64;
 
-/// What a step gives back that is no offset.
+/// The two answers to a step that are not an offset.
 pub const REFUSED: u64 = 1 << 32;
 pub const RELEASED: u64 = 1 << 33;
 
-/// Calls stand by the width of names, 16 bits and 32. A peer has one width, and makes no table.
+/// The calls of a side, for node indices of 16 bits and of 32. A peer has one width, and no tables to construct.
 pub struct Side {
     pub name: String,
     pub play: [Play; 2],
     pub answers: [Answers; 2],
-    pub renew: Option<[Renew; 2]>,
+    pub make: Option<[Make; 2]>,
 }
 
-macro_rules! declared { ($($play:ident $renew:ident)*) => {
+macro_rules! declared { ($($play:ident $make:ident)*) => {
     extern "C" { $(
         fn $play(size: u32, max_allocs: u32, slots: usize, steps: *const Step, count: usize) -> u64;
-        fn $renew(size: u32, max_allocs: u32, resets: u32) -> u64;
+        fn $make(size: u32, max_allocs: u32) -> u64;
     )* }
 } }
-declared! { offset_play_32 offset_renew_32 offset_play_16 offset_renew_16 tuned_play_32 tuned_renew_32 tuned_play_16 tuned_renew_16 }
+declared! { offset_play_32 offset_make_32 offset_play_16 offset_make_16 tuned_play_32 tuned_make_32 tuned_play_16 tuned_make_16 }
 
 #[repr(C)]
 struct Peer {
@@ -38,7 +38,7 @@ struct Peer {
 extern "C" {
     fn tuned_answers_16(size: u32, max_allocs: u32, slots: usize, steps: *const Step, count: usize, to: *mut u64) -> u64;
     fn tuned_answers_32(size: u32, max_allocs: u32, slots: usize, steps: *const Step, count: usize, to: *mut u64) -> u64;
-    /// Up to one without a name.
+    /// The last one has no name.
     static PEERS: [Peer; 0];
 }
 
@@ -47,30 +47,30 @@ fn peers() -> Vec<Side> {
     let mut next = unsafe { PEERS.as_ptr() };
     while let Peer { name, play: Some(play), answers: Some(answers) } = unsafe { &*next } {
         let name = unsafe { CStr::from_ptr(*name) }.to_str().unwrap().to_string();
-        found.push(Side { name, play: [*play; 2], answers: [*answers; 2], renew: None });
+        found.push(Side { name, play: [*play; 2], answers: [*answers; 2], make: None });
         next = unsafe { next.add(1) };
     }
     found
 }
 
-/// All of them: four with the same answers, and then the peers.
+/// All sides: four that must have the same answers, and then the peers.
 pub fn all() -> Vec<Side> {
-    let same = |name: &str, play: [Play; 2], renew: [Renew; 2]| Side {
+    let same = |name: &str, play: [Play; 2], make: [Make; 2]| Side {
         name: name.to_string(),
         play,
-        // as their checksums are equal, so are their answers
+        // the checksums of all four are compared, so these are the answers of each
         answers: [tuned_answers_16, tuned_answers_32],
-        renew: Some(renew),
+        make: Some(make),
     };
     let mut found = vec![
         same(
             "original",
             [original::original_play_16, original::original_play_32],
-            [original::original_renew_16, original::original_renew_32],
+            [original::original_make_16, original::original_make_32],
         ),
-        same("ours", [offset_play_16, offset_play_32], [offset_renew_16, offset_renew_32]),
-        same("erased", [erased::erased_play_16, erased::erased_play_32], [erased::erased_renew_16, erased::erased_renew_32]),
-        same("c", [tuned_play_16, tuned_play_32], [tuned_renew_16, tuned_renew_32]),
+        same("ours", [offset_play_16, offset_play_32], [offset_make_16, offset_make_32]),
+        same("erased", [erased::erased_play_16, erased::erased_play_32], [erased::erased_make_16, erased::erased_make_32]),
+        same("c", [tuned_play_16, tuned_play_32], [tuned_make_16, tuned_make_32]),
     ];
     found.extend(peers());
     found

@@ -1,12 +1,15 @@
-//! What is run: lists of steps over slots, and makings and resets of tables.
+//! What is run: lists of steps over slots, and makings of tables.
 
 #[repr(C)]
 #[derive(Clone, Copy)]
 pub struct Step {
     pub slot: u32,
-    /// What is asked for where the slot is empty; a full one is released.
+    /// The size to request where the slot is empty; a full slot is freed.
     pub size: u32,
 }
+
+/// The slot of a step that resets the space. No list of steps has a slot of this number.
+pub const RESET: u32 = u32::MAX;
 
 #[derive(Clone, Copy)]
 pub enum Width {
@@ -17,7 +20,6 @@ pub enum Width {
 pub enum Work {
     Steps { slots: usize, steps: Vec<Step> },
     Make { times: u32 },
-    Reset { times: u32 },
 }
 
 pub struct Workload {
@@ -32,22 +34,22 @@ impl Workload {
     pub fn count(&self) -> usize {
         match &self.work {
             Work::Steps { steps, .. } => steps.len(),
-            Work::Make { times } | Work::Reset { times } => *times as usize,
+            Work::Make { times } => *times as usize,
         }
     }
 
-    /// What the measured function of a side is called, behind the side's own word.
+    /// The name of the measured function, without the prefix of its side.
     pub fn function(&self) -> &str {
         match (&self.work, self.width) {
             (Work::Steps { .. }, Width::Bits32) => "play_32",
             (Work::Steps { .. }, Width::Bits16) => "play_16",
-            (_, Width::Bits32) => "renew_32",
-            (_, Width::Bits16) => "renew_16",
+            (_, Width::Bits32) => "make_32",
+            (_, Width::Bits16) => "make_16",
         }
     }
 }
 
-/// The same numbers in each run (xorshift).
+/// Random numbers, the same in each run (xorshift).
 struct Random(u64);
 
 impl Random {
@@ -58,7 +60,7 @@ impl Random {
         (((self.0 >> 32) * u64::from(n)) >> 32) as u32
     }
 
-    /// From 1 to 2 to the power of `bits`, small ones more often.
+    /// From 1 to 2^bits, small numbers more often.
     fn size(&mut self, bits: u32) -> u32 {
         let most = 1 << (1 + self.below(bits));
         1 + self.below(most)
@@ -76,10 +78,10 @@ impl Random {
 const STEPS: usize = 1_000_000;
 pub const GAME_SPACE: u32 = 1 << 28;
 pub const GAME_NODES: u32 = 16_384;
-/// The least space in which we refuse nothing of the trace: `measure least` finds it.
+/// The smallest space in which ours refuses nothing of the trace; `measure least` finds it.
 pub const GAME_LEAST: u32 = 62_205_308;
 
-/// Fills so many slots, and then empties and fills a random one, again and again.
+/// Fills all slots, and then empties and fills a random one, again and again.
 fn random(slots: u32, bits: u32) -> Work {
     let mut random = Random(0x9e3779b97f4a7c15);
     let mut steps: Vec<Step> = (0..slots).map(|slot| Step { slot, size: random.size(bits) }).collect();
@@ -91,7 +93,7 @@ fn random(slots: u32, bits: u32) -> Work {
     Work::Steps { slots: slots as usize, steps }
 }
 
-/// Fills all slots, and empties them in the order that is given, again and again.
+/// Fills all slots, and empties them in the given order, again and again.
 fn waves(slots: u32, bits: u32, order: impl Fn(&mut Random) -> Vec<u32>) -> Work {
     let mut random = Random(0x2545f4914f6cdd1d);
     let mut steps = Vec::new();
@@ -106,7 +108,8 @@ fn waves(slots: u32, bits: u32, order: impl Fn(&mut Random) -> Vec<u32>) -> Work
     Work::Steps { slots: slots as usize, steps }
 }
 
-/// Fills the space with small ranges, opens every second one, asks for larger ones that no gap holds, and empties all.
+/// Again and again fills slots with small ranges, frees every second one, requests ranges that fit no gap, and frees
+/// all.
 fn fragments(slots: u32) -> Work {
     let mut random = Random(0xd1342543de82ef95);
     let mut steps = Vec::new();
@@ -126,6 +129,17 @@ fn fragments(slots: u32) -> Work {
         }
     }
     Work::Steps { slots: slots as usize, steps }
+}
+
+/// Frames, each of requests for `live` small ranges, and a reset.
+fn frames(live: u32, times: u32) -> Work {
+    let mut random = Random(9);
+    let mut steps = Vec::new();
+    for frame in 0..times {
+        steps.extend((0..live).map(|i| Step { slot: frame * live + i, size: 1 + random.below(100) }));
+        steps.push(Step { slot: RESET, size: 0 });
+    }
+    Work::Steps { slots: (live * times) as usize, steps }
 }
 
 /// The buffers of a real game, once: how many slots, one for each grant, which its script releases; and the steps.
@@ -150,13 +164,13 @@ pub fn trace() -> (u32, Vec<Step>) {
     (slots, once)
 }
 
-/// The trace again and again: all slots are empty in the end.
+/// The trace, again and again: at its end all slots are empty.
 fn game() -> Work {
     let (slots, once) = trace();
     Work::Steps { slots: slots as usize, steps: once.repeat(STEPS.div_ceil(once.len())) }
 }
 
-/// All workloads, or the one of this name: only that is made then.
+/// All workloads, or only the one of this name.
 pub fn all(only: Option<&str>) -> Vec<Workload> {
     use Width::{Bits16, Bits32};
     const NODES: u32 = 131_072;
@@ -179,18 +193,19 @@ pub fn all(only: Option<&str>) -> Vec<Workload> {
     add("voxel game", Bits32, GAME_SPACE, GAME_NODES, &game);
     add("voxel game in 65 MB", Bits32, 65_000_000, GAME_NODES, &game);
     add("voxel game, least space", Bits32, GAME_LEAST, GAME_NODES, &game);
+    add("frames of 100, each reset", Bits32, SPACE, NODES, &|| frames(100, 2_000));
+    add("frames of 60,000, each reset", Bits32, SPACE, NODES, &|| frames(60_000, 10));
     add("u16: random, 1k live", Bits16, 65_535, 65_000, &|| random(1_000, 6));
     add("u16: random, 16k live", Bits16, 65_535, 65_000, &|| random(16_000, 1));
     add("u16: random, 300 of 1,024", Bits16, 65_535, 1_024, &|| random(300, 7));
     add("u16: tight, with refusals", Bits16, 20_000, 65_000, &|| random(4_000, 6));
     add("u16: bump, then free at random", Bits16, 65_535, 65_000, &|| waves(10_000, 2, |r| r.shuffled(10_000)));
+    add("u16: frames of 100, each reset", Bits16, 65_535, 65_000, &|| frames(100, 2_000));
     add("make 131,072 nodes", Bits32, SPACE, NODES, &|| Work::Make { times: 100 });
-    add("reset 131,072 nodes", Bits32, SPACE, NODES, &|| Work::Reset { times: 100 });
     add("u16: make 65,000 nodes", Bits16, 65_535, 65_000, &|| Work::Make { times: 100 });
-    add("u16: reset 65,000 nodes", Bits16, 65_535, 65_000, &|| Work::Reset { times: 100 });
     for bits in [6, 8].into_iter().chain(10..=20) {
         let nodes = 1 << bits;
-        // the largest space that all sides take
+        // the largest space that all sides admit
         add(&format!("growth, {nodes} nodes"), Bits32, i32::MAX as u32, nodes, &|| random(nodes / 4, 12));
     }
     found

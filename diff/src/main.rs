@@ -1,6 +1,7 @@
 //! Plays random scripts on our program and on the original, and compares the answers line by line.
 //!
-//! `compare PROGRAM COUNT FIRST` plays the trace of a game, and the scripts of the numbers from FIRST on. A number always gives the same script.
+//! `compare PROGRAM COUNT FIRST` plays the trace of a game, and COUNT scripts from number FIRST on. A number always
+//! gives the same script.
 mod original;
 mod scripts;
 
@@ -19,7 +20,7 @@ fn ours(program: &str, script: &Script) -> String {
         .stdout(Stdio::piped())
         .spawn()
         .expect("our program starts");
-    // it reads all before it writes, so this waits for nobody
+    // it reads everything before it writes, so this cannot deadlock
     child.stdin.take().unwrap().write_all(script.text().as_bytes()).expect("our program reads");
     let mut out = String::new();
     child.stdout.take().unwrap().read_to_string(&mut out).expect("our program writes text");
@@ -41,8 +42,8 @@ const FAULTY: [(&str, &str); 7] = [
     ("space 10 nodes 4 index 32\nalloc 1\nalign 1 3\n", "line 3: bad command\n"),
 ];
 
-/// What our program tells of one run, in which it must not start to write.
-fn expect_fault(program: &str, input: Stdio, text: &[u8], output: Stdio, told: &str, status: i32) {
+/// Asserts that a run of our program ends in a fault: its line, its status, and nothing on standard output.
+fn expect_fault(program: &str, input: Stdio, text: &[u8], output: Stdio, expected: &str, status: i32) {
     let mut child = Command::new(program)
         .stdin(input)
         .stdout(output)
@@ -53,15 +54,15 @@ fn expect_fault(program: &str, input: Stdio, text: &[u8], output: Stdio, told: &
         stdin.write_all(text).expect("our program reads");
     }
     let found = child.wait_with_output().expect("our program ends");
-    assert_eq!(String::from_utf8_lossy(&found.stderr), told);
-    assert_eq!(found.status.code(), Some(status), "{told}");
-    assert!(found.stdout.is_empty(), "{told}");
+    assert_eq!(String::from_utf8_lossy(&found.stderr), expected);
+    assert_eq!(found.status.code(), Some(status), "{expected}");
+    assert!(found.stdout.is_empty(), "{expected}");
 }
 
 /// Texts that are no scripts, a text that is too long, and devices that fail.
 fn expect_faults(program: &str) {
-    for (text, told) in FAULTY {
-        expect_fault(program, Stdio::piped(), text.as_bytes(), Stdio::piped(), told, 2);
+    for (text, expected) in FAULTY {
+        expect_fault(program, Stdio::piped(), text.as_bytes(), Stdio::piped(), expected, 2);
     }
     let long = vec![b'#'; 1_048_577];
     expect_fault(program, Stdio::piped(), &long, Stdio::piped(), "too long\n", 2);
@@ -72,19 +73,19 @@ fn expect_faults(program: &str) {
     expect_fault(program, Stdio::piped(), script, full.into(), "write failed\n", 4);
 }
 
-/// The original cuts offsets to the width of its indices; nothing else is left out.
-fn as_the_original_tells(line: &str, width: Width) -> String {
+/// A line of ours as the original prints it, which truncates offsets to the width of its indices.
+fn truncated_line(line: &str, width: Width) -> String {
     match (width, line.split_once(" at ")) {
         (Width::Bits16, Some((grant, offset))) => format!("{grant} at {}", offset.parse::<u32>().unwrap() as u16),
         _ => line.to_string(),
     }
 }
 
-/// The answers of our program, or the first line that differs.
-fn compared(program: &str, script: &Script) -> Result<Vec<String>, String> {
+/// Compares our answers with the original's. Returns ours, or the first line that differs.
+fn compare(program: &str, script: &Script) -> Result<Vec<String>, String> {
     let ours = ours(program, script);
     let theirs = original::play(script);
-    let ours: Vec<String> = ours.lines().map(|line| as_the_original_tells(line, script.width)).collect();
+    let ours: Vec<String> = ours.lines().map(|line| truncated_line(line, script.width)).collect();
     let theirs: Vec<&str> = theirs.lines().collect();
     for i in 0..ours.len().max(theirs.len()) {
         let (a, b) = (ours.get(i).map(String::as_str), theirs.get(i).copied());
@@ -95,7 +96,7 @@ fn compared(program: &str, script: &Script) -> Result<Vec<String>, String> {
     Ok(ours)
 }
 
-/// How often each answer came, by its first word, and the scripts that differ.
+/// The number of answers by their first word, and the scripts that differ.
 #[derive(Default)]
 struct Tally {
     answers: BTreeMap<String, u64>,
@@ -124,7 +125,7 @@ fn main() {
     let (count, first): (u64, u64) = (count.parse().unwrap(), first.parse().unwrap());
     expect_faults(program);
     let trace = scripts::read(include_str!("../../bench/traces/voxel-game.script"));
-    match compared(program, &trace) {
+    match compare(program, &trace) {
         Ok(lines) => println!("the trace of a game: {} equal lines", lines.len()),
         Err(fault) => panic!("the trace of a game, {fault}"),
     }
@@ -138,7 +139,7 @@ fn main() {
                     return;
                 }
                 let script = scripts::script(number);
-                let found = compared(program, &script);
+                let found = compare(program, &script);
                 tally.lock().unwrap().add(number, &script, found);
             });
         }

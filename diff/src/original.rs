@@ -1,42 +1,42 @@
-//! The original, played by the same scripts.
+//! A player of the same scripts on the original.
 //!
-//! It cannot tell a dead handle, so the player keeps the grants and answers dead ones itself, as `gone`.
+//! The original cannot detect a dead handle, so the player keeps the grants, and returns `gone` for dead ones itself.
 use crate::scripts::{Command, Script, Width};
 use offset_allocator::{Allocation, Allocator, NodeIndex};
 use std::fmt::Write;
 
 trait Index: NodeIndex {
-    fn told(self) -> u32;
+    fn number(self) -> u32;
 }
 impl Index for u16 {
-    fn told(self) -> u32 {
+    fn number(self) -> u32 {
         self.into()
     }
 }
 impl Index for u32 {
-    fn told(self) -> u32 {
+    fn number(self) -> u32 {
         self
     }
 }
 
-/// What our program is to write for a script.
+/// The answers to a script, as our program has to write them.
 pub fn play(script: &Script) -> String {
     match script.width {
-        Width::Bits16 => played::<u16>(script),
-        Width::Bits32 => played::<u32>(script),
+        Width::Bits16 => play_with::<u16>(script),
+        Width::Bits32 => play_with::<u32>(script),
     }
 }
 
-fn played<NI: Index>(script: &Script) -> String {
+fn play_with<NI: Index>(script: &Script) -> String {
     let mut space = Allocator::<NI>::with_max_allocs(script.space, script.max_allocs);
-    // grant k stands at k; there is no grant 0
+    // grant k is at place k; there is no grant 0
     let mut grants: Vec<Option<Allocation<NI>>> = vec![None];
     let mut out = String::new();
     for command in &script.commands {
         match *command {
             Command::Alloc(size) => match space.allocate(size) {
                 Some(grant) => {
-                    writeln!(out, "grant {} at {}", grants.len(), grant.offset.told())
+                    writeln!(out, "grant {} at {}", grants.len(), grant.offset.number())
                         .map(|()| grants.push(Some(grant)))
                 }
                 None => writeln!(out, "none"),
@@ -53,12 +53,12 @@ fn played<NI: Index>(script: &Script) -> String {
                 None => writeln!(out, "gone"),
             },
             Command::Report => {
-                let told = space.storage_report();
-                writeln!(out, "free {} largest {}", told.total_free_space, told.largest_free_region)
+                let report = space.storage_report();
+                writeln!(out, "free {} largest {}", report.total_free_space, report.largest_free_region)
             }
             Command::Full => {
-                let told = space.storage_report_full();
-                let rows = told.free_regions.iter().enumerate().filter(|(_, row)| row.count > 0);
+                let report = space.storage_report_full();
+                let rows = report.free_regions.iter().enumerate().filter(|(_, row)| row.count > 0);
                 let rows: Vec<String> = rows
                     .map(|(class, row)| format!("class {class} size {} count {}\n", row.size, row.count))
                     .collect();

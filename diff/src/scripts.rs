@@ -59,7 +59,7 @@ pub fn read(text: &str) -> Script {
     Script { space: number(space), max_allocs: number(nodes), width, commands: commands.collect() }
 }
 
-/// A number that is a multiple of the golden ratio's fraction, stirred (splitmix64).
+/// Random numbers, the same for the same seed (splitmix64).
 struct Random(u64);
 
 impl Random {
@@ -76,20 +76,20 @@ impl Random {
         (self.next() % u64::from(n)) as u32
     }
 
-    /// Of any number of bits up to this one.
+    /// A number of a random number of bits, at most `bits`.
     fn of_bits(&mut self, bits: u32) -> u32 {
         let bits = self.below(bits + 1);
         (self.next() & ((1 << bits) - 1)) as u32
     }
 
-    /// A power of two or a number beside one, or a class value or one beside it.
+    /// A class value, or a number beside one. Powers of two from 8 on are class values.
     fn at_an_edge(&mut self) -> u32 {
         let value = (8 + u64::from(self.below(8))) << self.below(29);
         (value as u32).wrapping_add(self.below(3)).wrapping_sub(1)
     }
 }
 
-/// The script of a number.
+/// The random script of this number.
 pub fn script(number: u64) -> Script {
     let mut random = Random(number.wrapping_mul(0x2545f4914f6cdd1d));
     let width = if random.below(2) == 0 { Width::Bits16 } else { Width::Bits32 };
@@ -111,20 +111,20 @@ pub fn script(number: u64) -> Script {
         _ => 2 + random.below(5_000),
     };
     let length = [10, 40, 120, 400][random.below(4) as usize];
-    // most requests are at most this share of the space
+    // most requests are below this share of the space
     let share = (space / (1 + random.below(64))).max(1);
     let wild = random.below(8);
     let hungry = 3 + random.below(4);
     let mut commands = Vec::new();
-    let mut asked = 0;
+    let mut requested = 0;
     for _ in 0..length {
         let command = match random.below(20) {
             0 => Command::Report,
             1 => Command::Full,
-            2 => Command::Size(random.below(asked + 2)),
+            2 => Command::Size(random.below(requested + 2)),
             3 if random.below(12) == 0 => Command::Reset,
-            _ if asked == 0 || random.below(8) < hungry => {
-                asked += 1;
+            _ if requested == 0 || random.below(8) < hungry => {
+                requested += 1;
                 Command::Alloc(match random.below(8 + wild) {
                     0 => random.at_an_edge(),
                     1 => random.of_bits(32),
@@ -134,11 +134,11 @@ pub fn script(number: u64) -> Script {
                     _ => random.below(share),
                 })
             }
-            _ => Command::Free(random.below(asked + 2)),
+            _ => Command::Free(random.below(requested + 2)),
         };
         commands.push(command);
     }
-    for number in 0..asked.min(64) {
+    for number in 0..requested.min(64) {
         commands.push(Command::Free(number + 1));
     }
     commands.push(Command::Full);

@@ -9,7 +9,7 @@ pub struct Call {
 
 macro_rules! calls { ($($call:ident $function:ident $name:literal)*) => {
     extern "C" {
-        $(fn $function(text: *const u8, bytes: usize, told: *mut u64, cells: usize) -> u32;)*
+        $(fn $function(text: *const u8, bytes: usize, cells: *mut u64, count: usize) -> u32;)*
     }
     $(pub const $call: Call = Call { name: $name, function: $function };)*
 } }
@@ -22,38 +22,38 @@ calls! {
     RUN offset_run "run"
 }
 
-/// The results that are looked for; there are more.
+/// The results that are expected; there are others.
 pub const ANSWERED: u32 = 0;
 pub const REFUSED: u32 = 1;
 pub const FAULTY: u32 = 2;
 
-/// The result of a call, and the numbers that it told.
+/// The result of a call, and the numbers that it put into the cells.
 #[derive(PartialEq, Debug)]
 pub struct Told {
     pub result: u32,
     numbers: Vec<u64>,
 }
 
-pub fn told(result: u32, numbers: &[u64]) -> Told {
+pub fn outcome(result: u32, numbers: &[u64]) -> Told {
     let numbers = numbers.to_vec();
     Told { result, numbers }
 }
 
-/// Marks a cell that nothing was told into. No number is this one.
-const UNTOLD: u64 = u64::MAX;
+/// Marks a cell that has no number. No number is this one.
+const EMPTY: u64 = u64::MAX;
 
 impl Call {
     pub fn with(&self, text: &str) -> Told {
-        let mut cells = vec![UNTOLD; 32_768];
+        let mut cells = vec![EMPTY; 32_768];
         let (at, length) = (cells.as_mut_ptr(), cells.len());
         let result = unsafe { (self.function)(text.as_ptr(), text.len(), at, length) };
-        let last = cells.iter().rposition(|number| *number != UNTOLD);
+        let last = cells.iter().rposition(|number| *number != EMPTY);
         let count = last.map_or(0, |last| last + 1);
         assert!(count < length, "there are cells for all numbers");
-        told(result, &cells[..count])
+        outcome(result, &cells[..count])
     }
 
-    /// The call and the text in short.
+    /// A short title of the call and the text.
     pub fn title(&self, text: &str) -> String {
         let mut lines = text.lines();
         let first = lines.next().unwrap_or_default();
@@ -61,7 +61,7 @@ impl Call {
     }
 }
 
-/// A script of 40 rounds of nearly the same commands, in which each kind occurs.
+/// A script of 40 rounds of nearly the same commands, with every kind of command.
 pub fn mixed(bits: usize) -> String {
     let header = format!("space 2000 nodes 40 index {bits}\n");
     let round = |k: u32| {

@@ -1,16 +1,16 @@
-//! Makes whole runs of the libraries, refuses one request of memory after another, and checks what is told each time.
+//! Makes whole runs of the libraries, fails each memory request in turn, and checks the result each time.
 mod calls;
 mod memory;
 
 use calls::*;
-use memory::with_refusals;
+use memory::with_failures;
 
 const COMMANDS: &str = "alloc 10\nalloc 10\nfree 1\nalloc 10\nreport\nfull\n";
 
-/// Each command behind its place in the list of commands.
+/// Each command as its place in the enum, and then its numbers.
 const SCRIPT: &[u64] = &[0, 10, 0, 10, 1, 1, 0, 10, 3, 4];
 
-/// Each answer behind its place in the list of answers.
+/// Each answer as its place in the enum, and then its numbers.
 const ANSWERS: &[u64] = &[0, 1, 0, 0, 2, 10, 2, 1, 5, 0, 0, 6, 2, 10, 10, 1, 34, 80, 1];
 
 const WRITTEN: &str = "grant 1 at 0\ngrant 2 at 10\nfreed\nnone\nfree 0 largest 0\n\
@@ -20,17 +20,18 @@ const WRITTEN: &str = "grant 1 at 0\ngrant 2 at 10\nfreed\nnone\nfree 0 largest 
 const BAD: &str = "# c\n\nspace 010 nodes 4 index 32\nalloc 0000000001\nalloc 00000000001\n";
 const FAULT: &[u64] = &[3, 5];
 
-/// Whether a constructor asks for the bytes of all its tables in one request, and gives them back, before it asks for
-/// each table.
-const ASKS_FOR_ALL: bool = true;
+/// Whether a constructor first requests the bytes of all tables in one piece, and frees it, before it requests each
+/// table.
+const REQUESTS_ALL_FIRST: bool = true;
 
-/// The bytes of each request that a constructor makes: the nodes, each with its offset, its size, its two neighbours and
-/// its two links; whether each is used; the newest node of each class; and the spare names. A name has so many bits.
-fn asked(nodes: usize, bits: usize) -> Vec<usize> {
-    let name = bits / 8;
-    let node = 4 + 4 + 4 * name;
-    let tables = [node * nodes, nodes, name * 256, name * nodes];
-    let all = ASKS_FOR_ALL.then(|| tables.iter().sum());
+/// The bytes of each request that a constructor makes: the nodes, each with its offset, its size, its two neighbours
+/// and its two links; their use flags; the heads of the free lists; and the stack of unused nodes. An index has `bits`
+/// bits.
+fn table_requests(nodes: usize, bits: usize) -> Vec<usize> {
+    let index = bits / 8;
+    let node = 4 + 4 + 4 * index;
+    let tables = [node * nodes, nodes, index * 256, index * nodes];
+    let all = REQUESTS_ALL_FIRST.then(|| tables.iter().sum());
     all.into_iter().chain(tables).collect()
 }
 
@@ -48,22 +49,23 @@ impl Check {
         }
     }
 
-    /// Refuses the requests of a call in turn, behind the first ones, of the parse before it: each alone, and each with
-    /// all that come after it. It ends where none is met, and answers how many there were.
-    fn each(&mut self, call: Call, text: &str, first: u64, wanted: &Told) -> u64 {
-        let refused = told(REFUSED, &[]);
+    /// Fails each request of a call in turn, after the `first` ones of the parse before it: that request alone, and
+    /// that one with all after it. It ends where a run makes no such request, and returns the number of requests.
+    fn fail_each(&mut self, call: Call, text: &str, first: u64, wanted: &Told) -> u64 {
+        let out_of_memory = outcome(REFUSED, &[]);
         for place in first + 1.. {
             let mut is_met = false;
             for end in [place + 1, u64::MAX] {
-                let (told, memory) = with_refusals(place..end, || call.with(text));
+                let (found, memory) = with_failures(place..end, || call.with(text));
                 self.runs += 1;
-                is_met = memory.refused > 0;
-                // a fault may be seen before memory is wanted
+                is_met = memory.failed > 0;
+                // a fault may be found before the request
                 let may_be_wanted = !is_met || wanted.result == FAULTY;
-                let is_right = is_met && told == refused || may_be_wanted && told == *wanted;
+                let is_right =
+                    is_met && found == out_of_memory || may_be_wanted && found == *wanted;
                 let (left, strange) = (memory.blocks.len(), memory.strange);
                 let what = format!(
-                    "request {place} refused: {is_met}, {told:?}, left {left}, strange {strange}"
+                    "request {place} refused: {is_met}, {found:?}, left {left}, strange {strange}"
                 );
                 self.must(is_right && left == 0 && strange == 0, call, text, what);
             }
@@ -79,22 +81,22 @@ impl Check {
         unreachable!("a run ends")
     }
 
-    /// What a call tells with ample memory, where no more is known than that it is an answer.
-    fn ample(&mut self, call: Call, text: &str) -> Told {
-        let (told, _) = with_refusals(0..0, || call.with(text));
-        self.must(told.result == ANSWERED, call, text, format!("{told:?}"));
-        told
+    /// The result of a call with ample memory, which must not be a failure.
+    fn with_ample_memory(&mut self, call: Call, text: &str) -> Told {
+        let (found, _) = with_failures(0..0, || call.with(text));
+        self.must(found.result == ANSWERED, call, text, format!("{found:?}"));
+        found
     }
 
-    /// With ample memory a call makes just these requests, also such as it would pass over if they were refused.
-    fn asks(&mut self, call: Call, text: &str, wanted: &[usize]) {
-        let (_, memory) = with_refusals(0..0, || call.with(text));
-        let asked = memory.asked;
+    /// With ample memory a call makes exactly these requests, those included whose failure it would ignore.
+    fn expect_requests(&mut self, call: Call, text: &str, wanted: &[usize]) {
+        let (_, memory) = with_failures(0..0, || call.with(text));
+        let requested = memory.requested;
         self.must(
-            asked == wanted,
+            requested == wanted,
             call,
             text,
-            format!("{asked:?}, not {wanted:?}"),
+            format!("{requested:?}, not {wanted:?}"),
         );
     }
 
@@ -102,18 +104,18 @@ impl Check {
     fn allocator(&mut self, nodes: usize, bits: usize, size: u64, report: &[u64]) {
         let header = &format!("space {size} nodes {nodes} index {bits}");
         for call in [LIMITED, CALLS, PLAY] {
-            self.asks(call, header, &asked(nodes, bits));
+            self.expect_requests(call, header, &table_requests(nodes, bits));
         }
-        let made = self.each(LIMITED, header, 0, &told(ANSWERED, report));
-        let wanted = self.ample(CALLS, header);
-        let called = self.each(CALLS, header, 0, &wanted);
+        let made = self.fail_each(LIMITED, header, 0, &outcome(ANSWERED, report));
+        let wanted = self.with_ample_memory(CALLS, header);
+        let called = self.fail_each(CALLS, header, 0, &wanted);
         self.must(
             called == made,
             CALLS,
             header,
             format!("{called} requests, not {made}"),
         );
-        let played = self.each(PLAY, header, 0, &told(ANSWERED, &[]));
+        let played = self.fail_each(PLAY, header, 0, &outcome(ANSWERED, &[]));
         self.must(
             played >= made,
             PLAY,
@@ -123,9 +125,9 @@ impl Check {
     }
 
     fn script(&mut self, text: &str, script: &Told, answers: &Told, written: &Told) {
-        let first = self.each(PARSE, text, 0, script);
-        self.each(PLAY, text, first, answers);
-        self.each(RUN, text, 0, written);
+        let first = self.fail_each(PARSE, text, 0, script);
+        self.fail_each(PLAY, text, first, answers);
+        self.fail_each(RUN, text, 0, written);
     }
 }
 
@@ -133,15 +135,15 @@ fn main() {
     let mut check = Check::default();
     for (bits, most) in [(16, 65_533), (32, 131_072)] {
         let header = format!("space 100 nodes 4 index {bits}");
-        check.asks(NEW, &header, &asked(most, bits));
-        check.each(NEW, &header, 0, &told(ANSWERED, &[100, 96]));
+        check.expect_requests(NEW, &header, &table_requests(most, bits));
+        check.fail_each(NEW, &header, 0, &outcome(ANSWERED, &[100, 96]));
         check.allocator(4, bits, 100, &[100, 96]);
         check.allocator(2, bits, 100, &[0, 0]);
         check.allocator(100, bits, 1000, &[1000, 960]);
         check.allocator(most, bits, 100, &[100, 96]);
-        let script = told(ANSWERED, &[&[100, 4, bits as u64], SCRIPT].concat());
+        let script = outcome(ANSWERED, &[&[100, 4, bits as u64], SCRIPT].concat());
         let written: Vec<u64> = WRITTEN.bytes().map(u64::from).collect();
-        let (answers, written) = (told(ANSWERED, ANSWERS), told(ANSWERED, &written));
+        let (answers, written) = (outcome(ANSWERED, ANSWERS), outcome(ANSWERED, &written));
         check.script(
             &format!("{header}\n{COMMANDS}"),
             &script,
@@ -149,12 +151,13 @@ fn main() {
             &written,
         );
         let mixed = mixed(bits);
-        let [script, answers, written] = [PARSE, PLAY, RUN].map(|call| check.ample(call, &mixed));
+        let [script, answers, written] =
+            [PARSE, PLAY, RUN].map(|call| check.with_ample_memory(call, &mixed));
         check.script(&mixed, &script, &answers, &written);
     }
     for call in [PARSE, RUN] {
-        check.each(call, BAD, 0, &told(FAULTY, FAULT));
-        check.each(call, &"\n".repeat(1_048_577), 0, &told(FAULTY, &[0]));
+        check.fail_each(call, BAD, 0, &outcome(FAULTY, FAULT));
+        check.fail_each(call, &"\n".repeat(1_048_577), 0, &outcome(FAULTY, &[0]));
     }
     println!("{} runs, {} wrong", check.runs, check.wrong);
     std::process::exit(i32::from(check.wrong > 0));

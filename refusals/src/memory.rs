@@ -1,63 +1,64 @@
-//! The memory of the static library, which asks here for all of it.
+//! The memory of the static library, which makes all of its requests here.
 use std::alloc::{alloc, dealloc, Layout};
 use std::collections::BTreeMap;
 use std::ops::Range;
 use std::sync::Mutex;
 
-/// What a run asks for, and what it gets.
+/// The requests of a run, and its blocks.
 #[derive(Default)]
 pub struct Memory {
-    /// The places of the requests to be refused, from 1.
-    refuse: Range<u64>,
-    /// The bytes of each request: of a new block, or of more for a block.
-    pub asked: Vec<usize>,
-    pub refused: u64,
-    /// The blocks that were not given back.
+    /// The requests that fail, by their number from 1.
+    failing: Range<u64>,
+    /// The bytes of each request, for a new block or for a longer one.
+    pub requested: Vec<usize>,
+    /// The number of requests that failed.
+    pub failed: u64,
+    /// The blocks that are not freed.
     pub blocks: BTreeMap<usize, Layout>,
-    /// Calls on a block that does not stand, or is another one.
+    /// The number of calls on a block that does not exist, or has another size or alignment.
     pub strange: u64,
 }
 
 static MEMORY: Mutex<Option<Memory>> = Mutex::new(None);
 
-/// Makes a run, and refuses its requests at these places.
-pub fn with_refusals<T>(refuse: Range<u64>, run: impl FnOnce() -> T) -> (T, Memory) {
+/// Makes a run, in which these requests fail.
+pub fn with_failures<T>(failing: Range<u64>, run: impl FnOnce() -> T) -> (T, Memory) {
     let memory = Memory {
-        refuse,
+        failing,
         ..Memory::default()
     };
     *MEMORY.lock().unwrap() = Some(memory);
-    let answer = run();
-    (answer, MEMORY.lock().unwrap().take().unwrap())
+    let result = run();
+    (result, MEMORY.lock().unwrap().take().unwrap())
 }
 
-fn served<T>(serve: impl FnOnce(&mut Memory) -> T) -> T {
-    serve(MEMORY.lock().unwrap().as_mut().expect("a run"))
+fn with_memory<T>(call: impl FnOnce(&mut Memory) -> T) -> T {
+    call(MEMORY.lock().unwrap().as_mut().expect("a run"))
 }
 
 impl Memory {
-    fn refuses(&mut self, size: usize) -> bool {
-        self.asked.push(size);
-        let refuses = self.refuse.contains(&(self.asked.len() as u64));
-        self.refused += u64::from(refuses);
-        refuses
+    fn fails(&mut self, size: usize) -> bool {
+        self.requested.push(size);
+        let fails = self.failing.contains(&(self.requested.len() as u64));
+        self.failed += u64::from(fails);
+        fails
     }
 
-    fn take(&mut self, size: usize, align: usize) -> Got {
+    fn take(&mut self, size: usize, align: usize) -> Block {
         let layout = Layout::from_size_align(size.max(1), align).unwrap();
         let at = unsafe { alloc(layout) };
         assert!(!at.is_null(), "there is ample memory");
-        // nobody may rest on what a new block holds
+        // no caller may depend on the contents of a new block
         unsafe { at.write_bytes(0xa5, layout.size()) };
         self.blocks.insert(at as usize, layout);
-        Got { ok: 1, at }
+        Block { ok: 1, at }
     }
 
-    fn give_back(&mut self, at: *mut u8) {
+    fn free(&mut self, at: *mut u8) {
         match self.blocks.remove(&(at as usize)) {
             None => self.strange += 1,
             Some(layout) => unsafe {
-                // nor on what an old one held
+                // nor on those of a freed one
                 at.write_bytes(0x5a, layout.size());
                 dealloc(at, layout);
             },
@@ -66,45 +67,45 @@ impl Memory {
 }
 
 #[repr(C)]
-pub struct Got {
+pub struct Block {
     ok: u64,
     at: *mut u8,
 }
 
-const NOTHING: Got = Got {
+const NO_BLOCK: Block = Block {
     ok: 0,
     at: std::ptr::dangling_mut(),
 };
 
 #[no_mangle]
-extern "C" fn rattle_alloc(size: usize, align: usize) -> Got {
-    served(|memory| match memory.refuses(size) {
-        true => NOTHING,
+extern "C" fn rattle_alloc(size: usize, align: usize) -> Block {
+    with_memory(|memory| match memory.fails(size) {
+        true => NO_BLOCK,
         false => memory.take(size, align),
     })
 }
 
-/// A block of another size, with the first `kept` bytes of this one. It always moves.
+/// Moves the first `kept` bytes of a block to a new block of another size.
 #[no_mangle]
-extern "C" fn rattle_realloc(from: *mut u8, kept: usize, size: usize, align: usize) -> Got {
-    served(|memory| {
+extern "C" fn rattle_realloc(from: *mut u8, kept: usize, size: usize, align: usize) -> Block {
+    with_memory(|memory| {
         let old = memory.blocks.get(&(from as usize)).copied();
         let fits = |old: &Layout| old.align() == align && kept <= old.size().min(size);
         let Some(old) = old.filter(fits) else {
             memory.strange += 1;
-            return NOTHING;
+            return NO_BLOCK;
         };
-        if size > old.size() && memory.refuses(size) {
-            return NOTHING;
+        if size > old.size() && memory.fails(size) {
+            return NO_BLOCK;
         }
-        let got = memory.take(size, align);
-        unsafe { got.at.copy_from_nonoverlapping(from, kept) };
-        memory.give_back(from);
-        got
+        let block = memory.take(size, align);
+        unsafe { block.at.copy_from_nonoverlapping(from, kept) };
+        memory.free(from);
+        block
     })
 }
 
 #[no_mangle]
 extern "C" fn rattle_dealloc(at: *mut u8) {
-    served(|memory| memory.give_back(at));
+    with_memory(|memory| memory.free(at));
 }

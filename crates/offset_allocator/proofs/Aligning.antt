@@ -3,12 +3,12 @@ use Rattle.std.proofs.Common.{◌≡◌, ◌≢◌, ℕ, zero, suc, ◌+◌, ◌
 use Rattle.std.proofs.lemmas.Bool.{cases_lt, lt-leb, lt-ltb, le-ltb, true≢false}
 use Rattle.offset_allocator.specs.Classes.{up}
 use Rattle.offset_allocator.specs.Cells.{Cells, Room}
-use Rattle.offset_allocator.specs.Named.{Block, View, Place, Grant, Outcome, named, names_at, IsWellFormed, IsUnused, is_short_of, taken, allocate, allocate_aligned, padding_to, greatest, refused, granted, granted_at, serve, free_part, used_block, units, remove_all, put_all, remove, without, place_of}
-use Rattle.offset_allocator.specs.Space.{IsSpace, Stands, blocks, offset_in, size_in}
-use Rattle.offset_allocator.specs.Orders.{IsLeastFrom, class_lists, Binned}
+use Rattle.offset_allocator.specs.Named.{Block, View, Place, Grant, Outcome, count_named, names_at, IsWellFormed, IsUnused, is_short_of, place_for, allocate, allocate_aligned, padding_to, max_size, refuse, grant_in, grant_or_refuse, serve, free_part, used_block, units, remove_all, push_all, remove, without, place_of}
+use Rattle.offset_allocator.specs.Space.{IsSpace, HasName, blocks, offset_in, size_in}
+use Rattle.offset_allocator.specs.Orders.{IsSmallestFrom, class_lists, Binned}
 use Rattle.offset_allocator.specs.State.{Fields, AreSound, IsSound, shown, view_of, free_units}
 use Rattle.offset_allocator.specs.Relations.{Allocates, Aligns}
-use Rattle.offset_allocator.specs.Parts.{carved, carved_at, AreUnlisted}
+use Rattle.offset_allocator.specs.Parts.{in_parts, carved_at, AreUnlisted}
 use Rattle.offset_allocator.proofs.Rows.{units-append}
 use Rattle.offset_allocator.proofs.Found.{size_in-at, offset_in-at}
 use Rattle.offset_allocator.proofs.Granting as grant
@@ -20,32 +20,32 @@ use Rattle.offset_allocator.proofs.Joints.{with_accesses, untaken, TakenHere, un
 
 -- the cases of an aligned request
 pub aligned_one : (n align f r : ℕ) (v : View) → align ≤ 1 → allocate_aligned n align f r v ≡ allocate n r v
-aligned_one n align f r v l = ap (λ (b : Bool). if b then allocate n r v else if nat_lt greatest (n + align - 1) then refused v else serve 2 (n + align - 1) n (padding_to align) f r v) (le-leb align 1 l)
+aligned_one n align f r v l = ap (λ (b : Bool). if b then allocate n r v else if nat_lt max_size (n + align - 1) then refuse v else serve 2 (n + align - 1) n (padding_to align) f r v) (le-leb align 1 l)
 
 module _ (n align f r : ℕ) (v : View) (big : 1 < align) where
-  aligned_more : allocate_aligned n align f r v ≡ (if nat_lt greatest (n + align - 1) then refused v else serve 2 (n + align - 1) n (padding_to align) f r v)
-  aligned_more = ap (λ (b : Bool). if b then allocate n r v else if nat_lt greatest (n + align - 1) then refused v else serve 2 (n + align - 1) n (padding_to align) f r v) (lt-leb align 1 big)
+  aligned_more : allocate_aligned n align f r v ≡ (if nat_lt max_size (n + align - 1) then refuse v else serve 2 (n + align - 1) n (padding_to align) f r v)
+  aligned_more = ap (λ (b : Bool). if b then allocate n r v else if nat_lt max_size (n + align - 1) then refuse v else serve 2 (n + align - 1) n (padding_to align) f r v) (lt-leb align 1 big)
 
-  pub aligned_past : greatest < n + align - 1 → allocate_aligned n align f r v ≡ refused v
-  aligned_past l = aligned_more ∙ ap (λ (b : Bool). if b then refused v else serve 2 (n + align - 1) n (padding_to align) f r v) (lt-ltb greatest (n + align - 1) l)
+  pub aligned_past : max_size < n + align - 1 → allocate_aligned n align f r v ≡ refuse v
+  aligned_past l = aligned_more ∙ ap (λ (b : Bool). if b then refuse v else serve 2 (n + align - 1) n (padding_to align) f r v) (lt-ltb max_size (n + align - 1) l)
 
-  aligned_within : n + align - 1 ≤ greatest → allocate_aligned n align f r v ≡ serve 2 (n + align - 1) n (padding_to align) f r v
-  aligned_within l = aligned_more ∙ ap (λ (b : Bool). if b then refused v else serve 2 (n + align - 1) n (padding_to align) f r v) (le-ltb greatest (n + align - 1) l)
+  aligned_within : n + align - 1 ≤ max_size → allocate_aligned n align f r v ≡ serve 2 (n + align - 1) n (padding_to align) f r v
+  aligned_within l = aligned_more ∙ ap (λ (b : Bool). if b then refuse v else serve 2 (n + align - 1) n (padding_to align) f r v) (le-ltb max_size (n + align - 1) l)
 
-  pub aligned_short : is_short_of 2 v ≡ true → allocate_aligned n align f r v ≡ refused v
-  aligned_short e = elim (cases_lt greatest (n + align - 1)) [
+  pub aligned_short : is_short_of 2 v ≡ true → allocate_aligned n align f r v ≡ refuse v
+  aligned_short e = elim (cases_lt max_size (n + align - 1)) [
     | inl l ↦ aligned_past l
-    | inr l ↦ aligned_within l ∙ ap (λ (b : Bool). if b then refused v else granted_at v n (padding_to align) f r (taken (n + align - 1) v)) e
+    | inr l ↦ aligned_within l ∙ ap (λ (b : Bool). if b then refuse v else grant_or_refuse v n (padding_to align) f r (place_for (n + align - 1) v)) e
   ]
 
-  pub served : n + align - 1 ≤ greatest → is_short_of 2 v ≡ false → allocate_aligned n align f r v ≡ granted_at v n (padding_to align) f r (taken (n + align - 1) v)
-  served l e = aligned_within l ∙ ap (λ (b : Bool). if b then refused v else granted_at v n (padding_to align) f r (taken (n + align - 1) v)) e
+  pub served : n + align - 1 ≤ max_size → is_short_of 2 v ≡ false → allocate_aligned n align f r v ≡ grant_or_refuse v n (padding_to align) f r (place_for (n + align - 1) v)
+  served l e = aligned_within l ∙ ap (λ (b : Bool). if b then refuse v else grant_or_refuse v n (padding_to align) f r (place_for (n + align - 1) v)) e
 
-  pub aligned_none : n + align - 1 ≤ greatest → is_short_of 2 v ≡ false → taken (n + align - 1) v ≡ None → allocate_aligned n align f r v ≡ refused v
-  aligned_none l e t = served l e ∙ ap (granted_at v n (padding_to align) f r) t
+  pub aligned_none : n + align - 1 ≤ max_size → is_short_of 2 v ≡ false → place_for (n + align - 1) v ≡ None → allocate_aligned n align f r v ≡ refuse v
+  aligned_none l e t = served l e ∙ ap (grant_or_refuse v n (padding_to align) f r) t
 
-  pub aligned_granted : n + align - 1 ≤ greatest → is_short_of 2 v ≡ false → (p : Place) → taken (n + align - 1) v ≡ Some p → allocate_aligned n align f r v ≡ granted v n (padding_to align (units p.before)) f r p
-  aligned_granted l e p t = served l e ∙ ap (granted_at v n (padding_to align) f r) t
+  pub aligned_granted : n + align - 1 ≤ max_size → is_short_of 2 v ≡ false → (p : Place) → place_for (n + align - 1) v ≡ Some p → allocate_aligned n align f r v ≡ grant_in v n (padding_to align (units p.before)) f r p
+  aligned_granted l e p t = served l e ∙ ap (grant_or_refuse v n (padding_to align) f r) t
 
 part_any : (x y n : ℕ) → n ≡ 0 → free_part x n ≡ free_part y n
 part_any x y n e = free_part-none x n e ∙ sym (free_part-none y n e)
@@ -60,9 +60,9 @@ pub record AlignedCall (it : Fields) (n align class x : ℕ) : Type 0 where
   pub big : 1 < align
   pub fits : n + align - 1 ≤ 4294967295
   pub room : is_short_of 2 (shown it) ≡ false
-  pub least : IsLeastFrom (up (n + align - 1)) (class_lists it.max it.cells.links) class
-  pub behind : List ℕ
-  pub first : names_at (class_lists it.max it.cells.links) class ≡ x ∷ behind
+  pub least : IsSmallestFrom (up (n + align - 1)) (class_lists it.max it.cells.links) class
+  pub after_one : List ℕ
+  pub first : names_at (class_lists it.max it.cells.links) class ≡ x ∷ after_one
 
 module _ (it : Fields) (n align class x : ℕ) (h : AlignedCall it n align class x) where
   s : AreSound it
@@ -77,13 +77,13 @@ module _ (it : Fields) (n align class x : ℕ) (h : AlignedCall it n align class
   room : is_short_of 2 (shown it) ≡ false
   room = h.room
 
-  l : IsLeastFrom (up (n + align - 1)) (class_lists it.max it.cells.links) class
+  l : IsSmallestFrom (up (n + align - 1)) (class_lists it.max it.cells.links) class
   l = h.least
 
   abbrev xs : List ℕ
-  xs = h.behind
+  xs = h.after_one
 
-  first : names_at (class_lists it.max it.cells.links) class ≡ x ∷ h.behind
+  first : names_at (class_lists it.max it.cells.links) class ≡ x ∷ h.after_one
   first = h.first
 
   abbrev v : View
@@ -116,8 +116,8 @@ module _ (it : Fields) (n align class x : ℕ) (h : AlignedCall it n align class
   is_free : p.block.used ≡ false
   is_free = not_true p.block.used got.here.free
 
-  pub stands : Stands x (blocks it.cells.room it.last)
-  stands = grant.stands fields (n + align - 1) class x s room_one l xs first
+  pub there : HasName x (blocks it.cells.room it.last)
+  there = grant.there fields (n + align - 1) class x s room_one l xs first
 
   pub listed_size : size_in x (blocks it.cells.room it.last) ≡ got.place.block.size
   listed_size = ap (size_in x) got.here.stood ∙ ap (λ y. size_in y (p.before ++ p.block ∷ p.after)) (sym got.name) ∙ size_in-at p.before p.block p.after got.here.alone
@@ -150,7 +150,7 @@ module _ (it : Fields) (n align class x : ℕ) (h : AlignedCall it n align class
   removed = remove_free p.block ls is_free ∙ ap₂ (λ i y. remove i y ls) got.class got.name
 
   placed : place_of x bs ≡ Some p
-  placed = ap (place_of x) got.here.stood ∙ place_here x p.before p.block p.after (ap (λ i. named i p.before) (sym got.name) ∙ got.here.alone) (sym got.name)
+  placed = ap (place_of x) got.here.stood ∙ place_here x p.before p.block p.after (ap (λ i. count_named i p.before) (sym got.name) ∙ got.here.alone) (sym got.name)
 
   had_free : it.free ≡ free_units p.before + (p.block.size + free_units p.after)
   had_free = sym s.total ∙ ap free_units got.here.stood ∙ free_units-append p.before (p.block ∷ p.after) ∙ ap (λ k. free_units p.before + k) (free_units-free p.block p.after is_free)
@@ -186,14 +186,14 @@ module _ (it : Fields) (n align class x : ℕ) (h : AlignedCall it n align class
         ]
       ]
 
-  unused_in : (y : ℕ) → (named y (blocks it.cells.room it.last) ≡ 0) × (y < length it.cells.room.nodes) → IsUnused y v
+  unused_in : (y : ℕ) → (count_named y (blocks it.cells.room it.last) ≡ 0) × (y < length it.cells.room.nodes) → IsUnused y v
   unused_in y h = record { below = let n = s.nodes in let b = h.1 in omega arith; absent = h.0 }
 
   pub aligned : (d : Cells) (last' count' top' acc' f r : ℕ) → IsSpace d.room last' count' → Binned it.max d.links top' → length d.room.nodes ≡ length it.cells.room.nodes
-      → blocks d.room last' ≡ carved x (padding_to align (units got.place.before)) n f r (blocks it.cells.room it.last)
-      → class_lists it.max d.links ≡ put_all (free_part f (padding_to align (units got.place.before)) ++ used_block x n ∷ free_part r (got.place.block.size - (padding_to align (units got.place.before) + n))) (slice_set (class_lists it.max it.cells.links) class (without x (names_at (class_lists it.max it.cells.links) class)))
-      → (0 < padding_to align (units got.place.before) → (named f (blocks it.cells.room it.last) ≡ 0) × (f < length it.cells.room.nodes))
-      → (0 < got.place.block.size - (padding_to align (units got.place.before) + n) → (named r (blocks it.cells.room it.last) ≡ 0) × (r < length it.cells.room.nodes))
+      → blocks d.room last' ≡ in_parts x (padding_to align (units got.place.before)) n f r (blocks it.cells.room it.last)
+      → class_lists it.max d.links ≡ push_all (free_part f (padding_to align (units got.place.before)) ++ used_block x n ∷ free_part r (got.place.block.size - (padding_to align (units got.place.before) + n))) (slice_set (class_lists it.max it.cells.links) class (without x (names_at (class_lists it.max it.cells.links) class)))
+      → (0 < padding_to align (units got.place.before) → (count_named f (blocks it.cells.room it.last) ≡ 0) × (f < length it.cells.room.nodes))
+      → (0 < got.place.block.size - (padding_to align (units got.place.before) + n) → (count_named r (blocks it.cells.room it.last) ≡ 0) × (r < length it.cells.room.nodes))
       → (0 < padding_to align (units got.place.before) → 0 < got.place.block.size - (padding_to align (units got.place.before) + n) → f ≢ r)
       → IsSound it.max it.size it.limit d last' count' top' (it.free - n) × Aligns n align (shown it) (view_of it.max it.size it.limit d last' acc') (Some (record { name = x; offset = units got.place.before + padding_to align (units got.place.before) }))
   aligned d last' count' top' acc' f r space bins nodes eb eo uf ur ne =
@@ -201,8 +201,8 @@ module _ (it : Fields) (n align class x : ℕ) (h : AlignedCall it n align class
       let is = aligned_granted n align k.front k.rest v big fits room p got.is in
       let same : parts f r ≡ parts k.front k.rest = ap₂ (λ (a b : List Block). a ++ used_block p.block.name n ∷ b) k.same_front k.same_rest in
       let blocks_are : blocks d.room last' ≡ p.before ++ (parts k.front k.rest ++ p.after) = eb ∙ ap (carved_at padding n f r bs) placed ∙ ap (λ (q : List Block). p.before ++ (q ++ p.after)) same in
-      let order_is : class_lists it.max d.links ≡ put_all (parts k.front k.rest) (remove_all (p.block ∷ []) ls) =
-      eo ∙ ap (λ (i : ℕ). put_all (free_part f padding ++ used_block i n ∷ free_part r left) (slice_set ls class (without x (names_at ls class)))) (sym got.name) ∙ ap (put_all (parts f r)) (sym removed) ∙ ap (λ (q : List Block). put_all q (remove_all (p.block ∷ []) ls)) same in
+      let order_is : class_lists it.max d.links ≡ push_all (parts k.front k.rest) (remove_all (p.block ∷ []) ls) =
+      eo ∙ ap (λ (i : ℕ). push_all (free_part f padding ++ used_block i n ∷ free_part r left) (slice_set ls class (without x (names_at ls class)))) (sym got.name) ∙ ap (push_all (parts f r)) (sym removed) ∙ ap (λ (q : List Block). push_all q (remove_all (p.block ∷ []) ls)) same in
       let after_is : (j : ℕ) → view_of it.max it.size it.limit d last' j ≡ with_accesses j (allocate_aligned n align k.front k.rest v).view = λ j. grant.same_view v _ _ _ _ j blocks_are order_is ∙ ap (λ (o : Outcome). with_accesses j o.view) (sym is) in
       let told : Grant = record { name = x; offset = units p.before + padding } in
       let answered : Some told ≡ (allocate_aligned n align k.front k.rest v).grant = ap (λ (i : ℕ). let h : Grant = record { name = i; offset = units p.before + padding } in Some h) (sym got.name) ∙ ap (λ (o : Outcome). o.grant) (sym is) in
@@ -228,18 +228,18 @@ module _ (it : Fields) (n align class x : ℕ) (h : AlignedCall it n align class
   -- the same over what the code reads
   pub aligned_call : (t : Cells) (offset whole : ℕ) → t.room ≡ it.cells.room → class_lists it.max t.links ≡ slice_set (class_lists it.max it.cells.links) class (without x (names_at (class_lists it.max it.cells.links) class)) → offset ≡ offset_in x (blocks t.room it.last) → whole ≡ size_in x (blocks t.room it.last)
       → (d : Cells) (last' count' top' acc' f r : ℕ) → IsSpace d.room last' count' → Binned it.max d.links top' → length d.room.nodes ≡ length t.room.nodes
-      → blocks d.room last' ≡ carved x (padding_to align offset) n f r (blocks t.room it.last)
-      → class_lists it.max d.links ≡ put_all (free_part f (padding_to align offset) ++ used_block x n ∷ free_part r (whole - (padding_to align offset + n))) (class_lists it.max t.links)
-      → (0 < padding_to align offset → (named f (blocks t.room it.last) ≡ 0) × (f < length t.room.nodes))
-      → (0 < whole - (padding_to align offset + n) → (named r (blocks t.room it.last) ≡ 0) × (r < length t.room.nodes))
+      → blocks d.room last' ≡ in_parts x (padding_to align offset) n f r (blocks t.room it.last)
+      → class_lists it.max d.links ≡ push_all (free_part f (padding_to align offset) ++ used_block x n ∷ free_part r (whole - (padding_to align offset + n))) (class_lists it.max t.links)
+      → (0 < padding_to align offset → (count_named f (blocks t.room it.last) ≡ 0) × (f < length t.room.nodes))
+      → (0 < whole - (padding_to align offset + n) → (count_named r (blocks t.room it.last) ≡ 0) × (r < length t.room.nodes))
       → (0 < padding_to align offset → 0 < whole - (padding_to align offset + n) → f ≢ r)
       → IsSound it.max it.size it.limit d last' count' top' (it.free - n) × Aligns n align (shown it) (view_of it.max it.size it.limit d last' acc') (Some (record { name = x; offset = offset + padding_to align offset }))
   aligned_call t offset whole rm lists oe we d last' count' top' acc' f r =
       let Q : Room → List (List ℕ) → ℕ → ℕ → Type 0 = λ room ol o wh. IsSpace d.room last' count' → Binned it.max d.links top' → length d.room.nodes ≡ length room.nodes
-      → blocks d.room last' ≡ carved x (padding_to align o) n f r (blocks room it.last)
-      → class_lists it.max d.links ≡ put_all (free_part f (padding_to align o) ++ used_block x n ∷ free_part r (wh - (padding_to align o + n))) ol
-      → (0 < padding_to align o → (named f (blocks room it.last) ≡ 0) × (f < length room.nodes))
-      → (0 < wh - (padding_to align o + n) → (named r (blocks room it.last) ≡ 0) × (r < length room.nodes))
+      → blocks d.room last' ≡ in_parts x (padding_to align o) n f r (blocks room it.last)
+      → class_lists it.max d.links ≡ push_all (free_part f (padding_to align o) ++ used_block x n ∷ free_part r (wh - (padding_to align o + n))) ol
+      → (0 < padding_to align o → (count_named f (blocks room it.last) ≡ 0) × (f < length room.nodes))
+      → (0 < wh - (padding_to align o + n) → (count_named r (blocks room it.last) ≡ 0) × (r < length room.nodes))
       → (0 < padding_to align o → 0 < wh - (padding_to align o + n) → f ≢ r)
       → IsSound it.max it.size it.limit d last' count' top' (it.free - n) × Aligns n align (shown it) (view_of it.max it.size it.limit d last' acc') (Some (record { name = x; offset = o + padding_to align o })) in
       let first_is : Q it.cells.room (slice_set (class_lists it.max it.cells.links) class (without x (names_at (class_lists it.max it.cells.links) class))) (units got.place.before) got.place.block.size = aligned d last' count' top' acc' f r in
@@ -252,14 +252,14 @@ module _ (it : Fields) (n align class x : ℕ) (h : AlignedCall it n align class
 
   -- what the call of `carve` asks for
   pub carve_asks : (t : Cells) (offset whole : ℕ) → t.room ≡ it.cells.room → class_lists it.max t.links ≡ slice_set (class_lists it.max it.cells.links) class (without x (names_at (class_lists it.max it.cells.links) class)) → offset ≡ offset_in x (blocks t.room it.last) → whole ≡ size_in x (blocks t.room it.last)
-      → Stands x (blocks t.room it.last) × (padding_to align offset + n ≤ whole) × (padding_to align offset + n + (whole - (padding_to align offset + n)) ≡ size_in x (blocks t.room it.last)) × AreUnlisted (blocks t.room it.last) (class_lists it.max t.links) × (offset + padding_to align offset < 2 ^ 32)
+      → HasName x (blocks t.room it.last) × (padding_to align offset + n ≤ whole) × (padding_to align offset + n + (whole - (padding_to align offset + n)) ≡ size_in x (blocks t.room it.last)) × AreUnlisted (blocks t.room it.last) (class_lists it.max t.links) × (offset + padding_to align offset < 2 ^ 32)
   carve_asks t offset whole rm lists oe we =
       let o_is : offset ≡ units got.place.before = oe ∙ ap (λ (m : Room). offset_in x (blocks m it.last)) rm ∙ offset_is in
       let w_is : whole ≡ got.place.block.size = we ∙ ap (λ (m : Room). size_in x (blocks m it.last)) rm ∙ listed_size in
       let inside : padding_to align offset + n ≤ whole = subst (λ (o : ℕ). padding_to align o + n ≤ whole) (sym o_is) (subst (λ (k : ℕ). padding_to align (units got.place.before) + n ≤ k) (sym w_is) enough) in
       let sized : size_in x (blocks t.room it.last) ≡ whole = ap (λ (m : Room). size_in x (blocks m it.last)) rm ∙ listed_size ∙ sym w_is in
       let sum : padding_to align offset + n + (whole - (padding_to align offset + n)) ≡ whole = all_of (padding_to align offset + n) whole inside in (
-        subst (λ (m : Room). Stands x (blocks m it.last)) (sym rm) stands,
+        subst (λ (m : Room). HasName x (blocks m it.last)) (sym rm) there,
         inside,
         sum ∙ sym sized,
         subst (λ (m : Room). AreUnlisted (blocks m it.last) (class_lists it.max t.links)) (sym rm) (subst (λ (ol : List (List ℕ)). AreUnlisted (blocks it.cells.room it.last) ol) (sym lists) unlisted),
@@ -274,7 +274,7 @@ module _ (it : Fields) (n align : ℕ) (s : AreSound it) where
   abbrev was : View
   was = shown it
 
-  pub left_as_it_was : (acc' f r : ℕ) → IsUnused r (shown it) → (is_short_of 2 (shown it) ≡ false → IsUnused f (shown it) × (f ≢ r)) → allocate_aligned n align f r (shown it) ≡ refused (shown it) → Aligns n align (shown it) (shown (record it { accesses = acc' })) None
+  pub left_as_it_was : (acc' f r : ℕ) → IsUnused r (shown it) → (is_short_of 2 (shown it) ≡ false → IsUnused f (shown it) × (f ≢ r)) → allocate_aligned n align f r (shown it) ≡ refuse (shown it) → Aligns n align (shown it) (shown (record it { accesses = acc' })) None
   left_as_it_was acc' f r u a e = record {
     front = f;
     rest = r;
@@ -284,7 +284,7 @@ module _ (it : Fields) (n align : ℕ) (s : AreSound it) where
     view = ap (λ (o : Outcome). with_accesses acc' o.view) (sym e);
   }
 
-  -- an unused name for a rest, and another for a front
+  -- an unused name for a remainder, and another for the padding
   record Pair : Type 0 where
     front : ℕ
     rest : ℕ
@@ -302,10 +302,10 @@ module _ (it : Fields) (n align : ℕ) (s : AreSound it) where
   pub refused_full : (acc' : ℕ) → 1 < align → it.count ≤ 2 → Aligns n align (shown it) (shown (record it { accesses = acc' })) None
   refused_full acc' big l = left_as_it_was acc' pair.front pair.rest pair.unused pair.apart (aligned_short n align pair.front pair.rest was big (no_room it s l))
 
-  pub refused_past : (acc' : ℕ) → 1 < align → greatest < n + align - 1 → Aligns n align (shown it) (shown (record it { accesses = acc' })) None
+  pub refused_past : (acc' : ℕ) → 1 < align → max_size < n + align - 1 → Aligns n align (shown it) (shown (record it { accesses = acc' })) None
   refused_past acc' big l = left_as_it_was acc' pair.front pair.rest pair.unused pair.apart (aligned_past n align pair.front pair.rest was big l)
 
-  pub refused_none : (acc' : ℕ) → 1 < align → n + align - 1 ≤ greatest → 2 < it.count → ((k : ℕ) → up (n + align - 1) ≤ k → k < 256 → names_at (class_lists it.max it.cells.links) k ≡ []) → Aligns n align (shown it) (shown (record it { accesses = acc' })) None
+  pub refused_none : (acc' : ℕ) → 1 < align → n + align - 1 ≤ max_size → 2 < it.count → ((k : ℕ) → up (n + align - 1) ≤ k → k < 256 → names_at (class_lists it.max it.cells.links) k ≡ []) → Aligns n align (shown it) (shown (record it { accesses = acc' })) None
   refused_none acc' big l room none =
       let well = well_counted (shown (record it { accesses = 0 })) it.accesses s.well in
       left_as_it_was acc' pair.front pair.rest pair.unused pair.apart (aligned_none n align pair.front pair.rest was big l (some_room it s room) (untaken (n + align - 1) was well none))
@@ -314,8 +314,8 @@ module _ (it : Fields) (n align : ℕ) (s : AreSound it) where
 pub aligned_from : (n align : ℕ) (v w : View) (r : Option Grant) → align ≤ 1 → (is_short_of 2 v ≡ false → (z : ℕ) → (y : ℕ) × IsUnused y v × (y ≢ z)) → Allocates n v w r → Aligns n align v w r
 aligned_from n align v w r one other a = go (is_short_of 2 v) refl
   where
-    with_front : (f : ℕ) → (is_short_of 2 v ≡ false → IsUnused f v × (f ≢ a.rest)) → Aligns n align v w r
-    with_front f k = record {
+    with_padding : (f : ℕ) → (is_short_of 2 v ≡ false → IsUnused f v × (f ≢ a.rest)) → Aligns n align v w r
+    with_padding f k = record {
       front = f;
       rest = a.rest;
       unused = a.unused;
@@ -325,19 +325,19 @@ aligned_from n align v w r one other a = go (is_short_of 2 v) refl
     }
 
     go : (b : Bool) → is_short_of 2 v ≡ b → Aligns n align v w r
-    go true e = with_front a.rest (λ q. absurd (true≢false (sym e ∙ q)))
-    go false e = let o = other e a.rest in with_front o.0 (λ _. (o.1, o.2))
+    go true e = with_padding a.rest (λ q. absurd (true≢false (sym e ∙ q)))
+    go false e = let o = other e a.rest in with_padding o.0 (λ _. (o.1, o.2))
 
 -- accesses before an aligned request change nothing else
 counted : ℕ → Outcome → Outcome
 counted k o = record { view = with_accesses k o.view; grant = o.grant }
 
-granted_counted : (k n : ℕ) (padding_at : ℕ → ℕ) (f r : ℕ) (v : View) (o : Option Place) → granted_at (with_accesses k v) n padding_at f r o ≡ counted k (granted_at v n padding_at f r o)
+granted_counted : (k n : ℕ) (padding_at : ℕ → ℕ) (f r : ℕ) (v : View) (o : Option Place) → grant_or_refuse (with_accesses k v) n padding_at f r o ≡ counted k (grant_or_refuse v n padding_at f r o)
 unfolding counted
 granted_counted k n padding_at f r v None = refl
 granted_counted k n padding_at f r v (Some p) = refl
 
-choice_counted : (k : ℕ) (v : View) (b : Bool) (o o' : Outcome) → o ≡ counted k o' → (if b then refused (with_accesses k v) else o) ≡ counted k (if b then refused v else o')
+choice_counted : (k : ℕ) (v : View) (b : Bool) (o o' : Outcome) → o ≡ counted k o' → (if b then refuse (with_accesses k v) else o) ≡ counted k (if b then refuse v else o')
 unfolding counted
 choice_counted k v true o o' e = refl
 choice_counted k v false o o' e = e
@@ -349,8 +349,8 @@ pair_counted k false o o' q q' e f = f
 aligned_counted : (k n align f r : ℕ) (v : View) → allocate_aligned n align f r (with_accesses k v) ≡ counted k (allocate_aligned n align f r v)
 aligned_counted k n align f r v =
     pair_counted k (nat_le align 1) _ _ _ _
-    (choice_counted k v (is_short_of 1 v) _ _ (granted_counted k n (λ o. 0) r r v (taken n v)))
-    (choice_counted k v (nat_lt greatest (n + align - 1)) _ _ (choice_counted k v (is_short_of 2 v) _ _ (granted_counted k n (padding_to align) f r v (taken (n + align - 1) v))))
+    (choice_counted k v (is_short_of 1 v) _ _ (granted_counted k n (λ o. 0) r r v (place_for n v)))
+    (choice_counted k v (nat_lt max_size (n + align - 1)) _ _ (choice_counted k v (is_short_of 2 v) _ _ (granted_counted k n (padding_to align) f r v (place_for (n + align - 1) v))))
 
 pub aligns_counted : (k n align : ℕ) (v w : View) (r : Option Grant) → Aligns n align (with_accesses k v) w r → Aligns n align v w r
 unfolding counted

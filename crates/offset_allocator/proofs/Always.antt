@@ -6,9 +6,9 @@ use Rattle.std.proofs.lemmas.List.Sums.{sum_by-cons}
 use Rattle.std.proofs.lemmas.Nat.{mod-mul-add}
 use Rattle.offset_allocator.specs.Classes.{value, up, down}
 use Rattle.offset_allocator.specs.Reports.{largest}
-use Rattle.offset_allocator.specs.Named.{Block, View, Place, Grant, Outcome, is_free, units, free_sizes, free_block, IsApart, IsWellFormed, is_short_of, greatest, padding_to, refused, granted_at, taken, serve, allocate, allocate_aligned}
+use Rattle.offset_allocator.specs.Named.{Block, View, Place, Grant, Outcome, is_free, units, free_sizes, free_block, IsApart, IsWellFormed, is_short_of, max_size, padding_to, refuse, grant_or_refuse, place_for, serve, allocate, allocate_aligned}
 use Rattle.offset_allocator.specs.Relations.{IsFresh, Aligns}
-use Rattle.offset_allocator.specs.Always.{used_units, AddsUp, StandAlone, RefusesWhenFull, FreshGrants, PaddingIsLeast}
+use Rattle.offset_allocator.specs.Always.{used_units, AddsUp, HasNoFreeNeighbours, RefusesWhenFull, FreshGrants, PaddingIsLeast}
 use Rattle.offset_allocator.proofs.Classes.{down_law}
 use Rattle.offset_allocator.proofs.ViewOrders.{if_value}
 use Rattle.offset_allocator.proofs.ViewTaken.{IsTaken, taken_at, not_taken, well_alone}
@@ -32,9 +32,9 @@ pub adds_up : (v : View) → IsWellFormed v → AddsUp v
 adds_up v w = parted v.blocks ∙ w.whole
 
 -- free neighbours
-apart_behind : (xs ys : List Block) → IsApart (xs ++ ys) → IsApart ys
-apart_behind [] ys a = a
-apart_behind (x ∷ xs) ys a = apart_behind xs ys a.1
+apart_after_one : (xs ys : List Block) → IsApart (xs ++ ys) → IsApart ys
+apart_after_one [] ys a = a
+apart_after_one (x ∷ xs) ys a = apart_after_one xs ys a.1
 
 is_free_true : (b : Block) → IsTrue (is_free b) → is_free b ≡ true
 is_free_true b h = go (is_free b) h
@@ -48,15 +48,15 @@ alone_if [] after a f = omega arith
 alone_if (b ∷ []) after a f = omega arith
 alone_if (b ∷ c ∷ run) after a f = absurd (true≢false (ap₂ (λ x y. x && y) (sym (is_free_true b f.0)) (sym (is_free_true c f.1.0)) ∙ a.0))
 
-pub stand_alone : (v : View) → IsWellFormed v → StandAlone v
-stand_alone v w before run after e f = alone_if run after (apart_behind before (run ++ after) (subst IsApart e w.apart)) f
+pub no_neighbours : (v : View) → IsWellFormed v → HasNoFreeNeighbours v
+no_neighbours v w before run after e f = alone_if run after (apart_after_one before (run ++ after) (subst IsApart e w.apart)) f
 
 -- a full space
 short_too : (v : View) (spare : ℕ) → 1 ≤ spare → v.max_allocs ≤ length v.blocks + 1 → is_short_of spare v ≡ true
 short_too v spare some h = le-leb v.max_allocs (length v.blocks + spare) (omega arith)
 
 none_served : (v : View) (spare needed n : ℕ) (padding_at : ℕ → ℕ) (front rest : ℕ) → 1 ≤ spare → v.max_allocs ≤ length v.blocks + 1 → (serve spare needed n padding_at front rest v).grant ≡ None
-none_served v spare needed n padding_at front rest some h = ap (λ b. (if b then refused v else granted_at v n padding_at front rest (taken needed v)).grant) (short_too v spare some h)
+none_served v spare needed n padding_at front rest some h = ap (λ b. (if b then refuse v else grant_or_refuse v n padding_at front rest (place_for needed v)).grant) (short_too v spare some h)
 
 none_if : (b : Bool) (o p : Outcome) → o.grant ≡ None → p.grant ≡ None → (if b then o else p).grant ≡ None
 none_if true o p f g = f
@@ -65,9 +65,9 @@ none_if false o p f g = g
 pub refuses_when_full : (v : View) → RefusesWhenFull v
 refuses_when_full v h = (
   λ n rest. none_served v 1 n n (λ offset. 0) rest rest (omega arith) h,
-  λ n align front rest. none_if (nat_le align 1) (allocate n rest v) (if nat_lt greatest (n + align - 1) then refused v else serve 2 (n + align - 1) n (padding_to align) front rest v)
+  λ n align front rest. none_if (nat_le align 1) (allocate n rest v) (if nat_lt max_size (n + align - 1) then refuse v else serve 2 (n + align - 1) n (padding_to align) front rest v)
       (none_served v 1 n n (λ offset. 0) rest rest (omega arith) h)
-      (none_if (nat_lt greatest (n + align - 1)) (refused v) (serve 2 (n + align - 1) n (padding_to align) front rest v) refl (none_served v 2 (n + align - 1) n (padding_to align) front rest (omega arith) h)),
+      (none_if (nat_lt max_size (n + align - 1)) (refuse v) (serve 2 (n + align - 1) n (padding_to align) front rest v) refl (none_served v 2 (n + align - 1) n (padding_to align) front rest (omega arith) h)),
   ap (λ b. if b then 0 else sum (free_sizes v.blocks)) (short_too v 1 (omega arith) h),
   ap (λ b. if b then 0 else largest (free_sizes v.blocks)) (short_too v 1 (omega arith) h),
 )
@@ -108,7 +108,7 @@ pub padding_is_least : PaddingIsLeast
 padding_is_least align offset some = (reaches align offset some, least align offset some)
 
 -- an aligned grant
-padded_from : (v : View) (n : ℕ) (padding_at : ℕ → ℕ) (front rest : ℕ) (o : Option Place) (g : Grant) → (granted_at v n padding_at front rest o).grant ≡ Some g → (start : ℕ) × (g.offset ≡ start + padding_at start)
+padded_from : (v : View) (n : ℕ) (padding_at : ℕ → ℕ) (front rest : ℕ) (o : Option Place) (g : Grant) → (grant_or_refuse v n padding_at front rest o).grant ≡ Some g → (start : ℕ) × (g.offset ≡ start + padding_at start)
 padded_from v n padding_at front rest None g e = absurd (cc)
 padded_from v n padding_at front rest (Some p) g e =
     let same : record { name = p.block.name; offset = units p.before + padding_at (units p.before) } ≡ g = cc in
@@ -116,13 +116,13 @@ padded_from v n padding_at front rest (Some p) g e =
 
 multiple : (n align front rest : ℕ) (v : View) (g : Grant) → 1 ≤ align → (allocate_aligned n align front rest v).grant ≡ Some g → g.offset % align ≡ 0
 multiple n align front rest v g some =
-    if_value (nat_le align 1) (allocate n rest v) (if nat_lt greatest (n + align - 1) then refused v else serve 2 (n + align - 1) n (padding_to align) front rest v) (λ (o : Outcome). o.grant ≡ Some g → g.offset % align ≡ 0)
+    if_value (nat_le align 1) (allocate n rest v) (if nat_lt max_size (n + align - 1) then refuse v else serve 2 (n + align - 1) n (padding_to align) front rest v) (λ (o : Outcome). o.grant ≡ Some g → g.offset % align ≡ 0)
     (λ a e. let l = leb-true align 1 a in let one : align ≡ 1 = omega arith in ap (λ m. g.offset % m) one ∙ omega arith)
-    (λ a. if_value (nat_lt greatest (n + align - 1)) (refused v) (serve 2 (n + align - 1) n (padding_to align) front rest v) (λ (o : Outcome). o.grant ≡ Some g → g.offset % align ≡ 0)
+    (λ a. if_value (nat_lt max_size (n + align - 1)) (refuse v) (serve 2 (n + align - 1) n (padding_to align) front rest v) (λ (o : Outcome). o.grant ≡ Some g → g.offset % align ≡ 0)
     (λ f e. absurd (cc))
-    (λ f. if_value (is_short_of 2 v) (refused v) (granted_at v n (padding_to align) front rest (taken (n + align - 1) v)) (λ (o : Outcome). o.grant ≡ Some g → g.offset % align ≡ 0)
+    (λ f. if_value (is_short_of 2 v) (refuse v) (grant_or_refuse v n (padding_to align) front rest (place_for (n + align - 1) v)) (λ (o : Outcome). o.grant ≡ Some g → g.offset % align ≡ 0)
     (λ s e. absurd (cc))
-    (λ s e. let r = padded_from v n (padding_to align) front rest (taken (n + align - 1) v) g e in ap (λ m. m % align) r.1 ∙ reaches align r.0 some)))
+    (λ s e. let r = padded_from v n (padding_to align) front rest (place_for (n + align - 1) v) g e in ap (λ m. m % align) r.1 ∙ reaches align r.0 some)))
 
 pub aligned_multiple : (n align : ℕ) (v w : View) (g : Grant) → 1 ≤ align → Aligns n align v w (Some g) → g.offset % align ≡ 0
 aligned_multiple n align v w g some a = multiple n align a.front a.rest v g some (sym a.answer)
@@ -136,12 +136,12 @@ only_block [] b ys c e = head_of c b [] ys e
 only_block (x ∷ []) b ys c e = absurd (cc)
 only_block (x ∷ y ∷ xs) b ys c e = absurd (cc)
 
-module _ (size max_allocs n rest : ℕ) (v : View) (f : IsFresh size max_allocs v) (limit : 3 ≤ max_allocs) (sized : size ≤ greatest) (small : n ≤ greatest) where
+module _ (size max_allocs n rest : ℕ) (v : View) (f : IsFresh size max_allocs v) (limit : 3 ≤ max_allocs) (sized : size ≤ max_size) (small : n ≤ max_size) where
   formed : IsWellFormed v
   formed = subst IsWellFormed (sym f.view) (well_alone (record v { max_allocs = max_allocs }) f.name size 0 (omega arith) f.below)
 
-  stands : v.blocks ≡ free_block f.name size ∷ []
-  stands = ap (λ (x : View). x.blocks) f.view
+  there : v.blocks ≡ free_block f.name size ∷ []
+  there = ap (λ (x : View). x.blocks) f.view
 
   roomy : is_short_of 1 v ≡ false
   roomy = ap (λ (x : View). is_short_of 1 x) f.view ∙ gt
@@ -149,7 +149,7 @@ module _ (size max_allocs n rest : ℕ) (v : View) (f : IsFresh size max_allocs 
       gt : nat_le max_allocs 2 ≡ false
       gt = lt-leb max_allocs 2 (omega arith)
 
-  fresh_if : (o : Option Place) → taken n v ≡ o → IsSome (granted_at v n (λ offset. 0) rest rest o).grant ↔ (value (up n) ≤ size)
+  fresh_if : (o : Option Place) → place_for n v ≡ o → IsSome (grant_or_refuse v n (λ offset. 0) rest rest o).grant ↔ (value (up n) ≤ size)
   fresh_if None e = (λ s. absurd (grind (arith, s)), λ l. absurd (no_place ((down_law size (up n) (omega arith)).1 l)))
     where
       no_place : up n ≤ down size → ⊥
@@ -160,10 +160,10 @@ module _ (size max_allocs n rest : ℕ) (v : View) (f : IsFresh size max_allocs 
       t = taken_at n v formed p e
 
       block : free_block f.name size ≡ p.block
-      block = only_block p.before p.block p.after (free_block f.name size) (sym stands ∙ t.stood)
+      block = only_block p.before p.block p.after (free_block f.name size) (sym there ∙ t.stood)
 
   fresh_grants_one : IsSome (allocate n rest v).grant ↔ (value (up n) ≤ size)
-  fresh_grants_one = subst (λ b. IsSome (if b then refused v else granted_at v n (λ offset. 0) rest rest (taken n v)).grant ↔ (value (up n) ≤ size)) (sym roomy) (fresh_if (taken n v) refl)
+  fresh_grants_one = subst (λ b. IsSome (if b then refuse v else grant_or_refuse v n (λ offset. 0) rest rest (place_for n v)).grant ↔ (value (up n) ≤ size)) (sym roomy) (fresh_if (place_for n v) refl)
 
 pub fresh_grants : FreshGrants
 fresh_grants size max_allocs n rest v f limit sized small = fresh_grants_one size max_allocs n rest v f limit sized small

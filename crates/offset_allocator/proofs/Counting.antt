@@ -4,7 +4,7 @@ use Rattle.std.proofs.lemmas.Bool.{cases_eq}
 use Rattle.std.proofs.lemmas.Bool.Decides.{nat_tests}
 use Rattle.offset_allocator.specs.Classes.{down}
 use Rattle.offset_allocator.specs.Reports.{count_of}
-use Rattle.offset_allocator.specs.Named.{Block, View, is_free, one, times, listed, names_at, free_sizes, IsWellFormed}
+use Rattle.offset_allocator.specs.Named.{Block, View, is_free, one, times, count_listed, names_at, free_sizes, IsWellFormed}
 use Rattle.offset_allocator.proofs.ViewOrders.{hit_cases}
 
 -- a list with one name fewer
@@ -31,14 +31,14 @@ class_names : ℕ → List Block → List ℕ
 class_names c [] = []
 class_names c (b ∷ bs) = if is_free b && nat_eq c (down b.size) then b.name ∷ class_names c bs else class_names c bs
 
-times_class : (c x : ℕ) (bs : List Block) → times x (class_names c bs) ≡ listed c x bs
+times_class : (c x : ℕ) (bs : List Block) → times x (class_names c bs) ≡ count_listed c x bs
 unfolding class_names
 times_class c x [] = refl
 times_class c x (b ∷ bs) =
     let ih = times_class c x bs in
-    elim b.used as (λ u. times x (if not u && nat_eq c (down b.size) then b.name ∷ class_names c bs else class_names c bs) ≡ one (not u && (nat_eq c (down b.size) && nat_eq x b.name)) + listed c x bs) [
+    elim b.used as (λ u. times x (if not u && nat_eq c (down b.size) then b.name ∷ class_names c bs else class_names c bs) ≡ one (not u && (nat_eq c (down b.size) && nat_eq x b.name)) + count_listed c x bs) [
       | true ↦ omega arith
-      | false ↦ elim (nat_eq c (down b.size)) as (λ t. times x (if t then b.name ∷ class_names c bs else class_names c bs) ≡ one (t && nat_eq x b.name) + listed c x bs) [ true ↦ omega arith | false ↦ omega arith ]
+      | false ↦ elim (nat_eq c (down b.size)) as (λ t. times x (if t then b.name ∷ class_names c bs else class_names c bs) ≡ one (t && nat_eq x b.name) + count_listed c x bs) [ true ↦ omega arith | false ↦ omega arith ]
     ]
 
 length_class : (c : ℕ) (bs : List Block) → length (class_names c bs) ≡ count_of c (free_sizes bs)

@@ -4,7 +4,7 @@ use Rattle.std.proofs.lemmas.Bool.{cases_eq, lt-ltb, le-ltb, true≢false, ne_eq
 use Rattle.std.proofs.lemmas.List.{get_or-set_same, get_or-set_other}
 use Rattle.offset_allocator.specs.Classes.{down}
 use Rattle.offset_allocator.specs.Cells.{Cells, Node, node}
-use Rattle.offset_allocator.specs.Named.{Block, View, Extension, named, names_at, listed, one, is_free, IsWellFormed, IsUnused, is_short_of, greatest, free_block, units, remove_all, put_all, put_first, remove, without, free_end, without_end, ends_used, name_or, extended, is_extendable, extend}
+use Rattle.offset_allocator.specs.Named.{Block, View, Extension, count_named, names_at, count_listed, one, is_free, IsWellFormed, IsUnused, is_short_of, max_size, free_block, units, remove_all, push_all, push, remove, without, free_end, without_end, ends_used, name_or, extend_by, is_extendable, extend}
 use Rattle.offset_allocator.specs.Space.{IsSpace, blocks, split_block}
 use Rattle.offset_allocator.specs.Orders.{Among, IsUnlisted, class_lists, Binned}
 use Rattle.offset_allocator.specs.State.{Fields, AreSound, IsSound, shown, view_of, free_units}
@@ -27,13 +27,13 @@ ends_last (f ∷ []) b = refl
 ends_last (f ∷ g ∷ fs) b = ends_last (g ∷ fs) b
 
 -- the cases of an extension
-pub extended_is : (more x : ℕ) (v : View) → 0 < more → is_extendable more v ≡ true → extend more x v ≡ record { view = extended more x v; done = true }
+pub extended_is : (more x : ℕ) (v : View) → 0 < more → is_extendable more v ≡ true → extend more x v ≡ record { view = extend_by more x v; done = true }
 extended_is zero x v l e = absurd (omega arith)
-extended_is (suc more) x v l e = ap (λ (b : Bool). if b then record { view = extended (suc more) x v; done = true } else record { view = v; done = false }) e
+extended_is (suc more) x v l e = ap (λ (b : Bool). if b then record { view = extend_by (suc more) x v; done = true } else record { view = v; done = false }) e
 
 pub unextended_is : (more x : ℕ) (v : View) → 0 < more → is_extendable more v ≡ false → extend more x v ≡ record { view = v; done = false }
 unextended_is zero x v l e = absurd (omega arith)
-unextended_is (suc more) x v l e = ap (λ (b : Bool). if b then record { view = extended (suc more) x v; done = true } else record { view = v; done = false }) e
+unextended_is (suc more) x v l e = ap (λ (b : Bool). if b then record { view = extend_by (suc more) x v; done = true } else record { view = v; done = false }) e
 
 extendable_if : (a b c : Bool) → a ≡ false → (b ≡ true → c ≡ false) → not (a || (b && c)) ≡ true
 extendable_if true b c e f = absurd (true≢false e)
@@ -88,11 +88,11 @@ module _ (it : Fields) (more : ℕ) (s : AreSound it) where
       let is = unextended_is more u.0 v pos e in
       record { name = u.0; unused = u.1; view = ap (λ (x : Extension). with_accesses acc' x.view) (sym is); answer = ap (λ (x : Extension). x.done) (sym is) }
 
-  pub past : (acc' : ℕ) → 0 < more → greatest < it.size + more → Extends more (shown it) (shown (record it { accesses = acc' })) false
-  past acc' pos l = left_as_it_was acc' pos (past_if (nat_lt greatest (it.size + more)) (ends_used bs && is_short_of 1 v) (lt-ltb greatest (it.size + more) l))
+  pub past : (acc' : ℕ) → 0 < more → max_size < it.size + more → Extends more (shown it) (shown (record it { accesses = acc' })) false
+  past acc' pos l = left_as_it_was acc' pos (past_if (nat_lt max_size (it.size + more)) (ends_used bs && is_short_of 1 v) (lt-ltb max_size (it.size + more) l))
 
   pub full : (acc' : ℕ) → 0 < more → ends_used (blocks it.cells.room it.last) ≡ true → is_short_of 1 (shown it) ≡ true → Extends more (shown it) (shown (record it { accesses = acc' })) false
-  full acc' pos u f = left_as_it_was acc' pos (full_if (nat_lt greatest (it.size + more)) (ends_used bs) (is_short_of 1 v) u f)
+  full acc' pos u f = left_as_it_was acc' pos (full_if (nat_lt max_size (it.size + more)) (ends_used bs) (is_short_of 1 v) u f)
 
   module _ (pos : 0 < more) (fits : it.size + more ≤ 4294967295) where
     pub units_fit : units (blocks it.cells.room it.last) + more < 2 ^ 32
@@ -102,23 +102,23 @@ module _ (it : Fields) (more : ℕ) (s : AreSound it) where
     free_fits = let t = s.total in let m = free_most bs in let f = units_fit in omega arith
 
     concluded : (d : Cells) (last' count' top' acc' x : ℕ) → IsUnused x v → is_extendable more v ≡ true → IsSpace d.room last' count' → Binned it.max d.links top' → length d.room.nodes ≡ length it.cells.room.nodes
-        → blocks d.room last' ≡ (extended more x v).blocks → class_lists it.max d.links ≡ (extended more x v).order → free_units (blocks d.room last') ≡ it.free + more
+        → blocks d.room last' ≡ (extend_by more x v).blocks → class_lists it.max d.links ≡ (extend_by more x v).order → free_units (blocks d.room last') ≡ it.free + more
         → IsSound it.max (it.size + more) it.limit d last' count' top' (it.free + more) × Extends more v (view_of it.max (it.size + more) it.limit d last' acc') true
     concluded d last' count' top' acc' x u e space bins nodes eb eo total =
         let is = extended_is more x v pos e in
-        let left : (k : ℕ) → view_of it.max (it.size + more) it.limit d last' k ≡ with_accesses k (extended more x v) = λ k. same_view (extended more x v) _ _ _ _ k eb eo in (
+        let left : (k : ℕ) → view_of it.max (it.size + more) it.limit d last' k ≡ with_accesses k (extend_by more x v) = λ k. same_view (extend_by more x v) _ _ _ _ k eb eo in (
           record {
             nodes = nodes ∙ s.nodes;
             least = s.least;
             space = space;
             bins = bins;
-            well = subst IsWellFormed (sym (left 0)) (well_counted (extended more x v) 0 (well_extended v w more x u e));
+            well = subst IsWellFormed (sym (left 0)) (well_counted (extend_by more x v) 0 (well_extended v w more x u e));
             total = total;
           },
           record { name = x; unused = u; view = left acc' ∙ ap (λ (y : Extension). with_accesses acc' y.view) (sym is); answer = ap (λ (y : Extension). y.done) (sym is) },
         )
 
-    -- behind a used block
+    -- after a used block
     module _ (used : ends_used (blocks it.cells.room it.last) ≡ true) where
       b_used : b.used ≡ true
       b_used = sym (ends_last fs b) ∙ ap ends_used (sym end.is) ∙ used
@@ -134,7 +134,7 @@ module _ (it : Fields) (more : ℕ) (s : AreSound it) where
       split_fits y n e = let a = ap units (split_is y n e) in let p = units-append bs (free_block y 0 ∷ []) in let f = units_fit in omega arith
 
       pub appended : (room : is_short_of 1 (shown it) ≡ false) (d : Cells) (last' count' top' acc' y n : ℕ) → n ≡ (node it.cells.room it.last).size → IsSpace d.room last' count' → Binned it.max d.links top' → length d.room.nodes ≡ length it.cells.room.nodes
-          → blocks d.room last' ≡ grow_last more (split_block it.last n y (blocks it.cells.room it.last)) → class_lists it.max d.links ≡ put_first (down more) y (class_lists it.max it.cells.links) → named y (blocks it.cells.room it.last) ≡ 0 → y < length it.cells.room.nodes
+          → blocks d.room last' ≡ grow_last more (split_block it.last n y (blocks it.cells.room it.last)) → class_lists it.max d.links ≡ push (down more) y (class_lists it.max it.cells.links) → count_named y (blocks it.cells.room it.last) ≡ 0 → y < length it.cells.room.nodes
           → IsSound it.max (it.size + more) it.limit d last' count' top' (it.free + more) × Extends more (shown it) (view_of it.max (it.size + more) it.limit d last' acc') true
       appended room d last' count' top' acc' y n e space bins nodes eb eo new below =
           let ends = end_used fs b b_used in
@@ -142,14 +142,14 @@ module _ (it : Fields) (more : ℕ) (s : AreSound it) where
           let kept : without_end bs ≡ bs = ap without_end end.is ∙ ends.1 ∙ sym end.is in
           let sum : 0 + more ≡ more = omega arith in
           let after_is : blocks d.room last' ≡ bs ++ free_block y (0 + more) ∷ [] = eb ∙ ap (grow_last more) (split_is y n e) ∙ grow_last-at more bs (free_block y 0) in
-          let blocks_are : blocks d.room last' ≡ (extended more y v).blocks = after_is ∙ ap₂ (λ (l g : List Block). l ++ (free_block (name_or y g) (units g + more) ∷ [])) (sym kept) (sym gone) in
-          let order_is : class_lists it.max d.links ≡ (extended more y v).order = eo ∙ ap (λ (k : ℕ). put_first (down k) y ls) (sym sum) ∙ ap (λ (g : List Block). put_all (free_block (name_or y g) (units g + more) ∷ []) (remove_all g ls)) (sym gone) in
+          let blocks_are : blocks d.room last' ≡ (extend_by more y v).blocks = after_is ∙ ap₂ (λ (l g : List Block). l ++ (free_block (name_or y g) (units g + more) ∷ [])) (sym kept) (sym gone) in
+          let order_is : class_lists it.max d.links ≡ (extend_by more y v).order = eo ∙ ap (λ (k : ℕ). push (down k) y ls) (sym sum) ∙ ap (λ (g : List Block). push_all (free_block (name_or y g) (units g + more) ∷ []) (remove_all g ls)) (sym gone) in
           let total : free_units (blocks d.room last') ≡ it.free + more = ap free_units after_is ∙ free_units-append bs (free_block y (0 + more) ∷ []) ∙ (let t = s.total in let k = free_units-free (free_block y (0 + more)) [] refl in omega arith) in
           concluded d last' count' top' acc' y (record { below = let m = s.nodes in omega arith; absent = new })
-          (extendable_if (nat_lt greatest (it.size + more)) (ends_used bs) (is_short_of 1 v) (le-ltb greatest (it.size + more) fits) (λ _. room))
+          (extendable_if (nat_lt max_size (it.size + more)) (ends_used bs) (is_short_of 1 v) (le-ltb max_size (it.size + more) fits) (λ _. room))
           space bins nodes blocks_are order_is total
 
-      pub append_unlisted : (y : ℕ) → named y (blocks it.cells.room it.last) ≡ 0 → IsUnlisted y (class_lists it.max it.cells.links)
+      pub append_unlisted : (y : ℕ) → count_named y (blocks it.cells.room it.last) ≡ 0 → IsUnlisted y (class_lists it.max it.cells.links)
       append_unlisted y e = unused_unlisted v w y e
 
     -- a it.free block
@@ -157,12 +157,12 @@ module _ (it : Fields) (more : ℕ) (s : AreSound it) where
       b_free : b.used ≡ false
       b_free = sym (ends_last fs b) ∙ ap ends_used (sym end.is) ∙ idle
 
-      share : (k : ℕ) → listed k it.last bs ≡ one (nat_eq k (down b.size))
+      share : (k : ℕ) → count_listed k it.last bs ≡ one (nat_eq k (down b.size))
       share k =
-          let a = ap (listed k it.last) end.is in
+          let a = ap (count_listed k it.last) end.is in
           let t = tally_append (λ (d : Block). one (is_free d && (nat_eq k (down d.size) && nat_eq it.last d.name))) fs (b ∷ []) in
           let z = listed_named k it.last fs in
-          let q : named it.last fs ≡ 0 = ap (λ i. named i fs) (sym end.name) ∙ end.alone in
+          let q : count_named it.last fs ≡ 0 = ap (λ i. count_named i fs) (sym end.name) ∙ end.alone in
           let own : one (is_free b && (nat_eq k (down b.size) && nat_eq it.last b.name)) ≡ one (nat_eq k (down b.size)) = ap (λ (u : Bool). one (not u && (nat_eq k (down b.size) && nat_eq it.last b.name))) b_free ∙ one_and (nat_eq k (down b.size)) (nat_eq it.last b.name) (one-eq it.last b.name end.name) in
           omega arith
         where
@@ -195,7 +195,7 @@ module _ (it : Fields) (more : ℕ) (s : AreSound it) where
           ]
 
       pub widened : (d : Cells) (count' top' acc' k n : ℕ) → n ≡ (node it.cells.room it.last).size → k ≡ down (node it.cells.room it.last).size → IsSpace d.room it.last count' → Binned it.max d.links top' → length d.room.nodes ≡ length it.cells.room.nodes
-          → blocks d.room it.last ≡ grow_last more (blocks it.cells.room it.last) → class_lists it.max d.links ≡ put_first (down (n + more)) it.last (slice_set (class_lists it.max it.cells.links) k (without it.last (names_at (class_lists it.max it.cells.links) k)))
+          → blocks d.room it.last ≡ grow_last more (blocks it.cells.room it.last) → class_lists it.max d.links ≡ push (down (n + more)) it.last (slice_set (class_lists it.max it.cells.links) k (without it.last (names_at (class_lists it.max it.cells.links) k)))
           → IsSound it.max (it.size + more) it.limit d it.last count' top' (it.free + more) × Extends more (shown it) (view_of it.max (it.size + more) it.limit d it.last acc') true
       widened d count' top' acc' k n ne ke space bins nodes eb eo =
           let ends = end_free fs b b_free in
@@ -206,14 +206,14 @@ module _ (it : Fields) (more : ℕ) (s : AreSound it) where
           let sum : b.size + more ≡ (b.size + 0) + more = omega arith in
           let after_is : blocks d.room it.last ≡ fs ++ record b { size = b.size + more } ∷ [] = eb ∙ ap (grow_last more) end.is ∙ grow_last-at more fs b in
           let same : record b { size = b.size + more } ≡ free_block b.name ((b.size + 0) + more) = ap₂ (λ (k : ℕ) (q : Bool). let t : Block = record { name = b.name; size = k; used = q } in t) sum b_free in
-          let blocks_are : blocks d.room it.last ≡ (extended more u.0 v).blocks = after_is ∙ ap (λ (t : Block). fs ++ t ∷ []) same ∙ ap₂ (λ (l g : List Block). l ++ (free_block (name_or u.0 g) (units g + more) ∷ [])) (sym kept) (sym gone) in
+          let blocks_are : blocks d.room it.last ≡ (extend_by more u.0 v).blocks = after_is ∙ ap (λ (t : Block). fs ++ t ∷ []) same ∙ ap₂ (λ (l g : List Block). l ++ (free_block (name_or u.0 g) (units g + more) ∷ [])) (sym kept) (sym gone) in
           let removed : slice_set ls k (without it.last (names_at ls k)) ≡ remove_all (b ∷ []) ls = sym (remove_free b ls b_free ∙ ap₂ (λ i y. remove i y ls) (sym (ke ∙ ap down size_at_end)) end.name) in
-          let order_is : class_lists it.max d.links ≡ (extended more u.0 v).order = eo ∙ ap₂ (λ (m : ℕ) (o : List (List ℕ)). put_first (down m) it.last o) size_is removed ∙ ap (λ i. put_first (down ((b.size + 0) + more)) i (remove_all (b ∷ []) ls)) (sym end.name)
-          ∙ ap (λ (g : List Block). put_all (free_block (name_or u.0 g) (units g + more) ∷ []) (remove_all g ls)) (sym gone) in
+          let order_is : class_lists it.max d.links ≡ (extend_by more u.0 v).order = eo ∙ ap₂ (λ (m : ℕ) (o : List (List ℕ)). push (down m) it.last o) size_is removed ∙ ap (λ i. push (down ((b.size + 0) + more)) i (remove_all (b ∷ []) ls)) (sym end.name)
+          ∙ ap (λ (g : List Block). push_all (free_block (name_or u.0 g) (units g + more) ∷ []) (remove_all g ls)) (sym gone) in
           let had : it.free ≡ free_units fs + b.size = sym s.total ∙ ap free_units end.is ∙ free_units-append fs (b ∷ []) ∙ (let q = free_units-free b [] b_free in omega arith) in
           let total : free_units (blocks d.room it.last) ≡ it.free + more = ap free_units after_is ∙ free_units-append fs (record b { size = b.size + more } ∷ []) ∙ (let q = free_units-free (record b { size = b.size + more }) [] b_free in omega arith) in
           concluded d it.last count' top' acc' u.0 u.1
-          (extendable_if (nat_lt greatest (it.size + more)) (ends_used bs) (is_short_of 1 v) (le-ltb greatest (it.size + more) fits) (λ t. absurd (true≢false (sym t ∙ idle))))
+          (extendable_if (nat_lt max_size (it.size + more)) (ends_used bs) (is_short_of 1 v) (le-ltb max_size (it.size + more) fits) (λ t. absurd (true≢false (sym t ∙ idle))))
           space bins nodes blocks_are order_is total
 
 -- nothing more

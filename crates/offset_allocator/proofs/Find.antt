@@ -1,4 +1,4 @@
--- The least class from a class on, by the masks.
+-- The smallest class from a class on, by the masks.
 use Rattle.std.proofs.Common.{◌≡◌, ◌≢◌, ◌<◌, ◌≤◌, ℕ, ◌+◌, ◌*◌, ◌/◌, ◌%◌, ◌^◌, List, [], ◌∷◌, bit_and, refl, sym, ◌∙◌, inl, inr, ⊎_elim, arith, true, false, eqb, length, slice_index, w32, w64}
 use Rattle.std.specs.Int.{bit_at}
 use Rattle.std.specs.Int.Count.{count_trailing_zeros}
@@ -6,7 +6,7 @@ use Rattle.std.proofs.lemmas.Nat.{div-mul-add, mod-mul-add}
 use Rattle.std.proofs.lemmas.Nat.Bits.{bit_at_above, bit_at-zero, bit_at-trailing_zeros}
 use Rattle.std.proofs.lemmas.Bool.{cases_lt, cases_eq, eqb-true, eq-eqb}
 use Rattle.offset_allocator.specs.Named.{names_at}
-use Rattle.offset_allocator.specs.Orders.{flag, mark, Chain, IsLeastFrom, Masked, Linked}
+use Rattle.offset_allocator.specs.Orders.{flag, mark, Chain, IsSmallestFrom, Masked, Linked}
 use Rattle.offset_allocator.proofs.Bits.{none_from, least_from}
 
 module _ (none : ℕ) where
@@ -54,7 +54,7 @@ module _ (none : ℕ) where
       rest_clear z c l e =
           clear c (omega arith) (rw e (none_from w64 (slice_index masks (class / 64)) (class % 64) (k.words_small (class / 64) (omega arith)) (omega arith) z (c % 64) (omega arith) (omega arith)))
 
-      pub found_here : bit_and (slice_index masks (class / 64)) (18446744073709551615 * 2 ^ (class % 64) % 18446744073709551616) ≢ 0 → IsLeastFrom class ls (class / 64 * 64 + count_trailing_zeros 64 (bit_and (slice_index masks (class / 64)) (18446744073709551615 * 2 ^ (class % 64) % 18446744073709551616)))
+      pub found_here : bit_and (slice_index masks (class / 64)) (18446744073709551615 * 2 ^ (class % 64) % 18446744073709551616) ≢ 0 → IsSmallestFrom class ls (class / 64 * 64 + count_trailing_zeros 64 (bit_and (slice_index masks (class / 64)) (18446744073709551615 * 2 ^ (class % 64) % 18446744073709551616)))
       found_here z =
           let t : ℕ = count_trailing_zeros 64 (bit_and (slice_index masks (class / 64)) (18446744073709551615 * 2 ^ (class % 64) % 18446744073709551616)) in
           let (a, b, one, zeros) = least_from w64 (slice_index masks (class / 64)) (class % 64) (k.words_small (class / 64) (omega arith)) (omega arith) z t refl in (
@@ -84,7 +84,7 @@ module _ (none : ℕ) where
         pub found_word_below : w < 4
         found_word_below = found_word.1
 
-        pub found_above : bit_and (slice_index masks (class / 64)) (18446744073709551615 * 2 ^ (class % 64) % 18446744073709551616) ≡ 0 → IsLeastFrom class ls (w * 64 + count_trailing_zeros 64 (slice_index masks w))
+        pub found_above : bit_and (slice_index masks (class / 64)) (18446744073709551615 * 2 ^ (class % 64) % 18446744073709551616) ≡ 0 → IsSmallestFrom class ls (w * 64 + count_trailing_zeros 64 (slice_index masks w))
         found_above z =
             let (a, b, one, zeros) = found_word in
             let n : ℕ = slice_index masks w in
@@ -112,7 +112,7 @@ module _ (none : ℕ) where
     full_at : (c : ℕ) → c < 256 → (flag none) (slice_index heads c) ≡ 1 → names_at ls c ≡ [] → ⊥
     full_at c h z = rw (← le) (flag_of_full (length newer) (slice_index newer) (slice_index older) none (slice_index heads c) (names_at ls0 c) (lk.chains c h) z)
 
-    pub here : bit_and v (18446744073709551615 * 2 ^ (class % 64) % 18446744073709551616) ≢ 0 → IsLeastFrom class ls (class / 64 * 64 + count_trailing_zeros 64 (bit_and v (18446744073709551615 * 2 ^ (class % 64) % 18446744073709551616)))
+    pub here : bit_and v (18446744073709551615 * 2 ^ (class % 64) % 18446744073709551616) ≢ 0 → IsSmallestFrom class ls (class / 64 * 64 + count_trailing_zeros 64 (bit_and v (18446744073709551615 * 2 ^ (class % 64) % 18446744073709551616)))
     here z = rw ve (found_here heads masks top k ls empty_at full_at class classed (rw ve at z))
 
     pub nowhere : bit_and v (18446744073709551615 * 2 ^ (class % 64) % 18446744073709551616) ≡ 0 → bit_and top (4294967295 * 2 ^ (class / 64 + 1) % 4294967296) ≡ 0 → (c : ℕ) → class ≤ c → c < 256 → names_at ls c ≡ []
@@ -121,5 +121,5 @@ module _ (none : ℕ) where
     pub word_below : bit_and top (4294967295 * 2 ^ (class / 64 + 1) % 4294967296) ≢ 0 → count_trailing_zeros 32 (bit_and top (4294967295 * 2 ^ (class / 64 + 1) % 4294967296)) < 4
     word_below y = found_word_below heads masks top k ls empty_at full_at class classed y (count_trailing_zeros 32 (bit_and top (4294967295 * 2 ^ (class / 64 + 1) % 4294967296))) refl
 
-    pub above : bit_and v (18446744073709551615 * 2 ^ (class % 64) % 18446744073709551616) ≡ 0 → bit_and top (4294967295 * 2 ^ (class / 64 + 1) % 4294967296) ≢ 0 → (u : ℕ) → u ≡ slice_index masks (count_trailing_zeros 32 (bit_and top (4294967295 * 2 ^ (class / 64 + 1) % 4294967296))) → IsLeastFrom class ls (count_trailing_zeros 32 (bit_and top (4294967295 * 2 ^ (class / 64 + 1) % 4294967296)) * 64 + count_trailing_zeros 64 u)
+    pub above : bit_and v (18446744073709551615 * 2 ^ (class % 64) % 18446744073709551616) ≡ 0 → bit_and top (4294967295 * 2 ^ (class / 64 + 1) % 4294967296) ≢ 0 → (u : ℕ) → u ≡ slice_index masks (count_trailing_zeros 32 (bit_and top (4294967295 * 2 ^ (class / 64 + 1) % 4294967296))) → IsSmallestFrom class ls (count_trailing_zeros 32 (bit_and top (4294967295 * 2 ^ (class / 64 + 1) % 4294967296)) * 64 + count_trailing_zeros 64 u)
     above z y u ue = rw ue (found_above heads masks top k ls empty_at full_at class classed y (count_trailing_zeros 32 (bit_and top (4294967295 * 2 ^ (class / 64 + 1) % 4294967296))) refl (rw ve at z))

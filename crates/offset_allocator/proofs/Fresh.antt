@@ -9,7 +9,7 @@ use Rattle.std.proofs.lemmas.Bool.{cases_eq}
 use Rattle.std.proofs.lemmas.Bool.Decides.{nat_tests}
 use Rattle.offset_allocator.specs.Classes.{down}
 use Rattle.offset_allocator.specs.Cells.{Cells, Room, Node, node, put, AreEmpty, AreShaped}
-use Rattle.offset_allocator.specs.Named.{Block, View, IsWellFormed, free_block, put_first, names_at, times}
+use Rattle.offset_allocator.specs.Named.{Block, View, IsWellFormed, free_block, push, names_at, times}
 use Rattle.offset_allocator.specs.Space.{IsChain, IsSpace, blocks, spares}
 use Rattle.offset_allocator.specs.Orders.{Linked, Masked, Binned, class_lists, Among, IsUnlisted}
 use Rattle.offset_allocator.specs.State.{IsSound, view_of, free_units}
@@ -20,7 +20,7 @@ use Rattle.offset_allocator.proofs.ViewTaken.{well_alone}
 
 -- one free block of the whole size
 abbrev pub fresh : ℕ → ℕ → View
-fresh size limit = record { size = size; max_allocs = limit; blocks = free_block (limit - 1) size ∷ []; order = put_first (down size) (limit - 1) (replicate 256 []); accesses = 0 }
+fresh size limit = record { size = size; max_allocs = limit; blocks = free_block (limit - 1) size ∷ []; order = push (down size) (limit - 1) (replicate 256 []); accesses = 0 }
 
 times-rising : (k j : ℕ) (s : List ℕ) → j ≤ length s → ((i : ℕ) → i < j → get_or s i 0 ≡ i) → times k (take j s) ≡ cond (nat_lt k j) 1 0
 times-rising k zero s l h = grind (arith, nat_tests)
@@ -98,7 +98,7 @@ module _ (max m size : ℕ) (some : 0 < m) (small : size < 2 ^ 32) (t : Cells) (
       rw (empty_at c h) at b
 
   pub started : (d : Cells) (top : ℕ) → 2 ≤ m → m + 1 < max → length d.room.nodes ≡ m → IsSpace d.room (m - 1) (m - 1) → blocks d.room (m - 1) ≡ free_block (m - 1) size ∷ [] → Binned max d.links top
-      → class_lists max d.links ≡ put_first (down size) (m - 1) (replicate 256 []) → IsSound max size m d (m - 1) (m - 1) top size × (view_of max size m d (m - 1) 0 ≡ fresh size m)
+      → class_lists max d.links ≡ push (down size) (m - 1) (replicate 256 []) → IsSound max size m d (m - 1) (m - 1) top size × (view_of max size m d (m - 1) 0 ≡ fresh size m)
   started d top two least nodes space eb bins lists =
       let ev : view_of max size m d (m - 1) 0 ≡ fresh size m = ap₂ (λ (b : List Block) (o : List (List ℕ)). let u : View = record { size = size; max_allocs = m; blocks = b; order = o; accesses = 0 } in u) eb lists in (
         record {

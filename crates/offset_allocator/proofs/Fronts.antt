@@ -1,9 +1,9 @@
--- What it leaves to cut a free block off the front of a block.
+-- What is left when a free block is split off the start of a block.
 use Rattle.std.proofs.Common.{◌≡◌, ◌≢◌, ℕ, ◌+◌, ◌-◌, ◌<◌, ◌≤◌, false, Option, None, Some, List, [], ◌∷◌, ◌++◌, length, get_or, refl, sym, ◌∙◌, ap, arith, inl, inr, length-append, subst, nat_eq}
 use Rattle.std.proofs.lemmas.Bool.{cases_eq, eq-eqb, ne_eqb}
 use Rattle.offset_allocator.specs.Cells.{Room, Node, node, put}
 use Rattle.offset_allocator.specs.Space.{last_or, IsRow, IsChain, spares, blocks}
-use Rattle.offset_allocator.specs.Named.{Block, units, named, times, one}
+use Rattle.offset_allocator.specs.Named.{Block, units, count_named, times, one}
 use Rattle.offset_allocator.specs.Parts.{split_front}
 use Rattle.offset_allocator.proofs.Nodes.{node-put, node-put_other, length-put, spare-put, put-step}
 use Rattle.offset_allocator.proofs.Rows.{one-same, one-eq, one-other, times-join, times-append, units-append, last_or-append, IsRow-front, IsRow-back, IsRow-append, IsRow-kept}
@@ -11,12 +11,12 @@ use Rattle.offset_allocator.proofs.Back.{times-end, IsRow-aimed}
 use Rattle.offset_allocator.proofs.Split.{each-le, spares-more, spares-same}
 use Rattle.offset_allocator.proofs.SplitSpace.{SplitAt, chain, spot_x, y_below, apart, size-is}
 use Rattle.offset_allocator.proofs.JoinSpace.{IsLinkedOn, length-on, spare-on, node-on_at, node-on_other}
-use Rattle.offset_allocator.proofs.Spot.{stands-below}
+use Rattle.offset_allocator.proofs.Spot.{there-below}
 
-head_not : (x : ℕ) (f : Block) (fs : List Block) → named x (f ∷ fs) ≡ 0 → f.name ≡ x → ⊥
+head_not : (x : ℕ) (f : Block) (fs : List Block) → count_named x (f ∷ fs) ≡ 0 → f.name ≡ x → ⊥
 head_not x f fs h e = omega (arith, one-eq x f.name e)
 
-pub split_front-at : (fs : List Block) (b : Block) (cs : List Block) (n y : ℕ) → named b.name fs ≡ 0 → split_front b.name n y (fs ++ b ∷ cs) ≡ fs ++ record { name = y; size = n; used = false } ∷ record b { size = b.size - n } ∷ cs
+pub split_front-at : (fs : List Block) (b : Block) (cs : List Block) (n y : ℕ) → count_named b.name fs ≡ 0 → split_front b.name n y (fs ++ b ∷ cs) ≡ fs ++ record { name = y; size = n; used = false } ∷ record b { size = b.size - n } ∷ cs
 split_front-at [] b cs n y h = rw (eq-eqb b.name b.name refl)
 split_front-at (f ∷ fs) b cs n y h = rw (ne_eqb f.name b.name (head_not b.name f fs h)) (ap (λ l. f ∷ l) (split_front-at fs b cs n y (omega arith)))
 
@@ -27,14 +27,14 @@ pub record IsFrontCut (c d : Room) (x : ℕ) (fs : List Block) (n y : ℕ) : Typ
   pub at_p : (z : ℕ) → last_or None fs ≡ Some z → node d z ≡ record (node c z) { after = Some y }
   pub others : (k : ℕ) → k ≢ x → k ≢ y → last_or None fs ≢ Some k → node d k ≡ node c k
 
-module _ (c d : Room) (fs : List Block) (b : Block) (cs : List Block) (n y : ℕ) (cut : IsFrontCut c d b.name fs n y) (once : (k : ℕ) → named k (fs ++ b ∷ cs) ≤ 1) (new : named y (fs ++ b ∷ cs) ≡ 0) (within : n ≤ b.size) where
-  front_same : (k : ℕ) → 1 ≤ named k fs → last_or None fs ≢ Some k → node d k ≡ node c k
+module _ (c d : Room) (fs : List Block) (b : Block) (cs : List Block) (n y : ℕ) (cut : IsFrontCut c d b.name fs n y) (once : (k : ℕ) → count_named k (fs ++ b ∷ cs) ≤ 1) (new : count_named y (fs ++ b ∷ cs) ≡ 0) (within : n ≤ b.size) where
+  front_same : (k : ℕ) → 1 ≤ count_named k fs → last_or None fs ≢ Some k → node d k ≡ node c k
   front_same k l ne = cut.others k
       (λ e. omega (arith, once k, times-append k fs (b ∷ cs), one-eq k b.name (sym e)))
       (λ e. omega (arith, rw (sym e) at new, times-append k fs (b ∷ cs)))
       ne
 
-  back_same : (k : ℕ) → 1 ≤ named k cs → node d k ≡ node c k
+  back_same : (k : ℕ) → 1 ≤ count_named k cs → node d k ≡ node c k
   back_same k l = cut.others k
       (λ e. omega (arith, once k, times-append k fs (b ∷ cs), one-eq k b.name (sym e)))
       (λ e. omega (arith, rw (sym e) at new, times-append k fs (b ∷ cs)))
@@ -56,10 +56,10 @@ front-chain c d m last count fs b cs n y h popped within cut cells spare =
     let y' : Block = record { name = y; size = n; used = false } in
     let long : length (fs ++ b ∷ cs) + (count + 1) ≡ m = h.full in
     let room : count < length c.spare = omega (arith, h.stack) in
-    let taken : spares c (count + 1) ≡ spares c count ++ y ∷ [] = rw popped (spares-more c count room) in
-    let had : (k : ℕ) → times k (spares c (count + 1)) ≡ times k (spares c count) + one (nat_eq k y) = λ k. rw taken (omega (arith, times-join k (spares c count) (y ∷ []))) in
-    let once : (k : ℕ) → named k (fs ++ b ∷ cs) ≤ 1 = λ k. omega (arith, each-le c m last (count + 1) _ h k) in
-    let new : named y (fs ++ b ∷ cs) ≡ 0 = omega (arith, each-le c m last (count + 1) _ h y, had y, one-same y) in
+    let place_for : spares c (count + 1) ≡ spares c count ++ y ∷ [] = rw popped (spares-more c count room) in
+    let had : (k : ℕ) → times k (spares c (count + 1)) ≡ times k (spares c count) + one (nat_eq k y) = λ k. rw place_for (omega (arith, times-join k (spares c count) (y ∷ []))) in
+    let once : (k : ℕ) → count_named k (fs ++ b ∷ cs) ≤ 1 = λ k. omega (arith, each-le c m last (count + 1) _ h k) in
+    let new : count_named y (fs ++ b ∷ cs) ≡ 0 = omega (arith, each-le c m last (count + 1) _ h y, had y, one-same y) in
     record {
       cells = cells;
       stack = rw spare h.stack;
@@ -118,17 +118,17 @@ module _ (c : Room) (last count x n y : ℕ) (h : SplitAt c last count x n y) wh
   bs_chain : IsChain c m last ((count - 1) + 1) (blocks c last)
   bs_chain = chain c last count x n y h
 
-  new : (k : ℕ) → named k (blocks c last) + one (nat_eq k y) ≤ 1
+  new : (k : ℕ) → count_named k (blocks c last) + one (nat_eq k y) ≤ 1
   new k =
       let long = bs_chain.full in
-      let taken : spares c ((count - 1) + 1) ≡ spares c (count - 1) ++ y ∷ [] = rw h.popped (spares-more c (count - 1) (omega (arith, bs_chain.stack))) in
-      omega (arith, rw (taken, times-join k (spares c (count - 1)) (y ∷ [])) at (each-le c m last ((count - 1) + 1) _ bs_chain k))
+      let place_for : spares c ((count - 1) + 1) ≡ spares c (count - 1) ++ y ∷ [] = rw h.popped (spares-more c (count - 1) (omega (arith, bs_chain.stack))) in
+      omega (arith, rw (place_for, times-join k (spares c (count - 1)) (y ∷ [])) at (each-le c m last ((count - 1) + 1) _ bs_chain k))
 
   pub before-low : (z : ℕ) → (node c x).before ≡ Some z → z < m
   before-low z e =
       let s = spot_x c last count x n y h in
       let q : last_or None s.front ≡ Some z = sym (ap (λ (v : Node). v.before) s.at_x) ∙ e in
-      stands-below c m last count z (blocks c last) h.space (rw s.is (omega (arith, times-append z s.front (s.here ∷ s.back), times-end z s.front q)))
+      there-below c m last count z (blocks c last) h.space (rw s.is (omega (arith, times-append z s.front (s.here ∷ s.back), times-end z s.front q)))
 
   pub front-space : (d : Room) → IsLinkedOn (node c x).before d (fronted c x n y) y → IsChain d m last (count - 1) (split_front x n y (blocks c last))
   front-space d written =
@@ -141,8 +141,8 @@ module _ (c : Room) (last count x n y : ℕ) (h : SplitAt c last count x n y) wh
       let written' : P (last_or None s.front) = subst P before_is written in
       let list : blocks c last ≡ s.front ++ s.here ∷ s.back = s.is in
       let apart_z : (z : ℕ) → last_or None s.front ≡ Some z → (z ≢ x) × (z ≢ y) × (z < m) = λ z e. (
-        λ same. omega (arith, new z, ap (λ l. named z l) list, times-append z s.front (s.here ∷ s.back), times-end z s.front e, one-eq z s.here.name (s.name_is ∙ sym same)),
-        λ same. omega (arith, new z, ap (λ l. named z l) list, times-append z s.front (s.here ∷ s.back), times-end z s.front e, one-eq z y (sym same)),
+        λ same. omega (arith, new z, ap (λ l. count_named z l) list, times-append z s.front (s.here ∷ s.back), times-end z s.front e, one-eq z s.here.name (s.name_is ∙ sym same)),
+        λ same. omega (arith, new z, ap (λ l. count_named z l) list, times-append z s.front (s.here ∷ s.back), times-end z s.front e, one-eq z y (sym same)),
         before-low z (before_is ∙ e),
       ) in
       let cut = cut-fronted c m x n y h.space.cells x_low y_low differ d s.front apart_z written' in

@@ -3,9 +3,9 @@ use Rattle.std.proofs.Common.{◌≡◌, ℕ, ◌+◌, ◌-◌, ◌<◌, ◌≤�
 use Rattle.std.proofs.lemmas.Bool.{lt-leb}
 use Rattle.offset_allocator.specs.Classes.{up, down}
 use Rattle.offset_allocator.specs.Cells.{Cells, Room}
-use Rattle.offset_allocator.specs.Named.{Block, View, Place, Grant, Outcome, named, names_at, IsWellFormed, IsUnused, is_short_of, allocate, refused, free_part, used_block, free_block, units, remove_all, put_all, remove, put_first, without}
-use Rattle.offset_allocator.specs.Space.{IsSpace, Stands, blocks, mark_block, split_block, offset_in, size_in}
-use Rattle.offset_allocator.specs.Orders.{IsUnlisted, IsLeastFrom, class_lists, Binned}
+use Rattle.offset_allocator.specs.Named.{Block, View, Place, Grant, Outcome, count_named, names_at, IsWellFormed, IsUnused, is_short_of, allocate, refuse, free_part, used_block, free_block, units, remove_all, push_all, remove, push, without}
+use Rattle.offset_allocator.specs.Space.{IsSpace, HasName, blocks, mark_block, split_block, offset_in, size_in}
+use Rattle.offset_allocator.specs.Orders.{IsUnlisted, IsSmallestFrom, class_lists, Binned}
 use Rattle.offset_allocator.specs.State.{Fields, AreSound, IsSound, shown, view_of, free_units}
 use Rattle.offset_allocator.specs.Relations.{Allocates}
 use Rattle.offset_allocator.proofs.Joints.{with_accesses}
@@ -21,7 +21,7 @@ pub same_view : (v : View) (bs bs' : List Block) (os os' : List (List ℕ)) (k :
 same_view v bs bs' os os' k e f = ap₂ (λ (b : List Block) (o : List (List ℕ)). record v { blocks = b; order = o; accesses = k }) e f
 
 -- a grant: the field values at its start, a class with a free block for n, and the first name there
-module _ (f : Fields) (n class x : ℕ) (s : AreSound f) (room : is_short_of 1 (shown f) ≡ false) (l : IsLeastFrom (up n) (class_lists f.max f.cells.links) class) (xs : List ℕ) (first : names_at (class_lists f.max f.cells.links) class ≡ x ∷ xs) where
+module _ (f : Fields) (n class x : ℕ) (s : AreSound f) (room : is_short_of 1 (shown f) ≡ false) (l : IsSmallestFrom (up n) (class_lists f.max f.cells.links) class) (xs : List ℕ) (first : names_at (class_lists f.max f.cells.links) class ≡ x ∷ xs) where
   abbrev max : ℕ
   max = f.max
 
@@ -53,21 +53,21 @@ module _ (f : Fields) (n class x : ℕ) (s : AreSound f) (room : is_short_of 1 (
   is_free : p.block.used ≡ false
   is_free = not_true p.block.used got.here.free
 
-  alone : named p.block.name p.before ≡ 0
+  alone : count_named p.block.name p.before ≡ 0
   alone = got.here.alone
 
   pub enough : n ≤ got.place.block.size
   enough = fits_size n got.place.block.size (le-leb (up n) (down got.place.block.size) got.here.class)
 
-  pub stands : Stands x (blocks f.cells.room f.last)
-  stands = rw got.here.stood (omega (arith, times-append x p.before (p.block ∷ p.after), one-eq x p.block.name got.name))
+  pub there : HasName x (blocks f.cells.room f.last)
+  there = rw got.here.stood (omega (arith, times-append x p.before (p.block ∷ p.after), one-eq x p.block.name got.name))
 
   marked : mark_block x true bs ≡ p.before ++ record p.block { used = true } ∷ p.after
   marked = ap (λ b. mark_block x true b) got.here.stood ∙ ap (λ y. mark_block y true (p.before ++ p.block ∷ p.after)) (sym got.name) ∙ mark_block-at p.before p.block p.after true alone
 
-  -- before the rest is cut off
-  pub stands_marked : (d : Room) (e : blocks d f.last ≡ mark_block x true (blocks f.cells.room f.last)) → Stands x (blocks d f.last)
-  stands_marked d e = rw (e, marked) (omega (arith, times-append x p.before (record p.block { used = true } ∷ p.after), one-eq x p.block.name got.name))
+  -- before the remainder is split off
+  pub there_marked : (d : Room) (e : blocks d f.last ≡ mark_block x true (blocks f.cells.room f.last)) → HasName x (blocks d f.last)
+  there_marked d e = rw (e, marked) (omega (arith, times-append x p.before (record p.block { used = true } ∷ p.after), one-eq x p.block.name got.name))
 
   pub size_marked : (d : Room) (e : blocks d f.last ≡ mark_block x true (blocks f.cells.room f.last)) → size_in x (blocks d f.last) ≡ got.place.block.size
   size_marked d e = ap (size_in x) (e ∙ marked) ∙ ap (λ y. size_in y (p.before ++ record p.block { used = true } ∷ p.after)) (sym got.name) ∙ size_in-at p.before (record p.block { used = true }) p.after alone
@@ -76,10 +76,10 @@ module _ (f : Fields) (n class x : ℕ) (s : AreSound f) (room : is_short_of 1 (
   offset_marked d e = ap (offset_in x) (e ∙ marked) ∙ ap (λ y. offset_in y (p.before ++ record p.block { used = true } ∷ p.after)) (sym got.name) ∙ offset_in-at p.before (record p.block { used = true }) p.after alone
 
   -- a name that is new among the marked blocks is unused
-  pub unused_rest : (d : Room) (y : ℕ) → blocks d f.last ≡ mark_block x true (blocks f.cells.room f.last) → named y (blocks d f.last) ≡ 0 → y < length f.cells.room.nodes → IsUnused y (shown f)
+  pub unused_rest : (d : Room) (y : ℕ) → blocks d f.last ≡ mark_block x true (blocks f.cells.room f.last) → count_named y (blocks d f.last) ≡ 0 → y < length f.cells.room.nodes → IsUnused y (shown f)
   unused_rest d y e t b = record {
     below = omega (arith, s.nodes);
-    absent = ap (λ z. named y z) got.here.stood ∙ (let q = ap (λ z. named y z) (e ∙ marked) in omega (arith, t, times-append y p.before (p.block ∷ p.after), times-append y p.before (record p.block { used = true } ∷ p.after)));
+    absent = ap (λ z. count_named y z) got.here.stood ∙ (let q = ap (λ z. count_named y z) (e ∙ marked) in omega (arith, t, times-append y p.before (p.block ∷ p.after), times-append y p.before (record p.block { used = true } ∷ p.after)));
   }
 
   pub rest_unlisted : (y : ℕ) → IsUnused y (shown f) → IsUnlisted y (slice_set (class_lists f.max f.cells.links) class (without x (names_at (class_lists f.max f.cells.links) class)))
@@ -101,7 +101,7 @@ module _ (f : Fields) (n class x : ℕ) (s : AreSound f) (room : is_short_of 1 (
   new_blocks y = p.before ++ ((free_part y 0 ++ used_block p.block.name n ∷ free_part y (p.block.size - (0 + n))) ++ p.after)
 
   abbrev new_order : ℕ → List (List ℕ)
-  new_order y = put_all (free_part y 0 ++ used_block p.block.name n ∷ free_part y (p.block.size - (0 + n))) (remove_all (p.block ∷ []) ls)
+  new_order y = push_all (free_part y 0 ++ used_block p.block.name n ∷ free_part y (p.block.size - (0 + n))) (remove_all (p.block ∷ []) ls)
 
   concluded : (d : Cells) (last' count' top' acc' y : ℕ) → IsSpace d.room last' count' → Binned max d.links top' → length d.room.nodes ≡ length f.cells.room.nodes → IsUnused y v
       → blocks d.room last' ≡ new_blocks y → class_lists f.max d.links ≡ new_order y → free_units (blocks d.room last') ≡ f.free - n
@@ -131,10 +131,10 @@ module _ (f : Fields) (n class x : ℕ) (s : AreSound f) (room : is_short_of 1 (
       let b₁ : record p.block { used = true } ≡ used_block p.block.name n = ap (λ (k : ℕ). used_block p.block.name k) whole in
       concluded d f.last f.count top' acc' y space bins nodes unused
       (eb ∙ marked ∙ ap (λ (b : Block). p.before ++ b ∷ p.after) b₁ ∙ sym (ap (λ (t : List Block). p.before ++ ((used_block p.block.name n ∷ t) ++ p.after)) none))
-      (eo ∙ sym removed ∙ sym (ap (λ (t : List Block). put_all t (remove_all (p.block ∷ []) ls)) none))
+      (eo ∙ sym removed ∙ sym (ap (λ (t : List Block). push_all t (remove_all (p.block ∷ []) ls)) none))
       (ap free_units (eb ∙ marked) ∙ left_free (record p.block { used = true }) p.after refl ∙ omega (arith, had_free))
 
-  -- a part of it is granted, and the rest stands behind it
+  -- a part of it is granted, and the remainder is after it
   pub granted_part : (d : Cells) (e : Room) (last' count' top' acc' y : ℕ) → n < got.place.block.size → IsSpace d.room last' count' → blocks e f.last ≡ mark_block x true (blocks f.cells.room f.last)
       → blocks d.room last' ≡ split_block x n y (blocks e f.last) → Binned max d.links top'
       → class_lists f.max d.links ≡ slice_set (slice_set (class_lists f.max f.cells.links) class (without x (names_at (class_lists f.max f.cells.links) class))) (down (got.place.block.size - n)) (y ∷ names_at (slice_set (class_lists f.max f.cells.links) class (without x (names_at (class_lists f.max f.cells.links) class))) (down (got.place.block.size - n)))
@@ -147,7 +147,7 @@ module _ (f : Fields) (n class x : ℕ) (s : AreSound f) (room : is_short_of 1 (
       eb ∙ ap (split_block x n y) (em ∙ marked) ∙ ap (λ i. split_block i n y (p.before ++ record p.block { used = true } ∷ p.after)) (sym got.name) ∙ split_block-at p.before (record p.block { used = true }) p.after n y alone in
       concluded d last' count' top' acc' y space bins nodes unused
       (cut ∙ sym (ap (λ (t : List Block). p.before ++ ((used_block p.block.name n ∷ t) ++ p.after)) some))
-      (eo ∙ ap (λ (o : List (List ℕ)). put_first (down (p.block.size - n)) y o) (sym removed) ∙ sym (ap (λ (t : List Block). put_all t (remove_all (p.block ∷ []) ls)) some))
+      (eo ∙ ap (λ (o : List (List ℕ)). push (down (p.block.size - n)) y o) (sym removed) ∙ sym (ap (λ (t : List Block). push_all t (remove_all (p.block ∷ []) ls)) some))
       (ap free_units cut ∙ left_free (used_block p.block.name n) (free_block y (p.block.size - n) ∷ p.after) refl ∙ ap (λ k. free_units p.before + k) (free_units-free (free_block y (p.block.size - n)) p.after refl) ∙ omega (arith, had_free, part))
 
 -- a request that is refused
@@ -158,7 +158,7 @@ module _ (it : Fields) (n : ℕ) (s : AreSound it) where
   known : IsWellFormed was
   known = well_counted (shown (record it { accesses = 0 })) it.accesses s.well
 
-  left_as_it_was : (y acc' : ℕ) → IsUnused y was → allocate n y was ≡ refused was → Allocates n (shown it) (shown (record it { accesses = acc' })) None
+  left_as_it_was : (y acc' : ℕ) → IsUnused y was → allocate n y was ≡ refuse was → Allocates n (shown it) (shown (record it { accesses = acc' })) None
   left_as_it_was y acc' u e = record {
     rest = y;
     unused = u;

@@ -1,15 +1,15 @@
 -- What it leaves to add units to the last block.
 use Rattle.std.proofs.Common.{◌≡◌, ◌≢◌, ℕ, zero, suc, Option, ◌+◌, ◌<◌, ◌≤◌, ◌^◌, None, Some, List, [], ◌∷◌, ◌++◌, length, refl, sym, ◌∙◌, ap, arith, length-append, subst}
-use Rattle.offset_allocator.specs.Named.{Block, units, named}
+use Rattle.offset_allocator.specs.Named.{Block, units, count_named}
 use Rattle.offset_allocator.specs.Cells.{Room, Node, node, put}
-use Rattle.offset_allocator.specs.Space.{last_or, IsRow, IsChain, IsSpace, Stands, blocks, walk, block_at}
+use Rattle.offset_allocator.specs.Space.{last_or, IsRow, IsChain, IsSpace, HasName, blocks, walk, block_at}
 use Rattle.offset_allocator.specs.Parts.{grow_last}
 use Rattle.offset_allocator.proofs.Nodes.{node-put, node-put_other, length-put, spare-put}
 use Rattle.offset_allocator.proofs.Rows.{one-eq, times-append, units-append, last_or-append, IsRow-front, IsRow-back, IsRow-append, IsRow-kept}
 use Rattle.offset_allocator.proofs.Back.{times-end}
 use Rattle.offset_allocator.proofs.Split.{each-le, spares-same}
 use Rattle.offset_allocator.proofs.Merging.{ended, node_at}
-use Rattle.offset_allocator.proofs.Spot.{stands-below}
+use Rattle.offset_allocator.proofs.Spot.{there-below}
 
 pub grow_last-at : (more : ℕ) (fs : List Block) (b : Block) → grow_last more (fs ++ b ∷ []) ≡ fs ++ record b { size = b.size + more } ∷ []
 grow_last-at more [] b = refl
@@ -19,7 +19,7 @@ grow_last-at more (f ∷ g ∷ fs) b = ap (λ l. f ∷ l) (grow_last-at more (g 
 grown-chain : (c d : Room) (m last count more : ℕ) (fs : List Block) (b : Block) → IsChain c m last count (fs ++ b ∷ []) → b.name < m → units (fs ++ b ∷ []) + more < 2 ^ 32 → d ≡ put c b.name (record (node c b.name) { size = b.size + more }) → IsChain d m last count (fs ++ record b { size = b.size + more } ∷ [])
 grown-chain c d m last count more fs b h l small e =
     let b' : Block = record b { size = b.size + more } in
-    let once : (k : ℕ) → named k (fs ++ b ∷ []) ≤ 1 = λ k. omega (arith, each-le c m last count _ h k) in
+    let once : (k : ℕ) → count_named k (fs ++ b ∷ []) ≤ 1 = λ k. omega (arith, each-le c m last count _ h k) in
     let same : d.spare ≡ c.spare = rw e (spare-put c b.name _) in
     let l' : b.name < length c.nodes = rw h.cells l in
     let at_b : node d b.name ≡ record (node c b.name) { size = b.size + more } = rw e (node-put c b.name (record (node c b.name) { size = b.size + more }) l') in
@@ -47,26 +47,26 @@ pub record IsLast (c : Room) (last : ℕ) : Type 0 where
   pub block : Block
   pub is : blocks c last ≡ front ++ block ∷ []
   pub name : block.name ≡ last
-  pub alone : named block.name front ≡ 0
+  pub alone : count_named block.name front ≡ 0
   pub at : node c last ≡ record { offset = units front; size = block.size; used = block.used; before = last_or None front; after = None }
   pub below : last < length c.nodes
-  pub stands : Stands last (blocks c last)
+  pub there : HasName last (blocks c last)
 
 pub last_is : (c : Room) (last count : ℕ) → IsSpace c last count → IsLast c last
 last_is c last count h =
     let f = ended (blocks c last) last h.ends in
     let P : List Block → Type 0 = λ l. IsRow c None 0 l None in
     let once = each-le c (length c.nodes) last count (blocks c last) h f.last.name in
-    let stands : Stands last (blocks c last) = times-end last (blocks c last) h.ends in
+    let there : HasName last (blocks c last) = times-end last (blocks c last) h.ends in
     record {
       front = f.front;
       block = f.last;
       is = f.is;
       name = f.name;
-      alone = omega (arith, once, ap (named f.last.name) f.is, times-append f.last.name f.front (f.last ∷ []), one-eq f.last.name f.last.name refl);
+      alone = omega (arith, once, ap (count_named f.last.name) f.is, times-append f.last.name f.front (f.last ∷ []), one-eq f.last.name f.last.name refl);
       at = node_at c f.front f.last [] last (subst P f.is h.row) f.name;
-      below = stands-below c (length c.nodes) last count last (blocks c last) h stands;
-      stands = stands;
+      below = there-below c (length c.nodes) last count last (blocks c last) h there;
+      there = there;
     }
 
 pub grown-space : (c d : Room) (last count more : ℕ) → IsSpace c last count → units (blocks c last) + more < 2 ^ 32 → d ≡ put c last (record (node c last) { size = (node c last).size + more }) → IsChain d (length c.nodes) last count (grow_last more (blocks c last))

@@ -4,25 +4,25 @@ use Rattle.std.proofs.lemmas.List.{take_more_set}
 use Rattle.std.proofs.lemmas.Bool.{cases_eq}
 use Rattle.offset_allocator.specs.Cells.{Room, node}
 use Rattle.offset_allocator.specs.Space.{first_or, last_or, IsRow, IsChain, spares}
-use Rattle.offset_allocator.specs.Named.{Block, units, named, times, one}
+use Rattle.offset_allocator.specs.Named.{Block, units, count_named, times, one}
 use Rattle.offset_allocator.proofs.Rows.{one-eq, one-other, times-join, times-append, times-first, units-append, last_or-append, IsRow-front, IsRow-back, IsRow-append, IsRow-kept, IsRow-moved}
 use Rattle.offset_allocator.proofs.Split.{each-le}
 
--- the cells d after the block y, with cs behind it, went into the block x before it
+-- the cells d after the block y, with cs after it, went into the block x before it
 pub record IsJoin (c d : Room) (x y : ℕ) (cs : List Block) : Type 0 where
   pub at_x : node d x ≡ record (node c x) { size = (node c x).size + (node c y).size; after = (node c y).after }
   pub at_y : (node d y).used ≡ false
   pub at_z : (z : ℕ) → first_or None cs ≡ Some z → node d z ≡ record (node c z) { before = Some x }
   pub others : (k : ℕ) → k ≢ x → k ≢ y → first_or None cs ≢ Some k → node d k ≡ node c k
 
-module _ (c d : Room) (fs : List Block) (b e : Block) (cs : List Block) (join : IsJoin c d b.name e.name cs) (once : (k : ℕ) → named k (fs ++ b ∷ e ∷ cs) ≤ 1) where
-  front_same : (k : ℕ) → 1 ≤ named k fs → node d k ≡ node c k
+module _ (c d : Room) (fs : List Block) (b e : Block) (cs : List Block) (join : IsJoin c d b.name e.name cs) (once : (k : ℕ) → count_named k (fs ++ b ∷ e ∷ cs) ≤ 1) where
+  front_same : (k : ℕ) → 1 ≤ count_named k fs → node d k ≡ node c k
   front_same k l = join.others k
       (λ q. omega (arith, once k, times-append k fs (b ∷ e ∷ cs), one-eq k b.name (sym q)))
       (λ q. omega (arith, once k, times-append k fs (b ∷ e ∷ cs), one-eq k e.name (sym q)))
       (λ q. omega (arith, once k, times-append k fs (b ∷ e ∷ cs), times-first k cs q))
 
-  back_same : (k : ℕ) → 1 ≤ named k cs → first_or None cs ≢ Some k → node d k ≡ node c k
+  back_same : (k : ℕ) → 1 ≤ count_named k cs → first_or None cs ≢ Some k → node d k ≡ node c k
   back_same k l ne = join.others k
       (λ q. omega (arith, once k, times-append k fs (b ∷ e ∷ cs), one-eq k b.name (sym q)))
       (λ q. omega (arith, once k, times-append k fs (b ∷ e ∷ cs), one-eq k e.name (sym q)))
@@ -55,7 +55,7 @@ join-chain c d m last last' count fs b e cs h join cells spare none some =
     let room : count < length c.spare = omega (arith, h.stack) in
     let given : spares d (count + 1) ≡ spares c count ++ e.name ∷ [] = spares-push c d count e.name room spare in
     let has : (k : ℕ) → times k (spares d (count + 1)) ≡ times k (spares c count) + one (nat_eq k e.name) = λ k. rw given (omega (arith, times-join k (spares c count) (e.name ∷ []))) in
-    let once : (k : ℕ) → named k (fs ++ b ∷ e ∷ cs) ≤ 1 = λ k. omega (arith, each-le c m last count _ h k) in
+    let once : (k : ℕ) → count_named k (fs ++ b ∷ e ∷ cs) ≤ 1 = λ k. omega (arith, each-le c m last count _ h k) in
     record {
       cells = cells;
       stack = rw spare (length-set c.spare count e.name ∙ h.stack);

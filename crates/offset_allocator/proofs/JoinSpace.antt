@@ -2,17 +2,17 @@
 use Rattle.std.proofs.Common.{◌≡◌, ◌≢◌, ℕ, ◌+◌, ◌<◌, ◌≤◌, false, Option, None, Some, List, [], ◌∷◌, ◌++◌, length, set, refl, sym, ◌∙◌, ap, arith, MatchOption, subst, length-append, length-set, inl, inr, nat_eq}
 use Rattle.std.proofs.lemmas.Bool.{cases_eq}
 use Rattle.offset_allocator.specs.Cells.{Room, Node, node, put, with_spare}
-use Rattle.offset_allocator.specs.Named.{Block, named, times, one}
-use Rattle.offset_allocator.specs.Space.{HasPair, size_in, first_or, last_or, IsChain, IsSpace, spares, Stands, blocks, name_after, join_block, give_block}
+use Rattle.offset_allocator.specs.Named.{Block, count_named, times, one}
+use Rattle.offset_allocator.specs.Space.{HasPair, size_in, first_or, last_or, IsChain, IsSpace, spares, HasName, blocks, name_after, join_block, merge_block}
 use Rattle.offset_allocator.proofs.Nodes.{node-put, node-put_other, length-put, spare-put, put-step}
 use Rattle.offset_allocator.proofs.Rows.{one-eq, one-other, times-append, times-first, times-join, units-append, last_or-append}
 use Rattle.offset_allocator.proofs.Found.{join_block-at, name_after-at}
 use Rattle.offset_allocator.proofs.Split.{each-le}
 use Rattle.offset_allocator.proofs.SplitSpace.{IsLinked, length-linked, spare-linked, node-linked_at, node-linked_other}
-use Rattle.offset_allocator.proofs.Spot.{stands-below, size-told}
+use Rattle.offset_allocator.proofs.Spot.{there-below, size-read}
 use Rattle.offset_allocator.proofs.Back.{IsBackJoin, back-row, times-end}
 use Rattle.offset_allocator.proofs.Join.{IsJoin, join-chain, spares-push}
-use Rattle.offset_allocator.proofs.Merging.{Standing, standing, Next, after_next, give_block-at}
+use Rattle.offset_allocator.proofs.Merging.{Location, location, Next, after_next, merge_block-at}
 
 node-with_spare : (c : Room) (i v k : ℕ) → node (with_spare c i v) k ≡ node c k
 unfolding node with_spare
@@ -26,9 +26,9 @@ spare-with_spare : (c : Room) (i v : ℕ) → (with_spare c i v).spare ≡ set c
 unfolding with_spare
 spare-with_spare c i v = refl
 
--- before the link of a neighbour and the spare stack
-abbrev pub joined : Room → ℕ → ℕ → Room
-joined c x y = put c x (record (node c x) { size = (node c x).size + (node c y).size; after = (node c y).after })
+-- before the link of a neighbour and the stack of unused names
+abbrev pub coalesce : Room → ℕ → ℕ → Room
+coalesce c x y = put c x (record (node c x) { size = (node c x).size + (node c y).size; after = (node c y).after })
 
 abbrev pub backed : Room → ℕ → ℕ → Room
 backed c w x = put c x (record (node c x) { offset = (node c w).offset; size = (node c w).size + (node c x).size; before = (node c w).before })
@@ -69,7 +69,7 @@ back-chain c d m last count fs e b cs h join cells spare =
     let room : count < length c.spare = omega (arith, h.stack) in
     let given : spares d (count + 1) ≡ spares c count ++ e.name ∷ [] = spares-push c d count e.name room spare in
     let has : (k : ℕ) → times k (spares d (count + 1)) ≡ times k (spares c count) + one (nat_eq k e.name) = λ k. rw given (omega (arith, times-join k (spares c count) (e.name ∷ []))) in
-    let once : (k : ℕ) → named k (fs ++ e ∷ b ∷ cs) ≤ 1 = λ k. omega (arith, each-le c m last count _ h k) in
+    let once : (k : ℕ) → count_named k (fs ++ e ∷ b ∷ cs) ≤ 1 = λ k. omega (arith, each-le c m last count _ h k) in
     record {
       cells = cells;
       stack = rw spare (length-set c.spare count e.name ∙ h.stack);
@@ -94,18 +94,18 @@ module _ (c : Room) (last count x y : ℕ) (j : HasPair c last count x y) where
   h : IsSpace c last count
   h = j.space
 
-  st : Stands x (blocks c last)
-  st = j.standing
+  st : HasName x (blocks c last)
+  st = j.present
 
   e : name_after x (blocks c last) ≡ Some y
   e = j.next
 
-  s : Standing c (blocks c last) x
-  s = standing c last count x h st
+  s : Location c (blocks c last) x
+  s = location c last count x h st
 
   n : Next c (blocks c last) y x s
   n =
-      let alone : named s.place.block.name s.place.before ≡ 0 = ap (λ i. named i s.place.before) s.name ∙ s.alone in
+      let alone : count_named s.place.block.name s.place.before ≡ 0 = ap (λ i. count_named i s.place.before) s.name ∙ s.alone in
       after_next c last count x h s y
       (ap (λ (v : Node). v.after) s.at_x ∙ sym (ap (name_after x) s.stood ∙ ap (λ i. name_after i (s.place.before ++ s.place.block ∷ s.place.after)) (sym s.name) ∙ name_after-at s.place.before s.place.block s.place.after alone) ∙ e)
 
@@ -127,37 +127,37 @@ module _ (c : Room) (last count x y : ℕ) (j : HasPair c last count x y) where
   pub y_below : y < length c.nodes
   y_below = n.below
 
-  cut : (k : ℕ) → named k fs + (one (nat_eq k b.name) + (one (nat_eq k d.name) + named k cs)) ≤ 1
-  cut k = omega (arith, each-le c m last count (blocks c last) h k, ap (λ l. named k l) n.stood, times-append k fs (b ∷ d ∷ cs))
+  cut : (k : ℕ) → count_named k fs + (one (nat_eq k b.name) + (one (nat_eq k d.name) + count_named k cs)) ≤ 1
+  cut k = omega (arith, each-le c m last count (blocks c last) h k, ap (λ l. count_named k l) n.stood, times-append k fs (b ∷ d ∷ cs))
 
   pub apart : x ≢ y
   apart q = omega (arith, cut x, one-eq x b.name s.name, one-eq x d.name (n.name ∙ sym q))
 
-  stands_in : (z : ℕ) → 1 ≤ named z fs + named z cs → z < m
-  stands_in z l = stands-below c m last count z (blocks c last) h (rw n.stood (omega (arith, times-append z fs (b ∷ d ∷ cs))))
+  there_in : (z : ℕ) → 1 ≤ count_named z fs + count_named z cs → z < m
+  there_in z l = there-below c m last count z (blocks c last) h (rw n.stood (omega (arith, times-append z fs (b ∷ d ∷ cs))))
 
   apart_after : (z : ℕ) → first_or None cs ≡ Some z → (z ≢ x) × (z ≢ y) × (z < m)
   apart_after z q = (
     λ same. omega (arith, cut z, times-first z cs q, one-eq z b.name (s.name ∙ sym same)),
     λ same. omega (arith, cut z, times-first z cs q, one-eq z d.name (n.name ∙ sym same)),
-    stands_in z (omega (arith, times-first z cs q)),
+    there_in z (omega (arith, times-first z cs q)),
   )
 
   apart_before : (z : ℕ) → last_or None fs ≡ Some z → (z ≢ x) × (z ≢ y) × (z < m)
   apart_before z q = (
     λ same. omega (arith, cut z, times-end z fs q, one-eq z b.name (s.name ∙ sym same)),
     λ same. omega (arith, cut z, times-end z fs q, one-eq z d.name (n.name ∙ sym same)),
-    stands_in z (omega (arith, times-end z fs q)),
+    there_in z (omega (arith, times-end z fs q)),
   )
 
-  pub y_stands : Stands y (blocks c last)
-  y_stands = rw n.stood (omega (arith, times-append y fs (b ∷ d ∷ cs), one-eq y d.name n.name))
+  pub y_there : HasName y (blocks c last)
+  y_there = rw n.stood (omega (arith, times-append y fs (b ∷ d ∷ cs), one-eq y d.name n.name))
 
   pub size_x : (node c x).size ≡ size_in x (blocks c last)
-  size_x = size-told c last count x h st
+  size_x = size-read c last count x h st
 
   pub size_y : (node c y).size ≡ size_in y (blocks c last)
-  size_y = size-told c last count y h y_stands
+  size_y = size-read c last count y h y_there
 
   pub left : count < length c.nodes
   left = let long = h.full in omega (arith, ap (λ (l : List Block). length l) n.stood, length-append fs (b ∷ d ∷ cs))
@@ -171,18 +171,18 @@ module _ (c : Room) (last count x y : ℕ) (j : HasPair c last count x y) where
   pub before-below : (z : ℕ) → (node c x).before ≡ Some z → z < m
   before-below z q = (apart_before z (sym (ap (λ (v : Node). v.before) s.at_x) ∙ q)).2
 
-  joined_x : node (joined c x y) x ≡ record (node c x) { size = (node c x).size + (node c y).size; after = (node c y).after }
-  joined_x = node-put c x _ s.below
+  coalesced_x : node (coalesce c x y) x ≡ record (node c x) { size = (node c x).size + (node c y).size; after = (node c y).after }
+  coalesced_x = node-put c x _ s.below
 
-  joined_other : (k : ℕ) → k ≢ x → node (joined c x y) k ≡ node c k
-  joined_other k ne = node-put_other c x _ k ne
+  coalesced_other : (k : ℕ) → k ≢ x → node (coalesce c x y) k ≡ node c k
+  coalesced_other k ne = node-put_other c x _ k ne
 
-  join_of : (free : (node c y).used ≡ false) (f : Room) → IsLinked (first_or None cs) f (joined c x y) x → IsJoin c f x y cs
+  join_of : (free : (node c y).used ≡ false) (f : Room) → IsLinked (first_or None cs) f (coalesce c x y) x → IsJoin c f x y cs
   join_of free f l = record {
-    at_x = node-linked_other (first_or None cs) f _ x x l (λ q. (apart_after x q).0 refl) ∙ joined_x;
-    at_y = ap (λ (v : Node). v.used) (node-linked_other (first_or None cs) f _ x y l (λ q. (apart_after y q).1 refl) ∙ joined_other y (λ q. apart (sym q))) ∙ free;
-    at_z = λ z q. let a = apart_after z q in node-linked_at (first_or None cs) f _ x z l q (rw (length-put c x (record (node c x) { size = (node c x).size + (node c y).size; after = (node c y).after })) a.2) ∙ ap (λ (v : Node). record v { before = Some x }) (joined_other z a.0);
-    others = λ k ne ne' no. node-linked_other (first_or None cs) f _ x k l no ∙ joined_other k ne;
+    at_x = node-linked_other (first_or None cs) f _ x x l (λ q. (apart_after x q).0 refl) ∙ coalesced_x;
+    at_y = ap (λ (v : Node). v.used) (node-linked_other (first_or None cs) f _ x y l (λ q. (apart_after y q).1 refl) ∙ coalesced_other y (λ q. apart (sym q))) ∙ free;
+    at_z = λ z q. let a = apart_after z q in node-linked_at (first_or None cs) f _ x z l q (rw (length-put c x (record (node c x) { size = (node c x).size + (node c y).size; after = (node c y).after })) a.2) ∙ ap (λ (v : Node). record v { before = Some x }) (coalesced_other z a.0);
+    others = λ k ne ne' no. node-linked_other (first_or None cs) f _ x k l no ∙ coalesced_other k ne;
   }
 
   pushed : (f : Room) → IsJoin c f x y cs → IsJoin c (with_spare f count y) x y cs
@@ -193,9 +193,9 @@ module _ (c : Room) (last count x y : ℕ) (j : HasPair c last count x y) where
     others = λ k a b' q. node-with_spare f count y k ∙ j.others k a b' q;
   }
 
-  pub join-space : (free : (node c y).used ≡ false) (f g : Room) (last' : ℕ) → IsLinked (node c y).after f (joined c x y) x → g ≡ with_spare f count y → MatchOption (node c y).after (last' ≡ x) (λ _. last' ≡ last) → IsChain g (length c.nodes) last' (count + 1) (join_block x (blocks c last))
+  pub join-space : (free : (node c y).used ≡ false) (f g : Room) (last' : ℕ) → IsLinked (node c y).after f (coalesce c x y) x → g ≡ with_spare f count y → MatchOption (node c y).after (last' ≡ x) (λ _. last' ≡ last) → IsChain g (length c.nodes) last' (count + 1) (join_block x (blocks c last))
   join-space free f g last' linked q moved =
-      let P : Option ℕ → Type 0 = λ link. IsLinked link f (joined c x y) x in
+      let P : Option ℕ → Type 0 = λ link. IsLinked link f (coalesce c x y) x in
       let l : P (first_or None cs) = subst P n.on linked in
       let Q : Option ℕ → Type 0 = λ link. MatchOption link (last' ≡ x) (λ _. last' ≡ last) in
       let mv : Q (first_or None cs) = subst Q n.on moved in
@@ -211,7 +211,7 @@ module _ (c : Room) (last count x y : ℕ) (j : HasPair c last count x y) where
       let list : join_block x (blocks c last) ≡ fs ++ record b { size = b.size + d.size } ∷ cs = ap (join_block x) n.stood ∙ ap (λ i. join_block i (fs ++ b ∷ d ∷ cs)) (sym s.name) ∙ join_block-at fs b d cs n.alone in
       rw list done
 
-  -- the other way: x goes into y behind it
+  -- the other way: x goes into y after it
   backed_y : node (backed c x y) y ≡ record (node c y) { offset = (node c x).offset; size = (node c x).size + (node c y).size; before = (node c x).before }
   backed_y = node-put c y _ n.below
 
@@ -234,7 +234,7 @@ module _ (c : Room) (last count x y : ℕ) (j : HasPair c last count x y) where
     others = λ k a b' q. node-with_spare f count x k ∙ j.others k a b' q;
   }
 
-  pub back-space : (free : (node c x).used ≡ false) (f g : Room) → IsLinkedOn (node c x).before f (backed c x y) y → g ≡ with_spare f count x → IsChain g (length c.nodes) last (count + 1) (give_block x (blocks c last))
+  pub back-space : (free : (node c x).used ≡ false) (f g : Room) → IsLinkedOn (node c x).before f (backed c x y) y → g ≡ with_spare f count x → IsChain g (length c.nodes) last (count + 1) (merge_block x (blocks c last))
   back-space free f g linked q =
       let P : Option ℕ → Type 0 = λ link. IsLinkedOn link f (backed c x y) y in
       let l : P (last_or None fs) = subst P (ap (λ (v : Node). v.before) s.at_x) linked in
@@ -246,12 +246,12 @@ module _ (c : Room) (last count x y : ℕ) (j : HasPair c last count x y) where
       let join' : R b.name d.name = subst (λ j. R b.name j) (sym n.name) (subst (λ i. R i y) (sym s.name) join) in
       let C : List Block → Type 0 = λ t. IsChain c m last count t in
       let done = back-chain c g m last count fs b d cs (subst C n.stood h) join' cells (spare ∙ ap (λ i. set c.spare count i) (sym s.name)) in
-      let list : give_block x (blocks c last) ≡ fs ++ record d { size = b.size + d.size } ∷ cs = ap (give_block x) n.stood ∙ ap (λ i. give_block i (fs ++ b ∷ d ∷ cs)) (sym s.name) ∙ give_block-at fs b d cs n.alone in
+      let list : merge_block x (blocks c last) ≡ fs ++ record d { size = b.size + d.size } ∷ cs = ap (merge_block x) n.stood ∙ ap (λ i. merge_block i (fs ++ b ∷ d ∷ cs)) (sym s.name) ∙ merge_block-at fs b d cs n.alone in
       rw list done
 
 -- the calls of the bodies, one after another
-pub joined-from : (t w₁ w₂ : Room) (x y z : ℕ) (a : Option ℕ) → x < length t.nodes → z ≡ (node t x).size + (node t y).size → a ≡ (node t y).after → w₁ ≡ put t x (record (node t x) { size = z }) → w₂ ≡ put w₁ x (record (node w₁ x) { after = a }) → w₂ ≡ joined t x y
-joined-from t w₁ w₂ x y z a l ez ea e₁ e₂ =
+pub coalesced-from : (t w₁ w₂ : Room) (x y z : ℕ) (a : Option ℕ) → x < length t.nodes → z ≡ (node t x).size + (node t y).size → a ≡ (node t y).after → w₁ ≡ put t x (record (node t x) { size = z }) → w₂ ≡ put w₁ x (record (node w₁ x) { after = a }) → w₂ ≡ coalesce t x y
+coalesced-from t w₁ w₂ x y z a l ez ea e₁ e₂ =
     let f₁ : w₁ ≡ put t x (record (node t x) { size = (node t x).size + (node t y).size }) = e₁ ∙ ap (λ s. put t x (record (node t x) { size = s })) ez in
     e₂ ∙ put-step t w₁ x _ (λ v. record v { after = a }) l f₁ ∙ ap (λ i. put t x (record (node t x) { size = (node t x).size + (node t y).size; after = i })) ea
 
@@ -262,12 +262,12 @@ backed-from t w₁ w₂ w₃ w x o z a l eo ez ea e₁ e₂ e₃ =
     e₃ ∙ put-step t w₂ x _ (λ v. record v { before = a }) l f₂ ∙ ap (λ (k : ℕ). put t x (record (node t x) { offset = (node t w).offset; size = k; before = a })) ez ∙ ap (λ i. put t x (record (node t x) { offset = (node t w).offset; size = (node t w).size + (node t x).size; before = i })) ea
 
 -- the link of a neighbour after the writes, of a call that knows both sizes
-pub linked-after : (t w₁ w₂ f : Room) (last count x y z : ℕ) (a : Option ℕ) → HasPair t last count x y → z ≡ size_in x (blocks t last) + size_in y (blocks t last) → a ≡ (node t y).after → w₁ ≡ put t x (record (node t x) { size = z }) → w₂ ≡ put w₁ x (record (node w₁ x) { after = a }) → IsLinked a f w₂ x → IsLinked (node t y).after f (joined t x y) x
+pub linked-after : (t w₁ w₂ f : Room) (last count x y z : ℕ) (a : Option ℕ) → HasPair t last count x y → z ≡ size_in x (blocks t last) + size_in y (blocks t last) → a ≡ (node t y).after → w₁ ≡ put t x (record (node t x) { size = z }) → w₂ ≡ put w₁ x (record (node w₁ x) { after = a }) → IsLinked a f w₂ x → IsLinked (node t y).after f (coalesce t x y) x
 linked-after t w₁ w₂ f last count x y z a j ez ea e₁ e₂ l =
     let total : z ≡ (node t x).size + (node t y).size = omega (arith, size_x t last count x y j, size_y t last count x y j) in
-    let is = joined-from t w₁ w₂ x y z a (x_below t last count x y j) total ea e₁ e₂ in
+    let is = coalesced-from t w₁ w₂ x y z a (x_below t last count x y j) total ea e₁ e₂ in
     let P : Option ℕ → Room → Type 0 = λ link w. IsLinked link f w x in
-    subst (λ link. P link (joined t x y)) ea (subst (P a) is l)
+    subst (λ link. P link (coalesce t x y)) ea (subst (P a) is l)
 
 pub linked-before : (t w₁ w₂ w₃ f : Room) (last count w x o z : ℕ) (a : Option ℕ) → HasPair t last count w x → z ≡ size_in w (blocks t last) + size_in x (blocks t last) → o ≡ (node t w).offset → a ≡ (node t w).before → w₁ ≡ put t x (record (node t x) { offset = o }) → w₂ ≡ put w₁ x (record (node w₁ x) { size = z }) → w₃ ≡ put w₂ x (record (node w₂ x) { before = a }) → IsLinkedOn a f w₃ x → IsLinkedOn (node t w).before f (backed t w x) x
 linked-before t w₁ w₂ w₃ f last count w x o z a j ez eo ea e₁ e₂ e₃ l =

@@ -1,10 +1,10 @@
--- What joins the chain, the class lists and the view.
+-- The chain, the bins and the view together.
 use Rattle.std.proofs.Common.{◌≡◌, ℕ, zero, suc, ◌+◌, ◌<◌, ◌≤◌, Bool, true, false, not, List, [], ◌∷◌, ◌++◌, length, Option, Some, None, if◌then◌else◌, refl, sym, ap, subst, ◌∙◌, inl, inr, arith, slice_set}
 use Rattle.std.proofs.lemmas.Bool.{cases_eq, cases_lt, false≢true}
 use Rattle.std.proofs.lemmas.List.{get_or-set_same, get_or-set_other}
 use Rattle.offset_allocator.specs.Classes.{up, down}
-use Rattle.offset_allocator.specs.Named.{Block, View, Place, named, listed, names_at, IsWellFormed, taken, is_short_of, allocate, refused, granted, granted_at, free_part, free_block, remove_all, remove, times, without}
-use Rattle.offset_allocator.specs.Orders.{Among, IsUnlisted, IsLeastFrom}
+use Rattle.offset_allocator.specs.Named.{Block, View, Place, count_named, count_listed, names_at, IsWellFormed, place_for, is_short_of, allocate, refuse, grant_in, grant_or_refuse, free_part, free_block, remove_all, remove, times, without}
+use Rattle.offset_allocator.specs.Orders.{Among, IsUnlisted, IsSmallestFrom}
 use Rattle.offset_allocator.specs.State.{free_units}
 use Rattle.offset_allocator.proofs.Walks.{among_without}
 use Rattle.offset_allocator.proofs.Sizes.{down_small}
@@ -27,10 +27,10 @@ times_among x (y ∷ ys) h = elim (hit_cases x y) [
 ]
 
 -- a name that no free block has is in no list
-pub unlisted : (v : View) → IsWellFormed v → (x : ℕ) → ((c : ℕ) → listed c x v.blocks ≡ 0) → IsUnlisted x v.order
+pub unlisted : (v : View) → IsWellFormed v → (x : ℕ) → ((c : ℕ) → count_listed c x v.blocks ≡ 0) → IsUnlisted x v.order
 unlisted v w x h c ch a = omega (arith, among_times x (names_at v.order c) a, w.orders c x, h c)
 
-pub unused_unlisted : (v : View) → IsWellFormed v → (x : ℕ) → named x v.blocks ≡ 0 → IsUnlisted x v.order
+pub unused_unlisted : (v : View) → IsWellFormed v → (x : ℕ) → count_named x v.blocks ≡ 0 → IsUnlisted x v.order
 unused_unlisted v w x h = unlisted v w x (λ c. omega (arith, listed_named c x v.blocks))
 
 pub unlisted_removed : (x y c : ℕ) (ls : List (List ℕ)) → length ls ≡ 256 → c < 256 → IsUnlisted x ls → IsUnlisted x (slice_set ls c (without y (names_at ls c)))
@@ -41,50 +41,50 @@ unlisted_removed x y c ls n ch u d dh a =
       | inr ne ↦ u d dh (subst (λ z. Among x z) (get_or-set_other ls c d (without y (names_at ls c)) [] ne) a)
     ]
 
--- the name that the class lists give is the one that a request takes
+-- the name that is popped is the one that a request takes
 pub record TakenHere (n : ℕ) (v : View) (c x : ℕ) : Type 0 where
   pub place : Place
-  pub is : taken n v ≡ Some place
+  pub is : place_for n v ≡ Some place
   pub name : place.block.name ≡ x
   pub class : down place.block.size ≡ c
   pub here : IsTaken n v place
 
-pub taken_here : (n : ℕ) (v : View) → IsWellFormed v → (c x : ℕ) (xs : List ℕ) → IsLeastFrom (up n) v.order c → names_at v.order c ≡ x ∷ xs → TakenHere n v c x
-taken_here n v w c x xs l e = go (taken n v) refl
+pub taken_here : (n : ℕ) (v : View) → IsWellFormed v → (c x : ℕ) (xs : List ℕ) → IsSmallestFrom (up n) v.order c → names_at v.order c ≡ x ∷ xs → TakenHere n v c x
+taken_here n v w c x xs l e = go (place_for n v) refl
   where
-    go : (o : Option Place) → taken n v ≡ o → TakenHere n v c x
+    go : (o : Option Place) → place_for n v ≡ o → TakenHere n v c x
     go None f = absurd (l.2 (not_taken n v w f c l.0))
     go (Some p) f =
         let t = taken_at n v w p f in
         let same : down p.block.size ≡ c = elim (cases_lt c (down p.block.size)) [
           | inl a ↦ absurd (l.2 (t.least c l.0 a))
           | inr a ↦ elim (cases_lt (down p.block.size) c) [
-            | inl b ↦ let none : [] ≡ p.block.name ∷ t.behind = sym (l.3 (down p.block.size) t.class b) ∙ t.first in absurd (cc)
+            | inl b ↦ let none : [] ≡ p.block.name ∷ t.after_one = sym (l.3 (down p.block.size) t.class b) ∙ t.first in absurd (cc)
             | inr b ↦ omega arith
           ]
         ] in
-        let heads : p.block.name ∷ t.behind ≡ x ∷ xs = sym t.first ∙ ap (names_at v.order) same ∙ e in
+        let heads : p.block.name ∷ t.after_one ≡ x ∷ xs = sym t.first ∙ ap (names_at v.order) same ∙ e in
         record { place = p; is = f; name = (cc); class = same; here = t }
 
-pub untaken : (n : ℕ) (v : View) → IsWellFormed v → ((c : ℕ) → up n ≤ c → c < 256 → names_at v.order c ≡ []) → taken n v ≡ None
-untaken n v w h = go (taken n v) refl
+pub untaken : (n : ℕ) (v : View) → IsWellFormed v → ((c : ℕ) → up n ≤ c → c < 256 → names_at v.order c ≡ []) → place_for n v ≡ None
+untaken n v w h = go (place_for n v) refl
   where
-    go : (o : Option Place) → taken n v ≡ o → taken n v ≡ None
+    go : (o : Option Place) → place_for n v ≡ o → place_for n v ≡ None
     go None f = f
     go (Some p) f =
         let t = taken_at n v w p f in
-        let none : [] ≡ p.block.name ∷ t.behind = sym (h (down p.block.size) t.class (down_small p.block.size)) ∙ t.first in
+        let none : [] ≡ p.block.name ∷ t.after_one = sym (h (down p.block.size) t.class (down_small p.block.size)) ∙ t.first in
         absurd (cc)
 
 -- the three cases of a request
-pub allocate_granted : (n rest : ℕ) (v : View) (p : Place) → is_short_of 1 v ≡ false → taken n v ≡ Some p → allocate n rest v ≡ granted v n 0 rest rest p
-allocate_granted n rest v p e f = ap (λ (b : Bool). if b then refused v else granted_at v n (λ o. 0) rest rest (taken n v)) e ∙ ap (granted_at v n (λ o. 0) rest rest) f
+pub allocate_granted : (n rest : ℕ) (v : View) (p : Place) → is_short_of 1 v ≡ false → place_for n v ≡ Some p → allocate n rest v ≡ grant_in v n 0 rest rest p
+allocate_granted n rest v p e f = ap (λ (b : Bool). if b then refuse v else grant_or_refuse v n (λ o. 0) rest rest (place_for n v)) e ∙ ap (grant_or_refuse v n (λ o. 0) rest rest) f
 
-pub allocate_short : (n rest : ℕ) (v : View) → is_short_of 1 v ≡ true → allocate n rest v ≡ refused v
-allocate_short n rest v e = ap (λ (b : Bool). if b then refused v else granted_at v n (λ o. 0) rest rest (taken n v)) e
+pub allocate_short : (n rest : ℕ) (v : View) → is_short_of 1 v ≡ true → allocate n rest v ≡ refuse v
+allocate_short n rest v e = ap (λ (b : Bool). if b then refuse v else grant_or_refuse v n (λ o. 0) rest rest (place_for n v)) e
 
-pub allocate_none : (n rest : ℕ) (v : View) → is_short_of 1 v ≡ false → taken n v ≡ None → allocate n rest v ≡ refused v
-allocate_none n rest v e f = ap (λ (b : Bool). if b then refused v else granted_at v n (λ o. 0) rest rest (taken n v)) e ∙ ap (granted_at v n (λ o. 0) rest rest) f
+pub allocate_none : (n rest : ℕ) (v : View) → is_short_of 1 v ≡ false → place_for n v ≡ None → allocate n rest v ≡ refuse v
+allocate_none n rest v e f = ap (λ (b : Bool). if b then refuse v else grant_or_refuse v n (λ o. 0) rest rest (place_for n v)) e ∙ ap (grant_or_refuse v n (λ o. 0) rest rest) f
 
 -- whatever was counted
 abbrev pub with_accesses : ℕ → View → View

@@ -1,4 +1,4 @@
--- A walk along the links of a class list, one name at a time.
+-- A walk along the links of a bin, one name at a time.
 use Rattle.std.proofs.Common.{◌≡◌, ◌≢◌, ◌<◌, ◌≤◌, ℕ, ◌+◌, List, [], ◌∷◌, refl, sym, ap, subst, arith, length, slice_index}
 use Rattle.offset_allocator.specs.Named.{names_at}
 use Rattle.offset_allocator.specs.Orders.{Chain, Linked, walk}

@@ -7,6 +7,7 @@ pub mod Changes
 pub mod Classes
 pub mod Counting
 pub mod Cuts
+pub mod Emptied
 pub mod Extending
 pub mod Find
 pub mod Found
@@ -36,7 +37,7 @@ pub mod Spares
 pub mod Split
 pub mod SplitSpace
 pub mod Spot
-pub mod Told
+pub mod Reading
 pub mod Unused
 pub mod ViewApart
 pub mod ViewFits

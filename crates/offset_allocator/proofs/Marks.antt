@@ -1,26 +1,26 @@
 -- What it leaves to make a block used or free.
 use Rattle.std.proofs.Common.{◌≡◌, ◌≢◌, ℕ, ◌<◌, ◌≤◌, Bool, None, List, [], ◌∷◌, ◌++◌, length, refl, sym, ◌∙◌, ap, arith, length-append, subst}
 use Rattle.std.proofs.lemmas.Bool.{eq-eqb, ne_eqb}
-use Rattle.offset_allocator.specs.Named.{Block, named}
+use Rattle.offset_allocator.specs.Named.{Block, count_named}
 use Rattle.offset_allocator.specs.Cells.{Room, node, put}
-use Rattle.offset_allocator.specs.Space.{IsChain, IsSpace, Stands, blocks, mark_block}
+use Rattle.offset_allocator.specs.Space.{IsChain, IsSpace, HasName, blocks, mark_block}
 use Rattle.offset_allocator.proofs.Nodes.{node-put, node-put_other, length-put, spare-put}
 use Rattle.offset_allocator.proofs.Rows.{one-eq, times-append, units-append, last_or-append}
 use Rattle.offset_allocator.proofs.Split.{each-le, spares-same}
 use Rattle.offset_allocator.proofs.Back.{used-row}
 use Rattle.offset_allocator.proofs.Spot.{spot}
 
-head_not : (x : ℕ) (f : Block) (fs : List Block) → named x (f ∷ fs) ≡ 0 → f.name ≡ x → ⊥
+head_not : (x : ℕ) (f : Block) (fs : List Block) → count_named x (f ∷ fs) ≡ 0 → f.name ≡ x → ⊥
 head_not x f fs h e = omega (arith, one-eq x f.name e)
 
-pub mark_block-at : (fs : List Block) (b : Block) (cs : List Block) (u : Bool) → named b.name fs ≡ 0 → mark_block b.name u (fs ++ b ∷ cs) ≡ fs ++ record b { used = u } ∷ cs
+pub mark_block-at : (fs : List Block) (b : Block) (cs : List Block) (u : Bool) → count_named b.name fs ≡ 0 → mark_block b.name u (fs ++ b ∷ cs) ≡ fs ++ record b { used = u } ∷ cs
 mark_block-at [] b cs u h = rw (eq-eqb b.name b.name refl)
 mark_block-at (f ∷ fs) b cs u h = rw (ne_eqb f.name b.name (head_not b.name f fs h)) (ap (λ l. f ∷ l) (mark_block-at fs b cs u (omega arith)))
 
 mark-chain : (c d : Room) (m last count : ℕ) (fs : List Block) (b : Block) (cs : List Block) (u : Bool) → IsChain c m last count (fs ++ b ∷ cs) → b.name < m → d ≡ put c b.name (record (node c b.name) { used = u }) → IsChain d m last count (fs ++ record b { used = u } ∷ cs)
 mark-chain c d m last count fs b cs u h l e =
     let b' : Block = record b { used = u } in
-    let once : (k : ℕ) → named k (fs ++ b ∷ cs) ≤ 1 = λ k. omega (arith, each-le c m last count _ h k) in
+    let once : (k : ℕ) → count_named k (fs ++ b ∷ cs) ≤ 1 = λ k. omega (arith, each-le c m last count _ h k) in
     let same : d.spare ≡ c.spare = rw e (spare-put c b.name _) in
     let l' : b.name < length c.nodes = rw h.cells l in
     let at_b : node d b.name ≡ record (node c b.name) { used = u } = rw e (node-put c b.name (record (node c b.name) { used = u }) l') in
@@ -38,7 +38,7 @@ mark-chain c d m last count fs b cs u h l e =
       fits = omega (arith, h.fits, units-append fs (b ∷ cs), units-append fs (b' ∷ cs));
     }
 
-pub mark-space : (c d : Room) (last count x : ℕ) (u : Bool) → IsSpace c last count → Stands x (blocks c last) → d ≡ put c x (record (node c x) { used = u }) → IsChain d (length c.nodes) last count (mark_block x u (blocks c last))
+pub mark-space : (c d : Room) (last count x : ℕ) (u : Bool) → IsSpace c last count → HasName x (blocks c last) → d ≡ put c x (record (node c x) { used = u }) → IsChain d (length c.nodes) last count (mark_block x u (blocks c last))
 mark-space c d last count x u h st e =
     let m : ℕ = length c.nodes in
     let s = spot c m last count x (blocks c last) h st in

@@ -3,22 +3,22 @@ use Rattle.std.proofs.Common.{◌≡◌, ℕ, ◌+◌, ◌<◌, ◌^◌, Bool, t
 use Rattle.std.proofs.lemmas.Bool.{eq-eqb, ne_eqb}
 use Rattle.offset_allocator.specs.Classes.{down}
 use Rattle.offset_allocator.specs.Cells.{Room, Node, node}
-use Rattle.offset_allocator.specs.Named.{Block, Place, named, units, place_of, free_end, without_end, free_start, without_start, remove_all, remove, names_at}
-use Rattle.offset_allocator.specs.Space.{IsSpace, IsRow, Stands, blocks, last_or, first_or, name_after, size_in, give_block, join_block}
+use Rattle.offset_allocator.specs.Named.{Block, Place, count_named, units, place_of, free_end, without_end, free_start, without_start, remove_all, remove, names_at}
+use Rattle.offset_allocator.specs.Space.{IsSpace, IsRow, HasName, blocks, last_or, first_or, name_after, size_in, merge_block, join_block}
 use Rattle.offset_allocator.specs.Orders.{Among}
 use Rattle.offset_allocator.specs.State.{AreListed, merge_before, merged_before, gone_before, merge_after, merged_after, gone_after}
 use Rattle.offset_allocator.proofs.Rows.{one-eq, times-append, units-append, IsRow-back}
 use Rattle.offset_allocator.proofs.Split.{each-le}
 use Rattle.offset_allocator.proofs.Found.{name_after-at, join_block-at, size_in-at}
-use Rattle.offset_allocator.proofs.Spot.{stands-below, size-told}
+use Rattle.offset_allocator.proofs.Spot.{there-below, size-read}
 use Rattle.offset_allocator.proofs.ViewSteps.{place_at, no_place}
 
-head_not : (x : ℕ) (f : Block) (fs : List Block) → named x (f ∷ fs) ≡ 0 → f.name ≡ x → ⊥
+head_not : (x : ℕ) (f : Block) (fs : List Block) → count_named x (f ∷ fs) ≡ 0 → f.name ≡ x → ⊥
 head_not x f fs h e = omega (arith, one-eq x f.name e)
 
-pub give_block-at : (fs : List Block) (d b : Block) (cs : List Block) → named d.name fs ≡ 0 → give_block d.name (fs ++ d ∷ b ∷ cs) ≡ fs ++ record b { size = d.size + b.size } ∷ cs
-give_block-at [] d b cs h = rw (eq-eqb d.name d.name refl)
-give_block-at (f ∷ fs) d b cs h = rw (ne_eqb f.name d.name (head_not d.name f fs h)) (ap (λ l. f ∷ l) (give_block-at fs d b cs (omega arith)))
+pub merge_block-at : (fs : List Block) (d b : Block) (cs : List Block) → count_named d.name fs ≡ 0 → merge_block d.name (fs ++ d ∷ b ∷ cs) ≡ fs ++ record b { size = d.size + b.size } ∷ cs
+merge_block-at [] d b cs h = rw (eq-eqb d.name d.name refl)
+merge_block-at (f ∷ fs) d b cs h = rw (ne_eqb f.name d.name (head_not d.name f fs h)) (ap (λ l. f ∷ l) (merge_block-at fs d b cs (omega arith)))
 
 -- a list with a last block
 pub record Ended (w : ℕ) (bs : List Block) : Type 0 where
@@ -45,45 +45,45 @@ end_used [] d e = (ap (λ (u : Bool). if not u then d ∷ [] else []) e, ap (λ 
 end_used (f ∷ []) d e = let r = end_used [] d e in (r.0, ap (λ l. f ∷ l) r.1)
 end_used (f ∷ g ∷ fs) d e = let r = end_used (g ∷ fs) d e in (r.0, ap (λ l. f ∷ l) r.1)
 
--- where x stands
-pub record Standing (c : Room) (bs : List Block) (x : ℕ) : Type 0 where
+-- where x is
+pub record Location (c : Room) (bs : List Block) (x : ℕ) : Type 0 where
   pub place : Place
   pub is : place_of x bs ≡ Some place
   pub stood : bs ≡ place.before ++ place.block ∷ place.after
   pub name : place.block.name ≡ x
-  pub alone : named x place.before ≡ 0
+  pub alone : count_named x place.before ≡ 0
   pub at_x : node c x ≡ record { offset = units place.before; size = place.block.size; used = place.block.used; before = last_or None place.before; after = first_or None place.after }
   pub below : x < length c.nodes
-  pub stands : Stands x bs
+  pub there : HasName x bs
 
 pub node_at : (c : Room) (fs : List Block) (b : Block) (cs : List Block) (x : ℕ) → IsRow c None 0 (fs ++ b ∷ cs) None → b.name ≡ x → node c x ≡ record { offset = units fs; size = b.size; used = b.used; before = last_or None fs; after = first_or None cs }
 node_at c fs b cs x row e = ap (λ (i : ℕ). node c i) (sym e) ∙ (IsRow-back c None 0 fs (b ∷ cs) None row).0 ∙ ap (λ (o : ℕ). record { offset = o; size = b.size; used = b.used; before = last_or None fs; after = first_or None cs }) (omega arith)
 
-pub standing : (c : Room) (last count x : ℕ) → IsSpace c last count → Stands x (blocks c last) → Standing c (blocks c last) x
-standing c last count x h st = go (place_of x (blocks c last)) refl
+pub location : (c : Room) (last count x : ℕ) → IsSpace c last count → HasName x (blocks c last) → Location c (blocks c last) x
+location c last count x h st = go (place_of x (blocks c last)) refl
   where
-    go : (o : Option Place) → place_of x (blocks c last) ≡ o → Standing c (blocks c last) x
+    go : (o : Option Place) → place_of x (blocks c last) ≡ o → Location c (blocks c last) x
     go None e = absurd (omega (arith, no_place x (blocks c last) e))
     go (Some p) e =
         let a = place_at x (blocks c last) p e in
         let P : List Block → Type 0 = λ l. IsRow c None 0 l None in
-        record { place = p; is = e; stood = a.0; name = sym a.1; alone = a.2; at_x = node_at c p.before p.block p.after x (subst P a.0 h.row) (sym a.1); below = stands-below c (length c.nodes) last count x (blocks c last) h st; stands = st }
+        record { place = p; is = e; stood = a.0; name = sym a.1; alone = a.2; at_x = node_at c p.before p.block p.after x (subst P a.0 h.row) (sym a.1); below = there-below c (length c.nodes) last count x (blocks c last) h st; there = st }
 
 -- a block w directly before x
-pub record Pair (c : Room) (bs : List Block) (w x : ℕ) (s : Standing c bs x) : Type 0 where
+pub record Pair (c : Room) (bs : List Block) (w x : ℕ) (s : Location c bs x) : Type 0 where
   pub front : List Block
   pub here : Block
   pub ends : s.place.before ≡ front ++ here ∷ []
   pub stood : bs ≡ front ++ here ∷ s.place.block ∷ s.place.after
   pub name : here.name ≡ w
-  pub alone : named here.name front ≡ 0
+  pub alone : count_named here.name front ≡ 0
   pub size : (node c w).size ≡ here.size
   pub used : (node c w).used ≡ here.used
-  pub stands : Stands w bs
+  pub there : HasName w bs
   pub below : w < length c.nodes
   pub next : name_after w bs ≡ Some x
 
-module _ (c : Room) (last count x : ℕ) (h : IsSpace c last count) (s : Standing c (blocks c last) x) where
+module _ (c : Room) (last count x : ℕ) (h : IsSpace c last count) (s : Location c (blocks c last) x) where
   abbrev bs : List Block
   bs = blocks c last
 
@@ -95,12 +95,12 @@ module _ (c : Room) (last count x : ℕ) (h : IsSpace c last count) (s : Standin
       let stood : bs ≡ f.front ++ f.last ∷ b ∷ cs = s.stood ∙ ap (λ l. l ++ b ∷ cs) f.is ∙ append_assoc f.front (f.last ∷ []) (b ∷ cs) in
       let P : List Block → Type 0 = λ l. IsRow c None 0 l None in
       let n = node_at c f.front f.last (b ∷ cs) w (subst P stood h.row) f.name in
-      let here : named w bs ≡ named w f.front + named w (f.last ∷ b ∷ cs) = ap (λ l. named w l) stood ∙ times-append w f.front (f.last ∷ b ∷ cs) in
+      let here : count_named w bs ≡ count_named w f.front + count_named w (f.last ∷ b ∷ cs) = ap (λ l. count_named w l) stood ∙ times-append w f.front (f.last ∷ b ∷ cs) in
       let one = one-eq w f.last.name f.name in
       let most = each-le c (length c.nodes) last count bs h w in
-      let stands : Stands w bs = omega arith in
-      let alone_w : named w f.front ≡ 0 = omega arith in
-      let alone : named f.last.name f.front ≡ 0 = ap (λ i. named i f.front) f.name ∙ alone_w in
+      let there : HasName w bs = omega arith in
+      let alone_w : count_named w f.front ≡ 0 = omega arith in
+      let alone : count_named f.last.name f.front ≡ 0 = ap (λ i. count_named i f.front) f.name ∙ alone_w in
       record {
         front = f.front;
         here = f.last;
@@ -110,8 +110,8 @@ module _ (c : Room) (last count x : ℕ) (h : IsSpace c last count) (s : Standin
         alone = alone;
         size = ap (λ (v : Node). v.size) n;
         used = ap (λ (v : Node). v.used) n;
-        stands = stands;
-        below = stands-below c (length c.nodes) last count w bs h stands;
+        there = there;
+        below = there-below c (length c.nodes) last count w bs h there;
         next = ap (name_after w) stood ∙ ap (λ i. name_after i (f.front ++ f.last ∷ b ∷ cs)) (sym f.name) ∙ name_after-at f.front f.last (b ∷ cs) alone ∙ ap (λ i. Some i) s.name;
       }
 
@@ -143,29 +143,29 @@ module _ (c : Room) (last count x : ℕ) (h : IsSpace c last count) (s : Standin
           λ ls. ap (λ o. remove_all (gone_before o) ls) s.is ∙ ap (λ l. remove_all l ls) f,
         )
 
-    pub joined_free : (node c w).used ≡ false → (give_block w (blocks c last) ≡ merge_before x (blocks c last)) × ((ls : List (List ℕ)) (k : ℕ) → k ≡ down (node c w).size → remove k w ls ≡ remove_all (gone_before (place_of x (blocks c last))) ls)
-    joined_free e =
+    pub coalesced_free : (node c w).used ≡ false → (merge_block w (blocks c last) ≡ merge_before x (blocks c last)) × ((ls : List (List ℕ)) (k : ℕ) → k ≡ down (node c w).size → remove k w ls ≡ remove_all (gone_before (place_of x (blocks c last))) ls)
+    coalesced_free e =
         let free : p.here.used ≡ false = sym p.used ∙ e in
         let r = end_free p.front p.here free in
         let f : free_end s.place.before ≡ p.here ∷ [] = ap free_end p.ends ∙ r.0 in
         let g : without_end s.place.before ≡ p.front = ap without_end p.ends ∙ r.1 in (
-          ap (give_block w) p.stood ∙ ap (λ i. give_block i (p.front ++ p.here ∷ s.place.block ∷ s.place.after)) (sym p.name) ∙ give_block-at p.front p.here s.place.block s.place.after p.alone
+          ap (merge_block w) p.stood ∙ ap (λ i. merge_block i (p.front ++ p.here ∷ s.place.block ∷ s.place.after)) (sym p.name) ∙ merge_block-at p.front p.here s.place.block s.place.after p.alone
               ∙ ap (λ (k : ℕ). p.front ++ record s.place.block { size = k } ∷ s.place.after) (omega arith) ∙ sym (merge_at ∙ ap₂ (λ a l. a ++ record s.place.block { size = units l + s.place.block.size } ∷ s.place.after) g f),
           λ ls k q. ap₂ (λ i y. remove i y ls) (q ∙ ap down p.size) (sym p.name) ∙ sym (ap (λ o. remove_all (gone_before o) ls) s.is ∙ ap (λ l. remove_all l ls) f ∙ ap (λ (u : Bool). if u then ls else remove (down p.here.size) p.here.name ls) free),
         )
 
-    pub given_size : size_in x (give_block w (blocks c last)) ≡ size_in w (blocks c last) + size_in x (blocks c last)
-    given_size =
+    pub merged_size : size_in x (merge_block w (blocks c last)) ≡ size_in w (blocks c last) + size_in x (blocks c last)
+    merged_size =
         let b : Block = s.place.block in
         let grown : Block = record s.place.block { size = p.here.size + s.place.block.size } in
-        let apart : named b.name p.front ≡ 0 = ap (λ i. named i p.front) s.name ∙ omega (arith, s.alone, ap (λ l. named x l) p.ends, times-append x p.front (p.here ∷ [])) in
-        ap (λ l. size_in x (give_block w l)) p.stood ∙ ap (λ i. size_in x (give_block i (p.front ++ p.here ∷ b ∷ s.place.after))) (sym p.name) ∙ ap (size_in x) (give_block-at p.front p.here b s.place.after p.alone)
+        let apart : count_named b.name p.front ≡ 0 = ap (λ i. count_named i p.front) s.name ∙ omega (arith, s.alone, ap (λ l. count_named x l) p.ends, times-append x p.front (p.here ∷ [])) in
+        ap (λ l. size_in x (merge_block w l)) p.stood ∙ ap (λ i. size_in x (merge_block i (p.front ++ p.here ∷ b ∷ s.place.after))) (sym p.name) ∙ ap (size_in x) (merge_block-at p.front p.here b s.place.after p.alone)
         ∙ ap (λ i. size_in i (p.front ++ grown ∷ s.place.after)) (sym s.name) ∙ size_in-at p.front grown s.place.after apart
-        ∙ omega (arith, size-told c last count w h p.stands, p.size, size-told c last count x h s.stands, ap (λ (v : Node). v.size) s.at_x)
+        ∙ omega (arith, size-read c last count w h p.there, p.size, size-read c last count x h s.there, ap (λ (v : Node). v.size) s.at_x)
 
-    pub given_fits : size_in w (blocks c last) + size_in x (blocks c last) < 2 ^ 32
-    given_fits =
-        omega (arith, h.fits, ap units p.stood, units-append p.front (p.here ∷ s.place.block ∷ s.place.after), size-told c last count w h p.stands, p.size, size-told c last count x h s.stands, ap (λ (v : Node). v.size) s.at_x)
+    pub merged_fits : size_in w (blocks c last) + size_in x (blocks c last) < 2 ^ 32
+    merged_fits =
+        omega (arith, h.fits, ap units p.stood, units-append p.front (p.here ∷ s.place.block ∷ s.place.after), size-read c last count w h p.there, p.size, size-read c last count x h s.there, ap (λ (v : Node). v.size) s.at_x)
 
     pub listed_before : (ls : List (List ℕ)) → AreListed (blocks c last) ls → (node c w).used ≡ false → (k : ℕ) → k ≡ down (node c w).size → Among w (names_at ls k)
     listed_before ls a e k q =
@@ -173,25 +173,25 @@ module _ (c : Room) (last count x : ℕ) (h : IsSpace c last count) (s : Standin
         subst (λ i. P w i) (sym (q ∙ ap down p.size)) (subst (λ y. P y (down p.here.size)) p.name (a (record { before = p.front; block = p.here; after = s.place.block ∷ s.place.after }) p.stood (sym p.used ∙ e)))
 
 -- a block y directly after x
-pub record Next (c : Room) (bs : List Block) (y x : ℕ) (s : Standing c bs x) : Type 0 where
+pub record Next (c : Room) (bs : List Block) (y x : ℕ) (s : Location c bs x) : Type 0 where
   pub here : Block
   pub back : List Block
   pub starts : s.place.after ≡ here ∷ back
   pub stood : bs ≡ s.place.before ++ s.place.block ∷ here ∷ back
   pub name : here.name ≡ y
-  pub alone : named s.place.block.name s.place.before ≡ 0
+  pub alone : count_named s.place.block.name s.place.before ≡ 0
   pub size : (node c y).size ≡ here.size
   pub used : (node c y).used ≡ here.used
   pub on : (node c y).after ≡ first_or None back
   pub below : y < length c.nodes
-  pub stands : Stands y bs
+  pub there : HasName y bs
   pub next : name_after x bs ≡ Some y
 
 started : (l : List Block) (y : ℕ) → first_or None l ≡ Some y → (b : Block) × (r : List Block) × (l ≡ b ∷ r) × (b.name ≡ y)
 started [] y e = absurd (cc)
 started (b ∷ r) y e = (b, r, refl, (cc))
 
-module _ (c : Room) (last count x : ℕ) (h : IsSpace c last count) (s : Standing c (blocks c last) x) where
+module _ (c : Room) (last count x : ℕ) (h : IsSpace c last count) (s : Location c (blocks c last) x) where
   abbrev all : List Block
   all = blocks c last
 
@@ -206,8 +206,8 @@ module _ (c : Room) (last count x : ℕ) (h : IsSpace c last count) (s : Standin
       let again : all ≡ (fs ++ b ∷ []) ++ d ∷ cs = stood ∙ sym (append_assoc fs (b ∷ []) (d ∷ cs)) in
       let P : List Block → Type 0 = λ l. IsRow c None 0 l None in
       let n = node_at c (fs ++ b ∷ []) d cs y (subst P again h.row) f.3 in
-      let stands : Stands y all = rw stood (omega (arith, times-append y fs (b ∷ d ∷ cs), one-eq y d.name f.3)) in
-      let alone : named b.name fs ≡ 0 = ap (λ i. named i fs) s.name ∙ s.alone in
+      let there : HasName y all = rw stood (omega (arith, times-append y fs (b ∷ d ∷ cs), one-eq y d.name f.3)) in
+      let alone : count_named b.name fs ≡ 0 = ap (λ i. count_named i fs) s.name ∙ s.alone in
       record {
         here = d;
         back = cs;
@@ -218,8 +218,8 @@ module _ (c : Room) (last count x : ℕ) (h : IsSpace c last count) (s : Standin
         size = ap (λ (v : Node). v.size) n;
         used = ap (λ (v : Node). v.used) n;
         on = ap (λ (v : Node). v.after) n;
-        below = stands-below c (length c.nodes) last count y all h stands;
-        stands = stands;
+        below = there-below c (length c.nodes) last count y all h there;
+        there = there;
         next = ap (name_after x) s.stood ∙ ap (λ i. name_after i (fs ++ b ∷ s.place.after)) (sym s.name) ∙ name_after-at fs b s.place.after alone ∙ sym (ap (λ (v : Node). v.after) s.at_x) ∙ e;
       }
 
@@ -247,8 +247,8 @@ module _ (c : Room) (last count x : ℕ) (h : IsSpace c last count) (s : Standin
           λ ls. ap (λ o. remove_all (gone_after o) ls) s.is ∙ ap (λ l. remove_all l ls) f,
         )
 
-    pub joined_next : (node c y).used ≡ false → (join_block x (blocks c last) ≡ merge_after x (blocks c last)) × ((ls : List (List ℕ)) (k : ℕ) → k ≡ down (node c y).size → remove k y ls ≡ remove_all (gone_after (place_of x (blocks c last))) ls)
-    joined_next e =
+    pub coalesced_next : (node c y).used ≡ false → (join_block x (blocks c last) ≡ merge_after x (blocks c last)) × ((ls : List (List ℕ)) (k : ℕ) → k ≡ down (node c y).size → remove k y ls ≡ remove_all (gone_after (place_of x (blocks c last))) ls)
+    coalesced_next e =
         let free : p.here.used ≡ false = sym p.used ∙ e in
         let f : free_start s.place.after ≡ p.here ∷ [] = ap free_start p.starts ∙ ap (λ (u : Bool). if not u then p.here ∷ [] else []) free in
         let g : without_start s.place.after ≡ p.back = ap without_start p.starts ∙ ap (λ (u : Bool). if not u then p.back else p.here ∷ p.back) free in (
@@ -257,17 +257,17 @@ module _ (c : Room) (last count x : ℕ) (h : IsSpace c last count) (s : Standin
           λ ls k q. ap₂ (λ i z. remove i z ls) (q ∙ ap down p.size) (sym p.name) ∙ sym (ap (λ o. remove_all (gone_after o) ls) s.is ∙ ap (λ l. remove_all l ls) f ∙ ap (λ (u : Bool). if u then ls else remove (down p.here.size) p.here.name ls) free),
         )
 
-    pub joined_size : size_in x (join_block x (blocks c last)) ≡ size_in x (blocks c last) + size_in y (blocks c last)
-    joined_size =
+    pub coalesced_size : size_in x (join_block x (blocks c last)) ≡ size_in x (blocks c last) + size_in y (blocks c last)
+    coalesced_size =
         let b : Block = s.place.block in
         let grown : Block = record s.place.block { size = s.place.block.size + p.here.size } in
         ap (λ l. size_in x (join_block x l)) p.stood ∙ ap (λ i. size_in x (join_block i (s.place.before ++ b ∷ p.here ∷ p.back))) (sym s.name) ∙ ap (size_in x) (join_block-at s.place.before b p.here p.back p.alone)
         ∙ ap (λ i. size_in i (s.place.before ++ grown ∷ p.back)) (sym s.name) ∙ size_in-at s.place.before grown p.back p.alone
-        ∙ omega (arith, size-told c last count y h p.stands, p.size, size-told c last count x h s.stands, ap (λ (v : Node). v.size) s.at_x)
+        ∙ omega (arith, size-read c last count y h p.there, p.size, size-read c last count x h s.there, ap (λ (v : Node). v.size) s.at_x)
 
-    pub joined_fits : size_in x (blocks c last) + size_in y (blocks c last) < 2 ^ 32
-    joined_fits =
-        omega (arith, h.fits, ap units p.stood, units-append s.place.before (s.place.block ∷ p.here ∷ p.back), size-told c last count y h p.stands, p.size, size-told c last count x h s.stands, ap (λ (v : Node). v.size) s.at_x)
+    pub coalesced_fits : size_in x (blocks c last) + size_in y (blocks c last) < 2 ^ 32
+    coalesced_fits =
+        omega (arith, h.fits, ap units p.stood, units-append s.place.before (s.place.block ∷ p.here ∷ p.back), size-read c last count y h p.there, p.size, size-read c last count x h s.there, ap (λ (v : Node). v.size) s.at_x)
 
     pub listed_next : (ls : List (List ℕ)) → AreListed (blocks c last) ls → (node c y).used ≡ false → (k : ℕ) → k ≡ down (node c y).size → Among y (names_at ls k)
     listed_next ls a e k q =

@@ -1,4 +1,4 @@
--- Tables that are numbered from the front.
+-- Tables that are numbered from the start.
 use Rattle.std.proofs.Common.{◌≡◌, ℕ, ◌+◌, ◌<◌, ◌≤◌, List, [], ◌∷◌, ◌++◌, get_or, length, map, take, set, ap, subst, sym, ◌∙◌, inl, inr, arith, Result, MatchResult, OnOk}
 use Rattle.std.specs.List.{range_with_len}
 use Rattle.std.proofs.lemmas.Bool.{cases_lt}

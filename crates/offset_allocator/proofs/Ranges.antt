@@ -1,14 +1,16 @@
 -- What each call leaves of the ranges of live handles.
-use Rattle.std.proofs.Common.{◌≡◌, ◌≢◌, ℕ, zero, suc, ◌+◌, ◌-◌, ◌≤◌, Bool, true, false, not, ◌&&◌, List, [], ◌∷◌, ◌++◌, Option, Some, None, nat_eq, nat_lt, nat_le, if◌then◌else◌, refl, sym, ap, subst, ◌∙◌, inl, inr, arith, append_assoc, add-zero, add_assoc, le-leb, leb-false, eq-eqb, ne_eqb}
+use Rattle.std.proofs.Common.{◌≡◌, ◌≢◌, ℕ, IfSome, zero, suc, ◌+◌, ◌-◌, ◌≤◌, Bool, true, false, not, ◌&&◌, List, [], ◌∷◌, ◌++◌, Option, Some, None, nat_eq, nat_lt, nat_le, if◌then◌else◌, refl, sym, ap, subst, ◌∙◌, inl, inr, arith, append_assoc, add-zero, add_assoc, le-leb, leb-false, eq-eqb, ne_eqb}
 use Rattle.std.proofs.lemmas.Bool.{false≢true}
-use Rattle.offset_allocator.specs.Named.{Block, View, Place, Grant, Outcome, one, units, named, used_block, free_block, free_part, free_start, without_start, free_end, without_end, IsWellFormed, IsUnused, place_of, is_used_at, taken, is_short_of, refused, granted, granted_at, allocate, allocate_aligned, padding_to, serve, freed_at, free, greatest, name_or, extended, is_extendable, Extension, extend}
+use Rattle.offset_allocator.specs.Named.{Block, View, Place, Grant, Outcome, one, units, count_named, used_block, free_block, free_part, free_start, without_start, free_end, without_end, IsWellFormed, IsUnused, place_of, is_used_at, place_for, is_short_of, refuse, grant_in, grant_or_refuse, allocate, allocate_aligned, padding_to, serve, free_at, free, max_size, name_or, extend_by, is_extendable, Extension, extend}
 use Rattle.offset_allocator.specs.Classes.{up, down}
-use Rattle.offset_allocator.specs.Ranges.{Range, range_at, range_of, AreDisjoint, KeepsAll, KeepsOthers, KeepsRanges}
-use Rattle.offset_allocator.specs.Relations.{IsBut, IsLive, Allocates, Aligns, Extends}
+use Rattle.offset_allocator.specs.Ranges.{Range, range_at, range_of, AreDisjoint, Grants, KeepsAll, KeepsOthers, KeepsRanges, IsLive}
+use Rattle.offset_allocator.specs.Relations.{SameSpace, Allocates, Aligns, Extends}
 use Rattle.offset_allocator.proofs.ViewOrders.{if_value, tally_append, hit_cases}
 use Rattle.offset_allocator.proofs.ViewSteps.{place_at, no_place}
-use Rattle.offset_allocator.proofs.ViewApart.{joined_parts, end_parts}
+use Rattle.offset_allocator.proofs.ViewApart.{coalesced_parts, end_parts}
 use Rattle.offset_allocator.proofs.Sizes.{fits_size}
+use Rattle.offset_allocator.proofs.Reading.{live_used}
+use Rattle.offset_allocator.proofs.Joints.{well_counted}
 use Rattle.offset_allocator.proofs.ViewTaken.{taken_at, tally_end, tally_start, well_allocate, well_aligned, well_free, well_extended, padding_small}
 
 -- the range of the used block named x, where the first of the blocks has this offset
@@ -34,7 +36,7 @@ swapped : (x offset : ℕ) (fs old new cs : List Block) → units new ≡ units 
 swapped x offset [] old new cs e h k = past x offset new cs k ∙ ap (λ n. range_from x (offset + n) cs) e ∙ sym (past x offset old cs h)
 swapped x offset (f ∷ fs) old new cs e h k = ap (λ r. if f.used && nat_eq x f.name then Some (record { offset = offset; size = f.size }) else r) (swapped x (offset + f.size) fs old new cs e h k)
 
-none_named : (x : ℕ) (bs : List Block) → named x bs ≡ 0 → HasNone x bs
+none_named : (x : ℕ) (bs : List Block) → count_named x bs ≡ 0 → HasNone x bs
 unfolding HasNone
 none_named x [] e = tt
 none_named x (b ∷ bs) e = elim (hit_cases x b.name) [
@@ -64,8 +66,8 @@ part_units : (y n : ℕ) → units (free_part y n) ≡ n
 part_units y zero = refl
 part_units y (suc n) = omega arith
 
--- a name that stands once stands beside its block nowhere
-beside : (x : ℕ) (before : List Block) (b : Block) (after : List Block) → x ≡ b.name → named x (before ++ b ∷ after) ≤ 1 → (named x before ≡ 0) × (named x after ≡ 0)
+-- a name that is there once is nowhere beside its block
+beside : (x : ℕ) (before : List Block) (b : Block) (after : List Block) → x ≡ b.name → count_named x (before ++ b ∷ after) ≤ 1 → (count_named x before ≡ 0) × (count_named x after ≡ 0)
 beside x before b after e most = elim (hit_cases x b.name) [
   | inl h ↦ let t = tally_append (λ (b : Block). one (nat_eq x b.name)) before (b ∷ after) in let k = h.1 in (omega arith, omega arith)
   | inr h ↦ absurd (h.0 e)
@@ -85,8 +87,8 @@ none_idle x b e = (ap (λ (u : Bool). u && nat_eq x b.name) e, tt)
 found : (x offset n : ℕ) (cs : List Block) → range_from x offset (used_block x n ∷ cs) ≡ Some (record { offset = offset; size = n })
 found x offset n cs = ap (λ (t : Bool). if t then Some (record { offset = offset; size = n }) else range_from x (offset + n) cs) (eq-eqb x x refl)
 
--- a name that stands once, at a block that is used or not
-placed : (x : ℕ) (before : List Block) (b : Block) (after : List Block) → x ≡ b.name → named x (before ++ b ∷ after) ≤ 1
+-- a name that is there once, at a block that is used or not
+placed : (x : ℕ) (before : List Block) (b : Block) (after : List Block) → x ≡ b.name → count_named x (before ++ b ∷ after) ≤ 1
     → range_from x 0 (before ++ b ∷ after) ≡ (if b.used then Some (record { offset = units before; size = b.size }) else None)
 placed x before b after e most =
     let alone = beside x before b after e most in
@@ -101,22 +103,22 @@ placed x before b after e most =
     either true f = ap (λ (o : ℕ). Some (record { offset = o; size = b.size })) zeroed
     either false f = f
 
-range_go : (x : ℕ) (bs : List Block) → named x bs ≤ 1 → (o : Option Place) → place_of x bs ≡ o → range_at o ≡ range_from x 0 bs
+range_go : (x : ℕ) (bs : List Block) → count_named x bs ≤ 1 → (o : Option Place) → place_of x bs ≡ o → range_at o ≡ range_from x 0 bs
 range_go x bs most None e = sym (nothing x 0 bs (none_named x bs (no_place x bs e)))
 range_go x bs most (Some p) e =
     let at = place_at x bs p e in
-    sym (ap (λ l. range_from x 0 l) at.0 ∙ placed x p.before p.block p.after at.1 (let k = ap (named x) at.0 in omega arith))
+    sym (ap (λ l. range_from x 0 l) at.0 ∙ placed x p.before p.block p.after at.1 (let k = ap (count_named x) at.0 in omega arith))
 
 range_is : (x : ℕ) (v : View) → IsWellFormed v → range_of x v ≡ range_from x 0 v.blocks
 range_is x v f = range_go x v.blocks (f.distinct x) (place_of x v.blocks) refl
 
 -- a grant
-module _ (v : View) (n padding front rest : ℕ) (p : Place) (stood : v.blocks ≡ p.before ++ p.block ∷ p.after) (idle : p.block.used ≡ false) (once : named p.block.name v.blocks ≤ 1) (enough : padding + n ≤ p.block.size) where
+module _ (v : View) (n padding front rest : ℕ) (p : Place) (stood : v.blocks ≡ p.before ++ p.block ∷ p.after) (idle : p.block.used ≡ false) (once : count_named p.block.name v.blocks ≤ 1) (enough : padding + n ≤ p.block.size) where
   abbrev new : List Block
   new = free_part front padding ++ used_block p.block.name n ∷ free_part rest (p.block.size - (padding + n))
 
-  alone : (named p.block.name p.before ≡ 0) × (named p.block.name p.after ≡ 0)
-  alone = beside p.block.name p.before p.block p.after refl (let k = ap (named p.block.name) stood in omega arith)
+  alone : (count_named p.block.name p.before ≡ 0) × (count_named p.block.name p.after ≡ 0)
+  alone = beside p.block.name p.before p.block p.after refl (let k = ap (count_named p.block.name) stood in omega arith)
 
   same_units : units new ≡ units (p.block ∷ [])
   same_units =
@@ -125,13 +127,13 @@ module _ (v : View) (n padding front rest : ℕ) (p : Place) (stood : v.blocks �
       let r = part_units rest (p.block.size - (padding + n)) in
       omega arith
 
-  granted_others : (y : ℕ) → y ≢ p.block.name → range_from y 0 (granted v n padding front rest p).view.blocks ≡ range_from y 0 v.blocks
+  granted_others : (y : ℕ) → y ≢ p.block.name → range_from y 0 (grant_in v n padding front rest p).view.blocks ≡ range_from y 0 v.blocks
   granted_others y d =
       swapped y 0 p.before (p.block ∷ []) new p.after same_units (none_idle y p.block idle)
       (none_append y (free_part front padding) _ (none_free y front padding) (none_append y (used_block p.block.name n ∷ []) (free_part rest (p.block.size - (padding + n))) (none_other y p.block.name n d) (none_free y rest (p.block.size - (padding + n)))))
       ∙ sym (ap (λ l. range_from y 0 l) stood)
 
-  granted_range : range_from p.block.name 0 (granted v n padding front rest p).view.blocks ≡ Some (record { offset = units p.before + padding; size = n })
+  granted_range : range_from p.block.name 0 (grant_in v n padding front rest p).view.blocks ≡ Some (record { offset = units p.before + padding; size = n })
   granted_range =
       past p.block.name 0 p.before (new ++ p.after) (none_named p.block.name p.before alone.0)
       ∙ ap (λ o. range_from p.block.name o (new ++ p.after)) (let zeroed : 0 + units p.before ≡ units p.before = omega arith in zeroed)
@@ -201,7 +203,7 @@ Gives : ℕ → View → View → Option Grant → Type 0
 Gives n v w None = KeepsAll v w
 Gives n v w (Some g) = Holds n v w g
 
--- the range of a name that was not live is given back: all live ranges stayed where they were
+-- the range of a name that was not live is freed: all live ranges stay where they were
 pub given_back : (x : ℕ) (v w z : View) → range_of x v ≡ None → KeepsRanges v w → KeepsOthers x w z → KeepsRanges v z
 given_back x v w z fresh kept others y r e = elim (hit_cases y x) [
   | inl h ↦ absurd (let same = ap (λ z. range_of z v) h.0 in let no : (let o : Option Range = None in o) ≡ Some r = sym fresh ∙ sym same ∙ e in cc)
@@ -212,8 +214,8 @@ idle : (u : Bool) → not u ≡ true → u ≡ false
 idle true e = absurd (false≢true e)
 idle false e = refl
 
-gives : (v : View) → IsWellFormed v → (needed n : ℕ) (padding_at : ℕ → ℕ) → ((o : ℕ) → padding_at o + n ≤ needed) → (front rest : ℕ) (o : Option Place) → taken needed v ≡ o
-    → IsWellFormed (granted_at v n padding_at front rest o).view → Gives n v (granted_at v n padding_at front rest o).view (granted_at v n padding_at front rest o).grant
+gives : (v : View) → IsWellFormed v → (needed n : ℕ) (padding_at : ℕ → ℕ) → ((o : ℕ) → padding_at o + n ≤ needed) → (front rest : ℕ) (o : Option Place) → place_for needed v ≡ o
+    → IsWellFormed (grant_or_refuse v n padding_at front rest o).view → Gives n v (grant_or_refuse v n padding_at front rest o).view (grant_or_refuse v n padding_at front rest o).grant
 unfolding Gives
 gives v f needed n padding_at enough front rest None e after = λ x. refl
 gives v f needed n padding_at enough front rest (Some p) e after =
@@ -223,7 +225,7 @@ gives v f needed n padding_at enough front rest (Some p) e after =
     let wide : padding + n ≤ p.block.size = let h = enough (units p.before) in omega arith in
     let unused = idle p.block.used t.free in
     let once = f.distinct p.block.name in
-    let w = (granted v n padding front rest p).view in
+    let w = (grant_in v n padding front rest p).view in
     let fresh = range_is p.block.name v f ∙ granted_before v n padding front rest p t.stood unused once wide in
     record {
       fresh = fresh;
@@ -231,7 +233,7 @@ gives v f needed n padding_at enough front rest (Some p) e after =
       others = λ y d. range_is y w after ∙ granted_others v n padding front rest p t.stood unused once wide y d ∙ sym (range_is y v f);
     }
 
-given : (n : ℕ) (v w : View) (o : Outcome) (g : Option Grant) → Gives n v o.view o.grant → g ≡ o.grant → IsBut o.view w → Gives n v w g
+given : (n : ℕ) (v w : View) (o : Outcome) (g : Option Grant) → Gives n v o.view o.grant → g ≡ o.grant → SameSpace o.view w → Gives n v w g
 unfolding Gives
 given n v w o g h answer but = subst (Gives n v w) (sym answer) (subst (λ u. Gives n v u o.grant) (sym but) (counted o.grant h))
   where
@@ -245,48 +247,56 @@ nothing_given n v = λ x. refl
 
 -- requests
 gives_allocate : (n rest : ℕ) (v : View) → IsWellFormed v → IsUnused rest v → Gives n v (allocate n rest v).view (allocate n rest v).grant
-gives_allocate n rest v f u = if_value (is_short_of 1 v) (refused v) (granted_at v n (λ offset. 0) rest rest (taken n v)) (λ (o : Outcome). IsWellFormed o.view → Gives n v o.view o.grant)
+gives_allocate n rest v f u = if_value (is_short_of 1 v) (refuse v) (grant_or_refuse v n (λ offset. 0) rest rest (place_for n v)) (λ (o : Outcome). IsWellFormed o.view → Gives n v o.view o.grant)
     (λ e h. nothing_given n v)
-    (λ e h. gives v f n n (λ offset. 0) (λ o. omega arith) rest rest (taken n v) refl h)
+    (λ e h. gives v f n n (λ offset. 0) (λ o. omega arith) rest rest (place_for n v) refl h)
     (well_allocate v f n rest u)
 
 gives_aligned : (n align front rest : ℕ) (v : View) → IsWellFormed v → IsUnused rest v → IsWellFormed (allocate_aligned n align front rest v).view → Gives n v (allocate_aligned n align front rest v).view (allocate_aligned n align front rest v).grant
-gives_aligned n align front rest v f u = if_value (nat_le align 1) (allocate n rest v) (if nat_lt greatest (n + align - 1) then refused v else serve 2 (n + align - 1) n (padding_to align) front rest v) (λ (o : Outcome). IsWellFormed o.view → Gives n v o.view o.grant)
+gives_aligned n align front rest v f u = if_value (nat_le align 1) (allocate n rest v) (if nat_lt max_size (n + align - 1) then refuse v else serve 2 (n + align - 1) n (padding_to align) front rest v) (λ (o : Outcome). IsWellFormed o.view → Gives n v o.view o.grant)
     (λ e h. gives_allocate n rest v f u)
-    (λ e. if_value (nat_lt greatest (n + align - 1)) (refused v) (serve 2 (n + align - 1) n (padding_to align) front rest v) (λ (o : Outcome). IsWellFormed o.view → Gives n v o.view o.grant)
+    (λ e. if_value (nat_lt max_size (n + align - 1)) (refuse v) (serve 2 (n + align - 1) n (padding_to align) front rest v) (λ (o : Outcome). IsWellFormed o.view → Gives n v o.view o.grant)
     (λ k h. nothing_given n v)
-    (λ k. if_value (is_short_of 2 v) (refused v) (granted_at v n (padding_to align) front rest (taken (n + align - 1) v)) (λ (o : Outcome). IsWellFormed o.view → Gives n v o.view o.grant)
+    (λ k. if_value (is_short_of 2 v) (refuse v) (grant_or_refuse v n (padding_to align) front rest (place_for (n + align - 1) v)) (λ (o : Outcome). IsWellFormed o.view → Gives n v o.view o.grant)
     (λ l h. nothing_given n v)
-    (λ l h. gives v f (n + align - 1) n (padding_to align) (λ o. let b = leb-false align 1 e in let s = padding_small align o b in omega arith) front rest (taken (n + align - 1) v) refl h)))
+    (λ l h. gives v f (n + align - 1) n (padding_to align) (λ o. let b = leb-false align 1 e in let s = padding_small align o b in omega arith) front rest (place_for (n + align - 1) v) refl h)))
 
 -- a grant leaves every live range where it was
-pub holds_kept : (n : ℕ) (v w : View) (g : Grant) → Holds n v w g → KeepsRanges v w
-holds_kept n v w g h = given_back g.name v v w h.fresh (λ x r e. e) h.others
+pub grants_keep : (n : ℕ) (v w : View) (g : Grant) → Grants n v w g → KeepsRanges v w
+grants_keep n v w g h = given_back g.name v v w h.fresh (λ x r e. e) h.others
+
+-- and a refusal too
+pub call_keeps : (n : ℕ) (v w : View) (o : Option Grant) → IfSome o (Grants n v w) → (o ≡ None → SameSpace v w) → KeepsRanges v w
+call_keeps n v w None h same = λ x r e. ap (range_of x) (same refl) ∙ e
+call_keeps n v w (Some g) h same = grants_keep n v w g h
+
+-- its units lie in the space that it leaves, apart from every live range
+granted_is : (n : ℕ) (v w : View) (g : Grant) → IsWellFormed w → Holds n v w g → Grants n v w g
+granted_is n v w g well h = record {
+  fresh = h.fresh;
+  range = h.range;
+  within = live_inside w well g.name _ h.range;
+  apart = λ x r e. elim (hit_cases x g.name) [
+    | inl f ↦ absurd (let same = ap (λ y. range_of y v) f.0 in let no : (let o : Option Range = None in o) ≡ Some r = sym h.fresh ∙ sym same ∙ e in cc)
+    | inr f ↦ live_disjoint w well x g.name r _ f.0 (h.others x f.0 ∙ e) h.range
+  ];
+  others = h.others;
+}
 
 held : (n : ℕ) (v w : View) (g : Grant) → Gives n v w (Some g) → Holds n v w g
 unfolding Gives
 held n v w g h = h
 
-pub allocated_holds : (n : ℕ) (v w : View) (g : Grant) → IsWellFormed v → Allocates n v w (Some g) → Holds n v w g
-allocated_holds n v w g f a = held n v w g (given n v w (allocate n a.rest v) (Some g) (gives_allocate n a.rest v f a.unused) a.answer a.view)
+pub allocated_grants : (n : ℕ) (v w : View) (g : Grant) → IsWellFormed v → Allocates n v w (Some g) → Grants n v w g
+allocated_grants n v w g f a =
+    granted_is n v w g (subst IsWellFormed (sym a.view) (well_counted (allocate n a.rest v).view w.accesses (well_allocate v f n a.rest a.unused)))
+    (held n v w g (given n v w (allocate n a.rest v) (Some g) (gives_allocate n a.rest v f a.unused) a.answer a.view))
 
-aligned_gives : (n align : ℕ) (v w : View) (g : Option Grant) → IsWellFormed v → Aligns n align v w g → Gives n v w g
-aligned_gives n align v w g f a = given n v w (allocate_aligned n align a.front a.rest v) g (gives_aligned n align a.front a.rest v f a.unused (well_aligned v f n align a.front a.rest a.unused a.apart)) a.answer a.view
-
-pub aligned_holds : (n align : ℕ) (v w : View) (g : Grant) → IsWellFormed v → Aligns n align v w (Some g) → Holds n v w g
-aligned_holds n align v w g f a = held n v w g (aligned_gives n align v w (Some g) f a)
-
--- a live name, and its range
-pub live_range : (x : ℕ) (v : View) (r : Range) → range_of x v ≡ Some r → IsLive x v
-live_range x v r e = either (place_of x v.blocks) e
-  where
-    used : (p : Place) (u : Bool) → (if u then Some (record { offset = units p.before; size = p.block.size }) else None) ≡ Some r → u ≡ true
-    used p true e = refl
-    used p false e = absurd (cc)
-
-    either : (o : Option Place) → range_at o ≡ Some r → is_used_at o ≡ true
-    either None e = absurd (cc)
-    either (Some p) e = used p p.block.used e
+pub aligned_grants : (n align : ℕ) (v w : View) (g : Grant) → IsWellFormed v → Aligns n align v w (Some g) → Grants n v w g
+aligned_grants n align v w g f a =
+    let well = well_aligned v f n align a.front a.rest a.unused a.apart in
+    granted_is n v w g (subst IsWellFormed (sym a.view) (well_counted (allocate_aligned n align a.front a.rest v).view w.accesses well))
+    (held n v w g (given n v w (allocate_aligned n align a.front a.rest v) (Some g) (gives_aligned n align a.front a.rest v f a.unused well) a.answer a.view))
 
 -- a release
 none_if : (x : ℕ) (b : Block) (u : Bool) → b.used ≡ u → (bs : List Block) → HasNone x (if not u then b ∷ [] else [])
@@ -313,14 +323,14 @@ none_beside x y d b e = (ap (λ t. b.used && t) (ne_eqb y b.name (λ k. d (k ∙
     right true = refl
     right false = refl
 
-freed_if : (x : ℕ) (v : View) → IsWellFormed v → (o : Option Place) → place_of x v.blocks ≡ o → is_used_at o ≡ true → IsWellFormed (freed_at v o) → (range_of x (freed_at v o) ≡ None) × KeepsOthers x v (freed_at v o)
+freed_if : (x : ℕ) (v : View) → IsWellFormed v → (o : Option Place) → place_of x v.blocks ≡ o → is_used_at o ≡ true → IsWellFormed (free_at v o) → (range_of x (free_at v o) ≡ None) × KeepsOthers x v (free_at v o)
 freed_if x v f None e live after = absurd (false≢true live)
 freed_if x v f (Some p) e live after =
     let at = place_at x v.blocks p e in
-    let alone = beside x p.before p.block p.after at.1 (let k = ap (named x) at.0 in let d = f.distinct x in omega arith) in
-    let w = freed_at v (Some p) in
+    let alone = beside x p.before p.block p.after at.1 (let k = ap (count_named x) at.0 in let d = f.distinct x in omega arith) in
+    let w = free_at v (Some p) in
     let old = free_end p.before ++ ((p.block ∷ []) ++ free_start p.after) in
-    let stood = at.0 ∙ joined_parts p.before (p.block ∷ []) p.after in
+    let stood = at.0 ∙ coalesced_parts p.before (p.block ∷ []) p.after in
     let gone : HasNone x w.blocks = none_append x (without_end p.before) (free_block p.block.name (units old) ∷ without_start p.after)
     (none_named x (without_end p.before) (let t = tally_end (λ (b : Block). one (nat_eq x b.name)) p.before in let k = alone.0 in omega arith))
     (none_append x (free_block p.block.name (units old) ∷ []) (without_start p.after) (none_idle x (free_block p.block.name (units old)) refl) (none_named x (without_start p.after) (let t = tally_start (λ (b : Block). one (nat_eq x b.name)) p.after in let k = alone.1 in omega arith))) in (
@@ -331,15 +341,15 @@ freed_if x v f (Some p) e live after =
           ∙ sym (ap (λ l. range_from y 0 l) stood) ∙ sym (range_is y v f),
     )
 
-freed : (x : ℕ) (v w : View) → IsWellFormed v → IsLive x v → IsBut (free x v) w → (range_of x w ≡ None) × KeepsOthers x v w
+freed : (x : ℕ) (v w : View) → IsWellFormed v → IsLive x v → SameSpace (free x v) w → (range_of x w ≡ None) × KeepsOthers x v w
 freed x v w f live but =
-    let h = freed_if x v f (place_of x v.blocks) refl live (well_free v f x) in
+    let h = freed_if x v f (place_of x v.blocks) refl (live_used x v live) (well_free v f x) in
     (ap (range_of x) but ∙ h.0, λ y d. ap (range_of y) but ∙ h.1 y d)
 
-pub freed_gone : (x : ℕ) (v w : View) → IsWellFormed v → IsLive x v → IsBut (free x v) w → range_of x w ≡ None
+pub freed_gone : (x : ℕ) (v w : View) → IsWellFormed v → IsLive x v → SameSpace (free x v) w → range_of x w ≡ None
 freed_gone x v w f live but = (freed x v w f live but).0
 
-pub freed_others : (x : ℕ) (v w : View) → IsWellFormed v → IsLive x v → IsBut (free x v) w → KeepsOthers x v w
+pub freed_others : (x : ℕ) (v w : View) → IsWellFormed v → IsLive x v → SameSpace (free x v) w → KeepsOthers x v w
 freed_others x v w f live but = (freed x v w f live but).1
 
 -- more units at the end
@@ -347,10 +357,10 @@ shut : (x offset : ℕ) (bs cs : List Block) → HasNone x cs → range_from x o
 shut x offset [] cs h = nothing x offset cs h
 shut x offset (b ∷ bs) cs h = ap (λ r. if b.used && nat_eq x b.name then Some (record { offset = offset; size = b.size }) else r) (shut x (offset + b.size) bs cs h)
 
-extended_keeps : (more y : ℕ) (v : View) → IsWellFormed v → IsWellFormed (extended more y v) → KeepsAll v (extended more y v)
+extended_keeps : (more y : ℕ) (v : View) → IsWellFormed v → IsWellFormed (extend_by more y v) → KeepsAll v (extend_by more y v)
 extended_keeps more y v f after x =
     let last : Block = free_block (name_or y (free_end v.blocks)) (units (free_end v.blocks) + more) in
-    range_is x (extended more y v) after
+    range_is x (extend_by more y v) after
     ∙ shut x 0 (without_end v.blocks) (last ∷ []) (none_idle x last refl)
     ∙ sym (shut x 0 (without_end v.blocks) (free_end v.blocks) (none_end x v.blocks))
     ∙ sym (ap (λ l. range_from x 0 l) (end_parts v.blocks))
@@ -358,7 +368,7 @@ extended_keeps more y v f after x =
 
 keeps_if : (more y : ℕ) (v : View) → IsWellFormed v → IsUnused y v → KeepsAll v (extend more y v).view
 keeps_if zero y v f u = λ x. refl
-keeps_if (suc more) y v f u = if_value (is_extendable (suc more) v) (let d : Extension = record { view = extended (suc more) y v; done = true } in d) (record { view = v; done = false }) (λ (d : Extension). KeepsAll v d.view)
+keeps_if (suc more) y v f u = if_value (is_extendable (suc more) v) (let d : Extension = record { view = extend_by (suc more) y v; done = true } in d) (record { view = v; done = false }) (λ (d : Extension). KeepsAll v d.view)
     (λ e. extended_keeps (suc more) y v f (well_extended v f (suc more) y u e))
     (λ e x. refl)
 

@@ -1,15 +1,16 @@
 -- Why a request is refused.
-use Rattle.std.proofs.Common.{◌≡◌, ℕ, ◌+◌, ◌<◌, ◌≤◌, Bool, true, false, not, List, [], ◌∷◌, length, sum, Option, Some, None, IsSome, if◌then◌else◌, refl, sym, ap, subst, ◌∙◌, inl, inr, arith, le-leb}
-use Rattle.std.proofs.lemmas.Bool.{lt-leb, false≢true}
+use Rattle.std.proofs.Common.{◌≡◌, ℕ, ◌+◌, ◌<◌, ◌≤◌, Bool, true, false, not, List, [], ◌∷◌, sum, Option, Some, None, IsSome, if◌then◌else◌, refl, sym, ap, subst, ◌∙◌, inl, inr, arith, le-leb}
+use Rattle.std.proofs.lemmas.Bool.{false≢true}
 use Rattle.std.proofs.lemmas.List.Sums.{sum_by-cons}
 use Rattle.offset_allocator.specs.Classes.{up, down}
-use Rattle.offset_allocator.specs.Orders.{class_lists, IsLeastFrom}
-use Rattle.offset_allocator.specs.Named.{Block, View, Place, units, is_free, names_at, free_sizes, IsWellFormed, taken, is_short_of}
+use Rattle.offset_allocator.specs.Orders.{class_lists, IsSmallestFrom}
+use Rattle.offset_allocator.specs.Named.{Block, View, Place, units, is_free, names_at, free_sizes, IsWellFormed, place_for}
 use Rattle.offset_allocator.specs.Space.{blocks}
 use Rattle.offset_allocator.specs.State.{Fields, AreSound, shown, free_units}
+use Rattle.offset_allocator.specs.Promises.{HasRoomFor}
 use Rattle.offset_allocator.proofs.Joints.{untaken, well_counted}
 use Rattle.offset_allocator.proofs.Sizes.{fits_size}
-use Rattle.offset_allocator.proofs.ViewFits.{Stands, stands_middle}
+use Rattle.offset_allocator.proofs.ViewFits.{HasName, there_middle}
 use Rattle.offset_allocator.proofs.ViewTaken.{taken_at, not_taken}
 
 -- the units of the free blocks are the sum of their sizes
@@ -20,7 +21,7 @@ free_units_sum (b ∷ bs) =
     elim b.used as (λ u. (if u then 0 else b.size) + free_units bs ≡ sum (if u then free_sizes bs else b.size ∷ free_sizes bs)) [ true ↦ omega arith | false ↦ ap (λ n. b.size + n) ih ∙ sym (sum_by-cons (λ (n : ℕ). n) b.size (free_sizes bs)) ]
 
 -- a free block has no more units than all of them
-free_below : (b : Block) (bs : List Block) → Stands b bs → is_free b ≡ true → b.size ≤ free_units bs
+free_below : (b : Block) (bs : List Block) → HasName b bs → is_free b ≡ true → b.size ≤ free_units bs
 free_below b [] i f = absurd i
 free_below b (c ∷ bs) (inl e) f =
     let g : not c.used ≡ true = ap is_free (sym e) ∙ f in
@@ -33,20 +34,20 @@ free_below b (c ∷ bs) (inl e) f =
 free_below b (c ∷ bs) (inr i) f = let ih = free_below b bs i f in omega arith
 
 -- a block that is taken has the units
-pub taken_within : (n : ℕ) (v : View) → IsWellFormed v → IsSome (taken n v) → n ≤ sum (free_sizes v.blocks)
-taken_within n v w h = go (taken n v) refl h
+pub taken_within : (n : ℕ) (v : View) → IsWellFormed v → IsSome (place_for n v) → n ≤ sum (free_sizes v.blocks)
+taken_within n v w h = go (place_for n v) refl h
   where
-    go : (o : Option Place) → taken n v ≡ o → IsSome o → n ≤ sum (free_sizes v.blocks)
+    go : (o : Option Place) → place_for n v ≡ o → IsSome o → n ≤ sum (free_sizes v.blocks)
     go None e h = absurd (false≢true h)
     go (Some p) e h =
         let t = taken_at n v w p e in
         let fits = fits_size n p.block.size (le-leb (up n) (down p.block.size) t.class) in
-        let less = free_below p.block v.blocks (subst (Stands p.block) (sym t.stood) (stands_middle p.before p.block p.after)) t.free in
+        let less = free_below p.block v.blocks (subst (HasName p.block) (sym t.stood) (there_middle p.before p.block p.after)) t.free in
         let total = free_units_sum v.blocks in
         omega arith
 
 -- and they are no more than those of the space
-pub taken_fits : (n : ℕ) (v : View) → IsWellFormed v → IsSome (taken n v) → n ≤ v.size
+pub taken_fits : (n : ℕ) (v : View) → IsWellFormed v → IsSome (place_for n v) → n ≤ v.size
 taken_fits n v w h =
     let l = taken_within n v w h in
     let total = free_units_sum v.blocks in
@@ -64,18 +65,18 @@ module _ (it : Fields) (s : AreSound it) (more n : ℕ) where
   known : IsWellFormed seen
   known = well_counted (shown (record it { accesses = 0 })) it.accesses s.well
 
-  pub is_open : more < it.count → is_short_of more (shown it) ≡ false
-  is_open h = let long = s.space.full in lt-leb it.limit (length (blocks it.cells.room it.last) + more) (omega (arith, s.nodes))
+  pub is_open : more < it.count → HasRoomFor more (shown it)
+  is_open h = let long = s.space.full in omega (arith, s.nodes)
 
   pub total_is : it.free ≡ sum (free_sizes (shown it).blocks)
   total_is = sym s.total ∙ free_units_sum (blocks it.cells.room it.last)
 
-  pub none_taken : ((k : ℕ) → up n ≤ k → k < 256 → names_at (class_lists it.max it.cells.links) k ≡ []) → taken n (shown it) ≡ None
+  pub none_taken : ((k : ℕ) → up n ≤ k → k < 256 → names_at (class_lists it.max it.cells.links) k ≡ []) → place_for n (shown it) ≡ None
   none_taken e = untaken n seen known e
 
-  pub some_taken : (c : ℕ) → IsLeastFrom (up n) (class_lists it.max it.cells.links) c → IsSome (taken n (shown it))
-  some_taken c l = go (taken n seen) refl
+  pub some_taken : (c : ℕ) → IsSmallestFrom (up n) (class_lists it.max it.cells.links) c → IsSome (place_for n (shown it))
+  some_taken c l = go (place_for n seen) refl
     where
-      go : (o : Option Place) → taken n seen ≡ o → IsSome o
+      go : (o : Option Place) → place_for n seen ≡ o → IsSome o
       go None e = absurd (l.2 (not_taken n seen known e c l.0))
       go (Some p) e = refl

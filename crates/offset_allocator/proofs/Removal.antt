@@ -53,7 +53,7 @@ module _ (none : ℕ) where
           | inr b ↦ dc (k.apart d c y dh ch a (subst (λ w. Among w (names_at ls c)) (sym e) b))
         ]
 
-    -- the head becomes the next name where x stood first
+    -- the head becomes the next name where x was first
     pub removed_linked : (Linked none) ((relinked none) newer after before) ((relinked none) older before after) (slice_set heads c (cond (eqb (slice_index heads c) x) after (slice_index heads c))) (slice_set ls c (without x (names_at ls c)))
     removed_linked =
         let ol = k.older_len in
@@ -89,7 +89,7 @@ module _ (none : ℕ) where
         subst (λ h. (Linked none) ((relinked none) newer after before) ((relinked none) older before after) h (slice_set ls c (without x (names_at ls c))))
         (rw ((ne-eqb none) (slice_index heads c) x (head_is_not_x n)) (set-get_or heads c 0)) removed_linked
 
-    -- the masks stand where the list keeps a name
+    -- the masks stay where the bin keeps a name
     pub masks_stay : (masks : List ℕ) (top : ℕ) → (Masked none) heads masks top → before ≡ none → after ≢ none → (Masked none) (slice_set heads c after) masks top
     masks_stay masks top mk e n =
         let l : after < none = omega (arith, after_below n, k.names_small) in

@@ -1,9 +1,9 @@
--- Rows of linked nodes: cut, joined, and left alone by writes elsewhere.
+-- Rows of linked nodes: split, appended, and left alone by writes elsewhere.
 use Rattle.std.proofs.Common.{◌≡◌, ◌≢◌, ℕ, zero, suc, ◌+◌, ◌≤◌, Option, None, Some, List, [], ◌∷◌, ◌++◌, length, refl, sym, ◌∙◌, arith, add_assoc, zero-add, add-zero, nat_eq}
 use Rattle.std.proofs.lemmas.Bool.{eq-eqb, ne_eqb}
 use Rattle.offset_allocator.specs.Cells.{Room, node}
 use Rattle.offset_allocator.specs.Space.{first_or, last_or, IsRow, walk}
-use Rattle.offset_allocator.specs.Named.{Block, units, named, times, one}
+use Rattle.offset_allocator.specs.Named.{Block, units, count_named, times, one}
 
 pub one-same : (k : ℕ) → one (nat_eq k k) ≡ 1
 one-same k = rw (eq-eqb k k refl)
@@ -18,12 +18,12 @@ pub times-join : (k : ℕ) (xs ys : List ℕ) → times k (xs ++ ys) ≡ times k
 times-join k [] ys = sym (zero-add _)
 times-join k (x ∷ xs) ys = omega (arith, times-join k xs ys)
 
--- the first of a list stands in it
-pub times-first : (k : ℕ) (bs : List Block) → first_or None bs ≡ Some k → 1 ≤ named k bs
+-- the first of a list is in it
+pub times-first : (k : ℕ) (bs : List Block) → first_or None bs ≡ Some k → 1 ≤ count_named k bs
 times-first k [] e = cc
 times-first k (b ∷ bs) e = let same : b.name ≡ k = cc in omega (arith, one-eq k b.name same)
 
-pub times-append : (k : ℕ) (fs bs : List Block) → named k (fs ++ bs) ≡ named k fs + named k bs
+pub times-append : (k : ℕ) (fs bs : List Block) → count_named k (fs ++ bs) ≡ count_named k fs + count_named k bs
 times-append k [] bs = sym (zero-add _)
 times-append k (a ∷ fs) bs = omega (arith, times-append k fs bs)
 
@@ -39,7 +39,7 @@ pub last_or-append : (p : Option ℕ) (fs bs : List Block) → last_or p (fs ++ 
 last_or-append p [] bs = refl
 last_or-append p (a ∷ fs) bs = last_or-append (Some a.name) fs bs
 
--- a row cut in two
+-- a row split in two
 pub IsRow-front : (c : Room) (p : Option ℕ) (o : ℕ) (fs bs : List Block) (q : Option ℕ) → IsRow c p o (fs ++ bs) q → IsRow c p o fs (first_or q bs)
 IsRow-front c p o [] bs q h = tt
 IsRow-front c p o (a ∷ fs) bs q h = (rw (first_or-append q fs bs) at h.0, IsRow-front c (Some a.name) (o + a.size) fs bs q h.1)
@@ -54,7 +54,7 @@ IsRow-append c p o (a ∷ fs) bs q g h =
     (rw (first_or-append q fs bs) g.0, IsRow-append c (Some a.name) (o + a.size) fs bs q g.1 (rw (← add_assoc o a.size (units fs)) at h))
 
 -- writes at other names leave a row
-pub IsRow-kept : (c d : Room) (p : Option ℕ) (o : ℕ) (bs : List Block) (q : Option ℕ) → ((k : ℕ) → 1 ≤ named k bs → node d k ≡ node c k) → IsRow c p o bs q → IsRow d p o bs q
+pub IsRow-kept : (c d : Room) (p : Option ℕ) (o : ℕ) (bs : List Block) (q : Option ℕ) → ((k : ℕ) → 1 ≤ count_named k bs → node d k ≡ node c k) → IsRow c p o bs q → IsRow d p o bs q
 IsRow-kept c d p o [] q same h = tt
 IsRow-kept c d p o (b ∷ bs) q same h = (
   same b.name (omega (arith, one-same b.name)) ∙ h.0,
@@ -62,14 +62,14 @@ IsRow-kept c d p o (b ∷ bs) q same h = (
 )
 
 -- a row whose first node is linked back to another
-pub IsRow-moved : (c d : Room) (p p' : Option ℕ) (o : ℕ) (bs : List Block) (q : Option ℕ) → ((k : ℕ) → named k bs ≤ 1) → ((z : ℕ) → first_or None bs ≡ Some z → node d z ≡ record (node c z) { before = p' }) → ((k : ℕ) → 1 ≤ named k bs → first_or None bs ≢ Some k → node d k ≡ node c k) → IsRow c p o bs q → IsRow d p' o bs q
+pub IsRow-moved : (c d : Room) (p p' : Option ℕ) (o : ℕ) (bs : List Block) (q : Option ℕ) → ((k : ℕ) → count_named k bs ≤ 1) → ((z : ℕ) → first_or None bs ≡ Some z → node d z ≡ record (node c z) { before = p' }) → ((k : ℕ) → 1 ≤ count_named k bs → first_or None bs ≢ Some k → node d k ≡ node c k) → IsRow c p o bs q → IsRow d p' o bs q
 IsRow-moved c d p p' o [] q once head others h = tt
 IsRow-moved c d p p' o (b ∷ bs) q once head others h = (
   rw h.0 at (head b.name refl),
   IsRow-kept c d (Some b.name) (o + b.size) bs q (λ k l. others k (omega arith) (λ e. let same : b.name ≡ k = cc in absurd (omega (arith, once k, one-eq k b.name same)))) h.1,
 )
 
--- the walk back from the end of a row gives the row
+-- the walk back from the end of a row is the row
 pub walk-row : (c : Room) (p : Option ℕ) (o : ℕ) (bs : List Block) (q : Option ℕ) (f : ℕ) (rest : List Block) → IsRow c p o bs q → walk c (length bs + f) (last_or p bs) rest ≡ walk c f p (bs ++ rest)
 walk-row c p o [] q f rest h = rw (zero-add f)
 walk-row c p o (b ∷ bs) q f rest h =

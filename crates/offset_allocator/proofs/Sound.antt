@@ -1,11 +1,11 @@
--- The fields of an allocator, and what their invariant tells of the view.
+-- The fields of an allocator, and what their invariant says of the view.
 use Rattle.std.proofs.Common.{◌≡◌, ℕ, ◌≤◌, ap, subst, arith}
 use Rattle.offset_allocator.specs.Named.{View, IsWellFormed}
 use Rattle.offset_allocator.specs.State.{Fields, AreSound, shown}
 use Rattle.offset_allocator.specs.declared.Allocator.TheInside.{Inside}
 use Rattle.offset_allocator.proofs.Joints.{well_counted}
 
--- an allocator's fields, with the greatest number of its index type
+-- an allocator's fields, with the largest number of its index type
 abbrev pub fields_of : {A B : Type 0} → ℕ → Inside A B → Fields
 fields_of max a = record { max = max; size = a.size; limit = a.max_allocs; cells = a.tables; last = a.last; count = a.spare_count; top = a.top_mask; free = a.free_total; accesses = a.accesses }
 

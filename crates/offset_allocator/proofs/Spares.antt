@@ -3,14 +3,14 @@ use Rattle.std.proofs.Common.{◌≡◌, ◌≢◌, ℕ, ◌+◌, ◌-◌, ◌<�
 use Rattle.std.proofs.lemmas.Bool.{cases_eq, lt-leb}
 use Rattle.std.proofs.lemmas.Bool.Decides.{nat_tests}
 use Rattle.offset_allocator.specs.Cells.{Room}
-use Rattle.offset_allocator.specs.Named.{View, IsUnused, times, named, is_short_of}
+use Rattle.offset_allocator.specs.Named.{View, IsUnused, times, count_named, is_short_of}
 use Rattle.offset_allocator.specs.Space.{IsSpace, blocks, spares}
 use Rattle.offset_allocator.specs.State.{Fields, AreSound, shown}
 use Rattle.offset_allocator.proofs.Rows.{one-same, one-eq, times-join}
 use Rattle.offset_allocator.proofs.Split.{spares-more}
 
 module _ (c : Room) (last count : ℕ) (h : IsSpace c last count) where
-  spare_new : (k : ℕ) → 1 ≤ times k (spares c count) → (named k (blocks c last) ≡ 0) × (k < length c.nodes)
+  spare_new : (k : ℕ) → 1 ≤ times k (spares c count) → (count_named k (blocks c last) ≡ 0) × (k < length c.nodes)
   spare_new k l = let e = h.each k in (grind (arith, nat_tests), grind (arith, nat_tests))
 
   first_spare : ℕ
@@ -30,8 +30,8 @@ module _ (c : Room) (last count : ℕ) (h : IsSpace c last count) where
   spare_times : 2 ≤ count → (k : ℕ) → times k (spares c count) ≡ times k (spares c (count - 2)) + times k (next_spare ∷ []) + times k (first_spare ∷ [])
   spare_times l k = ap (times k) (spares_are l) ∙ times-join k (spares c (count - 2) ++ next_spare ∷ []) (first_spare ∷ []) ∙ ap (λ (n : ℕ). n + times k (first_spare ∷ [])) (times-join k (spares c (count - 2)) (next_spare ∷ []))
 
-  -- a spare name other than z
-  other_spare : 2 ≤ count → (z : ℕ) → (y : ℕ) × (named y (blocks c last) ≡ 0) × (y < length c.nodes) × (y ≢ z)
+  -- an unused name other than z
+  other_spare : 2 ≤ count → (z : ℕ) → (y : ℕ) × (count_named y (blocks c last) ≡ 0) × (y < length c.nodes) × (y ≢ z)
   other_spare l z =
       let t₁ = spare_times l first_spare in
       let t₂ = spare_times l next_spare in

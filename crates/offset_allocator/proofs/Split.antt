@@ -4,24 +4,24 @@ use Rattle.std.proofs.lemmas.List.{take_more}
 use Rattle.std.proofs.lemmas.Bool.{cases_eq}
 use Rattle.offset_allocator.specs.Cells.{Room, node}
 use Rattle.offset_allocator.specs.Space.{first_or, last_or, IsRow, IsChain, spares}
-use Rattle.offset_allocator.specs.Named.{Block, units, named, times, one}
+use Rattle.offset_allocator.specs.Named.{Block, units, count_named, times, one}
 use Rattle.offset_allocator.proofs.Rows.{one-same, one-eq, one-other, times-join, times-append, times-first, units-append, last_or-append, IsRow-front, IsRow-back, IsRow-append, IsRow-kept, IsRow-moved}
 
--- the cells d after the block x, with cs behind it, was cut to n
+-- the cells d once the block x, with cs after it, is split after n units
 pub record IsCut (c d : Room) (x : ℕ) (cs : List Block) (n y : ℕ) : Type 0 where
   pub at_x : node d x ≡ record (node c x) { size = n; after = Some y }
   pub at_y : node d y ≡ record { offset = (node c x).offset + n; size = (node c x).size - n; used = false; before = Some x; after = (node c x).after }
   pub at_z : (z : ℕ) → first_or None cs ≡ Some z → node d z ≡ record (node c z) { before = Some y }
   pub others : (k : ℕ) → k ≢ x → k ≢ y → first_or None cs ≢ Some k → node d k ≡ node c k
 
-module _ (c d : Room) (fs : List Block) (b : Block) (cs : List Block) (n y : ℕ) (cut : IsCut c d b.name cs n y) (once : (k : ℕ) → named k (fs ++ b ∷ cs) ≤ 1) (new : named y (fs ++ b ∷ cs) ≡ 0) (within : n ≤ b.size) where
-  front_same : (k : ℕ) → 1 ≤ named k fs → node d k ≡ node c k
+module _ (c d : Room) (fs : List Block) (b : Block) (cs : List Block) (n y : ℕ) (cut : IsCut c d b.name cs n y) (once : (k : ℕ) → count_named k (fs ++ b ∷ cs) ≤ 1) (new : count_named y (fs ++ b ∷ cs) ≡ 0) (within : n ≤ b.size) where
+  front_same : (k : ℕ) → 1 ≤ count_named k fs → node d k ≡ node c k
   front_same k l = cut.others k
       (λ e. omega (arith, once k, times-append k fs (b ∷ cs), one-eq k b.name (sym e)))
       (λ e. omega (arith, rw (sym e) at new, times-append k fs (b ∷ cs)))
       (λ e. omega (arith, once k, times-append k fs (b ∷ cs), times-first k cs e))
 
-  back_same : (k : ℕ) → 1 ≤ named k cs → first_or None cs ≢ Some k → node d k ≡ node c k
+  back_same : (k : ℕ) → 1 ≤ count_named k cs → first_or None cs ≢ Some k → node d k ≡ node c k
   back_same k l ne = cut.others k
       (λ e. omega (arith, once k, times-append k fs (b ∷ cs), one-eq k b.name (sym e)))
       (λ e. omega (arith, rw (sym e) at new, times-append k fs (b ∷ cs)))
@@ -42,7 +42,7 @@ split-ends : (fs : List Block) (b : Block) (cs : List Block) (b' y' : Block) (la
 split-ends fs b [] b' y' last last' h none some = last_or-append None fs (b' ∷ y' ∷ []) ∙ ap (λ v. Some v) (sym (none refl))
 split-ends fs b (z ∷ cs) b' y' last last' h none some = last_or-append None fs (b' ∷ y' ∷ z ∷ cs) ∙ sym (last_or-append None fs (b ∷ z ∷ cs)) ∙ h ∙ ap (λ v. Some v) (sym (some z.name refl))
 
-pub each-le : (c : Room) (m last count : ℕ) (bs : List Block) → IsChain c m last count bs → (k : ℕ) → named k bs + times k (spares c count) ≤ 1
+pub each-le : (c : Room) (m last count : ℕ) (bs : List Block) → IsChain c m last count bs → (k : ℕ) → count_named k bs + times k (spares c count) ≤ 1
 each-le c m last count bs h k = grind (arith, h.each k)
 
 pub spares-more : (c : Room) (count : ℕ) → count < length c.spare → spares c (count + 1) ≡ spares c count ++ get_or c.spare count 0 ∷ []
@@ -59,10 +59,10 @@ split-chain c d m last last' count fs b cs n y h popped within cut cells spare n
     let y' : Block = record { name = y; size = b.size - n; used = false } in
     let long : length (fs ++ b ∷ cs) + (count + 1) ≡ m = h.full in
     let room : count < length c.spare = omega (arith, h.stack) in
-    let taken : spares c (count + 1) ≡ spares c count ++ y ∷ [] = rw popped (spares-more c count room) in
-    let had : (k : ℕ) → times k (spares c (count + 1)) ≡ times k (spares c count) + one (nat_eq k y) = λ k. rw taken (omega (arith, times-join k (spares c count) (y ∷ []))) in
-    let once : (k : ℕ) → named k (fs ++ b ∷ cs) ≤ 1 = λ k. omega (arith, each-le c m last (count + 1) _ h k) in
-    let new : named y (fs ++ b ∷ cs) ≡ 0 = omega (arith, each-le c m last (count + 1) _ h y, had y, one-same y) in
+    let place_for : spares c (count + 1) ≡ spares c count ++ y ∷ [] = rw popped (spares-more c count room) in
+    let had : (k : ℕ) → times k (spares c (count + 1)) ≡ times k (spares c count) + one (nat_eq k y) = λ k. rw place_for (omega (arith, times-join k (spares c count) (y ∷ []))) in
+    let once : (k : ℕ) → count_named k (fs ++ b ∷ cs) ≤ 1 = λ k. omega (arith, each-le c m last (count + 1) _ h k) in
+    let new : count_named y (fs ++ b ∷ cs) ≡ 0 = omega (arith, each-le c m last (count + 1) _ h y, had y, one-same y) in
     record {
       cells = cells;
       stack = rw spare h.stack;

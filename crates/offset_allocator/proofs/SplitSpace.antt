@@ -1,13 +1,13 @@
 -- The writes of `split`, at the level of the list of blocks.
 use Rattle.std.proofs.Common.{◌≡◌, ◌≢◌, ℕ, ◌+◌, ◌-◌, ◌<◌, ◌≤◌, ◌^◌, false, Option, None, Some, List, [], ◌∷◌, ◌++◌, length, get_or, refl, sym, ◌∙◌, ap, arith, MatchOption, IfSome, subst, nat_eq}
 use Rattle.offset_allocator.specs.Cells.{Room, Node, node, put}
-use Rattle.offset_allocator.specs.Space.{first_or, IsChain, IsSpace, spares, Stands, blocks, size_in, split_block}
-use Rattle.offset_allocator.specs.Named.{Block, named, one}
+use Rattle.offset_allocator.specs.Space.{first_or, IsChain, IsSpace, spares, HasName, blocks, size_in, split_block}
+use Rattle.offset_allocator.specs.Named.{Block, count_named, one}
 use Rattle.offset_allocator.proofs.Nodes.{node-put, node-put_other, length-put, spare-put, put-put}
 use Rattle.offset_allocator.proofs.Rows.{one-same, one-eq, times-join, times-append, times-first}
 use Rattle.offset_allocator.proofs.Found.{split_block-at, size_in-at}
 use Rattle.offset_allocator.proofs.Split.{IsCut, split-chain, each-le, spares-more}
-use Rattle.offset_allocator.proofs.Spot.{Spot, spot, spare-below, stands-below}
+use Rattle.offset_allocator.proofs.Spot.{Spot, spot, spare-below, there-below}
 
 abbrev pub rest : Room → ℕ → ℕ → Node
 rest c x n = record { offset = (node c x).offset + n; size = (node c x).size - n; used = false; before = Some x; after = (node c x).after }
@@ -75,7 +75,7 @@ last-some last last' y (b ∷ cs) e z e' = e
 -- the call
 pub record SplitAt (c : Room) (last count x n y : ℕ) : Type 0 where
   pub space : IsSpace c last count
-  pub standing : Stands x (blocks c last)
+  pub present : HasName x (blocks c last)
   pub room : 0 < count
   pub within : n ≤ size_in x (blocks c last)
   pub popped : y ≡ get_or c.spare (count - 1) 0
@@ -88,7 +88,7 @@ module _ (c : Room) (last count x n y : ℕ) (h : SplitAt c last count x n y) wh
   chain = let room = h.room in let e : (count - 1) + 1 ≡ count = omega arith in rw e h.space
 
   pub spot_x : Spot c m x (blocks c last)
-  spot_x = spot c m last count x (blocks c last) h.space h.standing
+  spot_x = spot c m last count x (blocks c last) h.space h.present
 
   pub y_below : y < m
   y_below = rw h.popped (spare-below c m last (count - 1) (blocks c last) chain)
@@ -96,8 +96,8 @@ module _ (c : Room) (last count x n y : ℕ) (h : SplitAt c last count x n y) wh
   pub apart : x ≢ y
   apart e =
       let long = chain.full in
-      let taken : spares c ((count - 1) + 1) ≡ spares c (count - 1) ++ y ∷ [] = rw h.popped (spares-more c (count - 1) (omega (arith, chain.stack))) in
-      omega (arith, each-le c m last ((count - 1) + 1) _ chain y, rw (taken, times-join y (spares c (count - 1)) (y ∷ [])) at (each-le c m last ((count - 1) + 1) _ chain y), one-same y, rw e at h.standing)
+      let place_for : spares c ((count - 1) + 1) ≡ spares c (count - 1) ++ y ∷ [] = rw h.popped (spares-more c (count - 1) (omega (arith, chain.stack))) in
+      omega (arith, each-le c m last ((count - 1) + 1) _ chain y, rw (place_for, times-join y (spares c (count - 1)) (y ∷ [])) at (each-le c m last ((count - 1) + 1) _ chain y), one-same y, rw e at h.present)
 
   pub size-is : (node c x).size ≡ size_in x (blocks c last)
   size-is =
@@ -110,15 +110,15 @@ module _ (c : Room) (last count x n y : ℕ) (h : SplitAt c last count x n y) wh
   pub next-below : (z : ℕ) → (node c x).after ≡ Some z → z < m
   next-below z e =
       let s = spot_x in
-      stands-below c m last count z (blocks c last) h.space (s.next_stands z (sym (ap (λ v. v.after) s.at_x) ∙ e))
+      there-below c m last count z (blocks c last) h.space (s.next_there z (sym (ap (λ v. v.after) s.at_x) ∙ e))
 
-  new : (k : ℕ) → named k (blocks c last) + one (nat_eq k y) ≤ 1
+  new : (k : ℕ) → count_named k (blocks c last) + one (nat_eq k y) ≤ 1
   new k =
       let long = chain.full in
-      let taken : spares c ((count - 1) + 1) ≡ spares c (count - 1) ++ y ∷ [] = rw h.popped (spares-more c (count - 1) (omega (arith, chain.stack))) in
-      omega (arith, rw (taken, times-join k (spares c (count - 1)) (y ∷ [])) at (each-le c m last ((count - 1) + 1) _ chain k))
+      let place_for : spares c ((count - 1) + 1) ≡ spares c (count - 1) ++ y ∷ [] = rw h.popped (spares-more c (count - 1) (omega (arith, chain.stack))) in
+      omega (arith, rw (place_for, times-join k (spares c (count - 1)) (y ∷ [])) at (each-le c m last ((count - 1) + 1) _ chain k))
 
-  pub unused : named y (blocks c last) ≡ 0
+  pub unused : count_named y (blocks c last) ≡ 0
   unused = omega (arith, new y, one-same y)
 
   pub split-space : (d : Room) (last' : ℕ) → IsLinked (node c x).after d (half c x n y) y → MatchOption (node c x).after (last' ≡ y) (λ _. last' ≡ last) → IsChain d m last' (count - 1) (split_block x n y (blocks c last))
@@ -131,8 +131,8 @@ module _ (c : Room) (last count x n y : ℕ) (h : SplitAt c last count x n y) wh
       let moved' : Q (first_or None s.back) = subst Q after_is moved in
       let list : blocks c last ≡ s.front ++ s.here ∷ s.back = s.is in
       let apart_z : (z : ℕ) → first_or None s.back ≡ Some z → (z ≢ x) × (z ≢ y) × (z < m) = λ z e. (
-        λ same. omega (arith, new z, ap (λ l. named z l) list, times-append z s.front (s.here ∷ s.back), times-first z s.back e, one-eq z s.here.name (s.name_is ∙ sym same)),
-        λ same. omega (arith, new z, ap (λ l. named z l) list, times-append z s.front (s.here ∷ s.back), times-first z s.back e, one-eq z y (sym same)),
+        λ same. omega (arith, new z, ap (λ l. count_named z l) list, times-append z s.front (s.here ∷ s.back), times-first z s.back e, one-eq z s.here.name (s.name_is ∙ sym same)),
+        λ same. omega (arith, new z, ap (λ l. count_named z l) list, times-append z s.front (s.here ∷ s.back), times-first z s.back e, one-eq z y (sym same)),
         next-below z (after_is ∙ e),
       ) in
       let cut = cut-half c m x n y h.space.cells s.below y_below apart d s.back apart_z written' in

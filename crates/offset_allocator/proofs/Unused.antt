@@ -16,8 +16,8 @@ some_unused it s =
     let e : (it.count - 1) + 1 ≡ it.count = omega arith in
     let h : IsChain it.cells.room m it.last ((it.count - 1) + 1) (blocks it.cells.room it.last) = rw e s.space in
     let y : ℕ = get_or it.cells.room.spare (it.count - 1) 0 in
-    let taken : spares it.cells.room ((it.count - 1) + 1) ≡ spares it.cells.room (it.count - 1) ++ y ∷ [] = spares-more it.cells.room (it.count - 1) (omega (arith, h.stack)) in
-    let had : times y (spares it.cells.room ((it.count - 1) + 1)) ≡ times y (spares it.cells.room (it.count - 1)) + 1 = rw taken (omega (arith, times-join y (spares it.cells.room (it.count - 1)) (y ∷ []), one-same y)) in (
+    let place_for : spares it.cells.room ((it.count - 1) + 1) ≡ spares it.cells.room (it.count - 1) ++ y ∷ [] = spares-more it.cells.room (it.count - 1) (omega (arith, h.stack)) in
+    let had : times y (spares it.cells.room ((it.count - 1) + 1)) ≡ times y (spares it.cells.room (it.count - 1)) + 1 = rw place_for (omega (arith, times-join y (spares it.cells.room (it.count - 1)) (y ∷ []), one-same y)) in (
       y,
       record {
         below = omega (arith, spare-below it.cells.room m it.last (it.count - 1) (blocks it.cells.room it.last) h, s.nodes);

@@ -1,43 +1,43 @@
 -- When a request is granted, and how well what it takes fits.
 use Rattle.std.proofs.Common.{◌≡◌, ℕ, ◌+◌, ◌*◌, ◌^◌, ◌<◌, ◌≤◌, Bool, true, false, not, ◌⊎◌, ◌↔◌, List, [], ◌∷◌, ◌++◌, length, Option, Some, None, is_some, if◌then◌else◌, IsSome, refl, sym, ap, ap₂, subst, ◌∙◌, inl, inr, arith, eq-eqb, leb-true, le_trans}
-use Rattle.offset_allocator.specs.Relations.{Allocates, IsCutNearBest}
+use Rattle.offset_allocator.specs.Relations.{Allocates, IsSplitNearBest}
 use Rattle.std.specs.List.{AllByRecursion}
 use Rattle.std.proofs.lemmas.Bool.{cases_lt, true≢false, false≢true}
 use Rattle.offset_allocator.specs.Classes.{value, down}
 use Rattle.offset_allocator.specs.Reports.{largest, IsNearBestFit, IsGoodRefusal}
-use Rattle.offset_allocator.specs.Named.{Block, View, Place, Grant, is_free, times, listed, units, names_at, free_sizes, largest_free, IsWellFormed, taken, is_short_of, refused, granted_at, allocate, place_of}
+use Rattle.offset_allocator.specs.Named.{Block, View, Place, Grant, is_free, times, count_listed, units, names_at, free_sizes, largest_free, IsWellFormed, place_for, is_short_of, refuse, grant_or_refuse, allocate, place_of}
 use Rattle.offset_allocator.proofs.ViewOrders.{if_value}
 use Rattle.offset_allocator.proofs.ViewSteps.{place_here}
 use Rattle.offset_allocator.proofs.ViewTaken.{IsTaken, taken_at, not_taken}
 use Rattle.offset_allocator.proofs.Classes.{serves, near_best, up_law, down_law}
 
--- b stands in a list
-abbrev pub Stands : Block → List Block → Type 0
-Stands b [] = ⊥
-Stands b (c ∷ bs) = (b ≡ c) ⊎ Stands b bs
+-- b is in a list
+abbrev pub HasName : Block → List Block → Type 0
+HasName b [] = ⊥
+HasName b (c ∷ bs) = (b ≡ c) ⊎ HasName b bs
 
-pub stands_listed : (b : Block) (bs : List Block) → Stands b bs → is_free b ≡ true → 1 ≤ listed (down b.size) b.name bs
-stands_listed b [] i f = absurd i
-stands_listed b (c ∷ bs) (inl e) f = subst (λ (d : Block). 1 ≤ listed (down b.size) b.name (d ∷ bs)) e (rw (f, eq-eqb (down b.size) (down b.size) refl, eq-eqb b.name b.name refl) (omega arith))
-stands_listed b (c ∷ bs) (inr i) f = let ih = stands_listed b bs i f in omega arith
+pub there_listed : (b : Block) (bs : List Block) → HasName b bs → is_free b ≡ true → 1 ≤ count_listed (down b.size) b.name bs
+there_listed b [] i f = absurd i
+there_listed b (c ∷ bs) (inl e) f = subst (λ (d : Block). 1 ≤ count_listed (down b.size) b.name (d ∷ bs)) e (rw (f, eq-eqb (down b.size) (down b.size) refl, eq-eqb b.name b.name refl) (omega arith))
+there_listed b (c ∷ bs) (inr i) f = let ih = there_listed b bs i f in omega arith
 
--- what holds of each free block that stands holds of their sizes
-all_free : (P : ℕ → Type 0) (bs : List Block) → ((b : Block) → Stands b bs → is_free b ≡ true → P b.size) → AllByRecursion P (free_sizes bs)
+-- what holds of each free block in a list holds of their sizes
+all_free : (P : ℕ → Type 0) (bs : List Block) → ((b : Block) → HasName b bs → is_free b ≡ true → P b.size) → AllByRecursion P (free_sizes bs)
 all_free P [] h = tt
 all_free P (b ∷ bs) h = if_value b.used (free_sizes bs) (b.size ∷ free_sizes bs) (AllByRecursion P)
     (λ e. all_free P bs (λ c i. h c (inr i)))
     (λ e. (h b (inl refl) (ap not e), all_free P bs (λ c i. h c (inr i))))
 
-pub reported : (n : ℕ) (bs : List Block) → 1 ≤ n → n ≤ largest (free_sizes bs) → (b : Block) × (Stands b bs) × (is_free b ≡ true) × (n ≤ value (down b.size))
+pub reported : (n : ℕ) (bs : List Block) → 1 ≤ n → n ≤ largest (free_sizes bs) → (b : Block) × (HasName b bs) × (is_free b ≡ true) × (n ≤ value (down b.size))
 reported n [] l = λ h. absurd (omega arith)
-reported n (b ∷ bs) l = if_value b.used (free_sizes bs) (b.size ∷ free_sizes bs) (λ ns. n ≤ largest ns → (c : Block) × (Stands c (b ∷ bs)) × (is_free c ≡ true) × (n ≤ value (down c.size)))
+reported n (b ∷ bs) l = if_value b.used (free_sizes bs) (b.size ∷ free_sizes bs) (λ ns. n ≤ largest ns → (c : Block) × (HasName c (b ∷ bs)) × (is_free c ≡ true) × (n ≤ value (down c.size)))
     (λ e h. let r = reported n bs l h in (r.0, inr r.1, r.2, r.3))
     (λ e h. elim (cases_lt (value (down b.size)) n) [
       | inl m ↦ let r = reported n bs l (omega arith) in (r.0, inr r.1, r.2, r.3)
       | inr m ↦ (b, inl refl, ap not e, m)
     ])
 
-pub reports_all : (b : Block) (bs : List Block) → Stands b bs → is_free b ≡ true → value (down b.size) ≤ largest (free_sizes bs)
+pub reports_all : (b : Block) (bs : List Block) → HasName b bs → is_free b ≡ true → value (down b.size) ≤ largest (free_sizes bs)
 reports_all b [] i f = absurd i
 reports_all b (c ∷ bs) (inl e) f = if_value c.used (free_sizes bs) (c.size ∷ free_sizes bs) (λ ns. value (down b.size) ≤ largest ns)
     (λ g. absurd (true≢false (sym f ∙ ap is_free e ∙ ap not g)))
@@ -46,39 +46,39 @@ reports_all b (c ∷ bs) (inr i) f = if_value c.used (free_sizes bs) (c.size ∷
     (λ g. reports_all b bs i f)
     (λ g. let r = reports_all b bs i f in omega arith)
 
-pub stands_middle : (xs : List Block) (b : Block) (ys : List Block) → Stands b (xs ++ b ∷ ys)
-stands_middle [] b ys = inl refl
-stands_middle (x ∷ xs) b ys = inr (stands_middle xs b ys)
+pub there_middle : (xs : List Block) (b : Block) (ys : List Block) → HasName b (xs ++ b ∷ ys)
+there_middle [] b ys = inl refl
+there_middle (x ∷ xs) b ys = inr (there_middle xs b ys)
 
--- a block that stands is no larger than all of them
-pub sized_below : (b : Block) (bs : List Block) → Stands b bs → b.size ≤ units bs
+-- a block of a list is no larger than all of them
+pub sized_below : (b : Block) (bs : List Block) → HasName b bs → b.size ≤ units bs
 sized_below b [] i = absurd i
 sized_below b (c ∷ bs) (inl e) = let s = ap (λ (x : Block). x.size) e in omega arith
 sized_below b (c ∷ bs) (inr i) = let ih = sized_below b bs i in omega arith
 
 module _ (v : View) (w : IsWellFormed v) (n : ℕ) (small : n ≤ 4294967295) (sized : v.size ≤ 4294967295) where
-  fits_word : (b : Block) → Stands b v.blocks → b.size < 2 ^ 32
+  fits_word : (b : Block) → HasName b v.blocks → b.size < 2 ^ 32
   fits_word b i = omega (arith, sized_below b v.blocks i, w.whole, sized)
 
   word : n < 2 ^ 32
   word = omega (arith, small)
 
-  there : (b : Block) → Stands b v.blocks → is_free b ≡ true → names_at v.order (down b.size) ≡ [] → ⊥
-  there b i f e = let l = stands_listed b v.blocks i f in let o = w.orders (down b.size) b.name in let z = ap (times b.name) e in omega arith
+  there : (b : Block) → HasName b v.blocks → is_free b ≡ true → names_at v.order (down b.size) ≡ [] → ⊥
+  there b i f e = let l = there_listed b v.blocks i f in let o = w.orders (down b.size) b.name in let z = ap (times b.name) e in omega arith
 
   pub near_best_fit : (p : Place) → IsTaken n v p → IsNearBestFit n p.block.size (free_sizes v.blocks)
-  near_best_fit p t = all_free (λ z. 9 * n ≤ 8 * z → 8 * p.block.size ≤ 9 * z) v.blocks (λ b i f l. near_best p.block.size b.size (fits_word p.block (subst (Stands p.block) (sym t.stood) (stands_middle p.before p.block p.after))) (fits_word b i) (elim (cases_lt (down b.size) (down p.block.size)) [
+  near_best_fit p t = all_free (λ z. 9 * n ≤ 8 * z → 8 * p.block.size ≤ 9 * z) v.blocks (λ b i f l. near_best p.block.size b.size (fits_word p.block (subst (HasName p.block) (sym t.stood) (there_middle p.before p.block p.after))) (fits_word b i) (elim (cases_lt (down b.size) (down p.block.size)) [
     | inl m ↦ absurd (there b i f (t.least (down b.size) (serves n b.size word (fits_word b i) l) m))
     | inr m ↦ m
   ]))
 
-  pub good_refusal : taken n v ≡ None → IsGoodRefusal n (free_sizes v.blocks)
+  pub good_refusal : place_for n v ≡ None → IsGoodRefusal n (free_sizes v.blocks)
   good_refusal e = all_free (λ z. 8 * z < 9 * n) v.blocks (λ b i f. elim (cases_lt (8 * b.size) (9 * n)) [
     | inl l ↦ l
     | inr l ↦ absurd (there b i f (not_taken n v w e (down b.size) (serves n b.size word (fits_word b i) l)))
   ])
 
-  pub taken_exactly : 1 ≤ n → (o : Option Place) → taken n v ≡ o → (is_some o ≡ true) ↔ (n ≤ largest (free_sizes v.blocks))
+  pub taken_exactly : 1 ≤ n → (o : Option Place) → place_for n v ≡ o → (is_some o ≡ true) ↔ (n ≤ largest (free_sizes v.blocks))
   taken_exactly l None e = (
     λ f. absurd (false≢true f),
     λ m. let r = reported n v.blocks l m in absurd (there r.0 r.1 r.2 (not_taken n v w e (down r.0.size) ((up_law n (down r.0.size) word).1 r.3))),
@@ -86,11 +86,11 @@ module _ (v : View) (w : IsWellFormed v) (n : ℕ) (small : n ≤ 4294967295) (s
   taken_exactly l (Some p) e = (
     λ f. let t = taken_at n v w p e in
         le_trans ((up_law n (down p.block.size) word).0 t.class)
-        (reports_all p.block v.blocks (subst (Stands p.block) (sym t.stood) (stands_middle p.before p.block p.after)) t.free),
+        (reports_all p.block v.blocks (subst (HasName p.block) (sym t.stood) (there_middle p.before p.block p.after)) t.free),
     λ m. refl,
   )
 
-  some_grant : (rest : ℕ) (o : Option Place) → is_some (granted_at v n (λ offset. 0) rest rest o).grant ≡ is_some o
+  some_grant : (rest : ℕ) (o : Option Place) → is_some (grant_or_refuse v n (λ offset. 0) rest rest o).grant ≡ is_some o
   some_grant rest None = refl
   some_grant rest (Some p) = refl
 
@@ -98,9 +98,9 @@ module _ (v : View) (w : IsWellFormed v) (n : ℕ) (small : n ≤ 4294967295) (s
   pub granted_exactly : (rest : ℕ) → 1 ≤ n → (is_some (allocate n rest v).grant ≡ true) ↔ (n ≤ largest_free v)
   granted_exactly rest l = go (is_short_of 1 v)
     where
-      go : (b : Bool) → (is_some (if b then refused v else granted_at v n (λ offset. 0) rest rest (taken n v)).grant ≡ true) ↔ (n ≤ (if b then 0 else largest (free_sizes v.blocks)))
+      go : (b : Bool) → (is_some (if b then refuse v else grant_or_refuse v n (λ offset. 0) rest rest (place_for n v)).grant ≡ true) ↔ (n ≤ (if b then 0 else largest (free_sizes v.blocks)))
       go true = (λ f. absurd (false≢true f), λ m. absurd (omega arith))
-      go false = let t = taken_exactly l (taken n v) refl in (λ f. t.0 (sym (some_grant rest (taken n v)) ∙ f), λ m. some_grant rest (taken n v) ∙ t.1 m)
+      go false = let t = taken_exactly l (place_for n v) refl in (λ f. t.0 (sym (some_grant rest (place_for n v)) ∙ f), λ m. some_grant rest (place_for n v) ∙ t.1 m)
 
 -- no region that is reported is greater than the space
 pub largest_small : (v : View) → IsWellFormed v → v.size ≤ 4294967295 → (n : ℕ) → 1 ≤ n → n ≤ largest (free_sizes v.blocks) → n ≤ 4294967295
@@ -123,21 +123,21 @@ allocated_exactly n v w r f small sized a l =
     let g = granted_exactly v f n small sized a.rest l in
     (λ h. g.0 (ap is_some (sym a.answer) ∙ s.0 h), λ h. s.1 (ap is_some a.answer ∙ g.1 h))
 
-refusal_if : (n : ℕ) (v : View) (rest : ℕ) → IsWellFormed v → n ≤ 4294967295 → v.size ≤ 4294967295 → (o : Option Place) → taken n v ≡ o → (granted_at v n (λ offset. 0) rest rest o).grant ≡ None → IsGoodRefusal n (free_sizes v.blocks)
+refusal_if : (n : ℕ) (v : View) (rest : ℕ) → IsWellFormed v → n ≤ 4294967295 → v.size ≤ 4294967295 → (o : Option Place) → place_for n v ≡ o → (grant_or_refuse v n (λ offset. 0) rest rest o).grant ≡ None → IsGoodRefusal n (free_sizes v.blocks)
 refusal_if n v rest f small sized None e h = good_refusal v f n small sized e
 refusal_if n v rest f small sized (Some p) e h = absurd (cc)
 
 pub refused_well : (n : ℕ) (v w : View) (r : Option Grant) → IsWellFormed v → n ≤ 4294967295 → v.size ≤ 4294967295 → Allocates n v w r → r ≡ None → length v.blocks + 1 < v.max_allocs → IsGoodRefusal n (free_sizes v.blocks)
 refused_well n v w r f small sized a none room = go (is_short_of 1 v) refl (sym a.answer ∙ none)
   where
-    go : (b : Bool) → is_short_of 1 v ≡ b → (if b then refused v else granted_at v n (λ offset. 0) a.rest a.rest (taken n v)).grant ≡ None → IsGoodRefusal n (free_sizes v.blocks)
+    go : (b : Bool) → is_short_of 1 v ≡ b → (if b then refuse v else grant_or_refuse v n (λ offset. 0) a.rest a.rest (place_for n v)).grant ≡ None → IsGoodRefusal n (free_sizes v.blocks)
     go true e h = absurd (let l = leb-true v.max_allocs (length v.blocks + 1) e in omega arith)
-    go false e h = refusal_if n v a.rest f small sized (taken n v) refl h
+    go false e h = refusal_if n v a.rest f small sized (place_for n v) refl h
 
--- a grant is cut from a near best fit
+-- a grant is split off a near best fit
 module _ (n : ℕ) (v : View) (w : IsWellFormed v) (small : n ≤ 4294967295) (sized : v.size ≤ 4294967295) where
-  pub cut_at : (p : Place) → taken n v ≡ Some p → (g : Grant) → g.name ≡ p.block.name → IsCutNearBest n v g
-  cut_at p e g name =
+  pub split_from : (p : Place) → place_for n v ≡ Some p → (g : Grant) → g.name ≡ p.block.name → IsSplitNearBest n v g
+  split_from p e g name =
       let t = taken_at n v w p e in
       record {
         place = p;
@@ -150,13 +150,13 @@ module _ (n : ℕ) (v : View) (w : IsWellFormed v) (small : n ≤ 4294967295) (s
       not_true true f = absurd (false≢true f)
       not_true false f = refl
 
-  cut_if : (rest : ℕ) (o : Option Place) → taken n v ≡ o → (g : Grant) → Some g ≡ (granted_at v n (λ offset. 0) rest rest o).grant → IsCutNearBest n v g
+  cut_if : (rest : ℕ) (o : Option Place) → place_for n v ≡ o → (g : Grant) → Some g ≡ (grant_or_refuse v n (λ offset. 0) rest rest o).grant → IsSplitNearBest n v g
   cut_if rest None e g h = absurd (cc)
-  cut_if rest (Some p) e g h = cut_at p e g (cc)
+  cut_if rest (Some p) e g h = split_from p e g (cc)
 
-  pub cut_near_best : (after : View) (g : Grant) → Allocates n v after (Some g) → IsCutNearBest n v g
-  cut_near_best after g a = go (is_short_of 1 v) a.answer
+  pub split_near_best : (after : View) (g : Grant) → Allocates n v after (Some g) → IsSplitNearBest n v g
+  split_near_best after g a = go (is_short_of 1 v) a.answer
     where
-      go : (b : Bool) → Some g ≡ (if b then refused v else granted_at v n (λ offset. 0) a.rest a.rest (taken n v)).grant → IsCutNearBest n v g
+      go : (b : Bool) → Some g ≡ (if b then refuse v else grant_or_refuse v n (λ offset. 0) a.rest a.rest (place_for n v)).grant → IsSplitNearBest n v g
       go true e = absurd (cc)
-      go false e = cut_if a.rest (taken n v) refl g e
+      go false e = cut_if a.rest (place_for n v) refl g e

@@ -3,8 +3,8 @@ use Rattle.std.proofs.Common.{◌≡◌, ℕ, zero, suc, ◌+◌, ◌-◌, ◌<�
 use Rattle.std.proofs.lemmas.List.{set-get_or}
 use Rattle.std.proofs.lemmas.Bool.{false≢true}
 use Rattle.offset_allocator.specs.Classes.{up, down}
-use Rattle.offset_allocator.specs.Named.{Block, View, Place, Grant, is_free, used_block, free_block, units, times, starts_free, IsApart, names_at, put_first, without, remove, put_all, remove_all, free_start, without_start, free_end, without_end, free_part, IsWellFormed, IsUnused, place_of, granted, granted_at, freed_at, free, taken, allocate, is_short_of, refused}
-use Rattle.offset_allocator.specs.Relations.{IsUndone, IsBut, Allocates}
+use Rattle.offset_allocator.specs.Named.{Block, View, Place, Grant, is_free, used_block, free_block, units, times, starts_free, IsApart, names_at, push, without, remove, push_all, remove_all, free_start, without_start, free_end, without_end, free_part, IsWellFormed, IsUnused, place_of, grant_in, grant_or_refuse, free_at, free, place_for, allocate, is_short_of, refuse}
+use Rattle.offset_allocator.specs.Relations.{IsUndone, SameSpace, Allocates}
 use Rattle.offset_allocator.proofs.ViewOrders.{hit_cases, names_same, length_remove, times_remove}
 use Rattle.offset_allocator.proofs.ViewReplaced.{listed_named}
 use Rattle.offset_allocator.proofs.ViewApart.{apart_parts, first_false, second_false, ends_free}
@@ -29,14 +29,14 @@ without_first : (x : ℕ) (xs : List ℕ) → times x xs ≡ 0 → without x (x 
 without_first x xs e = rw (eq-eqb x x refl) (without_absent x xs e)
 
 -- a name that is put in and leaves
-remove_put : (c x : ℕ) (order : List (List ℕ)) → length order ≡ 256 → c < 256 → times x (names_at order c) ≡ 0 → remove c x (put_first c x order) ≡ order
+remove_put : (c x : ℕ) (order : List (List ℕ)) → length order ≡ 256 → c < 256 → times x (names_at order c) ≡ 0 → remove c x (push c x order) ≡ order
 remove_put c x order h b e =
     set_again order c (x ∷ names_at order c) _
     ∙ ap (slice_set order c) (ap (without x) (names_same order c (x ∷ names_at order c) h b) ∙ without_first x (names_at order c) e)
     ∙ set-get_or order c []
 
 -- a first name that leaves and is put in
-put_remove : (c x : ℕ) (xs : List ℕ) (order : List (List ℕ)) → length order ≡ 256 → c < 256 → names_at order c ≡ x ∷ xs → times x xs ≡ 0 → put_first c x (remove c x order) ≡ order
+put_remove : (c x : ℕ) (xs : List ℕ) (order : List (List ℕ)) → length order ≡ 256 → c < 256 → names_at order c ≡ x ∷ xs → times x xs ≡ 0 → push c x (remove c x order) ≡ order
 put_remove c x xs order h b e z =
     set_again order c (without x (names_at order c)) _
     ∙ ap (λ l. slice_set order c (x ∷ l)) (names_same order c (without x (names_at order c)) h b ∙ ap (without x) e ∙ without_first x xs z)
@@ -61,7 +61,7 @@ part_units : (x n : ℕ) → units (free_part x n) ≡ n
 part_units x zero = refl
 part_units x (suc n) = omega arith
 
-orders_back : (x n : ℕ) (order : List (List ℕ)) → length order ≡ 256 → times x (names_at order (down n)) ≡ 0 → remove_all (free_part x n) (put_all (free_part x n) order) ≡ order
+orders_back : (x n : ℕ) (order : List (List ℕ)) → length order ≡ 256 → times x (names_at order (down n)) ≡ 0 → remove_all (free_part x n) (push_all (free_part x n) order) ≡ order
 orders_back x zero order h e = refl
 orders_back x (suc n) order h e = remove_put (down (suc n)) x order h (down_small (suc n)) e
 
@@ -83,7 +83,7 @@ module _ (v : View) (w : IsWellFormed v) (n rest : ℕ) (u : IsUnused rest v) (b
   order = remove (down size) x v.order
 
   abbrev granted_view : View
-  granted_view = (granted v n 0 rest rest (place before x size after)).view
+  granted_view = (grant_in v n 0 rest rest (place before x size after)).view
 
   parts : IsApart before × IsApart (free_block x size ∷ after) × ((ends_free before && starts_free (free_block x size ∷ after)) ≡ false)
   parts = apart_parts before (free_block x size ∷ after) (subst IsApart t.stood w.apart)
@@ -100,8 +100,8 @@ module _ (v : View) (w : IsWellFormed v) (n rest : ℕ) (u : IsUnused rest v) (b
     | inr i ↦ absurd (i.0 refl)
   ]
 
-  behind_absent : times x t.behind ≡ 0
-  behind_absent = let o = once in let f = ap (times x) t.first in elim (hit_cases x x) [ inl i ↦ let k = i.1 in omega arith | inr i ↦ absurd (i.0 refl) ]
+  after_absent : times x t.after_one ≡ 0
+  after_absent = let o = once in let f = ap (times x) t.first in elim (hit_cases x x) [ inl i ↦ let k = i.1 in omega arith | inr i ↦ absurd (i.0 refl) ]
 
   rest_absent : times rest (names_at order (down left)) ≡ 0
   rest_absent =
@@ -114,42 +114,42 @@ module _ (v : View) (w : IsWellFormed v) (n rest : ℕ) (u : IsUnused rest v) (b
   sized : units (used_block x n ∷ free_part rest left) ≡ size
   sized = let k = part_units rest left in let s = fits_size n size (le-leb (up n) (down size) t.class) in omega arith
 
-  abbrev joined_of : List Block → List Block → List Block → List Block → View
-  joined_of fe we fs ws = record granted_view { blocks = we ++ (free_block x (units (fe ++ (used_block x n ∷ fs))) ∷ ws); order = put_first (down (units (fe ++ (used_block x n ∷ fs)))) x (remove_all (fe ++ (used_block x n ∷ fs)) granted_view.order) }
+  abbrev coalesced_of : List Block → List Block → List Block → List Block → View
+  coalesced_of fe we fs ws = record granted_view { blocks = we ++ (free_block x (units (fe ++ (used_block x n ∷ fs))) ∷ ws); order = push (down (units (fe ++ (used_block x n ∷ fs)))) x (remove_all (fe ++ (used_block x n ∷ fs)) granted_view.order) }
 
   there : place_of x granted_view.blocks ≡ Some (record { before = before; block = used_block x n; after = free_part rest left ++ after })
   there = place_here x before (used_block x n) (free_part rest left ++ after) t.alone refl
 
   undone_at : free x granted_view ≡ v
   undone_at =
-      ap (freed_at granted_view) there
-      ∙ ap₂ (λ fe we. joined_of fe we (free_start (free_part rest left ++ after)) (without_start (free_part rest left ++ after))) (no_end before end).0 (no_end before end).1
-      ∙ ap₂ (λ fs ws. joined_of [] before fs ws) (part_start rest left after beginning).0 (part_start rest left after beginning).1
-      ∙ ap (λ m. record granted_view { blocks = before ++ (free_block x m ∷ after); order = put_first (down m) x (remove_all (free_part rest left) (put_all (free_part rest left) order)) }) sized
+      ap (free_at granted_view) there
+      ∙ ap₂ (λ fe we. coalesced_of fe we (free_start (free_part rest left ++ after)) (without_start (free_part rest left ++ after))) (no_end before end).0 (no_end before end).1
+      ∙ ap₂ (λ fs ws. coalesced_of [] before fs ws) (part_start rest left after beginning).0 (part_start rest left after beginning).1
+      ∙ ap (λ m. record granted_view { blocks = before ++ (free_block x m ∷ after); order = push (down m) x (remove_all (free_part rest left) (push_all (free_part rest left) order)) }) sized
       ∙ ap₂ (λ bs o. record v { blocks = bs; order = o }) (sym t.stood)
-      (ap (put_first (down size) x) (orders_back rest left order (length_remove (down size) x v.order ∙ w.classes) rest_absent) ∙ put_remove (down size) x t.behind v.order w.classes (down_small size) t.first behind_absent)
+      (ap (push (down size) x) (orders_back rest left order (length_remove (down size) x v.order ∙ w.classes) rest_absent) ∙ put_remove (down size) x t.after_one v.order w.classes (down_small size) t.first after_absent)
 
-pub undone : (v : View) → IsWellFormed v → (n rest : ℕ) → IsUnused rest v → (p : Place) → IsTaken n v p → free p.block.name (granted v n 0 rest rest p).view ≡ v
+pub undone : (v : View) → IsWellFormed v → (n rest : ℕ) → IsUnused rest v → (p : Place) → IsTaken n v p → free p.block.name (grant_in v n 0 rest rest p).view ≡ v
 undone v w n rest u p t =
     let same : p ≡ place p.before p.block.name p.block.size p.after = ap (λ b. record { before = p.before; block = b; after = p.after }) (free_is p.block t.free) in
-    subst (λ (q : Place). free q.block.name (granted v n 0 rest rest q).view ≡ v) (sym same) (undone_at v w n rest u p.before p.block.name p.block.size p.after (subst (IsTaken n v) same t))
+    subst (λ (q : Place). free q.block.name (grant_in v n 0 rest rest q).view ≡ v) (sym same) (undone_at v w n rest u p.before p.block.name p.block.size p.after (subst (IsTaken n v) same t))
 
-undone_if : (v : View) → IsWellFormed v → (n rest : ℕ) → IsUnused rest v → (o : Option Place) → taken n v ≡ o → (g : Grant) → (granted_at v n (λ offset. 0) rest rest o).grant ≡ Some g → free g.name (granted_at v n (λ offset. 0) rest rest o).view ≡ v
+undone_if : (v : View) → IsWellFormed v → (n rest : ℕ) → IsUnused rest v → (o : Option Place) → place_for n v ≡ o → (g : Grant) → (grant_or_refuse v n (λ offset. 0) rest rest o).grant ≡ Some g → free g.name (grant_or_refuse v n (λ offset. 0) rest rest o).view ≡ v
 undone_if v w n rest u None e g f = absurd (cc)
-undone_if v w n rest u (Some p) e g f = let name : p.block.name ≡ g.name = cc in ap (λ x. free x (granted v n 0 rest rest p).view) (sym name) ∙ undone v w n rest u p (taken_at n v w p e)
+undone_if v w n rest u (Some p) e g f = let name : p.block.name ≡ g.name = cc in ap (λ x. free x (grant_in v n 0 rest rest p).view) (sym name) ∙ undone v w n rest u p (taken_at n v w p e)
 
 pub is_undone : (n : ℕ) (v : View) → IsWellFormed v → IsUndone n v
 is_undone n v w rest g u e = go (is_short_of 1 v) e
   where
-    go : (b : Bool) → (if b then refused v else granted_at v n (λ offset. 0) rest rest (taken n v)).grant ≡ Some g → free g.name (if b then refused v else granted_at v n (λ offset. 0) rest rest (taken n v)).view ≡ v
+    go : (b : Bool) → (if b then refuse v else grant_or_refuse v n (λ offset. 0) rest rest (place_for n v)).grant ≡ Some g → free g.name (if b then refuse v else grant_or_refuse v n (λ offset. 0) rest rest (place_for n v)).view ≡ v
     go true e = absurd (cc)
-    go false e = undone_if v w n rest u (taken n v) refl g e
+    go false e = undone_if v w n rest u (place_for n v) refl g e
 
-free_but : (v : View) (x accesses : ℕ) (o : Option Place) → freed_at (record v { accesses = accesses }) o ≡ record (freed_at v o) { accesses = accesses }
+free_but : (v : View) (x accesses : ℕ) (o : Option Place) → free_at (record v { accesses = accesses }) o ≡ record (free_at v o) { accesses = accesses }
 free_but v x accesses None = refl
 free_but v x accesses (Some p) = refl
 
-pub undo_same : (n : ℕ) (v w z : View) (g : Grant) → IsWellFormed v → Allocates n v w (Some g) → IsBut (free g.name w) z → IsBut v z
+pub undo_same : (n : ℕ) (v w z : View) (g : Grant) → IsWellFormed v → Allocates n v w (Some g) → SameSpace (free g.name w) z → SameSpace v z
 undo_same n v w z g f a but =
     but
     ∙ ap (λ (x : View). record (free g.name x) { accesses = z.accesses }) a.view
@@ -157,7 +157,7 @@ undo_same n v w z g f a but =
     ∙ ap (λ (x : View). record x { accesses = z.accesses }) (is_undone n v f a.rest g a.unused (sym a.answer))
 
 -- a grant leaves no trace where it is released, though other requests were refused between
-pub taken_back : (n : ℕ) (v w u z : View) (g : Grant) → IsWellFormed v → Allocates n v w (Some g) → IsBut w u → IsBut (free g.name u) z → IsBut v z
+pub taken_back : (n : ℕ) (v w u z : View) (g : Grant) → IsWellFormed v → Allocates n v w (Some g) → SameSpace w u → SameSpace (free g.name u) z → SameSpace v z
 taken_back n v w u z g f a same but =
     undo_same n v w z g f a (
     but

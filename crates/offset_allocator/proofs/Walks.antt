@@ -42,7 +42,7 @@ module _ (none : ℕ) where
           | inr t ↦ let (zs, b', d, l) = suffix y (od y) ys c.3 x t in (zs, b', d, omega arith)
         ]
 
-    -- a name stands in a chain once
+    -- a name is in a chain once
     pub once : (b h x : ℕ) (xs : List ℕ) → (Chain none) m nw od b h (x ∷ xs) → Among x xs → ⊥
     once b h x xs c a =
         let (zs, b', d, l) = suffix x (od x) xs c.3 x a in
@@ -100,7 +100,7 @@ module _ (none : ℕ) where
     chain_fits b h xs c =
         length-le_from_distinct_below xs m (distinct b h xs c) (λ q t. name_below b h xs c q (among_by_tests q xs t))
 
-  -- the walk along the links gives the chain
+  -- the walk along the links is the chain
   pub walk_is : (m : ℕ) (small : m ≤ none) (nw : ℕ → ℕ) (older : List ℕ) (k b h : ℕ) (xs : List ℕ) → length xs ≤ k → (Chain none) m nw (slice_index older) b h xs → (walk none) older k h ≡ xs
   unfolding walk
   walk_is m small nw older zero b h [] l c = refl

@@ -1,8 +1,8 @@
--- What an allocator's users lean on, whatever was asked of it before.
+-- What is true of every allocator, whatever was called before.
 use Rattle.std.specs.Prelude.{◌≡◌, ◌≢◌, ◌↔◌, ℕ, ◌+◌, ◌%◌, ◌≤◌, List, ◌++◌, length, sum, Some, None, IsTrue, IsSome, if◌then◌else◌}
 use Rattle.std.specs.List.{AllByRecursion}
 use Rattle.offset_allocator.specs.Classes.{value, up}
-use Rattle.offset_allocator.specs.Named.{Block, View, is_free, tally, used_of, free_sizes, total_free, largest_free, greatest, padding_to, allocate, allocate_aligned}
+use Rattle.offset_allocator.specs.Named.{Block, View, is_free, tally, used_of, free_sizes, total_free, largest_free, max_size, padding_to, allocate, allocate_aligned}
 use Rattle.offset_allocator.specs.Ranges.{Range, range_of, AreDisjoint}
 use Rattle.offset_allocator.specs.Relations.{IsFresh}
 
@@ -23,22 +23,22 @@ abbrev pub KeepApart : View → Type 0
 KeepApart v = (x y : ℕ) (r s : Range) → x ≢ y → range_of x v ≡ Some r → range_of y v ≡ Some s → AreDisjoint r s
 
 -- a run of neighbours that are all free has at most one block
-abbrev pub StandAlone : View → Type 0
-StandAlone v = (before run after : List Block) → v.blocks ≡ before ++ (run ++ after) → AllByRecursion (λ b. IsTrue (is_free b)) run → length run ≤ 1
+abbrev pub HasNoFreeNeighbours : View → Type 0
+HasNoFreeNeighbours v = (before run after : List Block) → v.blocks ≡ before ++ (run ++ after) → AllByRecursion (λ b. IsTrue (is_free b)) run → length run ≤ 1
 
 -- at most max_allocs - 2 blocks are used
 abbrev pub AreFew : View → Type 0
 AreFew v = used_of v.blocks + 2 ≤ v.max_allocs
 
--- where max_allocs - 1 blocks stand, every request is refused, and the report is 0 and 0
+-- where max_allocs - 1 blocks exist, every request is refused, and the report is 0 and 0
 abbrev pub RefusesWhenFull : View → Type 0
 RefusesWhenFull v = v.max_allocs ≤ length v.blocks + 1 → ((n rest : ℕ) → (allocate n rest v).grant ≡ None) × ((n align front rest : ℕ) → (allocate_aligned n align front rest v).grant ≡ None) × (total_free v ≡ 0) × (largest_free v ≡ 0)
 
--- with a limit of at least 3, a fresh space grants n units exactly where its size is at least the value of the class
+-- with a limit of at least 3, a fresh space grants n units exactly when its size is at least the value of the class
 -- that n is rounded up to
 abbrev pub FreshGrants : Type 0
-FreshGrants = (size max_allocs n rest : ℕ) (v : View) → IsFresh size max_allocs v → 3 ≤ max_allocs → size ≤ greatest → n ≤ greatest → IsSome (allocate n rest v).grant ↔ (value (up n) ≤ size)
+FreshGrants = (size max_allocs n rest : ℕ) (v : View) → IsFresh size max_allocs v → 3 ≤ max_allocs → size ≤ max_size → n ≤ max_size → IsSome (allocate n rest v).grant ↔ (value (up n) ≤ size)
 
--- the padding takes an offset to a multiple of the alignment, and no lesser number does
+-- the padding takes an offset to a multiple of the alignment, and no smaller number does
 abbrev pub PaddingIsLeast : Type 0
 PaddingIsLeast = (align offset : ℕ) → 1 ≤ align → ((offset + padding_to align offset) % align ≡ 0) × ((k : ℕ) → (offset + k) % align ≡ 0 → padding_to align offset ≤ k)

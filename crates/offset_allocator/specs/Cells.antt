@@ -1,8 +1,8 @@
--- What the tables hold, without an index type: nodes and spare names, and the links of the class lists.
+-- What the tables hold, without an index type: nodes and unused names, and the links of the bins.
 use Rattle.std.specs.Prelude.{ℕ, Bool, false, List, Option, Some, None, length, ◌≡◌, ◌≤◌, replicate, slice_set, slice_index_or, eqb, if◌then◌else◌}
 use Rattle.std.specs.List.{range_with_len}
 
--- a node, whatever tables hold its fields
+-- a node, whichever tables its fields are in
 pub record Node : Type 0 where
   pub offset : ℕ
   pub size : ℕ
@@ -15,7 +15,7 @@ pub record Room : Type 0 where
   pub nodes : List Node
   pub spare : List ℕ
 
--- what the class lists work on; a greatest number stands for no link
+-- what the bins work on; the largest number is no link
 pub record Links : Type 0 where
   pub newer : List ℕ
   pub older : List ℕ
@@ -27,7 +27,7 @@ pub record Cells : Type 0 where
   pub room : Room
   pub links : Links
 
--- what stands for the node of a name past the tables
+-- the node of a name past the tables
 abbrev pub blank : Node
 blank = record { offset = 0; size = 0; used = false; before = None; after = None }
 
@@ -39,15 +39,15 @@ node c x = slice_index_or c.nodes x blank
 unfoldable pub put : Room → ℕ → Node → Room
 put c x n = record c { nodes = slice_set c.nodes x n }
 
--- the stack of spare names, with another name at a place
+-- the stack of unused names, with another name at a place
 unfoldable pub with_spare : Room → ℕ → ℕ → Room
 with_spare c i v = record c { spare = slice_set c.spare i v }
 
--- a link of this number, where the greatest number stands for no link
+-- a link of this number, where the largest number is no link
 abbrev pub link_of : ℕ → ℕ → Option ℕ
 link_of max n = if eqb n max then None else Some n
 
--- the tables have one length, of at most the greatest number, and there is a head for each class
+-- the tables have one length, of at most the largest number, and there is a head for each class
 pub record AreShaped (max : ℕ) (c : Cells) : Type 0 where
   pub spare : length c.room.spare ≡ length c.room.nodes
   pub newer : length c.links.newer ≡ length c.room.nodes

@@ -11,5 +11,5 @@ pub mod Reports
 pub mod Space
 pub mod Start
 pub mod State
-pub mod Told
+pub mod Promises
 pub mod View

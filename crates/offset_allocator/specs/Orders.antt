@@ -1,4 +1,4 @@
--- The 256 lists of names, as links in tables, and the masks that say which are not empty.
+-- The 256 bins, as links in tables, and the masks that say which are not empty.
 use Rattle.std.specs.Prelude.{ℕ, ◌≡◌, ◌<◌, ◌≤◌, ◌/◌, ◌%◌, ◌^◌, ◌⊎◌, cond, nat_eq, zero, suc, List, [], ◌∷◌, map, length, slice_index, slice_set}
 use Rattle.std.specs.Int.{bit_at}
 use Rattle.offset_allocator.specs.Cells.{Links}
@@ -9,16 +9,16 @@ unfoldable pub walk : ℕ → List ℕ → ℕ → ℕ → List ℕ
 walk none older zero h = []
 walk none older (suc k) h = cond (nat_eq h none) [] (h ∷ (walk none) older k (slice_index older h))
 
--- the list of each class, newest first
+-- the bin of each class, newest first
 unfoldable pub lists_of : ℕ → List ℕ → List ℕ → List (List ℕ)
 lists_of none older heads = map ((walk none) older (length older)) heads
 
--- a name stands in a list
+-- a name is in a list
 abbrev pub Among : ℕ → List ℕ → Type 0
 Among x [] = ⊥
 Among x (y ∷ ys) = (x ≡ y) ⊎ Among x ys
 
--- the links run from h through xs, names below m, back and forth; b stands before the first
+-- the links run from h through xs, names below m, back and forth; b is before the first
 abbrev pub Chain : ℕ → ℕ → (ℕ → ℕ) → (ℕ → ℕ) → ℕ → ℕ → List ℕ → Type 0
 Chain none m newer older b h [] = h ≡ none
 Chain none m newer older b h (x ∷ xs) = (h ≡ x) × (x < m) × (newer x ≡ b) × (Chain none) m newer older x (older x) xs
@@ -31,7 +31,7 @@ flag none h = cond (nat_eq h none) 0 1
 abbrev pub mark : ℕ → ℕ
 mark w = cond (nat_eq w 0) 0 1
 
--- bit c of the masks tells whether class c has a name, and bit w of the top mask whether mask w has a bit
+-- bit c of the masks says whether class c has a name, and bit w of the top mask whether mask w has a bit
 pub record Masked (none : ℕ) (heads masks : List ℕ) (top : ℕ) : Type 0 where
   pub masks_len : length masks ≡ 4
   pub bits : (c : ℕ) → c < 256 → bit_at (slice_index masks (c / 64)) (c % 64) ≡ (flag none) (slice_index heads c)
@@ -52,19 +52,19 @@ pub record Linked (none : ℕ) (newer older heads : List ℕ) (ls : List (List �
 abbrev pub IsUnlisted : ℕ → List (List ℕ) → Type 0
 IsUnlisted x ls = (c : ℕ) → c < 256 → Among x (names_at ls c) → ⊥
 
--- c is the least class from low on whose list has a name
-abbrev pub IsLeastFrom : ℕ → List (List ℕ) → ℕ → Type 0
-IsLeastFrom low ls c = (low ≤ c) × (c < 256) × (names_at ls c ≡ [] → ⊥) × ((d : ℕ) → low ≤ d → d < c → names_at ls d ≡ [])
+-- c is the smallest class from low on whose bin has a name
+abbrev pub IsSmallestFrom : ℕ → List (List ℕ) → ℕ → Type 0
+IsSmallestFrom low ls c = (low ≤ c) × (c < 256) × (names_at ls c ≡ [] → ⊥) × ((d : ℕ) → low ≤ d → d < c → names_at ls d ≡ [])
 
 -- the cells with v at i, or as they are where i is no link
 abbrev pub relinked : ℕ → List ℕ → ℕ → ℕ → List ℕ
 relinked none xs i v = cond (nat_eq i none) xs (slice_set xs i v)
 
--- the class lists in the tables
+-- the bins in the tables
 abbrev pub class_lists : ℕ → Links → List (List ℕ)
 class_lists none t = lists_of none t.older t.heads
 
--- links and masks agree with the class lists
+-- links and masks agree with the bins
 pub record Binned (none : ℕ) (t : Links) (top : ℕ) : Type 0 where
   pub linked : Linked none t.newer t.older t.heads (lists_of none t.older t.heads)
   pub masked : Masked none t.heads t.masks top

@@ -1,6 +1,6 @@
--- The ranges of live handles, as their holders see them.
-use Rattle.std.specs.Prelude.{◌≡◌, ℕ, ◌+◌, ◌≤◌, ◌≢◌, ◌⊎◌, Option, Some, None, if◌then◌else◌}
-use Rattle.offset_allocator.specs.Named.{View, Place, place_of, units}
+-- The ranges of live handles, as their holders see them, and what a grant is.
+use Rattle.std.specs.Prelude.{◌≡◌, ℕ, ◌+◌, ◌≤◌, ◌≢◌, ◌⊎◌, Option, Some, None, IsSome, if◌then◌else◌}
+use Rattle.offset_allocator.specs.Named.{View, Grant, Place, place_of, units}
 
 -- some units from an offset on
 pub record Range : Type 0 where
@@ -16,6 +16,19 @@ range_at (Some p) = if p.block.used then Some (record { offset = units p.before;
 abbrev pub range_of : ℕ → View → Option Range
 range_of x v = range_at (place_of x v.blocks)
 
+-- a name is live while it holds a range
+abbrev pub IsLive : ℕ → View → Type 0
+IsLive x v = IsSome (range_of x v)
+
+-- the units of a range, or 0 where there is none
+abbrev pub units_in : Option Range → ℕ
+units_in None = 0
+units_in (Some r) = r.size
+
+-- the units that a name holds: 0 where it is not live
+abbrev pub size_of : ℕ → View → ℕ
+size_of x v = units_in (range_of x v)
+
 -- two ranges share no unit
 abbrev pub AreDisjoint : Range → Range → Type 0
 AreDisjoint r s = (r.offset + r.size ≤ s.offset) ⊎ (s.offset + s.size ≤ r.offset)
@@ -27,6 +40,19 @@ KeepsRanges v w = (x : ℕ) (r : Range) → range_of x v ≡ Some r → range_of
 -- all ranges but that of one name are as they were
 abbrev pub KeepsOthers : ℕ → View → View → Type 0
 KeepsOthers x v w = (y : ℕ) → y ≢ x → range_of y w ≡ range_of y v
+
+-- what a grant of n units is
+pub record Grants (n : ℕ) (v w : View) (h : Grant) : Type 0 where
+  -- its name was not live
+  pub fresh : range_of h.name v ≡ None
+  -- the name holds exactly n units, from the offset on
+  pub range : range_of h.name w ≡ Some (record { offset = h.offset; size = n })
+  -- these lie in the space
+  pub within : h.offset + n ≤ w.size
+  -- and share no unit with a range that is live
+  pub apart : (x : ℕ) (r : Range) → range_of x v ≡ Some r → AreDisjoint r (record { offset = h.offset; size = n })
+  -- all other ranges stay, and no other name comes to life
+  pub others : KeepsOthers h.name v w
 
 -- all ranges are as they were
 abbrev pub KeepsAll : View → View → Type 0

@@ -4,7 +4,7 @@ use Rattle.offset_allocator.specs.Classes.{down}
 use Rattle.offset_allocator.specs.Cells.{Cells}
 use Rattle.offset_allocator.specs.Orders.{Binned, class_lists, Among}
 use Rattle.offset_allocator.specs.Space.{IsSpace, blocks}
-use Rattle.offset_allocator.specs.Named.{View, Block, IsWellFormed, Place, tally, units, place_of, free_end, without_end, free_start, without_start, times, names_at, listed}
+use Rattle.offset_allocator.specs.Named.{View, Block, IsWellFormed, Place, tally, units, place_of, free_end, without_end, free_start, without_start, times, names_at, count_listed}
 
 -- the units of the free blocks
 abbrev pub free_units : List Block → ℕ
@@ -29,7 +29,7 @@ pub record IsSound (max size limit : ℕ) (c : Cells) (last count top free : ℕ
   pub well : IsWellFormed (view_of max size limit c last 0)
   pub total : free_units (blocks c.room last) ≡ free
 
--- the fields, with the greatest number of the index type
+-- the fields, with the largest number of the index type
 pub record Fields : Type 0 where
   pub max : ℕ
   pub size : ℕ
@@ -49,38 +49,38 @@ shown it = view_of it.max it.size it.limit it.cells it.last it.accesses
 abbrev pub AreSound : Fields → Type 0
 AreSound it = IsSound it.max it.size it.limit it.cells it.last it.count it.top it.free
 
--- every free block is in the list of its class
+-- every free block is in its bin
 abbrev pub AreListed : List Block → List (List ℕ) → Type 0
 AreListed bs ls = (p : Place) → bs ≡ p.before ++ p.block ∷ p.after → p.block.used ≡ false → Among p.block.name (names_at ls (down p.block.size))
 
--- the block at a place joined with a free block directly before it
+-- the block at a place coalesced with a free block directly before it
 abbrev pub merged_before : List Block → Option Place → List Block
 merged_before bs None = bs
 merged_before bs (Some p) = without_end p.before ++ record p.block { size = units (free_end p.before) + p.block.size } ∷ p.after
 
--- the block named x joined with a free block directly before it
+-- the block named x coalesced with a free block directly before it
 abbrev pub merge_before : ℕ → List Block → List Block
 merge_before x bs = merged_before bs (place_of x bs)
 
--- the free block directly before a place, which goes when they are joined
+-- the free block directly before a place, which goes when they coalesce
 abbrev pub gone_before : Option Place → List Block
 gone_before None = []
 gone_before (Some p) = free_end p.before
 
--- the block at a place joined with a free block directly after it
+-- the block at a place coalesced with a free block directly after it
 abbrev pub merged_after : List Block → Option Place → List Block
 merged_after bs None = bs
 merged_after bs (Some p) = p.before ++ record p.block { size = p.block.size + units (free_start p.after) } ∷ without_start p.after
 
--- the block named x joined with a free block directly after it
+-- the block named x coalesced with a free block directly after it
 abbrev pub merge_after : ℕ → List Block → List Block
 merge_after x bs = merged_after bs (place_of x bs)
 
--- the free block directly after a place, which goes when they are joined
+-- the free block directly after a place, which goes when they coalesce
 abbrev pub gone_after : Option Place → List Block
 gone_after None = []
 gone_after (Some p) = free_start p.after
 
--- the class lists hold the free blocks, each once
+-- the bins hold the free blocks, each once
 abbrev pub AreFiled : List Block → List (List ℕ) → Type 0
-AreFiled bs ls = (k y : ℕ) → times y (names_at ls k) ≡ listed k y bs
+AreFiled bs ls = (k y : ℕ) → times y (names_at ls k) ≡ count_listed k y bs

@@ -1,16 +1,16 @@
-//! The names of free blocks, in a list for each size class, by links between the nodes, with a two-level mask.
+//! A bin for each size class: the names of its free blocks, in a list of links between the nodes, with a two-level mask.
 ghost use Rattle.std.specs.Prelude.{◌≡◌, ◌+◌, ◌<◌, ◌≤◌, ◌≢◌, ℕ, List, [], ◌∷◌, slice_set, length, MatchOption};
 ghost use Rattle.offset_allocator.specs.Classes.{down};
 ghost use Rattle.offset_allocator.specs.Named.{names_at, without};
-ghost use Rattle.offset_allocator.specs.Told.{IsGreatestClass};
-ghost use Rattle.offset_allocator.specs.Orders.{IsUnlisted, IsLeastFrom, Among, relinked, Linked, Masked, flag, class_lists, Binned};
+ghost use Rattle.offset_allocator.specs.Promises.{IsLargestClass};
+ghost use Rattle.offset_allocator.specs.Orders.{IsUnlisted, IsSmallestFrom, Among, relinked, Linked, Masked, flag, class_lists, Binned};
 
 use crate::accesses::Accesses;
 use crate::index::{NodeIndex, link_to, no_link, number};
 use crate::small_float::uint_to_float_round_down;
 use crate::tables::Tables;
 
-/// The least class from a class on that has a name.
+/// The smallest class from a class on that has a name.
 pub(crate) fn find_at_or_above<NI: NodeIndex>(
     tables: &Tables<NI>,
     top_mask: u32,
@@ -19,7 +19,7 @@ pub(crate) fn find_at_or_above<NI: NodeIndex>(
 ) -> Option<u32>
     requires held { Binned NI.MAX tables.now.links top_mask }
     requires classed { class < 256 }
-    ensures least { MatchOption result ((c : ℕ) → class ≤ c → c < 256 → names_at (class_lists NI.MAX tables.now.links) c ≡ []) (IsLeastFrom class (class_lists NI.MAX tables.now.links)) }
+    ensures least { MatchOption result ((c : ℕ) → class ≤ c → c < 256 → names_at (class_lists NI.MAX tables.now.links) c ≡ []) (IsSmallestFrom class (class_lists NI.MAX tables.now.links)) }
     ensures grows { count.old + 1 ≤ count.new }
     ensures count { count.new ≤ count.old + 2 }
 {
@@ -36,14 +36,14 @@ pub(crate) fn find_at_or_above<NI: NodeIndex>(
     Some(found * 64 + tables.mask(found, count).trailing_zeros())
 }
 
-/// The greatest class that has a name.
-pub(crate) fn greatest<NI: NodeIndex>(
+/// The largest class that has a name.
+pub(crate) fn largest<NI: NodeIndex>(
     tables: &Tables<NI>,
     top_mask: u32,
     count: &mut Accesses,
 ) -> Option<u32>
     requires { Binned NI.MAX tables.now.links top_mask }
-    ensures greatest { MatchOption result ((c : ℕ) → c < 256 → names_at (class_lists NI.MAX tables.now.links) c ≡ []) (IsGreatestClass (class_lists NI.MAX tables.now.links)) }
+    ensures largest { MatchOption result ((c : ℕ) → c < 256 → names_at (class_lists NI.MAX tables.now.links) c ≡ []) (IsLargestClass (class_lists NI.MAX tables.now.links)) }
     ensures count { MatchOption result (count.new ≡ count.old) (λ _. count.new ≡ count.old + 1) }
 {
     if top_mask == 0 {
@@ -70,9 +70,9 @@ pub(crate) fn length_of<NI: NodeIndex>(tables: &Tables<NI>, class: u32, count: &
     names
 }
 
-/// Puts a name first into a class.
+/// Pushes a name onto a bin.
 #[inline(always)]
-pub(crate) fn put_first<NI: NodeIndex>(
+pub(crate) fn push<NI: NodeIndex>(
     tables: &mut Tables<NI>,
     top_mask: &mut u32,
     name: u32,
@@ -153,7 +153,7 @@ fn clear_class<NI: NodeIndex>(
     }
 }
 
-/// Takes a name out of the class of this size.
+/// Removes a name from the bin of this size.
 #[inline(always)]
 pub(crate) fn remove<NI: NodeIndex>(
     tables: &mut Tables<NI>,
@@ -184,8 +184,8 @@ pub(crate) fn remove<NI: NodeIndex>(
     }
 }
 
-/// Takes the first name out of a class.
-pub(crate) fn take_first<NI: NodeIndex>(
+/// Pops the newest name of a bin.
+pub(crate) fn pop<NI: NodeIndex>(
     tables: &mut Tables<NI>,
     top_mask: &mut u32,
     class: u32,

@@ -1,9 +1,9 @@
 //! The blocks of the space, linked in space order, and the stack of unused names.
 
 ghost use Rattle.std.specs.Prelude.{ℕ, ◌≡◌, ◌+◌, ◌-◌, ◌<◌, ◌≤◌, ◌^◌, [], ◌∷◌, length, MatchOption, IfSome, false, Some, None};
-ghost use Rattle.offset_allocator.specs.Named.{free_block, is_used_at, named, place_of, units};
+ghost use Rattle.offset_allocator.specs.Named.{free_block, is_used_at, count_named, place_of, units};
 ghost use Rattle.offset_allocator.specs.Cells.{AreEmpty, node, put, link_of};
-ghost use Rattle.offset_allocator.specs.Space.{IsSpace, HasBlock, HasPair, Stands, blocks, split_block, join_block, give_block, mark_block, offset_in, size_in, name_before, name_after};
+ghost use Rattle.offset_allocator.specs.Space.{IsSpace, HasBlock, HasPair, HasName, blocks, split_block, join_block, merge_block, mark_block, offset_in, size_in, name_before, name_after};
 ghost use Rattle.offset_allocator.specs.Parts.{split_front, grow_last};
 
 use crate::accesses::Accesses;
@@ -92,7 +92,7 @@ fn point_on<NI: NodeIndex>(tables: &mut Tables<NI>, link: NI, name: u32, count: 
 /// The offset of a block.
 pub(crate) fn offset<NI: NodeIndex>(tables: &Tables<NI>, name: u32, count: &mut Accesses) -> u32
     requires { name < length tables.now.room.nodes }
-    ensures offset { (last spare : ℕ) → IsSpace tables.now.room last spare → Stands name (blocks tables.now.room last) → result ≡ offset_in name (blocks tables.now.room last) }
+    ensures offset { (last spare : ℕ) → IsSpace tables.now.room last spare → HasName name (blocks tables.now.room last) → result ≡ offset_in name (blocks tables.now.room last) }
     ensures count { count.new ≡ count.old + 1 }
 {
     tables.offset(name, count)
@@ -101,7 +101,7 @@ pub(crate) fn offset<NI: NodeIndex>(tables: &Tables<NI>, name: u32, count: &mut 
 /// The size of a block.
 pub(crate) fn size<NI: NodeIndex>(tables: &Tables<NI>, name: u32, count: &mut Accesses) -> u32
     requires { name < length tables.now.room.nodes }
-    ensures size { (last spare : ℕ) → IsSpace tables.now.room last spare → Stands name (blocks tables.now.room last) → result ≡ size_in name (blocks tables.now.room last) }
+    ensures size { (last spare : ℕ) → IsSpace tables.now.room last spare → HasName name (blocks tables.now.room last) → result ≡ size_in name (blocks tables.now.room last) }
     ensures count { count.new ≡ count.old + 1 }
 {
     tables.size(name, count)
@@ -123,7 +123,7 @@ pub(crate) fn before<NI: NodeIndex>(
     count: &mut Accesses,
 ) -> Option<u32>
     requires { name < length tables.now.room.nodes }
-    ensures before { (last spare : ℕ) → IsSpace tables.now.room last spare → Stands name (blocks tables.now.room last) → result ≡ name_before None name (blocks tables.now.room last) }
+    ensures before { (last spare : ℕ) → IsSpace tables.now.room last spare → HasName name (blocks tables.now.room last) → result ≡ name_before None name (blocks tables.now.room last) }
     ensures count { count.new ≡ count.old + 1 }
 {
     linked(tables.before(name, count))
@@ -136,14 +136,14 @@ pub(crate) fn after<NI: NodeIndex>(
     count: &mut Accesses,
 ) -> Option<u32>
     requires { name < length tables.now.room.nodes }
-    ensures after { (last spare : ℕ) → IsSpace tables.now.room last spare → Stands name (blocks tables.now.room last) → result ≡ name_after name (blocks tables.now.room last) }
+    ensures after { (last spare : ℕ) → IsSpace tables.now.room last spare → HasName name (blocks tables.now.room last) → result ≡ name_after name (blocks tables.now.room last) }
     ensures count { count.new ≡ count.old + 1 }
 {
     linked(tables.after(name, count))
 }
 
-/// Cuts a block, of this offset and size, to `kept` units. The rest becomes a free block directly behind it, under the
-/// name that is answered.
+/// Splits a block, of this offset and size, after `kept` units. The remainder becomes a free block directly after it,
+/// under the name that is returned.
 pub(crate) fn split<NI: NodeIndex>(
     tables: &mut Tables<NI>,
     last: &mut u32,
@@ -155,7 +155,7 @@ pub(crate) fn split<NI: NodeIndex>(
     count: &mut Accesses,
 ) -> u32
     requires space { IsSpace tables.old.room last.old spare_count.old }
-    requires standing { Stands name (blocks tables.old.room last.old) }
+    requires present { HasName name (blocks tables.old.room last.old) }
     requires room { 0 < spare_count.old }
     requires offset { offset ≡ offset_in name (blocks tables.old.room last.old) }
     requires size { size ≡ size_in name (blocks tables.old.room last.old) }
@@ -165,7 +165,7 @@ pub(crate) fn split<NI: NodeIndex>(
     ensures links { tables.new.links ≡ tables.old.links }
     ensures limit { length tables.new.room.nodes ≡ length tables.old.room.nodes }
     ensures left { spare_count.new + 1 ≡ spare_count.old }
-    ensures fresh { named result (blocks tables.old.room last.old) ≡ 0 }
+    ensures fresh { count_named result (blocks tables.old.room last.old) ≡ 0 }
     ensures below { result < length tables.old.room.nodes }
     ensures grows { count.old ≤ count.new }
     ensures count { count.new ≤ count.old + 9 }
@@ -189,9 +189,9 @@ pub(crate) fn split<NI: NodeIndex>(
     rest
 }
 
-/// Joins the free block `following` into the block directly before it; `total` is the size of both. The name
+/// Coalesces the free block `following` into the block directly before it; `total` is the size of both. The name
 /// `following` is unused again.
-pub(crate) fn join_after<NI: NodeIndex>(
+pub(crate) fn coalesce_after<NI: NodeIndex>(
     tables: &mut Tables<NI>,
     last: &mut u32,
     spare_count: &mut u32,
@@ -201,7 +201,7 @@ pub(crate) fn join_after<NI: NodeIndex>(
     count: &mut Accesses,
 )
     requires space { IsSpace tables.old.room last.old spare_count.old }
-    requires standing { Stands name (blocks tables.old.room last.old) }
+    requires present { HasName name (blocks tables.old.room last.old) }
     requires next { name_after name (blocks tables.old.room last.old) ≡ Some following }
     requires free { (node tables.old.room following).used ≡ false }
     requires total { total ≡ size_in name (blocks tables.old.room last.old) + size_in following (blocks tables.old.room last.old) }
@@ -221,9 +221,9 @@ pub(crate) fn join_after<NI: NodeIndex>(
     *spare_count += 1;
 }
 
-/// Joins the free block `previous` into the block directly behind it; `total` is the size of both. The name
+/// Coalesces the free block `previous` into the block directly after it; `total` is the size of both. The name
 /// `previous` is unused again.
-pub(crate) fn join_before<NI: NodeIndex>(
+pub(crate) fn coalesce_before<NI: NodeIndex>(
     tables: &mut Tables<NI>,
     spare_count: &mut u32,
     previous: u32,
@@ -235,7 +235,7 @@ pub(crate) fn join_before<NI: NodeIndex>(
     requires free { (node tables.old.room previous).used ≡ false }
     requires total { total ≡ (node tables.old.room previous).size + (node tables.old.room name).size }
     ensures space { (last : ℕ) → HasPair tables.old.room last spare_count.old previous name → IsSpace tables.new.room last spare_count.new }
-    ensures blocks { (last : ℕ) → HasPair tables.old.room last spare_count.old previous name → blocks tables.new.room last ≡ give_block previous (blocks tables.old.room last) }
+    ensures blocks { (last : ℕ) → HasPair tables.old.room last spare_count.old previous name → blocks tables.new.room last ≡ merge_block previous (blocks tables.old.room last) }
     ensures links { tables.new.links ≡ tables.old.links }
     ensures limit { length tables.new.room.nodes ≡ length tables.old.room.nodes }
     ensures grows { count.old ≤ count.new }
@@ -260,8 +260,8 @@ pub(crate) fn mark<NI: NodeIndex>(
     count: &mut Accesses,
 )
     requires { name < length tables.old.room.nodes }
-    ensures space { (last spare : ℕ) → IsSpace tables.old.room last spare → Stands name (blocks tables.old.room last) → IsSpace tables.new.room last spare }
-    ensures blocks { (last spare : ℕ) → IsSpace tables.old.room last spare → Stands name (blocks tables.old.room last) → blocks tables.new.room last ≡ mark_block name used (blocks tables.old.room last) }
+    ensures space { (last spare : ℕ) → IsSpace tables.old.room last spare → HasName name (blocks tables.old.room last) → IsSpace tables.new.room last spare }
+    ensures blocks { (last spare : ℕ) → IsSpace tables.old.room last spare → HasName name (blocks tables.old.room last) → blocks tables.new.room last ≡ mark_block name used (blocks tables.old.room last) }
     ensures links { tables.new.links ≡ tables.old.links }
     ensures limit { length tables.new.room.nodes ≡ length tables.old.room.nodes }
     ensures count { count.new ≡ count.old + 1 }
@@ -269,8 +269,8 @@ pub(crate) fn mark<NI: NodeIndex>(
     tables.set_used(name, used, count);
 }
 
-/// Cuts the first `cut` units off a block. They become a free block directly before it, under the name that is
-/// answered.
+/// Splits the first `cut` units off a block. They become a free block directly before it, under the name that is
+/// returned.
 pub(crate) fn split_before<NI: NodeIndex>(
     tables: &mut Tables<NI>,
     spare_count: &mut u32,
@@ -286,7 +286,7 @@ pub(crate) fn split_before<NI: NodeIndex>(
     ensures links { tables.new.links ≡ tables.old.links }
     ensures limit { length tables.new.room.nodes ≡ length tables.old.room.nodes }
     ensures left { spare_count.new + 1 ≡ spare_count.old }
-    ensures fresh { (last : ℕ) → HasBlock tables.old.room last spare_count.old name → named result (blocks tables.old.room last) ≡ 0 }
+    ensures fresh { (last : ℕ) → HasBlock tables.old.room last spare_count.old name → count_named result (blocks tables.old.room last) ≡ 0 }
     ensures below { result < length tables.old.room.nodes }
     ensures grows { count.old ≤ count.new }
     ensures count { count.new ≤ count.old + 12 }

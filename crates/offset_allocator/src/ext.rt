@@ -1,13 +1,12 @@
-//! What the allocator's users ask of size classes.
+//! What the allocator's users need of size classes.
 
 ghost use Rattle.std.specs.Prelude.{◌≡◌, ◌≤◌};
 ghost use Rattle.offset_allocator.specs.Classes.{value, up};
 
 use crate::small_float::{float_to_uint, uint_to_float_round_up};
 
-/// The least size in units of a space from which, while it is fresh and has a node limit of at least 3, an object of
-/// this size is granted. No space of a 32-bit size grants more than 4026531840 units, and more may not be asked
-/// for.
+/// The smallest size in units of a fresh space, with a node limit of at least 3, that grants an object of this size. No
+/// space of a 32-bit size grants more than 4026531840 units, and more may not be requested.
 pub fn min_allocator_size(needed_object_size: u32) -> u32
     requires { needed_object_size ≤ 4026531840 }
     ensures { result ≡ value (up needed_object_size) }

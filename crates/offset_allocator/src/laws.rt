@@ -2,10 +2,11 @@
 //! laws that hold of every allocator. The functions of those do nothing.
 ghost use Rattle.std.specs.Prelude.{◌≡◌, ◌<◌, ◌≤◌, ◌+◌, ◌-◌, ◌*◌, ◌↔◌, ℕ, IsTrue, IfSome, None, length, min};
 ghost use Rattle.std.specs.Int.{IsPowerOfTwo};
-ghost use Rattle.offset_allocator.specs.Named.{IsWellFormed, size_at, place_of, free_sizes, largest_free};
-ghost use Rattle.offset_allocator.specs.Always.{AddsUp, AreFew, AreWithin, FreshGrants, KeepApart, PaddingIsLeast, RefusesWhenFull, StandAlone};
-ghost use Rattle.offset_allocator.specs.Relations.{IsAlignment, IsLive, IsBut, IsUndone};
-ghost use Rattle.offset_allocator.specs.Told.{IsReport, IsFullReport, IsGranted, IsServed, IsWhy};
+ghost use Rattle.offset_allocator.specs.Named.{IsWellFormed, free_sizes, largest_free};
+ghost use Rattle.offset_allocator.specs.Always.{AddsUp, AreFew, AreWithin, FreshGrants, KeepApart, PaddingIsLeast, RefusesWhenFull, HasNoFreeNeighbours};
+ghost use Rattle.offset_allocator.specs.Relations.{IsAlignment, SameSpace, IsUndone};
+ghost use Rattle.offset_allocator.specs.Ranges.{size_of, IsLive};
+ghost use Rattle.offset_allocator.specs.Promises.{IsReport, IsFullReport, CanAllocate, CanGrant, IsWhy, blocks_needed, units_needed};
 
 use crate::Allocator;
 use crate::accesses::Accesses;
@@ -33,7 +34,7 @@ pub fn allocation_size_counted<NI: NodeIndex>(
     allocation: Allocation<NI>,
     count: &mut Accesses,
 ) -> u32
-    ensures size { result ≡ size_at (place_of allocation.name allocator.now.blocks) }
+    ensures size { result ≡ size_of allocation.name allocator.now }
     ensures grows { count.old ≤ count.new }
     ensures least { IsLive allocation.name allocator.now → count.old + 2 ≤ count.new }
     ensures count { count.new ≤ count.old + 8 }
@@ -72,7 +73,7 @@ pub fn refusal_counted<NI: NodeIndex>(
     size: u32,
     count: &mut Accesses,
 ) -> Option<Refusal>
-    ensures granted { result ≡ None ↔ IsGranted size allocator.now }
+    ensures granted { result ≡ None ↔ CanAllocate size allocator.now }
     ensures why { IfSome result (IsWhy 1 size allocator.now) }
     ensures grows { count.old ≤ count.new }
     ensures least { result ≡ None → count.old + 1 ≤ count.new }
@@ -89,8 +90,8 @@ pub fn refusal_aligned_counted<NI: NodeIndex>(
     count: &mut Accesses,
 ) -> Option<Refusal>
     requires power { IsAlignment align }
-    ensures granted { result ≡ None ↔ IsServed (min align 2) (size + align - 1) allocator.now }
-    ensures why { IfSome result (IsWhy (min align 2) (size + align - 1) allocator.now) }
+    ensures granted { result ≡ None ↔ CanGrant (blocks_needed align) (units_needed size align) allocator.now }
+    ensures why { IfSome result (IsWhy (blocks_needed align) (units_needed size align) allocator.now) }
     ensures grows { count.old ≤ count.new }
     ensures least { result ≡ None → count.old + 1 ≤ count.new }
     ensures count { count.new ≤ count.old + 8 }
@@ -98,15 +99,15 @@ pub fn refusal_aligned_counted<NI: NodeIndex>(
     allocator.refusal_counted(align.min(2), size as u64 + (align - 1) as u64, count)
 }
 
-/// Grants a request for `n` units and gives the grant back at once. The blocks, their names and the class lists are
-/// then as they were. It is `false` where the request was refused.
+/// Grants a request for `n` units and frees the grant at once. The blocks, their names and the bins are then as they
+/// were. It is `false` where the request was refused.
 ///
-/// The contract says this of each grant that a request for `n` can be given here, whichever unused name its rest takes.
+/// The contract says this of each grant that a request for `n` can have here, whichever unused name its remainder takes.
 /// The count of accesses grows by at most 192.
 pub fn undo<NI: NodeIndex>(allocator: &mut Allocator<NI>, n: u32) -> bool
     ensures undone { IsUndone n allocator.old }
-    ensures same { IsBut allocator.old allocator.new }
-    ensures granted { IsTrue result ↔ IsGranted n allocator.old }
+    ensures same { SameSpace allocator.old allocator.new }
+    ensures granted { IsTrue result ↔ CanAllocate n allocator.old }
     ensures grows { allocator.old.accesses ≤ allocator.new.accesses }
     ensures least { IsTrue result → allocator.old.accesses + 16 ≤ allocator.new.accesses }
     ensures count { allocator.new.accesses ≤ allocator.old.accesses + 192 }
@@ -121,7 +122,7 @@ pub fn undo<NI: NodeIndex>(allocator: &mut Allocator<NI>, n: u32) -> bool
     }
 }
 
-/// The blocks fill the space, no two free ones side by side, and each class list holds the free blocks of its class.
+/// The blocks fill the space, no two free ones side by side, and each bin holds the free blocks of its class.
 ///
 /// Lemmas over the definitions ask for this, such as `taken_back` of `proofs/ViewUndo.antt`.
 pub fn is_well_formed<NI: NodeIndex>(allocator: &Allocator<NI>)
@@ -145,9 +146,9 @@ pub fn ranges_are_disjoint<NI: NodeIndex>(allocator: &Allocator<NI>)
     allocator.formed();
 }
 
-/// Between two granted ranges, and at each end of the space, at most one free block stands.
-pub fn free_blocks_stand_alone<NI: NodeIndex>(allocator: &Allocator<NI>)
-    ensures { StandAlone allocator.now }
+/// Between two granted ranges, and at each end of the space, there is at most one free block.
+pub fn no_free_neighbours<NI: NodeIndex>(allocator: &Allocator<NI>)
+    ensures { HasNoFreeNeighbours allocator.now }
 {
     allocator.formed();
 }
@@ -159,15 +160,15 @@ pub fn few_are_live<NI: NodeIndex>(allocator: &Allocator<NI>)
     allocator.formed();
 }
 
-/// Where `max_allocs - 1` blocks stand, every request is refused, and the report tells 0 and 0.
+/// Where `max_allocs - 1` blocks exist, every request is refused, and the report is 0 and 0.
 pub fn a_full_space_refuses<NI: NodeIndex>(allocator: &Allocator<NI>)
     ensures { RefusesWhenFull allocator.now }
 {
     allocator.formed();
 }
 
-/// With a limit of at least 3, a fresh space grants a request exactly where it has at least as many units as the value
-/// of the class that the request is rounded up to: those that `min_allocator_size` tells.
+/// With a limit of at least 3, a fresh space grants a request exactly when it has at least as many units as the value
+/// of the class that the request is rounded up to: those that `min_allocator_size` returns.
 pub fn a_fresh_space_grants()
     ensures { FreshGrants }
 {}

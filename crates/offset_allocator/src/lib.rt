@@ -1,6 +1,10 @@
 //! Ranges of one contiguous space of `size` units, handed out and taken back with a bounded number of accesses to table
 //! cells. The space itself is never touched.
 //!
+//! A *block* is a run of units, live (granted) or free; no two free blocks are neighbours. Each block has a *node* of the
+//! tables, whose index is the block's *name*. A *size class* is a range of sizes, and its *bin* the list of its free
+//! blocks, the one that became free last first.
+//!
 //! ```
 //! let mut vertices = Allocator::<u32>::new(alloc, 1 << 20)?;
 //! if let Some(mesh) = vertices.allocate(3000) {
@@ -10,16 +14,16 @@
 //! ```
 #![tactic(auto)]
 
-ghost use Rattle.std.specs.Prelude.{◌≡◌, ◌↔◌, ◌+◌, ◌-◌, ◌*◌, ◌%◌, ◌<◌, ◌≤◌, min, Some, None, Option, false, true, IsTrue, IsSome, IfSome, IfOk, length};
+ghost use Rattle.std.specs.Prelude.{ℕ, ◌≡◌, ◌↔◌, ◌+◌, ◌-◌, ◌*◌, ◌%◌, ◌<◌, ◌≤◌, min, Some, None, Option, false, true, IsTrue, IsSome, IfSome, IfOk, length};
 ghost use Rattle.offset_allocator.specs.Classes.{up};
 ghost use Rattle.offset_allocator.specs.Cells.{AreEmpty};
-ghost use Rattle.offset_allocator.specs.Orders.{IsLeastFrom};
-ghost use Rattle.offset_allocator.specs.Ranges.{range_of, KeepsAll, KeepsOthers, KeepsRanges};
+ghost use Rattle.offset_allocator.specs.Orders.{IsSmallestFrom};
+ghost use Rattle.offset_allocator.specs.Ranges.{range_of, size_of, Grants, IsLive, KeepsAll, KeepsOthers};
 ghost use Rattle.offset_allocator.specs.Reports.{IsGoodRefusal};
-ghost use Rattle.offset_allocator.specs.Named.{IsWellFormed, ends_used, is_short_of, free, free_sizes, largest_free, is_used_at, size_at, place_of};
-ghost use Rattle.offset_allocator.specs.Relations.{Allocates, Aligns, Extends, IsAlignment, IsBut, IsCutNearBest, IsFresh, IsLive, Resets};
+ghost use Rattle.offset_allocator.specs.Named.{IsWellFormed, ends_used, is_short_of, free, free_sizes, largest_free};
+ghost use Rattle.offset_allocator.specs.Relations.{Allocates, Aligns, Extends, IsAlignment, SameSpace, IsSplitNearBest, IsFresh, Resets};
 ghost use Rattle.offset_allocator.specs.Start.{IsStarted};
-ghost use Rattle.offset_allocator.specs.Told.{IsReport, IsFullReport, IsGranted, IsServed, IsWhy};
+ghost use Rattle.offset_allocator.specs.Promises.{IsReport, IsFullReport, CanAllocate, CanGrant, IsWhy, HasRoomFor, blocks_needed, units_needed};
 
 mod accesses;
 mod bins;
@@ -48,16 +52,16 @@ use tables::Tables;
 
 /// One space, and what of it is granted.
 ///
-/// `NI` is the type of the links between nodes. It sets how many nodes there can be, and nothing of the answers.
+/// `NI` is the type of the links between nodes. It limits how many nodes there can be, and changes no result otherwise.
 #[derive(Drop)]
 pub struct Allocator<NI: NodeIndex = u32> {
     size: u32,
     max_allocs: u32,
     // the units of all free blocks
     free_total: u32,
-    // which words of the mask are not 0
+    // bit w says whether word w of the bins' mask is not 0
     top_mask: u32,
-    // how many names are unused
+    // the number of names that no block has
     spare_count: u32,
     // the name of the last block in space order
     last: u32,
@@ -85,8 +89,8 @@ fn handle_of<NI: NodeIndex>(offset: u32, name: u32) -> Allocation<NI>
     Allocation::make(offset, NI::from_u32(name).to_name())
 }
 
-// Makes the whole space one free block, under the last name, in tables with no used node. It answers
-// the top mask.
+// Makes the whole space one free block, under the name `max_allocs - 1`, in tables with no used node, and returns the
+// top mask.
 fn start<NI: NodeIndex>(
     tables: &mut Tables<NI>,
     size: u32,
@@ -102,7 +106,7 @@ fn start<NI: NodeIndex>(
     let mut top_mask = 0;
     tables.shape();
     chain::start(tables, size, max_allocs, count);
-    bins::put_first(
+    bins::push(
         tables,
         &mut top_mask,
         max_allocs - 1,
@@ -115,7 +119,7 @@ fn start<NI: NodeIndex>(
 impl<NI: NodeIndex> Allocator<NI> {
     /// A space of `size` units, all free, with the smaller of 131072 and `NI::MAX - 2` as the node limit.
     ///
-    /// An error comes only where an allocation failed. Then nothing is made.
+    /// An error is returned only where an allocation failed; then nothing is made.
     pub fn new(alloc: Global, size: u32) -> Result<Self, AllocError>
         ensures { IfOk result (IsFresh size (min 131072 (NI.MAX - 2))) }
     {
@@ -125,9 +129,9 @@ impl<NI: NodeIndex> Allocator<NI> {
     /// A space of `size` units, all free, with `max_allocs` as the node limit: at most `max_allocs - 1` blocks exist at a
     /// time, free ones included. A request is granted only while at most `max_allocs - 2` exist, and makes one of them
     /// live: so at most `max_allocs - 2` grants are live. The limit is 2 to `NI::MAX - 2`: 65533 for `u16`, 4294967293
-    /// for `u32`. It costs 29 bytes a node with `u32`, 19 with `u16`, all of which are written here.
+    /// for `u32`. It costs 29 bytes a node with `u32`, 19 with `u16`, and this call writes them all.
     ///
-    /// An error comes only where an allocation failed. Then nothing is made.
+    /// An error is returned only where an allocation failed; then nothing is made.
     pub fn with_max_allocs(alloc: Global, size: u32, max_allocs: u32) -> Result<Self, AllocError>
         requires least { 2 ≤ max_allocs }
         requires most { max_allocs + 1 < NI.MAX }
@@ -147,10 +151,33 @@ impl<NI: NodeIndex> Allocator<NI> {
         })
     }
 
-    /// Makes the whole space one free block again, in place. The block of every earlier handle is gone.
-    ///
-    /// It takes no memory, always succeeds, and goes over the use flags and the spare names of all nodes.
-    pub fn reset(&mut self)
+    // The name of a live range, or `None` where nothing is live: then the space is as after a reset. Since no two
+    // neighbours are free, the last used block is the last block or the one before it.
+    fn last_used(&mut self) -> Option<u32>
+        ensures same { SameSpace self.old self.new }
+        ensures used { IfSome result (λ x. IsLive x self.new) }
+        ensures none { result ≡ None → Resets self.old self.new }
+        ensures grows { self.old.accesses ≤ self.new.accesses }
+    {
+        if chain::is_used(&self.tables, self.last, &mut self.accesses) {
+            return Some(self.last);
+        }
+        chain::before(&self.tables, self.last, &mut self.accesses)
+    }
+
+    // Frees every live range. It is out of line, so that `reset` stays small where it is inlined.
+    #[inline(never)]
+    fn free_all(&mut self)
+        ensures step { Resets self.old self.new }
+        ensures grows { self.old.accesses ≤ self.new.accesses }
+    {
+        while let Some(name) = self.last_used() {
+            self.release(name);
+        }
+    }
+
+    // Rewrites all tables in place.
+    fn clear(&mut self)
         ensures step { Resets self.old self.new }
         ensures grows { self.old.accesses ≤ self.new.accesses }
     {
@@ -166,6 +193,26 @@ impl<NI: NodeIndex> Allocator<NI> {
         self.last = self.max_allocs - 1;
     }
 
+    /// Makes the whole space one free block again, in place. The block of every earlier handle is gone.
+    ///
+    /// It takes no memory and always succeeds, and the space keeps what `extend` added. If there are fewer blocks than one
+    /// for 128 nodes of the limit, it frees each live range; otherwise it clears the use flags and the names of all nodes.
+    pub fn reset(&mut self)
+        // The space keeps its size, and no name is live.
+        ensures size { self.new.size ≡ self.old.size }
+        ensures gone { (x : ℕ) → range_of x self.new ≡ None }
+        // The step as a whole: one free block, alone in its bin.
+        ensures step { Resets self.old self.new }
+        ensures grows { self.old.accesses ≤ self.new.accesses }
+    {
+        // freeing a range takes about as long as going over 128 nodes
+        if self.block_count() < self.max_allocs / 128 {
+            self.free_all();
+        } else {
+            self.clear();
+        }
+    }
+
     /// The units of the space, with what `extend` added.
     pub fn size(&self) -> u32
         ensures { result ≡ self.now.size }
@@ -173,7 +220,7 @@ impl<NI: NodeIndex> Allocator<NI> {
         self.size
     }
 
-    /// The node limit. At most one block less than this exists at a time, free ones included.
+    /// The node limit. At most `max_allocs - 1` blocks exist at a time, free ones included.
     pub fn max_allocs(&self) -> u32
         ensures { result ≡ self.now.max_allocs }
     {
@@ -199,12 +246,12 @@ impl<NI: NodeIndex> Allocator<NI> {
     // Grants the first units of the newest block of a class.
     fn grant(&mut self, class: u32, size: u32) -> Allocation<NI>
         requires room { is_short_of 1 self.old ≡ false }
-        requires least { IsLeastFrom (up size) self.old.order class }
+        requires least { IsSmallestFrom (up size) self.old.order class }
         ensures step { Allocates size self.old self.new (Some result) }
         ensures grows { self.old.accesses + 6 ≤ self.new.accesses }
         ensures count { self.new.accesses ≤ self.old.accesses + 24 }
     {
-        let name = bins::take_first(
+        let name = bins::pop(
             &mut self.tables,
             &mut self.top_mask,
             class,
@@ -226,7 +273,7 @@ impl<NI: NodeIndex> Allocator<NI> {
                 &mut self.accesses,
             );
             self.tables.shape();
-            bins::put_first(
+            bins::push(
                 &mut self.tables,
                 &mut self.top_mask,
                 rest,
@@ -237,54 +284,76 @@ impl<NI: NodeIndex> Allocator<NI> {
         handle_of(offset, name)
     }
 
-    /// Grants a range of `size` units: the first ones of a free block of the least size class that is
-    /// sure to hold them, and there of the block that became free last. What remains of the block
-    /// stays free, directly behind the range.
+    /// Grants a range of `size` units: the first ones of a free block of the smallest size class that has one and whose
+    /// blocks are all large enough, and of those blocks the one that became free last. What remains of the block stays
+    /// free, directly after the range.
     ///
-    /// `None` where `max_allocs - 1` blocks stand, even for an exact fit, and where only free blocks of lesser classes
-    /// remain; blocks, names and class lists are then as they were. A request of at least one unit is granted exactly
-    /// when it is at most the `largest_free_region` that the report tells just before. It makes at most 64 accesses to
-    /// the tables (26 by the bounds of its parts), and takes no memory.
+    /// `None` is returned where `max_allocs - 1` blocks exist, even for an exact fit, and where no free block is of such
+    /// a class; then nothing changes. A request of at least one unit is granted exactly when it is at most the
+    /// `largest_free_region` that `storage_report` returns just before. It makes at most 64 accesses to the tables (the
+    /// bounds of its parts add up to 26), and takes no memory.
     pub fn allocate(&mut self, size: u32) -> Option<Allocation<NI>>
-        ensures step { Allocates size self.old self.new result }
-        ensures live { IfSome result (λ h. IsLive h.name self.new) }
-        ensures fresh { IfSome result (λ h. range_of h.name self.old ≡ None) }
-        ensures range { IfSome result (λ h. range_of h.name self.new ≡ Some (record { offset = h.offset; size = size })) }
-        ensures others { IfSome result (λ h. KeepsOthers h.name self.old self.new) }
-        ensures kept { KeepsRanges self.old self.new }
-        ensures same { result ≡ None → IsBut self.old self.new }
+        // It is granted exactly when it is at most the largest free region that is reported (which is 0 where no more block
+        // may exist); and, of 0 units too, exactly when one more block may exist and a free block is sure to hold it.
         ensures granted { 1 ≤ size → (IsSome result ↔ (size ≤ largest_free self.old)) }
-        ensures served { IsSome result ↔ IsGranted size self.old }
-        ensures nearly { IfSome result (IsCutNearBest size self.old) }
-        ensures refused { result ≡ None → length self.old.blocks + 1 < self.old.max_allocs → IsGoodRefusal size (free_sizes self.old.blocks) }
+        ensures can_grant { IsSome result ↔ CanAllocate size self.old }
+        // A grant is a name that was not live, with a range of exactly these units, in the space and apart from all live
+        // ranges, which stay.
+        ensures grants { IfSome result (Grants size self.old self.new) }
+        // A refusal leaves the space as it was.
+        ensures same { result ≡ None → SameSpace self.old self.new }
+        // The block taken is at most 9/8 as large as any free block of at least 9/8 of the request.
+        ensures nearly { IfSome result (IsSplitNearBest size self.old) }
+        // A refusal with room for one more block means that every free block is smaller than 9/8 of the request.
+        ensures refused { result ≡ None → HasRoomFor 1 self.old → IsGoodRefusal size (free_sizes self.old.blocks) }
+        // It makes at most 64 accesses to table cells, and a grant at least 7.
         ensures grows { self.old.accesses ≤ self.new.accesses }
         ensures least { IsSome result → self.old.accesses + 7 ≤ self.new.accesses }
         ensures count { self.new.accesses ≤ self.old.accesses + 64 }
+        // The step as a whole: which block, which remainder, which bins.
+        ensures step { Allocates size self.old self.new result }
     {
         if self.spare_count <= 1 {
             return None;
         }
-        let least = uint_to_float_round_up(size);
-        match bins::find_at_or_above(&self.tables, self.top_mask, least, &mut self.accesses) {
+        let smallest = uint_to_float_round_up(size);
+        match bins::find_at_or_above(&self.tables, self.top_mask, smallest, &mut self.accesses) {
             None => None,
             Some(class) => Some(self.grant(class, size)),
         }
     }
 
-    /// Gives a granted range back. Its units are free at once, in one block with the free ranges directly before
-    /// and behind it, and that block is the newest of its class.
+    /// Frees the range of a live handle. Its units are free at once, in one block with the free blocks directly before
+    /// and after it, and that block is the newest of its bin.
     ///
-    /// Only the handle's name counts, and not its public `offset`. It makes at most 128 accesses to the
-    /// tables (40 by the bounds of its parts), and takes no memory. The handle has to be live, which `is_live` tells.
+    /// The handle has to be live, which `is_live` says. Only its name counts, and not its public
+    /// `offset`: a stale handle whose name was granted again is live, and frees that range. It makes at
+    /// most 128 accesses to the tables (the bounds of its parts add up to 40), and takes no memory.
     pub fn free(&mut self, allocation: Allocation<NI>)
         requires live { IsLive allocation.name self.old }
-        ensures step { IsBut (free allocation.name self.old) self.new }
+        // The name holds no range any more, and all other ranges stay.
         ensures gone { range_of allocation.name self.new ≡ None }
         ensures others { KeepsOthers allocation.name self.old self.new }
+        // It makes at most 128 accesses to table cells, and at least 9.
+        ensures grows { self.old.accesses + 9 ≤ self.new.accesses }
+        ensures count { self.new.accesses ≤ self.old.accesses + 128 }
+        // The step as a whole: the block coalesces with its free neighbours.
+        ensures step { SameSpace (free allocation.name self.old) self.new }
+    {
+        self.release(index::number(NI::of_nonmax(allocation.name())));
+    }
+
+    // Frees the block of a name. It is inlined into `free` and into `free_all`: so `free` shares no code with `reset`, and
+    // a caller's only call of `free` can be inlined.
+    #[inline(always)]
+    fn release(&mut self, name: u32)
+        requires live { IsLive name self.old }
+        ensures step { SameSpace (free name self.old) self.new }
+        ensures gone { range_of name self.new ≡ None }
+        ensures others { KeepsOthers name self.old self.new }
         ensures grows { self.old.accesses + 9 ≤ self.new.accesses }
         ensures count { self.new.accesses ≤ self.old.accesses + 128 }
     {
-        let name = index::number(NI::of_nonmax(allocation.name()));
         let size = chain::size(&self.tables, name, &mut self.accesses);
         self.free_total += size;
         let size = merge::with_before(
@@ -306,7 +375,7 @@ impl<NI: NodeIndex> Allocator<NI> {
         );
         chain::mark(&mut self.tables, name, false, &mut self.accesses);
         self.tables.shape();
-        bins::put_first(
+        bins::push(
             &mut self.tables,
             &mut self.top_mask,
             name,
@@ -317,7 +386,7 @@ impl<NI: NodeIndex> Allocator<NI> {
 
     // Whether a name is that of a used block.
     fn uses(&self, name: u32, count: &mut Accesses) -> bool
-        ensures used { result ≡ is_used_at (place_of name self.now.blocks) }
+        ensures live { IsTrue result ↔ IsLive name self.now }
         ensures grows { count.old ≤ count.new }
         ensures least { name < self.now.max_allocs → count.old + 1 ≤ count.new }
         ensures count { count.new ≤ count.old + 1 }
@@ -354,7 +423,7 @@ impl<NI: NodeIndex> Allocator<NI> {
         allocation: Allocation<NI>,
         count: &mut Accesses,
     ) -> u32
-        ensures size { result ≡ size_at (place_of allocation.name self.now.blocks) }
+        ensures size { result ≡ size_of allocation.name self.now }
         ensures grows { count.old ≤ count.new }
         ensures least { IsLive allocation.name self.now → count.old + 2 ≤ count.new }
         ensures count { count.new ≤ count.old + 8 }
@@ -367,10 +436,10 @@ impl<NI: NodeIndex> Allocator<NI> {
         }
     }
 
-    /// The units of the range that a live handle has: exactly what was asked for. It is 0 where the handle is not live,
+    /// The units of the range that a live handle has: exactly what was requested. It is 0 where the handle is not live,
     /// and for a live range of no units too.
     pub fn allocation_size(&self, allocation: Allocation<NI>) -> u32
-        ensures { result ≡ size_at (place_of allocation.name self.now.blocks) }
+        ensures { result ≡ size_of allocation.name self.now }
     {
         self.allocation_size_counted(allocation, &mut Accesses::new())
     }
@@ -388,7 +457,7 @@ impl<NI: NodeIndex> Allocator<NI> {
                 largest_free_region: 0,
             };
         }
-        let largest_free_region = match bins::greatest(&self.tables, self.top_mask, count) {
+        let largest_free_region = match bins::largest(&self.tables, self.top_mask, count) {
             None => 0,
             Some(class) => float_to_uint(class),
         };
@@ -398,8 +467,8 @@ impl<NI: NodeIndex> Allocator<NI> {
         }
     }
 
-    /// The free space in short: the units of all free blocks, and the greatest request that would be granted. Both are
-    /// 0 where `max_allocs - 1` blocks stand.
+    /// The free space in short: the units of all free blocks, and the largest request that would be granted. Both are
+    /// 0 where `max_allocs - 1` blocks exist.
     pub fn storage_report(&self) -> StorageReport
         ensures { IsReport result self.now }
     {
@@ -429,14 +498,14 @@ impl<NI: NodeIndex> Allocator<NI> {
         self.storage_report_full_counted(&mut Accesses::new())
     }
 
-    // Why a request is refused that splits off as many blocks, and takes a block for as many units.
+    // Why a request is refused that may add this many blocks, and needs a block of this many units.
     pub(crate) fn refusal_counted(
         &self,
         blocks: u32,
         units: u64,
         count: &mut Accesses,
     ) -> Option<Refusal>
-        ensures granted { result ≡ None ↔ IsServed blocks units self.now }
+        ensures granted { result ≡ None ↔ CanGrant blocks units self.now }
         ensures why { IfSome result (IsWhy blocks units self.now) }
         ensures grows { count.old ≤ count.new }
         ensures least { result ≡ None → count.old + 1 ≤ count.new }
@@ -448,8 +517,8 @@ impl<NI: NodeIndex> Allocator<NI> {
         if units > self.free_total as u64 {
             return Some(Refusal::Space);
         }
-        let least = uint_to_float_round_up(units as u32);
-        match bins::find_at_or_above(&self.tables, self.top_mask, least, count) {
+        let smallest = uint_to_float_round_up(units as u32);
+        match bins::find_at_or_above(&self.tables, self.top_mask, smallest, count) {
             None => Some(Refusal::Fragmented),
             Some(_) => None,
         }
@@ -459,7 +528,7 @@ impl<NI: NodeIndex> Allocator<NI> {
     ///
     /// It makes at most 8 accesses to the tables.
     pub fn refusal(&self, size: u32) -> Option<Refusal>
-        ensures granted { result ≡ None ↔ IsGranted size self.now }
+        ensures granted { result ≡ None ↔ CanAllocate size self.now }
         ensures why { IfSome result (IsWhy 1 size self.now) }
     {
         self.refusal_counted(1, size as u64, &mut Accesses::new())
@@ -471,8 +540,8 @@ impl<NI: NodeIndex> Allocator<NI> {
     /// the tables.
     pub fn refusal_aligned(&self, size: u32, align: u32) -> Option<Refusal>
         requires power { IsAlignment align }
-        ensures granted { result ≡ None ↔ IsServed (min align 2) (size + align - 1) self.now }
-        ensures why { IfSome result (IsWhy (min align 2) (size + align - 1) self.now) }
+        ensures granted { result ≡ None ↔ CanGrant (blocks_needed align) (units_needed size align) self.now }
+        ensures why { IfSome result (IsWhy (blocks_needed align) (units_needed size align) self.now) }
     {
         self.refusal_counted(
             align.min(2),
@@ -486,12 +555,12 @@ impl<NI: NodeIndex> Allocator<NI> {
         requires power { 1 < align }
         requires fits { size + align - 1 ≤ 4294967295 }
         requires room { is_short_of 2 self.old ≡ false }
-        requires least { IsLeastFrom (up (size + align - 1)) self.old.order class }
+        requires least { IsSmallestFrom (up (size + align - 1)) self.old.order class }
         ensures step { Aligns size align self.old self.new (Some result) }
         ensures grows { self.old.accesses + 6 ≤ self.new.accesses }
         ensures count { self.new.accesses ≤ self.old.accesses + 43 }
     {
-        let name = bins::take_first(
+        let name = bins::pop(
             &mut self.tables,
             &mut self.top_mask,
             class,
@@ -500,7 +569,7 @@ impl<NI: NodeIndex> Allocator<NI> {
         let offset = chain::offset(&self.tables, name, &mut self.accesses);
         let whole = chain::size(&self.tables, name, &mut self.accesses);
         let padding = (align - offset % align) % align;
-        parts::carve(
+        parts::divide(
             &mut self.tables,
             &mut self.top_mask,
             &mut self.last,
@@ -517,30 +586,37 @@ impl<NI: NodeIndex> Allocator<NI> {
 
     /// Grants `size` units that begin at a multiple of `align`, a power of two.
     ///
-    /// It takes the block that a request for `size + align - 1` units would take. What of it lies before the granted
-    /// units, and what lies behind them, stays free. It answers `None` where such a request finds no block or is too
-    /// large for a number of 32 bits, or, with `align` above 1, where fewer than two more blocks may stand. A refusal
-    /// leaves blocks, names and class lists as they were. With `align` 1 the call is `allocate`. It makes at most 128
-    /// accesses to the tables, and takes no memory.
+    /// The block is the one that a request for `size + align - 1` units would take. What of it lies before the granted
+    /// units, and what lies after them, stays free. `None` is returned where such a request finds no block or is larger
+    /// than 4294967295, and, with `align` above 1, where there is no room for two more blocks, needed or not; then nothing
+    /// changes. With
+    /// `align` 1 the call is `allocate`. It makes at most 128 accesses to the tables, and takes no memory.
     pub fn allocate_aligned(&mut self, size: u32, align: u32) -> Option<Allocation<NI>>
         requires power { IsAlignment align }
-        ensures step { Aligns size align self.old self.new result }
-        ensures live { IfSome result (λ h. IsLive h.name self.new) }
-        ensures fresh { IfSome result (λ h. range_of h.name self.old ≡ None) }
-        ensures range { IfSome result (λ h. range_of h.name self.new ≡ Some (record { offset = h.offset; size = size })) }
+        // It is granted exactly when the blocks needed may exist, and the units needed are at most the largest free region
+        // that is reported; and, of 0 units with alignment 1 too, exactly when the blocks needed may exist and a free
+        // block is sure to hold the units needed.
+        ensures granted { 1 ≤ units_needed size align → (IsSome result
+            ↔ (HasRoomFor (blocks_needed align) self.old × (units_needed size align ≤ largest_free self.old))) }
+        ensures can_grant { IsSome result ↔ CanGrant (blocks_needed align) (units_needed size align) self.old }
+        // A grant is a name that was not live, with a range of exactly `size` units, in the space and apart from all live
+        // ranges, which stay.
+        ensures grants { IfSome result (Grants size self.old self.new) }
+        // The range begins at a multiple of the alignment.
         ensures aligned { IfSome result (λ h. h.offset % align ≡ 0) }
-        ensures others { IfSome result (λ h. KeepsOthers h.name self.old self.new) }
-        ensures kept { KeepsRanges self.old self.new }
-        ensures same { result ≡ None → IsBut self.old self.new }
-        ensures granted { 1 ≤ size + align - 1 → (IsSome result
-            ↔ ((length self.old.blocks + min align 2 < self.old.max_allocs) × (size + align - 1 ≤ largest_free self.old))) }
-        ensures served { IsSome result ↔ IsServed (min align 2) (size + align - 1) self.old }
-        ensures nearly { IfSome result (IsCutNearBest (size + align - 1) self.old) }
-        ensures refused { result ≡ None → length self.old.blocks + min align 2 < self.old.max_allocs
-            → IsGoodRefusal (size + align - 1) (free_sizes self.old.blocks) }
+        // A refusal leaves the space as it was.
+        ensures same { result ≡ None → SameSpace self.old self.new }
+        // The block taken is at most 9/8 as large as any free block of at least 9/8 of the units needed; and a refusal with
+        // room for the blocks needed means that every free block is smaller than 9/8 of these units.
+        ensures nearly { IfSome result (IsSplitNearBest (units_needed size align) self.old) }
+        ensures refused { result ≡ None → HasRoomFor (blocks_needed align) self.old
+            → IsGoodRefusal (units_needed size align) (free_sizes self.old.blocks) }
+        // It makes at most 128 accesses to table cells, and a grant at least 7.
         ensures grows { self.old.accesses ≤ self.new.accesses }
         ensures least { IsSome result → self.old.accesses + 7 ≤ self.new.accesses }
         ensures count { self.new.accesses ≤ self.old.accesses + 128 }
+        // The step as a whole.
+        ensures step { Aligns size align self.old self.new result }
     {
         let spare_count = self.spare_count;
         if align <= 1 {
@@ -552,8 +628,8 @@ impl<NI: NodeIndex> Allocator<NI> {
         if size > u32::MAX - (align - 1) {
             return None;
         }
-        let least = uint_to_float_round_up(size + (align - 1));
-        match bins::find_at_or_above(&self.tables, self.top_mask, least, &mut self.accesses) {
+        let smallest = uint_to_float_round_up(size + (align - 1));
+        match bins::find_at_or_above(&self.tables, self.top_mask, smallest, &mut self.accesses) {
             None => None,
             Some(class) => Some(self.grant_aligned(class, size, align)),
         }
@@ -578,7 +654,7 @@ impl<NI: NodeIndex> Allocator<NI> {
         );
         chain::grow(&mut self.tables, self.last, more, &mut self.accesses);
         self.tables.shape();
-        bins::put_first(
+        bins::push(
             &mut self.tables,
             &mut self.top_mask,
             self.last,
@@ -589,7 +665,7 @@ impl<NI: NodeIndex> Allocator<NI> {
         self.free_total += more;
     }
 
-    // Puts a free block behind the last one, which is used.
+    // Puts a free block after the last one, which is used.
     fn append(&mut self, more: u32)
         requires more { 0 < more }
         requires fits { self.old.size + more ≤ 4294967295 }
@@ -614,7 +690,7 @@ impl<NI: NodeIndex> Allocator<NI> {
         );
         chain::grow(&mut self.tables, self.last, more, &mut self.accesses);
         self.tables.shape();
-        bins::put_first(
+        bins::push(
             &mut self.tables,
             &mut self.top_mask,
             name,
@@ -627,16 +703,20 @@ impl<NI: NodeIndex> Allocator<NI> {
 
     /// Adds `more` units at the end of the space: to the last block where that is free, or else as a new free block.
     ///
-    /// It answers `false` where the space would have more than 4294967295 units, or where its last block is used and
-    /// no further block may stand. Blocks, names and class lists then stay as they were. With 0 units it answers
-    /// `true`. It makes at most 128 accesses to the tables, and takes no memory.
+    /// `false` is returned where the space would have more than 4294967295 units, and where its last block is used and
+    /// no further block may exist; then nothing changes. With 0 units it is `true`. It makes at most 128 accesses to the
+    /// tables, and takes no memory.
     pub fn extend(&mut self, more: u32) -> bool
-        ensures step { Extends more self.old self.new result }
+        // The space has `more` units more, all ranges stay, and a refusal leaves the space as it was.
+        ensures size { IsTrue result → self.new.size ≡ self.old.size + more }
         ensures kept { KeepsAll self.old self.new }
-        ensures same { result ≡ false → IsBut self.old self.new }
+        ensures same { result ≡ false → SameSpace self.old self.new }
+        // It makes at most 128 accesses to table cells, and at least 10 where it adds units.
         ensures grows { self.old.accesses ≤ self.new.accesses }
         ensures least { result ≡ true → 0 < more → self.old.accesses + 10 ≤ self.new.accesses }
         ensures count { self.new.accesses ≤ self.old.accesses + 128 }
+        // The step as a whole: whether it is done, and what the last block is then.
+        ensures step { Extends more self.old self.new result }
     {
         let size = self.size;
         if more == 0 {
@@ -657,7 +737,7 @@ impl<NI: NodeIndex> Allocator<NI> {
         true
     }
 
-    /// The blocks and the class lists agree.
+    /// The blocks and the bins agree. A step of proofs, which does nothing.
     pub(crate) fn formed(&self)
         ensures { IsWellFormed self.now }
     {

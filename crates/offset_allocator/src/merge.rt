@@ -1,8 +1,8 @@
-//! Joins a block with the free blocks beside it, which leave their classes.
+//! Coalesces a block with the free blocks beside it, which leave their bins.
 ghost use Rattle.std.specs.Prelude.{ℕ, ◌≡◌, ◌+◌, ◌≤◌, length};
 ghost use Rattle.offset_allocator.specs.Cells.{node};
 ghost use Rattle.offset_allocator.specs.Named.{place_of, remove_all};
-ghost use Rattle.offset_allocator.specs.Space.{IsSpace, HasBlock, Stands, blocks, size_in};
+ghost use Rattle.offset_allocator.specs.Space.{IsSpace, HasBlock, HasName, blocks, size_in};
 ghost use Rattle.offset_allocator.specs.Orders.{Binned, class_lists};
 ghost use Rattle.offset_allocator.specs.State.{AreListed, merge_before, gone_before, merge_after, gone_after};
 
@@ -11,7 +11,8 @@ use crate::index::NodeIndex;
 use crate::tables::Tables;
 use crate::{bins, chain};
 
-/// Joins a free block directly before a block of this size into it, and answers its size then.
+/// Coalesces a free block directly before a block of this size into it, and returns its size then.
+#[inline(always)]
 pub(crate) fn with_before<NI: NodeIndex>(
     tables: &mut Tables<NI>,
     top_mask: &mut u32,
@@ -36,14 +37,15 @@ pub(crate) fn with_before<NI: NodeIndex>(
         if !chain::is_used(tables, previous, count) {
             let more = chain::size(tables, previous, count);
             bins::remove(tables, top_mask, previous, more, count);
-            chain::join_before(tables, spare_count, previous, name, more + size, count);
+            chain::coalesce_before(tables, spare_count, previous, name, more + size, count);
             return more + size;
         }
     }
     size
 }
 
-/// Joins a free block directly after a block of this size into it, and answers its size then.
+/// Coalesces a free block directly after a block of this size into it, and returns its size then.
+#[inline(always)]
 pub(crate) fn with_after<NI: NodeIndex>(
     tables: &mut Tables<NI>,
     top_mask: &mut u32,
@@ -55,7 +57,7 @@ pub(crate) fn with_after<NI: NodeIndex>(
 ) -> u32
     requires space { IsSpace tables.old.room last.old spare_count.old }
     requires held { Binned NI.MAX tables.old.links top_mask.old }
-    requires standing { Stands name (blocks tables.old.room last.old) }
+    requires present { HasName name (blocks tables.old.room last.old) }
     requires size { size ≡ size_in name (blocks tables.old.room last.old) }
     requires listed { AreListed (blocks tables.old.room last.old) (class_lists NI.MAX tables.old.links) }
     ensures space { IsSpace tables.new.room last.new spare_count.new }
@@ -71,7 +73,7 @@ pub(crate) fn with_after<NI: NodeIndex>(
         if !chain::is_used(tables, following, count) {
             let more = chain::size(tables, following, count);
             bins::remove(tables, top_mask, following, more, count);
-            chain::join_after(
+            chain::coalesce_after(
                 tables,
                 last,
                 spare_count,

@@ -1,10 +1,10 @@
-//! Takes a block apart: a free front, a used middle, and a free rest.
+//! Splits a block: padding, a used middle, and a remainder.
 ghost use Rattle.std.specs.Prelude.{ℕ, ◌≡◌, ◌≢◌, ◌+◌, ◌<◌, ◌≤◌, length, ◌∷◌, ◌++◌};
 ghost use Rattle.offset_allocator.specs.Cells.{node};
-ghost use Rattle.offset_allocator.specs.Named.{named, free_part, used_block, put_all};
-ghost use Rattle.offset_allocator.specs.Space.{IsSpace, HasBlock, Stands, blocks, size_in};
+ghost use Rattle.offset_allocator.specs.Named.{count_named, free_part, used_block, push_all};
+ghost use Rattle.offset_allocator.specs.Space.{IsSpace, HasBlock, HasName, blocks, size_in};
 ghost use Rattle.offset_allocator.specs.Orders.{Binned, class_lists};
-ghost use Rattle.offset_allocator.specs.Parts.{with_front, with_rest, carved, AreUnlisted};
+ghost use Rattle.offset_allocator.specs.Parts.{with_padding, with_remainder, in_parts, AreUnlisted};
 
 use crate::accesses::Accesses;
 use crate::index::NodeIndex;
@@ -12,9 +12,9 @@ use crate::small_float::uint_to_float_round_down;
 use crate::tables::Tables;
 use crate::{bins, chain};
 
-// Cuts the first units off a block, unless these are none, and files them as a free block under the name that is
-// answered.
-fn cut_front<NI: NodeIndex>(
+// Splits the first units off a block, unless these are none, as a free block in its bin, under the name that is
+// returned.
+fn split_padding<NI: NodeIndex>(
     tables: &mut Tables<NI>,
     top_mask: &mut u32,
     spare_count: &mut u32,
@@ -28,12 +28,12 @@ fn cut_front<NI: NodeIndex>(
     requires within { units ≤ (node tables.old.room name).size }
     ensures space { (last : ℕ) → HasBlock tables.old.room last spare_count.old name → IsSpace tables.new.room last spare_count.new }
     ensures held { Binned NI.MAX tables.new.links top_mask.new }
-    ensures blocks { (last : ℕ) → HasBlock tables.old.room last spare_count.old name → blocks tables.new.room last ≡ with_front name units result (blocks tables.old.room last) }
-    ensures lists { class_lists NI.MAX tables.new.links ≡ put_all (free_part result units) (class_lists NI.MAX tables.old.links) }
+    ensures blocks { (last : ℕ) → HasBlock tables.old.room last spare_count.old name → blocks tables.new.room last ≡ with_padding name units result (blocks tables.old.room last) }
+    ensures lists { class_lists NI.MAX tables.new.links ≡ push_all (free_part result units) (class_lists NI.MAX tables.old.links) }
     ensures unlisted { (last : ℕ) → HasBlock tables.old.room last spare_count.old name → AreUnlisted (blocks tables.old.room last) (class_lists NI.MAX tables.old.links) → AreUnlisted (blocks tables.new.room last) (class_lists NI.MAX tables.new.links) }
     ensures limit { length tables.new.room.nodes ≡ length tables.old.room.nodes }
     ensures left { spare_count.old ≤ spare_count.new + 1 }
-    ensures fresh { 0 < units → (last : ℕ) → HasBlock tables.old.room last spare_count.old name → named result (blocks tables.old.room last) ≡ 0 }
+    ensures fresh { 0 < units → (last : ℕ) → HasBlock tables.old.room last spare_count.old name → count_named result (blocks tables.old.room last) ≡ 0 }
     ensures below { 0 < units → result < length tables.old.room.nodes }
     ensures grows { count.old ≤ count.new }
     ensures count { count.new ≤ count.old + 18 }
@@ -43,7 +43,7 @@ fn cut_front<NI: NodeIndex>(
     }
     let front = chain::split_before(tables, spare_count, name, units, count);
     tables.shape();
-    bins::put_first(
+    bins::push(
         tables,
         top_mask,
         front,
@@ -53,9 +53,9 @@ fn cut_front<NI: NodeIndex>(
     front
 }
 
-// Cuts a block to `size` units, and files the units behind these, unless they are none, as a free block under the
-// name that is answered.
-fn cut_rest<NI: NodeIndex>(
+// Splits a block after `size` units. The units after these, unless they are none, become a free block in its bin, under
+// the name that is returned.
+fn split_remainder<NI: NodeIndex>(
     tables: &mut Tables<NI>,
     top_mask: &mut u32,
     last: &mut u32,
@@ -67,16 +67,16 @@ fn cut_rest<NI: NodeIndex>(
 ) -> u32
     requires space { IsSpace tables.old.room last.old spare_count.old }
     requires held { Binned NI.MAX tables.old.links top_mask.old }
-    requires standing { Stands name (blocks tables.old.room last.old) }
+    requires present { HasName name (blocks tables.old.room last.old) }
     requires room { 0 < spare_count.old }
     requires whole { size + left ≡ size_in name (blocks tables.old.room last.old) }
     requires unlisted { AreUnlisted (blocks tables.old.room last.old) (class_lists NI.MAX tables.old.links) }
     ensures space { IsSpace tables.new.room last.new spare_count.new }
     ensures held { Binned NI.MAX tables.new.links top_mask.new }
-    ensures blocks { blocks tables.new.room last.new ≡ with_rest name size left result (blocks tables.old.room last.old) }
-    ensures lists { class_lists NI.MAX tables.new.links ≡ put_all (free_part result left) (class_lists NI.MAX tables.old.links) }
+    ensures blocks { blocks tables.new.room last.new ≡ with_remainder name size left result (blocks tables.old.room last.old) }
+    ensures lists { class_lists NI.MAX tables.new.links ≡ push_all (free_part result left) (class_lists NI.MAX tables.old.links) }
     ensures limit { length tables.new.room.nodes ≡ length tables.old.room.nodes }
-    ensures fresh { 0 < left → named result (blocks tables.old.room last.old) ≡ 0 }
+    ensures fresh { 0 < left → count_named result (blocks tables.old.room last.old) ≡ 0 }
     ensures below { 0 < left → result < length tables.old.room.nodes }
     ensures grows { count.old ≤ count.new }
     ensures count { count.new ≤ count.old + 16 }
@@ -96,7 +96,7 @@ fn cut_rest<NI: NodeIndex>(
         count,
     );
     tables.shape();
-    bins::put_first(
+    bins::push(
         tables,
         top_mask,
         rest,
@@ -106,9 +106,9 @@ fn cut_rest<NI: NodeIndex>(
     rest
 }
 
-/// Makes of a block a free front of `padding` units, `size` used units under its name, and a free rest of the units
-/// that are left. It answers the names of the front and the rest, where these have units.
-pub(crate) fn carve<NI: NodeIndex>(
+/// Splits a block into `padding` free units, `size` used units under its name, and a free remainder of the units that
+/// are left. The names of the padding and of the remainder are returned, where these have units.
+pub(crate) fn divide<NI: NodeIndex>(
     tables: &mut Tables<NI>,
     top_mask: &mut u32,
     last: &mut u32,
@@ -121,23 +121,23 @@ pub(crate) fn carve<NI: NodeIndex>(
 ) -> (u32, u32)
     requires space { IsSpace tables.old.room last.old spare_count.old }
     requires held { Binned NI.MAX tables.old.links top_mask.old }
-    requires standing { Stands name (blocks tables.old.room last.old) }
+    requires present { HasName name (blocks tables.old.room last.old) }
     requires room { 1 < spare_count.old }
     requires whole { padding + size + left ≡ size_in name (blocks tables.old.room last.old) }
     requires unlisted { AreUnlisted (blocks tables.old.room last.old) (class_lists NI.MAX tables.old.links) }
     ensures space { IsSpace tables.new.room last.new spare_count.new }
     ensures held { Binned NI.MAX tables.new.links top_mask.new }
-    ensures blocks { blocks tables.new.room last.new ≡ carved name padding size result.0 result.1 (blocks tables.old.room last.old) }
-    ensures lists { class_lists NI.MAX tables.new.links ≡ put_all (free_part result.0 padding ++ used_block name size ∷ free_part result.1 left) (class_lists NI.MAX tables.old.links) }
+    ensures blocks { blocks tables.new.room last.new ≡ in_parts name padding size result.0 result.1 (blocks tables.old.room last.old) }
+    ensures lists { class_lists NI.MAX tables.new.links ≡ push_all (free_part result.0 padding ++ used_block name size ∷ free_part result.1 left) (class_lists NI.MAX tables.old.links) }
     ensures limit { length tables.new.room.nodes ≡ length tables.old.room.nodes }
-    ensures front { 0 < padding → (named result.0 (blocks tables.old.room last.old) ≡ 0) × (result.0 < length tables.old.room.nodes) }
-    ensures rest { 0 < left → (named result.1 (blocks tables.old.room last.old) ≡ 0) × (result.1 < length tables.old.room.nodes) }
+    ensures front { 0 < padding → (count_named result.0 (blocks tables.old.room last.old) ≡ 0) × (result.0 < length tables.old.room.nodes) }
+    ensures rest { 0 < left → (count_named result.1 (blocks tables.old.room last.old) ≡ 0) × (result.1 < length tables.old.room.nodes) }
     ensures apart { 0 < padding → 0 < left → result.0 ≢ result.1 }
     ensures grows { count.old + 1 ≤ count.new }
     ensures count { count.new ≤ count.old + 35 }
 {
-    let front = cut_front(tables, top_mask, spare_count, name, padding, count);
+    let front = split_padding(tables, top_mask, spare_count, name, padding, count);
     chain::mark(tables, name, true, count);
-    let rest = cut_rest(tables, top_mask, last, spare_count, name, size, left, count);
+    let rest = split_remainder(tables, top_mask, last, spare_count, name, size, left, count);
     (front, rest)
 }

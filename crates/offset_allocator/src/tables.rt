@@ -11,7 +11,7 @@ use std::alloc::{AllocError, Global};
 use std::marker::Model;
 
 /// A block's offset and size, the links to its neighbours in space, and the links to the next nodes of its size class.
-/// A link is the number of a node, or the greatest number of its type, which names none.
+/// A link is the number of a node, or the largest number of its type, which names none.
 #[derive(Clone, Copy)]
 struct Node<NI> {
     offset: u32,
@@ -23,7 +23,7 @@ struct Node<NI> {
 }
 
 /// The nodes, whether each is used, the newest node of each size class, the masks of the classes, and the stack of
-/// spare names.
+/// unused names.
 #[derive(Drop)]
 pub(crate) struct Tables<NI: NodeIndex> {
     nodes: Vec<Node<NI>>,
@@ -45,7 +45,7 @@ impl<NI: NodeIndex> Model for Tables<NI> {
     ghost invariant = { λ t. AreEven NI.MAX t };
 }
 
-// Asks for the bytes of all tables at once, and gives them back. A system that promises more memory than it has would
+// Requests the bytes of all tables at once, and returns them. A system that promises more memory than it has would
 // grant each table, and end the program when they are filled; this one request it refuses. A link is taken to have
 // the bytes that its numbers need, as those of `u16` and `u32` have.
 fn probe<NI: NodeIndex>(alloc: Global, nodes: u32) -> Result<(), AllocError> {
@@ -166,7 +166,7 @@ impl<NI: NodeIndex> Tables<NI> {
         })
     }
 
-    /// Makes all nodes unused and all classes empty, and puts all names on the spare stack. The other fields of a node
+    /// Makes all nodes unused and all classes empty, and puts all names on the stack of unused ones. The other fields of a node
     /// stay: they are written before they are read.
     pub(crate) fn clear(&mut self)
         ensures { AreEmpty NI.MAX (length self.old.room.nodes) self.new }
@@ -285,7 +285,7 @@ impl<NI: NodeIndex> Tables<NI> {
         self.nodes[name as usize].after = link;
     }
 
-    /// An entry of the stack of spare names.
+    /// An entry of the stack of unused names.
     pub(crate) fn spare(&self, place: u32, count: &mut Accesses) -> NI
         requires { place < length self.now.room.spare }
         ensures cell { NI.number result ≡ slice_index self.now.room.spare place }
@@ -295,7 +295,7 @@ impl<NI: NodeIndex> Tables<NI> {
         self.spare[place as usize]
     }
 
-    /// Writes an entry of the stack of spare names.
+    /// Writes an entry of the stack of unused names.
     pub(crate) fn set_spare(&mut self, place: u32, name: NI, count: &mut Accesses)
         requires { place < length self.old.room.spare }
         ensures cells { self.new ≡ record self.old { room = with_spare self.old.room place (NI.number name) } }
@@ -365,7 +365,7 @@ impl<NI: NodeIndex> Tables<NI> {
         self.heads[class as usize] = link;
     }
 
-    /// A word of the masks: bit `c % 64` of word `c / 64` tells whether class c has a node.
+    /// A word of the masks: bit `c % 64` of word `c / 64` says whether class c has a node.
     pub(crate) fn mask(&self, word: u32, count: &mut Accesses) -> u64
         requires { word < 4 }
         ensures cell { result ≡ slice_index self.now.links.masks word }

@@ -1,4 +1,4 @@
-//! The program, run on a script whose last line asks for an alignment that is no power of two.
+//! The program, run on a script whose last line has an alignment that is no power of two.
 #![tactic(auto)]
 
 use offset_script::{FromRead, IntoWrite, run_program};

@@ -1,4 +1,4 @@
-//! The program, run on a script whose header names an index width of 8.
+//! The program, run on a script whose header has an index width of 8.
 #![tactic(auto)]
 
 use offset_script::{FromRead, IntoWrite, run_program};

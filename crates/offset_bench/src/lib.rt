@@ -1,11 +1,12 @@
-//! Whole runs over one allocator, each behind one C call, so that programs in other languages can measure them.
-//! `bench/` does. The calls promise nothing of their own: what they call is proved.
+//! Whole runs over one allocator, each a single C call, which `bench/` measures from Rust. These functions have no
+//! contracts; those that they call are proved.
 #![tactic(auto)]
 
 use offset_allocator::{Allocation, Allocator, NodeIndex};
 use std::alloc::{AllocError, Global};
 
-/// One step of a run: a request of this size where the slot is empty, else the release of its grant.
+/// One step of a run: a request of this size where the slot is empty, else the release of its grant. A step past the
+/// last slot resets the space.
 #[repr(C)]
 #[derive(Clone, Copy)]
 pub struct Step {
@@ -13,7 +14,7 @@ pub struct Step {
     pub size: u32,
 }
 
-// Takes a step. It answers the offset of a grant, and numbers that are no offset for a refusal and a release.
+// Takes a step. It returns the offset of a grant, 2^32 for a refusal, and 2^33 for a release.
 fn take<NI: NodeIndex>(
     space: &mut Allocator<NI>,
     slot: &mut Option<Allocation<NI>>,
@@ -37,7 +38,7 @@ fn take<NI: NodeIndex>(
     }
 }
 
-// A checksum of the answers to the steps.
+// Plays the steps on a new allocator, and returns a checksum of their results.
 fn play<NI: NodeIndex>(
     alloc: Global,
     size: u32,
@@ -52,33 +53,28 @@ fn play<NI: NodeIndex>(
     let mut slots: Vec<Option<Allocation<NI>>> = Vec::from_elem(alloc, None, slots)?;
     let mut sum = 0u64;
     for step in steps {
-        if let Some(slot) = slots.get_mut(step.slot as usize) {
-            sum = sum
-                .wrapping_mul(31)
-                .wrapping_add(take(&mut space, slot, step.size));
+        match slots.get_mut(step.slot as usize) {
+            None => space.reset(),
+            Some(slot) => {
+                sum = sum
+                    .wrapping_mul(31)
+                    .wrapping_add(take(&mut space, slot, step.size))
+            }
         }
     }
     Ok(sum)
 }
 
-// Makes an allocator, resets it so many times, and answers what is free then.
-fn renew<NI: NodeIndex>(
-    alloc: Global,
-    size: u32,
-    max_allocs: u32,
-    resets: u32,
-) -> Result<u64, AllocError> {
+// Makes an allocator, and returns what is free then.
+fn make<NI: NodeIndex>(alloc: Global, size: u32, max_allocs: u32) -> Result<u64, AllocError> {
     if max_allocs < 2 || max_allocs >= NI::MAX - 1 {
         return Ok(0);
     }
-    let mut space: Allocator<NI> = Allocator::with_max_allocs(alloc, size, max_allocs)?;
-    for _ in 0..resets {
-        space.reset();
-    }
+    let space: Allocator<NI> = Allocator::with_max_allocs(alloc, size, max_allocs)?;
     Ok(u64::from(space.storage_report().total_free_space))
 }
 
-/// The checksum of the steps, with names of 32 bits. It is 0 where memory is refused.
+/// Plays the steps with node indices of 32 bits. It returns the checksum, or 0 where an allocation fails.
 #[unsafe(no_mangle)]
 pub extern "C" fn offset_play_32(
     alloc: Global,
@@ -90,7 +86,7 @@ pub extern "C" fn offset_play_32(
     play::<u32>(alloc, size, max_allocs, slots, steps).unwrap_or(0)
 }
 
-/// The checksum of the steps, with names of 16 bits. It is 0 where memory is refused.
+/// Plays the steps with node indices of 16 bits. It returns the checksum, or 0 where an allocation fails.
 #[unsafe(no_mangle)]
 pub extern "C" fn offset_play_16(
     alloc: Global,
@@ -102,14 +98,14 @@ pub extern "C" fn offset_play_16(
     play::<u16>(alloc, size, max_allocs, slots, steps).unwrap_or(0)
 }
 
-/// The free units after so many resets, with names of 32 bits. It is 0 where memory is refused.
+/// The free units of a new space, with names of 32 bits. It is 0 where an allocation fails.
 #[unsafe(no_mangle)]
-pub extern "C" fn offset_renew_32(alloc: Global, size: u32, max_allocs: u32, resets: u32) -> u64 {
-    renew::<u32>(alloc, size, max_allocs, resets).unwrap_or(0)
+pub extern "C" fn offset_make_32(alloc: Global, size: u32, max_allocs: u32) -> u64 {
+    make::<u32>(alloc, size, max_allocs).unwrap_or(0)
 }
 
-/// The free units after so many resets, with names of 16 bits. It is 0 where memory is refused.
+/// The free units of a new space, with names of 16 bits. It is 0 where an allocation fails.
 #[unsafe(no_mangle)]
-pub extern "C" fn offset_renew_16(alloc: Global, size: u32, max_allocs: u32, resets: u32) -> u64 {
-    renew::<u16>(alloc, size, max_allocs, resets).unwrap_or(0)
+pub extern "C" fn offset_make_16(alloc: Global, size: u32, max_allocs: u32) -> u64 {
+    make::<u16>(alloc, size, max_allocs).unwrap_or(0)
 }

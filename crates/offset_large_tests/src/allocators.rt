@@ -1,4 +1,4 @@
-//! Great spaces, and great limits.
+//! Large spaces, and large limits.
 
 use offset_allocator::{Allocation, Allocator, NodeIndex};
 use offset_test_base::tiny::Tiny;
@@ -6,7 +6,7 @@ use std::alloc::Global;
 use std::process::Abort;
 use std::test::Fail;
 
-// Sizes of spaces, with the greatest class value that is no larger.
+// Sizes of spaces, each with the largest class value that is no larger.
 const SIZES: [(u32, u32); 6] = [
     (1_073_741_823, 1_006_632_960),
     (1_073_741_824, 1_073_741_824),
@@ -32,7 +32,7 @@ fn expect_space<NI: NodeIndex>(
 }
 
 #[test]
-fn makes_great_spaces(rt: HostRuntime) -> Result<(), Fail> {
+fn makes_large_spaces(rt: HostRuntime) -> Result<(), Fail> {
     for (size, largest) in SIZES {
         expect_space(&rt, Allocator::<u32>::new(rt.alloc(), size)?, size, largest);
         expect_space(&rt, Allocator::<u16>::new(rt.alloc(), size)?, size, largest);
@@ -66,7 +66,7 @@ fn take_units<NI: NodeIndex>(
     Ok(handles)
 }
 
-fn give_back<NI: NodeIndex>(
+fn free_all<NI: NodeIndex>(
     rt: &impl Abort,
     allocator: &mut Allocator<NI>,
     handles: &[Allocation<NI>],
@@ -79,7 +79,7 @@ fn give_back<NI: NodeIndex>(
     }
 }
 
-// As many grants are live as the limit admits, beside one free block, and one request more is refused.
+// Grants as many units as the limit admits; one more request is refused.
 fn expect_full<NI: NodeIndex>(
     rt: &impl Abort,
     alloc: Global,
@@ -97,12 +97,12 @@ fn expect_free<NI: NodeIndex>(rt: &impl Abort, allocator: &Allocator<NI>) {
     assert_eq!(rt; report.largest_free_region, 4_026_531_840);
 }
 
-// All grants are released one by one, and then by a reset.
+// Fills a space up to its limit twice, and frees it one by one and by a reset.
 fn expect_limit<NI: NodeIndex>(rt: &impl Abort, alloc: Global, limit: u32) -> Result<(), Fail> {
     assert!(rt; 2 <= limit && limit < NI::MAX - 1);
     let mut allocator = Allocator::<NI>::with_max_allocs(alloc, 4_294_967_295, limit)?;
     let handles = expect_full(rt, alloc, &mut allocator, limit)?;
-    give_back(rt, &mut allocator, &handles);
+    free_all(rt, &mut allocator, &handles);
     expect_free(rt, &allocator);
     let _handles = expect_full(rt, alloc, &mut allocator, limit)?;
     allocator.reset();
@@ -111,13 +111,13 @@ fn expect_limit<NI: NodeIndex>(rt: &impl Abort, alloc: Global, limit: u32) -> Re
 }
 
 #[test]
-fn grants_as_many_as_a_great_limit_admits(rt: HostRuntime) -> Result<(), Fail> {
+fn grants_as_many_as_a_large_limit_admits(rt: HostRuntime) -> Result<(), Fail> {
     expect_limit::<u16>(&rt, rt.alloc(), 65_533)?;
     expect_limit::<u32>(&rt, rt.alloc(), 131_073)?;
     expect_limit::<u32>(&rt, rt.alloc(), 300_000)
 }
 
-// Without a limit of its own, a space has 131,072 nodes, or as many as the narrow index type admits.
+// By `new` a space has 131,072 nodes, or as many as the narrow index type admits.
 #[test]
 fn grants_as_many_as_the_limit_of_new_admits(rt: HostRuntime) -> Result<(), Fail> {
     let mut wide = Allocator::<u32>::new(rt.alloc(), 4_294_967_295)?;

@@ -5,12 +5,12 @@ use offset_test_base::groups::value_of;
 use std::alloc::{AllocError, Global};
 use std::test::Fail;
 
-// The classes of which a block becomes free.
+// The classes of the blocks that are freed.
 const FIRST: usize = 1;
 
 const LAST: usize = 200;
 
-// The sum of their blocks, and of one unit after each, which stays used.
+// The size of all these blocks, each followed by one unit that stays used.
 fn size() -> u64 {
     let mut size = 0u64;
     for class in FIRST..LAST + 1 {
@@ -19,7 +19,7 @@ fn size() -> u64 {
     size
 }
 
-// Until the last one, 399 blocks are used and one is free: a limit of 402 admits one more.
+// Before the last request 399 blocks are used and one is free: a limit of 402 admits one more.
 fn put_script(text: &mut String, bits: u32) -> Result<(), AllocError> {
     let size = size();
     writeln!(text, "space {size} nodes 402 index {bits}")?;

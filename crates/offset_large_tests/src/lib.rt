@@ -1,4 +1,4 @@
-//! Tests of large inputs: what is merely large is answered as ever, and is not out of memory.
+//! Tests of large inputs: their results are as those of small ones, and not out of memory.
 #![tactic(auto)]
 
 #[cfg(test)]

@@ -9,9 +9,9 @@ const HEADER: &str = "space 10 nodes 4 index 32";
 
 const LENGTHS: [u32; 4] = [101, 1_000, 70_000, 1_000_000];
 
-// A line that goes on with one byte.
-fn long_line(alloc: Global, front: &str, byte: &str, length: u32) -> Result<String, AllocError> {
-    let mut line = String::from_str(alloc, front)?;
+// A line of this start, and then this byte, again and again.
+fn long_line(alloc: Global, start: &str, byte: &str, length: u32) -> Result<String, AllocError> {
+    let mut line = String::from_str(alloc, start)?;
     put_lines(&mut line, byte, length)?;
     line.push('\n')?;
     Ok(line)
@@ -31,9 +31,9 @@ fn skips_long_comments(rt: HostRuntime) -> Result<(), Fail> {
 #[test]
 fn refuses_long_headers(rt: HostRuntime) -> Result<(), Fail> {
     for length in LENGTHS {
-        for (front, byte) in [(HEADER, " "), (HEADER, "2"), ("space ", "0"), ("x", "x")] {
+        for (start, byte) in [(HEADER, " "), (HEADER, "2"), ("space ", "0"), ("x", "x")] {
             let mut text = String::from_str(rt.alloc(), "# c\n\n")?;
-            let line = long_line(rt.alloc(), front, byte, length)?;
+            let line = long_line(rt.alloc(), start, byte, length)?;
             put_lines(&mut text, &line, 1)?;
             let fault = RunFault::Script(ScriptFault::BadHeader(3));
             expect_fault(&rt, rt.alloc(), &text, fault);
@@ -45,7 +45,7 @@ fn refuses_long_headers(rt: HostRuntime) -> Result<(), Fail> {
 #[test]
 fn refuses_long_commands(rt: HostRuntime) -> Result<(), Fail> {
     for length in LENGTHS {
-        for (front, byte) in [
+        for (start, byte) in [
             ("alloc 1", " "),
             ("alloc ", "0"),
             ("align 1 ", "1"),
@@ -53,7 +53,7 @@ fn refuses_long_commands(rt: HostRuntime) -> Result<(), Fail> {
         ] {
             let mut text = String::from_str(rt.alloc(), HEADER)?;
             put_lines(&mut text, "\nalloc 1\n\n", 1)?;
-            let line = long_line(rt.alloc(), front, byte, length)?;
+            let line = long_line(rt.alloc(), start, byte, length)?;
             put_lines(&mut text, &line, 1)?;
             let fault = RunFault::Script(ScriptFault::BadCommand(4));
             expect_fault(&rt, rt.alloc(), &text, fault);
@@ -76,7 +76,7 @@ fn skips_many_lines(rt: HostRuntime) -> Result<(), Fail> {
 // Faults that come after 500,000 empty lines.
 #[test]
 fn counts_many_lines(rt: HostRuntime) -> Result<(), Fail> {
-    for (front, end, fault) in [
+    for (start, end, fault) in [
         ("", "", ScriptFault::BadHeader(500_001)),
         ("", "x", ScriptFault::BadHeader(500_001)),
         (
@@ -90,7 +90,7 @@ fn counts_many_lines(rt: HostRuntime) -> Result<(), Fail> {
             ScriptFault::BadCommand(500_001),
         ),
     ] {
-        let mut text = String::from_str(rt.alloc(), front)?;
+        let mut text = String::from_str(rt.alloc(), start)?;
         put_lines(&mut text, "\n", 500_000)?;
         put_lines(&mut text, end, 1)?;
         expect_fault(&rt, rt.alloc(), &text, RunFault::Script(fault));

@@ -4,7 +4,7 @@ use crate::texts::{Bytes, expect_answers, expect_answers_of, expect_fault, put_l
 use offset_script::{RunFault, ScriptFault};
 use std::test::Fail;
 
-// With its LF 39 bytes.
+// 39 bytes, with its LF.
 const HEADER: &str = "space 4294967295 nodes 300000 index 32\n";
 
 // 39 bytes of header, 131,067 lines of 8 bytes, and one empty line are 1,048,576 bytes.
@@ -27,7 +27,7 @@ fn plays_the_longest_script(rt: HostRuntime) -> Result<(), Fail> {
     Ok(())
 }
 
-// Grants 65,536 and 65,537 are neighbours, from 65,535 on. What is left of the space is of the class of 4,026,531,840.
+// Grants 65,536 and 65,537 are neighbours, from 65,535 on. The remainder of the space is of the class of 4,026,531,840.
 const LATE: &str =
     "size 70000\nfree 65537\nfree 65536\nfree 65537\nsize 65536\nreport\nfull\nalloc 2\nreset\nfree 70001\nalloc 1\n";
 
@@ -35,7 +35,7 @@ const LATE_ANSWERS: &str =
     "size 1\nfreed\nfreed\ngone\ngone\nfree 4294897297 largest 4026531840\nfull 2\nclass 2 size 2 count 1\nclass 239 size 4026531840 count 1\ngrant 70001 at 65535\nreset\ngone\ngrant 70002 at 0\n";
 
 #[test]
-fn plays_with_great_numbers(rt: HostRuntime) -> Result<(), Fail> {
+fn plays_with_large_numbers(rt: HostRuntime) -> Result<(), Fail> {
     let mut text = String::from_str(rt.alloc(), HEADER)?;
     put_lines(&mut text, "alloc 1\n", 70_000)?;
     put_lines(&mut text, LATE, 1)?;
@@ -46,7 +46,7 @@ fn plays_with_great_numbers(rt: HostRuntime) -> Result<(), Fail> {
     Ok(())
 }
 
-// Every second one of 60,000 units is free, and a rest of 40,000 units, which is of the class of 36,864.
+// Every second one of 60,000 units is free, and a remainder of 40,000 units, which is of the class of 36,864.
 #[test]
 fn counts_many_free_blocks(rt: HostRuntime) -> Result<(), Fail> {
     for bits in [16u32, 32] {
@@ -71,7 +71,7 @@ fn counts_many_free_blocks(rt: HostRuntime) -> Result<(), Fail> {
     Ok(())
 }
 
-// Each round ends in a fresh space, but for the numbers of the grants.
+// Each round ends in a fresh space, except that grant numbers go on.
 #[test]
 fn plays_many_commands_of_each_kind(rt: HostRuntime) -> Result<(), Fail> {
     let mut text = String::from_str(rt.alloc(), "space 100 nodes 8 index 16\n")?;

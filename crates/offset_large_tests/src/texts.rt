@@ -1,4 +1,4 @@
-//! Long texts, and what a run writes for them.
+//! Long texts, and what runs of them write.
 
 use offset_script::{FromRead, IntoWrite, RunFault, run};
 use std::alloc::{AllocError, Global};
@@ -15,14 +15,14 @@ pub struct Bytes<'a> {
 impl<'a> Read for Bytes<'a> {
     fn read(&mut self, buf: &mut [u8]) -> io::Result<usize> {
         let n = buf.len().min(self.text.len()).min(1);
-        let (taken, rest) = self.text.split_at(n);
+        let (taken, left) = self.text.split_at(n);
         buf[..n].copy_from_slice(taken);
-        self.text = rest;
+        self.text = left;
         Ok(n)
     }
 }
 
-/// Appends a line as often as this.
+/// Appends a line this many times.
 pub fn put_lines(text: &mut String, line: &str, times: u32) -> Result<(), AllocError> {
     for _ in 0..times {
         text.push_str(line)?;
@@ -30,7 +30,7 @@ pub fn put_lines(text: &mut String, line: &str, times: u32) -> Result<(), AllocE
     Ok(())
 }
 
-/// Appends the answers to requests of 1 unit each in a fresh space: each takes the next unit.
+/// Appends the answers to requests of one unit each in a fresh space: each takes the next unit.
 pub fn put_units(answers: &mut String, grants: u32) -> Result<(), AllocError> {
     for offset in 0..grants {
         let number = u64::from(offset) + 1;
@@ -39,12 +39,12 @@ pub fn put_units(answers: &mut String, grants: u32) -> Result<(), AllocError> {
     Ok(())
 }
 
-/// A run of the text ends well, and writes this.
+/// A run of the text succeeds, and writes this.
 pub fn expect_answers(rt: &impl Abort, alloc: Global, text: &str, wanted: &str) {
     expect_answers_of(rt, alloc, text.as_bytes(), wanted);
 }
 
-/// A run of what a reader gives ends well, and writes this.
+/// A run of the reader's text succeeds, and writes this.
 pub fn expect_answers_of<R: Read + Drop>(rt: &impl Abort, alloc: Global, text: R, wanted: &str) {
     let mut output = IntoWrite::new(Vec::new(alloc));
     let result = run(alloc, &mut FromRead::new(text), &mut output);

@@ -1,15 +1,15 @@
--- A script gone over from its last command to its first.
+-- Going over a script from its last command to its first.
 use Rattle.std.proofs.Common.{◌≡◌, ℕ, zero, suc, ◌+◌, ◌<◌, ◌≤◌, Bool, true, false, List, [], ◌∷◌, ◌++◌, length, map, reverse, drop, get_or, cond, Option, Some, None, option_map, option_to_list, if◌then◌else◌, refl, sym, ap, ap₂, subst, ◌∙◌, arith, Result, Ok, Err, IfOk, Vec}
 use Rattle.std.proofs.lemmas.List.{drop_more, get_or-map, length-map, reverse-append, reverse-reverse}
 use Rattle.std.specs.List.{prefix_len}
 use Rattle.offset_script.specs.declared.scripts.Command.{Command}
 use Rattle.offset_script.specs.declared.answers.Answer as program
-use Rattle.offset_script.specs.Answers.{seen}
+use Rattle.offset_script.specs.Answers.{answer_view}
 use Rattle.offset_script.specs.Machine.{State, Answer, start, step, answers}
 use Rattle.offset_script.specs.Machine as machine
 use Rattle.offset_script.proofs.Well.{Well, well_step}
 use Rattle.offset_lives.specs.declared.living.Life as found
-use Rattle.offset_lives.specs.Lives.{Life, leaves, begun, end_from, lives_from, lives_of, life_seen}
+use Rattle.offset_lives.specs.Lives.{Life, leaves, life_of_answer, end_from, lives_from, lives_of, life_view}
 use Rattle.offset_lives.proofs.Seen.{grants_of, call_counts, call_grants}
 
 -- an answer for each command
@@ -43,35 +43,35 @@ end_back cs i j c k e d = ap (λ l. end_from j l k) d ∙ either (leaves k c)
     either true = omega (arith, e)
     either false = omega arith
 
-pub same_begun : (j : ℕ) (c : Command) (a : Answer) (f g : ℕ → ℕ) → ((k offset : ℕ) → a ≡ machine.Grant k offset → f k ≡ g k) → begun j c a f ≡ begun j c a g
-same_begun j c (machine.Grant k offset) f g h = rw (h k offset refl) refl
-same_begun j c machine.Refused f g h = refl
-same_begun j c machine.Freed f g h = refl
-same_begun j c machine.Gone f g h = refl
-same_begun j c (machine.Size n) f g h = refl
-same_begun j c (machine.Report free largest) f g h = refl
-same_begun j c (machine.Full rows) f g h = refl
-same_begun j c machine.Reset f g h = refl
-same_begun j c machine.Extended f g h = refl
+pub same_answer : (j : ℕ) (c : Command) (a : Answer) (f g : ℕ → ℕ) → ((k offset : ℕ) → a ≡ machine.Grant k offset → f k ≡ g k) → life_of_answer j c a f ≡ life_of_answer j c a g
+same_answer j c (machine.Grant k offset) f g h = rw (h k offset refl) refl
+same_answer j c machine.Refused f g h = refl
+same_answer j c machine.Freed f g h = refl
+same_answer j c machine.Gone f g h = refl
+same_answer j c (machine.Size n) f g h = refl
+same_answer j c (machine.Report free largest) f g h = refl
+same_answer j c (machine.Full rows) f g h = refl
+same_answer j c machine.Reset f g h = refl
+same_answer j c machine.Extended f g h = refl
 
-map_optional : (o : Option found.Life) (xs : List found.Life) → map life_seen (option_to_list o ++ xs) ≡ option_to_list (option_map life_seen o) ++ map life_seen xs
+map_optional : (o : Option found.Life) (xs : List found.Life) → map life_view (option_to_list o ++ xs) ≡ option_to_list (option_map life_view o) ++ map life_view xs
 map_optional None xs = refl
 map_optional (Some x) xs = refl
 
 pub lives_back : (cs : List Command) (given : List Answer) (i j : ℕ) (c : Command) (a : Answer) (back new : List found.Life) (o : Option found.Life) (end : ℕ → ℕ) → i ≡ j + 1
     → drop j cs ≡ c ∷ drop i cs → drop j given ≡ a ∷ drop i given → ((k offset : ℕ) → a ≡ machine.Grant k offset → end k ≡ end_from i (drop i cs) k)
-    → option_to_list (option_map life_seen o) ≡ begun j c a end → reverse new ≡ option_to_list o ++ reverse back
-    → map life_seen (reverse back) ≡ lives_from i (drop i cs) (drop i given) → map life_seen (reverse new) ≡ lives_from j (drop j cs) (drop j given)
+    → option_to_list (option_map life_view o) ≡ life_of_answer j c a end → reverse new ≡ option_to_list o ++ reverse back
+    → map life_view (reverse back) ≡ lives_from i (drop i cs) (drop i given) → map life_view (reverse new) ≡ lives_from j (drop j cs) (drop j given)
 lives_back cs given i j c a back new o end e d b same is grown before =
-    ap (map life_seen) grown ∙ map_optional o (reverse back)
-    ∙ ap₂ (λ xs ys. xs ++ ys) (is ∙ same_begun j c a end (end_from i (drop i cs)) same ∙ ap (λ n. begun j c a (end_from n (drop i cs))) e) (before ∙ ap (λ n. lives_from n (drop i cs) (drop i given)) e)
+    ap (map life_view) grown ∙ map_optional o (reverse back)
+    ∙ ap₂ (λ xs ys. xs ++ ys) (is ∙ same_answer j c a end (end_from i (drop i cs)) same ∙ ap (λ n. life_of_answer j c a (end_from n (drop i cs))) e) (before ∙ ap (λ n. lives_from n (drop i cs) (drop i given)) e)
     ∙ sym (ap₂ (lives_from j) d b)
 
--- an answer found, as the plain machine gives it
-pub seen_at : (cs : List Command) (s : State) (all : List program.Answer) (j : ℕ) (x : program.Answer) → map seen all ≡ answers cs s → j < length cs → x ≡ get_or all j x → get_or (answers cs s) j (seen x) ≡ seen x
+-- an answer found, as the plain machine returns it
+pub seen_at : (cs : List Command) (s : State) (all : List program.Answer) (j : ℕ) (x : program.Answer) → map answer_view all ≡ answers cs s → j < length cs → x ≡ get_or all j x → get_or (answers cs s) j (answer_view x) ≡ answer_view x
 seen_at cs s all j x played h e =
     let n = answers_count cs s in
-    ap (λ l. get_or l j (seen x)) (sym played) ∙ get_or-map seen all j x (seen x) (omega (arith, ap length played, length-map all seen)) ∙ ap seen (sym e)
+    ap (λ l. get_or l j (answer_view x)) (sym played) ∙ get_or-map answer_view all j x (answer_view x) (omega (arith, ap length played, length-map all answer_view)) ∙ ap answer_view (sym e)
 
 -- what is left from a command on
 pub left_at : {X : Type 0} (xs : List X) (i j : ℕ) (x : X) → i ≡ j + 1 → j < length xs → get_or xs j x ≡ x → drop j xs ≡ x ∷ drop i xs
@@ -87,15 +87,15 @@ pub none_is : (o : Option found.Life) → ((x : found.Life) → o ≡ Some x →
 none_is None h = refl
 none_is (Some x) h = absurd (h x refl)
 
--- where nothing is left, these are all lives, in order
+-- once no command is left, these are all lives, in order
 pub all_lives : {Z E : Type 0} (cs : List Command) (i : ℕ) (back : List found.Life) (given : List Answer) (size limit : ℕ) (r : Result (Vec found.Life Z) E) → i ≡ 0 → given ≡ answers cs (start size limit)
-    → map life_seen (reverse back) ≡ lives_from i (drop i cs) (drop i given) → IfOk r (λ v. reverse v.items ≡ back) → IfOk r (λ v. map life_seen v.items ≡ lives_of size limit cs)
+    → map life_view (reverse back) ≡ lives_from i (drop i cs) (drop i given) → IfOk r (λ v. reverse v.items ≡ back) → IfOk r (λ v. map life_view v.items ≡ lives_of size limit cs)
 all_lives cs i back given size limit (Err e) z played lives h = tt
 all_lives cs i back given size limit (Ok v) z played lives h =
-    ap (map life_seen) (sym (reverse-reverse v.items) ∙ ap reverse h) ∙ lives
+    ap (map life_view) (sym (reverse-reverse v.items) ∙ ap reverse h) ∙ lives
     ∙ ap (λ n. lives_from n (drop n cs) (drop n given)) z ∙ ap (lives_from 0 cs) played
 
 -- what holds of all lives holds of those that were found
-pub each_result : {Z E : Type 0} (P : List Life → Type 0) (r : Result (Vec found.Life Z) E) (ls : List Life) → IfOk r (λ v. map life_seen v.items ≡ ls) → P ls → IfOk r (λ v. P (map life_seen v.items))
+pub each_result : {Z E : Type 0} (P : List Life → Type 0) (r : Result (Vec found.Life Z) E) (ls : List Life) → IfOk r (λ v. map life_view v.items ≡ ls) → P ls → IfOk r (λ v. P (map life_view v.items))
 each_result P (Err e) ls h p = tt
 each_result P (Ok v) ls h p = subst P (sym h) p

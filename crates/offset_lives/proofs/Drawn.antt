@@ -7,8 +7,7 @@ use Rattle.offset_script.specs.declared.faults.ScriptFault.TheVariants as script
 use Rattle.offset_script.specs.declared.faults.RunFault.{RunFault}
 use Rattle.offset_script.specs.declared.faults.RunFault.TheVariants as faults
 use Rattle.offset_script.specs.declared.scripts.Script.{Script}
-use Rattle.offset_script.specs.Grammar.{view}
-use Rattle.offset_script.specs.Running.{ScriptOf, Sends, is_write_fault}
+use Rattle.offset_script.specs.Running.{view, ScriptOf, Sends, is_write_fault}
 use Rattle.offset_lives.specs.Drawing.{DrawOf, IsPicture}
 
 -- a drawing that ends with its reading
@@ -27,6 +26,6 @@ pub all_drawn : (sent : List ℕ) (script : Script) (from left old new : Option 
 all_drawn sent script None left old new h whole sends = tt
 all_drawn sent script (Some text) left old new h whole sends = (h.0, record { plan = view script; picture = sent; means = h.1; whole = whole; writes = sends })
 
-pub front_drawn : (sent : List ℕ) (script : Script) (from left old new : Option (List ℕ)) → IfSome from (λ text. ScriptOf (Ok script) text left) → IsPicture sent → Sends false sent old new → IfSome from (λ text. DrawOf (Err faults.Write) text left old new)
-front_drawn sent script None left old new h whole sends = tt
-front_drawn sent script (Some text) left old new h whole sends = (h.0, record { plan = view script; front = sends.0; back = sends.1; means = h.1; whole = (whole.0, sym sends.2 ∙ whole.1); writes = sends.3 })
+pub prefix_drawn : (sent : List ℕ) (script : Script) (from left old new : Option (List ℕ)) → IfSome from (λ text. ScriptOf (Ok script) text left) → IsPicture sent → Sends false sent old new → IfSome from (λ text. DrawOf (Err faults.Write) text left old new)
+prefix_drawn sent script None left old new h whole sends = tt
+prefix_drawn sent script (Some text) left old new h whole sends = (h.0, record { plan = view script; front = sends.0; back = sends.1; means = h.1; whole = (whole.0, sym sends.2 ∙ whole.1); writes = sends.3 })

@@ -1,12 +1,12 @@
 -- What a call does to the range of a grant.
 use Rattle.std.proofs.Common.{◌≡◌, ◌≢◌, ℕ, zero, suc, ◌+◌, ◌-◌, ◌≤◌, Bool, true, false, List, [], ◌∷◌, ◌++◌, Option, Some, None, nat_eq, if◌then◌else◌, refl, sym, ap, ◌∙◌, inl, inr, arith, ne_eqb, eq-eqb}
 use Rattle.std.proofs.lemmas.Bool.{cases_eq, true≢false, false≢true}
-use Rattle.offset_script.specs.Blocks.{Tag, Live, Free, Block, block, is_free, has_number, total, Place, place_of, free_block, free_start, without_start, free_end, without_end, joined}
+use Rattle.offset_script.specs.Machine.{Tag, Live, Free, Block, block, is_free, has_number, total, Place, place_of, free_block, free_start, without_start, free_end, without_end, coalesce}
 use Rattle.offset_script.proofs.Well.{count, hit, one, whole, found_at, count-append, number_hit, granted_blocks}
 use Rattle.offset_script.proofs.Totals.{total_end}
 use Rattle.offset_lives.specs.Lives.{range_of}
 
--- the first of two that is there
+-- the first of two options that is not `None`
 abbrev pub either_of : Option (ℕ × ℕ) → Option (ℕ × ℕ) → Option (ℕ × ℕ)
 either_of None y = y
 either_of (Some r) y = Some r
@@ -25,7 +25,7 @@ range-append k offset (b ∷ xs) ys =
 at_start : (k : ℕ) (xs ys : List Block) → range_of k 0 (xs ++ ys) ≡ either_of (range_of k 0 xs) (range_of k (total xs) ys)
 at_start k xs ys = range-append k 0 xs ys ∙ ap (λ o. either_of (range_of k 0 xs) (range_of k o ys)) (omega arith)
 
--- a free block is nobody's
+-- a free block belongs to no grant
 free_number : (k : ℕ) (t : Tag) → is_free t ≡ true → has_number k t ≡ false
 free_number k (Live j) e = absurd (false≢true e)
 free_number k (Free s) e = refl
@@ -54,7 +54,7 @@ range_none k offset (b ∷ bs) h = past k offset b bs (no_hit (has_number k b.ta
     no_hit true e z = absurd (omega arith)
     no_hit false e z = refl
 
--- what is coalesced was nobody's
+-- blocks that coalesce belonged to no grant
 range_without_start : (k offset : ℕ) (bs : List Block) → range_of k (offset + free_start bs) (without_start bs) ≡ range_of k offset bs
 range_without_start k offset [] = refl
 range_without_start k offset (b ∷ bs) = either (is_free b.tag) refl
@@ -72,8 +72,8 @@ range_without_end k offset (b ∷ []) = either (is_free b.tag) refl
     either false e = refl
 range_without_end k offset (b ∷ c ∷ bs) = ap (λ r. if has_number k b.tag then Some (offset, b.size) else r) (range_without_end k (offset + b.size) (c ∷ bs))
 
-pub range_joined : (k : ℕ) (xs : List Block) (n s : ℕ) (ys : List Block) → range_of k 0 (joined xs n s ys) ≡ either_of (range_of k 0 xs) (range_of k (total xs + n) ys)
-range_joined k xs n s ys =
+pub range_coalesce : (k : ℕ) (xs : List Block) (n s : ℕ) (ys : List Block) → range_of k 0 (coalesce xs n s ys) ≡ either_of (range_of k 0 xs) (range_of k (total xs + n) ys)
+range_coalesce k xs n s ys =
     let l = total_end xs in
     at_start k (without_end xs) (block (free_end xs + n + free_start ys) (Free s) ∷ without_start ys)
     ∙ ap (λ r. either_of r (range_of k (total (without_end xs) + (free_end xs + n + free_start ys)) (without_start ys))) (range_without_end k 0 xs)
@@ -81,23 +81,23 @@ range_joined k xs n s ys =
     ∙ ap (either_of (range_of k 0 xs)) (range_without_start k (total xs + n) ys)
 
 -- a release leaves the other ranges
-pub range_released : (k j n s : ℕ) (bs : List Block) (p : Place) → place_of j bs ≡ Some p → n ≡ p.block.size → k ≢ j → range_of k 0 (joined p.before n s p.after) ≡ range_of k 0 bs
+pub range_released : (k j n s : ℕ) (bs : List Block) (p : Place) → place_of j bs ≡ Some p → n ≡ p.block.size → k ≢ j → range_of k 0 (coalesce p.before n s p.after) ≡ range_of k 0 bs
 range_released k j n s bs p found size other =
     let f = found_at j bs p found in
-    range_joined k p.before n s p.after
+    range_coalesce k p.before n s p.after
     ∙ ap (λ m. either_of (range_of k 0 p.before) (range_of k (total p.before + m) p.after)) size
     ∙ ap (either_of (range_of k 0 p.before)) (sym (past k (total p.before) p.block p.after (other_number k j p.block.tag other f.1)))
     ∙ sym (at_start k p.before (p.block ∷ p.after))
     ∙ ap (range_of k 0) (sym f.0)
 
--- and takes its own
-pub range_gone : (k n s : ℕ) (bs : List Block) (p : Place) → count (Live k) bs ≤ 1 → place_of k bs ≡ Some p → range_of k 0 (joined p.before n s p.after) ≡ None
+-- and removes its own
+pub range_gone : (k n s : ℕ) (bs : List Block) (p : Place) → count (Live k) bs ≤ 1 → place_of k bs ≡ Some p → range_of k 0 (coalesce p.before n s p.after) ≡ None
 range_gone k n s bs p once found =
     let f = found_at k bs p found in
     let e = count-append (Live k) p.before (p.block ∷ p.after) in
     let h : hit (Live k) p.block.tag ≡ 1 = number_hit k p.block.tag ∙ ap one f.1 in
     let c : count (Live k) p.after ≡ 0 = omega (arith, e, h, once, ap (count (Live k)) f.0) in
-    range_joined k p.before n s p.after ∙ ap (λ r. either_of r (range_of k (total p.before + n) p.after)) (range_none k 0 p.before f.2) ∙ range_none k (total p.before + n) p.after c
+    range_coalesce k p.before n s p.after ∙ ap (λ r. either_of r (range_of k (total p.before + n) p.after)) (range_none k 0 p.before f.2) ∙ range_none k (total p.before + n) p.after c
 
 -- a grant leaves the other ranges
 pub range_kept : (k : ℕ) (p : Place) (n padding front g rest : ℕ) → is_free p.block.tag ≡ true → padding + n ≤ p.block.size → k ≢ g → range_of k 0 (granted_blocks p n padding front g rest) ≡ range_of k 0 (whole p)
@@ -112,7 +112,7 @@ range_kept k p n padding front g rest free within other =
     ∙ sym (past k (total p.before) p.block p.after (free_number k p.block.tag free)))
     ∙ sym (at_start k p.before (p.block ∷ p.after))
 
--- and makes its own
+-- and adds its own
 pub range_granted : (p : Place) (n padding front g rest : ℕ) → count (Live g) p.before ≡ 0 → range_of g 0 (granted_blocks p n padding front g rest) ≡ Some (total p.before + padding, n)
 range_granted p n padding front g rest none =
     at_start g p.before _

@@ -2,19 +2,18 @@
 use Rattle.std.proofs.Common.{◌≡◌, ◌≢◌, ℕ, zero, suc, ◌+◌, ◌≤◌, Bool, true, false, not, ◌&&◌, ◌||◌, List, [], ◌∷◌, Option, Some, None, nat_eq, nat_lt, if◌then◌else◌, refl, sym, ap, subst, ◌∙◌, inl, inr, arith}
 use Rattle.std.proofs.lemmas.Bool.{cases_eq, true≢false, false≢true}
 use Rattle.std.proofs.Common.{eq-eqb, ne_eqb}
-use Rattle.offset_allocator.specs.Named.{greatest}
+use Rattle.offset_allocator.specs.Named.{max_size}
 use Rattle.offset_script.specs.declared.scripts.Command.{Command}
 use Rattle.offset_script.specs.declared.scripts.Command.TheVariants as command
-use Rattle.offset_script.specs.Blocks.{Live, Block, total, Place, place_of, ends_live, joined}
-use Rattle.offset_script.specs.Machine.{State, Answer, Outcome, start, step, answers, after, answers_only, leaves, grant, release, reset, stamp_of_call, stamp_of_front, is_short_of}
+use Rattle.offset_script.specs.Machine.{Live, Block, total, Place, place_of, ends_live, coalesce, State, Answer, Outcome, start, step, answers, after, returns_only, leaves, grant, release, reset, stamp_of_call, stamp_of_padding, is_short_of}
 use Rattle.offset_script.specs.Machine as machine
 use Rattle.offset_script.specs.Histories.{KeepsSpace}
-use Rattle.offset_script.specs.Totals.{asked}
+use Rattle.offset_script.specs.Totals.{requested_units}
 use Rattle.offset_script.proofs.Well.{Well, count, whole, chosen_at, count-append, not_found}
 use Rattle.offset_script.proofs.Nests.{IsQuiet, does, Granted}
-use Rattle.offset_lives.specs.Lives.{Life, begun, lives_from, lives_of, range_of, blocks_after, is_on, IsSeen}
+use Rattle.offset_lives.specs.Lives.{Life, life_of_answer, lives_from, lives_of, range_of, blocks_after, is_on, IsSeen}
 use Rattle.offset_lives.specs.Lives as lives
-use Rattle.offset_lives.proofs.Ranges.{either_of, range_none, range_joined, range_released, range_gone, range_kept, range_granted}
+use Rattle.offset_lives.proofs.Ranges.{either_of, range_none, range_coalesce, range_released, range_gone, range_kept, range_granted}
 
 -- ---- one call
 
@@ -41,10 +40,10 @@ quiet_keeps : (c : Command) (s : State) (k : ℕ) → k ≤ s.grants → KeepsSp
 quiet_keeps c s k made keeps stays = elim (does c s keeps) [
   | inl q ↦ ap (left k) q.is
   | inr (inl d) ↦
-      let chosen = chosen_at d.needed s.blocks d.place d.chose in
+      let chosen_place = chosen_at d.needed s.blocks d.place d.chose in
       ap (left k) d.is
-      ∙ range_kept k d.place (asked c) d.padding (stamp_of_front s) (s.grants + 1) (stamp_of_call s) (both_left _ _ chosen.1) d.within (λ e. absurd (omega arith))
-      ∙ ap (range_of k 0) (sym chosen.0)
+      ∙ range_kept k d.place (requested_units c) d.padding (stamp_of_padding s) (s.grants + 1) (stamp_of_call s) (both_left _ _ chosen_place.1) d.within (λ e. absurd (omega arith))
+      ∙ ap (range_of k 0) (sym chosen_place.0)
   | inr (inr d) ↦ ap (left k) d.is ∙ range_released k d.number d.place.block.size (stamp_of_call s) s.blocks d.place d.found refl (not_same d.number k (ap (lives.leaves k) (sym d.frees) ∙ stays))
 ]
   where
@@ -58,8 +57,8 @@ either_side false o p k r f g = g
 
 extend_keeps : (s : State) (k more : ℕ) → left k (step (command.Extend more) s) ≡ range_of k 0 s.blocks
 extend_keeps s k zero = refl
-extend_keeps s k (suc more) = either_side (nat_lt greatest (total s.blocks + suc more) || (ends_live s.blocks && is_short_of 1 s)) (answers_only s machine.Refused) (leaves s (joined s.blocks (suc more) (stamp_of_call s) []) machine.Extended) k _
-    refl (range_joined k s.blocks (suc more) (stamp_of_call s) [] ∙ none_after (range_of k 0 s.blocks))
+extend_keeps s k (suc more) = either_side (nat_lt max_size (total s.blocks + suc more) || (ends_live s.blocks && is_short_of 1 s)) (returns_only s machine.Refused) (leaves s (coalesce s.blocks (suc more) (stamp_of_call s) []) machine.Extended) k _
+    refl (range_coalesce k s.blocks (suc more) (stamp_of_call s) [] ∙ none_after (range_of k 0 s.blocks))
   where
     none_after : (r : Option (ℕ × ℕ)) → either_of r None ≡ r
     none_after None = refl
@@ -101,7 +100,7 @@ grants_of other = 0
 -- what an answer says of the range of the next grant
 Says : Command → State → Outcome → Type 0
 Says c s o = (o.state.grants ≡ s.grants + grants_of o.answer)
-    × ((k offset : ℕ) → o.answer ≡ machine.Grant k offset → (k ≡ s.grants + 1) × (left k o ≡ Some (offset, asked c)))
+    × ((k offset : ℕ) → o.answer ≡ machine.Grant k offset → (k ≡ s.grants + 1) × (left k o ≡ Some (offset, requested_units c)))
 
 no_grant : (a : Answer) → IsQuiet a → (grants_of a ≡ 0) × ((k offset : ℕ) → a ≡ machine.Grant k offset → ⊥)
 no_grant (machine.Grant k offset) q = absurd q
@@ -114,7 +113,7 @@ no_grant (machine.Full rows) q = (refl, λ k o e. cc)
 no_grant machine.Reset q = (refl, λ k o e. cc)
 no_grant machine.Extended q = (refl, λ k o e. cc)
 
-quiet_says : (c : Command) (s : State) (a : Answer) → IsQuiet a → Says c s (answers_only s a)
+quiet_says : (c : Command) (s : State) (a : Answer) → IsQuiet a → Says c s (returns_only s a)
 unfolding Says
 quiet_says c s a q = let n = no_grant a q in (omega (arith, n.0), λ k o e. absurd (n.1 k o e))
 
@@ -125,19 +124,19 @@ left_says c s bs a n none = (omega (arith, n), λ k o e. absurd (none k o e))
 same_grant : (k j o p : ℕ) → machine.Grant k o ≡ machine.Grant j p → (k ≡ j) × (o ≡ p)
 same_grant k j o p e = (cc, cc)
 
-grant_says : (c : Command) (s : State) → Well s → (d : Granted (asked c) s (step c s)) → Says c s (step c s)
+grant_says : (c : Command) (s : State) → Well s → (d : Granted (requested_units c) s (step c s)) → Says c s (step c s)
 unfolding Says
 grant_says c s w d =
     let p = d.place in
-    let chosen = chosen_at d.needed s.blocks p d.chose in
+    let chosen_place = chosen_at d.needed s.blocks p d.chose in
     subst (Says c s) (sym d.is) (
       refl,
       λ k offset e.
           let same = same_grant (s.grants + 1) k (total p.before + d.padding) offset e in (
             sym same.0,
-            ap (λ j. left j (grant s (asked c) d.padding p)) (sym same.0)
-                ∙ range_granted p (asked c) d.padding (stamp_of_front s) (s.grants + 1) (stamp_of_call s) (none p chosen.0)
-                ∙ ap (λ o. Some (o, asked c)) same.1,
+            ap (λ j. left j (grant s (requested_units c) d.padding p)) (sym same.0)
+                ∙ range_granted p (requested_units c) d.padding (stamp_of_padding s) (s.grants + 1) (stamp_of_call s) (none p chosen_place.0)
+                ∙ ap (λ o. Some (o, requested_units c)) same.1,
           ),
     )
   where
@@ -164,7 +163,7 @@ call_says command.Full s w = keeping_says command.Full s w tt
 call_says command.Reset s w = left_says command.Reset s _ machine.Reset refl (λ k o e. cc)
 call_says (command.Align n align) s w = keeping_says (command.Align n align) s w tt
 call_says (command.Extend zero) s w = quiet_says (command.Extend zero) s machine.Extended tt
-call_says (command.Extend (suc more)) s w = says_if (command.Extend (suc more)) s (nat_lt greatest (total s.blocks + suc more) || (ends_live s.blocks && is_short_of 1 s)) (answers_only s machine.Refused) (leaves s (joined s.blocks (suc more) (stamp_of_call s) []) machine.Extended)
+call_says (command.Extend (suc more)) s w = says_if (command.Extend (suc more)) s (nat_lt max_size (total s.blocks + suc more) || (ends_live s.blocks && is_short_of 1 s)) (returns_only s machine.Refused) (leaves s (coalesce s.blocks (suc more) (stamp_of_call s) []) machine.Extended)
     (quiet_says (command.Extend (suc more)) s machine.Refused tt) (left_says (command.Extend (suc more)) s _ machine.Extended refl (λ k o e. cc))
 
 -- the grants after a call
@@ -173,6 +172,6 @@ unfolding Says
 call_counts c s w = (call_says c s w).0
 
 -- the range of a new grant
-pub call_grants : (c : Command) (s : State) → Well s → (k offset : ℕ) → (step c s).answer ≡ machine.Grant k offset → (k ≡ s.grants + 1) × (range_of k 0 (step c s).state.blocks ≡ Some (offset, asked c))
+pub call_grants : (c : Command) (s : State) → Well s → (k offset : ℕ) → (step c s).answer ≡ machine.Grant k offset → (k ≡ s.grants + 1) × (range_of k 0 (step c s).state.blocks ≡ Some (offset, requested_units c))
 unfolding Says
 call_grants c s w k offset e = (call_says c s w).1 k offset e

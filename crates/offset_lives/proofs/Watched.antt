@@ -10,10 +10,10 @@ use Rattle.offset_script.specs.Machine as machine
 use Rattle.offset_script.proofs.Asking.{after_question}
 use Rattle.offset_script.proofs.Nests.{after-append}
 use Rattle.offset_script.specs.declared.answers.Answer as program
-use Rattle.offset_script.specs.Answers.{seen}
-use Rattle.offset_lives.specs.Reported.{report_seen, reports_from, reports_of, watched}
+use Rattle.offset_script.specs.Answers.{answer_view}
+use Rattle.offset_lives.specs.Reported.{report_view, reports_from, reports_of, with_reports}
 
--- whatever comes is answered the same
+-- any commands have the same answers
 abbrev pub AreSame : State → State → Type 0
 AreSame s t = (cs : List Command) → answers cs t ≡ answers cs s
 
@@ -33,25 +33,25 @@ same_report : (s t : State) → AreSame s t → report t ≡ report s
 unfolding head_of
 same_report s t same = ap (λ l. head_of l (report s)) (same (command.Report ∷ []))
 
--- the state behind a report is the same as that before it
+-- the state after a report is the same as that before it
 same_reported : (size limit : ℕ) → 2 ≤ limit → (before : List Command) (s t : State) → t ≡ after before (start size limit) → AreSame s t → AreSame s (step command.Report t).state
 same_reported size limit h before s t e same cs = subst (λ u. answers cs (step command.Report u).state ≡ answers cs u) (sym e) (after_question size limit h before command.Report tt cs) ∙ same cs
 
 -- every second answer is a report
 pub report_at : (size limit : ℕ) → 2 ≤ limit → (cs before : List Command) (s t : State) → t ≡ after before (start size limit) → AreSame s t → (i : ℕ) → i ≤ length cs → (d : Answer)
-    → get_or (answers (watched cs) t) (2 * i) d ≡ get_or (reports_from cs s) i d
+    → get_or (answers (with_reports cs) t) (2 * i) d ≡ get_or (reports_from cs s) i d
 report_at size limit h [] before s t e same zero l d = same_report s t same
 report_at size limit h [] before s t e same (suc i) l d = absurd (omega arith)
 report_at size limit h (c ∷ cs) before s t e same zero l d = same_report s t same
 report_at size limit h (c ∷ cs) before s t e same (suc i) l d =
     let t' : State = (step c (step command.Report t).state).state in
     let two : 2 * suc i ≡ suc (suc (2 * i)) = omega arith in
-    ap (λ n. get_or (answers (watched (c ∷ cs)) t) n d) two
+    ap (λ n. get_or (answers (with_reports (c ∷ cs)) t) n d) two
     ∙ report_at size limit h cs (before ++ command.Report ∷ c ∷ []) (step c s).state t'
     (ap (λ (u : State). (step c (step command.Report u).state).state) e ∙ sym (after-append before (command.Report ∷ c ∷ []) (start size limit)))
     (same_step c s (step command.Report t).state (same_reported size limit h before s t e same)) i (omega arith) d
 
-pub answers_watched : (cs : List Command) (t : State) → length (answers (watched cs) t) ≡ 2 * length cs + 1
+pub answers_watched : (cs : List Command) (t : State) → length (answers (with_reports cs) t) ≡ 2 * length cs + 1
 answers_watched [] t = refl
 answers_watched (c ∷ cs) t = omega (arith, answers_watched cs (step c (step command.Report t).state).state)
 
@@ -71,40 +71,40 @@ is_report (c ∷ cs) s zero l d = either_report (is_short_of 1 s) _ _
 is_report (c ∷ cs) s (suc i) l d = is_report cs (step c s).state i (omega arith) d
 
 -- an answer found at a second place is the report there
-pub found_report : (size limit : ℕ) → 2 ≤ limit → (cs : List Command) (all : List program.Answer) (i : ℕ) (x : program.Answer) → i ≤ length cs → map seen all ≡ answers (watched cs) (start size limit) → x ≡ get_or all (2 * i) x
-    → seen x ≡ get_or (reports_of size limit cs) i (seen x)
+pub found_report : (size limit : ℕ) → 2 ≤ limit → (cs : List Command) (all : List program.Answer) (i : ℕ) (x : program.Answer) → i ≤ length cs → map answer_view all ≡ answers (with_reports cs) (start size limit) → x ≡ get_or all (2 * i) x
+    → answer_view x ≡ get_or (reports_of size limit cs) i (answer_view x)
 found_report size limit h cs all i x l played e =
     let s = start size limit in
-    ap seen e ∙ sym (get_or-map seen all (2 * i) x (seen x) (let m = length-map all seen in omega (arith, ap length played, m, answers_watched cs s)))
-    ∙ ap (λ xs. get_or xs (2 * i) (seen x)) played ∙ report_at size limit h cs [] s s refl (λ more. refl) i l (seen x)
+    ap answer_view e ∙ sym (get_or-map answer_view all (2 * i) x (answer_view x) (let m = length-map all answer_view in omega (arith, ap length played, m, answers_watched cs s)))
+    ∙ ap (λ xs. get_or xs (2 * i) (answer_view x)) played ∙ report_at size limit h cs [] s s refl (λ more. refl) i l (answer_view x)
 
-kept : (o : Option StorageReport) (r : StorageReport) (a : Answer) → option_map report_seen o ≡ Some a → o ≡ Some r → report_seen r ≡ a
-kept o r a e f = inside (report_seen r) a (ap (option_map report_seen) (sym f) ∙ e)
+report_is : (o : Option StorageReport) (r : StorageReport) (a : Answer) → option_map report_view o ≡ Some a → o ≡ Some r → report_view r ≡ a
+report_is o r a e f = inside (report_view r) a (ap (option_map report_view) (sym f) ∙ e)
   where
     inside : (x y : Answer) → Some x ≡ Some y → x ≡ y
     inside x y e = cc
 
 -- one report more
 pub report_taken : (size limit : ℕ) (cs : List Command) (i : ℕ) (found new : List StorageReport) (r : StorageReport) (o : Option StorageReport) (a : Answer) → i ≤ length cs → a ≡ get_or (reports_of size limit cs) i a
-    → ((free largest : ℕ) → a ≡ machine.Report free largest → option_map report_seen o ≡ Some (machine.Report free largest)) → o ≡ Some r → new ≡ found ++ r ∷ []
-    → map report_seen found ≡ take i (reports_of size limit cs) → map report_seen new ≡ take (i + 1) (reports_of size limit cs)
+    → ((free largest : ℕ) → a ≡ machine.Report free largest → option_map report_view o ≡ Some (machine.Report free largest)) → o ≡ Some r → new ≡ found ++ r ∷ []
+    → map report_view found ≡ take i (reports_of size limit cs) → map report_view new ≡ take (i + 1) (reports_of size limit cs)
 report_taken size limit cs i found new r o a l is reads some grown before =
     let s = start size limit in
     let it = is_report cs s i l a in
     let same : a ≡ machine.Report it.0 it.1 = is ∙ it.2 in
-    ap (map report_seen) grown ∙ map-append report_seen found (r ∷ [])
-    ∙ ap (λ xs. xs ++ (report_seen r ∷ [])) before
-    ∙ ap (λ x. take i (reports_of size limit cs) ++ (x ∷ [])) (kept o r (machine.Report it.0 it.1) (reads it.0 it.1 same) some ∙ sym same ∙ is)
+    ap (map report_view) grown ∙ map-append report_view found (r ∷ [])
+    ∙ ap (λ xs. xs ++ (report_view r ∷ [])) before
+    ∙ ap (λ x. take i (reports_of size limit cs) ++ (x ∷ [])) (report_is o r (machine.Report it.0 it.1) (reads it.0 it.1 same) some ∙ sym same ∙ is)
     ∙ sym (take_at_read (reports_of size limit cs) i a (omega (arith, reports_count cs s))).1
 
 -- there is one
 pub report_there : (size limit : ℕ) (cs : List Command) (i : ℕ) (o : Option StorageReport) (a : Answer) → i ≤ length cs → a ≡ get_or (reports_of size limit cs) i a
-    → ((free largest : ℕ) → a ≡ machine.Report free largest → option_map report_seen o ≡ Some (machine.Report free largest)) → ((x : StorageReport) → o ≡ Some x → ⊥) → ⊥
+    → ((free largest : ℕ) → a ≡ machine.Report free largest → option_map report_view o ≡ Some (machine.Report free largest)) → ((x : StorageReport) → o ≡ Some x → ⊥) → ⊥
 report_there size limit cs i o a l is reads none =
     let it = is_report cs (start size limit) i l a in
     no_some o (machine.Report it.0 it.1) (reads it.0 it.1 (is ∙ it.2)) none
   where
-    no_some : (o : Option StorageReport) (b : Answer) → option_map report_seen o ≡ Some b → ((x : StorageReport) → o ≡ Some x → ⊥) → ⊥
+    no_some : (o : Option StorageReport) (b : Answer) → option_map report_view o ≡ Some b → ((x : StorageReport) → o ≡ Some x → ⊥) → ⊥
     no_some None b e h = nothing b e
       where
         nothing : (b : Answer) → None ≡ Some b → ⊥

@@ -8,9 +8,9 @@ use Rattle.std.specs.List.{prefix_len}
 use Rattle.offset_script.specs.declared.scripts.Command.{Command}
 use Rattle.offset_script.specs.Machine.{State, Answer, start, step, answers, after}
 use Rattle.offset_script.specs.Machine as machine
-use Rattle.offset_script.specs.Totals.{asked}
+use Rattle.offset_script.specs.Totals.{requested_units}
 use Rattle.offset_script.proofs.Well.{Well, well_start, well_step}
-use Rattle.offset_lives.specs.Lives.{Life, leaves, begun, end_from, lives_from, lives_of, range_of, is_on, LivesAreSeen}
+use Rattle.offset_lives.specs.Lives.{Life, leaves, life_of_answer, end_from, lives_from, lives_of, range_of, is_on, LivesAreSeen}
 use Rattle.offset_lives.proofs.Ranges.{range_none}
 use Rattle.offset_lives.proofs.Seen.{grants_of, call_keeps, call_ends, call_counts, call_grants}
 
@@ -27,7 +27,7 @@ none_of_two : (r : Option (ℕ × ℕ)) → r ≡ None → (b : Bool) → (if b 
 none_of_two r e true = e
 none_of_two r e false = refl
 
--- a range lasts just so long as the commands leave its grant as it is
+-- a range lasts exactly as long as the commands leave its grant live
 goes_on : (k : ℕ) (cs : List Command) (s : State) → Well s → k ≤ s.grants → (i : ℕ) → i ≤ length cs
     → range_of k 0 (after (take i cs) s).blocks ≡ (if nat_le i (prefix_len (leaves k) cs) then range_of k 0 s.blocks else None)
 goes_on k cs s w made zero h = ap (λ b. if b then range_of k 0 s.blocks else None) (sym (le-leb 0 (prefix_len (leaves k) cs) (omega arith)))
@@ -51,7 +51,7 @@ goes_on k (c ∷ cs) s w made (suc i) h = either (leaves k c) refl (goes_on k cs
     either false e ih = ih ∙ none_of_two next (call_ends c s w k e) (nat_le i most)
         ∙ ap (λ b. if b then now else None) (sym (lt-leb (suc i) 0 (omega arith)))
 
--- what a life is where it begins with one of these commands, whose first is call j
+-- a life that begins with one of these commands, the first of which is call j
 pub record Shown (j : ℕ) (cs : List Command) (s : State) (l : Life) : Type 0 where
   pub later : s.grants < l.number
   pub begins : j ≤ l.first
@@ -79,8 +79,8 @@ shown_later j c cs s w l m = let g = call_counts c s w in record {
     seen zero h = not_yet s w l (j + 0) (let g = call_counts c s w in omega (arith, m.later)) (omega (arith, m.begins))
     seen (suc i) h = m.seen i (omega arith) ∙ ap (λ n. if is_on n l then Some (l.offset, l.size) else None) (omega arith)
 
-shown_begun : (j : ℕ) (c : Command) (cs : List Command) (s : State) → Well s → (a : Answer) → (step c s).answer ≡ a → All (Shown j (c ∷ cs) s) (begun j c a (end_from (j + 1) cs))
-shown_begun j c cs s w (machine.Grant k offset) e = All-cons (Shown j (c ∷ cs) s) life [] (record {
+shown_answer : (j : ℕ) (c : Command) (cs : List Command) (s : State) → Well s → (a : Answer) → (step c s).answer ≡ a → All (Shown j (c ∷ cs) s) (life_of_answer j c a (end_from (j + 1) cs))
+shown_answer j c cs s w (machine.Grant k offset) e = All-cons (Shown j (c ∷ cs) s) life [] (record {
   later = omega (arith, says.0);
   begins = omega arith;
   lasts = omega arith;
@@ -89,9 +89,9 @@ shown_begun j c cs s w (machine.Grant k offset) e = All-cons (Shown j (c ∷ cs)
 }) (All-nil (Shown j (c ∷ cs) s))
   where
     life : Life
-    life = record { number = k; offset = offset; size = asked c; first = j; last = j + 1 + prefix_len (leaves k) cs }
+    life = record { number = k; offset = offset; size = requested_units c; first = j; last = j + 1 + prefix_len (leaves k) cs }
 
-    says : (k ≡ s.grants + 1) × (range_of k 0 (step c s).state.blocks ≡ Some (offset, asked c))
+    says : (k ≡ s.grants + 1) × (range_of k 0 (step c s).state.blocks ≡ Some (offset, requested_units c))
     says = call_grants c s w k offset e
 
     made : k ≤ (step c s).state.grants
@@ -104,24 +104,24 @@ shown_begun j c cs s w (machine.Grant k offset) e = All-cons (Shown j (c ∷ cs)
         begun_by : (x y : ℕ) → x < y → nat_lt x y ≡ true
         begun_by x y h = grind (arith, nat_tests)
 
-    seen : (i : ℕ) → i ≤ suc (length cs) → range_of k 0 (after (take i (c ∷ cs)) s).blocks ≡ (if is_on (j + i) life then Some (offset, asked c) else None)
+    seen : (i : ℕ) → i ≤ suc (length cs) → range_of k 0 (after (take i (c ∷ cs)) s).blocks ≡ (if is_on (j + i) life then Some (offset, requested_units c) else None)
     seen zero h = not_yet s w life (j + 0) (omega (arith, says.0)) (omega arith)
     seen (suc i) h = goes_on k cs (step c s).state (well_step c s w) made i (omega arith)
         ∙ ap (λ r. if nat_le i (prefix_len (leaves k) cs) then r else None) says.1
-        ∙ ap (λ b. if b then Some (offset, asked c) else None) (on i)
-shown_begun j c cs s w machine.Refused e = All-nil (Shown j (c ∷ cs) s)
-shown_begun j c cs s w machine.Freed e = All-nil (Shown j (c ∷ cs) s)
-shown_begun j c cs s w machine.Gone e = All-nil (Shown j (c ∷ cs) s)
-shown_begun j c cs s w (machine.Size n) e = All-nil (Shown j (c ∷ cs) s)
-shown_begun j c cs s w (machine.Report free largest) e = All-nil (Shown j (c ∷ cs) s)
-shown_begun j c cs s w (machine.Full rows) e = All-nil (Shown j (c ∷ cs) s)
-shown_begun j c cs s w machine.Reset e = All-nil (Shown j (c ∷ cs) s)
-shown_begun j c cs s w machine.Extended e = All-nil (Shown j (c ∷ cs) s)
+        ∙ ap (λ b. if b then Some (offset, requested_units c) else None) (on i)
+shown_answer j c cs s w machine.Refused e = All-nil (Shown j (c ∷ cs) s)
+shown_answer j c cs s w machine.Freed e = All-nil (Shown j (c ∷ cs) s)
+shown_answer j c cs s w machine.Gone e = All-nil (Shown j (c ∷ cs) s)
+shown_answer j c cs s w (machine.Size n) e = All-nil (Shown j (c ∷ cs) s)
+shown_answer j c cs s w (machine.Report free largest) e = All-nil (Shown j (c ∷ cs) s)
+shown_answer j c cs s w (machine.Full rows) e = All-nil (Shown j (c ∷ cs) s)
+shown_answer j c cs s w machine.Reset e = All-nil (Shown j (c ∷ cs) s)
+shown_answer j c cs s w machine.Extended e = All-nil (Shown j (c ∷ cs) s)
 
 pub shown : (cs : List Command) (s : State) → Well s → (j : ℕ) → All (Shown j cs s) (lives_from j cs (answers cs s))
 shown [] s w j = λ k d h. absurd (omega arith)
-shown (c ∷ cs) s w j = All-append (Shown j (c ∷ cs) s) (begun j c (step c s).answer (end_from (j + 1) cs)) (lives_from (j + 1) cs (answers cs (step c s).state))
-    (shown_begun j c cs s w (step c s).answer refl)
+shown (c ∷ cs) s w j = All-append (Shown j (c ∷ cs) s) (life_of_answer j c (step c s).answer (end_from (j + 1) cs)) (lives_from (j + 1) cs (answers cs (step c s).state))
+    (shown_answer j c cs s w (step c s).answer refl)
     (λ i d h. shown_later j c cs s w _ (shown cs (step c s).state (well_step c s w) (j + 1) i d h))
 
 pub seen_law : LivesAreSeen

@@ -1,4 +1,4 @@
--- What drawing a script leaves, and how the picture writes numbers.
+-- What a program that draws returns and leaves, and how a picture writes numbers.
 use Rattle.std.specs.Prelude.{◌≡◌, ℕ, ◌/◌, ◌%◌, List, [], ◌++◌, codes, Option, Some, Result, Ok, Err, nat_eq, drop, if◌then◌else◌}
 use Rattle.std.specs.Fmt.{decimal}
 use Rattle.std.specs.Io.KnownBytes.{Appends}
@@ -9,17 +9,17 @@ use Rattle.offset_script.specs.Grammar.{Plan, meaning_of}
 
 -- ---- numbers
 
--- hundredths of a pixel, in pixels: at most two decimals, none of them a last zero
+-- hundredths of a pixel, written in pixels: at most two decimals, the last of them not 0
 abbrev pub pixels_text : ℕ → List ℕ
 pixels_text n = decimal (n / 100) ++ (if nat_eq (n % 100) 0 then [] else codes "." ++ decimal (n / 10 % 10) ++ (if nat_eq (n % 10) 0 then [] else decimal (n % 10)))
 
 -- ---- the picture
 
--- a text is one element, svg
+-- the text is one element `svg`
 abbrev pub IsPicture : List ℕ → Type 0
 IsPicture text = (body : List ℕ) × (text ≡ codes "<svg " ++ body ++ codes "</svg>\n")
 
--- text meant a script, and the whole of a picture was written
+-- the text means a script, and a whole picture was appended
 pub record WritesPicture (text : List ℕ) (old new : Option (List ℕ)) : Type 0 where
   pub plan : Plan
   pub picture : List ℕ
@@ -27,7 +27,7 @@ pub record WritesPicture (text : List ℕ) (old new : Option (List ℕ)) : Type 
   pub whole : IsPicture picture
   pub writes : Appends old new picture
 
--- text meant a script, and a beginning of a picture was written
+-- the text means a script, and a beginning of a picture was appended
 pub record BeginsPicture (text : List ℕ) (old new : Option (List ℕ)) : Type 0 where
   pub plan : Plan
   pub front : List ℕ
@@ -36,8 +36,8 @@ pub record BeginsPicture (text : List ℕ) (old new : Option (List ℕ)) : Type 
   pub whole : IsPicture (front ++ back)
   pub writes : Appends old new front
 
--- What drawing did with an input whose text is known: what it meant, what is left of it, and what was written.
--- Out of memory, and where the source failed, nothing is said of the text.
+-- What drawing returned, left of a source with this text, and wrote: on `Ok` a whole picture, on `Write` a beginning of
+-- one, and else the fault of the text. On `Memory` and `Read` nothing is said.
 abbrev pub DrawOf : Result (Unit {0}) RunFault → List ℕ → Option (List ℕ) → Option (List ℕ) → Option (List ℕ) → Type 0
 DrawOf (Ok u) text left old new = (left ≡ Some []) × WritesPicture text old new
 DrawOf (Err (Script scripts.TooLong)) text left old new = (left ≡ Some (drop 1048577 text)) × (meaning_of text ≡ Err scripts.TooLong)

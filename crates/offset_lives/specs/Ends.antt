@@ -2,7 +2,7 @@
 use Rattle.std.specs.Prelude.{ℕ, length, min, slice_index_or}
 use Rattle.offset_lives.specs.declared.living.Ends.{Ends}
 
--- the numbers of grants are below this
+-- the number of entries: grant numbers are below it
 abbrev pub grants_in : Ends → ℕ
 grants_in e = length e.released.items
 

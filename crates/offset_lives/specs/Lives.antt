@@ -3,10 +3,9 @@ use Rattle.std.specs.Prelude.{◌≡◌, ℕ, ◌+◌, ◌≤◌, Bool, true, fa
 use Rattle.std.specs.List.{prefix_len}
 use Rattle.offset_script.specs.declared.scripts.Command.{Command}
 use Rattle.offset_script.specs.declared.scripts.Command.TheVariants as command
-use Rattle.offset_script.specs.Blocks.{Block, has_number, total}
-use Rattle.offset_script.specs.Machine.{Answer, State, answers, after, start}
+use Rattle.offset_script.specs.Machine.{Block, has_number, total, Answer, State, answers, after, start}
 use Rattle.offset_script.specs.Machine as machine
-use Rattle.offset_script.specs.Totals.{asked}
+use Rattle.offset_script.specs.Totals.{requested_units}
 use Rattle.offset_lives.specs.declared.living.Life as program
 
 -- the grant of this number has size units from offset on; it is live from after call first to call last, counted from 0
@@ -17,37 +16,38 @@ pub record Life : Type 0 where
   pub first : ℕ
   pub last : ℕ
 
--- a life, as the program has it
-abbrev pub life_seen : program.Life → Life
-life_seen l = record { number = l.number; offset = l.offset; size = l.size; first = l.first; last = l.last }
+-- a life of the program, as plain data
+abbrev pub life_view : program.Life → Life
+life_view l = record { number = l.number; offset = l.offset; size = l.size; first = l.first; last = l.last }
 
--- whether a command leaves grant k as it is
+-- whether a command leaves grant k live: all do but a reset and a release of k
 abbrev pub leaves : ℕ → Command → Bool
 leaves k (command.Free j) = not (nat_eq j k)
 leaves k command.Reset = false
 leaves k other = true
 
--- the life that begins with an answer to call i, if it is a grant, where this is the call that ends each
-abbrev pub begun : ℕ → Command → Answer → (ℕ → ℕ) → List Life
-begun i c (machine.Grant k offset) end = record { number = k; offset = offset; size = asked c; first = i; last = end k } ∷ []
-begun i c other end = []
+-- the life that begins with this answer to call i, if it is a grant; `end` has the call that ends each grant
+abbrev pub life_of_answer : ℕ → Command → Answer → (ℕ → ℕ) → List Life
+life_of_answer i c (machine.Grant k offset) end = record { number = k; offset = offset; size = requested_units c; first = i; last = end k } ∷ []
+life_of_answer i c other end = []
 
--- the call that ends grant k, of these commands, whose first is call i; or the number of calls
+-- the call that ends grant k, among these commands, the first of which is call i; or the number of all calls
 abbrev pub end_from : ℕ → List Command → ℕ → ℕ
 end_from i cs k = i + prefix_len (leaves k) cs
 
--- the lives that begin with these commands, whose first is call i, where these are the answers
+-- the lives that begin with these commands, the first of which is call i, and their answers
 abbrev pub lives_from : ℕ → List Command → List Answer → List Life
-lives_from i (c ∷ cs) (a ∷ more) = begun i c a (end_from (i + 1) cs) ++ lives_from (i + 1) cs more
+lives_from i (c ∷ cs) (a ∷ more) = life_of_answer i c a (end_from (i + 1) cs) ++ lives_from (i + 1) cs more
 lives_from i cs answers = []
 
 -- the lives of all grants of the plain machine, from one free block of size units
 abbrev pub lives_of : ℕ → ℕ → List Command → List Life
 lives_of size limit cs = lives_from 0 cs (answers cs (start size limit))
 
--- ---- what lives have to do with the space
+-- ---- lives and the space
 
--- the offset and the size of the live block of grant k, if there is one, where the first of these blocks begins at offset
+-- the offset and the size of the live block of grant k, if there is one, where the first of these blocks begins at
+-- offset
 abbrev pub range_of : ℕ → ℕ → List Block → Option (ℕ × ℕ)
 range_of k offset [] = None
 range_of k offset (b ∷ bs) = if has_number k b.tag then Some (offset, b.size) else range_of k (offset + b.size) bs
@@ -60,15 +60,15 @@ blocks_after i size limit cs = (after (take i cs) (start size limit)).blocks
 abbrev pub is_on : ℕ → Life → Bool
 is_on i l = nat_lt l.first i && nat_le i l.last
 
--- a live block of the life's number is there, with its range, exactly while the life is on
+-- a live block of the life's number exists, with its range, exactly while the life is on
 abbrev pub IsSeen : ℕ → ℕ → List Command → Life → Type 0
 IsSeen size limit cs l = (i : ℕ) → i ≤ length cs → range_of l.number 0 (blocks_after i size limit cs) ≡ (if is_on i l then Some (l.offset, l.size) else None)
 
--- the range of a life lies within the space that its grant left
+-- the range of a life lies within the space as the call of its grant left it
 abbrev pub IsWithin : ℕ → ℕ → List Command → Life → Type 0
 IsWithin size limit cs l = l.offset + l.size ≤ total (blocks_after (l.first + 1) size limit cs)
 
--- two rectangles share no unit at any time
+-- two lives share no unit at any time
 abbrev pub AreApart : Life → Life → Type 0
 AreApart a b = (a.last ≤ b.first) ⊎ ((b.last ≤ a.first) ⊎ ((a.offset + a.size ≤ b.offset) ⊎ (b.offset + b.size ≤ a.offset)))
 
@@ -76,10 +76,10 @@ AreApart a b = (a.last ≤ b.first) ⊎ ((b.last ≤ a.first) ⊎ ((a.offset + a
 abbrev pub LivesAreSeen : Type 0
 LivesAreSeen = (size limit : ℕ) → 2 ≤ limit → (cs : List Command) → All (IsSeen size limit cs) (lives_of size limit cs)
 
--- in any script, no rectangle leaves the space
+-- in any script, no life leaves the space
 abbrev pub LivesAreWithin : Type 0
 LivesAreWithin = (size limit : ℕ) → 2 ≤ limit → (cs : List Command) → All (IsWithin size limit cs) (lives_of size limit cs)
 
--- in any script, no two rectangles overlap
+-- in any script, no two lives share a unit at any time
 abbrev pub LivesAreApart : Type 0
 LivesAreApart = (size limit : ℕ) → 2 ≤ limit → (cs : List Command) → AllPairs AreApart (lives_of size limit cs)

@@ -3,11 +3,11 @@ use Rattle.std.specs.Prelude.{List, map}
 use Rattle.offset_script.specs.declared.scripts.Command.{Command}
 use Rattle.offset_script.specs.declared.scripts.Command.TheVariants as command
 
--- a report for a full report
-abbrev pub quiet : Command → Command
-quiet command.Full = command.Report
-quiet other = other
+-- a command, with a report in place of a full report
+abbrev pub replace_full : Command → Command
+replace_full command.Full = command.Report
+replace_full other = other
 
--- a report for each full report
-abbrev pub all_quiet : List Command → List Command
-all_quiet cs = map quiet cs
+-- commands, with a report in place of each full report
+abbrev pub replace_all_full : List Command → List Command
+replace_all_full cs = map replace_full cs

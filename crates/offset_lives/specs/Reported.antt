@@ -6,19 +6,19 @@ use Rattle.offset_script.specs.declared.scripts.Command.TheVariants as command
 use Rattle.offset_script.specs.Machine.{State, Answer, Report, start, step, report}
 
 -- a report, as the plain machine has it
-abbrev pub report_seen : StorageReport → Answer
-report_seen r = Report r.total_free_space r.largest_free_region
+abbrev pub report_view : StorageReport → Answer
+report_view r = Report r.total_free_space r.largest_free_region
 
 -- the report of a state, and the one after each command
 abbrev pub reports_from : List Command → State → List Answer
 reports_from [] s = report s ∷ []
 reports_from (c ∷ cs) s = report s ∷ reports_from cs (step c s).state
 
--- the reports before and after each command, from one free block of size units
+-- the reports before the first command and after each, from one free block of size units
 abbrev pub reports_of : ℕ → ℕ → List Command → List Answer
 reports_of size limit cs = reports_from cs (start size limit)
 
 -- the commands, with a report before and after each
-abbrev pub watched : List Command → List Command
-watched [] = command.Report ∷ []
-watched (c ∷ cs) = command.Report ∷ c ∷ watched cs
+abbrev pub with_reports : List Command → List Command
+with_reports [] = command.Report ∷ []
+with_reports (c ∷ cs) = command.Report ∷ c ∷ with_reports cs

@@ -5,8 +5,8 @@ ghost use Rattle.std.specs.Prelude.{◌≡◌, ◌+◌, ◌-◌, ◌*◌, ◌/�
 /// A tenth of a pixel. Lengths are in hundredths of a pixel.
 pub const TENTH: u32 = 10;
 
-/// An axis: the values from 0 to `most`, along `span` hundredths of a pixel from `start` on. A value beyond `most` lies at
-/// its end.
+/// An axis: the values from 0 to `most`, along `span` hundredths of a pixel from `start` on. A value beyond `most` lies
+/// at its end.
 #[derive(Clone, Copy, PartialEq, Debug)]
 pub struct Axis {
     /// The left end, or the upper one.
@@ -20,7 +20,7 @@ pub struct Axis {
 }
 
 impl Axis {
-    // How far a value is from the value 0.
+    // The distance of a value from the value 0.
     fn length(&self, value: u64) -> u32
         ensures exact { result ≡ min value self.now.most * self.now.span / self.now.most }
         ensures within { result ≤ self.now.span }
@@ -47,7 +47,7 @@ impl Axis {
     }
 }
 
-// The round numbers that fit 32 bits.
+// The round numbers that 32 bits hold.
 const STEPS: [u32; 29] = [
     1,
     2,
@@ -80,7 +80,7 @@ const STEPS: [u32; 29] = [
     2_000_000_000,
 ];
 
-/// The least round number of which `count` are at least `most`: 1, 2 or 5, and zeros.
+/// The smallest round number, 1, 2 or 5 with zeros, of which `count` add up to at least `most`.
 pub fn round_step(most: u32, count: u8) -> u32
     requires { 3 ≤ count }
     ensures { most ≤ result * count }

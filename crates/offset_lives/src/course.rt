@@ -1,4 +1,4 @@
-//! The course of a script: all that is drawn of it.
+//! The course of a script: all that a picture shows of it.
 
 use crate::living::{Life, lives};
 use crate::quiet::without_full;
@@ -9,8 +9,8 @@ use std::alloc::{AllocError, Global};
 
 /// A script after it was played.
 ///
-/// Calls are counted from 0 here, and written from 1 in the picture. A state is what a number of calls leaves: state 0 is
-/// the fresh space, and n calls have n + 1 states.
+/// Calls are counted from 0 here, and written from 1 in the picture. A state is what a number of calls leaves: state 0
+/// is the fresh space, and n calls have n + 1 states.
 #[derive(Drop)]
 pub struct Course {
     /// The node limit.
@@ -43,7 +43,7 @@ fn growth(alloc: Global, script: &Script) -> Result<(Vec<u32>, Vec<usize>), Allo
     Ok((sizes, refused))
 }
 
-/// Plays a script, without its full reports.
+/// Plays a script, without its full reports, and returns its course.
 pub fn course_of(alloc: Global, script: &Script) -> Result<Course, AllocError> {
     let script = without_full(alloc, script)?;
     let (sizes, refused) = growth(alloc, &script)?;

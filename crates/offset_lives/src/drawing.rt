@@ -13,7 +13,7 @@ use crate::style::HEAD;
 use offset_script::Script;
 use std::alloc::{AllocError, Global};
 
-// What is beyond the space, where the plot goes beyond it.
+// The units that are not in the space yet, where the plot goes beyond it.
 fn put_beyond(out: &mut String, plot: &Plot, course: &Course) -> Result<(), AllocError> {
     write!(out, "<path class='out' d='")?;
     put_steps(out, plot, plot.units.start, &course.sizes)?;
@@ -63,7 +63,7 @@ fn body(alloc: Global, course: &Course) -> Result<String, AllocError> {
 }
 
 /// The picture of a course, as SVG.
-pub fn drawn(alloc: Global, course: &Course) -> Result<String, AllocError>
+pub fn picture_of(alloc: Global, course: &Course) -> Result<String, AllocError>
     ensures { IfOk result (λ text. IsPicture (string_bytes text)) }
 {
     let body = body(alloc, course)?;
@@ -73,9 +73,12 @@ pub fn drawn(alloc: Global, course: &Course) -> Result<String, AllocError>
     Ok(out)
 }
 
-/// The picture of a script, as SVG.
+/// Plays a script, and returns its picture as SVG.
+///
+/// It fails only where an allocation fails.
 pub fn picture(alloc: Global, script: &Script) -> Result<String, AllocError>
+    // The text is one element `svg`.
     ensures { IfOk result (λ text. IsPicture (string_bytes text)) }
 {
-    drawn(alloc, &course_of(alloc, script)?)
+    picture_of(alloc, &course_of(alloc, script)?)
 }

@@ -1,11 +1,11 @@
-//! The numbers that the picture says.
+//! The numbers in a picture.
 
 use crate::course::Course;
 use crate::living::Life;
 use offset_allocator::StorageReport;
 use std::alloc::{AllocError, Global};
 
-/// What a picture says in numbers.
+/// The numbers in a picture.
 #[derive(Clone, Copy, PartialEq, Debug)]
 pub struct Figures {
     /// How many calls there are.
@@ -36,12 +36,12 @@ pub struct Figures {
     pub full_states: u32,
 }
 
-/// A count, or the largest number.
+/// A count as a `u32`, or the largest `u32` where it is larger.
 pub fn counted(count: usize) -> u32 {
     u32::try_from(count).unwrap_or(u32::MAX)
 }
 
-/// Where the range of a life ends, or the largest number.
+/// The end of the range of a life, or the largest `u32`.
 pub fn end_of(life: &Life) -> u32 {
     life.offset.saturating_add(life.size)
 }

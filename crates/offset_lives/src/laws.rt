@@ -2,17 +2,17 @@
 
 ghost use Rattle.offset_lives.specs.Lives.{LivesAreSeen, LivesAreWithin, LivesAreApart};
 
-/// At each time, a grant is live exactly while its life is on, and its range is that of its life.
+/// After any number of calls, a live block of a life's number exists, with its range, exactly while the life is on.
 pub fn a_life_is_what_the_space_shows()
     ensures { LivesAreSeen }
 {}
 
-/// No life leaves the space.
+/// No life leaves the space, in any script.
 pub fn a_life_is_within_the_space()
     ensures { LivesAreWithin }
 {}
 
-/// No two lives share a unit at any time.
+/// No two lives share a unit at any time, in any script.
 pub fn no_two_lives_overlap()
     ensures { LivesAreApart }
 {}

@@ -1,4 +1,4 @@
-//! What the picture says in words.
+//! The words in a picture.
 
 use crate::ages::AGES;
 use crate::figures::{Figures, counted};
@@ -6,7 +6,7 @@ use crate::numbers::{Grouped, Pixels};
 use crate::plots::{LEFT, REPORTS_TOP, WIDTH};
 use std::alloc::AllocError;
 
-// What a word ends in after a number.
+// The ending of a word after a number.
 fn plural(count: u32) -> &'static str {
     if count == 1 { "" } else { "s" }
 }
@@ -78,7 +78,7 @@ fn put_ages(out: &mut String) -> Result<(), AllocError> {
     writeln!(out, "<text x='1062' y='113'>refusal</text>")
 }
 
-// What the colours of the reports mean, and why they may say 0.
+// What the colours of the reports mean, and why a report may be 0.
 fn put_colours(out: &mut String, figures: &Figures) -> Result<(), AllocError> {
     let top = Pixels(REPORTS_TOP - 2_300);
     let base = Pixels(REPORTS_TOP - 1_000);
@@ -132,7 +132,7 @@ pub fn put_legend(
     put_colours(out, figures)
 }
 
-/// The line below the plots: what was drawn larger to be seen, and in how many rectangles merged grants are.
+/// The line below the plots: what was drawn larger to be seen, and the number of rectangles where grants are merged.
 pub fn put_notes(out: &mut String, merged: Option<usize>) -> Result<(), AllocError> {
     write!(
         out,

@@ -1,5 +1,4 @@
-//! What a script does to its space, to be drawn: the life of each grant, the reports between the commands, and a picture
-//! of both.
+//! What a script does to its space: the life of each grant, the reports between the commands, and a picture of both.
 #![tactic(auto)]
 
 mod ages;

@@ -1,26 +1,26 @@
 //! The lives of grants.
 
 ghost use Rattle.std.specs.Prelude.{◌≡◌, ℕ, ◌+◌, ◌-◌, ◌^◌, ◌<◌, ◌≤◌, All, AllPairs, IfOk, map, reverse, option_map, option_to_list, if◌then◌else◌};
-ghost use Rattle.offset_script.specs.Answers.{seen};
+ghost use Rattle.offset_script.specs.Answers.{answer_view};
 ghost use Rattle.offset_script.specs.Machine as machine;
-ghost use Rattle.offset_script.specs.Totals.{asked};
+ghost use Rattle.offset_script.specs.Totals.{requested_units};
 ghost use Rattle.offset_lives.specs.Ends.{grants_in, end_in};
-ghost use Rattle.offset_lives.specs.Lives.{AreApart, IsWithin, begun, leaves, lives_of, life_seen};
+ghost use Rattle.offset_lives.specs.Lives.{AreApart, IsWithin, life_of_answer, leaves, lives_of, life_view};
 
 use offset_script::{Answer, Command, Script, play_script};
 use std::alloc::{AllocError, Global};
 
-/// A grant: its number and its range, and how long it is live.
+/// A grant: its number, its range, and the calls between which it is live.
 ///
-/// Calls are counted from 0. The grant is live from after the call `first`, which returned it, to the call `last`, which
-/// released it or was a reset; `last` is the number of all calls where the grant is live at the end.
+/// Calls are counted from 0. The grant is live from after the call `first`, which returned it, to the call `last`,
+/// which released it or was a reset; `last` is the number of all calls where the grant is live at the end.
 #[derive(Clone, Copy, PartialEq, Debug)]
 pub struct Life {
-    /// Grants are numbered from 1.
+    /// The number of the grant, from 1.
     pub number: u64,
-    /// Where the range begins.
+    /// The offset of the range.
     pub offset: u32,
-    /// The units of the range.
+    /// The size of the range in units.
     pub size: u32,
     /// The call that granted it.
     pub first: usize,
@@ -28,7 +28,7 @@ pub struct Life {
     pub last: usize,
 }
 
-// For each grant, the call that ends it, of the calls met so far: they are met from the last to the first.
+// For each grant, the call that ends it, among the calls seen so far: they are seen from the last to the first.
 #[derive(Drop)]
 struct Ends {
     // The first release of each grant, or the number of calls.
@@ -38,7 +38,7 @@ struct Ends {
 }
 
 impl Ends {
-    // No call is met, of as many as `calls`. There are at most as many grants.
+    // No call is seen yet, of a script with this number of calls, which is at least the number of its grants.
     fn new(alloc: Global, calls: usize) -> Result<Self, AllocError>
         requires { calls < 2 ^ 64 - 1 }
         ensures len { IfOk result (λ e. grants_in e ≡ calls + 1) }
@@ -60,7 +60,7 @@ impl Ends {
         self.released[number as usize].min(self.reset)
     }
 
-    // Meets call i, which comes before all that were met.
+    // Adds call i, which comes before all that were seen.
     fn meet(&mut self, i: usize, command: Command)
         requires { (k : ℕ) → k < grants_in self.old → i ≤ end_in self.old k }
         ensures len { grants_in self.new ≡ grants_in self.old }
@@ -79,9 +79,9 @@ impl Ends {
     }
 }
 
-// The units that a command asks for.
-fn asked(command: Command) -> u32
-    ensures { result ≡ asked command }
+// The units that a command requests.
+fn requested_units(command: Command) -> u32
+    ensures { result ≡ requested_units command }
 {
     match command {
         Command::Alloc(size) => size,
@@ -90,16 +90,16 @@ fn asked(command: Command) -> u32
     }
 }
 
-// The life that begins with an answer to call i.
-fn begun(i: usize, command: Command, answer: &Answer, ends: &Ends) -> Option<Life>
-    requires { (k offset : ℕ) → seen answer.now ≡ machine.Grant k offset → k < grants_in ends.now }
-    ensures { option_to_list (option_map life_seen result) ≡ begun i command (seen answer.now) (end_in ends.now) }
+// The life that begins with this answer to call i, if it is a grant.
+fn life_of_answer(i: usize, command: Command, answer: &Answer, ends: &Ends) -> Option<Life>
+    requires { (k offset : ℕ) → answer_view answer.now ≡ machine.Grant k offset → k < grants_in ends.now }
+    ensures { option_to_list (option_map life_view result) ≡ life_of_answer i command (answer_view answer.now) (end_in ends.now) }
 {
     match answer {
         Answer::Grant { number, offset } => Some(Life {
             number: *number,
             offset: *offset,
-            size: asked(command),
+            size: requested_units(command),
             first: i,
             last: ends.of(*number),
         }),
@@ -108,7 +108,7 @@ fn begun(i: usize, command: Command, answer: &Answer, ends: &Ends) -> Option<Lif
 }
 
 // The values in reverse order.
-fn reversed<T: Copy>(alloc: Global, values: &[T]) -> Result<Vec<T>, AllocError>
+fn in_reverse<T: Copy>(alloc: Global, values: &[T]) -> Result<Vec<T>, AllocError>
     ensures { IfOk result (λ v. reverse v.items ≡ values.now) }
 {
     let mut found = Vec::with_capacity(alloc, values.len())?;
@@ -118,16 +118,20 @@ fn reversed<T: Copy>(alloc: Global, values: &[T]) -> Result<Vec<T>, AllocError>
     Ok(found)
 }
 
-/// The lives of all grants that a script makes, in the order of their numbers.
+/// Plays a script, and returns the lives of all its grants, in the order of their numbers.
 ///
-/// It plays the script, and then goes over its commands once, from the last to the first: the end of a life is known
-/// where its beginning is met.
+/// It fails only where an allocation fails. After playing, it goes over the commands once, from the last to the first,
+/// so that the end of a life is known when its beginning is seen.
 pub fn lives(alloc: Global, script: &Script) -> Result<Vec<Life>, AllocError>
+    // The lives are those of the grants that the plain machine makes, in order: each with its number, offset and size,
+    // the call that granted it, and the call that ended it, or the number of all calls.
     ensures lives { IfOk result
-        (λ v. map life_seen v.items ≡ lives_of script.now.size script.now.max_allocs script.now.commands.items) }
-    ensures apart { IfOk result (λ v. AllPairs AreApart (map life_seen v.items)) }
+        (λ v. map life_view v.items ≡ lives_of script.now.size script.now.max_allocs script.now.commands.items) }
+    // No two lives share a unit at any time.
+    ensures apart { IfOk result (λ v. AllPairs AreApart (map life_view v.items)) }
+    // Each range lies within the space as the call of its grant left it.
     ensures within { IfOk result
-        (λ v. All (IsWithin script.now.size script.now.max_allocs script.now.commands.items) (map life_seen v.items)) }
+        (λ v. All (IsWithin script.now.size script.now.max_allocs script.now.commands.items) (map life_view v.items)) }
 {
     let answers = play_script(alloc, script)?;
     let calls = script.commands.len();
@@ -135,10 +139,10 @@ pub fn lives(alloc: Global, script: &Script) -> Result<Vec<Life>, AllocError>
     let mut backward = Vec::new(alloc);
     for i in (0..calls).rev() {
         let command = script.commands[i];
-        if let Some(life) = begun(i, command, &answers[i], &ends) {
+        if let Some(life) = life_of_answer(i, command, &answers[i], &ends) {
             backward.push(life)?;
         }
         ends.meet(i, command);
     }
-    reversed(alloc, &backward)
+    in_reverse(alloc, &backward)
 }

@@ -1,4 +1,4 @@
-//! Many grants in few rectangles.
+//! Merges the rectangles of many grants.
 
 use crate::axes::TENTH;
 use crate::living::Life;
@@ -12,7 +12,7 @@ fn is_tiny(shape: &Shape) -> bool {
 }
 
 // The rectangle with its edges at whole tenths of a pixel around it.
-fn rounded(shape: &Shape) -> Shape {
+fn round_out(shape: &Shape) -> Shape {
     Shape {
         top: shape.top / TENTH * TENTH,
         bottom: shape.bottom.div_ceil(TENTH).saturating_mul(TENTH),
@@ -22,23 +22,23 @@ fn rounded(shape: &Shape) -> Shape {
     }
 }
 
-// Whether two rectangles have one height and one age, and the second begins before the first ends or there.
-fn are_joined(before: &Shape, shape: &Shape) -> bool {
+// Whether two rectangles have the same height and age, and the second begins at or before the end of the first.
+fn can_merge(before: &Shape, shape: &Shape) -> bool {
     before.top == shape.top
         && before.bottom == shape.bottom
         && before.age == shape.age
         && shape.left <= before.right
 }
 
-/// The rectangles of lives. Those thinner than a tenth of a pixel are rounded to whole tenths, and then those of one
-/// height and one age that touch become one.
-pub fn merged(alloc: Global, plot: &Plot, lives: &[Life]) -> Result<Vec<Shape>, AllocError> {
+/// The rectangles of lives. Those thinner than a tenth of a pixel are rounded to whole tenths, and then those of the
+/// same height and age that touch are merged.
+pub fn shapes_of(alloc: Global, plot: &Plot, lives: &[Life]) -> Result<Vec<Shape>, AllocError> {
     let mut found = Vec::new(alloc);
     let mut tiny = Vec::new(alloc);
     for life in lives {
         let shape = shape_of(plot, life);
         if is_tiny(&shape) {
-            tiny.push(rounded(&shape))?;
+            tiny.push(round_out(&shape))?;
         } else {
             found.push(shape)?;
         }
@@ -47,7 +47,7 @@ pub fn merged(alloc: Global, plot: &Plot, lives: &[Life]) -> Result<Vec<Shape>, 
     let mut last: Option<Shape> = None;
     for shape in &tiny {
         match last {
-            Some(before) if are_joined(&before, shape) => {
+            Some(before) if can_merge(&before, shape) => {
                 last = Some(Shape {
                     right: shape.right.max(before.right),
                     ..before

@@ -27,7 +27,7 @@ pub const REPORTS_TOP: u32 = 63_000;
 /// How high the plot of the reports is.
 pub const REPORTS_HEIGHT: u32 = 15_000;
 
-// A call of number k lies at k, and a state from there to the next call.
+// Call k, counted from 1, lies at k, and the state after it from there to the next call.
 fn calls_axis(calls: u32) -> Axis {
     Axis {
         start: LEFT,

@@ -1,4 +1,4 @@
-//! What a program does with a script that is to be drawn.
+//! What a program that draws does: a picture, its status, and the line of its fault.
 
 ghost use Rattle.std.specs.Prelude.{◌≡◌, ◌≢◌, Result, Err, true, IfSome, MatchResult, OnOk, if◌then◌else◌};
 ghost use Rattle.offset_lives.specs.Drawing.{DrawOf};
@@ -12,7 +12,8 @@ use crate::drawing::picture;
 use offset_script::{RunFault, Sink, Source, read_script, send, send_fault};
 use std::alloc::Global;
 
-// Reads a script to its end, draws it, writes the picture, and then flushes.
+// Reads a script to its end, draws it, writes the picture, and then flushes. The clauses are those of `run`, with a
+// picture in place of answers.
 fn draw<S: Source, K: Sink>(alloc: Global, input: &mut S, output: &mut K) -> Result<(), RunFault>
     ensures of_text { IfSome (S.left input.old)
         (λ text. DrawOf result text (S.left input.new) (K.held output.old) (K.held output.new)) }
@@ -31,11 +32,11 @@ fn draw<S: Source, K: Sink>(alloc: Global, input: &mut S, output: &mut K) -> Res
     }
 }
 
-/// Draws a script, and where that fails, writes the line of the fault to `errors`. Returns the status to exit with.
+/// Draws a script, writes the picture, or the line of a fault to `errors`, and returns the status to exit with.
 ///
-/// The status is 0 exactly where a whole picture was written and flushed, 2 where the text is no script, 3 where memory was
-/// refused, and 4 where the source or the sink failed. Nothing is written to `output` unless the whole text is a script. A
-/// picture that was written leaves `errors` as it was. A failure of `errors` changes no status, and its line takes no
+/// The status is 0 exactly where a whole picture was written and flushed, 2 where the text is no script, 3 where an
+/// allocation failed, and 4 where the source or the sink failed. Nothing is written to `output` unless the whole text
+/// is a script. With status 0, `errors` is as it was. A failure of `errors` changes no status, and its line needs no
 /// memory.
 pub fn draw_program<S: Source, K: Sink, E: Sink>(
     alloc: Global,
@@ -43,7 +44,17 @@ pub fn draw_program<S: Source, K: Sink, E: Sink>(
     output: &mut K,
     errors: &mut E,
 ) -> u8
-    // There is a result of a drawing, whose status and whose fault's line these are.
+    // There is a result of drawing, named `ended`, with these properties, in this order:
+    // - it is never `Script(Memory)`;
+    // - the status returned is its status: 0 of `Ok`, and else that of the fault;
+    // - after `Ok`, `errors` is as it was; else the line of the fault was appended to it and flushed, or a beginning of
+    //   that line was, and `errors` failed;
+    // - where the text of the source is known: on `Ok` it means a script, and a whole picture is appended; on `Write` a
+    //   beginning of a picture is; on `Script` the fault is that of the text;
+    // - after `Ok` the output is flushed;
+    // - after `Script`, `Memory` and `Read` the output is as it was;
+    // - it is `Read` exactly where the source failed in this call;
+    // - it is `Write` exactly where the output failed in this call.
     ensures { (ended : Result (Unit {0}) RunFault)
         × (ended ≢ Err (faults.Script scripts.Memory))
         × (result ≡ status_of ended)

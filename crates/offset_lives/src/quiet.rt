@@ -1,19 +1,19 @@
-//! A script without full reports, of which nothing is drawn.
+//! A script without full reports, which pictures do not show.
 
 ghost use Rattle.std.specs.Prelude.{◌≡◌, All, IfOk, IsTrue};
-ghost use Rattle.offset_script.specs.Limits.{is_powered};
+ghost use Rattle.offset_script.specs.Grammar.{has_valid_alignment};
 ghost use Rattle.offset_lives.specs.Lives.{lives_of};
-ghost use Rattle.offset_lives.specs.Quiet.{quiet, all_quiet};
+ghost use Rattle.offset_lives.specs.Quiet.{replace_full, replace_all_full};
 ghost use Rattle.offset_lives.specs.Reported.{reports_of};
 
 use offset_script::{Command, Script};
 use std::alloc::{AllocError, Global};
 
-// A report for a full report.
-fn quiet(command: Command) -> Command
-    requires { IsTrue (is_powered command) }
-    ensures command { result ≡ quiet command }
-    ensures power { IsTrue (is_powered result) }
+// A command, with a report in place of a full report.
+fn replace_full(command: Command) -> Command
+    requires { IsTrue (has_valid_alignment command) }
+    ensures command { result ≡ replace_full command }
+    ensures power { IsTrue (has_valid_alignment result) }
 {
     match command {
         Command::Full => Command::Report,
@@ -21,20 +21,21 @@ fn quiet(command: Command) -> Command
     }
 }
 
-// A report for each full report.
+// Commands, with a report in place of each full report.
 fn quiet_commands(alloc: Global, commands: &[Command]) -> Result<Vec<Command>, AllocError>
-    requires { All (λ c. IsTrue (is_powered c)) commands.now }
-    ensures commands { IfOk result (λ v. v.items ≡ all_quiet commands.now) }
-    ensures powers { IfOk result (λ v. All (λ c. IsTrue (is_powered c)) v.items) }
+    requires { All (λ c. IsTrue (has_valid_alignment c)) commands.now }
+    ensures commands { IfOk result (λ v. v.items ≡ replace_all_full commands.now) }
+    ensures powers { IfOk result (λ v. All (λ c. IsTrue (has_valid_alignment c)) v.items) }
 {
     let mut found = Vec::with_capacity(alloc, commands.len())?;
     for command in commands {
-        found.push(quiet(*command))?;
+        found.push(replace_full(*command))?;
     }
     Ok(found)
 }
 
-/// A script of as many commands, with the same lives and reports, and with no full report, whose rows are many to keep.
+/// A script with a report in place of each full report, whose rows would take much memory. It has the same lives and
+/// reports, and as many commands.
 pub fn without_full(alloc: Global, script: &Script) -> Result<Script, AllocError>
     ensures lives { IfOk result (λ s. lives_of s.size s.max_allocs s.commands.items
         ≡ lives_of script.now.size script.now.max_allocs script.now.commands.items) }

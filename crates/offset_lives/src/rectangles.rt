@@ -2,7 +2,7 @@
 
 use crate::ages::AGES;
 use crate::living::Life;
-use crate::merging::merged;
+use crate::merging::shapes_of;
 use crate::numbers::Pixels;
 use crate::plots::Plot;
 use crate::shapes::{Shape, shape_of};
@@ -11,16 +11,16 @@ use std::alloc::{AllocError, Global};
 // The most grants that are drawn with a title each.
 const MOST_TITLES: usize = 20_000;
 
-// The least width and height that is drawn: 0.3 pixels.
-const LEAST: u32 = 30;
+// The smallest width and height that is drawn: 0.3 pixels.
+const SMALLEST: u32 = 30;
 
 // From this width and height on, a rectangle has an edge in the colour of the background: 3 pixels.
 const EDGED: u32 = 300;
 
 // The beginning of a rectangle's element. One that is too thin to be seen becomes 0.3 pixels thick.
 fn put_shape(out: &mut String, shape: &Shape) -> Result<(), AllocError> {
-    let across = shape.width().max(LEAST);
-    let high = shape.height().max(LEAST);
+    let across = shape.width().max(SMALLEST);
+    let high = shape.height().max(SMALLEST);
     let x = Pixels(shape.left);
     let y = Pixels(shape.bottom.saturating_sub(high));
     let width = Pixels(across);
@@ -84,8 +84,8 @@ fn put_plain(out: &mut String, shapes: &[Shape], age: usize) -> Result<(), Alloc
     Ok(())
 }
 
-/// The rectangles of lives in groups by their age, the longest lives first. Where these are many, they have no titles,
-/// and tiny ones are merged: then it returns how many were drawn.
+/// Appends the rectangles of lives in groups by their age, the longest lives first. Of more than 20,000 lives they have
+/// no titles, and tiny ones are merged: then it returns the number of rectangles.
 pub fn put_grants(
     alloc: Global,
     out: &mut String,
@@ -94,7 +94,7 @@ pub fn put_grants(
     calls: u32,
 ) -> Result<Option<usize>, AllocError> {
     let shapes = if lives.len() > MOST_TITLES {
-        Some(merged(alloc, plot, lives)?)
+        Some(shapes_of(alloc, plot, lives)?)
     } else {
         None
     };

@@ -1,10 +1,10 @@
 //! The reports between the commands of a script.
 
 ghost use Rattle.std.specs.Prelude.{◌≡◌, ℕ, All, IfOk, IsTrue, map, option_map};
-ghost use Rattle.offset_script.specs.Answers.{seen};
-ghost use Rattle.offset_script.specs.Limits.{is_powered};
+ghost use Rattle.offset_script.specs.Answers.{answer_view};
+ghost use Rattle.offset_script.specs.Grammar.{has_valid_alignment};
 ghost use Rattle.offset_script.specs.Machine as machine;
-ghost use Rattle.offset_lives.specs.Reported.{reports_of, report_seen, watched};
+ghost use Rattle.offset_lives.specs.Reported.{reports_of, report_view, with_reports};
 
 use offset_allocator::StorageReport;
 use offset_script::{Answer, Command, Script, play_script};
@@ -12,9 +12,9 @@ use std::alloc::{AllocError, Global};
 
 // The commands, with a report before and after each.
 fn with_reports(alloc: Global, commands: &[Command]) -> Result<Vec<Command>, AllocError>
-    requires { All (λ c. IsTrue (is_powered c)) commands.now }
-    ensures commands { IfOk result (λ v. v.items ≡ watched commands.now) }
-    ensures powers { IfOk result (λ v. All (λ c. IsTrue (is_powered c)) v.items) }
+    requires { All (λ c. IsTrue (has_valid_alignment c)) commands.now }
+    ensures commands { IfOk result (λ v. v.items ≡ with_reports commands.now) }
+    ensures powers { IfOk result (λ v. All (λ c. IsTrue (has_valid_alignment c)) v.items) }
 {
     let mut found = Vec::new(alloc);
     for command in commands {
@@ -25,10 +25,10 @@ fn with_reports(alloc: Global, commands: &[Command]) -> Result<Vec<Command>, All
     Ok(found)
 }
 
-// The report that an answer is.
-fn reported(answer: &Answer) -> Option<StorageReport>
-    ensures { (free largest : ℕ) → seen answer.now ≡ machine.Report free largest
-        → option_map report_seen result ≡ Some (machine.Report free largest) }
+// The report in an answer, if it is one.
+fn report_in(answer: &Answer) -> Option<StorageReport>
+    ensures { (free largest : ℕ) → answer_view answer.now ≡ machine.Report free largest
+        → option_map report_view result ≡ Some (machine.Report free largest) }
 {
     match answer {
         Answer::Report(report) => Some(StorageReport {
@@ -39,12 +39,14 @@ fn reported(answer: &Answer) -> Option<StorageReport>
     }
 }
 
-/// What the space of a script reports before its first command and after each: one report more than commands.
+/// Plays a script, and returns the reports of its space before the first command and after each, in order.
 ///
-/// It plays the script with a report before and after each command, which changes nothing else.
+/// It fails only where an allocation fails. It plays the script with a report before and after each command, which
+/// changes nothing else.
 pub fn reports(alloc: Global, script: &Script) -> Result<Vec<StorageReport>, AllocError>
+    // The reports are those of the plain machine: of the fresh space, and of the space after each command, in order.
     ensures { IfOk result
-        (λ v. map report_seen v.items ≡ reports_of script.now.size script.now.max_allocs script.now.commands.items) }
+        (λ v. map report_view v.items ≡ reports_of script.now.size script.now.max_allocs script.now.commands.items) }
 {
     let watched = Script {
         size: script.size,
@@ -55,7 +57,7 @@ pub fn reports(alloc: Global, script: &Script) -> Result<Vec<StorageReport>, All
     let answers = play_script(alloc, &watched)?;
     let mut found = Vec::new(alloc);
     for i in 0..script.commands.len() + 1 {
-        if let Some(report) = reported(&answers[2 * i]) {
+        if let Some(report) = report_in(&answers[2 * i]) {
             found.push(report)?;
         }
     }

@@ -35,7 +35,7 @@ impl Column {
         self.last = height;
     }
 
-    // Goes on with the line, which is at the height `pen`: over all of the heights, to the last.
+    // Continues the line, which is at the height `pen`, over all of the heights, to the last.
     fn put(&self, out: &mut String, pen: u32) -> Result<(), AllocError> {
         if self.top == pen && self.bottom == pen {
             return Ok(());

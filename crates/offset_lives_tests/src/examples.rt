@@ -4,7 +4,7 @@
 //! Unit u of a plot that ends at the unit e is at y = 550 - 400 u / e in the plot of the ranges, and at
 //! y = 780 - 150 u / e in the plot of the reports.
 
-use crate::support::{drawn, expect_once, rectangles};
+use crate::support::{expect_once, picture_of, rectangles};
 use std::test::Fail;
 
 // The stored run of `offset_picture`. With 9 calls, each takes 105 pixels. The highest unit is 192, and a twentieth above
@@ -23,7 +23,7 @@ alloc 192
 
 #[test]
 fn draws_a_rectangle_for_each_grant(rt: HostRuntime) -> Result<(), Fail> {
-    let picture = drawn(rt.alloc(), STORED)?;
+    let picture = picture_of(rt.alloc(), STORED)?;
     assert_eq!(rt; rectangles(&picture), 5);
     expect_once(
         &rt,
@@ -46,7 +46,7 @@ fn draws_a_rectangle_for_each_grant(rt: HostRuntime) -> Result<(), Fail> {
 
 #[test]
 fn draws_the_space_and_the_reports(rt: HostRuntime) -> Result<(), Fail> {
-    let picture = drawn(rt.alloc(), STORED)?;
+    let picture = picture_of(rt.alloc(), STORED)?;
     expect_once(
         &rt,
         &picture,
@@ -66,7 +66,7 @@ fn draws_the_space_and_the_reports(rt: HostRuntime) -> Result<(), Fail> {
 
 #[test]
 fn writes_the_numbers_that_matter(rt: HostRuntime) -> Result<(), Fail> {
-    let picture = drawn(rt.alloc(), STORED)?;
+    let picture = picture_of(rt.alloc(), STORED)?;
     expect_once(
         &rt,
         &picture,
@@ -84,7 +84,7 @@ fn writes_the_numbers_that_matter(rt: HostRuntime) -> Result<(), Fail> {
 // 1 call: it is at 645. The highest unit is 61, and the axis ends at 61 + 3 + 1. 40 is at 550 - 400 40 / 65.
 #[test]
 fn ends_the_axis_a_little_above_the_highest_unit(rt: HostRuntime) -> Result<(), Fail> {
-    let picture = drawn(rt.alloc(), "space 1000 nodes 16 index 32\nalloc 61\n")?;
+    let picture = picture_of(rt.alloc(), "space 1000 nodes 16 index 32\nalloc 61\n")?;
     expect_once(
         &rt,
         &picture,
@@ -102,7 +102,7 @@ fn ends_the_axis_a_little_above_the_highest_unit(rt: HostRuntime) -> Result<(), 
 fn groups_grants_by_age(rt: HostRuntime) -> Result<(), Fail> {
     let text =
         "space 100 nodes 16 index 32\nalloc 1\nalloc 2\nfree 2\nalloc 3\nfree 3\nreport\nreport\nreport\nreport\nreport\nreport\nfree 1\n";
-    let picture = drawn(rt.alloc(), text)?;
+    let picture = picture_of(rt.alloc(), text)?;
     let Some((_, short)) = picture.split_once("<g class='age1'>") else {
         assert!(rt; false, "{picture}");
         return Ok(());
@@ -120,11 +120,11 @@ fn groups_grants_by_age(rt: HostRuntime) -> Result<(), Fail> {
 // Either is one more call, of which nothing else is drawn.
 #[test]
 fn draws_a_full_report_as_a_report(rt: HostRuntime) -> Result<(), Fail> {
-    let full = drawn(
+    let full = picture_of(
         rt.alloc(),
         "space 100 nodes 16 index 32\nalloc 10\nfull\nfree 1\n",
     )?;
-    let short = drawn(
+    let short = picture_of(
         rt.alloc(),
         "space 100 nodes 16 index 32\nalloc 10\nreport\nfree 1\n",
     )?;

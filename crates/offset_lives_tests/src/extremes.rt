@@ -1,12 +1,12 @@
 //! Pictures of scripts at the limits.
 
-use crate::support::{drawn, expect_once, rectangles};
+use crate::support::{expect_once, picture_of, rectangles};
 use std::test::Fail;
 
 // There is one state, all along the axis. 100 free units are the whole height, and 96 of them are 144 pixels.
 #[test]
 fn draws_an_empty_script(rt: HostRuntime) -> Result<(), Fail> {
-    let picture = drawn(rt.alloc(), "space 100 nodes 16 index 32\n")?;
+    let picture = picture_of(rt.alloc(), "space 100 nodes 16 index 32\n")?;
     assert_eq!(rt; rectangles(&picture), 0);
     expect_once(
         &rt,
@@ -27,7 +27,7 @@ fn draws_an_empty_script(rt: HostRuntime) -> Result<(), Fail> {
 // 3 calls are at 382.5, 645 and 907.5; the marks are drawn to a tenth of a pixel.
 #[test]
 fn draws_refusals_alone(rt: HostRuntime) -> Result<(), Fail> {
-    let picture = drawn(
+    let picture = picture_of(
         rt.alloc(),
         "space 100 nodes 16 index 32\nalloc 101\nalign 90 64\nalloc 4294967295\n",
     )?;
@@ -45,7 +45,7 @@ fn draws_refusals_alone(rt: HostRuntime) -> Result<(), Fail> {
 
 #[test]
 fn draws_a_space_of_no_units(rt: HostRuntime) -> Result<(), Fail> {
-    let picture = drawn(rt.alloc(), "space 0 nodes 16 index 32\nalloc 0\nalloc 1\n")?;
+    let picture = picture_of(rt.alloc(), "space 0 nodes 16 index 32\nalloc 0\nalloc 1\n")?;
     expect_once(
         &rt,
         &picture,
@@ -60,7 +60,7 @@ fn draws_a_space_of_no_units(rt: HostRuntime) -> Result<(), Fail> {
 // A grant of no units is 0.3 pixels high, so that it is seen.
 #[test]
 fn draws_grants_of_no_units(rt: HostRuntime) -> Result<(), Fail> {
-    let picture = drawn(rt.alloc(), "space 100 nodes 16 index 32\nalloc 0\n")?;
+    let picture = picture_of(rt.alloc(), "space 100 nodes 16 index 32\nalloc 0\n")?;
     assert_eq!(rt; rectangles(&picture), 1);
     expect_once(
         &rt,
@@ -75,7 +75,7 @@ fn draws_grants_of_no_units(rt: HostRuntime) -> Result<(), Fail> {
 // The highest unit is 4,026,531,840, and the axis ends a twentieth above: the grant is 20/21 of 400 pixels high.
 #[test]
 fn draws_the_largest_space(rt: HostRuntime) -> Result<(), Fail> {
-    let picture = drawn(
+    let picture = picture_of(
         rt.alloc(),
         "space 4294967295 nodes 16 index 32\nalloc 4026531840\n",
     )?;
@@ -94,7 +94,7 @@ fn draws_the_largest_space(rt: HostRuntime) -> Result<(), Fail> {
 // Two extensions: 2^32 - 2 units and 1 more fit, and no other unit.
 #[test]
 fn draws_a_space_that_grows_to_the_largest(rt: HostRuntime) -> Result<(), Fail> {
-    let picture = drawn(
+    let picture = picture_of(
         rt.alloc(),
         "space 10 nodes 16 index 32\nextend 4294967284\nextend 1\nextend 1\n",
     )?;
@@ -113,7 +113,7 @@ fn draws_a_space_that_grows_to_the_largest(rt: HostRuntime) -> Result<(), Fail> 
 // With 3 nodes one grant leaves no node, and the report is 0, 0 though 90 units are free. 2 calls: 470 and 820.
 #[test]
 fn draws_the_node_limit(rt: HostRuntime) -> Result<(), Fail> {
-    let picture = drawn(
+    let picture = picture_of(
         rt.alloc(),
         "space 100 nodes 3 index 32\nalloc 10\nalloc 10\n",
     )?;
@@ -134,7 +134,7 @@ fn draws_the_node_limit(rt: HostRuntime) -> Result<(), Fail> {
 // size classes, and so requests for all of a free block are granted.
 #[test]
 fn ends_lives_at_a_reset(rt: HostRuntime) -> Result<(), Fail> {
-    let picture = drawn(
+    let picture = picture_of(
         rt.alloc(),
         "space 100 nodes 16 index 32\nalloc 52\nalloc 48\nfree 2\nreset\nalloc 96\nfree 1\n",
     )?;

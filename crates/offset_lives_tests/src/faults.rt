@@ -8,8 +8,13 @@ use std::test::Fail;
 
 const TEXT: &[u8] = b"space 10 nodes 4 index 32\nalloc 10\nfree 1\n";
 
-// The status of a program over these devices, and its output and its errors as they are left.
-fn ended(alloc: Global, input: Reader<'_>, output: Writer, errors: Writer) -> (u8, Writer, Writer) {
+// The status of a program over these devices, and the output and the errors that it leaves.
+fn run_over(
+    alloc: Global,
+    input: Reader<'_>,
+    output: Writer,
+    errors: Writer,
+) -> (u8, Writer, Writer) {
     let mut input = FromRead::new(input);
     let mut output = IntoWrite::new(output);
     let mut errors = IntoWrite::new(errors);
@@ -20,7 +25,7 @@ fn ended(alloc: Global, input: Reader<'_>, output: Writer, errors: Writer) -> (u
 #[test]
 fn a_picture_ends_with_0_and_no_line(rt: HostRuntime) -> Result<(), Fail> {
     let writer = || Writer::new(rt.alloc(), 1000);
-    let (status, output, errors) = ended(rt.alloc(), Reader::new(TEXT, 7), writer(), writer());
+    let (status, output, errors) = run_over(rt.alloc(), Reader::new(TEXT, 7), writer(), writer());
     assert_eq!(rt; status, 0);
     assert!(rt; output.taken.as_slice().starts_with(b"<svg "));
     assert!(rt; output.taken.as_slice().ends_with(b"</svg>\n"));
@@ -45,7 +50,7 @@ fn a_text_that_is_no_script_is_not_drawn(rt: HostRuntime) -> Result<(), Fail> {
             b"line 5: bad command\n",
         ),
     ] {
-        let (status, output, errors) = ended(
+        let (status, output, errors) = run_over(
             rt.alloc(),
             Reader::new(text, 4096),
             Writer::new(rt.alloc(), 4096),
@@ -59,10 +64,10 @@ fn a_text_that_is_no_script_is_not_drawn(rt: HostRuntime) -> Result<(), Fail> {
     Ok(())
 }
 
-// A space of so many nodes does not fit in memory.
+// The tables for this number of nodes do not fit in memory.
 #[test]
 fn a_space_that_does_not_fit_is_not_drawn(rt: HostRuntime) -> Result<(), Fail> {
-    let (status, output, errors) = ended(
+    let (status, output, errors) = run_over(
         rt.alloc(),
         Reader::new(b"space 10 nodes 4294967293 index 32\n", 4096),
         Writer::new(rt.alloc(), 4096),
@@ -78,18 +83,18 @@ fn a_device_that_fails_ends_with_4_and_its_line(rt: HostRuntime) -> Result<(), F
     let writer = || Writer::new(rt.alloc(), 4096);
     let mut reader = Reader::new(TEXT, 4096);
     reader.fails_at = 2;
-    let (status, output, errors) = ended(rt.alloc(), reader, writer(), writer());
+    let (status, output, errors) = run_over(rt.alloc(), reader, writer(), writer());
     assert_eq!(rt; (status, output.writes, output.flushes), (4, 0, 0));
     assert_eq!(rt; errors.taken.as_slice(), b"read failed\n".as_slice());
     let mut full = Writer::new(rt.alloc(), 5);
     full.fails_at = 2;
-    let (status, output, errors) = ended(rt.alloc(), Reader::new(TEXT, 4096), full, writer());
+    let (status, output, errors) = run_over(rt.alloc(), Reader::new(TEXT, 4096), full, writer());
     assert_eq!(rt; (status, output.flushes), (4, 0));
     assert_eq!(rt; output.taken.as_slice(), b"<svg ".as_slice());
     assert_eq!(rt; errors.taken.as_slice(), b"write failed\n".as_slice());
     let mut stuck = writer();
     stuck.fails_flush = true;
-    let (status, output, errors) = ended(rt.alloc(), Reader::new(TEXT, 4096), stuck, writer());
+    let (status, output, errors) = run_over(rt.alloc(), Reader::new(TEXT, 4096), stuck, writer());
     assert_eq!(rt; (status, output.flushes), (4, 1));
     assert_eq!(rt; errors.taken.as_slice(), b"write failed\n".as_slice());
     Ok(())
@@ -99,7 +104,7 @@ fn a_device_that_fails_ends_with_4_and_its_line(rt: HostRuntime) -> Result<(), F
 fn errors_that_fail_change_no_status(rt: HostRuntime) -> Result<(), Fail> {
     let mut errors = Writer::new(rt.alloc(), 1);
     errors.fails_at = 3;
-    let (status, output, errors) = ended(
+    let (status, output, errors) = run_over(
         rt.alloc(),
         Reader::new(b"alloc 1", 4096),
         Writer::new(rt.alloc(), 4096),

@@ -1,6 +1,6 @@
 //! Pictures of many grants.
 
-use crate::support::{count, drawn, expect_once, rectangles};
+use crate::support::{count, expect_once, picture_of, rectangles};
 use std::alloc::Global;
 use std::test::Fail;
 
@@ -16,7 +16,7 @@ fn units(alloc: Global, grants: u32) -> Result<String, Fail> {
 #[test]
 fn titles_20000_grants(rt: HostRuntime) -> Result<(), Fail> {
     let text = units(rt.alloc(), 20_000)?;
-    let picture = drawn(rt.alloc(), &text)?;
+    let picture = picture_of(rt.alloc(), &text)?;
     assert_eq!(rt; rectangles(&picture), 20_000);
     assert_eq!(rt; count(&picture, "<title>"), 20_000);
     assert!(rt; !picture.contains("merged"));
@@ -27,7 +27,7 @@ fn titles_20000_grants(rt: HostRuntime) -> Result<(), Fail> {
 #[test]
 fn merges_20001_grants(rt: HostRuntime) -> Result<(), Fail> {
     let text = units(rt.alloc(), 20_001)?;
-    let picture = drawn(rt.alloc(), &text)?;
+    let picture = picture_of(rt.alloc(), &text)?;
     let found = rectangles(&picture);
     assert_eq!(rt; count(&picture, "<title>"), 0);
     assert!(rt; found > 1000 && found < 10_000, "{found}");
@@ -44,7 +44,7 @@ fn merges_20001_grants(rt: HostRuntime) -> Result<(), Fail> {
     Ok(())
 }
 
-// A first grant of units 0 to 52 that lives to the end, and then grants of units 52 to 100 that live for one call. With
+// A first grant of units 0 to 52 that is live to the end, and then grants of units 52 to 100 that are live for one call. With
 // 40,003 calls one call takes 0.026 pixels. The first grant is at 120.02, and is not merged. All others touch, within a
 // tenth of a pixel: from 120.05, and so from 120, to 1169.97, and so to 1170.
 #[test]
@@ -53,7 +53,7 @@ fn merges_grants_that_touch(rt: HostRuntime) -> Result<(), Fail> {
     for k in 2..20_003u32 {
         writeln!(text, "alloc 48\nfree {k}")?;
     }
-    let picture = drawn(rt.alloc(), &text)?;
+    let picture = picture_of(rt.alloc(), &text)?;
     assert_eq!(rt; rectangles(&picture), 2);
     expect_once(
         &rt,

@@ -1,6 +1,6 @@
 //! Pictures are well-formed XML.
 
-use crate::support::drawn;
+use crate::support::picture_of;
 use std::alloc::{AllocError, Global};
 use std::test::Fail;
 
@@ -78,9 +78,9 @@ fn is_well_formed(alloc: Global, text: &str) -> Result<bool, AllocError> {
     Ok(open.is_empty() && roots == 1)
 }
 
-// What the other tests of this file rest on.
+// The other tests of this file rely on this check.
 #[test]
-fn knows_what_is_well_formed(rt: HostRuntime) -> Result<(), Fail> {
+fn the_check_of_markup_works(rt: HostRuntime) -> Result<(), Fail> {
     for (text, want) in [
         ("<a/>", true),
         ("<a b='c' d='e'>f<g/>h</a>\n", true),
@@ -115,7 +115,7 @@ fn draws_well_formed_pictures(rt: HostRuntime) -> Result<(), Fail> {
         "space 100 nodes 16 index 32\nalloc 10\nalign 8 16\nfree 1\nalloc 90\nextend 50\nalloc 0\nsize 3\nfull\nreport\nreset\nalloc 7\n",
         "space 4294967295 nodes 16 index 32\nalloc 4026531840\nextend 1\nfree 9\n",
     ] {
-        let picture = drawn(rt.alloc(), text)?;
+        let picture = picture_of(rt.alloc(), text)?;
         assert!(rt; is_well_formed(rt.alloc(), &picture)?, "{text}{picture}");
     }
     Ok(())

@@ -7,7 +7,7 @@ use std::process::Abort;
 use std::test::Fail;
 
 /// The picture of a script.
-pub fn drawn(alloc: Global, text: &str) -> Result<String, Fail> {
+pub fn picture_of(alloc: Global, text: &str) -> Result<String, Fail> {
     let script = parse(alloc, text.as_bytes())?;
     Ok(picture(alloc, &script)?)
 }
@@ -22,7 +22,7 @@ pub fn rectangles(text: &str) -> usize {
     count(text, "<rect x=")
 }
 
-/// Each of these texts is in the picture once.
+/// Expects each of these texts in the picture exactly once.
 pub fn expect_once(rt: &impl Abort, text: &str, words: &[&str]) {
     for word in words {
         let found = count(text, word);

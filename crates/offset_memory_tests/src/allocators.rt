@@ -1,4 +1,4 @@
-//! Allocators where memory is refused.
+//! Constructors where allocations fail.
 
 use crate::attempts::{Attempt, Outcome, right_if};
 use crate::ladder::{COARSE, FINE, refusals};
@@ -24,7 +24,7 @@ fn outcome_of<NI: NodeIndex>(made: Result<Allocator<NI>, AllocError>) -> Outcome
     }
 }
 
-fn limited<NI: NodeIndex>(alloc: Global, limit: u32) -> Outcome {
+fn construct_limited<NI: NodeIndex>(alloc: Global, limit: u32) -> Outcome {
     if limit < 2 || limit >= NI::MAX - 1 {
         return Outcome::Wrong;
     }
@@ -36,10 +36,10 @@ impl Attempt for Constructor {
         match self {
             Constructor::New16 => outcome_of(Allocator::<u16>::new(alloc, 100)),
             Constructor::New32 => outcome_of(Allocator::<u32>::new(alloc, 100)),
-            Constructor::Limited16(limit) => limited::<u16>(alloc, *limit),
-            Constructor::Limited32(limit) => limited::<u32>(alloc, *limit),
+            Constructor::Limited16(limit) => construct_limited::<u16>(alloc, *limit),
+            Constructor::Limited32(limit) => construct_limited::<u32>(alloc, *limit),
             Constructor::NewTiny => outcome_of(Allocator::<Tiny>::new(alloc, 100)),
-            Constructor::LimitedTiny(limit) => limited::<Tiny>(alloc, *limit),
+            Constructor::LimitedTiny(limit) => construct_limited::<Tiny>(alloc, *limit),
         }
     }
 }

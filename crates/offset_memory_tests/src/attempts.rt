@@ -1,19 +1,19 @@
-//! Calls that may be refused memory, and all memory that a process can have.
+//! Calls of which an allocation may fail, and the taking of all memory that a process can have.
 
 use std::alloc::{AllocError, Global};
 
-/// What came of calls that may be refused memory.
+/// The outcome of calls of which an allocation may fail.
 #[derive(Clone, Copy, PartialEq, Debug)]
 pub enum Outcome {
-    /// They told that memory was refused, in their own way, and did nothing else.
+    /// They reported out of memory, and did nothing else.
     Refused,
-    /// They met no refusal, and answered as with ample memory.
+    /// No allocation failed, and they returned the same as with ample memory.
     Right,
-    /// They told a refusal in another way, or gave another answer.
+    /// They reported a failure otherwise, or returned something else.
     Wrong,
 }
 
-/// Right if it is so, and else wrong.
+/// `Right` if this holds, else `Wrong`.
 pub fn right_if(holds: bool) -> Outcome {
     if holds {
         Outcome::Right
@@ -22,7 +22,7 @@ pub fn right_if(holds: bool) -> Outcome {
     }
 }
 
-/// Refused if it is so, and else wrong.
+/// `Refused` if this holds, else `Wrong`.
 pub fn refused_if(holds: bool) -> Outcome {
     if holds {
         Outcome::Refused
@@ -31,19 +31,19 @@ pub fn refused_if(holds: bool) -> Outcome {
     }
 }
 
-/// Calls that may be refused memory.
+/// Calls of which an allocation may fail.
 pub trait Attempt {
     fn outcome(&mut self, alloc: Global) -> Outcome;
 }
 
-// More blocks than all memory makes, as it is asked for.
+// More blocks than all memory is taken in.
 const BLOCKS: usize = 100_000;
 
-// Blocks of at most this size are kept apart by their sizes where they are free.
+// The C library keeps free blocks of at most this size in lists by size.
 const SMALL: usize = 4_096;
 
-// The next size to ask for.
-fn less(size: usize) -> usize {
+// The next smaller size to request.
+fn smaller(size: usize) -> usize {
     if size > SMALL {
         size / 2
     } else {
@@ -61,13 +61,13 @@ pub fn all_memory(alloc: Global) -> Result<Vec<Vec<u8>>, AllocError> {
         }
         match Vec::with_capacity(alloc, size) {
             Ok(block) => blocks.push(block)?,
-            Err(_) => size = less(size),
+            Err(_) => size = smaller(size),
         }
     }
     Ok(blocks)
 }
 
-/// Takes all memory but so many bytes, which lie in one place.
+/// Takes all memory except `room` bytes in one piece.
 pub fn all_memory_but(alloc: Global, room: usize) -> Result<Vec<Vec<u8>>, AllocError> {
     let _room = Vec::<u8>::with_capacity(alloc, room)?;
     all_memory(alloc)

@@ -1,4 +1,4 @@
-//! Once an allocator is made, its calls ask for no memory.
+//! After construction, the calls of an allocator request no memory.
 
 use crate::attempts::{Attempt, Outcome, all_memory, all_memory_but, refused_if, right_if};
 use crate::ladder::{FINE, refusals};
@@ -10,7 +10,7 @@ use std::alloc::{AllocError, Global};
 use std::process::Abort;
 use std::test::Fail;
 
-// Greater than any offset of the space.
+// Larger than any offset of the space.
 const REFUSED: u32 = 100_000;
 
 const DEAD: u32 = 200_000;
@@ -39,7 +39,7 @@ fn request_aligned<NI: NodeIndex>(
     }
 }
 
-// Where a handle is kept it is freed, and else one is asked for. The answer is the offset, or another number.
+// Frees the kept handle, or makes a request where none is kept. It returns the size, the offset, or another number.
 fn grant_or_free<NI: NodeIndex>(
     allocator: &mut Allocator<NI>,
     kept: &mut Option<Allocation<NI>>,
@@ -67,7 +67,7 @@ fn grant_or_free<NI: NodeIndex>(
     }
 }
 
-fn reported<NI: NodeIndex>(allocator: &Allocator<NI>, class: usize) -> u32 {
+fn report<NI: NodeIndex>(allocator: &Allocator<NI>, class: usize) -> u32 {
     let short = allocator.storage_report();
     let full = allocator.storage_report_full();
     short
@@ -78,8 +78,8 @@ fn reported<NI: NodeIndex>(allocator: &Allocator<NI>, class: usize) -> u32 {
         .wrapping_add(full.free_regions[class % 256].count)
 }
 
-// The answer to a call, as a number.
-fn called<NI: NodeIndex>(
+// Makes one call. It returns the result as a number.
+fn call<NI: NodeIndex>(
     allocator: &mut Allocator<NI>,
     kept: &mut Option<Allocation<NI>>,
     kind: u32,
@@ -87,7 +87,7 @@ fn called<NI: NodeIndex>(
 ) -> u32 {
     match kind {
         0..=10 => grant_or_free(allocator, kept, kind, number % 100),
-        11 | 12 => reported(allocator, number as usize),
+        11 | 12 => report(allocator, number as usize),
         13 => u32::from(undo(allocator, number % 500)),
         14 => u32::from(allocator.extend(number % 10)),
         _ => {
@@ -99,77 +99,77 @@ fn called<NI: NodeIndex>(
     }
 }
 
-// The answers to 1,000 calls of every kind, in one number. Handles are kept in the list that is given.
-fn answers<NI: NodeIndex>(
+// Makes 1,000 calls of every kind, and returns a checksum of their results. It keeps the handles in `kept`.
+fn checksum<NI: NodeIndex>(
     allocator: &mut Allocator<NI>,
     kept: &mut [Option<Allocation<NI>>],
 ) -> u64 {
     let mut state = 1u64;
-    let mut answers = 0u64;
+    let mut sum = 0u64;
     for _ in 0..1_000u32 {
         state = state.wrapping_mul(1_103_515_245).wrapping_add(12_345) % 2_147_483_648;
         let number = state / 65_536;
         if let Some(kept) = kept.get_mut((number / 16 % 16) as usize) {
-            let answer = called(allocator, kept, (number % 16) as u32, (number / 256) as u32);
-            answers = answers.wrapping_mul(31).wrapping_add(u64::from(answer));
+            let answer = call(allocator, kept, (number % 16) as u32, (number / 256) as u32);
+            sum = sum.wrapping_mul(31).wrapping_add(u64::from(answer));
         }
     }
-    answers
+    sum
 }
 
-// So many that the use flags, a byte a node, are more than the 1,032 bytes up to which the C library keeps apart a block
-// that is given back. Else the flags and the first names of the classes, both kept apart, would split the memory in
-// which the next allocator is made.
+// The C library keeps a freed block of up to 1,032 bytes for requests of its size. With this many nodes the use flags,
+// a byte each, take more. With fewer, two kept blocks, the flags and the heads of the free lists, would split the
+// memory in which the next allocator is made.
 const NODES: u32 = 2_000;
 
-fn made(alloc: Global) -> Result<Allocator<u32>, AllocError> {
+fn construct(alloc: Global) -> Result<Allocator<u32>, AllocError> {
     Allocator::with_max_allocs(alloc, 1_000, NODES)
 }
 
-fn sum(alloc: Global) -> Result<u64, AllocError> {
+fn construct_and_call(alloc: Global) -> Result<u64, AllocError> {
     let mut kept: [Option<Allocation<u32>>; 16] = [None; 16];
-    let mut allocator = made(alloc)?;
-    Ok(answers(&mut allocator, &mut kept))
+    let mut allocator = construct(alloc)?;
+    Ok(checksum(&mut allocator, &mut kept))
 }
 
-// The calls answer as ever where not one byte is left.
-fn expect_answers<NI: NodeIndex>(rt: &impl Abort, alloc: Global) -> Result<(), Fail> {
+// The calls return the same as before where not one byte is left.
+fn expect_results<NI: NodeIndex>(rt: &impl Abort, alloc: Global) -> Result<(), Fail> {
     let mut kept = vec![in alloc; None; 16]?;
-    let wanted = answers(&mut Allocator::<NI>::new(alloc, 1_000)?, &mut kept);
+    let wanted = checksum(&mut Allocator::<NI>::new(alloc, 1_000)?, &mut kept);
     kept.fill(None);
     let mut allocator = Allocator::<NI>::new(alloc, 1_000)?;
     let _rest = all_memory(alloc)?;
     assert!(rt; Vec::<u8>::with_capacity(alloc, 1).is_err());
-    assert_eq!(rt; answers(&mut allocator, &mut kept), wanted);
+    assert_eq!(rt; checksum(&mut allocator, &mut kept), wanted);
     Ok(())
 }
 
 #[test]
-fn calls_answer_without_any_memory(rt: HostRuntime) -> Result<(), Fail> {
-    expect_answers::<u32>(&rt, rt.alloc())?;
-    expect_answers::<u16>(&rt, rt.alloc())?;
-    expect_answers::<Tiny>(&rt, rt.alloc())
+fn calls_need_no_memory(rt: HostRuntime) -> Result<(), Fail> {
+    expect_results::<u32>(&rt, rt.alloc())?;
+    expect_results::<u16>(&rt, rt.alloc())?;
+    expect_results::<Tiny>(&rt, rt.alloc())
 }
 
 const ROOM: usize = 1 << 30;
 
-// Where memory is left in one place alone, a request that took any of it, or a small one that was given back at once,
-// would have split that place.
+// All free memory is in one piece. A request that took any of it, or a small one that was freed at once, would have
+// split that piece.
 #[test]
 fn calls_leave_all_memory_as_it_was(rt: HostRuntime) -> Result<(), Fail> {
-    let wanted = sum(rt.alloc())?;
+    let wanted = construct_and_call(rt.alloc())?;
     let mut kept: [Option<Allocation<u32>>; 16] = [None; 16];
-    let mut allocator = made(rt.alloc())?;
+    let mut allocator = construct(rt.alloc())?;
     let _rest = all_memory_but(rt.alloc(), ROOM)?;
-    assert_eq!(rt; answers(&mut allocator, &mut kept), wanted);
+    assert_eq!(rt; checksum(&mut allocator, &mut kept), wanted);
     assert!(rt; Vec::<u8>::with_capacity(rt.alloc(), ROOM).is_ok());
     assert!(rt; Vec::<u8>::with_capacity(rt.alloc(), 16).is_ok());
     assert!(rt; Vec::<u8>::with_capacity(rt.alloc(), ROOM).is_err());
     Ok(())
 }
 
-// Makes an allocator and the calls. They are refused just where an allocator alone is, and else they answer as with
-// ample memory.
+// Makes an allocator and the calls. They fail exactly where the construction alone fails, and else return the same as
+// with ample memory.
 #[derive(Drop)]
 struct WithCalls {
     wanted: u64,
@@ -177,8 +177,8 @@ struct WithCalls {
 
 impl Attempt for WithCalls {
     fn outcome(&mut self, alloc: Global) -> Outcome {
-        let is_made = made(alloc).is_ok();
-        match sum(alloc) {
+        let is_made = construct(alloc).is_ok();
+        match construct_and_call(alloc) {
             Err(_) => refused_if(!is_made),
             Ok(sum) => right_if(is_made && sum == self.wanted),
         }
@@ -186,19 +186,19 @@ impl Attempt for WithCalls {
 }
 
 #[test]
-fn calls_ask_for_no_memory(rt: HostRuntime) -> Result<(), Fail> {
-    let wanted = sum(rt.alloc())?;
+fn calls_fail_only_in_construction(rt: HostRuntime) -> Result<(), Fail> {
+    let wanted = construct_and_call(rt.alloc())?;
     assert!(rt; refusals(&rt, rt.alloc(), FINE, &mut WithCalls { wanted })? >= 1);
     Ok(())
 }
 
-// Plays a script without commands. It is refused wherever an allocator alone is.
+// Plays a script without commands. It fails wherever a construction fails.
 #[derive(Drop)]
 struct WithoutCommands;
 
 impl Attempt for WithoutCommands {
     fn outcome(&mut self, alloc: Global) -> Outcome {
-        let is_made = made(alloc).is_ok();
+        let is_made = construct(alloc).is_ok();
         match play::<u32>(alloc, 1_000, NODES, &[]) {
             Err(_) => Outcome::Refused,
             Ok(answers) => right_if(is_made && answers.is_empty()),

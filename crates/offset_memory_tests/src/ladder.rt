@@ -1,32 +1,31 @@
-//! All memory is taken, and given back step by step, so that one request of an attempt after another is the first one
-//! that is refused.
+//! All memory is taken, and freed step by step, so that each request of an attempt in turn is the first one that fails.
 //!
-//! A step is no larger than the least block, and what is given back lies in one place. So a step is hardly ever enough
-//! for two further requests; only small ones behind a large one may be passed over, where what the attempt gave back
-//! itself serves them.
+//! A step is no larger than the smallest block, and the freed memory is one piece. So a step is hardly ever enough for
+//! two further requests. Only small requests after a large one may be missed, where memory that the attempt itself
+//! freed is enough for them.
 
 use crate::attempts::{Attempt, Outcome, all_memory};
 use std::alloc::{AllocError, Global};
 use std::process::Abort;
 use std::test::Fail;
 
-// So many free blocks of one size are kept apart, and serve requests of that size alone.
+// The C library keeps this many free blocks of one size for requests of that size alone.
 const APART: usize = 7;
 
-/// How large the steps are, and how many there are at most.
+/// The size of the steps, and the largest number of them.
 #[derive(Clone, Copy)]
 pub struct Steps {
     size: usize,
     count: usize,
 }
 
-/// Steps of the least block.
+/// Steps of the smallest block.
 pub const FINE: Steps = Steps {
     size: 24,
     count: 8_192,
 };
 
-/// Larger steps, for attempts that take much.
+/// Larger steps, for attempts that take much memory.
 pub const COARSE: Steps = Steps {
     size: 1_000,
     count: 8_192,
@@ -37,7 +36,7 @@ struct Ladder {
     size: usize,
     // Neighbours.
     rungs: Vec<Vec<u8>>,
-    // Blocks of the same size, which take the places of those that are kept apart.
+    // Blocks of the same size, so that the C library keeps none of the rungs.
     fillers: Vec<Vec<u8>>,
 }
 
@@ -47,7 +46,7 @@ impl Ladder {
         for _ in 0..steps.count {
             rungs.push(Vec::with_capacity(alloc, steps.size)?)?;
         }
-        // The lowest comes first. Blocks are taken from the low end too, and so each keeps its place from step to step.
+        // The lowest is freed first. Blocks are taken from the low end too, so each keeps its place from step to step.
         rungs.reverse();
         let mut ladder = Ladder {
             size: steps.size,
@@ -65,7 +64,7 @@ impl Ladder {
         Ok(())
     }
 
-    // Gives one rung back, behind all fillers, and takes the fillers again.
+    // Frees all fillers and then one rung, and takes the fillers again.
     fn release(&mut self, alloc: Global) -> Result<(), AllocError> {
         self.fillers.clear();
         let _rung = self.rungs.pop();
@@ -73,7 +72,7 @@ impl Ladder {
     }
 }
 
-/// How often an attempt is refused, where each time one step more is free.
+/// Makes an attempt again and again, each time with one more step free. It returns how often the attempt failed.
 pub fn refusals<A: Attempt>(
     rt: &impl Abort,
     alloc: Global,
@@ -97,11 +96,11 @@ pub fn refusals<A: Attempt>(
 
 const SIZES: [usize; 8] = [4, 16, 16, 48, 100, 400, 1_024, 2_000];
 
-// Requests of these sizes, one after another, all of which are held to the end.
+// Requests of these sizes, one after another, whose blocks are all kept to the end.
 #[derive(Drop)]
 struct Blocks {
     held: Vec<Vec<u8>>,
-    // Which of them were refused.
+    // Which of them failed.
     refused: [bool; 8],
 }
 

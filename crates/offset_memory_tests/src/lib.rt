@@ -1,7 +1,7 @@
-//! Tests of the libraries where memory is refused.
+//! Tests of the libraries where allocations fail.
 //!
-//! They stand apart because each takes all address space that its process can have, which a run under a memory
-//! checker does not bear.
+//! They have a crate of their own because each takes all address space that its process can have, which does not work
+//! under a memory checker.
 #![tactic(auto)]
 
 #[cfg(test)]

@@ -1,4 +1,4 @@
-//! Scripts where memory is refused.
+//! Scripts where allocations fail.
 
 use crate::attempts::{Attempt, Outcome, refused_if, right_if};
 use crate::ladder::{FINE, refusals};
@@ -63,13 +63,13 @@ impl Attempt for ParsesFaulty {
 }
 
 #[test]
-fn parsing(rt: HostRuntime) -> Result<(), Fail> {
+fn parsing_reports_out_of_memory(rt: HostRuntime) -> Result<(), Fail> {
     assert!(rt; refusals(&rt, rt.alloc(), FINE, &mut Parses)? >= 1);
     assert!(rt; refusals(&rt, rt.alloc(), FINE, &mut ParsesFaulty)? >= 1);
     Ok(())
 }
 
-// Takes a text, and tells whether it is the wanted one, with no memory of its own.
+// A writer that compares what it takes with the expected text, and takes no memory.
 #[derive(Drop)]
 struct Expected {
     left: &'static [u8],
@@ -90,9 +90,9 @@ impl Expected {
 impl Write for Expected {
     fn write(&mut self, buf: &[u8]) -> io::Result<usize> {
         self.is_untouched = false;
-        let (taken, rest) = self.left.split_at(buf.len().min(self.left.len()));
+        let (taken, left) = self.left.split_at(buf.len().min(self.left.len()));
         self.differs = self.differs || taken != buf;
-        self.left = rest;
+        self.left = left;
         Ok(buf.len())
     }
 
@@ -135,7 +135,7 @@ impl Attempt for RunsFaulty {
     }
 }
 
-// The program: where memory is refused, it ends with status 3, one line of errors, and nothing else written.
+// The program: where an allocation fails, it ends with status 3, writes one line of errors, and nothing else.
 #[derive(Drop)]
 struct RunsProgram;
 
@@ -155,14 +155,14 @@ impl Attempt for RunsProgram {
 }
 
 #[test]
-fn running(rt: HostRuntime) -> Result<(), Fail> {
+fn running_reports_out_of_memory(rt: HostRuntime) -> Result<(), Fail> {
     assert!(rt; refusals(&rt, rt.alloc(), FINE, &mut Runs)? >= 1);
     assert!(rt; refusals(&rt, rt.alloc(), FINE, &mut RunsFaulty)? >= 1);
     assert!(rt; refusals(&rt, rt.alloc(), FINE, &mut RunsProgram)? >= 1);
     Ok(())
 }
 
-// A parsed script, and its answers with ample memory.
+// Plays a parsed script, and compares the answers with those of ample memory.
 #[derive(Drop)]
 struct Plays {
     script: Script,
@@ -211,7 +211,7 @@ impl Attempt for Plays {
 }
 
 #[test]
-fn playing(rt: HostRuntime) -> Result<(), Fail> {
+fn playing_reports_out_of_memory(rt: HostRuntime) -> Result<(), Fail> {
     let script = parse(rt.alloc(), TEXT)?;
     assert!(rt; script.max_allocs < 100);
     let wanted = play::<u32>(rt.alloc(), script.size, script.max_allocs, &script.commands)?;

@@ -1,4 +1,4 @@
-//! Tests of `offset_script` by random scripts and texts, against a slow program of their own.
+//! Tests of `offset_script` by random scripts and texts, against a slow model that is written for these tests.
 #![tactic(auto)]
 
 #[cfg(test)]

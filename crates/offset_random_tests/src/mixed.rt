@@ -1,4 +1,4 @@
-//! Long scripts of mixed commands, against the slow program.
+//! Long scripts of mixed commands, against the slow model.
 
 use crate::numbers::Numbers;
 use crate::slow::Space;
@@ -9,7 +9,7 @@ use std::alloc::{AllocError, Global};
 use std::process::Abort;
 use std::test::Fail;
 
-// Sizes of spaces, with their node limits.
+// Sizes of spaces, each with a node limit.
 const SPACES: [(u32, u32); 5] = [
     (0, 4),
     (100, 3),
@@ -20,18 +20,18 @@ const SPACES: [(u32, u32); 5] = [
 
 const LENGTH: u32 = 2_000;
 
-// Of which commands a script is made. What a number leaves by 8 or by 16 picks the command, and the quotient its units
-// or its grant.
+// How a random number is made a command: modulo 8 or 16 it gives the kind, and the quotient gives the units or the
+// grant.
 #[derive(Clone, Copy)]
 enum Mix {
-    // Of 8 commands four requests, three releases, and a report.
+    // Of 8 kinds four are requests, three releases, and one a report.
     Plain,
-    // Of 16 commands five requests, three aligned ones, an extension, a size, a report, four releases, and one that is
-    // a reset once in 32 times and else a release.
+    // Of 16 kinds five are requests, three aligned requests, one an extension, one a size, one a report, four releases,
+    // and one a reset in 1 of 32 cases, otherwise a release.
     Whole,
 }
 
-// The number of a grant that was made, or one beside those.
+// The number of an earlier grant, or 0, or the next number.
 fn grant_of(number: u32, grants: u64) -> u32 {
     number % (grants.min(1_000_000) as u32 + 2)
 }
@@ -47,13 +47,13 @@ fn report_of(number: u32) -> Command {
 impl Mix {
     fn command(self, number: u32, grants: u64) -> Command {
         match self {
-            Mix::Plain => plain(number % 8, number / 8, grants),
-            Mix::Whole => whole(number % 16, number / 16, grants),
+            Mix::Plain => plain_command(number % 8, number / 8, grants),
+            Mix::Whole => whole_command(number % 16, number / 16, grants),
         }
     }
 }
 
-fn plain(kind: u32, number: u32, grants: u64) -> Command {
+fn plain_command(kind: u32, number: u32, grants: u64) -> Command {
     match kind {
         0..=3 => Command::Alloc(number % 300),
         4..=6 => Command::Free(grant_of(number, grants)),
@@ -61,7 +61,7 @@ fn plain(kind: u32, number: u32, grants: u64) -> Command {
     }
 }
 
-fn whole(kind: u32, number: u32, grants: u64) -> Command {
+fn whole_command(kind: u32, number: u32, grants: u64) -> Command {
     match kind {
         0..=4 => Command::Alloc(number % 300),
         5..=7 => Command::Align(number % 60, 1 << (number % 7)),
@@ -92,9 +92,9 @@ fn put_line(text: &mut String, command: Command) -> Result<(), AllocError> {
     }
 }
 
-// Writes the text of a script, and gives the slow program's answers. Which grants a command names depends on how
-// many were made before it.
-fn mixed(
+// Writes the text of a script, and returns the slow model's answers. The model counts the grants that a command may
+// name.
+fn mixed_script(
     alloc: Global,
     text: &mut String,
     size: u32,
@@ -149,7 +149,7 @@ fn expect_mixed(
     mix: Mix,
 ) -> Result<(), Fail> {
     let mut text = String::new(alloc);
-    let wanted = mixed(alloc, &mut text, size, limit, mix)?;
+    let wanted = mixed_script(alloc, &mut text, size, limit, mix)?;
     let script = parse(alloc, text.as_bytes())?;
     expect_played::<u32>(rt, alloc, &script, &wanted)?;
     expect_played::<u16>(rt, alloc, &script, &wanted)?;

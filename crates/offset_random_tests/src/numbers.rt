@@ -1,13 +1,13 @@
-//! Numbers that are the same in each run of the tests.
+//! Random numbers, the same in each run of the tests.
 
-/// Numbers below 32768: the high bits of a linear congruence.
+/// Numbers below 32768: the high bits of a linear congruential generator.
 #[derive(Drop)]
 pub struct Numbers {
     state: u64,
 }
 
 impl Numbers {
-    /// The numbers behind a state.
+    /// The numbers that follow a state.
     pub fn new(state: u64) -> Self {
         Numbers { state }
     }
@@ -19,7 +19,7 @@ impl Numbers {
         (state / 65_536) as u32
     }
 
-    /// The next number, as a place among so many.
+    /// The next number, as a place among `places`.
     pub fn place(&mut self, places: usize) -> usize {
         match (self.advance() as usize).checked_rem(places) {
             None => 0,

@@ -1,7 +1,7 @@
-//! Random texts, many of them faulty, against the slow program.
+//! Random texts, many of them faulty, against the slow model.
 
 use crate::numbers::Numbers;
-use crate::slow_reading::{Reading, read_slowly, told_slowly};
+use crate::slow_reading::{Reading, read_slowly, run_slowly};
 use offset_script::{Script, ScriptFault, parse};
 use offset_test_base::runs::told;
 use std::alloc::{AllocError, Global};
@@ -108,10 +108,10 @@ const REPORTS: Words = Words {
     ],
 };
 
-// What a fault puts into a text.
+// The bytes that a change puts into a text.
 const BYTES: &[u8] = b" \n\r#0123456789acefilnoprstuxzAF-+\x00\xff";
 
-// One of the right words, and now and then a wrong one.
+// Appends one of the right words, or in 1 of 32 cases a wrong one.
 fn put(text: &mut Vec<u8>, numbers: &mut Numbers, words: Words) -> Result<(), AllocError> {
     let from = if numbers.place(32) == 0 {
         words.wrong
@@ -154,24 +154,24 @@ fn put_line(text: &mut Vec<u8>, numbers: &mut Numbers) -> Result<(), AllocError>
     }
 }
 
-// The text with one byte left out, put in, or put in the place of another.
-fn changed(alloc: Global, text: &[u8], numbers: &mut Numbers) -> Result<Vec<u8>, AllocError> {
-    let (front, back) = text.split_at(numbers.place(text.len()).min(text.len()));
+// The text with one byte removed, replaced or inserted.
+fn change(alloc: Global, text: &[u8], numbers: &mut Numbers) -> Result<Vec<u8>, AllocError> {
+    let (before, after) = text.split_at(numbers.place(text.len()).min(text.len()));
     let kind = numbers.place(3);
-    let mut changed = front.to_vec(alloc)?;
+    let mut changed = before.to_vec(alloc)?;
     if kind > 0
         && let Some(byte) = BYTES.get(numbers.place(BYTES.len()))
     {
         changed.push(*byte)?;
     }
-    match back.split_first() {
-        Some((_byte, rest)) if kind < 2 => changed.extend_from_slice(rest)?,
-        _ => changed.extend_from_slice(back)?,
+    match after.split_first() {
+        Some((_byte, others)) if kind < 2 => changed.extend_from_slice(others)?,
+        _ => changed.extend_from_slice(after)?,
     }
     Ok(changed)
 }
 
-// The text of a number.
+// The random text of this number.
 fn random_text(alloc: Global, number: u64) -> Result<Vec<u8>, AllocError> {
     let mut numbers = Numbers::new(number);
     let mut text = Vec::new(alloc);
@@ -187,7 +187,7 @@ fn random_text(alloc: Global, number: u64) -> Result<Vec<u8>, AllocError> {
         text.push(b'\n')?;
     }
     for _ in 0..numbers.place(3) {
-        text = changed(alloc, &text, &mut numbers)?;
+        text = change(alloc, &text, &mut numbers)?;
     }
     Ok(text)
 }
@@ -199,7 +199,7 @@ fn is_same(script: &Script, reading: &Reading) -> bool {
         && script.commands.as_slice() == reading.commands.as_slice()
 }
 
-// How many texts had each meaning.
+// The number of texts of each meaning.
 #[derive(Clone, Copy, PartialEq, Debug)]
 struct Tally {
     scripts: u32,
@@ -220,7 +220,7 @@ impl Tally {
     }
 }
 
-// A script, or the fault, is what the slow program finds, and so is what a run tells.
+// `parse` returns the script, or the fault, that the slow model finds, and a run writes what the model writes.
 fn expect_meaning(
     rt: &impl Abort,
     alloc: Global,
@@ -234,14 +234,14 @@ fn expect_meaning(
         (Err(found), Err(wanted)) => assert_eq!(rt; found, wanted, "text {number}"),
         (Ok(script), Ok(reading)) => {
             assert!(rt; is_same(&script, &reading), "text {number}");
-            // Tables for more nodes would take gigabytes.
+            // Tables of more nodes would take gigabytes.
             if reading.limit > 65_533 {
                 return Ok(());
             }
         }
         _ => assert!(rt; false, "text {number} has a fault, or none"),
     }
-    let wanted = told_slowly(alloc, &text)?;
+    let wanted = run_slowly(alloc, &text)?;
     assert_eq!(rt;
         told(alloc, &text)?.as_str(),
         wanted.as_str(),

@@ -1,18 +1,18 @@
-//! Commands answered slowly, over a plain list of blocks.
+//! A slow model of scripts: the answers to commands, over a plain list of blocks.
 
 use offset_allocator::StorageReport;
 use offset_script::{Answer, Command, FullRow};
 use offset_test_base::groups::value_of;
 use std::alloc::{AllocError, Global};
 
-const GREATEST: u64 = 4_294_967_295;
+const LARGEST: u64 = 4_294_967_295;
 
 #[derive(Clone, Copy)]
 struct Block {
     size: u64,
-    // The number of its grant, and 0 where it is free.
+    // The number of its grant, or 0 where it is free.
     grant: u64,
-    // When it became free: a later time is a greater number.
+    // The time at which it became free: a later time is a larger number.
     since: u64,
 }
 
@@ -30,17 +30,17 @@ impl Block {
     }
 }
 
-/// The blocks of a space in order, no two neighbours of them free.
+/// The blocks of a space in order, of which no two neighbours are free.
 #[derive(Drop)]
 pub struct Space {
     blocks: Vec<Block>,
     limit: u64,
     calls: u64,
-    /// How many grants were made.
+    /// The number of grants so far.
     pub grants: u64,
 }
 
-// The least class whose value is at least the size.
+// The smallest class whose value is at least the size.
 fn class_above(size: u64) -> usize {
     for class in 0..256usize {
         if value_of(class) >= size {
@@ -50,7 +50,7 @@ fn class_above(size: u64) -> usize {
     256
 }
 
-// The greatest class whose value is at most the size.
+// The largest class whose value is at most the size.
 fn class_below(size: u64) -> usize {
     let mut best = 0usize;
     for class in 0..256usize {
@@ -62,7 +62,7 @@ fn class_below(size: u64) -> usize {
     best
 }
 
-// The least multiple from an offset on.
+// The smallest multiple of `align` from an offset on.
 fn multiple_from(offset: u64, align: u64) -> u64 {
     match offset.checked_rem(align) {
         None | Some(0) => offset,
@@ -70,28 +70,29 @@ fn multiple_from(offset: u64, align: u64) -> u64 {
     }
 }
 
-// A number of the space, which has at most `GREATEST` units.
-fn narrowed(number: u64) -> u32 {
-    number.min(GREATEST) as u32
+// A number of units, of which a space has at most `LARGEST`.
+fn narrow(number: u64) -> u32 {
+    number.min(LARGEST) as u32
 }
 
-// Neighbours that are free become one block, which is the newest.
-fn joined(alloc: Global, blocks: &[Block], now: u64) -> Result<Vec<Block>, AllocError> {
-    let mut joined: Vec<Block> = Vec::new(alloc);
+// Coalesces free neighbours into one block, which is the newest.
+fn coalesce(alloc: Global, blocks: &[Block], now: u64) -> Result<Vec<Block>, AllocError> {
+    let mut coalesced: Vec<Block> = Vec::new(alloc);
     for block in blocks {
-        match joined.pop() {
-            None => joined.push(*block)?,
+        match coalesced.pop() {
+            None => coalesced.push(*block)?,
             Some(last) => {
                 if last.is_free() && block.is_free() {
-                    joined.push(Block::free(last.size.saturating_add(block.size), now))?;
+                    let size = last.size.saturating_add(block.size);
+                    coalesced.push(Block::free(size, now))?;
                 } else {
-                    joined.push(last)?;
-                    joined.push(*block)?;
+                    coalesced.push(last)?;
+                    coalesced.push(*block)?;
                 }
             }
         }
     }
-    Ok(joined)
+    Ok(coalesced)
 }
 
 impl Space {
@@ -105,7 +106,7 @@ impl Space {
         })
     }
 
-    // Whether so many further blocks may not stand.
+    // Whether the limit forbids this many further blocks.
     fn is_short_of(&self, further: u64) -> bool {
         (self.blocks.len() as u64).saturating_add(further) >= self.limit
     }
@@ -118,21 +119,21 @@ impl Space {
         size
     }
 
-    // The time of what a call makes free last.
+    // The time of the block that a call frees last.
     fn now(&self) -> u64 {
         self.calls.saturating_mul(2).saturating_add(1)
     }
 
-    // The place of the newest block in the least class that is sure to hold the units.
+    // The place of the newest block in the smallest class that is sure to have these units.
     fn chosen(&self, units: u64) -> Option<usize> {
-        let least = class_above(units);
+        let smallest = class_above(units);
         let mut chosen = None;
         let mut best_class = 256usize;
         let mut best_since = 0u64;
         for (place, block) in self.blocks.iter().enumerate() {
             let class = class_below(block.size);
             let is_better = class < best_class || (class == best_class && block.since > best_since);
-            if block.is_free() && least <= class && is_better {
+            if block.is_free() && smallest <= class && is_better {
                 chosen = Some(place);
                 best_class = class;
                 best_since = block.since;
@@ -141,7 +142,7 @@ impl Space {
         chosen
     }
 
-    fn cut(
+    fn split(
         &mut self,
         alloc: Global,
         chosen: usize,
@@ -156,18 +157,18 @@ impl Space {
         for (place, block) in self.blocks.iter().enumerate() {
             if place == chosen {
                 granted = multiple_from(offset, align);
-                let front = granted.saturating_sub(offset);
-                let rest = block.size.saturating_sub(front).saturating_sub(size);
-                if front > 0 {
-                    blocks.push(Block::free(front, now.saturating_sub(1)))?;
+                let padding = granted.saturating_sub(offset);
+                let remainder = block.size.saturating_sub(padding).saturating_sub(size);
+                if padding > 0 {
+                    blocks.push(Block::free(padding, now.saturating_sub(1)))?;
                 }
                 blocks.push(Block {
                     size,
                     grant: self.grants,
                     since: 0,
                 })?;
-                if rest > 0 {
-                    blocks.push(Block::free(rest, now))?;
+                if remainder > 0 {
+                    blocks.push(Block::free(remainder, now))?;
                 }
             } else {
                 blocks.push(*block)?;
@@ -177,19 +178,19 @@ impl Space {
         self.blocks = blocks;
         Ok(Answer::Grant {
             number: self.grants,
-            offset: narrowed(granted),
+            offset: narrow(granted),
         })
     }
 
     fn grant(&mut self, alloc: Global, size: u64, align: u64) -> Result<Answer, AllocError> {
         let units = size.saturating_add(align).saturating_sub(1);
         let further = if align > 1 { 2u64 } else { 1 };
-        if self.is_short_of(further) || units > GREATEST {
+        if self.is_short_of(further) || units > LARGEST {
             return Ok(Answer::Refused);
         }
         match self.chosen(units) {
             None => Ok(Answer::Refused),
-            Some(place) => self.cut(alloc, place, size, align),
+            Some(place) => self.split(alloc, place, size, align),
         }
     }
 
@@ -208,14 +209,14 @@ impl Space {
         if !found {
             return Ok(Answer::Gone);
         }
-        self.blocks = joined(alloc, &blocks, now)?;
+        self.blocks = coalesce(alloc, &blocks, now)?;
         Ok(Answer::Freed)
     }
 
     fn size(&self, number: u64) -> Answer {
         for block in &self.blocks {
             if number > 0 && block.grant == number {
-                return Answer::Size(narrowed(block.size));
+                return Answer::Size(narrow(block.size));
             }
         }
         Answer::Gone
@@ -231,8 +232,8 @@ impl Space {
             }
         }
         Answer::Report(StorageReport {
-            total_free_space: narrowed(total),
-            largest_free_region: narrowed(largest),
+            total_free_space: narrow(total),
+            largest_free_region: narrow(largest),
         })
     }
 
@@ -248,7 +249,7 @@ impl Space {
             if count > 0 {
                 rows.push(FullRow {
                     class,
-                    size: narrowed(value_of(class as usize)),
+                    size: narrow(value_of(class as usize)),
                     count,
                 })?;
             }
@@ -262,7 +263,7 @@ impl Space {
         Ok(Answer::Reset)
     }
 
-    // The units come in as a free block at the end, and that is joined with a free block before it.
+    // Adds the units as a free block at the end, and coalesces it with a free block before it.
     fn extend(&mut self, alloc: Global, more: u64) -> Result<Answer, AllocError> {
         if more == 0 {
             return Ok(Answer::Extended);
@@ -273,15 +274,15 @@ impl Space {
             Some(last) => last.is_free(),
         };
         let size = self.size_of(&self.blocks).saturating_add(more);
-        if size > GREATEST || (!ends_free && self.is_short_of(1)) {
+        if size > LARGEST || (!ends_free && self.is_short_of(1)) {
             return Ok(Answer::Refused);
         }
         self.blocks.push(Block::free(more, now))?;
-        self.blocks = joined(alloc, &self.blocks, now)?;
+        self.blocks = coalesce(alloc, &self.blocks, now)?;
         Ok(Answer::Extended)
     }
 
-    /// The answer to the next command.
+    /// Plays the next command, and returns its answer.
     pub fn answer(&mut self, alloc: Global, command: Command) -> Result<Answer, AllocError> {
         self.calls = self.calls.saturating_add(1);
         match command {

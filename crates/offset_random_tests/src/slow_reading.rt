@@ -1,10 +1,10 @@
-//! Texts read slowly: each line is compared with the spellings of a header or of the commands.
+//! A slow reader of texts: it compares each line with the spellings of a header or of the commands.
 
 use crate::slow::Space;
 use offset_script::{Answer, Command, IndexWidth, ScriptFault};
 use std::alloc::{AllocError, Global};
 
-const GREATEST: u64 = 4_294_967_295;
+const LARGEST: u64 = 4_294_967_295;
 
 const LONGEST: usize = 1_048_576;
 
@@ -17,7 +17,7 @@ pub struct Reading {
     pub commands: Vec<Command>,
 }
 
-// The number of the digits that a text begins with, and what stands behind them.
+// The number that a text begins with, and the text after its digits.
 fn number_at(text: &[u8]) -> Option<(u32, &[u8])> {
     let mut digits = 0usize;
     let mut number = 0u64;
@@ -30,21 +30,21 @@ fn number_at(text: &[u8]) -> Option<(u32, &[u8])> {
             .saturating_mul(10)
             .saturating_add(u64::from(byte.saturating_sub(b'0')));
     }
-    if digits == 0 || digits > 10 || number > GREATEST {
+    if digits == 0 || digits > 10 || number > LARGEST {
         return None;
     }
     let (_digits, rest) = text.split_at(digits.min(text.len()));
     Some((number as u32, rest))
 }
 
-// The number that a whole text is.
+// The number that the whole text spells.
 fn number_of(text: &[u8]) -> Option<u32> {
     let (number, rest) = number_at(text)?;
     if rest.is_empty() { Some(number) } else { None }
 }
 
-fn number_behind(line: &[u8], front: &[u8]) -> Option<u32> {
-    number_of(line.strip_prefix(front)?)
+fn number_after(line: &[u8], start: &[u8]) -> Option<u32> {
+    number_of(line.strip_prefix(start)?)
 }
 
 fn is_power(number: u32) -> bool {
@@ -58,7 +58,7 @@ fn is_power(number: u32) -> bool {
 
 fn align_of(line: &[u8]) -> Option<Command> {
     let (size, rest) = number_at(line.strip_prefix(b"align ".as_slice())?)?;
-    let align = number_behind(rest, b" ")?;
+    let align = number_after(rest, b" ")?;
     if is_power(align) {
         Some(Command::Align(size, align))
     } else {
@@ -77,16 +77,16 @@ fn command_of(line: &[u8]) -> Option<Command> {
             return Some(command);
         }
     }
-    if let Some(size) = number_behind(line, b"alloc ") {
+    if let Some(size) = number_after(line, b"alloc ") {
         return Some(Command::Alloc(size));
     }
-    if let Some(number) = number_behind(line, b"free ") {
+    if let Some(number) = number_after(line, b"free ") {
         return Some(Command::Free(number));
     }
-    if let Some(number) = number_behind(line, b"size ") {
+    if let Some(number) = number_after(line, b"size ") {
         return Some(Command::Size(number));
     }
-    if let Some(more) = number_behind(line, b"extend ") {
+    if let Some(more) = number_after(line, b"extend ") {
         return Some(Command::Extend(more));
     }
     align_of(line)
@@ -112,14 +112,14 @@ fn header_of(alloc: Global, line: &[u8]) -> Option<Reading> {
 }
 
 fn is_admitted(limit: u32, index: IndexWidth) -> bool {
-    let greatest = match index {
+    let largest = match index {
         IndexWidth::Bits16 => 65_533u32,
         IndexWidth::Bits32 => 4_294_967_293,
     };
-    2 <= limit && limit <= greatest
+    2 <= limit && limit <= largest
 }
 
-// One line more of a text, whose lines before it were right.
+// Reads one more line of a text whose earlier lines are right.
 fn read_line(
     alloc: Global,
     before: Option<Reading>,
@@ -148,7 +148,7 @@ fn read_line(
     }
 }
 
-/// What a text says, or the fault of its first faulty line.
+/// Reads a text. It returns what the text says, or the fault of its first faulty line.
 pub fn read_slowly(alloc: Global, text: &[u8]) -> Result<Reading, ScriptFault> {
     if text.len() > LONGEST {
         return Err(ScriptFault::TooLong);
@@ -199,8 +199,8 @@ fn put_answer(text: &mut String, answer: &Answer) -> Result<(), AllocError> {
     }
 }
 
-/// What a run of a text writes, or the line of its fault with the status.
-pub fn told_slowly(alloc: Global, text: &[u8]) -> Result<String, AllocError> {
+/// Runs a text by the slow model. It returns what a run writes, or the line of the fault with the status.
+pub fn run_slowly(alloc: Global, text: &[u8]) -> Result<String, AllocError> {
     match read_slowly(alloc, text) {
         Err(ScriptFault::Memory) => Err(AllocError),
         Err(ScriptFault::TooLong) => format!(in alloc; "too long, status 2"),

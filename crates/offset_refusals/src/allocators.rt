@@ -1,47 +1,53 @@
-//! Allocators that are made for a script, and called.
+//! Allocators that are made for the header of a script.
 
 use crate::mixed::mixed_calls;
-use crate::numbers::{Cells, tell, tell_report};
-use crate::outcomes::Miss;
+use crate::numbers::{Cells, put, put_report};
+use crate::outcomes::Failure;
 use crate::scripts::script;
 use offset_allocator::{Allocation, Allocator, NodeIndex};
 use offset_script::IndexWidth;
 use std::alloc::Global;
 
-fn tell_free<NI: NodeIndex>(told: &mut Cells<'_>, allocator: Allocator<NI>) {
-    tell_report(told, &allocator.storage_report());
+fn put_report_of<NI: NodeIndex>(cells: &mut Cells<'_>, allocator: Allocator<NI>) {
+    put_report(cells, &allocator.storage_report());
 }
 
-/// One by `new`, with its report.
-pub fn made(alloc: Global, text: &[u8], told: &mut Cells<'_>) -> Result<(), Miss> {
+/// Makes an allocator by `new`, and puts its report into the cells.
+pub fn make_default(alloc: Global, text: &[u8], cells: &mut Cells<'_>) -> Result<(), Failure> {
     let script = script(alloc, text)?;
     match script.index {
-        IndexWidth::Bits16 => tell_free(told, Allocator::<u16>::new(alloc, script.size)?),
-        IndexWidth::Bits32 => tell_free(told, Allocator::<u32>::new(alloc, script.size)?),
+        IndexWidth::Bits16 => put_report_of(cells, Allocator::<u16>::new(alloc, script.size)?),
+        IndexWidth::Bits32 => put_report_of(cells, Allocator::<u32>::new(alloc, script.size)?),
     }
     Ok(())
 }
 
-/// One by `with_max_allocs`, with its report.
-pub fn limited(alloc: Global, text: &[u8], told: &mut Cells<'_>) -> Result<(), Miss> {
+/// Makes an allocator by `with_max_allocs`, and puts its report into the cells.
+pub fn make_limited(alloc: Global, text: &[u8], cells: &mut Cells<'_>) -> Result<(), Failure> {
     let script = script(alloc, text)?;
     let (size, limit) = (script.size, script.max_allocs);
     match script.index {
         IndexWidth::Bits16 => {
-            tell_free(told, Allocator::<u16>::with_max_allocs(alloc, size, limit)?)
+            put_report_of(
+                cells,
+                Allocator::<u16>::with_max_allocs(alloc, size, limit)?,
+            )
         }
         IndexWidth::Bits32 => {
-            tell_free(told, Allocator::<u32>::with_max_allocs(alloc, size, limit)?)
+            put_report_of(
+                cells,
+                Allocator::<u32>::with_max_allocs(alloc, size, limit)?,
+            )
         }
     }
     Ok(())
 }
 
-/// One by `with_max_allocs`, with a checksum of what 1,000 calls answer.
-pub fn called(alloc: Global, text: &[u8], told: &mut Cells<'_>) -> Result<(), Miss> {
+/// Makes an allocator by `with_max_allocs`, makes 1,000 calls, and puts a checksum of their results into the cells.
+pub fn make_and_call(alloc: Global, text: &[u8], cells: &mut Cells<'_>) -> Result<(), Failure> {
     let script = script(alloc, text)?;
     let (size, limit) = (script.size, script.max_allocs);
-    // each width has handles of its own, and a list of a size that is known
+    // handles have a type for each width; the arrays take no memory from `alloc`
     let sum = match script.index {
         IndexWidth::Bits16 => {
             let mut kept: [Option<Allocation<u16>>; 16] = [None; 16];
@@ -54,6 +60,6 @@ pub fn called(alloc: Global, text: &[u8], told: &mut Cells<'_>) -> Result<(), Mi
             mixed_calls(&mut allocator, &mut kept)
         }
     };
-    tell(told, sum);
+    put(cells, sum);
     Ok(())
 }

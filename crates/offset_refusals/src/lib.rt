@@ -1,53 +1,53 @@
-//! Whole runs, each behind one C call, for a program that serves their memory and refuses some of it: `refusals/`.
-//! The calls promise nothing of their own: what they call is proved.
+//! Whole runs, each a single C call, for the program in `refusals/`, which provides their memory and fails some of
+//! their requests. These functions have no contracts; those that they call are proved.
 //!
-//! Each takes the text of a script, asks for no memory itself, and tells the answer as numbers, into cells of the
-//! caller's. Its result is 0 for an answer, 1 for a want of memory, 2 for a faulty text, 3 for a device that failed,
-//! and 4 where the text that was to be taken is no script.
+//! Each takes the text of a script, requests no memory itself, and puts its results as numbers into cells of the
+//! caller. It returns 0 for a result, 1 for out of memory, 2 for a faulty text, 3 for a device that failed, and 4 where
+//! the call needs a script and the text is none.
 #![tactic(auto)]
 
 mod allocators;
+mod cell_writer;
 mod mixed;
 mod numbers;
 mod outcomes;
 mod scripts;
-mod sent;
 
 use crate::outcomes::code;
 use std::alloc::Global;
 
-/// Makes an allocator for the size and the index of a script by `new`, and tells its report.
+/// Makes an allocator by `new`, of a script's size and index width, and puts its report into the cells.
 #[unsafe(no_mangle)]
-pub extern "C" fn offset_new(alloc: Global, text: &[u8], told: &mut [u64]) -> u32 {
-    code(allocators::made(alloc, text, &mut told.iter_mut()))
+pub extern "C" fn offset_new(alloc: Global, text: &[u8], cells: &mut [u64]) -> u32 {
+    code(allocators::make_default(alloc, text, &mut cells.iter_mut()))
 }
 
-/// Makes an allocator for a script by `with_max_allocs`, and tells its report.
+/// Makes an allocator for a script by `with_max_allocs`, and puts its report into the cells.
 #[unsafe(no_mangle)]
-pub extern "C" fn offset_with_max_allocs(alloc: Global, text: &[u8], told: &mut [u64]) -> u32 {
-    code(allocators::limited(alloc, text, &mut told.iter_mut()))
+pub extern "C" fn offset_with_max_allocs(alloc: Global, text: &[u8], cells: &mut [u64]) -> u32 {
+    code(allocators::make_limited(alloc, text, &mut cells.iter_mut()))
 }
 
-/// The same and then 1,000 calls of every kind, and tells a checksum of what they answer in place of the report.
+/// Does the same, then makes 1,000 calls of every kind, and puts a checksum of their results in place of the report.
 #[unsafe(no_mangle)]
-pub extern "C" fn offset_calls(alloc: Global, text: &[u8], told: &mut [u64]) -> u32 {
-    code(allocators::called(alloc, text, &mut told.iter_mut()))
+pub extern "C" fn offset_calls(alloc: Global, text: &[u8], cells: &mut [u64]) -> u32 {
+    code(allocators::make_and_call(alloc, text, &mut cells.iter_mut()))
 }
 
-/// Parses a text, and tells the script or the fault.
+/// Parses a text, and puts the script or the fault into the cells.
 #[unsafe(no_mangle)]
-pub extern "C" fn offset_parse(alloc: Global, text: &[u8], told: &mut [u64]) -> u32 {
-    code(scripts::parsed(alloc, text, &mut told.iter_mut()))
+pub extern "C" fn offset_parse(alloc: Global, text: &[u8], cells: &mut [u64]) -> u32 {
+    code(scripts::parse_text(alloc, text, &mut cells.iter_mut()))
 }
 
-/// Plays the commands of a script, and tells the answers.
+/// Plays the commands of a script, and puts the answers into the cells.
 #[unsafe(no_mangle)]
-pub extern "C" fn offset_play(alloc: Global, text: &[u8], told: &mut [u64]) -> u32 {
-    code(scripts::played(alloc, text, &mut told.iter_mut()))
+pub extern "C" fn offset_play(alloc: Global, text: &[u8], cells: &mut [u64]) -> u32 {
+    code(scripts::play_text(alloc, text, &mut cells.iter_mut()))
 }
 
-/// Runs a text, and tells each byte that is written, and then the fault if there is one.
+/// Runs a text, and puts each byte that is written, and then the fault if there is one.
 #[unsafe(no_mangle)]
-pub extern "C" fn offset_run(alloc: Global, text: &[u8], told: &mut [u64]) -> u32 {
-    code(scripts::ran(alloc, text, told))
+pub extern "C" fn offset_run(alloc: Global, text: &[u8], cells: &mut [u64]) -> u32 {
+    code(scripts::run_text(alloc, text, cells))
 }

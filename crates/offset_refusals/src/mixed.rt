@@ -20,12 +20,12 @@ fn request_aligned<NI: NodeIndex>(
     }
 }
 
-// Numbers that are no offset, of the spaces that are called here.
+// Larger than any offset of the spaces here.
 const NONE: u32 = 100_000;
 
 const GONE: u32 = 200_000;
 
-// Releases a handle, if it is live, and answers its size.
+// Frees a handle if it is live. It returns the size of its range, or `GONE`.
 fn release<NI: NodeIndex>(allocator: &mut Allocator<NI>, handle: Allocation<NI>) -> u32 {
     if allocator.is_live(handle) {
         let size = allocator.allocation_size(handle);
@@ -36,7 +36,7 @@ fn release<NI: NodeIndex>(allocator: &mut Allocator<NI>, handle: Allocation<NI>)
     }
 }
 
-// Where a handle is kept it is released, and else one is asked for. The answer is an offset, a size, or another number.
+// Frees the kept handle, or makes a request where none is kept. It returns the size, the offset, `GONE` or `NONE`.
 fn grant_or_release<NI: NodeIndex>(
     allocator: &mut Allocator<NI>,
     kept: &mut Option<Allocation<NI>>,
@@ -62,8 +62,8 @@ fn grant_or_release<NI: NodeIndex>(
     }
 }
 
-// Both reports, as one number.
-fn folded(short: &StorageReport, full: &StorageReportFull, class: usize) -> u32 {
+// Both reports as one number.
+fn fold(short: &StorageReport, full: &StorageReportFull, class: usize) -> u32 {
     short
         .total_free_space
         .wrapping_mul(3)
@@ -72,14 +72,14 @@ fn folded(short: &StorageReport, full: &StorageReportFull, class: usize) -> u32 
         .wrapping_add(full.free_regions[class % 256].count)
 }
 
-fn reported<NI: NodeIndex>(allocator: &Allocator<NI>, class: usize) -> u32 {
+fn report<NI: NodeIndex>(allocator: &Allocator<NI>, class: usize) -> u32 {
     let short = allocator.storage_report();
     let full = allocator.storage_report_full();
-    folded(&short, &full, class)
+    fold(&short, &full, class)
 }
 
-// The same by the counted calls, and of a kept handle also its size, where it is live.
-fn reported_counted<NI: NodeIndex>(
+// The same by the counted calls, with the size of the kept handle where it is live.
+fn report_counted<NI: NodeIndex>(
     allocator: &Allocator<NI>,
     kept: Option<Allocation<NI>>,
     class: usize,
@@ -87,17 +87,17 @@ fn reported_counted<NI: NodeIndex>(
     let mut count = Accesses::new();
     let short = storage_report_counted(allocator, &mut count);
     let full = storage_report_full_counted(allocator, &mut count);
-    let told = folded(&short, &full, class);
+    let number = fold(&short, &full, class);
     match kept {
-        Some(handle) if is_live_counted(allocator, handle, &mut count) => told
+        Some(handle) if is_live_counted(allocator, handle, &mut count) => number
             .wrapping_mul(3)
             .wrapping_add(allocation_size_counted(allocator, handle, &mut count)),
-        _ => told,
+        _ => number,
     }
 }
 
-// The answer to a call, as a number.
-fn called<NI: NodeIndex>(
+// Makes one call. It returns the result as a number.
+fn call<NI: NodeIndex>(
     allocator: &mut Allocator<NI>,
     kept: &mut Option<Allocation<NI>>,
     kind: u32,
@@ -105,8 +105,8 @@ fn called<NI: NodeIndex>(
 ) -> u32 {
     match kind {
         0..=9 => grant_or_release(allocator, kept, kind, number % 100),
-        10 | 11 => reported(allocator, number as usize),
-        12 => reported_counted(allocator, *kept, number as usize),
+        10 | 11 => report(allocator, number as usize),
+        12 => report_counted(allocator, *kept, number as usize),
         13 => u32::from(undo(allocator, number % 500)),
         14 => u32::from(allocator.extend(number % 10)),
         _ => {
@@ -118,7 +118,7 @@ fn called<NI: NodeIndex>(
     }
 }
 
-/// A checksum of the answers to 1,000 calls of every kind. Handles are kept in the list that is given.
+/// Makes 1,000 calls of every kind, and returns a checksum of their results. It keeps the handles in `kept`.
 pub fn mixed_calls<NI: NodeIndex>(
     allocator: &mut Allocator<NI>,
     kept: &mut [Option<Allocation<NI>>],
@@ -129,7 +129,7 @@ pub fn mixed_calls<NI: NodeIndex>(
         state = state.wrapping_mul(1_103_515_245).wrapping_add(12_345) % 2_147_483_648;
         let number = state / 65_536;
         if let Some(kept) = kept.get_mut((number / 16 % 16) as usize) {
-            let answer = called(allocator, kept, (number % 16) as u32, (number / 256) as u32);
+            let answer = call(allocator, kept, (number % 16) as u32, (number / 256) as u32);
             sum = sum.wrapping_mul(31).wrapping_add(u64::from(answer));
         }
     }

@@ -1,35 +1,35 @@
-//! What comes of a call.
+//! The ways in which a call can fail.
 
 ghost use Rattle.std.specs.Prelude.{◌≡◌};
-ghost use Rattle.offset_refusals.specs.declared.outcomes.Miss.TheVariants.{Refused};
+ghost use Rattle.offset_refusals.specs.declared.outcomes.Failure.TheVariants.{OutOfMemory};
 
 use std::alloc::AllocError;
 
-/// Why a call gave no answer.
+/// Why a call returned no result.
 #[derive(Clone, Copy)]
-pub enum Miss {
-    /// Memory was refused.
-    Refused,
-    /// The text is no script. The fault is told.
+pub enum Failure {
+    /// An allocation failed.
+    OutOfMemory,
+    /// The text is no script. Its fault is in the cells.
     Faulty,
     /// The source or the sink failed.
     Device,
-    /// The text that was to be taken is no script.
+    /// The call needs a script, and the text is none.
     Unfit,
 }
 
-impl From<AllocError> for Miss {
-    ghost from_gives = { λ _ e. e ≡ Refused };
+impl From<AllocError> for Failure {
+    ghost from_gives = { λ _ e. e ≡ OutOfMemory };
 
-    fn from(_e: AllocError) -> Miss {
-        Miss::Refused
+    fn from(_e: AllocError) -> Failure {
+        Failure::OutOfMemory
     }
 }
 
-/// The number that C gets: 0 for an answer, and else the place of the miss in its list, from 1.
-pub fn code(told: Result<(), Miss>) -> u32 {
-    match told {
+/// The number that C gets: 0 for a result, else the place of the failure in its enum, from 1.
+pub fn code(outcome: Result<(), Failure>) -> u32 {
+    match outcome {
         Ok(()) => 0,
-        Err(miss) => 1 + u32::from(miss as u8),
+        Err(failure) => 1 + u32::from(failure as u8),
     }
 }

@@ -1,62 +1,62 @@
 //! Texts that are parsed, played and run.
 
-use crate::numbers::{Cells, tell_answers, tell_fault, tell_script};
-use crate::outcomes::Miss;
-use crate::sent::Sent;
+use crate::cell_writer::CellWriter;
+use crate::numbers::{Cells, put_answers, put_fault, put_script};
+use crate::outcomes::Failure;
 use offset_script::{
     FromRead, IndexWidth, IntoWrite, RunFault, Script, ScriptFault, parse, play, run,
 };
 use std::alloc::Global;
 
-/// The script of a text. Any fault is `Unfit`, so that `Refused` comes of the call behind it alone.
-pub fn script(alloc: Global, text: &[u8]) -> Result<Script, Miss> {
+/// The script of a text. Any fault is `Unfit`, so that `OutOfMemory` comes only from the call after it.
+pub fn script(alloc: Global, text: &[u8]) -> Result<Script, Failure> {
     match parse(alloc, text) {
         Ok(script) => Ok(script),
-        Err(_) => Err(Miss::Unfit),
+        Err(_) => Err(Failure::Unfit),
     }
 }
 
-/// The script that a text means, or its fault.
-pub fn parsed(alloc: Global, text: &[u8], told: &mut Cells<'_>) -> Result<(), Miss> {
+/// Parses a text, and puts the script that it means, or its fault, into the cells.
+pub fn parse_text(alloc: Global, text: &[u8], cells: &mut Cells<'_>) -> Result<(), Failure> {
     match parse(alloc, text) {
         Ok(script) => {
-            tell_script(told, &script);
+            put_script(cells, &script);
             Ok(())
         }
-        Err(ScriptFault::Memory) => Err(Miss::Refused),
+        Err(ScriptFault::Memory) => Err(Failure::OutOfMemory),
         Err(fault) => {
-            tell_fault(told, fault);
-            Err(Miss::Faulty)
+            put_fault(cells, fault);
+            Err(Failure::Faulty)
         }
     }
 }
 
-/// The answers to the commands of a script.
-pub fn played(alloc: Global, text: &[u8], told: &mut Cells<'_>) -> Result<(), Miss> {
+/// Plays the commands of a script, and puts their answers into the cells.
+pub fn play_text(alloc: Global, text: &[u8], cells: &mut Cells<'_>) -> Result<(), Failure> {
     let script = script(alloc, text)?;
     let (size, limit) = (script.size, script.max_allocs);
     let answers = match script.index {
         IndexWidth::Bits16 => play::<u16>(alloc, size, limit, &script.commands)?,
         IndexWidth::Bits32 => play::<u32>(alloc, size, limit, &script.commands)?,
     };
-    tell_answers(told, &answers);
+    put_answers(cells, &answers);
     Ok(())
 }
 
-/// Each byte that a run writes, and then the fault if there is one.
-pub fn ran(alloc: Global, text: &[u8], told: &mut [u64]) -> Result<(), Miss> {
-    let mut output = IntoWrite::new(Sent {
-        told: told.iter_mut(),
+/// Runs a text, and puts each byte that it writes into a cell, and then the fault if there is one.
+pub fn run_text(alloc: Global, text: &[u8], cells: &mut [u64]) -> Result<(), Failure> {
+    let mut output = IntoWrite::new(CellWriter {
+        cells: cells.iter_mut(),
     });
     let result = run(alloc, &mut FromRead::new(text), &mut output);
-    let Sent { mut told } = output.into_inner();
+    let CellWriter { mut cells } = output.into_inner();
     match result {
         Ok(()) => Ok(()),
-        Err(RunFault::Memory) => Err(Miss::Refused),
+        Err(RunFault::Memory) => Err(Failure::OutOfMemory),
         Err(RunFault::Script(fault)) => {
-            tell_fault(&mut told, fault);
-            Err(Miss::Faulty)
+            put_fault(&mut cells, fault);
+            Err(Failure::Faulty)
         }
-        Err(RunFault::Read | RunFault::Write) => Err(Miss::Device),
+        Err(RunFault::Read | RunFault::Write) => Err(Failure::Device),
     }
 }

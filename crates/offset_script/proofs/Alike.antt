@@ -1,24 +1,24 @@
--- Two states that differ only in numbers, and in stamps of the same order in each class, answer alike.
+-- Two states that differ only in numbers, and in stamps of the same order in each class, return the same answers.
 use Rattle.std.proofs.Common.{◌≡◌, ℕ, zero, suc, ◌+◌, ◌-◌, ◌*◌, ◌<◌, ◌≤◌, Bool, true, false, ◌&&◌, ◌||◌, ◌⊎◌, List, [], ◌∷◌, length, map, Option, Some, None, option_map, nat_eq, nat_lt, nat_le, if◌then◌else◌, refl, sym, ap, ap₂, subst, subst₂, ⊎_elim, ◌∙◌, inl, inr, arith, lt-ltb, le-ltb, sum}
 use Rattle.offset_script.specs.declared.scripts.Command.{Command}
 use Rattle.offset_script.specs.declared.scripts.Command.TheVariants as command
-use Rattle.offset_script.specs.Blocks.{Free, Block, block, has_number, total, free_sizes, chosen, place_of, ends_live, joined}
-use Rattle.offset_allocator.specs.Named.{greatest, padding_to}
-use Rattle.offset_script.specs.Machine.{State, Answer, Outcome, step, answers, after, serve, grant, grant_or_refuse, is_short_of, answers_only, leaves, release, size_at, report, reset, extend, stamp_of_call}
+use Rattle.offset_script.specs.Machine.{Free, Block, block, has_number, total, free_sizes, chosen_place, place_of, ends_live, coalesce, State, Answer, Outcome, step, answers, after, request, grant, grant_or_refuse, is_short_of, returns_only, leaves, release, size_at, report, reset, extend, stamp_of_call}
+use Rattle.offset_allocator.specs.Named.{max_size, padding_to}
 use Rattle.offset_script.specs.Machine as machine
 use Rattle.offset_allocator.specs.Reports.{largest, rows_below}
 use Rattle.offset_script.proofs.Pairs.{Kind, Lives, Frees, Pair, pair, left_tag, right_tag, lefts, rights, In, in_left, in_right, Agree, AllAgree, SameOrder, PairPlace, whole, left_place, right_place}
 use Rattle.std.proofs.lemmas.Bool.{cases_lt, true≢false, false≢true}
 use Rattle.std.proofs.lemmas.Bool.Decides.{nat_tests}
-use Rattle.offset_script.proofs.Pairs.{same_length, same_total, same_sizes, same_ends_live, pairs_joined, lefts_joined, rights_joined, in_joined, pair_place_of, left_place_of, right_place_of, found_in, pair_chosen, left_chosen, right_chosen, chosen_in, pairs_granted, in_granted, lefts_granted, rights_granted}
-use Rattle.offset_script.specs.Histories.{renumbered, raised}
+use Rattle.offset_script.proofs.Pairs.{same_length, same_total, same_sizes, same_ends_live, coalesce_pairs, lefts_coalesce, rights_coalesce, in_coalesce, pair_place_of, left_place_of, right_place_of, found_in, pair_chosen, left_chosen, right_chosen, chosen_in, pairs_granted, in_granted, lefts_granted, rights_granted}
+use Rattle.offset_script.specs.Histories.{renumber, raise_number}
 
 -- Numbers are changed by r, and stamps are below x and below y.
 abbrev pub Matched : (ℕ → ℕ) → ℕ → ℕ → Kind → Type 0
 Matched r x y (Lives j j') = (k : ℕ) → nat_eq k j ≡ nat_eq (r k) j'
 Matched r x y (Frees s s') = (s < x) × (s' < y)
 
--- s answers as t, where the number of a grant in s is that in t with d added, and r takes those of s to those of t
+-- s and t return the same answers, except that grant numbers of s are those of t with d added; r maps numbers of s to
+-- those of t
 pub record Alike (r : ℕ → ℕ) (d : ℕ) (s t : State) : Type 0 where
   pub limit : s.limit ≡ t.limit
   pub pairs : List Pair
@@ -88,10 +88,10 @@ past_in_new r d x y g h k past future from e l = elim (cases_lt x k) [
 ]
 
 -- A call that leaves such pairs keeps the states alike.
-pub kept : (r : ℕ → ℕ) (d : ℕ) (s t : State) → (a : Alike r d s t) → (p : List Pair) (g h : ℕ) (bs cs : List Block) → bs ≡ lefts p → cs ≡ rights p → Left r d s t a p
+pub keeps_alike : (r : ℕ → ℕ) (d : ℕ) (s t : State) → (a : Alike r d s t) → (p : List Pair) (g h : ℕ) (bs cs : List Block) → bs ≡ lefts p → cs ≡ rights p → Left r d s t a p
     → s.grants ≤ g → t.grants ≤ h → g ≡ h + d
     → Alike r d (record { limit = s.limit; blocks = bs; calls = s.calls + 1; grants = g }) (record { limit = t.limit; blocks = cs; calls = t.calls + 1; grants = h })
-kept r d s t a p g h bs cs on_left on_right each from from' e = record {
+keeps_alike r d s t a p g h bs cs on_left on_right each from from' e = record {
   limit = a.limit;
   pairs = p;
   left_blocks = on_left;
@@ -103,17 +103,17 @@ kept r d s t a p g h bs cs on_left on_right each from from' e = record {
   future = λ k l. a.future k (omega arith);
 }
 
--- the same answer but for the number of a grant, and states that are alike again
+-- the same answer, except for the number of a grant, and states that are alike again
 pub record SameOutcome (r : ℕ → ℕ) (d : ℕ) (o p : Outcome) : Type 0 where
-  pub answer : o.answer ≡ raised d p.answer
+  pub answer : o.answer ≡ raise_number d p.answer
   pub state : Alike r d o.state p.state
 
-same_quiet : (r : ℕ → ℕ) (d : ℕ) (s t : State) → Alike r d s t → (x y : Answer) → x ≡ raised d y → SameOutcome r d (answers_only s x) (answers_only t y)
-same_quiet r d s t a x y e = record { answer = e; state = kept r d s t a a.pairs s.grants t.grants s.blocks t.blocks a.left_blocks a.right_blocks (λ q i. inl i) (omega arith) (omega arith) a.grants }
+same_quiet : (r : ℕ → ℕ) (d : ℕ) (s t : State) → Alike r d s t → (x y : Answer) → x ≡ raise_number d y → SameOutcome r d (returns_only s x) (returns_only t y)
+same_quiet r d s t a x y e = record { answer = e; state = keeps_alike r d s t a a.pairs s.grants t.grants s.blocks t.blocks a.left_blocks a.right_blocks (λ q i. inl i) (omega arith) (omega arith) a.grants }
 
-same_leaves : (r : ℕ → ℕ) (d : ℕ) (s t : State) (a : Alike r d s t) (x y : Answer) (p : List Pair) (bs cs : List Block) → x ≡ raised d y → bs ≡ lefts p → cs ≡ rights p → Left r d s t a p
+same_leaves : (r : ℕ → ℕ) (d : ℕ) (s t : State) (a : Alike r d s t) (x y : Answer) (p : List Pair) (bs cs : List Block) → x ≡ raise_number d y → bs ≡ lefts p → cs ≡ rights p → Left r d s t a p
     → SameOutcome r d (leaves s bs x) (leaves t cs y)
-same_leaves r d s t a x y p bs cs e on_left on_right each = record { answer = e; state = kept r d s t a p s.grants t.grants bs cs on_left on_right each (omega arith) (omega arith) a.grants }
+same_leaves r d s t a x y p bs cs e on_left on_right each = record { answer = e; state = keeps_alike r d s t a p s.grants t.grants bs cs on_left on_right each (omega arith) (omega arith) a.grants }
 
 same_if : (r : ℕ → ℕ) (d : ℕ) (b c : Bool) (o p o' p' : Outcome) → b ≡ c → SameOutcome r d o p → SameOutcome r d o' p' → SameOutcome r d (if b then o else o') (if c then p else p')
 same_if r d true true o p o' p' e f g = f
@@ -150,7 +150,7 @@ same_grant r d s t a n padding c e =
     let rest = Frees (2 * (s.calls + 1) + 1) (2 * (t.calls + 1) + 1) in
     record {
       answer = ap₂ machine.Grant (omega (arith, a.grants)) (ap (λ n. n + padding) (same_total c.before));
-      state = kept r d s t a (pairs_granted c n padding front live rest) (s.grants + 1) (t.grants + 1) _ _
+      state = keeps_alike r d s t a (pairs_granted c n padding front live rest) (s.grants + 1) (t.grants + 1) _ _
           (sym (lefts_granted c n padding _ _ _ _ _ _)) (sym (rights_granted c n padding _ _ _ _ _ _))
           (λ q i. left_granted r d s t a c n padding q e (in_granted q c n padding front live rest i))
           (omega arith) (omega arith) (omega (arith, a.grants));
@@ -163,14 +163,14 @@ same_granted r d s t a n needed padding_at (Some c) e =
     subst (λ x. SameOutcome r d (grant s n (padding_at (total (lefts c.before))) (left_place c)) (grant t n (padding_at x) (right_place c))) (same_total c.before)
     (same_grant r d s t a n (padding_at (total (lefts c.before))) c (chosen_in needed a.pairs c e).0)
 
-same_serve : (r : ℕ → ℕ) (d : ℕ) (s t : State) (a : Alike r d s t) (spare needed n : ℕ) (padding_at : ℕ → ℕ) → SameOutcome r d (serve s spare needed n padding_at) (serve t spare needed n padding_at)
-same_serve r d s t a spare needed n padding_at = same_if r d _ _ _ _ _ _ (same_short r d s t a spare) (same_quiet r d s t a _ _ refl)
+same_request : (r : ℕ → ℕ) (d : ℕ) (s t : State) (a : Alike r d s t) (spare needed n : ℕ) (padding_at : ℕ → ℕ) → SameOutcome r d (request s spare needed n padding_at) (request t spare needed n padding_at)
+same_request r d s t a spare needed n padding_at = same_if r d _ _ _ _ _ _ (same_short r d s t a spare) (same_quiet r d s t a _ _ refl)
     (subst₂ (λ x y. SameOutcome r d (grant_or_refuse s n padding_at x) (grant_or_refuse t n padding_at y))
-    (sym (ap (chosen needed) a.left_blocks ∙ left_chosen needed a.pairs))
-    (sym (ap (chosen needed) a.right_blocks ∙ right_chosen needed a.pairs a.agree))
+    (sym (ap (chosen_place needed) a.left_blocks ∙ left_chosen needed a.pairs))
+    (sym (ap (chosen_place needed) a.right_blocks ∙ right_chosen needed a.pairs a.agree))
     (same_granted r d s t a n needed padding_at (pair_chosen needed a.pairs) refl))
 
--- where a grant stands
+-- the place of a grant
 same_number : (r : ℕ → ℕ) (x y k : ℕ) (q : Kind) → Matched r x y q → has_number k (left_tag q) ≡ has_number (r k) (right_tag q)
 same_number r x y k (Lives i j) m = m k
 same_number r x y k (Frees s u) m = refl
@@ -190,17 +190,17 @@ in_parts : (q : Pair) (c : PairPlace) → In q c.before ⊎ In q c.after → In 
 in_parts q c (inl i) = in_left q c.before _ i
 in_parts q c (inr i) = in_right q c.before _ (inr i)
 
-same_joined : (r : ℕ → ℕ) (d : ℕ) (s t : State) (a : Alike r d s t) (x : Answer) (ps : List Pair) (n : ℕ) (qs : List Pair) → x ≡ raised d x → ((q : Pair) → In q ps ⊎ In q qs → In q a.pairs)
-    → SameOutcome r d (leaves s (joined (lefts ps) n (stamp_of_call s) (lefts qs)) x) (leaves t (joined (rights ps) n (stamp_of_call t) (rights qs)) x)
-same_joined r d s t a x ps n qs e old =
+same_coalesce : (r : ℕ → ℕ) (d : ℕ) (s t : State) (a : Alike r d s t) (x : Answer) (ps : List Pair) (n : ℕ) (qs : List Pair) → x ≡ raise_number d x → ((q : Pair) → In q ps ⊎ In q qs → In q a.pairs)
+    → SameOutcome r d (leaves s (coalesce (lefts ps) n (stamp_of_call s) (lefts qs)) x) (leaves t (coalesce (rights ps) n (stamp_of_call t) (rights qs)) x)
+same_coalesce r d s t a x ps n qs e old =
     let k = Frees (2 * (s.calls + 1) + 1) (2 * (t.calls + 1) + 1) in
-    same_leaves r d s t a x x (pairs_joined ps n k qs) _ _ e
-    (sym (lefts_joined ps n _ _ qs)) (sym (rights_joined ps n _ _ qs))
-    (λ q i. left_released r d s t a ps n qs old q (in_joined q ps n k qs i))
+    same_leaves r d s t a x x (coalesce_pairs ps n k qs) _ _ e
+    (sym (lefts_coalesce ps n _ _ qs)) (sym (rights_coalesce ps n _ _ qs))
+    (λ q i. left_released r d s t a ps n qs old q (in_coalesce q ps n k qs i))
 
 same_released : (r : ℕ → ℕ) (d : ℕ) (s t : State) (a : Alike r d s t) (k : ℕ) (o : Option PairPlace) → pair_place_of k a.pairs ≡ o → SameOutcome r d (release s (option_map left_place o)) (release t (option_map right_place o))
 same_released r d s t a k None e = same_quiet r d s t a _ _ refl
-same_released r d s t a k (Some c) e = same_joined r d s t a machine.Freed c.before c.pair.size c.after refl
+same_released r d s t a k (Some c) e = same_coalesce r d s t a machine.Freed c.before c.pair.size c.after refl
     (λ q i. subst (In q) (sym (found_in k a.pairs c e)) (in_parts q c i))
 
 same_release : (r : ℕ → ℕ) (d : ℕ) (s t : State) (a : Alike r d s t) (k : ℕ) → SameOutcome r d (release s (place_of k s.blocks)) (release t (place_of (r k) t.blocks))
@@ -208,19 +208,19 @@ same_release r d s t a k = subst₂ (λ x y. SameOutcome r d (release s x) (rele
     (sym (left_found r d s t a k a.pairs a.left_blocks)) (sym (right_found r d s t a k))
     (same_released r d s t a k (pair_place_of k a.pairs) refl)
 
-size_of_place : (d : ℕ) (o : Option PairPlace) → size_at (option_map left_place o) ≡ raised d (size_at (option_map right_place o))
+size_of_place : (d : ℕ) (o : Option PairPlace) → size_at (option_map left_place o) ≡ raise_number d (size_at (option_map right_place o))
 size_of_place d None = refl
 size_of_place d (Some c) = refl
 
-same_size : (r : ℕ → ℕ) (d : ℕ) (s t : State) (a : Alike r d s t) (k : ℕ) → size_at (place_of k s.blocks) ≡ raised d (size_at (place_of (r k) t.blocks))
-same_size r d s t a k = ap size_at (left_found r d s t a k a.pairs a.left_blocks) ∙ size_of_place d (pair_place_of k a.pairs) ∙ ap (λ o. raised d (size_at o)) (sym (right_found r d s t a k))
+same_size : (r : ℕ → ℕ) (d : ℕ) (s t : State) (a : Alike r d s t) (k : ℕ) → size_at (place_of k s.blocks) ≡ raise_number d (size_at (place_of (r k) t.blocks))
+same_size r d s t a k = ap size_at (left_found r d s t a k a.pairs a.left_blocks) ∙ size_of_place d (pair_place_of k a.pairs) ∙ ap (λ o. raise_number d (size_at o)) (sym (right_found r d s t a k))
 
-same_report_if : (d : ℕ) (b : Bool) (x y : ℕ) → (if b then machine.Report 0 0 else machine.Report x y) ≡ raised d (if b then machine.Report 0 0 else machine.Report x y)
+same_report_if : (d : ℕ) (b : Bool) (x y : ℕ) → (if b then machine.Report 0 0 else machine.Report x y) ≡ raise_number d (if b then machine.Report 0 0 else machine.Report x y)
 same_report_if d true x y = refl
 same_report_if d false x y = refl
 
-same_report : (r : ℕ → ℕ) (d : ℕ) (s t : State) (a : Alike r d s t) → report s ≡ raised d (report t)
-same_report r d s t a = same_report_if d (is_short_of 1 s) _ _ ∙ ap₂ (λ b l. raised d (if b then machine.Report 0 0 else machine.Report (sum l) (largest l))) (same_short r d s t a 1) (same_free_sizes r d s t a)
+same_report : (r : ℕ → ℕ) (d : ℕ) (s t : State) (a : Alike r d s t) → report s ≡ raise_number d (report t)
+same_report r d s t a = same_report_if d (is_short_of 1 s) _ _ ∙ ap₂ (λ b l. raise_number d (if b then machine.Report 0 0 else machine.Report (sum l) (largest l))) (same_short r d s t a 1) (same_free_sizes r d s t a)
 
 same_reset : (r : ℕ → ℕ) (d : ℕ) (s t : State) (a : Alike r d s t) → SameOutcome r d (reset s) (reset t)
 same_reset r d s t a =
@@ -235,23 +235,23 @@ same_reset r d s t a =
 same_extend : (r : ℕ → ℕ) (d : ℕ) (s t : State) (a : Alike r d s t) (more : ℕ) → SameOutcome r d (extend more s) (extend more t)
 same_extend r d s t a zero = same_quiet r d s t a _ _ refl
 same_extend r d s t a (suc more) = same_if r d _ _ _ _ _ _
-    (ap₂ (λ x y. x || y) (ap (λ n. nat_lt greatest (n + suc more)) (same_units r d s t a)) (ap₂ (λ x y. x && y) (ap ends_live a.left_blocks ∙ same_ends_live a.pairs ∙ ap ends_live (sym a.right_blocks)) (same_short r d s t a 1)))
+    (ap₂ (λ x y. x || y) (ap (λ n. nat_lt max_size (n + suc more)) (same_units r d s t a)) (ap₂ (λ x y. x && y) (ap ends_live a.left_blocks ∙ same_ends_live a.pairs ∙ ap ends_live (sym a.right_blocks)) (same_short r d s t a 1)))
     (same_quiet r d s t a _ _ refl)
-    (subst₂ (λ x y. SameOutcome r d (leaves s (joined x (suc more) (stamp_of_call s) []) machine.Extended) (leaves t (joined y (suc more) (stamp_of_call t) []) machine.Extended)) (sym a.left_blocks) (sym a.right_blocks)
-    (same_joined r d s t a machine.Extended a.pairs (suc more) [] refl (λ q i. ⊎_elim (λ h. h) (λ h. absurd h) i)))
+    (subst₂ (λ x y. SameOutcome r d (leaves s (coalesce x (suc more) (stamp_of_call s) []) machine.Extended) (leaves t (coalesce y (suc more) (stamp_of_call t) []) machine.Extended)) (sym a.left_blocks) (sym a.right_blocks)
+    (same_coalesce r d s t a machine.Extended a.pairs (suc more) [] refl (λ q i. ⊎_elim (λ h. h) (λ h. absurd h) i)))
 
-pub alike_step : (r : ℕ → ℕ) (d : ℕ) (c : Command) (s t : State) → Alike r d s t → SameOutcome r d (step c s) (step (renumbered r c) t)
-alike_step r d (command.Alloc n) s t a = same_serve r d s t a 1 n n (λ offset. 0)
+pub alike_step : (r : ℕ → ℕ) (d : ℕ) (c : Command) (s t : State) → Alike r d s t → SameOutcome r d (step c s) (step (renumber r c) t)
+alike_step r d (command.Alloc n) s t a = same_request r d s t a 1 n n (λ offset. 0)
 alike_step r d (command.Free k) s t a = same_release r d s t a k
 alike_step r d (command.Size k) s t a = same_quiet r d s t a _ _ (same_size r d s t a k)
 alike_step r d command.Report s t a = same_quiet r d s t a _ _ (same_report r d s t a)
 alike_step r d command.Full s t a = same_quiet r d s t a _ _ (ap (λ l. machine.Full (rows_below 256 l)) (same_free_sizes r d s t a))
 alike_step r d command.Reset s t a = same_reset r d s t a
-alike_step r d (command.Align n align) s t a = same_if r d _ _ _ _ _ _ refl (same_serve r d s t a 1 n n (λ offset. 0))
-    (same_if r d _ _ _ _ _ _ refl (same_quiet r d s t a _ _ refl) (same_serve r d s t a 2 (n + align - 1) n (padding_to align)))
+alike_step r d (command.Align n align) s t a = same_if r d _ _ _ _ _ _ refl (same_request r d s t a 1 n n (λ offset. 0))
+    (same_if r d _ _ _ _ _ _ refl (same_quiet r d s t a _ _ refl) (same_request r d s t a 2 (n + align - 1) n (padding_to align)))
 alike_step r d (command.Extend more) s t a = same_extend r d s t a more
 
--- alike states answer alike to whatever comes
-pub alike_answers : (r : ℕ → ℕ) (d : ℕ) (cs : List Command) (s t : State) → Alike r d s t → answers cs s ≡ map (raised d) (answers (map (renumbered r) cs) t)
+-- alike states return the same answers to any commands
+pub alike_answers : (r : ℕ → ℕ) (d : ℕ) (cs : List Command) (s t : State) → Alike r d s t → answers cs s ≡ map (raise_number d) (answers (map (renumber r) cs) t)
 alike_answers r d [] s t a = refl
 alike_answers r d (c ∷ cs) s t a = let o = alike_step r d c s t a in ap₂ (λ x xs. x ∷ xs) o.answer (alike_answers r d cs _ _ o.state)

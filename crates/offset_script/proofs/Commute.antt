@@ -1,15 +1,14 @@
--- Releases may come in any order.
+-- Releases in a row leave the same space in any order.
 use Rattle.std.proofs.Common.{◌≡◌, ℕ, zero, suc, ◌+◌, ◌-◌, Bool, true, false, ◌&&◌, ◌||◌, List, [], ◌∷◌, ◌++◌, length, sum, Option, Some, None, option_map, is_some, nat_eq, nat_lt, nat_le, if◌then◌else◌, refl, sym, ap, ap₂, subst, subst₂, ◌∙◌, inl, inr, arith, eq-eqb, eqb-true}
 use Rattle.std.proofs.lemmas.Bool.{true≢false, false≢true}
 use Rattle.offset_script.specs.declared.scripts.Command.{Command}
 use Rattle.offset_script.specs.declared.scripts.Command.TheVariants as command
 use Rattle.offset_allocator.specs.Classes.{up, down}
 use Rattle.offset_allocator.specs.Reports.{largest, rows_below}
-use Rattle.offset_script.specs.Blocks.{Tag, Live, Free, Block, block, is_free, has_number, total, free_sizes, Place, here, behind, fits, is_taken_before, choose, chosen, place_of, free_start, without_start, ends_live, joined}
-use Rattle.offset_allocator.specs.Named.{greatest, padding_to}
-use Rattle.offset_script.specs.Machine.{State, Outcome, start, step, after, serve, grant_or_refuse, is_short_of, answers_only, leaves, release, size_at, stamp_of_call}
+use Rattle.offset_script.specs.Machine.{Tag, Live, Free, Block, block, is_free, has_number, total, free_sizes, Place, here, prepend, fits, is_taken_before, choose, chosen_place, place_of, free_start, without_start, ends_live, coalesce, State, Outcome, start, step, after, request, grant_or_refuse, is_short_of, returns_only, leaves, release, size_at, stamp_of_call}
+use Rattle.offset_allocator.specs.Named.{max_size, padding_to}
 use Rattle.offset_script.specs.Machine as machine
-use Rattle.offset_script.specs.Histories.{holder, outline, widened, is_among, collapse_block, collapse, placeless, frees, ReleasesCommute}
+use Rattle.offset_script.specs.Histories.{holder, outline, widen, is_among, collapse_block, collapse, without_offset, releases, ReleasesCommute}
 use Rattle.offset_script.proofs.Pairs.{Kind, Lives, Frees, Pair, pair, left_tag, right_tag, left, right, lefts, rights, In, same_free, same_length, same_total, same_sizes, same_ends_live, PairPlace, left_place, right_place, pair_place_of, left_place_of, right_place_of}
 use Rattle.offset_script.proofs.Well.{Well, count, hit, hit_cases, count-append, starts_free, Apart, apart_parts, found_at, not_found, well_start, well_after, well_step}
 use Rattle.offset_script.proofs.Similar.{SameNumber}
@@ -19,20 +18,20 @@ abbrev Outline : Type 0
 Outline = List (ℕ × Option ℕ)
 
 -- collapsing twice
-widened-widened : (n m : ℕ) (o : Outline) → widened n (widened m o) ≡ widened (n + m) o
-widened-widened n m [] = refl
-widened-widened n m (b ∷ o) = go b.0 b.1
+widen-widen : (n m : ℕ) (o : Outline) → widen n (widen m o) ≡ widen (n + m) o
+widen-widen n m [] = refl
+widen-widen n m (b ∷ o) = go b.0 b.1
   where
-    go : (x : ℕ) (h : Option ℕ) → widened n (widened m ((x, h) ∷ o)) ≡ widened (n + m) ((x, h) ∷ o)
+    go : (x : ℕ) (h : Option ℕ) → widen n (widen m ((x, h) ∷ o)) ≡ widen (n + m) ((x, h) ∷ o)
     go x None = ap (λ y. (y, None) ∷ o) (let e : n + (m + x) ≡ (n + m) + x = omega arith in e)
     go x (Some k) = refl
 
-collapse-widened : (ks : List ℕ) (n : ℕ) (o : Outline) → collapse ks (widened n o) ≡ widened n (collapse ks o)
-collapse-widened ks n [] = refl
-collapse-widened ks n (b ∷ o) = go b.0 b.1
+collapse-widen : (ks : List ℕ) (n : ℕ) (o : Outline) → collapse ks (widen n o) ≡ widen n (collapse ks o)
+collapse-widen ks n [] = refl
+collapse-widen ks n (b ∷ o) = go b.0 b.1
   where
-    go : (x : ℕ) (h : Option ℕ) → collapse ks (widened n ((x, h) ∷ o)) ≡ widened n (collapse ks ((x, h) ∷ o))
-    go x None = sym (widened-widened n x (collapse ks o))
+    go : (x : ℕ) (h : Option ℕ) → collapse ks (widen n ((x, h) ∷ o)) ≡ widen n (collapse ks ((x, h) ∷ o))
+    go x None = sym (widen-widen n x (collapse ks o))
     go x (Some k) = refl
 
 collapse_if : (ks : List ℕ) (b : Bool) (x y : Outline) → collapse ks (if b then x else y) ≡ (if b then collapse ks x else collapse ks y)
@@ -48,12 +47,12 @@ or_nothing true = refl
 or_nothing false = refl
 
 collapse_block_more : (k : ℕ) (ks : List ℕ) (n : ℕ) (h : Option ℕ) (o p : Outline) → collapse ks o ≡ p → collapse ks (collapse_block (k ∷ []) n h o) ≡ collapse_block (k ∷ ks) n h p
-collapse_block_more k ks n None o p ih = collapse-widened ks n o ∙ ap (widened n) ih
+collapse_block_more k ks n None o p ih = collapse-widen ks n o ∙ ap (widen n) ih
 collapse_block_more k ks n (Some j) o p ih =
-    collapse_if ks (nat_eq j k || false) (widened n o) ((n, Some j) ∷ o)
-    ∙ ap (λ x. if nat_eq j k || false then x else collapse_block ks n (Some j) (collapse ks o)) (collapse-widened ks n o)
-    ∙ ap₂ (λ x q. if x then widened n q else (if is_among j ks then widened n q else (n, Some j) ∷ q)) (or_nothing (nat_eq j k)) ih
-    ∙ either_then (nat_eq j k) (is_among j ks) (widened n p) ((n, Some j) ∷ p)
+    collapse_if ks (nat_eq j k || false) (widen n o) ((n, Some j) ∷ o)
+    ∙ ap (λ x. if nat_eq j k || false then x else collapse_block ks n (Some j) (collapse ks o)) (collapse-widen ks n o)
+    ∙ ap₂ (λ x q. if x then widen n q else (if is_among j ks then widen n q else (n, Some j) ∷ q)) (or_nothing (nat_eq j k)) ih
+    ∙ either_then (nat_eq j k) (is_among j ks) (widen n p) ((n, Some j) ∷ p)
 
 collapse_one_more : (k : ℕ) (ks : List ℕ) (o : Outline) → collapse ks (collapse (k ∷ []) o) ≡ collapse (k ∷ ks) o
 collapse_one_more k ks [] = refl
@@ -66,26 +65,26 @@ no_hit t j e c z = let h : hit (Live j) t ≡ 1 = ap (hit (Live j)) e ∙ self i
     self : hit (Live j) (Live j) ≡ 1
     self = elim (hit_cases j j) [ inl h ↦ h.1 | inr h ↦ absurd (h.0 refl) ]
 
-widened_outline : (n : ℕ) (bs : List Block) → widened n (outline bs) ≡ (n + free_start bs, None) ∷ outline (without_start bs)
-widened_outline n [] = ap (λ x. (x, None) ∷ []) (let e : n ≡ n + 0 = omega arith in e)
-widened_outline n (b ∷ bs) = go b.size b.tag
+widen_outline : (n : ℕ) (bs : List Block) → widen n (outline bs) ≡ (n + free_start bs, None) ∷ outline (without_start bs)
+widen_outline n [] = ap (λ x. (x, None) ∷ []) (let e : n ≡ n + 0 = omega arith in e)
+widen_outline n (b ∷ bs) = go b.size b.tag
   where
-    go : (m : ℕ) (t : Tag) → widened n (outline (block m t ∷ bs)) ≡ (n + free_start (block m t ∷ bs), None) ∷ outline (without_start (block m t ∷ bs))
+    go : (m : ℕ) (t : Tag) → widen n (outline (block m t ∷ bs)) ≡ (n + free_start (block m t ∷ bs), None) ∷ outline (without_start (block m t ∷ bs))
     go m (Live j) = ap (λ x. (x, None) ∷ (m, Some j) ∷ outline bs) (let e : n ≡ n + 0 = omega arith in e)
     go m (Free s) = refl
 
-widened_apart : (n : ℕ) (bs : List Block) → starts_free bs ≡ false → widened n (outline bs) ≡ (n, None) ∷ outline bs
-widened_apart n [] e = refl
-widened_apart n (b ∷ bs) e = go b.size b.tag e
+widen_apart : (n : ℕ) (bs : List Block) → starts_free bs ≡ false → widen n (outline bs) ≡ (n, None) ∷ outline bs
+widen_apart n [] e = refl
+widen_apart n (b ∷ bs) e = go b.size b.tag e
   where
-    go : (m : ℕ) (t : Tag) → is_free t ≡ false → widened n (outline (block m t ∷ bs)) ≡ (n, None) ∷ outline (block m t ∷ bs)
+    go : (m : ℕ) (t : Tag) → is_free t ≡ false → widen n (outline (block m t ∷ bs)) ≡ (n, None) ∷ outline (block m t ∷ bs)
     go m (Live j) e = refl
     go m (Free s) e = absurd (true≢false e)
 
 -- a block that is not released stays
 stays : (ks : List ℕ) (n : ℕ) (t : Tag) (bs : List Block) → ((j : ℕ) → t ≡ Live j → is_among j ks ≡ false) → (is_free t && starts_free bs) ≡ false → collapse_block ks n (holder t) (outline bs) ≡ (n, holder t) ∷ outline bs
-stays ks n (Live j) bs h a = ap (λ b. if b then widened n (outline bs) else (n, Some j) ∷ outline bs) (h j refl)
-stays ks n (Free s) bs h a = widened_apart n bs a
+stays ks n (Live j) bs h a = ap (λ b. if b then widen n (outline bs) else (n, Some j) ∷ outline bs) (h j refl)
+stays ks n (Free s) bs h a = widen_apart n bs a
 
 not_among : (ks : List ℕ) (b : Block) (bs : List Block) → ((j : ℕ) → is_among j ks ≡ true → count (Live j) (b ∷ bs) ≡ 0) → (j : ℕ) → b.tag ≡ Live j → is_among j ks ≡ false
 not_among ks b bs h j e = go (is_among j ks) refl
@@ -107,37 +106,37 @@ none_of k bs z j e = subst (λ x. count (Live x) bs ≡ 0) (sym (only_k k j e)) 
 
 at_release : (k n : ℕ) (ys : List Block) → Apart ys → count (Live k) ys ≡ 0 → collapse (k ∷ []) (outline (block n (Live k) ∷ ys)) ≡ (n + free_start ys, None) ∷ outline (without_start ys)
 at_release k n ys b d =
-    ap (λ x. if x || false then widened n (collapse (k ∷ []) (outline ys)) else (n, Some k) ∷ collapse (k ∷ []) (outline ys)) (eq-eqb k k refl)
-    ∙ ap (widened n) (unchanged (k ∷ []) ys b (none_of k ys d))
-    ∙ widened_outline n ys
+    ap (λ x. if x || false then widen n (collapse (k ∷ []) (outline ys)) else (n, Some k) ∷ collapse (k ∷ []) (outline ys)) (eq-eqb k k refl)
+    ∙ ap (widen n) (unchanged (k ∷ []) ys b (none_of k ys d))
+    ∙ widen_outline n ys
 
-starts_joined : (y : Block) (xs : List Block) (n st : ℕ) (ys : List Block) → starts_free (joined (y ∷ xs) n st ys) ≡ is_free y.tag
-starts_joined y [] n st ys = go (is_free y.tag) refl
+starts_coalesce : (y : Block) (xs : List Block) (n st : ℕ) (ys : List Block) → starts_free (coalesce (y ∷ xs) n st ys) ≡ is_free y.tag
+starts_coalesce y [] n st ys = go (is_free y.tag) refl
   where
     go : (t : Bool) → is_free y.tag ≡ t → starts_free ((if t then [] else y ∷ []) ++ block ((if is_free y.tag then y.size else 0) + n + free_start ys) (Free st) ∷ without_start ys) ≡ is_free y.tag
     go true e = sym e
     go false e = refl
-starts_joined y (x ∷ xs) n st ys = refl
+starts_coalesce y (x ∷ xs) n st ys = refl
 
 -- the block before the one that is released
-joined_last : (k z : ℕ) (t : Tag) (n st : ℕ) (ys : List Block) → ((j : ℕ) → t ≡ Live j → is_among j (k ∷ []) ≡ false)
-    → outline (joined (block z t ∷ []) n st ys) ≡ collapse_block (k ∷ []) z (holder t) ((n + free_start ys, None) ∷ outline (without_start ys))
-joined_last k z (Live j) n st ys h =
+coalesce_last : (k z : ℕ) (t : Tag) (n st : ℕ) (ys : List Block) → ((j : ℕ) → t ≡ Live j → is_among j (k ∷ []) ≡ false)
+    → outline (coalesce (block z t ∷ []) n st ys) ≡ collapse_block (k ∷ []) z (holder t) ((n + free_start ys, None) ∷ outline (without_start ys))
+coalesce_last k z (Live j) n st ys h =
     ap (λ x. (z, Some j) ∷ (x, None) ∷ outline (without_start ys)) (let e : 0 + n + free_start ys ≡ n + free_start ys = omega arith in e)
-    ∙ ap (λ b. if b then widened z ((n + free_start ys, None) ∷ outline (without_start ys)) else (z, Some j) ∷ (n + free_start ys, None) ∷ outline (without_start ys)) (sym (h j refl))
-joined_last k z (Free s) n st ys h = ap (λ x. (x, None) ∷ outline (without_start ys)) (let e : z + n + free_start ys ≡ z + (n + free_start ys) = omega arith in e)
+    ∙ ap (λ b. if b then widen z ((n + free_start ys, None) ∷ outline (without_start ys)) else (z, Some j) ∷ (n + free_start ys, None) ∷ outline (without_start ys)) (sym (h j refl))
+coalesce_last k z (Free s) n st ys h = ap (λ x. (x, None) ∷ outline (without_start ys)) (let e : z + n + free_start ys ≡ z + (n + free_start ys) = omega arith in e)
 
-joined_outline : (k : ℕ) (xs : List Block) (n st : ℕ) (ys : List Block) → Apart xs → Apart ys → count (Live k) xs ≡ 0 → count (Live k) ys ≡ 0
-    → outline (joined xs n st ys) ≡ collapse (k ∷ []) (outline (xs ++ block n (Live k) ∷ ys))
-joined_outline k [] n st ys a b c d =
+coalesce_outline : (k : ℕ) (xs : List Block) (n st : ℕ) (ys : List Block) → Apart xs → Apart ys → count (Live k) xs ≡ 0 → count (Live k) ys ≡ 0
+    → outline (coalesce xs n st ys) ≡ collapse (k ∷ []) (outline (xs ++ block n (Live k) ∷ ys))
+coalesce_outline k [] n st ys a b c d =
     ap (λ x. (x, None) ∷ outline (without_start ys)) (let e : 0 + n + free_start ys ≡ n + free_start ys = omega arith in e) ∙ sym (at_release k n ys b d)
-joined_outline k (x ∷ []) n st ys a b c d =
-    joined_last k x.size x.tag n st ys (not_among (k ∷ []) x [] (none_of k (x ∷ []) c)) ∙ ap (collapse_block (k ∷ []) x.size (holder x.tag)) (sym (at_release k n ys b d))
-joined_outline k (x ∷ y ∷ xs) n st ys a b c d =
-    sym (stays (k ∷ []) x.size x.tag (joined (y ∷ xs) n st ys) (not_among (k ∷ []) x (y ∷ xs) (none_of k (x ∷ y ∷ xs) c)) (ap (λ t. is_free x.tag && t) (starts_joined y xs n st ys) ∙ a.0))
-    ∙ ap (collapse_block (k ∷ []) x.size (holder x.tag)) (joined_outline k (y ∷ xs) n st ys a.1 b (omega arith) d)
+coalesce_outline k (x ∷ []) n st ys a b c d =
+    coalesce_last k x.size x.tag n st ys (not_among (k ∷ []) x [] (none_of k (x ∷ []) c)) ∙ ap (collapse_block (k ∷ []) x.size (holder x.tag)) (sym (at_release k n ys b d))
+coalesce_outline k (x ∷ y ∷ xs) n st ys a b c d =
+    sym (stays (k ∷ []) x.size x.tag (coalesce (y ∷ xs) n st ys) (not_among (k ∷ []) x (y ∷ xs) (none_of k (x ∷ y ∷ xs) c)) (ap (λ t. is_free x.tag && t) (starts_coalesce y xs n st ys) ∙ a.0))
+    ∙ ap (collapse_block (k ∷ []) x.size (holder x.tag)) (coalesce_outline k (y ∷ xs) n st ys a.1 b (omega arith) d)
 
--- a row of releases
+-- releases in a row
 holder_live : (k : ℕ) (t : Tag) → has_number k t ≡ true → t ≡ Live k
 holder_live k (Live j) e = ap Live (sym (eqb-true k j e))
 holder_live k (Free s) e = absurd (false≢true e)
@@ -152,14 +151,14 @@ released_outline s w k (Some p) e =
     let own : hit (Live k) p.block.tag ≡ 1 = ap (hit (Live k)) tag ∙ self in
     let once = w.once (Live k) in
     let none_after : count (Live k) p.after ≡ 0 = omega (arith, own, once, ap (count (Live k)) f.0, count-append (Live k) p.before (p.block ∷ p.after), f.2) in
-    joined_outline k p.before p.block.size (stamp_of_call s) p.after parts.0 parts.1.1 f.2 none_after
+    coalesce_outline k p.before p.block.size (stamp_of_call s) p.after parts.0 parts.1.1 f.2 none_after
     ∙ ap (λ t. collapse (k ∷ []) (outline (p.before ++ block p.block.size t ∷ p.after))) (sym tag)
     ∙ ap (λ bs. collapse (k ∷ []) (outline bs)) (sym f.0)
 
-frees_outline : (ks : List ℕ) (s : State) → Well s → outline (after (frees ks) s).blocks ≡ collapse ks (outline s.blocks)
-frees_outline [] s w = sym (unchanged [] s.blocks w.apart (λ j e. absurd (false≢true e)))
-frees_outline (k ∷ ks) s w =
-    frees_outline ks (step (command.Free k) s).state (well_step (command.Free k) s w)
+releases_outline : (ks : List ℕ) (s : State) → Well s → outline (after (releases ks) s).blocks ≡ collapse ks (outline s.blocks)
+releases_outline [] s w = sym (unchanged [] s.blocks w.apart (λ j e. absurd (false≢true e)))
+releases_outline (k ∷ ks) s w =
+    releases_outline ks (step (command.Free k) s).state (well_step (command.Free k) s w)
     ∙ ap (collapse ks) (released_outline s w k (place_of k s.blocks) refl)
     ∙ collapse_one_more k ks (outline s.blocks)
 
@@ -167,9 +166,9 @@ released_scalars : (s : State) (o : Option Place) → ((release s o).state.limit
 released_scalars s None = (refl, refl)
 released_scalars s (Some p) = (refl, refl)
 
-frees_scalars : (ks : List ℕ) (s : State) → ((after (frees ks) s).limit ≡ s.limit) × ((after (frees ks) s).grants ≡ s.grants)
-frees_scalars [] s = (refl, refl)
-frees_scalars (k ∷ ks) s = let r = released_scalars s (place_of k s.blocks) in let ih = frees_scalars ks (step (command.Free k) s).state in (ih.0 ∙ r.0, ih.1 ∙ r.1)
+releases_scalars : (ks : List ℕ) (s : State) → ((after (releases ks) s).limit ≡ s.limit) × ((after (releases ks) s).grants ≡ s.grants)
+releases_scalars [] s = (refl, refl)
+releases_scalars (k ∷ ks) s = let r = released_scalars s (place_of k s.blocks) in let ih = releases_scalars ks (step (command.Free k) s).state in (ih.0 ∙ r.0, ih.1 ∙ r.1)
 
 -- one command at two states of one outline
 record SameSpace (s t : State) : Type 0 where
@@ -242,58 +241,58 @@ some_or_none false p = refl
 
 some_chosen : (n : ℕ) (b : Block) (bs : List Block) (o : Option Place) → is_some (choose n b bs o) ≡ (fits n b || is_some o)
 some_chosen n b bs None = some_or_none (fits n b) (here b bs)
-some_chosen n b bs (Some p) = some_if (fits n b) (is_taken_before b p.block) (here b bs) (behind b p)
+some_chosen n b bs (Some p) = some_if (fits n b) (is_taken_before b p.block) (here b bs) (prepend b p)
 
-same_chosen : (n : ℕ) (p : List Pair) → is_some (chosen n (lefts p)) ≡ is_some (chosen n (rights p))
+same_chosen : (n : ℕ) (p : List Pair) → is_some (chosen_place n (lefts p)) ≡ is_some (chosen_place n (rights p))
 same_chosen n [] = refl
-same_chosen n (q ∷ p) = some_chosen n (left q) (lefts p) (chosen n (lefts p))
+same_chosen n (q ∷ p) = some_chosen n (left q) (lefts p) (chosen_place n (lefts p))
     ∙ ap₂ (λ x y. (x && nat_le (up n) (down q.size)) || y) (same_free q.kind) (same_chosen n p)
-    ∙ sym (some_chosen n (right q) (rights p) (chosen n (rights p)))
+    ∙ sym (some_chosen n (right q) (rights p) (chosen_place n (rights p)))
 
-same_granted : (s t : State) → s.grants ≡ t.grants → (n : ℕ) (padding_at : ℕ → ℕ) (o p : Option Place) → is_some o ≡ is_some p → placeless (grant_or_refuse s n padding_at o).answer ≡ placeless (grant_or_refuse t n padding_at p).answer
+same_granted : (s t : State) → s.grants ≡ t.grants → (n : ℕ) (padding_at : ℕ → ℕ) (o p : Option Place) → is_some o ≡ is_some p → without_offset (grant_or_refuse s n padding_at o).answer ≡ without_offset (grant_or_refuse t n padding_at p).answer
 same_granted s t g n padding_at None None e = refl
 same_granted s t g n padding_at None (Some p) e = absurd (false≢true e)
 same_granted s t g n padding_at (Some o) None e = absurd (true≢false e)
 same_granted s t g n padding_at (Some o) (Some p) e = ap (λ k. machine.Grant (k + 1) 0) g
 
-same_if : (b c : Bool) (o p o' p' : Outcome) → b ≡ c → placeless o.answer ≡ placeless p.answer → placeless o'.answer ≡ placeless p'.answer → placeless (if b then o else o').answer ≡ placeless (if c then p else p').answer
+same_if : (b c : Bool) (o p o' p' : Outcome) → b ≡ c → without_offset o.answer ≡ without_offset p.answer → without_offset o'.answer ≡ without_offset p'.answer → without_offset (if b then o else o').answer ≡ without_offset (if c then p else p').answer
 same_if true true o p o' p' e f g = f
 same_if false false o p o' p' e f g = g
 same_if true false o p o' p' e f g = absurd (true≢false e)
 same_if false true o p o' p' e f g = absurd (false≢true e)
 
-same_serve : (s t : State) → SameSpace s t → (spare needed n : ℕ) (padding_at : ℕ → ℕ) → placeless (serve s spare needed n padding_at).answer ≡ placeless (serve t spare needed n padding_at).answer
-same_serve s t a spare needed n padding_at = same_if (is_short_of spare s) (is_short_of spare t) (answers_only s machine.Refused) (answers_only t machine.Refused) (grant_or_refuse s n padding_at (chosen needed s.blocks)) (grant_or_refuse t n padding_at (chosen needed t.blocks))
-    (same_short s t a spare) refl (same_granted s t a.grants n padding_at _ _ (ap (λ bs. is_some (chosen needed bs)) a.left_blocks ∙ same_chosen needed a.pairs ∙ ap (λ bs. is_some (chosen needed bs)) (sym a.right_blocks)))
+same_request : (s t : State) → SameSpace s t → (spare needed n : ℕ) (padding_at : ℕ → ℕ) → without_offset (request s spare needed n padding_at).answer ≡ without_offset (request t spare needed n padding_at).answer
+same_request s t a spare needed n padding_at = same_if (is_short_of spare s) (is_short_of spare t) (returns_only s machine.Refused) (returns_only t machine.Refused) (grant_or_refuse s n padding_at (chosen_place needed s.blocks)) (grant_or_refuse t n padding_at (chosen_place needed t.blocks))
+    (same_short s t a spare) refl (same_granted s t a.grants n padding_at _ _ (ap (λ bs. is_some (chosen_place needed bs)) a.left_blocks ∙ same_chosen needed a.pairs ∙ ap (λ bs. is_some (chosen_place needed bs)) (sym a.right_blocks)))
 
 same_number : (k : ℕ) (q : Kind) → SameNumber q → has_number k (left_tag q) ≡ has_number k (right_tag q)
 same_number k (Lives i j) e = ap (nat_eq k) e
 same_number k (Frees s u) e = refl
 
-same_placed : (s t : State) (o : Option PairPlace) → (placeless (release s (option_map left_place o)).answer ≡ placeless (release t (option_map right_place o)).answer) × (size_at (option_map left_place o) ≡ size_at (option_map right_place o))
+same_placed : (s t : State) (o : Option PairPlace) → (without_offset (release s (option_map left_place o)).answer ≡ without_offset (release t (option_map right_place o)).answer) × (size_at (option_map left_place o) ≡ size_at (option_map right_place o))
 same_placed s t None = (refl, refl)
 same_placed s t (Some c) = (refl, refl)
 
-same_place : (s t : State) → SameSpace s t → (k : ℕ) → (placeless (release s (place_of k s.blocks)).answer ≡ placeless (release t (place_of k t.blocks)).answer) × (size_at (place_of k s.blocks) ≡ size_at (place_of k t.blocks))
-same_place s t a k = subst₂ (λ x y. (placeless (release s x).answer ≡ placeless (release t y).answer) × (size_at x ≡ size_at y))
+same_place : (s t : State) → SameSpace s t → (k : ℕ) → (without_offset (release s (place_of k s.blocks)).answer ≡ without_offset (release t (place_of k t.blocks)).answer) × (size_at (place_of k s.blocks) ≡ size_at (place_of k t.blocks))
+same_place s t a k = subst₂ (λ x y. (without_offset (release s x).answer ≡ without_offset (release t y).answer) × (size_at x ≡ size_at y))
     (sym (ap (place_of k) a.left_blocks ∙ left_place_of k a.pairs)) (sym (ap (place_of k) a.right_blocks ∙ right_place_of k k a.pairs (λ q i. same_number k q.kind (a.numbers q i))))
     (same_placed s t (pair_place_of k a.pairs))
 
-same_extend : (s t : State) → SameSpace s t → (more : ℕ) → placeless (step (command.Extend more) s).answer ≡ placeless (step (command.Extend more) t).answer
+same_extend : (s t : State) → SameSpace s t → (more : ℕ) → without_offset (step (command.Extend more) s).answer ≡ without_offset (step (command.Extend more) t).answer
 same_extend s t a zero = refl
-same_extend s t a (suc more) = same_if (nat_lt greatest (total s.blocks + suc more) || (ends_live s.blocks && is_short_of 1 s)) (nat_lt greatest (total t.blocks + suc more) || (ends_live t.blocks && is_short_of 1 t)) (answers_only s machine.Refused) (answers_only t machine.Refused) (leaves s (joined s.blocks (suc more) (stamp_of_call s) []) machine.Extended) (leaves t (joined t.blocks (suc more) (stamp_of_call t) []) machine.Extended)
-    (ap₂ (λ x y. nat_lt greatest (x + suc more) || y) (same_units s t a) (ap₂ (λ x y. x && y) (ap ends_live a.left_blocks ∙ same_ends_live a.pairs ∙ ap ends_live (sym a.right_blocks)) (same_short s t a 1))) refl refl
+same_extend s t a (suc more) = same_if (nat_lt max_size (total s.blocks + suc more) || (ends_live s.blocks && is_short_of 1 s)) (nat_lt max_size (total t.blocks + suc more) || (ends_live t.blocks && is_short_of 1 t)) (returns_only s machine.Refused) (returns_only t machine.Refused) (leaves s (coalesce s.blocks (suc more) (stamp_of_call s) []) machine.Extended) (leaves t (coalesce t.blocks (suc more) (stamp_of_call t) []) machine.Extended)
+    (ap₂ (λ x y. nat_lt max_size (x + suc more) || y) (same_units s t a) (ap₂ (λ x y. x && y) (ap ends_live a.left_blocks ∙ same_ends_live a.pairs ∙ ap ends_live (sym a.right_blocks)) (same_short s t a 1))) refl refl
 
-same_next : (s t : State) → SameSpace s t → (c : Command) → placeless (step c s).answer ≡ placeless (step c t).answer
-same_next s t a (command.Alloc n) = same_serve s t a 1 n n (λ offset. 0)
+same_next : (s t : State) → SameSpace s t → (c : Command) → without_offset (step c s).answer ≡ without_offset (step c t).answer
+same_next s t a (command.Alloc n) = same_request s t a 1 n n (λ offset. 0)
 same_next s t a (command.Free k) = (same_place s t a k).0
-same_next s t a (command.Size k) = ap placeless (same_place s t a k).1
-same_next s t a command.Report = ap₂ (λ b l. placeless (if b then machine.Report 0 0 else machine.Report (sum l) (largest l))) (same_short s t a 1) (same_free_sizes s t a)
+same_next s t a (command.Size k) = ap without_offset (same_place s t a k).1
+same_next s t a command.Report = ap₂ (λ b l. without_offset (if b then machine.Report 0 0 else machine.Report (sum l) (largest l))) (same_short s t a 1) (same_free_sizes s t a)
 same_next s t a command.Full = ap (λ l. machine.Full (rows_below 256 l)) (same_free_sizes s t a)
 same_next s t a command.Reset = refl
-same_next s t a (command.Align n align) = same_if (nat_le align 1) (nat_le align 1) (step (command.Alloc n) s) (step (command.Alloc n) t) (if nat_lt greatest (n + align - 1) then answers_only s machine.Refused else serve s 2 (n + align - 1) n (padding_to align)) (if nat_lt greatest (n + align - 1) then answers_only t machine.Refused else serve t 2 (n + align - 1) n (padding_to align))
-    refl (same_serve s t a 1 n n (λ offset. 0))
-    (same_if (nat_lt greatest (n + align - 1)) (nat_lt greatest (n + align - 1)) (answers_only s machine.Refused) (answers_only t machine.Refused) (serve s 2 (n + align - 1) n (padding_to align)) (serve t 2 (n + align - 1) n (padding_to align)) refl refl (same_serve s t a 2 (n + align - 1) n (padding_to align)))
+same_next s t a (command.Align n align) = same_if (nat_le align 1) (nat_le align 1) (step (command.Alloc n) s) (step (command.Alloc n) t) (if nat_lt max_size (n + align - 1) then returns_only s machine.Refused else request s 2 (n + align - 1) n (padding_to align)) (if nat_lt max_size (n + align - 1) then returns_only t machine.Refused else request t 2 (n + align - 1) n (padding_to align))
+    refl (same_request s t a 1 n n (λ offset. 0))
+    (same_if (nat_lt max_size (n + align - 1)) (nat_lt max_size (n + align - 1)) (returns_only s machine.Refused) (returns_only t machine.Refused) (request s 2 (n + align - 1) n (padding_to align)) (request t 2 (n + align - 1) n (padding_to align)) refl refl (same_request s t a 2 (n + align - 1) n (padding_to align)))
 same_next s t a (command.Extend more) = same_extend s t a more
 
 same_space : (s t : State) → s.limit ≡ t.limit → s.grants ≡ t.grants → outline s.blocks ≡ outline t.blocks → SameSpace s t
@@ -303,9 +302,9 @@ pub commute_law : ReleasesCommute
 commute_law size limit h cs ks =
     let s = after cs (start size limit) in
     let w : Well s = well_after cs (start size limit) (well_start size limit h) in
-    let space = frees_outline ks s w in
-    let scalars = frees_scalars ks s in
+    let space = releases_outline ks s w in
+    let scalars = releases_scalars ks s in
     record {
       space = space;
-      next = λ t is. same_next (after (frees ks) s) t (same_space (after (frees ks) s) t (scalars.0 ∙ sym is.limit) (scalars.1 ∙ sym is.grants) (space ∙ sym is.blocks));
+      next = λ t is. same_next (after (releases ks) s) t (same_space (after (releases ks) s) t (scalars.0 ∙ sym is.limit) (scalars.1 ∙ sym is.grants) (space ∙ sym is.blocks));
     }

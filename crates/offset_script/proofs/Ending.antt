@@ -12,28 +12,27 @@ use Rattle.offset_script.specs.declared.faults.RunFault.{RunFault}
 use Rattle.offset_script.specs.declared.faults.RunFault.TheVariants as faults
 use Rattle.offset_script.specs.declared.scripts.Script.{Script}
 use Rattle.offset_script.specs.Faults.{as_run_fault}
-use Rattle.offset_script.specs.Grammar.{meaning_of, view, Fails}
-use Rattle.offset_script.specs.Running.{RunOf, ScriptOf, HasText, Sends, IsAnswered, is_write_fault}
+use Rattle.offset_script.specs.Grammar.{meaning_of}
+use Rattle.offset_script.specs.Running.{view, Fails, RunOf, ScriptOf, HasText, Sends, AreAnswers, is_write_fault, text_of}
 use Rattle.offset_script.specs.Machine.{Answer}
-use Rattle.offset_script.specs.Answers.{text_of}
 use Rattle.offset_script.proofs.Steps.{is_too_long}
 
--- a front longer
+-- a longer beginning
 pub more_parts : (text front rest : List ℕ) (n : ℕ) → text ≡ front ++ rest → text ≡ (front ++ take n rest) ++ take (length rest - n) (drop n rest)
 more_parts text front rest n h = rw take_rest (h ∙ ap (λ (l : List ℕ). front ++ l) (sym (take-append-drop n rest)) ∙ sym (append_assoc front (take n rest) (drop n rest)))
 
--- some texts joined, parted at the i-th
-joined_at : {X : Type 0} (text : X → List ℕ) (xs : List X) (i : ℕ) (d : X) → i < length xs → flat_map text xs ≡ flat_map text (take i xs) ++ (text (get_or xs i d) ++ flat_map text (drop (suc i) xs))
-joined_at text [] i d h = absurd (omega arith)
-joined_at text (x ∷ xs) zero d h = refl
-joined_at text (x ∷ xs) (suc i) d h = ap (λ l. text x ++ l) (joined_at text xs i d (omega arith)) ∙ sym (append_assoc (text x) _ _)
+-- several texts appended, split at the i-th
+coalesce_at : {X : Type 0} (text : X → List ℕ) (xs : List X) (i : ℕ) (d : X) → i < length xs → flat_map text xs ≡ flat_map text (take i xs) ++ (text (get_or xs i d) ++ flat_map text (drop (suc i) xs))
+coalesce_at text [] i d h = absurd (omega arith)
+coalesce_at text (x ∷ xs) zero d h = refl
+coalesce_at text (x ∷ xs) (suc i) d h = ap (λ l. text x ++ l) (coalesce_at text xs i d (omega arith)) ∙ sym (append_assoc (text x) _ _)
 
 -- a beginning of the i-th text was sent after those before it
 pub piece_failed : {X : Type 0} (text : X → List ℕ) (xs : List X) (i : ℕ) (d : X) (old mid new : Option (List ℕ)) → i < length xs → Appends old mid (flat_map text (take i xs)) → Sends false (text (get_or xs i d)) mid new → Sends false (flat_map text xs) old new
 piece_failed text xs i d old mid new h before sends = (
   flat_map text (take i xs) ++ sends.0,
   sends.1 ++ flat_map text (drop (suc i) xs),
-  joined_at text xs i d h ∙ rw (sends.2, append_assoc sends.0) (sym (append_assoc (flat_map text (take i xs)) sends.0 _)),
+  coalesce_at text xs i d h ∙ rw (sends.2, append_assoc sends.0) (sym (append_assoc (flat_map text (take i xs)) sends.0 _)),
   Appends-trans old mid new _ _ before sends.3,
 )
 
@@ -75,10 +74,10 @@ not_read faults.Memory (Some text) left old new w h = tt
 not_read faults.Read (Some text) left old new w h = tt
 not_read faults.Write (Some text) left old new w h = absurd (true≢false w)
 
-pub all_sent : (sent : List ℕ) (script : Script) (rs : List Answer) (from left old new : Option (List ℕ)) → IfSome from (λ text. ScriptOf (Ok script) text left) → IsAnswered (view script) rs → sent ≡ text_of rs → Appends old new sent → IfSome from (λ text. RunOf (Ok tt) text left old new)
+pub all_sent : (sent : List ℕ) (script : Script) (rs : List Answer) (from left old new : Option (List ℕ)) → IfSome from (λ text. ScriptOf (Ok script) text left) → AreAnswers (view script) rs → sent ≡ text_of rs → Appends old new sent → IfSome from (λ text. RunOf (Ok tt) text left old new)
 all_sent sent script rs None left old new h played e sends = tt
 all_sent sent script rs (Some text) left old new h played e sends = (h.0, record { plan = view script; answers = rs; played = played; means = h.1; writes = rw (← e) sends })
 
-pub front_sent : (sent : List ℕ) (script : Script) (rs : List Answer) (from left old new : Option (List ℕ)) → IfSome from (λ text. ScriptOf (Ok script) text left) → IsAnswered (view script) rs → sent ≡ text_of rs → Sends false sent old new → IfSome from (λ text. RunOf (Err faults.Write) text left old new)
-front_sent sent script rs None left old new h played e sends = tt
-front_sent sent script rs (Some text) left old new h played e sends = (h.0, record { plan = view script; answers = rs; played = played; front = sends.0; back = sends.1; means = h.1; parts = sym e ∙ sends.2; writes = sends.3 })
+pub prefix_sent : (sent : List ℕ) (script : Script) (rs : List Answer) (from left old new : Option (List ℕ)) → IfSome from (λ text. ScriptOf (Ok script) text left) → AreAnswers (view script) rs → sent ≡ text_of rs → Sends false sent old new → IfSome from (λ text. RunOf (Err faults.Write) text left old new)
+prefix_sent sent script rs None left old new h played e sends = tt
+prefix_sent sent script rs (Some text) left old new h played e sends = (h.0, record { plan = view script; answers = rs; played = played; front = sends.0; back = sends.1; means = h.1; parts = sym e ∙ sends.2; writes = sends.3 })

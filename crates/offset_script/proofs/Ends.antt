@@ -1,15 +1,15 @@
 -- Labels at the ends of lists, and the names of grants.
 use Rattle.std.proofs.Common.{◌≡◌, ℕ, suc, ◌+◌, Bool, true, false, not, List, [], ◌∷◌, ◌++◌, length, Option, Some, None, if◌then◌else◌, refl, sym, ap, ◌∙◌, inl, inr, arith, ne_eqb}
 use Rattle.std.proofs.lemmas.Bool.{cases_eq, true≢false, false≢true}
-use Rattle.offset_script.specs.Blocks.{Tag, Live, Free, is_free, has_number, stamp, total}
-use Rattle.offset_script.specs.Blocks as plain
+use Rattle.offset_script.specs.Machine.{Tag, Live, Free, is_free, has_number, stamp, total}
+use Rattle.offset_script.specs.Machine as plain
 use Rattle.offset_allocator.specs.Named as named
 use Rattle.offset_allocator.specs.Named.{Block, tally, units, one}
 use Rattle.offset_script.specs.Agreement.{Label, by_name, by_tag, name_of}
 use Rattle.offset_script.proofs.Well.{count, hit, hit_cases}
 use Rattle.offset_script.proofs.Labels.{names, tags}
 
--- the free label at the start of a list, if one stands there
+-- the free label at the start of a list, if there is one
 abbrev pub free_start : List Label → List Label
 free_start [] = []
 free_start (l ∷ ls) = if is_free l.tag then l ∷ [] else []
@@ -19,7 +19,7 @@ abbrev pub without_start : List Label → List Label
 without_start [] = []
 without_start (l ∷ ls) = if is_free l.tag then ls else l ∷ ls
 
--- the free label at the end of a list, if one stands there
+-- the free label at the end of a list, if there is one
 abbrev pub free_end : List Label → List Label
 free_end [] = []
 free_end (l ∷ []) = if is_free l.tag then l ∷ [] else []
@@ -31,13 +31,13 @@ without_end [] = []
 without_end (l ∷ []) = if is_free l.tag then [] else l ∷ []
 without_end (l ∷ m ∷ ls) = l ∷ without_end (m ∷ ls)
 
--- a list is parted at its free end
+-- a list is split at its free end
 pub end_parts : (ls : List Label) → ls ≡ without_end ls ++ free_end ls
 end_parts [] = refl
 end_parts (l ∷ []) = elim (is_free l.tag) as (λ u. l ∷ [] ≡ (if u then [] else l ∷ []) ++ (if u then l ∷ [] else [])) [ true ↦ refl | false ↦ refl ]
 end_parts (l ∷ m ∷ ls) = ap (λ z. l ∷ z) (end_parts (m ∷ ls))
 
--- a list is parted at its free start
+-- a list is split at its free start
 pub start_parts : (ls : List Label) → ls ≡ free_start ls ++ without_start ls
 start_parts [] = refl
 start_parts (l ∷ ls) = elim (is_free l.tag) as (λ u. l ∷ ls ≡ (if u then l ∷ [] else []) ++ (if u then ls else l ∷ ls)) [ true ↦ refl | false ↦ refl ]
@@ -112,7 +112,7 @@ pub or_none : (o : Option ℕ) → or_else o None ≡ o
 or_none None = refl
 or_none (Some x) = refl
 
--- a grant stands in the first list, or else in the second
+-- a grant is in the first list, or else in the second
 pub name_append : (k : ℕ) (xs ys : List Label) → name_of k (xs ++ ys) ≡ or_else (name_of k xs) (name_of k ys)
 name_append k [] ys = refl
 name_append k (x ∷ xs) ys = let ih = name_append k xs ys in elim (has_number k x.tag) as (λ u. (if u then Some x.name else name_of k (xs ++ ys)) ≡ or_else (if u then Some x.name else name_of k xs) (name_of k ys)) [ true ↦ refl | false ↦ ih ]
@@ -164,11 +164,11 @@ pub name_missing : (k : ℕ) (ls : List Label) → name_of k ls ≡ None → pla
 name_missing k [] e = refl
 name_missing k (l ∷ ls) e = go (has_number k l.tag) e (name_missing k ls)
   where
-    go : (u : Bool) → (if u then Some l.name else name_of k ls) ≡ None → (name_of k ls ≡ None → plain.place_of k (tags ls) ≡ None) → (if u then Some (plain.here (by_tag l) (tags ls)) else plain.behind_if_found (by_tag l) (plain.place_of k (tags ls))) ≡ None
+    go : (u : Bool) → (if u then Some l.name else name_of k ls) ≡ None → (name_of k ls ≡ None → plain.place_of k (tags ls) ≡ None) → (if u then Some (plain.here (by_tag l) (tags ls)) else plain.prepend_if_found (by_tag l) (plain.place_of k (tags ls))) ≡ None
     go true e ih = absurd (cc)
-    go false e ih = ap (plain.behind_if_found (by_tag l)) (ih e)
+    go false e ih = ap (plain.prepend_if_found (by_tag l)) (ih e)
 
--- where the name of a grant is kept, its block stands
+-- where the name of a grant is kept, its block exists
 pub name_found : (k x : ℕ) (ls : List Label) → name_of k ls ≡ Some x
     → (before : List Label) × (l : Label) × (after : List Label) × (ls ≡ before ++ l ∷ after) × (l.name ≡ x) × (l.tag ≡ Live k) × (plain.place_of k (tags ls) ≡ Some (record { before = tags before; block = by_tag l; after = tags after })) × (name_of k before ≡ None)
 name_found k x [] e = absurd (cc)
@@ -177,6 +177,6 @@ name_found k x (l ∷ ls) e = go (has_number k l.tag) refl e (name_found k x ls)
     go : (u : Bool) → has_number k l.tag ≡ u → (if u then Some l.name else name_of k ls) ≡ Some x
         → (name_of k ls ≡ Some x → (before : List Label) × (m : Label) × (after : List Label) × (ls ≡ before ++ m ∷ after) × (m.name ≡ x) × (m.tag ≡ Live k) × (plain.place_of k (tags ls) ≡ Some (record { before = tags before; block = by_tag m; after = tags after })) × (name_of k before ≡ None))
         → (before : List Label) × (m : Label) × (after : List Label) × (l ∷ ls ≡ before ++ m ∷ after) × (m.name ≡ x) × (m.tag ≡ Live k)
-        × ((if u then Some (plain.here (by_tag l) (tags ls)) else plain.behind_if_found (by_tag l) (plain.place_of k (tags ls))) ≡ Some (record { before = tags before; block = by_tag m; after = tags after })) × (name_of k before ≡ None)
+        × ((if u then Some (plain.here (by_tag l) (tags ls)) else plain.prepend_if_found (by_tag l) (plain.place_of k (tags ls))) ≡ Some (record { before = tags before; block = by_tag m; after = tags after })) × (name_of k before ≡ None)
     go true h e ih = ([], l, ls, refl, (cc), number_of k l.tag h, refl, refl)
-    go false h e ih = let r = ih e in (l ∷ r.0, r.1, r.2, ap (λ z. l ∷ z) r.3, r.4, r.5, ap (plain.behind_if_found (by_tag l)) r.6, rw h r.7)
+    go false h e ih = let r = ih e in (l ∷ r.0, r.1, r.2, ap (λ z. l ∷ z) r.3, r.4, r.5, ap (plain.prepend_if_found (by_tag l)) r.6, rw h r.7)

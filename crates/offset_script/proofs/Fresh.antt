@@ -2,13 +2,12 @@
 use Rattle.std.proofs.Common.{◌≡◌, ℕ, zero, suc, ◌+◌, ◌-◌, ◌*◌, ◌<◌, ◌≤◌, true, false, ◌&&◌, ◌||◌, List, [], ◌∷◌, length, map, IsTrue, nat_lt, if◌then◌else◌, refl, sym, ap, ap₂, subst, subst₂, le-ltb, ◌∙◌, inl, inr, arith, le-leb}
 use Rattle.std.proofs.lemmas.Bool.{cases_lt, lt-leb, true≢false}
 use Rattle.std.specs.List.{AllByRecursion}
-use Rattle.offset_allocator.specs.Named.{greatest}
+use Rattle.offset_allocator.specs.Named.{max_size}
 use Rattle.offset_script.specs.declared.scripts.Command.{Command}
 use Rattle.offset_script.specs.declared.scripts.Command.TheVariants as command
-use Rattle.offset_script.specs.Blocks.{Tag, Live, Free, Block, block, is_free, total}
-use Rattle.offset_script.specs.Machine.{State, Answer, start, step, answers, after, answers_only, leaves}
+use Rattle.offset_script.specs.Machine.{Tag, Live, Free, Block, block, is_free, total, State, Answer, start, step, answers, after, returns_only, leaves}
 use Rattle.offset_script.specs.Machine as machine
-use Rattle.offset_script.specs.Histories.{renumbered, raised, lowered, EmptySpaceContinuesAsFresh, ExtendedSpaceIsLarger}
+use Rattle.offset_script.specs.Histories.{renumber, raise_number, fresh_number, EmptySpaceContinuesAsFresh, ExtendedSpaceIsLarger}
 use Rattle.offset_script.proofs.Pairs.{Frees, Pair, pair, In, Agree}
 use Rattle.offset_script.proofs.Alike.{Alike, alike_answers}
 use Rattle.offset_script.proofs.Well.{Well, Apart, count, hit_cases, well_start, well_after}
@@ -29,23 +28,23 @@ one_free (b ∷ c ∷ bs) some a f =
     let u = free_tag c.tag f.1.0 in
     absurd (true≢false (ap (λ t. is_free t && true) (sym t.1) ∙ ap (λ u. is_free b.tag && is_free u) (sym u.1) ∙ a.0))
 
-lowered_past : (g k : ℕ) → k ≤ g → lowered g k ≤ 0
-lowered_past g k h = subst (λ b. (if b then 0 else k - g) ≤ 0) (sym (le-leb k g h)) (omega arith)
+fresh_number_past : (g k : ℕ) → k ≤ g → fresh_number g k ≤ 0
+fresh_number_past g k h = subst (λ b. (if b then 0 else k - g) ≤ 0) (sym (le-leb k g h)) (omega arith)
 
-lowered_future : (g k : ℕ) → g < k → lowered g k + g ≡ k
-lowered_future g k h = subst (λ b. (if b then 0 else k - g) + g ≡ k) (sym (lt-leb k g h)) (omega arith)
+fresh_number_future : (g k : ℕ) → g < k → fresh_number g k + g ≡ k
+fresh_number_future g k h = subst (λ b. (if b then 0 else k - g) + g ≡ k) (sym (lt-leb k g h)) (omega arith)
 
-alike_fresh : (s : State) (n x : ℕ) → s.blocks ≡ block n (Free x) ∷ [] → x < 2 * (s.calls + 1) → Alike (lowered s.grants) s.grants s (start (total s.blocks) s.limit)
+alike_fresh : (s : State) (n x : ℕ) → s.blocks ≡ block n (Free x) ∷ [] → x < 2 * (s.calls + 1) → Alike (fresh_number s.grants) s.grants s (start (total s.blocks) s.limit)
 alike_fresh s n x e h = record {
   limit = refl;
   pairs = q ∷ [];
   left_blocks = e;
   right_blocks = ap (λ m. block m (Free 0) ∷ []) (ap total e ∙ omega arith);
-  matched = λ p i. elim i [ inl same ↦ subst (λ (z : Pair). Rattle.offset_script.proofs.Alike.Matched (lowered s.grants) (2 * (s.calls + 1)) 2 z.kind) (sym same) (h, omega arith) | inr none ↦ absurd none ];
+  matched = λ p i. elim i [ inl same ↦ subst (λ (z : Pair). Rattle.offset_script.proofs.Alike.Matched (fresh_number s.grants) (2 * (s.calls + 1)) 2 z.kind) (sym same) (h, omega arith) | inr none ↦ absurd none ];
   agree = λ a b i j. only a b i j;
   grants = omega arith;
-  past = λ k l. lowered_past s.grants k l;
-  future = λ k l. lowered_future s.grants k l;
+  past = λ k l. fresh_number_past s.grants k l;
+  future = λ k l. fresh_number_future s.grants k l;
 }
   where
     q : Pair
@@ -70,29 +69,29 @@ fresh_law size limit h cs none =
     λ more. alike_answers _ _ more s (start (total s.blocks) s.limit) (alike_fresh s f.0 f.1 f.2 (stamp_below s w f.0 f.1 f.2))
 
 -- a fresh space that is extended
-raised_none : (a : Answer) → raised 0 a ≡ a
-raised_none (machine.Grant k offset) = ap (λ n. machine.Grant n offset) (let e : k + 0 ≡ k = omega arith in e)
-raised_none machine.Refused = refl
-raised_none machine.Freed = refl
-raised_none machine.Gone = refl
-raised_none (machine.Size n) = refl
-raised_none (machine.Report f l) = refl
-raised_none (machine.Full rows) = refl
-raised_none machine.Reset = refl
-raised_none machine.Extended = refl
+raise_none : (a : Answer) → raise_number 0 a ≡ a
+raise_none (machine.Grant k offset) = ap (λ n. machine.Grant n offset) (let e : k + 0 ≡ k = omega arith in e)
+raise_none machine.Refused = refl
+raise_none machine.Freed = refl
+raise_none machine.Gone = refl
+raise_none (machine.Size n) = refl
+raise_none (machine.Report f l) = refl
+raise_none (machine.Full rows) = refl
+raise_none machine.Reset = refl
+raise_none machine.Extended = refl
 
-lowered_none : (k : ℕ) → lowered 0 k ≡ k
-lowered_none k = elim (cases_lt 0 k) [ inl l ↦ let h = lowered_future 0 k l in omega (arith, h) | inr l ↦ let h = lowered_past 0 k l in omega (arith, h, l) ]
+fresh_number_none : (k : ℕ) → fresh_number 0 k ≡ k
+fresh_number_none k = elim (cases_lt 0 k) [ inl l ↦ let h = fresh_number_future 0 k l in omega (arith, h) | inr l ↦ let h = fresh_number_past 0 k l in omega (arith, h, l) ]
 
-renumbered_none : (c : Command) → renumbered (lowered 0) c ≡ c
-renumbered_none (command.Alloc n) = refl
-renumbered_none (command.Free k) = ap command.Free (lowered_none k)
-renumbered_none (command.Size k) = ap command.Size (lowered_none k)
-renumbered_none command.Report = refl
-renumbered_none command.Full = refl
-renumbered_none command.Reset = refl
-renumbered_none (command.Align n align) = refl
-renumbered_none (command.Extend more) = refl
+renumber_none : (c : Command) → renumber (fresh_number 0) c ≡ c
+renumber_none (command.Alloc n) = refl
+renumber_none (command.Free k) = ap command.Free (fresh_number_none k)
+renumber_none (command.Size k) = ap command.Size (fresh_number_none k)
+renumber_none command.Report = refl
+renumber_none command.Full = refl
+renumber_none command.Reset = refl
+renumber_none (command.Align n align) = refl
+renumber_none (command.Extend more) = refl
 
 map_same : {A : Type 0} (f : A → A) → ((x : A) → f x ≡ x) → (xs : List A) → map f xs ≡ xs
 map_same f h [] = refl
@@ -105,13 +104,13 @@ alone limit n x = record { limit = limit; blocks = block n (Free x) ∷ []; call
 alone_is_fresh : (limit n x : ℕ) → x < 4 → (cs : List Command) → answers cs (alone limit n x) ≡ answers cs (start n limit)
 alone_is_fresh limit n x h cs =
     alike_answers _ _ cs (alone limit n x) (start (total (alone limit n x).blocks) limit) (alike_fresh (alone limit n x) n x refl (omega arith))
-    ∙ map_same (raised 0) raised_none _
-    ∙ ap₂ (λ l m. answers l (start m limit)) (map_same (renumbered (lowered 0)) renumbered_none cs) (let e : n + 0 ≡ n = omega arith in e)
+    ∙ map_same (raise_number 0) raise_none _
+    ∙ ap₂ (λ l m. answers l (start m limit)) (map_same (renumber (fresh_number 0)) renumber_none cs) (let e : n + 0 ≡ n = omega arith in e)
 
-extended : (size more limit : ℕ) → nat_lt greatest (size + 0 + suc more) ≡ false → (step (command.Extend (suc more)) (start size limit)).state ≡ alone limit (size + suc more) 3
-extended size more limit e = ap (λ b. (if b || false then answers_only (start size limit) machine.Refused else leaves (start size limit) (block (size + suc more + 0) (Free 3) ∷ []) machine.Extended).state) e
+extended : (size more limit : ℕ) → nat_lt max_size (size + 0 + suc more) ≡ false → (step (command.Extend (suc more)) (start size limit)).state ≡ alone limit (size + suc more) 3
+extended size more limit e = ap (λ b. (if b || false then returns_only (start size limit) machine.Refused else leaves (start size limit) (block (size + suc more + 0) (Free 3) ∷ []) machine.Extended).state) e
     ∙ ap (λ n. alone limit n 3) (let h : size + suc more + 0 ≡ size + suc more = omega arith in h)
 
 pub extended_law : ExtendedSpaceIsLarger
 extended_law size zero limit h cs = alone_is_fresh limit size 0 (omega arith) cs ∙ ap (λ n. answers cs (start n limit)) (let e : size ≡ size + 0 = omega arith in e)
-extended_law size (suc more) limit h cs = ap (answers cs) (extended size more limit (le-ltb greatest (size + 0 + suc more) (omega arith))) ∙ alone_is_fresh limit (size + suc more) 3 (omega arith) cs
+extended_law size (suc more) limit h cs = ap (answers cs) (extended size more limit (le-ltb max_size (size + 0 + suc more) (omega arith))) ∙ alone_is_fresh limit (size + suc more) 3 (omega arith) cs

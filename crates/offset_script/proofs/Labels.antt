@@ -2,9 +2,9 @@
 use Rattle.std.proofs.Common.{◌≡◌, ℕ, zero, suc, ◌+◌, ◌<◌, ◌≤◌, Bool, true, false, not, ◌&&◌, ◌⊎◌, List, [], ◌∷◌, ◌++◌, map, nat_eq, if◌then◌else◌, refl, sym, ap, ap₂, subst, ◌∙◌, inl, inr, arith, eq-eqb, ne_eqb, append_assoc}
 use Rattle.std.proofs.lemmas.Bool.{cases_lt, true≢false, false≢true}
 use Rattle.offset_allocator.specs.Classes.{down}
-use Rattle.offset_script.specs.Blocks.{Tag, Live, Free, is_free, has_number, stamp}
-use Rattle.offset_script.specs.Blocks as plain
-use Rattle.offset_allocator.specs.Named.{Block, View, one, times, named, listed, names_at, put_all, remove_all, IsWellFormed, IsUnused}
+use Rattle.offset_script.specs.Machine.{Tag, Live, Free, is_free, has_number, stamp}
+use Rattle.offset_script.specs.Machine as plain
+use Rattle.offset_allocator.specs.Named.{Block, View, one, times, count_named, count_listed, names_at, push_all, remove_all, IsWellFormed, IsUnused}
 use Rattle.offset_script.specs.Agreement.{Label, by_name, by_tag, stamp_of, IsFalling}
 use Rattle.offset_script.proofs.Well.{count, hit}
 use Rattle.offset_allocator.proofs.ViewOrders.{tally_append, hit_cases, length_remove_all}
@@ -28,7 +28,7 @@ map_both f (x ∷ xs) ys = ap (λ l. f x ∷ l) (map_both f xs ys)
 pub map_three : {A B : Type 0} (f : A → B) (xs ys zs : List A) → map f (xs ++ (ys ++ zs)) ≡ map f xs ++ (map f ys ++ map f zs)
 map_three f xs ys zs = map_both f xs (ys ++ zs) ∙ ap (λ l. map f xs ++ l) (map_both f ys zs)
 
--- a mapped list that is parted was parted before
+-- a mapped list that is split was split before
 pub map_split : {A B : Type 0} (f : A → B) (ls : List A) (before : List B) (b : B) (after : List B) → map f ls ≡ before ++ b ∷ after
     → (xs : List A) × (x : A) × (ys : List A) × (ls ≡ xs ++ x ∷ ys) × (map f xs ≡ before) × (f x ≡ b) × (map f ys ≡ after)
 map_split f [] [] b after e = absurd (cc)
@@ -42,19 +42,19 @@ map_split {A = A} {B = B} f (l ∷ ls) (c ∷ before) b after e =
     more r head = (l ∷ r.0, r.1, r.2, ap (λ z. l ∷ z) r.3, ap₂ (λ x xs. x ∷ xs) head r.4, r.5, r.6)
 
 -- stamps
-pub stamp_none : (x : ℕ) (ls : List Label) → named x (names ls) ≡ 0 → stamp_of x ls ≡ 0
+pub stamp_none : (x : ℕ) (ls : List Label) → count_named x (names ls) ≡ 0 → stamp_of x ls ≡ 0
 stamp_none x [] e = refl
 stamp_none x (l ∷ ls) e = elim (hit_cases x l.name) [
   | inl i ↦ absurd (let k = i.1 in omega arith)
   | inr i ↦ let ih = stamp_none x ls (omega arith) in rw (ne_eqb x l.name i.0) (omega arith)
 ]
 
--- f gives the stamp of each of these labels
+-- f returns the stamp of each of these labels
 abbrev pub GivesStamps : (ℕ → ℕ) → List Label → Type 0
 GivesStamps f [] = Unit {0}
 GivesStamps f (l ∷ ls) = (f l.name ≡ stamp l.tag) × GivesStamps f ls
 
--- what gives the stamps of two lists gives those of each
+-- what returns the stamps of two lists returns those of each
 pub gives_parts : (f : ℕ → ℕ) (xs ys : List Label) → GivesStamps f (xs ++ ys) → GivesStamps f xs × GivesStamps f ys
 gives_parts f [] ys g = (tt, g)
 gives_parts f (x ∷ xs) ys g = let r = gives_parts f xs ys g.1 in ((g.0, r.0), r.1)
@@ -62,10 +62,10 @@ gives_parts f (x ∷ xs) ys g = let r = gives_parts f xs ys g.1 in ((g.0, r.0), 
 stamp_append : (x : ℕ) (xs ys : List Label) → stamp_of x (xs ++ ys) ≡ stamp_of x xs + stamp_of x ys
 stamp_append x xs ys = tally_append (λ (l : Label). if nat_eq x l.name then stamp l.tag else 0) xs ys
 
-named_append : (x : ℕ) (xs ys : List Label) → named x (names (xs ++ ys)) ≡ named x (names xs) + named x (names ys)
-named_append x xs ys = ap (named x) (map_both by_name xs ys) ∙ tally_append (λ (b : Block). one (nat_eq x b.name)) (names xs) (names ys)
+named_append : (x : ℕ) (xs ys : List Label) → count_named x (names (xs ++ ys)) ≡ count_named x (names xs) + count_named x (names ys)
+named_append x xs ys = ap (count_named x) (map_both by_name xs ys) ∙ tally_append (λ (b : Block). one (nat_eq x b.name)) (names xs) (names ys)
 
-stamp_at : (before : List Label) (l : Label) (after : List Label) → named l.name (names (before ++ l ∷ after)) ≤ 1 → stamp_of l.name (before ++ l ∷ after) ≡ stamp l.tag
+stamp_at : (before : List Label) (l : Label) (after : List Label) → count_named l.name (names (before ++ l ∷ after)) ≤ 1 → stamp_of l.name (before ++ l ∷ after) ≡ stamp l.tag
 stamp_at before l after most = elim (hit_cases l.name l.name) [
   | inl i ↦
       let k = i.1 in
@@ -77,14 +77,14 @@ stamp_at before l after most = elim (hit_cases l.name l.name) [
   | inr i ↦ absurd (i.0 refl)
 ]
 
-gives_from : (before ls : List Label) → ((x : ℕ) → named x (names (before ++ ls)) ≤ 1) → GivesStamps (λ x. stamp_of x (before ++ ls)) ls
+gives_from : (before ls : List Label) → ((x : ℕ) → count_named x (names (before ++ ls)) ≤ 1) → GivesStamps (λ x. stamp_of x (before ++ ls)) ls
 gives_from before [] most = tt
 gives_from before (l ∷ ls) most =
     let same : (before ++ l ∷ []) ++ ls ≡ before ++ l ∷ ls = simp append_assoc in
-    (stamp_at before l ls (most l.name), subst (λ all. GivesStamps (λ x. stamp_of x all) ls) same (gives_from (before ++ l ∷ []) ls (λ x. subst (λ all. named x (names all) ≤ 1) (sym same) (most x))))
+    (stamp_at before l ls (most l.name), subst (λ all. GivesStamps (λ x. stamp_of x all) ls) same (gives_from (before ++ l ∷ []) ls (λ x. subst (λ all. count_named x (names all) ≤ 1) (sym same) (most x))))
 
--- where names stand once, the stamp of a name is that of its block
-pub gives_all : (ls : List Label) → ((x : ℕ) → named x (names ls) ≤ 1) → GivesStamps (λ x. stamp_of x ls) ls
+-- where each name occurs once, the stamp of a name is that of its block
+pub gives_all : (ls : List Label) → ((x : ℕ) → count_named x (names ls) ≤ 1) → GivesStamps (λ x. stamp_of x ls) ls
 gives_all ls most = gives_from [] ls most
 
 -- every stamp is below t
@@ -99,7 +99,7 @@ stamp_or_zero (Free s) = inr (s, refl)
 hit_self : (s : ℕ) → hit (Free s) (Free s) ≡ 1
 hit_self s = ap (λ (b : Bool). elim b [ true ↦ 1 | false ↦ 0 ]) (eq-eqb s s refl)
 
-pub stamps_below : (t : ℕ) (ls : List Label) → ((x : ℕ) → named x (names ls) ≤ 1) → ((x : ℕ) → t ≤ x → count (Free x) (tags ls) ≡ 0) → 1 ≤ t → (x : ℕ) → stamp_of x ls < t
+pub stamps_below : (t : ℕ) (ls : List Label) → ((x : ℕ) → count_named x (names ls) ≤ 1) → ((x : ℕ) → t ≤ x → count (Free x) (tags ls) ≡ 0) → 1 ≤ t → (x : ℕ) → stamp_of x ls < t
 stamps_below t [] most low pos x = omega arith
 stamps_below t (l ∷ ls) most low pos x = elim (hit_cases x l.name) [
   | inl i ↦
@@ -113,7 +113,7 @@ stamps_below t (l ∷ ls) most low pos x = elim (hit_cases x l.name) [
   | inr i ↦ let k = i.1 in let ih = stamps_below t ls (λ y. let m = most y in omega arith) (λ y b. let c = low y b in omega arith) pos x in rw (ne_eqb x l.name i.0) (omega arith)
 ]
 
--- the stamps of free blocks that are put in rise from t on
+-- the stamps of free blocks that are added rise from t on
 abbrev pub Rises : ℕ → List Label → Type 0
 Rises t [] = Unit {0}
 Rises t (l ∷ ls) = (is_free l.tag ≡ false → Rises t ls) × (is_free l.tag ≡ true → (t ≤ stamp l.tag) × Rises (stamp l.tag + 1) ls)
@@ -134,10 +134,10 @@ rises_named f t (l ∷ ls) g r = (
 )
 
 -- new blocks in place of old ones, where the new stamps are above the old
-pub newest_replaced : (v : View) (before old new after : List Label) → IsWellFormed v → v.blocks ≡ names (before ++ (old ++ after)) → ((x : ℕ) → named x (names (before ++ (new ++ after))) ≤ 1)
-    → ((x : ℕ) → 1 ≤ named x (names new) → (1 ≤ named x (names old)) ⊎ IsUnused x v) → (t : ℕ) → ((x : ℕ) → stamp_of x (before ++ (old ++ after)) < t) → Rises t new
+pub newest_replaced : (v : View) (before old new after : List Label) → IsWellFormed v → v.blocks ≡ names (before ++ (old ++ after)) → ((x : ℕ) → count_named x (names (before ++ (new ++ after))) ≤ 1)
+    → ((x : ℕ) → 1 ≤ count_named x (names new) → (1 ≤ count_named x (names old)) ⊎ IsUnused x v) → (t : ℕ) → ((x : ℕ) → stamp_of x (before ++ (old ++ after)) < t) → Rises t new
     → ((c : ℕ) → IsFalling (λ x. stamp_of x (before ++ (old ++ after))) (names_at v.order c))
-    → (c : ℕ) → IsFalling (λ x. stamp_of x (before ++ (new ++ after))) (names_at (put_all (names new) (remove_all (names old) v.order)) c)
+    → (c : ℕ) → IsFalling (λ x. stamp_of x (before ++ (new ++ after))) (names_at (push_all (names new) (remove_all (names old) v.order)) c)
 newest_replaced v before old new after w e distinct origin t low rises newest = falling_put_all f' t (names new) (remove_all (names old) v.order) (length_remove_all (names old) v.order ∙ w.classes)
     (λ d. falling_same f f' _ (same d) (falling_remove_all f (names old) v.order w.classes newest d))
     (λ d y m. let s = same d y m in let l = low y in omega arith)
@@ -156,13 +156,13 @@ newest_replaced v before old new after w e distinct origin t low rises newest = 
     same d y m =
         let r = orders_replaced v (names before) (names old) [] (names after) w parted d y in
         let o = w.orders d y in
-        let listed_parts = ap (listed d y) parted ∙ tally_three (λ (b : Block). one (not b.used && (nat_eq d (down b.size) && nat_eq y b.name))) (names before) (names old) (names after) in
-        let named_parts = ap (named y) parted ∙ tally_three (λ (b : Block). one (nat_eq y b.name)) (names before) (names old) (names after) in
+        let listed_parts = ap (count_listed d y) parted ∙ tally_three (λ (b : Block). one (not b.used && (nat_eq d (down b.size) && nat_eq y b.name))) (names before) (names old) (names after) in
+        let named_parts = ap (count_named y) parted ∙ tally_three (λ (b : Block). one (nat_eq y b.name)) (names before) (names old) (names after) in
         let most = w.distinct y in
         let b = listed_named d y (names before) in
         let a = listed_named d y (names after) in
-        let gone : named y (names old) ≡ 0 = omega arith in
-        let absent : named y (names new) ≡ 0 = elim (some_or_none (named y (names new))) [
+        let gone : count_named y (names old) ≡ 0 = omega arith in
+        let absent : count_named y (names new) ≡ 0 = elim (some_or_none (count_named y (names new))) [
           | inl z ↦ z
           | inr s ↦ elim (origin y s) [ inl i ↦ absurd (omega arith) | inr u ↦ absurd (let k = u.absent in omega arith) ]
         ] in

@@ -4,23 +4,22 @@ use Rattle.std.proofs.lemmas.Bool.{cases_lt, lt-leb, false≢true}
 use Rattle.offset_script.specs.declared.scripts.Command.{Command}
 use Rattle.offset_script.specs.declared.scripts.Command.TheVariants as command
 use Rattle.offset_allocator.specs.Classes.{up, down}
-use Rattle.offset_script.specs.Blocks.{Live, Free, is_free, total, Place, chosen, place_of, joined}
-use Rattle.offset_allocator.specs.Named.{greatest, padding_to}
-use Rattle.offset_script.specs.Machine.{State, Answer, Outcome, start, step, after, serve, grant, grant_or_refuse, is_short_of, answers_only, leaves, release, size_at, full_report, stamp_of_call}
+use Rattle.offset_script.specs.Machine.{Live, Free, is_free, total, Place, chosen_place, place_of, coalesce, State, Answer, Outcome, start, step, after, request, grant, grant_or_refuse, is_short_of, returns_only, leaves, release, size_at, full_report, stamp_of_call}
+use Rattle.offset_allocator.specs.Named.{max_size, padding_to}
 use Rattle.offset_script.specs.Machine as machine
-use Rattle.offset_script.specs.Histories.{IsGrant, KeepsSpace, Nest, settled, NestLeavesNoTrace}
+use Rattle.offset_script.specs.Histories.{IsGrant, KeepsSpace, Nest, number_without_nest, NestLeavesNoTrace}
 use Rattle.offset_script.specs.Histories as history
-use Rattle.offset_script.specs.Totals.{asked}
+use Rattle.offset_script.specs.Totals.{requested_units}
 use Rattle.offset_script.proofs.Pairs.{Kind, Lives, Frees, left_tag, right_tag, left, right, lefts, rights}
 use Rattle.offset_script.proofs.Alike.{Alike, Matched, alike_answers}
 use Rattle.offset_script.proofs.Well.{Well, count, chosen_at, well_start, well_after, well_step}
 use Rattle.offset_allocator.proofs.Sizes.{fits_size}
 use Rattle.offset_script.proofs.Similar.{SameNumber, Similar, similar_refl, similar_sym, similar_trans}
-use Rattle.offset_script.proofs.Restored.{Restored, restored, stands_count, stands_left, stands_right}
+use Rattle.offset_script.proofs.Restored.{Restored, restored, occurs_count, occurs_left, occurs_right}
 
--- What a call does that keeps the space: it only answers, or grants, or releases.
+-- What a call does that keeps the space: it only returns an answer, or grants, or releases.
 
--- an answer that tells neither a grant nor a release
+-- an answer that is neither a grant nor a release
 abbrev pub IsQuiet : Answer → Type 0
 IsQuiet (machine.Grant k offset) = ⊥
 IsQuiet machine.Freed = ⊥
@@ -32,7 +31,7 @@ pub record Granted (n : ℕ) (s : State) (o : Outcome) : Type 0 where
   pub padding : ℕ
   pub place : Place
   pub room : length s.blocks + 1 < s.limit
-  pub chose : chosen needed s.blocks ≡ Some place
+  pub chose : chosen_place needed s.blocks ≡ Some place
   pub within : padding + n ≤ place.block.size
   pub is : o ≡ grant s n padding place
 
@@ -42,30 +41,30 @@ pub record Released (c : Command) (s : State) (o : Outcome) : Type 0 where
   pub frees : c ≡ command.Free number
   pub place : Place
   pub found : place_of number s.blocks ≡ Some place
-  pub is : o ≡ leaves s (joined place.before place.block.size (stamp_of_call s) place.after) machine.Freed
+  pub is : o ≡ leaves s (coalesce place.before place.block.size (stamp_of_call s) place.after) machine.Freed
 
--- such an answer, and nothing else
+-- such an answer, with no other change
 pub record Only (s : State) (o : Outcome) : Type 0 where
   pub answer : Answer
   pub quiet : IsQuiet answer
-  pub is : o ≡ answers_only s answer
+  pub is : o ≡ returns_only s answer
 
 -- one of the three
 abbrev pub Does : Command → State → Outcome → Type 0
-Does c s o = Only s o ⊎ (Granted (asked c) s o ⊎ Released c s o)
+Does c s o = Only s o ⊎ (Granted (requested_units c) s o ⊎ Released c s o)
 
 does_if : (c : Command) (s : State) (b : Bool) (o p : Outcome) → (b ≡ true → Does c s o) → (b ≡ false → Does c s p) → Does c s (if b then o else p)
 does_if c s true o p f g = f refl
 does_if c s false o p f g = g refl
 
-only : (c : Command) (s : State) (a : Answer) → IsQuiet a → Does c s (answers_only s a)
+only : (c : Command) (s : State) (a : Answer) → IsQuiet a → Does c s (returns_only s a)
 only c s a q = inl (record { answer = a; quiet = q; is = refl })
 
 both_right : (x y : Bool) → (x && y) ≡ true → y ≡ true
 both_right true y e = e
 both_right false y e = absurd (false≢true e)
 
-does_grant : (c : Command) (s : State) → length s.blocks + 1 < s.limit → (needed : ℕ) (padding_at : ℕ → ℕ) → ((o : ℕ) → padding_at o + asked c ≤ needed) → (p : Option Place) → chosen needed s.blocks ≡ p → Does c s (grant_or_refuse s (asked c) padding_at p)
+does_grant : (c : Command) (s : State) → length s.blocks + 1 < s.limit → (needed : ℕ) (padding_at : ℕ → ℕ) → ((o : ℕ) → padding_at o + requested_units c ≤ needed) → (p : Option Place) → chosen_place needed s.blocks ≡ p → Does c s (grant_or_refuse s (requested_units c) padding_at p)
 does_grant c s room needed padding_at h None e = only c s machine.Refused tt
 does_grant c s room needed padding_at h (Some p) e = inr (inl (record {
   needed = needed;
@@ -77,8 +76,8 @@ does_grant c s room needed padding_at h (Some p) e = inr (inl (record {
   is = refl;
 }))
 
-does_serve : (c : Command) (s : State) (spare : ℕ) → 1 ≤ spare → (needed : ℕ) (padding_at : ℕ → ℕ) → ((o : ℕ) → padding_at o + asked c ≤ needed) → Does c s (serve s spare needed (asked c) padding_at)
-does_serve c s spare some needed padding_at h = does_if c s (is_short_of spare s) (answers_only s machine.Refused) (grant_or_refuse s (asked c) padding_at (chosen needed s.blocks)) (λ e. only c s machine.Refused tt) (λ e. does_grant c s (let l = leb-false s.limit (length s.blocks + spare) e in omega arith) needed padding_at h (chosen needed s.blocks) refl)
+does_request : (c : Command) (s : State) (spare : ℕ) → 1 ≤ spare → (needed : ℕ) (padding_at : ℕ → ℕ) → ((o : ℕ) → padding_at o + requested_units c ≤ needed) → Does c s (request s spare needed (requested_units c) padding_at)
+does_request c s spare some needed padding_at h = does_if c s (is_short_of spare s) (returns_only s machine.Refused) (grant_or_refuse s (requested_units c) padding_at (chosen_place needed s.blocks)) (λ e. only c s machine.Refused tt) (λ e. does_grant c s (let l = leb-false s.limit (length s.blocks + spare) e in omega arith) needed padding_at h (chosen_place needed s.blocks) refl)
 
 does_release : (s : State) (k : ℕ) (o : Option Place) → place_of k s.blocks ≡ o → Does (command.Free k) s (release s o)
 does_release s k None e = only (command.Free k) s machine.Gone tt
@@ -96,16 +95,16 @@ padding_fits : (n align o : ℕ) → 1 < align → padding_to align o + n ≤ n 
 padding_fits n align o h = omega arith
 
 pub does : (c : Command) (s : State) → KeepsSpace c → Does c s (step c s)
-does (command.Alloc n) s k = does_serve (command.Alloc n) s 1 (omega arith) n (λ offset. 0) (λ o. omega arith)
+does (command.Alloc n) s k = does_request (command.Alloc n) s 1 (omega arith) n (λ offset. 0) (λ o. omega arith)
 does (command.Free k) s h = does_release s k (place_of k s.blocks) refl
 does (command.Size k) s h = only (command.Size k) s _ (quiet_size (place_of k s.blocks))
 does command.Report s h = only command.Report s _ (quiet_report (is_short_of 1 s) _ _)
 does command.Full s h = only command.Full s (full_report s) tt
 does command.Reset s h = absurd h
-does (command.Align n align) s h = does_if (command.Align n align) s (nat_le align 1) (step (command.Alloc n) s) (if nat_lt greatest (n + align - 1) then answers_only s machine.Refused else serve s 2 (n + align - 1) n (padding_to align))
-    (λ e. does_serve (command.Align n align) s 1 (omega arith) n (λ offset. 0) (λ o. omega arith))
-    (λ e. does_if (command.Align n align) s (nat_lt greatest (n + align - 1)) (answers_only s machine.Refused) (serve s 2 (n + align - 1) n (padding_to align)) (λ f. only (command.Align n align) s machine.Refused tt)
-    (λ f. does_serve (command.Align n align) s 2 (omega arith) (n + align - 1) (padding_to align) (λ o. padding_fits n align o (leb-false align 1 e))))
+does (command.Align n align) s h = does_if (command.Align n align) s (nat_le align 1) (step (command.Alloc n) s) (if nat_lt max_size (n + align - 1) then returns_only s machine.Refused else request s 2 (n + align - 1) n (padding_to align))
+    (λ e. does_request (command.Align n align) s 1 (omega arith) n (λ offset. 0) (λ o. omega arith))
+    (λ e. does_if (command.Align n align) s (nat_lt max_size (n + align - 1)) (returns_only s machine.Refused) (request s 2 (n + align - 1) n (padding_to align)) (λ f. only (command.Align n align) s machine.Refused tt)
+    (λ f. does_request (command.Align n align) s 2 (omega arith) (n + align - 1) (padding_to align) (λ o. padding_fits n align o (leb-false align 1 e))))
 does (command.Extend more) s h = absurd h
 
 -- what a nest keeps
@@ -136,7 +135,7 @@ traceless_quiet c s k g f = elim (does c s k) [
 not_quiet : (a : Answer) (k offset : ℕ) → IsQuiet a → a ≡ machine.Grant k offset → ⊥
 not_quiet a k offset q e = subst IsQuiet e q
 
-granted_is : (c : Command) (s : State) (k : ℕ) → KeepsSpace c → IsGrant (step c s).answer k → Granted (asked c) s (step c s) × (k ≡ s.grants + 1)
+granted_is : (c : Command) (s : State) (k : ℕ) → KeepsSpace c → IsGrant (step c s).answer k → Granted (requested_units c) s (step c s) × (k ≡ s.grants + 1)
 granted_is c s k h g = elim (does c s h) [
   | inl q ↦ absurd (not_quiet q.answer k g.0 q.quiet (ap (λ (x : Outcome). x.answer) (sym q.is) ∙ g.1))
   | inr (inl d) ↦ (d, number _ _ _ _ (sym g.1 ∙ ap (λ (x : Outcome). x.answer) d.is))
@@ -158,8 +157,8 @@ traceless_pair c s k w h g t v m =
     let d = granted_is c s k h g in
     let p = d.0.place in
     let found = chosen_at d.0.needed s.blocks p d.0.chose in
-    let m' : Traceless (grant s (asked c) d.0.padding p).state t = subst (λ (o : Outcome). Traceless o.state t) d.0.is m in
-    traceless_release s t k (restored s w p d.0.needed (asked c) d.0.padding found.0 found.1 found.2 d.0.within t v m'.blocks) d.1 (sym m'.limit) (let l : s.grants + 1 ≤ t.grants = m'.grants in omega arith)
+    let m' : Traceless (grant s (requested_units c) d.0.padding p).state t = subst (λ (o : Outcome). Traceless o.state t) d.0.is m in
+    traceless_release s t k (restored s w p d.0.needed (requested_units c) d.0.padding found.0 found.1 found.2 d.0.within t v m'.blocks) d.1 (sym m'.limit) (let l : s.grants + 1 ≤ t.grants = m'.grants in omega arith)
 
 pub traceless : {s : State} {cs : List Command} → Nest s cs → Well s → Traceless s (after cs s)
 traceless (history.done {s = s}) w = record { limit = refl; blocks = similar_refl s.blocks; grants = omega arith }
@@ -176,8 +175,8 @@ traceless (history.paired {s = s} {c = c} {k = k} {inner = inner} {outer = outer
     subst (Traceless s) (sym (after-append inner (command.Free k ∷ outer) s1)) (traceless_trans s s3 (after outer s3) a b)
 
 -- numbers after a nest
-pub settled_cases : (g j k : ℕ) → ((k ≤ g) × (settled g j k ≡ k)) ⊎ (((g < k) × (k ≤ g + j) × (settled g j k ≡ 0)) ⊎ ((g + j < k) × (settled g j k ≡ k - j)))
-settled_cases g j k = elim (cases_lt g k) [
+pub number_without_nest_cases : (g j k : ℕ) → ((k ≤ g) × (number_without_nest g j k ≡ k)) ⊎ (((g < k) × (k ≤ g + j) × (number_without_nest g j k ≡ 0)) ⊎ ((g + j < k) × (number_without_nest g j k ≡ k - j)))
+number_without_nest_cases g j k = elim (cases_lt g k) [
   | inl l ↦ elim (cases_lt (g + j) k) [
     | inl m ↦ inr (inr (m, ap (λ b. if b then k else if nat_le k (g + j) then 0 else k - j) (lt-leb k g l) ∙ ap (λ b. if b then 0 else k - j) (lt-leb k (g + j) m)))
     | inr m ↦ inr (inl (l, m, ap (λ b. if b then k else if nat_le k (g + j) then 0 else k - j) (lt-leb k g l) ∙ ap (λ b. if b then 0 else k - j) (le-leb k (g + j) m)))
@@ -185,20 +184,20 @@ settled_cases g j k = elim (cases_lt g k) [
   | inr l ↦ inl (l, ap (λ b. if b then k else if nat_le k (g + j) then 0 else k - j) (le-leb k g l))
 ]
 
-settled_number : (g j i k : ℕ) → 1 ≤ i → i ≤ g → nat_eq k i ≡ nat_eq (settled g j k) i
-settled_number g j i k one most = elim (settled_cases g j k) [
+number_without_nest_kept : (g j i k : ℕ) → 1 ≤ i → i ≤ g → nat_eq k i ≡ nat_eq (number_without_nest g j k) i
+number_without_nest_kept g j i k one most = elim (number_without_nest_cases g j k) [
   | inl h ↦ ap (λ x. nat_eq x i) (sym h.1)
-  | inr (inl h) ↦ ne_eqb k i (λ e. omega arith) ∙ sym (ne_eqb (settled g j k) i (λ e. omega arith))
-  | inr (inr h) ↦ ne_eqb k i (λ e. omega arith) ∙ sym (ne_eqb (settled g j k) i (λ e. omega arith))
+  | inr (inl h) ↦ ne_eqb k i (λ e. omega arith) ∙ sym (ne_eqb (number_without_nest g j k) i (λ e. omega arith))
+  | inr (inr h) ↦ ne_eqb k i (λ e. omega arith) ∙ sym (ne_eqb (number_without_nest g j k) i (λ e. omega arith))
 ]
 
-settled_past : (g j k : ℕ) → k ≤ g + j → settled g j k ≤ g
-settled_past g j k l = elim (settled_cases g j k) [ inl h ↦ omega arith | inr (inl h) ↦ omega arith | inr (inr h) ↦ absurd (omega arith) ]
+number_without_nest_past : (g j k : ℕ) → k ≤ g + j → number_without_nest g j k ≤ g
+number_without_nest_past g j k l = elim (number_without_nest_cases g j k) [ inl h ↦ omega arith | inr (inl h) ↦ omega arith | inr (inr h) ↦ absurd (omega arith) ]
 
-settled_future : (g j k : ℕ) → g + j < k → settled g j k + j ≡ k
-settled_future g j k l = elim (settled_cases g j k) [ inl h ↦ absurd (omega arith) | inr (inl h) ↦ absurd (omega arith) | inr (inr h) ↦ omega arith ]
+number_without_nest_future : (g j k : ℕ) → g + j < k → number_without_nest g j k + j ≡ k
+number_without_nest_future g j k l = elim (number_without_nest_cases g j k) [ inl h ↦ absurd (omega arith) | inr (inl h) ↦ absurd (omega arith) | inr (inr h) ↦ omega arith ]
 
--- what stands is below the next stamp, and its number is one of those granted
+-- the stamps of blocks are below the next, and their numbers are those of grants
 stamp_below : (s : State) → Well s → (x : ℕ) → 1 ≤ count (Free x) s.blocks → x < 2 * (s.calls + 1)
 stamp_below s w x c = elim (cases_lt x (2 * (s.calls + 1))) [ inl l ↦ l | inr l ↦ let o = w.stamped x l in absurd (omega arith) ]
 
@@ -206,23 +205,23 @@ pub number_within : (s : State) → Well s → (k : ℕ) → 1 ≤ count (Live k
 number_within s w zero c = let o = w.from_one in absurd (omega arith)
 number_within s w (suc k) c = elim (cases_lt s.grants (suc k)) [ inl l ↦ let o = w.granted (suc k) l in absurd (omega arith) | inr l ↦ (omega arith, l) ]
 
-matched_kind : (s t : State) → Well s → Well t → (j : ℕ) (q : Kind) → SameNumber q → 1 ≤ count (left_tag q) t.blocks → 1 ≤ count (right_tag q) s.blocks → Matched (settled s.grants j) (2 * (t.calls + 1)) (2 * (s.calls + 1)) q
-matched_kind s t w v j (Lives i i') e c d = λ k. let b = number_within s w i' d in subst (λ x. nat_eq k x ≡ nat_eq (settled s.grants j k) i') (sym e) (settled_number s.grants j i' k b.0 b.1)
+matched_kind : (s t : State) → Well s → Well t → (j : ℕ) (q : Kind) → SameNumber q → 1 ≤ count (left_tag q) t.blocks → 1 ≤ count (right_tag q) s.blocks → Matched (number_without_nest s.grants j) (2 * (t.calls + 1)) (2 * (s.calls + 1)) q
+matched_kind s t w v j (Lives i i') e c d = λ k. let b = number_within s w i' d in subst (λ x. nat_eq k x ≡ nat_eq (number_without_nest s.grants j k) i') (sym e) (number_without_nest_kept s.grants j i' k b.0 b.1)
 matched_kind s t w v j (Frees x y) e c d = (stamp_below t v x c, stamp_below s w y d)
 
-alike_after : (s t : State) → Well s → Well t → Traceless s t → Alike (settled s.grants (t.grants - s.grants)) (t.grants - s.grants) t s
+alike_after : (s t : State) → Well s → Well t → Traceless s t → Alike (number_without_nest s.grants (t.grants - s.grants)) (t.grants - s.grants) t s
 alike_after s t w v m = record {
   limit = m.limit;
   pairs = turned.pairs;
   left_blocks = turned.left_blocks;
   right_blocks = turned.right_blocks;
   matched = λ q i. matched_kind s t w v (t.grants - s.grants) q.kind (turned.numbers q i)
-      (subst (λ bs. 1 ≤ count (left_tag q.kind) bs) (sym turned.left_blocks) (stands_count (left q) (lefts turned.pairs) (stands_left q turned.pairs i)))
-      (subst (λ bs. 1 ≤ count (right_tag q.kind) bs) (sym turned.right_blocks) (stands_count (right q) (rights turned.pairs) (stands_right q turned.pairs i)));
+      (subst (λ bs. 1 ≤ count (left_tag q.kind) bs) (sym turned.left_blocks) (occurs_count (left q) (lefts turned.pairs) (occurs_left q turned.pairs i)))
+      (subst (λ bs. 1 ≤ count (right_tag q.kind) bs) (sym turned.right_blocks) (occurs_count (right q) (rights turned.pairs) (occurs_right q turned.pairs i)));
   agree = turned.agree;
   grants = omega (arith, m.grants);
-  past = λ k l. settled_past s.grants (t.grants - s.grants) k (omega (arith, m.grants));
-  future = λ k l. settled_future s.grants (t.grants - s.grants) k (omega (arith, m.grants));
+  past = λ k l. number_without_nest_past s.grants (t.grants - s.grants) k (omega (arith, m.grants));
+  future = λ k l. number_without_nest_future s.grants (t.grants - s.grants) k (omega (arith, m.grants));
 }
   where
     turned : Similar t.blocks s.blocks
@@ -233,4 +232,4 @@ nest_law size limit h cs nest n =
     let s = after cs (start size limit) in
     let w : Well s = well_after cs (start size limit) (well_start size limit h) in
     let t = after nest s in
-    λ more. alike_answers (settled s.grants (t.grants - s.grants)) (t.grants - s.grants) more t s (alike_after s t w (well_after nest s w) (traceless n w))
+    λ more. alike_answers (number_without_nest s.grants (t.grants - s.grants)) (t.grants - s.grants) more t s (alike_after s t w (well_after nest s w) (traceless n w))

@@ -2,7 +2,7 @@
 use Rattle.std.proofs.Common.{◌≡◌, ℕ, zero, suc, ◌+◌, ◌-◌, Bool, true, false, ◌&&◌, ◌||◌, ◌⊎◌, List, [], ◌∷◌, ◌++◌, length, Option, Some, None, option_map, nat_eq, nat_lt, nat_le, if◌then◌else◌, refl, sym, ap, ap₂, subst, ◌∙◌, inl, inr, arith, eq-eqb, eqb-true}
 use Rattle.std.proofs.lemmas.Bool.{false≢true}
 use Rattle.offset_allocator.specs.Classes.{up, down}
-use Rattle.offset_script.specs.Blocks.{Tag, Live, Free, Block, block, is_free, has_number, stamp, total, free_sizes, Place, here, behind, fits, is_taken_before, choose, chosen, behind_if_found, place_of, free_block, free_start, without_start, free_end, without_end, ends_live, joined}
+use Rattle.offset_script.specs.Machine.{Tag, Live, Free, Block, block, is_free, has_number, stamp, total, free_sizes, Place, here, prepend, fits, is_taken_before, choose, chosen_place, prepend_if_found, place_of, free_block, free_start, without_start, free_end, without_end, ends_live, coalesce}
 
 -- two blocks at one place: both live, with their numbers, or both free, with their stamps
 pub data Kind : Type 0 where
@@ -46,7 +46,7 @@ abbrev pub rights : List Pair → List Block
 rights [] = []
 rights (q ∷ p) = right q ∷ rights p
 
--- a pair stands in the list
+-- a pair is in the list
 abbrev pub In : Pair → List Pair → Type 0
 In q [] = ⊥
 In q (x ∷ p) = (q ≡ x) ⊎ In q p
@@ -73,7 +73,7 @@ pub rights-append : (xs ys : List Pair) → rights (xs ++ ys) ≡ rights xs ++ r
 rights-append [] ys = refl
 rights-append (x ∷ xs) ys = ap (λ l. right x ∷ l) (rights-append xs ys)
 
--- what does not tell the two lists apart
+-- what is the same of both lists
 pub same_free : (k : Kind) → is_free (left_tag k) ≡ is_free (right_tag k)
 same_free (Lives j k) = refl
 same_free (Frees s u) = refl
@@ -155,26 +155,26 @@ in_without_end q (x ∷ []) h = in_if (is_free (left_tag x.kind)) q x [] h
 in_without_end q (x ∷ y ∷ p) (inl e) = inl e
 in_without_end q (x ∷ y ∷ p) (inr h) = inr (in_without_end q (y ∷ p) h)
 
--- what is joined on both sides
-abbrev pub pairs_joined : List Pair → ℕ → Kind → List Pair → List Pair
-pairs_joined ps n k qs = pairs_without_end ps ++ pair (free_end (lefts ps) + n + free_start (lefts qs)) k ∷ pairs_without_start qs
+-- units that become free and coalesce on both sides
+abbrev pub coalesce_pairs : List Pair → ℕ → Kind → List Pair → List Pair
+coalesce_pairs ps n k qs = pairs_without_end ps ++ pair (free_end (lefts ps) + n + free_start (lefts qs)) k ∷ pairs_without_start qs
 
-pub lefts_joined : (ps : List Pair) (n s u : ℕ) (qs : List Pair) → lefts (pairs_joined ps n (Frees s u) qs) ≡ joined (lefts ps) n s (lefts qs)
-lefts_joined ps n s u qs = lefts-append (pairs_without_end ps) _ ∙ ap₂ (λ x y. x ++ block (free_end (lefts ps) + n + free_start (lefts qs)) (Free s) ∷ y) (lefts_without_end ps) (lefts_without_start qs)
+pub lefts_coalesce : (ps : List Pair) (n s u : ℕ) (qs : List Pair) → lefts (coalesce_pairs ps n (Frees s u) qs) ≡ coalesce (lefts ps) n s (lefts qs)
+lefts_coalesce ps n s u qs = lefts-append (pairs_without_end ps) _ ∙ ap₂ (λ x y. x ++ block (free_end (lefts ps) + n + free_start (lefts qs)) (Free s) ∷ y) (lefts_without_end ps) (lefts_without_start qs)
 
-pub rights_joined : (ps : List Pair) (n s u : ℕ) (qs : List Pair) → rights (pairs_joined ps n (Frees s u) qs) ≡ joined (rights ps) n u (rights qs)
-rights_joined ps n s u qs = rights-append (pairs_without_end ps) _
+pub rights_coalesce : (ps : List Pair) (n s u : ℕ) (qs : List Pair) → rights (coalesce_pairs ps n (Frees s u) qs) ≡ coalesce (rights ps) n u (rights qs)
+rights_coalesce ps n s u qs = rights-append (pairs_without_end ps) _
     ∙ ap₂ (λ x y. x ++ block (free_end (lefts ps) + n + free_start (lefts qs)) (Free u) ∷ y) (rights_without_end ps) (rights_without_start qs)
     ∙ ap₂ (λ x y. without_end (rights ps) ++ block (x + n + y) (Free u) ∷ without_start (rights qs)) (same_end ps) (same_start qs)
 
-pub in_joined : (q : Pair) (ps : List Pair) (n : ℕ) (k : Kind) (qs : List Pair) → In q (pairs_joined ps n k qs) → (In q ps ⊎ In q qs) ⊎ (q.kind ≡ k)
-in_joined q ps n k qs h = elim (in_append q (pairs_without_end ps) _ h) [
+pub in_coalesce : (q : Pair) (ps : List Pair) (n : ℕ) (k : Kind) (qs : List Pair) → In q (coalesce_pairs ps n k qs) → (In q ps ⊎ In q qs) ⊎ (q.kind ≡ k)
+in_coalesce q ps n k qs h = elim (in_append q (pairs_without_end ps) _ h) [
   | inl a ↦ inl (inl (in_without_end q ps a))
   | inr (inl e) ↦ inr (ap (λ (z : Pair). z.kind) e)
   | inr (inr b) ↦ inl (inr (in_without_start q qs b))
 ]
 
--- a list of pairs, parted at a pair
+-- a list of pairs, split at a pair
 pub record PairPlace : Type 0 where
   pub before : List Pair
   pub pair : Pair
@@ -192,52 +192,52 @@ right_place c = record { before = rights c.before; block = right c.pair; after =
 abbrev pub pair_here : Pair → List Pair → PairPlace
 pair_here q p = record { before = []; pair = q; after = p }
 
--- a place, where one more pair stands before all
-abbrev pub pair_behind : Pair → PairPlace → PairPlace
-pair_behind q c = record { before = q ∷ c.before; pair = c.pair; after = c.after }
+-- a place in a list, in the same list with q before it
+abbrev pub pair_prepend : Pair → PairPlace → PairPlace
+pair_prepend q c = record { before = q ∷ c.before; pair = c.pair; after = c.after }
 
--- the list that was parted
+-- the list that was split
 abbrev pub whole : PairPlace → List Pair
 whole c = c.before ++ c.pair ∷ c.after
 
--- a place that may be missing, where one more pair stands before all
-abbrev pub pair_behind_if_found : Pair → Option PairPlace → Option PairPlace
-pair_behind_if_found q None = None
-pair_behind_if_found q (Some c) = Some (pair_behind q c)
+-- the same for a place that may be missing
+abbrev pub pair_prepend_if_found : Pair → Option PairPlace → Option PairPlace
+pair_prepend_if_found q None = None
+pair_prepend_if_found q (Some c) = Some (pair_prepend q c)
 
--- where the block of grant k stands, by the numbers on the left
+-- the place of the block of grant k, by the numbers on the left
 abbrev pub pair_place_of : ℕ → List Pair → Option PairPlace
 pair_place_of k [] = None
-pair_place_of k (q ∷ p) = if has_number k (left_tag q.kind) then Some (pair_here q p) else pair_behind_if_found q (pair_place_of k p)
+pair_place_of k (q ∷ p) = if has_number k (left_tag q.kind) then Some (pair_here q p) else pair_prepend_if_found q (pair_place_of k p)
 
 map_if : {A B : Type 0} (f : A → B) (b : Bool) (x y : Option A) → option_map f (if b then x else y) ≡ (if b then option_map f x else option_map f y)
 map_if f true x y = refl
 map_if f false x y = refl
 
-left_behind : (q : Pair) (o : Option PairPlace) → option_map left_place (pair_behind_if_found q o) ≡ behind_if_found (left q) (option_map left_place o)
-left_behind q None = refl
-left_behind q (Some c) = refl
+left_prepend : (q : Pair) (o : Option PairPlace) → option_map left_place (pair_prepend_if_found q o) ≡ prepend_if_found (left q) (option_map left_place o)
+left_prepend q None = refl
+left_prepend q (Some c) = refl
 
-right_behind : (q : Pair) (o : Option PairPlace) → option_map right_place (pair_behind_if_found q o) ≡ behind_if_found (right q) (option_map right_place o)
-right_behind q None = refl
-right_behind q (Some c) = refl
+right_prepend : (q : Pair) (o : Option PairPlace) → option_map right_place (pair_prepend_if_found q o) ≡ prepend_if_found (right q) (option_map right_place o)
+right_prepend q None = refl
+right_prepend q (Some c) = refl
 
 pub left_place_of : (k : ℕ) (p : List Pair) → place_of k (lefts p) ≡ option_map left_place (pair_place_of k p)
 left_place_of k [] = refl
 left_place_of k (q ∷ p) = sym (map_if left_place (has_number k (left_tag q.kind)) _ _
-    ∙ ap (λ o. if has_number k (left_tag q.kind) then Some (here (left q) (lefts p)) else o) (left_behind q (pair_place_of k p) ∙ ap (behind_if_found (left q)) (sym (left_place_of k p))))
+    ∙ ap (λ o. if has_number k (left_tag q.kind) then Some (here (left q) (lefts p)) else o) (left_prepend q (pair_place_of k p) ∙ ap (prepend_if_found (left q)) (sym (left_place_of k p))))
 
 pub right_place_of : (k k' : ℕ) (p : List Pair) → ((q : Pair) → In q p → has_number k (left_tag q.kind) ≡ has_number k' (right_tag q.kind)) → place_of k' (rights p) ≡ option_map right_place (pair_place_of k p)
 right_place_of k k' [] same = refl
 right_place_of k k' (q ∷ p) same = sym (map_if right_place (has_number k (left_tag q.kind)) _ _
-    ∙ ap₂ (λ b o. if b then Some (here (right q) (rights p)) else o) (same q (inl refl)) (right_behind q (pair_place_of k p) ∙ ap (behind_if_found (right q)) (sym (right_place_of k k' p (λ x h. same x (inr h))))))
+    ∙ ap₂ (λ b o. if b then Some (here (right q) (rights p)) else o) (same q (inl refl)) (right_prepend q (pair_place_of k p) ∙ ap (prepend_if_found (right q)) (sym (right_place_of k k' p (λ x h. same x (inr h))))))
 
--- what is found stands in the list
+-- a place that is found is one of the list
 FoundIn : List Pair → Option PairPlace → Type 0
 FoundIn p None = Unit {0}
 FoundIn p (Some c) = p ≡ whole c
 
-found_in_step : (q : Pair) (p : List Pair) (b : Bool) (o : Option PairPlace) → FoundIn p o → FoundIn (q ∷ p) (if b then Some (pair_here q p) else pair_behind_if_found q o)
+found_in_step : (q : Pair) (p : List Pair) (b : Bool) (o : Option PairPlace) → FoundIn p o → FoundIn (q ∷ p) (if b then Some (pair_here q p) else pair_prepend_if_found q o)
 unfolding FoundIn
 found_in_step q p true o h = refl
 found_in_step q p false None h = tt
@@ -252,10 +252,10 @@ pub found_in : (k : ℕ) (p : List Pair) (c : PairPlace) → pair_place_of k p �
 unfolding FoundIn
 found_in k p c e = subst (FoundIn p) e (found_in_all k p)
 
--- of the first pair of a list and the one chosen behind it, where a request for n takes its units
+-- the better place for a request of n units: that of the first pair q, or the one chosen among the pairs p after it
 abbrev pub pair_choose : ℕ → Pair → List Pair → Option PairPlace → Option PairPlace
 pair_choose n q p None = if fits n (left q) then Some (pair_here q p) else None
-pair_choose n q p (Some c) = if fits n (left q) && is_taken_before (left q) (left c.pair) then Some (pair_here q p) else Some (pair_behind q c)
+pair_choose n q p (Some c) = if fits n (left q) && is_taken_before (left q) (left c.pair) then Some (pair_here q p) else Some (pair_prepend q c)
 
 -- where a request for n takes its units, by the stamps on the left
 abbrev pub pair_chosen : ℕ → List Pair → Option PairPlace
@@ -266,17 +266,17 @@ left_choose : (n : ℕ) (q : Pair) (p : List Pair) (o : Option PairPlace) → ch
 left_choose n q p None = sym (map_if left_place (fits n (left q)) _ _)
 left_choose n q p (Some c) = sym (map_if left_place (fits n (left q) && is_taken_before (left q) (left c.pair)) _ _)
 
-pub left_chosen : (n : ℕ) (p : List Pair) → chosen n (lefts p) ≡ option_map left_place (pair_chosen n p)
+pub left_chosen : (n : ℕ) (p : List Pair) → chosen_place n (lefts p) ≡ option_map left_place (pair_chosen n p)
 left_chosen n [] = refl
 left_chosen n (q ∷ p) = ap (choose n (left q) (lefts p)) (left_chosen n p) ∙ left_choose n q p (pair_chosen n p)
 
--- of two free pairs of one class, the stamps stand in the same order on both sides
+-- of two free pairs of one class, the stamps have the same order on both sides
 abbrev pub SameOrder : Kind → Kind → Type 0
 SameOrder (Frees s u) (Frees t v) = nat_lt s t ≡ nat_lt u v
 SameOrder (Frees s u) (Lives j k) = Unit {0}
 SameOrder (Lives j k) y = Unit {0}
 
--- two pairs whose stamps stand in the same order, if they are of one class
+-- two pairs whose stamps have the same order, if they are of one class
 abbrev pub Agree : Pair → Pair → Type 0
 Agree a b = nat_eq (down a.size) (down b.size) ≡ true → SameOrder a.kind b.kind
 
@@ -288,7 +288,7 @@ both_true : (x y : Bool) → (x && y) ≡ true → (x ≡ true) × (y ≡ true)
 both_true true y e = (refl, e)
 both_true false y e = grind (arith, e)
 
--- what is chosen stands in the list, and fits
+-- a chosen place is one of the list, and fits
 ChoiceIsIn : ℕ → List Pair → Option PairPlace → Type 0
 ChoiceIsIn n p None = Unit {0}
 ChoiceIsIn n p (Some c) = (p ≡ whole c) × (fits n (left c.pair) ≡ true)
@@ -305,7 +305,7 @@ choice_or_none n p false c f = tt
 chosen_in_step : (n : ℕ) (q : Pair) (p : List Pair) (o : Option PairPlace) → ChoiceIsIn n p o → ChoiceIsIn n (q ∷ p) (pair_choose n q p o)
 unfolding ChoiceIsIn
 chosen_in_step n q p None h = choice_or_none n (q ∷ p) (fits n (left q)) (pair_here q p) (λ e. (refl, e))
-chosen_in_step n q p (Some c) h = choice_if n (q ∷ p) _ (pair_here q p) (pair_behind q c) (λ e. (refl, (both_true _ _ e).0)) (ap (λ l. q ∷ l) h.0, h.1)
+chosen_in_step n q p (Some c) h = choice_if n (q ∷ p) _ (pair_here q p) (pair_prepend q c) (λ e. (refl, (both_true _ _ e).0)) (ap (λ l. q ∷ l) h.0, h.1)
 
 chosen_in_all : (n : ℕ) (p : List Pair) → ChoiceIsIn n p (pair_chosen n p)
 unfolding ChoiceIsIn
@@ -329,7 +329,7 @@ same_tests x y (Frees s u) (Frees t v) f g h = ap (λ b. nat_lt x y || b) (same_
 same_tests x y (Frees s u) (Lives i j) f g h = absurd (false≢true g)
 same_tests x y (Lives i j) l f g h = absurd (false≢true f)
 
--- where both are free and agree, the same one is taken before the other
+-- of two pairs that are free and agree, the same one is chosen over the other on both sides
 same_test : (m : ℕ) (a b : Pair) → fits m (left a) ≡ true → fits m (left b) ≡ true → Agree b a → is_taken_before (left a) (left b) ≡ is_taken_before (right a) (right b)
 same_test m a b f g h = same_tests (down a.size) (down b.size) a.kind b.kind (both_true _ _ f).0 (both_true _ _ g).0 h
 
@@ -337,11 +337,11 @@ right_choose : (n : ℕ) (q : Pair) (p : List Pair) (o : Option PairPlace) → (
     → choose n (right q) (rights p) (option_map right_place o) ≡ option_map right_place (pair_choose n q p o)
 right_choose n q p None h = ap (λ b. if b then Some (here (right q) (rights p)) else None) (sym (same_fits n q)) ∙ sym (map_if right_place (fits n (left q)) _ _)
 right_choose n q p (Some c) h =
-    ap (λ b. if b then Some (here (right q) (rights p)) else Some (behind (right q) (right_place c)))
+    ap (λ b. if b then Some (here (right q) (rights p)) else Some (prepend (right q) (right_place c)))
     (ap (λ b. b && is_taken_before (right q) (right c.pair)) (sym (same_fits n q)) ∙ sym (same_and (fits n (left q)) _ _ (λ f. same_test n q c.pair f (h c refl).0 (h c refl).1)))
     ∙ sym (map_if right_place (fits n (left q) && is_taken_before (left q) (left c.pair)) _ _)
 
-pub right_chosen : (n : ℕ) (p : List Pair) → AllAgree p → chosen n (rights p) ≡ option_map right_place (pair_chosen n p)
+pub right_chosen : (n : ℕ) (p : List Pair) → AllAgree p → chosen_place n (rights p) ≡ option_map right_place (pair_chosen n p)
 right_chosen n [] agree = refl
 right_chosen n (q ∷ p) agree =
     ap (choose n (right q) (rights p)) (right_chosen n p (λ a b x y. agree a b (inr x) (inr y)))

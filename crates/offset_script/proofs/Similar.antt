@@ -1,7 +1,7 @@
 -- Lists of blocks that differ only in stamps of the same order in each class.
 use Rattle.std.proofs.Common.{◌≡◌, ℕ, true, List, [], ◌∷◌, nat_eq, nat_lt, refl, sym, ap, ap₂, subst, subst₂, ◌∙◌, inl, inr, arith}
 use Rattle.offset_allocator.specs.Classes.{down}
-use Rattle.offset_script.specs.Blocks.{Tag, Live, Free, Block, block}
+use Rattle.offset_script.specs.Machine.{Tag, Live, Free, Block, block}
 use Rattle.offset_script.proofs.Pairs.{Kind, Lives, Frees, Pair, pair, left_tag, right_tag, left, right, lefts, rights, In, Agree, AllAgree, SameOrder}
 
 -- a live pair has one number
@@ -9,7 +9,7 @@ abbrev pub SameNumber : Kind → Type 0
 SameNumber (Lives i j) = i ≡ j
 SameNumber (Frees s u) = Unit {0}
 
--- two lists that differ only in stamps, which stand in the same order in each class
+-- two lists that differ only in stamps, which have the same order in each class
 pub record Similar (bs cs : List Block) : Type 0 where
   pub pairs : List Pair
   pub left_blocks : bs ≡ lefts pairs

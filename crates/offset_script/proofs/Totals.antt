@@ -1,15 +1,14 @@
 -- The sums of sizes, and the numbers of live blocks, that every call keeps.
 use Rattle.std.proofs.Common.{◌≡◌, ℕ, zero, suc, ◌+◌, ◌-◌, ◌≤◌, Bool, true, false, ◌&&◌, ◌||◌, List, [], ◌∷◌, ◌++◌, length, nat_le, nat_lt, if◌then◌else◌, refl, sym, ap, subst, ◌∙◌, inl, inr, arith, le-leb, length-append, sum}
 use Rattle.std.proofs.lemmas.List.Sums.{sum_by-cons}
-use Rattle.offset_allocator.specs.Named.{greatest, padding_to}
+use Rattle.offset_allocator.specs.Named.{max_size, padding_to}
 use Rattle.offset_allocator.specs.Reports.{largest}
 use Rattle.offset_script.specs.declared.scripts.Command.{Command}
 use Rattle.offset_script.specs.declared.scripts.Command.TheVariants as command
-use Rattle.offset_script.specs.Blocks.{Live, Free, Block, block, is_free, total, free_sizes, Place, chosen, free_block, free_start, without_start, free_end, without_end, ends_live, joined}
-use Rattle.offset_script.specs.Machine.{State, Outcome, start, step, after, is_short_of, answers_only, leaves, serve, grant_or_refuse, stamp_of_call, stamp_of_front}
+use Rattle.offset_script.specs.Machine.{Live, Free, Block, block, is_free, total, free_sizes, Place, chosen_place, free_block, free_start, without_start, free_end, without_end, ends_live, coalesce, State, Outcome, start, step, after, is_short_of, returns_only, leaves, request, grant_or_refuse, stamp_of_call, stamp_of_padding}
 use Rattle.offset_script.specs.Machine as machine
 use Rattle.offset_script.specs.Histories.{KeepsSpace}
-use Rattle.offset_script.specs.Totals.{asked, live_units, live_blocks, added, added_by, SizesAddUp, FewAreLive, FullSpaceRefuses}
+use Rattle.offset_script.specs.Totals.{requested_units, live_units, live_blocks, added_units, added_by, SizesAddUp, FewAreLive, FullSpaceRefuses}
 use Rattle.offset_script.proofs.Well.{whole, chosen_at, found_at, granted_blocks}
 use Rattle.offset_script.proofs.Nests.{does}
 
@@ -38,8 +37,8 @@ total_end (b ∷ []) = either (is_free b.tag)
     either false = omega arith
 total_end (b ∷ c ∷ bs) = let ih = total_end (c ∷ bs) in omega (arith, ih)
 
-total_joined : (xs : List Block) (n s : ℕ) (ys : List Block) → total (joined xs n s ys) ≡ total xs + (n + total ys)
-total_joined xs n s ys = omega (arith, total-append (without_end xs) (block (free_end xs + n + free_start ys) (Free s) ∷ without_start ys), total_end xs, total_start ys)
+total_coalesce : (xs : List Block) (n s : ℕ) (ys : List Block) → total (coalesce xs n s ys) ≡ total xs + (n + total ys)
+total_coalesce xs n s ys = omega (arith, total-append (without_end xs) (block (free_end xs + n + free_start ys) (Free s) ∷ without_start ys), total_end xs, total_start ys)
 
 total_granted : (p : Place) (n padding front k rest : ℕ) → padding + n ≤ p.block.size → total (granted_blocks p n padding front k rest) ≡ total (whole p)
 total_granted p n padding front k rest h = omega (arith, total-append p.before (p.block ∷ p.after), total-append p.before (free_block padding front ++ (block n (Live k) ∷ (free_block (p.block.size - (padding + n)) rest ++ p.after))), total-append (free_block padding front) (block n (Live k) ∷ (free_block (p.block.size - (padding + n)) rest ++ p.after)), total-append (free_block (p.block.size - (padding + n)) rest) p.after, total_free_block padding front, total_free_block (p.block.size - (padding + n)) rest)
@@ -77,8 +76,8 @@ live_end (b ∷ []) = either (is_free b.tag) refl
     either false e = refl
 live_end (b ∷ c ∷ bs) = let ih = live_end (c ∷ bs) in omega (arith, ih)
 
-live_joined : (xs : List Block) (n s : ℕ) (ys : List Block) → live_blocks (joined xs n s ys) ≡ live_blocks xs + live_blocks ys
-live_joined xs n s ys = omega (arith, live-append (without_end xs) (block (free_end xs + n + free_start ys) (Free s) ∷ without_start ys), live_end xs, live_start ys)
+live_coalesce : (xs : List Block) (n s : ℕ) (ys : List Block) → live_blocks (coalesce xs n s ys) ≡ live_blocks xs + live_blocks ys
+live_coalesce xs n s ys = omega (arith, live-append (without_end xs) (block (free_end xs + n + free_start ys) (Free s) ∷ without_start ys), live_end xs, live_start ys)
 
 live_granted : (p : Place) (n padding front k rest : ℕ) → live_blocks (granted_blocks p n padding front k rest) ≡ live_blocks p.before + (1 + live_blocks p.after)
 live_granted p n padding front k rest = omega (arith, live-append p.before (free_block padding front ++ (block n (Live k) ∷ (free_block (p.block.size - (padding + n)) rest ++ p.after))), live-append (free_block padding front) (block n (Live k) ∷ (free_block (p.block.size - (padding + n)) rest ++ p.after)), live-append (free_block (p.block.size - (padding + n)) rest) p.after, live_free_block padding front, live_free_block (p.block.size - (padding + n)) rest)
@@ -87,13 +86,13 @@ live_granted p n padding front k rest = omega (arith, live-append p.before (free
 total_kept : (c : Command) (s : State) → KeepsSpace c → total (step c s).state.blocks ≡ total s.blocks
 total_kept c s k = elim (does c s k) [
   | inl q ↦ ap (λ (o : Outcome). total o.state.blocks) q.is
-  | inr (inl d) ↦ ap (λ (o : Outcome). total o.state.blocks) d.is ∙ total_granted d.place (asked c) d.padding (stamp_of_front s) (s.grants + 1) (stamp_of_call s) d.within ∙ ap total (sym (chosen_at d.needed s.blocks d.place d.chose).0)
-  | inr (inr d) ↦ ap (λ (o : Outcome). total o.state.blocks) d.is ∙ total_joined d.place.before d.place.block.size (stamp_of_call s) d.place.after ∙ sym (total-append d.place.before (d.place.block ∷ d.place.after)) ∙ ap total (sym (found_at d.number s.blocks d.place d.found).0)
+  | inr (inl d) ↦ ap (λ (o : Outcome). total o.state.blocks) d.is ∙ total_granted d.place (requested_units c) d.padding (stamp_of_padding s) (s.grants + 1) (stamp_of_call s) d.within ∙ ap total (sym (chosen_at d.needed s.blocks d.place d.chose).0)
+  | inr (inr d) ↦ ap (λ (o : Outcome). total o.state.blocks) d.is ∙ total_coalesce d.place.before d.place.block.size (stamp_of_call s) d.place.after ∙ sym (total-append d.place.before (d.place.block ∷ d.place.after)) ∙ ap total (sym (found_at d.number s.blocks d.place d.found).0)
 ]
 
 -- what a command leaves has as many units more as it adds
 pub Adds : Command → State → Outcome → Type 0
-Adds c s o = total o.state.blocks ≡ total s.blocks + added c o.answer
+Adds c s o = total o.state.blocks ≡ total s.blocks + added_units c o.answer
 
 adds_if : (c : Command) (s : State) (b : Bool) (o p : Outcome) → Adds c s o → Adds c s p → Adds c s (if b then o else p)
 adds_if c s true o p f g = f
@@ -112,8 +111,8 @@ adds_step command.Full s = adds_none _ _ refl
 adds_step command.Reset s = refl
 adds_step (command.Align n align) s = adds_none _ _ (total_kept (command.Align n align) s tt)
 adds_step (command.Extend zero) s = adds_none _ _ refl
-adds_step (command.Extend (suc more)) s = adds_if (command.Extend (suc more)) s (nat_lt greatest (total s.blocks + suc more) || (ends_live s.blocks && is_short_of 1 s)) (answers_only s machine.Refused) (leaves s (joined s.blocks (suc more) (stamp_of_call s) []) machine.Extended)
-    (adds_none _ _ refl) (let j = total_joined s.blocks (suc more) (stamp_of_call s) [] in omega arith)
+adds_step (command.Extend (suc more)) s = adds_if (command.Extend (suc more)) s (nat_lt max_size (total s.blocks + suc more) || (ends_live s.blocks && is_short_of 1 s)) (returns_only s machine.Refused) (leaves s (coalesce s.blocks (suc more) (stamp_of_call s) []) machine.Extended)
+    (adds_none _ _ refl) (let j = total_coalesce s.blocks (suc more) (stamp_of_call s) [] in omega arith)
 
 adds_all : (cs : List Command) (s : State) → total (after cs s).blocks ≡ total s.blocks + added_by cs s
 unfolding Adds
@@ -151,9 +150,9 @@ unfolding Few
 few_kept c s k h = elim (does c s k) [
   | inl q ↦ subst (Few s) (sym q.is) (h, refl)
   | inr (inl d) ↦ subst (Few s) (sym d.is) (let r = d.room in
-      (omega (arith, r, live_granted d.place (asked c) d.padding (stamp_of_front s) (s.grants + 1) (stamp_of_call s), ap length (chosen_at d.needed s.blocks d.place d.chose).0, length-append d.place.before (d.place.block ∷ d.place.after), live_length d.place.before, live_length d.place.after), refl))
+      (omega (arith, r, live_granted d.place (requested_units c) d.padding (stamp_of_padding s) (s.grants + 1) (stamp_of_call s), ap length (chosen_at d.needed s.blocks d.place d.chose).0, length-append d.place.before (d.place.block ∷ d.place.after), live_length d.place.before, live_length d.place.after), refl))
   | inr (inr d) ↦ subst (Few s) (sym d.is)
-      (omega (arith, live_joined d.place.before d.place.block.size (stamp_of_call s) d.place.after, ap live_blocks (found_at d.number s.blocks d.place d.found).0, live-append d.place.before (d.place.block ∷ d.place.after), h), refl)
+      (omega (arith, live_coalesce d.place.before d.place.block.size (stamp_of_call s) d.place.after, ap live_blocks (found_at d.number s.blocks d.place d.found).0, live-append d.place.before (d.place.block ∷ d.place.after), h), refl)
 ]
 
 few_step : (c : Command) (s : State) → live_blocks s.blocks + 2 ≤ s.limit → Few s (step c s)
@@ -166,8 +165,8 @@ few_step command.Full s h = (h, refl)
 few_step command.Reset s h = (omega arith, refl)
 few_step (command.Align n align) s h = few_kept (command.Align n align) s tt h
 few_step (command.Extend zero) s h = (h, refl)
-few_step (command.Extend (suc more)) s h = few_if s (nat_lt greatest (total s.blocks + suc more) || (ends_live s.blocks && is_short_of 1 s)) (answers_only s machine.Refused) (leaves s (joined s.blocks (suc more) (stamp_of_call s) []) machine.Extended)
-    (h, refl) (let j = live_joined s.blocks (suc more) (stamp_of_call s) [] in omega arith, refl)
+few_step (command.Extend (suc more)) s h = few_if s (nat_lt max_size (total s.blocks + suc more) || (ends_live s.blocks && is_short_of 1 s)) (returns_only s machine.Refused) (leaves s (coalesce s.blocks (suc more) (stamp_of_call s) []) machine.Extended)
+    (h, refl) (let j = live_coalesce s.blocks (suc more) (stamp_of_call s) [] in omega arith, refl)
 
 few_all : (cs : List Command) (s : State) (limit : ℕ) → s.limit ≡ limit → live_blocks s.blocks + 2 ≤ limit → live_blocks (after cs s).blocks + 2 ≤ limit
 unfolding Few
@@ -181,8 +180,8 @@ few_law size limit h cs = few_all cs (start size limit) limit refl h
 short_too : (s : State) (spare : ℕ) → 1 ≤ spare → s.limit ≤ length s.blocks + 1 → is_short_of spare s ≡ true
 short_too s spare some h = le-leb s.limit (length s.blocks + spare) (omega arith)
 
-refused : (s : State) (spare needed n : ℕ) (padding_at : ℕ → ℕ) → 1 ≤ spare → s.limit ≤ length s.blocks + 1 → (serve s spare needed n padding_at).answer ≡ machine.Refused
-refused s spare needed n padding_at some h = ap (λ b. (if b then answers_only s machine.Refused else grant_or_refuse s n padding_at (chosen needed s.blocks)).answer) (short_too s spare some h)
+refused : (s : State) (spare needed n : ℕ) (padding_at : ℕ → ℕ) → 1 ≤ spare → s.limit ≤ length s.blocks + 1 → (request s spare needed n padding_at).answer ≡ machine.Refused
+refused s spare needed n padding_at some h = ap (λ b. (if b then returns_only s machine.Refused else grant_or_refuse s n padding_at (chosen_place needed s.blocks)).answer) (short_too s spare some h)
 
 refused_if : (b : Bool) (o p : Outcome) → o.answer ≡ machine.Refused → p.answer ≡ machine.Refused → (if b then o else p).answer ≡ machine.Refused
 refused_if true o p f g = f
@@ -191,8 +190,8 @@ refused_if false o p f g = g
 pub full_law : FullSpaceRefuses
 full_law s h = (
   λ n. refused s 1 n n (λ offset. 0) (omega arith) h,
-  λ n align. refused_if (nat_le align 1) (step (command.Alloc n) s) (if nat_lt greatest (n + align - 1) then answers_only s machine.Refused else serve s 2 (n + align - 1) n (padding_to align))
+  λ n align. refused_if (nat_le align 1) (step (command.Alloc n) s) (if nat_lt max_size (n + align - 1) then returns_only s machine.Refused else request s 2 (n + align - 1) n (padding_to align))
       (refused s 1 n n (λ offset. 0) (omega arith) h)
-      (refused_if (nat_lt greatest (n + align - 1)) (answers_only s machine.Refused) (serve s 2 (n + align - 1) n (padding_to align)) refl (refused s 2 (n + align - 1) n (padding_to align) (omega arith) h)),
+      (refused_if (nat_lt max_size (n + align - 1)) (returns_only s machine.Refused) (request s 2 (n + align - 1) n (padding_to align)) refl (refused s 2 (n + align - 1) n (padding_to align) (omega arith) h)),
   ap (λ b. if b then machine.Report 0 0 else machine.Report (sum (free_sizes s.blocks)) (largest (free_sizes s.blocks))) (short_too s 1 (omega arith) h),
 )

@@ -5,10 +5,9 @@ use Rattle.std.proofs.lemmas.Bool.Decides.{nat_tests}
 use Rattle.offset_script.specs.declared.scripts.Command.{Command}
 use Rattle.offset_script.specs.declared.scripts.Command.TheVariants as command
 use Rattle.offset_allocator.specs.Classes.{down}
-use Rattle.offset_script.specs.Blocks.{Tag, Live, Free, Block, block, is_free, has_number, stamp, total, Place, here, behind, behind_if_found, fits, is_taken_before, choose, chosen, place_of, free_block, free_start, without_start, free_end, without_end, ends_live, joined}
-use Rattle.offset_script.specs.Machine.{State, Answer, Outcome, start, step, answers, after, serve, grant, grant_or_refuse, is_short_of, answers_only, leaves, release, size_at, report, full_report, reset, extend, stamp_of_call, stamp_of_front}
+use Rattle.offset_script.specs.Machine.{Tag, Live, Free, Block, block, is_free, has_number, stamp, total, Place, here, prepend, prepend_if_found, fits, is_taken_before, choose, chosen_place, place_of, free_block, free_start, without_start, free_end, without_end, ends_live, coalesce, State, Answer, Outcome, start, step, answers, after, request, grant, grant_or_refuse, is_short_of, returns_only, leaves, release, size_at, report, full_report, reset, extend, stamp_of_call, stamp_of_padding}
 use Rattle.offset_script.specs.Machine as machine
-use Rattle.offset_allocator.specs.Named.{greatest, padding_to}
+use Rattle.offset_allocator.specs.Named.{max_size, padding_to}
 
 -- whether the first block of a list is free
 abbrev pub starts_free : List Block → Bool
@@ -38,11 +37,11 @@ abbrev pub one : Bool → ℕ
 one true = 1
 one false = 0
 
--- 1 where two tags are the same, and 0 else
+-- 1 where two tags are the same, and else 0
 abbrev pub hit : Tag → Tag → ℕ
 hit t u = one (same_tag t u)
 
--- how often a tag stands in a list
+-- how often a tag occurs in a list
 abbrev pub count : Tag → List Block → ℕ
 count t [] = 0
 count t (b ∷ bs) = hit t b.tag + count t bs
@@ -57,7 +56,7 @@ pub record Well (s : State) : Type 0 where
   pub stamped : (x : ℕ) → 2 * (s.calls + 1) ≤ x → count (Free x) s.blocks ≡ 0
   pub room : length s.blocks + 1 ≤ s.limit
 
--- the list that was parted
+-- the list that was split
 abbrev pub whole : Place → List Block
 whole p = p.before ++ p.block ∷ p.after
 
@@ -94,9 +93,9 @@ count_without_end t (b ∷ []) = either (is_free b.tag)
     either false = omega arith
 count_without_end t (b ∷ c ∷ bs) = let ih = count_without_end t (c ∷ bs) in omega (arith, ih)
 
--- a join puts one tag in
-pub count_joined : (t : Tag) (xs : List Block) (n s : ℕ) (ys : List Block) → count t (joined xs n s ys) ≤ count t xs + (hit t (Free s) + count t ys)
-count_joined t xs n s ys = omega (arith, count-append t (without_end xs) (block (free_end xs + n + free_start ys) (Free s) ∷ without_start ys), count_without_end t xs, count_without_start t ys)
+-- coalescing adds one tag
+pub count_coalesce : (t : Tag) (xs : List Block) (n s : ℕ) (ys : List Block) → count t (coalesce xs n s ys) ≤ count t xs + (hit t (Free s) + count t ys)
+count_coalesce t xs n s ys = omega (arith, count-append t (without_end xs) (block (free_end xs + n + free_start ys) (Free s) ∷ without_start ys), count_without_end t xs, count_without_start t ys)
 
 -- neighbours
 and_false : (x y : Bool) → x ≡ false → (x && y) ≡ false
@@ -147,9 +146,9 @@ apart_without_end (b ∷ c ∷ []) a = either (is_free c.tag) refl
     either false e = (a, e)
 apart_without_end (b ∷ c ∷ d ∷ bs) a = let ih = apart_without_end (c ∷ d ∷ bs) a.1 in ((a.0, ih.0), ih.1)
 
--- a join leaves no two free neighbours
-pub apart_joined : (xs : List Block) (n s : ℕ) (ys : List Block) → Apart xs → Apart ys → Apart (joined xs n s ys)
-apart_joined xs n s ys a b =
+-- coalescing leaves no two free neighbours
+pub apart_coalesce : (xs : List Block) (n s : ℕ) (ys : List Block) → Apart xs → Apart ys → Apart (coalesce xs n s ys)
+apart_coalesce xs n s ys a b =
     let l = apart_without_end xs a in
     let r = apart_without_start ys b in
     apart_append (without_end xs) _ l.0 (r.1, r.0) (and_false _ _ l.1)
@@ -171,7 +170,7 @@ well_start size limit h = record {
     at_most_one false = omega arith
 
 -- a call that leaves the blocks as they are
-well_quiet : (s : State) → Well s → (a : Answer) → Well (answers_only s a).state
+well_quiet : (s : State) → Well s → (a : Answer) → Well (returns_only s a).state
 well_quiet s w a = record {
   some = w.some;
   apart = w.apart;
@@ -182,7 +181,7 @@ well_quiet s w a = record {
   room = w.room;
 }
 
--- blocks that a call leaves, where each tag stands no more often than before but for the stamp of the call
+-- blocks that a call leaves, where each tag occurs no more often than before, except for the stamp of the call
 well_leaves : (s : State) → Well s → (bs : List Block) (a : Answer) → 1 ≤ length bs → length bs + 1 ≤ s.limit → Apart bs
     → ((t : Tag) → count t bs ≤ count t s.blocks + hit t (Free (stamp_of_call s))) → Well (leaves s bs a).state
 well_leaves s w bs a some room apart counts = record {
@@ -208,7 +207,7 @@ pub number_hit : (k : ℕ) (t : Tag) → hit (Live k) t ≡ one (has_number k t)
 number_hit k (Live j) = refl
 number_hit k (Free s) = refl
 
-found_step : (k : ℕ) (b : Block) (bs : List Block) (o : Option Place) → FoundAt k bs o → (x : Bool) → has_number k b.tag ≡ x → FoundAt k (b ∷ bs) (if x then Some (here b bs) else behind_if_found b o)
+found_step : (k : ℕ) (b : Block) (bs : List Block) (o : Option Place) → FoundAt k bs o → (x : Bool) → has_number k b.tag ≡ x → FoundAt k (b ∷ bs) (if x then Some (here b bs) else prepend_if_found b o)
 unfolding FoundAt
 found_step k b bs o f true e = (refl, e, refl)
 found_step k b bs None f false e = let h : hit (Live k) b.tag ≡ 0 = number_hit k b.tag ∙ ap one e in omega arith
@@ -219,7 +218,7 @@ unfolding FoundAt
 found_all k [] = refl
 found_all k (b ∷ bs) = found_step k b bs (place_of k bs) (found_all k bs) (has_number k b.tag) refl
 
--- where a grant is found, its block stands
+-- where a grant is found, its block is in the list
 pub found_at : (k : ℕ) (bs : List Block) (p : Place) → place_of k bs ≡ Some p → (bs ≡ whole p) × (has_number k p.block.tag ≡ true) × (count (Live k) p.before ≡ 0)
 unfolding FoundAt
 found_at k bs p e = subst (FoundAt k bs) e (found_all k bs)
@@ -230,24 +229,24 @@ unfolding FoundAt
 not_found k bs e = subst (FoundAt k bs) e (found_all k bs)
 
 -- what is chosen
-abbrev pub Stands : Block → List Block → Type 0
-Stands c [] = ⊥
-Stands c (b ∷ bs) = (c ≡ b) ⊎ Stands c bs
+abbrev pub Occurs : Block → List Block → Type 0
+Occurs c [] = ⊥
+Occurs c (b ∷ bs) = (c ≡ b) ⊎ Occurs c bs
 
--- no block that fits is taken before this one
+-- no block that fits is chosen over this one
 abbrev pub IsBest : ℕ → List Block → Block → Type 0
-IsBest n bs b = (c : Block) → Stands c bs → fits n c ≡ true → is_taken_before c b ≡ false
+IsBest n bs b = (c : Block) → Occurs c bs → fits n c ≡ true → is_taken_before c b ≡ false
 
 -- what was chosen is the best that fits, and where nothing was, nothing fits
 ChosenAt : ℕ → List Block → Option Place → Type 0
-ChosenAt n bs None = (c : Block) → Stands c bs → fits n c ≡ false
+ChosenAt n bs None = (c : Block) → Occurs c bs → fits n c ≡ false
 ChosenAt n bs (Some p) = (bs ≡ whole p) × (fits n p.block ≡ true) × IsBest n bs p.block
 
 both_true : (x y : Bool) → (x && y) ≡ true → (x ≡ true) × (y ≡ true)
 both_true true y e = (refl, e)
 both_true false y e = absurd (false≢true e)
 
--- the order in which blocks are taken
+-- the order in which blocks are chosen
 taken_irreflexive : (b : Block) → is_taken_before b b ≡ false
 taken_irreflexive b = grind (arith, nat_tests)
 
@@ -257,48 +256,48 @@ order_transitive x y z s t u f g = grind (arith, nat_tests)
 taken_transitive : (a b c : Block) → is_taken_before a b ≡ false → is_taken_before c b ≡ true → is_taken_before a c ≡ false
 taken_transitive a b c f g = order_transitive (down a.size) (down b.size) (down c.size) (stamp a.tag) (stamp b.tag) (stamp c.tag) f g
 
-chosen_here : (n : ℕ) (b : Block) (bs : List Block) → fits n b ≡ true → ((c : Block) → Stands c bs → fits n c ≡ true → is_taken_before c b ≡ false) → IsBest n (b ∷ bs) b
+chosen_here : (n : ℕ) (b : Block) (bs : List Block) → fits n b ≡ true → ((c : Block) → Occurs c bs → fits n c ≡ true → is_taken_before c b ≡ false) → IsBest n (b ∷ bs) b
 chosen_here n b bs f best c (inl e) g = subst (λ (x : Block). is_taken_before x b ≡ false) (sym e) (taken_irreflexive b)
 chosen_here n b bs f best c (inr i) g = best c i g
 
-chosen_behind : (n : ℕ) (b : Block) (bs : List Block) (d : Block) → (fits n b && is_taken_before b d) ≡ false → IsBest n bs d → IsBest n (b ∷ bs) d
-chosen_behind n b bs d f best c (inl e) g = subst (λ (x : Block). is_taken_before x d ≡ false) (sym e) (second (fits n b) _ f (subst (λ (x : Block). fits n x ≡ true) e g))
+chosen_prepend : (n : ℕ) (b : Block) (bs : List Block) (d : Block) → (fits n b && is_taken_before b d) ≡ false → IsBest n bs d → IsBest n (b ∷ bs) d
+chosen_prepend n b bs d f best c (inl e) g = subst (λ (x : Block). is_taken_before x d ≡ false) (sym e) (second (fits n b) _ f (subst (λ (x : Block). fits n x ≡ true) e g))
   where
     second : (x y : Bool) → (x && y) ≡ false → x ≡ true → y ≡ false
     second true y e h = e
     second false y e h = absurd (false≢true h)
-chosen_behind n b bs d f best c (inr i) g = best c i g
+chosen_prepend n b bs d f best c (inr i) g = best c i g
 
-choose_none : (n : ℕ) (b : Block) (bs : List Block) → ((c : Block) → Stands c bs → fits n c ≡ false) → (x : Bool) → fits n b ≡ x → ChosenAt n (b ∷ bs) (if x then Some (here b bs) else None)
+choose_none : (n : ℕ) (b : Block) (bs : List Block) → ((c : Block) → Occurs c bs → fits n c ≡ false) → (x : Bool) → fits n b ≡ x → ChosenAt n (b ∷ bs) (if x then Some (here b bs) else None)
 unfolding ChosenAt
 choose_none n b bs h true e = (refl, e, chosen_here n b bs e (λ c i g. absurd (true≢false (sym g ∙ h c i))))
 choose_none n b bs h false e = λ c i. none c i
   where
-    none : (c : Block) → Stands c (b ∷ bs) → fits n c ≡ false
+    none : (c : Block) → Occurs c (b ∷ bs) → fits n c ≡ false
     none c (inl same) = subst (λ (x : Block). fits n x ≡ false) (sym same) e
     none c (inr i) = h c i
 
-choose_some : (n : ℕ) (b : Block) (bs : List Block) (p : Place) → ChosenAt n bs (Some p) → (x : Bool) → (fits n b && is_taken_before b p.block) ≡ x → ChosenAt n (b ∷ bs) (if x then Some (here b bs) else Some (behind b p))
+choose_some : (n : ℕ) (b : Block) (bs : List Block) (p : Place) → ChosenAt n bs (Some p) → (x : Bool) → (fits n b && is_taken_before b p.block) ≡ x → ChosenAt n (b ∷ bs) (if x then Some (here b bs) else Some (prepend b p))
 unfolding ChosenAt
 choose_some n b bs p h true e = (refl, (both_true _ _ e).0, chosen_here n b bs (both_true _ _ e).0 (λ c i g. taken_transitive c p.block b (h.2 c i g) (both_true _ _ e).1))
-choose_some n b bs p h false e = (ap (λ l. b ∷ l) h.0, h.1, chosen_behind n b bs p.block e h.2)
+choose_some n b bs p h false e = (ap (λ l. b ∷ l) h.0, h.1, chosen_prepend n b bs p.block e h.2)
 
 choose_step : (n : ℕ) (b : Block) (bs : List Block) (o : Option Place) → ChosenAt n bs o → ChosenAt n (b ∷ bs) (choose n b bs o)
 choose_step n b bs None h = choose_none n b bs (unfold ChosenAt in h) (fits n b) refl
 choose_step n b bs (Some p) h = choose_some n b bs p h _ refl
 
-chosen_all : (n : ℕ) (bs : List Block) → ChosenAt n bs (chosen n bs)
+chosen_all : (n : ℕ) (bs : List Block) → ChosenAt n bs (chosen_place n bs)
 unfolding ChosenAt
 chosen_all n [] = λ c i. absurd i
-chosen_all n (b ∷ bs) = choose_step n b bs (chosen n bs) (chosen_all n bs)
+chosen_all n (b ∷ bs) = choose_step n b bs (chosen_place n bs) (chosen_all n bs)
 
--- what is chosen stands in the list, fits, and is of the least class and the newest there
-pub chosen_at : (n : ℕ) (bs : List Block) (p : Place) → chosen n bs ≡ Some p → (bs ≡ whole p) × (fits n p.block ≡ true) × IsBest n bs p.block
+-- a chosen place is one of the list, fits, and is the newest of the smallest class that fits
+pub chosen_at : (n : ℕ) (bs : List Block) (p : Place) → chosen_place n bs ≡ Some p → (bs ≡ whole p) × (fits n p.block ≡ true) × IsBest n bs p.block
 unfolding ChosenAt
 chosen_at n bs p e = subst (ChosenAt n bs) e (chosen_all n bs)
 
 -- where nothing is chosen, nothing fits
-pub not_chosen : (n : ℕ) (bs : List Block) → chosen n bs ≡ None → (c : Block) → Stands c bs → fits n c ≡ false
+pub not_chosen : (n : ℕ) (bs : List Block) → chosen_place n bs ≡ None → (c : Block) → Occurs c bs → fits n c ≡ false
 unfolding ChosenAt
 not_chosen n bs e = subst (ChosenAt n bs) e (chosen_all n bs)
 
@@ -346,10 +345,10 @@ once_granted g x (Free y) old new h o live free = elim (hit_cases y (2 * x)) [
 
 -- a grant
 well_grant : (s : State) → Well s → (n padding : ℕ) (p : Place) → s.blocks ≡ whole p → is_free p.block.tag ≡ true → (spare : ℕ) → length s.blocks + spare < s.limit
-    → length (free_block padding (stamp_of_front s)) + 1 ≤ spare → Well (grant s n padding p).state
+    → length (free_block padding (stamp_of_padding s)) + 1 ≤ spare → Well (grant s n padding p).state
 well_grant s w n padding p e f spare room enough =
-    let counts : (t : Tag) → count t bs ≤ count t s.blocks + (hit t (Free (stamp_of_front s)) + (hit t (Live (s.grants + 1)) + hit t (Free (stamp_of_call s)))) =
-    λ t. omega (arith, count_granted t p n padding (stamp_of_front s) (s.grants + 1) (stamp_of_call s), ap (count t) e) in
+    let counts : (t : Tag) → count t bs ≤ count t s.blocks + (hit t (Free (stamp_of_padding s)) + (hit t (Live (s.grants + 1)) + hit t (Free (stamp_of_call s)))) =
+    λ t. omega (arith, count_granted t p n padding (stamp_of_padding s) (s.grants + 1) (stamp_of_call s), ap (count t) e) in
     record {
       some = omega (arith, sizes);
       apart = apart_granted p n padding _ _ _ f (subst Apart e w.apart);
@@ -359,7 +358,7 @@ well_grant s w n padding p e f spare room enough =
       granted = λ k l. let h = counts (Live k) in let o = w.granted k (omega arith) in elim (hit_cases k (s.grants + 1)) [ inl e' ↦ absurd (omega arith) | inr e' ↦ omega arith ];
       from_one = let h = counts (Live 0) in let o = w.from_one in elim (hit_cases 0 (s.grants + 1)) [ inl e' ↦ absurd (omega arith) | inr e' ↦ omega arith ];
       stamped = λ x l. let h = counts (Free x) in let o = w.stamped x (omega arith) in
-          elim (hit_cases x (stamp_of_front s)) [
+          elim (hit_cases x (stamp_of_padding s)) [
             | inl e' ↦ absurd (omega arith)
             | inr e' ↦ elim (hit_cases x (stamp_of_call s)) [ inl e'' ↦ absurd (omega arith) | inr e'' ↦ omega arith ]
           ];
@@ -367,9 +366,9 @@ well_grant s w n padding p e f spare room enough =
     }
   where
     bs : List Block
-    bs = granted_blocks p n padding (stamp_of_front s) (s.grants + 1) (stamp_of_call s)
+    bs = granted_blocks p n padding (stamp_of_padding s) (s.grants + 1) (stamp_of_call s)
 
-    sizes : length bs ≡ length p.before + (length (free_block padding (stamp_of_front s)) + suc (length (free_block (p.block.size - (padding + n)) (stamp_of_call s)) + length p.after))
+    sizes : length bs ≡ length p.before + (length (free_block padding (stamp_of_padding s)) + suc (length (free_block (p.block.size - (padding + n)) (stamp_of_call s)) + length p.after))
     sizes = simp length-append
 
 length_without_start : (bs : List Block) → length (without_start bs) ≤ length bs
@@ -389,9 +388,9 @@ length_without_end (b ∷ []) = either (is_free b.tag)
     either false = omega arith
 length_without_end (b ∷ c ∷ bs) = let ih = length_without_end (c ∷ bs) in omega arith
 
--- a join leaves some block, and at most one more
-pub length_joined : (xs : List Block) (n s : ℕ) (ys : List Block) → (1 ≤ length (joined xs n s ys)) × (length (joined xs n s ys) ≤ length xs + suc (length ys))
-length_joined xs n s ys =
+-- coalescing leaves some block, and at most one more
+pub length_coalesce : (xs : List Block) (n s : ℕ) (ys : List Block) → (1 ≤ length (coalesce xs n s ys)) × (length (coalesce xs n s ys) ≤ length xs + suc (length ys))
+length_coalesce xs n s ys =
     let e = length-append (without_end xs) (block (free_end xs + n + free_start ys) (Free s) ∷ without_start ys) in
     (omega arith, omega (arith, length_without_end xs, length_without_start ys))
 
@@ -400,15 +399,15 @@ well_if true o p f g = f refl
 well_if false o p f g = g refl
 
 well_granted : (s : State) → Well s → (needed n : ℕ) (padding_at : ℕ → ℕ) (spare : ℕ) → ((o x : ℕ) → length (free_block (padding_at o) x) + 1 ≤ spare) → length s.blocks + spare < s.limit
-    → (o : Option Place) → chosen needed s.blocks ≡ o → Well (grant_or_refuse s n padding_at o).state
+    → (o : Option Place) → chosen_place needed s.blocks ≡ o → Well (grant_or_refuse s n padding_at o).state
 well_granted s w needed n padding_at spare enough room None e = well_quiet s w machine.Refused
 well_granted s w needed n padding_at spare enough room (Some p) e =
     let c = chosen_at needed s.blocks p e in
     well_grant s w n (padding_at (total p.before)) p c.0 (both_true _ _ c.1).0 spare room (enough _ _)
 
-well_serve : (s : State) → Well s → (spare needed n : ℕ) (padding_at : ℕ → ℕ) → ((o x : ℕ) → length (free_block (padding_at o) x) + 1 ≤ spare) → Well (serve s spare needed n padding_at).state
-well_serve s w spare needed n padding_at enough = well_if (is_short_of spare s) _ _ (λ e. well_quiet s w machine.Refused)
-    (λ e. well_granted s w needed n padding_at spare enough (leb-false s.limit (length s.blocks + spare) e) (chosen needed s.blocks) refl)
+well_request : (s : State) → Well s → (spare needed n : ℕ) (padding_at : ℕ → ℕ) → ((o x : ℕ) → length (free_block (padding_at o) x) + 1 ≤ spare) → Well (request s spare needed n padding_at).state
+well_request s w spare needed n padding_at enough = well_if (is_short_of spare s) _ _ (λ e. well_quiet s w machine.Refused)
+    (λ e. well_granted s w needed n padding_at spare enough (leb-false s.limit (length s.blocks + spare) e) (chosen_place needed s.blocks) refl)
 
 -- a release
 well_release : (s : State) → Well s → (k : ℕ) (o : Option Place) → place_of k s.blocks ≡ o → Well (release s o).state
@@ -416,14 +415,14 @@ well_release s w k None e = well_quiet s w machine.Gone
 well_release s w k (Some p) e =
     let f = found_at k s.blocks p e in
     let parts = apart_parts p.before (p.block ∷ p.after) (subst Apart f.0 w.apart) in
-    let sizes = length_joined p.before p.block.size (stamp_of_call s) p.after in
+    let sizes = length_coalesce p.before p.block.size (stamp_of_call s) p.after in
     well_leaves s w _ machine.Freed sizes.0 (let r = w.room in omega (arith, sizes.1, ap length f.0, length-append p.before (p.block ∷ p.after)))
-    (apart_joined p.before _ _ p.after parts.0 parts.1.1)
-    (λ t. omega (arith, count_joined t p.before p.block.size (stamp_of_call s) p.after, ap (count t) f.0, count-append t p.before (p.block ∷ p.after)))
+    (apart_coalesce p.before _ _ p.after parts.0 parts.1.1)
+    (λ t. omega (arith, count_coalesce t p.before p.block.size (stamp_of_call s) p.after, ap (count t) f.0, count-append t p.before (p.block ∷ p.after)))
 
--- a last block that is free is joined, so no block is added
-length_at_end : (bs : List Block) (n s : ℕ) → (ends_live bs ≡ false → 1 ≤ length bs → length (joined bs n s []) ≤ length bs) × (length (joined bs n s []) ≤ length bs + 1)
-length_at_end bs n s = (λ e h. omega (arith, length-append (without_end bs) (block (free_end bs + n + 0) (Free s) ∷ []), shorter bs e h), (length_joined bs n s []).1)
+-- a last block that is free coalesces, so no block is added
+length_at_end : (bs : List Block) (n s : ℕ) → (ends_live bs ≡ false → 1 ≤ length bs → length (coalesce bs n s []) ≤ length bs) × (length (coalesce bs n s []) ≤ length bs + 1)
+length_at_end bs n s = (λ e h. omega (arith, length-append (without_end bs) (block (free_end bs + n + 0) (Free s) ∷ []), shorter bs e h), (length_coalesce bs n s []).1)
   where
     shorter : (bs : List Block) → ends_live bs ≡ false → 1 ≤ length bs → length (without_end bs) + 1 ≤ length bs
     shorter [] e h = absurd (omega arith)
@@ -445,8 +444,8 @@ and_cases false y e = inl refl
 -- more units at the end
 well_extend : (s : State) → Well s → (more : ℕ) → Well (extend more s).state
 well_extend s w zero = well_quiet s w machine.Extended
-well_extend s w (suc more) = well_if (nat_lt greatest (total s.blocks + suc more) || (ends_live s.blocks && is_short_of 1 s)) _ _ (λ e. well_quiet s w machine.Refused) (λ e.
-    let sizes = length_joined s.blocks (suc more) (stamp_of_call s) [] in
+well_extend s w (suc more) = well_if (nat_lt max_size (total s.blocks + suc more) || (ends_live s.blocks && is_short_of 1 s)) _ _ (λ e. well_quiet s w machine.Refused) (λ e.
+    let sizes = length_coalesce s.blocks (suc more) (stamp_of_call s) [] in
     let at_end = length_at_end s.blocks (suc more) (stamp_of_call s) in
     let r = w.room in
     well_leaves s w _ machine.Extended sizes.0
@@ -454,26 +453,26 @@ well_extend s w (suc more) = well_if (nat_lt greatest (total s.blocks + suc more
       | inl free ↦ omega (arith, at_end.0 free w.some)
       | inr spare ↦ omega (arith, at_end.1, leb-false s.limit (length s.blocks + 1) spare)
     ])
-    (apart_joined s.blocks _ _ [] w.apart tt)
-    (λ t. omega (arith, count_joined t s.blocks (suc more) (stamp_of_call s) [])))
+    (apart_coalesce s.blocks _ _ [] w.apart tt)
+    (λ t. omega (arith, count_coalesce t s.blocks (suc more) (stamp_of_call s) [])))
 
 -- a reset
 well_reset : (s : State) → Well s → Well (reset s).state
 well_reset s w = let r = w.room in let o = w.some in well_leaves s w _ machine.Reset (omega arith) (omega arith) (and_false_right true false refl, tt) (λ t. omega arith)
 
-no_front : (o x : ℕ) → length (free_block 0 x) + 1 ≤ 1
-no_front o x = omega arith
+no_padding : (o x : ℕ) → length (free_block 0 x) + 1 ≤ 1
+no_padding o x = omega arith
 
 -- each command keeps it
 pub well_step : (c : Command) (s : State) → Well s → Well (step c s).state
-well_step (command.Alloc n) s w = well_serve s w 1 n n (λ offset. 0) no_front
+well_step (command.Alloc n) s w = well_request s w 1 n n (λ offset. 0) no_padding
 well_step (command.Free k) s w = well_release s w k (place_of k s.blocks) refl
 well_step (command.Size k) s w = well_quiet s w (size_at (place_of k s.blocks))
 well_step command.Report s w = well_quiet s w (report s)
 well_step command.Full s w = well_quiet s w (full_report s)
 well_step command.Reset s w = well_reset s w
-well_step (command.Align n align) s w = well_if (nat_le align 1) _ _ (λ e. well_serve s w 1 n n (λ offset. 0) no_front)
-    (λ e. well_if (nat_lt greatest (n + align - 1)) _ _ (λ e. well_quiet s w machine.Refused) (λ e. well_serve s w 2 (n + align - 1) n (padding_to align) (λ o x. let h = free_block_short (padding_to align o) x in omega arith)))
+well_step (command.Align n align) s w = well_if (nat_le align 1) _ _ (λ e. well_request s w 1 n n (λ offset. 0) no_padding)
+    (λ e. well_if (nat_lt max_size (n + align - 1)) _ _ (λ e. well_quiet s w machine.Refused) (λ e. well_request s w 2 (n + align - 1) n (padding_to align) (λ o x. let h = free_block_short (padding_to align o) x in omega arith)))
 well_step (command.Extend more) s w = well_extend s w more
 
 -- so do all commands in order

@@ -1,10 +1,8 @@
--- When a named view, with the handles kept for its grants, shows the blocks of a plain state.
+-- When the named view of an allocator, with the handles kept for its grants, shows the blocks of a plain state.
 use Rattle.std.specs.Prelude.{◌≡◌, ℕ, zero, suc, ◌+◌, ◌<◌, ◌≤◌, not, List, [], ◌∷◌, map, Option, Some, None, slice_index_or, nat_eq, if◌then◌else◌}
 use Rattle.offset_allocator.specs.Named.{Block, View, Grant, tally, times, names_at}
 use Rattle.offset_script.specs.declared.scripts.Command.{Command}
-use Rattle.offset_script.specs.Blocks.{Tag, is_free, has_number, stamp}
-use Rattle.offset_script.specs.Blocks as plain
-use Rattle.offset_script.specs.Machine.{State, Answer, start, after}
+use Rattle.offset_script.specs.Machine.{Tag, is_free, has_number, stamp, State, Answer, start, after}
 use Rattle.offset_script.specs.Machine as machine
 
 -- a block with both its name and its tag
@@ -18,14 +16,14 @@ abbrev pub by_name : Label → Block
 by_name l = record { name = l.name; size = l.size; used = not (is_free l.tag) }
 
 -- a labelled block as the plain state has it
-abbrev pub by_tag : Label → plain.Block
+abbrev pub by_tag : Label → machine.Block
 by_tag l = record { size = l.size; tag = l.tag }
 
 -- the stamp of the block of a name
 abbrev pub stamp_of : ℕ → List Label → ℕ
 stamp_of x ls = tally (λ l. if nat_eq x l.name then stamp l.tag else 0) ls
 
--- each name's stamp is above those of the names behind it
+-- each name's stamp is above those of the names after it
 abbrev pub IsFalling : (ℕ → ℕ) → List ℕ → Type 0
 IsFalling f [] = Unit {0}
 IsFalling f (x ∷ xs) = ((y : ℕ) → 1 ≤ times y xs → f y < f x) × IsFalling f xs
@@ -35,15 +33,15 @@ abbrev pub name_of : ℕ → List Label → Option ℕ
 name_of k [] = None
 name_of k (l ∷ ls) = if has_number k l.tag then Some l.name else name_of k ls
 
--- the view and the plain state show the same blocks, the newest come first in each class, and the name kept for each
+-- the view and the plain state show the same blocks, each bin has its newest block first, and the name kept for each
 -- grant is that of its block
-pub record Agrees (v : View) (kept : ℕ → Option ℕ) (s : State) : Type 0 where
+pub record Agrees (v : View) (kept_name : ℕ → Option ℕ) (s : State) : Type 0 where
   pub labels : List Label
   pub view : v.blocks ≡ map by_name labels
   pub state : s.blocks ≡ map by_tag labels
   pub limit : s.limit ≡ v.max_allocs
   pub newest : (c : ℕ) → IsFalling (λ x. stamp_of x labels) (names_at v.order c)
-  pub handles : (k : ℕ) → kept k ≡ name_of k labels
+  pub handles : (k : ℕ) → kept_name k ≡ name_of k labels
 
 -- a state that the plain machine reaches
 pub record IsReached (s : State) : Type 0 where
@@ -59,9 +57,9 @@ name_in None = None
 name_in (Some h) = Some h.name
 
 -- the name of the handle kept for grant k, where handle k - 1 is that of grant k
-abbrev pub kept : List (Option Grant) → ℕ → Option ℕ
-kept hs zero = None
-kept hs (suc k) = name_in (slice_index_or hs k None)
+abbrev pub kept_name : List (Option Grant) → ℕ → Option ℕ
+kept_name hs zero = None
+kept_name hs (suc k) = name_in (slice_index_or hs k None)
 
 -- the answer to a request, when g grants were made before it
 abbrev pub answer_of : ℕ → Option Grant → Answer
@@ -69,19 +67,19 @@ answer_of g None = machine.Refused
 answer_of g (Some a) = machine.Grant (g + 1) a.offset
 
 -- the kept names, with x as that of grant k
-abbrev pub keeps : ℕ → ℕ → (ℕ → Option ℕ) → ℕ → Option ℕ
-keeps k x kept j = if nat_eq j k then Some x else kept j
+abbrev pub with_name : ℕ → ℕ → (ℕ → Option ℕ) → ℕ → Option ℕ
+with_name k x kept_name j = if nat_eq j k then Some x else kept_name j
 
 -- the kept names, without that of grant k
-abbrev pub forgets : ℕ → (ℕ → Option ℕ) → ℕ → Option ℕ
-forgets k kept j = if nat_eq j k then None else kept j
+abbrev pub without_name : ℕ → (ℕ → Option ℕ) → ℕ → Option ℕ
+without_name k kept_name j = if nat_eq j k then None else kept_name j
 
 -- the names kept after a request, when g grants were made before it
-abbrev pub kept_of : ℕ → Option Grant → (ℕ → Option ℕ) → ℕ → Option ℕ
-kept_of g None kept = kept
-kept_of g (Some a) kept = keeps (g + 1) a.name kept
+abbrev pub kept_after : ℕ → Option Grant → (ℕ → Option ℕ) → ℕ → Option ℕ
+kept_after g None kept_name = kept_name
+kept_after g (Some a) kept_name = with_name (g + 1) a.name kept_name
 
 -- the grants made after a request, when g were made before it
-abbrev pub granted_of : ℕ → Option Grant → ℕ
-granted_of g None = g
-granted_of g (Some a) = g + 1
+abbrev pub grant_count_after : ℕ → Option Grant → ℕ
+grant_count_after g None = g
+grant_count_after g (Some a) = g + 1

@@ -1,5 +1,5 @@
 -- What a text means: a script, or the fault of its first faulty line.
-use Rattle.std.specs.Prelude.{◌≡◌, ℕ, ◌+◌, ◌^◌, Bool, true, not, ◌&&◌, List, [], ◌∷◌, length, filter, count_by, Option, Some, None, option_and_then, Result, Ok, Err, nat_lt, nat_le, ◌==◌, if◌then◌else◌, codes}
+use Rattle.std.specs.Prelude.{ℕ, ◌+◌, ◌^◌, Bool, true, not, ◌&&◌, List, [], ◌∷◌, length, filter, count_by, Option, Some, None, option_and_then, Result, Ok, Err, nat_lt, nat_le, ◌==◌, if◌then◌else◌, codes}
 use Rattle.std.specs.List.{slice_split}
 use Rattle.std.specs.Str.{bytes_eq, all_ascii_digits}
 use Rattle.std.specs.Str.Parse.{digits_value}
@@ -9,16 +9,14 @@ use Rattle.offset_script.specs.declared.scripts.Command.TheVariants.{Alloc, Free
 use Rattle.offset_script.specs.declared.scripts.IndexWidth.{IndexWidth}
 use Rattle.offset_script.specs.declared.scripts.IndexWidth.TheVariants.{Bits16, Bits32}
 use Rattle.offset_script.specs.declared.scripts.Header.{Header}
-use Rattle.offset_script.specs.declared.scripts.Script.{Script}
-use Rattle.offset_script.specs.Limits.{greatest_limit}
 use Rattle.offset_script.specs.declared.faults.ScriptFault.{ScriptFault}
-use Rattle.offset_script.specs.declared.faults.ScriptFault.TheVariants.{TooLong, BadHeader, BadLimit, BadCommand, Memory}
+use Rattle.offset_script.specs.declared.faults.ScriptFault.TheVariants.{TooLong, BadHeader, BadLimit, BadCommand}
 
--- the parts into which the bytes `at` divide a text
+-- the parts of a text between the bytes `at`
 abbrev pub parts : ℕ → List ℕ → List (List ℕ)
 parts at text = slice_split (λ b. b == at) text
 
--- the parts of what stands after such a byte
+-- the parts of what comes after such a byte
 abbrev pub parts_after : ℕ → Option (List ℕ) → List (List ℕ)
 parts_after at None = []
 parts_after at (Some rest) = parts at rest
@@ -33,13 +31,13 @@ is_number word = nat_lt 0 (length word) && nat_le (length word) 10 && all_ascii_
 unfoldable pub number_of : List ℕ → Option ℕ
 number_of word = if is_number word then Some (digits_value 10 word) else None
 
--- the words of a line: exactly one space stands between two of them
+-- the words of a line: exactly one space separates two of them
 abbrev pub words : List ℕ → List (List ℕ)
 words line = parts 32 line
 
 -- ---- commands
 
--- a command of one word
+-- the command that one word spells
 abbrev pub plain_command : List ℕ → Option Command
 plain_command name =
     if bytes_eq name (codes "report") then Some Report
@@ -47,7 +45,7 @@ plain_command name =
     else (if bytes_eq name (codes "reset") then Some Reset
     else None))
 
--- a command of a word and a number
+-- the command that a word and a number spell
 abbrev pub number_command : List ℕ → ℕ → Option Command
 number_command name n =
     if bytes_eq name (codes "alloc") then Some (Alloc n)
@@ -56,16 +54,16 @@ number_command name n =
     else (if bytes_eq name (codes "extend") then Some (Extend n)
     else None)))
 
--- a command of a word and two numbers, of which the second is an alignment
+-- the command that a word and two numbers spell, of which the second is an alignment
 abbrev pub pair_command : List ℕ → ℕ → ℕ → Option Command
 pair_command name n a = if bytes_eq name (codes "align") && is_power_of_two a then Some (Align n a) else None
 
--- the next step, unless this one gave nothing
+-- the next step, unless this one returned nothing
 infixl 10 ◌>>=◌
 abbrev pub ◌>>=◌ : {A B : Type 0} → Option A → (A → Option B) → Option B
 o >>= f = option_and_then f o
 
--- the command that the words of a line are, if they are one
+-- the command that the words of a line spell, if they do
 unfoldable pub command_of_words : List (List ℕ) → Option Command
 command_of_words [] = None
 command_of_words (name ∷ []) = plain_command name
@@ -78,17 +76,22 @@ command_of_words (name ∷ first ∷ second ∷ []) = do
   pair_command name n a
 command_of_words (name ∷ first ∷ second ∷ third ∷ more) = None
 
--- the command that a line is
+-- the command that a line spells, if it does
 abbrev pub command_of : List ℕ → Option Command
 command_of line = command_of_words (words line)
 
+-- whether an alignment is a power of two; every other command passes
+abbrev pub has_valid_alignment : Command → Bool
+has_valid_alignment (Align n a) = is_power_of_two a
+has_valid_alignment other = true
+
 -- ---- the header
 
--- the index width that a word tells
+-- the index width that a word spells
 abbrev pub width_of : List ℕ → Option IndexWidth
 width_of word = if bytes_eq word (codes "16") then Some Bits16 else (if bytes_eq word (codes "32") then Some Bits32 else None)
 
--- the header that the words of a line are in form, if they are one
+-- the header that the words of a line spell, if they do, whatever its limit
 unfoldable pub header_of_words : List (List ℕ) → Option Header
 header_of_words (space ∷ size ∷ nodes ∷ limit ∷ index ∷ width ∷ []) =
     if bytes_eq space (codes "space") && bytes_eq nodes (codes "nodes") && bytes_eq index (codes "index")
@@ -96,17 +99,22 @@ header_of_words (space ∷ size ∷ nodes ∷ limit ∷ index ∷ width ∷ []) 
     else None
 header_of_words _ = None
 
--- the header that a line is in form
+-- the header that a line spells, if it does, whatever its limit
 abbrev pub header_of : List ℕ → Option Header
 header_of line = header_of_words (words line)
 
--- the limit is at least 2, and the index width admits it
+-- the largest limit that an index width admits
+abbrev pub largest_limit : IndexWidth → ℕ
+largest_limit Bits16 = 65533
+largest_limit Bits32 = 4294967293
+
+-- whether the limit is at least 2, and the index width admits it
 abbrev pub is_admitted : Header → Bool
-is_admitted h = nat_le 2 h.max_allocs && nat_le h.max_allocs (greatest_limit h.index)
+is_admitted h = nat_le 2 h.max_allocs && nat_le h.max_allocs (largest_limit h.index)
 
 -- ---- lines
 
--- an empty last part is no line
+-- the lines, of the parts between line ends: an empty last part is no line
 abbrev pub lines_of_parts : List (List ℕ) → List (List ℕ)
 lines_of_parts [] = []
 lines_of_parts (part ∷ []) = if length part == 0 then [] else part ∷ []
@@ -116,7 +124,7 @@ lines_of_parts (part ∷ next ∷ more) = part ∷ lines_of_parts (next ∷ more
 abbrev pub lines_of : List ℕ → List (List ℕ)
 lines_of text = lines_of_parts (parts 10 text)
 
--- empty, or a comment
+-- whether a line is empty or a comment
 abbrev pub is_skipped : List ℕ → Bool
 is_skipped [] = true
 is_skipped (b ∷ bs) = b == 35
@@ -131,13 +139,13 @@ abbrev pub numbered_from : ℕ → List (List ℕ) → List Line
 numbered_from n [] = []
 numbered_from n (line ∷ more) = record { number = n; text = line } ∷ numbered_from (n + 1) more
 
--- the lines that say something, where the first line has number n
-unfoldable pub said_from : ℕ → List ℕ → List Line
-said_from n text = filter (λ line. not (is_skipped line.text)) (numbered_from n (lines_of text))
+-- the lines that are neither empty nor comments, where the first line of the text has number n
+unfoldable pub significant_from : ℕ → List ℕ → List Line
+significant_from n text = filter (λ line. not (is_skipped line.text)) (numbered_from n (lines_of text))
 
 -- ---- the whole text
 
--- a script without where it lies in memory
+-- a script as plain data: its header and its commands
 pub record Plan : Type 0 where
   pub header : Header
   pub commands : List Command
@@ -148,49 +156,30 @@ abbrev pub ◌>>=!◌ : {A B : Type 0} → Result A ScriptFault → (A → Resul
 (Ok x) >>=! f = f x
 (Err e) >>=! f = Err e
 
--- the header on line n, judged first by its form and then by its limit
-abbrev pub judged : ℕ → Option Header → Result Header ScriptFault
-judged n None = Err (BadHeader n)
-judged n (Some h) = if is_admitted h then Ok h else Err (BadLimit n)
+-- the header on line n: its form is checked first, and then its limit
+abbrev pub header_on : ℕ → Option Header → Result Header ScriptFault
+header_on n None = Err (BadHeader n)
+header_on n (Some h) = if is_admitted h then Ok h else Err (BadLimit n)
 
 -- the command on line n
 abbrev pub command_on : ℕ → Option Command → Result Command ScriptFault
 command_on n None = Err (BadCommand n)
 command_on n (Some c) = Ok c
 
--- the commands that lines are, or the fault of the first that is none
+-- the commands that lines spell, or the fault of the first line that spells none
 unfoldable pub commands_of : List Line → Result (List Command) ScriptFault
 commands_of [] = Ok []
 commands_of (line ∷ more) = command_on line.number (command_of line.text) >>=! λ c. commands_of more >>=! λ cs. Ok (c ∷ cs)
 
--- where no line says anything, the header is missed on the line of this number
+-- a header and its commands; where there is no line, the header is missing on line `end`
 unfoldable pub plan_of : ℕ → List Line → Result Plan ScriptFault
 plan_of end [] = Err (BadHeader end)
-plan_of end (line ∷ more) = judged line.number (header_of line.text) >>=! λ h. commands_of more >>=! λ cs. Ok (record { header = h; commands = cs })
+plan_of end (line ∷ more) = header_on line.number (header_of line.text) >>=! λ h. commands_of more >>=! λ cs. Ok (record { header = h; commands = cs })
 
 -- how many line ends a text has
 abbrev pub line_ends : List ℕ → ℕ
 line_ends text = count_by (λ b. b == 10) text
 
--- what a text means
+-- what a text means: a script, or the fault of its first faulty line
 unfoldable pub meaning_of : List ℕ → Result Plan ScriptFault
-meaning_of text = if nat_lt 1048576 (length text) then Err TooLong else plan_of (1 + line_ends text) (said_from 1 text)
-
--- ---- what a reader returned
-
--- a script, without where it lies in memory
-abbrev pub view : Script → Plan
-view s = record { header = record { size = s.size; max_allocs = s.max_allocs; index = s.index }; commands = s.commands.items }
-
--- the fault is that of the meaning; of a want of memory nothing is said
-abbrev pub Fails : {Y : Type 0} → ScriptFault → Result Y ScriptFault → Type 0
-Fails Memory meaning = Unit {0}
-Fails TooLong meaning = meaning ≡ Err TooLong
-Fails (BadHeader n) meaning = meaning ≡ Err (BadHeader n)
-Fails (BadLimit n) meaning = meaning ≡ Err (BadLimit n)
-Fails (BadCommand n) meaning = meaning ≡ Err (BadCommand n)
-
--- what a reader returned is the meaning, or a want of memory
-abbrev pub Gives : {X Y : Type 0} → (X → Y) → Result X ScriptFault → Result Y ScriptFault → Type 0
-Gives show (Ok x) meaning = meaning ≡ Ok (show x)
-Gives show (Err e) meaning = Fails e meaning
+meaning_of text = if nat_lt 1048576 (length text) then Err TooLong else plan_of (1 + line_ends text) (significant_from 1 text)

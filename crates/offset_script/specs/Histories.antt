@@ -1,67 +1,66 @@
 -- Laws over whole histories of the plain machine.
 use Rattle.std.specs.Prelude.{take, drop, ◌≡◌, ◌≢◌, ℕ, ◌+◌, ◌-◌, ◌≤◌, Bool, false, ◌||◌, List, [], ◌∷◌, ◌++◌, length, map, Option, Some, None, IsTrue, nat_eq, nat_le, if◌then◌else◌}
 use Rattle.std.specs.List.{AllByRecursion}
-use Rattle.offset_allocator.specs.Named.{greatest}
+use Rattle.offset_allocator.specs.Named.{max_size}
 use Rattle.offset_script.specs.declared.scripts.Command.{Command}
 use Rattle.offset_script.specs.declared.scripts.Command.TheVariants as command
-use Rattle.offset_script.specs.Blocks.{Tag, Live, Free, Block, is_free, total}
-use Rattle.offset_script.specs.Machine.{State, Answer, start, step, answers, after}
+use Rattle.offset_script.specs.Machine.{Tag, Live, Free, Block, is_free, total, State, Answer, start, step, answers, after}
 use Rattle.offset_script.specs.Machine as machine
 
--- a command with each grant number changed by r
-abbrev pub renumbered : (ℕ → ℕ) → Command → Command
-renumbered r (command.Alloc n) = command.Alloc n
-renumbered r (command.Free k) = command.Free (r k)
-renumbered r (command.Size k) = command.Size (r k)
-renumbered r command.Report = command.Report
-renumbered r command.Full = command.Full
-renumbered r command.Reset = command.Reset
-renumbered r (command.Align n align) = command.Align n align
-renumbered r (command.Extend more) = command.Extend more
+-- a command with the function r applied to its grant number
+abbrev pub renumber : (ℕ → ℕ) → Command → Command
+renumber r (command.Alloc n) = command.Alloc n
+renumber r (command.Free k) = command.Free (r k)
+renumber r (command.Size k) = command.Size (r k)
+renumber r command.Report = command.Report
+renumber r command.Full = command.Full
+renumber r command.Reset = command.Reset
+renumber r (command.Align n align) = command.Align n align
+renumber r (command.Extend more) = command.Extend more
 
 -- an answer with g added to the number of a grant
-abbrev pub raised : ℕ → Answer → Answer
-raised g (machine.Grant k offset) = machine.Grant (k + g) offset
-raised g machine.Refused = machine.Refused
-raised g machine.Freed = machine.Freed
-raised g machine.Gone = machine.Gone
-raised g (machine.Size n) = machine.Size n
-raised g (machine.Report free largest) = machine.Report free largest
-raised g (machine.Full rows) = machine.Full rows
-raised g machine.Reset = machine.Reset
-raised g machine.Extended = machine.Extended
+abbrev pub raise_number : ℕ → Answer → Answer
+raise_number g (machine.Grant k offset) = machine.Grant (k + g) offset
+raise_number g machine.Refused = machine.Refused
+raise_number g machine.Freed = machine.Freed
+raise_number g machine.Gone = machine.Gone
+raise_number g (machine.Size n) = machine.Size n
+raise_number g (machine.Report free largest) = machine.Report free largest
+raise_number g (machine.Full rows) = machine.Full rows
+raise_number g machine.Reset = machine.Reset
+raise_number g machine.Extended = machine.Extended
 
--- An empty space continues as a fresh one.
+-- ---- a space without live grants continues as a fresh one
 
 -- no block is live
 abbrev pub HasNoLive : State → Type 0
 HasNoLive s = AllByRecursion (λ b. IsTrue (is_free b.tag)) s.blocks
 
--- a grant number as a fresh machine has it, where g grants were made before it started: those are 0, which no grant has
-abbrev pub lowered : ℕ → ℕ → ℕ
-lowered g k = if nat_le k g then 0 else k - g
+-- a grant number as a fresh machine has it that started after g grants; those become 0, the number of no grant
+abbrev pub fresh_number : ℕ → ℕ → ℕ
+fresh_number g k = if nat_le k g then 0 else k - g
 
--- the answers of a fresh machine over as many units, with the numbers of its grants raised by the grants so far
+-- the answers of a fresh machine over as many units, with the number of the grants so far added to its grant numbers
 abbrev pub answers_as_fresh : State → List Command → List Answer
-answers_as_fresh s cs = map (raised s.grants) (answers (map (renumbered (lowered s.grants)) cs) (start (total s.blocks) s.limit))
+answers_as_fresh s cs = map (raise_number s.grants) (answers (map (renumber (fresh_number s.grants)) cs) (start (total s.blocks) s.limit))
 
--- whatever comes is answered as by a fresh machine
+-- any commands now have the answers of a fresh machine
 abbrev pub ContinuesAsFresh : State → Type 0
 ContinuesAsFresh s = (cs : List Command) → answers cs s ≡ answers_as_fresh s cs
 
--- after any commands, if no block is live then, the space continues as a fresh one
+-- after any commands that leave no block live, the space continues as a fresh one
 abbrev pub EmptySpaceContinuesAsFresh : Type 0
 EmptySpaceContinuesAsFresh = (size limit : ℕ) → 2 ≤ limit → (cs : List Command) → HasNoLive (after cs (start size limit)) → ContinuesAsFresh (after cs (start size limit))
 
--- from each place of the commands where no block is live, the answers found are those of a fresh machine
+-- wherever no block is live, the answers found from there on are those of a fresh machine
 abbrev pub RestartsFresh : ℕ → ℕ → List Command → List Answer → Type 0
 RestartsFresh size limit cs found = (i : ℕ) → HasNoLive (after (take i cs) (start size limit)) → drop i found ≡ answers_as_fresh (after (take i cs) (start size limit)) (drop i cs)
 
--- a fresh space that is extended continues as a fresh space of the greater size
+-- a fresh space that is extended continues as a fresh space of the summed size
 abbrev pub ExtendedSpaceIsLarger : Type 0
-ExtendedSpaceIsLarger = (size more limit : ℕ) → size + more ≤ greatest → (cs : List Command) → answers cs (after (command.Extend more ∷ []) (start size limit)) ≡ answers cs (start (size + more) limit)
+ExtendedSpaceIsLarger = (size more limit : ℕ) → size + more ≤ max_size → (cs : List Command) → answers cs (after (command.Extend more ∷ []) (start size limit)) ≡ answers cs (start (size + more) limit)
 
--- Releases commute.
+-- ---- releases commute
 
 -- the number of a live block, or nothing of a free one
 abbrev pub holder : Tag → Option ℕ
@@ -73,26 +72,27 @@ abbrev pub outline : List Block → List (ℕ × Option ℕ)
 outline [] = []
 outline (b ∷ bs) = (b.size, holder b.tag) ∷ outline bs
 
--- n more free units before the rest of the space, joined with a free block at its start
-abbrev pub widened : ℕ → List (ℕ × Option ℕ) → List (ℕ × Option ℕ)
-widened n [] = (n, None) ∷ []
-widened n (b ∷ bs) = widen_by b.1
+-- n more free units before these blocks, coalesced with a free block at their start
+abbrev pub widen : ℕ → List (ℕ × Option ℕ) → List (ℕ × Option ℕ)
+widen n [] = (n, None) ∷ []
+widen n (b ∷ bs) = widen_by b.1
   where
     widen_by : Option ℕ → List (ℕ × Option ℕ)
     widen_by None = (n + b.0, None) ∷ bs
     widen_by (Some k) = (n, None) ∷ b ∷ bs
 
--- whether a number is among these
+-- whether k is among these numbers
 abbrev pub is_among : ℕ → List ℕ → Bool
 is_among k [] = false
 is_among k (j ∷ ks) = nat_eq k j || is_among k ks
 
--- one block before a collapsed rest: it is joined where it is free or live with one of these numbers, and stays else
+-- one block before collapsed ones: it coalesces with them where it is free or live with one of these numbers, and else
+-- stays
 abbrev pub collapse_block : List ℕ → ℕ → Option ℕ → List (ℕ × Option ℕ) → List (ℕ × Option ℕ)
-collapse_block ks n None rest = widened n rest
-collapse_block ks n (Some k) rest = if is_among k ks then widened n rest else (n, Some k) ∷ rest
+collapse_block ks n None rest = widen n rest
+collapse_block ks n (Some k) rest = if is_among k ks then widen n rest else (n, Some k) ∷ rest
 
--- each longest run of neighbours that are free or live with one of these numbers becomes one free block
+-- each maximal run of neighbours that are free, or live with one of these numbers, becomes one free block
 abbrev pub collapse : List ℕ → List (ℕ × Option ℕ) → List (ℕ × Option ℕ)
 collapse ks [] = []
 collapse ks (b ∷ bs) = collapse_block ks b.0 b.1 (collapse ks bs)
@@ -104,40 +104,41 @@ pub record IsCollapse (ks : List ℕ) (s t : State) : Type 0 where
   pub blocks : outline t.blocks ≡ collapse ks (outline s.blocks)
 
 -- an answer without the offset of a grant
-abbrev pub placeless : Answer → Answer
-placeless (machine.Grant k offset) = machine.Grant k 0
-placeless machine.Refused = machine.Refused
-placeless machine.Freed = machine.Freed
-placeless machine.Gone = machine.Gone
-placeless (machine.Size n) = machine.Size n
-placeless (machine.Report free largest) = machine.Report free largest
-placeless (machine.Full rows) = machine.Full rows
-placeless machine.Reset = machine.Reset
-placeless machine.Extended = machine.Extended
+abbrev pub without_offset : Answer → Answer
+without_offset (machine.Grant k offset) = machine.Grant k 0
+without_offset machine.Refused = machine.Refused
+without_offset machine.Freed = machine.Freed
+without_offset machine.Gone = machine.Gone
+without_offset (machine.Size n) = machine.Size n
+without_offset (machine.Report free largest) = machine.Report free largest
+without_offset (machine.Full rows) = machine.Full rows
+without_offset machine.Reset = machine.Reset
+without_offset machine.Extended = machine.Extended
 
--- a row of releases, of the grants of these numbers
-abbrev pub frees : List ℕ → List Command
-frees [] = []
-frees (k ∷ ks) = command.Free k ∷ frees ks
+-- releases of the grants of these numbers, in this order
+abbrev pub releases : List ℕ → List Command
+releases [] = []
+releases (k ∷ ks) = command.Free k ∷ releases ks
 
--- a row of releases leaves the sizes and grants of the collapse, and a next command is answered as there, but for the
--- offset of a grant
+-- releases in a row leave the sizes and grants of the collapse, and a next command has the same answer as there, except
+-- for the offset of a grant
 pub record Commutes (ks : List ℕ) (s : State) : Type 0 where
-  pub space : outline (after (frees ks) s).blocks ≡ collapse ks (outline s.blocks)
-  pub next : (t : State) → IsCollapse ks s t → (c : Command) → placeless (step c (after (frees ks) s)).answer ≡ placeless (step c t).answer
+  pub space : outline (after (releases ks) s).blocks ≡ collapse ks (outline s.blocks)
+  pub next : (t : State) → IsCollapse ks s t → (c : Command) → without_offset (step c (after (releases ks) s)).answer ≡ without_offset (step c t).answer
 
--- after any commands, any row of releases leaves what its collapse tells, which knows no order
+-- after any commands, releases in a row leave what the collapse of their grants is, which does not depend on their
+-- order
 abbrev pub ReleasesCommute : Type 0
 ReleasesCommute = (size limit : ℕ) → 2 ≤ limit → (cs : List Command) (ks : List ℕ) → Commutes ks (after cs (start size limit))
 
--- wherever a row of releases stands in the commands, the answer found behind it is that of the collapse
+-- wherever releases in a row occur in the commands, the answer found after them is that of the collapse
 abbrev pub RowsCommute : ℕ → ℕ → List Command → List Answer → Type 0
-RowsCommute size limit cs found = (before : List Command) (ks : List ℕ) (c : Command) (rest : List Command) → cs ≡ before ++ frees ks ++ (c ∷ rest) → (t : State) → IsCollapse ks (after before (start size limit)) t
-    → map placeless (take 1 (drop (length (before ++ frees ks)) found)) ≡ placeless (step c t).answer ∷ []
+RowsCommute size limit cs found = (before : List Command) (ks : List ℕ) (c : Command) (rest : List Command) → cs ≡ before ++ releases ks ++ (c ∷ rest) → (t : State) → IsCollapse ks (after before (start size limit)) t
+    → map without_offset (take 1 (drop (length (before ++ releases ks)) found)) ≡ without_offset (step c t).answer ∷ []
 
--- A nest leaves no trace.
+-- ---- a nest leaves no trace
 
--- the answer is grant k
+-- the answer is that grant k was made
 abbrev pub IsGrant : Answer → ℕ → Type 0
 IsGrant a k = (offset : ℕ) × (a ≡ machine.Grant k offset)
 
@@ -152,28 +153,27 @@ KeepsSpace command.Reset = ⊥
 KeepsSpace (command.Align n align) = Unit {0}
 KeepsSpace (command.Extend more) = ⊥
 
--- from this state on, each block that these commands are granted is released by them, the last granted first, and no
--- other is
+-- from this state on, these commands release each block that they are granted, the last one first, and no other block
 pub data Nest : State → List Command → Type 0 where
-  -- there are none
+  -- no commands
   done : {s : State} → Nest s []
-  -- the first neither grants nor releases, and the others are a nest
+  -- the first command neither grants nor releases, and the others are a nest
   quiet : {s : State} {c : Command} {cs : List Command} → KeepsSpace c → ((k : ℕ) → IsGrant (step c s).answer k → ⊥) → (step c s).answer ≢ machine.Freed
       → Nest (step c s).state cs → Nest s (c ∷ cs)
-  -- the first is granted as k, and then come a nest, the release of k, and a nest
+  -- the first command is granted as k, and then come a nest, the release of k, and a nest
   paired : {s : State} {c : Command} {k : ℕ} {inner outer : List Command} → KeepsSpace c → IsGrant (step c s).answer k
       → Nest (step c s).state inner → Nest (after (inner ++ command.Free k ∷ []) (step c s).state) outer → Nest s (c ∷ (inner ++ (command.Free k ∷ outer)))
 
--- a grant number as it would be without a nest of j grants, where g were made before it: those of the nest are 0, which
--- no grant has
-abbrev pub settled : ℕ → ℕ → ℕ → ℕ
-settled g j k = if nat_le k g then k else if nat_le k (g + j) then 0 else k - j
+-- a grant number as it would be without a nest of j grants, where g were made before it; those of the nest become 0,
+-- the number of no grant
+abbrev pub number_without_nest : ℕ → ℕ → ℕ → ℕ
+number_without_nest g j k = if nat_le k g then k else if nat_le k (g + j) then 0 else k - j
 
--- the answers in s, as t gives them, which has come from s by a nest
+-- the answers from s on, numbered as those from t on, where a nest led from s to t
 abbrev pub answers_as_before : State → State → List Command → List Answer
-answers_as_before s t cs = map (raised (t.grants - s.grants)) (answers (map (renumbered (settled s.grants (t.grants - s.grants))) cs) s)
+answers_as_before s t cs = map (raise_number (t.grants - s.grants)) (answers (map (renumber (number_without_nest s.grants (t.grants - s.grants))) cs) s)
 
--- whatever comes is answered in t as in s
+-- any commands have the answers in t that they have in s
 abbrev pub ContinuesAsBefore : State → State → Type 0
 ContinuesAsBefore s t = (cs : List Command) → answers cs t ≡ answers_as_before s t cs
 
@@ -182,25 +182,25 @@ abbrev pub NestLeavesNoTrace : Type 0
 NestLeavesNoTrace = (size limit : ℕ) → 2 ≤ limit → (cs nest : List Command) → Nest (after cs (start size limit)) nest
     → ContinuesAsBefore (after cs (start size limit)) (after nest (after cs (start size limit)))
 
--- wherever a nest stands in the commands, the answers found behind it are those without it
+-- wherever a nest occurs in the commands, the answers found after it are those without it
 abbrev pub NestsLeaveNoTrace : ℕ → ℕ → List Command → List Answer → Type 0
 NestsLeaveNoTrace size limit cs found = (before nest rest : List Command) → cs ≡ before ++ nest ++ rest → Nest (after before (start size limit)) nest
     → drop (length (before ++ nest)) found ≡ answers_as_before (after before (start size limit)) (after (before ++ nest) (start size limit)) rest
 
--- A question leaves no trace.
+-- ---- a question leaves no trace
 
--- a command that only asks
-abbrev pub Asks : Command → Type 0
-Asks (command.Alloc n) = ⊥
-Asks (command.Free k) = ⊥
-Asks (command.Size k) = Unit {0}
-Asks command.Report = Unit {0}
-Asks command.Full = Unit {0}
-Asks command.Reset = ⊥
-Asks (command.Align n align) = ⊥
-Asks (command.Extend more) = ⊥
+-- whether a command is a question: it changes nothing
+abbrev pub IsQuestion : Command → Type 0
+IsQuestion (command.Alloc n) = ⊥
+IsQuestion (command.Free k) = ⊥
+IsQuestion (command.Size k) = Unit {0}
+IsQuestion command.Report = Unit {0}
+IsQuestion command.Full = Unit {0}
+IsQuestion command.Reset = ⊥
+IsQuestion (command.Align n align) = ⊥
+IsQuestion (command.Extend more) = ⊥
 
 -- a report, or another question, put anywhere into the commands changes no other answer
 abbrev pub QuestionsChangeNothing : Type 0
-QuestionsChangeNothing = (size limit : ℕ) → 2 ≤ limit → (before : List Command) (q : Command) (rest : List Command) → Asks q
+QuestionsChangeNothing = (size limit : ℕ) → 2 ≤ limit → (before : List Command) (q : Command) (rest : List Command) → IsQuestion q
     → answers (before ++ q ∷ rest) (start size limit) ≡ answers before (start size limit) ++ ((step q (after before (start size limit))).answer ∷ answers rest (after before (start size limit)))

@@ -1,14 +1,11 @@
 pub mod Agreement
 pub mod Answers
-pub mod Blocks
 pub mod Devices
 pub mod Faults
 pub mod Grammar
 pub mod Histories
-pub mod Limits
 pub mod Machine
-pub mod Playing
 pub mod Running
-pub mod Serving
+pub mod Simulation
 pub mod Spelling
 pub mod Totals

@@ -1,7 +1,8 @@
 //! Answers, and their text.
 
 ghost use Rattle.std.specs.Prelude.{◌≡◌, ◌++◌, OnOk, IfOk, string_bytes, map};
-ghost use Rattle.offset_script.specs.Answers.{row_seen, seen, all_seen, row_line, rows_text, lines_of_answer, text_of};
+ghost use Rattle.offset_script.specs.Answers.{row_view, answer_view, answer_views};
+ghost use Rattle.offset_script.specs.Running.{row_line, rows_text, lines_of_answer, text_of};
 
 use offset_allocator::StorageReport;
 use std::alloc::{AllocError, Global};
@@ -9,9 +10,9 @@ use std::alloc::{AllocError, Global};
 /// One size class of a full report.
 #[derive(Clone, Copy, PartialEq, Debug)]
 pub struct FullRow {
-    /// The class, from 0 to 255.
+    /// The size class, from 0 to 255.
     pub class: u32,
-    /// The value of the class in units, of which the low 32 bits are kept.
+    /// The value of the class in units; only its low 32 bits.
     pub size: u32,
     /// How many free blocks are of the class.
     pub count: u32,
@@ -20,20 +21,20 @@ pub struct FullRow {
 /// The answer to one command.
 #[derive(Drop, Debug)]
 pub enum Answer {
-    /// The granted units begin at this offset. Grants are numbered from 1 in their order.
+    /// A grant with this number, whose units begin at this offset. Grants are numbered from 1 in their order.
     Grant { number: u64, offset: u32 },
-    /// Nothing was granted or added, and the space is as it was.
+    /// A request or an extension is refused, and the space is as it was.
     Refused,
     /// The units of the grant are free again.
     Freed,
     /// No grant of that number is live, and the space is as it was.
     Gone,
-    /// The units of a grant.
+    /// The size of a grant in units.
     Size(u32),
-    /// The free units in all, and the greatest class value of a free block; both 0 where the space has as many blocks
-    /// as its limit allows.
+    /// The free units in all, and the largest class value of a free block. Both are 0 where the space has as many
+    /// blocks as its limit allows.
     Report(StorageReport),
-    /// The classes that have a free block, rising.
+    /// The classes that have a free block, in rising order.
     Full(Vec<FullRow>),
     /// The whole space is one free block again.
     Reset,
@@ -41,9 +42,9 @@ pub enum Answer {
     Extended,
 }
 
-// The line of a row, with its line end.
+// Appends the line of a row, with its line end.
 fn put_row(out: &mut String, row: &FullRow) -> Result<(), AllocError>
-    ensures { OnOk result (string_bytes out.new ≡ string_bytes out.old ++ row_line (row_seen row.now)) }
+    ensures { OnOk result (string_bytes out.new ≡ string_bytes out.old ++ row_line (row_view row.now)) }
 {
     let class = row.class;
     let size = row.size;
@@ -51,10 +52,10 @@ fn put_row(out: &mut String, row: &FullRow) -> Result<(), AllocError>
     writeln!(out, "class {class} size {size} count {count}")
 }
 
-// The lines of rows.
+// Appends the lines of rows.
 fn put_rows(out: &mut String, rows: &[FullRow]) -> Result<(), AllocError>
     ensures { OnOk result
-        (string_bytes out.new ≡ string_bytes out.old ++ rows_text (map row_seen rows.now)) }
+        (string_bytes out.new ≡ string_bytes out.old ++ rows_text (map row_view rows.now)) }
 {
     for row in rows {
         put_row(out, row)?;
@@ -62,10 +63,10 @@ fn put_rows(out: &mut String, rows: &[FullRow]) -> Result<(), AllocError>
     Ok(())
 }
 
-// The lines of an answer.
-#[tactic(auto, unfolding(crate::specs::Answers::lines_of_answer))]
+// Appends the lines of an answer.
+#[tactic(auto, unfolding(crate::specs::Running::lines_of_answer))]
 fn put_answer(out: &mut String, answer: &Answer) -> Result<(), AllocError>
-    ensures { OnOk result (string_bytes out.new ≡ string_bytes out.old ++ lines_of_answer (seen answer.now)) }
+    ensures { OnOk result (string_bytes out.new ≡ string_bytes out.old ++ lines_of_answer (answer_view answer.now)) }
 {
     match answer {
         Answer::Grant { number, offset } => writeln!(out, "grant {number} at {offset}"),
@@ -88,9 +89,9 @@ fn put_answer(out: &mut String, answer: &Answer) -> Result<(), AllocError>
     }
 }
 
-/// The text of the answers: a line for each, and after that of a full report a line for each row.
+/// The text of answers: a line for each, and after the line of a full report one for each of its rows.
 pub fn answer_text(alloc: Global, answers: &[Answer]) -> Result<String, AllocError>
-    ensures { IfOk result (λ text. string_bytes text ≡ text_of (all_seen answers.now)) }
+    ensures { IfOk result (λ text. string_bytes text ≡ text_of (answer_views answers.now)) }
 {
     let mut out = String::new(alloc);
     for answer in answers {

@@ -15,15 +15,15 @@ pub trait Source {
     // Whether a pull has failed.
     ghost has_failed: { Self → Bool };
 
-    /// Takes bytes from the front of what is left to the front of `buf`, and returns how many:
-    /// none only at the end of the bytes, or for an empty `buf`. `None` is a failure, which takes nothing.
+    /// Moves the first bytes of what is left to the beginning of `buf`, and returns their number. It is 0 only at the
+    /// end of the bytes, or for an empty `buf`. `None` is a failure, which takes nothing.
     fn pull(&mut self, buf: &mut [u8]) -> Option<usize>
         ensures count { IfSome result (λ n. n ≤ length buf.new) }
         ensures bytes { PullTakes (left self.old) (left self.new) result buf.new }
         ensures failed { has_failed self.new ≡ (if is_some result then has_failed self.old else true) };
 }
 
-/// What takes bytes in pieces.
+/// A receiver of bytes that come in pieces.
 pub trait Sink {
     // The bytes held, where they are known.
     ghost held: { Self → Option (List ℕ) };
@@ -34,8 +34,8 @@ pub trait Sink {
     // Whether a flush has succeeded since bytes were last appended.
     ghost is_flushed: { Self → Bool };
 
-    /// Appends bytes from the front of `bytes`, at least one, and returns how many.
-    /// `None` is a failure, which appends nothing.
+    /// Appends the first bytes of `bytes`, at least one, and returns their number. `None` is a failure, which appends
+    /// nothing.
     fn push(&mut self, bytes: &[u8]) -> Option<usize>
         requires { 0 < length bytes.now }
         ensures least { IfSome result (λ n. 0 < n) }
@@ -44,14 +44,14 @@ pub trait Sink {
         ensures failed { has_failed self.new ≡ (if is_some result then has_failed self.old else true) }
         ensures flushed { is_flushed self.new ≡ (if is_some result then false else is_flushed self.old) };
 
-    /// Hands on what was appended, and appends nothing itself. `false` is a failure.
+    /// Passes on what was appended, and appends nothing itself. `false` is a failure.
     fn flush(&mut self) -> bool
         ensures bytes { Keeps (held self.old) (held self.new) }
         ensures failed { has_failed self.new ≡ (if result then has_failed self.old else true) }
         ensures flushed { is_flushed self.new ≡ (if result then true else is_flushed self.old) };
 }
 
-/// A reader as a source. Each call makes one read, and it fails just where that read does.
+/// A reader as a source. Each call makes one read, and fails exactly where that read does.
 #[derive(Drop)]
 pub struct FromRead<R: Read> {
     inner: R,
@@ -75,7 +75,7 @@ impl<R: Read> FromRead<R> {
         }
     }
 
-    /// The reader, as the reads have left it.
+    /// Returns the reader, as the reads have left it.
     pub fn into_inner(self) -> R
         ensures { result ≡ self.inner }
     {
@@ -100,8 +100,8 @@ impl<R: Read> Source for FromRead<R> {
     }
 }
 
-/// A writer as a sink. Each call makes one write or one flush, and it fails just where that does;
-/// a write that takes 0 bytes is a failure too.
+/// A writer as a sink. Each call makes one write or one flush, and fails exactly where that does. A write that takes 0
+/// bytes is a failure too.
 #[derive(Drop)]
 pub struct IntoWrite<W: Write> {
     inner: W,
@@ -127,7 +127,7 @@ impl<W: Write> IntoWrite<W> {
         }
     }
 
-    /// The writer, as the writes have left it.
+    /// Returns the writer, as the writes have left it.
     pub fn into_inner(self) -> W
         ensures { result ≡ self.inner }
     {

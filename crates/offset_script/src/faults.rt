@@ -8,7 +8,7 @@ ghost use Rattle.offset_script.specs.Faults.{as_run_fault, fault_line, line_of, 
 use std::alloc::{AllocError, AllocFailed};
 use std::fmt;
 
-/// Why a text gave no script. The number carried is that of the line, from 1.
+/// Why a text is no script. The number is that of the faulty line, from 1.
 #[derive(Clone, Copy, PartialEq, Debug)]
 pub enum ScriptFault {
     /// The text has more than 1,048,576 bytes.
@@ -17,9 +17,9 @@ pub enum ScriptFault {
     BadHeader(u32),
     /// The header's node limit is below 2, or above what its index width admits.
     BadLimit(u32),
-    /// A later line is no command.
+    /// A later line is no command, or has an alignment that is no power of two.
     BadCommand(u32),
-    /// A growth was refused.
+    /// An allocation failed.
     Memory,
 }
 
@@ -39,12 +39,13 @@ impl<T: Drop> From<AllocFailed<T>> for ScriptFault {
     }
 }
 
-/// Why a run gave up.
+/// Why a run failed.
 #[derive(Clone, Copy, PartialEq, Debug)]
 pub enum RunFault {
-    /// The text that was read is no script. Where memory was refused, `run` returns `Memory` and not `Script(Memory)`.
+    /// The text that was read is no script. Where an allocation fails, `run` returns `Memory` and never
+    /// `Script(Memory)`.
     Script(ScriptFault),
-    /// A growth was refused.
+    /// An allocation failed.
     Memory,
     /// The source failed.
     Read,
@@ -53,8 +54,9 @@ pub enum RunFault {
 }
 
 impl RunFault {
-    /// The status that a program ends with: 2 for the text, 3 for memory, and 4 for a device.
+    /// The status that a program ends with: 2 for a text that is no script, 3 for memory, and 4 for a device.
     pub fn status(&self) -> u8
+        // The status of this fault: 2, 3 or 4.
         ensures { result ≡ fault_status self.now }
     {
         match self {
@@ -64,8 +66,9 @@ impl RunFault {
         }
     }
 
-    /// The line of the text that is at fault, where one is, and what is wrong.
+    /// The number of the faulty line of the text, where there is one, and what is wrong.
     pub fn parts(&self) -> (Option<u32>, &'static str)
+        // Both parts together are the line of this fault.
         ensures { fault_line self.now ≡ line_of result.0 result.1.now }
     {
         match self {

@@ -8,27 +8,27 @@ ghost use Rattle.offset_script.specs.Histories.{EmptySpaceContinuesAsFresh, Exte
 ghost use Rattle.offset_script.specs.Spelling.{IsSpelling, IsHeaderSpelling};
 ghost use Rattle.offset_script.specs.Totals.{FewAreLive, FullSpaceRefuses, SizesAddUp};
 
-/// A line means a command exactly where it is a spelling of it.
+/// A line means a command exactly if it is a spelling of that command.
 pub fn one_spelling()
     ensures { (c : Command) (line : List ℕ) → (command_of line ≡ Some c) ↔ IsSpelling c line }
 {}
 
-/// A line means a header, in form, exactly where it is a spelling of it.
+/// A line means a header exactly if it is a spelling of that header, whatever its limit.
 pub fn one_header_spelling()
     ensures { (h : Header) (line : List ℕ) → (header_of line ≡ Some h) ↔ IsHeaderSpelling h line }
 {}
 
-/// A space without live blocks continues as a fresh one of its size.
+/// A space without live grants continues as a fresh one of its size.
 pub fn an_empty_space_continues_as_fresh()
     ensures { EmptySpaceContinuesAsFresh }
 {}
 
-/// A fresh space that is extended continues as a fresh one of the greater size.
+/// A fresh space that is extended continues as a fresh one of the summed size.
 pub fn an_extended_space_is_larger()
     ensures { ExtendedSpaceIsLarger }
 {}
 
-/// A row of releases leaves the same space in any order.
+/// Releases in a row leave the same space in any order.
 pub fn releases_commute()
     ensures { ReleasesCommute }
 {}
@@ -44,7 +44,7 @@ pub fn a_question_changes_nothing()
     ensures { QuestionsChangeNothing }
 {}
 
-/// After any commands, live and free units add up to the size, with what extensions added.
+/// After any commands, live and free units add up to the size of the space, extensions included.
 pub fn sizes_add_up()
     ensures { SizesAddUp }
 {}

@@ -1,8 +1,7 @@
-//! Scripts of offset allocation: text to commands, and answers to text.
+//! Scripts of calls to an allocator: it reads them, plays them, and writes their answers.
 #![tactic(auto)]
 
 mod answers;
-mod cutting;
 mod devices;
 mod faults;
 pub mod laws;
@@ -13,6 +12,7 @@ mod reading;
 mod running;
 mod scripts;
 mod sending;
+mod tokens;
 
 pub use answers::{Answer, FullRow};
 pub use devices::{FromRead, IntoWrite, Sink, Source};

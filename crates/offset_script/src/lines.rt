@@ -1,11 +1,11 @@
 //! The lines of a text that are neither empty nor comments.
 
 ghost use Rattle.std.specs.Prelude.{◌≡◌, ◌+◌, ◌-◌, ◌<◌, ◌^◌, ◌∷◌, [], if◌then◌else◌, length, MatchOption};
-ghost use Rattle.offset_script.specs.Grammar.{is_skipped, said_from, line_ends};
+ghost use Rattle.offset_script.specs.Grammar.{is_skipped, significant_from, line_ends};
 
-use crate::cutting::cut;
+use crate::tokens::split_once;
 
-/// What of a text is not read yet, and the number of its first line, from 1.
+/// What is not read of a text yet, and the number of its first line, from 1.
 #[derive(Drop)]
 pub struct Lines<'a> {
     pub rest: &'a [u8],
@@ -13,7 +13,7 @@ pub struct Lines<'a> {
     ghost fits: { number + length rest.now < 2 ^ 32 },
 }
 
-// An empty line, or a comment.
+// Whether a line is empty or a comment.
 fn is_skipped(line: &[u8]) -> bool
     ensures { result ≡ is_skipped line.now }
 {
@@ -36,16 +36,16 @@ impl<'a> Lines<'a> {
         }
     }
 
-    /// The first line of the rest, and its number.
+    // Takes the first line, and returns its number and its text.
     fn take_line(&mut self) -> (u32, &'a [u8])
         requires { 0 < length self.old.rest.now }
-        ensures said { said_from self.old.number self.old.rest.now
-            ≡ (if is_skipped result.1.now then said_from self.new.number self.new.rest.now
-            else record { number = result.0; text = result.1.now } ∷ said_from self.new.number self.new.rest.now) }
+        ensures lines { significant_from self.old.number self.old.rest.now
+            ≡ (if is_skipped result.1.now then significant_from self.new.number self.new.rest.now
+            else record { number = result.0; text = result.1.now } ∷ significant_from self.new.number self.new.rest.now) }
         ensures ends { self.new.number + line_ends self.new.rest.now ≡ self.old.number + line_ends self.old.rest.now }
         ensures shorter { length self.new.rest.now < length self.old.rest.now }
     {
-        let (line, after) = cut(self.rest, b'\n');
+        let (line, after) = split_once(self.rest, b'\n');
         let number = self.number;
         match after {
             None => self.rest = &[],
@@ -57,12 +57,13 @@ impl<'a> Lines<'a> {
         (number, line)
     }
 
-    /// The next line that is neither empty nor a comment, and its number.
+    /// Takes lines up to the next one that is neither empty nor a comment, and returns its number and its text. `None`
+    /// where there is no such line.
     pub fn next_line(&mut self) -> Option<(u32, &'a [u8])>
         ensures line { MatchOption result
-            (said_from self.old.number self.old.rest.now ≡ [])
-            (λ line. said_from self.old.number self.old.rest.now
-            ≡ record { number = line.0; text = line.1.now } ∷ said_from self.new.number self.new.rest.now) }
+            (significant_from self.old.number self.old.rest.now ≡ [])
+            (λ line. significant_from self.old.number self.old.rest.now
+            ≡ record { number = line.0; text = line.1.now } ∷ significant_from self.new.number self.new.rest.now) }
         ensures end { MatchOption result
             (self.new.number ≡ self.old.number + line_ends self.old.rest.now)
             (λ _. length self.new.rest.now < length self.old.rest.now) }

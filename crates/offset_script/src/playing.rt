@@ -1,37 +1,36 @@
-//! Scripts, played.
+//! Plays the commands of a script on an allocator.
 
 ghost use Rattle.std.specs.Prelude.{◌≡◌, ◌+◌, ◌<◌, ◌≤◌, All, IfOk, IfSome, IsTrue, length, map, vec_len};
-ghost use Rattle.offset_script.specs.Agreement.{kept, name_in};
-ghost use Rattle.offset_script.specs.Answers.{all_seen, seen};
+ghost use Rattle.offset_script.specs.Agreement.{kept_name, name_in};
+ghost use Rattle.offset_script.specs.Answers.{answer_views, answer_view};
 ghost use Rattle.offset_script.specs.Histories.{RestartsFresh, RowsCommute, NestsLeaveNoTrace};
-ghost use Rattle.offset_script.specs.Limits.{is_powered};
-ghost use Rattle.offset_script.specs.Machine.{answers, start};
-ghost use Rattle.offset_script.specs.Playing.{IsPlayed};
-ghost use Rattle.offset_script.specs.Serving.{IsKept, IsServing, IsSwept, Serves, Stands};
+ghost use Rattle.offset_script.specs.Grammar.{has_valid_alignment};
+ghost use Rattle.offset_script.specs.Machine.{answers, start, IsPlayed};
+ghost use Rattle.offset_script.specs.Simulation.{IsKept, RepresentsReached, IsSwept, Simulates, Represents};
 
 use crate::answers::{Answer, FullRow};
 use crate::scripts::{Command, IndexWidth, Script};
 use offset_allocator::{Allocation, Allocator, NodeIndex};
 use std::alloc::{AllocError, Global};
 
-/// A space, with the handles of the grants that were made of it.
+/// An allocator, with the handles of its live grants.
 #[derive(Drop)]
 struct Player<NI: NodeIndex> {
     space: Allocator<NI>,
     // The handle of grant k is at k - 1 while the grant is live.
     handles: Vec<Option<Allocation<NI>>>,
-    // So many of the first handles were swept by resets.
+    // Resets have removed the first handles, up to this number.
     swept: usize,
     ghost within: { swept ≤ vec_len handles },
     ghost gone: { IsSwept swept handles.items },
 }
 
 impl<NI: NodeIndex> Player<NI> {
-    // A free space, and no grants.
+    // A fresh space, and no grants.
     fn start(alloc: Global, size: u32, max_allocs: u32) -> Result<Self, AllocError>
         requires low { 2 ≤ max_allocs }
         requires high { max_allocs + 1 < NI.MAX }
-        ensures { IfOk result (λ p. Stands p.space p.handles.items (start size max_allocs)) }
+        ensures { IfOk result (λ p. Represents p.space p.handles.items (start size max_allocs)) }
     {
         Ok(Player {
             space: Allocator::with_max_allocs(alloc, size, max_allocs)?,
@@ -40,9 +39,9 @@ impl<NI: NodeIndex> Player<NI> {
         })
     }
 
-    // The handle of the grant of this number, while it is live.
+    // The handle of the grant of this number, if it is live.
     fn handle(&self, number: u32) -> Option<Allocation<NI>>
-        ensures name { name_in result ≡ kept self.now.handles.items number }
+        ensures name { name_in result ≡ kept_name self.now.handles.items number }
         ensures within { IfSome result (λ h. (1 ≤ number)
             × (number ≤ length self.now.handles.items)) }
     {
@@ -55,9 +54,9 @@ impl<NI: NodeIndex> Player<NI> {
         }
     }
 
-    // The answer to a request. The handle of a grant is kept under the next number.
+    // The answer to a request with this result. The handle of a grant is kept under the next number.
     fn keep(&mut self, granted: Option<Allocation<NI>>) -> Result<Answer, AllocError>
-        ensures kept { IfOk result (λ a. IsKept granted self.old.handles.items
+        ensures handle { IfOk result (λ a. IsKept granted self.old.handles.items
             self.new.handles.items a) }
         ensures space { self.new.space ≡ self.old.space }
     {
@@ -73,17 +72,19 @@ impl<NI: NodeIndex> Player<NI> {
         }
     }
 
+    // The answer to `alloc`.
     fn allocate(&mut self, size: u32) -> Result<Answer, AllocError>
-        ensures { IfOk result (λ a. Serves self.old.space self.old.handles.items
+        ensures { IfOk result (λ a. Simulates self.old.space self.old.handles.items
             self.new.space self.new.handles.items (Command.Alloc size) a) }
     {
         let granted = self.space.allocate(size);
         self.keep(granted)
     }
 
+    // The answer to `free`. The grant's handle is removed.
     fn release(&mut self, number: u32) -> Answer
-        requires { IsServing self.old.space self.old.handles.items }
-        ensures { Serves self.old.space self.old.handles.items
+        requires { RepresentsReached self.old.space self.old.handles.items }
+        ensures { Simulates self.old.space self.old.handles.items
             self.new.space self.new.handles.items (Command.Free number) result }
     {
         match self.handle(number) {
@@ -96,8 +97,9 @@ impl<NI: NodeIndex> Player<NI> {
         }
     }
 
+    // The answer to `size`.
     fn size(&self, number: u32) -> Answer
-        ensures { Serves self.now.space self.now.handles.items
+        ensures { Simulates self.now.space self.now.handles.items
             self.now.space self.now.handles.items (Command.Size number) result }
     {
         match self.handle(number) {
@@ -106,15 +108,17 @@ impl<NI: NodeIndex> Player<NI> {
         }
     }
 
+    // The answer to `report`.
     fn report(&self) -> Answer
-        ensures { Serves self.now.space self.now.handles.items
+        ensures { Simulates self.now.space self.now.handles.items
             self.now.space self.now.handles.items Command.Report result }
     {
         Answer::Report(self.space.storage_report())
     }
 
+    // The answer to `full`: a row for each class that has a free block.
     fn full(&self, alloc: Global) -> Result<Answer, AllocError>
-        ensures { IfOk result (λ a. Serves self.now.space self.now.handles.items
+        ensures { IfOk result (λ a. Simulates self.now.space self.now.handles.items
             self.now.space self.now.handles.items Command.Full a) }
     {
         let report = self.space.storage_report_full();
@@ -132,9 +136,9 @@ impl<NI: NodeIndex> Player<NI> {
         Ok(Answer::Full(rows))
     }
 
-    // No grant is live any more, and the next one has the next number.
+    // The answer to `reset`. All handles are removed, and numbers go on.
     fn reset(&mut self) -> Answer
-        ensures { Serves self.old.space self.old.handles.items
+        ensures { Simulates self.old.space self.old.handles.items
             self.new.space self.new.handles.items Command.Reset result }
     {
         self.space.reset();
@@ -145,17 +149,19 @@ impl<NI: NodeIndex> Player<NI> {
         Answer::Reset
     }
 
+    // The answer to `align`.
     fn allocate_aligned(&mut self, size: u32, align: u32) -> Result<Answer, AllocError>
-        requires { IsTrue (is_powered (Command.Align size align)) }
-        ensures { IfOk result (λ a. Serves self.old.space self.old.handles.items
+        requires { IsTrue (has_valid_alignment (Command.Align size align)) }
+        ensures { IfOk result (λ a. Simulates self.old.space self.old.handles.items
             self.new.space self.new.handles.items (Command.Align size align) a) }
     {
         let granted = self.space.allocate_aligned(size, align);
         self.keep(granted)
     }
 
+    // The answer to `extend`.
     fn extend(&mut self, more: u32) -> Answer
-        ensures { Serves self.old.space self.old.handles.items
+        ensures { Simulates self.old.space self.old.handles.items
             self.new.space self.new.handles.items (Command.Extend more) result }
     {
         if self.space.extend(more) {
@@ -167,9 +173,9 @@ impl<NI: NodeIndex> Player<NI> {
 
     // The answer to one command.
     fn call(&mut self, alloc: Global, command: Command) -> Result<Answer, AllocError>
-        requires serving { IsServing self.old.space self.old.handles.items }
-        requires power { IsTrue (is_powered command) }
-        ensures { IfOk result (λ a. Serves self.old.space self.old.handles.items
+        requires reached { RepresentsReached self.old.space self.old.handles.items }
+        requires power { IsTrue (has_valid_alignment command) }
+        ensures { IfOk result (λ a. Simulates self.old.space self.old.handles.items
             self.new.space self.new.handles.items command a) }
     {
         match command {
@@ -185,21 +191,34 @@ impl<NI: NodeIndex> Player<NI> {
     }
 }
 
-/// The answers to the commands in order, one for each, from one free block of `size` units.
+/// Plays commands on an allocator of `size` units with the node limit `max_allocs`, and returns their answers in order,
+/// one for each.
+///
+/// It fails only where an allocation fails: of the allocator's tables, of the list of handles, or of the answers.
 pub fn play<NI: NodeIndex>(
     alloc: Global,
     size: u32,
     max_allocs: u32,
     commands: &[Command],
 ) -> Result<Vec<Answer>, AllocError>
+    // The node limit is at least 2.
     requires low { 2 ≤ max_allocs }
+    // The index type admits the node limit.
     requires high { max_allocs + 1 < NI.MAX }
-    requires powers { All (λ c. IsTrue (is_powered c)) commands.now }
-    ensures answers { IfOk result (λ found. map seen found.items
+    // Each alignment is a power of two.
+    requires powers { All (λ c. IsTrue (has_valid_alignment c)) commands.now }
+    // The answers are those of the plain machine to these commands, from one free block of `size` units.
+    ensures answers { IfOk result (λ found. map answer_view found.items
         ≡ answers commands.now (start size max_allocs)) }
-    ensures fresh { IfOk result (λ found. RestartsFresh size max_allocs commands.now (map seen found.items)) }
-    ensures rows { IfOk result (λ found. RowsCommute size max_allocs commands.now (map seen found.items)) }
-    ensures nests { IfOk result (λ found. NestsLeaveNoTrace size max_allocs commands.now (map seen found.items)) }
+    // Wherever no grant is live, the answers from there on are those of a fresh machine over as many units, with the
+    // number of the grants so far added to its grant numbers.
+    ensures fresh { IfOk result (λ found. RestartsFresh size max_allocs commands.now (map answer_view found.items)) }
+    // After releases in a row, the next answer, without the offset of a grant, is that of a space where each run of
+    // free and released neighbours is one free block: so the order of the releases does not matter.
+    ensures rows { IfOk result (λ found. RowsCommute size max_allocs commands.now (map answer_view found.items)) }
+    // After a nest, whose grants are released in reverse order, the answers are those without the nest, except that its
+    // grants have taken numbers.
+    ensures nests { IfOk result (λ found. NestsLeaveNoTrace size max_allocs commands.now (map answer_view found.items)) }
 {
     let mut player: Player<NI> = Player::start(alloc, size, max_allocs)?;
     let mut found = Vec::new(alloc);
@@ -209,11 +228,14 @@ pub fn play<NI: NodeIndex>(
     Ok(found)
 }
 
-/// The answers to the commands of a script in order, one for each, by an allocator of the script's index width.
-#[tactic(auto, unfolding(crate::specs::Playing::IsPlayed))]
+/// Plays a script on an allocator of its index width, and returns the answers to its commands in order, one for each.
+///
+/// It fails only where an allocation fails.
+#[tactic(auto, unfolding(crate::specs::Machine::IsPlayed))]
 pub fn play_script(alloc: Global, script: &Script) -> Result<Vec<Answer>, AllocError>
+    // The answers are those of the plain machine to the commands of the script, from one free block of its size.
     ensures { IfOk result
-        (λ v. IsPlayed script.now.size script.now.max_allocs script.now.commands.items (all_seen v.items)) }
+        (λ v. IsPlayed script.now.size script.now.max_allocs script.now.commands.items (answer_views v.items)) }
 {
     match script.index {
         IndexWidth::Bits16 => play::<u16>(alloc, script.size, script.max_allocs, &script.commands),

@@ -1,4 +1,4 @@
-//! What a program does with a script.
+//! What a program does: a run, its status, and the line of its fault.
 
 ghost use Rattle.std.specs.Prelude.{◌≡◌, ◌≢◌, Result, Err, true, IfSome, MatchResult, OnOk, if◌then◌else◌};
 ghost use Rattle.offset_script.specs.declared.faults.RunFault.{RunFault};
@@ -12,18 +12,28 @@ use crate::running::run;
 use crate::sending::send_fault;
 use std::alloc::Global;
 
-/// Runs a script, and where that fails, writes the line of the fault to `errors`. Returns the status to exit with.
+/// Runs a script by `run`, writes the line of a fault to `errors`, and returns the status to exit with.
 ///
-/// The status is 0 exactly where the run is `Ok`, 2 where the text is no script, 3 where memory was refused, and 4
+/// The status is 0 exactly where the run is `Ok`, 2 where the text is no script, 3 where an allocation failed, and 4
 /// where the source or the sink failed. A run that is `Ok` leaves `errors` as it was. A failure of `errors` changes no
-/// status, and its line takes no memory.
+/// status, and its line needs no memory.
 pub fn run_program<S: Source, K: Sink, E: Sink>(
     alloc: Global,
     input: &mut S,
     output: &mut K,
     errors: &mut E,
 ) -> u8
-    // There is a result of a run, with each clause of `run`, whose status and whose fault's line these are.
+    // There is a result of `run`, named `ended`, with each clause of `run`, in this order:
+    // - it is never `Script(Memory)`;
+    // - the status returned is its status: 0 of `Ok`, and else that of the fault;
+    // - after `Ok`, `errors` is as it was; else the line of the fault was appended to it and flushed, or a beginning of
+    //   that line was, and `errors` failed;
+    // - where the text of the source is known: what was read, what it means, and what was written, as `of_text` of
+    //   `run` says;
+    // - after `Ok` the output is flushed;
+    // - after `Script`, `Memory` and `Read` the output is as it was;
+    // - it is `Read` exactly where the source failed in this call;
+    // - it is `Write` exactly where the output failed in this call.
     ensures { (ended : Result (Unit {0}) RunFault)
         × (ended ≢ Err (faults.Script scripts.Memory))
         × (result ≡ status_of ended)

@@ -1,21 +1,22 @@
-//! Texts as scripts.
+//! Reads a text as a script.
 
 ghost use Rattle.std.specs.Prelude.{◌≡◌, IfSome, IsTrue};
-ghost use Rattle.offset_script.specs.Limits.{is_powered};
-ghost use Rattle.offset_script.specs.Grammar.{Gives, view, plain_command, number_command, pair_command, command_of, width_of, header_of, is_admitted, meaning_of};
+ghost use Rattle.offset_script.specs.Grammar.{has_valid_alignment, plain_command, number_command, pair_command, command_of, width_of, header_of, is_admitted, meaning_of};
+ghost use Rattle.offset_script.specs.Running.{Returns, view};
 
-use crate::cutting::{cut, number};
 use crate::faults::ScriptFault;
 use crate::lines::Lines;
 use crate::scripts::{Command, Header, IndexWidth, Script};
+use crate::tokens::{number, split_once};
 use std::alloc::Global;
 
-/// The greatest number of bytes of a script.
+/// The largest number of bytes of a script.
 pub const MAX_TEXT: usize = 1_048_576;
 
+// The command of one word.
 fn plain_command(name: &[u8]) -> Option<Command>
     ensures command { result ≡ plain_command name.now }
-    ensures powered { IfSome result (λ c. IsTrue (is_powered c)) }
+    ensures power { IfSome result (λ c. IsTrue (has_valid_alignment c)) }
 {
     if name == b"report".as_slice() {
         Some(Command::Report)
@@ -28,9 +29,10 @@ fn plain_command(name: &[u8]) -> Option<Command>
     }
 }
 
+// The command of a word and a number.
 fn number_command(name: &[u8], n: u32) -> Option<Command>
     ensures command { result ≡ number_command name.now n }
-    ensures powered { IfSome result (λ c. IsTrue (is_powered c)) }
+    ensures power { IfSome result (λ c. IsTrue (has_valid_alignment c)) }
 {
     if name == b"alloc".as_slice() {
         Some(Command::Alloc(n))
@@ -45,9 +47,10 @@ fn number_command(name: &[u8], n: u32) -> Option<Command>
     }
 }
 
+// The command of a word and two numbers, of which the second is an alignment.
 fn pair_command(name: &[u8], n: u32, a: u32) -> Option<Command>
     ensures command { result ≡ pair_command name.now n a }
-    ensures powered { IfSome result (λ c. IsTrue (is_powered c)) }
+    ensures power { IfSome result (λ c. IsTrue (has_valid_alignment c)) }
 {
     if name == b"align".as_slice() && a.is_power_of_two() {
         Some(Command::Align(n, a))
@@ -56,27 +59,28 @@ fn pair_command(name: &[u8], n: u32, a: u32) -> Option<Command>
     }
 }
 
-/// The command that a line is.
-#[tactic(auto, using(crate::proofs::Saying::four_words), unfolding(crate::specs::Grammar::command_of_words))]
+// The command that a line spells, if it does.
+#[tactic(auto, using(crate::proofs::FirstLine::four_words), unfolding(crate::specs::Grammar::command_of_words))]
 fn command(line: &[u8]) -> Option<Command>
     ensures command { result ≡ command_of line.now }
-    ensures powered { IfSome result (λ c. IsTrue (is_powered c)) }
+    ensures power { IfSome result (λ c. IsTrue (has_valid_alignment c)) }
 {
-    let (name, rest) = cut(line, b' ');
+    let (name, rest) = split_once(line, b' ');
     let Some(rest) = rest else {
         return plain_command(name);
     };
-    let (first, rest) = cut(rest, b' ');
+    let (first, rest) = split_once(rest, b' ');
     let Some(rest) = rest else {
         return number_command(name, number(first)?);
     };
-    let (second, rest) = cut(rest, b' ');
+    let (second, rest) = split_once(rest, b' ');
     if let Some(_more) = rest {
         return None;
     }
     pair_command(name, number(first)?, number(second)?)
 }
 
+// The index width that a word spells.
 fn width(word: &[u8]) -> Option<IndexWidth>
     ensures { result ≡ width_of word.now }
 {
@@ -89,17 +93,17 @@ fn width(word: &[u8]) -> Option<IndexWidth>
     }
 }
 
-/// The header that a line is in form.
-#[tactic(auto, using(crate::proofs::Saying::seven_words), unfolding(crate::specs::Grammar::header_of_words))]
+// The header that a line spells, if it does, whatever its limit.
+#[tactic(auto, using(crate::proofs::FirstLine::seven_words), unfolding(crate::specs::Grammar::header_of_words))]
 fn header(line: &[u8]) -> Option<Header>
     ensures { result ≡ header_of line.now }
 {
-    let (space, rest) = cut(line, b' ');
-    let (size, rest) = cut(rest?, b' ');
-    let (nodes, rest) = cut(rest?, b' ');
-    let (max_allocs, rest) = cut(rest?, b' ');
-    let (index, rest) = cut(rest?, b' ');
-    let (bits, rest) = cut(rest?, b' ');
+    let (space, rest) = split_once(line, b' ');
+    let (size, rest) = split_once(rest?, b' ');
+    let (nodes, rest) = split_once(rest?, b' ');
+    let (max_allocs, rest) = split_once(rest?, b' ');
+    let (index, rest) = split_once(rest?, b' ');
+    let (bits, rest) = split_once(rest?, b' ');
     if let Some(_more) = rest {
         return None;
     }
@@ -117,26 +121,28 @@ fn header(line: &[u8]) -> Option<Header>
 }
 
 impl Header {
+    // Whether the limit is at least 2, and the index width admits it.
     fn is_admitted(&self) -> bool
         ensures { result ≡ is_admitted self.now }
     {
-        let greatest = match self.index {
+        let largest = match self.index {
             IndexWidth::Bits16 => 65533,
             IndexWidth::Bits32 => 4_294_967_293,
         };
-        2 <= self.max_allocs && self.max_allocs <= greatest
+        2 <= self.max_allocs && self.max_allocs <= largest
     }
 }
 
-/// The script that a text is, or the fault of its first faulty line.
+/// Reads a text as a script, and returns it, or the fault of its first faulty line.
 ///
 /// A text of more than 1,048,576 bytes is `TooLong`. Lines end with LF and are counted from 1; empty lines and those
-/// that begin with `#` are skipped. The first other line has to be a header: `BadHeader` where it is not in form, or
-/// where there is none, and `BadLimit` where its limit is not admitted. Each later one has to be a command, or is
-/// `BadCommand`. `Memory` is returned only where a growth was refused.
+/// that begin with `#` are skipped. The first other line must be a header: it is `BadHeader` where it is none, or there
+/// is no such line, and `BadLimit` where its limit is not admitted. Each later line must be a command, or is
+/// `BadCommand`. `Memory` is returned only where an allocation failed.
 #[tactic(auto, using(crate::proofs::Steps::is_too_long, crate::proofs::Steps::has_no_header, crate::proofs::Steps::has_bad_form, crate::proofs::Steps::has_bad_limit, crate::proofs::Steps::has_header, crate::proofs::Steps::has_bad_command, crate::proofs::Steps::goes_on, crate::proofs::Steps::is_read))]
 pub fn parse(alloc: Global, text: &[u8]) -> Result<Script, ScriptFault>
-    ensures { Gives view result (meaning_of text.now) }
+    // The result is the script that the text means, or the fault of its first faulty line, or `Memory`.
+    ensures { Returns view result (meaning_of text.now) }
 {
     if text.len() > MAX_TEXT {
         return Err(ScriptFault::TooLong);

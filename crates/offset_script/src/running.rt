@@ -1,4 +1,4 @@
-//! From a source's bytes to a sink's.
+//! Runs a script from a source to a sink.
 
 ghost use Rattle.std.specs.Prelude.{◌≡◌, ◌≢◌, true, false, IfOk, IfErr, IfSome, OnOk, if◌then◌else◌};
 ghost use Rattle.offset_script.specs.Running.{RunOf, ScriptOf, Untouched, HasText, is_read_fault, is_write_fault, IsReadingFault};
@@ -14,10 +14,10 @@ use crate::scripts::Script;
 use crate::sending::send;
 use std::alloc::Global;
 
-/// How many bytes are asked for at once.
+// The largest number of bytes that one pull requests.
 const PIECE: usize = 16384;
 
-/// All bytes of the source, or the first `MAX_TEXT + 1`. It stops at the first failure.
+// All bytes of the source, or its first `MAX_TEXT + 1`. It stops at the first failure.
 fn read_text<S: Source>(alloc: Global, input: &mut S) -> Result<Vec<u8>, RunFault>
     ensures text { IfOk result (λ text. HasText text.items (S.left input.old) (S.left input.new)) }
     ensures failed { S.has_failed input.new ≡ (if is_read_fault result then true else S.has_failed input.old) }
@@ -36,14 +36,20 @@ fn read_text<S: Source>(alloc: Global, input: &mut S) -> Result<Vec<u8>, RunFaul
     Ok(text)
 }
 
-/// The script that a source holds: it is read to its end, or its first 1,048,577 bytes are, which are too many.
+/// Reads a source to its end as a script, and returns it, or the fault.
 ///
-/// `Read` is returned exactly where the source failed in this call, and no failed call is tried again. Where memory was
-/// refused, the fault is `Memory`.
+/// Of a text that is too long, 1,048,577 bytes are read. `Read` is returned exactly where the source failed in this
+/// call; no failed call is tried again. Where an allocation fails, the fault is `Memory`.
 pub fn read_script<S: Source>(alloc: Global, input: &mut S) -> Result<Script, RunFault>
+    // Where the text of the source is known: the result is the script that the text means, or its fault, and nothing of
+    // the text is left, except what follows the first 1,048,577 bytes of one that is too long. On `Memory` and
+    // `Read` nothing is said.
     ensures of_text { IfSome (S.left input.old) (λ text. ScriptOf result text (S.left input.new)) }
+    // Out of memory is `Memory`, and never `Script(Memory)`.
     ensures memory { result ≢ Err (faults.Script scripts.Memory) }
+    // The fault is never `Write`.
     ensures write { is_write_fault result ≡ false }
+    // The fault is `Read` exactly where the source failed in this call.
     ensures read { S.has_failed input.new ≡ (if is_read_fault result then true else S.has_failed input.old) }
 {
     let text = read_text(alloc, input)?;
@@ -52,16 +58,24 @@ pub fn read_script<S: Source>(alloc: Global, input: &mut S) -> Result<Script, Ru
 
 /// Reads a script to its end, plays it, writes the text of its answers, and then flushes.
 ///
-/// Nothing is written unless the whole text is a script. Reading stops after 1,048,577 bytes, which are too many.
-/// `Read` is returned exactly where the source failed in this call, and `Write` exactly where the sink did: then a
-/// beginning of the text is written. No failed call is tried again. Where memory was refused, the fault is `Memory`.
+/// Nothing is written unless the whole text is a script; of a text that is too long, 1,048,577 bytes are read. `Read`
+/// is returned exactly where the source failed in this call, and `Write` exactly where the sink did; then a beginning
+/// of the answers is written. No failed call is tried again. Where an allocation fails, the fault is `Memory`.
 pub fn run<S: Source, K: Sink>(alloc: Global, input: &mut S, output: &mut K) -> Result<(), RunFault>
+    // Where the text of the source is known: on `Ok` it means a script, and the text of all its answers is appended; on
+    // `Write` a beginning of that text is; on `Script` the fault is that of the text. Nothing of the text is left,
+    // except what follows the first 1,048,577 bytes of one that is too long. On `Memory` and `Read` nothing is said.
     ensures of_text { IfSome (S.left input.old)
         (λ text. RunOf result text (S.left input.new) (K.held output.old) (K.held output.new)) }
+    // After `Ok` the sink is flushed.
     ensures flushed { OnOk result (K.is_flushed output.new ≡ true) }
+    // After `Script`, `Memory` and `Read` the sink is as it was.
     ensures untouched { Untouched result output.old output.new }
+    // Out of memory is `Memory`, and never `Script(Memory)`.
     ensures memory { result ≢ Err (faults.Script scripts.Memory) }
+    // The fault is `Read` exactly where the source failed in this call.
     ensures read { S.has_failed input.new ≡ (if is_read_fault result then true else S.has_failed input.old) }
+    // The fault is `Write` exactly where the sink failed in this call.
     ensures write { K.has_failed output.new ≡ (if is_write_fault result then true else K.has_failed output.old) }
 {
     let script = read_script(alloc, input)?;

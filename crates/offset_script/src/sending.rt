@@ -1,16 +1,15 @@
-//! Texts to sinks.
+//! Sends texts to sinks.
 
 ghost use Rattle.std.specs.Prelude.{◌≡◌, ◌++◌, true, IsTrue, if◌then◌else◌};
 ghost use Rattle.std.specs.List.{flat_map};
-ghost use Rattle.offset_script.specs.Answers.{line_end};
+ghost use Rattle.offset_script.specs.Running.{line_end, Sends};
 ghost use Rattle.offset_script.specs.Faults.{fault_line};
-ghost use Rattle.offset_script.specs.Running.{Sends};
 
-use crate::cutting::{MOST_DIGITS, digits};
 use crate::devices::Sink;
 use crate::faults::RunFault;
+use crate::tokens::{MOST_DIGITS, digits};
 
-/// Appends all bytes. It stops at the first failure, and tries nothing again.
+// Appends all bytes, and returns whether it did. It stops at the first failure, and tries nothing again.
 fn push_all<K: Sink>(output: &mut K, text: &[u8]) -> bool
     ensures sent { Sends result text.now (K.held output.old) (K.held output.new) }
     ensures failed { K.has_failed output.new ≡ (if result then K.has_failed output.old else true) }
@@ -25,17 +24,21 @@ fn push_all<K: Sink>(output: &mut K, text: &[u8]) -> bool
     true
 }
 
-/// Appends all bytes, and then flushes, also where there are none. It stops at the first failure, and tries nothing
-/// again.
+/// Appends all bytes, and then flushes, also where there are none. Returns whether both succeeded. It stops at the
+/// first failure, and tries nothing again.
 pub fn send<K: Sink>(output: &mut K, text: &[u8]) -> bool
+    // On `true` the whole text is appended, on `false` a beginning of it.
     ensures sent { Sends result text.now (K.held output.old) (K.held output.new) }
+    // The result is `false` exactly where the sink failed in this call.
     ensures failed { K.has_failed output.new ≡ (if result then K.has_failed output.old else true) }
+    // On `true` the sink is flushed.
     ensures flushed { IsTrue result → K.is_flushed output.new ≡ true }
 {
     push_all(output, text) && output.flush()
 }
 
-/// Appends the pieces of a text in turn, and then flushes. It stops at the first failure, and tries nothing again.
+// Appends the pieces of a text in turn, and then flushes. Returns whether all succeeded. It stops at the first failure,
+// and tries nothing again.
 fn send_pieces<K: Sink>(output: &mut K, pieces: &[&[u8]]) -> bool
     ensures sent { Sends result (flat_map (λ piece. piece.now) pieces.now) (K.held output.old) (K.held output.new) }
     ensures failed { K.has_failed output.new ≡ (if result then K.has_failed output.old else true) }
@@ -49,11 +52,14 @@ fn send_pieces<K: Sink>(output: &mut K, pieces: &[&[u8]]) -> bool
     output.flush()
 }
 
-/// Appends the line of a fault with its line end, and then flushes. It stops at the first failure, and takes no
-/// memory.
+/// Appends the line of a fault with its line end, and then flushes. Returns whether both succeeded. It stops at the
+/// first failure, tries nothing again, and allocates nothing.
 pub fn send_fault<K: Sink>(output: &mut K, fault: RunFault) -> bool
+    // On `true` the line of the fault with its line end is appended, on `false` a beginning of it.
     ensures sent { Sends result (fault_line fault ++ line_end) (K.held output.old) (K.held output.new) }
+    // The result is `false` exactly where the sink failed in this call.
     ensures failed { K.has_failed output.new ≡ (if result then K.has_failed output.old else true) }
+    // On `true` the sink is flushed.
     ensures flushed { IsTrue result → K.is_flushed output.new ≡ true }
 {
     match fault.parts() {

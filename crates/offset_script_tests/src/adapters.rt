@@ -1,4 +1,4 @@
-//! Each call of an adapter is one call of what stands behind it, also after a failure.
+//! Each call of an adapter is one call of its reader or writer, also after a failure.
 
 use crate::support::{Reader, Writer};
 use offset_script::{FromRead, IntoWrite, Sink, Source};
@@ -35,7 +35,7 @@ fn pulls_nothing_by_one_read(rt: HostRuntime) {
     assert_eq!(rt; input.into_inner().reads, 1);
 }
 
-// A buffer without room, and one of more room than a run asks for.
+// An empty buffer, and a longer one than a run uses.
 #[test]
 fn pulls_into_any_buffer_by_one_read(rt: HostRuntime) -> Result<(), Fail> {
     let text = vec![in rt.alloc(); b'a'; 100_000]?;
@@ -77,7 +77,7 @@ fn pushes_again_after_a_failure(rt: HostRuntime) {
     assert_eq!(rt; output.into_inner().writes, 2);
 }
 
-// A write that takes nothing is a failure, and is not made again.
+// A write that takes nothing is a failure, and is not tried again.
 #[test]
 fn fails_where_a_write_takes_nothing(rt: HostRuntime) {
     let mut writer = Writer::new(rt.alloc(), 3);

@@ -18,7 +18,7 @@ fn expect_text<T: Debug>(
 }
 
 #[test]
-fn names_answers(rt: HostRuntime) -> Result<(), Fail> {
+fn prints_answers(rt: HostRuntime) -> Result<(), Fail> {
     let report = StorageReport {
         total_free_space: 90,
         largest_free_region: 88,
@@ -49,7 +49,7 @@ fn names_answers(rt: HostRuntime) -> Result<(), Fail> {
 }
 
 #[test]
-fn names_the_rows_of_an_answer(rt: HostRuntime) -> Result<(), Fail> {
+fn prints_the_rows_of_an_answer(rt: HostRuntime) -> Result<(), Fail> {
     let mut rows = Vec::new(rt.alloc());
     for (class, size, count) in [(35u32, 88u32, 1u32), (239, 4_026_531_840, 2)] {
         rows.push(FullRow { class, size, count })?;
@@ -63,7 +63,7 @@ fn names_the_rows_of_an_answer(rt: HostRuntime) -> Result<(), Fail> {
 }
 
 #[test]
-fn names_commands(rt: HostRuntime) -> Result<(), Fail> {
+fn prints_commands(rt: HostRuntime) -> Result<(), Fail> {
     for (command, wanted) in [
         (Command::Alloc(1), "Alloc(1)"),
         (Command::Free(2), "Free(2)"),
@@ -86,7 +86,7 @@ fn names_commands(rt: HostRuntime) -> Result<(), Fail> {
 }
 
 #[test]
-fn names_faults(rt: HostRuntime) -> Result<(), Fail> {
+fn prints_faults(rt: HostRuntime) -> Result<(), Fail> {
     for (fault, wanted) in [
         (RunFault::Script(ScriptFault::TooLong), "Script(TooLong)"),
         (

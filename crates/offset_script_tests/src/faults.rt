@@ -8,7 +8,7 @@ use std::test::Fail;
 const TEXT: &[u8] = b"space 10 nodes 4 index 32\nalloc 10\nfree 1\n";
 
 #[test]
-fn tells_faults(rt: HostRuntime) -> Result<(), Fail> {
+fn reports_faults(rt: HostRuntime) -> Result<(), Fail> {
     for (fault, line, status) in [
         (RunFault::Script(ScriptFault::TooLong), "too long", 2u8),
         (
@@ -37,8 +37,13 @@ fn tells_faults(rt: HostRuntime) -> Result<(), Fail> {
     Ok(())
 }
 
-// The status of a program over these devices, and its output and its errors as they are left.
-fn ended(alloc: Global, input: Reader<'_>, output: Writer, errors: Writer) -> (u8, Writer, Writer) {
+// The status of a program over these devices, and the output and the errors that it leaves.
+fn run_over(
+    alloc: Global,
+    input: Reader<'_>,
+    output: Writer,
+    errors: Writer,
+) -> (u8, Writer, Writer) {
     let mut input = FromRead::new(input);
     let mut output = IntoWrite::new(output);
     let mut errors = IntoWrite::new(errors);
@@ -49,7 +54,8 @@ fn ended(alloc: Global, input: Reader<'_>, output: Writer, errors: Writer) -> (u
 #[test]
 fn a_good_run_ends_with_0_and_no_line(rt: HostRuntime) -> Result<(), Fail> {
     let writer = || Writer::new(rt.alloc(), 4096);
-    let (status, output, errors) = ended(rt.alloc(), Reader::new(TEXT, 4096), writer(), writer());
+    let (status, output, errors) =
+        run_over(rt.alloc(), Reader::new(TEXT, 4096), writer(), writer());
     assert_eq!(rt; status, 0);
     assert_eq!(rt;
         output.taken.as_slice(),
@@ -72,7 +78,7 @@ fn a_text_that_is_no_script_ends_with_2_and_its_line(rt: HostRuntime) -> Result<
         ),
     ] {
         for piece in [1usize, 4096] {
-            let (status, output, errors) = ended(
+            let (status, output, errors) = run_over(
                 rt.alloc(),
                 Reader::new(text, 4096),
                 Writer::new(rt.alloc(), 4096),
@@ -92,19 +98,19 @@ fn a_device_that_fails_ends_with_4_and_its_line(rt: HostRuntime) -> Result<(), F
     let writer = || Writer::new(rt.alloc(), 4096);
     let mut reader = Reader::new(TEXT, 4096);
     reader.fails_at = 2;
-    let (status, output, errors) = ended(rt.alloc(), reader, writer(), writer());
+    let (status, output, errors) = run_over(rt.alloc(), reader, writer(), writer());
     assert_eq!(rt; (status, output.writes), (4, 0));
     assert_eq!(rt; errors.taken.as_slice(), b"read failed\n".as_slice());
     let mut full = Writer::new(rt.alloc(), 8);
     full.fails_at = 2;
-    let (status, output, errors) = ended(rt.alloc(), Reader::new(TEXT, 4096), full, writer());
+    let (status, output, errors) = run_over(rt.alloc(), Reader::new(TEXT, 4096), full, writer());
     assert_eq!(rt; status, 4);
     assert_eq!(rt; output.taken.as_slice(), b"grant 1 ".as_slice());
     assert_eq!(rt; errors.taken.as_slice(), b"write failed\n".as_slice());
     Ok(())
 }
 
-// The line of the fault takes a byte a write, and one of the writes fails, or the flush does.
+// Each write of the line takes one byte, and one of the writes fails, or the flush does.
 #[test]
 fn errors_that_fail_change_no_status(rt: HostRuntime) -> Result<(), Fail> {
     const LINE: &[u8] = b"line 12: bad header\n";
@@ -112,7 +118,7 @@ fn errors_that_fail_change_no_status(rt: HostRuntime) -> Result<(), Fail> {
         let mut errors = Writer::new(rt.alloc(), 1);
         errors.fails_at = fails_at;
         errors.fails_flush = true;
-        let (status, output, errors) = ended(
+        let (status, output, errors) = run_over(
             rt.alloc(),
             Reader::new(b"\n\n\n\n\n\n\n\n\n\n\nalloc 1", 4096),
             Writer::new(rt.alloc(), 4096),

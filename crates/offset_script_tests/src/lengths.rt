@@ -1,11 +1,11 @@
-//! Texts at the greatest length, and above it.
+//! Texts of the largest length, and longer ones.
 
 use crate::support::{Reader, told};
 use offset_script::{FromRead, IntoWrite, RunFault, ScriptFault, run};
 use std::test::Fail;
 
 #[test]
-fn takes_the_greatest_length(rt: HostRuntime) -> Result<(), Fail> {
+fn reads_a_text_of_the_largest_length(rt: HostRuntime) -> Result<(), Fail> {
     let text = vec![in rt.alloc(); b'#'; 1_048_576]?;
     assert_eq!(rt;
         told(rt.alloc(), &text)?.as_str(),
@@ -21,9 +21,9 @@ fn refuses_one_byte_more(rt: HostRuntime) -> Result<(), Fail> {
     Ok(())
 }
 
-// Whatever the pieces, reading stops behind 1,048,577 bytes.
+// In pieces of any length, reading stops after 1,048,577 bytes.
 #[test]
-fn leaves_the_rest_unread(rt: HostRuntime) -> Result<(), Fail> {
+fn leaves_what_follows_unread(rt: HostRuntime) -> Result<(), Fail> {
     let text = vec![in rt.alloc(); b'#'; 1_048_577 + 5]?;
     for piece in [1000usize, 1 << 20, 1 << 30] {
         let mut input = FromRead::new(Reader::new(&text, piece));

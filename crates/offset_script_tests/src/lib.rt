@@ -4,13 +4,13 @@
 #[cfg(test)]
 mod adapters;
 #[cfg(test)]
+mod beginnings;
+#[cfg(test)]
+mod beginnings_with_answers;
+#[cfg(test)]
 mod debug_texts;
 #[cfg(test)]
 mod faults;
-#[cfg(test)]
-mod fronts;
-#[cfg(test)]
-mod fronts_with_answers;
 #[cfg(test)]
 mod headers;
 #[cfg(test)]

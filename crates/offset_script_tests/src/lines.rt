@@ -1,6 +1,6 @@
 //! Faulty lines after a header.
 
-use crate::support::{joined, told};
+use crate::support::{told, with_line};
 use std::test::Fail;
 
 const HEADER: &[u8] = b"space 10 nodes 4 index 32\n";
@@ -21,7 +21,7 @@ fn refuses_faulty_lines(rt: HostRuntime) -> Result<(), Fail> {
         b"\x00".as_slice(),
         b"space 10 nodes 4 index 32".as_slice(),
     ] {
-        let text = joined(rt.alloc(), HEADER, line)?;
+        let text = with_line(rt.alloc(), HEADER, line)?;
         assert_eq!(rt;
             told(rt.alloc(), &text)?.as_str(),
             "line 2: bad command, status 2"
@@ -38,7 +38,7 @@ fn refuses_faulty_numbers(rt: HostRuntime) -> Result<(), Fail> {
         b"align 1 0".as_slice(),
         b"align 1".as_slice(),
     ] {
-        let text = joined(rt.alloc(), HEADER, line)?;
+        let text = with_line(rt.alloc(), HEADER, line)?;
         assert_eq!(rt;
             told(rt.alloc(), &text)?.as_str(),
             "line 2: bad command, status 2"
@@ -49,7 +49,7 @@ fn refuses_faulty_numbers(rt: HostRuntime) -> Result<(), Fail> {
 
 // Skipped lines are counted, the size has leading zeros, and the last number has eleven digits.
 #[test]
-fn tells_the_first_faulty_line(rt: HostRuntime) -> Result<(), Fail> {
+fn reports_the_first_faulty_line(rt: HostRuntime) -> Result<(), Fail> {
     let text = b"# c\n\nspace 010 nodes 4 index 32\nalloc 0000000001\nalloc 00000000001\n";
     assert_eq!(rt;
         told(rt.alloc(), text.as_slice())?.as_str(),

@@ -1,4 +1,4 @@
-//! Readers that fail, that stop, and that give small pieces.
+//! Readers that fail, that stop, and that return small pieces.
 
 use crate::support::{Reader, Writer};
 use offset_script::{FromRead, IntoWrite, RunFault, ScriptFault, run};
@@ -8,7 +8,7 @@ const TEXT: &[u8] = b"space 10 nodes 4 index 32\nalloc 10\nfree 1\n";
 
 const HEADER: &[u8] = b"space 10 nodes 4 index 32";
 
-// Each read gives a byte, and one of them fails once. Nothing is read after it, and nothing written.
+// Each read returns one byte, and one of them fails once. Nothing is read after it, and nothing written.
 #[test]
 fn stops_at_a_failed_read(rt: HostRuntime) -> Result<(), Fail> {
     for fails_at in 1..44u32 {
@@ -27,7 +27,7 @@ fn stops_at_a_failed_read(rt: HostRuntime) -> Result<(), Fail> {
     Ok(())
 }
 
-// A read of 0 bytes is the end of the text, though more would come.
+// A read of 0 bytes is the end of the text, even where more would follow.
 #[test]
 fn stops_at_an_empty_read(rt: HostRuntime) -> Result<(), Fail> {
     for empty_at in 1..26u32 {

@@ -1,4 +1,4 @@
-//! Scripts with their answers, from readers and to writers of any pieces.
+//! Scripts with their answers, read and written in pieces of several lengths.
 
 use crate::support::{Reader, Writer};
 use offset_script::{FromRead, IntoWrite, run};
@@ -6,7 +6,7 @@ use std::alloc::{AllocError, Global};
 use std::process::Abort;
 use std::test::Fail;
 
-/// A header without its bits, the lines after it, and the answers.
+/// A header without its index width, the lines after it, and the answers.
 pub const ROWS: [(&str, &str, &str); 25] = [
     (
         "space 100 nodes 16 index",
@@ -18,13 +18,13 @@ pub const ROWS: [(&str, &str, &str); 25] = [
         "\nalloc 17\nalloc 16\nalloc 1\n",
         "none\ngrant 1 at 0\ngrant 2 at 16\n",
     ),
-    // An exact fit is refused where no further block may stand.
+    // An exact fit is refused where no further block may exist.
     (
         "space 100 nodes 4 index",
         "\nalloc 10\nalloc 10\nfree 1\nalloc 10\nreport\nfull\n",
         "grant 1 at 0\ngrant 2 at 10\nfreed\nnone\nfree 0 largest 0\nfull 2\nclass 10 size 10 count 1\nclass 34 size 80 count 1\n",
     ),
-    // The newest block goes first, and not the lowest.
+    // The newest block of a class is taken, and not the lowest.
     (
         "space 100 nodes 16 index",
         "\nalloc 10\nalloc 10\nalloc 10\nalloc 10\nfree 1\nfree 3\nalloc 10\nalloc 10\nreport\n",
@@ -35,7 +35,7 @@ pub const ROWS: [(&str, &str, &str); 25] = [
         "\nalloc 20\nalloc 4\nfree 1\nalloc 18\nalloc 2\nfree 1\nsize 4\n",
         "grant 1 at 0\ngrant 2 at 20\nfreed\ngrant 3 at 0\ngrant 4 at 18\ngone\nsize 2\n",
     ),
-    // A front of 6 units stays free between two used blocks.
+    // Padding of 6 units stays free between two used blocks.
     (
         "space 100 nodes 16 index",
         "\nalloc 10\nalign 8 16\nreport\n",
@@ -46,7 +46,7 @@ pub const ROWS: [(&str, &str, &str); 25] = [
         "\nalloc 10\nreset\nfree 1\nalloc 10\nsize 2\nreport\n",
         "grant 1 at 0\nreset\ngone\ngrant 2 at 0\nsize 10\nfree 40 largest 40\n",
     ),
-    // A free last block grows also where no further block may stand.
+    // A free last block grows also where no further block may exist.
     (
         "space 10 nodes 4 index",
         "\nalloc 8\nextend 20\nalloc 20\nreport\nextend 5\nfull\n",
@@ -85,7 +85,7 @@ pub const ROWS: [(&str, &str, &str); 25] = [
         "\nalloc 32\nalloc 1\nalloc 35\nalloc 1\nfree 1\nfree 3\nalloc 28\n",
         "grant 1 at 0\ngrant 2 at 32\ngrant 3 at 33\ngrant 4 at 68\nfreed\nfreed\ngrant 5 at 33\n",
     ),
-    // A space without grants goes on as a fresh one, but for the numbers.
+    // A space without grants continues as a fresh one, except for the numbers.
     (
         "space 48 nodes 8 index",
         "\nalloc 10\nalloc 20\nfree 1\nfree 2\nalloc 48\nsize 3\nfree 1\n",
@@ -113,7 +113,7 @@ pub const ROWS: [(&str, &str, &str); 25] = [
         "\nalloc 0\nalloc 0\nalloc 0\nalloc 0\nfree 2\nfull\nalloc 0\nfree 3\nalloc 0\nreport\n",
         "grant 1 at 0\ngrant 2 at 0\ngrant 3 at 0\nnone\nfreed\nfull 2\nclass 0 size 0 count 1\nclass 6 size 6 count 1\nnone\nfreed\ngrant 4 at 0\nfree 6 largest 6\n",
     ),
-    // The greatest space.
+    // The largest space.
     (
         "space 4294967295 nodes 8 index",
         "\nalloc 4294967295\nalloc 4026531840\nalloc 268435455\nreport\nalloc 251658240\n",
@@ -124,13 +124,13 @@ pub const ROWS: [(&str, &str, &str); 25] = [
         "\nalign 16 16\nalign 16 16\nfull\n",
         "grant 1 at 0\ngrant 2 at 16\nfull 1\nclass 24 size 32 count 1\n",
     ),
-    // First the sum is too great, then one spare block is too few.
+    // First the sum is too large, then two further blocks are needed and only one may exist.
     (
         "space 100 nodes 4 index",
         "\nalign 4294967295 2\nalloc 10\nalign 1 2\nalign 1 1\n",
         "none\ngrant 1 at 0\nnone\ngrant 2 at 10\n",
     ),
-    // Front and rest are of one class, and the rest is the newer.
+    // Padding and remainder are of one class, and the remainder is newer.
     (
         "space 15 nodes 8 index",
         "\nalloc 2\nalign 1 8\nalloc 6\n",
@@ -149,7 +149,7 @@ pub fn text_of(alloc: Global, header: &str, bits: u32, lines: &str) -> Result<St
     format!(in alloc; "{header} {bits}{lines}")
 }
 
-/// What a script writes, read and written in pieces of so many bytes at most.
+/// Expects these answers of a script, read and written in pieces of at most this many bytes.
 pub fn expect_written(
     rt: &impl Abort,
     alloc: Global,
@@ -165,7 +165,7 @@ pub fn expect_written(
     Ok(())
 }
 
-/// A script of each index width, whose limit both admit, writes these answers, in whatever pieces.
+/// Expects these answers of a script of each index width, both of which admit its limit, in pieces of several lengths.
 pub fn expect_row(
     rt: &impl Abort,
     alloc: Global,
@@ -183,7 +183,7 @@ pub fn expect_row(
 }
 
 #[test]
-fn answers_scripts(rt: HostRuntime) -> Result<(), Fail> {
+fn plays_scripts(rt: HostRuntime) -> Result<(), Fail> {
     for (header, lines, wanted) in ROWS {
         expect_row(&rt, rt.alloc(), header, lines, wanted)?;
     }

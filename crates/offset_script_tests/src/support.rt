@@ -5,8 +5,8 @@ pub use offset_test_base::runs::told;
 use std::alloc::Global;
 use std::test::Fail;
 
-/// A front of some lines, and a line behind it.
-pub fn joined(alloc: Global, front: &[u8], line: &[u8]) -> Result<Vec<u8>, Fail> {
+/// A text, and a line after it.
+pub fn with_line(alloc: Global, front: &[u8], line: &[u8]) -> Result<Vec<u8>, Fail> {
     let mut text = front.to_vec(alloc)?;
     text.extend_from_slice(line)?;
     text.push(b'\n')?;

@@ -1,4 +1,4 @@
-//! A use of `run` over bytes in memory, proved by the contract of `run` alone.
+//! A use of `run` on bytes in memory, proved from the contract of `run` alone.
 
 ghost use Rattle.std.specs.Prelude.{◌≡◌, [], Some, Ok, Err, IfOk};
 ghost use Rattle.offset_script.specs.declared.faults.ScriptFault.{ScriptFault};
@@ -9,8 +9,8 @@ ghost use Rattle.offset_script.specs.Running.{WritesAnswers};
 use offset_script::{FromRead, IntoWrite, RunFault, run};
 use std::alloc::Global;
 
-/// The answer text of a script, or the fault of its first faulty line.
-pub fn answered(alloc: Global, text: &[u8]) -> Result<Vec<u8>, RunFault>
+/// Plays a script, and returns the text of its answers, or the fault.
+pub fn answers_in_memory(alloc: Global, text: &[u8]) -> Result<Vec<u8>, RunFault>
     ensures answers { IfOk result (λ bytes. WritesAnswers text.now (Some []) (Some bytes.items)) }
     ensures fault { (f : ScriptFault) → result ≡ Err (faults.Script f) → meaning_of text.now ≡ Err f }
 {
@@ -26,15 +26,15 @@ mod tests {
     use std::test::Fail;
 
     #[test]
-    fn answers_a_script_in_memory(rt: HostRuntime) -> Result<(), Fail> {
+    fn plays_a_script_in_memory(rt: HostRuntime) -> Result<(), Fail> {
         let text = b"space 10 nodes 4 index 16\nalloc 3\nalloc 3\n".as_slice();
         assert_eq!(rt;
-            answered(rt.alloc(), text)?.as_slice(),
+            answers_in_memory(rt.alloc(), text)?.as_slice(),
             b"grant 1 at 0\ngrant 2 at 3\n".as_slice()
         );
         let faulty = b"space 10 nodes 4 index 16\nalloc\n".as_slice();
         assert_eq!(rt;
-            answered(rt.alloc(), faulty),
+            answers_in_memory(rt.alloc(), faulty),
             Err(RunFault::Script(ScriptFault::BadCommand(2)))
         );
         Ok(())

@@ -1,4 +1,4 @@
-//! Writers under an empty answer text.
+//! Writers where there are no answers to write.
 
 use crate::support::Writer;
 use offset_script::{FromRead, IntoWrite, RunFault, run};
@@ -19,7 +19,7 @@ fn flushes_an_empty_text_once(rt: HostRuntime) -> Result<(), Fail> {
 }
 
 #[test]
-fn tells_a_failed_flush_of_an_empty_text(rt: HostRuntime) -> Result<(), Fail> {
+fn reports_a_failed_flush_of_an_empty_text(rt: HostRuntime) -> Result<(), Fail> {
     let mut writer = Writer::new(rt.alloc(), 1);
     writer.fails_flush = true;
     let mut output = IntoWrite::new(writer);

@@ -9,20 +9,20 @@ const TEXT: &[u8] = b"space 10 nodes 4 index 32\nalloc 10\nfree 1\n";
 
 const ANSWERS: &[u8] = b"grant 1 at 0\nfreed\n";
 
-// How a run ends whose answers go to a writer, and the writer.
-fn written(alloc: Global, writer: Writer) -> (Result<(), RunFault>, Writer) {
+// The result of a run whose answers go to a writer, and the writer.
+fn run_to(alloc: Global, writer: Writer) -> (Result<(), RunFault>, Writer) {
     let mut output = IntoWrite::new(writer);
     let result = run(alloc, &mut FromRead::new(TEXT), &mut output);
     (result, output.into_inner())
 }
 
-// Each write takes a byte, and one of them fails once. Nothing is written after it, and it is not flushed.
+// Each write takes one byte, and one of them fails once. Nothing is written after it, and it is not flushed.
 #[test]
 fn stops_at_a_failed_write(rt: HostRuntime) -> Result<(), Fail> {
     for fails_at in 1..20u32 {
         let mut writer = Writer::new(rt.alloc(), 1);
         writer.fails_at = fails_at;
-        let (result, writer) = written(rt.alloc(), writer);
+        let (result, writer) = run_to(rt.alloc(), writer);
         assert_eq!(rt; result, Err(RunFault::Write));
         assert_eq!(rt; writer.taken.as_slice(), &ANSWERS[..fails_at as usize - 1]);
         assert_eq!(rt; (writer.writes, writer.flushes), (fails_at, 0));
@@ -30,13 +30,13 @@ fn stops_at_a_failed_write(rt: HostRuntime) -> Result<(), Fail> {
     Ok(())
 }
 
-// A write that takes 0 bytes is a failure, though more would be taken.
+// A write that takes 0 bytes is a failure, even where more would be taken.
 #[test]
 fn stops_at_an_empty_write(rt: HostRuntime) -> Result<(), Fail> {
     for empty_at in 1..20u32 {
         let mut writer = Writer::new(rt.alloc(), 1);
         writer.empty_at = empty_at;
-        let (result, writer) = written(rt.alloc(), writer);
+        let (result, writer) = run_to(rt.alloc(), writer);
         assert_eq!(rt; result, Err(RunFault::Write));
         assert_eq!(rt; writer.taken.as_slice(), &ANSWERS[..empty_at as usize - 1]);
         assert_eq!(rt; (writer.writes, writer.flushes), (empty_at, 0));
@@ -44,11 +44,11 @@ fn stops_at_an_empty_write(rt: HostRuntime) -> Result<(), Fail> {
     Ok(())
 }
 
-// The flush comes once, behind all bytes.
+// There is one flush, after all bytes.
 #[test]
 fn flushes_last(rt: HostRuntime) -> Result<(), Fail> {
     for (piece, writes) in [(1usize, 19u32), (2, 10), (4096, 1)] {
-        let (result, writer) = written(rt.alloc(), Writer::new(rt.alloc(), piece));
+        let (result, writer) = run_to(rt.alloc(), Writer::new(rt.alloc(), piece));
         assert_eq!(rt; result, Ok(()));
         assert_eq!(rt; writer.taken.as_slice(), ANSWERS);
         assert_eq!(rt;
@@ -60,10 +60,10 @@ fn flushes_last(rt: HostRuntime) -> Result<(), Fail> {
 }
 
 #[test]
-fn tells_a_failed_flush(rt: HostRuntime) -> Result<(), Fail> {
+fn reports_a_failed_flush(rt: HostRuntime) -> Result<(), Fail> {
     let mut writer = Writer::new(rt.alloc(), 1);
     writer.fails_flush = true;
-    let (result, writer) = written(rt.alloc(), writer);
+    let (result, writer) = run_to(rt.alloc(), writer);
     assert_eq!(rt; result, Err(RunFault::Write));
     assert_eq!(rt; writer.taken.as_slice(), ANSWERS);
     assert_eq!(rt; (writer.flushes, writer.flushed), (1, Some(19)));

@@ -1,14 +1,14 @@
-//! Readers and writers that count their calls, and fail where they are asked to.
+//! Readers and writers that count their calls, and fail at a chosen call.
 
 use std::alloc::Global;
 use std::io;
 use std::io::{Error, ErrorKind, Read, Write};
 
-/// Gives a text in pieces, and counts the reads.
+/// A reader that gives a text in pieces, and counts the reads.
 #[derive(Drop)]
 pub struct Reader<'a> {
     pub text: &'a [u8],
-    /// The most bytes of one read.
+    /// The largest number of bytes that one read gives.
     pub piece: usize,
     pub reads: u32,
     /// The read of this number, from 1, fails.
@@ -40,22 +40,22 @@ impl<'a> Read for Reader<'a> {
             return Ok(0);
         }
         let n = self.piece.min(buf.len()).min(self.text.len());
-        let (taken, rest) = self.text.split_at(n);
+        let (taken, left) = self.text.split_at(n);
         buf[..n].copy_from_slice(taken);
-        self.text = rest;
+        self.text = left;
         Ok(n)
     }
 }
 
-/// Takes bytes in pieces, and counts the writes and flushes.
+/// A writer that takes bytes in pieces, and counts the writes and flushes.
 #[derive(Drop)]
 pub struct Writer {
     pub taken: Vec<u8>,
-    /// The most bytes of one write.
+    /// The largest number of bytes that one write takes.
     pub piece: usize,
     pub writes: u32,
     pub flushes: u32,
-    /// How many bytes were taken when it was last flushed.
+    /// The number of bytes that were taken at the last flush.
     pub flushed: Option<usize>,
     /// The write of this number, from 1, fails.
     pub fails_at: u32,

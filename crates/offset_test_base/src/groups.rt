@@ -1,4 +1,4 @@
-//! The size classes in groups of eight, from a table.
+//! The values of the size classes, in groups of eight, as a table.
 
 /// The first value and the step of each group.
 pub const GROUPS: [(u64, u64); 32] = [
@@ -36,7 +36,7 @@ pub const GROUPS: [(u64, u64); 32] = [
     (8_589_934_592, 1_073_741_824),
 ];
 
-/// The value of a class, and the greatest number where there is no such class.
+/// The value of a class, or `u64::MAX` where there is no such class.
 pub fn value_of(class: usize) -> u64 {
     match GROUPS.get(class / 8) {
         None => u64::MAX,

@@ -1,4 +1,4 @@
-//! What the crates of tests share.
+//! Code that the test crates share.
 #![tactic(auto)]
 
 pub mod devices;

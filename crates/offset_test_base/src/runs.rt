@@ -4,7 +4,7 @@ use offset_script::{FromRead, IntoWrite, run};
 use std::alloc::Global;
 use std::test::Fail;
 
-/// What a run writes, and behind it the line and the status of its fault.
+/// What a run writes, followed by the line and the status of its fault if it has one.
 pub fn told(alloc: Global, text: &[u8]) -> Result<String, Fail> {
     let mut output = IntoWrite::new(Vec::new(alloc));
     let result = run(alloc, &mut FromRead::new(text), &mut output);

@@ -1,4 +1,4 @@
-//! Requests at a multiple of a power of two.
+//! Aligned requests.
 
 use crate::steps::Limit::Limited;
 use crate::steps::Step::{Aligns, Counts, Frees, Grants, Refuses, RefusesAligned, Reports};
@@ -6,7 +6,7 @@ use crate::steps::expect;
 use std::test::Fail;
 
 #[test]
-fn keeps_the_front_free(rt: HostRuntime) -> Result<(), Fail> {
+fn keeps_the_padding_free(rt: HostRuntime) -> Result<(), Fail> {
     expect(
         &rt,
         rt.alloc(),
@@ -17,7 +17,7 @@ fn keeps_the_front_free(rt: HostRuntime) -> Result<(), Fail> {
 }
 
 #[test]
-fn needs_no_front_at_a_multiple(rt: HostRuntime) -> Result<(), Fail> {
+fn needs_no_padding_at_a_multiple(rt: HostRuntime) -> Result<(), Fail> {
     expect(
         &rt,
         rt.alloc(),
@@ -31,9 +31,9 @@ fn needs_no_front_at_a_multiple(rt: HostRuntime) -> Result<(), Fail> {
     )
 }
 
-// First the sum is too great, then one spare block is too few.
+// First the sum of size and padding exceeds 32 bits, then one unused node is too few.
 #[test]
-fn refuses_sums_and_a_last_spare_block(rt: HostRuntime) -> Result<(), Fail> {
+fn refuses_large_sums_and_a_last_unused_block(rt: HostRuntime) -> Result<(), Fail> {
     expect(
         &rt,
         rt.alloc(),
@@ -49,9 +49,9 @@ fn refuses_sums_and_a_last_spare_block(rt: HostRuntime) -> Result<(), Fail> {
     )
 }
 
-// Front and rest are of one class, and the rest is the newer.
+// Padding and remainder are of one class, and the remainder is pushed last.
 #[test]
-fn puts_the_rest_before_the_front(rt: HostRuntime) -> Result<(), Fail> {
+fn pushes_the_remainder_after_the_padding(rt: HostRuntime) -> Result<(), Fail> {
     expect(
         &rt,
         rt.alloc(),
@@ -72,9 +72,9 @@ fn aligns_no_units(rt: HostRuntime) -> Result<(), Fail> {
     )
 }
 
-// As many units as the alignment asks for in the worst case have to be free, and not only those that are used here.
+// The units that the worst padding needs have to be free, not only those that are used here.
 #[test]
-fn aligns_to_the_greatest_power(rt: HostRuntime) -> Result<(), Fail> {
+fn aligns_to_the_largest_power(rt: HostRuntime) -> Result<(), Fail> {
     expect(
         &rt,
         rt.alloc(),

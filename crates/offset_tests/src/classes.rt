@@ -1,4 +1,4 @@
-//! Size classes, against the tables of their values.
+//! Size classes, against tables of their values.
 
 use crate::steps::Limit::{Few, Limited};
 use crate::steps::Step::Grants;
@@ -12,8 +12,8 @@ use std::alloc::Global;
 use std::process::Abort;
 use std::test::Fail;
 
-// Sizes, with the least size of a space that grants them.
-const LEAST_SIZES: [(u32, u32); 43] = [
+// Sizes, each with the smallest size of a fresh space that grants it.
+const SMALLEST_SIZES: [(u32, u32); 43] = [
     (0, 0),
     (1, 1),
     (2, 2),
@@ -104,18 +104,18 @@ fn the_values_of_all_groups(rt: HostRuntime) {
     }
 }
 
-// A space of the least size grants the request, also where no more than three nodes are there.
-fn expect_least(rt: &impl Abort, alloc: Global, size: u32, least: u32) -> Result<(), Fail> {
+// A space of this size grants the request, also with a limit of three nodes.
+fn expect_smallest(rt: &impl Abort, alloc: Global, size: u32, smallest: u32) -> Result<(), Fail> {
     assert!(rt; size <= 4_026_531_840);
-    assert_eq!(rt; min_allocator_size(size), least, "{size}");
-    expect(rt, alloc, least, Few, &[Grants(size, 0)])?;
-    expect(rt, alloc, least, Limited(3), &[Grants(size, 0)])
+    assert_eq!(rt; min_allocator_size(size), smallest, "{size}");
+    expect(rt, alloc, smallest, Few, &[Grants(size, 0)])?;
+    expect(rt, alloc, smallest, Limited(3), &[Grants(size, 0)])
 }
 
 #[test]
 fn ext_min_allocator_size(rt: HostRuntime) -> Result<(), Fail> {
-    for (size, least) in LEAST_SIZES {
-        expect_least(&rt, rt.alloc(), size, least)?;
+    for (size, smallest) in SMALLEST_SIZES {
+        expect_smallest(&rt, rt.alloc(), size, smallest)?;
     }
     Ok(())
 }

@@ -5,7 +5,7 @@ use crate::steps::Step::{Counts, Extends, Frees, Gone, Grants, Refuses, Reports,
 use crate::steps::expect;
 use std::test::Fail;
 
-// A free last block grows also where no further block may stand.
+// A free last block grows also where no further block may exist.
 #[test]
 fn widens_a_free_last_block_at_the_block_limit(rt: HostRuntime) -> Result<(), Fail> {
     expect(
@@ -25,7 +25,7 @@ fn widens_a_free_last_block_at_the_block_limit(rt: HostRuntime) -> Result<(), Fa
 }
 
 #[test]
-fn refuses_behind_a_used_last_block_at_the_block_limit(rt: HostRuntime) -> Result<(), Fail> {
+fn refuses_after_a_used_last_block_at_the_block_limit(rt: HostRuntime) -> Result<(), Fail> {
     expect(
         &rt,
         rt.alloc(),
@@ -45,7 +45,7 @@ fn refuses_behind_a_used_last_block_at_the_block_limit(rt: HostRuntime) -> Resul
     )
 }
 
-// Growing inside its class makes a block the newest.
+// A block that grows within its class is pushed anew, and so is the newest.
 #[test]
 fn a_grown_block_is_the_newest(rt: HostRuntime) -> Result<(), Fail> {
     expect(
@@ -81,7 +81,7 @@ fn a_reset_keeps_the_present_size(rt: HostRuntime) -> Result<(), Fail> {
 }
 
 #[test]
-fn the_greatest_space_does_not_grow(rt: HostRuntime) -> Result<(), Fail> {
+fn the_largest_space_does_not_grow(rt: HostRuntime) -> Result<(), Fail> {
     expect(
         &rt,
         rt.alloc(),
@@ -91,9 +91,9 @@ fn the_greatest_space_does_not_grow(rt: HostRuntime) -> Result<(), Fail> {
     )
 }
 
-// The size of the space may reach the greatest number.
+// A space may grow to 4294967295 units.
 #[test]
-fn an_empty_space_grows_to_the_greatest(rt: HostRuntime) -> Result<(), Fail> {
+fn an_empty_space_grows_to_the_largest(rt: HostRuntime) -> Result<(), Fail> {
     expect(
         &rt,
         rt.alloc(),

@@ -1,4 +1,4 @@
-//! What is granted and what is refused.
+//! Requests that are granted or refused.
 
 use crate::steps::Limit::{Few, Limited};
 use crate::steps::Step::{Grants, Refuses};
@@ -46,7 +46,7 @@ fn an_empty_space_grants_nothing_once(rt: HostRuntime) -> Result<(), Fail> {
 }
 
 #[test]
-fn the_greatest_sizes(rt: HostRuntime) -> Result<(), Fail> {
+fn the_largest_sizes(rt: HostRuntime) -> Result<(), Fail> {
     expect(
         &rt,
         rt.alloc(),
@@ -63,7 +63,7 @@ fn the_greatest_sizes(rt: HostRuntime) -> Result<(), Fail> {
 }
 
 #[test]
-fn offsets_pass_a_narrow_index(rt: HostRuntime) -> Result<(), Fail> {
+fn offsets_exceed_a_narrow_index(rt: HostRuntime) -> Result<(), Fail> {
     expect(
         &rt,
         rt.alloc(),
@@ -86,7 +86,7 @@ fn the_numbers_of_indices(rt: HostRuntime) {
     assert_eq!(rt; Tiny::from_u32(12).to_usize(), 4);
 }
 
-// Without a limit of its own, a space takes the greatest that its index type admits.
+// Without a limit, a space has the largest that its index type admits.
 #[test]
 fn a_third_index_type_admits_five_nodes(rt: HostRuntime) -> Result<(), Fail> {
     let mut allocator = Allocator::<Tiny>::new(rt.alloc(), 40)?;

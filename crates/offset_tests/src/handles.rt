@@ -1,14 +1,14 @@
-//! Handles that are stale, doubled, altered or of another space.
+//! Handles that are stale, freed twice, altered or of another space.
 
 use crate::steps::Limit::{Few, Limited};
 use crate::steps::Step::{Frees, FreesAltered, Gone, Grants, Lives};
-use crate::steps::{Step, expect, follow, made};
+use crate::steps::{Step, expect, follow, make_allocator};
 use offset_allocator::{Allocation, Allocator, NodeIndex};
 use std::alloc::Global;
 use std::process::Abort;
 use std::test::Fail;
 
-// A stale handle is live again as the handle of the newer grant that has its name.
+// A stale handle equals the live handle of a newer grant with the same node.
 const FREED_TWICE: [Step; 7] = [
     Grants(8, 0),
     Frees(0),
@@ -25,7 +25,7 @@ fn a_stale_handle(rt: HostRuntime) -> Result<(), Fail> {
     expect(&rt, rt.alloc(), 64, Limited(8), &FREED_TWICE)
 }
 
-// The name alone counts.
+// `free` goes by the node index alone.
 #[test]
 fn a_handle_with_another_offset(rt: HostRuntime) -> Result<(), Fail> {
     expect(
@@ -44,13 +44,13 @@ fn a_handle_with_another_offset(rt: HostRuntime) -> Result<(), Fail> {
     )
 }
 
-// The handles of a space with many names.
+// The handles of a space with many nodes.
 fn of_another_space<NI: NodeIndex>(
     rt: &impl Abort,
     alloc: Global,
 ) -> Result<Vec<Allocation<NI>>, Fail> {
     let mut handles = Vec::new(alloc);
-    if let Some(mut allocator) = made::<NI>(alloc, 198, Limited(200))? {
+    if let Some(mut allocator) = make_allocator::<NI>(alloc, 198, Limited(200))? {
         for _ in 0..198u32 {
             if let Some(handle) = allocator.allocate(1) {
                 handles.push(handle)?;
@@ -61,7 +61,7 @@ fn of_another_space<NI: NodeIndex>(
     Ok(handles)
 }
 
-// How many of the handles are live. Each of these has this size, and all others have the size 0.
+// The number of live handles. Each of them has this size; all others have size 0.
 fn count_live<NI: NodeIndex>(
     rt: &impl Abort,
     allocator: &Allocator<NI>,
@@ -82,7 +82,7 @@ fn count_live<NI: NodeIndex>(
 
 fn expect_foreign<NI: NodeIndex>(rt: &impl Abort, alloc: Global) -> Result<(), Fail> {
     let handles = of_another_space::<NI>(rt, alloc)?;
-    match made::<NI>(alloc, 64, Limited(4))? {
+    match make_allocator::<NI>(alloc, 64, Limited(4))? {
         None => assert!(rt; false, "no allocator"),
         Some(mut allocator) => {
             assert_eq!(rt; count_live(rt, &allocator, &handles, 0), 0);

@@ -1,4 +1,4 @@
-//! The tests of the original that are about its allocator, each under its own name.
+//! The original's tests of its allocator, under their names there.
 
 use crate::steps::Limit::{Ample, Few, Limited};
 use crate::steps::Step::{Counts, Frees, Grants, Reports};
@@ -98,7 +98,7 @@ fn allocate_offset_allocator_reuse_complex(rt: HostRuntime) -> Result<(), Fail> 
     )
 }
 
-// The whole space in equal pieces, of which four lone ones and four neighbours are granted anew.
+// After the whole space is granted in equal pieces: four lone pieces and four neighbours are freed and granted again.
 const ANEW: [Step; 14] = [
     Reports(0, 0),
     Frees(243),
@@ -116,8 +116,8 @@ const ANEW: [Step; 14] = [
     Grants(4_194_304, 158_334_976),
 ];
 
-// The grant that stands at a place of the space, and none where it is part of the one before.
-fn standing(place: usize) -> Option<usize> {
+// The number of the live grant that begins at this piece, or `None` where the piece is within a larger grant.
+fn grant_at(place: usize) -> Option<usize> {
     match place {
         243 => Some(256),
         5 => Some(257),
@@ -136,7 +136,7 @@ fn zero_fragmentation_steps(alloc: Global) -> Result<Vec<Step>, AllocError> {
     }
     steps.extend_from_slice(&ANEW)?;
     for place in 0..256usize {
-        if let Some(number) = standing(place) {
+        if let Some(number) = grant_at(place) {
             steps.push(Frees(number))?;
         }
     }

@@ -8,7 +8,7 @@ use crate::steps::expect;
 use offset_allocator::Refusal::{Fragmented, Nodes, Space};
 use std::test::Fail;
 
-// Fewer units than asked for, or enough in a block of a class that is not sure to hold them.
+// Fewer units are free than requested, or enough in a block of too small a class.
 #[test]
 fn too_few_units_or_too_small_a_class(rt: HostRuntime) -> Result<(), Fail> {
     expect(
@@ -73,7 +73,7 @@ fn no_further_block(rt: HostRuntime) -> Result<(), Fail> {
     )
 }
 
-// An aligned request wants two blocks more, and padding.
+// An aligned request needs two more blocks, and padding.
 #[test]
 fn aligned_requests(rt: HostRuntime) -> Result<(), Fail> {
     expect(

@@ -1,4 +1,4 @@
-//! What the reports tell.
+//! Reports.
 
 use crate::steps::Limit::{Few, Limited};
 use crate::steps::Step::{Counts, Grants, Refuses, Reports, Undoes};
@@ -7,9 +7,9 @@ use offset_allocator::{Allocator, StorageReportFull, StorageReportFullRegion};
 use offset_test_base::groups::value_of;
 use std::test::Fail;
 
-// The largest region is the value of a class, and not the size of the block.
+// The largest region is the value of a class, not the size of the block.
 #[test]
-fn tells_the_value_of_a_class(rt: HostRuntime) -> Result<(), Fail> {
+fn reports_the_value_of_a_class(rt: HostRuntime) -> Result<(), Fail> {
     expect(
         &rt,
         rt.alloc(),
@@ -20,7 +20,7 @@ fn tells_the_value_of_a_class(rt: HostRuntime) -> Result<(), Fail> {
 }
 
 #[test]
-fn tells_free_blocks_at_the_block_limit(rt: HostRuntime) -> Result<(), Fail> {
+fn reports_free_blocks_at_the_block_limit(rt: HostRuntime) -> Result<(), Fail> {
     expect(
         &rt,
         rt.alloc(),
@@ -36,7 +36,7 @@ fn tells_free_blocks_at_the_block_limit(rt: HostRuntime) -> Result<(), Fail> {
 }
 
 #[test]
-fn tells_a_space_that_grants_nothing(rt: HostRuntime) -> Result<(), Fail> {
+fn reports_a_space_that_grants_nothing(rt: HostRuntime) -> Result<(), Fail> {
     expect(
         &rt,
         rt.alloc(),
@@ -52,7 +52,7 @@ fn tells_a_space_that_grants_nothing(rt: HostRuntime) -> Result<(), Fail> {
 }
 
 #[test]
-fn tells_an_empty_space(rt: HostRuntime) -> Result<(), Fail> {
+fn reports_an_empty_space(rt: HostRuntime) -> Result<(), Fail> {
     expect(
         &rt,
         rt.alloc(),
@@ -63,7 +63,7 @@ fn tells_an_empty_space(rt: HostRuntime) -> Result<(), Fail> {
 }
 
 #[test]
-fn tells_the_greatest_space(rt: HostRuntime) -> Result<(), Fail> {
+fn reports_the_largest_space(rt: HostRuntime) -> Result<(), Fail> {
     expect(
         &rt,
         rt.alloc(),
@@ -79,7 +79,7 @@ fn tells_the_greatest_space(rt: HostRuntime) -> Result<(), Fail> {
 }
 
 #[test]
-fn foretells_requests(rt: HostRuntime) -> Result<(), Fail> {
+fn predicts_requests(rt: HostRuntime) -> Result<(), Fail> {
     expect(
         &rt,
         rt.alloc(),
@@ -105,9 +105,9 @@ fn has_defaults_of_zeros(rt: HostRuntime) {
     }
 }
 
-// The values of the greatest classes lose their high bits.
+// The values of the largest classes lose their high bits.
 #[test]
-fn tells_the_values_of_all_classes(rt: HostRuntime) -> Result<(), Fail> {
+fn reports_the_values_of_all_classes(rt: HostRuntime) -> Result<(), Fail> {
     let allocator = Allocator::<u32>::with_max_allocs(rt.alloc(), 100, 2)?;
     let report = allocator.storage_report_full();
     for class in 0..256usize {

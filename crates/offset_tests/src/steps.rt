@@ -1,4 +1,4 @@
-//! Calls of one allocator, as rows of a table.
+//! Calls on one allocator, as rows of a table.
 
 use offset_allocator::laws::{refusal_aligned_counted, refusal_counted, undo};
 use offset_allocator::{Accesses, Allocation, Allocator, NodeIndex, Refusal};
@@ -7,7 +7,7 @@ use std::alloc::{AllocError, Global};
 use std::process::Abort;
 use std::test::Fail;
 
-/// A call, and what it has to answer. Grants are numbered from 0.
+/// A call, and what it has to return. Grants are numbered from 0.
 #[derive(Clone, Copy)]
 pub enum Step {
     /// A request of this size is granted at this offset.
@@ -18,7 +18,7 @@ pub enum Step {
     Aligns(u32, u32, u32),
     /// A request of this size at a multiple of the second number is refused.
     RefusesAligned(u32, u32),
-    /// The grant of this number is live, is freed, and is not live then.
+    /// The grant of this number is live, is freed, and then is not live.
     Frees(usize),
     /// The same with a copy of the handle that has another offset.
     FreesAltered(usize, u32),
@@ -26,7 +26,7 @@ pub enum Step {
     Lives(usize, u32),
     /// The grant of this number is not live.
     Gone(usize),
-    /// The space takes so many units more, or refuses them.
+    /// The space grows by this number of units, or refuses to.
     Extends(u32, bool),
     /// A request of this size is granted and freed at once, or refused.
     Undoes(u32, bool),
@@ -104,7 +104,7 @@ fn request<NI: NodeIndex>(
     allocator.allocate_aligned(size, align)
 }
 
-// Why a request is refused, by both calls where it is a plain one. None also where the alignment is no power of two.
+// Why a request is refused, if all calls that say so agree; `None` also where the alignment is no power of two.
 fn refusal<NI: NodeIndex>(allocator: &Allocator<NI>, size: u32, align: u32) -> Option<Refusal> {
     if !align.is_power_of_two() {
         return None;
@@ -151,8 +151,8 @@ fn grant_of<NI: NodeIndex>(
     handles[number]
 }
 
-// A step on the handle of a grant.
-fn of_grant<NI: NodeIndex>(
+// Takes a step on the handle of a grant.
+fn step_on_grant<NI: NodeIndex>(
     rt: &impl Abort,
     allocator: &mut Allocator<NI>,
     mut handle: Allocation<NI>,
@@ -220,7 +220,7 @@ fn take<NI: NodeIndex>(
         Step::Frees(number)
         | Step::FreesAltered(number, _)
         | Step::Lives(number, _)
-        | Step::Gone(number) => of_grant(rt, allocator, grant_of(rt, handles, *number), step),
+        | Step::Gone(number) => step_on_grant(rt, allocator, grant_of(rt, handles, *number), step),
     }
     Ok(())
 }
@@ -239,10 +239,10 @@ pub fn follow<NI: NodeIndex>(
     Ok(())
 }
 
-/// How an allocator is made.
+/// How an allocator is constructed.
 #[derive(Clone, Copy)]
 pub enum Limit {
-    /// By `new`. The calls need more than four blocks, so that the third index type is left out.
+    /// By `new`. The calls need more than four blocks, so the third index type is left out.
     Ample,
     /// By `new`. Four blocks are enough for the calls.
     Few,
@@ -250,8 +250,8 @@ pub enum Limit {
     Limited(u32),
 }
 
-/// A new allocator, or none where its index type does not admit the limit.
-pub fn made<NI: NodeIndex>(
+/// A new allocator, or `None` where its index type does not admit the limit.
+pub fn make_allocator<NI: NodeIndex>(
     alloc: Global,
     size: u32,
     limit: Limit,
@@ -267,7 +267,7 @@ pub fn made<NI: NodeIndex>(
     }
 }
 
-// How many calls were made.
+// Makes the calls on a new allocator, and returns how many there were.
 fn follow_by<NI: NodeIndex>(
     rt: &impl Abort,
     alloc: Global,
@@ -275,7 +275,7 @@ fn follow_by<NI: NodeIndex>(
     limit: Limit,
     steps: &[Step],
 ) -> Result<usize, Fail> {
-    match made::<NI>(alloc, size, limit)? {
+    match make_allocator::<NI>(alloc, size, limit)? {
         None => Ok(0),
         Some(mut allocator) => {
             follow(rt, alloc, &mut allocator, steps)?;

@@ -1,7 +1,7 @@
-//! The text of each type that has `Debug`.
+//! The `Debug` texts of the public types.
 
 use crate::steps::Limit::Limited;
-use crate::steps::made;
+use crate::steps::make_allocator;
 use offset_allocator::{
     Allocator, NodeIndex, NonMaxU16, NonMaxU32, Refusal, StorageReport, StorageReportFull,
     StorageReportFullRegion,
@@ -22,7 +22,7 @@ fn expect_text<T: Debug>(
     Ok(())
 }
 
-// An allocator of 17 units, and one whose blocks are as many as its limit admits.
+// An allocator of 17 units, and one that is at its node limit.
 fn expect_texts<NI: NodeIndex>(rt: &impl Abort, alloc: Global) -> Result<(), Fail> {
     let allocator = Allocator::<NI>::new(alloc, 17)?;
     expect_text(
@@ -104,9 +104,9 @@ fn writes_names_as_numbers(rt: HostRuntime) -> Result<(), Fail> {
     Ok(())
 }
 
-// A handle has its offset and its name, which is one of three.
+// The text has the offset and the node index, which is one of three.
 fn expect_handles<NI: NodeIndex>(rt: &impl Abort, alloc: Global) -> Result<(), Fail> {
-    let Some(mut allocator) = made::<NI>(alloc, 17, Limited(4))? else {
+    let Some(mut allocator) = make_allocator::<NI>(alloc, 17, Limited(4))? else {
         assert!(rt; false);
         return Ok(());
     };

@@ -1,16 +1,19 @@
-//! The daily use of an allocator, as `CALLING.md` of `offset_allocator` shows it. Each function proves with no file.
+//! The daily use of an allocator, as `CALLING.md` of `offset_allocator` shows it. Each function proves with no proof
+//! file.
 
 ghost use Rattle.std.specs.Prelude.{◌≡◌, ◌↔◌, ◌+◌, ◌-◌, ◌≤◌, ◌%◌, Some, None, false, not, min, IfSome, IfOk, IfErr, IsSome, IsTrue, length};
 ghost use Rattle.std.specs.Int.{is_power_of_two};
 ghost use Rattle.offset_allocator.specs.Always.{used_units};
 ghost use Rattle.offset_allocator.specs.Named.{free, largest_free};
-ghost use Rattle.offset_allocator.specs.Ranges.{range_of, KeepsAll, KeepsOthers};
-ghost use Rattle.offset_allocator.specs.Relations.{Allocates, IsBut, IsLive, Resets};
-ghost use Rattle.offset_allocator.specs.Told.{IsServed, IsWhy};
+ghost use Rattle.offset_allocator.specs.Ranges.{range_of, KeepsAll, KeepsOthers, IsLive};
+ghost use Rattle.offset_allocator.specs.Relations.{Allocates, SameSpace, Resets};
+ghost use Rattle.offset_allocator.specs.Promises.{CanGrant, IsWhy};
 
 use offset_allocator::{Allocation, Allocator, Refusal, laws};
 
-/// A mesh: a range of vertices and one of indices, in two buffers, or none at all.
+/// Allocates a mesh: a range of vertices and a range of indices, in two buffers, both or neither.
+///
+/// It returns the two handles, or `None` where either request is refused. Then no live range has changed.
 pub fn insert(
     vertices: &mut Allocator,
     indices: &mut Allocator,
@@ -34,10 +37,10 @@ pub fn insert(
     }
 }
 
-/// Gives a range back, unless its handle is no longer live. It returns whether it was.
+/// Frees a range if its handle is live. It returns whether it was.
 pub fn give_back(space: &mut Allocator, allocation: Allocation) -> bool
     ensures live { IsTrue result ↔ IsLive allocation.name space.old }
-    ensures freed { IsTrue result → IsBut (free allocation.name space.old) space.new }
+    ensures freed { IsTrue result → SameSpace (free allocation.name space.old) space.new }
     ensures same { result ≡ false → space.new ≡ space.old }
     ensures gone { IsTrue result → range_of allocation.name space.new ≡ None }
     ensures others { KeepsOthers allocation.name space.old space.new }
@@ -49,14 +52,16 @@ pub fn give_back(space: &mut Allocator, allocation: Allocation) -> bool
     is_live
 }
 
-/// A range of bytes at a multiple of what the device asks for.
+/// Allocates a range of bytes at a multiple of `align`, which a graphics device prescribes.
+///
+/// It returns `None` where `align` is no power of two, or the request is refused. Then no live range has changed.
 pub fn upload(heap: &mut Allocator, size: u32, align: u32) -> Option<Allocation>
     ensures aligned { IfSome result (λ h. h.offset % align ≡ 0) }
     ensures range { IfSome result (λ h. range_of h.name heap.new ≡ Some (record { offset = h.offset; size = size })) }
     ensures others { IfSome result (λ h. KeepsOthers h.name heap.old heap.new) }
     ensures refused { result ≡ None → KeepsAll heap.old heap.new }
     ensures granted { IsTrue (is_power_of_two align)
-        → (IsSome result ↔ IsServed (min align 2) (size + align - 1) heap.old) }
+        → (IsSome result ↔ CanGrant (min align 2) (size + align - 1) heap.old) }
 {
     if !align.is_power_of_two() {
         return None;
@@ -64,8 +69,10 @@ pub fn upload(heap: &mut Allocator, size: u32, align: u32) -> Option<Allocation>
     heap.allocate_aligned(size, align)
 }
 
-/// A range for a request, in a space that grows by `more` units where it has too few. A refusal says what is left to
-/// do: move ranges together where the space is fragmented, take another space where it has no node.
+/// Allocates `size` units, in a space that grows by `more` units where too few are free.
+///
+/// The error says why the request is refused, and so what is left to do: where the space is fragmented, move ranges
+/// together; where no node is left, use another space. Then no live range has changed.
 pub fn place(space: &mut Allocator, size: u32, more: u32) -> Result<Allocation, Refusal>
     ensures range { IfOk result (λ h. range_of h.name space.new ≡ Some (record { offset = h.offset; size = size })) }
     ensures why { IfErr result (IsWhy 1 size space.new) }
@@ -74,7 +81,7 @@ pub fn place(space: &mut Allocator, size: u32, more: u32) -> Result<Allocation, 
     ensures refused { IfErr result (λ _. KeepsAll space.old space.new) }
 {
     if space.refusal(size) == Some(Refusal::Space) {
-        // where it cannot grow, the second look says so
+        // where it cannot grow, the next call of `refusal` says so
         let _ = space.extend(more);
     }
     match space.refusal(size) {
@@ -83,7 +90,8 @@ pub fn place(space: &mut Allocator, size: u32, more: u32) -> Result<Allocation, 
     }
 }
 
-/// The units that are granted, unless the node limit is reached (`is_full`): then the report is 0, 0.
+/// The number of units in live ranges, or `None` where the node limit is reached (`is_full`), since the report is 0, 0
+/// then.
 pub fn granted_units(space: &Allocator) -> Option<u32>
     ensures granted { IfSome result (λ n. n ≡ used_units space.now.blocks) }
     ensures full { result ≡ None ↔ (length space.now.blocks + 1 ≡ space.now.max_allocs) }
@@ -95,19 +103,19 @@ pub fn granted_units(space: &Allocator) -> Option<u32>
     Some(space.size() - space.storage_report().total_free_space)
 }
 
-/// Two spaces for what lives one frame: one is filled while the device reads the other.
+/// Two spaces for the data of single frames: one is filled while the device reads the other.
 #[derive(Drop)]
 pub struct Ring {
-    /// What the even frames are granted.
+    /// The space of the even frames.
     pub even: Allocator,
-    /// What the odd frames are granted.
+    /// The space of the odd frames.
     pub odd: Allocator,
-    /// Whether this frame is odd.
+    /// Whether the present frame is odd.
     pub is_odd: bool,
 }
 
 impl Ring {
-    /// Begins a frame: what was granted two frames ago is gone, and what was granted in the last one stays.
+    /// Begins a frame: it frees all ranges of two frames ago; those of the last frame stay live.
     pub fn begin(&mut self)
         ensures turn { self.new.is_odd ≡ not self.old.is_odd }
         ensures odd { IsTrue self.new.is_odd → Resets self.old.odd self.new.odd × (self.new.even ≡ self.old.even) }
@@ -121,7 +129,7 @@ impl Ring {
         }
     }
 
-    /// A range that lives until the frame after the next one begins.
+    /// Allocates a range that is live until the frame after the next one begins, or returns `None` where it is refused.
     pub fn take(&mut self, size: u32) -> Option<Allocation>
         ensures turn { self.new.is_odd ≡ self.old.is_odd }
         ensures odd { IsTrue self.old.is_odd → Allocates size self.old.odd self.new.odd result × (self.new.even ≡ self.old.even) }

@@ -1,12 +1,12 @@
-//! Uses of `offset_allocator`, as a caller writes them.
+//! Functions that use `offset_allocator` as an engine would, each with its contract.
 #![tactic(auto)]
 
 ghost use Rattle.std.specs.Prelude.{◌≡◌, ◌≢◌, ◌↔◌, ◌⊎◌, true, false, ◌+◌, ◌<◌, ◌≤◌, ◌%◌, Some, None, IfSome, IsSome, IsTrue, IfOk, MatchOption, All, map, min, length};
-ghost use Rattle.offset_allocator.specs.Named.{View, Grant, free, largest_free, total_free, size_at, place_of};
-ghost use Rattle.offset_allocator.specs.Ranges.{Range, range_of, AreDisjoint, KeepsRanges, KeepsOthers};
-ghost use Rattle.offset_allocator.specs.Relations.{Aligns, Allocates, Extends, IsLive, IsBut};
-ghost use Rattle.offset_script.specs.Answers.{seen};
-ghost use Rattle.offset_script.specs.Limits.{is_powered};
+ghost use Rattle.offset_allocator.specs.Named.{View, Grant, free, largest_free, total_free};
+ghost use Rattle.offset_allocator.specs.Ranges.{Range, range_of, size_of, AreDisjoint, KeepsRanges, KeepsOthers, IsLive};
+ghost use Rattle.offset_allocator.specs.Relations.{Aligns, Allocates, Extends, SameSpace};
+ghost use Rattle.offset_script.specs.Answers.{answer_view};
+ghost use Rattle.offset_script.specs.Grammar.{has_valid_alignment};
 ghost use Rattle.offset_script.specs.Machine.{answers, start};
 
 pub mod daily;
@@ -15,10 +15,10 @@ use offset_allocator::{Accesses, Allocation, Allocator, NodeIndex, laws};
 use offset_script::{Answer, Command, play};
 use std::alloc::{AllocError, Global};
 
-/// Two ranges of vertices, for the outer and the inner hull of a mesh, or none at all.
+/// Allocates the vertices of a mesh's outer and inner hull, both or neither.
 ///
-/// A refusal leaves the buffer as it was, the order of its free blocks too. It comes only where the first range is
-/// refused, or the second after it.
+/// It returns the two handles, or `None` where the first request is refused, or the second after it. Then the buffer is
+/// as it was, down to the order of its free lists.
 pub fn place_mesh(
     vertices: &mut Allocator,
     outer: u32,
@@ -28,7 +28,7 @@ pub fn place_mesh(
     ensures inner { IfSome result (λ hulls. range_of hulls.1.name vertices.new ≡ Some (record { offset = hulls.1.offset; size = inner })) }
     ensures apart { IfSome result (λ hulls. AreDisjoint (record { offset = hulls.0.offset; size = outer }) (record { offset = hulls.1.offset; size = inner })) }
     ensures kept { KeepsRanges vertices.old vertices.new }
-    ensures same { result ≡ None → IsBut vertices.old vertices.new }
+    ensures same { result ≡ None → SameSpace vertices.old vertices.new }
     ensures placed { IfSome result (λ hulls. (w : View) × Allocates outer vertices.old w (Some hulls.0) × Allocates inner w vertices.new (Some hulls.1)) }
     ensures refused { result ≡ None → ((w : View) × Allocates outer vertices.old w None)
         ⊎ ((v w : View) × (g : Grant) × Allocates outer vertices.old v (Some g) × Allocates inner v w None) }
@@ -47,7 +47,7 @@ pub fn place_mesh(
     }
 }
 
-/// The ranges of two live meshes share no vertex.
+/// States that the ranges of two live meshes share no vertex. It changes nothing.
 pub fn are_apart(vertices: &Allocator, one: Allocation, other: Allocation)
     requires distinct { one.name ≢ other.name }
     ensures { (r s : Range) → range_of one.name vertices.now ≡ Some r → range_of other.name vertices.now ≡ Some s → AreDisjoint r s }
@@ -55,7 +55,9 @@ pub fn are_apart(vertices: &Allocator, one: Allocation, other: Allocation)
     laws::ranges_are_disjoint(vertices);
 }
 
-/// Grants vertices that the report has just promised. It cannot fail.
+/// Allocates `n` vertices, which the report has just promised.
+///
+/// It returns the handle; it cannot fail.
 pub fn place_promised(vertices: &mut Allocator, n: u32) -> Allocation
     requires some { 1 ≤ n }
     requires promised { n ≤ largest_free vertices.old }
@@ -67,13 +69,15 @@ pub fn place_promised(vertices: &mut Allocator, n: u32) -> Allocation
     vertices.allocate(n).unwrap()
 }
 
-/// As many vertices as are asked for, or else as many as the report promises, if it promises any.
+/// Allocates `n` vertices, or as many as the report promises where these are fewer.
+///
+/// It returns the handle and the number of vertices, or `None` where the report promises none.
 pub fn place_what_fits(vertices: &mut Allocator, n: u32) -> Option<(Allocation, u32)>
     requires some { 1 ≤ n }
     ensures range { IfSome result (λ got. range_of got.0.name vertices.new ≡ Some (record { offset = got.0.offset; size = got.1 })) }
     ensures most { IfSome result (λ got. got.1 ≡ min n (largest_free vertices.old)) }
     ensures some { IsSome result ↔ (1 ≤ largest_free vertices.old) }
-    ensures step { MatchOption result (IsBut vertices.old vertices.new) (λ got. Allocates got.1 vertices.old vertices.new (Some got.0)) }
+    ensures step { MatchOption result (SameSpace vertices.old vertices.new) (λ got. Allocates got.1 vertices.old vertices.new (Some got.0)) }
     ensures kept { KeepsRanges vertices.old vertices.new }
 {
     let fits = vertices.storage_report().largest_free_region;
@@ -84,7 +88,10 @@ pub fn place_what_fits(vertices: &mut Allocator, n: u32) -> Option<(Allocation, 
     Some((vertices.allocate(size).unwrap(), size))
 }
 
-/// A request that lets the space grow where it would be refused. The space may have grown though it still is refused.
+/// Allocates `n` units, and extends the space by `more` units where they are refused at first.
+///
+/// It returns `None` where the space cannot grow or the second request is refused. In the second case the space has
+/// grown.
 pub fn allocate_or_grow(space: &mut Allocator, n: u32, more: u32) -> Option<Allocation>
     ensures range { IfSome result (λ h. range_of h.name space.new ≡ Some (record { offset = h.offset; size = n })) }
     ensures at_once { 1 ≤ n → n ≤ largest_free space.old → IsSome result × Allocates n space.old space.new result }
@@ -104,7 +111,9 @@ pub fn allocate_or_grow(space: &mut Allocator, n: u32, more: u32) -> Option<Allo
     }
 }
 
-/// A uniform buffer, at a multiple of 256 units, as a device asks for.
+/// Allocates a uniform buffer at a multiple of 256 units, as graphics devices require.
+///
+/// It returns `None` unless two more blocks may exist and `n + 255` is at most the reported largest free region.
 pub fn place_uniforms(heap: &mut Allocator, n: u32) -> Option<Allocation>
     ensures step { Aligns n 256 heap.old heap.new result }
     ensures aligned { IfSome result (λ h. h.offset % 256 ≡ 0) }
@@ -115,19 +124,22 @@ pub fn place_uniforms(heap: &mut Allocator, n: u32) -> Option<Allocation>
     heap.allocate_aligned(n, 256)
 }
 
-/// What a tenant may take of a space, and what it has.
+/// The units that one tenant of a space may hold, and those that it holds.
 #[derive(Drop)]
 pub struct Tenant {
-    /// The most units that it may hold.
+    /// The largest number of units that it may hold.
     pub quota: u32,
-    /// The units that it holds.
+    /// The number of units that it holds.
     pub held: u32,
 }
 
-/// Grants units to a tenant, within its quota. Nothing changes where none are granted.
+/// Allocates `n` units for a tenant, within its quota.
+///
+/// It returns `None` where they exceed the quota or the space refuses them. Then the tenant and the space are as they
+/// were.
 pub fn charge(space: &mut Allocator, tenant: &mut Tenant, n: u32) -> Option<Allocation>
     requires within { tenant.old.held ≤ tenant.old.quota }
-    ensures step { MatchOption result (IsBut space.old space.new) (λ h. Allocates n space.old space.new (Some h)) }
+    ensures step { MatchOption result (SameSpace space.old space.new) (λ h. Allocates n space.old space.new (Some h)) }
     ensures within { tenant.new.held ≤ tenant.new.quota }
     ensures quota { tenant.new.quota ≡ tenant.old.quota }
     ensures charged { IfSome result (λ _. tenant.new.held ≡ tenant.old.held + n) }
@@ -144,13 +156,13 @@ pub fn charge(space: &mut Allocator, tenant: &mut Tenant, n: u32) -> Option<Allo
     Some(allocation)
 }
 
-/// Takes a tenant's range back.
+/// Frees a tenant's range, and subtracts its units from those that the tenant holds.
 pub fn refund(space: &mut Allocator, tenant: &mut Tenant, allocation: Allocation)
     requires live { IsLive allocation.name space.old }
-    requires held { size_at (place_of allocation.name space.old.blocks) ≤ tenant.old.held }
+    requires held { size_of allocation.name space.old ≤ tenant.old.held }
     ensures quota { tenant.new.quota ≡ tenant.old.quota }
-    ensures held { tenant.new.held + size_at (place_of allocation.name space.old.blocks) ≡ tenant.old.held }
-    ensures step { IsBut (free allocation.name space.old) space.new }
+    ensures held { tenant.new.held + size_of allocation.name space.old ≡ tenant.old.held }
+    ensures step { SameSpace (free allocation.name space.old) space.new }
     ensures gone { range_of allocation.name space.new ≡ None }
     ensures others { KeepsOthers allocation.name space.old space.new }
 {
@@ -158,12 +170,14 @@ pub fn refund(space: &mut Allocator, tenant: &mut Tenant, allocation: Allocation
     space.free(allocation);
 }
 
-/// Units for one frame: they are granted, what is free beside them is told, and they are given back. The space is then
-/// as it was, and its accesses are bounded; `count` counts those of the report.
+/// Allocates `n` units for one frame, reads the report, and frees the units again.
+///
+/// It returns the number of units that were free besides, or `None` where the request is refused. The space is then as
+/// it was, after at most 192 accesses to its tables, and at most 8 for the report, which `count` counts.
 pub fn frame<NI: NodeIndex>(space: &mut Allocator<NI>, n: u32, count: &mut Accesses) -> Option<u32>
     ensures granted { 1 ≤ n → (IsSome result ↔ (n ≤ largest_free space.old)) }
     ensures beside { IfSome result (λ left. (w : View) × (g : Grant) × Allocates n space.old w (Some g) × (left ≡ total_free w)) }
-    ensures same { IsBut space.old space.new }
+    ensures same { SameSpace space.old space.new }
     ensures few { space.new.accesses ≤ space.old.accesses + 192 }
     ensures read { count.new ≤ count.old + 8 }
 {
@@ -174,7 +188,9 @@ pub fn frame<NI: NodeIndex>(space: &mut Allocator<NI>, n: u32, count: &mut Acces
     Some(beside)
 }
 
-/// One list of commands, played with names of 16 bits and of 32. The answers are equal.
+/// Plays one list of commands with node indices of 16 bits and of 32 bits.
+///
+/// It returns the answers of both, which are equal, or `AllocError` where an allocation fails.
 pub fn replay(
     alloc: Global,
     size: u32,
@@ -183,9 +199,9 @@ pub fn replay(
 ) -> Result<(Vec<Answer>, Vec<Answer>), AllocError>
     requires low { 2 ≤ max_allocs }
     requires high { max_allocs + 1 < 65535 }
-    requires powers { All (λ c. IsTrue (is_powered c)) commands.now }
-    ensures answers { IfOk result (λ both. map seen both.0.items ≡ answers commands.now (start size max_allocs)) }
-    ensures alike { IfOk result (λ both. map seen both.0.items ≡ map seen both.1.items) }
+    requires powers { All (λ c. IsTrue (has_valid_alignment c)) commands.now }
+    ensures answers { IfOk result (λ both. map answer_view both.0.items ≡ answers commands.now (start size max_allocs)) }
+    ensures alike { IfOk result (λ both. map answer_view both.0.items ≡ map answer_view both.1.items) }
 {
     let narrow = play::<u16>(alloc, size, max_allocs, commands)?;
     let wide = play::<u32>(alloc, size, max_allocs, commands)?;

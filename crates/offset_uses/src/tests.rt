@@ -6,7 +6,7 @@ use std::process::Abort;
 use std::test::Fail;
 
 #[test]
-fn a_mesh_is_placed_whole_or_not_at_all(rt: HostRuntime) -> Result<(), Fail> {
+fn both_hulls_are_placed_or_neither(rt: HostRuntime) -> Result<(), Fail> {
     let mut vertices = Allocator::new(rt.alloc(), 100)?;
     let (outer, inner) = place_mesh(&mut vertices, 60, 30).expect(&rt, "room for both");
     assert_eq!(rt; (outer.offset, inner.offset), (0, 60));
@@ -29,7 +29,7 @@ fn a_promise_is_kept(rt: HostRuntime) -> Result<(), Fail> {
 }
 
 #[test]
-fn a_space_grows_where_a_request_would_be_refused(rt: HostRuntime) -> Result<(), Fail> {
+fn a_space_grows_after_a_refusal(rt: HostRuntime) -> Result<(), Fail> {
     let mut space = Allocator::new(rt.alloc(), 8)?;
     match allocate_or_grow(&mut space, 10, 8) {
         None => assert!(rt; false),
@@ -86,7 +86,7 @@ fn uniforms_begin_at_a_multiple_of_256(rt: HostRuntime) -> Result<(), Fail> {
 }
 
 #[test]
-fn both_widths_answer_alike(rt: HostRuntime) -> Result<(), Fail> {
+fn both_widths_give_equal_answers(rt: HostRuntime) -> Result<(), Fail> {
     let (narrow, wide) = replay(
         rt.alloc(),
         100,
@@ -117,7 +117,7 @@ fn a_mesh_is_in_both_buffers_or_in_none(rt: HostRuntime) -> Result<(), Fail> {
 }
 
 #[test]
-fn a_range_is_given_back_once(rt: HostRuntime) -> Result<(), Fail> {
+fn a_range_is_freed_once(rt: HostRuntime) -> Result<(), Fail> {
     let mut space = Allocator::new(rt.alloc(), 100)?;
     let range = space.allocate(10).expect(&rt, "room");
     assert!(rt; give_back(&mut space, range));
@@ -139,13 +139,13 @@ fn an_upload_is_aligned(rt: HostRuntime) -> Result<(), Fail> {
 #[test]
 fn a_refusal_says_what_to_do(rt: HostRuntime) -> Result<(), Fail> {
     let mut space = Allocator::new(rt.alloc(), 8)?;
-    // 8 units and 8 more hold 10
+    // 8 units and 8 more are enough for 10
     let range = place(&mut space, 10, 8).expect(&rt, "room");
     assert_eq!(rt; (range.offset, space.size()), (0, 16));
     // 6 of the 16 are free, and one more is too few
     assert_eq!(rt; place(&mut space, 9, 1).err(), Some(Refusal::Space));
 
-    // 48 units in two pieces of 24 do not hold 40
+    // two free pieces of 24 units are not enough for 40
     let mut pieces = Allocator::new(rt.alloc(), 96)?;
     let first = pieces.allocate(24).expect(&rt, "room");
     let _second = pieces.allocate(24).expect(&rt, "room");
@@ -155,7 +155,7 @@ fn a_refusal_says_what_to_do(rt: HostRuntime) -> Result<(), Fail> {
     assert!(rt; give_back(&mut pieces, third));
     assert_eq!(rt; place(&mut pieces, 40, 8).err(), Some(Refusal::Fragmented));
 
-    // with a limit of 3 two blocks exist at most: one range, and what is free
+    // with a limit of 3 at most two blocks exist: one range and one free block
     let mut small = Allocator::with_max_allocs(rt.alloc(), 100, 3)?;
     assert!(rt; small.allocate(10).is_some());
     assert_eq!(rt; place(&mut small, 10, 8).err(), Some(Refusal::Nodes));
@@ -163,7 +163,7 @@ fn a_refusal_says_what_to_do(rt: HostRuntime) -> Result<(), Fail> {
 }
 
 #[test]
-fn what_is_granted_is_the_size_less_what_is_free(rt: HostRuntime) -> Result<(), Fail> {
+fn granted_units_are_the_size_less_the_free_units(rt: HostRuntime) -> Result<(), Fail> {
     let mut space = Allocator::with_max_allocs(rt.alloc(), 100, 4)?;
     assert!(rt; space.allocate(30).is_some());
     assert_eq!(rt; granted_units(&space), Some(30));
@@ -173,7 +173,7 @@ fn what_is_granted_is_the_size_less_what_is_free(rt: HostRuntime) -> Result<(), 
 }
 
 #[test]
-fn a_ring_forgets_the_frame_before_the_last(rt: HostRuntime) -> Result<(), Fail> {
+fn a_ring_frees_the_frame_before_the_last(rt: HostRuntime) -> Result<(), Fail> {
     let mut ring = Ring {
         even: Allocator::new(rt.alloc(), 100)?,
         odd: Allocator::new(rt.alloc(), 100)?,
@@ -189,7 +189,7 @@ fn a_ring_forgets_the_frame_before_the_last(rt: HostRuntime) -> Result<(), Fail>
     Ok(())
 }
 
-// The lines of the README.
+// The example of the README.
 #[test]
 fn ten_lines(rt: HostRuntime) -> Result<(), Fail> {
     let alloc = rt.alloc();

@@ -1,4 +1,4 @@
-//! Makes random calls on the wrapper and on the original, and compares all that they return.
+//! Makes random calls on the wrapper and on the original, and compares all results.
 use std::panic::catch_unwind;
 
 /// splitmix64
@@ -35,8 +35,8 @@ fn size(random: &mut Random, space: u32) -> u32 {
     }
 }
 
-macro_rules! played { ($name:ident $width:ty) => {
-    /// How many calls were compared.
+macro_rules! compare_calls { ($name:ident $width:ty) => {
+    /// Makes random calls on both, and returns the number of calls.
     fn $name(random: &mut Random) -> u64 {
         let space = random.any();
         let max_allocs = 2 + [random.below(5), random.below(300), random.below(3_000)][random.below(3) as usize];
@@ -82,16 +82,16 @@ macro_rules! played { ($name:ident $width:ty) => {
         calls.into()
     }
 } }
-played! { wide u32 }
-played! { narrow u16 }
+compare_calls! { wide u32 }
+compare_calls! { narrow u16 }
 
-/// What each says of a node limit.
-fn limits(max_allocs: u32) {
-    let told = (
+/// Asserts that both admit, or both refuse, a node limit.
+fn compare_limits(max_allocs: u32) {
+    let admitted = (
         catch_unwind(|| wrapper::Allocator::<u16>::with_max_allocs(9, max_allocs)).is_ok(),
         catch_unwind(|| offset_allocator::Allocator::<u16>::with_max_allocs(9, max_allocs)).is_ok(),
     );
-    assert_eq!(told.0, told.1, "a limit of {max_allocs}");
+    assert_eq!(admitted.0, admitted.1, "a limit of {max_allocs}");
 }
 
 fn main() {
@@ -106,7 +106,7 @@ fn main() {
     }
     std::panic::set_hook(Box::new(|_| {}));
     for max_allocs in [2, 3, 65_532, 65_533, 65_534, 65_535, 65_536, u32::MAX] {
-        limits(max_allocs);
+        compare_limits(max_allocs);
     }
     println!("{calls} calls on the wrapper and on the original: all alike");
 }

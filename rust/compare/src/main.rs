@@ -1,6 +1,6 @@
-//! Plays scripts on two programs, and compares what they write and how they end, byte by byte.
+//! Plays scripts on two programs, and compares their output, their errors and their status, byte by byte.
 //!
-//! `compare PROGRAM PROGRAM COUNT FIRST FILE..`: the random scripts of COUNT numbers from FIRST on, and the files. A
+//! `compare PROGRAM PROGRAM COUNT FIRST FILE..` plays COUNT random scripts from number FIRST on, and the files. A
 //! number always gives the same text. Every eighth text is damaged somewhere.
 mod scripts;
 
@@ -10,19 +10,19 @@ use std::process::{Command, Output, Stdio};
 use std::sync::atomic::{AtomicU64, Ordering};
 use std::sync::Mutex;
 
-fn played(program: &str, text: &[u8]) -> Output {
+fn play(program: &str, text: &[u8]) -> Output {
     let mut child = Command::new(program)
         .stdin(Stdio::piped())
         .stdout(Stdio::piped())
         .stderr(Stdio::piped())
         .spawn()
         .unwrap_or_else(|error| panic!("{program}: {error}"));
-    // both read all before they write; of a text that is too long they leave some
+    // both read everything before they write, except of a text that is too long
     let _ = child.stdin.take().unwrap().write_all(text);
     child.wait_with_output().unwrap()
 }
 
-/// How often each answer and each fault came.
+/// The number of times that each answer and each fault occurred.
 #[derive(Default)]
 struct Tally {
     words: BTreeMap<String, u64>,
@@ -33,7 +33,7 @@ struct Tally {
 
 impl Tally {
     fn add(&mut self, name: &str, text: &[u8], programs: &[String]) {
-        let found: Vec<Output> = programs.iter().map(|program| played(program, text)).collect();
+        let found: Vec<Output> = programs.iter().map(|program| play(program, text)).collect();
         self.texts += 1;
         if found[0].stdout != found[1].stdout || found[0].stderr != found[1].stderr || found[0].status.code() != found[1].status.code() {
             self.differing += 1;
@@ -42,8 +42,8 @@ impl Tally {
             }
             return;
         }
-        let told = String::from_utf8_lossy(&found[0].stderr);
-        for line in told.lines() {
+        let errors = String::from_utf8_lossy(&found[0].stderr);
+        for line in errors.lines() {
             let fault = line.split_once(": ").map_or(line, |(_, fault)| fault);
             *self.words.entry(format!("status {}, {fault}", found[0].status.code().unwrap_or(-1))).or_default() += 1;
         }
@@ -53,7 +53,7 @@ impl Tally {
         }
     }
 
-    fn join(&mut self, other: Tally) {
+    fn add_all(&mut self, other: Tally) {
         for (word, n) in other.words {
             *self.words.entry(word).or_default() += n;
         }
@@ -89,13 +89,13 @@ fn main() {
                     }
                     own.add(&format!("script {number}"), &scripts::text(number), &programs);
                 }
-                all.lock().unwrap().join(own);
+                all.lock().unwrap().add_all(own);
             });
         }
     });
     let all = all.into_inner().unwrap();
-    let told: Vec<String> = all.words.iter().map(|(word, n)| format!("{n} {word}")).collect();
-    println!("{} texts, {} equal lines: {}", all.texts, all.lines, told.join("; "));
+    let counts: Vec<String> = all.words.iter().map(|(word, n)| format!("{n} {word}")).collect();
+    println!("{} texts, {} equal lines: {}", all.texts, all.lines, counts.join("; "));
     println!("texts that differ: {}", all.differing);
     std::process::exit(i32::from(all.differing != 0));
 }

@@ -19,13 +19,13 @@ impl Random {
         self.next() % n
     }
 
-    /// Of any number of bits up to this one.
+    /// A number of a random number of bits, at most `bits`.
     fn of_bits(&mut self, bits: u64) -> u64 {
         let bits = self.below(bits + 1);
         self.next() & ((1 << bits) - 1)
     }
 
-    /// A class value or a power of two, or a number beside one.
+    /// A class value, or a number beside one. Powers of two from 8 on are class values.
     fn at_an_edge(&mut self) -> u64 {
         let value = (8 + self.below(8)) << self.below(29);
         (value + self.below(3) - 1).min(u64::from(u32::MAX))
@@ -55,7 +55,7 @@ fn script(random: &mut Random) -> String {
     let hungry = 3 + random.below(4);
     let growing = random.below(4) == 0;
     let mut text = format!("space {space} nodes {nodes} index {}\n", if narrow { 16 } else { 32 });
-    let mut asked = 0;
+    let mut requested = 0;
     for _ in 0..[10, 40, 120, 400][random.below(4) as usize] {
         let size = match random.below(10) {
             0 => random.at_an_edge(),
@@ -68,12 +68,12 @@ fn script(random: &mut Random) -> String {
         match random.below(24) {
             0 => writeln!(text, "report"),
             1 => writeln!(text, "full"),
-            2 => writeln!(text, "size {}", random.below(asked + 3)),
+            2 => writeln!(text, "size {}", random.below(requested + 3)),
             3 if random.below(12) == 0 => writeln!(text, "reset"),
             4 if growing => writeln!(text, "extend {}", if random.below(9) == 0 { random.of_bits(32) } else { random.below(share) }),
             5 => writeln!(text, "# {}", random.next()),
-            _ if asked == 0 || random.below(8) < hungry => {
-                asked += 1;
+            _ if requested == 0 || random.below(8) < hungry => {
+                requested += 1;
                 if random.below(3) == 0 {
                     let align = if random.below(4) == 0 { random.below(32) } else { random.below(8) };
                     writeln!(text, "align {size} {}", 1u64 << align)
@@ -81,15 +81,15 @@ fn script(random: &mut Random) -> String {
                     writeln!(text, "alloc {size}")
                 }
             }
-            _ => writeln!(text, "free {}", random.below(asked + 2)),
+            _ => writeln!(text, "free {}", random.below(requested + 2)),
         }
         .unwrap();
     }
     text + "full\nreport\n"
 }
 
-/// One place is changed: a byte, a line, or a number.
-fn damaged(random: &mut Random, text: String) -> Vec<u8> {
+/// Changes a text in one place: a byte, a line, or a number.
+fn damage(random: &mut Random, text: String) -> Vec<u8> {
     let mut text = text.into_bytes();
     let at = random.below(text.len() as u64) as usize;
     match random.below(7) {
@@ -98,7 +98,7 @@ fn damaged(random: &mut Random, text: String) -> Vec<u8> {
         2 => drop(text.remove(at)),
         3 => text.truncate(at),
         4 => {
-            // a header that says something else
+            // another header, mostly a faulty one
             let words = ["nodes 1", "nodes 0", "nodes 65534", "nodes 4294967294", "nodes 4294967296", "nodes 01", "nodes"];
             let head = format!("space 10 {} index {}\nalloc 1\n", words[random.below(7) as usize], [16, 32, 8][random.below(3) as usize]);
             text = head.into_bytes();
@@ -109,17 +109,17 @@ fn damaged(random: &mut Random, text: String) -> Vec<u8> {
     text
 }
 
-/// The text of a number.
+/// The random text of this number.
 pub fn text(number: u64) -> Vec<u8> {
     let mut random = Random(number.wrapping_mul(0x2545_f491_4f6c_dd1d));
     let text = script(&mut random);
     if number % 8 == 7 {
-        return damaged(&mut random, text);
+        return damage(&mut random, text);
     }
     text.into_bytes()
 }
 
-/// Texts that no number gives.
+/// Texts that no number gives, at the limits of what is admitted.
 pub fn odd() -> Vec<(&'static str, Vec<u8>)> {
     let wide = b"space 4294967295 nodes 131072 index 32\nalloc 1\nfull\nreset\nfull\n".to_vec();
     let narrow = b"space 4294967295 nodes 65533 index 16\nalloc 1\nfull\nreset\nfull\n".to_vec();

@@ -1,10 +1,11 @@
-//! Meshes in one large buffer: they are uploaded, removed and uploaded again, and the buffer grows where none fits.
+//! Meshes in one large buffer: they are uploaded, removed and uploaded again, and the buffer grows where a mesh does
+//! not fit.
 //!
-//! After each step every byte of every live mesh is looked at: no other mesh has touched it.
+//! After each step every byte of every live mesh is checked: no other mesh has touched it.
 
 use offset_allocator_proved::{Allocation, AllocError, Allocator, Global};
 
-/// Offsets are multiples of what a graphics interface asks of a bound buffer.
+/// The alignment that a graphics interface requires of a bound buffer.
 const ALIGNMENT: u32 = 256;
 const MESHES: u64 = 400;
 const STEPS: u64 = 3_000;
@@ -20,7 +21,7 @@ struct Pool {
     meshes: Vec<Mesh>,
 }
 
-/// Byte `i` of a mesh.
+/// Byte `i` of the mesh of this number.
 fn vertex_byte(number: u64, i: u32) -> u8 {
     (number.wrapping_mul(0x9e37_79b9_7f4a_7c15) >> (i % 8 * 8)) as u8 ^ i as u8
 }
@@ -30,7 +31,7 @@ impl Pool {
         Ok(Pool { buffer: vec![0; bytes as usize], space: Allocator::new(Global, bytes)?, meshes: Vec::new() })
     }
 
-    /// Copies a mesh of so many bytes into the buffer, which grows where it has to.
+    /// Copies a mesh of `bytes` bytes into the buffer, which grows where needed.
     fn upload(&mut self, number: u64, bytes: u32) {
         let range = loop {
             match self.space.allocate_aligned(bytes, ALIGNMENT) {

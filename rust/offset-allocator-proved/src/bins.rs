@@ -1,13 +1,13 @@
 // Printed by rust/erase from crates/offset_allocator/src/bins.rt: change it there.
 
-//! The names of free blocks, in a list for each size class, by links between the nodes, with a two-level mask.
+//! A bin for each size class: the names of its free blocks, in a list of links between the nodes, with a two-level mask.
 
 use crate::accesses::Accesses;
 use crate::index::{NodeIndex, link_to, no_link, number};
 use crate::small_float::uint_to_float_round_down;
 use crate::tables::Tables;
 
-/// The least class from a class on that has a name.
+/// The smallest class from a class on that has a name.
 pub(crate) fn find_at_or_above<NI: NodeIndex>(
     tables: &Tables<NI>,
     top_mask: u32,
@@ -27,8 +27,8 @@ pub(crate) fn find_at_or_above<NI: NodeIndex>(
     Some(found * 64 + tables.mask(found, count).trailing_zeros())
 }
 
-/// The greatest class that has a name.
-pub(crate) fn greatest<NI: NodeIndex>(
+/// The largest class that has a name.
+pub(crate) fn largest<NI: NodeIndex>(
     tables: &Tables<NI>,
     top_mask: u32,
     count: &mut Accesses,
@@ -52,9 +52,9 @@ pub(crate) fn length_of<NI: NodeIndex>(tables: &Tables<NI>, class: u32, count: &
     names
 }
 
-/// Puts a name first into a class.
+/// Pushes a name onto a bin.
 #[inline(always)]
-pub(crate) fn put_first<NI: NodeIndex>(
+pub(crate) fn push<NI: NodeIndex>(
     tables: &mut Tables<NI>,
     top_mask: &mut u32,
     name: u32,
@@ -109,7 +109,7 @@ fn clear_class<NI: NodeIndex>(
     }
 }
 
-/// Takes a name out of the class of this size.
+/// Removes a name from the bin of this size.
 #[inline(always)]
 pub(crate) fn remove<NI: NodeIndex>(
     tables: &mut Tables<NI>,
@@ -132,8 +132,8 @@ pub(crate) fn remove<NI: NodeIndex>(
     }
 }
 
-/// Takes the first name out of a class.
-pub(crate) fn take_first<NI: NodeIndex>(
+/// Pops the newest name of a bin.
+pub(crate) fn pop<NI: NodeIndex>(
     tables: &mut Tables<NI>,
     top_mask: &mut u32,
     class: u32,

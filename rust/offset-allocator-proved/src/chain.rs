@@ -89,8 +89,8 @@ pub(crate) fn after<NI: NodeIndex>(
     linked(tables.after(name, count))
 }
 
-/// Cuts a block, of this offset and size, to `kept` units. The rest becomes a free block directly behind it, under the
-/// name that is answered.
+/// Splits a block, of this offset and size, after `kept` units. The remainder becomes a free block directly after it,
+/// under the name that is returned.
 pub(crate) fn split<NI: NodeIndex>(
     tables: &mut Tables<NI>,
     last: &mut u32,
@@ -120,9 +120,9 @@ pub(crate) fn split<NI: NodeIndex>(
     rest
 }
 
-/// Joins the free block `following` into the block directly before it; `total` is the size of both. The name
+/// Coalesces the free block `following` into the block directly before it; `total` is the size of both. The name
 /// `following` is unused again.
-pub(crate) fn join_after<NI: NodeIndex>(
+pub(crate) fn coalesce_after<NI: NodeIndex>(
     tables: &mut Tables<NI>,
     last: &mut u32,
     spare_count: &mut u32,
@@ -140,9 +140,9 @@ pub(crate) fn join_after<NI: NodeIndex>(
     *spare_count += 1;
 }
 
-/// Joins the free block `previous` into the block directly behind it; `total` is the size of both. The name
+/// Coalesces the free block `previous` into the block directly after it; `total` is the size of both. The name
 /// `previous` is unused again.
-pub(crate) fn join_before<NI: NodeIndex>(
+pub(crate) fn coalesce_before<NI: NodeIndex>(
     tables: &mut Tables<NI>,
     spare_count: &mut u32,
     previous: u32,
@@ -171,8 +171,8 @@ pub(crate) fn mark<NI: NodeIndex>(
     tables.set_used(name, used, count);
 }
 
-/// Cuts the first `cut` units off a block. They become a free block directly before it, under the name that is
-/// answered.
+/// Splits the first `cut` units off a block. They become a free block directly before it, under the name that is
+/// returned.
 pub(crate) fn split_before<NI: NodeIndex>(
     tables: &mut Tables<NI>,
     spare_count: &mut u32,

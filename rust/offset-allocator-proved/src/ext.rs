@@ -1,12 +1,11 @@
 // Printed by rust/erase from crates/offset_allocator/src/ext.rt: change it there.
 
-//! What the allocator's users ask of size classes.
+//! What the allocator's users need of size classes.
 
 use crate::small_float::{float_to_uint, uint_to_float_round_up};
 
-/// The least size in units of a space from which, while it is fresh and has a node limit of at least 3, an object of
-/// this size is granted. No space of a 32-bit size grants more than 4026531840 units, and more may not be asked
-/// for.
+/// The smallest size in units of a fresh space, with a node limit of at least 3, that grants an object of this size. No
+/// space of a 32-bit size grants more than 4026531840 units, and more may not be requested.
 pub fn min_allocator_size(needed_object_size: u32) -> u32 {
     assert!(needed_object_size <= 4026531840, "needed_object_size must be at most 4026531840");
     float_to_uint(uint_to_float_round_up(needed_object_size))

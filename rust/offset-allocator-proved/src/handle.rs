@@ -6,7 +6,7 @@ use crate::index::{NodeIndex, NodeIndexNonMax};
 use core::fmt;
 use core::marker::PhantomData;
 
-/// A granted range. Its name tells it from the other ranges of its space.
+/// A granted range. Its name distinguishes it from the other ranges of its space.
 #[derive(Copy)]
 pub struct Allocation<NI: NodeIndex = u32, N: NodeIndexNonMax = <NI as NodeIndex>::NonMax> {
     /// The place of the range's first unit.

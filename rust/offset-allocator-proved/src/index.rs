@@ -1,10 +1,10 @@
 // Printed by rust/erase from crates/offset_allocator/src/index.rt: change it there.
 
-//! Index types of nodes, and the names that they can tell.
+//! Index types of nodes, and the names that they have.
 
 use core::fmt;
 
-/// The name of a node: a number below the greatest of its index type.
+/// The name of a node: a number below the largest of its index type.
 pub trait NodeIndexNonMax: Clone + Copy + PartialEq + Default + fmt::Debug + fmt::Display {
     /// The number, as an index.
     fn to_usize(self) -> usize;
@@ -15,7 +15,7 @@ pub trait NodeIndex: Clone + Copy + Default {
     /// The names of this type: its numbers below `MAX`.
     type NonMax: NodeIndexNonMax;
 
-    /// The greatest number.
+    /// The largest number.
     const MAX: u32;
 
     /// The value of a number that is at most `MAX`.
@@ -68,7 +68,7 @@ pub struct NonMaxU32 {
 }
 
 impl NonMaxU32 {
-    /// The number, unless it is the greatest.
+    /// The number, unless it is the largest.
     pub fn new(value: u32) -> Option<Self> {
         if value == u32::MAX {
             None
@@ -143,7 +143,7 @@ pub struct NonMaxU16 {
 }
 
 impl NonMaxU16 {
-    /// The number, unless it is the greatest.
+    /// The number, unless it is the largest.
     pub fn new(value: u16) -> Option<Self> {
         if value == u16::MAX {
             None

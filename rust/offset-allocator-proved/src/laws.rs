@@ -63,10 +63,10 @@ pub fn refusal_aligned_counted<NI: NodeIndex>(
     allocator.refusal_counted(align.min(2), size as u64 + (align - 1) as u64, count)
 }
 
-/// Grants a request for `n` units and gives the grant back at once. The blocks, their names and the class lists are
-/// then as they were. It is `false` where the request was refused.
+/// Grants a request for `n` units and frees the grant at once. The blocks, their names and the bins are then as they
+/// were. It is `false` where the request was refused.
 ///
-/// The contract says this of each grant that a request for `n` can be given here, whichever unused name its rest takes.
+/// The contract says this of each grant that a request for `n` can have here, whichever unused name its remainder takes.
 /// The count of accesses grows by at most 192.
 pub fn undo<NI: NodeIndex>(allocator: &mut Allocator<NI>, n: u32) -> bool {
     allocator.formed();
@@ -79,7 +79,7 @@ pub fn undo<NI: NodeIndex>(allocator: &mut Allocator<NI>, n: u32) -> bool {
     }
 }
 
-/// The blocks fill the space, no two free ones side by side, and each class list holds the free blocks of its class.
+/// The blocks fill the space, no two free ones side by side, and each bin holds the free blocks of its class.
 ///
 /// Lemmas over the definitions ask for this, such as `taken_back` of `proofs/ViewUndo.antt`.
 pub fn is_well_formed<NI: NodeIndex>(allocator: &Allocator<NI>) {
@@ -96,8 +96,8 @@ pub fn ranges_are_disjoint<NI: NodeIndex>(allocator: &Allocator<NI>) {
     allocator.formed();
 }
 
-/// Between two granted ranges, and at each end of the space, at most one free block stands.
-pub fn free_blocks_stand_alone<NI: NodeIndex>(allocator: &Allocator<NI>) {
+/// Between two granted ranges, and at each end of the space, there is at most one free block.
+pub fn no_free_neighbours<NI: NodeIndex>(allocator: &Allocator<NI>) {
     allocator.formed();
 }
 
@@ -106,13 +106,13 @@ pub fn few_are_live<NI: NodeIndex>(allocator: &Allocator<NI>) {
     allocator.formed();
 }
 
-/// Where `max_allocs - 1` blocks stand, every request is refused, and the report tells 0 and 0.
+/// Where `max_allocs - 1` blocks exist, every request is refused, and the report is 0 and 0.
 pub fn a_full_space_refuses<NI: NodeIndex>(allocator: &Allocator<NI>) {
     allocator.formed();
 }
 
-/// With a limit of at least 3, a fresh space grants a request exactly where it has at least as many units as the value
-/// of the class that the request is rounded up to: those that `min_allocator_size` tells.
+/// With a limit of at least 3, a fresh space grants a request exactly when it has at least as many units as the value
+/// of the class that the request is rounded up to: those that `min_allocator_size` returns.
 pub fn a_fresh_space_grants() {}
 
 /// The units before an aligned grant take its offset to a multiple of the alignment, and fewer would not.

@@ -3,6 +3,10 @@
 //! Ranges of one contiguous space of `size` units, handed out and taken back with a bounded number of accesses to table
 //! cells. The space itself is never touched.
 //!
+//! A *block* is a run of units, live (granted) or free; no two free blocks are neighbours. Each block has a *node* of the
+//! tables, whose index is the block's *name*. A *size class* is a range of sizes, and its *bin* the list of its free
+//! blocks, the one that became free last first.
+//!
 //! ```
 //! # use offset_allocator_proved::*;
 //! # let alloc = Global;
@@ -51,15 +55,15 @@ use tables::Tables;
 
 /// One space, and what of it is granted.
 ///
-/// `NI` is the type of the links between nodes. It sets how many nodes there can be, and nothing of the answers.
+/// `NI` is the type of the links between nodes. It limits how many nodes there can be, and changes no result otherwise.
 pub struct Allocator<NI: NodeIndex = u32> {
     size: u32,
     max_allocs: u32,
     // the units of all free blocks
     free_total: u32,
-    // which words of the mask are not 0
+    // bit w says whether word w of the bins' mask is not 0
     top_mask: u32,
-    // how many names are unused
+    // the number of names that no block has
     spare_count: u32,
     // the name of the last block in space order
     last: u32,
@@ -73,8 +77,8 @@ fn handle_of<NI: NodeIndex>(offset: u32, name: u32) -> Allocation<NI> {
     Allocation::make(offset, NI::from_u32(name).to_name())
 }
 
-// Makes the whole space one free block, under the last name, in tables with no used node. It answers
-// the top mask.
+// Makes the whole space one free block, under the name `max_allocs - 1`, in tables with no used node, and returns the
+// top mask.
 fn start<NI: NodeIndex>(
     tables: &mut Tables<NI>,
     size: u32,
@@ -84,7 +88,7 @@ fn start<NI: NodeIndex>(
     let mut top_mask = 0;
     tables.shape();
     chain::start(tables, size, max_allocs, count);
-    bins::put_first(
+    bins::push(
         tables,
         &mut top_mask,
         max_allocs - 1,
@@ -97,7 +101,7 @@ fn start<NI: NodeIndex>(
 impl<NI: NodeIndex> Allocator<NI> {
     /// A space of `size` units, all free, with the smaller of 131072 and `NI::MAX - 2` as the node limit.
     ///
-    /// An error comes only where an allocation failed. Then nothing is made.
+    /// An error is returned only where an allocation failed; then nothing is made.
     pub fn new(alloc: Global, size: u32) -> Result<Self, AllocError> {
         Self::with_max_allocs(alloc, size, 131072u32.min(NI::MAX - 2))
     }
@@ -105,9 +109,9 @@ impl<NI: NodeIndex> Allocator<NI> {
     /// A space of `size` units, all free, with `max_allocs` as the node limit: at most `max_allocs - 1` blocks exist at a
     /// time, free ones included. A request is granted only while at most `max_allocs - 2` exist, and makes one of them
     /// live: so at most `max_allocs - 2` grants are live. The limit is 2 to `NI::MAX - 2`: 65533 for `u16`, 4294967293
-    /// for `u32`. It costs 29 bytes a node with `u32`, 19 with `u16`, all of which are written here.
+    /// for `u32`. It costs 29 bytes a node with `u32`, 19 with `u16`, and this call writes them all.
     ///
-    /// An error comes only where an allocation failed. Then nothing is made.
+    /// An error is returned only where an allocation failed; then nothing is made.
     pub fn with_max_allocs(alloc: Global, size: u32, max_allocs: u32) -> Result<Self, AllocError> {
         assert!(2 <= max_allocs, "max_allocs must be at least 2");
         assert!(max_allocs < NI::MAX - 1, "max_allocs must be at most NI::MAX - 2");
@@ -125,10 +129,25 @@ impl<NI: NodeIndex> Allocator<NI> {
         })
     }
 
-    /// Makes the whole space one free block again, in place. The block of every earlier handle is gone.
-    ///
-    /// It takes no memory, always succeeds, and goes over the use flags and the spare names of all nodes.
-    pub fn reset(&mut self) {
+    // The name of a live range, or `None` where nothing is live: then the space is as after a reset. Since no two
+    // neighbours are free, the last used block is the last block or the one before it.
+    fn last_used(&mut self) -> Option<u32> {
+        if chain::is_used(&self.tables, self.last, &mut self.accesses) {
+            return Some(self.last);
+        }
+        chain::before(&self.tables, self.last, &mut self.accesses)
+    }
+
+    // Frees every live range. It is out of line, so that `reset` stays small where it is inlined.
+    #[inline(never)]
+    fn free_all(&mut self) {
+        while let Some(name) = self.last_used() {
+            self.release(name);
+        }
+    }
+
+    // Rewrites all tables in place.
+    fn clear(&mut self) {
         self.tables.clear();
         self.top_mask = start(
             &mut self.tables,
@@ -141,12 +160,25 @@ impl<NI: NodeIndex> Allocator<NI> {
         self.last = self.max_allocs - 1;
     }
 
+    /// Makes the whole space one free block again, in place. The block of every earlier handle is gone.
+    ///
+    /// It takes no memory and always succeeds, and the space keeps what `extend` added. If there are fewer blocks than one
+    /// for 128 nodes of the limit, it frees each live range; otherwise it clears the use flags and the names of all nodes.
+    pub fn reset(&mut self) {
+        // freeing a range takes about as long as going over 128 nodes
+        if self.block_count() < self.max_allocs / 128 {
+            self.free_all();
+        } else {
+            self.clear();
+        }
+    }
+
     /// The units of the space, with what `extend` added.
     pub fn size(&self) -> u32 {
         self.size
     }
 
-    /// The node limit. At most one block less than this exists at a time, free ones included.
+    /// The node limit. At most `max_allocs - 1` blocks exist at a time, free ones included.
     pub fn max_allocs(&self) -> u32 {
         self.max_allocs
     }
@@ -164,7 +196,7 @@ impl<NI: NodeIndex> Allocator<NI> {
 
     // Grants the first units of the newest block of a class.
     fn grant(&mut self, class: u32, size: u32) -> Allocation<NI> {
-        let name = bins::take_first(
+        let name = bins::pop(
             &mut self.tables,
             &mut self.top_mask,
             class,
@@ -186,7 +218,7 @@ impl<NI: NodeIndex> Allocator<NI> {
                 &mut self.accesses,
             );
             self.tables.shape();
-            bins::put_first(
+            bins::push(
                 &mut self.tables,
                 &mut self.top_mask,
                 rest,
@@ -197,33 +229,40 @@ impl<NI: NodeIndex> Allocator<NI> {
         handle_of(offset, name)
     }
 
-    /// Grants a range of `size` units: the first ones of a free block of the least size class that is
-    /// sure to hold them, and there of the block that became free last. What remains of the block
-    /// stays free, directly behind the range.
+    /// Grants a range of `size` units: the first ones of a free block of the smallest size class that has one and whose
+    /// blocks are all large enough, and of those blocks the one that became free last. What remains of the block stays
+    /// free, directly after the range.
     ///
-    /// `None` where `max_allocs - 1` blocks stand, even for an exact fit, and where only free blocks of lesser classes
-    /// remain; blocks, names and class lists are then as they were. A request of at least one unit is granted exactly
-    /// when it is at most the `largest_free_region` that the report tells just before. It makes at most 64 accesses to
-    /// the tables (26 by the bounds of its parts), and takes no memory.
+    /// `None` is returned where `max_allocs - 1` blocks exist, even for an exact fit, and where no free block is of such
+    /// a class; then nothing changes. A request of at least one unit is granted exactly when it is at most the
+    /// `largest_free_region` that `storage_report` returns just before. It makes at most 64 accesses to the tables (the
+    /// bounds of its parts add up to 26), and takes no memory.
     pub fn allocate(&mut self, size: u32) -> Option<Allocation<NI>> {
         if self.spare_count <= 1 {
             return None;
         }
-        let least = uint_to_float_round_up(size);
-        match bins::find_at_or_above(&self.tables, self.top_mask, least, &mut self.accesses) {
+        let smallest = uint_to_float_round_up(size);
+        match bins::find_at_or_above(&self.tables, self.top_mask, smallest, &mut self.accesses) {
             None => None,
             Some(class) => Some(self.grant(class, size)),
         }
     }
 
-    /// Gives a granted range back. Its units are free at once, in one block with the free ranges directly before
-    /// and behind it, and that block is the newest of its class.
+    /// Frees the range of a live handle. Its units are free at once, in one block with the free blocks directly before
+    /// and after it, and that block is the newest of its bin.
     ///
-    /// Only the handle's name counts, and not its public `offset`. It makes at most 128 accesses to the
-    /// tables (40 by the bounds of its parts), and takes no memory. The handle has to be live, which `is_live` tells.
+    /// The handle has to be live, which `is_live` says. Only its name counts, and not its public
+    /// `offset`: a stale handle whose name was granted again is live, and frees that range. It makes at
+    /// most 128 accesses to the tables (the bounds of its parts add up to 40), and takes no memory.
     pub fn free(&mut self, allocation: Allocation<NI>) {
         assert!(self.is_live(allocation), "the handle must be live");
-        let name = index::number(NI::of_nonmax(allocation.name()));
+        self.release(index::number(NI::of_nonmax(allocation.name())));
+    }
+
+    // Frees the block of a name. It is inlined into `free` and into `free_all`: so `free` shares no code with `reset`, and
+    // a caller's only call of `free` can be inlined.
+    #[inline(always)]
+    fn release(&mut self, name: u32) {
         let size = chain::size(&self.tables, name, &mut self.accesses);
         self.free_total += size;
         let size = merge::with_before(
@@ -245,7 +284,7 @@ impl<NI: NodeIndex> Allocator<NI> {
         );
         chain::mark(&mut self.tables, name, false, &mut self.accesses);
         self.tables.shape();
-        bins::put_first(
+        bins::push(
             &mut self.tables,
             &mut self.top_mask,
             name,
@@ -289,7 +328,7 @@ impl<NI: NodeIndex> Allocator<NI> {
         }
     }
 
-    /// The units of the range that a live handle has: exactly what was asked for. It is 0 where the handle is not live,
+    /// The units of the range that a live handle has: exactly what was requested. It is 0 where the handle is not live,
     /// and for a live range of no units too.
     pub fn allocation_size(&self, allocation: Allocation<NI>) -> u32 {
         self.allocation_size_counted(allocation, &mut Accesses::new())
@@ -303,7 +342,7 @@ impl<NI: NodeIndex> Allocator<NI> {
                 largest_free_region: 0,
             };
         }
-        let largest_free_region = match bins::greatest(&self.tables, self.top_mask, count) {
+        let largest_free_region = match bins::largest(&self.tables, self.top_mask, count) {
             None => 0,
             Some(class) => float_to_uint(class),
         };
@@ -313,8 +352,8 @@ impl<NI: NodeIndex> Allocator<NI> {
         }
     }
 
-    /// The free space in short: the units of all free blocks, and the greatest request that would be granted. Both are
-    /// 0 where `max_allocs - 1` blocks stand.
+    /// The free space in short: the units of all free blocks, and the largest request that would be granted. Both are
+    /// 0 where `max_allocs - 1` blocks exist.
     pub fn storage_report(&self) -> StorageReport {
         self.storage_report_counted(&mut Accesses::new())
     }
@@ -336,7 +375,7 @@ impl<NI: NodeIndex> Allocator<NI> {
         self.storage_report_full_counted(&mut Accesses::new())
     }
 
-    // Why a request is refused that splits off as many blocks, and takes a block for as many units.
+    // Why a request is refused that may add this many blocks, and needs a block of this many units.
     pub(crate) fn refusal_counted(
         &self,
         blocks: u32,
@@ -349,8 +388,8 @@ impl<NI: NodeIndex> Allocator<NI> {
         if units > self.free_total as u64 {
             return Some(Refusal::Space);
         }
-        let least = uint_to_float_round_up(units as u32);
-        match bins::find_at_or_above(&self.tables, self.top_mask, least, count) {
+        let smallest = uint_to_float_round_up(units as u32);
+        match bins::find_at_or_above(&self.tables, self.top_mask, smallest, count) {
             None => Some(Refusal::Fragmented),
             Some(_) => None,
         }
@@ -378,7 +417,7 @@ impl<NI: NodeIndex> Allocator<NI> {
 
     // Grants units of the newest block of a class, from the first multiple of `align` in it on.
     fn grant_aligned(&mut self, class: u32, size: u32, align: u32) -> Allocation<NI> {
-        let name = bins::take_first(
+        let name = bins::pop(
             &mut self.tables,
             &mut self.top_mask,
             class,
@@ -387,7 +426,7 @@ impl<NI: NodeIndex> Allocator<NI> {
         let offset = chain::offset(&self.tables, name, &mut self.accesses);
         let whole = chain::size(&self.tables, name, &mut self.accesses);
         let padding = (align - offset % align) % align;
-        parts::carve(
+        parts::divide(
             &mut self.tables,
             &mut self.top_mask,
             &mut self.last,
@@ -404,11 +443,11 @@ impl<NI: NodeIndex> Allocator<NI> {
 
     /// Grants `size` units that begin at a multiple of `align`, a power of two.
     ///
-    /// It takes the block that a request for `size + align - 1` units would take. What of it lies before the granted
-    /// units, and what lies behind them, stays free. It answers `None` where such a request finds no block or is too
-    /// large for a number of 32 bits, or, with `align` above 1, where fewer than two more blocks may stand. A refusal
-    /// leaves blocks, names and class lists as they were. With `align` 1 the call is `allocate`. It makes at most 128
-    /// accesses to the tables, and takes no memory.
+    /// The block is the one that a request for `size + align - 1` units would take. What of it lies before the granted
+    /// units, and what lies after them, stays free. `None` is returned where such a request finds no block or is larger
+    /// than 4294967295, and, with `align` above 1, where there is no room for two more blocks, needed or not; then nothing
+    /// changes. With
+    /// `align` 1 the call is `allocate`. It makes at most 128 accesses to the tables, and takes no memory.
     pub fn allocate_aligned(&mut self, size: u32, align: u32) -> Option<Allocation<NI>> {
         assert!(align.is_power_of_two(), "align must be a power of two");
         let spare_count = self.spare_count;
@@ -421,8 +460,8 @@ impl<NI: NodeIndex> Allocator<NI> {
         if size > u32::MAX - (align - 1) {
             return None;
         }
-        let least = uint_to_float_round_up(size + (align - 1));
-        match bins::find_at_or_above(&self.tables, self.top_mask, least, &mut self.accesses) {
+        let smallest = uint_to_float_round_up(size + (align - 1));
+        match bins::find_at_or_above(&self.tables, self.top_mask, smallest, &mut self.accesses) {
             None => None,
             Some(class) => Some(self.grant_aligned(class, size, align)),
         }
@@ -440,7 +479,7 @@ impl<NI: NodeIndex> Allocator<NI> {
         );
         chain::grow(&mut self.tables, self.last, more, &mut self.accesses);
         self.tables.shape();
-        bins::put_first(
+        bins::push(
             &mut self.tables,
             &mut self.top_mask,
             self.last,
@@ -451,7 +490,7 @@ impl<NI: NodeIndex> Allocator<NI> {
         self.free_total += more;
     }
 
-    // Puts a free block behind the last one, which is used.
+    // Puts a free block after the last one, which is used.
     fn append(&mut self, more: u32) {
         let end = self.last;
         let offset = chain::offset(&self.tables, end, &mut self.accesses);
@@ -468,7 +507,7 @@ impl<NI: NodeIndex> Allocator<NI> {
         );
         chain::grow(&mut self.tables, self.last, more, &mut self.accesses);
         self.tables.shape();
-        bins::put_first(
+        bins::push(
             &mut self.tables,
             &mut self.top_mask,
             name,
@@ -481,9 +520,9 @@ impl<NI: NodeIndex> Allocator<NI> {
 
     /// Adds `more` units at the end of the space: to the last block where that is free, or else as a new free block.
     ///
-    /// It answers `false` where the space would have more than 4294967295 units, or where its last block is used and
-    /// no further block may stand. Blocks, names and class lists then stay as they were. With 0 units it answers
-    /// `true`. It makes at most 128 accesses to the tables, and takes no memory.
+    /// `false` is returned where the space would have more than 4294967295 units, and where its last block is used and
+    /// no further block may exist; then nothing changes. With 0 units it is `true`. It makes at most 128 accesses to the
+    /// tables, and takes no memory.
     pub fn extend(&mut self, more: u32) -> bool {
         let size = self.size;
         if more == 0 {
@@ -504,7 +543,7 @@ impl<NI: NodeIndex> Allocator<NI> {
         true
     }
 
-    /// The blocks and the class lists agree.
+    /// The blocks and the bins agree. A step of proofs, which does nothing.
     pub(crate) fn formed(&self) {
         // a look at a field recalls the invariant
         let _ = &self.size;

@@ -1,4 +1,5 @@
-//! The memory of the tables: a vector whose growth can be refused. By hand, over that of `alloc`.
+//! The memory of the tables: a vector whose growth returns an error where the allocation fails. Written by hand, over
+//! `alloc::vec::Vec`.
 
 use core::fmt;
 use core::ops::{Deref, DerefMut, Index, IndexMut};
@@ -7,7 +8,7 @@ use core::ops::{Deref, DerefMut, Index, IndexMut};
 #[derive(Clone, Copy, Debug, Default)]
 pub struct Global;
 
-/// Memory was refused.
+/// An allocation failed.
 #[derive(Clone, Copy, Debug, PartialEq, Eq)]
 pub struct AllocError;
 
@@ -23,15 +24,15 @@ impl core::error::Error for AllocError {}
 pub(crate) struct Vec<T>(alloc::vec::Vec<T>);
 
 impl<T> Vec<T> {
-    /// No value, and room for exactly `capacity` of them.
+    /// Makes an empty vector with room for exactly `capacity` values.
     pub(crate) fn with_capacity(_: Global, capacity: usize) -> Result<Self, AllocError> {
         let mut values = alloc::vec::Vec::new();
         values.try_reserve_exact(capacity).map_err(|_| AllocError)?;
-        // an optimizer may leave out a request whose memory is given back unused, and with it the refusal
+        // an optimizer may remove a request whose memory is freed unused, and with it the failure
         Ok(Vec(core::hint::black_box(values)))
     }
 
-    /// Fills up to `length` values.
+    /// Appends copies of `value` up to `length` values.
     pub(crate) fn resize(&mut self, length: usize, value: T) -> Result<(), AllocError>
     where
         T: Clone,
@@ -42,7 +43,7 @@ impl<T> Vec<T> {
         Ok(())
     }
 
-    /// Adds what an iterator gives.
+    /// Appends the values of an iterator.
     pub(crate) fn extend(
         &mut self,
         values: impl ExactSizeIterator<Item = T>,
@@ -55,8 +56,8 @@ impl<T> Vec<T> {
     }
 }
 
-// The panic of a cell that is not there. It has no number in it, so that a test of a place is one comparison and a
-// jump. No call comes here: that each place is in its table is proved.
+// The panic of an index outside the table. Its message has no number, so that the test of an index is one comparison
+// and a jump. No call reaches it: it is proved that each index is in its table.
 #[cold]
 #[inline(never)]
 fn outside() -> ! {

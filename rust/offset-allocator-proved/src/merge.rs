@@ -1,13 +1,14 @@
 // Printed by rust/erase from crates/offset_allocator/src/merge.rt: change it there.
 
-//! Joins a block with the free blocks beside it, which leave their classes.
+//! Coalesces a block with the free blocks beside it, which leave their bins.
 
 use crate::accesses::Accesses;
 use crate::index::NodeIndex;
 use crate::tables::Tables;
 use crate::{bins, chain};
 
-/// Joins a free block directly before a block of this size into it, and answers its size then.
+/// Coalesces a free block directly before a block of this size into it, and returns its size then.
+#[inline(always)]
 pub(crate) fn with_before<NI: NodeIndex>(
     tables: &mut Tables<NI>,
     top_mask: &mut u32,
@@ -20,14 +21,15 @@ pub(crate) fn with_before<NI: NodeIndex>(
         if !chain::is_used(tables, previous, count) {
             let more = chain::size(tables, previous, count);
             bins::remove(tables, top_mask, previous, more, count);
-            chain::join_before(tables, spare_count, previous, name, more + size, count);
+            chain::coalesce_before(tables, spare_count, previous, name, more + size, count);
             return more + size;
         }
     }
     size
 }
 
-/// Joins a free block directly after a block of this size into it, and answers its size then.
+/// Coalesces a free block directly after a block of this size into it, and returns its size then.
+#[inline(always)]
 pub(crate) fn with_after<NI: NodeIndex>(
     tables: &mut Tables<NI>,
     top_mask: &mut u32,
@@ -41,7 +43,7 @@ pub(crate) fn with_after<NI: NodeIndex>(
         if !chain::is_used(tables, following, count) {
             let more = chain::size(tables, following, count);
             bins::remove(tables, top_mask, following, more, count);
-            chain::join_after(
+            chain::coalesce_after(
                 tables,
                 last,
                 spare_count,

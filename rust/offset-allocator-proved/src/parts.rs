@@ -1,6 +1,6 @@
 // Printed by rust/erase from crates/offset_allocator/src/parts.rt: change it there.
 
-//! Takes a block apart: a free front, a used middle, and a free rest.
+//! Splits a block: padding, a used middle, and a remainder.
 
 use crate::accesses::Accesses;
 use crate::index::NodeIndex;
@@ -8,9 +8,9 @@ use crate::small_float::uint_to_float_round_down;
 use crate::tables::Tables;
 use crate::{bins, chain};
 
-// Cuts the first units off a block, unless these are none, and files them as a free block under the name that is
-// answered.
-fn cut_front<NI: NodeIndex>(
+// Splits the first units off a block, unless these are none, as a free block in its bin, under the name that is
+// returned.
+fn split_padding<NI: NodeIndex>(
     tables: &mut Tables<NI>,
     top_mask: &mut u32,
     spare_count: &mut u32,
@@ -23,7 +23,7 @@ fn cut_front<NI: NodeIndex>(
     }
     let front = chain::split_before(tables, spare_count, name, units, count);
     tables.shape();
-    bins::put_first(
+    bins::push(
         tables,
         top_mask,
         front,
@@ -33,9 +33,9 @@ fn cut_front<NI: NodeIndex>(
     front
 }
 
-// Cuts a block to `size` units, and files the units behind these, unless they are none, as a free block under the
-// name that is answered.
-fn cut_rest<NI: NodeIndex>(
+// Splits a block after `size` units. The units after these, unless they are none, become a free block in its bin, under
+// the name that is returned.
+fn split_remainder<NI: NodeIndex>(
     tables: &mut Tables<NI>,
     top_mask: &mut u32,
     last: &mut u32,
@@ -60,7 +60,7 @@ fn cut_rest<NI: NodeIndex>(
         count,
     );
     tables.shape();
-    bins::put_first(
+    bins::push(
         tables,
         top_mask,
         rest,
@@ -70,9 +70,9 @@ fn cut_rest<NI: NodeIndex>(
     rest
 }
 
-/// Makes of a block a free front of `padding` units, `size` used units under its name, and a free rest of the units
-/// that are left. It answers the names of the front and the rest, where these have units.
-pub(crate) fn carve<NI: NodeIndex>(
+/// Splits a block into `padding` free units, `size` used units under its name, and a free remainder of the units that
+/// are left. The names of the padding and of the remainder are returned, where these have units.
+pub(crate) fn divide<NI: NodeIndex>(
     tables: &mut Tables<NI>,
     top_mask: &mut u32,
     last: &mut u32,
@@ -83,8 +83,8 @@ pub(crate) fn carve<NI: NodeIndex>(
     left: u32,
     count: &mut Accesses,
 ) -> (u32, u32) {
-    let front = cut_front(tables, top_mask, spare_count, name, padding, count);
+    let front = split_padding(tables, top_mask, spare_count, name, padding, count);
     chain::mark(tables, name, true, count);
-    let rest = cut_rest(tables, top_mask, last, spare_count, name, size, left, count);
+    let rest = split_remainder(tables, top_mask, last, spare_count, name, size, left, count);
     (front, rest)
 }

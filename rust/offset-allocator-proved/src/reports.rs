@@ -1,16 +1,16 @@
 // Printed by rust/erase from crates/offset_allocator/src/reports.rt: change it there.
 
-//! What is told of the free space.
+//! What is reported of the free space.
 
 /// The free space of an allocator, in short.
 ///
-/// Both numbers are 0 where `max_allocs - 1` blocks stand, since nothing is granted there.
+/// Both numbers are 0 where `max_allocs - 1` blocks exist, since nothing is granted there.
 #[derive(Debug)]
 pub struct StorageReport {
     /// The units of all free blocks together.
     pub total_free_space: u32,
-    /// The value of the greatest class that has a free block, or 0 where no block is free. A request for 1 unit or more
-    /// is granted exactly where it is at most this. The block itself may be larger, by less than an eighth of this.
+    /// The value of the largest class that has a free block, or 0 where no block is free. A request for 1 unit or more
+    /// is granted exactly when it is at most this. The block itself may be larger, by less than an eighth of this.
     pub largest_free_region: u32,
 }
 
@@ -29,10 +29,10 @@ pub enum Refusal {
 /// One size class in the full report.
 #[derive(Clone, Copy, Debug)]
 pub struct StorageReportFullRegion {
-    /// The value of the class: each of its blocks has at least so many units. The values of the classes 240 to 255 are
-    /// told modulo 2 to the power of 32; no block is of these classes.
+    /// The value of the class: each of its blocks has at least that many units. The values of the classes 240 to 255 are
+    /// reported modulo 2 to the power of 32; no block is of these classes.
     pub size: u32,
-    /// How many free blocks are of the class.
+    /// The number of free blocks of the class.
     pub count: u32,
 }
 
@@ -42,7 +42,7 @@ impl Default for StorageReportFullRegion {
     }
 }
 
-/// The free blocks of an allocator, class by class. It tells them at the node limit too.
+/// The free blocks of an allocator, class by class, at the node limit too.
 #[derive(Debug)]
 pub struct StorageReportFull {
     /// The size classes from 0 to 255.

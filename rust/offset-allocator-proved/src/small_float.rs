@@ -5,23 +5,22 @@
 
 /// How many bits of a class are its mantissa.
 pub const MANTISSA_BITS: u32 = 3;
-/// One more than the greatest mantissa: sizes below it are classes of their own.
+/// One more than the largest mantissa: sizes below it are classes of their own.
 pub const MANTISSA_VALUE: u32 = 8;
 /// The bits of the mantissa.
 pub const MANTISSA_MASK: u32 = 7;
 
-/// The least class whose value is at least `size` units. It is at most 240, which no block is of: a
+/// The smallest class whose value is at least `size` units. It is at most 240, which no block is of: a
 /// size above 4026531840 fits no class that a 32-bit size reaches.
 pub fn uint_to_float_round_up(size: u32) -> u32 {
     if size <= MANTISSA_VALUE {
         return size;
     }
-    // the class behind the last one whose value is too small
+    // the class after the last one whose value is too small
     uint_to_float_round_down(size - 1) + 1
 }
 
-/// The greatest class whose value is at most `size` units: the class that a free block of this size
-/// stands in. It is at most 239.
+/// The largest class whose value is at most `size` units: the class of a free block of this size. It is at most 239.
 pub fn uint_to_float_round_down(size: u32) -> u32 {
     if size < MANTISSA_VALUE {
         return size;
@@ -32,8 +31,8 @@ pub fn uint_to_float_round_down(size: u32) -> u32 {
     (start << MANTISSA_BITS) + (size >> start)
 }
 
-/// The value of a class below 256 in units, of which the low 32 bits are told: the values of the classes
-/// from 240 on are greater.
+/// The value of a class below 256 in units, of which the low 32 bits are returned: the values of the classes
+/// from 240 on are larger.
 pub fn float_to_uint(float_value: u32) -> u32 {
     assert!(float_value < 256, "float_value must be below 256");
     let exponent = float_value >> MANTISSA_BITS;

@@ -9,7 +9,7 @@ use crate::index::{NodeIndex, no_link};
 use crate::memory::{AllocError, Global};
 
 /// A block's offset and size, the links to its neighbours in space, and the links to the next nodes of its size class.
-/// A link is the number of a node, or the greatest number of its type, which names none.
+/// A link is the number of a node, or the largest number of its type, which names none.
 #[derive(Clone, Copy)]
 struct Node<NI> {
     offset: u32,
@@ -21,7 +21,7 @@ struct Node<NI> {
 }
 
 /// The nodes, whether each is used, the newest node of each size class, the masks of the classes, and the stack of
-/// spare names.
+/// unused names.
 pub(crate) struct Tables<NI: NodeIndex> {
     nodes: Vec<Node<NI>>,
     used: Vec<bool>,
@@ -30,7 +30,7 @@ pub(crate) struct Tables<NI: NodeIndex> {
     spare: Vec<NI>,
 }
 
-// Asks for the bytes of all tables at once, and gives them back. A system that promises more memory than it has would
+// Requests the bytes of all tables at once, and returns them. A system that promises more memory than it has would
 // grant each table, and end the program when they are filled; this one request it refuses. A link is taken to have
 // the bytes that its numbers need, as those of `u16` and `u32` have.
 fn probe<NI: NodeIndex>(alloc: Global, nodes: u32) -> Result<(), AllocError> {
@@ -125,7 +125,7 @@ impl<NI: NodeIndex> Tables<NI> {
         })
     }
 
-    /// Makes all nodes unused and all classes empty, and puts all names on the spare stack. The other fields of a node
+    /// Makes all nodes unused and all classes empty, and puts all names on the stack of unused ones. The other fields of a node
     /// stay: they are written before they are read.
     pub(crate) fn clear(&mut self) {
         fill(&mut self.used, false);
@@ -200,13 +200,13 @@ impl<NI: NodeIndex> Tables<NI> {
         self.nodes[name as usize].after = link;
     }
 
-    /// An entry of the stack of spare names.
+    /// An entry of the stack of unused names.
     pub(crate) fn spare(&self, place: u32, count: &mut Accesses) -> NI {
         count.tick();
         self.spare[place as usize]
     }
 
-    /// Writes an entry of the stack of spare names.
+    /// Writes an entry of the stack of unused names.
     pub(crate) fn set_spare(&mut self, place: u32, name: NI, count: &mut Accesses) {
         count.tick();
         self.spare[place as usize] = name;
@@ -248,7 +248,7 @@ impl<NI: NodeIndex> Tables<NI> {
         self.heads[class as usize] = link;
     }
 
-    /// A word of the masks: bit `c % 64` of word `c / 64` tells whether class c has a node.
+    /// A word of the masks: bit `c % 64` of word `c / 64` says whether class c has a node.
     pub(crate) fn mask(&self, word: u32, count: &mut Accesses) -> u64 {
         count.tick();
         self.masks[word as usize]

@@ -1,4 +1,4 @@
-//! Each public call once, with values by hand.
+//! Each public call once, with values computed by hand.
 use offset_allocator_proved::ext::min_allocator_size;
 use offset_allocator_proved::small_float::{float_to_uint, uint_to_float_round_down, uint_to_float_round_up};
 use offset_allocator_proved::{laws, Accesses, AllocError, Allocator, Global, NodeIndex, NonMaxU16, NonMaxU32};
@@ -14,7 +14,7 @@ fn grants_and_releases() {
     let second = a.allocate(20).unwrap();
     assert_eq!((first.offset, second.offset), (0, 10));
     assert_eq!((a.allocation_size(first), a.allocation_size(second)), (10, 20));
-    // 70 units lie in the class of 64
+    // 70 units are of the class of 64
     assert_eq!(a.storage_report().total_free_space, 70);
     assert_eq!(a.storage_report().largest_free_region, 64);
     assert!(a.allocate(71).is_none());
@@ -23,7 +23,7 @@ fn grants_and_releases() {
     assert_eq!(a.allocation_size(first), 0);
     assert_eq!(a.storage_report().largest_free_region, 64);
     a.free(second);
-    // 100 units lie in the class of 96
+    // 100 units are of the class of 96
     assert_eq!(a.storage_report().largest_free_region, 96);
     assert_eq!(format!("{a:?}"), "StorageReport { total_free_space: 100, largest_free_region: 96 }");
 }
@@ -80,7 +80,7 @@ fn grows_and_resets() {
 
 #[test]
 fn node_limits() {
-    // a limit of 4 admits 3 blocks: two ranges, and the rest
+    // a limit of 4 admits 3 blocks: two ranges and the remainder
     let mut a = space(100, 4);
     let first = a.allocate(1).unwrap();
     a.allocate(1).unwrap();

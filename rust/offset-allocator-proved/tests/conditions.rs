@@ -1,4 +1,4 @@
-//! A condition that is not met panics at the call, with the words of the table.
+//! A call whose condition is not met panics, with the message in `table.py`.
 use offset_allocator_proved::ext::min_allocator_size;
 use offset_allocator_proved::small_float::float_to_uint;
 use offset_allocator_proved::{Allocator, Global, NodeIndex};

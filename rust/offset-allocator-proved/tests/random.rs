@@ -1,7 +1,7 @@
 //! Every public call with random handles and numbers. A call panics exactly where its condition is not met, with the
-//! words of the table, and has then changed nothing. Each grant has its units alone.
+//! message in `table.py`, and has then changed nothing. Live ranges share no unit.
 //!
-//! With `debug_assertions` alone, as `cargo test` builds: a sum that wraps panics then.
+//! Only with `debug_assertions`, as `cargo test` builds: a sum that wraps panics then.
 #![cfg(debug_assertions)]
 
 use offset_allocator_proved::ext::min_allocator_size;
@@ -28,7 +28,7 @@ impl Random {
         (self.next() % u64::from(n)) as u32
     }
 
-    /// Any number: of few bits, of many, or beside a power of two.
+    /// A random number: of a random number of bits, beside a power of two, or near the largest.
     fn any(&mut self) -> u32 {
         let bits = self.below(33);
         let number = (self.next() & ((1 << bits) - 1)) as u32;
@@ -40,29 +40,30 @@ impl Random {
     }
 }
 
-/// What the call returns, or what its panic says.
+/// The result of a call, or the message of its panic.
 fn result<T>(call: impl FnOnce() -> T) -> Result<T, String> {
     catch_unwind(AssertUnwindSafe(call)).map_err(|panic| match panic.downcast::<&str>() {
-        Ok(told) => told.to_string(),
+        Ok(message) => message.to_string(),
         Err(panic) => *panic.downcast::<String>().unwrap(),
     })
 }
 
-fn expect<T>(found: Result<T, String>, met: bool, told: &str) -> Option<T> {
+/// The result, if the condition is met; else asserts that the call panicked with this message.
+fn expect<T>(found: Result<T, String>, met: bool, message: &str) -> Option<T> {
     match found {
         Ok(value) => {
-            assert!(met, "no panic: {told}");
+            assert!(met, "no panic: {message}");
             Some(value)
         }
         Err(panic) => {
             assert!(!met, "a panic: {panic}");
-            assert_eq!(panic, told);
+            assert_eq!(panic, message);
             None
         }
     }
 }
 
-/// An allocator beside a plain list of its live ranges.
+/// An allocator, and a plain list of its live ranges.
 struct Pair<NI: NodeIndex> {
     space: Allocator<NI>,
     size: u32,
@@ -161,7 +162,7 @@ impl<NI: NodeIndex> Pair<NI> {
                 laws::is_well_formed(&self.space);
                 laws::sizes_add_up(&self.space);
                 laws::ranges_are_disjoint(&self.space);
-                laws::free_blocks_stand_alone(&self.space);
+                laws::no_free_neighbours(&self.space);
                 laws::few_are_live(&self.space);
                 laws::a_full_space_refuses(&self.space);
             }
@@ -171,11 +172,11 @@ impl<NI: NodeIndex> Pair<NI> {
 }
 
 fn play<NI: NodeIndex>(random: &mut Random) {
-    // of earlier allocators, so that many of them are not live, or name another range
+    // from earlier allocators too, so that many of them are not live, or name another range
     let mut handles = Vec::new();
     for _ in 0..ALLOCATORS {
         let size = random.any();
-        // a limit that is admitted and large would only take memory
+        // a large limit that is admitted would only take memory
         let max_allocs = match random.below(5) {
             0 => random.below(4),
             1 => NI::MAX - random.below(4),
@@ -185,8 +186,8 @@ fn play<NI: NodeIndex>(random: &mut Random) {
         if met && max_allocs > 1_000_000 {
             continue;
         }
-        let told = if max_allocs < 2 { "max_allocs must be at least 2" } else { "max_allocs must be at most NI::MAX - 2" };
-        let Some(space) = expect(result(|| Allocator::with_max_allocs(Global, size, max_allocs)), met, told) else { continue };
+        let message = if max_allocs < 2 { "max_allocs must be at least 2" } else { "max_allocs must be at most NI::MAX - 2" };
+        let Some(space) = expect(result(|| Allocator::with_max_allocs(Global, size, max_allocs)), met, message) else { continue };
         let mut pair = Pair { space: space.unwrap(), size, live: Vec::new() };
         for _ in 0..CALLS {
             pair.call(random, &mut handles);
@@ -210,11 +211,11 @@ fn numbers(random: &mut Random) {
         assert_eq!(NonMaxU32::new(n).map(NonMaxU32::get), Some(n).filter(|n| *n < u32::MAX));
         let narrow = n as u16;
         assert_eq!(NonMaxU16::new(narrow).map(NonMaxU16::get), Some(narrow).filter(|n| *n < u16::MAX));
-        let told = "MAX is the name of no node";
-        if let Some(name) = expect(result(|| n.to_name()), n < u32::MAX, told) {
+        let message = "MAX is the name of no node";
+        if let Some(name) = expect(result(|| n.to_name()), n < u32::MAX, message) {
             assert_eq!(u32::of_nonmax(name), n);
         }
-        if let Some(name) = expect(result(|| narrow.to_name()), narrow < u16::MAX, told) {
+        if let Some(name) = expect(result(|| narrow.to_name()), narrow < u16::MAX, message) {
             assert_eq!(u16::of_nonmax(name), narrow);
         }
         assert_eq!(n.to_nonmax().map(u32::of_nonmax), Some(n).filter(|n| *n < u32::MAX));
@@ -224,7 +225,7 @@ fn numbers(random: &mut Random) {
 
 #[test]
 fn no_other_panic() {
-    // hundreds of panics are expected: they are not to be printed
+    // hundreds of panics are expected, and should not be printed
     let printed = std::panic::take_hook();
     std::panic::set_hook(Box::new(|_| {}));
     let found = result(|| {

@@ -1,10 +1,10 @@
-//! What each frame uploads for itself, in one buffer: a frame's ranges are released when the GPU is done with it, which
-//! is some frames later. Written against the original's surface.
+//! The uploads of single frames, in one buffer: a frame's ranges are freed when the GPU is done with it, some frames
+//! later. It uses only the original's public surface.
 
 use offset_allocator::{Allocation, Allocator};
 use std::collections::{BTreeMap, VecDeque};
 
-/// So many frames are in flight.
+/// The number of frames in flight.
 const IN_FLIGHT: usize = 3;
 const FRAMES: u32 = 1_000;
 const BUFFER: u32 = 1 << 20;
@@ -17,7 +17,7 @@ struct Frame {
 fn main() {
     let mut space: Allocator = Allocator::new(BUFFER);
     let mut frames = VecDeque::new();
-    // the live ranges by their first byte: the byte after them, and their frame
+    // the live ranges by their first byte: the first byte after each, and its frame
     let mut live = BTreeMap::new();
     let mut refused = 0;
     let mut random = 7u32;

@@ -1,29 +1,29 @@
-//! The index types of the original, as those of the proved library.
+//! The index types of the original, as index types of the proved library.
 
 use core::fmt::{self, Debug, Display};
 use core::num::{NonZeroU16, NonZeroU32};
 
 use offset_allocator_proved as proved;
 
-/// The type of the links between nodes: it bounds how many allocations there can be.
+/// The type of the links between nodes, which bounds the number of allocations.
 ///
-/// The two types here, `u32` and `u16`, are lawful. An own type has to keep every number up to `MAX` through
-/// `from_u32` and `to_usize`, and its `NonMax` every number but `MAX`.
+/// The two types here, `u32` and `u16`, are lawful. Your own type has to keep every number up to `MAX` through
+/// `from_u32` and `to_usize`, and its `NonMax` every number except `MAX`.
 pub trait NodeIndex: Clone + Copy + Default {
-    /// The numbers of this type but the greatest.
+    /// The numbers of this type except the largest.
     type NonMax: NodeIndexNonMax + TryFrom<Self> + Into<Self>;
 
-    /// The greatest number.
+    /// The largest number.
     const MAX: u32;
 
-    /// The value of a number. Of one above `MAX` some bits are lost.
+    /// Returns the value of a number. A number above `MAX` loses bits.
     fn from_u32(val: u32) -> Self;
 
     /// The number, as an index.
     fn to_usize(self) -> usize;
 }
 
-/// The numbers of a [`NodeIndex`] but the greatest.
+/// The numbers of a [`NodeIndex`] except the largest.
 pub trait NodeIndexNonMax: Clone + Copy + PartialEq + Default + Debug + Display {
     /// The number, as an index.
     fn to_usize(self) -> usize;
@@ -77,8 +77,8 @@ impl<NI: NodeIndex> proved::NodeIndex for Index<NI> {
 }
 
 macro_rules! index { ($int:ident, $nonmax:ident, $nonzero:ident) => {
-    // kept as what is missing to the greatest number, so that an `Option` of it takes no more bytes
-    #[doc = concat!("The numbers of a `", stringify!($int), "` but the greatest.")]
+    // stored with all bits inverted, which is never 0, so that an `Option` of it takes no more bytes
+    #[doc = concat!("The numbers of a `", stringify!($int), "` except the largest.")]
     #[derive(Clone, Copy, PartialEq, Eq)]
     pub struct $nonmax($nonzero);
 
@@ -140,7 +140,7 @@ macro_rules! index { ($int:ident, $nonmax:ident, $nonzero:ident) => {
     }
 } }
 
-/// The greatest number is no name.
+/// The error of a conversion from the largest number, which names no node.
 #[derive(Clone, Copy, Debug, PartialEq, Eq)]
 pub struct IsMax;
 

@@ -14,7 +14,7 @@ use index::Index;
 pub use index::{NodeIndex, NodeIndexNonMax};
 pub use offset_allocator_proved::{StorageReport, StorageReportFull, StorageReportFullRegion};
 
-/// One space of units, and what of it is allocated.
+/// One space of units, and its allocations.
 pub struct Allocator<NI = u32>
 where
     NI: NodeIndex,
@@ -28,7 +28,7 @@ pub struct Allocation<NI = u32>
 where
     NI: NodeIndex,
 {
-    /// The place of the first unit, as the index type has it: a `u16` keeps its low 16 bits.
+    /// The place of the first unit, in the index type: a `u16` has its low 16 bits.
     pub offset: NI,
     proved: offset_allocator_proved::Allocation<Index<NI>>,
 }
@@ -46,20 +46,20 @@ impl<NI> Allocator<NI>
 where
     NI: NodeIndex,
 {
-    /// A space of `size` units, all free, for at most 131,070 allocations, or `NI::MAX - 4` where that is less.
+    /// Makes a space of `size` units, all free, for at most 131,070 allocations, or `NI::MAX - 4` where that is less.
     ///
     /// # Panics
     ///
-    /// Where memory for the tables is refused.
+    /// Where an allocation of the tables fails.
     pub fn new(size: u32) -> Self {
         Allocator::with_max_allocs(size, u32::min(128 * 1024, NI::MAX - 2))
     }
 
-    /// A space of `size` units, all free, for at most `max_allocs - 2` allocations.
+    /// Makes a space of `size` units, all free, for at most `max_allocs - 2` allocations.
     ///
     /// # Panics
     ///
-    /// Where `max_allocs` is below 2, or not below `NI::MAX - 1`, and where memory for the tables is refused.
+    /// Where `max_allocs` is below 2, or not below `NI::MAX - 1`, and where an allocation of the tables fails.
     pub fn with_max_allocs(size: u32, max_allocs: u32) -> Self {
         match offset_allocator_proved::Allocator::with_max_allocs(Global, size, max_allocs) {
             Ok(proved) => Allocator { proved },
@@ -67,37 +67,38 @@ where
         }
     }
 
-    /// Makes the whole space free again. Every earlier allocation is gone.
+    /// Makes the whole space free again. No earlier allocation is live then.
     pub fn reset(&mut self) {
         self.proved.reset();
     }
 
-    /// Allocates `size` units, or returns `None` where no free range is sure to hold them, or no node is left.
+    /// Allocates `size` units. Returns `None` where no free range is sure to have that many, or no node is left.
     pub fn allocate(&mut self, size: u32) -> Option<Allocation<NI>> {
         self.proved.allocate(size).map(Allocation::of)
     }
 
-    /// Gives an allocated range back.
+    /// Frees an allocated range.
     ///
     /// # Panics
     ///
-    /// Where the allocation is not live here: it was freed, a reset took it, or another allocator made it. One whose
-    /// node a newer allocation has cannot be distinguished from that.
+    /// Where the allocation is not live here: it was freed, a reset freed it, or another allocator made it. One whose
+    /// node a newer allocation has cannot be distinguished from that one.
     pub fn free(&mut self, allocation: Allocation<NI>) {
         self.proved.free(allocation.proved);
     }
 
-    /// The units of an allocated range, exactly as asked for. It is 0 where the allocation is not live.
+    /// Returns the units of an allocated range, exactly as requested, or 0 where the allocation is not live.
     pub fn allocation_size(&self, allocation: Allocation<NI>) -> u32 {
         self.proved.allocation_size(allocation.proved)
     }
 
-    /// The units that are free in all, and the largest request that would be granted. Both are 0 where no node is left.
+    /// Returns the total of free units, and the largest request that would be granted. Both are 0 where no node is
+    /// left.
     pub fn storage_report(&self) -> StorageReport {
         self.proved.storage_report()
     }
 
-    /// The number of free ranges of each size class.
+    /// Returns the number of free ranges of each size class.
     pub fn storage_report_full(&self) -> StorageReportFull {
         self.proved.storage_report_full()
     }

@@ -1,8 +1,8 @@
-//! The surface as a user of the original names it, and what was wrong there.
+//! The public surface, as a user of the original uses it, and the faults of the original that are fixed.
 use offset_allocator::ext::min_allocator_size;
 use offset_allocator::{Allocation, Allocator, NodeIndex, NodeIndexNonMax, StorageReport, StorageReportFull, StorageReportFullRegion};
 
-/// Code over any index type, as an engine may have it.
+/// Code over any index type, as in an engine.
 struct Pool<NI: NodeIndex> {
     space: Allocator<NI>,
     live: Vec<Allocation<NI>>,

@@ -1,6 +1,6 @@
-//! Replays what a real game asked of its buffers, and checks each range that is granted.
+//! Replays the buffer requests of a real game, and checks each granted range.
 //!
-//! `trace [FILE]`: a script, or else `bench/traces/voxel-game.script`.
+//! `trace [FILE]`: FILE is a script, by default `bench/traces/voxel-game.script`.
 
 use offset_script::{parse, play, Answer, Command, Global, IndexWidth};
 use std::collections::{BTreeMap, HashMap};
@@ -16,7 +16,7 @@ fn main() -> Result<(), Box<dyn Error>> {
         IndexWidth::Bits32 => play::<u32>(Global, script.size, script.max_allocs, &script.commands)?,
     };
 
-    // the live ranges: their ends by their first unit, and their first unit by the number of their grant
+    // of the live ranges: the end by the first unit, and the first unit and the size by the number of the grant
     let (mut ends, mut starts) = (BTreeMap::new(), HashMap::new());
     let mut size = u64::from(script.size);
     let (mut grants, mut refused, mut held, mut most, mut reach) = (0u64, 0u64, 0u64, 0u64, 0u64);

@@ -6,22 +6,22 @@ use std::io::{Read, Write};
 
 /// Bytes that come in pieces.
 pub trait Source {
-    /// Takes bytes from the front of what is left to the front of `buf`, and returns how many:
-    /// none only at the end of the bytes, or for an empty `buf`. `None` is a failure, which takes nothing.
+    /// Moves the first bytes of what is left to the beginning of `buf`, and returns their number. It is 0 only at the
+    /// end of the bytes, or for an empty `buf`. `None` is a failure, which takes nothing.
     fn pull(&mut self, buf: &mut [u8]) -> Option<usize>;
 }
 
-/// What takes bytes in pieces.
+/// A receiver of bytes that come in pieces.
 pub trait Sink {
-    /// Appends bytes from the front of `bytes`, at least one, and returns how many.
-    /// `None` is a failure, which appends nothing.
+    /// Appends the first bytes of `bytes`, at least one, and returns their number. `None` is a failure, which appends
+    /// nothing.
     fn push(&mut self, bytes: &[u8]) -> Option<usize>;
 
-    /// Hands on what was appended, and appends nothing itself. `false` is a failure.
+    /// Passes on what was appended, and appends nothing itself. `false` is a failure.
     fn flush(&mut self) -> bool;
 }
 
-/// A reader as a source. Each call makes one read, and it fails just where that read does.
+/// A reader as a source. Each call makes one read, and fails exactly where that read does.
 pub struct FromRead<R: Read> {
     inner: R,
     failed: bool,
@@ -36,7 +36,7 @@ impl<R: Read> FromRead<R> {
         }
     }
 
-    /// The reader, as the reads have left it.
+    /// Returns the reader, as the reads have left it.
     pub fn into_inner(self) -> R {
         let FromRead { inner, failed: _ } = self;
         inner
@@ -55,8 +55,8 @@ impl<R: Read> Source for FromRead<R> {
     }
 }
 
-/// A writer as a sink. Each call makes one write or one flush, and it fails just where that does;
-/// a write that takes 0 bytes is a failure too.
+/// A writer as a sink. Each call makes one write or one flush, and fails exactly where that does. A write that takes 0
+/// bytes is a failure too.
 pub struct IntoWrite<W: Write> {
     inner: W,
     failed: bool,
@@ -73,7 +73,7 @@ impl<W: Write> IntoWrite<W> {
         }
     }
 
-    /// The writer, as the writes have left it.
+    /// Returns the writer, as the writes have left it.
     pub fn into_inner(self) -> W {
         let IntoWrite {
             inner,

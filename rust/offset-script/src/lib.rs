@@ -1,6 +1,6 @@
 // Printed by rust/erase from crates/offset_script/src/lib.rt: change it there.
 
-//! Scripts of offset allocation: text to commands, and answers to text.
+//! Scripts of calls to an allocator: it reads them, plays them, and writes their answers.
 #![doc = include_str!("../README.md")]
 #![forbid(unsafe_code)]
 
@@ -9,7 +9,6 @@ mod memory;
 pub use memory::{AllocError, Global, String, Vec};
 
 mod answers;
-mod cutting;
 mod devices;
 mod faults;
 pub mod laws;
@@ -20,6 +19,7 @@ mod reading;
 mod running;
 mod scripts;
 mod sending;
+mod tokens;
 
 pub use answers::{Answer, FullRow};
 pub use devices::{FromRead, IntoWrite, Sink, Source};

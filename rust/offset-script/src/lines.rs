@@ -2,15 +2,15 @@
 
 //! The lines of a text that are neither empty nor comments.
 
-use crate::cutting::cut;
+use crate::tokens::split_once;
 
-/// What of a text is not read yet, and the number of its first line, from 1.
+/// What is not read of a text yet, and the number of its first line, from 1.
 pub struct Lines<'a> {
     pub rest: &'a [u8],
     pub number: u32,
 }
 
-// An empty line, or a comment.
+// Whether a line is empty or a comment.
 fn is_skipped(line: &[u8]) -> bool {
     match line {
         [] => true,
@@ -28,9 +28,9 @@ impl<'a> Lines<'a> {
         }
     }
 
-    /// The first line of the rest, and its number.
+    // Takes the first line, and returns its number and its text.
     fn take_line(&mut self) -> (u32, &'a [u8]) {
-        let (line, after) = cut(self.rest, b'\n');
+        let (line, after) = split_once(self.rest, b'\n');
         let number = self.number;
         match after {
             None => self.rest = &[],
@@ -42,7 +42,8 @@ impl<'a> Lines<'a> {
         (number, line)
     }
 
-    /// The next line that is neither empty nor a comment, and its number.
+    /// Takes lines up to the next one that is neither empty nor a comment, and returns its number and its text. `None`
+    /// where there is no such line.
     pub fn next_line(&mut self) -> Option<(u32, &'a [u8])> {
         while !self.rest.is_empty() {
             let (number, line) = self.take_line();

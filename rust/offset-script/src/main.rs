@@ -1,4 +1,5 @@
-//! Plays the script on standard input, and writes the answers to standard output. By hand, as short as the proved one.
+//! Plays the script on standard input, and writes the answers to standard output. Written by hand, as short as the
+//! proved program.
 
 #![forbid(unsafe_code)]
 

@@ -1,4 +1,5 @@
-//! The memory of scripts and answers: a list and a text whose growth can be refused. By hand, over those of std.
+//! The memory of scripts and answers: a list and a text whose growth returns an error where the allocation fails.
+//! Written by hand, over those of std.
 
 pub use offset_allocator::{AllocError, Global};
 
@@ -10,19 +11,19 @@ use std::ops::{Deref, DerefMut};
 pub struct Vec<T>(std::vec::Vec<T>);
 
 impl<T> Vec<T> {
-    /// No value. It takes no memory.
+    /// Makes an empty list. It takes no memory.
     pub fn new(_: Global) -> Self {
         Vec(std::vec::Vec::new())
     }
 
-    /// One value more, at the end.
+    /// Appends a value.
     pub fn push(&mut self, value: T) -> Result<(), AllocError> {
         self.0.try_reserve(1).map_err(|_| AllocError)?;
         self.0.push(value);
         Ok(())
     }
 
-    /// Some values more, at the end.
+    /// Appends copies of some values.
     pub fn extend_from_slice(&mut self, values: &[T]) -> Result<(), AllocError>
     where
         T: Clone,
@@ -66,7 +67,7 @@ impl<'a, T> IntoIterator for &'a Vec<T> {
 #[derive(Debug)]
 pub struct String(std::string::String);
 
-// A growth that was refused is the only failure of a piece.
+// It fails only where the text cannot grow.
 struct Pieces<'a>(&'a mut std::string::String);
 
 impl fmt::Write for Pieces<'_> {
@@ -78,12 +79,12 @@ impl fmt::Write for Pieces<'_> {
 }
 
 impl String {
-    /// No character. It takes no memory.
+    /// Makes an empty text. It takes no memory.
     pub fn new(_: Global) -> Self {
         String(std::string::String::new())
     }
 
-    /// What `write!` calls.
+    /// Appends formatted pieces, for `write!`.
     pub fn write_fmt(&mut self, pieces: fmt::Arguments<'_>) -> Result<(), AllocError> {
         Pieces(&mut self.0).write_fmt(pieces).map_err(|_| AllocError)
     }

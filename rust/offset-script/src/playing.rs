@@ -1,6 +1,6 @@
 // Printed by rust/erase from crates/offset_script/src/playing.rt: change it there.
 
-//! Scripts, played.
+//! Plays the commands of a script on an allocator.
 
 use crate::memory::Vec;
 use crate::answers::{Answer, FullRow};
@@ -8,17 +8,17 @@ use crate::scripts::{Command, IndexWidth, Script};
 use offset_allocator::{Allocation, Allocator, NodeIndex};
 use crate::memory::{AllocError, Global};
 
-/// A space, with the handles of the grants that were made of it.
+/// An allocator, with the handles of its live grants.
 struct Player<NI: NodeIndex> {
     space: Allocator<NI>,
     // The handle of grant k is at k - 1 while the grant is live.
     handles: Vec<Option<Allocation<NI>>>,
-    // So many of the first handles were swept by resets.
+    // Resets have removed the first handles, up to this number.
     swept: usize,
 }
 
 impl<NI: NodeIndex> Player<NI> {
-    // A free space, and no grants.
+    // A fresh space, and no grants.
     fn start(alloc: Global, size: u32, max_allocs: u32) -> Result<Self, AllocError> {
         Ok(Player {
             space: Allocator::with_max_allocs(alloc, size, max_allocs)?,
@@ -27,7 +27,7 @@ impl<NI: NodeIndex> Player<NI> {
         })
     }
 
-    // The handle of the grant of this number, while it is live.
+    // The handle of the grant of this number, if it is live.
     fn handle(&self, number: u32) -> Option<Allocation<NI>> {
         if number == 0 {
             return None;
@@ -38,7 +38,7 @@ impl<NI: NodeIndex> Player<NI> {
         }
     }
 
-    // The answer to a request. The handle of a grant is kept under the next number.
+    // The answer to a request with this result. The handle of a grant is kept under the next number.
     fn keep(&mut self, granted: Option<Allocation<NI>>) -> Result<Answer, AllocError> {
         match granted {
             None => Ok(Answer::Refused),
@@ -52,11 +52,13 @@ impl<NI: NodeIndex> Player<NI> {
         }
     }
 
+    // The answer to `alloc`.
     fn allocate(&mut self, size: u32) -> Result<Answer, AllocError> {
         let granted = self.space.allocate(size);
         self.keep(granted)
     }
 
+    // The answer to `free`. The grant's handle is removed.
     fn release(&mut self, number: u32) -> Answer {
         match self.handle(number) {
             None => Answer::Gone,
@@ -68,6 +70,7 @@ impl<NI: NodeIndex> Player<NI> {
         }
     }
 
+    // The answer to `size`.
     fn size(&self, number: u32) -> Answer {
         match self.handle(number) {
             None => Answer::Gone,
@@ -75,10 +78,12 @@ impl<NI: NodeIndex> Player<NI> {
         }
     }
 
+    // The answer to `report`.
     fn report(&self) -> Answer {
         Answer::Report(self.space.storage_report())
     }
 
+    // The answer to `full`: a row for each class that has a free block.
     fn full(&self, alloc: Global) -> Result<Answer, AllocError> {
         let report = self.space.storage_report_full();
         let mut rows = Vec::new(alloc);
@@ -95,7 +100,7 @@ impl<NI: NodeIndex> Player<NI> {
         Ok(Answer::Full(rows))
     }
 
-    // No grant is live any more, and the next one has the next number.
+    // The answer to `reset`. All handles are removed, and numbers go on.
     fn reset(&mut self) -> Answer {
         self.space.reset();
         for i in self.swept..self.handles.len() {
@@ -105,11 +110,13 @@ impl<NI: NodeIndex> Player<NI> {
         Answer::Reset
     }
 
+    // The answer to `align`.
     fn allocate_aligned(&mut self, size: u32, align: u32) -> Result<Answer, AllocError> {
         let granted = self.space.allocate_aligned(size, align);
         self.keep(granted)
     }
 
+    // The answer to `extend`.
     fn extend(&mut self, more: u32) -> Answer {
         if self.space.extend(more) {
             Answer::Extended
@@ -133,7 +140,10 @@ impl<NI: NodeIndex> Player<NI> {
     }
 }
 
-/// The answers to the commands in order, one for each, from one free block of `size` units.
+/// Plays commands on an allocator of `size` units with the node limit `max_allocs`, and returns their answers in order,
+/// one for each.
+///
+/// It fails only where an allocation fails: of the allocator's tables, of the list of handles, or of the answers.
 pub fn play<NI: NodeIndex>(
     alloc: Global,
     size: u32,
@@ -151,7 +161,9 @@ pub fn play<NI: NodeIndex>(
     Ok(found)
 }
 
-/// The answers to the commands of a script in order, one for each, by an allocator of the script's index width.
+/// Plays a script on an allocator of its index width, and returns the answers to its commands in order, one for each.
+///
+/// It fails only where an allocation fails.
 pub fn play_script(alloc: Global, script: &Script) -> Result<Vec<Answer>, AllocError> {
     match script.index {
         IndexWidth::Bits16 => play::<u16>(alloc, script.size, script.max_allocs, &script.commands),

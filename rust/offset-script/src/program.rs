@@ -1,17 +1,17 @@
 // Printed by rust/erase from crates/offset_script/src/program.rt: change it there.
 
-//! What a program does with a script.
+//! What a program does: a run, its status, and the line of its fault.
 
 use crate::devices::{Sink, Source};
 use crate::running::run;
 use crate::sending::send_fault;
 use crate::memory::Global;
 
-/// Runs a script, and where that fails, writes the line of the fault to `errors`. Returns the status to exit with.
+/// Runs a script by `run`, writes the line of a fault to `errors`, and returns the status to exit with.
 ///
-/// The status is 0 exactly where the run is `Ok`, 2 where the text is no script, 3 where memory was refused, and 4
+/// The status is 0 exactly where the run is `Ok`, 2 where the text is no script, 3 where an allocation failed, and 4
 /// where the source or the sink failed. A run that is `Ok` leaves `errors` as it was. A failure of `errors` changes no
-/// status, and its line takes no memory.
+/// status, and its line needs no memory.
 pub fn run_program<S: Source, K: Sink, E: Sink>(
     alloc: Global,
     input: &mut S,

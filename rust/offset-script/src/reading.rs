@@ -1,17 +1,18 @@
 // Printed by rust/erase from crates/offset_script/src/reading.rt: change it there.
 
-//! Texts as scripts.
+//! Reads a text as a script.
 
 use crate::memory::Vec;
-use crate::cutting::{cut, number};
 use crate::faults::ScriptFault;
 use crate::lines::Lines;
 use crate::scripts::{Command, Header, IndexWidth, Script};
+use crate::tokens::{number, split_once};
 use crate::memory::Global;
 
-/// The greatest number of bytes of a script.
+/// The largest number of bytes of a script.
 pub const MAX_TEXT: usize = 1_048_576;
 
+// The command of one word.
 fn plain_command(name: &[u8]) -> Option<Command> {
     if name == b"report".as_slice() {
         Some(Command::Report)
@@ -24,6 +25,7 @@ fn plain_command(name: &[u8]) -> Option<Command> {
     }
 }
 
+// The command of a word and a number.
 fn number_command(name: &[u8], n: u32) -> Option<Command> {
     if name == b"alloc".as_slice() {
         Some(Command::Alloc(n))
@@ -38,6 +40,7 @@ fn number_command(name: &[u8], n: u32) -> Option<Command> {
     }
 }
 
+// The command of a word and two numbers, of which the second is an alignment.
 fn pair_command(name: &[u8], n: u32, a: u32) -> Option<Command> {
     if name == b"align".as_slice() && a.is_power_of_two() {
         Some(Command::Align(n, a))
@@ -46,23 +49,24 @@ fn pair_command(name: &[u8], n: u32, a: u32) -> Option<Command> {
     }
 }
 
-/// The command that a line is.
+// The command that a line spells, if it does.
 fn command(line: &[u8]) -> Option<Command> {
-    let (name, rest) = cut(line, b' ');
+    let (name, rest) = split_once(line, b' ');
     let Some(rest) = rest else {
         return plain_command(name);
     };
-    let (first, rest) = cut(rest, b' ');
+    let (first, rest) = split_once(rest, b' ');
     let Some(rest) = rest else {
         return number_command(name, number(first)?);
     };
-    let (second, rest) = cut(rest, b' ');
+    let (second, rest) = split_once(rest, b' ');
     if let Some(_more) = rest {
         return None;
     }
     pair_command(name, number(first)?, number(second)?)
 }
 
+// The index width that a word spells.
 fn width(word: &[u8]) -> Option<IndexWidth> {
     if word == b"16".as_slice() {
         Some(IndexWidth::Bits16)
@@ -73,14 +77,14 @@ fn width(word: &[u8]) -> Option<IndexWidth> {
     }
 }
 
-/// The header that a line is in form.
+// The header that a line spells, if it does, whatever its limit.
 fn header(line: &[u8]) -> Option<Header> {
-    let (space, rest) = cut(line, b' ');
-    let (size, rest) = cut(rest?, b' ');
-    let (nodes, rest) = cut(rest?, b' ');
-    let (max_allocs, rest) = cut(rest?, b' ');
-    let (index, rest) = cut(rest?, b' ');
-    let (bits, rest) = cut(rest?, b' ');
+    let (space, rest) = split_once(line, b' ');
+    let (size, rest) = split_once(rest?, b' ');
+    let (nodes, rest) = split_once(rest?, b' ');
+    let (max_allocs, rest) = split_once(rest?, b' ');
+    let (index, rest) = split_once(rest?, b' ');
+    let (bits, rest) = split_once(rest?, b' ');
     if let Some(_more) = rest {
         return None;
     }
@@ -98,21 +102,22 @@ fn header(line: &[u8]) -> Option<Header> {
 }
 
 impl Header {
+    // Whether the limit is at least 2, and the index width admits it.
     fn is_admitted(&self) -> bool {
-        let greatest = match self.index {
+        let largest = match self.index {
             IndexWidth::Bits16 => 65533,
             IndexWidth::Bits32 => 4_294_967_293,
         };
-        2 <= self.max_allocs && self.max_allocs <= greatest
+        2 <= self.max_allocs && self.max_allocs <= largest
     }
 }
 
-/// The script that a text is, or the fault of its first faulty line.
+/// Reads a text as a script, and returns it, or the fault of its first faulty line.
 ///
 /// A text of more than 1,048,576 bytes is `TooLong`. Lines end with LF and are counted from 1; empty lines and those
-/// that begin with `#` are skipped. The first other line has to be a header: `BadHeader` where it is not in form, or
-/// where there is none, and `BadLimit` where its limit is not admitted. Each later one has to be a command, or is
-/// `BadCommand`. `Memory` is returned only where a growth was refused.
+/// that begin with `#` are skipped. The first other line must be a header: it is `BadHeader` where it is none, or there
+/// is no such line, and `BadLimit` where its limit is not admitted. Each later line must be a command, or is
+/// `BadCommand`. `Memory` is returned only where an allocation failed.
 pub fn parse(alloc: Global, text: &[u8]) -> Result<Script, ScriptFault> {
     if text.len() > MAX_TEXT {
         return Err(ScriptFault::TooLong);

@@ -1,6 +1,6 @@
 // Printed by rust/erase from crates/offset_script/src/running.rt: change it there.
 
-//! From a source's bytes to a sink's.
+//! Runs a script from a source to a sink.
 
 use crate::memory::Vec;
 use crate::answers::answer_text;
@@ -12,10 +12,10 @@ use crate::scripts::Script;
 use crate::sending::send;
 use crate::memory::Global;
 
-/// How many bytes are asked for at once.
+// The largest number of bytes that one pull requests.
 const PIECE: usize = 16384;
 
-/// All bytes of the source, or the first `MAX_TEXT + 1`. It stops at the first failure.
+// All bytes of the source, or its first `MAX_TEXT + 1`. It stops at the first failure.
 fn read_text<S: Source>(alloc: Global, input: &mut S) -> Result<Vec<u8>, RunFault> {
     let mut text = Vec::new(alloc);
     let mut piece = [0u8; PIECE];
@@ -30,10 +30,10 @@ fn read_text<S: Source>(alloc: Global, input: &mut S) -> Result<Vec<u8>, RunFaul
     Ok(text)
 }
 
-/// The script that a source holds: it is read to its end, or its first 1,048,577 bytes are, which are too many.
+/// Reads a source to its end as a script, and returns it, or the fault.
 ///
-/// `Read` is returned exactly where the source failed in this call, and no failed call is tried again. Where memory was
-/// refused, the fault is `Memory`.
+/// Of a text that is too long, 1,048,577 bytes are read. `Read` is returned exactly where the source failed in this
+/// call; no failed call is tried again. Where an allocation fails, the fault is `Memory`.
 pub fn read_script<S: Source>(alloc: Global, input: &mut S) -> Result<Script, RunFault> {
     let text = read_text(alloc, input)?;
     Ok(parse(alloc, &text)?)
@@ -41,9 +41,9 @@ pub fn read_script<S: Source>(alloc: Global, input: &mut S) -> Result<Script, Ru
 
 /// Reads a script to its end, plays it, writes the text of its answers, and then flushes.
 ///
-/// Nothing is written unless the whole text is a script. Reading stops after 1,048,577 bytes, which are too many.
-/// `Read` is returned exactly where the source failed in this call, and `Write` exactly where the sink did: then a
-/// beginning of the text is written. No failed call is tried again. Where memory was refused, the fault is `Memory`.
+/// Nothing is written unless the whole text is a script; of a text that is too long, 1,048,577 bytes are read. `Read`
+/// is returned exactly where the source failed in this call, and `Write` exactly where the sink did; then a beginning
+/// of the answers is written. No failed call is tried again. Where an allocation fails, the fault is `Memory`.
 pub fn run<S: Source, K: Sink>(alloc: Global, input: &mut S, output: &mut K) -> Result<(), RunFault> {
     let script = read_script(alloc, input)?;
     let answers = play_script(alloc, &script)?;

@@ -1,32 +1,32 @@
 // Printed by rust/erase from crates/offset_script/src/scripts.rt: change it there.
 
-//! What a script says.
+//! Scripts, and their commands.
 
 use crate::memory::Vec;
 
 /// One line of a script after its header. Sizes are in units of the space.
 #[derive(Clone, Copy, PartialEq, Debug)]
 pub enum Command {
-    /// Grant so many units.
+    /// Requests this number of units.
     Alloc(u32),
-    /// Release the grant of this number.
+    /// Releases the grant of this number.
     Free(u32),
-    /// Report the units of the grant of this number.
+    /// Asks for the size of the grant of this number.
     Size(u32),
-    /// Report the free units in all, and the greatest class value of a free block; both 0 where the space has as many
-    /// blocks as its limit allows.
+    /// Asks for the free units in all, and the largest class value of a free block. Both are 0 where the space has as
+    /// many blocks as its limit allows.
     Report,
-    /// Report the classes that have a free block.
+    /// Asks for the classes that have a free block.
     Full,
-    /// Make the whole space free.
+    /// Frees the whole space.
     Reset,
-    /// Grant so many units from a multiple of the second number on, which is a power of two.
+    /// Requests this number of units, from a multiple of the second number on, which is a power of two.
     Align(u32, u32),
-    /// Add so many units at the end of the space.
+    /// Adds this number of units at the end of the space.
     Extend(u32),
 }
 
-/// How many bits the allocator's names have.
+/// How many bits the allocator's node indices have.
 #[derive(Clone, Copy, PartialEq, Debug)]
 pub enum IndexWidth {
     /// `u16`.
@@ -42,19 +42,20 @@ pub struct Header {
     pub size: u32,
     /// The node limit.
     pub max_allocs: u32,
-    /// The width of the names.
+    /// The width of node indices.
     pub index: IndexWidth,
 }
 
-/// A whole script: a space of `size` units, its node limit, the width of its names, and its commands.
-/// Its limit is admitted for its width, and each alignment is a power of two.
+/// A whole script: a space of `size` units, its node limit, the width of its node indices, and its commands.
+///
+/// The limit is at least 2 and admitted for the width, and each alignment is a power of two.
 pub struct Script {
     /// The units of the space.
     pub size: u32,
     /// The node limit.
     pub max_allocs: u32,
-    /// The width of the names.
+    /// The width of node indices.
     pub index: IndexWidth,
-    /// The commands, in their order.
+    /// The commands, in order.
     pub commands: Vec<Command>,
 }

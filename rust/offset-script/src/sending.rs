@@ -1,12 +1,12 @@
 // Printed by rust/erase from crates/offset_script/src/sending.rt: change it there.
 
-//! Texts to sinks.
+//! Sends texts to sinks.
 
-use crate::cutting::{MOST_DIGITS, digits};
 use crate::devices::Sink;
 use crate::faults::RunFault;
+use crate::tokens::{MOST_DIGITS, digits};
 
-/// Appends all bytes. It stops at the first failure, and tries nothing again.
+// Appends all bytes, and returns whether it did. It stops at the first failure, and tries nothing again.
 fn push_all<K: Sink>(output: &mut K, text: &[u8]) -> bool {
     let mut rest = text;
     while !rest.is_empty() {
@@ -18,13 +18,14 @@ fn push_all<K: Sink>(output: &mut K, text: &[u8]) -> bool {
     true
 }
 
-/// Appends all bytes, and then flushes, also where there are none. It stops at the first failure, and tries nothing
-/// again.
+/// Appends all bytes, and then flushes, also where there are none. Returns whether both succeeded. It stops at the
+/// first failure, and tries nothing again.
 pub fn send<K: Sink>(output: &mut K, text: &[u8]) -> bool {
     push_all(output, text) && output.flush()
 }
 
-/// Appends the pieces of a text in turn, and then flushes. It stops at the first failure, and tries nothing again.
+// Appends the pieces of a text in turn, and then flushes. Returns whether all succeeded. It stops at the first failure,
+// and tries nothing again.
 fn send_pieces<K: Sink>(output: &mut K, pieces: &[&[u8]]) -> bool {
     for piece in pieces {
         if !push_all(output, piece) {
@@ -34,8 +35,8 @@ fn send_pieces<K: Sink>(output: &mut K, pieces: &[&[u8]]) -> bool {
     output.flush()
 }
 
-/// Appends the line of a fault with its line end, and then flushes. It stops at the first failure, and takes no
-/// memory.
+/// Appends the line of a fault with its line end, and then flushes. Returns whether both succeeded. It stops at the
+/// first failure, tries nothing again, and allocates nothing.
 pub fn send_fault<K: Sink>(output: &mut K, fault: RunFault) -> bool {
     match fault.parts() {
         (None, words) => send_pieces(output, &[words.as_bytes(), b"\n"]),

@@ -1,4 +1,4 @@
-//! The library's calls, and the conditions of the table.
+//! The library's calls, and their conditions in `table.py`.
 use offset_script::{parse, play, run, Answer, Command, FromRead, Global, IndexWidth, IntoWrite, RunFault, ScriptFault, Sink};
 
 #[test]

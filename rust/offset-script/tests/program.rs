@@ -1,8 +1,8 @@
-//! The program: what it writes, and how it ends.
+//! The program: its output, its errors and its status.
 use std::io::Write;
 use std::process::{Command, Output, Stdio};
 
-fn played(text: &[u8], output: Stdio) -> Output {
+fn play(text: &[u8], output: Stdio) -> Output {
     let mut child = Command::new(env!("CARGO_BIN_EXE_offset-script"))
         .stdin(Stdio::piped())
         .stdout(output)
@@ -14,10 +14,10 @@ fn played(text: &[u8], output: Stdio) -> Output {
     child.wait_with_output().unwrap()
 }
 
-fn expect(text: &[u8], status: i32, out: &str, told: &str) {
-    let found = played(text, Stdio::piped());
+fn expect(text: &[u8], status: i32, out: &str, errors: &str) {
+    let found = play(text, Stdio::piped());
     assert_eq!(String::from_utf8_lossy(&found.stdout), out);
-    assert_eq!(String::from_utf8_lossy(&found.stderr), told);
+    assert_eq!(String::from_utf8_lossy(&found.stderr), errors);
     assert_eq!(found.status.code(), Some(status));
 }
 
@@ -31,7 +31,7 @@ fn the_stored_script() {
 #[test]
 fn every_command() {
     let script = "# all eight\nspace 100 nodes 16 index 16\nalloc 10\nalign 4 8\nsize 2\nfree 1\nfree 1\nreport\nfull\nextend 28\nalloc 129\nreset\nreport\n";
-    // 10 units; 4 from 16 on, with 6 free before them and 80 after; then the front joins the freed 10
+    // 10 units; 4 units at 16, with 6 free before them and 80 after; then the freed 10 coalesce with the padding of 6
     let answers = "grant 1 at 0\ngrant 2 at 16\nsize 4\nfreed\ngone\nfree 96 largest 80\nfull 2\nclass 16 size 16 count 1\nclass 34 size 80 count 1\nextended\nnone\nreset\nfree 128 largest 128\n";
     expect(script.as_bytes(), 0, answers, "");
 }
@@ -50,7 +50,7 @@ fn faulty_texts() {
 #[cfg(target_os = "linux")]
 fn a_device_that_takes_nothing() {
     let full = std::fs::File::options().write(true).open("/dev/full").unwrap();
-    let found = played(b"space 10 nodes 4 index 32\nalloc 1\n", full.into());
+    let found = play(b"space 10 nodes 4 index 32\nalloc 1\n", full.into());
     assert_eq!(String::from_utf8_lossy(&found.stderr), "write failed\n");
     assert_eq!(found.status.code(), Some(4));
 }

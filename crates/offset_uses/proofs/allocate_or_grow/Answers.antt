@@ -1,6 +1,10 @@
 use Rattle.std.proofs.Common.{◌∙◌}
+use Rattle.offset_allocator.proofs.Ranges.{call_keeps}
 use Rattle.offset_uses.proofs.allocate_or_grow.Goals as goal
 
 -- three steps, each of which keeps all live ranges
 pub returns-then-extend-clause-kept : goal.returns-then-extend-clause-kept
-returns-then-extend-clause-kept c x r e = c.allocate-then-extend.ensures.kept x r (c.extend.ensures.kept x ∙ c.allocate.ensures.kept x r e)
+returns-then-extend-clause-kept c x r e =
+    let second = c.allocate-then-extend.ensures in
+    let first = c.allocate.ensures in
+    call_keeps _ _ _ _ second.grants second.same x r (c.extend.ensures.kept x ∙ call_keeps _ _ _ _ first.grants first.same x r e)

@@ -7,10 +7,10 @@ use Rattle.offset_allocator.specs.Relations.{Extends}
 use Rattle.offset_allocator.proofs.Sound.{fields_of}
 use Rattle.offset_allocator.proofs.Sizes.{down_small}
 use Rattle.offset_allocator.proofs.Growing.{last_is}
-use Rattle.offset_allocator.proofs.Spot.{size-told}
+use Rattle.offset_allocator.proofs.Spot.{size-read}
 use Rattle.offset_allocator.proofs.Extending.{end, free_fits, split_fits, append_unlisted, appended}
 use Rattle.offset_allocator.proofs.Allocator.append.Goals as goal
-use Rattle.offset_allocator.proofs.Allocator.append.Goals.{After-size-whole, After-put_first}
+use Rattle.offset_allocator.proofs.Allocator.append.Goals.{After-size-whole, After-push}
 use Rattle.offset_allocator.proofs.Allocator.append.Given.{Over}
 
 -- what the body knows of the fields, and of the size that it reads
@@ -27,7 +27,7 @@ pre g c = record {
   some = c.requires.more;
   fits = rw (← c.self.view_is) at c.requires.fits;
   used = rw (← c.self.view_is) at c.requires.used;
-  whole_is = c.size-whole.ensures.size _ _ c.self.invariant.space (end (fields_of g.NI.NodeIndex.MAX c.self.inside) c.args.more c.self.invariant).stands ∙ sym (size-told _ _ _ _ c.self.invariant.space (end (fields_of g.NI.NodeIndex.MAX c.self.inside) c.args.more c.self.invariant).stands);
+  whole_is = c.size-whole.ensures.size _ _ c.self.invariant.space (end (fields_of g.NI.NodeIndex.MAX c.self.inside) c.args.more c.self.invariant).there ∙ sym (size-read _ _ _ _ c.self.invariant.space (end (fields_of g.NI.NodeIndex.MAX c.self.inside) c.args.more c.self.invariant).there);
 }
 
 pub offset-offset-requires : goal.offset-offset-requires
@@ -36,14 +36,14 @@ offset-offset-requires g c = (end (fields_of g.NI.NodeIndex.MAX c.self.inside) c
 pub size-whole-requires : goal.size-whole-requires
 size-whole-requires g c = (end (fields_of g.NI.NodeIndex.MAX c.self.inside) c.args.more c.self.invariant).below
 
-pub split-name-requires-clause-standing : goal.split-name-requires-clause-standing
-split-name-requires-clause-standing g c = (end (fields_of g.NI.NodeIndex.MAX c.self.inside) c.args.more c.self.invariant).stands
+pub split-name-requires-clause-present : goal.split-name-requires-clause-present
+split-name-requires-clause-present g c = (end (fields_of g.NI.NodeIndex.MAX c.self.inside) c.args.more c.self.invariant).there
 
 pub split-name-requires-clause-offset : goal.split-name-requires-clause-offset
-split-name-requires-clause-offset g c = c.offset-offset.ensures.offset _ _ c.self.invariant.space (end (fields_of g.NI.NodeIndex.MAX c.self.inside) c.args.more c.self.invariant).stands
+split-name-requires-clause-offset g c = c.offset-offset.ensures.offset _ _ c.self.invariant.space (end (fields_of g.NI.NodeIndex.MAX c.self.inside) c.args.more c.self.invariant).there
 
 pub split-name-requires-clause-size : goal.split-name-requires-clause-size
-split-name-requires-clause-size g c = c.size-whole.ensures.size _ _ c.self.invariant.space (end (fields_of g.NI.NodeIndex.MAX c.self.inside) c.args.more c.self.invariant).stands
+split-name-requires-clause-size g c = c.size-whole.ensures.size _ _ c.self.invariant.space (end (fields_of g.NI.NodeIndex.MAX c.self.inside) c.args.more c.self.invariant).there
 
 pub grow-requires-clause-below : goal.grow-requires-clause-below
 grow-requires-clause-below g c = (last_is _ _ _ c.split-name.ensures.space).below
@@ -53,12 +53,12 @@ grow-requires-clause-fits g c =
     let p = pre g (goal.at.grow-requires-clause-fits g c).After-size-whole in
     omega (arith, split_fits (fields_of g.NI.NodeIndex.MAX c.self.inside) _ p.sound p.some p.fits p.used c.split-name.result _ p.whole_is, ap units c.split-name.ensures.blocks)
 
-pub put_first-requires-clause-classed : goal.put_first-requires-clause-classed
-put_first-requires-clause-classed g c = omega (arith, down_small c.args.more, c.uint_to_float_round_down.ensures.is)
+pub push-requires-clause-classed : goal.push-requires-clause-classed
+push-requires-clause-classed g c = omega (arith, down_small c.args.more, c.uint_to_float_round_down.ensures.is)
 
-pub put_first-requires-clause-fresh : goal.put_first-requires-clause-fresh
-put_first-requires-clause-fresh g c =
-    let p = pre g (goal.at.put_first-requires-clause-fresh g c).After-size-whole in
+pub push-requires-clause-fresh : goal.push-requires-clause-fresh
+push-requires-clause-fresh g c =
+    let p = pre g (goal.at.push-requires-clause-fresh g c).After-size-whole in
     rw (c.grow.ensures.links, c.split-name.ensures.links) (append_unlisted (fields_of g.NI.NodeIndex.MAX c.self.inside) _ p.sound p.some p.fits p.used _ c.split-name.ensures.fresh)
 
 pub overflow_add-self-2 : goal.overflow_add-self-2
@@ -67,26 +67,26 @@ overflow_add-self-2 g c =
     omega (arith, free_fits (fields_of g.NI.NodeIndex.MAX c.self.inside) _ p.sound p.some p.fits)
 
 -- the fields after the calls, for any count of accesses
-done : (g : Over) (c : After-put_first g) → Appending (fields_of g.NI.NodeIndex.MAX c.self.inside) c.args.more c.size-whole.result → (accesses : ℕ) →
-    IsSound g.NI.NodeIndex.MAX (c.self.inside.size + c.args.more) c.self.inside.max_allocs c.put_first.new.tables c.split-name.new.last c.split-name.new.spare_count c.put_first.new.top_mask
+done : (g : Over) (c : After-push g) → Appending (fields_of g.NI.NodeIndex.MAX c.self.inside) c.args.more c.size-whole.result → (accesses : ℕ) →
+    IsSound g.NI.NodeIndex.MAX (c.self.inside.size + c.args.more) c.self.inside.max_allocs c.push.new.tables c.split-name.new.last c.split-name.new.spare_count c.push.new.top_mask
     (c.self.inside.free_total + c.args.more)
     × Extends c.args.more (shown (fields_of g.NI.NodeIndex.MAX c.self.inside))
-    (view_of g.NI.NodeIndex.MAX (c.self.inside.size + c.args.more) c.self.inside.max_allocs c.put_first.new.tables c.split-name.new.last accesses) true
+    (view_of g.NI.NodeIndex.MAX (c.self.inside.size + c.args.more) c.self.inside.max_allocs c.push.new.tables c.split-name.new.last accesses) true
 done g c p accesses =
     let room : is_short_of 1 (shown (fields_of g.NI.NodeIndex.MAX c.self.inside)) ≡ false = rw (← c.self.view_is) at c.requires.room in
     let grown = c.grow.ensures.blocks _ c.split-name.ensures.space in
     appended _ _ p.sound p.some p.fits p.used room _ _ _ _ accesses _ _ p.whole_is
-    (rw c.put_first.ensures.room (c.grow.ensures.space _ c.split-name.ensures.space))
-    c.put_first.ensures.held
-    (rw c.put_first.ensures.room (c.grow.ensures.limit ∙ c.split-name.ensures.limit))
-    (rw c.put_first.ensures.room (rw c.split-name.ensures.blocks at grown))
-    (rw (c.grow.ensures.links, c.split-name.ensures.links, c.uint_to_float_round_down.ensures.is) at c.put_first.ensures.lists)
+    (rw c.push.ensures.room (c.grow.ensures.space _ c.split-name.ensures.space))
+    c.push.ensures.held
+    (rw c.push.ensures.room (c.grow.ensures.limit ∙ c.split-name.ensures.limit))
+    (rw c.push.ensures.room (rw c.split-name.ensures.blocks at grown))
+    (rw (c.grow.ensures.links, c.split-name.ensures.links, c.uint_to_float_round_down.ensures.is) at c.push.ensures.lists)
     c.split-name.ensures.fresh c.split-name.ensures.below
 
 pub invariant_of-self : goal.invariant_of-self
-invariant_of-self g c = let at = goal.at.invariant_of-self g c in (done g at.After-put_first (pre g at.After-size-whole) 0).0
+invariant_of-self g c = let at = goal.at.invariant_of-self g c in (done g at.After-push (pre g at.After-size-whole) 0).0
 
 pub returns-clause-step : goal.returns-clause-step
 returns-clause-step g c =
     let at = goal.at.returns-clause-step g c in
-    rw (← c.self.view_is) (done g at.After-put_first (pre g at.After-size-whole) c.put_first.new.count).1
+    rw (← c.self.view_is) (done g at.After-push (pre g at.After-size-whole) c.push.new.count).1

@@ -4,7 +4,7 @@ use Rattle.offset_allocator.specs.State.{Fields, AreSound, shown}
 use Rattle.offset_allocator.proofs.Sound.{fields_of}
 use Rattle.offset_allocator.proofs.Allocator.formed.Goals as goal
 
--- The blocks and the class lists of a sound allocator agree, whatever its accesses.
+-- The blocks and the bins of a sound allocator agree, whatever its accesses.
 formed : (it : Fields) → AreSound it → IsWellFormed (shown it)
 formed it s =
     let w = s.well in

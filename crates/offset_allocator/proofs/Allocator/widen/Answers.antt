@@ -8,10 +8,10 @@ use Rattle.offset_allocator.specs.Relations.{Extends}
 use Rattle.offset_allocator.proofs.Sound.{fields_of}
 use Rattle.offset_allocator.proofs.Sizes.{down_small}
 use Rattle.offset_allocator.proofs.Growing.{last_small}
-use Rattle.offset_allocator.proofs.Spot.{size-told}
+use Rattle.offset_allocator.proofs.Spot.{size-read}
 use Rattle.offset_allocator.proofs.Extending.{end, units_fit, free_fits, widen_listed, widen_unlisted, widened}
 use Rattle.offset_allocator.proofs.Allocator.widen.Goals as goal
-use Rattle.offset_allocator.proofs.Allocator.widen.Goals.{After-size-whole, After-put_first}
+use Rattle.offset_allocator.proofs.Allocator.widen.Goals.{After-size-whole, After-push}
 use Rattle.offset_allocator.proofs.Allocator.widen.Given.{Over}
 
 -- what the call knows of the fields
@@ -35,29 +35,29 @@ size-whole-requires g c = (end (fields_of g.NI.NodeIndex.MAX c.self.inside) c.ar
 pub remove-requires-clause-listed : goal.remove-requires-clause-listed
 remove-requires-clause-listed g c =
     let p = pre g (goal.at.remove-requires-clause-listed g c).After-size-whole in
-    widen_listed (fields_of g.NI.NodeIndex.MAX c.self.inside) _ p.sound p.some p.fits p.idle _ (ap down (c.size-whole.ensures.size _ _ c.self.invariant.space (end (fields_of g.NI.NodeIndex.MAX c.self.inside) c.args.more c.self.invariant).stands ∙ sym (size-told _ _ _ _ c.self.invariant.space (end (fields_of g.NI.NodeIndex.MAX c.self.inside) c.args.more c.self.invariant).stands)))
+    widen_listed (fields_of g.NI.NodeIndex.MAX c.self.inside) _ p.sound p.some p.fits p.idle _ (ap down (c.size-whole.ensures.size _ _ c.self.invariant.space (end (fields_of g.NI.NodeIndex.MAX c.self.inside) c.args.more c.self.invariant).there ∙ sym (size-read _ _ _ _ c.self.invariant.space (end (fields_of g.NI.NodeIndex.MAX c.self.inside) c.args.more c.self.invariant).there)))
 
 pub overflow_add-whole : goal.overflow_add-whole
 overflow_add-whole g c =
     let p = pre g (goal.at.overflow_add-whole g c).After-size-whole in
-    omega (arith, last_small _ _ c.args.more (end (fields_of g.NI.NodeIndex.MAX c.self.inside) c.args.more c.self.invariant).below (units_fit (fields_of g.NI.NodeIndex.MAX c.self.inside) _ p.sound p.some p.fits), (c.size-whole.ensures.size _ _ c.self.invariant.space (end (fields_of g.NI.NodeIndex.MAX c.self.inside) c.args.more c.self.invariant).stands ∙ sym (size-told _ _ _ _ c.self.invariant.space (end (fields_of g.NI.NodeIndex.MAX c.self.inside) c.args.more c.self.invariant).stands)))
+    omega (arith, last_small _ _ c.args.more (end (fields_of g.NI.NodeIndex.MAX c.self.inside) c.args.more c.self.invariant).below (units_fit (fields_of g.NI.NodeIndex.MAX c.self.inside) _ p.sound p.some p.fits), (c.size-whole.ensures.size _ _ c.self.invariant.space (end (fields_of g.NI.NodeIndex.MAX c.self.inside) c.args.more c.self.invariant).there ∙ sym (size-read _ _ _ _ c.self.invariant.space (end (fields_of g.NI.NodeIndex.MAX c.self.inside) c.args.more c.self.invariant).there)))
 
 pub grow-requires-clause-below : goal.grow-requires-clause-below
 grow-requires-clause-below g c = rw c.remove.ensures.room (end (fields_of g.NI.NodeIndex.MAX c.self.inside) c.args.more c.self.invariant).below
 
-pub put_first-requires-clause-named : goal.put_first-requires-clause-named
-put_first-requires-clause-named g c =
+pub push-requires-clause-named : goal.push-requires-clause-named
+push-requires-clause-named g c =
     let below = (end (fields_of g.NI.NodeIndex.MAX c.self.inside) c.args.more c.self.invariant).below in
     omega (arith, below, c.grow.ensures.limit, ap (λ (r : Room). length r.nodes) c.remove.ensures.room, c.shape.ensures.newer)
 
-pub put_first-requires-clause-classed : goal.put_first-requires-clause-classed
-put_first-requires-clause-classed g c = omega (arith, down_small (c.size-whole.result + c.args.more), c.uint_to_float_round_down.ensures.is)
+pub push-requires-clause-classed : goal.push-requires-clause-classed
+push-requires-clause-classed g c = omega (arith, down_small (c.size-whole.result + c.args.more), c.uint_to_float_round_down.ensures.is)
 
-pub put_first-requires-clause-fresh : goal.put_first-requires-clause-fresh
-put_first-requires-clause-fresh g c =
-    let p = pre g (goal.at.put_first-requires-clause-fresh g c).After-size-whole in
+pub push-requires-clause-fresh : goal.push-requires-clause-fresh
+push-requires-clause-fresh g c =
+    let p = pre g (goal.at.push-requires-clause-fresh g c).After-size-whole in
     rw (c.grow.ensures.links, c.remove.ensures.lists)
-    (widen_unlisted (fields_of g.NI.NodeIndex.MAX c.self.inside) _ p.sound p.some p.fits p.idle _ (down_small c.size-whole.result) (ap down (c.size-whole.ensures.size _ _ c.self.invariant.space (end (fields_of g.NI.NodeIndex.MAX c.self.inside) c.args.more c.self.invariant).stands ∙ sym (size-told _ _ _ _ c.self.invariant.space (end (fields_of g.NI.NodeIndex.MAX c.self.inside) c.args.more c.self.invariant).stands))))
+    (widen_unlisted (fields_of g.NI.NodeIndex.MAX c.self.inside) _ p.sound p.some p.fits p.idle _ (down_small c.size-whole.result) (ap down (c.size-whole.ensures.size _ _ c.self.invariant.space (end (fields_of g.NI.NodeIndex.MAX c.self.inside) c.args.more c.self.invariant).there ∙ sym (size-read _ _ _ _ c.self.invariant.space (end (fields_of g.NI.NodeIndex.MAX c.self.inside) c.args.more c.self.invariant).there))))
 
 pub overflow_add-self-2 : goal.overflow_add-self-2
 overflow_add-self-2 g c =
@@ -65,25 +65,25 @@ overflow_add-self-2 g c =
     omega (arith, free_fits (fields_of g.NI.NodeIndex.MAX c.self.inside) _ p.sound p.some p.fits)
 
 -- the fields after the calls, for any count of accesses
-done : (g : Over) (c : After-put_first g) → Widening (fields_of g.NI.NodeIndex.MAX c.self.inside) c.args.more → (accesses : ℕ) →
-    IsSound g.NI.NodeIndex.MAX (c.self.inside.size + c.args.more) c.self.inside.max_allocs c.put_first.new.tables c.self.inside.last c.self.inside.spare_count c.put_first.new.top_mask
+done : (g : Over) (c : After-push g) → Widening (fields_of g.NI.NodeIndex.MAX c.self.inside) c.args.more → (accesses : ℕ) →
+    IsSound g.NI.NodeIndex.MAX (c.self.inside.size + c.args.more) c.self.inside.max_allocs c.push.new.tables c.self.inside.last c.self.inside.spare_count c.push.new.top_mask
     (c.self.inside.free_total + c.args.more)
     × Extends c.args.more (shown (fields_of g.NI.NodeIndex.MAX c.self.inside))
-    (view_of g.NI.NodeIndex.MAX (c.self.inside.size + c.args.more) c.self.inside.max_allocs c.put_first.new.tables c.self.inside.last accesses) true
+    (view_of g.NI.NodeIndex.MAX (c.self.inside.size + c.args.more) c.self.inside.max_allocs c.push.new.tables c.self.inside.last accesses) true
 done g c p accesses =
     let space : IsSpace c.remove.new.tables.room c.self.inside.last c.self.inside.spare_count = rw c.remove.ensures.room c.self.invariant.space in
     let grown = c.grow.ensures.blocks _ space in
-    widened _ _ p.sound p.some p.fits p.idle _ _ _ accesses _ _ (c.size-whole.ensures.size _ _ c.self.invariant.space (end (fields_of g.NI.NodeIndex.MAX c.self.inside) c.args.more c.self.invariant).stands ∙ sym (size-told _ _ _ _ c.self.invariant.space (end (fields_of g.NI.NodeIndex.MAX c.self.inside) c.args.more c.self.invariant).stands)) (ap down (c.size-whole.ensures.size _ _ c.self.invariant.space (end (fields_of g.NI.NodeIndex.MAX c.self.inside) c.args.more c.self.invariant).stands ∙ sym (size-told _ _ _ _ c.self.invariant.space (end (fields_of g.NI.NodeIndex.MAX c.self.inside) c.args.more c.self.invariant).stands)))
-    (rw c.put_first.ensures.room (c.grow.ensures.space _ space))
-    c.put_first.ensures.held
-    (rw c.put_first.ensures.room (rw c.remove.ensures.room at c.grow.ensures.limit))
-    (rw c.put_first.ensures.room (rw c.remove.ensures.room at grown))
-    (rw (c.grow.ensures.links, c.remove.ensures.lists, c.uint_to_float_round_down.ensures.is) at c.put_first.ensures.lists)
+    widened _ _ p.sound p.some p.fits p.idle _ _ _ accesses _ _ (c.size-whole.ensures.size _ _ c.self.invariant.space (end (fields_of g.NI.NodeIndex.MAX c.self.inside) c.args.more c.self.invariant).there ∙ sym (size-read _ _ _ _ c.self.invariant.space (end (fields_of g.NI.NodeIndex.MAX c.self.inside) c.args.more c.self.invariant).there)) (ap down (c.size-whole.ensures.size _ _ c.self.invariant.space (end (fields_of g.NI.NodeIndex.MAX c.self.inside) c.args.more c.self.invariant).there ∙ sym (size-read _ _ _ _ c.self.invariant.space (end (fields_of g.NI.NodeIndex.MAX c.self.inside) c.args.more c.self.invariant).there)))
+    (rw c.push.ensures.room (c.grow.ensures.space _ space))
+    c.push.ensures.held
+    (rw c.push.ensures.room (rw c.remove.ensures.room at c.grow.ensures.limit))
+    (rw c.push.ensures.room (rw c.remove.ensures.room at grown))
+    (rw (c.grow.ensures.links, c.remove.ensures.lists, c.uint_to_float_round_down.ensures.is) at c.push.ensures.lists)
 
 pub invariant_of-self : goal.invariant_of-self
-invariant_of-self g c = let at = goal.at.invariant_of-self g c in (done g at.After-put_first (pre g at.After-size-whole) 0).0
+invariant_of-self g c = let at = goal.at.invariant_of-self g c in (done g at.After-push (pre g at.After-size-whole) 0).0
 
 pub returns-clause-step : goal.returns-clause-step
 returns-clause-step g c =
     let at = goal.at.returns-clause-step g c in
-    rw (← c.self.view_is) (done g at.After-put_first (pre g at.After-size-whole) c.put_first.new.count).1
+    rw (← c.self.view_is) (done g at.After-push (pre g at.After-size-whole) c.push.new.count).1

@@ -1,6 +1,6 @@
 use Rattle.std.proofs.Common.{◌∙◌}
-use Rattle.offset_allocator.proofs.Told.{used_told}
+use Rattle.offset_allocator.proofs.Reading.{used_read}
 use Rattle.offset_allocator.proofs.chain.is_used.Goals as goal
 
 pub returns-clause-used : goal.returns-clause-used
-returns-clause-used g c last spare space = c.used.ensures.cell ∙ used_told _ _ _ _ space
+returns-clause-used g c last spare space = c.used.ensures.cell ∙ used_read _ _ _ _ space

@@ -3,18 +3,18 @@ use Rattle.offset_allocator.specs.Cells.{Cells, Room, node, put, link_of}
 use Rattle.offset_allocator.specs.Space.{IsChain, blocks, split_block}
 use Rattle.offset_allocator.proofs.Nodes.{in_put}
 use Rattle.offset_allocator.proofs.SplitSpace.{SplitAt, half, IsLinked, apart, y_below, spot_x, offset-fits, next-below, split-space, if_some, half-from, unused}
-use Rattle.offset_allocator.proofs.Spot.{size-told, offset-told}
+use Rattle.offset_allocator.proofs.Spot.{size-read, offset-read}
 use Rattle.offset_allocator.proofs.Views.{blocks-chain, space-chain}
 use Rattle.offset_allocator.proofs.chain.split.Goals as goal
 use Rattle.offset_allocator.proofs.chain.split.Goals.{After-after-next, After-place, After-set_size, After-set_after}
 use Rattle.offset_allocator.proofs.chain.split.Given.{Over}
 
 pre : (g : Over) (c : After-after-next g) → SplitAt c.args.tables.now.room c.args.last.now c.args.spare_count.now c.args.name c.args.kept c.number-rest.result
-pre g c = record { space = c.requires.space; standing = c.requires.standing; room = c.requires.room; within = omega (arith, c.requires.within, c.requires.size); popped = c.number-rest.ensures.number ∙ c.spare.ensures.cell }
+pre g c = record { space = c.requires.space; present = c.requires.present; room = c.requires.room; within = omega (arith, c.requires.within, c.requires.size); popped = c.number-rest.ensures.number ∙ c.spare.ensures.cell }
 
 pub overflow_add-offset : goal.overflow_add-offset
 overflow_add-offset g c =
-    omega (arith, c.requires.offset, offset-told _ _ _ _ c.requires.space c.requires.standing, offset-fits _ _ _ _ _ _ (pre g (goal.at.overflow_add-offset g c).After-after-next))
+    omega (arith, c.requires.offset, offset-read _ _ _ _ c.requires.space c.requires.present, offset-fits _ _ _ _ _ _ (pre g (goal.at.overflow_add-offset g c).After-after-next))
 
 pub place-requires-clause-name : goal.place-requires-clause-name
 place-requires-clause-name g c = y_below _ _ _ _ _ _ (pre g (goal.at.place-requires-clause-name g c).After-after-next)
@@ -40,7 +40,7 @@ half_is g c =
     let p = pre g (goal.at.returns-clause-space g c).After-after-next in
     let s = spot_x _ _ _ _ _ _ p in
     let room : Cells → Room = λ v. v.room in
-    half-from _ _ _ _ _ _ _ _ _ _ (apart _ _ _ _ _ _ p) s.below (c.requires.offset ∙ sym (offset-told _ _ _ _ c.requires.space c.requires.standing)) (c.requires.size ∙ sym (size-told _ _ _ _ c.requires.space c.requires.standing)) c.after-next.ensures.cell (ap room c.place.ensures.cells ∙ ap (λ (l : Option ℕ). put c.args.tables.now.room c.number-rest.result (record { offset = c.args.offset + c.args.kept; size = c.args.size - c.args.kept; used = false; before = l; after = link_of g.NI.NodeIndex.MAX (g.NI.NodeIndex.number c.after-next.result) })) c.link_to.ensures.link) (ap room c.set_size.ensures.cells) (ap room c.set_after.ensures.cells ∙ ap (λ (l : Option ℕ). put c.set_size.new.self.room c.args.name (record (node c.set_size.new.self.room c.args.name) { after = l })) c.link_to-2.ensures.link)
+    half-from _ _ _ _ _ _ _ _ _ _ (apart _ _ _ _ _ _ p) s.below (c.requires.offset ∙ sym (offset-read _ _ _ _ c.requires.space c.requires.present)) (c.requires.size ∙ sym (size-read _ _ _ _ c.requires.space c.requires.present)) c.after-next.ensures.cell (ap room c.place.ensures.cells ∙ ap (λ (l : Option ℕ). put c.args.tables.now.room c.number-rest.result (record { offset = c.args.offset + c.args.kept; size = c.args.size - c.args.kept; used = false; before = l; after = link_of g.NI.NodeIndex.MAX (g.NI.NodeIndex.number c.after-next.result) })) c.link_to.ensures.link) (ap room c.set_size.ensures.cells) (ap room c.set_after.ensures.cells ∙ ap (λ (l : Option ℕ). put c.set_size.new.self.room c.args.name (record (node c.set_size.new.self.room c.args.name) { after = l })) c.link_to-2.ensures.link)
 
 linked : (g : Over) (c : goal.After-point_back g) → IsLinked (node c.args.tables.now.room c.args.name).after c.point_back.new.tables.room (half c.args.tables.now.room c.args.name c.args.kept c.number-rest.result) c.number-rest.result
 linked g c =

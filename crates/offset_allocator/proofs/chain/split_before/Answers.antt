@@ -6,14 +6,14 @@ use Rattle.offset_allocator.proofs.Nodes.{in_put}
 use Rattle.offset_allocator.proofs.SplitSpace.{SplitAt, apart, y_below, spot_x, size-is, offset-fits, if_some, unused}
 use Rattle.offset_allocator.proofs.JoinSpace.{IsLinkedOn}
 use Rattle.offset_allocator.proofs.Fronts.{fronted, before-low, front-space, fronted-from}
-use Rattle.offset_allocator.proofs.Spot.{size-told}
+use Rattle.offset_allocator.proofs.Spot.{size-read}
 use Rattle.offset_allocator.proofs.Views.{blocks-chain, space-chain}
 use Rattle.offset_allocator.proofs.chain.split_before.Goals as goal
 use Rattle.offset_allocator.proofs.chain.split_before.Goals.{After-before-link}
 use Rattle.offset_allocator.proofs.chain.split_before.Given.{Over}
 
 pre : (g : Over) (c : After-before-link g) (last : ℕ) → HasBlock c.args.tables.now.room last c.args.spare_count.now c.args.name → SplitAt c.args.tables.now.room last c.args.spare_count.now c.args.name c.args.cut c.number-front.result
-pre g c last h = record { space = h.space; standing = h.standing; room = c.requires.room; within = omega (arith, c.requires.within, size-told _ _ _ _ h.space h.standing); popped = c.number-front.ensures.number ∙ c.spare.ensures.cell }
+pre g c last h = record { space = h.space; present = h.present; room = c.requires.room; within = omega (arith, c.requires.within, size-read _ _ _ _ h.space h.present); popped = c.number-front.ensures.number ∙ c.spare.ensures.cell }
 
 pub place-requires-clause-name : goal.place-requires-clause-name
 place-requires-clause-name g c = y_below _ _ _ _ _ _ (pre g (goal.at.place-requires-clause-name g c).After-before-link _ c.requires.block.1)

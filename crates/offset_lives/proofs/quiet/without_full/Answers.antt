@@ -1,6 +1,6 @@
 use Rattle.std.proofs.Common.{ap, ◌∙◌}
 use Rattle.offset_lives.specs.Lives.{lives_of}
-use Rattle.offset_lives.specs.Quiet.{all_quiet}
+use Rattle.offset_lives.specs.Quiet.{replace_all_full}
 use Rattle.offset_lives.specs.Reported.{reports_of}
 use Rattle.offset_lives.proofs.Quieter.{quiet_lives, quiet_reports}
 use Rattle.offset_lives.proofs.quiet.without_full.Goals as goal
@@ -8,9 +8,9 @@ use Rattle.offset_lives.proofs.quiet.without_full.Goals as goal
 pub returns-clause-lives : goal.returns-clause-lives
 returns-clause-lives c =
     let script = c.args.script.now in
-    ap (lives_of script.size script.max_allocs) (c.in_ok-quiet_commands.ensures.commands ∙ ap all_quiet c.deref.ensures.value) ∙ quiet_lives script.size script.max_allocs script.commands.items
+    ap (lives_of script.size script.max_allocs) (c.in_ok-quiet_commands.ensures.commands ∙ ap replace_all_full c.deref.ensures.value) ∙ quiet_lives script.size script.max_allocs script.commands.items
 
 pub returns-clause-reports : goal.returns-clause-reports
 returns-clause-reports c =
     let script = c.args.script.now in
-    ap (reports_of script.size script.max_allocs) (c.in_ok-quiet_commands.ensures.commands ∙ ap all_quiet c.deref.ensures.value) ∙ quiet_reports script.size script.max_allocs script.commands.items
+    ap (reports_of script.size script.max_allocs) (c.in_ok-quiet_commands.ensures.commands ∙ ap replace_all_full c.deref.ensures.value) ∙ quiet_reports script.size script.max_allocs script.commands.items

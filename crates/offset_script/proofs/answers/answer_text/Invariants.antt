@@ -1,7 +1,8 @@
 use Rattle.std.proofs.Common.{◌≡◌, take}
 use Rattle.std.specs.String.{string_bytes}
-use Rattle.offset_script.specs.Answers.{text_of, all_seen}
+use Rattle.offset_script.specs.Answers.{answer_views}
+use Rattle.offset_script.specs.Running.{text_of}
 use Rattle.offset_script.proofs.answers.answer_text.Given as goal
 
 abbrev pub invariant-loop-answer : goal.invariant-loop-answer
-invariant-loop-answer l = string_bytes l.out ≡ text_of (all_seen (take l.answer-index l.answers))
+invariant-loop-answer l = string_bytes l.out ≡ text_of (answer_views (take l.answer-index l.answers))

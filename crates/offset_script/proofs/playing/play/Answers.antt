@@ -1,12 +1,12 @@
 use Rattle.std.proofs.Common.{◌<◌, map, take, length, refl, sym, subst, arith, IsTrue, ◌≡◌, ℕ, zero, suc, ◌+◌, ◌≤◌, List, [], ◌∷◌, ◌++◌, drop, get_or, ap, ap₂, ◌∙◌, add-one, append-nil}
 use Rattle.std.proofs.lemmas.List.Elements.{All-get_or}
 use Rattle.offset_script.specs.Agreement.{IsReached}
-use Rattle.offset_script.specs.Limits.{is_powered}
+use Rattle.offset_script.specs.Grammar.{has_valid_alignment}
 use Rattle.offset_script.specs.Machine.{answers, start, after, State, Answer, step}
-use Rattle.offset_script.specs.Serving.{Stands}
-use Rattle.offset_script.specs.Answers.{seen}
+use Rattle.offset_script.specs.Simulation.{Represents}
+use Rattle.offset_script.specs.Answers.{answer_view}
 use Rattle.offset_script.specs.declared.scripts.Command.{Command}
-use Rattle.offset_script.specs.Histories.{RestartsFresh, NestsLeaveNoTrace, RowsCommute, answers_as_before, frees, placeless}
+use Rattle.offset_script.specs.Histories.{RestartsFresh, NestsLeaveNoTrace, RowsCommute, answers_as_before, releases, without_offset}
 use Rattle.offset_script.specs.declared.answers.Answer as program
 use Rattle.offset_script.proofs.Fresh.{fresh_law}
 use Rattle.offset_script.proofs.Nests.{nest_law}
@@ -31,20 +31,20 @@ answers_suc (c ∷ cs) t (suc i) d h = answers_suc cs t i d (omega arith)
 after_more : (cs : List Command) (s : State) (i : ℕ) (d : Command) → i < length cs → after (take (i + 1) cs) s ≡ (step (get_or cs i d) (after (take i cs) s)).state
 after_more cs s i d h = rw add-one (after_suc cs s i d h)
 
--- one more answer, in front of the others
-map_told : (xs : List program.Answer) (x : program.Answer) (as' : List Answer) → map seen (xs ++ x ∷ []) ++ as' ≡ map seen xs ++ (seen x ∷ as')
-map_told [] x as' = refl
-map_told (y ∷ xs) x as' = ap (λ l. seen y ∷ l) (map_told xs x as')
+-- one more answer, before the others
+map_answers : (xs : List program.Answer) (x : program.Answer) (as' : List Answer) → map answer_view (xs ++ x ∷ []) ++ as' ≡ map answer_view xs ++ (answer_view x ∷ as')
+map_answers [] x as' = refl
+map_answers (y ∷ xs) x as' = ap (λ l. answer_view y ∷ l) (map_answers xs x as')
 
 -- the answers so far, one more, and those to what is left
-told_more : (cs : List Command) (s : State) (i : ℕ) (d : Command) (found left : List program.Answer) (x : program.Answer) (all : List Answer) → i < length cs → left ≡ found ++ x ∷ []
-    → seen x ≡ (step (get_or cs i d) (after (take i cs) s)).answer → map seen found ++ answers (drop i cs) (after (take i cs) s) ≡ all
-    → map seen left ++ answers (drop (i + 1) cs) (after (take (i + 1) cs) s) ≡ all
-told_more cs s i d found left x all h f e told = rw add-one
-    (ap (λ l. map seen l ++ answers (drop (suc i) cs) (after (take (suc i) cs) s)) f
-    ∙ map_told found x (answers (drop (suc i) cs) (after (take (suc i) cs) s))
-    ∙ ap (λ l. map seen found ++ l) (ap₂ (λ y t. y ∷ answers (drop (suc i) cs) t) e (after_suc cs s i d h) ∙ sym (answers_suc cs (after (take i cs) s) i d h))
-    ∙ told)
+answers_more : (cs : List Command) (s : State) (i : ℕ) (d : Command) (found left : List program.Answer) (x : program.Answer) (all : List Answer) → i < length cs → left ≡ found ++ x ∷ []
+    → answer_view x ≡ (step (get_or cs i d) (after (take i cs) s)).answer → map answer_view found ++ answers (drop i cs) (after (take i cs) s) ≡ all
+    → map answer_view left ++ answers (drop (i + 1) cs) (after (take (i + 1) cs) s) ≡ all
+answers_more cs s i d found left x all h f e so_far = rw add-one
+    (ap (λ l. map answer_view l ++ answers (drop (suc i) cs) (after (take (suc i) cs) s)) f
+    ∙ map_answers found x (answers (drop (suc i) cs) (after (take (suc i) cs) s))
+    ∙ ap (λ l. map answer_view found ++ l) (ap₂ (λ y t. y ∷ answers (drop (suc i) cs) t) e (after_suc cs s i d h) ∙ sym (answers_suc cs (after (take i cs) s) i d h))
+    ∙ so_far)
 
 all_past : (cs : List Command) (i : ℕ) (t : State) → length cs ≤ i → answers (drop i cs) t ≡ []
 all_past [] zero t h = refl
@@ -53,10 +53,10 @@ all_past (c ∷ cs) zero t h = absurd (omega arith)
 all_past (c ∷ cs) (suc i) t h = all_past cs i t (omega arith)
 
 -- where nothing is left, the answers so far are those to all
-told_all : (cs : List Command) (s : State) (i : ℕ) (found : List program.Answer) (all : List Answer) → length cs ≤ i → map seen found ++ answers (drop i cs) (after (take i cs) s) ≡ all → map seen found ≡ all
-told_all cs s i found all h told = sym (append-nil (map seen found)) ∙ ap (λ l. map seen found ++ l) (sym (all_past cs i (after (take i cs) s) h)) ∙ told
+answers_all : (cs : List Command) (s : State) (i : ℕ) (found : List program.Answer) (all : List Answer) → length cs ≤ i → map answer_view found ++ answers (drop i cs) (after (take i cs) s) ≡ all → map answer_view found ≡ all
+answers_all cs s i found all h so_far = sym (append-nil (map answer_view found)) ∙ ap (λ l. map answer_view found ++ l) (sym (all_past cs i (after (take i cs) s) h)) ∙ so_far
 
--- What the answers to a list of commands carry of the laws.
+-- The laws over whole histories, of the answers to a list of commands.
 
 -- the answers from a place on
 answers_from : (i : ℕ) (cs : List Command) (s : State) → drop i (answers cs s) ≡ answers (drop i cs) (after (take i cs) s)
@@ -67,7 +67,7 @@ answers_from (suc i) (c ∷ cs) s = answers_from i cs (step c s).state
 fresh : (size limit : ℕ) (cs : List Command) (found : List Answer) → 2 ≤ limit → found ≡ answers cs (start size limit) → RestartsFresh size limit cs found
 fresh size limit cs found h e i none = ap (drop i) e ∙ answers_from i cs (start size limit) ∙ fresh_law size limit h (take i cs) none (drop i cs)
 
--- the answers behind some commands, and the state there
+-- the answers after some commands, and the state there
 answers_past : (xs ys : List Command) (s : State) → drop (length xs) (answers (xs ++ ys) s) ≡ answers ys (after xs s)
 answers_past [] ys s = refl
 answers_past (x ∷ xs) ys s = answers_past xs ys (step x s).state
@@ -86,18 +86,18 @@ nests size limit cs found h e before nest rest parts n =
 rows : (size limit : ℕ) (cs : List Command) (found : List Answer) → 2 ≤ limit → found ≡ answers cs (start size limit) → RowsCommute size limit cs found
 rows size limit cs found h e before ks c rest parts t is =
     let s = start size limit in
-    ap (λ l. map placeless (take 1 l)) (ap (drop (length (before ++ frees ks))) (e ∙ ap (λ c. answers c s) parts) ∙ answers_past (before ++ frees ks) (c ∷ rest) s)
-    ∙ ap (λ (u : State). placeless (step c u).answer ∷ []) (after_both before (frees ks) s)
+    ap (λ l. map without_offset (take 1 l)) (ap (drop (length (before ++ releases ks))) (e ∙ ap (λ c. answers c s) parts) ∙ answers_past (before ++ releases ks) (c ∷ rest) s)
+    ∙ ap (λ (u : State). without_offset (step c u).answer ∷ []) (after_both before (releases ks) s)
     ∙ ap (λ a. a ∷ []) ((commute_law size limit h before ks).next t is c)
 
 pub call-requires : goal.call-requires
 call-requires g c = record {
-  serving = record {
+  reached = record {
     state = after (take c.loop-command.command-index c.args.commands.now) (start c.args.size c.args.max_allocs);
     reached = record { size = c.args.size; limit = c.args.max_allocs; commands = take c.loop-command.command-index c.args.commands.now; admitted = c.requires.low; reached = refl };
-    stands = c.loop-command.invariant.stands;
+    represents = c.loop-command.invariant.represents;
   };
-  power = All-get_or (λ c. IsTrue (is_powered c)) c.args.commands.now c.loop-command.command-index _ (omega arith) c.requires.powers;
+  power = All-get_or (λ c. IsTrue (has_valid_alignment c)) c.args.commands.now c.loop-command.command-index _ (omega arith) c.requires.powers;
 }
 
 pub loop-command-preserved : goal.loop-command-preserved
@@ -108,10 +108,10 @@ loop-command-preserved g c =
     let state = after (take i cs) s in
     let within : i < length cs = omega arith in
     let reached : IsReached state = record { size = c.args.size; limit = c.args.max_allocs; commands = take i cs; admitted = c.requires.low; reached = refl } in
-    let served = c.in_ok-call.ensures in
+    let same_choice = c.in_ok-call.ensures in
     record {
-      stands = subst (Stands c.call.new.self.space c.call.new.self.handles.items) (sym (after_more cs s i _ within)) (served.state state reached c.loop-command.invariant.stands);
-      told = told_more cs s i _ c.loop-command.found.items _ c.in_ok-call.field-0 (answers cs s) within c.in_ok-push.ensures.items (served.answer state reached c.loop-command.invariant.stands) c.loop-command.invariant.told;
+      represents = subst (Represents c.call.new.self.space c.call.new.self.handles.items) (sym (after_more cs s i _ within)) (same_choice.state state reached c.loop-command.invariant.represents);
+      so_far = answers_more cs s i _ c.loop-command.found.items _ c.in_ok-call.field-0 (answers cs s) within c.in_ok-push.ensures.items (same_choice.answer state reached c.loop-command.invariant.represents) c.loop-command.invariant.so_far;
     }
 
 pub returns-clause-fresh : goal.returns-clause-fresh
@@ -119,18 +119,18 @@ returns-clause-fresh g c =
     let cs = c.args.commands.now in
     let s = start c.args.size c.args.max_allocs in
     let found = c.loop-command.found.items in
-    fresh c.args.size c.args.max_allocs cs (map seen found) c.requires.low (told_all cs s c.loop-command.command-index found (answers cs s) (omega arith) c.loop-command.invariant.told)
+    fresh c.args.size c.args.max_allocs cs (map answer_view found) c.requires.low (answers_all cs s c.loop-command.command-index found (answers cs s) (omega arith) c.loop-command.invariant.so_far)
 
 pub returns-clause-rows : goal.returns-clause-rows
 returns-clause-rows g c =
     let cs = c.args.commands.now in
     let s = start c.args.size c.args.max_allocs in
     let found = c.loop-command.found.items in
-    rows c.args.size c.args.max_allocs cs (map seen found) c.requires.low (told_all cs s c.loop-command.command-index found (answers cs s) (omega arith) c.loop-command.invariant.told)
+    rows c.args.size c.args.max_allocs cs (map answer_view found) c.requires.low (answers_all cs s c.loop-command.command-index found (answers cs s) (omega arith) c.loop-command.invariant.so_far)
 
 pub returns-clause-nests : goal.returns-clause-nests
 returns-clause-nests g c =
     let cs = c.args.commands.now in
     let s = start c.args.size c.args.max_allocs in
     let found = c.loop-command.found.items in
-    nests c.args.size c.args.max_allocs cs (map seen found) c.requires.low (told_all cs s c.loop-command.command-index found (answers cs s) (omega arith) c.loop-command.invariant.told)
+    nests c.args.size c.args.max_allocs cs (map answer_view found) c.requires.low (answers_all cs s c.loop-command.command-index found (answers cs s) (omega arith) c.loop-command.invariant.so_far)

@@ -1,7 +1,7 @@
 use Rattle.std.proofs.Common.{◌≡◌, map, take, drop, ◌++◌}
-use Rattle.offset_script.specs.Answers.{seen}
+use Rattle.offset_script.specs.Answers.{answer_view}
 use Rattle.offset_script.specs.Machine.{answers, after, start}
-use Rattle.offset_script.specs.Serving.{Stands}
+use Rattle.offset_script.specs.Simulation.{Represents}
 use Rattle.offset_script.proofs.playing.play.Given as goal
 
 -- the answers so far and those to what is left are those to all
@@ -9,6 +9,6 @@ abbrev pub invariant-loop-command : goal.invariant-loop-command
 invariant-loop-command g l =
     let state = after (take l.command-index l.commands) (start l.size l.max_allocs) in
     record {
-      stands : Stands l.player.space l.player.handles.items state;
-      told : map seen l.found.items ++ answers (drop l.command-index l.commands) state ≡ answers l.commands (start l.size l.max_allocs);
+      represents : Represents l.player.space l.player.handles.items state;
+      so_far : map answer_view l.found.items ++ answers (drop l.command-index l.commands) state ≡ answers l.commands (start l.size l.max_allocs);
     }

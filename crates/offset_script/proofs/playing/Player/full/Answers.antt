@@ -1,14 +1,14 @@
 use Rattle.std.proofs.Common.{refl, ap, ◌∙◌, arith, map}
-use Rattle.offset_script.specs.Answers.{row_seen}
-use Rattle.offset_script.proofs.Serving.{full_serves, rows_more, rows_same}
+use Rattle.offset_script.specs.Answers.{row_view}
+use Rattle.offset_script.proofs.Simulation.{full_simulates, rows_more, rows_same}
 use Rattle.offset_script.proofs.playing.Player.full.Goals as goal
 use Rattle.offset_script.proofs.playing.Player.full.Goals.{then-region-gt0+in_ok-push, else-region-gt0}
 
 pub returns : goal.returns
-returns g c = full_serves _ _ _ c.loop-class.class _ refl c.loop-class.invariant (omega arith)
+returns g c = full_simulates _ _ _ c.loop-class.class _ refl c.loop-class.invariant (omega arith)
 
 pub loop-class-preserved : goal.loop-class-preserved
 loop-class-preserved g c = elim c.if-region-gt0.branch [
-  | then-region-gt0+in_ok-push w ↦ ap (λ v. map row_seen v.items) w.rows-is ∙ rows_more c.loop-class.class c.args.self.now.space c.storage_report_full-report.result _ _ _ _ c.storage_report_full-report.ensures c.loop-class-test.true c.loop-class.invariant w.in_ok-push.ensures.items refl w.if-region-gt0.true
-  | else-region-gt0 w ↦ ap (λ v. map row_seen v.items) w.rows-is ∙ rows_same c.loop-class.class c.args.self.now.space c.storage_report_full-report.result _ _ c.storage_report_full-report.ensures c.loop-class-test.true c.loop-class.invariant w.if-region-gt0.false
+  | then-region-gt0+in_ok-push w ↦ ap (λ v. map row_view v.items) w.rows-is ∙ rows_more c.loop-class.class c.args.self.now.space c.storage_report_full-report.result _ _ _ _ c.storage_report_full-report.ensures c.loop-class-test.true c.loop-class.invariant w.in_ok-push.ensures.items refl w.if-region-gt0.true
+  | else-region-gt0 w ↦ ap (λ v. map row_view v.items) w.rows-is ∙ rows_same c.loop-class.class c.args.self.now.space c.storage_report_full-report.result _ _ c.storage_report_full-report.ensures c.loop-class-test.true c.loop-class.invariant w.if-region-gt0.false
 ]

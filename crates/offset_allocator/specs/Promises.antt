@@ -1,0 +1,49 @@
+-- What is reported of an allocator: when a request is granted, why it is refused, and how much is free.
+use Rattle.std.specs.Prelude.{◌≡◌, ℕ, ◌+◌, ◌-◌, min, ◌%◌, ◌^◌, ◌<◌, ◌≤◌, length, List, [], None, IsSome, sum, slice_index_or}
+use Rattle.offset_allocator.specs.declared.reports.Refusal.{Refusal}
+use Rattle.offset_allocator.specs.declared.reports.Refusal.TheVariants.{Nodes, Space, Fragmented}
+use Rattle.offset_allocator.specs.declared.reports.StorageReport.{StorageReport}
+use Rattle.offset_allocator.specs.declared.reports.StorageReportFull.{StorageReportFull}
+use Rattle.offset_allocator.specs.declared.reports.StorageReportFullRegion.{StorageReportFullRegion}
+use Rattle.offset_allocator.specs.Classes.{value}
+use Rattle.offset_allocator.specs.Reports.{count_of}
+use Rattle.offset_allocator.specs.Named.{View, names_at, free_sizes, total_free, largest_free, place_for}
+
+-- c is the largest class whose bin has a name
+abbrev pub IsLargestClass : List (List ℕ) → ℕ → Type 0
+IsLargestClass ls c = (c < 256) × (names_at ls c ≡ [] → ⊥) × ((d : ℕ) → c < d → d < 256 → names_at ls d ≡ [])
+
+-- the short report of a view: its free units, and its largest free region
+abbrev pub IsReport : StorageReport → View → Type 0
+IsReport r v = (r.total_free_space ≡ total_free v) × (r.largest_free_region ≡ largest_free v)
+
+-- the full report of a view: for each class its value, modulo 2 ^ 32, and the number of its free blocks
+abbrev pub IsFullReport : StorageReportFull → View → Type 0
+IsFullReport r v = (c : ℕ) (d : StorageReportFullRegion) → c < 256 → slice_index_or r.free_regions c d ≡ record { size = value c % 2 ^ 32; count = count_of c (free_sizes v.blocks) }
+
+-- this many more blocks may exist, and one name stays unused
+abbrev pub HasRoomFor : ℕ → View → Type 0
+HasRoomFor k v = length v.blocks + k < v.max_allocs
+
+-- the blocks that a request may add: the remainder, and the padding where it is aligned
+abbrev pub blocks_needed : ℕ → ℕ
+blocks_needed align = min align 2
+
+-- the units of a block that holds size units from a multiple of align on, wherever it begins
+abbrev pub units_needed : ℕ → ℕ → ℕ
+units_needed size align = size + align - 1
+
+-- a request is granted that may add this many blocks and needs this many units of one block: there is room for the
+-- blocks, and a free block is sure to hold the units
+abbrev pub CanGrant : ℕ → ℕ → View → Type 0
+CanGrant blocks units v = HasRoomFor blocks v × IsSome (place_for units v)
+
+-- a request for n units is granted
+abbrev pub CanAllocate : ℕ → View → Type 0
+CanAllocate n v = CanGrant 1 n v
+
+-- why such a request is refused: too few nodes, too few free units, or enough of them in too small pieces
+abbrev pub IsWhy : ℕ → ℕ → View → Refusal → Type 0
+IsWhy blocks units v Nodes = v.max_allocs ≤ length v.blocks + blocks
+IsWhy blocks units v Space = HasRoomFor blocks v × (sum (free_sizes v.blocks) < units)
+IsWhy blocks units v Fragmented = HasRoomFor blocks v × (units ≤ sum (free_sizes v.blocks)) × (place_for units v ≡ None)

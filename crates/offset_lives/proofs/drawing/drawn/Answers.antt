@@ -1,6 +1,0 @@
-use Rattle.std.proofs.Common.{rules}
-use Rattle.std.specs.Prelude.{string_bytes}
-use Rattle.offset_lives.proofs.drawing.drawn.Goals as goal
-
-pub returns : goal.returns
-returns c = (string_bytes c.in_ok-body.body, search rules)

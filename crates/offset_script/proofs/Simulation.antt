@@ -1,0 +1,240 @@
+-- A player simulates the plain machine, call by call.
+use Rattle.std.proofs.Common.{◌≡◌, ℕ, zero, suc, ◌+◌, ◌-◌, ◌%◌, ◌^◌, ◌<◌, ◌≤◌, Bool, true, false, ◌&&◌, ◌||◌, nat_lt, List, [], ◌∷◌, ◌++◌, map, length, Option, Some, None, Result, Ok, Err, IfOk, slice_index_or, slice_set, get_or, if◌then◌else◌, refl, sym, ap, ap₂, subst, ◌∙◌, inl, inr, arith, eq-eqb, ne_eqb, add-one, length-append}
+use Rattle.std.proofs.lemmas.List.{get_or-set_same, get_or-set_other, get_or_past, length-set}
+use Rattle.std.proofs.Math.ListN.{get_or-append}
+use Rattle.std.proofs.Math.Seq.{get_or-append_seam}
+use Rattle.std.proofs.lemmas.Bool.{cases_eq, cases_lt}
+use Rattle.offset_allocator.specs.Classes.{value}
+use Rattle.offset_allocator.specs.Reports.{Row, row, rows_below, count_of}
+use Rattle.offset_allocator.specs.declared.reports.StorageReportFull.{StorageReportFull}
+use Rattle.offset_allocator.specs.declared.reports.StorageReportFullRegion.{StorageReportFullRegion}
+use Rattle.offset_script.specs.declared.scripts.Command.{Command}
+use Rattle.offset_script.specs.declared.scripts.Command.TheVariants as command
+use Rattle.offset_script.specs.Machine.{State, step, start, after}
+use Rattle.offset_script.specs.Machine as machine
+use Rattle.offset_allocator.specs.Named.{View, Grant, Outcome, allocate, allocate_aligned, free, total_free, largest_free, free_sizes, max_size, IsWellFormed}
+use Rattle.offset_script.specs.Agreement.{IsReached, name_in, kept_name, answer_of, with_name, without_name, kept_after, grant_count_after}
+use Rattle.offset_allocator.specs.Relations.{SameSpace, IsFresh, Allocates, Aligns, Extends, Resets}
+use Rattle.offset_script.proofs.Well.{Well, well_start, well_after}
+use Rattle.offset_allocator.proofs.ViewTaken.{well_allocate, well_aligned, well_extend, well_free, well_reset, well_alone}
+use Rattle.offset_script.proofs.Agreed.{Matches, allocate_agrees, aligned_agrees, extend_agrees, free_agrees, gone_agrees, size_agrees, reset_agrees, report_agrees, full_agrees, agrees_quiet, agrees_kept, agrees_but, formed_but, start_agrees}
+use Rattle.offset_script.specs.declared.answers.Answer as program
+use Rattle.offset_script.specs.declared.answers.Answer.TheVariants as program_answer
+use Rattle.offset_script.specs.declared.answers.FullRow.{FullRow}
+use Rattle.offset_allocator.specs.Promises.{IsFullReport}
+use Rattle.offset_allocator.specs.Ranges.{IsLive, size_of}
+use Rattle.offset_allocator.proofs.Reading.{used_live, size_is}
+use Rattle.offset_script.specs.Answers.{answer_view, row_view}
+use Rattle.offset_script.specs.Simulation.{Represents, Simulates, RepresentsReached, IsKept}
+
+-- what holds of every state holds of a reached one
+pub well_of : (s : State) → IsReached s → Well s
+well_of s r = subst Well (sym r.reached) (well_after r.commands (start r.size r.limit) (well_start r.size r.limit r.admitted))
+
+-- the handles kept
+pub kept_push : (hs : List (Option Grant)) (h : Grant) (k : ℕ) → kept_name (hs ++ Some h ∷ []) k ≡ with_name (length hs + 1) h.name (kept_name hs) k
+kept_push hs h zero = rw (ne_eqb 0 (length hs + 1) (omega arith)) refl
+kept_push hs h (suc k) = elim (cases_eq k (length hs)) [
+  | inl e ↦ ap name_in (ap (λ i. get_or (hs ++ Some h ∷ []) i None) e ∙ get_or-append_seam hs (Some h) [] None) ∙ sym (ap (λ (b : Bool). if b then Some h.name else kept_name hs (suc k)) (eq-eqb (suc k) (length hs + 1) (omega arith)))
+  | inr n ↦ elim (cases_lt k (length hs)) [
+    | inl l ↦ ap name_in (get_or-append hs (Some h ∷ []) None k l) ∙ sym (ap (λ (b : Bool). if b then Some h.name else kept_name hs (suc k)) (ne_eqb (suc k) (length hs + 1) (omega arith)))
+    | inr m ↦ ap name_in (get_or_past (hs ++ Some h ∷ []) k None (let e = length-append hs (Some h ∷ []) in omega arith)) ∙ sym (ap (λ (b : Bool). if b then Some h.name else kept_name hs (suc k)) (ne_eqb (suc k) (length hs + 1) (omega arith)) ∙ ap name_in (get_or_past hs k None m))
+  ]
+]
+
+-- a handle is removed
+pub kept_set : (hs : List (Option Grant)) (k : ℕ) → k < length hs → (j : ℕ) → kept_name (slice_set hs k None) j ≡ without_name (suc k) (kept_name hs) j
+kept_set hs k l zero = rw (ne_eqb 0 (suc k) (omega arith)) refl
+kept_set hs k l (suc j) = elim (cases_eq j k) [
+  | inl e ↦ ap name_in (ap (λ i. get_or (slice_set hs k None) i None) e ∙ get_or-set_same hs k None None l) ∙ sym (ap (λ (b : Bool). if b then None else kept_name hs (suc j)) (eq-eqb (suc j) (suc k) (ap suc e)))
+  | inr n ↦ ap name_in (get_or-set_other hs k j None None n) ∙ sym (ap (λ (b : Bool). if b then None else kept_name hs (suc j)) (ne_eqb (suc j) (suc k) (omega arith)))
+]
+
+-- requests
+module _ (c : Command) (v w : View) (hs left : List (Option Grant)) (o : Outcome) (alike : (s : State) → IsReached s → Represents v hs s → Matches (kept_name hs) s.grants o (step c s)) (formed : IsWellFormed v → IsWellFormed o.view) (but : SameSpace o.view w) where
+  represents_request : (r : Option Grant) → r ≡ o.grant → (s : State) → IsReached s → Represents v hs s → ((k : ℕ) → kept_name left k ≡ kept_after s.grants r (kept_name hs) k) → length left ≡ grant_count_after s.grants r → Represents w left (step c s).state
+  represents_request r e s reached st same len =
+      let m = alike s reached st in
+      record {
+        formed = formed_but _ w but (formed st.formed);
+        agrees = agrees_but _ w (kept_name left) _ but (agrees_kept _ (kept_after s.grants o.grant (kept_name hs)) (kept_name left) _ (λ k. same k ∙ ap (λ o. kept_after s.grants o (kept_name hs) k) e) m.agrees);
+        grants = len ∙ ap (grant_count_after s.grants) e ∙ sym m.grants_after;
+      }
+
+  request_refused : None ≡ o.grant → left ≡ hs → Simulates v hs w left c program_answer.Refused
+  request_refused e l = record {
+    answer = λ s reached st. let m = alike s reached st in sym (m.answer ∙ ap (answer_of s.grants) (sym e));
+    state = λ s reached st. represents_request None e s reached st (λ k. ap (λ l. kept_name l k) l) (ap length l ∙ st.grants);
+  }
+
+  request_granted : (h : Grant) (number offset : ℕ) → Some h ≡ o.grant → left ≡ hs ++ Some h ∷ [] → number ≡ length left → offset ≡ h.offset → Simulates v hs w left c (program_answer.Grant number offset)
+  request_granted h number offset a l e f = record {
+    answer = λ s reached st. let m = alike s reached st in ap₂ machine.Grant (e ∙ ap length l ∙ length-append hs (Some h ∷ []) ∙ ap (λ k. k + 1) st.grants) f ∙ sym (m.answer ∙ ap (answer_of s.grants) (sym a));
+    state = λ s reached st. represents_request (Some h) a s reached st (λ k. ap (λ l. kept_name l k) l ∙ kept_push hs h k ∙ ap (λ g. with_name (g + 1) h.name (kept_name hs) k) st.grants) (ap length l ∙ length-append hs (Some h ∷ []) ∙ ap (λ g. g + 1) st.grants);
+  }
+
+  request_simulates : (r : Option Grant) (a : program.Answer) → r ≡ o.grant → IsKept r hs left a → Simulates v hs w left c a
+  request_simulates None a e k = subst (Simulates v hs w left c) (sym k.1) (request_refused e k.0)
+  request_simulates (Some h) a e k = subst (Simulates v hs w left c) (sym k.1) (request_granted h (length left) h.offset e k.0 refl refl)
+
+-- a request, whose grant is kept
+pub allocate_simulates : (n : ℕ) (v w : View) (hs left : List (Option Grant)) (r : Option Grant) (a : program.Answer) → Allocates n v w r → IsKept r hs left a → Simulates v hs w left (command.Alloc n) a
+allocate_simulates n v w hs left r a al k = request_simulates (command.Alloc n) v w hs left (allocate n al.rest v)
+    (λ s reached st. allocate_agrees v (kept_name hs) s st.formed (well_of s reached) st.agrees n al.rest al.unused)
+    (λ f. well_allocate v f n al.rest al.unused) al.view r a al.answer k
+
+-- an aligned request
+pub aligned_simulates : (n align : ℕ) (v w : View) (hs left : List (Option Grant)) (r : Option Grant) (a : program.Answer) → Aligns n align v w r → IsKept r hs left a → Simulates v hs w left (command.Align n align) a
+aligned_simulates n align v w hs left r a al k = request_simulates (command.Align n align) v w hs left (allocate_aligned n align al.front al.rest v)
+    (λ s reached st. aligned_agrees v (kept_name hs) s st.formed (well_of s reached) st.agrees n align al.front al.rest al.unused al.apart)
+    (λ f. well_aligned v f n align al.front al.rest al.unused al.apart) al.view r a al.answer k
+
+-- more units
+extend_grants : (more : ℕ) (s : State) → (machine.extend more s).state.grants ≡ s.grants
+extend_grants zero s = refl
+extend_grants (suc more) s = either (nat_lt max_size (machine.total s.blocks + suc more) || (machine.ends_live s.blocks && machine.is_short_of 1 s))
+  where
+    either : (b : Bool) → (if b then machine.returns_only s machine.Refused else machine.leaves s (machine.coalesce s.blocks (suc more) (machine.stamp_of_call s) []) machine.Extended).state.grants ≡ s.grants
+    either true = refl
+    either false = refl
+
+-- more units, or a refusal
+pub extended_simulates : (more : ℕ) (v w : View) (hs : List (Option Grant)) (done : Bool) (a : program.Answer) → Extends more v w done → answer_view a ≡ (if done then machine.Extended else machine.Refused) → Simulates v hs w hs (command.Extend more) a
+extended_simulates more v w hs done a e f = record {
+  answer = λ s reached st. f ∙ ap (λ (b : Bool). if b then machine.Extended else machine.Refused) e.answer ∙ sym (extend_agrees v (kept_name hs) s st.formed (well_of s reached) st.agrees more e.name e.unused).answer;
+  state = λ s reached st. record {
+    formed = formed_but _ w e.view (well_extend v st.formed more e.name e.unused);
+    agrees = agrees_but _ w _ _ e.view (extend_agrees v (kept_name hs) s st.formed (well_of s reached) st.agrees more e.name e.unused).agrees;
+    grants = st.grants ∙ sym (extend_grants more s);
+  };
+}
+
+-- releases
+release_grants : (s : State) (o : Option _) → (machine.release s o).state.grants ≡ s.grants
+release_grants s None = refl
+release_grants s (Some p) = refl
+
+-- a release of a grant that is not live
+pub gone_simulates : (v : View) (hs : List (Option Grant)) (k : ℕ) → kept_name hs k ≡ None → Simulates v hs v hs (command.Free k) program_answer.Gone
+gone_simulates v hs k e = record {
+  answer = λ s reached st. sym (gone_agrees v (kept_name hs) s st.formed (well_of s reached) st.agrees k e).0;
+  state = λ s reached st. record { formed = st.formed; agrees = (gone_agrees v (kept_name hs) s st.formed (well_of s reached) st.agrees k e).1; grants = st.grants ∙ sym (release_grants s _) };
+}
+
+-- a kept handle is live
+pub live_kept : (v : View) (hs : List (Option Grant)) (k x : ℕ) → RepresentsReached v hs → kept_name hs k ≡ Some x → IsLive x v
+live_kept v hs k x i e = used_live x v (free_agrees v (kept_name hs) i.state i.represents.formed (well_of i.state i.reached) i.represents.agrees k x e).used
+
+-- a release of a live grant, whose handle is removed
+pub freed_simulates : (v w : View) (hs : List (Option Grant)) (k x : ℕ) → kept_name hs (suc k) ≡ Some x → k < length hs → SameSpace (free x v) w → Simulates v hs w (slice_set hs k None) (command.Free (suc k)) program_answer.Freed
+freed_simulates v w hs k x e l but = record {
+  answer = λ s reached st. sym (free_agrees v (kept_name hs) s st.formed (well_of s reached) st.agrees (suc k) x e).answer;
+  state = λ s reached st. record {
+    formed = formed_but _ w but (well_free v st.formed x);
+    agrees = agrees_but _ w _ _ but (agrees_kept _ (without_name (suc k) (kept_name hs)) _ _ (kept_set hs k l) (free_agrees v (kept_name hs) s st.formed (well_of s reached) st.agrees (suc k) x e).agrees);
+    grants = length-set _ _ _ ∙ st.grants ∙ sym (release_grants s _);
+  };
+}
+
+-- the same, by the number of the grant
+pub released_simulates : (v w : View) (hs left : List (Option Grant)) (number x : ℕ) → kept_name hs number ≡ Some x → (1 ≤ number) × (number ≤ length hs) → SameSpace (free x v) w → left ≡ slice_set hs (number - 1) None → Simulates v hs w left (command.Free number) program_answer.Freed
+released_simulates v w hs left zero x e l but f = absurd (omega arith)
+released_simulates v w hs left (suc k) x e l but f = let same : suc k - 1 ≡ k = omega arith in subst (λ z. Simulates v hs w z (command.Free (suc k)) program_answer.Freed) (sym (f ∙ ap (λ i. slice_set hs i None) same)) (freed_simulates v w hs k x e (omega arith) but)
+
+-- what leaves the blocks as they are
+quiet : (v : View) (hs : List (Option Grant)) (s : State) (a : machine.Answer) → Represents v hs s → Represents v hs (machine.returns_only s a).state
+quiet v hs s a st = record { formed = st.formed; agrees = agrees_quiet v (kept_name hs) s st.agrees a; grants = st.grants }
+
+-- the size of a grant that is not live
+pub size_gone_simulates : (v : View) (hs : List (Option Grant)) (k : ℕ) → kept_name hs k ≡ None → Simulates v hs v hs (command.Size k) program_answer.Gone
+size_gone_simulates v hs k e = record {
+  answer = λ s reached st. sym (gone_agrees v (kept_name hs) s st.formed (well_of s reached) st.agrees k e).2;
+  state = λ s reached st. quiet v hs s machine.Gone st;
+}
+
+-- the size of a live grant
+pub size_simulates : (v : View) (hs : List (Option Grant)) (k x n : ℕ) → kept_name hs k ≡ Some x → n ≡ size_of x v → Simulates v hs v hs (command.Size k) (program_answer.Size n)
+size_simulates v hs k x n e f = record {
+  answer = λ s reached st. ap machine.Size (f ∙ size_is x v) ∙ sym (size_agrees v (kept_name hs) s st.formed (well_of s reached) st.agrees k x e);
+  state = λ s reached st. quiet v hs s machine.Gone st;
+}
+
+-- the report
+pub report_simulates : (v : View) (hs : List (Option Grant)) (total largest : ℕ) → total ≡ total_free v → largest ≡ largest_free v → Simulates v hs v hs command.Report (program_answer.Report (record { total_free_space = total; largest_free_region = largest }))
+report_simulates v hs total largest e f = record {
+  answer = λ s reached st. ap₂ machine.Report e f ∙ sym (report_agrees v (kept_name hs) s st.formed (well_of s reached) st.agrees);
+  state = λ s reached st. quiet v hs s machine.Gone st;
+}
+
+-- the full report, once all classes are seen
+pub full_simulates : (v : View) (hs : List (Option Grant)) (rows : List FullRow) (c : ℕ) (a : program.Answer) → answer_view a ≡ machine.Full (map row_view rows) → map row_view rows ≡ rows_below c (free_sizes v.blocks) → c ≡ 256 → Simulates v hs v hs command.Full a
+full_simulates v hs rows c a e f all = record {
+  answer = λ s reached st. e ∙ ap machine.Full (f ∙ ap (λ n. rows_below n (free_sizes v.blocks)) all) ∙ sym (full_agrees v (kept_name hs) s st.formed (well_of s reached) st.agrees);
+  state = λ s reached st. quiet v hs s machine.Gone st;
+}
+
+-- a clause of what a call returned, from another
+pub if_ok : {A E : Type 0} {P Q : A → Type 0} (r : Result A E) → ((a : A) → P a → Q a) → IfOk r P → IfOk r Q
+if_ok (Ok a) f p = f a p
+if_ok (Err e) f p = tt
+
+-- a reset removes all handles
+none_kept : (hs : List (Option Grant)) → ((i : ℕ) → i < length hs → slice_index_or hs i None ≡ None) → (k : ℕ) → kept_name hs k ≡ None
+none_kept hs none zero = refl
+none_kept hs none (suc k) = elim (cases_lt k (length hs)) [ inl l ↦ ap name_in (none k l) | inr m ↦ ap name_in (get_or_past hs k None m) ]
+
+-- a reset, where no handle is left
+pub reset_simulates : (v w : View) (hs left : List (Option Grant)) → Resets v w → length left ≡ length hs → ((i : ℕ) → i < length left → slice_index_or left i None ≡ None) → Simulates v hs w left command.Reset program_answer.Reset
+reset_simulates v w hs left r len none = record {
+  answer = λ s reached st. refl;
+  state = λ s reached st. record {
+    formed = formed_but _ w r.view (well_reset v st.formed r.name r.below);
+    agrees = agrees_but _ w _ _ r.view (agrees_kept _ (λ k. None) _ _ (none_kept left none) (reset_agrees v (kept_name hs) s st.formed (well_of s reached) st.agrees r.name));
+    grants = len ∙ st.grants;
+  };
+}
+
+-- a fresh space represents the first state
+pub fresh_represents : (w : View) (size limit : ℕ) (hs : List (Option Grant)) → 2 ≤ limit → IsFresh size limit w → hs ≡ [] → Represents w hs (start size limit)
+fresh_represents w size limit hs two f e = subst (λ l. Represents w l (start size limit)) (sym e) (record {
+  formed = subst IsWellFormed (sym f.view) (well_alone (record { size = size; max_allocs = limit; blocks = []; order = []; accesses = 0 }) f.name size 0 two f.below);
+  agrees = start_agrees w f.name size limit (kept_name []) (ap (λ (v : View). v.blocks) f.view) (ap (λ (v : View). v.order) f.view) (ap (λ (v : View). v.max_allocs) f.view) none;
+  grants = refl;
+})
+  where
+    none : (k : ℕ) → kept_name [] k ≡ None
+    none zero = refl
+    none (suc k) = refl
+
+-- a row more of the full report
+map_more : (rows : List FullRow) (r : FullRow) → map row_view (rows ++ r ∷ []) ≡ map row_view rows ++ row_view r ∷ []
+map_more [] r = refl
+map_more (x ∷ rows) r = ap (λ l. row_view x ∷ l) (map_more rows r)
+
+-- the row of a class with free blocks
+row_of : (c n : ℕ) → 0 < n → row c n ≡ record { class = c; size = value c % 2 ^ 32; count = n } ∷ []
+row_of c zero l = absurd (omega arith)
+row_of c (suc n) l = refl
+
+-- nothing is added
+append_nil : (rs : List Row) → rs ++ [] ≡ rs
+append_nil [] = refl
+append_nil (r ∷ rs) = ap (λ l. r ∷ l) (append_nil rs)
+
+-- a class with free blocks adds its row
+pub rows_more : (c : ℕ) (v : View) (report : StorageReportFull) (d : StorageReportFullRegion) (left rows : List FullRow) (r : FullRow) → IsFullReport report v → c < 256 → map row_view rows ≡ rows_below c (free_sizes v.blocks)
+    → left ≡ rows ++ r ∷ [] → r ≡ record { class = c; size = (slice_index_or report.free_regions c d).size; count = (slice_index_or report.free_regions c d).count } → 0 < (slice_index_or report.free_regions c d).count
+    → map row_view left ≡ rows_below (c + 1) (free_sizes v.blocks)
+rows_more c v report d left rows r full l e f h pos =
+    let at = full c d l in
+    let count = ap (λ (x : StorageReportFullRegion). x.count) at in
+    let size = ap (λ (x : StorageReportFullRegion). x.size) at in
+    rw add-one (ap (map row_view) f ∙ map_more rows r ∙ ap₂ (λ xs y. xs ++ row_view y ∷ []) e h ∙ ap₂ (λ (s n : ℕ). rows_below c (free_sizes v.blocks) ++ record { class = c; size = s; count = n } ∷ []) size count ∙ ap (λ z. rows_below c (free_sizes v.blocks) ++ z) (sym (row_of c (count_of c (free_sizes v.blocks)) (omega arith))))
+
+-- a class with none adds nothing
+pub rows_same : (c : ℕ) (v : View) (report : StorageReportFull) (d : StorageReportFullRegion) (rows : List FullRow) → IsFullReport report v → c < 256 → map row_view rows ≡ rows_below c (free_sizes v.blocks) → (slice_index_or report.free_regions c d).count ≤ 0
+    → map row_view rows ≡ rows_below (c + 1) (free_sizes v.blocks)
+rows_same c v report d rows full l e nothing =
+    let count = ap (λ (x : StorageReportFullRegion). x.count) (full c d l) in
+    let none : count_of c (free_sizes v.blocks) ≡ 0 = omega arith in
+    rw add-one (e ∙ sym (ap (λ n. rows_below c (free_sizes v.blocks) ++ row c n) none ∙ append_nil _))
