@@ -54,8 +54,12 @@ fn run_over(
 #[test]
 fn a_good_run_ends_with_0_and_no_line(rt: HostRuntime) -> Result<(), Fail> {
     let writer = || Writer::new(rt.alloc(), 4096);
-    let (status, output, errors) =
-        run_over(rt.alloc(), Reader::new(TEXT, 4096), writer(), writer());
+    let (status, output, errors) = run_over(
+        rt.alloc(),
+        Reader::new(TEXT, 4096),
+        writer(),
+        writer(),
+    );
     assert_eq!(rt; status, 0);
     assert_eq!(rt;
         output.taken.as_slice(),
