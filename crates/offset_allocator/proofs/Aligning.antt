@@ -1,5 +1,5 @@
 -- What an aligned grant leaves of the whole allocator.
-use Rattle.std.proofs.Common.{◌≡◌, ◌≢◌, ℕ, zero, suc, ◌+◌, ◌-◌, ◌<◌, ◌≤◌, ◌^◌, Bool, true, false, List, [], ◌∷◌, ◌++◌, length, Option, Some, None, refl, sym, ap, ap₂, subst, ◌∙◌, inl, inr, arith, slice_set, nat_le, nat_lt, if◌then◌else◌, le-leb}
+use Rattle.std.proofs.Common.{◌≡◌, ◌≢◌, ℕ, zero, suc, ◌+◌, ◌-◌, ◌<◌, ◌≤◌, ◌^◌, Bool, true, false, List, [], ◌∷◌, ◌++◌, length, Option, Some, None, refl, sym, ap, ap₂, leb-false, subst, ◌∙◌, inl, inr, arith, slice_set, nat_lt, if◌then◌else◌, le-leb}
 use Rattle.std.proofs.lemmas.Bool.{cases_lt, lt-leb, lt-ltb, le-ltb, true≢false}
 use Rattle.offset_allocator.specs.Classes.{up}
 use Rattle.offset_allocator.specs.Cells.{Cells, Room}
@@ -7,16 +7,16 @@ use Rattle.offset_allocator.specs.Named.{Block, View, Place, Grant, Outcome, cou
 use Rattle.offset_allocator.specs.Space.{IsSpace, HasName, blocks, offset_in, size_in}
 use Rattle.offset_allocator.specs.Orders.{IsSmallestFrom, class_lists, Binned}
 use Rattle.offset_allocator.specs.State.{Fields, AreSound, IsSound, shown, view_of, free_units}
-use Rattle.offset_allocator.specs.Relations.{Allocates, Aligns}
+use Rattle.offset_allocator.specs.Functional.{AllocatesBy, AlignsBy}
 use Rattle.offset_allocator.specs.Parts.{in_parts, carved_at, AreUnlisted}
 use Rattle.offset_allocator.proofs.Rows.{units-append}
 use Rattle.offset_allocator.proofs.Found.{size_in-at, offset_in-at}
 use Rattle.offset_allocator.proofs.Granting as grant
-use Rattle.offset_allocator.proofs.Spares.{another, spare_room, no_room, some_room, less_short}
-use Rattle.offset_allocator.proofs.Unused.{some_unused}
+use Rattle.offset_allocator.proofs.Spares.{less_short}
+use Rattle.offset_allocator.proofs.Unused.{another}
 use Rattle.offset_allocator.proofs.ViewTaken.{padding_small, well_aligned}
 use Rattle.offset_allocator.proofs.ViewSteps.{place_here}
-use Rattle.offset_allocator.proofs.Joints.{with_accesses, untaken, TakenHere, unused_unlisted, unlisted_removed, well_counted, remove_free, not_true, free_part-none, free_units-append, free_units-free, free_units-used}
+use Rattle.offset_allocator.proofs.Joints.{with_accesses, TakenHere, unused_unlisted, unlisted_removed, well_counted, remove_free, not_true, free_part-none, free_units-append, free_units-free, free_units-used}
 
 -- the cases of an aligned request
 pub aligned_one : (n align f r : ℕ) (v : View) → align ≤ 1 → allocate_aligned n align f r v ≡ allocate n r v
@@ -29,7 +29,7 @@ module _ (n align f r : ℕ) (v : View) (big : 1 < align) where
   pub aligned_past : max_size < n + align - 1 → allocate_aligned n align f r v ≡ refuse v
   aligned_past l = aligned_more ∙ ap (λ (b : Bool). if b then refuse v else serve 2 (n + align - 1) n (padding_to align) f r v) (lt-ltb max_size (n + align - 1) l)
 
-  aligned_within : n + align - 1 ≤ max_size → allocate_aligned n align f r v ≡ serve 2 (n + align - 1) n (padding_to align) f r v
+  pub aligned_within : n + align - 1 ≤ max_size → allocate_aligned n align f r v ≡ serve 2 (n + align - 1) n (padding_to align) f r v
   aligned_within l = aligned_more ∙ ap (λ (b : Bool). if b then refuse v else serve 2 (n + align - 1) n (padding_to align) f r v) (le-ltb max_size (n + align - 1) l)
 
   pub aligned_short : is_short_of 2 v ≡ true → allocate_aligned n align f r v ≡ refuse v
@@ -173,8 +173,8 @@ module _ (it : Fields) (n align class x : ℕ) (h : AlignedCall it n align class
 
   named_parts : (f r : ℕ) → (0 < padding → IsUnused f v) → (0 < left → IsUnused r v) → (0 < padding → 0 < left → f ≢ r) → Names f r
   named_parts f r uf ur ne =
-      let many : 2 ≤ it.count = let k = spare_room it s room in omega arith in
-      let other = another it s many in
+      let many = leb-false it.limit (length (blocks it.cells.room it.last) + 2) room in
+      let other = another v (omega arith) in
       elim (cases_lt 0 padding) [
         | inl a ↦ elim (cases_lt 0 left) [
           | inl b ↦ record { front = f; rest = r; front_unused = uf a; rest_unused = ur b; apart = ne a b; same_front = refl; same_rest = refl }
@@ -195,7 +195,7 @@ module _ (it : Fields) (n align class x : ℕ) (h : AlignedCall it n align class
       → (0 < padding_to align (units got.place.before) → (count_named f (blocks it.cells.room it.last) ≡ 0) × (f < length it.cells.room.nodes))
       → (0 < got.place.block.size - (padding_to align (units got.place.before) + n) → (count_named r (blocks it.cells.room it.last) ≡ 0) × (r < length it.cells.room.nodes))
       → (0 < padding_to align (units got.place.before) → 0 < got.place.block.size - (padding_to align (units got.place.before) + n) → f ≢ r)
-      → IsSound it.max it.size it.limit d last' count' top' (it.free - n) × Aligns n align (shown it) (view_of it.max it.size it.limit d last' acc') (Some (record { name = x; offset = units got.place.before + padding_to align (units got.place.before) }))
+      → IsSound it.max it.size it.limit d last' count' top' (it.free - n) × AlignsBy n align (shown it) (view_of it.max it.size it.limit d last' acc') (Some (record { name = x; offset = units got.place.before + padding_to align (units got.place.before) }))
   aligned d last' count' top' acc' f r space bins nodes eb eo uf ur ne =
       let k = named_parts f r (λ q. unused_in f (uf q)) (λ q. unused_in r (ur q)) ne in
       let is = aligned_granted n align k.front k.rest v big fits room p got.is in
@@ -233,7 +233,7 @@ module _ (it : Fields) (n align class x : ℕ) (h : AlignedCall it n align class
       → (0 < padding_to align offset → (count_named f (blocks t.room it.last) ≡ 0) × (f < length t.room.nodes))
       → (0 < whole - (padding_to align offset + n) → (count_named r (blocks t.room it.last) ≡ 0) × (r < length t.room.nodes))
       → (0 < padding_to align offset → 0 < whole - (padding_to align offset + n) → f ≢ r)
-      → IsSound it.max it.size it.limit d last' count' top' (it.free - n) × Aligns n align (shown it) (view_of it.max it.size it.limit d last' acc') (Some (record { name = x; offset = offset + padding_to align offset }))
+      → IsSound it.max it.size it.limit d last' count' top' (it.free - n) × AlignsBy n align (shown it) (view_of it.max it.size it.limit d last' acc') (Some (record { name = x; offset = offset + padding_to align offset }))
   aligned_call t offset whole rm lists oe we d last' count' top' acc' f r =
       let Q : Room → List (List ℕ) → ℕ → ℕ → Type 0 = λ room ol o wh. IsSpace d.room last' count' → Binned it.max d.links top' → length d.room.nodes ≡ length room.nodes
       → blocks d.room last' ≡ in_parts x (padding_to align o) n f r (blocks room it.last)
@@ -241,7 +241,7 @@ module _ (it : Fields) (n align class x : ℕ) (h : AlignedCall it n align class
       → (0 < padding_to align o → (count_named f (blocks room it.last) ≡ 0) × (f < length room.nodes))
       → (0 < wh - (padding_to align o + n) → (count_named r (blocks room it.last) ≡ 0) × (r < length room.nodes))
       → (0 < padding_to align o → 0 < wh - (padding_to align o + n) → f ≢ r)
-      → IsSound it.max it.size it.limit d last' count' top' (it.free - n) × Aligns n align (shown it) (view_of it.max it.size it.limit d last' acc') (Some (record { name = x; offset = o + padding_to align o })) in
+      → IsSound it.max it.size it.limit d last' count' top' (it.free - n) × AlignsBy n align (shown it) (view_of it.max it.size it.limit d last' acc') (Some (record { name = x; offset = o + padding_to align o })) in
       let first_is : Q it.cells.room (slice_set (class_lists it.max it.cells.links) class (without x (names_at (class_lists it.max it.cells.links) class))) (units got.place.before) got.place.block.size = aligned d last' count' top' acc' f r in
       let o_is : offset ≡ units got.place.before = oe ∙ ap (λ (m : Room). offset_in x (blocks m it.last)) rm ∙ offset_is in
       let w_is : whole ≡ got.place.block.size = we ∙ ap (λ (m : Room). size_in x (blocks m it.last)) rm ∙ listed_size in
@@ -269,52 +269,11 @@ module _ (it : Fields) (n align class x : ℕ) (h : AlignedCall it n align class
       all_of : (a b : ℕ) → a ≤ b → a + (b - a) ≡ b
       all_of a b q = omega arith
 
--- a request that is refused, or that any offset serves
-module _ (it : Fields) (n align : ℕ) (s : AreSound it) where
-  abbrev was : View
-  was = shown it
-
-  pub left_as_it_was : (acc' f r : ℕ) → IsUnused r (shown it) → (is_short_of 2 (shown it) ≡ false → IsUnused f (shown it) × (f ≢ r)) → allocate_aligned n align f r (shown it) ≡ refuse (shown it) → Aligns n align (shown it) (shown (record it { accesses = acc' })) None
-  left_as_it_was acc' f r u a e = record {
-    front = f;
-    rest = r;
-    unused = u;
-    apart = a;
-    answer = ap (λ (o : Outcome). o.grant) (sym e);
-    view = ap (λ (o : Outcome). with_accesses acc' o.view) (sym e);
-  }
-
-  -- an unused name for a remainder, and another for the padding
-  record Pair : Type 0 where
-    front : ℕ
-    rest : ℕ
-    unused : IsUnused rest (shown it)
-    apart : is_short_of 2 (shown it) ≡ false → IsUnused front (shown it) × (front ≢ rest)
-
-  pair : Pair
-  pair =
-      let u = some_unused it s in
-      elim (cases_lt 2 it.count) [
-        | inl l ↦ let o = another it s (omega arith) u.0 in record { front = o.0; rest = u.0; unused = u.1; apart = λ _. (o.1, o.2) }
-        | inr l ↦ record { front = u.0; rest = u.0; unused = u.1; apart = λ e. absurd (true≢false (sym (no_room it s l) ∙ e)) }
-      ]
-
-  pub refused_full : (acc' : ℕ) → 1 < align → it.count ≤ 2 → Aligns n align (shown it) (shown (record it { accesses = acc' })) None
-  refused_full acc' big l = left_as_it_was acc' pair.front pair.rest pair.unused pair.apart (aligned_short n align pair.front pair.rest was big (no_room it s l))
-
-  pub refused_past : (acc' : ℕ) → 1 < align → max_size < n + align - 1 → Aligns n align (shown it) (shown (record it { accesses = acc' })) None
-  refused_past acc' big l = left_as_it_was acc' pair.front pair.rest pair.unused pair.apart (aligned_past n align pair.front pair.rest was big l)
-
-  pub refused_none : (acc' : ℕ) → 1 < align → n + align - 1 ≤ max_size → 2 < it.count → ((k : ℕ) → up (n + align - 1) ≤ k → k < 256 → names_at (class_lists it.max it.cells.links) k ≡ []) → Aligns n align (shown it) (shown (record it { accesses = acc' })) None
-  refused_none acc' big l room none =
-      let well = well_counted (shown (record it { accesses = 0 })) it.accesses s.well in
-      left_as_it_was acc' pair.front pair.rest pair.unused pair.apart (aligned_none n align pair.front pair.rest was big l (some_room it s room) (untaken (n + align - 1) was well none))
-
 -- an aligned request with alignment 1
-pub aligned_from : (n align : ℕ) (v w : View) (r : Option Grant) → align ≤ 1 → (is_short_of 2 v ≡ false → (z : ℕ) → (y : ℕ) × IsUnused y v × (y ≢ z)) → Allocates n v w r → Aligns n align v w r
+pub aligned_from : (n align : ℕ) (v w : View) (r : Option Grant) → align ≤ 1 → (is_short_of 2 v ≡ false → (z : ℕ) → (y : ℕ) × IsUnused y v × (y ≢ z)) → AllocatesBy n v w r → AlignsBy n align v w r
 aligned_from n align v w r one other a = go (is_short_of 2 v) refl
   where
-    with_padding : (f : ℕ) → (is_short_of 2 v ≡ false → IsUnused f v × (f ≢ a.rest)) → Aligns n align v w r
+    with_padding : (f : ℕ) → (is_short_of 2 v ≡ false → IsUnused f v × (f ≢ a.rest)) → AlignsBy n align v w r
     with_padding f k = record {
       front = f;
       rest = a.rest;
@@ -324,7 +283,7 @@ aligned_from n align v w r one other a = go (is_short_of 2 v) refl
       answer = a.answer ∙ ap (λ (o : Outcome). o.grant) (sym (aligned_one n align f a.rest v one));
     }
 
-    go : (b : Bool) → is_short_of 2 v ≡ b → Aligns n align v w r
+    go : (b : Bool) → is_short_of 2 v ≡ b → AlignsBy n align v w r
     go true e = with_padding a.rest (λ q. absurd (true≢false (sym e ∙ q)))
     go false e = let o = other e a.rest in with_padding o.0 (λ _. (o.1, o.2))
 
@@ -332,33 +291,6 @@ aligned_from n align v w r one other a = go (is_short_of 2 v) refl
 counted : ℕ → Outcome → Outcome
 counted k o = record { view = with_accesses k o.view; grant = o.grant }
 
-granted_counted : (k n : ℕ) (padding_at : ℕ → ℕ) (f r : ℕ) (v : View) (o : Option Place) → grant_or_refuse (with_accesses k v) n padding_at f r o ≡ counted k (grant_or_refuse v n padding_at f r o)
-unfolding counted
-granted_counted k n padding_at f r v None = refl
-granted_counted k n padding_at f r v (Some p) = refl
-
-choice_counted : (k : ℕ) (v : View) (b : Bool) (o o' : Outcome) → o ≡ counted k o' → (if b then refuse (with_accesses k v) else o) ≡ counted k (if b then refuse v else o')
-unfolding counted
-choice_counted k v true o o' e = refl
-choice_counted k v false o o' e = e
-
 pair_counted : (k : ℕ) (b : Bool) (o o' q q' : Outcome) → o ≡ counted k o' → q ≡ counted k q' → (if b then o else q) ≡ counted k (if b then o' else q')
 pair_counted k true o o' q q' e f = e
 pair_counted k false o o' q q' e f = f
-
-aligned_counted : (k n align f r : ℕ) (v : View) → allocate_aligned n align f r (with_accesses k v) ≡ counted k (allocate_aligned n align f r v)
-aligned_counted k n align f r v =
-    pair_counted k (nat_le align 1) _ _ _ _
-    (choice_counted k v (is_short_of 1 v) _ _ (granted_counted k n (λ o. 0) r r v (place_for n v)))
-    (choice_counted k v (nat_lt max_size (n + align - 1)) _ _ (choice_counted k v (is_short_of 2 v) _ _ (granted_counted k n (padding_to align) f r v (place_for (n + align - 1) v))))
-
-pub aligns_counted : (k n align : ℕ) (v w : View) (r : Option Grant) → Aligns n align (with_accesses k v) w r → Aligns n align v w r
-unfolding counted
-aligns_counted k n align v w r a = record {
-  front = a.front;
-  rest = a.rest;
-  unused = record { below = a.unused.below; absent = a.unused.absent };
-  apart = λ e. let p = a.apart e in (record { below = p.0.below; absent = p.0.absent }, p.1);
-  view = a.view ∙ ap (λ (o : Outcome). with_accesses w.accesses o.view) (aligned_counted k n align a.front a.rest v);
-  answer = a.answer ∙ ap (λ (o : Outcome). o.grant) (aligned_counted k n align a.front a.rest v);
-}

@@ -1,17 +1,19 @@
 -- Sums and bounds of a well formed view.
-use Rattle.std.proofs.Common.{◌≡◌, ℕ, ◌+◌, ◌-◌, ◌*◌, ◌/◌, ◌%◌, ◌<◌, ◌≤◌, Bool, true, false, ◌&&◌, ◌⊎◌, ◌↔◌, List, [], ◌∷◌, ◌++◌, length, sum, Option, Some, None, IsSome, IsTrue, nat_le, nat_lt, if◌then◌else◌, refl, sym, ap, ap₂, subst, ◌∙◌, inl, inr, arith, le-leb, leb-true}
+use Rattle.std.proofs.Common.{◌≡◌, ℕ, ◌+◌, ◌-◌, ◌*◌, ◌/◌, ◌%◌, ◌<◌, ◌≤◌, Bool, true, false, not, ◌≢◌, ◌&&◌, ◌⊎◌, ◌↔◌, List, [], ◌∷◌, ◌++◌, length, sum, Option, Some, None, IsSome, nat_le, nat_lt, if◌then◌else◌, refl, sym, ap, ap₂, subst, ◌∙◌, inl, inr, arith, le-leb, leb-true}
 use Rattle.std.specs.List.{AllByRecursion}
-use Rattle.std.proofs.lemmas.Bool.{cases_lt, lt-leb, true≢false}
+use Rattle.std.proofs.lemmas.Bool.{cases_lt, true≢false, false≢true}
 use Rattle.std.proofs.lemmas.List.Sums.{sum_by-cons}
 use Rattle.std.proofs.lemmas.Nat.{mod-mul-add}
 use Rattle.offset_allocator.specs.Classes.{value, up, down}
 use Rattle.offset_allocator.specs.Reports.{largest}
-use Rattle.offset_allocator.specs.Named.{Block, View, Place, Grant, Outcome, is_free, units, free_sizes, free_block, IsApart, IsWellFormed, is_short_of, max_size, padding_to, refuse, grant_or_refuse, place_for, serve, allocate, allocate_aligned}
-use Rattle.offset_allocator.specs.Relations.{IsFresh, Aligns}
-use Rattle.offset_allocator.specs.Always.{used_units, AddsUp, HasNoFreeNeighbours, RefusesWhenFull, FreshGrants, PaddingIsLeast}
+use Rattle.offset_allocator.specs.Named.{Block, View, Place, Grant, Outcome, used_units, total_free, largest_free, names_at, units, free_sizes, free_block, IsApart, IsWellFormed, is_short_of, max_size, padding_to, refuse, grant_or_refuse, place_for, serve, allocate, allocate_aligned}
+use Rattle.offset_allocator.specs.Relations.{IsFresh}
+use Rattle.offset_allocator.specs.Functional.{AlignsBy}
+use Rattle.offset_allocator.specs.Promises.{CanGrant}
+use Rattle.offset_allocator.proofs.Related.{class_found, found_class}
 use Rattle.offset_allocator.proofs.Classes.{down_law}
 use Rattle.offset_allocator.proofs.ViewOrders.{if_value}
-use Rattle.offset_allocator.proofs.ViewTaken.{IsTaken, taken_at, not_taken, well_alone}
+use Rattle.offset_allocator.proofs.ViewTaken.{taken_at, not_taken, well_alone}
 
 -- used and free units
 parted : (bs : List Block) → used_units bs + sum (free_sizes bs) ≡ units bs
@@ -28,7 +30,7 @@ parted (b ∷ bs) = let ih = parted bs in either b.used ih
         one_more : used_units bs + sum (free_sizes bs) ≡ units bs → (0 + used_units bs) + sum (b.size ∷ free_sizes bs) ≡ b.size + units bs
         one_more ih = let e : sum (b.size ∷ free_sizes bs) ≡ b.size + sum (free_sizes bs) = sum_by-cons (λ n. n) b.size (free_sizes bs) in omega (arith, e, ih)
 
-pub adds_up : (v : View) → IsWellFormed v → AddsUp v
+pub adds_up : (v : View) → IsWellFormed v → used_units v.blocks + sum (free_sizes v.blocks) ≡ v.size
 adds_up v w = parted v.blocks ∙ w.whole
 
 -- free neighbours
@@ -36,41 +38,20 @@ apart_after_one : (xs ys : List Block) → IsApart (xs ++ ys) → IsApart ys
 apart_after_one [] ys a = a
 apart_after_one (x ∷ xs) ys a = apart_after_one xs ys a.1
 
-is_free_true : (b : Block) → IsTrue (is_free b) → is_free b ≡ true
-is_free_true b h = go (is_free b) h
-  where
-    go : (x : Bool) → IsTrue x → x ≡ true
-    go true h = refl
-    go false h = absurd (grind (arith, h))
-
-alone_if : (run after : List Block) → IsApart (run ++ after) → AllByRecursion (λ b. IsTrue (is_free b)) run → length run ≤ 1
+alone_if : (run after : List Block) → IsApart (run ++ after) → AllByRecursion (λ b. b.used ≡ false) run → length run ≤ 1
 alone_if [] after a f = omega arith
 alone_if (b ∷ []) after a f = omega arith
-alone_if (b ∷ c ∷ run) after a f = absurd (true≢false (ap₂ (λ x y. x && y) (sym (is_free_true b f.0)) (sym (is_free_true c f.1.0)) ∙ a.0))
+alone_if (b ∷ c ∷ run) after a f = absurd (true≢false (ap₂ (λ (x y : Bool). not x && not y) (sym f.0) (sym f.1.0) ∙ a.0))
 
-pub no_neighbours : (v : View) → IsWellFormed v → HasNoFreeNeighbours v
+pub no_neighbours : (v : View) → IsWellFormed v → (before run after : List Block) → v.blocks ≡ before ++ (run ++ after) → AllByRecursion (λ b. b.used ≡ false) run → length run ≤ 1
 no_neighbours v w before run after e f = alone_if run after (apart_after_one before (run ++ after) (subst IsApart e w.apart)) f
 
 -- a full space
 short_too : (v : View) (spare : ℕ) → 1 ≤ spare → v.max_allocs ≤ length v.blocks + 1 → is_short_of spare v ≡ true
 short_too v spare some h = le-leb v.max_allocs (length v.blocks + spare) (omega arith)
 
-none_served : (v : View) (spare needed n : ℕ) (padding_at : ℕ → ℕ) (front rest : ℕ) → 1 ≤ spare → v.max_allocs ≤ length v.blocks + 1 → (serve spare needed n padding_at front rest v).grant ≡ None
-none_served v spare needed n padding_at front rest some h = ap (λ b. (if b then refuse v else grant_or_refuse v n padding_at front rest (place_for needed v)).grant) (short_too v spare some h)
-
-none_if : (b : Bool) (o p : Outcome) → o.grant ≡ None → p.grant ≡ None → (if b then o else p).grant ≡ None
-none_if true o p f g = f
-none_if false o p f g = g
-
-pub refuses_when_full : (v : View) → RefusesWhenFull v
-refuses_when_full v h = (
-  λ n rest. none_served v 1 n n (λ offset. 0) rest rest (omega arith) h,
-  λ n align front rest. none_if (nat_le align 1) (allocate n rest v) (if nat_lt max_size (n + align - 1) then refuse v else serve 2 (n + align - 1) n (padding_to align) front rest v)
-      (none_served v 1 n n (λ offset. 0) rest rest (omega arith) h)
-      (none_if (nat_lt max_size (n + align - 1)) (refuse v) (serve 2 (n + align - 1) n (padding_to align) front rest v) refl (none_served v 2 (n + align - 1) n (padding_to align) front rest (omega arith) h)),
-  ap (λ b. if b then 0 else sum (free_sizes v.blocks)) (short_too v 1 (omega arith) h),
-  ap (λ b. if b then 0 else largest (free_sizes v.blocks)) (short_too v 1 (omega arith) h),
-)
+pub reports_nothing : (v : View) → v.max_allocs ≤ length v.blocks + 1 → (total_free v ≡ 0) × (largest_free v ≡ 0)
+reports_nothing v h = (ap (λ b. if b then 0 else sum (free_sizes v.blocks)) (short_too v 1 (omega arith) h), ap (λ b. if b then 0 else largest (free_sizes v.blocks)) (short_too v 1 (omega arith) h))
 
 -- padding
 module _ (align offset : ℕ) (some : 1 ≤ align) where
@@ -89,13 +70,13 @@ module _ (align offset : ℕ) (some : 1 ≤ align) where
       whole : (align - 0) % align ≡ 0
       whole = let e : align - 0 ≡ 1 * align + 0 = omega arith in ap (λ n. n % align) e ∙ mod-mul-add 1 align 0 (omega arith)
 
-  reaches : (offset + padding_to align offset) % align ≡ 0
+  pub reaches : (offset + padding_to align offset) % align ≡ 0
   reaches = elim padded [
     | inl z ↦ ap (λ n. (offset + n) % align) z.1 ∙ (let e : offset + 0 ≡ offset = omega arith in ap (λ n. n % align) e ∙ z.0)
     | inr p ↦ let e : offset + padding_to align offset ≡ (offset / align + 1) * align + 0 = omega (arith, p.1, p.2) in ap (λ n. n % align) e ∙ mod-mul-add (offset / align + 1) align 0 (omega arith)
   ]
 
-  least : (k : ℕ) → (offset + k) % align ≡ 0 → padding_to align offset ≤ k
+  pub least : (k : ℕ) → (offset + k) % align ≡ 0 → padding_to align offset ≤ k
   least k m = elim padded [
     | inl z ↦ omega (arith, z.1)
     | inr p ↦ elim (cases_lt k (padding_to align offset)) [
@@ -103,9 +84,6 @@ module _ (align offset : ℕ) (some : 1 ≤ align) where
       | inr l ↦ l
     ]
   ]
-
-pub padding_is_least : PaddingIsLeast
-padding_is_least align offset some = (reaches align offset some, least align offset some)
 
 -- an aligned grant
 padded_from : (v : View) (n : ℕ) (padding_at : ℕ → ℕ) (front rest : ℕ) (o : Option Place) (g : Grant) → (grant_or_refuse v n padding_at front rest o).grant ≡ Some g → (start : ℕ) × (g.offset ≡ start + padding_at start)
@@ -124,7 +102,7 @@ multiple n align front rest v g some =
     (λ s e. absurd (cc))
     (λ s e. let r = padded_from v n (padding_to align) front rest (place_for (n + align - 1) v) g e in ap (λ m. m % align) r.1 ∙ reaches align r.0 some)))
 
-pub aligned_multiple : (n align : ℕ) (v w : View) (g : Grant) → 1 ≤ align → Aligns n align v w (Some g) → g.offset % align ≡ 0
+pub aligned_multiple : (n align : ℕ) (v w : View) (g : Grant) → 1 ≤ align → AlignsBy n align v w (Some g) → g.offset % align ≡ 0
 aligned_multiple n align v w g some a = multiple n align a.front a.rest v g some (sym a.answer)
 
 head_of : (b c : Block) (bs cs : List Block) → b ∷ bs ≡ c ∷ cs → b ≡ c
@@ -136,34 +114,26 @@ only_block [] b ys c e = head_of c b [] ys e
 only_block (x ∷ []) b ys c e = absurd (cc)
 only_block (x ∷ y ∷ xs) b ys c e = absurd (cc)
 
-module _ (size max_allocs n rest : ℕ) (v : View) (f : IsFresh size max_allocs v) (limit : 3 ≤ max_allocs) (sized : size ≤ max_size) (small : n ≤ max_size) where
+module _ (size max_allocs n : ℕ) (v : View) (f : IsFresh size max_allocs v) (limit : 3 ≤ max_allocs) (sized : size ≤ max_size) where
   formed : IsWellFormed v
-  formed = subst IsWellFormed (sym f.view) (well_alone (record v { max_allocs = max_allocs }) f.name size 0 (omega arith) f.below)
+  formed = subst IsWellFormed (sym f.view) (well_alone (record v { max_allocs = max_allocs }) f.name size 0 (omega arith) f.below sized)
 
   there : v.blocks ≡ free_block f.name size ∷ []
   there = ap (λ (x : View). x.blocks) f.view
 
-  roomy : is_short_of 1 v ≡ false
-  roomy = ap (λ (x : View). is_short_of 1 x) f.view ∙ gt
+  room : length v.blocks + 1 < v.max_allocs
+  room = omega (arith, ap length there, ap (λ (x : View). x.max_allocs) f.view)
+
+  pub fresh_grants : CanGrant 1 n v ↔ (value (up n) ≤ size)
+  fresh_grants = (λ h. go (place_for n v) refl (class_found v formed n h.1), λ l. (room, found l (place_for n v) refl))
     where
-      gt : nat_le max_allocs 2 ≡ false
-      gt = lt-leb max_allocs 2 (omega arith)
+      go : (o : Option Place) → place_for n v ≡ o → IsSome o → value (up n) ≤ size
+      go None e s = absurd (false≢true s)
+      go (Some p) e s =
+          let t = taken_at n v formed p e in
+          let block = only_block p.before p.block p.after (free_block f.name size) (sym there ∙ t.stood) in
+          (down_law size (up n) (omega arith)).0 (subst (λ z. up n ≤ down z) (ap (λ (b : Block). b.size) (sym block)) t.class)
 
-  fresh_if : (o : Option Place) → place_for n v ≡ o → IsSome (grant_or_refuse v n (λ offset. 0) rest rest o).grant ↔ (value (up n) ≤ size)
-  fresh_if None e = (λ s. absurd (grind (arith, s)), λ l. absurd (no_place ((down_law size (up n) (omega arith)).1 l)))
-    where
-      no_place : up n ≤ down size → ⊥
-      no_place l = let z = not_taken n v formed e (down size) l in let o = formed.orders (down size) f.name in grind (arith, z, o)
-  fresh_if (Some p) e = (λ s. (down_law size (up n) (omega arith)).0 (subst (λ z. up n ≤ down z) (ap (λ (b : Block). b.size) (sym block)) t.class), λ l. refl)
-    where
-      t : IsTaken n v p
-      t = taken_at n v formed p e
-
-      block : free_block f.name size ≡ p.block
-      block = only_block p.before p.block p.after (free_block f.name size) (sym there ∙ t.stood)
-
-  fresh_grants_one : IsSome (allocate n rest v).grant ↔ (value (up n) ≤ size)
-  fresh_grants_one = subst (λ b. IsSome (if b then refuse v else grant_or_refuse v n (λ offset. 0) rest rest (place_for n v)).grant ↔ (value (up n) ≤ size)) (sym roomy) (fresh_if (place_for n v) refl)
-
-pub fresh_grants : FreshGrants
-fresh_grants size max_allocs n rest v f limit sized small = fresh_grants_one size max_allocs n rest v f limit sized small
+      found : value (up n) ≤ size → (o : Option Place) → place_for n v ≡ o → (c : ℕ) × (up n ≤ c) × (names_at v.order c ≢ [])
+      found l None e = let z = not_taken n v formed e (down size) ((down_law size (up n) (omega arith)).1 l) in let o = formed.orders (down size) f.name in absurd (grind (arith, z, o))
+      found l (Some p) e = found_class v formed n p e

@@ -1,6 +1,6 @@
 -- What more units at the end leave of the whole allocator.
 use Rattle.std.proofs.Common.{◌≡◌, ℕ, zero, suc, ◌+◌, ◌-◌, ◌<◌, ◌≤◌, ◌^◌, Bool, true, false, not, ◌&&◌, ◌||◌, List, [], ◌∷◌, ◌++◌, length, refl, sym, ap, ap₂, subst, ◌∙◌, inl, inr, arith, slice_set, nat_lt, nat_eq, if◌then◌else◌, append_assoc}
-use Rattle.std.proofs.lemmas.Bool.{cases_eq, lt-ltb, le-ltb, true≢false, ne_eqb}
+use Rattle.std.proofs.lemmas.Bool.{cases_eq, le-ltb, true≢false, ne_eqb}
 use Rattle.std.proofs.lemmas.List.{get_or-set_same, get_or-set_other}
 use Rattle.offset_allocator.specs.Classes.{down}
 use Rattle.offset_allocator.specs.Cells.{Cells, Node, node}
@@ -8,7 +8,7 @@ use Rattle.offset_allocator.specs.Named.{Block, View, Extension, count_named, na
 use Rattle.offset_allocator.specs.Space.{IsSpace, blocks, split_block}
 use Rattle.offset_allocator.specs.Orders.{Among, IsUnlisted, class_lists, Binned}
 use Rattle.offset_allocator.specs.State.{Fields, AreSound, IsSound, shown, view_of, free_units}
-use Rattle.offset_allocator.specs.Relations.{Extends}
+use Rattle.offset_allocator.specs.Functional.{ExtendsBy}
 use Rattle.offset_allocator.specs.Parts.{grow_last}
 use Rattle.offset_allocator.proofs.Found.{split_block-at}
 use Rattle.offset_allocator.proofs.Rows.{units-append, one-eq}
@@ -35,16 +35,12 @@ pub unextended_is : (more x : ℕ) (v : View) → 0 < more → is_extendable mor
 unextended_is zero x v l e = absurd (omega arith)
 unextended_is (suc more) x v l e = ap (λ (b : Bool). if b then record { view = extend_by (suc more) x v; done = true } else record { view = v; done = false }) e
 
-extendable_if : (a b c : Bool) → a ≡ false → (b ≡ true → c ≡ false) → not (a || (b && c)) ≡ true
+pub extendable_if : (a b c : Bool) → a ≡ false → (b ≡ true → c ≡ false) → not (a || (b && c)) ≡ true
 extendable_if true b c e f = absurd (true≢false e)
 extendable_if false true c e f = ap not (f refl)
 extendable_if false false c e f = refl
 
-past_if : (a b : Bool) → a ≡ true → not (a || b) ≡ false
-past_if true b e = refl
-past_if false b e = absurd (true≢false (sym e))
-
-full_if : (a b c : Bool) → b ≡ true → c ≡ true → not (a || (b && c)) ≡ false
+pub full_if : (a b c : Bool) → b ≡ true → c ≡ true → not (a || (b && c)) ≡ false
 full_if true b c e f = refl
 full_if false true true e f = refl
 full_if false true false e f = absurd (true≢false (sym f))
@@ -82,18 +78,6 @@ module _ (it : Fields) (more : ℕ) (s : AreSound it) where
   pub used_at_end : (node it.cells.room it.last).used ≡ ends_used (blocks it.cells.room it.last)
   used_at_end = ap (λ (n : Node). n.used) end.at ∙ sym (ap ends_used end.is ∙ ends_last fs b)
 
-  pub left_as_it_was : (acc' : ℕ) → 0 < more → is_extendable more (shown it) ≡ false → Extends more (shown it) (shown (record it { accesses = acc' })) false
-  left_as_it_was acc' pos e =
-      let u = some_unused it s in
-      let is = unextended_is more u.0 v pos e in
-      record { name = u.0; unused = u.1; view = ap (λ (x : Extension). with_accesses acc' x.view) (sym is); answer = ap (λ (x : Extension). x.done) (sym is) }
-
-  pub past : (acc' : ℕ) → 0 < more → max_size < it.size + more → Extends more (shown it) (shown (record it { accesses = acc' })) false
-  past acc' pos l = left_as_it_was acc' pos (past_if (nat_lt max_size (it.size + more)) (ends_used bs && is_short_of 1 v) (lt-ltb max_size (it.size + more) l))
-
-  pub full : (acc' : ℕ) → 0 < more → ends_used (blocks it.cells.room it.last) ≡ true → is_short_of 1 (shown it) ≡ true → Extends more (shown it) (shown (record it { accesses = acc' })) false
-  full acc' pos u f = left_as_it_was acc' pos (full_if (nat_lt max_size (it.size + more)) (ends_used bs) (is_short_of 1 v) u f)
-
   module _ (pos : 0 < more) (fits : it.size + more ≤ 4294967295) where
     pub units_fit : units (blocks it.cells.room it.last) + more < 2 ^ 32
     units_fit = let e = s.well.whole in omega arith
@@ -103,7 +87,7 @@ module _ (it : Fields) (more : ℕ) (s : AreSound it) where
 
     concluded : (d : Cells) (last' count' top' acc' x : ℕ) → IsUnused x v → is_extendable more v ≡ true → IsSpace d.room last' count' → Binned it.max d.links top' → length d.room.nodes ≡ length it.cells.room.nodes
         → blocks d.room last' ≡ (extend_by more x v).blocks → class_lists it.max d.links ≡ (extend_by more x v).order → free_units (blocks d.room last') ≡ it.free + more
-        → IsSound it.max (it.size + more) it.limit d last' count' top' (it.free + more) × Extends more v (view_of it.max (it.size + more) it.limit d last' acc') true
+        → IsSound it.max (it.size + more) it.limit d last' count' top' (it.free + more) × ExtendsBy more v (view_of it.max (it.size + more) it.limit d last' acc') true
     concluded d last' count' top' acc' x u e space bins nodes eb eo total =
         let is = extended_is more x v pos e in
         let left : (k : ℕ) → view_of it.max (it.size + more) it.limit d last' k ≡ with_accesses k (extend_by more x v) = λ k. same_view (extend_by more x v) _ _ _ _ k eb eo in (
@@ -135,7 +119,7 @@ module _ (it : Fields) (more : ℕ) (s : AreSound it) where
 
       pub appended : (room : is_short_of 1 (shown it) ≡ false) (d : Cells) (last' count' top' acc' y n : ℕ) → n ≡ (node it.cells.room it.last).size → IsSpace d.room last' count' → Binned it.max d.links top' → length d.room.nodes ≡ length it.cells.room.nodes
           → blocks d.room last' ≡ grow_last more (split_block it.last n y (blocks it.cells.room it.last)) → class_lists it.max d.links ≡ push (down more) y (class_lists it.max it.cells.links) → count_named y (blocks it.cells.room it.last) ≡ 0 → y < length it.cells.room.nodes
-          → IsSound it.max (it.size + more) it.limit d last' count' top' (it.free + more) × Extends more (shown it) (view_of it.max (it.size + more) it.limit d last' acc') true
+          → IsSound it.max (it.size + more) it.limit d last' count' top' (it.free + more) × ExtendsBy more (shown it) (view_of it.max (it.size + more) it.limit d last' acc') true
       appended room d last' count' top' acc' y n e space bins nodes eb eo new below =
           let ends = end_used fs b b_used in
           let gone : free_end bs ≡ [] = ap free_end end.is ∙ ends.0 in
@@ -196,12 +180,12 @@ module _ (it : Fields) (more : ℕ) (s : AreSound it) where
 
       pub widened : (d : Cells) (count' top' acc' k n : ℕ) → n ≡ (node it.cells.room it.last).size → k ≡ down (node it.cells.room it.last).size → IsSpace d.room it.last count' → Binned it.max d.links top' → length d.room.nodes ≡ length it.cells.room.nodes
           → blocks d.room it.last ≡ grow_last more (blocks it.cells.room it.last) → class_lists it.max d.links ≡ push (down (n + more)) it.last (slice_set (class_lists it.max it.cells.links) k (without it.last (names_at (class_lists it.max it.cells.links) k)))
-          → IsSound it.max (it.size + more) it.limit d it.last count' top' (it.free + more) × Extends more (shown it) (view_of it.max (it.size + more) it.limit d it.last acc') true
+          → IsSound it.max (it.size + more) it.limit d it.last count' top' (it.free + more) × ExtendsBy more (shown it) (view_of it.max (it.size + more) it.limit d it.last acc') true
       widened d count' top' acc' k n ne ke space bins nodes eb eo =
           let ends = end_free fs b b_free in
           let gone : free_end bs ≡ b ∷ [] = ap free_end end.is ∙ ends.0 in
           let kept : without_end bs ≡ fs = ap without_end end.is ∙ ends.1 in
-          let u = some_unused it s in
+          let u = some_unused v w in
           let size_is : n + more ≡ (b.size + 0) + more = let q = ne ∙ size_at_end in omega arith in
           let sum : b.size + more ≡ (b.size + 0) + more = omega arith in
           let after_is : blocks d.room it.last ≡ fs ++ record b { size = b.size + more } ∷ [] = eb ∙ ap (grow_last more) end.is ∙ grow_last-at more fs b in
@@ -215,8 +199,3 @@ module _ (it : Fields) (more : ℕ) (s : AreSound it) where
           concluded d it.last count' top' acc' u.0 u.1
           (extendable_if (nat_lt max_size (it.size + more)) (ends_used bs) (is_short_of 1 v) (le-ltb max_size (it.size + more) fits) (λ t. absurd (true≢false (sym t ∙ idle))))
           space bins nodes blocks_are order_is total
-
--- nothing more
-pub extends_nothing : (more : ℕ) (v : View) (y : ℕ) → IsUnused y v → more ≡ 0 → Extends more v v true
-extends_nothing zero v y u e = record { name = y; unused = u; view = refl; answer = refl }
-extends_nothing (suc more) v y u e = absurd (omega arith)

@@ -97,16 +97,16 @@ module _ (max m size : ℕ) (some : 0 < m) (small : size < 2 ^ 32) (t : Cells) (
       let b : Among (m - 1) (names_at (replicate 256 []) c) = subst (λ o. Among (m - 1) (names_at o c)) empty_binned.1 a in
       rw (empty_at c h) at b
 
-  pub started : (d : Cells) (top : ℕ) → 2 ≤ m → m + 1 < max → length d.room.nodes ≡ m → IsSpace d.room (m - 1) (m - 1) → blocks d.room (m - 1) ≡ free_block (m - 1) size ∷ [] → Binned max d.links top
+  pub started : (d : Cells) (top : ℕ) → 2 ≤ m → m + 1 < max → size ≤ 4294967295 → length d.room.nodes ≡ m → IsSpace d.room (m - 1) (m - 1) → blocks d.room (m - 1) ≡ free_block (m - 1) size ∷ [] → Binned max d.links top
       → class_lists max d.links ≡ push (down size) (m - 1) (replicate 256 []) → IsSound max size m d (m - 1) (m - 1) top size × (view_of max size m d (m - 1) 0 ≡ fresh size m)
-  started d top two least nodes space eb bins lists =
+  started d top two least sized nodes space eb bins lists =
       let ev : view_of max size m d (m - 1) 0 ≡ fresh size m = ap₂ (λ (b : List Block) (o : List (List ℕ)). let u : View = record { size = size; max_allocs = m; blocks = b; order = o; accesses = 0 } in u) eb lists in (
         record {
           nodes = nodes;
           least = least;
           space = space;
           bins = bins;
-          well = subst IsWellFormed (sym ev) (well_alone (fresh size m) (m - 1) size 0 two (omega arith));
+          well = subst IsWellFormed (sym ev) (well_alone (fresh size m) (m - 1) size 0 two (omega arith) sized);
           total = ap free_units eb ∙ omega arith;
         },
         ev,

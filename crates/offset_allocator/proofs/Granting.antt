@@ -1,21 +1,19 @@
 -- What a grant leaves of the whole allocator.
-use Rattle.std.proofs.Common.{◌≡◌, ℕ, ◌+◌, ◌-◌, ◌<◌, ◌≤◌, true, false, List, [], ◌∷◌, ◌++◌, length, Some, None, refl, sym, ap, ap₂, subst, ◌∙◌, arith, slice_set, le-leb}
-use Rattle.std.proofs.lemmas.Bool.{lt-leb}
+use Rattle.std.proofs.Common.{◌≡◌, ℕ, ◌+◌, ◌-◌, ◌<◌, ◌≤◌, true, false, List, [], ◌∷◌, ◌++◌, length, Some, refl, sym, ap, ap₂, subst, ◌∙◌, arith, slice_set, le-leb}
 use Rattle.offset_allocator.specs.Classes.{up, down}
 use Rattle.offset_allocator.specs.Cells.{Cells, Room}
-use Rattle.offset_allocator.specs.Named.{Block, View, Place, Grant, Outcome, count_named, names_at, IsWellFormed, IsUnused, is_short_of, allocate, refuse, free_part, used_block, free_block, units, remove_all, push_all, remove, push, without}
+use Rattle.offset_allocator.specs.Named.{Block, View, Place, Grant, Outcome, count_named, names_at, IsWellFormed, IsUnused, is_short_of, allocate, free_part, used_block, free_block, units, remove_all, push_all, remove, push, without}
 use Rattle.offset_allocator.specs.Space.{IsSpace, HasName, blocks, mark_block, split_block, offset_in, size_in}
 use Rattle.offset_allocator.specs.Orders.{IsUnlisted, IsSmallestFrom, class_lists, Binned}
 use Rattle.offset_allocator.specs.State.{Fields, AreSound, IsSound, shown, view_of, free_units}
-use Rattle.offset_allocator.specs.Relations.{Allocates}
+use Rattle.offset_allocator.specs.Functional.{AllocatesBy}
 use Rattle.offset_allocator.proofs.Joints.{with_accesses}
 use Rattle.offset_allocator.proofs.Rows.{one-eq, times-append}
 use Rattle.offset_allocator.proofs.Found.{split_block-at, size_in-at, offset_in-at}
 use Rattle.offset_allocator.proofs.Marks.{mark_block-at}
 use Rattle.offset_allocator.proofs.Sizes.{fits_size}
 use Rattle.offset_allocator.proofs.ViewTaken.{well_allocate}
-use Rattle.offset_allocator.proofs.Unused.{some_unused}
-use Rattle.offset_allocator.proofs.Joints.{unused_unlisted, unlisted_removed, TakenHere, taken_here, allocate_granted, allocate_short, allocate_none, untaken, well_counted, free_part-some, free_part-none, remove_free, not_true, free_units-append, free_units-free, free_units-used}
+use Rattle.offset_allocator.proofs.Joints.{unused_unlisted, unlisted_removed, TakenHere, taken_here, allocate_granted, well_counted, free_part-some, free_part-none, remove_free, not_true, free_units-append, free_units-free, free_units-used}
 
 pub same_view : (v : View) (bs bs' : List Block) (os os' : List (List ℕ)) (k : ℕ) → bs ≡ bs' → os ≡ os' → record v { blocks = bs; order = os; accesses = k } ≡ record v { blocks = bs'; order = os'; accesses = k }
 same_view v bs bs' os os' k e f = ap₂ (λ (b : List Block) (o : List (List ℕ)). record v { blocks = b; order = o; accesses = k }) e f
@@ -105,7 +103,7 @@ module _ (f : Fields) (n class x : ℕ) (s : AreSound f) (room : is_short_of 1 (
 
   concluded : (d : Cells) (last' count' top' acc' y : ℕ) → IsSpace d.room last' count' → Binned max d.links top' → length d.room.nodes ≡ length f.cells.room.nodes → IsUnused y v
       → blocks d.room last' ≡ new_blocks y → class_lists f.max d.links ≡ new_order y → free_units (blocks d.room last') ≡ f.free - n
-      → IsSound f.max f.size f.limit d last' count' top' (f.free - n) × Allocates n (shown f) (view_of f.max f.size f.limit d last' acc') (Some (record { name = x; offset = units p.before }))
+      → IsSound f.max f.size f.limit d last' count' top' (f.free - n) × AllocatesBy n (shown f) (view_of f.max f.size f.limit d last' acc') (Some (record { name = x; offset = units p.before }))
   concluded d last' count' top' acc' y space bins nodes unused blocks_are order_is total =
       let is = allocate_granted n y v p room got.is in
       let left : (k : ℕ) → view_of f.max f.size f.limit d last' k ≡ with_accesses k (allocate n y v).view = λ k. same_view v _ _ _ _ k blocks_are order_is ∙ ap (λ (o : Outcome). with_accesses k o.view) (sym is) in
@@ -125,7 +123,7 @@ module _ (f : Fields) (n class x : ℕ) (s : AreSound f) (room : is_short_of 1 (
   -- the whole of it is granted
   pub granted_whole : (d : Cells) (top' acc' : ℕ) → got.place.block.size ≡ n → IsSpace d.room f.last f.count → blocks d.room f.last ≡ mark_block x true (blocks f.cells.room f.last) → Binned max d.links top'
       → class_lists f.max d.links ≡ slice_set (class_lists f.max f.cells.links) class (without x (names_at (class_lists f.max f.cells.links) class)) → length d.room.nodes ≡ length f.cells.room.nodes → (y : ℕ) → IsUnused y (shown f)
-      → IsSound f.max f.size f.limit d f.last f.count top' (f.free - n) × Allocates n (shown f) (view_of f.max f.size f.limit d f.last acc') (Some (record { name = x; offset = units got.place.before }))
+      → IsSound f.max f.size f.limit d f.last f.count top' (f.free - n) × AllocatesBy n (shown f) (view_of f.max f.size f.limit d f.last acc') (Some (record { name = x; offset = units got.place.before }))
   granted_whole d top' acc' whole space eb bins eo nodes y unused =
       let none : free_part y (p.block.size - (0 + n)) ≡ [] = free_part-none y (p.block.size - (0 + n)) (omega arith) in
       let b₁ : record p.block { used = true } ≡ used_block p.block.name n = ap (λ (k : ℕ). used_block p.block.name k) whole in
@@ -139,7 +137,7 @@ module _ (f : Fields) (n class x : ℕ) (s : AreSound f) (room : is_short_of 1 (
       → blocks d.room last' ≡ split_block x n y (blocks e f.last) → Binned max d.links top'
       → class_lists f.max d.links ≡ slice_set (slice_set (class_lists f.max f.cells.links) class (without x (names_at (class_lists f.max f.cells.links) class))) (down (got.place.block.size - n)) (y ∷ names_at (slice_set (class_lists f.max f.cells.links) class (without x (names_at (class_lists f.max f.cells.links) class))) (down (got.place.block.size - n)))
       → length d.room.nodes ≡ length f.cells.room.nodes → IsUnused y (shown f)
-      → IsSound f.max f.size f.limit d last' count' top' (f.free - n) × Allocates n (shown f) (view_of f.max f.size f.limit d last' acc') (Some (record { name = x; offset = units got.place.before }))
+      → IsSound f.max f.size f.limit d last' count' top' (f.free - n) × AllocatesBy n (shown f) (view_of f.max f.size f.limit d last' acc') (Some (record { name = x; offset = units got.place.before }))
   granted_part d e last' count' top' acc' y part space em eb bins eo nodes unused =
       let r : p.block.size - (0 + n) ≡ p.block.size - n = omega arith in
       let some : free_part y (p.block.size - (0 + n)) ≡ free_block y (p.block.size - n) ∷ [] = ap (free_part y) r ∙ free_part-some y (p.block.size - n) (omega arith) in
@@ -158,22 +156,5 @@ module _ (it : Fields) (n : ℕ) (s : AreSound it) where
   known : IsWellFormed was
   known = well_counted (shown (record it { accesses = 0 })) it.accesses s.well
 
-  left_as_it_was : (y acc' : ℕ) → IsUnused y was → allocate n y was ≡ refuse was → Allocates n (shown it) (shown (record it { accesses = acc' })) None
-  left_as_it_was y acc' u e = record {
-    rest = y;
-    unused = u;
-    answer = ap (λ (o : Outcome). o.grant) (sym e);
-    view = ap (λ (o : Outcome). with_accesses acc' o.view) (sym e);
-  }
-
   pub is_short : it.count ≤ 1 → is_short_of 1 (shown it) ≡ true
   is_short h = let long = s.space.full in le-leb it.limit (length (blocks it.cells.room it.last) + 1) (omega (arith, s.nodes))
-
-  pub is_not_short : 1 < it.count → is_short_of 1 (shown it) ≡ false
-  is_not_short h = let long = s.space.full in lt-leb it.limit (length (blocks it.cells.room it.last) + 1) (omega (arith, s.nodes))
-
-  pub refused_short : (acc' : ℕ) → it.count ≤ 1 → Allocates n (shown it) (shown (record it { accesses = acc' })) None
-  refused_short acc' h = let u = some_unused it s in left_as_it_was u.0 acc' u.1 (allocate_short n u.0 was (is_short h))
-
-  pub refused_none : (acc' : ℕ) → 1 < it.count → ((k : ℕ) → up n ≤ k → k < 256 → names_at (class_lists it.max it.cells.links) k ≡ []) → Allocates n (shown it) (shown (record it { accesses = acc' })) None
-  refused_none acc' h none = let u = some_unused it s in left_as_it_was u.0 acc' u.1 (allocate_none n u.0 was (is_not_short h) (untaken n was known none))

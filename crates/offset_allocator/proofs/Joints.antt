@@ -91,7 +91,7 @@ abbrev pub with_accesses : ℕ → View → View
 with_accesses k v = record v { accesses = k }
 
 pub well_counted : (v : View) (k : ℕ) → IsWellFormed v → IsWellFormed (with_accesses k v)
-well_counted v k w = record { some = w.some; distinct = w.distinct; below = w.below; whole = w.whole; apart = w.apart; classes = w.classes; orders = w.orders; room = w.room; spare = w.spare }
+well_counted v k w = record { some = w.some; distinct = w.distinct; below = w.below; whole = w.whole; fits = w.fits; apart = w.apart; classes = w.classes; orders = w.orders; room = w.room; spare = w.spare }
 
 -- small parts of steps
 pub free_part-some : (x r : ℕ) → 0 < r → free_part x r ≡ free_block x r ∷ []

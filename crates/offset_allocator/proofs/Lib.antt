@@ -28,9 +28,12 @@ pub mod Overwritten
 pub mod Powers
 pub mod Ranges
 pub mod Refusals
+pub mod Related
+pub mod Released
 pub mod Removal
 pub mod Removed
 pub mod Rows
+pub mod Served
 pub mod Sizes
 pub mod Sound
 pub mod Spares
@@ -38,6 +41,7 @@ pub mod Split
 pub mod SplitSpace
 pub mod Spot
 pub mod Reading
+pub mod Undone
 pub mod Unused
 pub mod ViewApart
 pub mod ViewFits

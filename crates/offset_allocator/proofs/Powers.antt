@@ -2,7 +2,7 @@
 use Rattle.std.proofs.Common.{◌≡◌, ℕ, zero, suc, ◌+◌, ◌*◌, ◌/◌, ◌%◌, ◌^◌, ◌<◌, ◌≤◌, ◌⊎◌, ap, inl, inr, refl, arith, count_ones}
 use Rattle.std.specs.Int.{IsPowerOfTwo}
 use Rattle.std.specs.Int.Count.{ones_step}
-use Rattle.std.proofs.lemmas.Nat.{zero_from_ones, ones_le_self}
+use Rattle.std.proofs.lemmas.Nat.{zero_from_ones, ones_le_self, pow_pos}
 use Rattle.std.proofs.lemmas.Bool.Decides.{nat_tests}
 use Rattle.std.proofs.Math.Nat.{pow-suc, mul_assoc, mul-add, add-mul, mul-zero, div-add-mod}
 use Rattle.offset_allocator.specs.Relations.{IsAlignment}
@@ -59,3 +59,7 @@ pub power_of_two : (n : ℕ) → IsAlignment n → IsPowerOfTwo n
 power_of_two n (inl e) = divisor 32 n (2 ^ 32 / n) (omega (arith, div-add-mod (2 ^ 32) n))
 power_of_two n (inr (inl h)) = power_from n n (omega arith) (grind (arith, nat_tests))
 power_of_two n (inr (inr h)) = h
+
+-- and so it is not 0
+pub not_zero : (n : ℕ) → IsAlignment n → 1 ≤ n
+not_zero n a = let p = power_of_two n a in omega (arith, p.1, pow_pos p.0)

@@ -3,13 +3,14 @@ use Rattle.std.proofs.Common.{◌≡◌, ◌≢◌, ℕ, IfSome, zero, suc, ◌+
 use Rattle.std.proofs.lemmas.Bool.{false≢true}
 use Rattle.offset_allocator.specs.Named.{Block, View, Place, Grant, Outcome, one, units, count_named, used_block, free_block, free_part, free_start, without_start, free_end, without_end, IsWellFormed, IsUnused, place_of, is_used_at, place_for, is_short_of, refuse, grant_in, grant_or_refuse, allocate, allocate_aligned, padding_to, serve, free_at, free, max_size, name_or, extend_by, is_extendable, Extension, extend}
 use Rattle.offset_allocator.specs.Classes.{up, down}
-use Rattle.offset_allocator.specs.Ranges.{Range, range_at, range_of, AreDisjoint, Grants, KeepsAll, KeepsOthers, KeepsRanges, IsLive}
-use Rattle.offset_allocator.specs.Relations.{SameSpace, Allocates, Aligns, Extends}
+use Rattle.offset_allocator.specs.Ranges.{Range, range_of, AreDisjoint, Grants, KeepsAll, KeepsOthers, KeepsRanges, IsLive}
+use Rattle.offset_allocator.specs.Relations.{SameSpace}
+use Rattle.offset_allocator.specs.Functional.{AllocatesBy, AlignsBy, ExtendsBy}
 use Rattle.offset_allocator.proofs.ViewOrders.{if_value, tally_append, hit_cases}
 use Rattle.offset_allocator.proofs.ViewSteps.{place_at, no_place}
 use Rattle.offset_allocator.proofs.ViewApart.{coalesced_parts, end_parts}
 use Rattle.offset_allocator.proofs.Sizes.{fits_size}
-use Rattle.offset_allocator.proofs.Reading.{live_used}
+use Rattle.offset_allocator.proofs.Reading.{live_used, range_at}
 use Rattle.offset_allocator.proofs.Joints.{well_counted}
 use Rattle.offset_allocator.proofs.ViewTaken.{taken_at, tally_end, tally_start, well_allocate, well_aligned, well_free, well_extended, padding_small}
 
@@ -287,12 +288,12 @@ held : (n : ℕ) (v w : View) (g : Grant) → Gives n v w (Some g) → Holds n v
 unfolding Gives
 held n v w g h = h
 
-pub allocated_grants : (n : ℕ) (v w : View) (g : Grant) → IsWellFormed v → Allocates n v w (Some g) → Grants n v w g
+pub allocated_grants : (n : ℕ) (v w : View) (g : Grant) → IsWellFormed v → AllocatesBy n v w (Some g) → Grants n v w g
 allocated_grants n v w g f a =
     granted_is n v w g (subst IsWellFormed (sym a.view) (well_counted (allocate n a.rest v).view w.accesses (well_allocate v f n a.rest a.unused)))
     (held n v w g (given n v w (allocate n a.rest v) (Some g) (gives_allocate n a.rest v f a.unused) a.answer a.view))
 
-pub aligned_grants : (n align : ℕ) (v w : View) (g : Grant) → IsWellFormed v → Aligns n align v w (Some g) → Grants n v w g
+pub aligned_grants : (n align : ℕ) (v w : View) (g : Grant) → IsWellFormed v → AlignsBy n align v w (Some g) → Grants n v w g
 aligned_grants n align v w g f a =
     let well = well_aligned v f n align a.front a.rest a.unused a.apart in
     granted_is n v w g (subst IsWellFormed (sym a.view) (well_counted (allocate_aligned n align a.front a.rest v).view w.accesses well))
@@ -372,5 +373,5 @@ keeps_if (suc more) y v f u = if_value (is_extendable (suc more) v) (let d : Ext
     (λ e. extended_keeps (suc more) y v f (well_extended v f (suc more) y u e))
     (λ e x. refl)
 
-pub extends_keeps : (more : ℕ) (v w : View) (done : Bool) → IsWellFormed v → Extends more v w done → KeepsAll v w
+pub extends_keeps : (more : ℕ) (v w : View) (done : Bool) → IsWellFormed v → ExtendsBy more v w done → KeepsAll v w
 extends_keeps more v w done f a x = ap (range_of x) a.view ∙ keeps_if more a.name v f a.unused x

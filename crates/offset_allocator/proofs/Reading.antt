@@ -1,12 +1,20 @@
 -- What a read of cells says of the view.
-use Rattle.std.proofs.Common.{◌≡◌, ℕ, ◌≤◌, is_some, Bool, true, false, List, Option, None, Some, if◌then◌else◌, refl, sym, ap, subst, ◌∙◌}
+use Rattle.std.proofs.Common.{◌≡◌, ℕ, ◌≤◌, is_some, Bool, true, false, List, Option, None, Some, option_and_then, option_map, unwrap_or, if◌then◌else◌, refl, sym, ap, subst, ◌∙◌}
 use Rattle.offset_allocator.specs.Cells.{Room, Node, node}
 use Rattle.offset_allocator.specs.Named.{Block, View, Place, units, place_of, is_used_at, size_at}
-use Rattle.offset_allocator.specs.Ranges.{Range, range_at, range_of, units_in, size_of, IsLive}
+use Rattle.offset_allocator.specs.Ranges.{Range, range_of, size_of, IsLive}
 use Rattle.offset_allocator.specs.Space.{blocks, IsRow, IsSpace}
 use Rattle.offset_allocator.specs.State.{Fields, AreSound}
 use Rattle.offset_allocator.proofs.Merging.{node_at}
 use Rattle.offset_allocator.proofs.ViewSteps.{place_at, no_place}
+
+-- the range of the used block at a place
+abbrev pub range_at : Option Place → Option Range
+range_at o = option_and_then (λ (p : Place). if p.block.used then Some (record { offset = units p.before; size = p.block.size }) else None) o
+
+-- the units of a range, or 0 where there is none
+abbrev units_in : Option Range → ℕ
+units_in o = unwrap_or (option_map (λ (r : Range). r.size) o) 0
 
 -- a name is live where its block is used
 range_some : (o : Option Place) → is_some {T = Range} (range_at o) ≡ is_used_at o
@@ -34,13 +42,6 @@ module _ (x : ℕ) (v : View) where
 
   pub live_used : IsLive x v → is_used_at (place_of x v.blocks) ≡ true
   live_used h = sym live_is ∙ h
-
-  pub dead_size : (IsLive x v → ⊥) → size_of x v ≡ 0
-  dead_size n = go (range_of x v) n
-    where
-      go : (o : Option Range) → (is_some {T = Range} o ≡ true → ⊥) → units_in o ≡ 0
-      go None n = refl
-      go (Some r) n = absurd (n refl)
 
   pub used_live : is_used_at (place_of x v.blocks) ≡ true → IsLive x v
   used_live h = live_is ∙ h

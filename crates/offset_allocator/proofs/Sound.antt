@@ -13,4 +13,4 @@ fields_of max a = record { max = max; size = a.size; limit = a.max_allocs; cells
 pub known_sound : (f : Fields) → AreSound f → (v : View) → shown f ≡ v → IsWellFormed v × (v.size ≤ 4294967295)
 known_sound f s v e =
     let whole = s.well.whole in
-    (subst IsWellFormed e (well_counted (shown (record f { accesses = 0 })) f.accesses s.well), omega (arith, ap (λ (u : View). u.size) e, s.space.fits))
+    (subst IsWellFormed e (well_counted (shown (record f { accesses = 0 })) f.accesses s.well), omega (arith, ap (λ (u : View). u.size) e, s.well.fits))

@@ -1,11 +1,11 @@
 -- When a request is granted, and how well what it takes fits.
-use Rattle.std.proofs.Common.{◌≡◌, ℕ, ◌+◌, ◌*◌, ◌^◌, ◌<◌, ◌≤◌, Bool, true, false, not, ◌⊎◌, ◌↔◌, List, [], ◌∷◌, ◌++◌, length, Option, Some, None, is_some, if◌then◌else◌, IsSome, refl, sym, ap, ap₂, subst, ◌∙◌, inl, inr, arith, eq-eqb, leb-true, le_trans}
-use Rattle.offset_allocator.specs.Relations.{Allocates, IsSplitNearBest}
+use Rattle.std.proofs.Common.{◌≡◌, ℕ, ◌*◌, ◌^◌, ◌<◌, ◌≤◌, Bool, true, false, not, ◌⊎◌, ◌↔◌, List, [], ◌∷◌, ◌++◌, Option, Some, None, is_some, refl, sym, ap, ap₂, subst, ◌∙◌, inl, inr, arith, eq-eqb, le_trans}
+use Rattle.offset_allocator.specs.Relations.{IsSplitNearBest}
 use Rattle.std.specs.List.{AllByRecursion}
 use Rattle.std.proofs.lemmas.Bool.{cases_lt, true≢false, false≢true}
 use Rattle.offset_allocator.specs.Classes.{value, down}
 use Rattle.offset_allocator.specs.Reports.{largest, IsNearBestFit, IsGoodRefusal}
-use Rattle.offset_allocator.specs.Named.{Block, View, Place, Grant, is_free, times, count_listed, units, names_at, free_sizes, largest_free, IsWellFormed, place_for, is_short_of, refuse, grant_or_refuse, allocate, place_of}
+use Rattle.offset_allocator.specs.Named.{Block, View, Place, Grant, is_free, times, count_listed, units, names_at, free_sizes, IsWellFormed, place_for, place_of}
 use Rattle.offset_allocator.proofs.ViewOrders.{if_value}
 use Rattle.offset_allocator.proofs.ViewSteps.{place_here}
 use Rattle.offset_allocator.proofs.ViewTaken.{IsTaken, taken_at, not_taken}
@@ -90,18 +90,6 @@ module _ (v : View) (w : IsWellFormed v) (n : ℕ) (small : n ≤ 4294967295) (s
     λ m. refl,
   )
 
-  some_grant : (rest : ℕ) (o : Option Place) → is_some (grant_or_refuse v n (λ offset. 0) rest rest o).grant ≡ is_some o
-  some_grant rest None = refl
-  some_grant rest (Some p) = refl
-
-  -- a request of at least 1 is granted exactly when it is at most the largest region that is reported
-  pub granted_exactly : (rest : ℕ) → 1 ≤ n → (is_some (allocate n rest v).grant ≡ true) ↔ (n ≤ largest_free v)
-  granted_exactly rest l = go (is_short_of 1 v)
-    where
-      go : (b : Bool) → (is_some (if b then refuse v else grant_or_refuse v n (λ offset. 0) rest rest (place_for n v)).grant ≡ true) ↔ (n ≤ (if b then 0 else largest (free_sizes v.blocks)))
-      go true = (λ f. absurd (false≢true f), λ m. absurd (omega arith))
-      go false = let t = taken_exactly l (place_for n v) refl in (λ f. t.0 (sym (some_grant rest (place_for n v)) ∙ f), λ m. some_grant rest (place_for n v) ∙ t.1 m)
-
 -- no region that is reported is greater than the space
 pub largest_small : (v : View) → IsWellFormed v → v.size ≤ 4294967295 → (n : ℕ) → 1 ≤ n → n ≤ largest (free_sizes v.blocks) → n ≤ 4294967295
 largest_small v w sized n some l =
@@ -113,26 +101,6 @@ largest_small v w sized n some l =
 -- a request that is greater than any space is refused well
 pub refusal_past : (v : View) → IsWellFormed v → v.size ≤ 4294967295 → (n : ℕ) → 4294967295 < n → IsGoodRefusal n (free_sizes v.blocks)
 refusal_past v w sized n l = all_free (λ z. 8 * z < 9 * n) v.blocks (λ b i f. let s = sized_below b v.blocks i in let whole = w.whole in omega arith)
-
-pub some_same : (X : Type 0) (o : Option X) → (IsSome o) ↔ (is_some o ≡ true)
-some_same X o = (λ f. f, λ f. f)
-
-pub allocated_exactly : (n : ℕ) (v w : View) (r : Option Grant) → IsWellFormed v → n ≤ 4294967295 → v.size ≤ 4294967295 → Allocates n v w r → 1 ≤ n → (IsSome r) ↔ (n ≤ largest_free v)
-allocated_exactly n v w r f small sized a l =
-    let s = some_same Grant r in
-    let g = granted_exactly v f n small sized a.rest l in
-    (λ h. g.0 (ap is_some (sym a.answer) ∙ s.0 h), λ h. s.1 (ap is_some a.answer ∙ g.1 h))
-
-refusal_if : (n : ℕ) (v : View) (rest : ℕ) → IsWellFormed v → n ≤ 4294967295 → v.size ≤ 4294967295 → (o : Option Place) → place_for n v ≡ o → (grant_or_refuse v n (λ offset. 0) rest rest o).grant ≡ None → IsGoodRefusal n (free_sizes v.blocks)
-refusal_if n v rest f small sized None e h = good_refusal v f n small sized e
-refusal_if n v rest f small sized (Some p) e h = absurd (cc)
-
-pub refused_well : (n : ℕ) (v w : View) (r : Option Grant) → IsWellFormed v → n ≤ 4294967295 → v.size ≤ 4294967295 → Allocates n v w r → r ≡ None → length v.blocks + 1 < v.max_allocs → IsGoodRefusal n (free_sizes v.blocks)
-refused_well n v w r f small sized a none room = go (is_short_of 1 v) refl (sym a.answer ∙ none)
-  where
-    go : (b : Bool) → is_short_of 1 v ≡ b → (if b then refuse v else grant_or_refuse v n (λ offset. 0) a.rest a.rest (place_for n v)).grant ≡ None → IsGoodRefusal n (free_sizes v.blocks)
-    go true e h = absurd (let l = leb-true v.max_allocs (length v.blocks + 1) e in omega arith)
-    go false e h = refusal_if n v a.rest f small sized (place_for n v) refl h
 
 -- a grant is split off a near best fit
 module _ (n : ℕ) (v : View) (w : IsWellFormed v) (small : n ≤ 4294967295) (sized : v.size ≤ 4294967295) where
@@ -149,14 +117,3 @@ module _ (n : ℕ) (v : View) (w : IsWellFormed v) (small : n ≤ 4294967295) (s
       not_true : (u : Bool) → not u ≡ true → u ≡ false
       not_true true f = absurd (false≢true f)
       not_true false f = refl
-
-  cut_if : (rest : ℕ) (o : Option Place) → place_for n v ≡ o → (g : Grant) → Some g ≡ (grant_or_refuse v n (λ offset. 0) rest rest o).grant → IsSplitNearBest n v g
-  cut_if rest None e g h = absurd (cc)
-  cut_if rest (Some p) e g h = split_from p e g (cc)
-
-  pub split_near_best : (after : View) (g : Grant) → Allocates n v after (Some g) → IsSplitNearBest n v g
-  split_near_best after g a = go (is_short_of 1 v) a.answer
-    where
-      go : (b : Bool) → Some g ≡ (if b then refuse v else grant_or_refuse v n (λ offset. 0) a.rest a.rest (place_for n v)).grant → IsSplitNearBest n v g
-      go true e = absurd (cc)
-      go false e = cut_if a.rest (place_for n v) refl g e

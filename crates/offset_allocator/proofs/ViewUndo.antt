@@ -4,7 +4,8 @@ use Rattle.std.proofs.lemmas.List.{set-get_or}
 use Rattle.std.proofs.lemmas.Bool.{false≢true}
 use Rattle.offset_allocator.specs.Classes.{up, down}
 use Rattle.offset_allocator.specs.Named.{Block, View, Place, Grant, is_free, used_block, free_block, units, times, starts_free, IsApart, names_at, push, without, remove, push_all, remove_all, free_start, without_start, free_end, without_end, free_part, IsWellFormed, IsUnused, place_of, grant_in, grant_or_refuse, free_at, free, place_for, allocate, is_short_of, refuse}
-use Rattle.offset_allocator.specs.Relations.{IsUndone, SameSpace, Allocates}
+use Rattle.offset_allocator.specs.Relations.{SameSpace}
+use Rattle.offset_allocator.specs.Functional.{AllocatesBy}
 use Rattle.offset_allocator.proofs.ViewOrders.{hit_cases, names_same, length_remove, times_remove}
 use Rattle.offset_allocator.proofs.ViewReplaced.{listed_named}
 use Rattle.offset_allocator.proofs.ViewApart.{apart_parts, first_false, second_false, ends_free}
@@ -44,12 +45,12 @@ put_remove c x xs order h b e z =
     ∙ set-get_or order c []
 
 -- the ends of lists
-no_end : (bs : List Block) → ends_free bs ≡ false → (free_end bs ≡ []) × (without_end bs ≡ bs)
+pub no_end : (bs : List Block) → ends_free bs ≡ false → (free_end bs ≡ []) × (without_end bs ≡ bs)
 no_end [] e = (refl, refl)
 no_end (b ∷ []) e = (ap (λ (f : Bool). if f then b ∷ [] else []) e, ap (λ (f : Bool). if f then [] else b ∷ []) e)
 no_end (b ∷ c ∷ bs) e = let r = no_end (c ∷ bs) e in (r.0, ap (λ l. b ∷ l) r.1)
 
-no_start : (bs : List Block) → starts_free bs ≡ false → (free_start bs ≡ []) × (without_start bs ≡ bs)
+pub no_start : (bs : List Block) → starts_free bs ≡ false → (free_start bs ≡ []) × (without_start bs ≡ bs)
 no_start [] e = (refl, refl)
 no_start (b ∷ bs) e = (ap (λ (f : Bool). if f then b ∷ [] else []) e, ap (λ (f : Bool). if f then bs else b ∷ bs) e)
 
@@ -138,8 +139,8 @@ undone_if : (v : View) → IsWellFormed v → (n rest : ℕ) → IsUnused rest v
 undone_if v w n rest u None e g f = absurd (cc)
 undone_if v w n rest u (Some p) e g f = let name : p.block.name ≡ g.name = cc in ap (λ x. free x (grant_in v n 0 rest rest p).view) (sym name) ∙ undone v w n rest u p (taken_at n v w p e)
 
-pub is_undone : (n : ℕ) (v : View) → IsWellFormed v → IsUndone n v
-is_undone n v w rest g u e = go (is_short_of 1 v) e
+pub is_undone_by : (n : ℕ) (v : View) → IsWellFormed v → (rest : ℕ) (g : Grant) → IsUnused rest v → (allocate n rest v).grant ≡ Some g → free g.name (allocate n rest v).view ≡ v
+is_undone_by n v w rest g u e = go (is_short_of 1 v) e
   where
     go : (b : Bool) → (if b then refuse v else grant_or_refuse v n (λ offset. 0) rest rest (place_for n v)).grant ≡ Some g → free g.name (if b then refuse v else grant_or_refuse v n (λ offset. 0) rest rest (place_for n v)).view ≡ v
     go true e = absurd (cc)
@@ -149,18 +150,9 @@ free_but : (v : View) (x accesses : ℕ) (o : Option Place) → free_at (record 
 free_but v x accesses None = refl
 free_but v x accesses (Some p) = refl
 
-pub undo_same : (n : ℕ) (v w z : View) (g : Grant) → IsWellFormed v → Allocates n v w (Some g) → SameSpace (free g.name w) z → SameSpace v z
+pub undo_same : (n : ℕ) (v w z : View) (g : Grant) → IsWellFormed v → AllocatesBy n v w (Some g) → SameSpace (free g.name w) z → SameSpace v z
 undo_same n v w z g f a but =
     but
     ∙ ap (λ (x : View). record (free g.name x) { accesses = z.accesses }) a.view
     ∙ ap (λ (x : View). record x { accesses = z.accesses }) (free_but (allocate n a.rest v).view g.name w.accesses (place_of g.name (allocate n a.rest v).view.blocks))
-    ∙ ap (λ (x : View). record x { accesses = z.accesses }) (is_undone n v f a.rest g a.unused (sym a.answer))
-
--- a grant leaves no trace where it is released, though other requests were refused between
-pub taken_back : (n : ℕ) (v w u z : View) (g : Grant) → IsWellFormed v → Allocates n v w (Some g) → SameSpace w u → SameSpace (free g.name u) z → SameSpace v z
-taken_back n v w u z g f a same but =
-    undo_same n v w z g f a (
-    but
-    ∙ ap (λ (x : View). record (free g.name x) { accesses = z.accesses }) same
-    ∙ ap (λ (x : View). record x { accesses = z.accesses }) (free_but w g.name u.accesses (place_of g.name w.blocks))
-    )
+    ∙ ap (λ (x : View). record x { accesses = z.accesses }) (is_undone_by n v f a.rest g a.unused (sym a.answer))

@@ -1,13 +1,13 @@
 -- What is reported of an allocator: when a request is granted, why it is refused, and how much is free.
-use Rattle.std.specs.Prelude.{◌≡◌, ℕ, ◌+◌, ◌-◌, min, ◌%◌, ◌^◌, ◌<◌, ◌≤◌, length, List, [], None, IsSome, sum, slice_index_or}
+use Rattle.std.specs.Prelude.{◌≡◌, ◌≢◌, ℕ, ◌+◌, ◌-◌, min, ◌%◌, ◌^◌, ◌<◌, ◌≤◌, length, List, [], sum, slice_index_or}
 use Rattle.offset_allocator.specs.declared.reports.Refusal.{Refusal}
 use Rattle.offset_allocator.specs.declared.reports.Refusal.TheVariants.{Nodes, Space, Fragmented}
 use Rattle.offset_allocator.specs.declared.reports.StorageReport.{StorageReport}
 use Rattle.offset_allocator.specs.declared.reports.StorageReportFull.{StorageReportFull}
 use Rattle.offset_allocator.specs.declared.reports.StorageReportFullRegion.{StorageReportFullRegion}
-use Rattle.offset_allocator.specs.Classes.{value}
+use Rattle.offset_allocator.specs.Classes.{value, up}
 use Rattle.offset_allocator.specs.Reports.{count_of}
-use Rattle.offset_allocator.specs.Named.{View, names_at, free_sizes, total_free, largest_free, place_for}
+use Rattle.offset_allocator.specs.Named.{View, names_at, free_sizes, total_free, largest_free}
 
 -- c is the largest class whose bin has a name
 abbrev pub IsLargestClass : List (List ℕ) → ℕ → Type 0
@@ -34,16 +34,12 @@ abbrev pub units_needed : ℕ → ℕ → ℕ
 units_needed size align = size + align - 1
 
 -- a request is granted that may add this many blocks and needs this many units of one block: there is room for the
--- blocks, and a free block is sure to hold the units
+-- blocks, and a bin of a class that is sure to hold the units has a block
 abbrev pub CanGrant : ℕ → ℕ → View → Type 0
-CanGrant blocks units v = HasRoomFor blocks v × IsSome (place_for units v)
-
--- a request for n units is granted
-abbrev pub CanAllocate : ℕ → View → Type 0
-CanAllocate n v = CanGrant 1 n v
+CanGrant blocks units v = HasRoomFor blocks v × ((c : ℕ) × (up units ≤ c) × (names_at v.order c ≢ []))
 
 -- why such a request is refused: too few nodes, too few free units, or enough of them in too small pieces
 abbrev pub IsWhy : ℕ → ℕ → View → Refusal → Type 0
 IsWhy blocks units v Nodes = v.max_allocs ≤ length v.blocks + blocks
 IsWhy blocks units v Space = HasRoomFor blocks v × (sum (free_sizes v.blocks) < units)
-IsWhy blocks units v Fragmented = HasRoomFor blocks v × (units ≤ sum (free_sizes v.blocks)) × (place_for units v ≡ None)
+IsWhy blocks units v Fragmented = HasRoomFor blocks v × (units ≤ sum (free_sizes v.blocks)) × (CanGrant blocks units v → ⊥)

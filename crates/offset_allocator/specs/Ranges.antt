@@ -1,5 +1,5 @@
 -- The ranges of live handles, as their holders see them, and what a grant is.
-use Rattle.std.specs.Prelude.{◌≡◌, ℕ, ◌+◌, ◌≤◌, ◌≢◌, ◌⊎◌, Option, Some, None, IsSome, if◌then◌else◌}
+use Rattle.std.specs.Prelude.{◌≡◌, ℕ, ◌+◌, ◌≤◌, ◌≢◌, ◌⊎◌, Option, Some, None, IsSome, if◌then◌else◌, option_and_then, option_map, unwrap_or}
 use Rattle.offset_allocator.specs.Named.{View, Grant, Place, place_of, units}
 
 -- some units from an offset on
@@ -7,27 +7,17 @@ pub record Range : Type 0 where
   pub offset : ℕ
   pub size : ℕ
 
--- the range of the used block at a place
-abbrev pub range_at : Option Place → Option Range
-range_at None = None
-range_at (Some p) = if p.block.used then Some (record { offset = units p.before; size = p.block.size }) else None
-
--- the range that a name holds, if it is live
+-- the range that a name holds: that of its block, where this is used
 abbrev pub range_of : ℕ → View → Option Range
-range_of x v = range_at (place_of x v.blocks)
+range_of x v = option_and_then (λ (p : Place). if p.block.used then Some (record { offset = units p.before; size = p.block.size }) else None) (place_of x v.blocks)
 
 -- a name is live while it holds a range
 abbrev pub IsLive : ℕ → View → Type 0
 IsLive x v = IsSome (range_of x v)
 
--- the units of a range, or 0 where there is none
-abbrev pub units_in : Option Range → ℕ
-units_in None = 0
-units_in (Some r) = r.size
-
 -- the units that a name holds: 0 where it is not live
 abbrev pub size_of : ℕ → View → ℕ
-size_of x v = units_in (range_of x v)
+size_of x v = unwrap_or (option_map (λ (r : Range). r.size) (range_of x v)) 0
 
 -- two ranges share no unit
 abbrev pub AreDisjoint : Range → Range → Type 0

@@ -20,14 +20,16 @@ ghost use Rattle.offset_allocator.specs.Cells.{AreEmpty};
 ghost use Rattle.offset_allocator.specs.Orders.{IsSmallestFrom};
 ghost use Rattle.offset_allocator.specs.Ranges.{range_of, size_of, Grants, IsLive, KeepsAll, KeepsOthers};
 ghost use Rattle.offset_allocator.specs.Reports.{IsGoodRefusal};
-ghost use Rattle.offset_allocator.specs.Named.{IsWellFormed, ends_used, is_short_of, free, free_sizes, largest_free};
-ghost use Rattle.offset_allocator.specs.Relations.{Allocates, Aligns, Extends, IsAlignment, SameSpace, IsSplitNearBest, IsFresh, Resets};
+ghost use Rattle.offset_allocator.specs.Named.{IsWellFormed, ends_used, is_short_of, is_full, free, free_sizes, largest_free};
+ghost use Rattle.offset_allocator.specs.Relations.{Allocates, Aligns, Frees, Extends, CanGrow, IsAlignment, SameSpace, IsSplitNearBest, IsFresh, Resets};
+ghost use Rattle.offset_allocator.specs.Functional.{AllocatesBy, AlignsBy, ExtendsBy};
 ghost use Rattle.offset_allocator.specs.Start.{IsStarted};
-ghost use Rattle.offset_allocator.specs.Promises.{IsReport, IsFullReport, CanAllocate, CanGrant, IsWhy, HasRoomFor, blocks_needed, units_needed};
+ghost use Rattle.offset_allocator.specs.Promises.{IsReport, IsFullReport, CanGrant, IsWhy, HasRoomFor, blocks_needed, units_needed};
 
 mod accesses;
 mod bins;
 mod chain;
+mod counted;
 pub mod ext;
 mod handle;
 mod index;
@@ -44,7 +46,7 @@ pub use accesses::Accesses;
 pub use handle::Allocation;
 pub use index::{NodeIndex, NodeIndexNonMax, NonMaxU16, NonMaxU32};
 pub use reports::{Refusal, StorageReport, StorageReportFull, StorageReportFullRegion};
-use small_float::{float_to_uint, uint_to_float_round_down, uint_to_float_round_up};
+use small_float::{uint_to_float_round_down, uint_to_float_round_up};
 use std::alloc::{AllocError, Global};
 use std::fmt;
 use std::marker::Model;
@@ -238,7 +240,7 @@ impl<NI: NodeIndex> Allocator<NI> {
     /// `free` coalesces or `reset` is called.
     pub fn is_full(&self) -> bool
         ensures limit { IsTrue result ↔ (length self.now.blocks + 1 ≡ self.now.max_allocs) }
-        ensures short { result ≡ is_short_of 1 self.now }
+        ensures full { result ≡ is_full self.now }
     {
         self.block_count() == self.max_allocs - 1
     }
@@ -247,7 +249,7 @@ impl<NI: NodeIndex> Allocator<NI> {
     fn grant(&mut self, class: u32, size: u32) -> Allocation<NI>
         requires room { is_short_of 1 self.old ≡ false }
         requires least { IsSmallestFrom (up size) self.old.order class }
-        ensures step { Allocates size self.old self.new (Some result) }
+        ensures step { AllocatesBy size self.old self.new (Some result) }
         ensures grows { self.old.accesses + 6 ≤ self.new.accesses }
         ensures count { self.new.accesses ≤ self.old.accesses + 24 }
     {
@@ -296,7 +298,7 @@ impl<NI: NodeIndex> Allocator<NI> {
         // It is granted exactly when it is at most the largest free region that is reported (which is 0 where no more block
         // may exist); and, of 0 units too, exactly when one more block may exist and a free block is sure to hold it.
         ensures granted { 1 ≤ size → (IsSome result ↔ (size ≤ largest_free self.old)) }
-        ensures can_grant { IsSome result ↔ CanAllocate size self.old }
+        ensures can_grant { IsSome result ↔ CanGrant 1 size self.old }
         // A grant is a name that was not live, with a range of exactly these units, in the space and apart from all live
         // ranges, which stay.
         ensures grants { IfSome result (Grants size self.old self.new) }
@@ -338,7 +340,7 @@ impl<NI: NodeIndex> Allocator<NI> {
         ensures grows { self.old.accesses + 9 ≤ self.new.accesses }
         ensures count { self.new.accesses ≤ self.old.accesses + 128 }
         // The step as a whole: the block coalesces with its free neighbours.
-        ensures step { SameSpace (free allocation.name self.old) self.new }
+        ensures step { Frees allocation.name self.old self.new }
     {
         self.release(index::number(NI::of_nonmax(allocation.name())));
     }
@@ -348,6 +350,7 @@ impl<NI: NodeIndex> Allocator<NI> {
     #[inline(always)]
     fn release(&mut self, name: u32)
         requires live { IsLive name self.old }
+        ensures frees { Frees name self.old self.new }
         ensures step { SameSpace (free name self.old) self.new }
         ensures gone { range_of name self.new ≡ None }
         ensures others { KeepsOthers name self.old self.new }
@@ -398,42 +401,13 @@ impl<NI: NodeIndex> Allocator<NI> {
         }
     }
 
-    // Whether a handle is live, with a count of the accesses.
-    pub(crate) fn is_live_counted(&self, allocation: Allocation<NI>, count: &mut Accesses) -> bool
-        ensures live { IsTrue result ↔ IsLive allocation.name self.now }
-        ensures grows { count.old ≤ count.new }
-        ensures least { allocation.name < self.now.max_allocs → count.old + 1 ≤ count.new }
-        ensures count { count.new ≤ count.old + 8 }
-    {
-        self.uses(index::number(NI::of_nonmax(allocation.name())), count)
-    }
-
     /// Whether the handle is live here: its name is the name of a used block. `free` asks for exactly this.
     ///
     /// A handle whose block was freed is live again where a newer grant has its name.
     pub fn is_live(&self, allocation: Allocation<NI>) -> bool
         ensures { IsTrue result ↔ IsLive allocation.name self.now }
     {
-        self.is_live_counted(allocation, &mut Accesses::new())
-    }
-
-    // The size of a granted range, with a count of the accesses.
-    pub(crate) fn allocation_size_counted(
-        &self,
-        allocation: Allocation<NI>,
-        count: &mut Accesses,
-    ) -> u32
-        ensures size { result ≡ size_of allocation.name self.now }
-        ensures grows { count.old ≤ count.new }
-        ensures least { IsLive allocation.name self.now → count.old + 2 ≤ count.new }
-        ensures count { count.new ≤ count.old + 8 }
-    {
-        let name = index::number::<NI>(NI::of_nonmax(allocation.name()));
-        if self.uses(name, count) {
-            chain::size(&self.tables, name, count)
-        } else {
-            0
-        }
+        counted::is_live_counted(self, allocation, &mut Accesses::new())
     }
 
     /// The units of the range that a live handle has: exactly what was requested. It is 0 where the handle is not live,
@@ -441,30 +415,7 @@ impl<NI: NodeIndex> Allocator<NI> {
     pub fn allocation_size(&self, allocation: Allocation<NI>) -> u32
         ensures { result ≡ size_of allocation.name self.now }
     {
-        self.allocation_size_counted(allocation, &mut Accesses::new())
-    }
-
-    // The short report, with a count of its accesses.
-    pub(crate) fn storage_report_counted(&self, count: &mut Accesses) -> StorageReport
-        ensures report { IsReport result self.now }
-        ensures grows { count.old ≤ count.new }
-        ensures least { 1 ≤ largest_free self.now → count.old + 1 ≤ count.new }
-        ensures count { count.new ≤ count.old + 8 }
-    {
-        if self.spare_count < 2 {
-            return StorageReport {
-                total_free_space: 0,
-                largest_free_region: 0,
-            };
-        }
-        let largest_free_region = match bins::largest(&self.tables, self.top_mask, count) {
-            None => 0,
-            Some(class) => float_to_uint(class),
-        };
-        StorageReport {
-            total_free_space: self.free_total,
-            largest_free_region,
-        }
+        counted::allocation_size_counted(self, allocation, &mut Accesses::new())
     }
 
     /// The free space in short: the units of all free blocks, and the largest request that would be granted. Both are
@@ -472,66 +423,24 @@ impl<NI: NodeIndex> Allocator<NI> {
     pub fn storage_report(&self) -> StorageReport
         ensures { IsReport result self.now }
     {
-        self.storage_report_counted(&mut Accesses::new())
-    }
-
-    // The full report, with a count of its accesses.
-    pub(crate) fn storage_report_full_counted(&self, count: &mut Accesses) -> StorageReportFull
-        ensures report { IsFullReport result self.now }
-        ensures grows { count.old + 256 ≤ count.new }
-        ensures count { count.new ≤ count.old + 512 + 2 * length (free_sizes self.now.blocks) }
-    {
-        let mut report = StorageReportFull::default();
-        for class in 0..256u32 {
-            report.free_regions[class as usize] = StorageReportFullRegion {
-                size: float_to_uint(class),
-                count: bins::length_of(&self.tables, class, count),
-            };
-        }
-        report
+        counted::storage_report_counted(self, &mut Accesses::new())
     }
 
     /// The free blocks, class by class, at the node limit too. It goes over all free blocks.
     pub fn storage_report_full(&self) -> StorageReportFull
         ensures { IsFullReport result self.now }
     {
-        self.storage_report_full_counted(&mut Accesses::new())
-    }
-
-    // Why a request is refused that may add this many blocks, and needs a block of this many units.
-    pub(crate) fn refusal_counted(
-        &self,
-        blocks: u32,
-        units: u64,
-        count: &mut Accesses,
-    ) -> Option<Refusal>
-        ensures granted { result ≡ None ↔ CanGrant blocks units self.now }
-        ensures why { IfSome result (IsWhy blocks units self.now) }
-        ensures grows { count.old ≤ count.new }
-        ensures least { result ≡ None → count.old + 1 ≤ count.new }
-        ensures count { count.new ≤ count.old + 8 }
-    {
-        if self.spare_count <= blocks {
-            return Some(Refusal::Nodes);
-        }
-        if units > self.free_total as u64 {
-            return Some(Refusal::Space);
-        }
-        let smallest = uint_to_float_round_up(units as u32);
-        match bins::find_at_or_above(&self.tables, self.top_mask, smallest, count) {
-            None => Some(Refusal::Fragmented),
-            Some(_) => None,
-        }
+        counted::storage_report_full_counted(self, &mut Accesses::new())
     }
 
     /// Why `allocate(size)` would be refused now, or `None` exactly where it would be granted.
     ///
     /// It makes at most 8 accesses to the tables.
     pub fn refusal(&self, size: u32) -> Option<Refusal>
-        ensures granted { result ≡ None ↔ CanAllocate size self.now }
+        ensures granted { result ≡ None ↔ CanGrant 1 size self.now }
         ensures why { IfSome result (IsWhy 1 size self.now) }
     {
-        self.refusal_counted(1, size as u64, &mut Accesses::new())
+        counted::refusal_counted(self, size, &mut Accesses::new())
     }
 
     /// Why `allocate_aligned(size, align)` would be refused now, or `None` exactly where it would be granted.
@@ -543,11 +452,7 @@ impl<NI: NodeIndex> Allocator<NI> {
         ensures granted { result ≡ None ↔ CanGrant (blocks_needed align) (units_needed size align) self.now }
         ensures why { IfSome result (IsWhy (blocks_needed align) (units_needed size align) self.now) }
     {
-        self.refusal_counted(
-            align.min(2),
-            size as u64 + (align - 1) as u64,
-            &mut Accesses::new(),
-        )
+        counted::refusal_aligned_counted(self, size, align, &mut Accesses::new())
     }
 
     // Grants units of the newest block of a class, from the first multiple of `align` in it on.
@@ -556,7 +461,7 @@ impl<NI: NodeIndex> Allocator<NI> {
         requires fits { size + align - 1 ≤ 4294967295 }
         requires room { is_short_of 2 self.old ≡ false }
         requires least { IsSmallestFrom (up (size + align - 1)) self.old.order class }
-        ensures step { Aligns size align self.old self.new (Some result) }
+        ensures step { AlignsBy size align self.old self.new (Some result) }
         ensures grows { self.old.accesses + 6 ≤ self.new.accesses }
         ensures count { self.new.accesses ≤ self.old.accesses + 43 }
     {
@@ -618,11 +523,10 @@ impl<NI: NodeIndex> Allocator<NI> {
         // The step as a whole.
         ensures step { Aligns size align self.old self.new result }
     {
-        let spare_count = self.spare_count;
         if align <= 1 {
             return self.allocate(size);
         }
-        if spare_count <= 2 {
+        if self.spare_count <= 2 {
             return None;
         }
         if size > u32::MAX - (align - 1) {
@@ -640,7 +544,7 @@ impl<NI: NodeIndex> Allocator<NI> {
         requires more { 0 < more }
         requires fits { self.old.size + more ≤ 4294967295 }
         requires idle { ends_used self.old.blocks ≡ false }
-        ensures step { Extends more self.old self.new true }
+        ensures step { ExtendsBy more self.old self.new true }
         ensures grows { self.old.accesses + 10 ≤ self.new.accesses }
         ensures count { self.new.accesses ≤ self.old.accesses + 16 }
     {
@@ -671,7 +575,7 @@ impl<NI: NodeIndex> Allocator<NI> {
         requires fits { self.old.size + more ≤ 4294967295 }
         requires used { ends_used self.old.blocks ≡ true }
         requires room { is_short_of 1 self.old ≡ false }
-        ensures step { Extends more self.old self.new true }
+        ensures step { ExtendsBy more self.old self.new true }
         ensures grows { self.old.accesses + 9 ≤ self.new.accesses }
         ensures count { self.new.accesses ≤ self.old.accesses + 19 }
     {
@@ -707,7 +611,9 @@ impl<NI: NodeIndex> Allocator<NI> {
     /// no further block may exist; then nothing changes. With 0 units it is `true`. It makes at most 128 accesses to the
     /// tables, and takes no memory.
     pub fn extend(&mut self, more: u32) -> bool
-        // The space has `more` units more, all ranges stay, and a refusal leaves the space as it was.
+        // It is done exactly when the space can have that many more units.
+        ensures done { IsTrue result ↔ (1 ≤ more → CanGrow more self.old) }
+        // Then the space has `more` units more. All ranges stay, and a refusal leaves the space as it was.
         ensures size { IsTrue result → self.new.size ≡ self.old.size + more }
         ensures kept { KeepsAll self.old self.new }
         ensures same { result ≡ false → SameSpace self.old self.new }
@@ -718,11 +624,10 @@ impl<NI: NodeIndex> Allocator<NI> {
         // The step as a whole: whether it is done, and what the last block is then.
         ensures step { Extends more self.old self.new result }
     {
-        let size = self.size;
         if more == 0 {
             return true;
         }
-        if more > u32::MAX - size {
+        if more > u32::MAX - self.size {
             return false;
         }
         let used = chain::is_used(&self.tables, self.last, &mut self.accesses);

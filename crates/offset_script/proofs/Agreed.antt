@@ -424,7 +424,7 @@ agrees_but v w kept_name s e g = subst (λ x. Agrees x kept_name s) (sym e) (rec
 
 -- nor of what makes a view well formed
 pub formed_but : (v w : View) → w ≡ record v { accesses = w.accesses } → IsWellFormed v → IsWellFormed w
-formed_but v w e f = subst IsWellFormed (sym e) (record { some = f.some; distinct = f.distinct; below = f.below; whole = f.whole; apart = f.apart; classes = f.classes; orders = f.orders; room = f.room; spare = f.spare })
+formed_but v w e f = subst IsWellFormed (sym e) (record { some = f.some; distinct = f.distinct; below = f.below; whole = f.whole; fits = f.fits; apart = f.apart; classes = f.classes; orders = f.orders; room = f.room; spare = f.spare })
 
 -- one free block and no grants
 pub start_agrees : (v : View) (x size limit : ℕ) (kept_name : ℕ → Option ℕ) → v.blocks ≡ free_block x size ∷ [] → v.order ≡ push (down size) x (replicate 256 []) → v.max_allocs ≡ limit → ((k : ℕ) → kept_name k ≡ None) → Agrees v kept_name (machine.start size limit)

@@ -1,7 +1,7 @@
 -- Worked rows: what the definitions give, by computation.
 use Rattle.std.proofs.Common.{◌≡◌, ℕ, [], ◌∷◌, refl}
 use Rattle.offset_script.specs.declared.scripts.Command.TheVariants as command
-use Rattle.offset_allocator.specs.Classes.{value, smallest_below, largest_below, up, down}
+use Rattle.offset_allocator.specs.Classes.{value, up, down}
 use Rattle.offset_allocator.specs.Reports.{Row}
 use Rattle.offset_script.specs.Machine.{State, start, answers, after}
 use Rattle.offset_script.specs.Machine as answer
@@ -14,79 +14,79 @@ row_of c s n = record { class = c; size = s; count = n }
 
 -- the limit, the age and the class of blocks, and numbers that are gone
 full_at_the_limit : answers (command.Alloc 10 ∷ command.Alloc 10 ∷ command.Free 1 ∷ command.Alloc 10 ∷ command.Report ∷ command.Full ∷ []) (start 100 4) ≡ answer.Grant 1 0 ∷ answer.Grant 2 10 ∷ answer.Freed ∷ answer.Refused ∷ answer.Report 0 0 ∷ answer.Full (row_of 10 10 1 ∷ row_of 34 80 1 ∷ []) ∷ []
-unfolding value smallest_below largest_below up down
+unfolding value up down
 full_at_the_limit = refl
 
 newest_of_a_class : answers (command.Alloc 10 ∷ command.Alloc 10 ∷ command.Alloc 10 ∷ command.Alloc 10 ∷ command.Free 1 ∷ command.Free 3 ∷ command.Alloc 10 ∷ command.Alloc 10 ∷ command.Report ∷ []) (start 100 16) ≡ answer.Grant 1 0 ∷ answer.Grant 2 10 ∷ answer.Grant 3 20 ∷ answer.Grant 4 30 ∷ answer.Freed ∷ answer.Freed ∷ answer.Grant 5 20 ∷ answer.Grant 6 0 ∷ answer.Report 60 60 ∷ []
-unfolding value smallest_below largest_below up down
+unfolding value up down
 newest_of_a_class = refl
 
 released_numbers_are_gone : answers (command.Alloc 20 ∷ command.Alloc 4 ∷ command.Free 1 ∷ command.Alloc 18 ∷ command.Alloc 2 ∷ command.Free 1 ∷ command.Size 4 ∷ []) (start 120 16) ≡ answer.Grant 1 0 ∷ answer.Grant 2 20 ∷ answer.Freed ∷ answer.Grant 3 0 ∷ answer.Grant 4 18 ∷ answer.Gone ∷ answer.Size 2 ∷ []
-unfolding value smallest_below largest_below up down
+unfolding value up down
 released_numbers_are_gone = refl
 
 -- aligned requests
 aligned : answers (command.Alloc 10 ∷ command.Align 8 16 ∷ command.Report ∷ []) (start 100 16) ≡ answer.Grant 1 0 ∷ answer.Grant 2 16 ∷ answer.Report 82 72 ∷ []
-unfolding value smallest_below largest_below up down
+unfolding value up down
 aligned = refl
 
 aligned_without_padding : answers (command.Align 16 16 ∷ command.Align 16 16 ∷ command.Full ∷ []) (start 64 8) ≡ answer.Grant 1 0 ∷ answer.Grant 2 16 ∷ answer.Full (row_of 24 32 1 ∷ []) ∷ []
-unfolding value smallest_below largest_below up down
+unfolding value up down
 aligned_without_padding = refl
 
 aligned_refusals : answers (command.Align 4294967295 2 ∷ command.Alloc 10 ∷ command.Align 1 2 ∷ command.Align 1 1 ∷ []) (start 100 4) ≡ answer.Refused ∷ answer.Grant 1 0 ∷ answer.Refused ∷ answer.Grant 2 10 ∷ []
-unfolding value smallest_below largest_below up down
+unfolding value up down
 aligned_refusals = refl
 
 aligned_leaves_padding : answers (command.Alloc 2 ∷ command.Align 1 8 ∷ command.Alloc 6 ∷ []) (start 15 8) ≡ answer.Grant 1 0 ∷ answer.Grant 2 8 ∷ answer.Grant 3 9 ∷ []
-unfolding value smallest_below largest_below up down
+unfolding value up down
 aligned_leaves_padding = refl
 
 aligned_of_no_units : answers (command.Alloc 3 ∷ command.Align 0 16 ∷ command.Free 2 ∷ command.Report ∷ []) (start 40 8) ≡ answer.Grant 1 0 ∷ answer.Grant 2 16 ∷ answer.Freed ∷ answer.Report 37 36 ∷ []
-unfolding value smallest_below largest_below up down
+unfolding value up down
 aligned_of_no_units = refl
 
 -- a reset, and extensions
 reset : answers (command.Alloc 10 ∷ command.Reset ∷ command.Free 1 ∷ command.Alloc 10 ∷ command.Size 2 ∷ command.Report ∷ []) (start 50 8) ≡ answer.Grant 1 0 ∷ answer.Reset ∷ answer.Gone ∷ answer.Grant 2 0 ∷ answer.Size 10 ∷ answer.Report 40 40 ∷ []
-unfolding value smallest_below largest_below up down
+unfolding value up down
 reset = refl
 
 extended : answers (command.Alloc 8 ∷ command.Extend 20 ∷ command.Alloc 20 ∷ command.Report ∷ command.Extend 5 ∷ command.Full ∷ []) (start 10 4) ≡ answer.Grant 1 0 ∷ answer.Extended ∷ answer.Grant 2 8 ∷ answer.Report 0 0 ∷ answer.Extended ∷ answer.Full (row_of 7 7 1 ∷ []) ∷ []
-unfolding value smallest_below largest_below up down
+unfolding value up down
 extended = refl
 
 extended_after_live_and_free : answers (command.Alloc 12 ∷ command.Alloc 8 ∷ command.Free 1 ∷ command.Alloc 5 ∷ command.Extend 1 ∷ command.Extend 0 ∷ command.Free 2 ∷ command.Extend 1 ∷ command.Full ∷ []) (start 20 4) ≡ answer.Grant 1 0 ∷ answer.Grant 2 12 ∷ answer.Freed ∷ answer.Grant 3 0 ∷ answer.Refused ∷ answer.Extended ∷ answer.Freed ∷ answer.Extended ∷ answer.Full (row_of 16 16 1 ∷ []) ∷ []
-unfolding value smallest_below largest_below up down
+unfolding value up down
 extended_after_live_and_free = refl
 
 extended_block_is_newest : answers (command.Alloc 32 ∷ command.Alloc 1 ∷ command.Free 1 ∷ command.Extend 1 ∷ command.Alloc 32 ∷ []) (start 66 8) ≡ answer.Grant 1 0 ∷ answer.Grant 2 32 ∷ answer.Freed ∷ answer.Extended ∷ answer.Grant 3 33 ∷ []
-unfolding value smallest_below largest_below up down
+unfolding value up down
 extended_block_is_newest = refl
 
 extended_and_reset : answers (command.Alloc 10 ∷ command.Extend 6 ∷ command.Reset ∷ command.Report ∷ []) (start 10 4) ≡ answer.Grant 1 0 ∷ answer.Extended ∷ answer.Reset ∷ answer.Report 16 16 ∷ []
-unfolding value smallest_below largest_below up down
+unfolding value up down
 extended_and_reset = refl
 
 extended_past_the_largest : answers (command.Extend 1 ∷ command.Extend 0 ∷ []) (start 4294967295 4) ≡ answer.Refused ∷ answer.Extended ∷ []
-unfolding value smallest_below largest_below up down
+unfolding value up down
 extended_past_the_largest = refl
 
 -- the whole space, after releases and at once
 whole_space_again : answers (command.Alloc 10 ∷ command.Alloc 20 ∷ command.Free 1 ∷ command.Free 2 ∷ command.Alloc 48 ∷ command.Size 3 ∷ command.Free 1 ∷ []) (start 48 8) ≡ answer.Grant 1 0 ∷ answer.Grant 2 10 ∷ answer.Freed ∷ answer.Freed ∷ answer.Grant 3 0 ∷ answer.Size 48 ∷ answer.Gone ∷ []
-unfolding value smallest_below largest_below up down
+unfolding value up down
 whole_space_again = refl
 
 whole_space_at_once : answers (command.Alloc 48 ∷ command.Size 1 ∷ command.Free 0 ∷ []) (start 48 8) ≡ answer.Grant 1 0 ∷ answer.Size 48 ∷ answer.Gone ∷ []
-unfolding value smallest_below largest_below up down
+unfolding value up down
 whole_space_at_once = refl
 
 -- a nest, and releases that are no nest
 nest : answers (command.Alloc 10 ∷ command.Alloc 10 ∷ command.Alloc 10 ∷ command.Alloc 10 ∷ command.Free 1 ∷ command.Free 3 ∷ command.Alloc 5 ∷ command.Alloc 7 ∷ command.Free 6 ∷ command.Free 5 ∷ command.Alloc 10 ∷ command.Alloc 10 ∷ command.Report ∷ []) (start 100 16) ≡ answer.Grant 1 0 ∷ answer.Grant 2 10 ∷ answer.Grant 3 20 ∷ answer.Grant 4 30 ∷ answer.Freed ∷ answer.Freed ∷ answer.Grant 5 20 ∷ answer.Grant 6 0 ∷ answer.Freed ∷ answer.Freed ∷ answer.Grant 7 20 ∷ answer.Grant 8 0 ∷ answer.Report 60 60 ∷ []
-unfolding value smallest_below largest_below up down
+unfolding value up down
 nest = refl
 
 no_nest : answers (command.Alloc 10 ∷ command.Alloc 10 ∷ command.Alloc 10 ∷ command.Alloc 10 ∷ command.Free 1 ∷ command.Free 3 ∷ command.Alloc 5 ∷ command.Alloc 7 ∷ command.Free 5 ∷ command.Free 6 ∷ command.Alloc 10 ∷ command.Alloc 10 ∷ command.Report ∷ []) (start 100 16) ≡ answer.Grant 1 0 ∷ answer.Grant 2 10 ∷ answer.Grant 3 20 ∷ answer.Grant 4 30 ∷ answer.Freed ∷ answer.Freed ∷ answer.Grant 5 20 ∷ answer.Grant 6 0 ∷ answer.Freed ∷ answer.Freed ∷ answer.Grant 7 0 ∷ answer.Grant 8 20 ∷ answer.Report 60 60 ∷ []
-unfolding value smallest_below largest_below up down
+unfolding value up down
 no_nest = refl
 
 -- the state before the nest of the row above, and that it is a nest
@@ -94,135 +94,135 @@ before_nest : State
 before_nest = after (command.Alloc 10 ∷ command.Alloc 10 ∷ command.Alloc 10 ∷ command.Alloc 10 ∷ command.Free 1 ∷ command.Free 3 ∷ []) (start 100 16)
 
 is_nest : Nest before_nest (command.Alloc 5 ∷ command.Alloc 7 ∷ command.Free 6 ∷ command.Free 5 ∷ [])
-unfolding before_nest value smallest_below largest_below up down
+unfolding before_nest value up down
 is_nest = history.paired {k = 5} {inner = command.Alloc 7 ∷ command.Free 6 ∷ []} {outer = []} tt (20, refl) (history.paired {k = 6} {inner = []} {outer = []} tt (0, refl) history.done history.done) history.done
 
 -- requests of no units, of the largest sizes, and of sizes between classes
 grants_of_no_units : answers (command.Alloc 0 ∷ command.Alloc 0 ∷ command.Alloc 0 ∷ command.Alloc 0 ∷ command.Free 2 ∷ command.Full ∷ command.Alloc 0 ∷ command.Free 3 ∷ command.Alloc 0 ∷ command.Report ∷ []) (start 6 5) ≡ answer.Grant 1 0 ∷ answer.Grant 2 0 ∷ answer.Grant 3 0 ∷ answer.Refused ∷ answer.Freed ∷ answer.Full (row_of 0 0 1 ∷ row_of 6 6 1 ∷ []) ∷ answer.Refused ∷ answer.Freed ∷ answer.Grant 4 0 ∷ answer.Report 6 6 ∷ []
-unfolding value smallest_below largest_below up down
+unfolding value up down
 grants_of_no_units = refl
 
 largest_sizes : answers (command.Alloc 4294967295 ∷ command.Alloc 4026531840 ∷ command.Alloc 268435455 ∷ command.Report ∷ command.Alloc 251658240 ∷ []) (start 4294967295 8) ≡ answer.Refused ∷ answer.Grant 1 0 ∷ answer.Refused ∷ answer.Report 268435455 251658240 ∷ answer.Grant 2 4026531840 ∷ []
-unfolding value smallest_below largest_below up down
+unfolding value up down
 largest_sizes = refl
 
 smallest_class_that_fits : answers (command.Alloc 32 ∷ command.Alloc 1 ∷ command.Alloc 35 ∷ command.Alloc 1 ∷ command.Free 1 ∷ command.Free 3 ∷ command.Alloc 28 ∷ []) (start 1000 16) ≡ answer.Grant 1 0 ∷ answer.Grant 2 32 ∷ answer.Grant 3 33 ∷ answer.Grant 4 68 ∷ answer.Freed ∷ answer.Freed ∷ answer.Grant 5 33 ∷ []
-unfolding value smallest_below largest_below up down
+unfolding value up down
 smallest_class_that_fits = refl
 
 exact_size_between_classes : answers (command.Alloc 17 ∷ command.Alloc 16 ∷ command.Alloc 1 ∷ []) (start 17 4) ≡ answer.Refused ∷ answer.Grant 1 0 ∷ answer.Grant 2 16 ∷ []
-unfolding value smallest_below largest_below up down
+unfolding value up down
 exact_size_between_classes = refl
 
 -- three releases in every order
 releases_1_2_3 : answers (command.Alloc 10 ∷ command.Alloc 10 ∷ command.Alloc 10 ∷ command.Alloc 10 ∷ command.Free 1 ∷ command.Free 2 ∷ command.Free 3 ∷ command.Full ∷ []) (start 60 8) ≡ answer.Grant 1 0 ∷ answer.Grant 2 10 ∷ answer.Grant 3 20 ∷ answer.Grant 4 30 ∷ answer.Freed ∷ answer.Freed ∷ answer.Freed ∷ answer.Full (row_of 18 20 1 ∷ row_of 23 30 1 ∷ []) ∷ []
-unfolding value smallest_below largest_below up down
+unfolding value up down
 releases_1_2_3 = refl
 
 releases_1_3_2 : answers (command.Alloc 10 ∷ command.Alloc 10 ∷ command.Alloc 10 ∷ command.Alloc 10 ∷ command.Free 1 ∷ command.Free 3 ∷ command.Free 2 ∷ command.Full ∷ []) (start 60 8) ≡ answer.Grant 1 0 ∷ answer.Grant 2 10 ∷ answer.Grant 3 20 ∷ answer.Grant 4 30 ∷ answer.Freed ∷ answer.Freed ∷ answer.Freed ∷ answer.Full (row_of 18 20 1 ∷ row_of 23 30 1 ∷ []) ∷ []
-unfolding value smallest_below largest_below up down
+unfolding value up down
 releases_1_3_2 = refl
 
 releases_2_1_3 : answers (command.Alloc 10 ∷ command.Alloc 10 ∷ command.Alloc 10 ∷ command.Alloc 10 ∷ command.Free 2 ∷ command.Free 1 ∷ command.Free 3 ∷ command.Full ∷ []) (start 60 8) ≡ answer.Grant 1 0 ∷ answer.Grant 2 10 ∷ answer.Grant 3 20 ∷ answer.Grant 4 30 ∷ answer.Freed ∷ answer.Freed ∷ answer.Freed ∷ answer.Full (row_of 18 20 1 ∷ row_of 23 30 1 ∷ []) ∷ []
-unfolding value smallest_below largest_below up down
+unfolding value up down
 releases_2_1_3 = refl
 
 releases_2_3_1 : answers (command.Alloc 10 ∷ command.Alloc 10 ∷ command.Alloc 10 ∷ command.Alloc 10 ∷ command.Free 2 ∷ command.Free 3 ∷ command.Free 1 ∷ command.Full ∷ []) (start 60 8) ≡ answer.Grant 1 0 ∷ answer.Grant 2 10 ∷ answer.Grant 3 20 ∷ answer.Grant 4 30 ∷ answer.Freed ∷ answer.Freed ∷ answer.Freed ∷ answer.Full (row_of 18 20 1 ∷ row_of 23 30 1 ∷ []) ∷ []
-unfolding value smallest_below largest_below up down
+unfolding value up down
 releases_2_3_1 = refl
 
 releases_3_1_2 : answers (command.Alloc 10 ∷ command.Alloc 10 ∷ command.Alloc 10 ∷ command.Alloc 10 ∷ command.Free 3 ∷ command.Free 1 ∷ command.Free 2 ∷ command.Full ∷ []) (start 60 8) ≡ answer.Grant 1 0 ∷ answer.Grant 2 10 ∷ answer.Grant 3 20 ∷ answer.Grant 4 30 ∷ answer.Freed ∷ answer.Freed ∷ answer.Freed ∷ answer.Full (row_of 18 20 1 ∷ row_of 23 30 1 ∷ []) ∷ []
-unfolding value smallest_below largest_below up down
+unfolding value up down
 releases_3_1_2 = refl
 
 releases_3_2_1 : answers (command.Alloc 10 ∷ command.Alloc 10 ∷ command.Alloc 10 ∷ command.Alloc 10 ∷ command.Free 3 ∷ command.Free 2 ∷ command.Free 1 ∷ command.Full ∷ []) (start 60 8) ≡ answer.Grant 1 0 ∷ answer.Grant 2 10 ∷ answer.Grant 3 20 ∷ answer.Grant 4 30 ∷ answer.Freed ∷ answer.Freed ∷ answer.Freed ∷ answer.Full (row_of 18 20 1 ∷ row_of 23 30 1 ∷ []) ∷ []
-unfolding value smallest_below largest_below up down
+unfolding value up down
 releases_3_2_1 = refl
 
 -- the collapse of three grants, and what their releases leave
 collapsed : collapse (1 ∷ 2 ∷ 3 ∷ []) (outline (after (command.Alloc 10 ∷ command.Alloc 10 ∷ command.Alloc 10 ∷ command.Alloc 10 ∷ []) (start 60 8)).blocks) ≡ outline (after (command.Alloc 10 ∷ command.Alloc 10 ∷ command.Alloc 10 ∷ command.Alloc 10 ∷ releases (3 ∷ 1 ∷ 2 ∷ [])) (start 60 8)).blocks
-unfolding value smallest_below largest_below up down
+unfolding value up down
 collapsed = refl
 
 -- rounding up and down to a class
 up_0 : up 0 ≡ 0
-unfolding value smallest_below largest_below up down
+unfolding value up down
 up_0 = refl
 
 down_0 : down 0 ≡ 0
-unfolding value smallest_below largest_below up down
+unfolding value up down
 down_0 = refl
 
 up_17 : up 17 ≡ 17
-unfolding value smallest_below largest_below up down
+unfolding value up down
 up_17 = refl
 
 down_17 : down 17 ≡ 16
-unfolding value smallest_below largest_below up down
+unfolding value up down
 down_17 = refl
 
 up_118 : up 118 ≡ 39
-unfolding value smallest_below largest_below up down
+unfolding value up down
 up_118 = refl
 
 down_118 : down 118 ≡ 38
-unfolding value smallest_below largest_below up down
+unfolding value up down
 down_118 = refl
 
 up_1024 : up 1024 ≡ 64
-unfolding value smallest_below largest_below up down
+unfolding value up down
 up_1024 = refl
 
 down_1024 : down 1024 ≡ 64
-unfolding value smallest_below largest_below up down
+unfolding value up down
 down_1024 = refl
 
 up_65536 : up 65536 ≡ 112
-unfolding value smallest_below largest_below up down
+unfolding value up down
 up_65536 = refl
 
 down_65536 : down 65536 ≡ 112
-unfolding value smallest_below largest_below up down
+unfolding value up down
 down_65536 = refl
 
 up_529445 : up 529445 ≡ 137
-unfolding value smallest_below largest_below up down
+unfolding value up down
 up_529445 = refl
 
 down_529445 : down 529445 ≡ 136
-unfolding value smallest_below largest_below up down
+unfolding value up down
 down_529445 = refl
 
 up_1048575 : up 1048575 ≡ 144
-unfolding value smallest_below largest_below up down
+unfolding value up down
 up_1048575 = refl
 
 down_1048575 : down 1048575 ≡ 143
-unfolding value smallest_below largest_below up down
+unfolding value up down
 down_1048575 = refl
 
 up_4026531840 : up 4026531840 ≡ 239
-unfolding value smallest_below largest_below up down
+unfolding value up down
 up_4026531840 = refl
 
 down_4026531840 : down 4026531840 ≡ 239
-unfolding value smallest_below largest_below up down
+unfolding value up down
 down_4026531840 = refl
 
 up_4026531841 : up 4026531841 ≡ 240
-unfolding value smallest_below largest_below up down
+unfolding value up down
 up_4026531841 = refl
 
 down_4026531841 : down 4026531841 ≡ 239
-unfolding value smallest_below largest_below up down
+unfolding value up down
 down_4026531841 = refl
 
 up_4294967295 : up 4294967295 ≡ 240
-unfolding value smallest_below largest_below up down
+unfolding value up down
 up_4294967295 = refl
 
 down_4294967295 : down 4294967295 ≡ 239
-unfolding value smallest_below largest_below up down
+unfolding value up down
 down_4294967295 = refl
 
 -- values of classes

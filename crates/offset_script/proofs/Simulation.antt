@@ -14,7 +14,10 @@ use Rattle.offset_script.specs.Machine.{State, step, start, after}
 use Rattle.offset_script.specs.Machine as machine
 use Rattle.offset_allocator.specs.Named.{View, Grant, Outcome, allocate, allocate_aligned, free, total_free, largest_free, free_sizes, max_size, IsWellFormed}
 use Rattle.offset_script.specs.Agreement.{IsReached, name_in, kept_name, answer_of, with_name, without_name, kept_after, grant_count_after}
-use Rattle.offset_allocator.specs.Relations.{SameSpace, IsFresh, Allocates, Aligns, Extends, Resets}
+use Rattle.offset_allocator.specs.Relations.{SameSpace, IsFresh, Allocates, Aligns, Frees, Extends, Resets}
+use Rattle.offset_allocator.specs.Functional.{AllocatesBy, AlignsBy, ExtendsBy}
+use Rattle.offset_allocator.proofs.Related.{allocates_by, aligns_by}
+use Rattle.offset_allocator.proofs.Released.{freed_by, extends_by}
 use Rattle.offset_script.proofs.Well.{Well, well_start, well_after}
 use Rattle.offset_allocator.proofs.ViewTaken.{well_allocate, well_aligned, well_extend, well_free, well_reset, well_alone}
 use Rattle.offset_script.proofs.Agreed.{Matches, allocate_agrees, aligned_agrees, extend_agrees, free_agrees, gone_agrees, size_agrees, reset_agrees, report_agrees, full_agrees, agrees_quiet, agrees_kept, agrees_but, formed_but, start_agrees}
@@ -77,17 +80,27 @@ module _ (c : Command) (v w : View) (hs left : List (Option Grant)) (o : Outcome
   request_simulates None a e k = subst (Simulates v hs w left c) (sym k.1) (request_refused e k.0)
   request_simulates (Some h) a e k = subst (Simulates v hs w left c) (sym k.1) (request_granted h (length left) h.offset e k.0 refl refl)
 
+-- what is represented is well formed
+formed_simulates : (v w : View) (hs left : List (Option Grant)) (c : Command) (a : program.Answer) → (IsWellFormed v → Simulates v hs w left c a) → Simulates v hs w left c a
+formed_simulates v w hs left c a f = record { answer = λ s reached st. (f st.formed).answer s reached st; state = λ s reached st. (f st.formed).state s reached st }
+
 -- a request, whose grant is kept
-pub allocate_simulates : (n : ℕ) (v w : View) (hs left : List (Option Grant)) (r : Option Grant) (a : program.Answer) → Allocates n v w r → IsKept r hs left a → Simulates v hs w left (command.Alloc n) a
-allocate_simulates n v w hs left r a al k = request_simulates (command.Alloc n) v w hs left (allocate n al.rest v)
+allocated_simulates : (n : ℕ) (v w : View) (hs left : List (Option Grant)) (r : Option Grant) (a : program.Answer) → AllocatesBy n v w r → IsKept r hs left a → Simulates v hs w left (command.Alloc n) a
+allocated_simulates n v w hs left r a al k = request_simulates (command.Alloc n) v w hs left (allocate n al.rest v)
     (λ s reached st. allocate_agrees v (kept_name hs) s st.formed (well_of s reached) st.agrees n al.rest al.unused)
     (λ f. well_allocate v f n al.rest al.unused) al.view r a al.answer k
 
+pub allocate_simulates : (n : ℕ) (v w : View) (hs left : List (Option Grant)) (r : Option Grant) (a : program.Answer) → Allocates n v w r → IsKept r hs left a → Simulates v hs w left (command.Alloc n) a
+allocate_simulates n v w hs left r a al k = formed_simulates v w hs left (command.Alloc n) a (λ f. allocated_simulates n v w hs left r a (allocates_by n v w r f al) k)
+
 -- an aligned request
-pub aligned_simulates : (n align : ℕ) (v w : View) (hs left : List (Option Grant)) (r : Option Grant) (a : program.Answer) → Aligns n align v w r → IsKept r hs left a → Simulates v hs w left (command.Align n align) a
-aligned_simulates n align v w hs left r a al k = request_simulates (command.Align n align) v w hs left (allocate_aligned n align al.front al.rest v)
+aligned_by_simulates : (n align : ℕ) (v w : View) (hs left : List (Option Grant)) (r : Option Grant) (a : program.Answer) → AlignsBy n align v w r → IsKept r hs left a → Simulates v hs w left (command.Align n align) a
+aligned_by_simulates n align v w hs left r a al k = request_simulates (command.Align n align) v w hs left (allocate_aligned n align al.front al.rest v)
     (λ s reached st. aligned_agrees v (kept_name hs) s st.formed (well_of s reached) st.agrees n align al.front al.rest al.unused al.apart)
     (λ f. well_aligned v f n align al.front al.rest al.unused al.apart) al.view r a al.answer k
+
+pub aligned_simulates : (n align : ℕ) (v w : View) (hs left : List (Option Grant)) (r : Option Grant) (a : program.Answer) → 1 ≤ align → Aligns n align v w r → IsKept r hs left a → Simulates v hs w left (command.Align n align) a
+aligned_simulates n align v w hs left r a some al k = formed_simulates v w hs left (command.Align n align) a (λ f. aligned_by_simulates n align v w hs left r a (aligns_by n align v w f some r al) k)
 
 -- more units
 extend_grants : (more : ℕ) (s : State) → (machine.extend more s).state.grants ≡ s.grants
@@ -99,8 +112,8 @@ extend_grants (suc more) s = either (nat_lt max_size (machine.total s.blocks + s
     either false = refl
 
 -- more units, or a refusal
-pub extended_simulates : (more : ℕ) (v w : View) (hs : List (Option Grant)) (done : Bool) (a : program.Answer) → Extends more v w done → answer_view a ≡ (if done then machine.Extended else machine.Refused) → Simulates v hs w hs (command.Extend more) a
-extended_simulates more v w hs done a e f = record {
+extended_by_simulates : (more : ℕ) (v w : View) (hs : List (Option Grant)) (done : Bool) (a : program.Answer) → ExtendsBy more v w done → answer_view a ≡ (if done then machine.Extended else machine.Refused) → Simulates v hs w hs (command.Extend more) a
+extended_by_simulates more v w hs done a e f = record {
   answer = λ s reached st. f ∙ ap (λ (b : Bool). if b then machine.Extended else machine.Refused) e.answer ∙ sym (extend_agrees v (kept_name hs) s st.formed (well_of s reached) st.agrees more e.name e.unused).answer;
   state = λ s reached st. record {
     formed = formed_but _ w e.view (well_extend v st.formed more e.name e.unused);
@@ -108,6 +121,9 @@ extended_simulates more v w hs done a e f = record {
     grants = st.grants ∙ sym (extend_grants more s);
   };
 }
+
+pub extended_simulates : (more : ℕ) (v w : View) (hs : List (Option Grant)) (done : Bool) (a : program.Answer) → Extends more v w done → answer_view a ≡ (if done then machine.Extended else machine.Refused) → Simulates v hs w hs (command.Extend more) a
+extended_simulates more v w hs done a e f = formed_simulates v w hs hs (command.Extend more) a (λ known. extended_by_simulates more v w hs done a (extends_by v known more w done e) f)
 
 -- releases
 release_grants : (s : State) (o : Option _) → (machine.release s o).state.grants ≡ s.grants
@@ -126,8 +142,8 @@ pub live_kept : (v : View) (hs : List (Option Grant)) (k x : ℕ) → Represents
 live_kept v hs k x i e = used_live x v (free_agrees v (kept_name hs) i.state i.represents.formed (well_of i.state i.reached) i.represents.agrees k x e).used
 
 -- a release of a live grant, whose handle is removed
-pub freed_simulates : (v w : View) (hs : List (Option Grant)) (k x : ℕ) → kept_name hs (suc k) ≡ Some x → k < length hs → SameSpace (free x v) w → Simulates v hs w (slice_set hs k None) (command.Free (suc k)) program_answer.Freed
-freed_simulates v w hs k x e l but = record {
+freed_by_simulates : (v w : View) (hs : List (Option Grant)) (k x : ℕ) → kept_name hs (suc k) ≡ Some x → k < length hs → SameSpace (free x v) w → Simulates v hs w (slice_set hs k None) (command.Free (suc k)) program_answer.Freed
+freed_by_simulates v w hs k x e l but = record {
   answer = λ s reached st. sym (free_agrees v (kept_name hs) s st.formed (well_of s reached) st.agrees (suc k) x e).answer;
   state = λ s reached st. record {
     formed = formed_but _ w but (well_free v st.formed x);
@@ -136,8 +152,11 @@ freed_simulates v w hs k x e l but = record {
   };
 }
 
+freed_simulates : (v w : View) (hs : List (Option Grant)) (k x : ℕ) → kept_name hs (suc k) ≡ Some x → k < length hs → Frees x v w → Simulates v hs w (slice_set hs k None) (command.Free (suc k)) program_answer.Freed
+freed_simulates v w hs k x e l f = formed_simulates v w hs (slice_set hs k None) (command.Free (suc k)) program_answer.Freed (λ known. freed_by_simulates v w hs k x e l (freed_by v w known x f))
+
 -- the same, by the number of the grant
-pub released_simulates : (v w : View) (hs left : List (Option Grant)) (number x : ℕ) → kept_name hs number ≡ Some x → (1 ≤ number) × (number ≤ length hs) → SameSpace (free x v) w → left ≡ slice_set hs (number - 1) None → Simulates v hs w left (command.Free number) program_answer.Freed
+pub released_simulates : (v w : View) (hs left : List (Option Grant)) (number x : ℕ) → kept_name hs number ≡ Some x → (1 ≤ number) × (number ≤ length hs) → Frees x v w → left ≡ slice_set hs (number - 1) None → Simulates v hs w left (command.Free number) program_answer.Freed
 released_simulates v w hs left zero x e l but f = absurd (omega arith)
 released_simulates v w hs left (suc k) x e l but f = let same : suc k - 1 ≡ k = omega arith in subst (λ z. Simulates v hs w z (command.Free (suc k)) program_answer.Freed) (sym (f ∙ ap (λ i. slice_set hs i None) same)) (freed_simulates v w hs k x e (omega arith) but)
 
@@ -195,9 +214,9 @@ reset_simulates v w hs left r len none = record {
 }
 
 -- a fresh space represents the first state
-pub fresh_represents : (w : View) (size limit : ℕ) (hs : List (Option Grant)) → 2 ≤ limit → IsFresh size limit w → hs ≡ [] → Represents w hs (start size limit)
-fresh_represents w size limit hs two f e = subst (λ l. Represents w l (start size limit)) (sym e) (record {
-  formed = subst IsWellFormed (sym f.view) (well_alone (record { size = size; max_allocs = limit; blocks = []; order = []; accesses = 0 }) f.name size 0 two f.below);
+pub fresh_represents : (w : View) (size limit : ℕ) (hs : List (Option Grant)) → 2 ≤ limit → size ≤ 4294967295 → IsFresh size limit w → hs ≡ [] → Represents w hs (start size limit)
+fresh_represents w size limit hs two small f e = subst (λ l. Represents w l (start size limit)) (sym e) (record {
+  formed = subst IsWellFormed (sym f.view) (well_alone (record { size = size; max_allocs = limit; blocks = []; order = []; accesses = 0 }) f.name size 0 two f.below small);
   agrees = start_agrees w f.name size limit (kept_name []) (ap (λ (v : View). v.blocks) f.view) (ap (λ (v : View). v.order) f.view) (ap (λ (v : View). v.max_allocs) f.view) none;
   grants = refl;
 })

@@ -3,10 +3,9 @@
 
 ghost use Rattle.std.specs.Prelude.{◌≡◌, ◌↔◌, ◌+◌, ◌-◌, ◌≤◌, ◌%◌, Some, None, false, not, min, IfSome, IfOk, IfErr, IsSome, IsTrue, length};
 ghost use Rattle.std.specs.Int.{is_power_of_two};
-ghost use Rattle.offset_allocator.specs.Always.{used_units};
-ghost use Rattle.offset_allocator.specs.Named.{free, largest_free};
+ghost use Rattle.offset_allocator.specs.Named.{used_units, largest_free};
 ghost use Rattle.offset_allocator.specs.Ranges.{range_of, KeepsAll, KeepsOthers, IsLive};
-ghost use Rattle.offset_allocator.specs.Relations.{Allocates, SameSpace, Resets};
+ghost use Rattle.offset_allocator.specs.Relations.{Allocates, Frees, SameSpace, Resets};
 ghost use Rattle.offset_allocator.specs.Promises.{CanGrant, IsWhy};
 
 use offset_allocator::{Allocation, Allocator, Refusal, laws};
@@ -40,7 +39,7 @@ pub fn insert(
 /// Frees a range if its handle is live. It returns whether it was.
 pub fn give_back(space: &mut Allocator, allocation: Allocation) -> bool
     ensures live { IsTrue result ↔ IsLive allocation.name space.old }
-    ensures freed { IsTrue result → SameSpace (free allocation.name space.old) space.new }
+    ensures freed { IsTrue result → Frees allocation.name space.old space.new }
     ensures same { result ≡ false → space.new ≡ space.old }
     ensures gone { IsTrue result → range_of allocation.name space.new ≡ None }
     ensures others { KeepsOthers allocation.name space.old space.new }

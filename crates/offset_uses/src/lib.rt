@@ -2,9 +2,9 @@
 #![tactic(auto)]
 
 ghost use Rattle.std.specs.Prelude.{◌≡◌, ◌≢◌, ◌↔◌, ◌⊎◌, true, false, ◌+◌, ◌<◌, ◌≤◌, ◌%◌, Some, None, IfSome, IsSome, IsTrue, IfOk, MatchOption, All, map, min, length};
-ghost use Rattle.offset_allocator.specs.Named.{View, Grant, free, largest_free, total_free};
+ghost use Rattle.offset_allocator.specs.Named.{View, Grant, largest_free, total_free};
 ghost use Rattle.offset_allocator.specs.Ranges.{Range, range_of, size_of, AreDisjoint, KeepsRanges, KeepsOthers, IsLive};
-ghost use Rattle.offset_allocator.specs.Relations.{Aligns, Allocates, Extends, SameSpace};
+ghost use Rattle.offset_allocator.specs.Relations.{Aligns, Allocates, Extends, Frees, SameSpace};
 ghost use Rattle.offset_script.specs.Answers.{answer_view};
 ghost use Rattle.offset_script.specs.Grammar.{has_valid_alignment};
 ghost use Rattle.offset_script.specs.Machine.{answers, start};
@@ -162,7 +162,7 @@ pub fn refund(space: &mut Allocator, tenant: &mut Tenant, allocation: Allocation
     requires held { size_of allocation.name space.old ≤ tenant.old.held }
     ensures quota { tenant.new.quota ≡ tenant.old.quota }
     ensures held { tenant.new.held + size_of allocation.name space.old ≡ tenant.old.held }
-    ensures step { SameSpace (free allocation.name space.old) space.new }
+    ensures step { Frees allocation.name space.old space.new }
     ensures gone { range_of allocation.name space.new ≡ None }
     ensures others { KeepsOthers allocation.name space.old space.new }
 {

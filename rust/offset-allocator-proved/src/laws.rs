@@ -1,67 +1,15 @@
 // Printed by rust/erase from crates/offset_allocator/src/laws.rt: change it there.
 
-//! The calls that leave an allocator as it is, with a count of their accesses, the law that a grant can be undone, and
-//! laws that hold of every allocator. The functions of those do nothing.
+//! Laws: that a grant can be undone, and what holds of every allocator. Except `undo`, their functions do nothing. With
+//! them are the calls that leave an allocator as it is, with a count of their accesses.
+
+pub use crate::counted::{
+    allocation_size_counted, is_live_counted, refusal_aligned_counted, refusal_counted,
+    storage_report_counted, storage_report_full_counted,
+};
 
 use crate::Allocator;
-use crate::accesses::Accesses;
-use crate::handle::Allocation;
 use crate::index::NodeIndex;
-use crate::reports::{Refusal, StorageReport, StorageReportFull};
-
-/// As `Allocator::is_live`. The count grows by at most 8.
-pub fn is_live_counted<NI: NodeIndex>(
-    allocator: &Allocator<NI>,
-    allocation: Allocation<NI>,
-    count: &mut Accesses,
-) -> bool {
-    allocator.is_live_counted(allocation, count)
-}
-
-/// As `Allocator::allocation_size`. The count grows by at most 8.
-pub fn allocation_size_counted<NI: NodeIndex>(
-    allocator: &Allocator<NI>,
-    allocation: Allocation<NI>,
-    count: &mut Accesses,
-) -> u32 {
-    allocator.allocation_size_counted(allocation, count)
-}
-
-/// As `Allocator::storage_report`. The count grows by at most 8.
-pub fn storage_report_counted<NI: NodeIndex>(
-    allocator: &Allocator<NI>,
-    count: &mut Accesses,
-) -> StorageReport {
-    allocator.storage_report_counted(count)
-}
-
-/// As `Allocator::storage_report_full`. The count grows by at most 512, and 2 for each free block.
-pub fn storage_report_full_counted<NI: NodeIndex>(
-    allocator: &Allocator<NI>,
-    count: &mut Accesses,
-) -> StorageReportFull {
-    allocator.storage_report_full_counted(count)
-}
-
-/// As `Allocator::refusal`. The count grows by at most 8.
-pub fn refusal_counted<NI: NodeIndex>(
-    allocator: &Allocator<NI>,
-    size: u32,
-    count: &mut Accesses,
-) -> Option<Refusal> {
-    allocator.refusal_counted(1, size as u64, count)
-}
-
-/// As `Allocator::refusal_aligned`. The count grows by at most 8.
-pub fn refusal_aligned_counted<NI: NodeIndex>(
-    allocator: &Allocator<NI>,
-    size: u32,
-    align: u32,
-    count: &mut Accesses,
-) -> Option<Refusal> {
-    assert!(align.is_power_of_two(), "align must be a power of two");
-    allocator.refusal_counted(align.min(2), size as u64 + (align - 1) as u64, count)
-}
 
 /// Grants a request for `n` units and frees the grant at once. The blocks, their names and the bins are then as they
 /// were. It is `false` where the request was refused.

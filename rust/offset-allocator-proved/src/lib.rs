@@ -35,6 +35,7 @@ pub use memory::{AllocError, Global};
 mod accesses;
 mod bins;
 mod chain;
+mod counted;
 pub mod ext;
 mod handle;
 mod index;
@@ -49,7 +50,7 @@ pub use accesses::Accesses;
 pub use handle::Allocation;
 pub use index::{NodeIndex, NodeIndexNonMax, NonMaxU16, NonMaxU32};
 pub use reports::{Refusal, StorageReport, StorageReportFull, StorageReportFullRegion};
-use small_float::{float_to_uint, uint_to_float_round_down, uint_to_float_round_up};
+use small_float::{uint_to_float_round_down, uint_to_float_round_up};
 use core::fmt;
 use tables::Tables;
 
@@ -302,104 +303,35 @@ impl<NI: NodeIndex> Allocator<NI> {
         }
     }
 
-    // Whether a handle is live, with a count of the accesses.
-    pub(crate) fn is_live_counted(&self, allocation: Allocation<NI>, count: &mut Accesses) -> bool {
-        self.uses(index::number(NI::of_nonmax(allocation.name())), count)
-    }
-
     /// Whether the handle is live here: its name is the name of a used block. `free` asks for exactly this.
     ///
     /// A handle whose block was freed is live again where a newer grant has its name.
     pub fn is_live(&self, allocation: Allocation<NI>) -> bool {
-        self.is_live_counted(allocation, &mut Accesses::new())
-    }
-
-    // The size of a granted range, with a count of the accesses.
-    pub(crate) fn allocation_size_counted(
-        &self,
-        allocation: Allocation<NI>,
-        count: &mut Accesses,
-    ) -> u32 {
-        let name = index::number::<NI>(NI::of_nonmax(allocation.name()));
-        if self.uses(name, count) {
-            chain::size(&self.tables, name, count)
-        } else {
-            0
-        }
+        counted::is_live_counted(self, allocation, &mut Accesses::new())
     }
 
     /// The units of the range that a live handle has: exactly what was requested. It is 0 where the handle is not live,
     /// and for a live range of no units too.
     pub fn allocation_size(&self, allocation: Allocation<NI>) -> u32 {
-        self.allocation_size_counted(allocation, &mut Accesses::new())
-    }
-
-    // The short report, with a count of its accesses.
-    pub(crate) fn storage_report_counted(&self, count: &mut Accesses) -> StorageReport {
-        if self.spare_count < 2 {
-            return StorageReport {
-                total_free_space: 0,
-                largest_free_region: 0,
-            };
-        }
-        let largest_free_region = match bins::largest(&self.tables, self.top_mask, count) {
-            None => 0,
-            Some(class) => float_to_uint(class),
-        };
-        StorageReport {
-            total_free_space: self.free_total,
-            largest_free_region,
-        }
+        counted::allocation_size_counted(self, allocation, &mut Accesses::new())
     }
 
     /// The free space in short: the units of all free blocks, and the largest request that would be granted. Both are
     /// 0 where `max_allocs - 1` blocks exist.
     pub fn storage_report(&self) -> StorageReport {
-        self.storage_report_counted(&mut Accesses::new())
-    }
-
-    // The full report, with a count of its accesses.
-    pub(crate) fn storage_report_full_counted(&self, count: &mut Accesses) -> StorageReportFull {
-        let mut report = StorageReportFull::default();
-        for class in 0..256u32 {
-            report.free_regions[class as usize] = StorageReportFullRegion {
-                size: float_to_uint(class),
-                count: bins::length_of(&self.tables, class, count),
-            };
-        }
-        report
+        counted::storage_report_counted(self, &mut Accesses::new())
     }
 
     /// The free blocks, class by class, at the node limit too. It goes over all free blocks.
     pub fn storage_report_full(&self) -> StorageReportFull {
-        self.storage_report_full_counted(&mut Accesses::new())
-    }
-
-    // Why a request is refused that may add this many blocks, and needs a block of this many units.
-    pub(crate) fn refusal_counted(
-        &self,
-        blocks: u32,
-        units: u64,
-        count: &mut Accesses,
-    ) -> Option<Refusal> {
-        if self.spare_count <= blocks {
-            return Some(Refusal::Nodes);
-        }
-        if units > self.free_total as u64 {
-            return Some(Refusal::Space);
-        }
-        let smallest = uint_to_float_round_up(units as u32);
-        match bins::find_at_or_above(&self.tables, self.top_mask, smallest, count) {
-            None => Some(Refusal::Fragmented),
-            Some(_) => None,
-        }
+        counted::storage_report_full_counted(self, &mut Accesses::new())
     }
 
     /// Why `allocate(size)` would be refused now, or `None` exactly where it would be granted.
     ///
     /// It makes at most 8 accesses to the tables.
     pub fn refusal(&self, size: u32) -> Option<Refusal> {
-        self.refusal_counted(1, size as u64, &mut Accesses::new())
+        counted::refusal_counted(self, size, &mut Accesses::new())
     }
 
     /// Why `allocate_aligned(size, align)` would be refused now, or `None` exactly where it would be granted.
@@ -408,11 +340,7 @@ impl<NI: NodeIndex> Allocator<NI> {
     /// the tables.
     pub fn refusal_aligned(&self, size: u32, align: u32) -> Option<Refusal> {
         assert!(align.is_power_of_two(), "align must be a power of two");
-        self.refusal_counted(
-            align.min(2),
-            size as u64 + (align - 1) as u64,
-            &mut Accesses::new(),
-        )
+        counted::refusal_aligned_counted(self, size, align, &mut Accesses::new())
     }
 
     // Grants units of the newest block of a class, from the first multiple of `align` in it on.
@@ -450,11 +378,10 @@ impl<NI: NodeIndex> Allocator<NI> {
     /// `align` 1 the call is `allocate`. It makes at most 128 accesses to the tables, and takes no memory.
     pub fn allocate_aligned(&mut self, size: u32, align: u32) -> Option<Allocation<NI>> {
         assert!(align.is_power_of_two(), "align must be a power of two");
-        let spare_count = self.spare_count;
         if align <= 1 {
             return self.allocate(size);
         }
-        if spare_count <= 2 {
+        if self.spare_count <= 2 {
             return None;
         }
         if size > u32::MAX - (align - 1) {
@@ -524,11 +451,10 @@ impl<NI: NodeIndex> Allocator<NI> {
     /// no further block may exist; then nothing changes. With 0 units it is `true`. It makes at most 128 accesses to the
     /// tables, and takes no memory.
     pub fn extend(&mut self, more: u32) -> bool {
-        let size = self.size;
         if more == 0 {
             return true;
         }
-        if more > u32::MAX - size {
+        if more > u32::MAX - self.size {
             return false;
         }
         let used = chain::is_used(&self.tables, self.last, &mut self.accesses);

@@ -1,6 +1,6 @@
-use Rattle.std.proofs.Common.{refl, ap, ◌∙◌}
+use Rattle.std.proofs.Common.{refl, ap, ◌∙◌, inl, inr}
 use Rattle.offset_allocator.specs.Ranges.{range_of}
-use Rattle.offset_allocator.proofs.ViewUndo.{taken_back}
+use Rattle.offset_allocator.proofs.Undone.{taken_back}
 use Rattle.offset_uses.proofs.place_mesh.Goals as goal
 
 -- the first range is freed
@@ -9,3 +9,9 @@ returns-in-None-clause-same c e = taken_back c.args.outer c.args.vertices.now c.
 
 pub returns-in-None-clause-kept : goal.returns-in-None-clause-kept
 returns-in-None-clause-kept c x r e = ap (range_of x) (returns-in-None-clause-same c refl) ∙ e
+
+pub returns-in_err-one-clause-refused : goal.returns-in_err-one-clause-refused
+returns-in_err-one-clause-refused c e = inl (c.allocate.new.self, c.in_err-one.ensures.step)
+
+pub returns-in-None-clause-refused : goal.returns-in-None-clause-refused
+returns-in-None-clause-refused c e = inr (c.allocate.new.self, c.allocate-2.new.self, c.in_ok-one.one, c.in_ok-one.ensures.step, c.in-None.ensures.step)

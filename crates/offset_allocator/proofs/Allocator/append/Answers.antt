@@ -3,7 +3,7 @@ use Rattle.offset_allocator.specs.Cells.{node}
 use Rattle.offset_allocator.specs.Named.{ends_used, is_short_of, units}
 use Rattle.offset_allocator.specs.Space.{blocks}
 use Rattle.offset_allocator.specs.State.{Fields, AreSound, IsSound, shown, view_of}
-use Rattle.offset_allocator.specs.Relations.{Extends}
+use Rattle.offset_allocator.specs.Functional.{ExtendsBy}
 use Rattle.offset_allocator.proofs.Sound.{fields_of}
 use Rattle.offset_allocator.proofs.Sizes.{down_small}
 use Rattle.offset_allocator.proofs.Growing.{last_is}
@@ -70,7 +70,7 @@ overflow_add-self-2 g c =
 done : (g : Over) (c : After-push g) → Appending (fields_of g.NI.NodeIndex.MAX c.self.inside) c.args.more c.size-whole.result → (accesses : ℕ) →
     IsSound g.NI.NodeIndex.MAX (c.self.inside.size + c.args.more) c.self.inside.max_allocs c.push.new.tables c.split-name.new.last c.split-name.new.spare_count c.push.new.top_mask
     (c.self.inside.free_total + c.args.more)
-    × Extends c.args.more (shown (fields_of g.NI.NodeIndex.MAX c.self.inside))
+    × ExtendsBy c.args.more (shown (fields_of g.NI.NodeIndex.MAX c.self.inside))
     (view_of g.NI.NodeIndex.MAX (c.self.inside.size + c.args.more) c.self.inside.max_allocs c.push.new.tables c.split-name.new.last accesses) true
 done g c p accesses =
     let room : is_short_of 1 (shown (fields_of g.NI.NodeIndex.MAX c.self.inside)) ≡ false = rw (← c.self.view_is) at c.requires.room in

@@ -1,27 +1,18 @@
-use Rattle.std.proofs.Common.{◌<◌, ◌+◌, ◌∙◌, true, false, refl, arith, subst, sym}
-use Rattle.offset_allocator.specs.Named.{View, max_size}
+use Rattle.std.proofs.Common.{◌∙◌, true, false, refl, arith, ap, subst, sym}
+use Rattle.offset_allocator.specs.Named.{View}
 use Rattle.offset_allocator.specs.State.{shown, Fields}
 use Rattle.offset_allocator.specs.Relations.{Extends}
-use Rattle.offset_allocator.proofs.Unused.{some_unused}
+use Rattle.offset_allocator.proofs.Released.{extends, extends_counted, extends_done, cannot_grow}
 use Rattle.offset_allocator.proofs.Granting.{is_short}
 use Rattle.offset_allocator.proofs.Reading.{used_read}
-use Rattle.offset_allocator.proofs.Extending.{end, used_at_end, past, full, extends_nothing}
+use Rattle.offset_allocator.proofs.Extending.{end, used_at_end}
 use Rattle.offset_allocator.specs.Ranges.{KeepsAll}
 use Rattle.offset_allocator.proofs.Ranges.{extends_keeps}
 use Rattle.offset_allocator.proofs.Sound.{fields_of, known_sound}
 use Rattle.offset_allocator.proofs.Allocator.extend.Goals as goal
 
-pub returns-then-more-eq0-clause-step : goal.returns-then-more-eq0-clause-step
-returns-then-more-eq0-clause-step g c =
-    let P : View → Type 0 = λ u. Extends c.args.more u u true in
-    let u = some_unused (fields_of g.NI.NodeIndex.MAX c.self.inside) c.self.invariant in
-    subst P c.self.view_is (extends_nothing c.args.more (shown (fields_of g.NI.NodeIndex.MAX c.self.inside)) u.0 u.1 (omega arith))
-
-pub returns-then-more-size-clause-step : goal.returns-then-more-size-clause-step
-returns-then-more-size-clause-step g c =
-    let P : View → Type 0 = λ u. Extends c.args.more u u false in
-    let far : max_size < c.self.inside.size + c.args.more = omega arith in
-    subst P c.self.view_is (past (fields_of g.NI.NodeIndex.MAX c.self.inside) c.args.more c.self.invariant c.self.inside.accesses (omega arith) far)
+pub returns-then-more-self-clause-step : goal.returns-then-more-self-clause-step
+returns-then-more-self-clause-step g c = (omega arith, λ h. absurd (let l = h.0 in let s = ap (λ (u : View). u.size) c.self.view_is in omega arith), refl)
 
 pub is_used-used-requires : goal.is_used-used-requires
 is_used-used-requires g c = (end (fields_of g.NI.NodeIndex.MAX c.self.inside) c.args.more c.self.invariant).below
@@ -32,9 +23,10 @@ widen-requires-clause-idle g c =
 
 pub returns-then-self-lt2-clause-step : goal.returns-then-self-lt2-clause-step
 returns-then-self-lt2-clause-step g c =
-    let P : View → Type 0 = λ u. Extends c.args.more u (shown (record (fields_of g.NI.NodeIndex.MAX c.self.inside) { accesses = c.is_used-used.new.count })) false in
+    let f : Fields = fields_of g.NI.NodeIndex.MAX c.self.inside in
+    let P : View → Type 0 = λ u. Extends c.args.more u (shown (record f { accesses = c.is_used-used.new.count })) false in
     let used = sym (used_at_end (fields_of g.NI.NodeIndex.MAX c.self.inside) c.args.more c.self.invariant) ∙ (used_read _ _ _ _ c.self.invariant.space ∙ sym (c.is_used-used.ensures.used _ _ c.self.invariant.space) ∙ c.if-not-used.false) in
-    subst P c.self.view_is (full (fields_of g.NI.NodeIndex.MAX c.self.inside) c.args.more c.self.invariant c.is_used-used.new.count (omega arith) used (is_short (fields_of g.NI.NodeIndex.MAX c.self.inside) c.args.more c.self.invariant (omega arith)))
+    subst P c.self.view_is (omega arith, λ h. absurd (cannot_grow (shown f) (known_sound f c.self.invariant (shown f) refl).0 c.args.more used (is_short f c.args.more c.self.invariant (omega arith)) h), refl)
 
 pub append-requires-clause-used : goal.append-requires-clause-used
 append-requires-clause-used g c =
@@ -55,3 +47,31 @@ returns-clause-kept g c =
     let known = known_sound f c.self.invariant v refl in
     let P : View → Type 0 = λ u. KeepsAll u c.append.new.self in
     subst P c.self.view_is (extends_keeps c.args.more v c.append.new.self true known.0 c.append.ensures.step)
+
+pub returns-then-not-used-clause-step : goal.returns-then-not-used-clause-step
+returns-then-not-used-clause-step g c =
+    let f : Fields = fields_of g.NI.NodeIndex.MAX c.self.inside in
+    let v : View = shown (record f { accesses = c.is_used-used.new.count }) in
+    let known = known_sound (record f { accesses = c.is_used-used.new.count }) c.self.invariant v refl in
+    let P : View → Type 0 = λ u. Extends c.args.more u c.widen.new.self true in
+    subst P c.self.view_is (extends_counted c.args.more (shown f) c.widen.new.self c.is_used-used.new.count true (extends v known.0 c.args.more c.widen.new.self true c.widen.ensures.step))
+
+pub returns-clause-step : goal.returns-clause-step
+returns-clause-step g c =
+    let f : Fields = fields_of g.NI.NodeIndex.MAX c.self.inside in
+    let v : View = shown (record f { accesses = c.is_used-used.new.count }) in
+    let known = known_sound (record f { accesses = c.is_used-used.new.count }) c.self.invariant v refl in
+    let P : View → Type 0 = λ u. Extends c.args.more u c.append.new.self true in
+    subst P c.self.view_is (extends_counted c.args.more (shown f) c.append.new.self c.is_used-used.new.count true (extends v known.0 c.args.more c.append.new.self true c.append.ensures.step))
+
+pub returns-then-more-self-clause-done : goal.returns-then-more-self-clause-done
+returns-then-more-self-clause-done g c = extends_done c.args.more c.args.self.now c.args.self.now false (returns-then-more-self-clause-step g c)
+
+pub returns-then-not-used-clause-done : goal.returns-then-not-used-clause-done
+returns-then-not-used-clause-done g c = extends_done c.args.more c.args.self.now c.widen.new.self true (returns-then-not-used-clause-step g c)
+
+pub returns-then-self-lt2-clause-done : goal.returns-then-self-lt2-clause-done
+returns-then-self-lt2-clause-done g c = extends_done c.args.more c.args.self.now _ false (returns-then-self-lt2-clause-step g c)
+
+pub returns-clause-done : goal.returns-clause-done
+returns-clause-done g c = extends_done c.args.more c.args.self.now c.append.new.self true (returns-clause-step g c)

@@ -8,7 +8,7 @@ use Rattle.offset_allocator.proofs.Allocator.formed.Goals as goal
 formed : (it : Fields) → AreSound it → IsWellFormed (shown it)
 formed it s =
     let w = s.well in
-    record { some = w.some; distinct = w.distinct; below = w.below; whole = w.whole; apart = w.apart; classes = w.classes; orders = w.orders; room = w.room; spare = w.spare }
+    record { some = w.some; distinct = w.distinct; below = w.below; whole = w.whole; fits = w.fits; apart = w.apart; classes = w.classes; orders = w.orders; room = w.room; spare = w.spare }
 
 pub returns : goal.returns
 returns g c =

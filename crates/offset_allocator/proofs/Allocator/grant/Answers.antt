@@ -5,8 +5,8 @@ use Rattle.offset_allocator.specs.Named.{View, Place, is_short_of, IsUnused, uni
 use Rattle.offset_allocator.specs.Space.{blocks, mark_block, split_block, IsSpace, HasName, offset_in, size_in}
 use Rattle.offset_allocator.specs.Orders.{Binned, IsSmallestFrom, class_lists, IsUnlisted}
 use Rattle.offset_allocator.specs.State.{Fields, AreSound, shown}
-use Rattle.offset_allocator.specs.Relations.{Allocates}
-use Rattle.offset_allocator.proofs.Sound.{fields_of}
+use Rattle.offset_allocator.specs.Functional.{AllocatesBy}
+use Rattle.offset_allocator.proofs.Sound.{fields_of, known_sound}
 use Rattle.offset_allocator.proofs.Sizes.{down_small}
 use Rattle.offset_allocator.proofs.Unused.{some_unused}
 use Rattle.offset_allocator.proofs.Spot.{here_below}
@@ -79,11 +79,11 @@ module _ {f : Fields} {n class x top : ℕ} {mid : Cells} (m : Marked f n class 
   unused y fresh below = unused_rest f n class x p.sound p.room p.least p.after_one p.first mid.room y m.chain fresh (omega (arith, below, m.nodes))
 
   abbrev Granted : Fields → Type 0
-  Granted new = AreSound new × Allocates n (shown f) (shown new) (Some (record { name = x; offset = units place.before }))
+  Granted new = AreSound new × AllocatesBy n (shown f) (shown new) (Some (record { name = x; offset = units place.before }))
 
   -- in the terms that the body has for the view and the offset
   told : {new : Fields} {u v : View} {o : ℕ} → Granted new → shown f ≡ u → v ≡ shown new → o ≡ offset_in x (blocks mid.room f.last)
-      → Allocates n u v (Some (record { name = x; offset = o }))
+      → AllocatesBy n u v (Some (record { name = x; offset = o }))
   told granted was now at =
       let offset = offset_marked f n class x p.sound p.room p.least p.after_one p.first mid.room m.chain in
       rw (now, at, offset, ← was) granted.1
@@ -91,7 +91,7 @@ module _ {f : Fields} {n class x top : ℕ} {mid : Cells} (m : Marked f n class 
   -- the whole block
   whole : (k : ℕ) {w : ℕ} → w ≡ size_in x (blocks mid.room f.last) → w ≤ n → Granted (record f { cells = mid; top = top; free = f.free - n; accesses = k })
   whole k {w} size fits =
-      let u = some_unused f p.sound in
+      let u = some_unused (shown f) (known_sound f p.sound (shown f) (λ i. shown f)).0 in
       let exact : place.block.size ≡ n = omega (arith, size, sized, fits, enough f n class x p.sound p.room p.least p.after_one p.first) in
       granted_whole f n class x p.sound p.room p.least p.after_one p.first mid top k exact m.space m.chain m.bins m.order m.nodes u.0 u.1
 

@@ -5,7 +5,7 @@ use Rattle.offset_allocator.specs.Named.{View, Grant, is_short_of}
 use Rattle.offset_allocator.specs.Space.{IsSpace, HasName, blocks}
 use Rattle.offset_allocator.specs.Orders.{IsSmallestFrom}
 use Rattle.offset_allocator.specs.State.{view_of, shown}
-use Rattle.offset_allocator.specs.Relations.{Aligns}
+use Rattle.offset_allocator.specs.Functional.{AlignsBy}
 use Rattle.offset_allocator.proofs.Sound.{fields_of}
 use Rattle.offset_allocator.proofs.Spot.{here_below}
 use Rattle.offset_allocator.proofs.Aligning.{AlignedCall, there, free_enough, carve_asks, aligned_call}
@@ -77,8 +77,8 @@ invariant_of-self g c =
 
 pub returns-clause-step : goal.returns-clause-step
 returns-clause-step g c =
-    let P : View → Type 0 = λ u. Aligns c.args.size c.args.align u (view_of g.NI.NodeIndex.MAX c.self.inside.size c.self.inside.max_allocs c.divide.new.tables c.divide.new.last c.divide.new.count) (Some c.handle_of.result) in
+    let P : View → Type 0 = λ u. AlignsBy c.args.size c.args.align u (view_of g.NI.NodeIndex.MAX c.self.inside.size c.self.inside.max_allocs c.divide.new.tables c.divide.new.last c.divide.new.count) (Some c.handle_of.result) in
     let at = (goal.at.returns-clause-step g c).After-pop-name in
     let done = (aligned_call _ _ _ _ _ (pre g at) c.pop-name.new.tables _ _ c.pop-name.ensures.room c.pop-name.ensures.lists (c.offset-offset.ensures.offset _ _ (space g at) (stood g at)) (c.size-whole.ensures.size _ _ (space g at) (stood g at))
     c.divide.new.tables c.divide.new.last c.divide.new.spare_count c.divide.new.top_mask c.divide.new.count c.divide.result.0 c.divide.result.1 c.divide.ensures.space c.divide.ensures.held c.divide.ensures.limit c.divide.ensures.blocks c.divide.ensures.lists c.divide.ensures.front c.divide.ensures.rest c.divide.ensures.apart).1 in
-    subst P c.self.view_is (subst (λ (h : Grant). Aligns c.args.size c.args.align (shown (fields_of g.NI.NodeIndex.MAX c.self.inside)) (view_of g.NI.NodeIndex.MAX c.self.inside.size c.self.inside.max_allocs c.divide.new.tables c.divide.new.last c.divide.new.count) (Some h)) (sym c.handle_of.ensures) done)
+    subst P c.self.view_is (subst (λ (h : Grant). AlignsBy c.args.size c.args.align (shown (fields_of g.NI.NodeIndex.MAX c.self.inside)) (view_of g.NI.NodeIndex.MAX c.self.inside.size c.self.inside.max_allocs c.divide.new.tables c.divide.new.last c.divide.new.count) (Some h)) (sym c.handle_of.ensures) done)

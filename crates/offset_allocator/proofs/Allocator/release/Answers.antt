@@ -12,6 +12,7 @@ use Rattle.offset_allocator.proofs.Freeing.{there, at, size_at_x, room_for, list
 use Rattle.offset_allocator.proofs.Ranges.{freed_gone, freed_others}
 use Rattle.offset_allocator.proofs.Reading.{live_used}
 use Rattle.offset_allocator.proofs.Sound.{fields_of, known_sound}
+use Rattle.offset_allocator.proofs.Released.{frees}
 use Rattle.offset_allocator.proofs.Allocator.release.Goals as goal
 use Rattle.offset_allocator.proofs.Allocator.release.Goals.{After-self, After-with_before-size, After-with_after-size, After-push}
 use Rattle.offset_allocator.proofs.Allocator.release.Given.{Over}
@@ -176,3 +177,6 @@ returns-clause-gone g c = freed_gone _ _ _ (well g c) c.requires.live (returns-c
 
 pub returns-clause-others : goal.returns-clause-others
 returns-clause-others g c = freed_others _ _ _ (well g c) c.requires.live (returns-clause-step g c)
+
+pub returns-clause-frees : goal.returns-clause-frees
+returns-clause-frees g c = frees _ _ (well g c) _ c.requires.live (returns-clause-step g c)

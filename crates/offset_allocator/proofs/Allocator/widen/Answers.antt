@@ -4,7 +4,7 @@ use Rattle.offset_allocator.specs.Cells.{Room}
 use Rattle.offset_allocator.specs.Named.{ends_used}
 use Rattle.offset_allocator.specs.Space.{IsSpace, blocks}
 use Rattle.offset_allocator.specs.State.{Fields, AreSound, IsSound, shown, view_of}
-use Rattle.offset_allocator.specs.Relations.{Extends}
+use Rattle.offset_allocator.specs.Functional.{ExtendsBy}
 use Rattle.offset_allocator.proofs.Sound.{fields_of}
 use Rattle.offset_allocator.proofs.Sizes.{down_small}
 use Rattle.offset_allocator.proofs.Growing.{last_small}
@@ -68,7 +68,7 @@ overflow_add-self-2 g c =
 done : (g : Over) (c : After-push g) → Widening (fields_of g.NI.NodeIndex.MAX c.self.inside) c.args.more → (accesses : ℕ) →
     IsSound g.NI.NodeIndex.MAX (c.self.inside.size + c.args.more) c.self.inside.max_allocs c.push.new.tables c.self.inside.last c.self.inside.spare_count c.push.new.top_mask
     (c.self.inside.free_total + c.args.more)
-    × Extends c.args.more (shown (fields_of g.NI.NodeIndex.MAX c.self.inside))
+    × ExtendsBy c.args.more (shown (fields_of g.NI.NodeIndex.MAX c.self.inside))
     (view_of g.NI.NodeIndex.MAX (c.self.inside.size + c.args.more) c.self.inside.max_allocs c.push.new.tables c.self.inside.last accesses) true
 done g c p accesses =
     let space : IsSpace c.remove.new.tables.room c.self.inside.last c.self.inside.spare_count = rw c.remove.ensures.room c.self.invariant.space in

@@ -1,5 +1,5 @@
-use Rattle.offset_allocator.proofs.Always.{refuses_when_full}
+use Rattle.offset_allocator.proofs.Always.{reports_nothing}
 use Rattle.offset_allocator.proofs.laws.a_full_space_refuses.Goals as goal
 
-pub returns : goal.returns
-returns g c = refuses_when_full c.args.allocator.now
+pub returns-clause-reports : goal.returns-clause-reports
+returns-clause-reports g c full = reports_nothing c.args.allocator.now full

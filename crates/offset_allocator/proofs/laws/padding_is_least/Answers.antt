@@ -1,5 +1,8 @@
-use Rattle.offset_allocator.proofs.Always.{padding_is_least}
+use Rattle.offset_allocator.proofs.Always.{reaches, least}
 use Rattle.offset_allocator.proofs.laws.padding_is_least.Goals as goal
 
-pub returns : goal.returns
-returns c = padding_is_least
+pub returns-clause-reaches : goal.returns-clause-reaches
+returns-clause-reaches c align offset some = reaches align offset some
+
+pub returns-clause-least : goal.returns-clause-least
+returns-clause-least c align offset k some h = least align offset some k h

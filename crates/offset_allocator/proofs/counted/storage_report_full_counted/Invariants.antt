@@ -4,12 +4,12 @@ use Rattle.offset_allocator.specs.Classes.{value}
 use Rattle.offset_allocator.specs.Named.{names_at}
 use Rattle.offset_allocator.specs.Orders.{class_lists}
 use Rattle.offset_allocator.proofs.Counting.{names_below}
-use Rattle.offset_allocator.proofs.Allocator.storage_report_full_counted.Given as goal
+use Rattle.offset_allocator.proofs.counted.storage_report_full_counted.Given as goal
 
 abbrev pub invariant-loop-class : goal.invariant-loop-class
 invariant-loop-class g l = record {
   wide : length l.report.free_regions ≡ 256;
-  told : (k : ℕ) (d : StorageReportFullRegion) → k < l.class → slice_index_or l.report.free_regions k d ≡ record { size = value k % 2 ^ 32; count = length (names_at (class_lists g.NI.NodeIndex.MAX l.self-inside.tables.links) k) };
+  told : (k : ℕ) (d : StorageReportFullRegion) → k < l.class → slice_index_or l.report.free_regions k d ≡ record { size = value k % 2 ^ 32; count = length (names_at (class_lists g.NI.NodeIndex.MAX l.allocator-inside.tables.links) k) };
   grows : l.fn.count + l.class ≤ l.count;
-  accesses : l.count ≤ l.fn.count + l.class + names_below l.class (class_lists g.NI.NodeIndex.MAX l.self-inside.tables.links);
+  accesses : l.count ≤ l.fn.count + l.class + names_below l.class (class_lists g.NI.NodeIndex.MAX l.allocator-inside.tables.links);
 }

@@ -1,3 +1,4 @@
+use Rattle.std.proofs.lemmas.Grind.{common_steps}
 use Rattle.std.proofs.Common.{◌≡◌, ℕ, ◌+◌, ◌*◌, ◌%◌, ◌^◌, ◌≤◌, length, slice_index_or, subst, ap, ◌∙◌, arith}
 use Rattle.offset_allocator.specs.declared.reports.StorageReportFullRegion.{StorageReportFullRegion}
 use Rattle.offset_allocator.specs.Classes.{value}
@@ -6,16 +7,19 @@ use Rattle.offset_allocator.specs.Named.{View, free_sizes}
 use Rattle.offset_allocator.specs.State.{shown}
 use Rattle.offset_allocator.proofs.Sound.{fields_of}
 use Rattle.offset_allocator.proofs.Counting.{length_names, accesses_most}
-use Rattle.offset_allocator.proofs.Allocator.storage_report_full_counted.Goals as goal
+use Rattle.offset_allocator.proofs.counted.storage_report_full_counted.Goals as goal
 
 pub returns-clause-report : goal.returns-clause-report
 returns-clause-report g c k d h =
     let P : View → Type 0 = λ u. slice_index_or c.loop-class.report.free_regions k d ≡ record { size = value k % 2 ^ 32; count = count_of k (free_sizes u.blocks) } in
     let row : ℕ → StorageReportFullRegion = λ n. record { size = value k % 2 ^ 32; count = n } in
-    subst P c.self.view_is
-    (c.loop-class.invariant.told k d (omega arith) ∙ ap row (length_names (shown (record (fields_of g.NI.NodeIndex.MAX c.self.inside) { accesses = 0 })) c.self.invariant.well k))
+    subst P c.allocator.view_is
+    (c.loop-class.invariant.told k d (omega arith) ∙ ap row (length_names (shown (record (fields_of g.NI.NodeIndex.MAX c.allocator.inside) { accesses = 0 })) c.allocator.invariant.well k))
 
 pub returns-clause-count : goal.returns-clause-count
 returns-clause-count g c =
     let P : View → Type 0 = λ u. c.loop-class.count ≤ c.args.count.now + 512 + 2 * length (free_sizes u.blocks) in
-    subst P c.self.view_is (accesses_most (shown (record (fields_of g.NI.NodeIndex.MAX c.self.inside) { accesses = 0 })) c.self.invariant.well c.loop-class.class c.loop-class.count c.args.count.now (omega arith) c.loop-class.invariant.accesses)
+    subst P c.allocator.view_is (accesses_most (shown (record (fields_of g.NI.NodeIndex.MAX c.allocator.inside) { accesses = 0 })) c.allocator.invariant.well c.loop-class.class c.loop-class.count c.args.count.now (omega arith) c.loop-class.invariant.accesses)
+
+pub loop-class-preserved : goal.loop-class-preserved
+loop-class-preserved g c = grind (arith, common_steps)

@@ -1,3 +1,4 @@
+use Rattle.std.proofs.lemmas.Grind.{common_steps}
 use Rattle.std.proofs.Common.{◌≡◌, ℕ, sym, subst, ◌<◌, arith, ◌%◌, ◌^◌, ◌≤◌, Bool, true, false, ◌&&◌, List, [], ◌∷◌, nat_eq, refl, ap, ◌∙◌, inl, inr, le_trans}
 use Rattle.std.proofs.lemmas.Bool.{cases_lt}
 use Rattle.std.proofs.lemmas.Bool.Decides.{nat_tests}
@@ -14,8 +15,8 @@ use Rattle.offset_allocator.proofs.Sizes.{down_small}
 use Rattle.offset_allocator.proofs.Classes.{down_law, value_grows}
 use Rattle.offset_allocator.proofs.ViewOrders.{hit_cases}
 use Rattle.offset_allocator.proofs.ViewFits.{HasName, there_listed, reported, reports_all, sized_below}
-use Rattle.offset_allocator.proofs.Allocator.storage_report_counted.Goals.{in-None, in-Some}
-use Rattle.offset_allocator.proofs.Allocator.storage_report_counted.Goals as goal
+use Rattle.offset_allocator.proofs.counted.storage_report_counted.Goals.{in-None, in-Some}
+use Rattle.offset_allocator.proofs.counted.storage_report_counted.Goals as goal
 
 -- The short report is right.
 hit_all : (f : Bool) (c d : ℕ) (r : Bool) → 1 ≤ one (f && (nat_eq c d && r)) → (f ≡ true) × (c ≡ d)
@@ -82,7 +83,7 @@ module _ (it : Fields) (s : AreSound it) (room : 1 < it.count) where
   sized = let w = s.well.whole in let f = s.space.fits in omega arith
 
   well : IsWellFormed seen
-  well = let w = s.well in record { some = w.some; distinct = w.distinct; below = w.below; whole = w.whole; apart = w.apart; classes = w.classes; orders = w.orders; room = w.room; spare = w.spare }
+  well = let w = s.well in record { some = w.some; distinct = w.distinct; below = w.below; whole = w.whole; fits = w.fits; apart = w.apart; classes = w.classes; orders = w.orders; room = w.room; spare = w.spare }
 
   total_read : it.free ≡ total_free seen
   total_read = rw short (sym s.total ∙ free_units_sum (blocks it.cells.room it.last))
@@ -95,12 +96,12 @@ module _ (it : Fields) (s : AreSound it) (room : 1 < it.count) where
 
 pub returns-clause-report : goal.returns-clause-report
 returns-clause-report g c =
-    let P : View → Type 0 = λ u. (c.self.inside.free_total ≡ total_free u) × (c.match-largest.largest_free_region ≡ largest_free u) in
-    let Q : ℕ → Type 0 = λ r. (c.self.inside.free_total ≡ total_free (shown (fields_of g.NI.NodeIndex.MAX c.self.inside))) × (r ≡ largest_free (shown (fields_of g.NI.NodeIndex.MAX c.self.inside))) in
-    let room : 1 < c.self.inside.spare_count = omega arith in
-    subst P c.self.view_is (elim c.match-largest.branch [
-      | in-None w ↦ subst Q (sym w.largest_free_region-is) (report_none (fields_of g.NI.NodeIndex.MAX c.self.inside) c.self.invariant room w.in-None.ensures.largest)
-      | in-Some w ↦ subst Q (sym w.largest_free_region-is) (report_some (fields_of g.NI.NodeIndex.MAX c.self.inside) c.self.invariant room w.in-Some.class _ w.in-Some.ensures.largest w.float_to_uint-largest_free_region.ensures.is)
+    let P : View → Type 0 = λ u. (c.allocator.inside.free_total ≡ total_free u) × (c.match-largest.largest_free_region ≡ largest_free u) in
+    let Q : ℕ → Type 0 = λ r. (c.allocator.inside.free_total ≡ total_free (shown (fields_of g.NI.NodeIndex.MAX c.allocator.inside))) × (r ≡ largest_free (shown (fields_of g.NI.NodeIndex.MAX c.allocator.inside))) in
+    let room : 1 < c.allocator.inside.spare_count = omega arith in
+    subst P c.allocator.view_is (elim c.match-largest.branch [
+      | in-None w ↦ subst Q (sym w.largest_free_region-is) (report_none (fields_of g.NI.NodeIndex.MAX c.allocator.inside) c.allocator.invariant room w.in-None.ensures.largest)
+      | in-Some w ↦ subst Q (sym w.largest_free_region-is) (report_some (fields_of g.NI.NodeIndex.MAX c.allocator.inside) c.allocator.invariant room w.in-Some.class _ w.in-Some.ensures.largest w.float_to_uint-largest_free_region.ensures.is)
     ])
 
 pub returns-clause-least : goal.returns-clause-least
@@ -110,3 +111,9 @@ returns-clause-least g c l =
       | in-None w ↦ absurd (omega (arith, l, r, w.largest_free_region-is))
       | in-Some w ↦ omega (arith, w.in-Some.ensures.count)
     ]
+
+pub returns-clause-count : goal.returns-clause-count
+returns-clause-count g c = grind (arith, common_steps)
+
+pub returns-then-allocator-lt2-clause-report : goal.returns-then-allocator-lt2-clause-report
+returns-then-allocator-lt2-clause-report g c = grind (arith, common_steps)

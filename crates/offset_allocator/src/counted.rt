@@ -1,0 +1,136 @@
+//! The calls that leave an allocator as it is, with a count of their accesses. The plain calls are these with a count of
+//! their own, and `laws` shows them to callers.
+ghost use Rattle.std.specs.Prelude.{◌≡◌, ◌<◌, ◌≤◌, ◌+◌, ◌*◌, ◌↔◌, IsTrue, IfSome, None, length};
+ghost use Rattle.offset_allocator.specs.Named.{free_sizes, largest_free};
+ghost use Rattle.offset_allocator.specs.Ranges.{size_of, IsLive};
+ghost use Rattle.offset_allocator.specs.Relations.{IsAlignment};
+ghost use Rattle.offset_allocator.specs.Promises.{IsReport, IsFullReport, CanGrant, IsWhy, blocks_needed, units_needed};
+
+use crate::accesses::Accesses;
+use crate::handle::Allocation;
+use crate::index::{self, NodeIndex};
+use crate::reports::{Refusal, StorageReport, StorageReportFull, StorageReportFullRegion};
+use crate::small_float::{float_to_uint, uint_to_float_round_up};
+use crate::{Allocator, bins, chain};
+
+/// As `Allocator::is_live`. The count grows by at most 8.
+pub fn is_live_counted<NI: NodeIndex>(
+    allocator: &Allocator<NI>,
+    allocation: Allocation<NI>,
+    count: &mut Accesses,
+) -> bool
+    ensures live { IsTrue result ↔ IsLive allocation.name allocator.now }
+    ensures grows { count.old ≤ count.new }
+    ensures least { allocation.name < allocator.now.max_allocs → count.old + 1 ≤ count.new }
+    ensures count { count.new ≤ count.old + 8 }
+{
+    allocator.uses(index::number(NI::of_nonmax(allocation.name())), count)
+}
+
+/// As `Allocator::allocation_size`. The count grows by at most 8.
+pub fn allocation_size_counted<NI: NodeIndex>(
+    allocator: &Allocator<NI>,
+    allocation: Allocation<NI>,
+    count: &mut Accesses,
+) -> u32
+    ensures size { result ≡ size_of allocation.name allocator.now }
+    ensures grows { count.old ≤ count.new }
+    ensures least { IsLive allocation.name allocator.now → count.old + 2 ≤ count.new }
+    ensures count { count.new ≤ count.old + 8 }
+{
+    let name = index::number::<NI>(NI::of_nonmax(allocation.name()));
+    if allocator.uses(name, count) {
+        chain::size(&allocator.tables, name, count)
+    } else {
+        0
+    }
+}
+
+/// As `Allocator::storage_report`. The count grows by at most 8.
+pub fn storage_report_counted<NI: NodeIndex>(
+    allocator: &Allocator<NI>,
+    count: &mut Accesses,
+) -> StorageReport
+    ensures report { IsReport result allocator.now }
+    ensures grows { count.old ≤ count.new }
+    ensures least { 1 ≤ largest_free allocator.now → count.old + 1 ≤ count.new }
+    ensures count { count.new ≤ count.old + 8 }
+{
+    if allocator.spare_count < 2 {
+        return StorageReport {
+            total_free_space: 0,
+            largest_free_region: 0,
+        };
+    }
+    let largest_free_region = match bins::largest(&allocator.tables, allocator.top_mask, count) {
+        None => 0,
+        Some(class) => float_to_uint(class),
+    };
+    StorageReport {
+        total_free_space: allocator.free_total,
+        largest_free_region,
+    }
+}
+
+/// As `Allocator::storage_report_full`. The count grows by at most 512, and 2 for each free block.
+pub fn storage_report_full_counted<NI: NodeIndex>(
+    allocator: &Allocator<NI>,
+    count: &mut Accesses,
+) -> StorageReportFull
+    ensures report { IsFullReport result allocator.now }
+    ensures grows { count.old + 256 ≤ count.new }
+    ensures count { count.new ≤ count.old + 512 + 2 * length (free_sizes allocator.now.blocks) }
+{
+    let mut report = StorageReportFull::default();
+    for class in 0..256u32 {
+        report.free_regions[class as usize] = StorageReportFullRegion {
+            size: float_to_uint(class),
+            count: bins::length_of(&allocator.tables, class, count),
+        };
+    }
+    report
+}
+
+/// As `Allocator::refusal`. The count grows by at most 8.
+pub fn refusal_counted<NI: NodeIndex>(
+    allocator: &Allocator<NI>,
+    size: u32,
+    count: &mut Accesses,
+) -> Option<Refusal>
+    ensures granted { result ≡ None ↔ CanGrant 1 size allocator.now }
+    ensures why { IfSome result (IsWhy 1 size allocator.now) }
+    ensures grows { count.old ≤ count.new }
+    ensures least { result ≡ None → count.old + 1 ≤ count.new }
+    ensures count { count.new ≤ count.old + 8 }
+{
+    refusal_aligned_counted(allocator, size, 1, count)
+}
+
+/// As `Allocator::refusal_aligned`. The count grows by at most 8.
+pub fn refusal_aligned_counted<NI: NodeIndex>(
+    allocator: &Allocator<NI>,
+    size: u32,
+    align: u32,
+    count: &mut Accesses,
+) -> Option<Refusal>
+    requires power { IsAlignment align }
+    ensures granted { result ≡ None ↔ CanGrant (blocks_needed align) (units_needed size align) allocator.now }
+    ensures why { IfSome result (IsWhy (blocks_needed align) (units_needed size align) allocator.now) }
+    ensures grows { count.old ≤ count.new }
+    ensures least { result ≡ None → count.old + 1 ≤ count.new }
+    ensures count { count.new ≤ count.old + 8 }
+{
+    let blocks = align.min(2);
+    let units = size as u64 + (align - 1) as u64;
+    if allocator.spare_count <= blocks {
+        return Some(Refusal::Nodes);
+    }
+    if units > allocator.free_total as u64 {
+        return Some(Refusal::Space);
+    }
+    let smallest = uint_to_float_round_up(units as u32);
+    match bins::find_at_or_above(&allocator.tables, allocator.top_mask, smallest, count) {
+        None => Some(Refusal::Fragmented),
+        Some(_) => None,
+    }
+}
