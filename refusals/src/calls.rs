@@ -29,21 +29,21 @@ pub const FAULTY: u32 = 2;
 
 /// The result of a call, and the numbers that it put into the cells.
 #[derive(PartialEq, Debug)]
-pub struct Told {
+pub struct Outcome {
     pub result: u32,
     numbers: Vec<u64>,
 }
 
-pub fn outcome(result: u32, numbers: &[u64]) -> Told {
+pub fn outcome(result: u32, numbers: &[u64]) -> Outcome {
     let numbers = numbers.to_vec();
-    Told { result, numbers }
+    Outcome { result, numbers }
 }
 
 /// Marks a cell that has no number. No number is this one.
 const EMPTY: u64 = u64::MAX;
 
 impl Call {
-    pub fn with(&self, text: &str) -> Told {
+    pub fn with(&self, text: &str) -> Outcome {
         let mut cells = vec![EMPTY; 32_768];
         let (at, length) = (cells.as_mut_ptr(), cells.len());
         let result = unsafe { (self.function)(text.as_ptr(), text.len(), at, length) };

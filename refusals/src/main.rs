@@ -51,7 +51,7 @@ impl Check {
 
     /// Fails each request of a call in turn, after the `first` ones of the parse before it: that request alone, and
     /// that one with all after it. It ends where a run makes no such request, and returns the number of requests.
-    fn fail_each(&mut self, call: Call, text: &str, first: u64, wanted: &Told) -> u64 {
+    fn fail_each(&mut self, call: Call, text: &str, first: u64, wanted: &Outcome) -> u64 {
         let out_of_memory = outcome(REFUSED, &[]);
         for place in first + 1.. {
             let mut is_met = false;
@@ -82,7 +82,7 @@ impl Check {
     }
 
     /// The result of a call with ample memory, which must not be a failure.
-    fn with_ample_memory(&mut self, call: Call, text: &str) -> Told {
+    fn with_ample_memory(&mut self, call: Call, text: &str) -> Outcome {
         let (found, _) = with_failures(0..0, || call.with(text));
         self.must(found.result == ANSWERED, call, text, format!("{found:?}"));
         found
@@ -124,7 +124,7 @@ impl Check {
         );
     }
 
-    fn script(&mut self, text: &str, script: &Told, answers: &Told, written: &Told) {
+    fn script(&mut self, text: &str, script: &Outcome, answers: &Outcome, written: &Outcome) {
         let first = self.fail_each(PARSE, text, 0, script);
         self.fail_each(PLAY, text, first, answers);
         self.fail_each(RUN, text, 0, written);

@@ -6,9 +6,8 @@ use Rattle.std.proofs.lemmas.Bool.{cases_lt, false≢true}
 use Rattle.offset_allocator.specs.Classes.{down}
 use Rattle.offset_allocator.specs.Named.{Block, View, Place, one, is_free, free_block, units, count_named, used_of, times, count_listed, names_at, push, IsApart, IsWellFormed, place_of, is_used_at, free_start, without_start, free_end, without_end, coalesce, free_at, free, reset}
 use Rattle.offset_allocator.specs.Relations.{SameSpace, Resets}
-use Rattle.offset_allocator.specs.Space.{last_or, name_before}
-use Rattle.offset_allocator.proofs.Found.{name_before-at}
-use Rattle.offset_allocator.proofs.Merging.{Ended, ended}
+use Rattle.offset_allocator.specs.Space.{last_or}
+use Rattle.offset_allocator.proofs.Ends.{Ended, ended}
 use Rattle.offset_allocator.proofs.Sizes.{down_small}
 use Rattle.offset_allocator.specs.Ranges.{IsLive}
 use Rattle.offset_allocator.proofs.Reading.{used_live}
@@ -105,12 +104,9 @@ module _ (bs : List Block) (last : ℕ) (ends : last_or None bs ≡ Some last) (
   is_idle : b.used ≡ false
   is_idle = sym (ap is_used_at (ap (place_of last) end.is ∙ place_here last front b [] (ap (λ (k : ℕ). count_named k front) (sym end.name) ∙ alone) (sym end.name))) ∙ idle
 
-  before_is : name_before None last bs ≡ last_or None front
-  before_is = ap₂ (λ (k : ℕ) (l : List Block). name_before None k l) (sym end.name) end.is ∙ name_before-at None front b [] alone
-
-  pub before_used : (x : ℕ) → name_before None last bs ≡ Some x → is_used_at (place_of x bs) ≡ true
+  pub before_used : (x : ℕ) → last_or None (ended bs last ends).front ≡ Some x → is_used_at (place_of x bs) ≡ true
   before_used x e =
-      let e2 = ended front x (sym before_is ∙ e) in
+      let e2 = ended front x e in
       let d : Block = e2.last in
       let is : bs ≡ e2.front ++ (d ∷ b ∷ []) = end.is ∙ ap (λ (l : List Block). l ++ b ∷ []) e2.is ∙ append_assoc e2.front (d ∷ []) (b ∷ []) in
       let parts = apart_parts e2.front (d ∷ b ∷ []) (subst IsApart is apart) in
@@ -125,14 +121,14 @@ module _ (bs : List Block) (last : ℕ) (ends : last_or None bs ≡ Some last) (
       not_false true e = refl
       not_false false e = absurd (false≢true (sym e))
 
-  pub none_used : name_before None last bs ≡ None → used_of bs ≡ 0
-  none_used e = only front end.is (sym before_is ∙ e)
+  pub none_used : last_or None (ended bs last ends).front ≡ None → used_of bs ≡ 0
+  none_used e = only front end.is e
     where
       only : (fs : List Block) → bs ≡ fs ++ b ∷ [] → last_or None fs ≡ None → used_of bs ≡ 0
       only [] is e = omega (arith, ap used_of is, ap one is_idle)
       only (f ∷ fs) is e = absurd (ended_some f.name fs e)
 
-  pub before_live : (v : View) → v.blocks ≡ bs → (o : Option ℕ) → o ≡ name_before None last bs → IfSome o (λ x. IsLive x v)
+  pub before_live : (v : View) → v.blocks ≡ bs → (o : Option ℕ) → o ≡ last_or None (ended bs last ends).front → IfSome o (λ x. IsLive x v)
   before_live v is None e = tt
   before_live v is (Some x) e = used_live x v (ap (λ (l : List Block). is_used_at (place_of x l)) is ∙ before_used x (sym e))
 

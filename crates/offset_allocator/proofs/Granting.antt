@@ -1,48 +1,48 @@
 -- What a grant leaves of the whole allocator.
 use Rattle.std.proofs.Common.{◌≡◌, ℕ, ◌+◌, ◌-◌, ◌<◌, ◌≤◌, true, false, List, [], ◌∷◌, ◌++◌, length, Some, refl, sym, ap, ap₂, subst, ◌∙◌, arith, slice_set, le-leb}
 use Rattle.offset_allocator.specs.Classes.{up, down}
-use Rattle.offset_allocator.specs.Cells.{Cells, Room}
-use Rattle.offset_allocator.specs.Named.{Block, View, Place, Grant, Outcome, count_named, names_at, IsWellFormed, IsUnused, is_short_of, allocate, free_part, used_block, free_block, units, remove_all, push_all, remove, push, without}
-use Rattle.offset_allocator.specs.Space.{IsSpace, HasName, blocks, mark_block, split_block, offset_in, size_in}
-use Rattle.offset_allocator.specs.Orders.{IsUnlisted, IsSmallestFrom, class_lists, Binned}
-use Rattle.offset_allocator.specs.State.{Fields, AreSound, IsSound, shown, view_of, free_units}
+use Rattle.offset_allocator.specs.Cells.{Cells, Room, Node, node}
+use Rattle.offset_allocator.specs.Named.{Block, View, Place, Grant, Outcome, grant_in, count_named, names_at, IsWellFormed, IsUnused, is_short_of, allocate, free_part, used_block, free_block, units, remove_all, push_all, remove, push, without}
+use Rattle.offset_allocator.specs.Space.{HasPlace, blocks}
+use Rattle.offset_allocator.specs.Orders.{IsSmallestFrom, class_lists, Binned}
+use Rattle.offset_allocator.specs.State.{Fields, AreSound, AreUnlisted, shown, free_units}
 use Rattle.offset_allocator.specs.Functional.{AllocatesBy}
 use Rattle.offset_allocator.proofs.Joints.{with_accesses}
-use Rattle.offset_allocator.proofs.Rows.{one-eq, times-append}
-use Rattle.offset_allocator.proofs.Found.{split_block-at, size_in-at, offset_in-at}
-use Rattle.offset_allocator.proofs.Marks.{mark_block-at}
+use Rattle.offset_allocator.proofs.Rows.{times-append}
+use Rattle.offset_allocator.proofs.Places.{placed, at_place}
+use Rattle.offset_allocator.proofs.Pieces.{no_remainder, some_part}
 use Rattle.offset_allocator.proofs.Sizes.{fits_size}
 use Rattle.offset_allocator.proofs.ViewTaken.{well_allocate}
-use Rattle.offset_allocator.proofs.Joints.{unused_unlisted, unlisted_removed, TakenHere, taken_here, allocate_granted, well_counted, free_part-some, free_part-none, remove_free, not_true, free_units-append, free_units-free, free_units-used}
+use Rattle.offset_allocator.proofs.Unused.{some_unused}
+use Rattle.offset_allocator.proofs.Joints.{stepped, unused_unlisted, unlisted_removed, TakenHere, taken_here, allocate_granted, well_counted, free_part_units, remove_free, not_true, free_units-append, free_units-free, free_units-used}
 
-pub same_view : (v : View) (bs bs' : List Block) (os os' : List (List ℕ)) (k : ℕ) → bs ≡ bs' → os ≡ os' → record v { blocks = bs; order = os; accesses = k } ≡ record v { blocks = bs'; order = os'; accesses = k }
-same_view v bs bs' os os' k e f = ap₂ (λ (b : List Block) (o : List (List ℕ)). record v { blocks = b; order = o; accesses = k }) e f
+-- a grant: sound fields, room for one more block, a class with a free block for n, and the first name there
+pub record Call (f : Fields) (n class x : ℕ) : Type 0 where
+  pub sound : AreSound f
+  pub room : is_short_of 1 (shown f) ≡ false
+  pub least : IsSmallestFrom (up n) (class_lists f.max f.cells.links) class
+  pub after_one : List ℕ
+  pub first : names_at (class_lists f.max f.cells.links) class ≡ x ∷ after_one
 
--- a grant: the field values at its start, a class with a free block for n, and the first name there
-module _ (f : Fields) (n class x : ℕ) (s : AreSound f) (room : is_short_of 1 (shown f) ≡ false) (l : IsSmallestFrom (up n) (class_lists f.max f.cells.links) class) (xs : List ℕ) (first : names_at (class_lists f.max f.cells.links) class ≡ x ∷ xs) where
-  abbrev max : ℕ
-  max = f.max
+-- a name is taken out of its class
+abbrev pub popped : Fields → ℕ → ℕ → List (List ℕ)
+popped f class x = slice_set (class_lists f.max f.cells.links) class (without x (names_at (class_lists f.max f.cells.links) class))
 
-  abbrev c : Cells
-  c = f.cells
-
-  abbrev last : ℕ
-  last = f.last
-
+module _ {f : Fields} {n class x : ℕ} (call : Call f n class x) where
   abbrev v : View
   v = shown f
 
   abbrev bs : List Block
-  bs = blocks c.room last
+  bs = blocks f.cells.room f.last
 
   abbrev ls : List (List ℕ)
-  ls = class_lists max c.links
+  ls = class_lists f.max f.cells.links
 
-  pub w : IsWellFormed (shown f)
-  w = well_counted (shown (record f { accesses = 0 })) f.accesses s.well
+  w : IsWellFormed (shown f)
+  w = well_counted (shown (record f { accesses = 0 })) f.accesses call.sound.well
 
   pub got : TakenHere n (shown f) class x
-  got = taken_here n (shown f) w class x xs l first
+  got = taken_here n (shown f) w class x call.after_one call.least call.first
 
   -- the block that is taken
   abbrev p : Place
@@ -51,102 +51,78 @@ module _ (f : Fields) (n class x : ℕ) (s : AreSound f) (room : is_short_of 1 (
   is_free : p.block.used ≡ false
   is_free = not_true p.block.used got.here.free
 
-  alone : count_named p.block.name p.before ≡ 0
-  alone = got.here.alone
+  pub held : {d : Room} → d ≡ f.cells.room → HasPlace d (length f.cells.room.nodes) f.last f.count x got.place
+  held e = rw e (placed (rw got.here.stood at call.sound.space) got.name)
 
   pub enough : n ≤ got.place.block.size
   enough = fits_size n got.place.block.size (le-leb (up n) (down got.place.block.size) got.here.class)
 
-  pub there : HasName x (blocks f.cells.room f.last)
-  there = rw got.here.stood (omega (arith, times-append x p.before (p.block ∷ p.after), one-eq x p.block.name got.name))
+  -- a name that no block has is unused
+  pub unused_in : (y : ℕ) → count_named y (got.place.before ++ got.place.block ∷ got.place.after) ≡ 0 → y < length f.cells.room.nodes → IsUnused y (shown f)
+  unused_in y none low = record { below = omega (arith, call.sound.nodes); absent = ap (λ z. count_named y z) got.here.stood ∙ none }
 
-  marked : mark_block x true bs ≡ p.before ++ record p.block { used = true } ∷ p.after
-  marked = ap (λ b. mark_block x true b) got.here.stood ∙ ap (λ y. mark_block y true (p.before ++ p.block ∷ p.after)) (sym got.name) ∙ mark_block-at p.before p.block p.after true alone
+  pub unlisted : AreUnlisted (blocks f.cells.room f.last) (popped f class x)
+  unlisted y e = unlisted_removed y x class ls w.classes call.least.1 (unused_unlisted v w y e)
 
-  -- before the remainder is split off
-  pub there_marked : (d : Room) (e : blocks d f.last ≡ mark_block x true (blocks f.cells.room f.last)) → HasName x (blocks d f.last)
-  there_marked d e = rw (e, marked) (omega (arith, times-append x p.before (record p.block { used = true } ∷ p.after), one-eq x p.block.name got.name))
-
-  pub size_marked : (d : Room) (e : blocks d f.last ≡ mark_block x true (blocks f.cells.room f.last)) → size_in x (blocks d f.last) ≡ got.place.block.size
-  size_marked d e = ap (size_in x) (e ∙ marked) ∙ ap (λ y. size_in y (p.before ++ record p.block { used = true } ∷ p.after)) (sym got.name) ∙ size_in-at p.before (record p.block { used = true }) p.after alone
-
-  pub offset_marked : (d : Room) (e : blocks d f.last ≡ mark_block x true (blocks f.cells.room f.last)) → offset_in x (blocks d f.last) ≡ units got.place.before
-  offset_marked d e = ap (offset_in x) (e ∙ marked) ∙ ap (λ y. offset_in y (p.before ++ record p.block { used = true } ∷ p.after)) (sym got.name) ∙ offset_in-at p.before (record p.block { used = true }) p.after alone
-
-  -- a name that is new among the marked blocks is unused
-  pub unused_rest : (d : Room) (y : ℕ) → blocks d f.last ≡ mark_block x true (blocks f.cells.room f.last) → count_named y (blocks d f.last) ≡ 0 → y < length f.cells.room.nodes → IsUnused y (shown f)
-  unused_rest d y e t b = record {
-    below = omega (arith, s.nodes);
-    absent = ap (λ z. count_named y z) got.here.stood ∙ (let q = ap (λ z. count_named y z) (e ∙ marked) in omega (arith, t, times-append y p.before (p.block ∷ p.after), times-append y p.before (record p.block { used = true } ∷ p.after)));
-  }
-
-  pub rest_unlisted : (y : ℕ) → IsUnused y (shown f) → IsUnlisted y (slice_set (class_lists f.max f.cells.links) class (without x (names_at (class_lists f.max f.cells.links) class)))
-  rest_unlisted y u = unlisted_removed y x class ls w.classes l.1 (unused_unlisted v w y u.absent)
-
-  removed : remove_all (p.block ∷ []) ls ≡ slice_set ls class (without x (names_at ls class))
+  pub removed : remove_all (got.place.block ∷ []) (class_lists f.max f.cells.links) ≡ popped f class x
   removed = remove_free p.block ls is_free ∙ ap₂ (λ i y. remove i y ls) got.class got.name
 
-  left_free : (b' : Block) (zs : List Block) → b'.used ≡ true → free_units (p.before ++ b' ∷ zs) ≡ free_units p.before + free_units zs
-  left_free b' zs u = free_units-append p.before (b' ∷ zs) ∙ ap (λ k. free_units p.before + k) (free_units-used b' zs u)
-
-  had_free : f.free ≡ free_units p.before + (p.block.size + free_units p.after)
-  had_free = sym s.total ∙ ap free_units got.here.stood ∙ free_units-append p.before (p.block ∷ p.after) ∙ ap (λ k. free_units p.before + k) (free_units-free p.block p.after is_free)
+  pub had_free : f.free ≡ free_units got.place.before + (got.place.block.size + free_units got.place.after)
+  had_free = sym call.sound.total ∙ ap free_units got.here.stood ∙ free_units-append p.before (p.block ∷ p.after) ∙ ap (λ k. free_units p.before + k) (free_units-free p.block p.after is_free)
 
   pub free_enough : n ≤ f.free
   free_enough = omega (arith, had_free, enough)
 
-  abbrev new_blocks : ℕ → List Block
-  new_blocks y = p.before ++ ((free_part y 0 ++ used_block p.block.name n ∷ free_part y (p.block.size - (0 + n))) ++ p.after)
+  -- what is granted, with any number of accesses counted
+  abbrev pub Granted : Fields → Type 0
+  Granted new = AreSound new × AllocatesBy n (shown f) (shown new) (Some (record { name = x; offset = units got.place.before }))
 
-  abbrev new_order : ℕ → List (List ℕ)
-  new_order y = push_all (free_part y 0 ++ used_block p.block.name n ∷ free_part y (p.block.size - (0 + n))) (remove_all (p.block ∷ []) ls)
-
-  concluded : (d : Cells) (last' count' top' acc' y : ℕ) → IsSpace d.room last' count' → Binned max d.links top' → length d.room.nodes ≡ length f.cells.room.nodes → IsUnused y v
-      → blocks d.room last' ≡ new_blocks y → class_lists f.max d.links ≡ new_order y → free_units (blocks d.room last') ≡ f.free - n
-      → IsSound f.max f.size f.limit d last' count' top' (f.free - n) × AllocatesBy n (shown f) (view_of f.max f.size f.limit d last' acc') (Some (record { name = x; offset = units p.before }))
-  concluded d last' count' top' acc' y space bins nodes unused blocks_are order_is total =
-      let is = allocate_granted n y v p room got.is in
-      let left : (k : ℕ) → view_of f.max f.size f.limit d last' k ≡ with_accesses k (allocate n y v).view = λ k. same_view v _ _ _ _ k blocks_are order_is ∙ ap (λ (o : Outcome). with_accesses k o.view) (sym is) in
+  -- the first units are granted, and a remainder is after them, unless it has no units
+  granted : (k : ℕ) (d : Cells) (y : ℕ) {last count top : ℕ} → HasPlace d.room (length f.cells.room.nodes) last count x (record { before = got.place.before; block = used_block got.place.block.name n; after = free_part y (got.place.block.size - n) ++ got.place.after })
+      → Binned f.max d.links top → class_lists f.max d.links ≡ push_all (free_part y (got.place.block.size - n)) (popped f class x) → IsUnused y (shown f)
+      → Granted (record f { cells = d; last = last; count = count; top = top; free = f.free - n; accesses = k })
+  granted k d y there bins lists unused =
+      let is = allocate_granted n y v p call.room got.is in
+      let zero_is : 0 + n ≡ n = omega arith in
       let grant : Grant = record { name = x; offset = units p.before } in
-      let answered : Some grant ≡ (allocate n y v).grant = ap₂ (λ (i o : ℕ). let h : Grant = record { name = i; offset = o } in Some h) (sym got.name) (omega arith) ∙ ap (λ (o : Outcome). o.grant) (sym is) in (
-        record {
-          nodes = nodes ∙ s.nodes;
-          least = s.least;
-          space = space;
-          bins = bins;
-          well = subst IsWellFormed (sym (left 0)) (well_counted (allocate n y v).view 0 (well_allocate v w n y unused));
-          total = total;
-        },
-        record { rest = y; unused = unused; answer = answered; view = left acc' },
-      )
+      let answered : Some grant ≡ (allocate n y v).grant = ap₂ (λ (i o : ℕ). let h : Grant = record { name = i; offset = o } in Some h) (sym got.name) (omega arith) ∙ ap (λ (o : Outcome). o.grant) (sym is) in
+      let total = free_units-append p.before (used_block p.block.name n ∷ (free_part y (p.block.size - n) ++ p.after)) in
+      let left = stepped f call.sound (grant_in v n 0 y y p).view d (f.free - n) k (subst (λ (o : Outcome). IsWellFormed o.view) is (well_allocate v w n y unused)) refl there.chain (rw zero_is refl) bins (rw (zero_is, removed) lists)
+      (omega (arith, total, free_units-used (used_block p.block.name n) (free_part y (p.block.size - n) ++ p.after) refl, free_part_units y (p.block.size - n) p.after, had_free, enough)) in
+      (left.0, record { rest = y; unused = unused; answer = answered; view = left.1 ∙ ap (λ (o : Outcome). with_accesses k o.view) (sym is) })
 
-  -- the whole of it is granted
-  pub granted_whole : (d : Cells) (top' acc' : ℕ) → got.place.block.size ≡ n → IsSpace d.room f.last f.count → blocks d.room f.last ≡ mark_block x true (blocks f.cells.room f.last) → Binned max d.links top'
-      → class_lists f.max d.links ≡ slice_set (class_lists f.max f.cells.links) class (without x (names_at (class_lists f.max f.cells.links) class)) → length d.room.nodes ≡ length f.cells.room.nodes → (y : ℕ) → IsUnused y (shown f)
-      → IsSound f.max f.size f.limit d f.last f.count top' (f.free - n) × AllocatesBy n (shown f) (view_of f.max f.size f.limit d f.last acc') (Some (record { name = x; offset = units got.place.before }))
-  granted_whole d top' acc' whole space eb bins eo nodes y unused =
-      let none : free_part y (p.block.size - (0 + n)) ≡ [] = free_part-none y (p.block.size - (0 + n)) (omega arith) in
-      let b₁ : record p.block { used = true } ≡ used_block p.block.name n = ap (λ (k : ℕ). used_block p.block.name k) whole in
-      concluded d f.last f.count top' acc' y space bins nodes unused
-      (eb ∙ marked ∙ ap (λ (b : Block). p.before ++ b ∷ p.after) b₁ ∙ sym (ap (λ (t : List Block). p.before ++ ((used_block p.block.name n ∷ t) ++ p.after)) none))
-      (eo ∙ sym removed ∙ sym (ap (λ (t : List Block). push_all t (remove_all (p.block ∷ []) ls)) none))
-      (ap free_units (eb ∙ marked) ∙ left_free (record p.block { used = true }) p.after refl ∙ omega (arith, had_free))
+  -- the name is taken out of its class, and its block made used
+  pub record IsMarked (c : Cells) (top : ℕ) : Type 0 where
+    pub place : HasPlace c.room (length f.cells.room.nodes) f.last f.count x (record got.place { block = record got.place.block { used = true } })
+    pub bins : Binned f.max c.links top
+    pub lists : class_lists f.max c.links ≡ popped f class x
 
-  -- a part of it is granted, and the remainder is after it
-  pub granted_part : (d : Cells) (e : Room) (last' count' top' acc' y : ℕ) → n < got.place.block.size → IsSpace d.room last' count' → blocks e f.last ≡ mark_block x true (blocks f.cells.room f.last)
-      → blocks d.room last' ≡ split_block x n y (blocks e f.last) → Binned max d.links top'
-      → class_lists f.max d.links ≡ slice_set (slice_set (class_lists f.max f.cells.links) class (without x (names_at (class_lists f.max f.cells.links) class))) (down (got.place.block.size - n)) (y ∷ names_at (slice_set (class_lists f.max f.cells.links) class (without x (names_at (class_lists f.max f.cells.links) class))) (down (got.place.block.size - n)))
-      → length d.room.nodes ≡ length f.cells.room.nodes → IsUnused y (shown f)
-      → IsSound f.max f.size f.limit d last' count' top' (f.free - n) × AllocatesBy n (shown f) (view_of f.max f.size f.limit d last' acc') (Some (record { name = x; offset = units got.place.before }))
-  granted_part d e last' count' top' acc' y part space em eb bins eo nodes unused =
-      let r : p.block.size - (0 + n) ≡ p.block.size - n = omega arith in
-      let some : free_part y (p.block.size - (0 + n)) ≡ free_block y (p.block.size - n) ∷ [] = ap (free_part y) r ∙ free_part-some y (p.block.size - n) (omega arith) in
-      let cut : blocks d.room last' ≡ p.before ++ used_block p.block.name n ∷ free_block y (p.block.size - n) ∷ p.after =
-      eb ∙ ap (split_block x n y) (em ∙ marked) ∙ ap (λ i. split_block i n y (p.before ++ record p.block { used = true } ∷ p.after)) (sym got.name) ∙ split_block-at p.before (record p.block { used = true }) p.after n y alone in
-      concluded d last' count' top' acc' y space bins nodes unused
-      (cut ∙ sym (ap (λ (t : List Block). p.before ++ ((used_block p.block.name n ∷ t) ++ p.after)) some))
-      (eo ∙ ap (λ (o : List (List ℕ)). push (down (p.block.size - n)) y o) (sym removed) ∙ sym (ap (λ (t : List Block). push_all t (remove_all (p.block ∷ []) ls)) some))
-      (ap free_units cut ∙ left_free (used_block p.block.name n) (free_block y (p.block.size - n) ∷ p.after) refl ∙ ap (λ k. free_units p.before + k) (free_units-free (free_block y (p.block.size - n)) p.after refl) ∙ omega (arith, had_free, part))
+  -- a name that is new then
+  pub new_rest : {c : Cells} {top : ℕ} → IsMarked c top → (y : ℕ) → count_named y (got.place.before ++ record got.place.block { used = true } ∷ got.place.after) ≡ 0 → y < length c.room.nodes → IsUnused y (shown f)
+  new_rest {c} m y none low =
+      unused_in y (omega (arith, none, times-append y p.before (p.block ∷ p.after), times-append y p.before (record p.block { used = true } ∷ p.after))) (omega (arith, low, m.place.chain.cells))
+
+  -- the whole block is granted
+  pub whole : (k : ℕ) {c : Cells} {top size : ℕ} → IsMarked c top → size ≡ (node c.room x).size → size ≤ n → Granted (record f { cells = c; top = top; free = f.free - n; accesses = k })
+  whole k {c} m sized fits =
+      let u = some_unused (shown f) w in
+      let exact : n ≡ p.block.size = omega (arith, sized, ap (λ (i : Node). i.size) (at_place m.place), fits, enough) in
+      let none : p.block.size - n ≡ 0 = omega arith in
+      granted k c u.0 (no_remainder u.0 (p.block.size - n) n m.place none exact) m.bins (rw none m.lists) u.1
+
+  -- a part of it, and the remainder, under the name y, goes into its bin
+  pub part : (k : ℕ) (split d : Cells) {c : Cells} {top size y low last count top' : ℕ} → IsMarked c top → size ≡ (node c.room x).size → n < size
+      → HasPlace split.room (length f.cells.room.nodes) last count x (record { before = got.place.before; block = used_block got.place.block.name n; after = free_block y (got.place.block.size - n) ∷ got.place.after })
+      → IsUnused y (shown f) → split.links ≡ c.links → low ≡ down (size - n) → d.room ≡ split.room → Binned f.max d.links top' → class_lists f.max d.links ≡ push low y (class_lists f.max split.links)
+      → Granted (record f { cells = d; last = last; count = count; top = top'; free = f.free - n; accesses = k })
+  part k split d {c} {y = y} m sized more place unused links class room bins lists =
+      let is = sized ∙ ap (λ (i : Node). i.size) (at_place m.place) in
+      let some = some_part y (p.block.size - n) (omega arith) in
+      granted k d y (rw (room, ← some) place) bins (rw (← some) (lists ∙ rw (links, m.lists, class, is) refl)) unused
+
+  -- in the terms that the body has for the view and the offset
+  pub as_read : {new : Fields} {c : Cells} {u v' : View} {top o : ℕ} → IsMarked c top → Granted new → shown f ≡ u → v' ≡ shown new → o ≡ (node c.room x).offset → AllocatesBy n u v' (Some (record { name = x; offset = o }))
+  as_read m done was now at = rw (now, at, at_place m.place, ← was) done.1
 
 -- a request that is refused
 module _ (it : Fields) (n : ℕ) (s : AreSound it) where

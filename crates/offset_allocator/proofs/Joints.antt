@@ -3,9 +3,12 @@ use Rattle.std.proofs.Common.{◌≡◌, ℕ, zero, suc, ◌+◌, ◌<◌, ◌�
 use Rattle.std.proofs.lemmas.Bool.{cases_eq, cases_lt, false≢true}
 use Rattle.std.proofs.lemmas.List.{get_or-set_same, get_or-set_other}
 use Rattle.offset_allocator.specs.Classes.{up, down}
-use Rattle.offset_allocator.specs.Named.{Block, View, Place, count_named, count_listed, names_at, IsWellFormed, place_for, is_short_of, allocate, refuse, grant_in, grant_or_refuse, free_part, free_block, remove_all, remove, times, without}
-use Rattle.offset_allocator.specs.Orders.{Among, IsUnlisted, IsSmallestFrom}
-use Rattle.offset_allocator.specs.State.{free_units}
+use Rattle.offset_allocator.specs.Named.{units, Block, View, Place, count_named, count_listed, names_at, IsWellFormed, place_for, is_short_of, allocate, refuse, grant_in, grant_or_refuse, free_part, remove_all, remove, times, without}
+use Rattle.offset_allocator.specs.Cells.{Cells}
+use Rattle.offset_allocator.specs.Space.{IsChain}
+use Rattle.offset_allocator.specs.Orders.{Among, Binned, class_lists, IsUnlisted, IsSmallestFrom}
+use Rattle.offset_allocator.proofs.Views.{blocks-chain, space-chain}
+use Rattle.offset_allocator.specs.State.{Fields, AreSound, view_of, free_units}
 use Rattle.offset_allocator.proofs.Walks.{among_without}
 use Rattle.offset_allocator.proofs.Sizes.{down_small}
 use Rattle.offset_allocator.proofs.ViewOrders.{tally_append, hit_cases}
@@ -93,11 +96,25 @@ with_accesses k v = record v { accesses = k }
 pub well_counted : (v : View) (k : ℕ) → IsWellFormed v → IsWellFormed (with_accesses k v)
 well_counted v k w = record { some = w.some; distinct = w.distinct; below = w.below; whole = w.whole; fits = w.fits; apart = w.apart; classes = w.classes; orders = w.orders; room = w.room; spare = w.spare }
 
--- small parts of steps
-pub free_part-some : (x r : ℕ) → 0 < r → free_part x r ≡ free_block x r ∷ []
-free_part-some x zero l = absurd (omega arith)
-free_part-some x (suc r) l = refl
+-- the fields after a call: the tables hold the blocks and the bins of a well-formed view
+pub stepped : (f : Fields) → AreSound f → (v : View) (d : Cells) (free k : ℕ) {last count top : ℕ} {bs : List Block} → IsWellFormed v → v.max_allocs ≡ f.limit
+    → IsChain d.room (length f.cells.room.nodes) last count bs → bs ≡ v.blocks → Binned f.max d.links top → class_lists f.max d.links ≡ v.order → free_units bs ≡ free
+    → AreSound (record f { size = v.size; cells = d; last = last; count = count; top = top; free = free }) × (view_of f.max v.size f.limit d last k ≡ with_accesses k v)
+stepped f s v d free k {last} {count} {top} {bs} well limit chain eb bins eo total =
+    let is = blocks-chain d.room _ last count bs chain in
+    let left : (j : ℕ) → view_of f.max v.size f.limit d last j ≡ with_accesses j v = λ j. rw (is, eb, eo, limit) refl in (
+      record {
+        nodes = chain.cells ∙ s.nodes;
+        least = s.least;
+        space = space-chain d.room _ last count bs chain;
+        bins = bins;
+        well = subst IsWellFormed (sym (left 0)) (well_counted v 0 well);
+        total = ap free_units is ∙ total;
+      },
+      left k,
+    )
 
+-- small parts of steps
 pub free_part-none : (x r : ℕ) → r ≡ 0 → free_part x r ≡ []
 free_part-none x zero e = refl
 free_part-none x (suc r) e = absurd (omega arith)
@@ -117,3 +134,11 @@ free_units-free b bs e = ap (λ (u : Bool). (if u then 0 else b.size) + free_uni
 
 pub free_units-used : (b : Block) (bs : List Block) → b.used ≡ true → free_units (b ∷ bs) ≡ free_units bs
 free_units-used b bs e = ap (λ (u : Bool). (if u then 0 else b.size) + free_units bs) e ∙ omega arith
+
+pub free_part_units : (x n : ℕ) (bs : List Block) → free_units (free_part x n ++ bs) ≡ n + free_units bs
+free_part_units x zero bs = omega arith
+free_part_units x (suc n) bs = refl
+
+pub free_most : (l : List Block) → free_units l ≤ units l
+free_most [] = omega arith
+free_most (b ∷ l) = let ih = free_most l in elim b.used as (λ u. (if u then 0 else b.size) + free_units l ≤ b.size + units l) [ true ↦ omega arith | false ↦ omega arith ]

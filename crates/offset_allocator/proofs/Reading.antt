@@ -5,7 +5,7 @@ use Rattle.offset_allocator.specs.Named.{Block, View, Place, units, place_of, is
 use Rattle.offset_allocator.specs.Ranges.{Range, range_of, size_of, IsLive}
 use Rattle.offset_allocator.specs.Space.{blocks, IsRow, IsSpace}
 use Rattle.offset_allocator.specs.State.{Fields, AreSound}
-use Rattle.offset_allocator.proofs.Merging.{node_at}
+use Rattle.offset_allocator.proofs.Rows.{node_at}
 use Rattle.offset_allocator.proofs.ViewSteps.{place_at, no_place}
 
 -- the range of the used block at a place

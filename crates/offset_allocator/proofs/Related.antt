@@ -62,10 +62,10 @@ module _ (v : View) (w : IsWellFormed v) (needed n : ℕ) (padding_at : ℕ → 
         padded = refl;
         remainder = p.block.size - (padding_at (units p.before) + n);
         whole = let h = enough (units p.before) in omega arith;
-        front = front;
-        rest = rest;
-        front_new = λ l. is_new front v (uf l);
-        rest_new = λ l. is_new rest v ur;
+        padding_name = front;
+        remainder_name = rest;
+        padding_new = λ l. is_new front v (uf l);
+        remainder_new = λ l. is_new rest v ur;
         differ = λ l m. d l;
         grant = refl;
         view = refl;
@@ -114,10 +114,10 @@ module _ (blocks blocks' needed needed' n : ℕ) (padding_at padding_at' : ℕ �
     padded = s.padded ∙ same (units s.before);
     remainder = s.remainder;
     whole = s.whole;
-    front = s.front;
-    rest = s.rest;
-    front_new = s.front_new;
-    rest_new = s.rest_new;
+    padding_name = s.padding_name;
+    remainder_name = s.remainder_name;
+    padding_new = s.padding_new;
+    remainder_new = s.remainder_new;
     differ = s.differ;
     grant = s.grant;
     view = s.view;
@@ -181,14 +181,14 @@ module _ (v : View) (known : IsWellFormed v) (needed n : ℕ) (padding_at : ℕ 
   remainder_is = let h = s.whole in let p = s.padded in omega arith
 
   -- with names whose parts are the same
-  pub granted_by : (front rest : ℕ) → free_part front s.padding ≡ free_part s.front s.padding → free_part rest s.remainder ≡ free_part s.rest s.remainder
+  pub granted_by : (front rest : ℕ) → free_part front s.padding ≡ free_part s.padding_name s.padding → free_part rest s.remainder ≡ free_part s.remainder_name s.remainder
       → SameSpace (grant_or_refuse v n padding_at front rest (place_for needed v)).view w × (Some g ≡ (grant_or_refuse v n padding_at front rest (place_for needed v)).grant)
   granted_by front rest e f = (
     s.view ∙ ap (λ (o : Outcome). record o.view { accesses = w.accesses }) same,
     ap Some (s.grant ∙ ap (λ k. let z : Grant = record { name = s.block.name; offset = units s.before + k } in z) s.padded) ∙ ap (λ (o : Option Place). (grant_or_refuse v n padding_at front rest o).grant) (sym split_here),
   )
     where
-      same : (let z : Outcome = record { view = replace v s.before (s.block ∷ []) (free_part s.front s.padding ++ record s.block { size = n; used = true } ∷ free_part s.rest s.remainder) s.after; grant = Some (record { name = s.block.name; offset = units s.before + padding_at (units s.before) }) } in z)
+      same : (let z : Outcome = record { view = replace v s.before (s.block ∷ []) (free_part s.padding_name s.padding ++ record s.block { size = n; used = true } ∷ free_part s.remainder_name s.remainder) s.after; grant = Some (record { name = s.block.name; offset = units s.before + padding_at (units s.before) }) } in z)
           ≡ grant_or_refuse v n padding_at front rest (place_for needed v)
       same =
           ap₂ (λ (l r : List Block). let z : Outcome = record { view = replace v s.before (s.block ∷ []) (l ++ used_block s.block.name n ∷ r) s.after; grant = Some (record { name = s.block.name; offset = units s.before + padding_at (units s.before) }) } in z)
@@ -196,16 +196,16 @@ module _ (v : View) (known : IsWellFormed v) (needed n : ℕ) (padding_at : ℕ 
           ∙ ap (grant_or_refuse v n padding_at front rest) (sym split_here)
 
   -- names for the free parts, unused also where a part has no unit
-  pub rest_name : HasRoomFor 1 v → (rest : ℕ) × IsUnused rest v × (free_part rest s.remainder ≡ free_part s.rest s.remainder) × (1 ≤ s.padding → s.front ≢ rest)
+  pub rest_name : HasRoomFor 1 v → (rest : ℕ) × IsUnused rest v × (free_part rest s.remainder ≡ free_part s.remainder_name s.remainder) × (1 ≤ s.padding → s.padding_name ≢ rest)
   rest_name room = elim (cases_lt 0 s.remainder) [
-    | inl l ↦ (s.rest, new_unused s.rest v (s.rest_new l), refl, λ m. s.differ m l)
-    | inr z ↦ let o = another v room s.front in (o.0, o.1, free_part-none o.0 s.remainder (omega arith) ∙ sym (free_part-none s.rest s.remainder (omega arith)), λ m e. o.2 (sym e))
+    | inl l ↦ (s.remainder_name, new_unused s.remainder_name v (s.remainder_new l), refl, λ m. s.differ m l)
+    | inr z ↦ let o = another v room s.padding_name in (o.0, o.1, free_part-none o.0 s.remainder (omega arith) ∙ sym (free_part-none s.remainder_name s.remainder (omega arith)), λ m e. o.2 (sym e))
   ]
 
-  pub front_name : HasRoomFor 1 v → (rest : ℕ) → (1 ≤ s.padding → s.front ≢ rest) → (front : ℕ) × IsUnused front v × (free_part front s.padding ≡ free_part s.front s.padding) × (front ≢ rest)
+  pub front_name : HasRoomFor 1 v → (rest : ℕ) → (1 ≤ s.padding → s.padding_name ≢ rest) → (front : ℕ) × IsUnused front v × (free_part front s.padding ≡ free_part s.padding_name s.padding) × (front ≢ rest)
   front_name room rest d = elim (cases_lt 0 s.padding) [
-    | inl l ↦ (s.front, new_unused s.front v (s.front_new l), refl, d l)
-    | inr z ↦ let o = another v room rest in (o.0, o.1, free_part-none o.0 s.padding (omega arith) ∙ sym (free_part-none s.front s.padding (omega arith)), o.2)
+    | inl l ↦ (s.padding_name, new_unused s.padding_name v (s.padding_new l), refl, d l)
+    | inr z ↦ let o = another v room rest in (o.0, o.1, free_part-none o.0 s.padding (omega arith) ∙ sym (free_part-none s.padding_name s.padding (omega arith)), o.2)
   ]
 
 pub allocates_by : (n : ℕ) (v w : View) (r : Option Grant) → IsWellFormed v → Allocates n v w r → AllocatesBy n v w r
@@ -233,7 +233,7 @@ allocates_by n v w (Some g) known a =
     let s = a.1 in
     let names = rest_name v known n n (λ offset. 0) w g s a.0 in
     let none : s.padding ≡ 0 = s.padded in
-    let by = granted_by v known n n (λ offset. 0) w g s names.0 names.0 (free_part-none names.0 s.padding none ∙ sym (free_part-none s.front s.padding none)) names.2 in
+    let by = granted_by v known n n (λ offset. 0) w g s names.0 names.0 (free_part-none names.0 s.padding none ∙ sym (free_part-none s.padding_name s.padding none)) names.2 in
     let open_is : allocate n names.0 v ≡ grant_or_refuse v n (λ offset. 0) names.0 names.0 (place_for n v) = ap (λ (b : Bool). if b then refuse v else grant_or_refuse v n (λ offset. 0) names.0 names.0 (place_for n v)) (lt-leb v.max_allocs (length v.blocks + 1) a.0) in
     record {
       rest = names.0;

@@ -1,6 +1,6 @@
 -- Rows of linked nodes: split, appended, and left alone by writes elsewhere.
-use Rattle.std.proofs.Common.{◌≡◌, ◌≢◌, ℕ, zero, suc, ◌+◌, ◌≤◌, Option, None, Some, List, [], ◌∷◌, ◌++◌, length, refl, sym, ◌∙◌, arith, add_assoc, zero-add, add-zero, nat_eq}
-use Rattle.std.proofs.lemmas.Bool.{eq-eqb, ne_eqb}
+use Rattle.std.proofs.Common.{◌≡◌, ◌≢◌, ℕ, zero, suc, ◌+◌, ◌≤◌, Option, None, Some, List, [], ◌∷◌, ◌++◌, length, refl, sym, ◌∙◌, ap, arith, add_assoc, zero-add, add-zero, nat_eq, inl, inr}
+use Rattle.std.proofs.lemmas.Bool.{cases_eq, eq-eqb, ne_eqb}
 use Rattle.offset_allocator.specs.Cells.{Room, node}
 use Rattle.offset_allocator.specs.Space.{first_or, last_or, IsRow, walk}
 use Rattle.offset_allocator.specs.Named.{Block, units, count_named, times, one}
@@ -22,6 +22,20 @@ times-join k (x ∷ xs) ys = omega (arith, times-join k xs ys)
 pub times-first : (k : ℕ) (bs : List Block) → first_or None bs ≡ Some k → 1 ≤ count_named k bs
 times-first k [] e = cc
 times-first k (b ∷ bs) e = let same : b.name ≡ k = cc in omega (arith, one-eq k b.name same)
+
+pub times-last : (k p : ℕ) (bs : List Block) → last_or (Some p) bs ≡ Some k → (count_named k bs ≡ 0) → p ≡ k
+times-last k p [] e h = cc
+times-last k p (b ∷ bs) e h =
+    let same : b.name ≡ k = times-last k b.name bs e (omega arith) in
+    absurd (omega (arith, one-eq k b.name same))
+
+-- the last of a list is in it
+pub times-end : (k : ℕ) (bs : List Block) → last_or None bs ≡ Some k → 1 ≤ count_named k bs
+times-end k [] e = cc
+times-end k (b ∷ bs) e = elim (cases_eq (count_named k bs) 0) [
+  | inl gone ↦ omega (arith, one-eq k b.name (times-last k b.name bs e gone))
+  | inr there ↦ omega arith
+]
 
 pub times-append : (k : ℕ) (fs bs : List Block) → count_named k (fs ++ bs) ≡ count_named k fs + count_named k bs
 times-append k [] bs = sym (zero-add _)
@@ -53,6 +67,10 @@ IsRow-append c p o [] bs q g h = rw (add-zero o) at h
 IsRow-append c p o (a ∷ fs) bs q g h =
     (rw (first_or-append q fs bs) g.0, IsRow-append c (Some a.name) (o + a.size) fs bs q g.1 (rw (← add_assoc o a.size (units fs)) at h))
 
+-- the node of a block of a row
+pub node_at : (c : Room) (fs : List Block) (b : Block) (cs : List Block) (x : ℕ) → IsRow c None 0 (fs ++ b ∷ cs) None → b.name ≡ x → node c x ≡ record { offset = units fs; size = b.size; used = b.used; before = last_or None fs; after = first_or None cs }
+node_at c fs b cs x row e = ap (λ (i : ℕ). node c i) (sym e) ∙ (IsRow-back c None 0 fs (b ∷ cs) None row).0 ∙ ap (λ (o : ℕ). record { offset = o; size = b.size; used = b.used; before = last_or None fs; after = first_or None cs }) (omega arith)
+
 -- writes at other names leave a row
 pub IsRow-kept : (c d : Room) (p : Option ℕ) (o : ℕ) (bs : List Block) (q : Option ℕ) → ((k : ℕ) → 1 ≤ count_named k bs → node d k ≡ node c k) → IsRow c p o bs q → IsRow d p o bs q
 IsRow-kept c d p o [] q same h = tt
@@ -67,6 +85,15 @@ IsRow-moved c d p p' o [] q once head others h = tt
 IsRow-moved c d p p' o (b ∷ bs) q once head others h = (
   rw h.0 at (head b.name refl),
   IsRow-kept c d (Some b.name) (o + b.size) bs q (λ k l. others k (omega arith) (λ e. let same : b.name ≡ k = cc in absurd (omega (arith, once k, one-eq k b.name same)))) h.1,
+)
+
+-- a row whose last node is linked on to another
+pub IsRow-aimed : (c d : Room) (p : Option ℕ) (o : ℕ) (bs : List Block) (q q' : Option ℕ) → ((k : ℕ) → count_named k bs ≤ 1) → ((z : ℕ) → last_or None bs ≡ Some z → node d z ≡ record (node c z) { after = q' }) → ((k : ℕ) → 1 ≤ count_named k bs → last_or None bs ≢ Some k → node d k ≡ node c k) → IsRow c p o bs q → IsRow d p o bs q'
+IsRow-aimed c d p o [] q q' once end others h = tt
+IsRow-aimed c d p o (b ∷ []) q q' once end others h = (rw h.0 at (end b.name refl), tt)
+IsRow-aimed c d p o (b ∷ b' ∷ bs) q q' once end others h = (
+  others b.name (omega (arith, one-same b.name)) (λ e. omega (arith, once b.name, one-same b.name, times-end b.name (b' ∷ bs) e)) ∙ h.0,
+  IsRow-aimed c d (Some b.name) (o + b.size) (b' ∷ bs) q q' (λ k. omega (arith, once k)) end (λ k l ne. others k (omega arith) ne) h.1,
 )
 
 -- the walk back from the end of a row is the row

@@ -77,10 +77,10 @@ serves_counted blocks needed n padding_at v w accesses (Some g) a = let s = a.1 
     padded = s.padded;
     remainder = s.remainder;
     whole = s.whole;
-    front = s.front;
-    rest = s.rest;
-    front_new = λ l. let u = s.front_new l in record { below = u.below; absent = u.absent };
-    rest_new = λ l. let u = s.rest_new l in record { below = u.below; absent = u.absent };
+    padding_name = s.padding_name;
+    remainder_name = s.remainder_name;
+    padding_new = λ l. let u = s.padding_new l in record { below = u.below; absent = u.absent };
+    remainder_new = λ l. let u = s.remainder_new l in record { below = u.below; absent = u.absent };
     differ = s.differ;
     grant = s.grant;
     view = s.view;

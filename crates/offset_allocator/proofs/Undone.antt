@@ -23,4 +23,4 @@ taken_back n v w u z g known a same f =
     is_undone n v known (record w { accesses = u.accesses }) z g (counted a) (subst (λ x. Frees g.name x z) same f)
   where
     counted : Allocates n v w (Some g) → Allocates n v (record w { accesses = u.accesses }) (Some g)
-    counted a = (a.0, record { before = a.1.before; block = a.1.block; after = a.1.after; blocks = a.1.blocks; free = a.1.free; fits = a.1.fits; smallest = a.1.smallest; older = a.1.older; newest = a.1.newest; padding = a.1.padding; padded = a.1.padded; remainder = a.1.remainder; whole = a.1.whole; front = a.1.front; rest = a.1.rest; front_new = a.1.front_new; rest_new = a.1.rest_new; differ = a.1.differ; grant = a.1.grant; view = ap (λ (x : View). record x { accesses = u.accesses }) a.1.view })
+    counted a = (a.0, record { before = a.1.before; block = a.1.block; after = a.1.after; blocks = a.1.blocks; free = a.1.free; fits = a.1.fits; smallest = a.1.smallest; older = a.1.older; newest = a.1.newest; padding = a.1.padding; padded = a.1.padded; remainder = a.1.remainder; whole = a.1.whole; padding_name = a.1.padding_name; remainder_name = a.1.remainder_name; padding_new = a.1.padding_new; remainder_new = a.1.remainder_new; differ = a.1.differ; grant = a.1.grant; view = ap (λ (x : View). record x { accesses = u.accesses }) a.1.view })

@@ -4,7 +4,6 @@ pub mod Count
 pub mod Functional
 pub mod Named
 pub mod Orders
-pub mod Parts
 pub mod Ranges
 pub mod Relations
 pub mod Reports

@@ -1,5 +1,5 @@
 -- The 256 bins, as links in tables, and the masks that say which are not empty.
-use Rattle.std.specs.Prelude.{ℕ, ◌≡◌, ◌<◌, ◌≤◌, ◌/◌, ◌%◌, ◌^◌, ◌⊎◌, cond, nat_eq, zero, suc, List, [], ◌∷◌, map, length, slice_index, slice_set}
+use Rattle.std.specs.Prelude.{ℕ, ◌≡◌, ◌<◌, ◌≤◌, ◌/◌, ◌%◌, ◌^◌, ◌⊎◌, if◌then◌else◌, nat_eq, zero, suc, List, [], ◌∷◌, map, length, slice_index, slice_set}
 use Rattle.std.specs.Int.{bit_at}
 use Rattle.offset_allocator.specs.Cells.{Links}
 use Rattle.offset_allocator.specs.Named.{names_at}
@@ -7,7 +7,7 @@ use Rattle.offset_allocator.specs.Named.{names_at}
 -- the names from h on, along the links to older names
 unfoldable pub walk : ℕ → List ℕ → ℕ → ℕ → List ℕ
 walk none older zero h = []
-walk none older (suc k) h = cond (nat_eq h none) [] (h ∷ (walk none) older k (slice_index older h))
+walk none older (suc k) h = if nat_eq h none then [] else h ∷ (walk none) older k (slice_index older h)
 
 -- the bin of each class, newest first
 unfoldable pub lists_of : ℕ → List ℕ → List ℕ → List (List ℕ)
@@ -25,11 +25,11 @@ Chain none m newer older b h (x ∷ xs) = (h ≡ x) × (x < m) × (newer x ≡ b
 
 -- 0 for no link, 1 for a name
 abbrev pub flag : ℕ → ℕ → ℕ
-flag none h = cond (nat_eq h none) 0 1
+flag none h = if nat_eq h none then 0 else 1
 
 -- 0 for a mask with no bit, else 1
 abbrev pub mark : ℕ → ℕ
-mark w = cond (nat_eq w 0) 0 1
+mark w = if nat_eq w 0 then 0 else 1
 
 -- bit c of the masks says whether class c has a name, and bit w of the top mask whether mask w has a bit
 pub record Masked (none : ℕ) (heads masks : List ℕ) (top : ℕ) : Type 0 where
@@ -58,7 +58,7 @@ IsSmallestFrom low ls c = (low ≤ c) × (c < 256) × (names_at ls c ≡ [] → 
 
 -- the cells with v at i, or as they are where i is no link
 abbrev pub relinked : ℕ → List ℕ → ℕ → ℕ → List ℕ
-relinked none xs i v = cond (nat_eq i none) xs (slice_set xs i v)
+relinked none xs i v = if nat_eq i none then xs else slice_set xs i v
 
 -- the bins in the tables
 abbrev pub class_lists : ℕ → Links → List (List ℕ)

@@ -35,13 +35,13 @@ pub record Splits (needed n : ℕ) (padding_at : ℕ → ℕ) (v w : View) (g : 
   pub remainder : ℕ
   pub whole : padding + n + remainder ≡ block.size
   -- a free part of at least one unit takes a new name
-  pub front : ℕ
-  pub rest : ℕ
-  pub front_new : 1 ≤ padding → IsNew front v
-  pub rest_new : 1 ≤ remainder → IsNew rest v
-  pub differ : 1 ≤ padding → 1 ≤ remainder → front ≢ rest
+  pub padding_name : ℕ
+  pub remainder_name : ℕ
+  pub padding_new : 1 ≤ padding → IsNew padding_name v
+  pub remainder_new : 1 ≤ remainder → IsNew remainder_name v
+  pub differ : 1 ≤ padding → 1 ≤ remainder → padding_name ≢ remainder_name
   pub grant : g ≡ record { name = block.name; offset = units before + padding }
-  pub view : SameSpace (replace v before (block ∷ []) (free_part front padding ++ record block { size = n; used = true } ∷ free_part rest remainder) after) w
+  pub view : SameSpace (replace v before (block ∷ []) (free_part padding_name padding ++ record block { size = n; used = true } ∷ free_part remainder_name remainder) after) w
 
 -- a request that may add this many blocks and needs this many units of one block, of which n are granted, after padding
 abbrev pub Serves : ℕ → ℕ → ℕ → (ℕ → ℕ) → View → View → Option Grant → Type 0

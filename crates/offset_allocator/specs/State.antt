@@ -1,10 +1,10 @@
 -- What is true of an allocator's fields.
-use Rattle.std.specs.Prelude.{◌≡◌, ℕ, ◌+◌, ◌<◌, length, false, List, [], ◌∷◌, ◌++◌, Option, Some, None, if◌then◌else◌}
+use Rattle.std.specs.Prelude.{◌≡◌, ℕ, ◌+◌, ◌<◌, length, false, List, if◌then◌else◌}
 use Rattle.offset_allocator.specs.Classes.{down}
-use Rattle.offset_allocator.specs.Cells.{Cells}
-use Rattle.offset_allocator.specs.Orders.{Binned, class_lists, Among}
-use Rattle.offset_allocator.specs.Space.{IsSpace, blocks}
-use Rattle.offset_allocator.specs.Named.{View, Block, IsWellFormed, Place, tally, units, place_of, free_end, without_end, free_start, without_start, times, names_at, count_listed}
+use Rattle.offset_allocator.specs.Cells.{Cells, Room, node}
+use Rattle.offset_allocator.specs.Orders.{Binned, class_lists, Among, IsUnlisted}
+use Rattle.offset_allocator.specs.Space.{IsSpace, HasPlace, blocks}
+use Rattle.offset_allocator.specs.Named.{View, Block, IsWellFormed, Place, tally, times, names_at, count_named, count_listed}
 
 -- the units of the free blocks
 abbrev pub free_units : List Block → ℕ
@@ -50,36 +50,12 @@ abbrev pub AreSound : Fields → Type 0
 AreSound it = IsSound it.max it.size it.limit it.cells it.last it.count it.top it.free
 
 -- every free block is in its bin
-abbrev pub AreListed : List Block → List (List ℕ) → Type 0
-AreListed bs ls = (p : Place) → bs ≡ p.before ++ p.block ∷ p.after → p.block.used ≡ false → Among p.block.name (names_at ls (down p.block.size))
+abbrev pub AreListed : Room → ℕ → ℕ → ℕ → List (List ℕ) → Type 0
+AreListed c m last count ls = (x : ℕ) (p : Place) → HasPlace c m last count x p → (node c x).used ≡ false → Among x (names_at ls (down (node c x).size))
 
--- the block at a place coalesced with a free block directly before it
-abbrev pub merged_before : List Block → Option Place → List Block
-merged_before bs None = bs
-merged_before bs (Some p) = without_end p.before ++ record p.block { size = units (free_end p.before) + p.block.size } ∷ p.after
-
--- the block named x coalesced with a free block directly before it
-abbrev pub merge_before : ℕ → List Block → List Block
-merge_before x bs = merged_before bs (place_of x bs)
-
--- the free block directly before a place, which goes when they coalesce
-abbrev pub gone_before : Option Place → List Block
-gone_before None = []
-gone_before (Some p) = free_end p.before
-
--- the block at a place coalesced with a free block directly after it
-abbrev pub merged_after : List Block → Option Place → List Block
-merged_after bs None = bs
-merged_after bs (Some p) = p.before ++ record p.block { size = p.block.size + units (free_start p.after) } ∷ without_start p.after
-
--- the block named x coalesced with a free block directly after it
-abbrev pub merge_after : ℕ → List Block → List Block
-merge_after x bs = merged_after bs (place_of x bs)
-
--- the free block directly after a place, which goes when they coalesce
-abbrev pub gone_after : Option Place → List Block
-gone_after None = []
-gone_after (Some p) = free_start p.after
+-- a name that no block has is in no bin
+abbrev pub AreUnlisted : List Block → List (List ℕ) → Type 0
+AreUnlisted bs ls = (y : ℕ) → count_named y bs ≡ 0 → IsUnlisted y ls
 
 -- the bins hold the free blocks, each once
 abbrev pub AreFiled : List Block → List (List ℕ) → Type 0

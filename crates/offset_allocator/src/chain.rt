@@ -1,10 +1,9 @@
 //! The blocks of the space, linked in space order, and the stack of unused names.
 
-ghost use Rattle.std.specs.Prelude.{ℕ, ◌≡◌, ◌+◌, ◌-◌, ◌<◌, ◌≤◌, ◌^◌, [], ◌∷◌, length, MatchOption, IfSome, false, Some, None};
-ghost use Rattle.offset_allocator.specs.Named.{free_block, is_used_at, count_named, place_of, units};
+ghost use Rattle.std.specs.Prelude.{ℕ, ◌≡◌, ◌+◌, ◌-◌, ◌<◌, ◌≤◌, ◌^◌, List, [], ◌∷◌, ◌++◌, length, MatchOption, IfSome, false, Some};
+ghost use Rattle.offset_allocator.specs.Named.{Block, Place, free_block, is_used_at, count_named, place_of, units};
 ghost use Rattle.offset_allocator.specs.Cells.{AreEmpty, node, put, link_of};
-ghost use Rattle.offset_allocator.specs.Space.{IsSpace, HasBlock, HasPair, HasName, blocks, split_block, join_block, merge_block, mark_block, offset_in, size_in, name_before, name_after};
-ghost use Rattle.offset_allocator.specs.Parts.{split_front, grow_last};
+ghost use Rattle.offset_allocator.specs.Space.{IsSpace, HasPlace, blocks, coalesced_before, coalesced_after};
 
 use crate::accesses::Accesses;
 use crate::index::{NodeIndex, link_to, linked, no_link, number};
@@ -52,6 +51,7 @@ pub(crate) fn start<NI: NodeIndex>(
 }
 
 // Makes a node the one before the node that a link names, or the last one.
+#[tactic(auto, using(crate::proofs::Nodes::lengths))]
 fn point_back<NI: NodeIndex>(
     tables: &mut Tables<NI>,
     last: &mut u32,
@@ -61,6 +61,7 @@ fn point_back<NI: NodeIndex>(
 )
     requires link { IfSome (link_of NI.MAX (NI.number link)) (λ after. after < length tables.old.room.nodes) }
     requires name { name < length tables.old.room.nodes }
+    ensures limit { length tables.new.room.nodes ≡ length tables.old.room.nodes }
     ensures cells { MatchOption (link_of NI.MAX (NI.number link)) (tables.new.room ≡ tables.old.room) (λ after. tables.new.room ≡ put tables.old.room after (record (node tables.old.room after) { before = Some name })) }
     ensures links { tables.new.links ≡ tables.old.links }
     ensures grows { count.old ≤ count.new }
@@ -75,9 +76,11 @@ fn point_back<NI: NodeIndex>(
 }
 
 // Makes a node the one after the node that a link names.
+#[tactic(auto, using(crate::proofs::Nodes::lengths))]
 fn point_on<NI: NodeIndex>(tables: &mut Tables<NI>, link: NI, name: u32, count: &mut Accesses)
     requires link { IfSome (link_of NI.MAX (NI.number link)) (λ before. before < length tables.old.room.nodes) }
     requires name { name < length tables.old.room.nodes }
+    ensures limit { length tables.new.room.nodes ≡ length tables.old.room.nodes }
     ensures cells { MatchOption (link_of NI.MAX (NI.number link)) (tables.new.room ≡ tables.old.room) (λ before. tables.new.room ≡ put tables.old.room before (record (node tables.old.room before) { after = Some name })) }
     ensures links { tables.new.links ≡ tables.old.links }
     ensures grows { count.old ≤ count.new }
@@ -92,7 +95,7 @@ fn point_on<NI: NodeIndex>(tables: &mut Tables<NI>, link: NI, name: u32, count: 
 /// The offset of a block.
 pub(crate) fn offset<NI: NodeIndex>(tables: &Tables<NI>, name: u32, count: &mut Accesses) -> u32
     requires { name < length tables.now.room.nodes }
-    ensures offset { (last spare : ℕ) → IsSpace tables.now.room last spare → HasName name (blocks tables.now.room last) → result ≡ offset_in name (blocks tables.now.room last) }
+    ensures offset { result ≡ (node tables.now.room name).offset }
     ensures count { count.new ≡ count.old + 1 }
 {
     tables.offset(name, count)
@@ -101,7 +104,7 @@ pub(crate) fn offset<NI: NodeIndex>(tables: &Tables<NI>, name: u32, count: &mut 
 /// The size of a block.
 pub(crate) fn size<NI: NodeIndex>(tables: &Tables<NI>, name: u32, count: &mut Accesses) -> u32
     requires { name < length tables.now.room.nodes }
-    ensures size { (last spare : ℕ) → IsSpace tables.now.room last spare → HasName name (blocks tables.now.room last) → result ≡ size_in name (blocks tables.now.room last) }
+    ensures size { result ≡ (node tables.now.room name).size }
     ensures count { count.new ≡ count.old + 1 }
 {
     tables.size(name, count)
@@ -110,6 +113,7 @@ pub(crate) fn size<NI: NodeIndex>(tables: &Tables<NI>, name: u32, count: &mut Ac
 /// Whether a name is that of a used block.
 pub(crate) fn is_used<NI: NodeIndex>(tables: &Tables<NI>, name: u32, count: &mut Accesses) -> bool
     requires { name < length tables.now.room.nodes }
+    ensures cell { result ≡ (node tables.now.room name).used }
     ensures used { (last spare : ℕ) → IsSpace tables.now.room last spare → result ≡ is_used_at (place_of name (blocks tables.now.room last)) }
     ensures count { count.new ≡ count.old + 1 }
 {
@@ -123,7 +127,7 @@ pub(crate) fn before<NI: NodeIndex>(
     count: &mut Accesses,
 ) -> Option<u32>
     requires { name < length tables.now.room.nodes }
-    ensures before { (last spare : ℕ) → IsSpace tables.now.room last spare → HasName name (blocks tables.now.room last) → result ≡ name_before None name (blocks tables.now.room last) }
+    ensures before { result ≡ (node tables.now.room name).before }
     ensures count { count.new ≡ count.old + 1 }
 {
     linked(tables.before(name, count))
@@ -136,7 +140,7 @@ pub(crate) fn after<NI: NodeIndex>(
     count: &mut Accesses,
 ) -> Option<u32>
     requires { name < length tables.now.room.nodes }
-    ensures after { (last spare : ℕ) → IsSpace tables.now.room last spare → HasName name (blocks tables.now.room last) → result ≡ name_after name (blocks tables.now.room last) }
+    ensures after { result ≡ (node tables.now.room name).after }
     ensures count { count.new ≡ count.old + 1 }
 {
     linked(tables.after(name, count))
@@ -144,6 +148,7 @@ pub(crate) fn after<NI: NodeIndex>(
 
 /// Splits a block, of this offset and size, after `kept` units. The remainder becomes a free block directly after it,
 /// under the name that is returned.
+#[tactic(auto, using(crate::proofs::Nodes::lengths))]
 pub(crate) fn split<NI: NodeIndex>(
     tables: &mut Tables<NI>,
     last: &mut u32,
@@ -154,18 +159,16 @@ pub(crate) fn split<NI: NodeIndex>(
     kept: u32,
     count: &mut Accesses,
 ) -> u32
-    requires space { IsSpace tables.old.room last.old spare_count.old }
-    requires present { HasName name (blocks tables.old.room last.old) }
+    requires place { (m : ℕ) × (p : Place) × HasPlace tables.old.room m last.old spare_count.old name p }
     requires room { 0 < spare_count.old }
-    requires offset { offset ≡ offset_in name (blocks tables.old.room last.old) }
-    requires size { size ≡ size_in name (blocks tables.old.room last.old) }
+    requires offset { offset ≡ (node tables.old.room name).offset }
+    requires size { size ≡ (node tables.old.room name).size }
     requires within { kept ≤ size }
-    ensures space { IsSpace tables.new.room last.new spare_count.new }
-    ensures blocks { blocks tables.new.room last.new ≡ split_block name kept result (blocks tables.old.room last.old) }
+    ensures place { (m : ℕ) (p : Place) → HasPlace tables.old.room m last.old spare_count.old name p → HasPlace tables.new.room m last.new spare_count.new name (record p { block = record p.block { size = kept }; after = free_block result (p.block.size - kept) ∷ p.after }) }
     ensures links { tables.new.links ≡ tables.old.links }
     ensures limit { length tables.new.room.nodes ≡ length tables.old.room.nodes }
     ensures left { spare_count.new + 1 ≡ spare_count.old }
-    ensures fresh { count_named result (blocks tables.old.room last.old) ≡ 0 }
+    ensures fresh { (m : ℕ) (p : Place) → HasPlace tables.old.room m last.old spare_count.old name p → count_named result (p.before ++ p.block ∷ p.after) ≡ 0 }
     ensures below { result < length tables.old.room.nodes }
     ensures grows { count.old ≤ count.new }
     ensures count { count.new ≤ count.old + 9 }
@@ -191,6 +194,7 @@ pub(crate) fn split<NI: NodeIndex>(
 
 /// Coalesces the free block `following` into the block directly before it; `total` is the size of both. The name
 /// `following` is unused again.
+#[tactic(auto, using(crate::proofs::Nodes::lengths))]
 pub(crate) fn coalesce_after<NI: NodeIndex>(
     tables: &mut Tables<NI>,
     last: &mut u32,
@@ -200,13 +204,11 @@ pub(crate) fn coalesce_after<NI: NodeIndex>(
     total: u32,
     count: &mut Accesses,
 )
-    requires space { IsSpace tables.old.room last.old spare_count.old }
-    requires present { HasName name (blocks tables.old.room last.old) }
-    requires next { name_after name (blocks tables.old.room last.old) ≡ Some following }
+    requires place { (m : ℕ) × (p : Place) × HasPlace tables.old.room m last.old spare_count.old name p }
+    requires next { Some following ≡ (node tables.old.room name).after }
     requires free { (node tables.old.room following).used ≡ false }
-    requires total { total ≡ size_in name (blocks tables.old.room last.old) + size_in following (blocks tables.old.room last.old) }
-    ensures space { IsSpace tables.new.room last.new spare_count.new }
-    ensures blocks { blocks tables.new.room last.new ≡ join_block name (blocks tables.old.room last.old) }
+    requires total { total ≡ (node tables.old.room name).size + (node tables.old.room following).size }
+    ensures place { (m : ℕ) (p : Place) → HasPlace tables.old.room m last.old spare_count.old name p → HasPlace tables.new.room m last.new spare_count.new name (coalesced_after p) }
     ensures links { tables.new.links ≡ tables.old.links }
     ensures limit { length tables.new.room.nodes ≡ length tables.old.room.nodes }
     ensures grows { count.old ≤ count.new }
@@ -223,6 +225,7 @@ pub(crate) fn coalesce_after<NI: NodeIndex>(
 
 /// Coalesces the free block `previous` into the block directly after it; `total` is the size of both. The name
 /// `previous` is unused again.
+#[tactic(auto, using(crate::proofs::Nodes::lengths))]
 pub(crate) fn coalesce_before<NI: NodeIndex>(
     tables: &mut Tables<NI>,
     spare_count: &mut u32,
@@ -231,11 +234,11 @@ pub(crate) fn coalesce_before<NI: NodeIndex>(
     total: u32,
     count: &mut Accesses,
 )
-    requires pair { (last : ℕ) × HasPair tables.old.room last spare_count.old previous name }
+    requires place { (m last : ℕ) × (p : Place) × HasPlace tables.old.room m last spare_count.old name p }
+    requires previous { Some previous ≡ (node tables.old.room name).before }
     requires free { (node tables.old.room previous).used ≡ false }
     requires total { total ≡ (node tables.old.room previous).size + (node tables.old.room name).size }
-    ensures space { (last : ℕ) → HasPair tables.old.room last spare_count.old previous name → IsSpace tables.new.room last spare_count.new }
-    ensures blocks { (last : ℕ) → HasPair tables.old.room last spare_count.old previous name → blocks tables.new.room last ≡ merge_block previous (blocks tables.old.room last) }
+    ensures place { (m last : ℕ) (p : Place) → HasPlace tables.old.room m last spare_count.old name p → HasPlace tables.new.room m last spare_count.new name (coalesced_before p) }
     ensures links { tables.new.links ≡ tables.old.links }
     ensures limit { length tables.new.room.nodes ≡ length tables.old.room.nodes }
     ensures grows { count.old ≤ count.new }
@@ -253,6 +256,7 @@ pub(crate) fn coalesce_before<NI: NodeIndex>(
 }
 
 /// Makes a block used or free.
+#[tactic(auto, using(crate::proofs::Nodes::lengths))]
 pub(crate) fn mark<NI: NodeIndex>(
     tables: &mut Tables<NI>,
     name: u32,
@@ -260,8 +264,7 @@ pub(crate) fn mark<NI: NodeIndex>(
     count: &mut Accesses,
 )
     requires { name < length tables.old.room.nodes }
-    ensures space { (last spare : ℕ) → IsSpace tables.old.room last spare → HasName name (blocks tables.old.room last) → IsSpace tables.new.room last spare }
-    ensures blocks { (last spare : ℕ) → IsSpace tables.old.room last spare → HasName name (blocks tables.old.room last) → blocks tables.new.room last ≡ mark_block name used (blocks tables.old.room last) }
+    ensures place { (m last spare : ℕ) (p : Place) → HasPlace tables.old.room m last spare name p → HasPlace tables.new.room m last spare name (record p { block = record p.block { used = used } }) }
     ensures links { tables.new.links ≡ tables.old.links }
     ensures limit { length tables.new.room.nodes ≡ length tables.old.room.nodes }
     ensures count { count.new ≡ count.old + 1 }
@@ -271,6 +274,7 @@ pub(crate) fn mark<NI: NodeIndex>(
 
 /// Splits the first `cut` units off a block. They become a free block directly before it, under the name that is
 /// returned.
+#[tactic(auto, using(crate::proofs::Nodes::lengths))]
 pub(crate) fn split_before<NI: NodeIndex>(
     tables: &mut Tables<NI>,
     spare_count: &mut u32,
@@ -278,15 +282,14 @@ pub(crate) fn split_before<NI: NodeIndex>(
     cut: u32,
     count: &mut Accesses,
 ) -> u32
-    requires block { (last : ℕ) × HasBlock tables.old.room last spare_count.old name }
+    requires place { (m last : ℕ) × (p : Place) × HasPlace tables.old.room m last spare_count.old name p }
     requires room { 0 < spare_count.old }
     requires within { cut ≤ (node tables.old.room name).size }
-    ensures space { (last : ℕ) → HasBlock tables.old.room last spare_count.old name → IsSpace tables.new.room last spare_count.new }
-    ensures blocks { (last : ℕ) → HasBlock tables.old.room last spare_count.old name → blocks tables.new.room last ≡ split_front name cut result (blocks tables.old.room last) }
+    ensures place { (m last : ℕ) (p : Place) → HasPlace tables.old.room m last spare_count.old name p → HasPlace tables.new.room m last spare_count.new name (record { before = p.before ++ free_block result cut ∷ []; block = record p.block { size = p.block.size - cut }; after = p.after }) }
     ensures links { tables.new.links ≡ tables.old.links }
     ensures limit { length tables.new.room.nodes ≡ length tables.old.room.nodes }
     ensures left { spare_count.new + 1 ≡ spare_count.old }
-    ensures fresh { (last : ℕ) → HasBlock tables.old.room last spare_count.old name → count_named result (blocks tables.old.room last) ≡ 0 }
+    ensures fresh { (m last : ℕ) (p : Place) → HasPlace tables.old.room m last spare_count.old name p → count_named result (p.before ++ p.block ∷ p.after) ≡ 0 }
     ensures below { result < length tables.old.room.nodes }
     ensures grows { count.old ≤ count.new }
     ensures count { count.new ≤ count.old + 12 }
@@ -306,16 +309,16 @@ pub(crate) fn split_before<NI: NodeIndex>(
 }
 
 /// Adds units to the last block.
+#[tactic(auto, using(crate::proofs::Nodes::lengths))]
 pub(crate) fn grow<NI: NodeIndex>(
     tables: &mut Tables<NI>,
     last: u32,
     more: u32,
     count: &mut Accesses,
 )
-    requires below { last < length tables.old.room.nodes }
+    requires place { (m spare : ℕ) × (before : List Block) × (b : Block) × HasPlace tables.old.room m last spare last (record { before = before; block = b; after = [] }) }
     requires fits { units (blocks tables.old.room last) + more < 2 ^ 32 }
-    ensures space { (spare : ℕ) → IsSpace tables.old.room last spare → IsSpace tables.new.room last spare }
-    ensures blocks { (spare : ℕ) → IsSpace tables.old.room last spare → blocks tables.new.room last ≡ grow_last more (blocks tables.old.room last) }
+    ensures place { (m spare : ℕ) (before : List Block) (b : Block) → HasPlace tables.old.room m last spare last (record { before = before; block = b; after = [] }) → HasPlace tables.new.room m last spare last (record { before = before; block = record b { size = b.size + more }; after = [] }) }
     ensures links { tables.new.links ≡ tables.old.links }
     ensures limit { length tables.new.room.nodes ≡ length tables.old.room.nodes }
     ensures count { count.new ≡ count.old + 2 }

@@ -308,7 +308,7 @@ impl<NI: NodeIndex> Allocator<NI> {
         ensures nearly { IfSome result (IsSplitNearBest size self.old) }
         // A refusal with room for one more block means that every free block is smaller than 9/8 of the request.
         ensures refused { result ≡ None → HasRoomFor 1 self.old → IsGoodRefusal size (free_sizes self.old.blocks) }
-        // It makes at most 64 accesses to table cells, and a grant at least 7.
+        // It makes at most 64 accesses to table cells, and a grant at least 7: so what is made is counted.
         ensures grows { self.old.accesses ≤ self.new.accesses }
         ensures least { IsSome result → self.old.accesses + 7 ≤ self.new.accesses }
         ensures count { self.new.accesses ≤ self.old.accesses + 64 }
@@ -457,7 +457,7 @@ impl<NI: NodeIndex> Allocator<NI> {
 
     // Grants units of the newest block of a class, from the first multiple of `align` in it on.
     fn grant_aligned(&mut self, class: u32, size: u32, align: u32) -> Allocation<NI>
-        requires power { 1 < align }
+        requires above_one { 1 < align }
         requires fits { size + align - 1 ≤ 4294967295 }
         requires room { is_short_of 2 self.old ≡ false }
         requires least { IsSmallestFrom (up (size + align - 1)) self.old.order class }
@@ -543,7 +543,7 @@ impl<NI: NodeIndex> Allocator<NI> {
     fn widen(&mut self, more: u32)
         requires more { 0 < more }
         requires fits { self.old.size + more ≤ 4294967295 }
-        requires idle { ends_used self.old.blocks ≡ false }
+        requires free { ends_used self.old.blocks ≡ false }
         ensures step { ExtendsBy more self.old self.new true }
         ensures grows { self.old.accesses + 10 ≤ self.new.accesses }
         ensures count { self.new.accesses ≤ self.old.accesses + 16 }

@@ -1,10 +1,10 @@
 //! Coalesces a block with the free blocks beside it, which leave their bins.
 ghost use Rattle.std.specs.Prelude.{ℕ, ◌≡◌, ◌+◌, ◌≤◌, length};
 ghost use Rattle.offset_allocator.specs.Cells.{node};
-ghost use Rattle.offset_allocator.specs.Named.{place_of, remove_all};
-ghost use Rattle.offset_allocator.specs.Space.{IsSpace, HasBlock, HasName, blocks, size_in};
+ghost use Rattle.offset_allocator.specs.Named.{Place, free_end, free_start, remove_all};
+ghost use Rattle.offset_allocator.specs.Space.{HasPlace, coalesced_before, coalesced_after};
 ghost use Rattle.offset_allocator.specs.Orders.{Binned, class_lists};
-ghost use Rattle.offset_allocator.specs.State.{AreListed, merge_before, gone_before, merge_after, gone_after};
+ghost use Rattle.offset_allocator.specs.State.{AreListed};
 
 use crate::accesses::Accesses;
 use crate::index::NodeIndex;
@@ -21,15 +21,14 @@ pub(crate) fn with_before<NI: NodeIndex>(
     size: u32,
     count: &mut Accesses,
 ) -> u32
-    requires block { (last : ℕ) × HasBlock tables.old.room last spare_count.old name × AreListed (blocks tables.old.room last) (class_lists NI.MAX tables.old.links) }
+    requires place { (m last : ℕ) × (p : Place) × HasPlace tables.old.room m last spare_count.old name p × AreListed tables.old.room m last spare_count.old (class_lists NI.MAX tables.old.links) }
     requires held { Binned NI.MAX tables.old.links top_mask.old }
     requires size { size ≡ (node tables.old.room name).size }
-    ensures space { (last : ℕ) → HasBlock tables.old.room last spare_count.old name → IsSpace tables.new.room last spare_count.new }
+    ensures place { (m last : ℕ) (p : Place) → HasPlace tables.old.room m last spare_count.old name p → HasPlace tables.new.room m last spare_count.new name (coalesced_before p) }
     ensures held { Binned NI.MAX tables.new.links top_mask.new }
-    ensures blocks { (last : ℕ) → HasBlock tables.old.room last spare_count.old name → blocks tables.new.room last ≡ merge_before name (blocks tables.old.room last) }
-    ensures lists { (last : ℕ) → HasBlock tables.old.room last spare_count.old name → class_lists NI.MAX tables.new.links ≡ remove_all (gone_before (place_of name (blocks tables.old.room last))) (class_lists NI.MAX tables.old.links) }
+    ensures lists { (m last : ℕ) (p : Place) → HasPlace tables.old.room m last spare_count.old name p → class_lists NI.MAX tables.new.links ≡ remove_all (free_end p.before) (class_lists NI.MAX tables.old.links) }
     ensures limit { length tables.new.room.nodes ≡ length tables.old.room.nodes }
-    ensures size { (last : ℕ) → HasBlock tables.old.room last spare_count.old name → result ≡ size_in name (blocks tables.new.room last) }
+    ensures size { result ≡ (node tables.new.room name).size }
     ensures grows { count.old + 1 ≤ count.new }
     ensures count { count.new ≤ count.old + 17 }
 {
@@ -55,17 +54,14 @@ pub(crate) fn with_after<NI: NodeIndex>(
     size: u32,
     count: &mut Accesses,
 ) -> u32
-    requires space { IsSpace tables.old.room last.old spare_count.old }
+    requires place { (m : ℕ) × (p : Place) × HasPlace tables.old.room m last.old spare_count.old name p × AreListed tables.old.room m last.old spare_count.old (class_lists NI.MAX tables.old.links) }
     requires held { Binned NI.MAX tables.old.links top_mask.old }
-    requires present { HasName name (blocks tables.old.room last.old) }
-    requires size { size ≡ size_in name (blocks tables.old.room last.old) }
-    requires listed { AreListed (blocks tables.old.room last.old) (class_lists NI.MAX tables.old.links) }
-    ensures space { IsSpace tables.new.room last.new spare_count.new }
+    requires size { size ≡ (node tables.old.room name).size }
+    ensures place { (m : ℕ) (p : Place) → HasPlace tables.old.room m last.old spare_count.old name p → HasPlace tables.new.room m last.new spare_count.new name (coalesced_after p) }
     ensures held { Binned NI.MAX tables.new.links top_mask.new }
-    ensures blocks { blocks tables.new.room last.new ≡ merge_after name (blocks tables.old.room last.old) }
-    ensures lists { class_lists NI.MAX tables.new.links ≡ remove_all (gone_after (place_of name (blocks tables.old.room last.old))) (class_lists NI.MAX tables.old.links) }
+    ensures lists { (m : ℕ) (p : Place) → HasPlace tables.old.room m last.old spare_count.old name p → class_lists NI.MAX tables.new.links ≡ remove_all (free_start p.after) (class_lists NI.MAX tables.old.links) }
     ensures limit { length tables.new.room.nodes ≡ length tables.old.room.nodes }
-    ensures size { result ≡ size_in name (blocks tables.new.room last.new) }
+    ensures size { result ≡ (node tables.new.room name).size }
     ensures grows { count.old + 1 ≤ count.new }
     ensures count { count.new ≤ count.old + 15 }
 {

@@ -1,10 +1,10 @@
 //! Splits a block: padding, a used middle, and a remainder.
-ghost use Rattle.std.specs.Prelude.{ℕ, ◌≡◌, ◌≢◌, ◌+◌, ◌<◌, ◌≤◌, length, ◌∷◌, ◌++◌};
+ghost use Rattle.std.specs.Prelude.{ℕ, ◌≡◌, ◌+◌, ◌-◌, ◌<◌, ◌≤◌, length, ◌∷◌, ◌++◌};
 ghost use Rattle.offset_allocator.specs.Cells.{node};
-ghost use Rattle.offset_allocator.specs.Named.{count_named, free_part, used_block, push_all};
-ghost use Rattle.offset_allocator.specs.Space.{IsSpace, HasBlock, HasName, blocks, size_in};
+ghost use Rattle.offset_allocator.specs.Named.{Place, free_part, used_block, push_all};
+ghost use Rattle.offset_allocator.specs.Space.{HasPlace};
 ghost use Rattle.offset_allocator.specs.Orders.{Binned, class_lists};
-ghost use Rattle.offset_allocator.specs.Parts.{with_padding, with_remainder, in_parts, AreUnlisted};
+ghost use Rattle.offset_allocator.specs.State.{AreUnlisted};
 
 use crate::accesses::Accesses;
 use crate::index::NodeIndex;
@@ -22,19 +22,15 @@ fn split_padding<NI: NodeIndex>(
     units: u32,
     count: &mut Accesses,
 ) -> u32
-    requires block { (last : ℕ) × HasBlock tables.old.room last spare_count.old name × AreUnlisted (blocks tables.old.room last) (class_lists NI.MAX tables.old.links) }
+    requires place { (m last : ℕ) × (p : Place) × HasPlace tables.old.room m last spare_count.old name p × AreUnlisted (p.before ++ p.block ∷ p.after) (class_lists NI.MAX tables.old.links) }
     requires held { Binned NI.MAX tables.old.links top_mask.old }
     requires room { 0 < spare_count.old }
     requires within { units ≤ (node tables.old.room name).size }
-    ensures space { (last : ℕ) → HasBlock tables.old.room last spare_count.old name → IsSpace tables.new.room last spare_count.new }
+    ensures place { (m last : ℕ) (p : Place) → HasPlace tables.old.room m last spare_count.old name p → HasPlace tables.new.room m last spare_count.new name (record { before = p.before ++ free_part result units; block = record p.block { size = p.block.size - units }; after = p.after }) }
     ensures held { Binned NI.MAX tables.new.links top_mask.new }
-    ensures blocks { (last : ℕ) → HasBlock tables.old.room last spare_count.old name → blocks tables.new.room last ≡ with_padding name units result (blocks tables.old.room last) }
     ensures lists { class_lists NI.MAX tables.new.links ≡ push_all (free_part result units) (class_lists NI.MAX tables.old.links) }
-    ensures unlisted { (last : ℕ) → HasBlock tables.old.room last spare_count.old name → AreUnlisted (blocks tables.old.room last) (class_lists NI.MAX tables.old.links) → AreUnlisted (blocks tables.new.room last) (class_lists NI.MAX tables.new.links) }
     ensures limit { length tables.new.room.nodes ≡ length tables.old.room.nodes }
     ensures left { spare_count.old ≤ spare_count.new + 1 }
-    ensures fresh { 0 < units → (last : ℕ) → HasBlock tables.old.room last spare_count.old name → count_named result (blocks tables.old.room last) ≡ 0 }
-    ensures below { 0 < units → result < length tables.old.room.nodes }
     ensures grows { count.old ≤ count.new }
     ensures count { count.new ≤ count.old + 18 }
 {
@@ -65,19 +61,14 @@ fn split_remainder<NI: NodeIndex>(
     left: u32,
     count: &mut Accesses,
 ) -> u32
-    requires space { IsSpace tables.old.room last.old spare_count.old }
+    requires place { (m : ℕ) × (p : Place) × HasPlace tables.old.room m last.old spare_count.old name p × AreUnlisted (p.before ++ p.block ∷ p.after) (class_lists NI.MAX tables.old.links) }
     requires held { Binned NI.MAX tables.old.links top_mask.old }
-    requires present { HasName name (blocks tables.old.room last.old) }
     requires room { 0 < spare_count.old }
-    requires whole { size + left ≡ size_in name (blocks tables.old.room last.old) }
-    requires unlisted { AreUnlisted (blocks tables.old.room last.old) (class_lists NI.MAX tables.old.links) }
-    ensures space { IsSpace tables.new.room last.new spare_count.new }
+    requires whole { size + left ≡ (node tables.old.room name).size }
+    ensures place { (m : ℕ) (p : Place) → HasPlace tables.old.room m last.old spare_count.old name p → HasPlace tables.new.room m last.new spare_count.new name (record p { block = record p.block { size = size }; after = free_part result left ++ p.after }) }
     ensures held { Binned NI.MAX tables.new.links top_mask.new }
-    ensures blocks { blocks tables.new.room last.new ≡ with_remainder name size left result (blocks tables.old.room last.old) }
     ensures lists { class_lists NI.MAX tables.new.links ≡ push_all (free_part result left) (class_lists NI.MAX tables.old.links) }
     ensures limit { length tables.new.room.nodes ≡ length tables.old.room.nodes }
-    ensures fresh { 0 < left → count_named result (blocks tables.old.room last.old) ≡ 0 }
-    ensures below { 0 < left → result < length tables.old.room.nodes }
     ensures grows { count.old ≤ count.new }
     ensures count { count.new ≤ count.old + 16 }
 {
@@ -119,20 +110,14 @@ pub(crate) fn divide<NI: NodeIndex>(
     left: u32,
     count: &mut Accesses,
 ) -> (u32, u32)
-    requires space { IsSpace tables.old.room last.old spare_count.old }
+    requires place { (m : ℕ) × (p : Place) × HasPlace tables.old.room m last.old spare_count.old name p × AreUnlisted (p.before ++ p.block ∷ p.after) (class_lists NI.MAX tables.old.links) }
     requires held { Binned NI.MAX tables.old.links top_mask.old }
-    requires present { HasName name (blocks tables.old.room last.old) }
     requires room { 1 < spare_count.old }
-    requires whole { padding + size + left ≡ size_in name (blocks tables.old.room last.old) }
-    requires unlisted { AreUnlisted (blocks tables.old.room last.old) (class_lists NI.MAX tables.old.links) }
-    ensures space { IsSpace tables.new.room last.new spare_count.new }
+    requires whole { padding + size + left ≡ (node tables.old.room name).size }
+    ensures place { (m : ℕ) (p : Place) → HasPlace tables.old.room m last.old spare_count.old name p → HasPlace tables.new.room m last.new spare_count.new name (record { before = p.before ++ free_part result.0 padding; block = used_block p.block.name size; after = free_part result.1 left ++ p.after }) }
     ensures held { Binned NI.MAX tables.new.links top_mask.new }
-    ensures blocks { blocks tables.new.room last.new ≡ in_parts name padding size result.0 result.1 (blocks tables.old.room last.old) }
     ensures lists { class_lists NI.MAX tables.new.links ≡ push_all (free_part result.0 padding ++ used_block name size ∷ free_part result.1 left) (class_lists NI.MAX tables.old.links) }
     ensures limit { length tables.new.room.nodes ≡ length tables.old.room.nodes }
-    ensures front { 0 < padding → (count_named result.0 (blocks tables.old.room last.old) ≡ 0) × (result.0 < length tables.old.room.nodes) }
-    ensures rest { 0 < left → (count_named result.1 (blocks tables.old.room last.old) ≡ 0) × (result.1 < length tables.old.room.nodes) }
-    ensures apart { 0 < padding → 0 < left → result.0 ≢ result.1 }
     ensures grows { count.old + 1 ≤ count.new }
     ensures count { count.new ≤ count.old + 35 }
 {

@@ -3,7 +3,7 @@
 use crate::numbers::Numbers;
 use crate::slow_reading::{Reading, read_slowly, run_slowly};
 use offset_script::{Script, ScriptFault, parse};
-use offset_test_base::runs::told;
+use offset_test_base::runs::outcome;
 use std::alloc::{AllocError, Global};
 use std::process::Abort;
 use std::test::Fail;
@@ -243,7 +243,7 @@ fn expect_meaning(
     }
     let wanted = run_slowly(alloc, &text)?;
     assert_eq!(rt;
-        told(alloc, &text)?.as_str(),
+        outcome(alloc, &text)?.as_str(),
         wanted.as_str(),
         "text {number}"
     );

@@ -266,7 +266,7 @@ module _ (v : View) (kept_name : ℕ → Option ℕ) (s : State) (w : IsWellForm
         (subst (λ (o : Option machine.Place). Agrees (free_at v (Some (named_place sp))) (without_name k kept_name) (machine.release s o).state) (sym place)
         (subst (λ m. Agrees (free_at v (Some (named_place sp))) (without_name k kept_name) (leaves s (machine.without_end (tags sp.before) ++ machine.block m (Free (stamp_of_call s)) ∷ machine.without_start (tags sp.after)) machine.Freed).state) sizes
         (coalesce_agrees sp.before (sp.label ∷ []) sp.after sp.label.name (units (named.free_end (names sp.before) ++ (by_name sp.label ∷ named.free_start (names sp.after)))) v.size (without_name k kept_name) machine.Freed e
-        (inl stands) (subst (λ (o : Option Place). IsWellFormed (free_at v o)) there (well_free v w x)) handles)));
+        (inl present) (subst (λ (o : Option Place). IsWellFormed (free_at v o)) there (well_free v w x)) handles)));
   }
     where
       there : place_of x v.blocks ≡ Some (named_place sp)
@@ -278,8 +278,8 @@ module _ (v : View) (kept_name : ℕ → Option ℕ) (s : State) (w : IsWellForm
       sizes : units (named.free_end (names sp.before) ++ (by_name sp.label ∷ named.free_start (names sp.after))) ≡ machine.free_end (tags sp.before) + sp.label.size + machine.free_start (tags sp.after)
       sizes = omega (arith, tally_append (λ (b : Block). b.size) (named.free_end (names sp.before)) (by_name sp.label ∷ named.free_start (names sp.after)), free_end_units sp.before, free_start_units sp.after, ap units (names_free_end sp.before), ap units (names_free_start sp.after))
 
-      stands : 1 ≤ named.count_named sp.label.name (names (free_end sp.before ++ (sp.label ∷ free_start sp.after)))
-      stands = elim (hit_cases sp.label.name sp.label.name) [
+      present : 1 ≤ named.count_named sp.label.name (names (free_end sp.before ++ (sp.label ∷ free_start sp.after)))
+      present = elim (hit_cases sp.label.name sp.label.name) [
         | inl i ↦ omega (arith, i.1, ap (named.count_named sp.label.name) (map_both by_name (free_end sp.before) (sp.label ∷ free_start sp.after)), tally_append (λ (b : Block). one (nat_eq sp.label.name b.name)) (names (free_end sp.before)) (names (sp.label ∷ free_start sp.after)))
         | inr i ↦ absurd (i.0 refl)
       ]

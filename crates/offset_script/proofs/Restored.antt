@@ -164,8 +164,8 @@ older : (s : State) → Well s → (p : Place) (n u : ℕ) → s.blocks ≡ whol
     → (z t : ℕ) → Occurs (block z (Free t)) p.before ⊎ Occurs (block z (Free t)) p.after → nat_eq (down z) (down p.block.size) ≡ true → t < u
 older s w p n u e tag f best z t i same =
     let c : Block = block z (Free t) in
-    let stands : Occurs c s.blocks = subst (Occurs c) (sym e) (in_whole i) in
-    let taken = best c stands (fits_too n z (Free t) p.block refl same f) in
+    let present : Occurs c s.blocks = subst (Occurs c) (sym e) (in_whole i) in
+    let taken = best c present (fits_too n z (Free t) p.block refl same f) in
     let le : t ≤ stamp p.block.tag = not_after (down z) (down p.block.size) t (stamp p.block.tag) taken same in
     let le_u : t ≤ u = subst (λ x. t ≤ x) (ap stamp tag) le in
     elim (cases_eq t u) [

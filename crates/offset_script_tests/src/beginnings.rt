@@ -1,6 +1,6 @@
 //! The beginnings of a text that have no answers.
 
-use crate::support::told;
+use crate::support::outcome;
 use std::test::Fail;
 
 const TEXT: &[u8] = b"space 10 nodes 4 index 32\nalloc 10\nfree 1\n";
@@ -15,7 +15,7 @@ fn plays_beginnings_without_answers(rt: HostRuntime) -> Result<(), Fail> {
     ] {
         for (i, _byte) in TEXT.iter().enumerate() {
             if fewest <= i && i <= most {
-                assert_eq!(rt; told(rt.alloc(), &TEXT[..i])?.as_str(), wanted, "at {i}");
+                assert_eq!(rt; outcome(rt.alloc(), &TEXT[..i])?.as_str(), wanted, "at {i}");
             }
         }
     }

@@ -1,6 +1,6 @@
 //! The beginnings of a text that have answers.
 
-use crate::support::told;
+use crate::support::outcome;
 use std::test::Fail;
 
 const TEXT: &[u8] = b"space 10 nodes 4 index 32\nalloc 10\nfree 1\n";
@@ -15,7 +15,7 @@ fn plays_beginnings_with_answers(rt: HostRuntime) -> Result<(), Fail> {
         (42, "grant 1 at 0\nfreed\n"),
     ] {
         assert_eq!(rt;
-            told(rt.alloc(), &TEXT[..length])?.as_str(),
+            outcome(rt.alloc(), &TEXT[..length])?.as_str(),
             wanted,
             "at {length}"
         );

@@ -1,6 +1,6 @@
 //! Texts with a faulty header, with none, and with a header alone.
 
-use crate::support::told;
+use crate::support::outcome;
 use std::test::Fail;
 
 #[test]
@@ -14,7 +14,7 @@ fn refuses_headers_out_of_form(rt: HostRuntime) -> Result<(), Fail> {
         b"space 10 nodes 4 index 32\r\n".as_slice(),
     ] {
         assert_eq!(rt;
-            told(rt.alloc(), text)?.as_str(),
+            outcome(rt.alloc(), text)?.as_str(),
             "line 1: bad header, status 2"
         );
     }
@@ -24,7 +24,7 @@ fn refuses_headers_out_of_form(rt: HostRuntime) -> Result<(), Fail> {
 #[test]
 fn counts_the_lines_of_a_text_without_header(rt: HostRuntime) -> Result<(), Fail> {
     assert_eq!(rt;
-        told(rt.alloc(), b"# c\n\n".as_slice())?.as_str(),
+        outcome(rt.alloc(), b"# c\n\n".as_slice())?.as_str(),
         "line 3: bad header, status 2"
     );
     Ok(())
@@ -38,7 +38,7 @@ fn refuses_limits(rt: HostRuntime) -> Result<(), Fail> {
         b"space 10 nodes 65534 index 16\n".as_slice(),
     ] {
         assert_eq!(rt;
-            told(rt.alloc(), text)?.as_str(),
+            outcome(rt.alloc(), text)?.as_str(),
             "line 1: bad limit, status 2"
         );
     }
@@ -48,7 +48,7 @@ fn refuses_limits(rt: HostRuntime) -> Result<(), Fail> {
 #[test]
 fn plays_a_header_alone(rt: HostRuntime) -> Result<(), Fail> {
     assert_eq!(rt;
-        told(rt.alloc(), b"space 10 nodes 65533 index 16".as_slice())?.as_str(),
+        outcome(rt.alloc(), b"space 10 nodes 65533 index 16".as_slice())?.as_str(),
         ""
     );
     Ok(())

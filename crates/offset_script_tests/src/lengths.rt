@@ -1,6 +1,6 @@
 //! Texts of the largest length, and longer ones.
 
-use crate::support::{Reader, told};
+use crate::support::{Reader, outcome};
 use offset_script::{FromRead, IntoWrite, RunFault, ScriptFault, run};
 use std::test::Fail;
 
@@ -8,7 +8,7 @@ use std::test::Fail;
 fn reads_a_text_of_the_largest_length(rt: HostRuntime) -> Result<(), Fail> {
     let text = vec![in rt.alloc(); b'#'; 1_048_576]?;
     assert_eq!(rt;
-        told(rt.alloc(), &text)?.as_str(),
+        outcome(rt.alloc(), &text)?.as_str(),
         "line 1: bad header, status 2"
     );
     Ok(())
@@ -17,7 +17,7 @@ fn reads_a_text_of_the_largest_length(rt: HostRuntime) -> Result<(), Fail> {
 #[test]
 fn refuses_one_byte_more(rt: HostRuntime) -> Result<(), Fail> {
     let text = vec![in rt.alloc(); b'#'; 1_048_577]?;
-    assert_eq!(rt; told(rt.alloc(), &text)?.as_str(), "too long, status 2");
+    assert_eq!(rt; outcome(rt.alloc(), &text)?.as_str(), "too long, status 2");
     Ok(())
 }
 

@@ -1,6 +1,6 @@
 //! Faulty lines after a header.
 
-use crate::support::{told, with_line};
+use crate::support::{outcome, with_line};
 use std::test::Fail;
 
 const HEADER: &[u8] = b"space 10 nodes 4 index 32\n";
@@ -23,7 +23,7 @@ fn refuses_faulty_lines(rt: HostRuntime) -> Result<(), Fail> {
     ] {
         let text = with_line(rt.alloc(), HEADER, line)?;
         assert_eq!(rt;
-            told(rt.alloc(), &text)?.as_str(),
+            outcome(rt.alloc(), &text)?.as_str(),
             "line 2: bad command, status 2"
         );
     }
@@ -40,7 +40,7 @@ fn refuses_faulty_numbers(rt: HostRuntime) -> Result<(), Fail> {
     ] {
         let text = with_line(rt.alloc(), HEADER, line)?;
         assert_eq!(rt;
-            told(rt.alloc(), &text)?.as_str(),
+            outcome(rt.alloc(), &text)?.as_str(),
             "line 2: bad command, status 2"
         );
     }
@@ -52,7 +52,7 @@ fn refuses_faulty_numbers(rt: HostRuntime) -> Result<(), Fail> {
 fn reports_the_first_faulty_line(rt: HostRuntime) -> Result<(), Fail> {
     let text = b"# c\n\nspace 010 nodes 4 index 32\nalloc 0000000001\nalloc 00000000001\n";
     assert_eq!(rt;
-        told(rt.alloc(), text.as_slice())?.as_str(),
+        outcome(rt.alloc(), text.as_slice())?.as_str(),
         "line 5: bad command, status 2"
     );
     Ok(())

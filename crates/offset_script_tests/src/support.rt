@@ -1,7 +1,7 @@
 //! What the tests of texts and devices share.
 
 pub use offset_test_base::devices::{Reader, Writer};
-pub use offset_test_base::runs::told;
+pub use offset_test_base::runs::outcome;
 use std::alloc::Global;
 use std::test::Fail;
 

@@ -5,7 +5,7 @@ use std::alloc::Global;
 use std::test::Fail;
 
 /// What a run writes, followed by the line and the status of its fault if it has one.
-pub fn told(alloc: Global, text: &[u8]) -> Result<String, Fail> {
+pub fn outcome(alloc: Global, text: &[u8]) -> Result<String, Fail> {
     let mut output = IntoWrite::new(Vec::new(alloc));
     let result = run(alloc, &mut FromRead::new(text), &mut output);
     let written = String::from_utf8(output.into_inner())?;

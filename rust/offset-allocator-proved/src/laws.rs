@@ -3,12 +3,11 @@
 //! Laws: that a grant can be undone, and what holds of every allocator. Except `undo`, their functions do nothing. With
 //! them are the calls that leave an allocator as it is, with a count of their accesses.
 
+use crate::Allocator;
 pub use crate::counted::{
     allocation_size_counted, is_live_counted, refusal_aligned_counted, refusal_counted,
     storage_report_counted, storage_report_full_counted,
 };
-
-use crate::Allocator;
 use crate::index::NodeIndex;
 
 /// Grants a request for `n` units and frees the grant at once. The blocks, their names and the bins are then as they

@@ -146,7 +146,7 @@ pub struct IsMax;
 
 impl Display for IsMax {
     fn fmt(&self, f: &mut fmt::Formatter<'_>) -> fmt::Result {
-        f.write_str("the greatest number is no name")
+        f.write_str("the largest number is no index")
     }
 }
 

@@ -5,7 +5,8 @@ use Rattle.offset_allocator.specs.Relations.{Extends}
 use Rattle.offset_allocator.proofs.Released.{extends, extends_counted, extends_done, cannot_grow}
 use Rattle.offset_allocator.proofs.Granting.{is_short}
 use Rattle.offset_allocator.proofs.Reading.{used_read}
-use Rattle.offset_allocator.proofs.Extending.{end, used_at_end}
+use Rattle.offset_allocator.proofs.Extending.{used_at_end}
+use Rattle.offset_allocator.proofs.Places.{end_place}
 use Rattle.offset_allocator.specs.Ranges.{KeepsAll}
 use Rattle.offset_allocator.proofs.Ranges.{extends_keeps}
 use Rattle.offset_allocator.proofs.Sound.{fields_of, known_sound}
@@ -15,10 +16,10 @@ pub returns-then-more-self-clause-step : goal.returns-then-more-self-clause-step
 returns-then-more-self-clause-step g c = (omega arith, λ h. absurd (let l = h.0 in let s = ap (λ (u : View). u.size) c.self.view_is in omega arith), refl)
 
 pub is_used-used-requires : goal.is_used-used-requires
-is_used-used-requires g c = (end (fields_of g.NI.NodeIndex.MAX c.self.inside) c.args.more c.self.invariant).below
+is_used-used-requires g c = (end_place c.self.invariant.space).below
 
-pub widen-requires-clause-idle : goal.widen-requires-clause-idle
-widen-requires-clause-idle g c =
+pub widen-requires-clause-free : goal.widen-requires-clause-free
+widen-requires-clause-free g c =
     sym (used_at_end (fields_of g.NI.NodeIndex.MAX c.self.inside) c.args.more c.self.invariant) ∙ (used_read _ _ _ _ c.self.invariant.space ∙ sym (c.is_used-used.ensures.used _ _ c.self.invariant.space) ∙ c.if-not-used.true)
 
 pub returns-then-self-lt2-clause-step : goal.returns-then-self-lt2-clause-step

@@ -1,89 +1,50 @@
-use Rattle.std.proofs.Common.{◌≡◌, ◌≤◌, ◌<◌, ◌+◌, ℕ, length, true, false, arith, ap, sym, ◌∙◌}
-use Rattle.offset_allocator.specs.Classes.{down}
+use Rattle.std.proofs.Common.{◌+◌, ℕ, length, false, ap, arith}
 use Rattle.offset_allocator.specs.Cells.{Room}
-use Rattle.offset_allocator.specs.Named.{ends_used}
-use Rattle.offset_allocator.specs.Space.{IsSpace, blocks}
-use Rattle.offset_allocator.specs.State.{Fields, AreSound, IsSound, shown, view_of}
-use Rattle.offset_allocator.specs.Functional.{ExtendsBy}
 use Rattle.offset_allocator.proofs.Sound.{fields_of}
 use Rattle.offset_allocator.proofs.Sizes.{down_small}
-use Rattle.offset_allocator.proofs.Growing.{last_small}
-use Rattle.offset_allocator.proofs.Spot.{size-read}
-use Rattle.offset_allocator.proofs.Extending.{end, units_fit, free_fits, widen_listed, widen_unlisted, widened}
+use Rattle.offset_allocator.proofs.Places.{end_place}
+use Rattle.offset_allocator.proofs.Extending.{Growth, Grown, end_held, end_small, free_fits, widen_listed, widen_unlisted, widened}
 use Rattle.offset_allocator.proofs.Allocator.widen.Goals as goal
-use Rattle.offset_allocator.proofs.Allocator.widen.Goals.{After-size-whole, After-push}
+use Rattle.offset_allocator.proofs.Allocator.widen.Goals.{After-self, After-push}
 use Rattle.offset_allocator.proofs.Allocator.widen.Given.{Over}
 
 -- what the call knows of the fields
-record Widening (it : Fields) (more : ℕ) : Type 0 where
-  sound : AreSound it
-  some : 0 < more
-  fits : it.size + more ≤ 4294967295
-  idle : ends_used (blocks it.cells.room it.last) ≡ false
-
-pre : (g : Over) (c : After-size-whole g) → Widening (fields_of g.NI.NodeIndex.MAX c.self.inside) c.args.more
-pre g c = record {
-  sound = c.self.invariant;
-  some = c.requires.more;
-  fits = rw (← c.self.view_is) at c.requires.fits;
-  idle = rw (← c.self.view_is) at c.requires.idle;
-}
+pre : (g : Over) (c : After-self g) → Growth (fields_of g.NI.NodeIndex.MAX c.self.inside) c.args.more false
+pre g c = record { sound = c.self.invariant; some = c.requires.more; fits = rw (← c.self.view_is) at c.requires.fits; ends = rw (← c.self.view_is) at c.requires.free }
 
 pub size-whole-requires : goal.size-whole-requires
-size-whole-requires g c = (end (fields_of g.NI.NodeIndex.MAX c.self.inside) c.args.more c.self.invariant).below
+size-whole-requires g c = (end_place c.self.invariant.space).below
 
 pub remove-requires-clause-listed : goal.remove-requires-clause-listed
-remove-requires-clause-listed g c =
-    let p = pre g (goal.at.remove-requires-clause-listed g c).After-size-whole in
-    widen_listed (fields_of g.NI.NodeIndex.MAX c.self.inside) _ p.sound p.some p.fits p.idle _ (ap down (c.size-whole.ensures.size _ _ c.self.invariant.space (end (fields_of g.NI.NodeIndex.MAX c.self.inside) c.args.more c.self.invariant).there ∙ sym (size-read _ _ _ _ c.self.invariant.space (end (fields_of g.NI.NodeIndex.MAX c.self.inside) c.args.more c.self.invariant).there)))
+remove-requires-clause-listed g c = rw c.size-whole.ensures.size (widen_listed (pre g (goal.at.remove-requires-clause-listed g c).After-self))
 
 pub overflow_add-whole : goal.overflow_add-whole
-overflow_add-whole g c =
-    let p = pre g (goal.at.overflow_add-whole g c).After-size-whole in
-    omega (arith, last_small _ _ c.args.more (end (fields_of g.NI.NodeIndex.MAX c.self.inside) c.args.more c.self.invariant).below (units_fit (fields_of g.NI.NodeIndex.MAX c.self.inside) _ p.sound p.some p.fits), (c.size-whole.ensures.size _ _ c.self.invariant.space (end (fields_of g.NI.NodeIndex.MAX c.self.inside) c.args.more c.self.invariant).there ∙ sym (size-read _ _ _ _ c.self.invariant.space (end (fields_of g.NI.NodeIndex.MAX c.self.inside) c.args.more c.self.invariant).there)))
+overflow_add-whole g c = omega (arith, end_small (pre g (goal.at.overflow_add-whole g c).After-self), c.size-whole.ensures.size)
 
-pub grow-requires-clause-below : goal.grow-requires-clause-below
-grow-requires-clause-below g c = rw c.remove.ensures.room (end (fields_of g.NI.NodeIndex.MAX c.self.inside) c.args.more c.self.invariant).below
+pub grow-requires-clause-place : goal.grow-requires-clause-place
+grow-requires-clause-place g c = (_, _, _, _, end_held (pre g (goal.at.grow-requires-clause-place g c).After-self) c.remove.ensures.room)
 
 pub push-requires-clause-named : goal.push-requires-clause-named
-push-requires-clause-named g c =
-    let below = (end (fields_of g.NI.NodeIndex.MAX c.self.inside) c.args.more c.self.invariant).below in
-    omega (arith, below, c.grow.ensures.limit, ap (λ (r : Room). length r.nodes) c.remove.ensures.room, c.shape.ensures.newer)
+push-requires-clause-named g c = omega (arith, (end_place c.self.invariant.space).below, c.grow.ensures.limit, ap (λ (r : Room). length r.nodes) c.remove.ensures.room, c.shape.ensures.newer)
 
 pub push-requires-clause-classed : goal.push-requires-clause-classed
 push-requires-clause-classed g c = omega (arith, down_small (c.size-whole.result + c.args.more), c.uint_to_float_round_down.ensures.is)
 
 pub push-requires-clause-fresh : goal.push-requires-clause-fresh
 push-requires-clause-fresh g c =
-    let p = pre g (goal.at.push-requires-clause-fresh g c).After-size-whole in
-    rw (c.grow.ensures.links, c.remove.ensures.lists)
-    (widen_unlisted (fields_of g.NI.NodeIndex.MAX c.self.inside) _ p.sound p.some p.fits p.idle _ (down_small c.size-whole.result) (ap down (c.size-whole.ensures.size _ _ c.self.invariant.space (end (fields_of g.NI.NodeIndex.MAX c.self.inside) c.args.more c.self.invariant).there ∙ sym (size-read _ _ _ _ c.self.invariant.space (end (fields_of g.NI.NodeIndex.MAX c.self.inside) c.args.more c.self.invariant).there))))
+    rw (c.grow.ensures.links, c.remove.ensures.lists, c.size-whole.ensures.size) (widen_unlisted (pre g (goal.at.push-requires-clause-fresh g c).After-self))
 
 pub overflow_add-self-2 : goal.overflow_add-self-2
-overflow_add-self-2 g c =
-    let p = pre g (goal.at.overflow_add-self-2 g c).After-size-whole in
-    omega (arith, free_fits (fields_of g.NI.NodeIndex.MAX c.self.inside) _ p.sound p.some p.fits)
+overflow_add-self-2 g c = omega (arith, free_fits (pre g (goal.at.overflow_add-self-2 g c).After-self))
 
--- the fields after the calls, for any count of accesses
-done : (g : Over) (c : After-push g) → Widening (fields_of g.NI.NodeIndex.MAX c.self.inside) c.args.more → (accesses : ℕ) →
-    IsSound g.NI.NodeIndex.MAX (c.self.inside.size + c.args.more) c.self.inside.max_allocs c.push.new.tables c.self.inside.last c.self.inside.spare_count c.push.new.top_mask
-    (c.self.inside.free_total + c.args.more)
-    × ExtendsBy c.args.more (shown (fields_of g.NI.NodeIndex.MAX c.self.inside))
-    (view_of g.NI.NodeIndex.MAX (c.self.inside.size + c.args.more) c.self.inside.max_allocs c.push.new.tables c.self.inside.last accesses) true
-done g c p accesses =
-    let space : IsSpace c.remove.new.tables.room c.self.inside.last c.self.inside.spare_count = rw c.remove.ensures.room c.self.invariant.space in
-    let grown = c.grow.ensures.blocks _ space in
-    widened _ _ p.sound p.some p.fits p.idle _ _ _ accesses _ _ (c.size-whole.ensures.size _ _ c.self.invariant.space (end (fields_of g.NI.NodeIndex.MAX c.self.inside) c.args.more c.self.invariant).there ∙ sym (size-read _ _ _ _ c.self.invariant.space (end (fields_of g.NI.NodeIndex.MAX c.self.inside) c.args.more c.self.invariant).there)) (ap down (c.size-whole.ensures.size _ _ c.self.invariant.space (end (fields_of g.NI.NodeIndex.MAX c.self.inside) c.args.more c.self.invariant).there ∙ sym (size-read _ _ _ _ c.self.invariant.space (end (fields_of g.NI.NodeIndex.MAX c.self.inside) c.args.more c.self.invariant).there)))
-    (rw c.push.ensures.room (c.grow.ensures.space _ space))
-    c.push.ensures.held
-    (rw c.push.ensures.room (rw c.remove.ensures.room at c.grow.ensures.limit))
-    (rw c.push.ensures.room (rw c.remove.ensures.room at grown))
-    (rw (c.grow.ensures.links, c.remove.ensures.lists, c.uint_to_float_round_down.ensures.is) at c.push.ensures.lists)
+done : (g : Over) (c : After-push g) (r : Growth (fields_of g.NI.NodeIndex.MAX c.self.inside) c.args.more false) (k : ℕ) → Grown r c.push.new.tables c.self.inside.last c.self.inside.spare_count c.push.new.top_mask k
+done g c r k =
+    let grown = c.grow.ensures.place _ _ _ _ (end_held r c.remove.ensures.room) in
+    widened r c.push.new.tables k (rw c.push.ensures.room grown.chain) c.push.ensures.held
+    (rw (c.grow.ensures.links, c.remove.ensures.lists, c.uint_to_float_round_down.ensures.is, c.size-whole.ensures.size) at c.push.ensures.lists)
 
 pub invariant_of-self : goal.invariant_of-self
-invariant_of-self g c = let at = goal.at.invariant_of-self g c in (done g at.After-push (pre g at.After-size-whole) 0).0
+invariant_of-self g c = let at = goal.at.invariant_of-self g c in (done g at.After-push (pre g at.After-self) 0).0
 
 pub returns-clause-step : goal.returns-clause-step
-returns-clause-step g c =
-    let at = goal.at.returns-clause-step g c in
-    rw (← c.self.view_is) (done g at.After-push (pre g at.After-size-whole) c.push.new.count).1
+returns-clause-step g c = let at = goal.at.returns-clause-step g c in rw (← c.self.view_is) (done g at.After-push (pre g at.After-self) c.push.new.count).1

@@ -14,7 +14,7 @@ returns-clause-report g c k d h =
     let P : View → Type 0 = λ u. slice_index_or c.loop-class.report.free_regions k d ≡ record { size = value k % 2 ^ 32; count = count_of k (free_sizes u.blocks) } in
     let row : ℕ → StorageReportFullRegion = λ n. record { size = value k % 2 ^ 32; count = n } in
     subst P c.allocator.view_is
-    (c.loop-class.invariant.told k d (omega arith) ∙ ap row (length_names (shown (record (fields_of g.NI.NodeIndex.MAX c.allocator.inside) { accesses = 0 })) c.allocator.invariant.well k))
+    (c.loop-class.invariant.filled k d (omega arith) ∙ ap row (length_names (shown (record (fields_of g.NI.NodeIndex.MAX c.allocator.inside) { accesses = 0 })) c.allocator.invariant.well k))
 
 pub returns-clause-count : goal.returns-clause-count
 returns-clause-count g c =

@@ -1,0 +1,45 @@
+-- Blocks that are split, and the bins of their parts.
+use Rattle.std.proofs.Common.{◌≡◌, ◌≢◌, ℕ, zero, suc, ◌-◌, ◌<◌, List, [], ◌∷◌, ◌++◌, length, refl, sym, ap, ◌∙◌, subst, arith, inl, inr, append-nil}
+use Rattle.std.proofs.lemmas.Bool.{cases_eq}
+use Rattle.std.proofs.lemmas.List.{get_or-set_same, get_or-set_other}
+use Rattle.offset_allocator.specs.Cells.{Room}
+use Rattle.offset_allocator.specs.Classes.{down}
+use Rattle.offset_allocator.specs.Named.{Block, Place, count_named, names_at, free_part, free_block, push, push_all}
+use Rattle.offset_allocator.specs.Orders.{Among, IsUnlisted}
+use Rattle.offset_allocator.specs.Space.{HasPlace}
+use Rattle.offset_allocator.specs.State.{AreUnlisted}
+use Rattle.offset_allocator.proofs.Rows.{one-eq, times-append}
+use Rattle.offset_allocator.proofs.Sizes.{down_small}
+
+unlisted_put : (y x c : ℕ) (ls : List (List ℕ)) → length ls ≡ 256 → c < 256 → y ≢ x → IsUnlisted y ls → IsUnlisted y (push c x ls)
+unlisted_put y x c ls n ch ne u d dh a =
+    let l : c < length ls = omega arith in
+    elim (cases_eq d c) [
+      | inl e ↦
+          let P : List ℕ → Type 0 = λ z. Among y z in
+          elim (subst P (ap (names_at (push c x ls)) e ∙ get_or-set_same ls c (x ∷ names_at ls c) [] l) a) as (λ _. ⊥) [ inl q ↦ ne q | inr t ↦ u c ch t ]
+      | inr m ↦ u d dh (subst (λ z. Among y z) (get_or-set_other ls c d (x ∷ names_at ls c) [] m) a)
+    ]
+
+-- padding of no units is no block, nor is a remainder of no units
+module _ {c : Room} {m last count x : ℕ} {p : Place} where
+  pub no_padding : (y n : ℕ) → HasPlace c m last count x p → n ≡ 0 → HasPlace c m last count x (record { before = p.before ++ free_part y n; block = record p.block { size = p.block.size - n }; after = p.after })
+  no_padding y zero h e = let same : p.block.size - 0 ≡ p.block.size = omega arith in rw (append-nil, same) h
+  no_padding y (suc n) h e = absurd (omega arith)
+
+  pub no_remainder : (y n k : ℕ) → HasPlace c m last count x p → n ≡ 0 → k ≡ p.block.size → HasPlace c m last count x (record p { block = record p.block { size = k }; after = free_part y n ++ p.after })
+  no_remainder y zero k h e q = rw q h
+  no_remainder y (suc n) k h e q = absurd (omega arith)
+
+pub some_part : (y n : ℕ) → 0 < n → free_block y n ∷ [] ≡ free_part y n
+some_part y zero l = absurd (omega arith)
+some_part y (suc n) l = refl
+
+-- the name of the padding is in its bin, and no other one is that was in none
+pub unlisted_part : (fs cs : List Block) (b d : Block) (y n : ℕ) (ls : List (List ℕ)) → d.name ≡ b.name → length ls ≡ 256 → AreUnlisted (fs ++ b ∷ cs) ls → AreUnlisted ((fs ++ free_part y n) ++ d ∷ cs) (push_all (free_part y n) ls)
+unlisted_part fs cs b d y zero ls same long u k z = u k (omega (arith, z, times-append k (fs ++ []) (d ∷ cs), times-append k fs [], times-append k fs (b ∷ cs), ap (λ i. count_named k (record { name = i; size = 0; used = b.used } ∷ [])) same))
+unlisted_part fs cs b d y (suc n) ls same long u k z =
+    let all = times-append k (fs ++ free_block y (suc n) ∷ []) (d ∷ cs) in
+    let front = times-append k fs (free_block y (suc n) ∷ []) in
+    unlisted_put k y (down (suc n)) ls long (down_small (suc n)) (λ q. omega (arith, z, all, front, one-eq k y (sym q)))
+    (u k (omega (arith, z, all, front, times-append k fs (b ∷ cs), ap (λ i. count_named k (record { name = i; size = 0; used = b.used } ∷ [])) same)))
