@@ -21,20 +21,20 @@ IsReport r v = (r.total_free_space ≡ total_free v) × (r.largest_free_region �
 abbrev pub IsFullReport : StorageReportFull → View → Type 0
 IsFullReport r v = (c : ℕ) (d : StorageReportFullRegion) → c < 256 → slice_index_or r.free_regions c d ≡ record { size = value c % 2 ^ 32; count = count_of c (free_sizes v.blocks) }
 
--- this many more blocks may exist, and one name stays unused
+-- there is room for k more blocks; one name always stays without a block
 abbrev pub HasRoomFor : ℕ → View → Type 0
 HasRoomFor k v = length v.blocks + k < v.max_allocs
 
--- the blocks that a request may add: the remainder, and the padding where it is aligned
+-- how many blocks a request may add: 1 with align 1 (the remainder), 2 above (the padding too)
 abbrev pub blocks_needed : ℕ → ℕ
 blocks_needed align = min align 2
 
--- the units of a block that holds size units from a multiple of align on, wherever it begins
+-- a block of this many units, at whatever offset, contains size units that begin at a multiple of align
 abbrev pub units_needed : ℕ → ℕ → ℕ
 units_needed size align = size + align - 1
 
--- a request is granted that may add this many blocks and needs this many units of one block: there is room for the
--- blocks, and a bin of a class that is sure to hold the units has a block
+-- when a request is granted: there is room for the blocks that it may add, and some bin is not empty whose class is large
+-- enough, which means that all its blocks have at least the units needed
 abbrev pub CanGrant : ℕ → ℕ → View → Type 0
 CanGrant blocks units v = HasRoomFor blocks v × ((c : ℕ) × (up units ≤ c) × (names_at v.order c ≢ []))
 

@@ -16,14 +16,14 @@ pub record IsFresh (size max_allocs : ℕ) (w : View) : Type 0 where
   pub below : name < max_allocs
   pub view : w ≡ record { size = size; max_allocs = max_allocs; blocks = free_block name size ∷ []; order = push_all (free_block name size ∷ []) (replicate 256 []); accesses = 0 }
 
--- a free block is split into padding, n granted units and a remainder: the newest block of the smallest class that has one
--- and is sure to hold the units needed
+-- a free block is split into padding, n granted units and a remainder: the newest block of the smallest class that is
+-- large enough for the units needed and has a block
 pub record Splits (needed n : ℕ) (padding_at : ℕ → ℕ) (v w : View) (g : Grant) : Type 0 where
   pub before : List Block
   pub block : Block
   pub after : List Block
   pub blocks : v.blocks ≡ before ++ (block ∷ after)
-  -- which block: a free one of a class that is sure to hold the units, the smallest such, and the newest of its bin
+  -- which block: a free one, of a class large enough, with no block in a smaller such class, the newest of its bin
   pub free : block.used ≡ false
   pub fits : up needed ≤ down block.size
   pub smallest : (c : ℕ) → up needed ≤ c → c < down block.size → names_at v.order c ≡ []
@@ -34,7 +34,8 @@ pub record Splits (needed n : ℕ) (padding_at : ℕ → ℕ) (v w : View) (g : 
   pub padded : padding ≡ padding_at (units before)
   pub remainder : ℕ
   pub whole : padding + n + remainder ≡ block.size
-  -- a free part of at least one unit takes a new name
+  -- padding and remainder, unless empty, become free blocks under names that no block has; the granted part keeps the
+  -- block's name
   pub padding_name : ℕ
   pub remainder_name : ℕ
   pub padding_new : 1 ≤ padding → IsNew padding_name v
@@ -43,7 +44,8 @@ pub record Splits (needed n : ℕ) (padding_at : ℕ → ℕ) (v w : View) (g : 
   pub grant : g ≡ record { name = block.name; offset = units before + padding }
   pub view : SameSpace (replace v before (block ∷ []) (free_part padding_name padding ++ record block { size = n; used = true } ∷ free_part remainder_name remainder) after) w
 
--- a request that may add this many blocks and needs this many units of one block, of which n are granted, after padding
+-- a request that may add this many blocks, takes a block of a class large enough for the units needed, and is granted n
+-- of them, after padding: it is refused exactly when it cannot be granted, and then nothing changes
 abbrev pub Serves : ℕ → ℕ → ℕ → (ℕ → ℕ) → View → View → Option Grant → Type 0
 Serves blocks needed n padding_at v w None = (CanGrant blocks needed v → ⊥) × SameSpace v w
 Serves blocks needed n padding_at v w (Some g) = HasRoomFor blocks v × Splits needed n padding_at v w g
@@ -56,7 +58,8 @@ Allocates n v w result = Serves 1 n n (λ offset. 0) v w result
 abbrev pub Aligns : ℕ → ℕ → View → View → Option Grant → Type 0
 Aligns n align v w result = Serves (blocks_needed align) (units_needed n align) n (padding_to align) v w result
 
--- the used block named x becomes free, in one block with the free blocks directly before and after it
+-- the used block named x becomes free and coalesces with its free neighbours, left and right: the block keeps the name x
+-- and is the newest of its bin
 pub record Frees (x : ℕ) (v w : View) : Type 0 where
   pub before : List Block
   pub left : List Block
@@ -68,12 +71,13 @@ pub record Frees (x : ℕ) (v w : View) : Type 0 where
   pub used : block.used ≡ true
   pub free : AllByRecursion (λ b. b.used ≡ false) (left ++ right)
   pub view : SameSpace (replace v before (left ++ (block ∷ right)) (free_block x (units (left ++ (block ∷ right))) ∷ []) after) w
-  -- no two free blocks are neighbours then
+  -- afterwards no two free blocks are neighbours: so left and right are all the free neighbours there were
   pub apart : IsApart w.blocks
 
--- the last block gets more units, where it is free; after a used one they are a new block
+-- the space gets more units at its end: a free last block grows, and after a used one a new free block is added
 pub record Grows (more : ℕ) (v w : View) : Type 0 where
   pub before : List Block
+  -- the last block if it is free, otherwise nothing
   pub last : List Block
   pub blocks : v.blocks ≡ before ++ last
   pub free : AllByRecursion (λ b. b.used ≡ false) last
@@ -81,10 +85,11 @@ pub record Grows (more : ℕ) (v w : View) : Type 0 where
   pub named : AllByRecursion (λ b. b.name ≡ name) last
   pub new : last ≡ [] → IsNew name v
   pub view : SameSpace (record (replace v before last (free_block name (units last + more) ∷ []) []) { size = v.size + more }) w
-  -- no two free blocks are neighbours then
+  -- afterwards no two free blocks are neighbours: so last is the last block if that is free
   pub apart : IsApart w.blocks
 
--- a space can have more units: at most 4294967295 in all, where one more block may exist or the last one is free
+-- a space can have this many units more: the sum is at most 4294967295, and there is room for one more block or the last
+-- block is free
 abbrev pub CanGrow : ℕ → View → Type 0
 CanGrow more v = (v.size + more ≤ 4294967295) × (HasRoomFor 1 v ⊎ ((before : List Block) × (last : Block) × (v.blocks ≡ before ++ last ∷ []) × (last.used ≡ false)))
 
@@ -99,12 +104,12 @@ pub record Resets (v w : View) : Type 0 where
   pub below : name < v.max_allocs
   pub view : SameSpace (record v { blocks = free_block name v.size ∷ []; order = push_all (free_block name v.size ∷ []) (replicate 256 []) }) w
 
--- a grant of n units is split off a free block that is a near best fit
+-- the block of the grant was free before, and is a near best fit for n units: for an aligned request, the units needed
 pub record IsSplitNearBest (n : ℕ) (v : View) (g : Grant) : Type 0 where
   pub place : Place
   pub there : place_of g.name v.blocks ≡ Some place
   pub free : place.block.used ≡ false
-  -- no free block that is sure to hold n units has less than 8/9 of its size
+  -- if a free block has at least 9/8 of n units, the block taken is at most 9/8 as large as that block
   pub fit : AllByRecursion (λ size. 9 * n ≤ 8 * size → 8 * place.block.size ≤ 9 * size) (free_sizes v.blocks)
 
 -- an alignment that a request may ask for, a power of two: a divisor of 2 ^ 32, or one by std's words

@@ -1,7 +1,7 @@
 //! Ranges of one contiguous space of `size` units, handed out and taken back with a bounded number of accesses to table
 //! cells. The space itself is never touched.
 //!
-//! A *block* is a run of units, live (granted) or free; no two free blocks are neighbours. Each block has a *node* of the
+//! A *block* is a run of units, used (granted; its name is then live) or free; no two free blocks are neighbours. Each block has a *node* of the
 //! tables, whose index is the block's *name*. A *size class* is a range of sizes, and its *bin* the list of its free
 //! blocks, the one that became free last first.
 //!
@@ -197,8 +197,9 @@ impl<NI: NodeIndex> Allocator<NI> {
 
     /// Makes the whole space one free block again, in place. The block of every earlier handle is gone.
     ///
-    /// It takes no memory and always succeeds, and the space keeps what `extend` added. If there are fewer blocks than one
-    /// for 128 nodes of the limit, it frees each live range; otherwise it clears the use flags and the names of all nodes.
+    /// It takes no memory and always succeeds, and the space keeps what `extend` added. If fewer than
+    /// `max_allocs / 128` blocks exist, it frees each live range; otherwise it clears the use flags and the names of all
+    /// nodes.
     pub fn reset(&mut self)
         // The space keeps its size, and no name is live.
         ensures size { self.new.size ≡ self.old.size }
@@ -293,22 +294,25 @@ impl<NI: NodeIndex> Allocator<NI> {
     /// `None` is returned where `max_allocs - 1` blocks exist, even for an exact fit, and where no free block is of such
     /// a class; then nothing changes. A request of at least one unit is granted exactly when it is at most the
     /// `largest_free_region` that `storage_report` returns just before. It makes at most 64 accesses to the tables (the
-    /// bounds of its parts add up to 26), and takes no memory.
+    /// promise; the bounds proved for its parts add up to 26), and takes no memory.
     pub fn allocate(&mut self, size: u32) -> Option<Allocation<NI>>
-        // It is granted exactly when it is at most the largest free region that is reported (which is 0 where no more block
-        // may exist); and, of 0 units too, exactly when one more block may exist and a free block is sure to hold it.
+        // A request of at least one unit is granted exactly when `size` is at most the `largest_free_region` of the report,
+        // which is 0 at the node limit. Any request, of 0 units too, is granted exactly when there is room for one more
+        // block, and there is a free block in a size class whose blocks all have at least `size` units.
         ensures granted { 1 ≤ size → (IsSome result ↔ (size ≤ largest_free self.old)) }
         ensures can_grant { IsSome result ↔ CanGrant 1 size self.old }
-        // A grant is a name that was not live, with a range of exactly these units, in the space and apart from all live
-        // ranges, which stay.
+        // A grant gives a name that was not live. Its range has exactly `size` units, lies in the space, and overlaps no
+        // live range. All live ranges stay as they are.
         ensures grants { IfSome result (Grants size self.old self.new) }
         // A refusal leaves the space as it was.
         ensures same { result ≡ None → SameSpace self.old self.new }
-        // The block taken is at most 9/8 as large as any free block of at least 9/8 of the request.
+        // Near-best fit: if a free block has at least 9/8 of the requested units, the block taken is at most 9/8 as large
+        // as that block.
         ensures nearly { IfSome result (IsSplitNearBest size self.old) }
         // A refusal with room for one more block means that every free block is smaller than 9/8 of the request.
         ensures refused { result ≡ None → HasRoomFor 1 self.old → IsGoodRefusal size (free_sizes self.old.blocks) }
-        // It makes at most 64 accesses to table cells, and a grant at least 7: so what is made is counted.
+        // It makes at most 64 accesses to table cells. A grant makes at least 7, so a count that stays as it is cannot meet
+        // the contract.
         ensures grows { self.old.accesses ≤ self.new.accesses }
         ensures least { IsSome result → self.old.accesses + 7 ≤ self.new.accesses }
         ensures count { self.new.accesses ≤ self.old.accesses + 64 }
@@ -445,8 +449,8 @@ impl<NI: NodeIndex> Allocator<NI> {
 
     /// Why `allocate_aligned(size, align)` would be refused now, or `None` exactly where it would be granted.
     ///
-    /// With `align` above 1 two more blocks are needed, and `size + align - 1` units. It makes at most 8 accesses to
-    /// the tables.
+    /// If `align` is above 1, the request needs room for two more blocks, and a block for `size + align - 1` units. It makes
+    /// at most 8 accesses to the tables.
     pub fn refusal_aligned(&self, size: u32, align: u32) -> Option<Refusal>
         requires power { IsAlignment align }
         ensures granted { result ≡ None ↔ CanGrant (blocks_needed align) (units_needed size align) self.now }
@@ -491,28 +495,30 @@ impl<NI: NodeIndex> Allocator<NI> {
 
     /// Grants `size` units that begin at a multiple of `align`, a power of two.
     ///
-    /// The block is the one that a request for `size + align - 1` units would take. What of it lies before the granted
-    /// units, and what lies after them, stays free. `None` is returned where such a request finds no block or is larger
-    /// than 4294967295, and, with `align` above 1, where there is no room for two more blocks, needed or not; then nothing
-    /// changes. With
-    /// `align` 1 the call is `allocate`. It makes at most 128 accesses to the tables, and takes no memory.
+    /// The block is the one that a request for `size + align - 1` units would take. Its units before the range (the
+    /// padding) and after it (the remainder) stay free. `None` is returned if that request finds no block, if
+    /// `size + align - 1` is above 4294967295, or if `align` is above 1 and there is no room for two more blocks, even if
+    /// fewer would be added. Then nothing changes. With `align` 1 the call is `allocate(size)`. It makes at most 128
+    /// accesses to the tables, and takes no memory.
     pub fn allocate_aligned(&mut self, size: u32, align: u32) -> Option<Allocation<NI>>
         requires power { IsAlignment align }
-        // It is granted exactly when the blocks needed may exist, and the units needed are at most the largest free region
-        // that is reported; and, of 0 units with alignment 1 too, exactly when the blocks needed may exist and a free
-        // block is sure to hold the units needed.
+        // The units needed are `size + align - 1`; the blocks needed are 1 with `align` 1, and 2 above. If at least one unit
+        // is needed, the request is granted exactly when there is room for the blocks needed and the units needed are at
+        // most the reported `largest_free_region`. Any request is granted exactly when there is room for the blocks
+        // needed, and there is a free block in a size class whose blocks all have at least the units needed.
         ensures granted { 1 ≤ units_needed size align → (IsSome result
             ↔ (HasRoomFor (blocks_needed align) self.old × (units_needed size align ≤ largest_free self.old))) }
         ensures can_grant { IsSome result ↔ CanGrant (blocks_needed align) (units_needed size align) self.old }
-        // A grant is a name that was not live, with a range of exactly `size` units, in the space and apart from all live
-        // ranges, which stay.
+        // A grant gives a name that was not live. Its range has exactly `size` units, lies in the space, and overlaps no
+        // live range. All live ranges stay as they are.
         ensures grants { IfSome result (Grants size self.old self.new) }
         // The range begins at a multiple of the alignment.
         ensures aligned { IfSome result (λ h. h.offset % align ≡ 0) }
         // A refusal leaves the space as it was.
         ensures same { result ≡ None → SameSpace self.old self.new }
-        // The block taken is at most 9/8 as large as any free block of at least 9/8 of the units needed; and a refusal with
-        // room for the blocks needed means that every free block is smaller than 9/8 of these units.
+        // Near-best fit: if a free block has at least 9/8 of the units needed, the block taken is at most 9/8 as large as
+        // that block. A refusal with room for the blocks needed means that every free block is smaller than 9/8 of these
+        // units.
         ensures nearly { IfSome result (IsSplitNearBest (units_needed size align) self.old) }
         ensures refused { result ≡ None → HasRoomFor (blocks_needed align) self.old
             → IsGoodRefusal (units_needed size align) (free_sizes self.old.blocks) }
