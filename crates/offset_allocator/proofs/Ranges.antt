@@ -264,7 +264,7 @@ gives_aligned n align front rest v f u = if_value (nat_le align 1) (allocate n r
 
 -- a grant leaves every live range where it was
 pub grants_keep : (n : ℕ) (v w : View) (g : Grant) → Grants n v w g → KeepsRanges v w
-grants_keep n v w g h = given_back g.name v v w h.fresh (λ x r e. e) h.others
+grants_keep n v w g h = given_back g.name v v w h.not_live (λ x r e. e) h.others
 
 -- and a refusal too
 pub call_keeps : (n : ℕ) (v w : View) (o : Option Grant) → IfSome o (Grants n v w) → (o ≡ None → SameSpace v w) → KeepsRanges v w
@@ -274,10 +274,10 @@ call_keeps n v w (Some g) h same = grants_keep n v w g h
 -- its units lie in the space that it leaves, apart from every live range
 granted_is : (n : ℕ) (v w : View) (g : Grant) → IsWellFormed w → Holds n v w g → Grants n v w g
 granted_is n v w g well h = record {
-  fresh = h.fresh;
+  not_live = h.fresh;
   range = h.range;
   within = live_inside w well g.name _ h.range;
-  apart = λ x r e. elim (hit_cases x g.name) [
+  disjoint = λ x r e. elim (hit_cases x g.name) [
     | inl f ↦ absurd (let same = ap (λ y. range_of y v) f.0 in let no : (let o : Option Range = None in o) ≡ Some r = sym h.fresh ∙ sym same ∙ e in cc)
     | inr f ↦ live_disjoint w well x g.name r _ f.0 (h.others x f.0 ∙ e) h.range
   ];

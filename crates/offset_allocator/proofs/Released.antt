@@ -5,7 +5,7 @@ use Rattle.std.specs.List.{AllByRecursion}
 use Rattle.offset_allocator.specs.Named.{Block, View, Place, one, units, count_named, IsApart, IsWellFormed, IsNew, IsUnused, free_block, free_start, without_start, free_end, without_end, starts_free, name_or, ends_used, place_of, replace, is_short_of, max_size, is_used_at, free_at, free, extend_by, is_extendable, Extension, extend}
 use Rattle.offset_allocator.specs.Ranges.{IsLive}
 use Rattle.offset_allocator.specs.Promises.{HasRoomFor}
-use Rattle.offset_allocator.specs.Relations.{SameSpace, Frees, Grows, CanGrow, Extends}
+use Rattle.offset_allocator.specs.Relations.{SameSpace, Frees, Adds, CanExtend, Extends}
 use Rattle.offset_allocator.specs.Functional.{ExtendsBy}
 use Rattle.offset_allocator.proofs.ViewOrders.{hit_cases, tally_append}
 use Rattle.offset_allocator.proofs.ViewApart.{ends_free, apart_parts, first_false, second_false, coalesced_parts, end_parts}
@@ -132,7 +132,7 @@ module _ (v : View) (known : IsWellFormed v) (more : ℕ) where
   end_used (b ∷ []) last = refl
   end_used (b ∷ c ∷ before) last = end_used (c ∷ before) last
 
-  pub can_grow : is_extendable more v ≡ true → CanGrow more v
+  pub can_grow : is_extendable more v ≡ true → CanExtend more v
   can_grow e =
       let c = or_false (nat_lt max_size (v.size + more)) (ends_used v.blocks && is_short_of 1 v) e in
       (ltb-false max_size (v.size + more) c.0, go (ends_used v.blocks) refl c.1)
@@ -141,13 +141,13 @@ module _ (v : View) (known : IsWellFormed v) (more : ℕ) where
       go true f h = inl (leb-false v.max_allocs (length v.blocks + 1) (second_false (ends_used v.blocks) (is_short_of 1 v) h f))
       go false f h = inr (end_is_free v.blocks known.some f)
 
-  pub grow_can : CanGrow more v → is_extendable more v ≡ true
+  pub grow_can : CanExtend more v → is_extendable more v ≡ true
   grow_can c = extendable_if (nat_lt max_size (v.size + more)) (ends_used v.blocks) (is_short_of 1 v) (le-ltb max_size (v.size + more) c.0) (λ u. elim c.1 [
     | inl room ↦ lt-leb v.max_allocs (length v.blocks + 1) room
     | inr l ↦ absurd (false≢true (sym l.3 ∙ sym (end_used l.0 l.1) ∙ ap ends_used (sym l.2) ∙ u))
   ])
 
-  pub cannot_grow : ends_used v.blocks ≡ true → is_short_of 1 v ≡ true → CanGrow more v → ⊥
+  pub cannot_grow : ends_used v.blocks ≡ true → is_short_of 1 v ≡ true → CanExtend more v → ⊥
   cannot_grow u s c = true≢false (sym (grow_can c) ∙ full_if (nat_lt max_size (v.size + more)) (ends_used v.blocks) (is_short_of 1 v) u s)
 
   end_named : (bs : List Block) (x : ℕ) → AllByRecursion (λ b. b.name ≡ name_or x (free_end bs)) (free_end bs)
@@ -195,7 +195,7 @@ module _ (v : View) (known : IsWellFormed v) (more : ℕ) where
           go false e = unextended_is more x v pos e ∙ ap (λ (b : Bool). let z : Extension = record { view = if b then extend_by more x v else v; done = b } in z) (sym e)
 
   -- and the other way
-  grown_by : (w : View) → 1 ≤ more → CanGrow more v → Grows more v w → ExtendsBy more v w true
+  grown_by : (w : View) → 1 ≤ more → CanExtend more v → Adds more v w → ExtendsBy more v w true
   grown_by w pos can g =
       let e = grow_can can in
       let n : (x : ℕ) × IsUnused x v × (name_or x g.last ≡ g.name) = named g.last g.named g.new in
@@ -244,6 +244,6 @@ extends_counted more v w accesses true e = elim e [
 ]
 
 -- when it is done
-pub extends_done : (more : ℕ) (v w : View) (done : Bool) → Extends more v w done → (done ≡ true) ↔ (1 ≤ more → CanGrow more v)
+pub extends_done : (more : ℕ) (v w : View) (done : Bool) → Extends more v w done → (done ≡ true) ↔ (1 ≤ more → CanExtend more v)
 extends_done more v w true e = (λ h l. elim e [ inl z ↦ absurd (let n = z.0 in omega arith) | inr g ↦ g.1 ], λ h. refl)
 extends_done more v w false e = (λ h. absurd (false≢true h), λ h. absurd (e.1 (h e.0)))

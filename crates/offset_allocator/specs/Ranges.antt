@@ -34,13 +34,13 @@ KeepsOthers x v w = (y : ℕ) → y ≢ x → range_of y w ≡ range_of y v
 -- what a grant of n units is
 pub record Grants (n : ℕ) (v w : View) (h : Grant) : Type 0 where
   -- its name was not live
-  pub fresh : range_of h.name v ≡ None
+  pub not_live : range_of h.name v ≡ None
   -- the name holds exactly n units, from the offset on
   pub range : range_of h.name w ≡ Some (record { offset = h.offset; size = n })
   -- these lie in the space
   pub within : h.offset + n ≤ w.size
   -- and share no unit with a range that is live
-  pub apart : (x : ℕ) (r : Range) → range_of x v ≡ Some r → AreDisjoint r (record { offset = h.offset; size = n })
+  pub disjoint : (x : ℕ) (r : Range) → range_of x v ≡ Some r → AreDisjoint r (record { offset = h.offset; size = n })
   -- all other ranges stay, and no other name comes to life
   pub others : KeepsOthers h.name v w
 

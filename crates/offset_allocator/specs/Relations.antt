@@ -75,7 +75,7 @@ pub record Frees (x : ℕ) (v w : View) : Type 0 where
   pub apart : IsApart w.blocks
 
 -- the space gets more units at its end: a free last block grows, and after a used one a new free block is added
-pub record Grows (more : ℕ) (v w : View) : Type 0 where
+pub record Adds (more : ℕ) (v w : View) : Type 0 where
   pub before : List Block
   -- the last block if it is free, otherwise nothing
   pub last : List Block
@@ -90,13 +90,13 @@ pub record Grows (more : ℕ) (v w : View) : Type 0 where
 
 -- a space can have this many units more: the sum is at most 4294967295, and there is room for one more block or the last
 -- block is free
-abbrev pub CanGrow : ℕ → View → Type 0
-CanGrow more v = (v.size + more ≤ 4294967295) × (HasRoomFor 1 v ⊎ ((before : List Block) × (last : Block) × (v.blocks ≡ before ++ last ∷ []) × (last.used ≡ false)))
+abbrev pub CanExtend : ℕ → View → Type 0
+CanExtend more v = (v.size + more ≤ 4294967295) × (HasRoomFor 1 v ⊎ ((before : List Block) × (last : Block) × (v.blocks ≡ before ++ last ∷ []) × (last.used ≡ false)))
 
 -- a call for more units at the end
 abbrev pub Extends : ℕ → View → View → Bool → Type 0
-Extends more v w true = ((more ≡ 0) × SameSpace v w) ⊎ ((1 ≤ more) × CanGrow more v × Grows more v w)
-Extends more v w false = (1 ≤ more) × (CanGrow more v → ⊥) × SameSpace v w
+Extends more v w true = ((more ≡ 0) × SameSpace v w) ⊎ ((1 ≤ more) × CanExtend more v × Adds more v w)
+Extends more v w false = (1 ≤ more) × (CanExtend more v → ⊥) × SameSpace v w
 
 -- one free block of the whole size, under some name
 pub record Resets (v w : View) : Type 0 where

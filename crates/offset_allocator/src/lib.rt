@@ -21,7 +21,7 @@ ghost use Rattle.offset_allocator.specs.Orders.{IsSmallestFrom};
 ghost use Rattle.offset_allocator.specs.Ranges.{range_of, size_of, Grants, IsLive, KeepsAll, KeepsOthers};
 ghost use Rattle.offset_allocator.specs.Reports.{IsGoodRefusal};
 ghost use Rattle.offset_allocator.specs.Named.{IsWellFormed, ends_used, is_short_of, is_full, free, free_sizes, largest_free};
-ghost use Rattle.offset_allocator.specs.Relations.{Allocates, Aligns, Frees, Extends, CanGrow, IsAlignment, SameSpace, IsSplitNearBest, IsFresh, Resets};
+ghost use Rattle.offset_allocator.specs.Relations.{Allocates, Aligns, Frees, Extends, CanExtend, IsAlignment, SameSpace, IsSplitNearBest, IsFresh, Resets};
 ghost use Rattle.offset_allocator.specs.Functional.{AllocatesBy, AlignsBy, ExtendsBy};
 ghost use Rattle.offset_allocator.specs.Start.{IsStarted};
 ghost use Rattle.offset_allocator.specs.Promises.{IsReport, IsFullReport, CanGrant, IsWhy, HasRoomFor, blocks_needed, units_needed};
@@ -618,7 +618,7 @@ impl<NI: NodeIndex> Allocator<NI> {
     /// tables, and takes no memory.
     pub fn extend(&mut self, more: u32) -> bool
         // It is done exactly when the space can have that many more units.
-        ensures done { IsTrue result ↔ (1 ≤ more → CanGrow more self.old) }
+        ensures done { IsTrue result ↔ (1 ≤ more → CanExtend more self.old) }
         // Then the space has `more` units more. All ranges stay, and a refusal leaves the space as it was.
         ensures size { IsTrue result → self.new.size ≡ self.old.size + more }
         ensures kept { KeepsAll self.old self.new }

@@ -3,7 +3,7 @@
 //! Ranges of one contiguous space of `size` units, handed out and taken back with a bounded number of accesses to table
 //! cells. The space itself is never touched.
 //!
-//! A *block* is a run of units, live (granted) or free; no two free blocks are neighbours. Each block has a *node* of the
+//! A *block* is a run of units, used (granted; its name is then live) or free; no two free blocks are neighbours. Each block has a *node* of the
 //! tables, whose index is the block's *name*. A *size class* is a range of sizes, and its *bin* the list of its free
 //! blocks, the one that became free last first.
 //!
@@ -163,8 +163,9 @@ impl<NI: NodeIndex> Allocator<NI> {
 
     /// Makes the whole space one free block again, in place. The block of every earlier handle is gone.
     ///
-    /// It takes no memory and always succeeds, and the space keeps what `extend` added. If there are fewer blocks than one
-    /// for 128 nodes of the limit, it frees each live range; otherwise it clears the use flags and the names of all nodes.
+    /// It takes no memory and always succeeds, and the space keeps what `extend` added. If fewer than
+    /// `max_allocs / 128` blocks exist, it frees each live range; otherwise it clears the use flags and the names of all
+    /// nodes.
     pub fn reset(&mut self) {
         // freeing a range takes about as long as going over 128 nodes
         if self.block_count() < self.max_allocs / 128 {
@@ -237,7 +238,7 @@ impl<NI: NodeIndex> Allocator<NI> {
     /// `None` is returned where `max_allocs - 1` blocks exist, even for an exact fit, and where no free block is of such
     /// a class; then nothing changes. A request of at least one unit is granted exactly when it is at most the
     /// `largest_free_region` that `storage_report` returns just before. It makes at most 64 accesses to the tables (the
-    /// bounds of its parts add up to 26), and takes no memory.
+    /// promise; the bounds proved for its parts add up to 26), and takes no memory.
     pub fn allocate(&mut self, size: u32) -> Option<Allocation<NI>> {
         if self.spare_count <= 1 {
             return None;
@@ -336,8 +337,8 @@ impl<NI: NodeIndex> Allocator<NI> {
 
     /// Why `allocate_aligned(size, align)` would be refused now, or `None` exactly where it would be granted.
     ///
-    /// With `align` above 1 two more blocks are needed, and `size + align - 1` units. It makes at most 8 accesses to
-    /// the tables.
+    /// If `align` is above 1, the request needs room for two more blocks, and a block for `size + align - 1` units. It makes
+    /// at most 8 accesses to the tables.
     pub fn refusal_aligned(&self, size: u32, align: u32) -> Option<Refusal> {
         assert!(align.is_power_of_two(), "align must be a power of two");
         counted::refusal_aligned_counted(self, size, align, &mut Accesses::new())
@@ -371,11 +372,11 @@ impl<NI: NodeIndex> Allocator<NI> {
 
     /// Grants `size` units that begin at a multiple of `align`, a power of two.
     ///
-    /// The block is the one that a request for `size + align - 1` units would take. What of it lies before the granted
-    /// units, and what lies after them, stays free. `None` is returned where such a request finds no block or is larger
-    /// than 4294967295, and, with `align` above 1, where there is no room for two more blocks, needed or not; then nothing
-    /// changes. With
-    /// `align` 1 the call is `allocate`. It makes at most 128 accesses to the tables, and takes no memory.
+    /// The block is the one that a request for `size + align - 1` units would take. Its units before the range (the
+    /// padding) and after it (the remainder) stay free. `None` is returned if that request finds no block, if
+    /// `size + align - 1` is above 4294967295, or if `align` is above 1 and there is no room for two more blocks, even if
+    /// fewer would be added. Then nothing changes. With `align` 1 the call is `allocate(size)`. It makes at most 128
+    /// accesses to the tables, and takes no memory.
     pub fn allocate_aligned(&mut self, size: u32, align: u32) -> Option<Allocation<NI>> {
         assert!(align.is_power_of_two(), "align must be a power of two");
         if align <= 1 {
