@@ -19,9 +19,9 @@ pub(crate) fn find_at_or_above<NI: NodeIndex>(
 ) -> Option<u32>
     requires held { Binned NI.MAX tables.now.links top_mask }
     requires classed { class < 256 }
-    ensures least { MatchOption result ((c : ℕ) → class ≤ c → c < 256 → names_at (class_lists NI.MAX tables.now.links) c ≡ []) (IsSmallestFrom class (class_lists NI.MAX tables.now.links)) }
-    ensures grows { count.old + 1 ≤ count.new }
-    ensures count { count.new ≤ count.old + 2 }
+    ensures smallest { MatchOption result ((c : ℕ) → class ≤ c → c < 256 → names_at (class_lists NI.MAX tables.now.links) c ≡ []) (IsSmallestFrom class (class_lists NI.MAX tables.now.links)) }
+    ensures accesses_min { count.old + 1 ≤ count.new }
+    ensures accesses_max { count.new ≤ count.old + 2 }
 {
     let word = class / 64;
     let rest = tables.mask(word, count) & (u64::MAX << (class % 64));
@@ -44,7 +44,7 @@ pub(crate) fn largest<NI: NodeIndex>(
 ) -> Option<u32>
     requires { Binned NI.MAX tables.now.links top_mask }
     ensures largest { MatchOption result ((c : ℕ) → c < 256 → names_at (class_lists NI.MAX tables.now.links) c ≡ []) (IsLargestClass (class_lists NI.MAX tables.now.links)) }
-    ensures count { MatchOption result (count.new ≡ count.old) (λ _. count.new ≡ count.old + 1) }
+    ensures accesses { MatchOption result (count.new ≡ count.old) (λ _. count.new ≡ count.old + 1) }
 {
     if top_mask == 0 {
         return None;
@@ -58,7 +58,7 @@ pub(crate) fn length_of<NI: NodeIndex>(tables: &Tables<NI>, class: u32, count: &
     requires linked { Linked NI.MAX tables.now.links.newer tables.now.links.older tables.now.links.heads (class_lists NI.MAX tables.now.links) }
     requires classed { class < 256 }
     ensures names { result ≡ length (names_at (class_lists NI.MAX tables.now.links) class) }
-    ensures count { count.new ≡ count.old + 1 + result }
+    ensures accesses { count.new ≡ count.old + 1 + result }
 {
     tables.shape();
     let mut names = 0;
@@ -86,8 +86,8 @@ pub(crate) fn push<NI: NodeIndex>(
     ensures held { Binned NI.MAX tables.new.links top_mask.new }
     ensures lists { class_lists NI.MAX tables.new.links ≡ slice_set (class_lists NI.MAX tables.old.links) class (name ∷ names_at (class_lists NI.MAX tables.old.links) class) }
     ensures room { tables.new.room ≡ tables.old.room }
-    ensures grows { count.old + 5 ≤ count.new }
-    ensures count { count.new ≤ count.old + 6 }
+    ensures accesses_min { count.old + 5 ≤ count.new }
+    ensures accesses_max { count.new ≤ count.old + 6 }
 {
     tables.shape();
     let link = link_to(name);
@@ -110,8 +110,8 @@ pub(crate) fn push<NI: NodeIndex>(
 fn link_newer<NI: NodeIndex>(tables: &mut Tables<NI>, at: NI, to: NI, count: &mut Accesses)
     requires { NI.number at ≢ NI.MAX → NI.number at < length tables.old.links.newer }
     ensures cells { tables.new ≡ record tables.old { links = record tables.old.links { newer = relinked NI.MAX tables.old.links.newer (NI.number at) (NI.number to) } } }
-    ensures grows { count.old ≤ count.new }
-    ensures count { count.new ≤ count.old + 1 }
+    ensures accesses_kept { count.old ≤ count.new }
+    ensures accesses_max { count.new ≤ count.old + 1 }
 {
     let name = number(at);
     if name != NI::MAX {
@@ -123,8 +123,8 @@ fn link_newer<NI: NodeIndex>(tables: &mut Tables<NI>, at: NI, to: NI, count: &mu
 fn link_older<NI: NodeIndex>(tables: &mut Tables<NI>, at: NI, to: NI, count: &mut Accesses)
     requires { NI.number at ≢ NI.MAX → NI.number at < length tables.old.links.older }
     ensures cells { tables.new ≡ record tables.old { links = record tables.old.links { older = relinked NI.MAX tables.old.links.older (NI.number at) (NI.number to) } } }
-    ensures grows { count.old ≤ count.new }
-    ensures count { count.new ≤ count.old + 1 }
+    ensures accesses_kept { count.old ≤ count.new }
+    ensures accesses_max { count.new ≤ count.old + 1 }
 {
     let name = number(at);
     if name != NI::MAX {
@@ -142,8 +142,8 @@ fn clear_class<NI: NodeIndex>(
     requires classed { class < 256 }
     ensures masked { (heads : List ℕ) (h : ℕ) → Masked NI.MAX heads tables.old.links.masks top_mask.old → length heads ≡ 256 → flag NI.MAX h ≡ 0 → Masked NI.MAX (slice_set heads class h) tables.new.links.masks top_mask.new }
     ensures rest { tables.new ≡ record tables.old { links = record tables.old.links { masks = tables.new.links.masks } } }
-    ensures grows { count.old ≤ count.new }
-    ensures count { count.new ≤ count.old + 2 }
+    ensures accesses_kept { count.old ≤ count.new }
+    ensures accesses_max { count.new ≤ count.old + 2 }
 {
     let word = class / 64;
     let rest = tables.mask(word, count) & !(1 << (class % 64));
@@ -167,8 +167,8 @@ pub(crate) fn remove<NI: NodeIndex>(
     ensures held { Binned NI.MAX tables.new.links top_mask.new }
     ensures lists { class_lists NI.MAX tables.new.links ≡ slice_set (class_lists NI.MAX tables.old.links) (down size) (without name (names_at (class_lists NI.MAX tables.old.links) (down size))) }
     ensures room { tables.new.room ≡ tables.old.room }
-    ensures grows { count.old + 2 ≤ count.new }
-    ensures count { count.new ≤ count.old + 7 }
+    ensures accesses_min { count.old + 2 ≤ count.new }
+    ensures accesses_max { count.new ≤ count.old + 7 }
 {
     let before = tables.newer(name, count);
     let after = tables.older(name, count);
@@ -198,8 +198,8 @@ pub(crate) fn pop<NI: NodeIndex>(
     ensures held { Binned NI.MAX tables.new.links top_mask.new }
     ensures lists { class_lists NI.MAX tables.new.links ≡ slice_set (class_lists NI.MAX tables.old.links) class (without result (names_at (class_lists NI.MAX tables.old.links) class)) }
     ensures room { tables.new.room ≡ tables.old.room }
-    ensures grows { count.old + 3 ≤ count.new }
-    ensures count { count.new ≤ count.old + 6 }
+    ensures accesses_min { count.old + 3 ≤ count.new }
+    ensures accesses_max { count.new ≤ count.old + 6 }
 {
     let name = number(tables.head(class, count));
     let after = tables.older(name, count);

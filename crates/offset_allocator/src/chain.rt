@@ -22,7 +22,7 @@ pub(crate) fn place<NI: NodeIndex>(
 )
     requires name { name < length tables.old.room.nodes }
     requires idle { (node tables.old.room name).used ≡ false }
-    ensures count { count.new ≡ count.old + 4 }
+    ensures accesses { count.new ≡ count.old + 4 }
     ensures cells { tables.new ≡ record tables.old { room = put tables.old.room name (record { offset = offset; size = size; used = false; before = link_of NI.MAX (NI.number before); after = link_of NI.MAX (NI.number after) }) } }
 {
     tables.set_offset(name, offset, count);
@@ -44,7 +44,7 @@ pub(crate) fn start<NI: NodeIndex>(
     ensures blocks { blocks tables.new.room (max_allocs - 1) ≡ free_block (max_allocs - 1) size ∷ [] }
     ensures links { tables.new.links ≡ tables.old.links }
     ensures limit { length tables.new.room.nodes ≡ length tables.old.room.nodes }
-    ensures count { count.new ≡ count.old + 4 }
+    ensures accesses { count.new ≡ count.old + 4 }
 {
     tables.shape();
     place(tables, max_allocs - 1, 0, size, no_link(), no_link(), count);
@@ -64,8 +64,8 @@ fn point_back<NI: NodeIndex>(
     ensures limit { length tables.new.room.nodes ≡ length tables.old.room.nodes }
     ensures cells { MatchOption (link_of NI.MAX (NI.number link)) (tables.new.room ≡ tables.old.room) (λ after. tables.new.room ≡ put tables.old.room after (record (node tables.old.room after) { before = Some name })) }
     ensures links { tables.new.links ≡ tables.old.links }
-    ensures grows { count.old ≤ count.new }
-    ensures count { count.new ≤ count.old + 1 }
+    ensures accesses_kept { count.old ≤ count.new }
+    ensures accesses_max { count.new ≤ count.old + 1 }
     ensures last { MatchOption (link_of NI.MAX (NI.number link)) (last.new ≡ name) (λ _. last.new ≡ last.old) }
 {
     tables.shape();
@@ -83,8 +83,8 @@ fn point_on<NI: NodeIndex>(tables: &mut Tables<NI>, link: NI, name: u32, count: 
     ensures limit { length tables.new.room.nodes ≡ length tables.old.room.nodes }
     ensures cells { MatchOption (link_of NI.MAX (NI.number link)) (tables.new.room ≡ tables.old.room) (λ before. tables.new.room ≡ put tables.old.room before (record (node tables.old.room before) { after = Some name })) }
     ensures links { tables.new.links ≡ tables.old.links }
-    ensures grows { count.old ≤ count.new }
-    ensures count { count.new ≤ count.old + 1 }
+    ensures accesses_kept { count.old ≤ count.new }
+    ensures accesses_max { count.new ≤ count.old + 1 }
 {
     tables.shape();
     if let Some(before) = linked(link) {
@@ -96,7 +96,7 @@ fn point_on<NI: NodeIndex>(tables: &mut Tables<NI>, link: NI, name: u32, count: 
 pub(crate) fn offset<NI: NodeIndex>(tables: &Tables<NI>, name: u32, count: &mut Accesses) -> u32
     requires { name < length tables.now.room.nodes }
     ensures offset { result ≡ (node tables.now.room name).offset }
-    ensures count { count.new ≡ count.old + 1 }
+    ensures accesses { count.new ≡ count.old + 1 }
 {
     tables.offset(name, count)
 }
@@ -105,7 +105,7 @@ pub(crate) fn offset<NI: NodeIndex>(tables: &Tables<NI>, name: u32, count: &mut 
 pub(crate) fn size<NI: NodeIndex>(tables: &Tables<NI>, name: u32, count: &mut Accesses) -> u32
     requires { name < length tables.now.room.nodes }
     ensures size { result ≡ (node tables.now.room name).size }
-    ensures count { count.new ≡ count.old + 1 }
+    ensures accesses { count.new ≡ count.old + 1 }
 {
     tables.size(name, count)
 }
@@ -115,7 +115,7 @@ pub(crate) fn is_used<NI: NodeIndex>(tables: &Tables<NI>, name: u32, count: &mut
     requires { name < length tables.now.room.nodes }
     ensures cell { result ≡ (node tables.now.room name).used }
     ensures used { (last spare : ℕ) → IsSpace tables.now.room last spare → result ≡ is_used_at (place_of name (blocks tables.now.room last)) }
-    ensures count { count.new ≡ count.old + 1 }
+    ensures accesses { count.new ≡ count.old + 1 }
 {
     tables.used(name, count)
 }
@@ -128,7 +128,7 @@ pub(crate) fn before<NI: NodeIndex>(
 ) -> Option<u32>
     requires { name < length tables.now.room.nodes }
     ensures before { result ≡ (node tables.now.room name).before }
-    ensures count { count.new ≡ count.old + 1 }
+    ensures accesses { count.new ≡ count.old + 1 }
 {
     linked(tables.before(name, count))
 }
@@ -141,7 +141,7 @@ pub(crate) fn after<NI: NodeIndex>(
 ) -> Option<u32>
     requires { name < length tables.now.room.nodes }
     ensures after { result ≡ (node tables.now.room name).after }
-    ensures count { count.new ≡ count.old + 1 }
+    ensures accesses { count.new ≡ count.old + 1 }
 {
     linked(tables.after(name, count))
 }
@@ -170,8 +170,8 @@ pub(crate) fn split<NI: NodeIndex>(
     ensures left { spare_count.new + 1 ≡ spare_count.old }
     ensures fresh { (m : ℕ) (p : Place) → HasPlace tables.old.room m last.old spare_count.old name p → count_named result (p.before ++ p.block ∷ p.after) ≡ 0 }
     ensures below { result < length tables.old.room.nodes }
-    ensures grows { count.old ≤ count.new }
-    ensures count { count.new ≤ count.old + 9 }
+    ensures accesses_kept { count.old ≤ count.new }
+    ensures accesses_max { count.new ≤ count.old + 9 }
 {
     tables.shape();
     *spare_count -= 1;
@@ -211,8 +211,8 @@ pub(crate) fn coalesce_after<NI: NodeIndex>(
     ensures place { (m : ℕ) (p : Place) → HasPlace tables.old.room m last.old spare_count.old name p → HasPlace tables.new.room m last.new spare_count.new name (coalesced_after p) }
     ensures links { tables.new.links ≡ tables.old.links }
     ensures limit { length tables.new.room.nodes ≡ length tables.old.room.nodes }
-    ensures grows { count.old ≤ count.new }
-    ensures count { count.new ≤ count.old + 5 }
+    ensures accesses_kept { count.old ≤ count.new }
+    ensures accesses_max { count.new ≤ count.old + 5 }
 {
     tables.shape();
     let next = tables.after(following, count);
@@ -241,8 +241,8 @@ pub(crate) fn coalesce_before<NI: NodeIndex>(
     ensures place { (m last : ℕ) (p : Place) → HasPlace tables.old.room m last spare_count.old name p → HasPlace tables.new.room m last spare_count.new name (coalesced_before p) }
     ensures links { tables.new.links ≡ tables.old.links }
     ensures limit { length tables.new.room.nodes ≡ length tables.old.room.nodes }
-    ensures grows { count.old ≤ count.new }
-    ensures count { count.new ≤ count.old + 7 }
+    ensures accesses_kept { count.old ≤ count.new }
+    ensures accesses_max { count.new ≤ count.old + 7 }
 {
     tables.shape();
     let offset = tables.offset(previous, count);
@@ -267,7 +267,7 @@ pub(crate) fn mark<NI: NodeIndex>(
     ensures place { (m last spare : ℕ) (p : Place) → HasPlace tables.old.room m last spare name p → HasPlace tables.new.room m last spare name (record p { block = record p.block { used = used } }) }
     ensures links { tables.new.links ≡ tables.old.links }
     ensures limit { length tables.new.room.nodes ≡ length tables.old.room.nodes }
-    ensures count { count.new ≡ count.old + 1 }
+    ensures accesses { count.new ≡ count.old + 1 }
 {
     tables.set_used(name, used, count);
 }
@@ -291,8 +291,8 @@ pub(crate) fn split_before<NI: NodeIndex>(
     ensures left { spare_count.new + 1 ≡ spare_count.old }
     ensures fresh { (m last : ℕ) (p : Place) → HasPlace tables.old.room m last spare_count.old name p → count_named result (p.before ++ p.block ∷ p.after) ≡ 0 }
     ensures below { result < length tables.old.room.nodes }
-    ensures grows { count.old ≤ count.new }
-    ensures count { count.new ≤ count.old + 12 }
+    ensures accesses_kept { count.old ≤ count.new }
+    ensures accesses_max { count.new ≤ count.old + 12 }
 {
     tables.shape();
     *spare_count -= 1;
@@ -321,7 +321,7 @@ pub(crate) fn grow<NI: NodeIndex>(
     ensures place { (m spare : ℕ) (before : List Block) (b : Block) → HasPlace tables.old.room m last spare last (record { before = before; block = b; after = [] }) → HasPlace tables.new.room m last spare last (record { before = before; block = record b { size = b.size + more }; after = [] }) }
     ensures links { tables.new.links ≡ tables.old.links }
     ensures limit { length tables.new.room.nodes ≡ length tables.old.room.nodes }
-    ensures count { count.new ≡ count.old + 2 }
+    ensures accesses { count.new ≡ count.old + 2 }
 {
     let size = tables.size(last, count);
     tables.set_size(last, size + more, count);

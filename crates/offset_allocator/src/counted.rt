@@ -20,9 +20,9 @@ pub fn is_live_counted<NI: NodeIndex>(
     count: &mut Accesses,
 ) -> bool
     ensures live { IsTrue result ↔ IsLive allocation.name allocator.now }
-    ensures grows { count.old ≤ count.new }
-    ensures least { allocation.name < allocator.now.max_allocs → count.old + 1 ≤ count.new }
-    ensures count { count.new ≤ count.old + 8 }
+    ensures accesses_kept { count.old ≤ count.new }
+    ensures accesses_min { allocation.name < allocator.now.max_allocs → count.old + 1 ≤ count.new }
+    ensures accesses_max { count.new ≤ count.old + 8 }
 {
     allocator.uses(index::number(NI::of_nonmax(allocation.name())), count)
 }
@@ -34,9 +34,9 @@ pub fn allocation_size_counted<NI: NodeIndex>(
     count: &mut Accesses,
 ) -> u32
     ensures size { result ≡ size_of allocation.name allocator.now }
-    ensures grows { count.old ≤ count.new }
-    ensures least { IsLive allocation.name allocator.now → count.old + 2 ≤ count.new }
-    ensures count { count.new ≤ count.old + 8 }
+    ensures accesses_kept { count.old ≤ count.new }
+    ensures accesses_min { IsLive allocation.name allocator.now → count.old + 2 ≤ count.new }
+    ensures accesses_max { count.new ≤ count.old + 8 }
 {
     let name = index::number::<NI>(NI::of_nonmax(allocation.name()));
     if allocator.uses(name, count) {
@@ -52,9 +52,9 @@ pub fn storage_report_counted<NI: NodeIndex>(
     count: &mut Accesses,
 ) -> StorageReport
     ensures report { IsReport result allocator.now }
-    ensures grows { count.old ≤ count.new }
-    ensures least { 1 ≤ largest_free allocator.now → count.old + 1 ≤ count.new }
-    ensures count { count.new ≤ count.old + 8 }
+    ensures accesses_kept { count.old ≤ count.new }
+    ensures accesses_min { 1 ≤ largest_free allocator.now → count.old + 1 ≤ count.new }
+    ensures accesses_max { count.new ≤ count.old + 8 }
 {
     if allocator.spare_count < 2 {
         return StorageReport {
@@ -78,8 +78,8 @@ pub fn storage_report_full_counted<NI: NodeIndex>(
     count: &mut Accesses,
 ) -> StorageReportFull
     ensures report { IsFullReport result allocator.now }
-    ensures grows { count.old + 256 ≤ count.new }
-    ensures count { count.new ≤ count.old + 512 + 2 * length (free_sizes allocator.now.blocks) }
+    ensures accesses_min { count.old + 256 ≤ count.new }
+    ensures accesses_max { count.new ≤ count.old + 512 + 2 * length (free_sizes allocator.now.blocks) }
 {
     let mut report = StorageReportFull::default();
     for class in 0..256u32 {
@@ -99,9 +99,9 @@ pub fn refusal_counted<NI: NodeIndex>(
 ) -> Option<Refusal>
     ensures granted { result ≡ None ↔ CanGrant 1 size allocator.now }
     ensures why { IfSome result (IsWhy 1 size allocator.now) }
-    ensures grows { count.old ≤ count.new }
-    ensures least { result ≡ None → count.old + 1 ≤ count.new }
-    ensures count { count.new ≤ count.old + 8 }
+    ensures accesses_kept { count.old ≤ count.new }
+    ensures accesses_min { result ≡ None → count.old + 1 ≤ count.new }
+    ensures accesses_max { count.new ≤ count.old + 8 }
 {
     refusal_aligned_counted(allocator, size, 1, count)
 }
@@ -116,9 +116,9 @@ pub fn refusal_aligned_counted<NI: NodeIndex>(
     requires power { IsAlignment align }
     ensures granted { result ≡ None ↔ CanGrant (blocks_needed align) (units_needed size align) allocator.now }
     ensures why { IfSome result (IsWhy (blocks_needed align) (units_needed size align) allocator.now) }
-    ensures grows { count.old ≤ count.new }
-    ensures least { result ≡ None → count.old + 1 ≤ count.new }
-    ensures count { count.new ≤ count.old + 8 }
+    ensures accesses_kept { count.old ≤ count.new }
+    ensures accesses_min { result ≡ None → count.old + 1 ≤ count.new }
+    ensures accesses_max { count.new ≤ count.old + 8 }
 {
     let blocks = align.min(2);
     let units = size as u64 + (align - 1) as u64;

@@ -25,9 +25,9 @@ pub fn undo<NI: NodeIndex>(allocator: &mut Allocator<NI>, n: u32) -> bool
     ensures undone { (w u : View) (g : Grant) → Allocates n allocator.old w (Some g) → Frees g.name w u → SameSpace allocator.old u }
     ensures same { SameSpace allocator.old allocator.new }
     ensures granted { IsTrue result ↔ CanGrant 1 n allocator.old }
-    ensures grows { allocator.old.accesses ≤ allocator.new.accesses }
-    ensures least { IsTrue result → allocator.old.accesses + 16 ≤ allocator.new.accesses }
-    ensures count { allocator.new.accesses ≤ allocator.old.accesses + 192 }
+    ensures accesses_kept { allocator.old.accesses ≤ allocator.new.accesses }
+    ensures accesses_min { IsTrue result → allocator.old.accesses + 16 ≤ allocator.new.accesses }
+    ensures accesses_max { allocator.new.accesses ≤ allocator.old.accesses + 192 }
 {
     allocator.formed();
     match allocator.allocate(n) {
@@ -100,7 +100,7 @@ pub fn a_fresh_space_grants()
 /// The units before an aligned grant take its offset to a multiple of the alignment, and fewer would not.
 pub fn padding_is_least()
     ensures reaches { (align offset : ℕ) → 1 ≤ align → (offset + padding_to align offset) % align ≡ 0 }
-    ensures least { (align offset k : ℕ) → 1 ≤ align → (offset + k) % align ≡ 0 → padding_to align offset ≤ k }
+    ensures smallest { (align offset k : ℕ) → 1 ≤ align → (offset + k) % align ≡ 0 → padding_to align offset ≤ k }
 {}
 
 /// The alignments that `allocate_aligned` admits are the powers of two.

@@ -100,10 +100,10 @@ fn start<NI: NodeIndex>(
     count: &mut Accesses,
 ) -> u32
     requires empty { AreEmpty NI.MAX max_allocs tables.old }
-    requires least { 2 ≤ max_allocs }
-    requires most { max_allocs + 1 < NI.MAX }
+    requires limit_min { 2 ≤ max_allocs }
+    requires limit_max { max_allocs + 1 < NI.MAX }
     ensures started { IsStarted NI.MAX size max_allocs tables.new result }
-    ensures grows { count.old ≤ count.new }
+    ensures accesses_kept { count.old ≤ count.new }
 {
     let mut top_mask = 0;
     tables.shape();
@@ -135,8 +135,8 @@ impl<NI: NodeIndex> Allocator<NI> {
     ///
     /// An error is returned only where an allocation failed; then nothing is made.
     pub fn with_max_allocs(alloc: Global, size: u32, max_allocs: u32) -> Result<Self, AllocError>
-        requires least { 2 ≤ max_allocs }
-        requires most { max_allocs + 1 < NI.MAX }
+        requires limit_min { 2 ≤ max_allocs }
+        requires limit_max { max_allocs + 1 < NI.MAX }
         ensures { IfOk result (IsFresh size max_allocs) }
     {
         let mut tables = Tables::with_len(alloc, max_allocs)?;
@@ -159,7 +159,7 @@ impl<NI: NodeIndex> Allocator<NI> {
         ensures same { SameSpace self.old self.new }
         ensures used { IfSome result (λ x. IsLive x self.new) }
         ensures none { result ≡ None → Resets self.old self.new }
-        ensures grows { self.old.accesses ≤ self.new.accesses }
+        ensures accesses_kept { self.old.accesses ≤ self.new.accesses }
     {
         if chain::is_used(&self.tables, self.last, &mut self.accesses) {
             return Some(self.last);
@@ -171,7 +171,7 @@ impl<NI: NodeIndex> Allocator<NI> {
     #[inline(never)]
     fn free_all(&mut self)
         ensures step { Resets self.old self.new }
-        ensures grows { self.old.accesses ≤ self.new.accesses }
+        ensures accesses_kept { self.old.accesses ≤ self.new.accesses }
     {
         while let Some(name) = self.last_used() {
             self.release(name);
@@ -181,7 +181,7 @@ impl<NI: NodeIndex> Allocator<NI> {
     // Rewrites all tables in place.
     fn clear(&mut self)
         ensures step { Resets self.old self.new }
-        ensures grows { self.old.accesses ≤ self.new.accesses }
+        ensures accesses_kept { self.old.accesses ≤ self.new.accesses }
     {
         self.tables.clear();
         self.top_mask = start(
@@ -206,7 +206,7 @@ impl<NI: NodeIndex> Allocator<NI> {
         ensures gone { (x : ℕ) → range_of x self.new ≡ None }
         // The step as a whole: one free block, alone in its bin.
         ensures step { Resets self.old self.new }
-        ensures grows { self.old.accesses ≤ self.new.accesses }
+        ensures accesses_kept { self.old.accesses ≤ self.new.accesses }
     {
         // freeing a range takes about as long as going over 128 nodes
         if self.block_count() < self.max_allocs / 128 {
@@ -249,10 +249,10 @@ impl<NI: NodeIndex> Allocator<NI> {
     // Grants the first units of the newest block of a class.
     fn grant(&mut self, class: u32, size: u32) -> Allocation<NI>
         requires room { is_short_of 1 self.old ≡ false }
-        requires least { IsSmallestFrom (up size) self.old.order class }
+        requires smallest { IsSmallestFrom (up size) self.old.order class }
         ensures step { AllocatesBy size self.old self.new (Some result) }
-        ensures grows { self.old.accesses + 6 ≤ self.new.accesses }
-        ensures count { self.new.accesses ≤ self.old.accesses + 24 }
+        ensures accesses_min { self.old.accesses + 6 ≤ self.new.accesses }
+        ensures accesses_max { self.new.accesses ≤ self.old.accesses + 24 }
     {
         let name = bins::pop(
             &mut self.tables,
@@ -313,9 +313,9 @@ impl<NI: NodeIndex> Allocator<NI> {
         ensures refused { result ≡ None → HasRoomFor 1 self.old → IsGoodRefusal size (free_sizes self.old.blocks) }
         // It makes at most 64 accesses to table cells. A grant makes at least 7, so a count that stays as it is cannot meet
         // the contract.
-        ensures grows { self.old.accesses ≤ self.new.accesses }
-        ensures least { IsSome result → self.old.accesses + 7 ≤ self.new.accesses }
-        ensures count { self.new.accesses ≤ self.old.accesses + 64 }
+        ensures accesses_kept { self.old.accesses ≤ self.new.accesses }
+        ensures accesses_min { IsSome result → self.old.accesses + 7 ≤ self.new.accesses }
+        ensures accesses_max { self.new.accesses ≤ self.old.accesses + 64 }
         // The step as a whole: which block, which remainder, which bins.
         ensures step { Allocates size self.old self.new result }
     {
@@ -341,8 +341,8 @@ impl<NI: NodeIndex> Allocator<NI> {
         ensures gone { range_of allocation.name self.new ≡ None }
         ensures others { KeepsOthers allocation.name self.old self.new }
         // It makes at most 128 accesses to table cells, and at least 9.
-        ensures grows { self.old.accesses + 9 ≤ self.new.accesses }
-        ensures count { self.new.accesses ≤ self.old.accesses + 128 }
+        ensures accesses_min { self.old.accesses + 9 ≤ self.new.accesses }
+        ensures accesses_max { self.new.accesses ≤ self.old.accesses + 128 }
         // The step as a whole: the block coalesces with its free neighbours.
         ensures step { Frees allocation.name self.old self.new }
     {
@@ -358,8 +358,8 @@ impl<NI: NodeIndex> Allocator<NI> {
         ensures step { SameSpace (free name self.old) self.new }
         ensures gone { range_of name self.new ≡ None }
         ensures others { KeepsOthers name self.old self.new }
-        ensures grows { self.old.accesses + 9 ≤ self.new.accesses }
-        ensures count { self.new.accesses ≤ self.old.accesses + 128 }
+        ensures accesses_min { self.old.accesses + 9 ≤ self.new.accesses }
+        ensures accesses_max { self.new.accesses ≤ self.old.accesses + 128 }
     {
         let size = chain::size(&self.tables, name, &mut self.accesses);
         self.free_total += size;
@@ -394,9 +394,9 @@ impl<NI: NodeIndex> Allocator<NI> {
     // Whether a name is that of a used block.
     fn uses(&self, name: u32, count: &mut Accesses) -> bool
         ensures live { IsTrue result ↔ IsLive name self.now }
-        ensures grows { count.old ≤ count.new }
-        ensures least { name < self.now.max_allocs → count.old + 1 ≤ count.new }
-        ensures count { count.new ≤ count.old + 1 }
+        ensures accesses_kept { count.old ≤ count.new }
+        ensures accesses_min { name < self.now.max_allocs → count.old + 1 ≤ count.new }
+        ensures accesses_max { count.new ≤ count.old + 1 }
     {
         if name < self.max_allocs {
             chain::is_used(&self.tables, name, count)
@@ -464,10 +464,10 @@ impl<NI: NodeIndex> Allocator<NI> {
         requires above_one { 1 < align }
         requires fits { size + align - 1 ≤ 4294967295 }
         requires room { is_short_of 2 self.old ≡ false }
-        requires least { IsSmallestFrom (up (size + align - 1)) self.old.order class }
+        requires smallest { IsSmallestFrom (up (size + align - 1)) self.old.order class }
         ensures step { AlignsBy size align self.old self.new (Some result) }
-        ensures grows { self.old.accesses + 6 ≤ self.new.accesses }
-        ensures count { self.new.accesses ≤ self.old.accesses + 43 }
+        ensures accesses_min { self.old.accesses + 6 ≤ self.new.accesses }
+        ensures accesses_max { self.new.accesses ≤ self.old.accesses + 43 }
     {
         let name = bins::pop(
             &mut self.tables,
@@ -523,9 +523,9 @@ impl<NI: NodeIndex> Allocator<NI> {
         ensures refused { result ≡ None → HasRoomFor (blocks_needed align) self.old
             → IsGoodRefusal (units_needed size align) (free_sizes self.old.blocks) }
         // It makes at most 128 accesses to table cells, and a grant at least 7.
-        ensures grows { self.old.accesses ≤ self.new.accesses }
-        ensures least { IsSome result → self.old.accesses + 7 ≤ self.new.accesses }
-        ensures count { self.new.accesses ≤ self.old.accesses + 128 }
+        ensures accesses_kept { self.old.accesses ≤ self.new.accesses }
+        ensures accesses_min { IsSome result → self.old.accesses + 7 ≤ self.new.accesses }
+        ensures accesses_max { self.new.accesses ≤ self.old.accesses + 128 }
         // The step as a whole.
         ensures step { Aligns size align self.old self.new result }
     {
@@ -551,8 +551,8 @@ impl<NI: NodeIndex> Allocator<NI> {
         requires fits { self.old.size + more ≤ 4294967295 }
         requires free { ends_used self.old.blocks ≡ false }
         ensures step { ExtendsBy more self.old self.new true }
-        ensures grows { self.old.accesses + 10 ≤ self.new.accesses }
-        ensures count { self.new.accesses ≤ self.old.accesses + 16 }
+        ensures accesses_min { self.old.accesses + 10 ≤ self.new.accesses }
+        ensures accesses_max { self.new.accesses ≤ self.old.accesses + 16 }
     {
         let whole = chain::size(&self.tables, self.last, &mut self.accesses);
         bins::remove(
@@ -582,8 +582,8 @@ impl<NI: NodeIndex> Allocator<NI> {
         requires used { ends_used self.old.blocks ≡ true }
         requires room { is_short_of 1 self.old ≡ false }
         ensures step { ExtendsBy more self.old self.new true }
-        ensures grows { self.old.accesses + 9 ≤ self.new.accesses }
-        ensures count { self.new.accesses ≤ self.old.accesses + 19 }
+        ensures accesses_min { self.old.accesses + 9 ≤ self.new.accesses }
+        ensures accesses_max { self.new.accesses ≤ self.old.accesses + 19 }
     {
         let end = self.last;
         let offset = chain::offset(&self.tables, end, &mut self.accesses);
@@ -624,9 +624,9 @@ impl<NI: NodeIndex> Allocator<NI> {
         ensures kept { KeepsAll self.old self.new }
         ensures same { result ≡ false → SameSpace self.old self.new }
         // It makes at most 128 accesses to table cells, and at least 10 where it adds units.
-        ensures grows { self.old.accesses ≤ self.new.accesses }
-        ensures least { result ≡ true → 0 < more → self.old.accesses + 10 ≤ self.new.accesses }
-        ensures count { self.new.accesses ≤ self.old.accesses + 128 }
+        ensures accesses_kept { self.old.accesses ≤ self.new.accesses }
+        ensures accesses_min { result ≡ true → 0 < more → self.old.accesses + 10 ≤ self.new.accesses }
+        ensures accesses_max { self.new.accesses ≤ self.old.accesses + 128 }
         // The step as a whole: whether it is done, and what the last block is then.
         ensures step { Extends more self.old self.new result }
     {

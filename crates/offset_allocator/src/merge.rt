@@ -29,8 +29,8 @@ pub(crate) fn with_before<NI: NodeIndex>(
     ensures lists { (m last : ℕ) (p : Place) → HasPlace tables.old.room m last spare_count.old name p → class_lists NI.MAX tables.new.links ≡ remove_all (free_end p.before) (class_lists NI.MAX tables.old.links) }
     ensures limit { length tables.new.room.nodes ≡ length tables.old.room.nodes }
     ensures size { result ≡ (node tables.new.room name).size }
-    ensures grows { count.old + 1 ≤ count.new }
-    ensures count { count.new ≤ count.old + 17 }
+    ensures accesses_min { count.old + 1 ≤ count.new }
+    ensures accesses_max { count.new ≤ count.old + 17 }
 {
     if let Some(previous) = chain::before(tables, name, count) {
         if !chain::is_used(tables, previous, count) {
@@ -62,8 +62,8 @@ pub(crate) fn with_after<NI: NodeIndex>(
     ensures lists { (m : ℕ) (p : Place) → HasPlace tables.old.room m last.old spare_count.old name p → class_lists NI.MAX tables.new.links ≡ remove_all (free_start p.after) (class_lists NI.MAX tables.old.links) }
     ensures limit { length tables.new.room.nodes ≡ length tables.old.room.nodes }
     ensures size { result ≡ (node tables.new.room name).size }
-    ensures grows { count.old + 1 ≤ count.new }
-    ensures count { count.new ≤ count.old + 15 }
+    ensures accesses_min { count.old + 1 ≤ count.new }
+    ensures accesses_max { count.new ≤ count.old + 15 }
 {
     if let Some(following) = chain::after(tables, name, count) {
         if !chain::is_used(tables, following, count) {

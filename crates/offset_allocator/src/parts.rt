@@ -31,8 +31,8 @@ fn split_padding<NI: NodeIndex>(
     ensures lists { class_lists NI.MAX tables.new.links ≡ push_all (free_part result units) (class_lists NI.MAX tables.old.links) }
     ensures limit { length tables.new.room.nodes ≡ length tables.old.room.nodes }
     ensures left { spare_count.old ≤ spare_count.new + 1 }
-    ensures grows { count.old ≤ count.new }
-    ensures count { count.new ≤ count.old + 18 }
+    ensures accesses_kept { count.old ≤ count.new }
+    ensures accesses_max { count.new ≤ count.old + 18 }
 {
     if units == 0 {
         return name;
@@ -69,8 +69,8 @@ fn split_remainder<NI: NodeIndex>(
     ensures held { Binned NI.MAX tables.new.links top_mask.new }
     ensures lists { class_lists NI.MAX tables.new.links ≡ push_all (free_part result left) (class_lists NI.MAX tables.old.links) }
     ensures limit { length tables.new.room.nodes ≡ length tables.old.room.nodes }
-    ensures grows { count.old ≤ count.new }
-    ensures count { count.new ≤ count.old + 16 }
+    ensures accesses_kept { count.old ≤ count.new }
+    ensures accesses_max { count.new ≤ count.old + 16 }
 {
     if left == 0 {
         return name;
@@ -118,8 +118,8 @@ pub(crate) fn divide<NI: NodeIndex>(
     ensures held { Binned NI.MAX tables.new.links top_mask.new }
     ensures lists { class_lists NI.MAX tables.new.links ≡ push_all (free_part result.0 padding ++ used_block name size ∷ free_part result.1 left) (class_lists NI.MAX tables.old.links) }
     ensures limit { length tables.new.room.nodes ≡ length tables.old.room.nodes }
-    ensures grows { count.old + 1 ≤ count.new }
-    ensures count { count.new ≤ count.old + 35 }
+    ensures accesses_min { count.old + 1 ≤ count.new }
+    ensures accesses_max { count.new ≤ count.old + 35 }
 {
     let front = split_padding(tables, top_mask, spare_count, name, padding, count);
     chain::mark(tables, name, true, count);

@@ -15,7 +15,7 @@ pub const MANTISSA_MASK: u32 = 7;
 /// size above 4026531840 fits no class that a 32-bit size reaches.
 pub fn uint_to_float_round_up(size: u32) -> u32
     ensures is { result ≡ up size }
-    ensures least { (c : ℕ) → ((result ≤ c) ↔ (size ≤ value c)) }
+    ensures smallest { (c : ℕ) → ((result ≤ c) ↔ (size ≤ value c)) }
     ensures waste { 8 * (value result - size) ≤ size }
 {
     if size <= MANTISSA_VALUE {

@@ -138,7 +138,7 @@ fn renumber<NI: NodeIndex>(values: &mut Vec<NI>)
 // A reserved table, filled with the numbers below `len`, in order, each written once.
 fn rising<NI: NodeIndex>(mut values: Vec<NI>, len: u32) -> Result<Vec<NI>, AllocError>
     requires empty { values.items ≡ [] }
-    requires most { len ≤ NI.MAX }
+    requires limit_max { len ≤ NI.MAX }
     ensures { IfOk result (λ v. map NI.number v.items ≡ range_with_len 0 len) }
 {
     values.extend((0..len).map(|i| NI::from_u32(i)))?;
@@ -189,7 +189,7 @@ impl<NI: NodeIndex> Tables<NI> {
     pub(crate) fn offset(&self, name: u32, count: &mut Accesses) -> u32
         requires { name < length self.now.room.nodes }
         ensures cell { result ≡ (node self.now.room name).offset }
-        ensures count { count.new ≡ count.old + 1 }
+        ensures accesses { count.new ≡ count.old + 1 }
     {
         count.tick();
         self.nodes[name as usize].offset
@@ -199,7 +199,7 @@ impl<NI: NodeIndex> Tables<NI> {
     pub(crate) fn set_offset(&mut self, name: u32, offset: u32, count: &mut Accesses)
         requires { name < length self.old.room.nodes }
         ensures cells { self.new ≡ record self.old { room = put self.old.room name (record (node self.old.room name) { offset = offset }) } }
-        ensures count { count.new ≡ count.old + 1 }
+        ensures accesses { count.new ≡ count.old + 1 }
     {
         count.tick();
         self.nodes[name as usize].offset = offset;
@@ -209,7 +209,7 @@ impl<NI: NodeIndex> Tables<NI> {
     pub(crate) fn size(&self, name: u32, count: &mut Accesses) -> u32
         requires { name < length self.now.room.nodes }
         ensures cell { result ≡ (node self.now.room name).size }
-        ensures count { count.new ≡ count.old + 1 }
+        ensures accesses { count.new ≡ count.old + 1 }
     {
         count.tick();
         self.nodes[name as usize].size
@@ -219,7 +219,7 @@ impl<NI: NodeIndex> Tables<NI> {
     pub(crate) fn set_size(&mut self, name: u32, size: u32, count: &mut Accesses)
         requires { name < length self.old.room.nodes }
         ensures cells { self.new ≡ record self.old { room = put self.old.room name (record (node self.old.room name) { size = size }) } }
-        ensures count { count.new ≡ count.old + 1 }
+        ensures accesses { count.new ≡ count.old + 1 }
     {
         count.tick();
         self.nodes[name as usize].size = size;
@@ -229,7 +229,7 @@ impl<NI: NodeIndex> Tables<NI> {
     pub(crate) fn used(&self, name: u32, count: &mut Accesses) -> bool
         requires { name < length self.now.room.nodes }
         ensures cell { result ≡ (node self.now.room name).used }
-        ensures count { count.new ≡ count.old + 1 }
+        ensures accesses { count.new ≡ count.old + 1 }
     {
         count.tick();
         self.used[name as usize]
@@ -239,7 +239,7 @@ impl<NI: NodeIndex> Tables<NI> {
     pub(crate) fn set_used(&mut self, name: u32, used: bool, count: &mut Accesses)
         requires { name < length self.old.room.nodes }
         ensures cells { self.new ≡ record self.old { room = put self.old.room name (record (node self.old.room name) { used = used }) } }
-        ensures count { count.new ≡ count.old + 1 }
+        ensures accesses { count.new ≡ count.old + 1 }
     {
         count.tick();
         self.used[name as usize] = used;
@@ -249,7 +249,7 @@ impl<NI: NodeIndex> Tables<NI> {
     pub(crate) fn before(&self, name: u32, count: &mut Accesses) -> NI
         requires { name < length self.now.room.nodes }
         ensures cell { link_of NI.MAX (NI.number result) ≡ (node self.now.room name).before }
-        ensures count { count.new ≡ count.old + 1 }
+        ensures accesses { count.new ≡ count.old + 1 }
     {
         count.tick();
         self.nodes[name as usize].before
@@ -259,7 +259,7 @@ impl<NI: NodeIndex> Tables<NI> {
     pub(crate) fn set_before(&mut self, name: u32, link: NI, count: &mut Accesses)
         requires { name < length self.old.room.nodes }
         ensures cells { self.new ≡ record self.old { room = put self.old.room name (record (node self.old.room name) { before = link_of NI.MAX (NI.number link) }) } }
-        ensures count { count.new ≡ count.old + 1 }
+        ensures accesses { count.new ≡ count.old + 1 }
     {
         count.tick();
         self.nodes[name as usize].before = link;
@@ -269,7 +269,7 @@ impl<NI: NodeIndex> Tables<NI> {
     pub(crate) fn after(&self, name: u32, count: &mut Accesses) -> NI
         requires { name < length self.now.room.nodes }
         ensures cell { link_of NI.MAX (NI.number result) ≡ (node self.now.room name).after }
-        ensures count { count.new ≡ count.old + 1 }
+        ensures accesses { count.new ≡ count.old + 1 }
     {
         count.tick();
         self.nodes[name as usize].after
@@ -279,7 +279,7 @@ impl<NI: NodeIndex> Tables<NI> {
     pub(crate) fn set_after(&mut self, name: u32, link: NI, count: &mut Accesses)
         requires { name < length self.old.room.nodes }
         ensures cells { self.new ≡ record self.old { room = put self.old.room name (record (node self.old.room name) { after = link_of NI.MAX (NI.number link) }) } }
-        ensures count { count.new ≡ count.old + 1 }
+        ensures accesses { count.new ≡ count.old + 1 }
     {
         count.tick();
         self.nodes[name as usize].after = link;
@@ -289,7 +289,7 @@ impl<NI: NodeIndex> Tables<NI> {
     pub(crate) fn spare(&self, place: u32, count: &mut Accesses) -> NI
         requires { place < length self.now.room.spare }
         ensures cell { NI.number result ≡ slice_index self.now.room.spare place }
-        ensures count { count.new ≡ count.old + 1 }
+        ensures accesses { count.new ≡ count.old + 1 }
     {
         count.tick();
         self.spare[place as usize]
@@ -299,7 +299,7 @@ impl<NI: NodeIndex> Tables<NI> {
     pub(crate) fn set_spare(&mut self, place: u32, name: NI, count: &mut Accesses)
         requires { place < length self.old.room.spare }
         ensures cells { self.new ≡ record self.old { room = with_spare self.old.room place (NI.number name) } }
-        ensures count { count.new ≡ count.old + 1 }
+        ensures accesses { count.new ≡ count.old + 1 }
     {
         count.tick();
         self.spare[place as usize] = name;
@@ -309,7 +309,7 @@ impl<NI: NodeIndex> Tables<NI> {
     pub(crate) fn newer(&self, name: u32, count: &mut Accesses) -> NI
         requires { name < length self.now.links.newer }
         ensures cell { NI.number result ≡ slice_index self.now.links.newer name }
-        ensures count { count.new ≡ count.old + 1 }
+        ensures accesses { count.new ≡ count.old + 1 }
     {
         count.tick();
         self.nodes[name as usize].newer
@@ -319,7 +319,7 @@ impl<NI: NodeIndex> Tables<NI> {
     pub(crate) fn set_newer(&mut self, name: u32, link: NI, count: &mut Accesses)
         requires { name < length self.old.links.newer }
         ensures cells { self.new ≡ record self.old { links = record self.old.links { newer = slice_set self.old.links.newer name (NI.number link) } } }
-        ensures count { count.new ≡ count.old + 1 }
+        ensures accesses { count.new ≡ count.old + 1 }
     {
         count.tick();
         self.nodes[name as usize].newer = link;
@@ -329,7 +329,7 @@ impl<NI: NodeIndex> Tables<NI> {
     pub(crate) fn older(&self, name: u32, count: &mut Accesses) -> NI
         requires { name < length self.now.links.older }
         ensures cell { NI.number result ≡ slice_index self.now.links.older name }
-        ensures count { count.new ≡ count.old + 1 }
+        ensures accesses { count.new ≡ count.old + 1 }
     {
         count.tick();
         self.nodes[name as usize].older
@@ -339,7 +339,7 @@ impl<NI: NodeIndex> Tables<NI> {
     pub(crate) fn set_older(&mut self, name: u32, link: NI, count: &mut Accesses)
         requires { name < length self.old.links.older }
         ensures cells { self.new ≡ record self.old { links = record self.old.links { older = slice_set self.old.links.older name (NI.number link) } } }
-        ensures count { count.new ≡ count.old + 1 }
+        ensures accesses { count.new ≡ count.old + 1 }
     {
         count.tick();
         self.nodes[name as usize].older = link;
@@ -349,7 +349,7 @@ impl<NI: NodeIndex> Tables<NI> {
     pub(crate) fn head(&self, class: u32, count: &mut Accesses) -> NI
         requires { class < length self.now.links.heads }
         ensures cell { NI.number result ≡ slice_index self.now.links.heads class }
-        ensures count { count.new ≡ count.old + 1 }
+        ensures accesses { count.new ≡ count.old + 1 }
     {
         count.tick();
         self.heads[class as usize]
@@ -359,7 +359,7 @@ impl<NI: NodeIndex> Tables<NI> {
     pub(crate) fn set_head(&mut self, class: u32, link: NI, count: &mut Accesses)
         requires { class < length self.old.links.heads }
         ensures cells { self.new ≡ record self.old { links = record self.old.links { heads = slice_set self.old.links.heads class (NI.number link) } } }
-        ensures count { count.new ≡ count.old + 1 }
+        ensures accesses { count.new ≡ count.old + 1 }
     {
         count.tick();
         self.heads[class as usize] = link;
@@ -369,7 +369,7 @@ impl<NI: NodeIndex> Tables<NI> {
     pub(crate) fn mask(&self, word: u32, count: &mut Accesses) -> u64
         requires { word < 4 }
         ensures cell { result ≡ slice_index self.now.links.masks word }
-        ensures count { count.new ≡ count.old + 1 }
+        ensures accesses { count.new ≡ count.old + 1 }
     {
         count.tick();
         self.masks[word as usize]
@@ -379,7 +379,7 @@ impl<NI: NodeIndex> Tables<NI> {
     pub(crate) fn set_mask(&mut self, word: u32, mask: u64, count: &mut Accesses)
         requires { word < 4 }
         ensures cells { self.new ≡ record self.old { links = record self.old.links { masks = slice_set self.old.links.masks word mask } } }
-        ensures count { count.new ≡ count.old + 1 }
+        ensures accesses { count.new ≡ count.old + 1 }
     {
         count.tick();
         self.masks[word as usize] = mask;

@@ -14,7 +14,7 @@ push-requires-clause-held g c =
 pub push-requires-clause-named : goal.push-requires-clause-named
 push-requires-clause-named g c =
     let lk = ap (λ (k : Links). length k.newer) c.start.ensures.links in
-    omega (arith, lk, c.requires.empty.nodes, c.requires.least, c.shape.ensures.newer)
+    omega (arith, lk, c.requires.empty.nodes, c.requires.limit_min, c.shape.ensures.newer)
 
 pub push-requires-clause-classed : goal.push-requires-clause-classed
 push-requires-clause-classed g c =

@@ -29,7 +29,7 @@ returns-in-None-clause-step g c =
     let new : View = shown (record f { accesses = c.find_at_or_above.new.count }) in
     let P : View → Type 0 = λ u. Allocates c.args.size u new None in
     let Q : ℕ → Type 0 = λ low. (k : ℕ) → low ≤ k → k < 256 → names_at (class_lists g.NI.NodeIndex.MAX c.self.inside.tables.links) k ≡ [] in
-    let none = none_taken f c.self.invariant 1 c.args.size (subst Q c.uint_to_float_round_up-smallest.ensures.is c.in-None.ensures.least) in
+    let none = none_taken f c.self.invariant 1 c.args.size (subst Q c.uint_to_float_round_up-smallest.ensures.is c.in-None.ensures.smallest) in
     subst P c.self.view_is (none_refuses (shown f) (known_sound f c.self.invariant (shown f) refl).0 1 c.args.size c.args.size (λ offset. 0) c.find_at_or_above.new.count none)
 
 -- the search for a class counts, and changes nothing else of the view

@@ -76,7 +76,7 @@ returns-in-None-clause-step g c =
     let P : View → Type 0 = λ u. Aligns c.args.size c.args.align u new None in
     let Q : ℕ → Type 0 = λ low. (k : ℕ) → low ≤ k → k < 256 → names_at (class_lists g.NI.NodeIndex.MAX c.self.inside.tables.links) k ≡ [] in
     let needed : c.args.size + (c.args.align - 1) ≡ units_needed c.args.size c.args.align = omega arith in
-    let none = none_taken f c.self.invariant 2 (units_needed c.args.size c.args.align) (subst Q (c.uint_to_float_round_up-smallest.ensures.is ∙ ap up needed) c.in-None.ensures.least) in
+    let none = none_taken f c.self.invariant 2 (units_needed c.args.size c.args.align) (subst Q (c.uint_to_float_round_up-smallest.ensures.is ∙ ap up needed) c.in-None.ensures.smallest) in
     subst P c.self.view_is (none_refuses (shown f) (known_sound f c.self.invariant (shown f) refl).0 (blocks_needed c.args.align) (units_needed c.args.size c.args.align) c.args.size (padding_to c.args.align) c.find_at_or_above.new.count none)
 
 -- the search for a class counts, and changes nothing else of the view

@@ -20,11 +20,11 @@ loop-name-preserved g c =
     record {
       size = ap (λ (u : View). u.size) c.release.ensures.step ∙ freed_size was x ∙ ap (λ (u : View). u.size) c.last_used.ensures.same ∙ c.loop-name.invariant.size;
       limit = ap (λ (u : View). u.max_allocs) c.release.ensures.step ∙ freed_limit was x ∙ ap (λ (u : View). u.max_allocs) c.last_used.ensures.same ∙ c.loop-name.invariant.limit;
-      grows = omega (arith, c.release.ensures.grows, c.last_used.ensures.grows, c.loop-name.invariant.grows);
+      grows = omega (arith, c.release.ensures.accesses_min, c.last_used.ensures.accesses_kept, c.loop-name.invariant.grows);
     }
 
 pub returns-clause-step : goal.returns-clause-step
 returns-clause-step g c = reset_alike _ _ _ c.loop-name.invariant.size c.loop-name.invariant.limit (c.last_used.ensures.none c.in_default.is)
 
-pub returns-clause-grows : goal.returns-clause-grows
-returns-clause-grows g c = omega (arith, c.last_used.ensures.grows, c.loop-name.invariant.grows)
+pub returns-clause-accesses_kept : goal.returns-clause-accesses_kept
+returns-clause-accesses_kept g c = omega (arith, c.last_used.ensures.accesses_kept, c.loop-name.invariant.grows)

@@ -14,7 +14,7 @@ call : (g : Over) (c : After-pop-name g) → Call (fields_of g.NI.NodeIndex.MAX 
 call g c = record {
   sound = c.self.invariant;
   room = subst (λ (u : View). is_short_of 1 u ≡ false) (sym c.self.view_is) c.requires.room;
-  least = subst (λ (u : View). IsSmallestFrom (up c.args.size) u.order c.args.class) (sym c.self.view_is) c.requires.least;
+  least = subst (λ (u : View). IsSmallestFrom (up c.args.size) u.order c.args.class) (sym c.self.view_is) c.requires.smallest;
   after_one = _;
   first = c.pop-name.ensures.first;
 }

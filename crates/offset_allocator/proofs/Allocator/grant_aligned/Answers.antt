@@ -23,7 +23,7 @@ pre g c =
       call = record {
         sound = c.self.invariant;
         room = less_short (shown (fields_of g.NI.NodeIndex.MAX c.self.inside)) room;
-        least = subst (λ (u : View). IsSmallestFrom (up (c.args.size + c.args.align - 1)) u.order c.args.class) (sym c.self.view_is) c.requires.least;
+        least = subst (λ (u : View). IsSmallestFrom (up (c.args.size + c.args.align - 1)) u.order c.args.class) (sym c.self.view_is) c.requires.smallest;
         after_one = _;
         first = c.pop-name.ensures.first;
       };

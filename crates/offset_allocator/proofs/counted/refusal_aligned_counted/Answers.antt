@@ -42,7 +42,7 @@ returns-in-None-clause-why g c =
     let total = total_is f c.allocator.invariant (blocks_needed c.args.align) (units_needed c.args.size c.args.align) in
     let is = class_is c.args.size c.args.align _ (not_zero c.args.align c.requires.power) c.uint_to_float_round_up-smallest.ensures.is in
     let Q : ℕ → Type 0 = λ low. (k : ℕ) → low ≤ k → k < 256 → names_at (class_lists g.NI.NodeIndex.MAX c.allocator.inside.tables.links) k ≡ [] in
-    let none = none_taken f c.allocator.invariant (blocks_needed c.args.align) (units_needed c.args.size c.args.align) (subst Q is c.in-None.ensures.least) in
+    let none = none_taken f c.allocator.invariant (blocks_needed c.args.align) (units_needed c.args.size c.args.align) (subst Q is c.in-None.ensures.smallest) in
     let P : View → Type 0 = λ u. HasRoomFor (blocks_needed c.args.align) u × (units_needed c.args.size c.args.align ≤ sum (free_sizes u.blocks)) × (CanGrant (blocks_needed c.args.align) (units_needed c.args.size c.args.align) u → ⊥) in
     subst P c.allocator.view_is
     (is_open f c.allocator.invariant (blocks_needed c.args.align) (units_needed c.args.size c.args.align) (omega (arith, c.min-blocks.ensures)), omega (arith, total, c.if-units-allocator.false, not_zero c.args.align c.requires.power), λ h. no_class (shown f) (known_sound f c.allocator.invariant (shown f) refl).0 (units_needed c.args.size c.args.align) none h.1)
@@ -56,7 +56,7 @@ returns-in-Some-clause-granted g c =
     let f : Fields = fields_of g.NI.NodeIndex.MAX c.allocator.inside in
     let is = class_is c.args.size c.args.align _ (not_zero c.args.align c.requires.power) c.uint_to_float_round_up-smallest.ensures.is in
     let Q : ℕ → Type 0 = λ low. IsSmallestFrom low (class_lists g.NI.NodeIndex.MAX c.allocator.inside.tables.links) c.in-Some.field-0 in
-    let some = some_taken f c.allocator.invariant (blocks_needed c.args.align) (units_needed c.args.size c.args.align) c.in-Some.field-0 (subst Q is c.in-Some.ensures.least) in
+    let some = some_taken f c.allocator.invariant (blocks_needed c.args.align) (units_needed c.args.size c.args.align) c.in-Some.field-0 (subst Q is c.in-Some.ensures.smallest) in
     let P : View → Type 0 = λ u. CanGrant (blocks_needed c.args.align) (units_needed c.args.size c.args.align) u in (
       λ e. subst P c.allocator.view_is
           (is_open f c.allocator.invariant (blocks_needed c.args.align) (units_needed c.args.size c.args.align) (omega (arith, c.min-blocks.ensures)), found_some (shown f) (known_sound f c.allocator.invariant (shown f) refl).0 (units_needed c.args.size c.args.align) some),

@@ -104,16 +104,16 @@ returns-clause-report g c =
       | in-Some w ↦ subst Q (sym w.largest_free_region-is) (report_some (fields_of g.NI.NodeIndex.MAX c.allocator.inside) c.allocator.invariant room w.in-Some.class _ w.in-Some.ensures.largest w.float_to_uint-largest_free_region.ensures.is)
     ])
 
-pub returns-clause-least : goal.returns-clause-least
-returns-clause-least g c l =
+pub returns-clause-accesses_min : goal.returns-clause-accesses_min
+returns-clause-accesses_min g c l =
     let r = (returns-clause-report g c).1 in
     elim c.match-largest.branch [
       | in-None w ↦ absurd (omega (arith, l, r, w.largest_free_region-is))
-      | in-Some w ↦ omega (arith, w.in-Some.ensures.count)
+      | in-Some w ↦ omega (arith, w.in-Some.ensures.accesses)
     ]
 
-pub returns-clause-count : goal.returns-clause-count
-returns-clause-count g c = grind (arith, common_steps)
+pub returns-clause-accesses_max : goal.returns-clause-accesses_max
+returns-clause-accesses_max g c = grind (arith, common_steps)
 
 pub returns-then-allocator-lt2-clause-report : goal.returns-then-allocator-lt2-clause-report
 returns-then-allocator-lt2-clause-report g c = grind (arith, common_steps)
