@@ -1,19 +1,17 @@
 -- Sums and bounds of a well formed view.
-use Rattle.std.proofs.Common.{◌≡◌, ℕ, ◌+◌, ◌-◌, ◌*◌, ◌/◌, ◌%◌, ◌<◌, ◌≤◌, Bool, true, false, not, ◌≢◌, ◌&&◌, ◌⊎◌, ◌↔◌, List, [], ◌∷◌, ◌++◌, length, sum, Option, Some, None, IsSome, nat_le, nat_lt, if◌then◌else◌, refl, sym, ap, ap₂, subst, ◌∙◌, inl, inr, arith, le-leb, leb-true}
+use Rattle.std.proofs.Common.{◌≡◌, ℕ, ◌+◌, ◌-◌, ◌*◌, ◌/◌, ◌%◌, ◌<◌, ◌≤◌, Bool, true, false, not, ◌&&◌, ◌⊎◌, ◌↔◌, List, [], ◌∷◌, ◌++◌, length, sum, if◌then◌else◌, refl, sym, ap, ap₂, subst, ◌∙◌, inl, inr, arith, le-leb}
 use Rattle.std.specs.List.{AllByRecursion}
-use Rattle.std.proofs.lemmas.Bool.{cases_lt, true≢false, false≢true}
+use Rattle.std.proofs.lemmas.Bool.{cases_lt, true≢false}
 use Rattle.std.proofs.lemmas.List.Sums.{sum_by-cons}
 use Rattle.std.proofs.lemmas.Nat.{mod-mul-add}
 use Rattle.offset_allocator.specs.Classes.{value, up, down}
 use Rattle.offset_allocator.specs.Reports.{largest}
-use Rattle.offset_allocator.specs.Named.{Block, View, Place, Grant, Outcome, used_units, total_free, largest_free, names_at, units, free_sizes, free_block, IsApart, IsWellFormed, is_short_of, max_size, padding_to, refuse, grant_or_refuse, place_for, serve, allocate, allocate_aligned}
+use Rattle.offset_allocator.specs.Named.{Block, View, used_units, total_free, largest_free, units, free_sizes, free_block, IsApart, IsWellFormed, max_size, padding_to}
 use Rattle.offset_allocator.specs.Relations.{IsFresh}
-use Rattle.offset_allocator.specs.Functional.{AlignsBy}
 use Rattle.offset_allocator.specs.Promises.{CanGrant}
-use Rattle.offset_allocator.proofs.Related.{class_found, found_class}
+use Rattle.offset_allocator.proofs.Taken.{fitting}
 use Rattle.offset_allocator.proofs.Classes.{down_law}
-use Rattle.offset_allocator.proofs.ViewOrders.{if_value}
-use Rattle.offset_allocator.proofs.ViewTaken.{taken_at, not_taken, well_alone}
+use Rattle.offset_allocator.proofs.ViewTaken.{well_alone}
 
 -- used and free units
 parted : (bs : List Block) → used_units bs + sum (free_sizes bs) ≡ units bs
@@ -47,11 +45,10 @@ pub no_neighbours : (v : View) → IsWellFormed v → (before run after : List B
 no_neighbours v w before run after e f = alone_if run after (apart_after_one before (run ++ after) (subst IsApart e w.apart)) f
 
 -- a full space
-short_too : (v : View) (spare : ℕ) → 1 ≤ spare → v.max_allocs ≤ length v.blocks + 1 → is_short_of spare v ≡ true
-short_too v spare some h = le-leb v.max_allocs (length v.blocks + spare) (omega arith)
-
 pub reports_nothing : (v : View) → v.max_allocs ≤ length v.blocks + 1 → (total_free v ≡ 0) × (largest_free v ≡ 0)
-reports_nothing v h = (ap (λ b. if b then 0 else sum (free_sizes v.blocks)) (short_too v 1 (omega arith) h), ap (λ b. if b then 0 else largest (free_sizes v.blocks)) (short_too v 1 (omega arith) h))
+reports_nothing v h =
+    let full = le-leb v.max_allocs (length v.blocks + 1) h in
+    (ap (λ b. if b then 0 else sum (free_sizes v.blocks)) full, ap (λ b. if b then 0 else largest (free_sizes v.blocks)) full)
 
 -- padding
 module _ (align offset : ℕ) (some : 1 ≤ align) where
@@ -85,26 +82,6 @@ module _ (align offset : ℕ) (some : 1 ≤ align) where
     ]
   ]
 
--- an aligned grant
-padded_from : (v : View) (n : ℕ) (padding_at : ℕ → ℕ) (front rest : ℕ) (o : Option Place) (g : Grant) → (grant_or_refuse v n padding_at front rest o).grant ≡ Some g → (start : ℕ) × (g.offset ≡ start + padding_at start)
-padded_from v n padding_at front rest None g e = absurd (cc)
-padded_from v n padding_at front rest (Some p) g e =
-    let same : record { name = p.block.name; offset = units p.before + padding_at (units p.before) } ≡ g = cc in
-    (units p.before, ap (λ (a : Grant). a.offset) (sym same))
-
-multiple : (n align front rest : ℕ) (v : View) (g : Grant) → 1 ≤ align → (allocate_aligned n align front rest v).grant ≡ Some g → g.offset % align ≡ 0
-multiple n align front rest v g some =
-    if_value (nat_le align 1) (allocate n rest v) (if nat_lt max_size (n + align - 1) then refuse v else serve 2 (n + align - 1) n (padding_to align) front rest v) (λ (o : Outcome). o.grant ≡ Some g → g.offset % align ≡ 0)
-    (λ a e. let l = leb-true align 1 a in let one : align ≡ 1 = omega arith in ap (λ m. g.offset % m) one ∙ omega arith)
-    (λ a. if_value (nat_lt max_size (n + align - 1)) (refuse v) (serve 2 (n + align - 1) n (padding_to align) front rest v) (λ (o : Outcome). o.grant ≡ Some g → g.offset % align ≡ 0)
-    (λ f e. absurd (cc))
-    (λ f. if_value (is_short_of 2 v) (refuse v) (grant_or_refuse v n (padding_to align) front rest (place_for (n + align - 1) v)) (λ (o : Outcome). o.grant ≡ Some g → g.offset % align ≡ 0)
-    (λ s e. absurd (cc))
-    (λ s e. let r = padded_from v n (padding_to align) front rest (place_for (n + align - 1) v) g e in ap (λ m. m % align) r.1 ∙ reaches align r.0 some)))
-
-pub aligned_multiple : (n align : ℕ) (v w : View) (g : Grant) → 1 ≤ align → AlignsBy n align v w (Some g) → g.offset % align ≡ 0
-aligned_multiple n align v w g some a = multiple n align a.front a.rest v g some (sym a.answer)
-
 head_of : (b c : Block) (bs cs : List Block) → b ∷ bs ≡ c ∷ cs → b ≡ c
 head_of b c bs cs e = cc
 
@@ -125,15 +102,10 @@ module _ (size max_allocs n : ℕ) (v : View) (f : IsFresh size max_allocs v) (l
   room = omega (arith, ap length there, ap (λ (x : View). x.max_allocs) f.view)
 
   pub fresh_grants : CanGrant 1 n v ↔ (value (up n) ≤ size)
-  fresh_grants = (λ h. go (place_for n v) refl (class_found v formed n h.1), λ l. (room, found l (place_for n v) refl))
-    where
-      go : (o : Option Place) → place_for n v ≡ o → IsSome o → value (up n) ≤ size
-      go None e s = absurd (false≢true s)
-      go (Some p) e s =
-          let t = taken_at n v formed p e in
-          let block = only_block p.before p.block p.after (free_block f.name size) (sym there ∙ t.stood) in
-          (down_law size (up n) (omega arith)).0 (subst (λ z. up n ≤ down z) (ap (λ (b : Block). b.size) (sym block)) t.class)
-
-      found : value (up n) ≤ size → (o : Option Place) → place_for n v ≡ o → (c : ℕ) × (up n ≤ c) × (names_at v.order c ≢ [])
-      found l None e = let z = not_taken n v formed e (down size) ((down_law size (up n) (omega arith)).1 l) in let o = formed.orders (down size) f.name in absurd (grind (arith, z, o))
-      found l (Some p) e = found_class v formed n p e
+  fresh_grants = (
+    λ h.
+        let t = fitting n v formed h.1 in
+        let block = only_block t.0.before t.0.block t.0.after (free_block f.name size) (sym there ∙ t.1) in
+        (down_law size (up n) (omega arith)).0 (subst (λ z. up n ≤ down z) (ap (λ (b : Block). b.size) (sym block)) t.3),
+    λ l. (room, (down size, (down_law size (up n) (omega arith)).1 l, λ e. let o = formed.orders (down size) f.name in absurd (grind (arith, e, o)))),
+  )

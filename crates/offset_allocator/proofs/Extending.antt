@@ -1,9 +1,9 @@
 -- What more units at the end leave of the whole allocator.
-use Rattle.std.proofs.Common.{◌≡◌, ℕ, zero, suc, ◌+◌, ◌-◌, ◌<◌, ◌≤◌, ◌^◌, Bool, true, false, not, ◌&&◌, ◌||◌, List, [], ◌∷◌, ◌++◌, length, refl, sym, ap, ◌∙◌, arith, slice_set, nat_lt, nat_eq, if◌then◌else◌}
+use Rattle.std.proofs.Common.{◌≡◌, ℕ, zero, suc, ◌+◌, ◌-◌, ◌<◌, ◌≤◌, ◌^◌, Bool, true, false, not, ◌&&◌, ◌||◌, List, [], ◌∷◌, ◌++◌, length, refl, sym, ap, ◌∙◌, arith, slice_set, nat_lt, nat_eq, le-leb, if◌then◌else◌}
 use Rattle.std.proofs.lemmas.Bool.{le-ltb, true≢false, false≢true}
 use Rattle.offset_allocator.specs.Classes.{down}
 use Rattle.offset_allocator.specs.Cells.{Cells, Room, Node, node}
-use Rattle.offset_allocator.specs.Named.{Block, View, Extension, count_named, names_at, count_listed, one, is_free, IsWellFormed, IsUnused, is_short_of, max_size, free_block, units, remove_all, push, remove, without, free_end, without_end, ends_used, extend_by, is_extendable, extend}
+use Rattle.offset_allocator.specs.Named.{Block, View, Extension, count_named, names_at, count_listed, one, is_free, IsWellFormed, IsUnused, is_full, max_size, free_block, units, remove_all, push, remove, without, free_end, without_end, ends_used, extend_by, is_extendable, extend}
 use Rattle.offset_allocator.specs.Space.{IsChain, HasPlace, blocks}
 use Rattle.offset_allocator.specs.Orders.{Among, IsUnlisted, class_lists, Binned}
 use Rattle.offset_allocator.specs.State.{Fields, AreSound, shown, free_units}
@@ -16,7 +16,8 @@ use Rattle.offset_allocator.proofs.Freeing.{filed_listed}
 use Rattle.offset_allocator.proofs.ViewOrders.{tally_append, times_remove_all}
 use Rattle.offset_allocator.proofs.ViewReplaced.{listed_named}
 use Rattle.offset_allocator.proofs.ViewTaken.{well_extended}
-use Rattle.offset_allocator.proofs.Joints.{stepped, with_accesses, free_most, among_times, unused_unlisted, well_counted, remove_free, free_units-append, free_units-free}
+use Rattle.offset_allocator.proofs.Joints.{stepped, with_accesses, free_most, among_times, unused_unlisted, remove_free, free_units-append, free_units-free}
+use Rattle.offset_allocator.proofs.Split.{well_counted}
 
 pub ends_last : (fs : List Block) (b : Block) → ends_used (fs ++ b ∷ []) ≡ b.used
 ends_last [] b = refl
@@ -53,6 +54,9 @@ module _ (it : Fields) (more : ℕ) (s : AreSound it) where
 
   pub used_at_end : (node it.cells.room it.last).used ≡ ends_used (blocks it.cells.room it.last)
   used_at_end = let f = ended old it.last s.space.ends in ap (λ (n : Node). n.used) (at_place (end_place s.space)) ∙ sym (ap ends_used f.is ∙ ends_last f.front f.last)
+
+  pub full_read : it.count ≤ 1 → is_full (shown it) ≡ true
+  full_read h = le-leb it.limit (length old + 1) (omega (arith, h, s.nodes, s.space.full))
 
 -- a request that is done: sound fields, and whether the last block is used
 pub record Growth (it : Fields) (more : ℕ) (used : Bool) : Type 0 where
@@ -111,10 +115,10 @@ module _ {it : Fields} {more : ℕ} {used : Bool} (r : Growth it more used) wher
       let new : Fields = record it { size = it.size + more; cells = d; last = last; count = count; top = top; free = it.free + more; accesses = k } in
       AreSound new × ExtendsBy more (shown it) (shown new) true
 
-  grown : (d : Cells) {last count top : ℕ} (k x : ℕ) (bs' : List Block) → IsUnused x v → (used ≡ true → is_short_of 1 v ≡ false) → IsChain d.room (length it.cells.room.nodes) last count bs' → Binned it.max d.links top
+  grown : (d : Cells) {last count top : ℕ} (k x : ℕ) (bs' : List Block) → IsUnused x v → (used ≡ true → is_full v ≡ false) → IsChain d.room (length it.cells.room.nodes) last count bs' → Binned it.max d.links top
       → bs' ≡ (extend_by more x v).blocks → class_lists it.max d.links ≡ (extend_by more x v).order → free_units bs' ≡ it.free + more → Grown d last count top k
   grown d k x bs' unused room chain bins eb eo total =
-      let open_is = extendable_if (nat_lt max_size (it.size + more)) (ends_used bs) (is_short_of 1 v) (le-ltb max_size (it.size + more) r.fits) (λ q. room (sym r.ends ∙ q)) in
+      let open_is = extendable_if (nat_lt max_size (it.size + more)) (ends_used bs) (is_full v) (le-ltb max_size (it.size + more) r.fits) (λ q. room (sym r.ends ∙ q)) in
       let is = extended_is more x v r.some open_is in
       let left = stepped it s (extend_by more x v) d (it.free + more) k (well_extended v w more x unused open_is) refl chain eb bins eo total in
       (left.0, record { name = x; unused = unused; view = left.1 ∙ ap (λ (y : Extension). with_accesses k y.view) (sym is); answer = ap (λ (y : Extension). y.done) (sym is) })
@@ -127,7 +131,7 @@ module _ {it : Fields} {more : ℕ} (r : Growth it more true) where
   pub append_unlisted : (y : ℕ) → count_named y ((end r).front ++ (end r).last ∷ []) ≡ 0 → IsUnlisted y (class_lists it.max it.cells.links)
   append_unlisted y e = unused_unlisted (shown it) (w r) y (ap (count_named y) (end r).is ∙ e)
 
-  pub appended : (d : Cells) (k : ℕ) {last count top y n : ℕ} → is_short_of 1 (shown it) ≡ false → n ≡ (node it.cells.room it.last).size
+  pub appended : (d : Cells) (k : ℕ) {last count top y n : ℕ} → is_full (shown it) ≡ false → n ≡ (node it.cells.room it.last).size
       → IsChain d.room (length it.cells.room.nodes) last count (((end r).front ++ record (end r).last { size = n } ∷ []) ++ free_block y (((end r).last.size - n) + more) ∷ []) → Binned it.max d.links top
       → class_lists it.max d.links ≡ push (down more) y (class_lists it.max it.cells.links) → count_named y ((end r).front ++ (end r).last ∷ []) ≡ 0 → y < length it.cells.room.nodes → Grown r d last count top k
   appended d k {y = y} {n = n} room e chain bins eo new below =

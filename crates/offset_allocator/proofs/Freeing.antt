@@ -7,6 +7,7 @@ use Rattle.offset_allocator.specs.Named.{Block, View, Place, one, is_free, count
 use Rattle.offset_allocator.specs.Space.{IsChain, HasPlace, blocks, coalesced_before}
 use Rattle.offset_allocator.specs.Orders.{Among, IsUnlisted, class_lists, Binned}
 use Rattle.offset_allocator.specs.State.{Fields, IsSound, view_of, free_units, AreListed, AreFiled, AreSound, shown}
+use Rattle.offset_allocator.proofs.Split.{well_counted}
 use Rattle.offset_allocator.proofs.Joints.{with_accesses}
 use Rattle.offset_allocator.proofs.Places.{located, at_place}
 use Rattle.offset_allocator.proofs.Views.{blocks-chain}
@@ -14,7 +15,8 @@ use Rattle.offset_allocator.proofs.ViewSteps.{place_at}
 use Rattle.offset_allocator.proofs.ViewOrders.{tally_append, hit_cases, times_remove_all, length_remove_all}
 use Rattle.offset_allocator.proofs.ViewReplaced.{listed_named}
 use Rattle.offset_allocator.proofs.ViewTaken.{well_free, tally_end, tally_start}
-use Rattle.offset_allocator.proofs.Joints.{stepped, free_most, among_times, times_among, well_counted, free_units-append, free_units-free, free_units-used}
+use Rattle.offset_allocator.proofs.Split.{well_counted}
+use Rattle.offset_allocator.proofs.Joints.{stepped, free_most, among_times, times_among, free_units-append, free_units-free, free_units-used}
 
 -- the sum that `listed` takes, of one block
 abbrev share : ℕ → ℕ → Block → ℕ

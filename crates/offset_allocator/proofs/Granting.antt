@@ -1,39 +1,40 @@
 -- What a grant leaves of the whole allocator.
-use Rattle.std.proofs.Common.{◌≡◌, ℕ, ◌+◌, ◌-◌, ◌<◌, ◌≤◌, true, false, List, [], ◌∷◌, ◌++◌, length, Some, refl, sym, ap, ap₂, subst, ◌∙◌, arith, slice_set, le-leb}
+use Rattle.std.proofs.Common.{◌≡◌, ℕ, zero, suc, ◌+◌, ◌-◌, ◌<◌, ◌≤◌, ◌^◌, List, [], ◌∷◌, ◌++◌, length, refl, sym, ap, ap₂, ◌∙◌, arith, slice_set, append_assoc, le-leb, nat_eq}
 use Rattle.offset_allocator.specs.Classes.{up, down}
-use Rattle.offset_allocator.specs.Cells.{Cells, Room, Node, node}
-use Rattle.offset_allocator.specs.Named.{Block, View, Place, Grant, Outcome, grant_in, count_named, names_at, IsWellFormed, IsUnused, is_short_of, allocate, free_part, used_block, free_block, units, remove_all, push_all, remove, push, without}
-use Rattle.offset_allocator.specs.Space.{HasPlace, blocks}
+use Rattle.offset_allocator.specs.Cells.{Cells, Room}
+use Rattle.offset_allocator.specs.Named.{Block, View, Place, Grant, one, count_named, names_at, IsWellFormed, IsUnused, free_part, used_block, units, replace, remove_all, push_all, remove, without}
+use Rattle.offset_allocator.specs.Space.{HasPlace}
 use Rattle.offset_allocator.specs.Orders.{IsSmallestFrom, class_lists, Binned}
 use Rattle.offset_allocator.specs.State.{Fields, AreSound, AreUnlisted, shown, free_units}
-use Rattle.offset_allocator.specs.Functional.{AllocatesBy}
-use Rattle.offset_allocator.proofs.Joints.{with_accesses}
-use Rattle.offset_allocator.proofs.Rows.{times-append}
-use Rattle.offset_allocator.proofs.Places.{placed, at_place}
-use Rattle.offset_allocator.proofs.Pieces.{no_remainder, some_part}
+use Rattle.offset_allocator.specs.Relations.{SameSpace, Splits}
+use Rattle.offset_allocator.proofs.Rows.{one-same, one-eq, times-append}
+use Rattle.offset_allocator.proofs.Exchange.{each-le, there-below}
+use Rattle.offset_allocator.proofs.Places.{placed, end_fits}
 use Rattle.offset_allocator.proofs.Sizes.{fits_size}
-use Rattle.offset_allocator.proofs.ViewTaken.{well_allocate}
-use Rattle.offset_allocator.proofs.Unused.{some_unused}
-use Rattle.offset_allocator.proofs.Joints.{stepped, unused_unlisted, unlisted_removed, TakenHere, taken_here, allocate_granted, well_counted, free_part_units, remove_free, not_true, free_units-append, free_units-free, free_units-used}
+use Rattle.offset_allocator.proofs.Split.{well_counted, well_split, part_room}
+use Rattle.offset_allocator.proofs.Taken.{Taken, taken}
+use Rattle.offset_allocator.proofs.Unused.{is_new}
+use Rattle.offset_allocator.proofs.Joints.{stepped, unused_unlisted, unlisted_removed, free_part_units, remove_free, free_units-append, free_units-free, free_units-used}
 
--- a grant: sound fields, room for one more block, a class with a free block for n, and the first name there
-pub record Call (f : Fields) (n class x : ℕ) : Type 0 where
+-- a grant: sound fields, the smallest class large enough that has a block, and the first name there
+pub record Call (f : Fields) (needed class x : ℕ) : Type 0 where
   pub sound : AreSound f
-  pub room : is_short_of 1 (shown f) ≡ false
-  pub least : IsSmallestFrom (up n) (class_lists f.max f.cells.links) class
-  pub after_one : List ℕ
-  pub first : names_at (class_lists f.max f.cells.links) class ≡ x ∷ after_one
+  pub smallest : IsSmallestFrom (up needed) (class_lists f.max f.cells.links) class
+  pub older : List ℕ
+  pub newest : names_at (class_lists f.max f.cells.links) class ≡ x ∷ older
 
--- a name is taken out of its class
+-- the bins without that name
 abbrev pub popped : Fields → ℕ → ℕ → List (List ℕ)
 popped f class x = slice_set (class_lists f.max f.cells.links) class (without x (names_at (class_lists f.max f.cells.links) class))
 
-module _ {f : Fields} {n class x : ℕ} (call : Call f n class x) where
+-- padding or a remainder has a name where it has units
+part_names : (y k n : ℕ) → 1 ≤ n → count_named y (free_part k n) ≡ one (nat_eq y k)
+part_names y k zero l = absurd (omega arith)
+part_names y k (suc n) l = omega arith
+
+module _ {f : Fields} {needed class x : ℕ} (call : Call f needed class x) where
   abbrev v : View
   v = shown f
-
-  abbrev bs : List Block
-  bs = blocks f.cells.room f.last
 
   abbrev ls : List (List ℕ)
   ls = class_lists f.max f.cells.links
@@ -41,96 +42,105 @@ module _ {f : Fields} {n class x : ℕ} (call : Call f n class x) where
   w : IsWellFormed (shown f)
   w = well_counted (shown (record f { accesses = 0 })) f.accesses call.sound.well
 
-  pub got : TakenHere n (shown f) class x
-  got = taken_here n (shown f) w class x call.after_one call.least call.first
-
   -- the block that is taken
+  pub got : Taken (shown f) class x
+  got = taken (shown f) w class x call.older call.newest
+
   abbrev p : Place
   p = got.place
 
-  is_free : p.block.used ≡ false
-  is_free = not_true p.block.used got.here.free
-
   pub held : {d : Room} → d ≡ f.cells.room → HasPlace d (length f.cells.room.nodes) f.last f.count x got.place
-  held e = rw e (placed (rw got.here.stood at call.sound.space) got.name)
+  held e = rw e (placed (rw got.stood at call.sound.space) got.name)
 
-  pub enough : n ≤ got.place.block.size
-  enough = fits_size n got.place.block.size (le-leb (up n) (down got.place.block.size) got.here.class)
+  pub enough : needed ≤ got.place.block.size
+  enough = fits_size needed p.block.size (le-leb (up needed) (down p.block.size) (omega (arith, got.class, call.smallest.0)))
 
-  -- a name that no block has is unused
-  pub unused_in : (y : ℕ) → count_named y (got.place.before ++ got.place.block ∷ got.place.after) ≡ 0 → y < length f.cells.room.nodes → IsUnused y (shown f)
-  unused_in y none low = record { below = omega (arith, call.sound.nodes); absent = ap (λ z. count_named y z) got.here.stood ∙ none }
+  -- the name is in no bin then
+  pub unlisted : AreUnlisted (got.place.before ++ got.place.block ∷ got.place.after) (popped f class x)
+  unlisted y e = unlisted_removed y x class ls w.classes call.smallest.1 (unused_unlisted v w y (ap (count_named y) got.stood ∙ e))
 
-  pub unlisted : AreUnlisted (blocks f.cells.room f.last) (popped f class x)
-  unlisted y e = unlisted_removed y x class ls w.classes call.least.1 (unused_unlisted v w y e)
+  removed : remove_all (p.block ∷ []) ls ≡ popped f class x
+  removed = remove_free p.block ls got.free ∙ ap₂ (λ i y. remove i y ls) got.class got.name
 
-  pub removed : remove_all (got.place.block ∷ []) (class_lists f.max f.cells.links) ≡ popped f class x
-  removed = remove_free p.block ls is_free ∙ ap₂ (λ i y. remove i y ls) got.class got.name
+  had_free : f.free ≡ free_units p.before + (p.block.size + free_units p.after)
+  had_free = sym call.sound.total ∙ ap free_units got.stood ∙ free_units-append p.before (p.block ∷ p.after) ∙ ap (λ k. free_units p.before + k) (free_units-free p.block p.after got.free)
 
-  pub had_free : f.free ≡ free_units got.place.before + (got.place.block.size + free_units got.place.after)
-  had_free = sym call.sound.total ∙ ap free_units got.here.stood ∙ free_units-append p.before (p.block ∷ p.after) ∙ ap (λ k. free_units p.before + k) (free_units-free p.block p.after is_free)
-
-  pub free_enough : n ≤ f.free
+  pub free_enough : needed ≤ f.free
   free_enough = omega (arith, had_free, enough)
 
-  -- what is granted, with any number of accesses counted
-  abbrev pub Granted : Fields → Type 0
-  Granted new = AreSound new × AllocatesBy n (shown f) (shown new) (Some (record { name = x; offset = units got.place.before }))
+  -- a request for n units, with padding
+  module _ (n : ℕ) (padding_at : ℕ → ℕ) (within : (o : ℕ) → padding_at o + n ≤ needed) where
+    abbrev padding : ℕ
+    padding = padding_at (units p.before)
 
-  -- the first units are granted, and a remainder is after them, unless it has no units
-  granted : (k : ℕ) (d : Cells) (y : ℕ) {last count top : ℕ} → HasPlace d.room (length f.cells.room.nodes) last count x (record { before = got.place.before; block = used_block got.place.block.name n; after = free_part y (got.place.block.size - n) ++ got.place.after })
-      → Binned f.max d.links top → class_lists f.max d.links ≡ push_all (free_part y (got.place.block.size - n)) (popped f class x) → IsUnused y (shown f)
-      → Granted (record f { cells = d; last = last; count = count; top = top; free = f.free - n; accesses = k })
-  granted k d y there bins lists unused =
-      let is = allocate_granted n y v p call.room got.is in
-      let zero_is : 0 + n ≡ n = omega arith in
-      let grant : Grant = record { name = x; offset = units p.before } in
-      let answered : Some grant ≡ (allocate n y v).grant = ap₂ (λ (i o : ℕ). let h : Grant = record { name = i; offset = o } in Some h) (sym got.name) (omega arith) ∙ ap (λ (o : Outcome). o.grant) (sym is) in
-      let total = free_units-append p.before (used_block p.block.name n ∷ (free_part y (p.block.size - n) ++ p.after)) in
-      let left = stepped f call.sound (grant_in v n 0 y y p).view d (f.free - n) k (subst (λ (o : Outcome). IsWellFormed o.view) is (well_allocate v w n y unused)) refl there.chain (rw zero_is refl) bins (rw (zero_is, removed) lists)
-      (omega (arith, total, free_units-used (used_block p.block.name n) (free_part y (p.block.size - n) ++ p.after) refl, free_part_units y (p.block.size - n) p.after, had_free, enough)) in
-      (left.0, record { rest = y; unused = unused; answer = answered; view = left.1 ∙ ap (λ (o : Outcome). with_accesses k o.view) (sym is) })
+    abbrev left : ℕ
+    left = p.block.size - (padding + n)
 
-  -- the name is taken out of its class, and its block made used
-  pub record IsMarked (c : Cells) (top : ℕ) : Type 0 where
-    pub place : HasPlace c.room (length f.cells.room.nodes) f.last f.count x (record got.place { block = record got.place.block { used = true } })
-    pub bins : Binned f.max c.links top
-    pub lists : class_lists f.max c.links ≡ popped f class x
+    pub whole_fits : padding_at (units got.place.before) + n ≤ got.place.block.size
+    whole_fits = omega (arith, enough, within (units p.before))
 
-  -- a name that is new then
-  pub new_rest : {c : Cells} {top : ℕ} → IsMarked c top → (y : ℕ) → count_named y (got.place.before ++ record got.place.block { used = true } ∷ got.place.after) ≡ 0 → y < length c.room.nodes → IsUnused y (shown f)
-  new_rest {c} m y none low =
-      unused_in y (omega (arith, none, times-append y p.before (p.block ∷ p.after), times-append y p.before (record p.block { used = true } ∷ p.after))) (omega (arith, low, m.place.chain.cells))
+    pub padding_fits : units got.place.before + padding_at (units got.place.before) < 2 ^ 32
+    padding_fits = omega (arith, whole_fits, end_fits (held refl))
 
-  -- the whole block is granted
-  pub whole : (k : ℕ) {c : Cells} {top size : ℕ} → IsMarked c top → size ≡ (node c.room x).size → size ≤ n → Granted (record f { cells = c; top = top; free = f.free - n; accesses = k })
-  whole k {c} m sized fits =
-      let u = some_unused (shown f) w in
-      let exact : n ≡ p.block.size = omega (arith, sized, ap (λ (i : Node). i.size) (at_place m.place), fits, enough) in
-      let none : p.block.size - n ≡ 0 = omega arith in
-      granted k c u.0 (no_remainder u.0 (p.block.size - n) n m.place none exact) m.bins (rw none m.lists) u.1
+    pub units_free : n ≤ f.free
+    units_free = omega (arith, free_enough, within 0)
 
-  -- a part of it, and the remainder, under the name y, goes into its bin
-  pub part : (k : ℕ) (split d : Cells) {c : Cells} {top size y low last count top' : ℕ} → IsMarked c top → size ≡ (node c.room x).size → n < size
-      → HasPlace split.room (length f.cells.room.nodes) last count x (record { before = got.place.before; block = used_block got.place.block.name n; after = free_block y (got.place.block.size - n) ∷ got.place.after })
-      → IsUnused y (shown f) → split.links ≡ c.links → low ≡ down (size - n) → d.room ≡ split.room → Binned f.max d.links top' → class_lists f.max d.links ≡ push low y (class_lists f.max split.links)
-      → Granted (record f { cells = d; last = last; count = count; top = top'; free = f.free - n; accesses = k })
-  part k split d {c} {y = y} m sized more place unused links class room bins lists =
-      let is = sized ∙ ap (λ (i : Node). i.size) (at_place m.place) in
-      let some = some_part y (p.block.size - n) (omega arith) in
-      granted k d y (rw (room, ← some) place) bins (rw (← some) (lists ∙ rw (links, m.lists, class, is) refl)) unused
+    -- with room for the blocks that it adds; the tables that are left
+    module _ (k : ℕ) (room : length (shown f).blocks + k < f.limit) (some : 1 ≤ k) (two : (o : ℕ) → 1 ≤ padding_at o → 2 ≤ k) (d : Cells) (last count front rest : ℕ) (there : HasPlace d.room (length f.cells.room.nodes) last count x (record { before = got.place.before ++ free_part front (padding_at (units got.place.before)); block = used_block got.place.block.name n; after = free_part rest (got.place.block.size - (padding_at (units got.place.before) + n)) ++ got.place.after })) where
+      abbrev parts : List Block
+      parts = free_part front padding ++ (used_block p.block.name n ∷ free_part rest left)
 
-  -- in the terms that the body has for the view and the offset
-  pub as_read : {new : Fields} {c : Cells} {u v' : View} {top o : ℕ} → IsMarked c top → Granted new → shown f ≡ u → v' ≡ shown new → o ≡ (node c.room x).offset → AllocatesBy n u v' (Some (record { name = x; offset = o }))
-  as_read m done was now at = rw (now, at, at_place m.place, ← was) done.1
+      names : (y : ℕ) → (count_named y p.before + count_named y (free_part front padding)) + (count_named y (used_block p.block.name n ∷ []) + (count_named y (free_part rest left) + count_named y p.after)) ≤ 1
+      names y = omega (arith, each-le d.room _ last count _ there.chain y, times-append y (p.before ++ free_part front padding) (used_block p.block.name n ∷ (free_part rest left ++ p.after)), times-append y p.before (free_part front padding), times-append y (free_part rest left) p.after)
 
--- a request that is refused
-module _ (it : Fields) (n : ℕ) (s : AreSound it) where
-  abbrev was : View
-  was = shown it
+      unused : (y : ℕ) → 1 ≤ count_named y (free_part front padding) + count_named y (free_part rest left) → IsUnused y v
+      unused y l =
+          let some : 1 ≤ count_named y ((p.before ++ free_part front padding) ++ used_block p.block.name n ∷ (free_part rest left ++ p.after)) = omega (arith, l, times-append y (p.before ++ free_part front padding) (used_block p.block.name n ∷ (free_part rest left ++ p.after)), times-append y p.before (free_part front padding), times-append y (free_part rest left) p.after) in
+          record {
+            below = omega (arith, there-below d.room _ last count y _ there.chain some, call.sound.nodes);
+            absent = ap (count_named y) got.stood ∙ omega (arith, l, names y, times-append y p.before (p.block ∷ p.after));
+          }
 
-  known : IsWellFormed was
-  known = well_counted (shown (record it { accesses = 0 })) it.accesses s.well
+      abbrev left_view : View
+      left_view = replace v p.before (p.block ∷ []) parts p.after
 
-  pub is_short : it.count ≤ 1 → is_short_of 1 (shown it) ≡ true
-  is_short h = let long = s.space.full in le-leb it.limit (length (blocks it.cells.room it.last) + 1) (omega (arith, s.nodes))
+      abbrev grant : Grant
+      grant = record { name = x; offset = units p.before + padding }
+
+      split : (u : View) → SameSpace left_view u → Splits needed n padding_at v u grant
+      split u same = record {
+        before = p.before;
+        block = p.block;
+        after = p.after;
+        blocks = got.stood;
+        free = got.free;
+        fits = omega (arith, got.class, call.smallest.0);
+        smallest = λ c l m. call.smallest.3 c l (omega (arith, m, got.class));
+        older = call.older;
+        newest = ap (names_at ls) got.class ∙ call.newest ∙ ap (λ y. y ∷ call.older) (sym got.name);
+        padding = padding;
+        padded = refl;
+        remainder = left;
+        whole = omega (arith, whole_fits);
+        padding_name = front;
+        remainder_name = rest;
+        padding_new = λ l. is_new front v (unused front (omega (arith, part_names front front padding l, one-same front)));
+        remainder_new = λ l. is_new rest v (unused rest (omega (arith, part_names rest rest left l, one-same rest)));
+        differ = λ l m q. absurd (omega (arith, names front, part_names front front padding l, one-same front, part_names front rest left m, one-eq front rest (sym q)));
+        grant = ap (λ i. record { name = i; offset = units p.before + padding }) (sym got.name);
+        view = same;
+      }
+
+      pub granted : {top accesses : ℕ} → Binned f.max d.links top
+          → class_lists f.max d.links ≡ push_all (free_part front (padding_at (units got.place.before)) ++ (used_block x n ∷ free_part rest (got.place.block.size - (padding_at (units got.place.before) + n)))) (popped f class x)
+          → AreSound (record f { cells = d; last = last; count = count; top = top; free = f.free - n; accesses = accesses })
+          × Splits needed n padding_at (shown f) (shown (record f { cells = d; last = last; count = count; top = top; free = f.free - n; accesses = accesses })) (record { name = x; offset = units got.place.before + padding_at (units got.place.before) })
+      unfolding split
+      granted {top} {accesses} bins lists =
+          let flat : (p.before ++ free_part front padding) ++ (used_block p.block.name n ∷ (free_part rest left ++ p.after)) ≡ p.before ++ (parts ++ p.after) = simp append_assoc in
+          let well = well_split (split left_view refl) k w room (part_room front padding k some (two (units p.before))) in
+          let units_are = ap free_units flat ∙ free_units-append p.before (parts ++ p.after) in
+          let parts_are = ap free_units (append_assoc (free_part front padding) (used_block p.block.name n ∷ free_part rest left) p.after) in
+          let done = stepped f call.sound left_view d (f.free - n) accesses well refl there.chain flat bins (rw (removed, got.name) lists)
+          (omega (arith, units_are, parts_are, free_part_units front padding (used_block p.block.name n ∷ (free_part rest left ++ p.after)), free_units-used (used_block p.block.name n) (free_part rest left ++ p.after) refl, free_part_units rest left p.after, had_free, whole_fits)) in
+          (done.0, split _ done.1)

@@ -1,19 +1,18 @@
 -- The chain, the bins and the view together.
-use Rattle.std.proofs.Common.{◌≡◌, ℕ, zero, suc, ◌+◌, ◌<◌, ◌≤◌, Bool, true, false, not, List, [], ◌∷◌, ◌++◌, length, Option, Some, None, if◌then◌else◌, refl, sym, ap, subst, ◌∙◌, inl, inr, arith, slice_set}
-use Rattle.std.proofs.lemmas.Bool.{cases_eq, cases_lt, false≢true}
+use Rattle.std.proofs.Common.{◌≡◌, ℕ, zero, suc, ◌+◌, ◌<◌, ◌≤◌, Bool, true, false, List, [], ◌∷◌, ◌++◌, length, if◌then◌else◌, refl, sym, ap, subst, ◌∙◌, inl, inr, arith, slice_set}
+use Rattle.std.proofs.lemmas.Bool.{cases_eq}
 use Rattle.std.proofs.lemmas.List.{get_or-set_same, get_or-set_other}
-use Rattle.offset_allocator.specs.Classes.{up, down}
-use Rattle.offset_allocator.specs.Named.{units, Block, View, Place, count_named, count_listed, names_at, IsWellFormed, place_for, is_short_of, allocate, refuse, grant_in, grant_or_refuse, free_part, remove_all, remove, times, without}
+use Rattle.offset_allocator.specs.Classes.{down}
+use Rattle.offset_allocator.specs.Named.{units, Block, View, count_named, count_listed, names_at, IsWellFormed, free_part, remove_all, remove, times, without}
 use Rattle.offset_allocator.specs.Cells.{Cells}
 use Rattle.offset_allocator.specs.Space.{IsChain}
-use Rattle.offset_allocator.specs.Orders.{Among, Binned, class_lists, IsUnlisted, IsSmallestFrom}
+use Rattle.offset_allocator.specs.Orders.{Among, Binned, class_lists, IsUnlisted}
 use Rattle.offset_allocator.proofs.Views.{blocks-chain, space-chain}
 use Rattle.offset_allocator.specs.State.{Fields, AreSound, view_of, free_units}
 use Rattle.offset_allocator.proofs.Walks.{among_without}
-use Rattle.offset_allocator.proofs.Sizes.{down_small}
 use Rattle.offset_allocator.proofs.ViewOrders.{tally_append, hit_cases}
 use Rattle.offset_allocator.proofs.ViewReplaced.{listed_named}
-use Rattle.offset_allocator.proofs.ViewTaken.{IsTaken, taken_at, not_taken}
+use Rattle.offset_allocator.proofs.Split.{well_counted}
 
 pub among_times : (x : ℕ) (xs : List ℕ) → Among x xs → 1 ≤ times x xs
 among_times x [] a = absurd a
@@ -44,57 +43,9 @@ unlisted_removed x y c ls n ch u d dh a =
       | inr ne ↦ u d dh (subst (λ z. Among x z) (get_or-set_other ls c d (without y (names_at ls c)) [] ne) a)
     ]
 
--- the name that is popped is the one that a request takes
-pub record TakenHere (n : ℕ) (v : View) (c x : ℕ) : Type 0 where
-  pub place : Place
-  pub is : place_for n v ≡ Some place
-  pub name : place.block.name ≡ x
-  pub class : down place.block.size ≡ c
-  pub here : IsTaken n v place
-
-pub taken_here : (n : ℕ) (v : View) → IsWellFormed v → (c x : ℕ) (xs : List ℕ) → IsSmallestFrom (up n) v.order c → names_at v.order c ≡ x ∷ xs → TakenHere n v c x
-taken_here n v w c x xs l e = go (place_for n v) refl
-  where
-    go : (o : Option Place) → place_for n v ≡ o → TakenHere n v c x
-    go None f = absurd (l.2 (not_taken n v w f c l.0))
-    go (Some p) f =
-        let t = taken_at n v w p f in
-        let same : down p.block.size ≡ c = elim (cases_lt c (down p.block.size)) [
-          | inl a ↦ absurd (l.2 (t.least c l.0 a))
-          | inr a ↦ elim (cases_lt (down p.block.size) c) [
-            | inl b ↦ let none : [] ≡ p.block.name ∷ t.after_one = sym (l.3 (down p.block.size) t.class b) ∙ t.first in absurd (cc)
-            | inr b ↦ omega arith
-          ]
-        ] in
-        let heads : p.block.name ∷ t.after_one ≡ x ∷ xs = sym t.first ∙ ap (names_at v.order) same ∙ e in
-        record { place = p; is = f; name = (cc); class = same; here = t }
-
-pub untaken : (n : ℕ) (v : View) → IsWellFormed v → ((c : ℕ) → up n ≤ c → c < 256 → names_at v.order c ≡ []) → place_for n v ≡ None
-untaken n v w h = go (place_for n v) refl
-  where
-    go : (o : Option Place) → place_for n v ≡ o → place_for n v ≡ None
-    go None f = f
-    go (Some p) f =
-        let t = taken_at n v w p f in
-        let none : [] ≡ p.block.name ∷ t.after_one = sym (h (down p.block.size) t.class (down_small p.block.size)) ∙ t.first in
-        absurd (cc)
-
--- the three cases of a request
-pub allocate_granted : (n rest : ℕ) (v : View) (p : Place) → is_short_of 1 v ≡ false → place_for n v ≡ Some p → allocate n rest v ≡ grant_in v n 0 rest rest p
-allocate_granted n rest v p e f = ap (λ (b : Bool). if b then refuse v else grant_or_refuse v n (λ o. 0) rest rest (place_for n v)) e ∙ ap (grant_or_refuse v n (λ o. 0) rest rest) f
-
-pub allocate_short : (n rest : ℕ) (v : View) → is_short_of 1 v ≡ true → allocate n rest v ≡ refuse v
-allocate_short n rest v e = ap (λ (b : Bool). if b then refuse v else grant_or_refuse v n (λ o. 0) rest rest (place_for n v)) e
-
-pub allocate_none : (n rest : ℕ) (v : View) → is_short_of 1 v ≡ false → place_for n v ≡ None → allocate n rest v ≡ refuse v
-allocate_none n rest v e f = ap (λ (b : Bool). if b then refuse v else grant_or_refuse v n (λ o. 0) rest rest (place_for n v)) e ∙ ap (grant_or_refuse v n (λ o. 0) rest rest) f
-
 -- whatever was counted
 abbrev pub with_accesses : ℕ → View → View
 with_accesses k v = record v { accesses = k }
-
-pub well_counted : (v : View) (k : ℕ) → IsWellFormed v → IsWellFormed (with_accesses k v)
-well_counted v k w = record { some = w.some; distinct = w.distinct; below = w.below; whole = w.whole; fits = w.fits; apart = w.apart; classes = w.classes; orders = w.orders; room = w.room; spare = w.spare }
 
 -- the fields after a call: the tables hold the blocks and the bins of a well-formed view
 pub stepped : (f : Fields) → AreSound f → (v : View) (d : Cells) (free k : ℕ) {last count top : ℕ} {bs : List Block} → IsWellFormed v → v.max_allocs ≡ f.limit
@@ -121,10 +72,6 @@ free_part-none x (suc r) e = absurd (omega arith)
 
 pub remove_free : (b : Block) (order : List (List ℕ)) → b.used ≡ false → remove_all (b ∷ []) order ≡ remove (down b.size) b.name order
 remove_free b order e = ap (λ (u : Bool). if u then order else remove (down b.size) b.name order) e
-
-pub not_true : (u : Bool) → not u ≡ true → u ≡ false
-not_true true e = absurd (false≢true e)
-not_true false e = refl
 
 pub free_units-append : (xs ys : List Block) → free_units (xs ++ ys) ≡ free_units xs + free_units ys
 free_units-append xs ys = tally_append (λ (b : Block). if b.used then 0 else b.size) xs ys

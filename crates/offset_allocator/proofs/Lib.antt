@@ -1,4 +1,4 @@
-pub mod Aligning
+pub mod Split
 pub mod Always
 pub mod Binned
 pub mod Bits
@@ -23,7 +23,7 @@ pub mod Places
 pub mod Powers
 pub mod Ranges
 pub mod Refusals
-pub mod Related
+pub mod Taken
 pub mod Released
 pub mod Removal
 pub mod Removed
@@ -31,7 +31,6 @@ pub mod Rows
 pub mod Served
 pub mod Sizes
 pub mod Sound
-pub mod Spares
 pub mod Reading
 pub mod Undone
 pub mod Unused

@@ -1,18 +1,16 @@
 -- What each call leaves of the ranges of live handles.
-use Rattle.std.proofs.Common.{◌≡◌, ◌≢◌, ℕ, IfSome, zero, suc, ◌+◌, ◌-◌, ◌≤◌, Bool, true, false, not, ◌&&◌, List, [], ◌∷◌, ◌++◌, Option, Some, None, nat_eq, nat_lt, nat_le, if◌then◌else◌, refl, sym, ap, subst, ◌∙◌, inl, inr, arith, append_assoc, add-zero, add_assoc, le-leb, leb-false, eq-eqb, ne_eqb}
+use Rattle.std.proofs.Common.{◌≡◌, ◌≢◌, ℕ, IfSome, zero, suc, ◌+◌, ◌≤◌, Bool, true, false, not, ◌&&◌, List, [], ◌∷◌, ◌++◌, Option, Some, None, nat_eq, if◌then◌else◌, refl, sym, ap, subst, ◌∙◌, inl, inr, arith, append_assoc, add-zero, add_assoc, eq-eqb, ne_eqb}
 use Rattle.std.proofs.lemmas.Bool.{false≢true}
-use Rattle.offset_allocator.specs.Named.{Block, View, Place, Grant, Outcome, one, units, count_named, used_block, free_block, free_part, free_start, without_start, free_end, without_end, IsWellFormed, IsUnused, place_of, is_used_at, place_for, is_short_of, refuse, grant_in, grant_or_refuse, allocate, allocate_aligned, padding_to, serve, free_at, free, max_size, name_or, extend_by, is_extendable, Extension, extend}
-use Rattle.offset_allocator.specs.Classes.{up, down}
+use Rattle.offset_allocator.specs.Named.{Block, View, Place, Grant, one, units, count_named, used_block, free_block, free_part, free_start, without_start, free_end, without_end, IsWellFormed, IsUnused, place_of, is_used_at, free_at, free, name_or, extend_by, is_extendable, Extension, extend}
 use Rattle.offset_allocator.specs.Ranges.{Range, range_of, AreDisjoint, Grants, KeepsAll, KeepsOthers, KeepsRanges, IsLive}
-use Rattle.offset_allocator.specs.Relations.{SameSpace}
-use Rattle.offset_allocator.specs.Functional.{AllocatesBy, AlignsBy, ExtendsBy}
+use Rattle.offset_allocator.specs.Relations.{SameSpace, Splits}
+use Rattle.offset_allocator.specs.Functional.{ExtendsBy}
 use Rattle.offset_allocator.proofs.ViewOrders.{if_value, tally_append, hit_cases}
 use Rattle.offset_allocator.proofs.ViewSteps.{place_at, no_place}
 use Rattle.offset_allocator.proofs.ViewApart.{coalesced_parts, end_parts}
-use Rattle.offset_allocator.proofs.Sizes.{fits_size}
 use Rattle.offset_allocator.proofs.Reading.{live_used, range_at}
-use Rattle.offset_allocator.proofs.Joints.{well_counted}
-use Rattle.offset_allocator.proofs.ViewTaken.{taken_at, tally_end, tally_start, well_allocate, well_aligned, well_free, well_extended, padding_small}
+use Rattle.offset_allocator.proofs.Split.{part_sums}
+use Rattle.offset_allocator.proofs.ViewTaken.{tally_end, tally_start, well_free, well_extended}
 
 -- the range of the used block named x, where the first of the blocks has this offset
 abbrev range_from : ℕ → ℕ → List Block → Option Range
@@ -63,12 +61,8 @@ unfolding HasNone
 none_append x [] cs h k = k
 none_append x (b ∷ bs) cs h k = (h.0, none_append x bs cs h.1 k)
 
-part_units : (y n : ℕ) → units (free_part y n) ≡ n
-part_units y zero = refl
-part_units y (suc n) = omega arith
-
 -- a name that is there once is nowhere beside its block
-beside : (x : ℕ) (before : List Block) (b : Block) (after : List Block) → x ≡ b.name → count_named x (before ++ b ∷ after) ≤ 1 → (count_named x before ≡ 0) × (count_named x after ≡ 0)
+pub beside : (x : ℕ) (before : List Block) (b : Block) (after : List Block) → x ≡ b.name → count_named x (before ++ b ∷ after) ≤ 1 → (count_named x before ≡ 0) × (count_named x after ≡ 0)
 beside x before b after e most = elim (hit_cases x b.name) [
   | inl h ↦ let t = tally_append (λ (b : Block). one (nat_eq x b.name)) before (b ∷ after) in let k = h.1 in (omega arith, omega arith)
   | inr h ↦ absurd (h.0 e)
@@ -112,41 +106,6 @@ range_go x bs most (Some p) e =
 
 range_is : (x : ℕ) (v : View) → IsWellFormed v → range_of x v ≡ range_from x 0 v.blocks
 range_is x v f = range_go x v.blocks (f.distinct x) (place_of x v.blocks) refl
-
--- a grant
-module _ (v : View) (n padding front rest : ℕ) (p : Place) (stood : v.blocks ≡ p.before ++ p.block ∷ p.after) (idle : p.block.used ≡ false) (once : count_named p.block.name v.blocks ≤ 1) (enough : padding + n ≤ p.block.size) where
-  abbrev new : List Block
-  new = free_part front padding ++ used_block p.block.name n ∷ free_part rest (p.block.size - (padding + n))
-
-  alone : (count_named p.block.name p.before ≡ 0) × (count_named p.block.name p.after ≡ 0)
-  alone = beside p.block.name p.before p.block p.after refl (let k = ap (count_named p.block.name) stood in omega arith)
-
-  same_units : units new ≡ units (p.block ∷ [])
-  same_units =
-      let a = tally_append (λ (b : Block). b.size) (free_part front padding) (used_block p.block.name n ∷ free_part rest (p.block.size - (padding + n))) in
-      let l = part_units front padding in
-      let r = part_units rest (p.block.size - (padding + n)) in
-      omega arith
-
-  granted_others : (y : ℕ) → y ≢ p.block.name → range_from y 0 (grant_in v n padding front rest p).view.blocks ≡ range_from y 0 v.blocks
-  granted_others y d =
-      swapped y 0 p.before (p.block ∷ []) new p.after same_units (none_idle y p.block idle)
-      (none_append y (free_part front padding) _ (none_free y front padding) (none_append y (used_block p.block.name n ∷ []) (free_part rest (p.block.size - (padding + n))) (none_other y p.block.name n d) (none_free y rest (p.block.size - (padding + n)))))
-      ∙ sym (ap (λ l. range_from y 0 l) stood)
-
-  granted_range : range_from p.block.name 0 (grant_in v n padding front rest p).view.blocks ≡ Some (record { offset = units p.before + padding; size = n })
-  granted_range =
-      past p.block.name 0 p.before (new ++ p.after) (none_named p.block.name p.before alone.0)
-      ∙ ap (λ o. range_from p.block.name o (new ++ p.after)) (let zeroed : 0 + units p.before ≡ units p.before = omega arith in zeroed)
-      ∙ ap (λ l. range_from p.block.name (units p.before) l) (append_assoc (free_part front padding) (used_block p.block.name n ∷ free_part rest (p.block.size - (padding + n))) p.after)
-      ∙ past p.block.name (units p.before) (free_part front padding) _ (none_free p.block.name front padding)
-      ∙ ap (λ o. range_from p.block.name (units p.before + o) (used_block p.block.name n ∷ (free_part rest (p.block.size - (padding + n)) ++ p.after))) (part_units front padding)
-      ∙ found p.block.name (units p.before + padding) n (free_part rest (p.block.size - (padding + n)) ++ p.after)
-
-  granted_before : range_from p.block.name 0 v.blocks ≡ None
-  granted_before =
-      ap (λ l. range_from p.block.name 0 l) stood
-      ∙ nothing p.block.name 0 (p.before ++ p.block ∷ p.after) (none_append p.block.name p.before (p.block ∷ p.after) (none_named p.block.name p.before alone.0) (none_append p.block.name (p.block ∷ []) p.after (none_idle p.block.name p.block idle) (none_named p.block.name p.after alone.1)))
 
 -- two ranges
 beyond : (x offset : ℕ) (bs : List Block) (r : Range) → range_from x offset bs ≡ Some r → (offset ≤ r.offset) × (r.offset + r.size ≤ offset + units bs)
@@ -194,73 +153,12 @@ live_disjoint v f x y r s d e g = apart x y 0 v.blocks r s d (sym (range_is x v 
 pub live_inside : (v : View) → IsWellFormed v → (x : ℕ) (r : Range) → range_of x v ≡ Some r → r.offset + r.size ≤ v.size
 live_inside v f x r e = let b = (beyond x 0 v.blocks r (sym (range_is x v f) ∙ e)).1 in let w = f.whole in omega arith
 
--- what a request for n units leaves of the ranges
-pub record Holds (n : ℕ) (v w : View) (g : Grant) : Type 0 where
-  pub fresh : range_of g.name v ≡ None
-  pub range : range_of g.name w ≡ Some (record { offset = g.offset; size = n })
-  pub others : KeepsOthers g.name v w
-
-Gives : ℕ → View → View → Option Grant → Type 0
-Gives n v w None = KeepsAll v w
-Gives n v w (Some g) = Holds n v w g
-
 -- the range of a name that was not live is freed: all live ranges stay where they were
 pub given_back : (x : ℕ) (v w z : View) → range_of x v ≡ None → KeepsRanges v w → KeepsOthers x w z → KeepsRanges v z
 given_back x v w z fresh kept others y r e = elim (hit_cases y x) [
   | inl h ↦ absurd (let same = ap (λ z. range_of z v) h.0 in let no : (let o : Option Range = None in o) ≡ Some r = sym fresh ∙ sym same ∙ e in cc)
   | inr h ↦ others y h.0 ∙ kept y r e
 ]
-
-idle : (u : Bool) → not u ≡ true → u ≡ false
-idle true e = absurd (false≢true e)
-idle false e = refl
-
-gives : (v : View) → IsWellFormed v → (needed n : ℕ) (padding_at : ℕ → ℕ) → ((o : ℕ) → padding_at o + n ≤ needed) → (front rest : ℕ) (o : Option Place) → place_for needed v ≡ o
-    → IsWellFormed (grant_or_refuse v n padding_at front rest o).view → Gives n v (grant_or_refuse v n padding_at front rest o).view (grant_or_refuse v n padding_at front rest o).grant
-unfolding Gives
-gives v f needed n padding_at enough front rest None e after = λ x. refl
-gives v f needed n padding_at enough front rest (Some p) e after =
-    let t = taken_at needed v f p e in
-    let padding = padding_at (units p.before) in
-    let size = fits_size needed p.block.size (le-leb (up needed) (down p.block.size) t.class) in
-    let wide : padding + n ≤ p.block.size = let h = enough (units p.before) in omega arith in
-    let unused = idle p.block.used t.free in
-    let once = f.distinct p.block.name in
-    let w = (grant_in v n padding front rest p).view in
-    let fresh = range_is p.block.name v f ∙ granted_before v n padding front rest p t.stood unused once wide in
-    record {
-      fresh = fresh;
-      range = range_is p.block.name w after ∙ granted_range v n padding front rest p t.stood unused once wide;
-      others = λ y d. range_is y w after ∙ granted_others v n padding front rest p t.stood unused once wide y d ∙ sym (range_is y v f);
-    }
-
-given : (n : ℕ) (v w : View) (o : Outcome) (g : Option Grant) → Gives n v o.view o.grant → g ≡ o.grant → SameSpace o.view w → Gives n v w g
-unfolding Gives
-given n v w o g h answer but = subst (Gives n v w) (sym answer) (subst (λ u. Gives n v u o.grant) (sym but) (counted o.grant h))
-  where
-    counted : (g : Option Grant) → Gives n v o.view g → Gives n v (record o.view { accesses = w.accesses }) g
-    counted None h = h
-    counted (Some x) h = record { fresh = h.fresh; range = h.range; others = h.others }
-
-nothing_given : (n : ℕ) (v : View) → Gives n v v None
-unfolding Gives
-nothing_given n v = λ x. refl
-
--- requests
-gives_allocate : (n rest : ℕ) (v : View) → IsWellFormed v → IsUnused rest v → Gives n v (allocate n rest v).view (allocate n rest v).grant
-gives_allocate n rest v f u = if_value (is_short_of 1 v) (refuse v) (grant_or_refuse v n (λ offset. 0) rest rest (place_for n v)) (λ (o : Outcome). IsWellFormed o.view → Gives n v o.view o.grant)
-    (λ e h. nothing_given n v)
-    (λ e h. gives v f n n (λ offset. 0) (λ o. omega arith) rest rest (place_for n v) refl h)
-    (well_allocate v f n rest u)
-
-gives_aligned : (n align front rest : ℕ) (v : View) → IsWellFormed v → IsUnused rest v → IsWellFormed (allocate_aligned n align front rest v).view → Gives n v (allocate_aligned n align front rest v).view (allocate_aligned n align front rest v).grant
-gives_aligned n align front rest v f u = if_value (nat_le align 1) (allocate n rest v) (if nat_lt max_size (n + align - 1) then refuse v else serve 2 (n + align - 1) n (padding_to align) front rest v) (λ (o : Outcome). IsWellFormed o.view → Gives n v o.view o.grant)
-    (λ e h. gives_allocate n rest v f u)
-    (λ e. if_value (nat_lt max_size (n + align - 1)) (refuse v) (serve 2 (n + align - 1) n (padding_to align) front rest v) (λ (o : Outcome). IsWellFormed o.view → Gives n v o.view o.grant)
-    (λ k h. nothing_given n v)
-    (λ k. if_value (is_short_of 2 v) (refuse v) (grant_or_refuse v n (padding_to align) front rest (place_for (n + align - 1) v)) (λ (o : Outcome). IsWellFormed o.view → Gives n v o.view o.grant)
-    (λ l h. nothing_given n v)
-    (λ l h. gives v f (n + align - 1) n (padding_to align) (λ o. let b = leb-false align 1 e in let s = padding_small align o b in omega arith) front rest (place_for (n + align - 1) v) refl h)))
 
 -- a grant leaves every live range where it was
 pub grants_keep : (n : ℕ) (v w : View) (g : Grant) → Grants n v w g → KeepsRanges v w
@@ -271,33 +169,63 @@ pub call_keeps : (n : ℕ) (v w : View) (o : Option Grant) → IfSome o (Grants 
 call_keeps n v w None h same = λ x r e. ap (range_of x) (same refl) ∙ e
 call_keeps n v w (Some g) h same = grants_keep n v w g h
 
--- its units lie in the space that it leaves, apart from every live range
-granted_is : (n : ℕ) (v w : View) (g : Grant) → IsWellFormed w → Holds n v w g → Grants n v w g
-granted_is n v w g well h = record {
-  not_live = h.fresh;
-  range = h.range;
-  within = live_inside w well g.name _ h.range;
-  disjoint = λ x r e. elim (hit_cases x g.name) [
-    | inl f ↦ absurd (let same = ap (λ y. range_of y v) f.0 in let no : (let o : Option Range = None in o) ≡ Some r = sym h.fresh ∙ sym same ∙ e in cc)
-    | inr f ↦ live_disjoint w well x g.name r _ f.0 (h.others x f.0 ∙ e) h.range
-  ];
-  others = h.others;
-}
+-- a grant has its units, in the space, where no live range is
+module _ {needed n : ℕ} {padding_at : ℕ → ℕ} {v w : View} {g : Grant} (s : Splits needed n padding_at v w g) (f : IsWellFormed v) (after : IsWellFormed w) where
+  abbrev x : ℕ
+  x = s.block.name
 
-held : (n : ℕ) (v w : View) (g : Grant) → Gives n v w (Some g) → Holds n v w g
-unfolding Gives
-held n v w g h = h
+  abbrev padding : List Block
+  padding = free_part s.padding_name s.padding
 
-pub allocated_grants : (n : ℕ) (v w : View) (g : Grant) → IsWellFormed v → AllocatesBy n v w (Some g) → Grants n v w g
-allocated_grants n v w g f a =
-    granted_is n v w g (subst IsWellFormed (sym a.view) (well_counted (allocate n a.rest v).view w.accesses (well_allocate v f n a.rest a.unused)))
-    (held n v w g (given n v w (allocate n a.rest v) (Some g) (gives_allocate n a.rest v f a.unused) a.answer a.view))
+  abbrev remainder : List Block
+  remainder = free_part s.remainder_name s.remainder
 
-pub aligned_grants : (n align : ℕ) (v w : View) (g : Grant) → IsWellFormed v → AlignsBy n align v w (Some g) → Grants n v w g
-aligned_grants n align v w g f a =
-    let well = well_aligned v f n align a.front a.rest a.unused a.apart in
-    granted_is n v w g (subst IsWellFormed (sym a.view) (well_counted (allocate_aligned n align a.front a.rest v).view w.accesses well))
-    (held n v w g (given n v w (allocate_aligned n align a.front a.rest v) (Some g) (gives_aligned n align a.front a.rest v f a.unused well) a.answer a.view))
+  abbrev new : List Block
+  new = padding ++ (used_block x n ∷ remainder)
+
+  alone : (count_named x s.before ≡ 0) × (count_named x s.after ≡ 0)
+  alone = beside x s.before s.block s.after refl (omega (arith, ap (count_named x) s.blocks, f.distinct x))
+
+  same_units : units new ≡ units (s.block ∷ [])
+  same_units = omega (arith, s.whole, tally_append (λ (b : Block). b.size) padding (used_block x n ∷ remainder), (part_sums s.padding_name s.padding).1, (part_sums s.remainder_name s.remainder).1)
+
+  -- the ranges are those of the new blocks
+  ranged : (y : ℕ) → range_of y w ≡ range_from y 0 (s.before ++ (new ++ s.after))
+  ranged y = range_is y w after ∙ ap (λ (u : View). range_from y 0 u.blocks) s.view
+
+  not_live : range_of x v ≡ None
+  not_live =
+      range_is x v f ∙ ap (range_from x 0) s.blocks
+      ∙ nothing x 0 (s.before ++ s.block ∷ s.after) (none_append x s.before (s.block ∷ s.after) (none_named x s.before alone.0) (none_append x (s.block ∷ []) s.after (none_idle x s.block s.free) (none_named x s.after alone.1)))
+
+  range : range_of x w ≡ Some (record { offset = units s.before + s.padding; size = n })
+  range =
+      ranged x
+      ∙ past x 0 s.before (new ++ s.after) (none_named x s.before alone.0)
+      ∙ ap (λ o. range_from x o (new ++ s.after)) (let zeroed : 0 + units s.before ≡ units s.before = omega arith in zeroed)
+      ∙ ap (range_from x (units s.before)) (append_assoc padding (used_block x n ∷ remainder) s.after)
+      ∙ past x (units s.before) padding _ (none_free x s.padding_name s.padding)
+      ∙ ap (λ o. range_from x (units s.before + o) (used_block x n ∷ (remainder ++ s.after))) (part_sums s.padding_name s.padding).1
+      ∙ found x (units s.before + s.padding) n (remainder ++ s.after)
+
+  others : KeepsOthers x v w
+  others y d =
+      ranged y
+      ∙ swapped y 0 s.before (s.block ∷ []) new s.after same_units (none_idle y s.block s.free)
+      (none_append y padding _ (none_free y s.padding_name s.padding) (none_append y (used_block x n ∷ []) remainder (none_other y x n d) (none_free y s.remainder_name s.remainder)))
+      ∙ sym (ap (range_from y 0) s.blocks) ∙ sym (range_is y v f)
+
+  pub split_grants : Grants n v w g
+  split_grants = subst (Grants n v w) (sym s.grant) (record {
+    not_live = not_live;
+    range = range;
+    within = live_inside w after x _ range;
+    disjoint = λ y r e. elim (hit_cases y x) [
+      | inl h ↦ absurd (let same = ap (λ z. range_of z v) h.0 in let no : (let o : Option Range = None in o) ≡ Some r = sym not_live ∙ sym same ∙ e in cc)
+      | inr h ↦ live_disjoint w after y x r _ h.0 (others y h.0 ∙ e) range
+    ];
+    others = others;
+  })
 
 -- a release
 none_if : (x : ℕ) (b : Block) (u : Bool) → b.used ≡ u → (bs : List Block) → HasNone x (if not u then b ∷ [] else [])

@@ -1,17 +1,19 @@
 -- Why a request is refused.
-use Rattle.std.proofs.Common.{◌≡◌, ℕ, ◌+◌, ◌<◌, ◌≤◌, Bool, true, false, not, List, [], ◌∷◌, sum, Option, Some, None, IsSome, if◌then◌else◌, refl, sym, ap, subst, ◌∙◌, inl, inr, arith, le-leb}
-use Rattle.std.proofs.lemmas.Bool.{false≢true}
+use Rattle.std.proofs.Common.{◌≡◌, ℕ, ◌+◌, ◌<◌, ◌≤◌, Bool, true, false, not, List, [], ◌∷◌, sum, if◌then◌else◌, refl, sym, ap, subst, ◌∙◌, inl, inr, arith, le-leb}
+use Rattle.std.proofs.lemmas.Bool.{false≢true, cases_lt}
 use Rattle.std.proofs.lemmas.List.Sums.{sum_by-cons}
 use Rattle.offset_allocator.specs.Classes.{up, down}
 use Rattle.offset_allocator.specs.Orders.{class_lists, IsSmallestFrom}
-use Rattle.offset_allocator.specs.Named.{Block, View, Place, units, is_free, names_at, free_sizes, IsWellFormed, place_for}
+use Rattle.offset_allocator.specs.Named.{Block, View, is_free, names_at, free_sizes, IsWellFormed}
 use Rattle.offset_allocator.specs.Space.{blocks}
 use Rattle.offset_allocator.specs.State.{Fields, AreSound, shown, free_units}
 use Rattle.offset_allocator.specs.Promises.{HasRoomFor}
-use Rattle.offset_allocator.proofs.Joints.{untaken, well_counted}
+use Rattle.std.proofs.lemmas.List.{get_or_past}
+use Rattle.offset_allocator.proofs.Joints.{free_most}
+use Rattle.offset_allocator.proofs.Split.{well_counted}
+use Rattle.offset_allocator.proofs.Taken.{HasFit, fitting}
 use Rattle.offset_allocator.proofs.Sizes.{fits_size}
 use Rattle.offset_allocator.proofs.ViewFits.{HasName, there_middle}
-use Rattle.offset_allocator.proofs.ViewTaken.{taken_at, not_taken}
 
 -- the units of the free blocks are the sum of their sizes
 pub free_units_sum : (bs : List Block) → free_units bs ≡ sum (free_sizes bs)
@@ -33,30 +35,17 @@ free_below b (c ∷ bs) (inl e) f =
     go false g s = omega arith
 free_below b (c ∷ bs) (inr i) f = let ih = free_below b bs i f in omega arith
 
--- a block that is taken has the units
-pub taken_within : (n : ℕ) (v : View) → IsWellFormed v → IsSome (place_for n v) → n ≤ sum (free_sizes v.blocks)
-taken_within n v w h = go (place_for n v) refl h
-  where
-    go : (o : Option Place) → place_for n v ≡ o → IsSome o → n ≤ sum (free_sizes v.blocks)
-    go None e h = absurd (false≢true h)
-    go (Some p) e h =
-        let t = taken_at n v w p e in
-        let fits = fits_size n p.block.size (le-leb (up n) (down p.block.size) t.class) in
-        let less = free_below p.block v.blocks (subst (HasName p.block) (sym t.stood) (there_middle p.before p.block p.after)) t.free in
-        let total = free_units_sum v.blocks in
-        omega arith
+-- where a class fits, a free block has the units
+pub fit_within : (n : ℕ) (v : View) → IsWellFormed v → HasFit n v → n ≤ sum (free_sizes v.blocks)
+fit_within n v w h =
+    let t = fitting n v w h in
+    let fits = fits_size n t.0.block.size (le-leb (up n) (down t.0.block.size) t.3) in
+    let less = free_below t.0.block v.blocks (subst (HasName t.0.block) (sym t.1) (there_middle t.0.before t.0.block t.0.after)) (ap not t.2) in
+    omega (arith, fits, less, free_units_sum v.blocks)
 
 -- and they are no more than those of the space
-pub taken_fits : (n : ℕ) (v : View) → IsWellFormed v → IsSome (place_for n v) → n ≤ v.size
-taken_fits n v w h =
-    let l = taken_within n v w h in
-    let total = free_units_sum v.blocks in
-    let most = free_most v.blocks in
-    omega (arith, w.whole)
-  where
-    free_most : (bs : List Block) → free_units bs ≤ units bs
-    free_most [] = omega arith
-    free_most (b ∷ bs) = let ih = free_most bs in elim b.used as (λ u. (if u then 0 else b.size) + free_units bs ≤ b.size + units bs) [ true ↦ omega arith | false ↦ omega arith ]
+pub fit_small : (n : ℕ) (v : View) → IsWellFormed v → HasFit n v → n ≤ v.size
+fit_small n v w h = omega (arith, fit_within n v w h, free_units_sum v.blocks, free_most v.blocks, w.whole)
 
 module _ (it : Fields) (s : AreSound it) (more n : ℕ) where
   abbrev seen : View
@@ -71,12 +60,12 @@ module _ (it : Fields) (s : AreSound it) (more n : ℕ) where
   pub total_is : it.free ≡ sum (free_sizes (shown it).blocks)
   total_is = sym s.total ∙ free_units_sum (blocks it.cells.room it.last)
 
-  pub none_taken : ((k : ℕ) → up n ≤ k → k < 256 → names_at (class_lists it.max it.cells.links) k ≡ []) → place_for n (shown it) ≡ None
-  none_taken e = untaken n seen known e
+  -- whether the search finds a class
+  pub none_fits : ((k : ℕ) → up n ≤ k → k < 256 → names_at (class_lists it.max it.cells.links) k ≡ []) → HasFit n (shown it) → ⊥
+  none_fits e h = elim (cases_lt h.0 256) [
+    | inl l ↦ h.2 (e h.0 h.1 l)
+    | inr l ↦ h.2 (get_or_past (class_lists it.max it.cells.links) h.0 [] (omega (arith, l, known.classes)))
+  ]
 
-  pub some_taken : (c : ℕ) → IsSmallestFrom (up n) (class_lists it.max it.cells.links) c → IsSome (place_for n (shown it))
-  some_taken c l = go (place_for n seen) refl
-    where
-      go : (o : Option Place) → place_for n seen ≡ o → IsSome o
-      go None e = absurd (l.2 (not_taken n seen known e c l.0))
-      go (Some p) e = refl
+  pub some_fits : (c : ℕ) → IsSmallestFrom (up n) (class_lists it.max it.cells.links) c → HasFit n (shown it)
+  some_fits c l = (c, l.0, l.2)

@@ -2,7 +2,7 @@
 use Rattle.std.proofs.Common.{◌↔◌, ◌≡◌, ℕ, ◌+◌, ◌≤◌, Bool, true, false, not, ◌&&◌, List, [], ◌∷◌, ◌++◌, length, Option, Some, None, if◌then◌else◌, nat_eq, nat_lt, refl, sym, ap, ap₂, subst, ◌∙◌, inl, inr, arith, leb-false, append_assoc, ◌⊎◌}
 use Rattle.std.proofs.lemmas.Bool.{cases_lt, false≢true, true≢false, ltb-false, le-ltb, lt-leb}
 use Rattle.std.specs.List.{AllByRecursion}
-use Rattle.offset_allocator.specs.Named.{Block, View, Place, one, units, count_named, IsApart, IsWellFormed, IsNew, IsUnused, free_block, free_start, without_start, free_end, without_end, starts_free, name_or, ends_used, place_of, replace, is_short_of, max_size, is_used_at, free_at, free, extend_by, is_extendable, Extension, extend}
+use Rattle.offset_allocator.specs.Named.{Block, View, Place, one, units, count_named, IsApart, IsWellFormed, IsNew, IsUnused, free_block, free_start, without_start, free_end, without_end, starts_free, name_or, ends_used, place_of, replace, is_full, max_size, is_used_at, free_at, free, extend_by, is_extendable, Extension, extend}
 use Rattle.offset_allocator.specs.Ranges.{IsLive}
 use Rattle.offset_allocator.specs.Promises.{HasRoomFor}
 use Rattle.offset_allocator.specs.Relations.{SameSpace, Frees, Adds, CanExtend, Extends}
@@ -134,21 +134,21 @@ module _ (v : View) (known : IsWellFormed v) (more : ℕ) where
 
   pub can_grow : is_extendable more v ≡ true → CanExtend more v
   can_grow e =
-      let c = or_false (nat_lt max_size (v.size + more)) (ends_used v.blocks && is_short_of 1 v) e in
+      let c = or_false (nat_lt max_size (v.size + more)) (ends_used v.blocks && is_full v) e in
       (ltb-false max_size (v.size + more) c.0, go (ends_used v.blocks) refl c.1)
     where
-      go : (u : Bool) → ends_used v.blocks ≡ u → (ends_used v.blocks && is_short_of 1 v) ≡ false → HasRoomFor 1 v ⊎ ((before : List Block) × (last : Block) × (v.blocks ≡ before ++ last ∷ []) × (last.used ≡ false))
-      go true f h = inl (leb-false v.max_allocs (length v.blocks + 1) (second_false (ends_used v.blocks) (is_short_of 1 v) h f))
+      go : (u : Bool) → ends_used v.blocks ≡ u → (ends_used v.blocks && is_full v) ≡ false → HasRoomFor 1 v ⊎ ((before : List Block) × (last : Block) × (v.blocks ≡ before ++ last ∷ []) × (last.used ≡ false))
+      go true f h = inl (leb-false v.max_allocs (length v.blocks + 1) (second_false (ends_used v.blocks) (is_full v) h f))
       go false f h = inr (end_is_free v.blocks known.some f)
 
   pub grow_can : CanExtend more v → is_extendable more v ≡ true
-  grow_can c = extendable_if (nat_lt max_size (v.size + more)) (ends_used v.blocks) (is_short_of 1 v) (le-ltb max_size (v.size + more) c.0) (λ u. elim c.1 [
+  grow_can c = extendable_if (nat_lt max_size (v.size + more)) (ends_used v.blocks) (is_full v) (le-ltb max_size (v.size + more) c.0) (λ u. elim c.1 [
     | inl room ↦ lt-leb v.max_allocs (length v.blocks + 1) room
     | inr l ↦ absurd (false≢true (sym l.3 ∙ sym (end_used l.0 l.1) ∙ ap ends_used (sym l.2) ∙ u))
   ])
 
-  pub cannot_grow : ends_used v.blocks ≡ true → is_short_of 1 v ≡ true → CanExtend more v → ⊥
-  cannot_grow u s c = true≢false (sym (grow_can c) ∙ full_if (nat_lt max_size (v.size + more)) (ends_used v.blocks) (is_short_of 1 v) u s)
+  pub cannot_grow : ends_used v.blocks ≡ true → is_full v ≡ true → CanExtend more v → ⊥
+  cannot_grow u s c = true≢false (sym (grow_can c) ∙ full_if (nat_lt max_size (v.size + more)) (ends_used v.blocks) (is_full v) u s)
 
   end_named : (bs : List Block) (x : ℕ) → AllByRecursion (λ b. b.name ≡ name_or x (free_end bs)) (free_end bs)
   end_named [] x = tt

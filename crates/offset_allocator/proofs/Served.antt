@@ -1,93 +1,120 @@
 -- What contracts say of a request, from the relation that says it all.
-use Rattle.std.proofs.Common.{◌≡◌, ◌↔◌, ℕ, ◌+◌, ◌<◌, ◌≤◌, Bool, true, false, length, Option, Some, None, IsSome, IfSome, is_some, if◌then◌else◌, refl, sym, ap, subst, inl, inr, arith, leb-false}
+use Rattle.std.proofs.Common.{◌≡◌, ◌↔◌, ℕ, ◌+◌, ◌%◌, ◌<◌, ◌≤◌, Bool, length, Option, Some, None, IsSome, IfSome, if◌then◌else◌, refl, sym, ap, ap₂, subst, ◌∙◌, inl, inr, arith, le-leb}
 use Rattle.std.proofs.lemmas.Bool.{cases_lt, false≢true, lt-leb}
-use Rattle.offset_allocator.specs.Named.{View, Grant, IsWellFormed, free_sizes, largest_free, is_short_of, place_for}
+use Rattle.offset_allocator.specs.Classes.{down}
+use Rattle.offset_allocator.specs.Named.{View, Grant, units, count_named, place_of, IsWellFormed, free_sizes, largest_free, padding_to, max_size}
 use Rattle.offset_allocator.specs.Reports.{largest, IsGoodRefusal}
-use Rattle.offset_allocator.specs.Promises.{HasRoomFor, CanGrant}
-use Rattle.offset_allocator.specs.Relations.{Serves, Allocates, IsSplitNearBest}
-use Rattle.offset_allocator.proofs.Related.{found_class, class_found, found_some, split_here}
-use Rattle.offset_allocator.proofs.Refusals.{taken_fits}
-use Rattle.offset_allocator.proofs.ViewFits.{taken_exactly, good_refusal, refusal_past, split_from, largest_small}
+use Rattle.offset_allocator.specs.Promises.{HasRoomFor, CanGrant, units_needed}
+use Rattle.offset_allocator.specs.Relations.{SameSpace, Splits, Serves, Allocates, Aligns, IsSplitNearBest}
+use Rattle.offset_allocator.proofs.Always.{reaches}
+use Rattle.offset_allocator.proofs.Refusals.{fit_small}
+use Rattle.offset_allocator.proofs.Split.{well_split, part_room}
+use Rattle.offset_allocator.proofs.Ranges.{beside, split_grants}
+use Rattle.offset_allocator.specs.Ranges.{Grants}
+use Rattle.offset_allocator.proofs.ViewFits.{HasName, there_middle, near_best_fit, good_refusal, fits_exactly, refusal_past, largest_small}
+use Rattle.offset_allocator.proofs.ViewSteps.{place_here}
 
 -- where a region is reported, one more block may exist
 pub reported_room : (v : View) → 1 ≤ largest_free v → HasRoomFor 1 v
-reported_room v l = go (is_short_of 1 v) refl
-  where
-    go : (b : Bool) → is_short_of 1 v ≡ b → length v.blocks + 1 < v.max_allocs
-    go true e = let none : largest_free v ≡ 0 = ap (λ (b : Bool). if b then 0 else largest (free_sizes v.blocks)) e in absurd (omega arith)
-    go false e = leb-false v.max_allocs (length v.blocks + 1) e
+reported_room v l = elim (cases_lt (length v.blocks + 1) v.max_allocs) [
+  | inl h ↦ h
+  | inr h ↦ let none : largest_free v ≡ 0 = ap (λ (b : Bool). if b then 0 else largest (free_sizes v.blocks)) (le-leb v.max_allocs (length v.blocks + 1) h) in absurd (omega (arith, none, l))
+]
 
-module _ (blocks needed n : ℕ) (padding_at : ℕ → ℕ) (v w : View) (known : IsWellFormed v) (some : 1 ≤ blocks) where
+module _ (blocks needed n : ℕ) (padding_at : ℕ → ℕ) (v w : View) (known : IsWellFormed v) where
   pub can_grant : (r : Option Grant) → Serves blocks needed n padding_at v w r → IsSome r ↔ CanGrant blocks needed v
   can_grant None a = (λ h. absurd (false≢true h), λ h. absurd (a.0 h))
-  can_grant (Some g) a = (λ h. (a.0, found_class v known needed _ (split_here v known needed n padding_at w g a.1)), λ h. refl)
+  can_grant (Some g) a = (λ h. (a.0, (down a.1.block.size, a.1.fits, λ e. let f = sym a.1.newest ∙ e in absurd (cc))), λ h. refl)
 
-  reported : HasRoomFor blocks v → largest_free v ≡ largest (free_sizes v.blocks)
-  reported room = ap (λ (b : Bool). if b then 0 else largest (free_sizes v.blocks)) (lt-leb v.max_allocs (length v.blocks + 1) (omega arith))
+  pub same : (r : Option Grant) → Serves blocks needed n padding_at v w r → r ≡ None → SameSpace v w
+  same None a e = a.1
+  same (Some g) a e = absurd (cc)
 
-  pub reach : 1 ≤ needed → CanGrant blocks needed v ↔ (HasRoomFor blocks v × (needed ≤ largest_free v))
-  reach l = (
-    λ h.
-        let found = class_found v known needed h.1 in
-        let small : needed ≤ 4294967295 = let f = taken_fits needed v known found in let k = known.fits in omega arith in
-        (h.0, subst (λ m. needed ≤ m) (sym (reported h.0)) ((taken_exactly v known needed small known.fits l (place_for needed v) refl).0 found)),
+  pub granted : 1 ≤ blocks → (r : Option Grant) → Serves blocks needed n padding_at v w r → 1 ≤ needed → IsSome r ↔ (HasRoomFor blocks v × (needed ≤ largest_free v))
+  granted some r a l = let c = can_grant r a in (
+    λ h. let k = c.0 h in (k.0, subst (λ m. needed ≤ m) (sym (reported k.0)) ((fits_exactly v known needed (omega (arith, fit_small needed v known k.1, known.fits)) known.fits l).0 k.1)),
     λ h.
         let within = subst (λ m. needed ≤ m) (reported h.0) h.1 in
-        let small = largest_small v known known.fits needed l within in
-        (h.0, found_some v known needed ((taken_exactly v known needed small known.fits l (place_for needed v) refl).1 within)),
+        c.1 (h.0, (fits_exactly v known needed (largest_small v known known.fits needed l within) known.fits l).1 within),
   )
-
-  pub granted : (r : Option Grant) → Serves blocks needed n padding_at v w r → 1 ≤ needed → IsSome r ↔ (HasRoomFor blocks v × (needed ≤ largest_free v))
-  granted r a l = let c = can_grant r a in let e = reach l in (λ h. e.0 (c.0 h), λ h. c.1 (e.1 h))
+    where
+      reported : HasRoomFor blocks v → largest_free v ≡ largest (free_sizes v.blocks)
+      reported room = ap (λ (b : Bool). if b then 0 else largest (free_sizes v.blocks)) (lt-leb v.max_allocs (length v.blocks + 1) (omega (arith, room, some)))
 
   pub refused : (r : Option Grant) → Serves blocks needed n padding_at v w r → r ≡ None → HasRoomFor blocks v → IsGoodRefusal needed (free_sizes v.blocks)
   refused (Some g) a e room = absurd (cc)
   refused None a e room = elim (cases_lt 4294967295 needed) [
     | inl far ↦ refusal_past v known known.fits needed far
-    | inr near ↦ good_refusal v known needed near known.fits (none (place_for needed v) refl)
+    | inr near ↦ good_refusal v known needed near known.fits (λ h. a.0 (room, h))
   ]
-    where
-      none : (o : Option _) → place_for needed v ≡ o → place_for needed v ≡ None
-      none None f = f
-      none (Some p) f = absurd (a.0 (room, found_class v known needed p f))
 
   pub nearly : (r : Option Grant) → Serves blocks needed n padding_at v w r → IfSome r (IsSplitNearBest needed v)
   nearly None a = tt
   nearly (Some g) a =
-      let here = split_here v known needed n padding_at w g a.1 in
-      let small : needed ≤ 4294967295 = let f = taken_fits needed v known (ap is_some here) in let k = known.fits in omega arith in
-      split_from needed v known small known.fits _ here g (ap (λ (h : Grant). h.name) a.1.grant)
+      let s = a.1 in
+      let small : needed ≤ 4294967295 = omega (arith, fit_small needed v known ((can_grant (Some g) a).0 refl).1, known.fits) in
+      let alone = beside s.block.name s.before s.block s.after refl (omega (arith, known.distinct s.block.name, ap (count_named s.block.name) s.blocks)) in
+      record {
+        place = record { before = s.before; block = s.block; after = s.after };
+        there = ap₂ place_of (ap (λ (h : Grant). h.name) s.grant) s.blocks ∙ place_here s.block.name s.before s.block s.after alone.0 refl;
+        free = s.free;
+        fit = near_best_fit v known needed small known.fits s.block (subst (HasName s.block) (sym s.blocks) (there_middle s.before s.block s.after)) s.smallest;
+      }
 
--- what was counted before a request changes nothing of it
+  module _ (some : 1 ≤ blocks) (two : (o : ℕ) → 1 ≤ padding_at o → 2 ≤ blocks) where
+    pub well_served : (g : Grant) → Serves blocks needed n padding_at v w (Some g) → IsWellFormed w
+    well_served g a = well_split a.1 blocks known a.0 (part_room a.1.padding_name a.1.padding blocks some (λ l. two (units a.1.before) (omega (arith, l, a.1.padded))))
+
+    pub grants : (r : Option Grant) → Serves blocks needed n padding_at v w r → IfSome r (Grants n v w)
+    grants None a = tt
+    grants (Some g) a = split_grants a.1 known (well_served g a)
+
+-- what was counted changes nothing of a split, nor does other padding of the same units
+pub split_as : {needed n : ℕ} {padding_at : ℕ → ℕ} {v w : View} {g : Grant} → Splits needed n padding_at v w g → (a b : ℕ) (padded_at : ℕ → ℕ) → ((o : ℕ) → padding_at o ≡ padded_at o) → Splits needed n padded_at (record v { accesses = a }) (record w { accesses = b }) g
+split_as {w = w} s a b padded_at alike = record {
+  before = s.before;
+  block = s.block;
+  after = s.after;
+  blocks = s.blocks;
+  free = s.free;
+  fits = s.fits;
+  smallest = s.smallest;
+  older = s.older;
+  newest = s.newest;
+  padding = s.padding;
+  padded = s.padded ∙ alike (units s.before);
+  remainder = s.remainder;
+  whole = s.whole;
+  padding_name = s.padding_name;
+  remainder_name = s.remainder_name;
+  padding_new = λ l. let u = s.padding_new l in record { below = u.below; absent = u.absent };
+  remainder_new = λ l. let u = s.remainder_new l in record { below = u.below; absent = u.absent };
+  differ = s.differ;
+  grant = s.grant;
+  view = ap (λ (x : View). record x { accesses = b }) s.view;
+}
+
 pub serves_counted : (blocks needed n : ℕ) (padding_at : ℕ → ℕ) (v w : View) (accesses : ℕ) (r : Option Grant) → Serves blocks needed n padding_at (record v { accesses = accesses }) w r → Serves blocks needed n padding_at v w r
 serves_counted blocks needed n padding_at v w accesses None a = a
-serves_counted blocks needed n padding_at v w accesses (Some g) a = let s = a.1 in (
-  a.0,
-  record {
-    before = s.before;
-    block = s.block;
-    after = s.after;
-    blocks = s.blocks;
-    free = s.free;
-    fits = s.fits;
-    smallest = s.smallest;
-    older = s.older;
-    newest = s.newest;
-    padding = s.padding;
-    padded = s.padded;
-    remainder = s.remainder;
-    whole = s.whole;
-    padding_name = s.padding_name;
-    remainder_name = s.remainder_name;
-    padding_new = λ l. let u = s.padding_new l in record { below = u.below; absent = u.absent };
-    remainder_new = λ l. let u = s.remainder_new l in record { below = u.below; absent = u.absent };
-    differ = s.differ;
-    grant = s.grant;
-    view = s.view;
-  },
-)
+serves_counted blocks needed n padding_at v w accesses (Some g) a = (a.0, split_as a.1 v.accesses w.accesses padding_at (λ o. refl))
 
-pub allocated : (n : ℕ) (v w : View) (r : Option Grant) → IsWellFormed v → Allocates n v w r → 1 ≤ n → IsSome r ↔ (n ≤ largest_free v)
-allocated n v w r known a l =
-    let e = granted 1 n n (λ offset. 0) v w known (omega arith) r a l in
-    (λ h. (e.0 h).1, λ m. e.1 (reported_room v (omega arith), m))
+-- with an alignment of 1 an aligned request is a plain one
+pub one_aligns : (n : ℕ) (v w : View) (r : Option Grant) → Aligns n 1 v w r → Allocates n v w r
+one_aligns n v w r a = subst (λ k. Serves 1 k n (λ offset. 0) v w r) same (unpadded r a)
+  where
+    same : units_needed n 1 ≡ n
+    same = omega arith
+
+    unpadded : (r : Option Grant) → Serves 1 (units_needed n 1) n (padding_to 1) v w r → Serves 1 (units_needed n 1) n (λ offset. 0) v w r
+    unpadded None a = a
+    unpadded (Some g) a = (a.0, split_as a.1 v.accesses w.accesses (λ offset. 0) (λ o. omega arith))
+
+-- an aligned request that no space can hold
+pub past_refuses : (n align : ℕ) (v : View) → IsWellFormed v → max_size < units_needed n align → (accesses : ℕ) → Aligns n align v (record v { accesses = accesses }) None
+past_refuses n align v known far accesses = (λ h. absurd (omega (arith, far, fit_small (units_needed n align) v known h.1, known.fits)), refl)
+
+-- an aligned grant begins at a multiple of the alignment
+pub multiple : (n align : ℕ) (v w : View) (r : Option Grant) → 1 ≤ align → Aligns n align v w r → IfSome r (λ h. h.offset % align ≡ 0)
+multiple n align v w None some a = tt
+multiple n align v w (Some g) some a = let s = a.1 in
+    ap (λ (h : Grant). h.offset % align) s.grant ∙ ap (λ k. (units s.before + k) % align) s.padded ∙ reaches align (units s.before) some

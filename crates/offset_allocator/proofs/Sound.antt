@@ -3,7 +3,7 @@ use Rattle.std.proofs.Common.{◌≡◌, ℕ, ◌≤◌, ap, subst, arith}
 use Rattle.offset_allocator.specs.Named.{View, IsWellFormed}
 use Rattle.offset_allocator.specs.State.{Fields, AreSound, shown}
 use Rattle.offset_allocator.specs.declared.Allocator.TheInside.{Inside}
-use Rattle.offset_allocator.proofs.Joints.{well_counted}
+use Rattle.offset_allocator.proofs.Split.{well_counted}
 
 -- an allocator's fields, with the largest number of its index type
 abbrev pub fields_of : {A B : Type 0} → ℕ → Inside A B → Fields

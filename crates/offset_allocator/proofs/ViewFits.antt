@@ -1,14 +1,12 @@
 -- When a request is granted, and how well what it takes fits.
-use Rattle.std.proofs.Common.{◌≡◌, ℕ, ◌*◌, ◌^◌, ◌<◌, ◌≤◌, Bool, true, false, not, ◌⊎◌, ◌↔◌, List, [], ◌∷◌, ◌++◌, Option, Some, None, is_some, refl, sym, ap, ap₂, subst, ◌∙◌, inl, inr, arith, eq-eqb, le_trans}
-use Rattle.offset_allocator.specs.Relations.{IsSplitNearBest}
+use Rattle.std.proofs.Common.{◌≡◌, ℕ, ◌*◌, ◌^◌, ◌<◌, ◌≤◌, true, not, ◌⊎◌, ◌↔◌, List, [], ◌∷◌, ◌++◌, refl, sym, ap, subst, ◌∙◌, inl, inr, arith, eq-eqb, le_trans}
 use Rattle.std.specs.List.{AllByRecursion}
-use Rattle.std.proofs.lemmas.Bool.{cases_lt, true≢false, false≢true}
-use Rattle.offset_allocator.specs.Classes.{value, down}
+use Rattle.std.proofs.lemmas.Bool.{cases_lt, true≢false}
+use Rattle.offset_allocator.specs.Classes.{value, up, down}
 use Rattle.offset_allocator.specs.Reports.{largest, IsNearBestFit, IsGoodRefusal}
-use Rattle.offset_allocator.specs.Named.{Block, View, Place, Grant, is_free, times, count_listed, units, names_at, free_sizes, IsWellFormed, place_for, place_of}
+use Rattle.offset_allocator.specs.Named.{Block, View, is_free, times, count_listed, units, names_at, free_sizes, IsWellFormed}
 use Rattle.offset_allocator.proofs.ViewOrders.{if_value}
-use Rattle.offset_allocator.proofs.ViewSteps.{place_here}
-use Rattle.offset_allocator.proofs.ViewTaken.{IsTaken, taken_at, not_taken}
+use Rattle.offset_allocator.proofs.Taken.{HasFit, fitting}
 use Rattle.offset_allocator.proofs.Classes.{serves, near_best, up_law, down_law}
 
 -- b is in a list
@@ -66,28 +64,25 @@ module _ (v : View) (w : IsWellFormed v) (n : ℕ) (small : n ≤ 4294967295) (s
   there : (b : Block) → HasName b v.blocks → is_free b ≡ true → names_at v.order (down b.size) ≡ [] → ⊥
   there b i f e = let l = there_listed b v.blocks i f in let o = w.orders (down b.size) b.name in let z = ap (times b.name) e in omega arith
 
-  pub near_best_fit : (p : Place) → IsTaken n v p → IsNearBestFit n p.block.size (free_sizes v.blocks)
-  near_best_fit p t = all_free (λ z. 9 * n ≤ 8 * z → 8 * p.block.size ≤ 9 * z) v.blocks (λ b i f l. near_best p.block.size b.size (fits_word p.block (subst (HasName p.block) (sym t.stood) (there_middle p.before p.block p.after))) (fits_word b i) (elim (cases_lt (down b.size) (down p.block.size)) [
-    | inl m ↦ absurd (there b i f (t.least (down b.size) (serves n b.size word (fits_word b i) l) m))
+  -- the block that is taken is of the smallest class from up n on that has one
+  pub near_best_fit : (b : Block) → HasName b v.blocks → ((c : ℕ) → up n ≤ c → c < down b.size → names_at v.order c ≡ []) → IsNearBestFit n b.size (free_sizes v.blocks)
+  near_best_fit b i smallest = all_free (λ z. 9 * n ≤ 8 * z → 8 * b.size ≤ 9 * z) v.blocks (λ d j f l. near_best b.size d.size (fits_word b i) (fits_word d j) (elim (cases_lt (down d.size) (down b.size)) [
+    | inl m ↦ absurd (there d j f (smallest (down d.size) (serves n d.size word (fits_word d j) l) m))
     | inr m ↦ m
   ]))
 
-  pub good_refusal : place_for n v ≡ None → IsGoodRefusal n (free_sizes v.blocks)
-  good_refusal e = all_free (λ z. 8 * z < 9 * n) v.blocks (λ b i f. elim (cases_lt (8 * b.size) (9 * n)) [
+  pub good_refusal : (HasFit n v → ⊥) → IsGoodRefusal n (free_sizes v.blocks)
+  good_refusal none = all_free (λ z. 8 * z < 9 * n) v.blocks (λ b i f. elim (cases_lt (8 * b.size) (9 * n)) [
     | inl l ↦ l
-    | inr l ↦ absurd (there b i f (not_taken n v w e (down b.size) (serves n b.size word (fits_word b i) l)))
+    | inr l ↦ absurd (none (down b.size, serves n b.size word (fits_word b i) l, there b i f))
   ])
 
-  pub taken_exactly : 1 ≤ n → (o : Option Place) → place_for n v ≡ o → (is_some o ≡ true) ↔ (n ≤ largest (free_sizes v.blocks))
-  taken_exactly l None e = (
-    λ f. absurd (false≢true f),
-    λ m. let r = reported n v.blocks l m in absurd (there r.0 r.1 r.2 (not_taken n v w e (down r.0.size) ((up_law n (down r.0.size) word).1 r.3))),
-  )
-  taken_exactly l (Some p) e = (
-    λ f. let t = taken_at n v w p e in
-        le_trans ((up_law n (down p.block.size) word).0 t.class)
-        (reports_all p.block v.blocks (subst (HasName p.block) (sym t.stood) (there_middle p.before p.block p.after)) t.free),
-    λ m. refl,
+  pub fits_exactly : 1 ≤ n → HasFit n v ↔ (n ≤ largest (free_sizes v.blocks))
+  fits_exactly l = (
+    λ h.
+        let t = fitting n v w h in
+        le_trans ((up_law n (down t.0.block.size) word).0 t.3) (reports_all t.0.block v.blocks (subst (HasName t.0.block) (sym t.1) (there_middle t.0.before t.0.block t.0.after)) (ap not t.2)),
+    λ m. let r = reported n v.blocks l m in (down r.0.size, (up_law n (down r.0.size) word).1 r.3, there r.0 r.1 r.2),
   )
 
 -- no region that is reported is greater than the space
@@ -101,19 +96,3 @@ largest_small v w sized n some l =
 -- a request that is greater than any space is refused well
 pub refusal_past : (v : View) → IsWellFormed v → v.size ≤ 4294967295 → (n : ℕ) → 4294967295 < n → IsGoodRefusal n (free_sizes v.blocks)
 refusal_past v w sized n l = all_free (λ z. 8 * z < 9 * n) v.blocks (λ b i f. let s = sized_below b v.blocks i in let whole = w.whole in omega arith)
-
--- a grant is split off a near best fit
-module _ (n : ℕ) (v : View) (w : IsWellFormed v) (small : n ≤ 4294967295) (sized : v.size ≤ 4294967295) where
-  pub split_from : (p : Place) → place_for n v ≡ Some p → (g : Grant) → g.name ≡ p.block.name → IsSplitNearBest n v g
-  split_from p e g name =
-      let t = taken_at n v w p e in
-      record {
-        place = p;
-        there = ap₂ place_of name t.stood ∙ place_here p.block.name p.before p.block p.after t.alone refl;
-        free = not_true p.block.used t.free;
-        fit = near_best_fit v w n small sized p t;
-      }
-    where
-      not_true : (u : Bool) → not u ≡ true → u ≡ false
-      not_true true f = absurd (false≢true f)
-      not_true false f = refl

@@ -1,18 +1,17 @@
 -- A request that is granted, and released at once, leaves no trace.
-use Rattle.std.proofs.Common.{◌≡◌, ℕ, zero, suc, ◌+◌, ◌-◌, ◌<◌, Bool, true, false, not, ◌&&◌, List, [], ◌∷◌, ◌++◌, length, Option, Some, None, slice_set, if◌then◌else◌, refl, sym, ap, ap₂, subst, ◌∙◌, inl, inr, arith, eq-eqb, ne_eqb}
+use Rattle.std.proofs.Common.{◌≡◌, ℕ, zero, suc, ◌+◌, ◌<◌, ◌≤◌, Bool, true, false, ◌&&◌, List, [], ◌∷◌, ◌++◌, length, Option, Some, None, slice_set, if◌then◌else◌, refl, sym, ap, ap₂, subst, ◌∙◌, inl, inr, arith, eq-eqb, ne_eqb}
 use Rattle.std.proofs.lemmas.List.{set-get_or}
-use Rattle.std.proofs.lemmas.Bool.{false≢true}
-use Rattle.offset_allocator.specs.Classes.{up, down}
-use Rattle.offset_allocator.specs.Named.{Block, View, Place, Grant, is_free, used_block, free_block, units, times, starts_free, IsApart, names_at, push, without, remove, push_all, remove_all, free_start, without_start, free_end, without_end, free_part, IsWellFormed, IsUnused, place_of, grant_in, grant_or_refuse, free_at, free, place_for, allocate, is_short_of, refuse}
-use Rattle.offset_allocator.specs.Relations.{SameSpace}
-use Rattle.offset_allocator.specs.Functional.{AllocatesBy}
+use Rattle.offset_allocator.specs.Classes.{down}
+use Rattle.offset_allocator.specs.Named.{Block, View, Place, Grant, used_block, free_block, units, times, count_named, starts_free, IsApart, names_at, push, without, remove, push_all, remove_all, replace, free_start, without_start, free_end, without_end, free_part, IsWellFormed, IsNew, place_of, free_at, free}
+use Rattle.offset_allocator.specs.Relations.{SameSpace, Splits}
 use Rattle.offset_allocator.proofs.ViewOrders.{hit_cases, names_same, length_remove, times_remove}
 use Rattle.offset_allocator.proofs.ViewReplaced.{listed_named}
 use Rattle.offset_allocator.proofs.ViewApart.{apart_parts, first_false, second_false, ends_free}
 use Rattle.offset_allocator.proofs.ViewSteps.{place_here}
-use Rattle.offset_allocator.proofs.ViewTaken.{IsTaken, taken_at}
-use Rattle.offset_allocator.proofs.Sizes.{down_small, fits_size}
-use Rattle.std.proofs.Common.{le-leb}
+use Rattle.offset_allocator.proofs.Ranges.{beside}
+use Rattle.offset_allocator.proofs.Split.{part_sums}
+use Rattle.offset_allocator.proofs.Unused.{new_unused}
+use Rattle.offset_allocator.proofs.Sizes.{down_small}
 
 set_again : (order : List (List ℕ)) (c : ℕ) (l m : List ℕ) → slice_set (slice_set order c l) c m ≡ slice_set order c m
 set_again [] c l m = refl
@@ -58,36 +57,24 @@ part_start : (x n : ℕ) (bs : List Block) → starts_free bs ≡ false → (fre
 part_start x zero bs e = no_start bs e
 part_start x (suc n) bs e = (refl, refl)
 
-part_units : (x n : ℕ) → units (free_part x n) ≡ n
-part_units x zero = refl
-part_units x (suc n) = omega arith
-
-orders_back : (x n : ℕ) (order : List (List ℕ)) → length order ≡ 256 → times x (names_at order (down n)) ≡ 0 → remove_all (free_part x n) (push_all (free_part x n) order) ≡ order
+orders_back : (x n : ℕ) (order : List (List ℕ)) → length order ≡ 256 → (1 ≤ n → times x (names_at order (down n)) ≡ 0) → remove_all (free_part x n) (push_all (free_part x n) order) ≡ order
 orders_back x zero order h e = refl
-orders_back x (suc n) order h e = remove_put (down (suc n)) x order h (down_small (suc n)) e
+orders_back x (suc n) order h e = remove_put (down (suc n)) x order h (down_small (suc n)) (e (omega arith))
 
-free_is : (b : Block) → is_free b ≡ true → b ≡ free_block b.name b.size
-free_is b f = ap (λ (u : Bool). record { name = b.name; size = b.size; used = u }) (not_true b.used f)
-  where
-    not_true : (u : Bool) → not u ≡ true → u ≡ false
-    not_true true e = absurd (false≢true e)
-    not_true false e = refl
+free_is : (b : Block) → b.used ≡ false → b ≡ free_block b.name b.size
+free_is b f = ap (λ (u : Bool). record { name = b.name; size = b.size; used = u }) f
 
-abbrev place : List Block → ℕ → ℕ → List Block → Place
-place before x size after = record { before = before; block = free_block x size; after = after }
-
-module _ (v : View) (w : IsWellFormed v) (n rest : ℕ) (u : IsUnused rest v) (before : List Block) (x size : ℕ) (after : List Block) (t : IsTaken n v (place before x size after)) where
-  abbrev left : ℕ
-  left = size - (0 + n)
-
+-- the block named x is split into n units and a remainder of units left, and freed
+module _ (v : View) (w : IsWellFormed v) (n left rest x size : ℕ) (before after : List Block) (older : List ℕ) (new : 1 ≤ left → IsNew rest v)
+    (stood : v.blocks ≡ before ++ (free_block x size ∷ after)) (first : names_at v.order (down size) ≡ x ∷ older) (whole : n + left ≡ size) where
   abbrev order : List (List ℕ)
   order = remove (down size) x v.order
 
-  abbrev granted_view : View
-  granted_view = (grant_in v n 0 rest rest (place before x size after)).view
+  abbrev split_view : View
+  split_view = replace v before (free_block x size ∷ []) (used_block x n ∷ free_part rest left) after
 
   parts : IsApart before × IsApart (free_block x size ∷ after) × ((ends_free before && starts_free (free_block x size ∷ after)) ≡ false)
-  parts = apart_parts before (free_block x size ∷ after) (subst IsApart t.stood w.apart)
+  parts = apart_parts before (free_block x size ∷ after) (subst IsApart stood w.apart)
 
   end : ends_free before ≡ false
   end = first_false (ends_free before) true parts.2 refl
@@ -97,62 +84,49 @@ module _ (v : View) (w : IsWellFormed v) (n rest : ℕ) (u : IsUnused rest v) (b
 
   once : times x (names_at v.order (down size)) ≡ 1
   once = let o = w.orders (down size) x in let d = w.distinct x in let l = listed_named (down size) x v.blocks in elim (hit_cases x x) [
-    | inl i ↦ let k = i.1 in let f = ap (times x) t.first in omega arith
+    | inl i ↦ let k = i.1 in let f = ap (times x) first in omega arith
     | inr i ↦ absurd (i.0 refl)
   ]
 
-  after_absent : times x t.after_one ≡ 0
-  after_absent = let o = once in let f = ap (times x) t.first in elim (hit_cases x x) [ inl i ↦ let k = i.1 in omega arith | inr i ↦ absurd (i.0 refl) ]
+  older_absent : times x older ≡ 0
+  older_absent = let o = once in let f = ap (times x) first in elim (hit_cases x x) [ inl i ↦ let k = i.1 in omega arith | inr i ↦ absurd (i.0 refl) ]
 
-  rest_absent : times rest (names_at order (down left)) ≡ 0
-  rest_absent =
-      let r = times_remove (down size) x (down left) rest v.order w.classes (down_small size) once in
-      let o = w.orders (down left) rest in
-      let l = listed_named (down left) rest v.blocks in
-      let a = u.absent in
-      omega arith
+  rest_absent : 1 ≤ left → times rest (names_at order (down left)) ≡ 0
+  rest_absent l = omega (arith, times_remove (down size) x (down left) rest v.order w.classes (down_small size) once, w.orders (down left) rest, listed_named (down left) rest v.blocks, (new_unused rest v (new l)).absent)
 
   sized : units (used_block x n ∷ free_part rest left) ≡ size
-  sized = let k = part_units rest left in let s = fits_size n size (le-leb (up n) (down size) t.class) in omega arith
+  sized = omega (arith, whole, (part_sums rest left).1)
+
+  there : place_of x split_view.blocks ≡ Some (record { before = before; block = used_block x n; after = free_part rest left ++ after })
+  there = place_here x before (used_block x n) (free_part rest left ++ after) (beside x before (free_block x size) after refl (omega (arith, w.distinct x, ap (count_named x) stood))).0 refl
 
   abbrev coalesced_of : List Block → List Block → List Block → List Block → View
-  coalesced_of fe we fs ws = record granted_view { blocks = we ++ (free_block x (units (fe ++ (used_block x n ∷ fs))) ∷ ws); order = push (down (units (fe ++ (used_block x n ∷ fs)))) x (remove_all (fe ++ (used_block x n ∷ fs)) granted_view.order) }
+  coalesced_of fe we fs ws = record split_view { blocks = we ++ (free_block x (units (fe ++ (used_block x n ∷ fs))) ∷ ws); order = push (down (units (fe ++ (used_block x n ∷ fs)))) x (remove_all (fe ++ (used_block x n ∷ fs)) split_view.order) }
 
-  there : place_of x granted_view.blocks ≡ Some (record { before = before; block = used_block x n; after = free_part rest left ++ after })
-  there = place_here x before (used_block x n) (free_part rest left ++ after) t.alone refl
-
-  undone_at : free x granted_view ≡ v
-  undone_at =
-      ap (free_at granted_view) there
+  undone : free x split_view ≡ v
+  undone =
+      ap (free_at split_view) there
       ∙ ap₂ (λ fe we. coalesced_of fe we (free_start (free_part rest left ++ after)) (without_start (free_part rest left ++ after))) (no_end before end).0 (no_end before end).1
       ∙ ap₂ (λ fs ws. coalesced_of [] before fs ws) (part_start rest left after beginning).0 (part_start rest left after beginning).1
-      ∙ ap (λ m. record granted_view { blocks = before ++ (free_block x m ∷ after); order = push (down m) x (remove_all (free_part rest left) (push_all (free_part rest left) order)) }) sized
-      ∙ ap₂ (λ bs o. record v { blocks = bs; order = o }) (sym t.stood)
-      (ap (push (down size) x) (orders_back rest left order (length_remove (down size) x v.order ∙ w.classes) rest_absent) ∙ put_remove (down size) x t.after_one v.order w.classes (down_small size) t.first after_absent)
-
-pub undone : (v : View) → IsWellFormed v → (n rest : ℕ) → IsUnused rest v → (p : Place) → IsTaken n v p → free p.block.name (grant_in v n 0 rest rest p).view ≡ v
-undone v w n rest u p t =
-    let same : p ≡ place p.before p.block.name p.block.size p.after = ap (λ b. record { before = p.before; block = b; after = p.after }) (free_is p.block t.free) in
-    subst (λ (q : Place). free q.block.name (grant_in v n 0 rest rest q).view ≡ v) (sym same) (undone_at v w n rest u p.before p.block.name p.block.size p.after (subst (IsTaken n v) same t))
-
-undone_if : (v : View) → IsWellFormed v → (n rest : ℕ) → IsUnused rest v → (o : Option Place) → place_for n v ≡ o → (g : Grant) → (grant_or_refuse v n (λ offset. 0) rest rest o).grant ≡ Some g → free g.name (grant_or_refuse v n (λ offset. 0) rest rest o).view ≡ v
-undone_if v w n rest u None e g f = absurd (cc)
-undone_if v w n rest u (Some p) e g f = let name : p.block.name ≡ g.name = cc in ap (λ x. free x (grant_in v n 0 rest rest p).view) (sym name) ∙ undone v w n rest u p (taken_at n v w p e)
-
-pub is_undone_by : (n : ℕ) (v : View) → IsWellFormed v → (rest : ℕ) (g : Grant) → IsUnused rest v → (allocate n rest v).grant ≡ Some g → free g.name (allocate n rest v).view ≡ v
-is_undone_by n v w rest g u e = go (is_short_of 1 v) e
-  where
-    go : (b : Bool) → (if b then refuse v else grant_or_refuse v n (λ offset. 0) rest rest (place_for n v)).grant ≡ Some g → free g.name (if b then refuse v else grant_or_refuse v n (λ offset. 0) rest rest (place_for n v)).view ≡ v
-    go true e = absurd (cc)
-    go false e = undone_if v w n rest u (place_for n v) refl g e
+      ∙ ap (λ m. record split_view { blocks = before ++ (free_block x m ∷ after); order = push (down m) x (remove_all (free_part rest left) (push_all (free_part rest left) order)) }) sized
+      ∙ ap₂ (λ bs o. record v { blocks = bs; order = o }) (sym stood)
+      (ap (push (down size) x) (orders_back rest left order (length_remove (down size) x v.order ∙ w.classes) rest_absent) ∙ put_remove (down size) x older v.order w.classes (down_small size) first older_absent)
 
 free_but : (v : View) (x accesses : ℕ) (o : Option Place) → free_at (record v { accesses = accesses }) o ≡ record (free_at v o) { accesses = accesses }
 free_but v x accesses None = refl
 free_but v x accesses (Some p) = refl
 
-pub undo_same : (n : ℕ) (v w z : View) (g : Grant) → IsWellFormed v → AllocatesBy n v w (Some g) → SameSpace (free g.name w) z → SameSpace v z
-undo_same n v w z g f a but =
+-- for a grant
+pub undo_same : (n : ℕ) (v w z : View) (g : Grant) → IsWellFormed v → Splits n n (λ offset. 0) v w g → SameSpace (free g.name w) z → SameSpace v z
+undo_same n v w z g f s but =
+    let is = free_is s.block s.free in
+    let none : free_part s.padding_name s.padding ≡ [] = ap (free_part s.padding_name) s.padded in
+    let old : View = replace v s.before (free_block s.block.name s.block.size ∷ []) (used_block s.block.name n ∷ free_part s.remainder_name s.remainder) s.after in
+    let same : w ≡ record old { accesses = w.accesses } =
+    s.view ∙ ap₂ (λ (l : List Block) (b : Block). record (replace v s.before (b ∷ []) (l ++ (used_block s.block.name n ∷ free_part s.remainder_name s.remainder)) s.after) { accesses = w.accesses }) none is in
     but
-    ∙ ap (λ (x : View). record (free g.name x) { accesses = z.accesses }) a.view
-    ∙ ap (λ (x : View). record x { accesses = z.accesses }) (free_but (allocate n a.rest v).view g.name w.accesses (place_of g.name (allocate n a.rest v).view.blocks))
-    ∙ ap (λ (x : View). record x { accesses = z.accesses }) (is_undone_by n v f a.rest g a.unused (sym a.answer))
+    ∙ ap (λ (h : Grant). record (free h.name w) { accesses = z.accesses }) s.grant
+    ∙ ap (λ (u : View). record (free s.block.name u) { accesses = z.accesses }) same
+    ∙ ap (λ (u : View). record u { accesses = z.accesses }) (free_but old s.block.name w.accesses (place_of s.block.name old.blocks))
+    ∙ ap (λ (u : View). record u { accesses = z.accesses }) (undone v f n s.remainder s.remainder_name s.block.name s.block.size s.before s.after s.older s.remainder_new
+    (s.blocks ∙ ap (λ (b : Block). s.before ++ (b ∷ s.after)) is) s.newest (omega (arith, s.whole, s.padded)))

@@ -20,9 +20,9 @@ ghost use Rattle.offset_allocator.specs.Cells.{AreEmpty};
 ghost use Rattle.offset_allocator.specs.Orders.{IsSmallestFrom};
 ghost use Rattle.offset_allocator.specs.Ranges.{range_of, size_of, Grants, IsLive, KeepsAll, KeepsOthers};
 ghost use Rattle.offset_allocator.specs.Reports.{IsGoodRefusal};
-ghost use Rattle.offset_allocator.specs.Named.{IsWellFormed, ends_used, is_short_of, is_full, free, free_sizes, largest_free};
-ghost use Rattle.offset_allocator.specs.Relations.{Allocates, Aligns, Frees, Extends, CanExtend, IsAlignment, SameSpace, IsSplitNearBest, IsFresh, Resets};
-ghost use Rattle.offset_allocator.specs.Functional.{AllocatesBy, AlignsBy, ExtendsBy};
+ghost use Rattle.offset_allocator.specs.Named.{IsWellFormed, ends_used, is_full, padding_to, free, free_sizes, largest_free};
+ghost use Rattle.offset_allocator.specs.Relations.{Splits, Allocates, Aligns, Frees, Extends, CanExtend, IsAlignment, SameSpace, IsSplitNearBest, IsFresh, Resets};
+ghost use Rattle.offset_allocator.specs.Functional.{ExtendsBy};
 ghost use Rattle.offset_allocator.specs.Start.{IsStarted};
 ghost use Rattle.offset_allocator.specs.Promises.{IsReport, IsFullReport, CanGrant, IsWhy, HasRoomFor, blocks_needed, units_needed};
 
@@ -246,13 +246,16 @@ impl<NI: NodeIndex> Allocator<NI> {
         self.block_count() == self.max_allocs - 1
     }
 
-    // Grants the first units of the newest block of a class.
-    fn grant(&mut self, class: u32, size: u32) -> Allocation<NI>
-        requires room { is_short_of 1 self.old ≡ false }
-        requires smallest { IsSmallestFrom (up size) self.old.order class }
-        ensures step { AllocatesBy size self.old self.new (Some result) }
+    // Grants units of the newest block of a class, from the first multiple of `align` in it on.
+    #[inline(always)]
+    fn grant(&mut self, class: u32, size: u32, align: u32) -> Allocation<NI>
+        requires some { 1 ≤ align }
+        requires fits { units_needed size align ≤ 4294967295 }
+        requires room { HasRoomFor (blocks_needed align) self.old }
+        requires smallest { IsSmallestFrom (up (units_needed size align)) self.old.order class }
+        ensures step { Splits (units_needed size align) size (padding_to align) self.old self.new result }
         ensures accesses_min { self.old.accesses + 6 ≤ self.new.accesses }
-        ensures accesses_max { self.new.accesses ≤ self.old.accesses + 24 }
+        ensures accesses_max { self.new.accesses ≤ self.old.accesses + 43 }
     {
         let name = bins::pop(
             &mut self.tables,
@@ -260,31 +263,46 @@ impl<NI: NodeIndex> Allocator<NI> {
             class,
             &mut self.accesses,
         );
-        chain::mark(&mut self.tables, name, true, &mut self.accesses);
         let offset = chain::offset(&self.tables, name, &mut self.accesses);
         let whole = chain::size(&self.tables, name, &mut self.accesses);
+        let padding = (align - offset % align) % align;
+        parts::divide(
+            &mut self.tables,
+            &mut self.top_mask,
+            &mut self.last,
+            &mut self.spare_count,
+            name,
+            padding,
+            size,
+            whole - (padding + size),
+            &mut self.accesses,
+        );
         self.free_total -= size;
-        if whole > size {
-            let rest = chain::split(
-                &mut self.tables,
-                &mut self.last,
-                &mut self.spare_count,
-                name,
-                offset,
-                whole,
-                size,
-                &mut self.accesses,
-            );
-            self.tables.shape();
-            bins::push(
-                &mut self.tables,
-                &mut self.top_mask,
-                rest,
-                uint_to_float_round_down(whole - size),
-                &mut self.accesses,
-            );
+        handle_of(offset + padding, name)
+    }
+
+    // A request for units from a multiple of `align` on. With `align` 1, which is a constant where this is inlined into
+    // `allocate`, there is no padding.
+    #[inline(always)]
+    fn serve(&mut self, size: u32, align: u32) -> Option<Allocation<NI>>
+        requires { 1 ≤ align }
+        ensures formed { IsWellFormed self.old }
+        ensures step { Aligns size align self.old self.new result }
+        ensures accesses_kept { self.old.accesses ≤ self.new.accesses }
+        ensures accesses_min { IsSome result → self.old.accesses + 7 ≤ self.new.accesses }
+        ensures accesses_max { self.new.accesses ≤ self.old.accesses + 45 }
+    {
+        if self.spare_count <= align.min(2) {
+            return None;
         }
-        handle_of(offset, name)
+        if size > u32::MAX - (align - 1) {
+            return None;
+        }
+        let smallest = uint_to_float_round_up(size + (align - 1));
+        match bins::find_at_or_above(&self.tables, self.top_mask, smallest, &mut self.accesses) {
+            None => None,
+            Some(class) => Some(self.grant(class, size, align)),
+        }
     }
 
     /// Grants a range of `size` units: the first ones of a free block of the smallest size class that has one and whose
@@ -319,14 +337,7 @@ impl<NI: NodeIndex> Allocator<NI> {
         // The step as a whole: which block, which remainder, which bins.
         ensures step { Allocates size self.old self.new result }
     {
-        if self.spare_count <= 1 {
-            return None;
-        }
-        let smallest = uint_to_float_round_up(size);
-        match bins::find_at_or_above(&self.tables, self.top_mask, smallest, &mut self.accesses) {
-            None => None,
-            Some(class) => Some(self.grant(class, size)),
-        }
+        self.serve(size, 1)
     }
 
     /// Frees the range of a live handle. Its units are free at once, in one block with the free blocks directly before
@@ -459,40 +470,6 @@ impl<NI: NodeIndex> Allocator<NI> {
         counted::refusal_aligned_counted(self, size, align, &mut Accesses::new())
     }
 
-    // Grants units of the newest block of a class, from the first multiple of `align` in it on.
-    fn grant_aligned(&mut self, class: u32, size: u32, align: u32) -> Allocation<NI>
-        requires above_one { 1 < align }
-        requires fits { size + align - 1 ≤ 4294967295 }
-        requires room { is_short_of 2 self.old ≡ false }
-        requires smallest { IsSmallestFrom (up (size + align - 1)) self.old.order class }
-        ensures step { AlignsBy size align self.old self.new (Some result) }
-        ensures accesses_min { self.old.accesses + 6 ≤ self.new.accesses }
-        ensures accesses_max { self.new.accesses ≤ self.old.accesses + 43 }
-    {
-        let name = bins::pop(
-            &mut self.tables,
-            &mut self.top_mask,
-            class,
-            &mut self.accesses,
-        );
-        let offset = chain::offset(&self.tables, name, &mut self.accesses);
-        let whole = chain::size(&self.tables, name, &mut self.accesses);
-        let padding = (align - offset % align) % align;
-        parts::divide(
-            &mut self.tables,
-            &mut self.top_mask,
-            &mut self.last,
-            &mut self.spare_count,
-            name,
-            padding,
-            size,
-            whole - (padding + size),
-            &mut self.accesses,
-        );
-        self.free_total -= size;
-        handle_of(offset + padding, name)
-    }
-
     /// Grants `size` units that begin at a multiple of `align`, a power of two.
     ///
     /// The block is the one that a request for `size + align - 1` units would take. Its units before the range (the
@@ -529,20 +506,7 @@ impl<NI: NodeIndex> Allocator<NI> {
         // The step as a whole.
         ensures step { Aligns size align self.old self.new result }
     {
-        if align <= 1 {
-            return self.allocate(size);
-        }
-        if self.spare_count <= 2 {
-            return None;
-        }
-        if size > u32::MAX - (align - 1) {
-            return None;
-        }
-        let smallest = uint_to_float_round_up(size + (align - 1));
-        match bins::find_at_or_above(&self.tables, self.top_mask, smallest, &mut self.accesses) {
-            None => None,
-            Some(class) => Some(self.grant_aligned(class, size, align)),
-        }
+        self.serve(size, align)
     }
 
     // Adds units to the last block, which is free.
@@ -580,7 +544,7 @@ impl<NI: NodeIndex> Allocator<NI> {
         requires more { 0 < more }
         requires fits { self.old.size + more ≤ 4294967295 }
         requires used { ends_used self.old.blocks ≡ true }
-        requires room { is_short_of 1 self.old ≡ false }
+        requires room { is_full self.old ≡ false }
         ensures step { ExtendsBy more self.old self.new true }
         ensures accesses_min { self.old.accesses + 9 ≤ self.new.accesses }
         ensures accesses_max { self.new.accesses ≤ self.old.accesses + 19 }

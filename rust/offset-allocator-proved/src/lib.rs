@@ -196,39 +196,48 @@ impl<NI: NodeIndex> Allocator<NI> {
         self.block_count() == self.max_allocs - 1
     }
 
-    // Grants the first units of the newest block of a class.
-    fn grant(&mut self, class: u32, size: u32) -> Allocation<NI> {
+    // Grants units of the newest block of a class, from the first multiple of `align` in it on.
+    #[inline(always)]
+    fn grant(&mut self, class: u32, size: u32, align: u32) -> Allocation<NI> {
         let name = bins::pop(
             &mut self.tables,
             &mut self.top_mask,
             class,
             &mut self.accesses,
         );
-        chain::mark(&mut self.tables, name, true, &mut self.accesses);
         let offset = chain::offset(&self.tables, name, &mut self.accesses);
         let whole = chain::size(&self.tables, name, &mut self.accesses);
+        let padding = (align - offset % align) % align;
+        parts::divide(
+            &mut self.tables,
+            &mut self.top_mask,
+            &mut self.last,
+            &mut self.spare_count,
+            name,
+            padding,
+            size,
+            whole - (padding + size),
+            &mut self.accesses,
+        );
         self.free_total -= size;
-        if whole > size {
-            let rest = chain::split(
-                &mut self.tables,
-                &mut self.last,
-                &mut self.spare_count,
-                name,
-                offset,
-                whole,
-                size,
-                &mut self.accesses,
-            );
-            self.tables.shape();
-            bins::push(
-                &mut self.tables,
-                &mut self.top_mask,
-                rest,
-                uint_to_float_round_down(whole - size),
-                &mut self.accesses,
-            );
+        handle_of(offset + padding, name)
+    }
+
+    // A request for units from a multiple of `align` on. With `align` 1, which is a constant where this is inlined into
+    // `allocate`, there is no padding.
+    #[inline(always)]
+    fn serve(&mut self, size: u32, align: u32) -> Option<Allocation<NI>> {
+        if self.spare_count <= align.min(2) {
+            return None;
         }
-        handle_of(offset, name)
+        if size > u32::MAX - (align - 1) {
+            return None;
+        }
+        let smallest = uint_to_float_round_up(size + (align - 1));
+        match bins::find_at_or_above(&self.tables, self.top_mask, smallest, &mut self.accesses) {
+            None => None,
+            Some(class) => Some(self.grant(class, size, align)),
+        }
     }
 
     /// Grants a range of `size` units: the first ones of a free block of the smallest size class that has one and whose
@@ -240,14 +249,7 @@ impl<NI: NodeIndex> Allocator<NI> {
     /// `largest_free_region` that `storage_report` returns just before. It makes at most 64 accesses to the tables (the
     /// promise; the bounds proved for its parts add up to 26), and takes no memory.
     pub fn allocate(&mut self, size: u32) -> Option<Allocation<NI>> {
-        if self.spare_count <= 1 {
-            return None;
-        }
-        let smallest = uint_to_float_round_up(size);
-        match bins::find_at_or_above(&self.tables, self.top_mask, smallest, &mut self.accesses) {
-            None => None,
-            Some(class) => Some(self.grant(class, size)),
-        }
+        self.serve(size, 1)
     }
 
     /// Frees the range of a live handle. Its units are free at once, in one block with the free blocks directly before
@@ -344,32 +346,6 @@ impl<NI: NodeIndex> Allocator<NI> {
         counted::refusal_aligned_counted(self, size, align, &mut Accesses::new())
     }
 
-    // Grants units of the newest block of a class, from the first multiple of `align` in it on.
-    fn grant_aligned(&mut self, class: u32, size: u32, align: u32) -> Allocation<NI> {
-        let name = bins::pop(
-            &mut self.tables,
-            &mut self.top_mask,
-            class,
-            &mut self.accesses,
-        );
-        let offset = chain::offset(&self.tables, name, &mut self.accesses);
-        let whole = chain::size(&self.tables, name, &mut self.accesses);
-        let padding = (align - offset % align) % align;
-        parts::divide(
-            &mut self.tables,
-            &mut self.top_mask,
-            &mut self.last,
-            &mut self.spare_count,
-            name,
-            padding,
-            size,
-            whole - (padding + size),
-            &mut self.accesses,
-        );
-        self.free_total -= size;
-        handle_of(offset + padding, name)
-    }
-
     /// Grants `size` units that begin at a multiple of `align`, a power of two.
     ///
     /// The block is the one that a request for `size + align - 1` units would take. Its units before the range (the
@@ -379,20 +355,7 @@ impl<NI: NodeIndex> Allocator<NI> {
     /// accesses to the tables, and takes no memory.
     pub fn allocate_aligned(&mut self, size: u32, align: u32) -> Option<Allocation<NI>> {
         assert!(align.is_power_of_two(), "align must be a power of two");
-        if align <= 1 {
-            return self.allocate(size);
-        }
-        if self.spare_count <= 2 {
-            return None;
-        }
-        if size > u32::MAX - (align - 1) {
-            return None;
-        }
-        let smallest = uint_to_float_round_up(size + (align - 1));
-        match bins::find_at_or_above(&self.tables, self.top_mask, smallest, &mut self.accesses) {
-            None => None,
-            Some(class) => Some(self.grant_aligned(class, size, align)),
-        }
+        self.serve(size, align)
     }
 
     // Adds units to the last block, which is free.

@@ -10,6 +10,7 @@ use crate::{bins, chain};
 
 // Splits the first units off a block, unless these are none, as a free block in its bin, under the name that is
 // returned.
+#[inline(always)]
 fn split_padding<NI: NodeIndex>(
     tables: &mut Tables<NI>,
     top_mask: &mut u32,
@@ -35,6 +36,7 @@ fn split_padding<NI: NodeIndex>(
 
 // Splits a block after `size` units. The units after these, unless they are none, become a free block in its bin, under
 // the name that is returned.
+#[inline(always)]
 fn split_remainder<NI: NodeIndex>(
     tables: &mut Tables<NI>,
     top_mask: &mut u32,
@@ -72,6 +74,7 @@ fn split_remainder<NI: NodeIndex>(
 
 /// Splits a block into `padding` free units, `size` used units under its name, and a free remainder of the units that
 /// are left. The names of the padding and of the remainder are returned, where these have units.
+#[inline(always)]
 pub(crate) fn divide<NI: NodeIndex>(
     tables: &mut Tables<NI>,
     top_mask: &mut u32,

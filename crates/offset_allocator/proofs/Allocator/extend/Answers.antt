@@ -3,9 +3,8 @@ use Rattle.offset_allocator.specs.Named.{View}
 use Rattle.offset_allocator.specs.State.{shown, Fields}
 use Rattle.offset_allocator.specs.Relations.{Extends}
 use Rattle.offset_allocator.proofs.Released.{extends, extends_counted, extends_done, cannot_grow}
-use Rattle.offset_allocator.proofs.Granting.{is_short}
 use Rattle.offset_allocator.proofs.Reading.{used_read}
-use Rattle.offset_allocator.proofs.Extending.{used_at_end}
+use Rattle.offset_allocator.proofs.Extending.{used_at_end, full_read}
 use Rattle.offset_allocator.proofs.Places.{end_place}
 use Rattle.offset_allocator.specs.Ranges.{KeepsAll}
 use Rattle.offset_allocator.proofs.Ranges.{extends_keeps}
@@ -27,7 +26,7 @@ returns-then-self-lt2-clause-step g c =
     let f : Fields = fields_of g.NI.NodeIndex.MAX c.self.inside in
     let P : View → Type 0 = λ u. Extends c.args.more u (shown (record f { accesses = c.is_used-used.new.count })) false in
     let used = sym (used_at_end (fields_of g.NI.NodeIndex.MAX c.self.inside) c.args.more c.self.invariant) ∙ (used_read _ _ _ _ c.self.invariant.space ∙ sym (c.is_used-used.ensures.used _ _ c.self.invariant.space) ∙ c.if-not-used.false) in
-    subst P c.self.view_is (omega arith, λ h. absurd (cannot_grow (shown f) (known_sound f c.self.invariant (shown f) refl).0 c.args.more used (is_short f c.args.more c.self.invariant (omega arith)) h), refl)
+    subst P c.self.view_is (omega arith, λ h. absurd (cannot_grow (shown f) (known_sound f c.self.invariant (shown f) refl).0 c.args.more used (full_read f c.args.more c.self.invariant (omega arith)) h), refl)
 
 pub append-requires-clause-used : goal.append-requires-clause-used
 append-requires-clause-used g c =

@@ -1,83 +1,80 @@
-use Rattle.std.proofs.Common.{◌≡◌, ◌-◌, false, subst, sym, arith}
+use Rattle.std.proofs.Common.{◌≡◌, ◌+◌, ◌-◌, ◌≤◌, ◌<◌, ◌^◌, ◌∙◌, ℕ, ap, arith, refl, subst, sym}
 use Rattle.offset_allocator.specs.Classes.{up}
-use Rattle.offset_allocator.specs.Named.{View, is_short_of}
+use Rattle.offset_allocator.specs.Cells.{Node}
+use Rattle.offset_allocator.specs.Named.{View, padding_to}
 use Rattle.offset_allocator.specs.Orders.{IsSmallestFrom}
+use Rattle.offset_allocator.specs.Promises.{HasRoomFor, blocks_needed, units_needed}
+use Rattle.offset_allocator.specs.Relations.{Splits}
+use Rattle.offset_allocator.specs.State.{shown, AreSound, Fields}
+use Rattle.offset_allocator.proofs.Granting.{Call, held, unlisted, whole_fits, padding_fits, units_free, granted}
+use Rattle.offset_allocator.proofs.Places.{at_place}
 use Rattle.offset_allocator.proofs.Sound.{fields_of}
-use Rattle.offset_allocator.proofs.Sizes.{down_small}
-use Rattle.offset_allocator.proofs.Granting.{Call, IsMarked, held, new_rest, unlisted, free_enough, whole, part, as_read}
 use Rattle.offset_allocator.proofs.Allocator.grant.Goals as goal
-use Rattle.offset_allocator.proofs.Allocator.grant.Goals.{then-whole-size, else-whole-size, After-pop-name, After-mark}
+use Rattle.offset_allocator.proofs.Allocator.grant.Goals.{After-pop-name, After-size-whole, After-divide}
 use Rattle.offset_allocator.proofs.Allocator.grant.Given.{Over}
 
 -- what the contract asks of the view, said of the fields
-call : (g : Over) (c : After-pop-name g) → Call (fields_of g.NI.NodeIndex.MAX c.self.inside) c.args.size c.args.class c.pop-name.result
+call : (g : Over) (c : After-pop-name g) → Call (fields_of g.NI.NodeIndex.MAX c.self.inside) (units_needed c.args.size c.args.align) c.args.class c.pop-name.result
 call g c = record {
   sound = c.self.invariant;
-  room = subst (λ (u : View). is_short_of 1 u ≡ false) (sym c.self.view_is) c.requires.room;
-  least = subst (λ (u : View). IsSmallestFrom (up c.args.size) u.order c.args.class) (sym c.self.view_is) c.requires.smallest;
-  after_one = _;
-  first = c.pop-name.ensures.first;
+  smallest = subst (λ (u : View). IsSmallestFrom (up (units_needed c.args.size c.args.align)) u.order c.args.class) (sym c.self.view_is) c.requires.smallest;
+  older = _;
+  newest = c.pop-name.ensures.first;
 }
 
-marked : (g : Over) (c : After-mark g) (p : Call (fields_of g.NI.NodeIndex.MAX c.self.inside) c.args.size c.args.class c.pop-name.result) → IsMarked p c.mark.new.tables c.pop-name.new.top_mask
-marked g c p = record {
-  place = c.mark.ensures.place _ _ _ _ (held p c.pop-name.ensures.room);
-  bins = rw c.mark.ensures.links c.pop-name.ensures.held;
-  lists = rw c.mark.ensures.links c.pop-name.ensures.lists;
-}
+-- the padding and the units are within the units needed
+within : (n align o : ℕ) → 1 ≤ align → padding_to align o + n ≤ units_needed n align
+within n align o l = omega arith
 
-pub mark-requires : goal.mark-requires
-mark-requires g c = (held (call g (goal.at.mark-requires g c).After-pop-name) c.pop-name.ensures.room).below
+two : (align o : ℕ) → 1 ≤ padding_to align o → 2 ≤ blocks_needed align
+two align o l = omega arith
 
 pub offset-offset-requires : goal.offset-offset-requires
-offset-offset-requires g c = let at = goal.at.offset-offset-requires g c in (marked g at.After-mark (call g at.After-pop-name)).place.below
+offset-offset-requires g c = (held (call g (goal.at.offset-offset-requires g c).After-pop-name) c.pop-name.ensures.room).below
 
 pub size-whole-requires : goal.size-whole-requires
-size-whole-requires g c = let at = goal.at.size-whole-requires g c in (marked g at.After-mark (call g at.After-pop-name)).place.below
+size-whole-requires g c = (held (call g (goal.at.size-whole-requires g c).After-pop-name) c.pop-name.ensures.room).below
 
-pub split-rest-requires-clause-place : goal.split-rest-requires-clause-place
-split-rest-requires-clause-place g c = let at = goal.at.split-rest-requires-clause-place g c in (_, _, (marked g at.After-mark (call g at.After-pop-name)).place)
+-- the block holds the padding and the units
+fits : (g : Over) (c : After-size-whole g) → Call (fields_of g.NI.NodeIndex.MAX c.self.inside) (units_needed c.args.size c.args.align) c.args.class c.pop-name.result → padding_to c.args.align c.offset-offset.result + c.args.size ≤ c.size-whole.result
+fits g c p = rw (c.offset-offset.ensures.offset, c.size-whole.ensures.size, at_place (held p c.pop-name.ensures.room)) (whole_fits p c.args.size (padding_to c.args.align) (λ o. within c.args.size c.args.align o c.requires.some))
+
+pub overflow_sub-whole : goal.overflow_sub-whole
+overflow_sub-whole g c = let at = goal.at.overflow_sub-whole g c in fits g at.After-size-whole (call g at.After-pop-name)
+
+pub divide-requires-clause-place : goal.divide-requires-clause-place
+divide-requires-clause-place g c =
+    let p = call g (goal.at.divide-requires-clause-place g c).After-pop-name in
+    (_, _, held p c.pop-name.ensures.room, rw c.pop-name.ensures.lists (unlisted p))
+
+pub divide-requires-clause-whole : goal.divide-requires-clause-whole
+divide-requires-clause-whole g c = let at = goal.at.divide-requires-clause-whole g c in omega (arith, c.size-whole.ensures.size, fits g at.After-size-whole (call g at.After-pop-name))
 
 pub overflow_sub-self : goal.overflow_sub-self
-overflow_sub-self g c = free_enough (call g (goal.at.overflow_sub-self g c).After-pop-name)
+overflow_sub-self g c = units_free (call g (goal.at.overflow_sub-self g c).After-pop-name) c.args.size (padding_to c.args.align) (λ o. within c.args.size c.args.align o c.requires.some)
 
-pub push-requires-clause-named : goal.push-requires-clause-named
-push-requires-clause-named g c = omega (arith, c.split-rest.ensures.below, c.split-rest.ensures.limit, c.shape.ensures.newer)
+pub overflow_add-offset : goal.overflow_add-offset
+overflow_add-offset g c =
+    let p = call g (goal.at.overflow_add-offset g c).After-pop-name in
+    let small : c.offset-offset.result + padding_to c.args.align c.offset-offset.result < 2 ^ 32 = rw (c.offset-offset.ensures.offset, at_place (held p c.pop-name.ensures.room)) (padding_fits p c.args.size (padding_to c.args.align) (λ o. within c.args.size c.args.align o c.requires.some)) in
+    omega (arith, small)
 
-pub push-requires-clause-classed : goal.push-requires-clause-classed
-push-requires-clause-classed g c = omega (arith, down_small (c.size-whole.result - c.args.size), c.uint_to_float_round_down.ensures.is)
-
-pub push-requires-clause-fresh : goal.push-requires-clause-fresh
-push-requires-clause-fresh g c =
-    let at = goal.at.push-requires-clause-fresh g c in
-    let p = call g at.After-pop-name in
-    let m = marked g at.After-mark p in
-    rw (c.split-rest.ensures.links, m.lists) (unlisted p c.split-rest.result (new_rest p m c.split-rest.result (c.split-rest.ensures.fresh _ _ m.place) c.split-rest.ensures.below).absent)
+-- the fields that are left, and what was split
+done : (g : Over) (c : After-divide g) → Call (fields_of g.NI.NodeIndex.MAX c.self.inside) (units_needed c.args.size c.args.align) c.args.class c.pop-name.result → (k : ℕ) (f : Fields) → f ≡ record (fields_of g.NI.NodeIndex.MAX c.self.inside) { cells = c.divide.new.tables; last = c.divide.new.last; count = c.divide.new.spare_count; top = c.divide.new.top_mask; free = c.self.inside.free_total - c.args.size; accesses = k }
+    → AreSound f × Splits (units_needed c.args.size c.args.align) c.args.size (padding_to c.args.align) (shown (fields_of g.NI.NodeIndex.MAX c.self.inside)) (shown f) (record { name = c.pop-name.result; offset = c.offset-offset.result + padding_to c.args.align c.offset-offset.result })
+done g c p k f e =
+    let h = held p c.pop-name.ensures.room in
+    let at = at_place h in
+    let oe = c.offset-offset.ensures.offset ∙ ap (λ (v : Node). v.offset) at in
+    let we = c.size-whole.ensures.size ∙ ap (λ (v : Node). v.size) at in
+    let place = c.divide.ensures.place _ _ h in
+    let room = subst (HasRoomFor (blocks_needed c.args.align)) (sym c.self.view_is) c.requires.room in
+    rw (e, oe) (granted p c.args.size (padding_to c.args.align) (λ o. within c.args.size c.args.align o c.requires.some) (blocks_needed c.args.align) room (omega (arith, c.requires.some)) (two c.args.align) _ _ _ _ _ (rw (oe, we) at place) c.divide.ensures.held (rw (oe, we, c.pop-name.ensures.lists) at c.divide.ensures.lists))
 
 pub invariant_of-self : goal.invariant_of-self
-invariant_of-self g c =
-    let at = goal.at.invariant_of-self g c in
-    let p = call g at.After-pop-name in
-    let m = marked g at.After-mark p in
-    let rest = c.split-rest.ensures in
-    (part p 0 c.split-rest.new.tables c.push.new.tables m c.size-whole.ensures.size c.if-whole-size.true (rest.place _ _ m.place) (new_rest p m _ (rest.fresh _ _ m.place) rest.below) rest.links
-    c.uint_to_float_round_down.ensures.is c.push.ensures.room c.push.ensures.held c.push.ensures.lists).0
-
-pub invariant_of-self-else-whole-size : goal.invariant_of-self-else-whole-size
-invariant_of-self-else-whole-size g c =
-    let at = goal.at.invariant_of-self-else-whole-size g c in
-    let p = call g at.After-pop-name in
-    (whole p 0 (marked g at.After-mark p) c.size-whole.ensures.size c.if-whole-size.false).0
+invariant_of-self g c = let at = goal.at.invariant_of-self g c in (done g at.After-divide (call g at.After-pop-name) 0 _ refl).0
 
 pub returns-clause-step : goal.returns-clause-step
 returns-clause-step g c =
     let at = goal.at.returns-clause-step g c in
-    let p = call g at.After-pop-name in
-    let m = marked g at.After-mark p in
-    rw c.handle_of.ensures (elim c.if-whole-size.branch [
-      | then-whole-size w ↦
-          let rest = w.split-rest.ensures in
-          as_read p m (part p w.push.new.count w.split-rest.new.tables w.push.new.tables m c.size-whole.ensures.size w.if-whole-size.true (rest.place _ _ m.place) (new_rest p m _ (rest.fresh _ _ m.place) rest.below) rest.links
-          w.uint_to_float_round_down.ensures.is w.push.ensures.room w.push.ensures.held w.push.ensures.lists) c.self.view_is w.self-is c.offset-offset.ensures.offset
-      | else-whole-size w ↦ as_read p m (whole p c.size-whole.new.count m c.size-whole.ensures.size w.if-whole-size.false) c.self.view_is w.self-is c.offset-offset.ensures.offset
-    ])
+    rw (c.handle_of.ensures, ← c.self.view_is) (done g at.After-divide (call g at.After-pop-name) c.divide.new.count _ refl).1

@@ -2,13 +2,12 @@ use Rattle.std.proofs.Common.{◌≡◌, ◌∙◌, ◌<◌, ◌≤◌, ◌+◌,
 use Rattle.offset_allocator.specs.Named.{View, free_sizes, names_at}
 use Rattle.offset_allocator.specs.Orders.{class_lists, IsSmallestFrom}
 use Rattle.offset_allocator.specs.Classes.{up}
-use Rattle.offset_allocator.specs.State.{Fields, shown}
+use Rattle.offset_allocator.specs.State.{Fields}
 use Rattle.offset_allocator.specs.Promises.{HasRoomFor, CanGrant, blocks_needed, units_needed}
 use Rattle.offset_allocator.proofs.Classes.{below_value_up}
 use Rattle.offset_allocator.proofs.Powers.{not_zero}
-use Rattle.offset_allocator.proofs.Refusals.{is_open, total_is, none_taken, some_taken, taken_within}
+use Rattle.offset_allocator.proofs.Refusals.{is_open, total_is, none_fits, some_fits, fit_within}
 use Rattle.offset_allocator.proofs.Sound.{fields_of, known_sound}
-use Rattle.offset_allocator.proofs.Related.{class_found, found_some, no_class}
 use Rattle.offset_allocator.proofs.counted.refusal_aligned_counted.Goals as goal
 
 pub returns-then-units-allocator-clause-granted : goal.returns-then-units-allocator-clause-granted
@@ -17,7 +16,7 @@ returns-then-units-allocator-clause-granted g c =
     let known = known_sound f c.allocator.invariant c.args.allocator.now c.allocator.view_is in
     let P : View → Type 0 = λ u. c.allocator.inside.free_total ≡ sum (free_sizes u.blocks) in
     let total = subst P c.allocator.view_is (total_is f c.allocator.invariant (blocks_needed c.args.align) (units_needed c.args.size c.args.align)) in
-    (λ e. absurd (cc), λ h. let l = taken_within (units_needed c.args.size c.args.align) c.args.allocator.now known.0 (class_found c.args.allocator.now known.0 (units_needed c.args.size c.args.align) h.1) in absurd (omega (arith, total, l, c.if-units-allocator.true, not_zero c.args.align c.requires.power)))
+    (λ e. absurd (cc), λ h. let l = fit_within (units_needed c.args.size c.args.align) c.args.allocator.now known.0 h.1 in absurd (omega (arith, total, l, c.if-units-allocator.true, not_zero c.args.align c.requires.power)))
 
 pub returns-then-units-allocator-clause-why : goal.returns-then-units-allocator-clause-why
 returns-then-units-allocator-clause-why g c =
@@ -42,10 +41,10 @@ returns-in-None-clause-why g c =
     let total = total_is f c.allocator.invariant (blocks_needed c.args.align) (units_needed c.args.size c.args.align) in
     let is = class_is c.args.size c.args.align _ (not_zero c.args.align c.requires.power) c.uint_to_float_round_up-smallest.ensures.is in
     let Q : ℕ → Type 0 = λ low. (k : ℕ) → low ≤ k → k < 256 → names_at (class_lists g.NI.NodeIndex.MAX c.allocator.inside.tables.links) k ≡ [] in
-    let none = none_taken f c.allocator.invariant (blocks_needed c.args.align) (units_needed c.args.size c.args.align) (subst Q is c.in-None.ensures.smallest) in
+    let none = none_fits f c.allocator.invariant (blocks_needed c.args.align) (units_needed c.args.size c.args.align) (subst Q is c.in-None.ensures.smallest) in
     let P : View → Type 0 = λ u. HasRoomFor (blocks_needed c.args.align) u × (units_needed c.args.size c.args.align ≤ sum (free_sizes u.blocks)) × (CanGrant (blocks_needed c.args.align) (units_needed c.args.size c.args.align) u → ⊥) in
     subst P c.allocator.view_is
-    (is_open f c.allocator.invariant (blocks_needed c.args.align) (units_needed c.args.size c.args.align) (omega (arith, c.min-blocks.ensures)), omega (arith, total, c.if-units-allocator.false, not_zero c.args.align c.requires.power), λ h. no_class (shown f) (known_sound f c.allocator.invariant (shown f) refl).0 (units_needed c.args.size c.args.align) none h.1)
+    (is_open f c.allocator.invariant (blocks_needed c.args.align) (units_needed c.args.size c.args.align) (omega (arith, c.min-blocks.ensures)), omega (arith, total, c.if-units-allocator.false, not_zero c.args.align c.requires.power), λ h. none h.1)
 
 pub returns-in-None-clause-granted : goal.returns-in-None-clause-granted
 returns-in-None-clause-granted g c =
@@ -56,9 +55,9 @@ returns-in-Some-clause-granted g c =
     let f : Fields = fields_of g.NI.NodeIndex.MAX c.allocator.inside in
     let is = class_is c.args.size c.args.align _ (not_zero c.args.align c.requires.power) c.uint_to_float_round_up-smallest.ensures.is in
     let Q : ℕ → Type 0 = λ low. IsSmallestFrom low (class_lists g.NI.NodeIndex.MAX c.allocator.inside.tables.links) c.in-Some.field-0 in
-    let some = some_taken f c.allocator.invariant (blocks_needed c.args.align) (units_needed c.args.size c.args.align) c.in-Some.field-0 (subst Q is c.in-Some.ensures.smallest) in
+    let some = some_fits f c.allocator.invariant (blocks_needed c.args.align) (units_needed c.args.size c.args.align) c.in-Some.field-0 (subst Q is c.in-Some.ensures.smallest) in
     let P : View → Type 0 = λ u. CanGrant (blocks_needed c.args.align) (units_needed c.args.size c.args.align) u in (
       λ e. subst P c.allocator.view_is
-          (is_open f c.allocator.invariant (blocks_needed c.args.align) (units_needed c.args.size c.args.align) (omega (arith, c.min-blocks.ensures)), found_some (shown f) (known_sound f c.allocator.invariant (shown f) refl).0 (units_needed c.args.size c.args.align) some),
+          (is_open f c.allocator.invariant (blocks_needed c.args.align) (units_needed c.args.size c.args.align) (omega (arith, c.min-blocks.ensures)), some),
       λ h. refl,
     )

@@ -2,7 +2,7 @@ use Rattle.std.proofs.lemmas.Grind.{common_steps}
 use Rattle.std.proofs.Common.{◌≡◌, ℕ, sym, subst, ◌<◌, arith, ◌%◌, ◌^◌, ◌≤◌, Bool, true, false, ◌&&◌, List, [], ◌∷◌, nat_eq, refl, ap, ◌∙◌, inl, inr, le_trans}
 use Rattle.std.proofs.lemmas.Bool.{cases_lt}
 use Rattle.std.proofs.lemmas.Bool.Decides.{nat_tests}
-use Rattle.offset_allocator.specs.Named.{View, total_free, largest_free, Block, is_free, one, times, count_listed, names_at, free_sizes, IsWellFormed, is_short_of}
+use Rattle.offset_allocator.specs.Named.{View, total_free, largest_free, Block, is_free, one, times, count_listed, names_at, free_sizes, IsWellFormed, is_full}
 use Rattle.offset_allocator.specs.State.{shown, Fields, AreSound}
 use Rattle.offset_allocator.specs.Classes.{value, down}
 use Rattle.offset_allocator.specs.Reports.{largest}
@@ -76,7 +76,7 @@ module _ (it : Fields) (s : AreSound it) (room : 1 < it.count) where
   abbrev seen : View
   seen = shown it
 
-  short : is_short_of 1 (shown it) ≡ false
+  short : is_full (shown it) ≡ false
   short = let f = s.space.full in let n = s.nodes in grind (arith, nat_tests)
 
   sized : it.size < 2 ^ 32

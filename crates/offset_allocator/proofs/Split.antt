@@ -1,0 +1,98 @@
+-- What a split leaves is well formed.
+use Rattle.std.proofs.Common.{◌≡◌, ℕ, zero, suc, ◌+◌, ◌<◌, ◌≤◌, true, false, not, ◌⊎◌, List, [], ◌∷◌, ◌++◌, length, nat_eq, refl, sym, ap, subst, ◌∙◌, inl, inr, arith, length-append, append_assoc}
+use Rattle.offset_allocator.specs.Named.{Block, View, Grant, one, used_block, units, count_named, used_of, IsApart, IsWellFormed, IsNew, IsUnused, free_part, replace}
+use Rattle.offset_allocator.specs.Relations.{SameSpace, Splits}
+use Rattle.offset_allocator.proofs.ViewOrders.{tally_append, hit_cases}
+use Rattle.offset_allocator.proofs.ViewReplaced.{tally_three, well_replaced}
+use Rattle.offset_allocator.proofs.ViewApart.{apart_granted}
+use Rattle.offset_allocator.proofs.Unused.{new_unused}
+
+-- whatever was counted
+pub well_counted : (v : View) (k : ℕ) → IsWellFormed v → IsWellFormed (record v { accesses = k })
+well_counted v k w = record { some = w.some; distinct = w.distinct; below = w.below; whole = w.whole; fits = w.fits; apart = w.apart; classes = w.classes; orders = w.orders; room = w.room; spare = w.spare }
+
+pub well_same : (v w : View) → SameSpace v w → IsWellFormed v → IsWellFormed w
+well_same v w e k = subst IsWellFormed (sym e) (well_counted v w.accesses k)
+
+-- padding or a remainder is at most one block
+pub part_sums : (y n : ℕ) → (length (free_part y n) ≤ 1) × (units (free_part y n) ≡ n) × (used_of (free_part y n) ≡ 0)
+part_sums y zero = (omega arith, omega arith, omega arith)
+part_sums y (suc n) = (omega arith, omega arith, omega arith)
+
+-- the room that padding asks for, beside that for a remainder
+pub part_room : (y n k : ℕ) → 1 ≤ k → (1 ≤ n → 2 ≤ k) → length (free_part y n) + 1 ≤ k
+part_room y zero k some two = omega (arith, some)
+part_room y (suc n) k some two = omega (arith, two (omega arith))
+
+used_most : (bs : List Block) → used_of bs ≤ length bs
+used_most [] = omega arith
+used_most (b ∷ bs) = let ih = used_most bs in elim b.used as (λ u. one u + used_of bs ≤ suc (length bs)) [ true ↦ omega arith | false ↦ omega arith ]
+
+-- its name, where it has units, is new
+part_name : (v : View) (y n : ℕ) → (1 ≤ n → IsNew y v) → (x : ℕ) → (count_named x (free_part y n) ≡ 0) ⊎ ((x ≡ y) × (1 ≤ n) × (count_named x (free_part y n) ≡ 1) × IsUnused x v)
+part_name v y zero new x = inl refl
+part_name v y (suc n) new x = elim (hit_cases x y) [
+  | inl h ↦ inr (h.0, omega arith, omega (arith, h.1), subst (λ z. IsUnused z v) (sym h.0) (new_unused y v (new (omega arith))))
+  | inr h ↦ inl (omega (arith, h.1))
+]
+
+module _ {needed n : ℕ} {padding_at : ℕ → ℕ} {v u : View} {g : Grant} (s : Splits needed n padding_at v u g) where
+  abbrev padding : List Block
+  padding = free_part s.padding_name s.padding
+
+  abbrev remainder : List Block
+  remainder = free_part s.remainder_name s.remainder
+
+  abbrev new : List Block
+  new = padding ++ (used_block s.block.name n ∷ remainder)
+
+  -- in a space with room for the blocks that it adds
+  pub well_split : (k : ℕ) → IsWellFormed v → length v.blocks + k < v.max_allocs → length (free_part s.padding_name s.padding) + 1 ≤ k → IsWellFormed u
+  well_split k w room parts = well_same (replace v s.before (s.block ∷ []) new s.after) u s.view (well_replaced v s.before (s.block ∷ []) new s.after v.size w
+      (record {
+        stood = s.blocks;
+        some = omega (arith, lengths);
+        distinct = distinct;
+        names = names;
+        apart = subst IsApart (sym (simp append_assoc)) (apart_granted s.before s.block s.after s.padding_name s.padding s.block.name n s.remainder_name s.remainder (ap not s.free) (subst IsApart s.blocks w.apart));
+        room = omega (arith, room, parts, old_length, new_length, (part_sums s.remainder_name s.remainder).0);
+        spare = omega (arith, room, parts, used_new, old_length, (part_sums s.remainder_name s.remainder).2, (part_sums s.padding_name s.padding).2, used_most s.before, used_most s.after);
+      })
+      (omega (arith, s.whole, tally_append (λ (b : Block). b.size) padding (used_block s.block.name n ∷ remainder), (part_sums s.remainder_name s.remainder).1, (part_sums s.padding_name s.padding).1))
+      w.fits)
+    where
+      lengths : length new ≡ length padding + suc (length remainder)
+      lengths = length-append padding (used_block s.block.name n ∷ remainder)
+
+      old_length : length v.blocks ≡ length s.before + suc (length s.after)
+      old_length = ap length s.blocks ∙ length-append s.before (s.block ∷ s.after)
+
+      new_length : length (s.before ++ (new ++ s.after)) ≡ length s.before + (length padding + suc (length remainder) + length s.after)
+      new_length = length-append s.before (new ++ s.after) ∙ ap (λ m. length s.before + m) (length-append new s.after ∙ ap (λ m. m + length s.after) lengths)
+
+      used_new : used_of (s.before ++ (new ++ s.after)) ≡ used_of s.before + ((used_of padding + suc (used_of remainder)) + used_of s.after)
+      used_new = tally_three (λ (b : Block). one b.used) s.before new s.after ∙ ap (λ m. used_of s.before + (m + used_of s.after)) (tally_append (λ (b : Block). one b.used) padding (used_block s.block.name n ∷ remainder) ∙ omega arith)
+
+      names_new : (x : ℕ) → count_named x new ≡ count_named x padding + (one (nat_eq x s.block.name) + count_named x remainder)
+      names_new x = tally_append (λ (b : Block). one (nat_eq x b.name)) padding (used_block s.block.name n ∷ remainder)
+
+      there : (x : ℕ) → one (nat_eq x s.block.name) ≤ count_named x v.blocks
+      there x = omega (arith, ap (count_named x) s.blocks, tally_append (λ (b : Block). one (nat_eq x b.name)) s.before (s.block ∷ s.after))
+
+      distinct : (x : ℕ) → count_named x new ≤ 1
+      distinct x = elim (part_name v s.padding_name s.padding s.padding_new x) [
+        | inl a ↦ elim (part_name v s.remainder_name s.remainder s.remainder_new x) [
+          | inl b ↦ omega (arith, a, b, names_new x, there x, w.distinct x)
+          | inr b ↦ omega (arith, a, b.2, b.3.absent, names_new x, there x)
+        ]
+        | inr a ↦ elim (part_name v s.remainder_name s.remainder s.remainder_new x) [
+          | inl b ↦ omega (arith, a.2, a.3.absent, b, names_new x, there x)
+          | inr b ↦ absurd (s.differ a.1 b.1 (sym a.0 ∙ b.0))
+        ]
+      ]
+
+      names : (x : ℕ) → 1 ≤ count_named x new → (1 ≤ count_named x (s.block ∷ [])) ⊎ IsUnused x v
+      names x l = elim (part_name v s.padding_name s.padding s.padding_new x) [
+        | inl a ↦ elim (part_name v s.remainder_name s.remainder s.remainder_new x) [ inl b ↦ inl (omega (arith, a, b, l, names_new x)) | inr b ↦ inr b.3 ]
+        | inr a ↦ inr a.3
+      ]
