@@ -1,48 +1,43 @@
 -- What more units at the end leave of the whole allocator.
-use Rattle.std.proofs.Common.{◌≡◌, ℕ, zero, suc, ◌+◌, ◌-◌, ◌<◌, ◌≤◌, ◌^◌, Bool, true, false, not, ◌&&◌, ◌||◌, List, [], ◌∷◌, ◌++◌, length, refl, sym, ap, ◌∙◌, arith, slice_set, nat_lt, nat_eq, le-leb, if◌then◌else◌}
-use Rattle.std.proofs.lemmas.Bool.{le-ltb, true≢false, false≢true}
+use Rattle.std.proofs.Common.{◌≡◌, ℕ, ◌+◌, ◌-◌, ◌<◌, ◌≤◌, ◌^◌, Bool, true, false, not, ◌&&◌, ◌⊎◌, List, [], ◌∷◌, ◌++◌, length, refl, sym, ap, subst, ◌∙◌, inl, inr, arith, slice_set, nat_eq}
+use Rattle.std.proofs.lemmas.Bool.{true≢false}
 use Rattle.offset_allocator.specs.Classes.{down}
 use Rattle.offset_allocator.specs.Cells.{Cells, Room, Node, node}
-use Rattle.offset_allocator.specs.Named.{Block, View, Extension, count_named, names_at, count_listed, one, is_free, IsWellFormed, IsUnused, is_full, max_size, free_block, units, remove_all, push, remove, without, free_end, without_end, ends_used, extend_by, is_extendable, extend}
+use Rattle.std.specs.List.{AllByRecursion}
+use Rattle.offset_allocator.specs.Named.{Block, View, count_named, names_at, count_listed, one, is_free, IsApart, IsWellFormed, IsUnused, free_block, units, replace, remove_all, push, remove, without, ends_used}
+use Rattle.offset_allocator.specs.Promises.{HasRoomFor}
+use Rattle.offset_allocator.specs.Ranges.{KeepsAll}
+use Rattle.offset_allocator.specs.Relations.{Adds, CanExtend}
 use Rattle.offset_allocator.specs.Space.{IsChain, HasPlace, blocks}
 use Rattle.offset_allocator.specs.Orders.{Among, IsUnlisted, class_lists, Binned}
 use Rattle.offset_allocator.specs.State.{Fields, AreSound, shown, free_units}
-use Rattle.offset_allocator.specs.Functional.{ExtendsBy}
 use Rattle.offset_allocator.proofs.Rows.{units-append, times-append, one-eq}
-use Rattle.offset_allocator.proofs.Ends.{Ended, ended, end_free, end_used}
+use Rattle.offset_allocator.proofs.Ends.{Ended, ended}
 use Rattle.offset_allocator.proofs.Places.{at_place, end_place}
-use Rattle.offset_allocator.proofs.Unused.{some_unused}
+use Rattle.offset_allocator.proofs.Unused.{is_new}
 use Rattle.offset_allocator.proofs.Freeing.{filed_listed}
+use Rattle.offset_allocator.proofs.ViewApart.{ends_free, apart_parts, first_false}
 use Rattle.offset_allocator.proofs.ViewOrders.{tally_append, times_remove_all}
 use Rattle.offset_allocator.proofs.ViewReplaced.{listed_named}
-use Rattle.offset_allocator.proofs.ViewTaken.{well_extended}
-use Rattle.offset_allocator.proofs.Joints.{stepped, with_accesses, free_most, among_times, unused_unlisted, remove_free, free_units-append, free_units-free}
-use Rattle.offset_allocator.proofs.Split.{well_counted}
+use Rattle.offset_allocator.proofs.ViewTaken.{append_nil, well_added}
+use Rattle.offset_allocator.proofs.Ranges.{adds_keep}
+use Rattle.offset_allocator.proofs.Joints.{stepped, free_most, among_times, unused_unlisted, remove_free, free_units-append, free_units-free}
+use Rattle.offset_allocator.proofs.Split.{well_counted, well_same}
 
 pub ends_last : (fs : List Block) (b : Block) → ends_used (fs ++ b ∷ []) ≡ b.used
 ends_last [] b = refl
 ends_last (f ∷ []) b = refl
 ends_last (f ∷ g ∷ fs) b = ends_last (g ∷ fs) b
 
--- the cases of an extension
-pub extended_is : (more x : ℕ) (v : View) → 0 < more → is_extendable more v ≡ true → extend more x v ≡ record { view = extend_by more x v; done = true }
-extended_is zero x v l e = absurd (omega arith)
-extended_is (suc more) x v l e = ap (λ (b : Bool). if b then record { view = extend_by (suc more) x v; done = true } else record { view = v; done = false }) e
+ends_free_last : (fs : List Block) (b : Block) → ends_free (fs ++ b ∷ []) ≡ is_free b
+ends_free_last [] b = refl
+ends_free_last (f ∷ []) b = refl
+ends_free_last (f ∷ g ∷ fs) b = ends_free_last (g ∷ fs) b
 
-pub unextended_is : (more x : ℕ) (v : View) → 0 < more → is_extendable more v ≡ false → extend more x v ≡ record { view = v; done = false }
-unextended_is zero x v l e = absurd (omega arith)
-unextended_is (suc more) x v l e = ap (λ (b : Bool). if b then record { view = extend_by (suc more) x v; done = true } else record { view = v; done = false }) e
-
-pub extendable_if : (a b c : Bool) → a ≡ false → (b ≡ true → c ≡ false) → not (a || (b && c)) ≡ true
-extendable_if true b c e f = absurd (true≢false e)
-extendable_if false true c e f = ap not (f refl)
-extendable_if false false c e f = refl
-
-pub full_if : (a b c : Bool) → b ≡ true → c ≡ true → not (a || (b && c)) ≡ false
-full_if true b c e f = refl
-full_if false true true e f = refl
-full_if false true false e f = absurd (true≢false (sym f))
-full_if false false c e f = absurd (true≢false (sym e))
+-- the units of free blocks are free
+idle_units : (bs : List Block) → AllByRecursion (λ b. b.used ≡ false) bs → free_units bs ≡ units bs
+idle_units [] i = refl
+idle_units (b ∷ bs) i = let ih = idle_units bs i.1 in free_units-free b bs i.0 ∙ ap (λ n. b.size + n) ih
 
 -- the end of the space
 module _ (it : Fields) (more : ℕ) (s : AreSound it) where
@@ -55,8 +50,16 @@ module _ (it : Fields) (more : ℕ) (s : AreSound it) where
   pub used_at_end : (node it.cells.room it.last).used ≡ ends_used (blocks it.cells.room it.last)
   used_at_end = let f = ended old it.last s.space.ends in ap (λ (n : Node). n.used) (at_place (end_place s.space)) ∙ sym (ap ends_used f.is ∙ ends_last f.front f.last)
 
-  pub full_read : it.count ≤ 1 → is_full (shown it) ≡ true
-  full_read h = le-leb it.limit (length old + 1) (omega (arith, h, s.nodes, s.space.full))
+  -- it can have more where its last block is free
+  pub can_widen : it.size + more ≤ 4294967295 → ends_used (blocks it.cells.room it.last) ≡ false → CanExtend more (shown it)
+  can_widen fits e = let f = ended old it.last s.space.ends in (fits, inr (f.front, f.last, f.is, sym (ap ends_used f.is ∙ ends_last f.front f.last) ∙ e))
+
+  pub cannot_append : ends_used (blocks it.cells.room it.last) ≡ true → it.count ≤ 1 → CanExtend more (shown it) → ⊥
+  cannot_append e full c =
+      elim c.1 [
+        | inl room ↦ absurd (omega (arith, room, full, s.nodes, s.space.full))
+        | inr h ↦ true≢false (sym e ∙ ap ends_used h.2 ∙ ends_last h.0 h.1 ∙ h.3)
+      ]
 
 -- a request that is done: sound fields, and whether the last block is used
 pub record Growth (it : Fields) (more : ℕ) (used : Bool) : Type 0 where
@@ -113,15 +116,20 @@ module _ {it : Fields} {more : ℕ} {used : Bool} (r : Growth it more used) wher
   abbrev pub Grown : Cells → ℕ → ℕ → ℕ → ℕ → Type 0
   Grown d last count top k =
       let new : Fields = record it { size = it.size + more; cells = d; last = last; count = count; top = top; free = it.free + more; accesses = k } in
-      AreSound new × ExtendsBy more (shown it) (shown new) true
+      AreSound new × Adds more (shown it) (shown new) × KeepsAll (shown it) (shown new)
 
-  grown : (d : Cells) {last count top : ℕ} (k x : ℕ) (bs' : List Block) → IsUnused x v → (used ≡ true → is_full v ≡ false) → IsChain d.room (length it.cells.room.nodes) last count bs' → Binned it.max d.links top
-      → bs' ≡ (extend_by more x v).blocks → class_lists it.max d.links ≡ (extend_by more x v).order → free_units bs' ≡ it.free + more → Grown d last count top k
-  grown d k x bs' unused room chain bins eb eo total =
-      let open_is = extendable_if (nat_lt max_size (it.size + more)) (ends_used bs) (is_full v) (le-ltb max_size (it.size + more) r.fits) (λ q. room (sym r.ends ∙ q)) in
-      let is = extended_is more x v r.some open_is in
-      let left = stepped it s (extend_by more x v) d (it.free + more) k (well_extended v w more x unused open_is) refl chain eb bins eo total in
-      (left.0, record { name = x; unused = unused; view = left.1 ∙ ap (λ (y : Extension). with_accesses k y.view) (sym is); answer = ap (λ (y : Extension). y.done) (sym is) })
+  grown : (d : Cells) {last count top : ℕ} (k x : ℕ) (before old : List Block) → bs ≡ before ++ old → ends_free before ≡ false → AllByRecursion (λ b. b.used ≡ false) old → AllByRecursion (λ b. b.name ≡ x) old
+      → (1 ≤ count_named x old) ⊎ IsUnused x v → (1 ≤ length old) ⊎ (length bs + 1 < it.limit) → (old ≡ [] → IsUnused x v)
+      → IsChain d.room (length it.cells.room.nodes) last count (before ++ free_block x (units old + more) ∷ []) → Binned it.max d.links top
+      → class_lists it.max d.links ≡ push (down (units old + more)) x (remove_all old ls) → Grown d last count top k
+  grown d {last} {count} {top} k x before old e closed idle named name spare new chain bins lists =
+      let left_view : View = record (replace v before old (free_block x (units old + more) ∷ []) []) { size = v.size + more } in
+      let well = well_added v w more x before old e closed name spare r.fits in
+      let total = free_units-append before old in
+      let left = stepped it s left_view d (it.free + more) k well refl chain refl bins lists
+      (free_units-append before (free_block x (units old + more) ∷ []) ∙ omega (arith, r.sound.total, ap free_units e, total, idle_units old idle, free_units-free (free_block x (units old + more)) [] refl)) in
+      let added : Adds more v (shown (record it { size = it.size + more; cells = d; last = last; count = count; top = top; free = it.free + more; accesses = k })) = record { before = before; last = old; blocks = e; free = idle; name = x; named = named; new = λ n. is_new x v (new n); view = left.1; apart = subst IsApart (sym (ap (λ (u : View). u.blocks) left.1)) well.apart } in
+      (left.0, added, adds_keep v _ w (well_same left_view _ left.1 well) more added)
 
 -- after a used block
 module _ {it : Fields} {more : ℕ} (r : Growth it more true) where
@@ -131,19 +139,16 @@ module _ {it : Fields} {more : ℕ} (r : Growth it more true) where
   pub append_unlisted : (y : ℕ) → count_named y ((end r).front ++ (end r).last ∷ []) ≡ 0 → IsUnlisted y (class_lists it.max it.cells.links)
   append_unlisted y e = unused_unlisted (shown it) (w r) y (ap (count_named y) (end r).is ∙ e)
 
-  pub appended : (d : Cells) (k : ℕ) {last count top y n : ℕ} → is_full (shown it) ≡ false → n ≡ (node it.cells.room it.last).size
+  pub appended : (d : Cells) (k : ℕ) {last count top y n : ℕ} → HasRoomFor 1 (shown it) → n ≡ (node it.cells.room it.last).size
       → IsChain d.room (length it.cells.room.nodes) last count (((end r).front ++ record (end r).last { size = n } ∷ []) ++ free_block y (((end r).last.size - n) + more) ∷ []) → Binned it.max d.links top
       → class_lists it.max d.links ≡ push (down more) y (class_lists it.max it.cells.links) → count_named y ((end r).front ++ (end r).last ∷ []) ≡ 0 → y < length it.cells.room.nodes → Grown r d last count top k
   appended d k {y = y} {n = n} room e chain bins eo new below =
       let whole : n ≡ (end r).last.size = e ∙ size_at_end r in
       let none : (end r).last.size - (end r).last.size ≡ 0 = omega arith in
       let sum : 0 + more ≡ more = omega arith in
-      let ends = end_used (end r).front (end r).last (b_used r) in
-      let gone = ap free_end (end r).is ∙ ends.0 in
-      let kept = ap without_end (end r).is ∙ ends.1 in
-      grown r d k y (((end r).front ++ (end r).last ∷ []) ++ free_block y (0 + more) ∷ []) (record { below = omega (arith, below, r.sound.nodes); absent = ap (count_named y) (end r).is ∙ new }) (λ _. room) (rw (whole, none) at chain) bins
-      (rw (gone, kept) refl) (rw (gone, sum) eo)
-      (free_units-append ((end r).front ++ (end r).last ∷ []) (free_block y (0 + more) ∷ []) ∙ omega (arith, r.sound.total, ap free_units (end r).is, free_units-free (free_block y (0 + more)) [] refl))
+      let unused : IsUnused y (shown it) = record { below = omega (arith, below, r.sound.nodes); absent = ap (count_named y) (end r).is ∙ new } in
+      grown r d k y ((end r).front ++ (end r).last ∷ []) [] ((end r).is ∙ sym (append_nil _)) (ends_free_last (end r).front (end r).last ∙ ap not (b_used r)) tt tt (inr unused) (inr room) (λ _. unused)
+      (rw (whole, none) at chain) bins (rw sum eo)
 
 -- the last block is free
 module _ {it : Fields} {more : ℕ} (r : Growth it more false) where
@@ -170,12 +175,10 @@ module _ {it : Fields} {more : ℕ} (r : Growth it more false) where
   pub widened : (d : Cells) (k : ℕ) {count top : ℕ} → IsChain d.room (length it.cells.room.nodes) it.last count ((end r).front ++ record (end r).last { size = (end r).last.size + more } ∷ []) → Binned it.max d.links top
       → class_lists it.max d.links ≡ push (down ((node it.cells.room it.last).size + more)) it.last widen_left → Grown r d it.last count top k
   widened d k chain bins eo =
-      let ends = end_free (end r).front (end r).last (b_used r) in
-      let gone = ap free_end (end r).is ∙ ends.0 in
-      let kept = ap without_end (end r).is ∙ ends.1 in
-      let u = some_unused (shown it) (w r) in
-      let size_is : (node it.cells.room it.last).size + more ≡ ((end r).last.size + 0) + more = omega (arith, size_at_end r) in
-      let sum : (end r).last.size + more ≡ ((end r).last.size + 0) + more = omega arith in
-      grown r d k u.0 _ u.1 (λ q. absurd (false≢true q)) chain bins
-      (rw (gone, kept, ← sum, b_used r) refl) (rw (gone, ← is_left, ← size_is, (end r).name) eo)
-      (free_units-append (end r).front (record (end r).last { size = (end r).last.size + more } ∷ []) ∙ omega (arith, r.sound.total, ap free_units (end r).is, free_units-append (end r).front ((end r).last ∷ []), free_units-free (end r).last [] (b_used r), free_units-free (record (end r).last { size = (end r).last.size + more }) [] (b_used r)))
+      let size_is : (node it.cells.room it.last).size ≡ units ((end r).last ∷ []) = omega (arith, size_at_end r) in
+      let sum : (end r).last.size + more ≡ units ((end r).last ∷ []) + more = omega arith in
+      let named = (end r).name in
+      let parts = apart_parts (end r).front ((end r).last ∷ []) (subst IsApart (end r).is (w r).apart) in
+      grown r d k it.last (end r).front ((end r).last ∷ []) (end r).is (first_false (ends_free (end r).front) (not (end r).last.used) parts.2 (ap not (b_used r))) (b_used r, tt) (named, tt)
+      (inl (omega (arith, one-eq it.last (end r).last.name named))) (inl (omega arith)) (λ n. absurd (cc))
+      (rw (b_used r, named, sum) at chain) bins (rw (← is_left, ← size_is) eo)

@@ -1,16 +1,16 @@
 -- What each call leaves of the ranges of live handles.
 use Rattle.std.proofs.Common.{◌≡◌, ◌≢◌, ℕ, IfSome, zero, suc, ◌+◌, ◌≤◌, Bool, true, false, not, ◌&&◌, List, [], ◌∷◌, ◌++◌, Option, Some, None, nat_eq, if◌then◌else◌, refl, sym, ap, subst, ◌∙◌, inl, inr, arith, append_assoc, add-zero, add_assoc, eq-eqb, ne_eqb}
 use Rattle.std.proofs.lemmas.Bool.{false≢true}
-use Rattle.offset_allocator.specs.Named.{Block, View, Place, Grant, one, units, count_named, used_block, free_block, free_part, free_start, without_start, free_end, without_end, IsWellFormed, IsUnused, place_of, is_used_at, free_at, free, name_or, extend_by, is_extendable, Extension, extend}
+use Rattle.offset_allocator.specs.Named.{Block, View, Place, Grant, one, units, count_named, used_block, free_block, free_part, free_start, without_start, free_end, without_end, IsWellFormed, place_of, is_used_at, free_at, free}
 use Rattle.offset_allocator.specs.Ranges.{Range, range_of, AreDisjoint, Grants, KeepsAll, KeepsOthers, KeepsRanges, IsLive}
-use Rattle.offset_allocator.specs.Relations.{SameSpace, Splits}
-use Rattle.offset_allocator.specs.Functional.{ExtendsBy}
-use Rattle.offset_allocator.proofs.ViewOrders.{if_value, tally_append, hit_cases}
+use Rattle.offset_allocator.specs.Relations.{SameSpace, Splits, Adds}
+use Rattle.std.specs.List.{AllByRecursion}
+use Rattle.offset_allocator.proofs.ViewOrders.{tally_append, hit_cases}
 use Rattle.offset_allocator.proofs.ViewSteps.{place_at, no_place}
-use Rattle.offset_allocator.proofs.ViewApart.{coalesced_parts, end_parts}
+use Rattle.offset_allocator.proofs.ViewApart.{coalesced_parts}
 use Rattle.offset_allocator.proofs.Reading.{live_used, range_at}
 use Rattle.offset_allocator.proofs.Split.{part_sums}
-use Rattle.offset_allocator.proofs.ViewTaken.{tally_end, tally_start, well_free, well_extended}
+use Rattle.offset_allocator.proofs.ViewTaken.{tally_end, tally_start, well_free}
 
 -- the range of the used block named x, where the first of the blocks has this offset
 abbrev range_from : ℕ → ℕ → List Block → Option Range
@@ -286,20 +286,16 @@ shut : (x offset : ℕ) (bs cs : List Block) → HasNone x cs → range_from x o
 shut x offset [] cs h = nothing x offset cs h
 shut x offset (b ∷ bs) cs h = ap (λ r. if b.used && nat_eq x b.name then Some (record { offset = offset; size = b.size }) else r) (shut x (offset + b.size) bs cs h)
 
-extended_keeps : (more y : ℕ) (v : View) → IsWellFormed v → IsWellFormed (extend_by more y v) → KeepsAll v (extend_by more y v)
-extended_keeps more y v f after x =
-    let last : Block = free_block (name_or y (free_end v.blocks)) (units (free_end v.blocks) + more) in
-    range_is x (extend_by more y v) after
-    ∙ shut x 0 (without_end v.blocks) (last ∷ []) (none_idle x last refl)
-    ∙ sym (shut x 0 (without_end v.blocks) (free_end v.blocks) (none_end x v.blocks))
-    ∙ sym (ap (λ l. range_from x 0 l) (end_parts v.blocks))
+none_idle_all : (x : ℕ) (bs : List Block) → AllByRecursion (λ b. b.used ≡ false) bs → HasNone x bs
+unfolding HasNone
+none_idle_all x [] i = tt
+none_idle_all x (b ∷ bs) i = (ap (λ (u : Bool). u && nat_eq x b.name) i.0, none_idle_all x bs i.1)
+
+pub adds_keep : (v w : View) → IsWellFormed v → IsWellFormed w → (more : ℕ) → Adds more v w → KeepsAll v w
+adds_keep v w f after more s x =
+    let last : Block = free_block s.name (units s.last + more) in
+    range_is x w after ∙ ap (λ (u : View). range_from x 0 u.blocks) s.view
+    ∙ shut x 0 s.before (last ∷ []) (none_idle x last refl)
+    ∙ sym (shut x 0 s.before s.last (none_idle_all x s.last s.free))
+    ∙ sym (ap (range_from x 0) s.blocks)
     ∙ sym (range_is x v f)
-
-keeps_if : (more y : ℕ) (v : View) → IsWellFormed v → IsUnused y v → KeepsAll v (extend more y v).view
-keeps_if zero y v f u = λ x. refl
-keeps_if (suc more) y v f u = if_value (is_extendable (suc more) v) (let d : Extension = record { view = extend_by (suc more) y v; done = true } in d) (record { view = v; done = false }) (λ (d : Extension). KeepsAll v d.view)
-    (λ e. extended_keeps (suc more) y v f (well_extended v f (suc more) y u e))
-    (λ e x. refl)
-
-pub extends_keeps : (more : ℕ) (v w : View) (done : Bool) → IsWellFormed v → ExtendsBy more v w done → KeepsAll v w
-extends_keeps more v w done f a x = ap (range_of x) a.view ∙ keeps_if more a.name v f a.unused x

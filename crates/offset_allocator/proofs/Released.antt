@@ -1,20 +1,15 @@
 -- A release and an extension, as functions and as relations.
-use Rattle.std.proofs.Common.{◌↔◌, ◌≡◌, ℕ, ◌+◌, ◌≤◌, Bool, true, false, not, ◌&&◌, List, [], ◌∷◌, ◌++◌, length, Option, Some, None, if◌then◌else◌, nat_eq, nat_lt, refl, sym, ap, ap₂, subst, ◌∙◌, inl, inr, arith, leb-false, append_assoc, ◌⊎◌}
-use Rattle.std.proofs.lemmas.Bool.{cases_lt, false≢true, true≢false, ltb-false, le-ltb, lt-leb}
+use Rattle.std.proofs.Common.{◌↔◌, ◌≡◌, ℕ, ◌≤◌, Bool, true, false, not, ◌&&◌, List, [], ◌∷◌, ◌++◌, Option, Some, None, if◌then◌else◌, nat_eq, refl, sym, ap, ap₂, subst, ◌∙◌, inl, inr, arith, append_assoc}
+use Rattle.std.proofs.lemmas.Bool.{false≢true, true≢false}
 use Rattle.std.specs.List.{AllByRecursion}
-use Rattle.offset_allocator.specs.Named.{Block, View, Place, one, units, count_named, IsApart, IsWellFormed, IsNew, IsUnused, free_block, free_start, without_start, free_end, without_end, starts_free, name_or, ends_used, place_of, replace, is_full, max_size, is_used_at, free_at, free, extend_by, is_extendable, Extension, extend}
+use Rattle.offset_allocator.specs.Named.{Block, View, Place, one, units, count_named, IsApart, IsWellFormed, free_block, free_start, without_start, free_end, without_end, starts_free, place_of, replace, is_used_at, free_at, free}
 use Rattle.offset_allocator.specs.Ranges.{IsLive}
-use Rattle.offset_allocator.specs.Promises.{HasRoomFor}
 use Rattle.offset_allocator.specs.Relations.{SameSpace, Frees, Adds, CanExtend, Extends}
-use Rattle.offset_allocator.specs.Functional.{ExtendsBy}
 use Rattle.offset_allocator.proofs.ViewOrders.{hit_cases, tally_append}
-use Rattle.offset_allocator.proofs.ViewApart.{ends_free, apart_parts, first_false, second_false, coalesced_parts, end_parts}
+use Rattle.offset_allocator.proofs.ViewApart.{ends_free, apart_parts, first_false, second_false, coalesced_parts, no_end, no_start}
 use Rattle.offset_allocator.proofs.ViewSteps.{place_at, place_here}
-use Rattle.offset_allocator.proofs.ViewTaken.{well_free, well_extended, or_false, append_nil}
-use Rattle.offset_allocator.proofs.ViewUndo.{no_end, no_start}
+use Rattle.offset_allocator.proofs.ViewTaken.{well_free, append_nil}
 use Rattle.offset_allocator.proofs.Reading.{live_used, used_live}
-use Rattle.offset_allocator.proofs.Extending.{extended_is, unextended_is, extendable_if, full_if}
-use Rattle.offset_allocator.proofs.Unused.{some_unused, is_new, new_unused}
 
 idle_append : (bs cs : List Block) → AllByRecursion (λ b. b.used ≡ false) bs → AllByRecursion (λ b. b.used ≡ false) cs → AllByRecursion (λ b. b.used ≡ false) (bs ++ cs)
 idle_append [] cs h k = k
@@ -119,129 +114,9 @@ module _ (v w : View) (known : IsWellFormed v) (x : ℕ) where
         ∙ ap (free_at v) (sym placed) in
         s.view ∙ ap (λ (u : View). record u { accesses = w.accesses }) is
 
--- more units at the end
-module _ (v : View) (known : IsWellFormed v) (more : ℕ) where
-  -- the last block is used, or it is free
-  end_is_free : (bs : List Block) → 1 ≤ length bs → ends_used bs ≡ false → (before : List Block) × (last : Block) × (bs ≡ before ++ last ∷ []) × (last.used ≡ false)
-  end_is_free [] some e = absurd (omega arith)
-  end_is_free (b ∷ []) some e = ([], b, refl, e)
-  end_is_free (b ∷ c ∷ bs) some e = let r = end_is_free (c ∷ bs) (omega arith) e in (b ∷ r.0, r.1, ap (λ l. b ∷ l) r.2, r.3)
-
-  end_used : (before : List Block) (last : Block) → ends_used (before ++ last ∷ []) ≡ last.used
-  end_used [] last = refl
-  end_used (b ∷ []) last = refl
-  end_used (b ∷ c ∷ before) last = end_used (c ∷ before) last
-
-  pub can_grow : is_extendable more v ≡ true → CanExtend more v
-  can_grow e =
-      let c = or_false (nat_lt max_size (v.size + more)) (ends_used v.blocks && is_full v) e in
-      (ltb-false max_size (v.size + more) c.0, go (ends_used v.blocks) refl c.1)
-    where
-      go : (u : Bool) → ends_used v.blocks ≡ u → (ends_used v.blocks && is_full v) ≡ false → HasRoomFor 1 v ⊎ ((before : List Block) × (last : Block) × (v.blocks ≡ before ++ last ∷ []) × (last.used ≡ false))
-      go true f h = inl (leb-false v.max_allocs (length v.blocks + 1) (second_false (ends_used v.blocks) (is_full v) h f))
-      go false f h = inr (end_is_free v.blocks known.some f)
-
-  pub grow_can : CanExtend more v → is_extendable more v ≡ true
-  grow_can c = extendable_if (nat_lt max_size (v.size + more)) (ends_used v.blocks) (is_full v) (le-ltb max_size (v.size + more) c.0) (λ u. elim c.1 [
-    | inl room ↦ lt-leb v.max_allocs (length v.blocks + 1) room
-    | inr l ↦ absurd (false≢true (sym l.3 ∙ sym (end_used l.0 l.1) ∙ ap ends_used (sym l.2) ∙ u))
-  ])
-
-  pub cannot_grow : ends_used v.blocks ≡ true → is_full v ≡ true → CanExtend more v → ⊥
-  cannot_grow u s c = true≢false (sym (grow_can c) ∙ full_if (nat_lt max_size (v.size + more)) (ends_used v.blocks) (is_full v) u s)
-
-  end_named : (bs : List Block) (x : ℕ) → AllByRecursion (λ b. b.name ≡ name_or x (free_end bs)) (free_end bs)
-  end_named [] x = tt
-  end_named (b ∷ []) x = go b.used
-    where
-      go : (u : Bool) → AllByRecursion (λ c. c.name ≡ name_or x (if not u then b ∷ [] else [])) (if not u then b ∷ [] else [])
-      go true = tt
-      go false = (refl, tt)
-  end_named (b ∷ c ∷ bs) x = end_named (c ∷ bs) x
-
-  extends_if : (x accesses : ℕ) → 1 ≤ more → IsUnused x v → (b : Bool) → is_extendable more v ≡ b → Extends more v (record (if b then extend_by more x v else v) { accesses = accesses }) b
-  extends_if x accesses pos u true e = inr (
-    pos,
-    can_grow e,
-    record {
-      before = without_end v.blocks;
-      last = free_end v.blocks;
-      blocks = end_parts v.blocks;
-      free = idle_end v.blocks;
-      name = name_or x (free_end v.blocks);
-      named = end_named v.blocks x;
-      new = λ l. is_new (name_or x (free_end v.blocks)) v (subst (λ bs. IsUnused (name_or x bs) v) (sym l) u);
-      view = refl;
-      apart = (well_extended v known more x u e).apart;
-    },
-  )
-  extends_if x accesses pos u false e = (pos, (λ c. absurd (true≢false (sym (grow_can c) ∙ e))), refl)
-
-  pub extends : (w : View) (done : Bool) → ExtendsBy more v w done → Extends more v w done
-  extends w done a = elim (cases_lt 0 more) [
-    | inl pos ↦
-        let b = is_extendable more v in
-        let is : extend more a.name v ≡ (let z : Extension = record { view = if b then extend_by more a.name v else v; done = b } in z) = extend_cases a.name pos in
-        subst (λ (u : View). Extends more v u done) (sym (a.view ∙ ap (λ (z : Extension). record z.view { accesses = w.accesses }) is))
-        (subst (λ (d : Bool). Extends more v (record (if b then extend_by more a.name v else v) { accesses = w.accesses }) d) (sym (a.answer ∙ ap (λ (z : Extension). z.done) is)) (extends_if a.name w.accesses pos a.unused b refl))
-    | inr none ↦ let zero_is : more ≡ 0 = omega arith in subst (λ (d : Bool). Extends more v w d) (sym (a.answer ∙ ap (λ k. (extend k a.name v).done) zero_is)) (inl (zero_is, a.view ∙ ap (λ k. record (extend k a.name v).view { accesses = w.accesses }) zero_is))
-  ]
-    where
-      extend_cases : (x : ℕ) → 1 ≤ more → extend more x v ≡ (let z : Extension = record { view = if is_extendable more v then extend_by more x v else v; done = is_extendable more v } in z)
-      extend_cases x pos = go (is_extendable more v) refl
-        where
-          go : (b : Bool) → is_extendable more v ≡ b → extend more x v ≡ (let z : Extension = record { view = if is_extendable more v then extend_by more x v else v; done = is_extendable more v } in z)
-          go true e = extended_is more x v pos e ∙ ap (λ (b : Bool). let z : Extension = record { view = if b then extend_by more x v else v; done = b } in z) (sym e)
-          go false e = unextended_is more x v pos e ∙ ap (λ (b : Bool). let z : Extension = record { view = if b then extend_by more x v else v; done = b } in z) (sym e)
-
-  -- and the other way
-  grown_by : (w : View) → 1 ≤ more → CanExtend more v → Adds more v w → ExtendsBy more v w true
-  grown_by w pos can g =
-      let e = grow_can can in
-      let n : (x : ℕ) × IsUnused x v × (name_or x g.last ≡ g.name) = named g.last g.named g.new in
-      let is = extended_is more n.0 v pos e in
-      let ends = end_is g.before g.last g.free (subst IsApart g.blocks known.apart) (first_false (ends_free g.before) true (apart_parts g.before (free_block g.name (units g.last + more) ∷ []) (subst IsApart (ap (λ (u : View). u.blocks) g.view) g.apart)).2 refl) in
-      let last_is : free_end v.blocks ≡ g.last = ap free_end g.blocks ∙ ends.0 in
-      let before_is : without_end v.blocks ≡ g.before = ap without_end g.blocks ∙ ends.1 in
-      record {
-        name = n.0;
-        unused = n.1;
-        view =
-            g.view
-            ∙ ap (λ (y : ℕ). record (replace v g.before g.last (free_block y (units g.last + more) ∷ []) []) { size = v.size + more; accesses = w.accesses }) (sym n.2)
-            ∙ ap₂ (λ (b l : List Block). record (replace v b l (free_block (name_or n.0 l) (units l + more) ∷ []) []) { size = v.size + more; accesses = w.accesses }) (sym before_is) (sym last_is)
-            ∙ ap (λ (z : Extension). record z.view { accesses = w.accesses }) (sym is);
-        answer = ap (λ (z : Extension). z.done) (sym is);
-      }
-    where
-      named : (last : List Block) → AllByRecursion (λ b. b.name ≡ g.name) last → (last ≡ [] → IsNew g.name v) → (x : ℕ) × IsUnused x v × (name_or x last ≡ g.name)
-      named [] e u = (g.name, new_unused g.name v (u refl), refl)
-      named (b ∷ bs) e u = let o = some_unused v known in (o.0, o.1, e.0)
-
-  pub extends_by : (w : View) (done : Bool) → Extends more v w done → ExtendsBy more v w done
-  extends_by w true e = elim e [
-    | inl z ↦ let o = some_unused v known in extends_none o.0 o.1 z.0 z.1
-    | inr g ↦ grown_by w g.0 g.1 g.2
-  ]
-    where
-      extends_none : (x : ℕ) → IsUnused x v → more ≡ 0 → SameSpace v w → ExtendsBy more v w true
-      extends_none x u z same = record { name = x; unused = u; view = same ∙ ap (λ k. record (extend k x v).view { accesses = w.accesses }) (sym z); answer = ap (λ k. (extend k x v).done) (sym z) }
-  extends_by w false e =
-      let o = some_unused v known in
-      let is = unextended_is more o.0 v e.0 (cannot (is_extendable more v) refl) in
-      record { name = o.0; unused = o.1; view = e.2 ∙ ap (λ (z : Extension). record z.view { accesses = w.accesses }) (sym is); answer = ap (λ (z : Extension). z.done) (sym is) }
-    where
-      cannot : (b : Bool) → is_extendable more v ≡ b → is_extendable more v ≡ false
-      cannot true f = absurd (e.1 (can_grow f))
-      cannot false f = f
-
 -- what was counted before changes nothing of it
-pub extends_counted : (more : ℕ) (v w : View) (accesses : ℕ) (done : Bool) → Extends more (record v { accesses = accesses }) w done → Extends more v w done
-extends_counted more v w accesses false e = e
-extends_counted more v w accesses true e = elim e [
-  | inl z ↦ inl z
-  | inr h ↦ let g = h.2 in inr (h.0, h.1, record { before = g.before; last = g.last; blocks = g.blocks; free = g.free; name = g.name; named = g.named; new = λ n. let u = g.new n in record { below = u.below; absent = u.absent }; view = g.view; apart = g.apart })
-]
+pub adds_counted : (more : ℕ) (v w : View) (accesses : ℕ) → Adds more (record v { accesses = accesses }) w → Adds more v w
+adds_counted more v w accesses g = record { before = g.before; last = g.last; blocks = g.blocks; free = g.free; name = g.name; named = g.named; new = λ n. let u = g.new n in record { below = u.below; absent = u.absent }; view = g.view; apart = g.apart }
 
 -- when it is done
 pub extends_done : (more : ℕ) (v w : View) (done : Bool) → Extends more v w done → (done ≡ true) ↔ (1 ≤ more → CanExtend more v)

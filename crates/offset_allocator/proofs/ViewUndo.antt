@@ -1,12 +1,12 @@
 -- A request that is granted, and released at once, leaves no trace.
-use Rattle.std.proofs.Common.{◌≡◌, ℕ, zero, suc, ◌+◌, ◌<◌, ◌≤◌, Bool, true, false, ◌&&◌, List, [], ◌∷◌, ◌++◌, length, Option, Some, None, slice_set, if◌then◌else◌, refl, sym, ap, ap₂, subst, ◌∙◌, inl, inr, arith, eq-eqb, ne_eqb}
+use Rattle.std.proofs.Common.{◌≡◌, ℕ, zero, suc, ◌+◌, ◌<◌, ◌≤◌, Bool, true, false, ◌&&◌, List, [], ◌∷◌, ◌++◌, length, Option, Some, None, slice_set, refl, sym, ap, ap₂, subst, ◌∙◌, inl, inr, arith, eq-eqb, ne_eqb}
 use Rattle.std.proofs.lemmas.List.{set-get_or}
 use Rattle.offset_allocator.specs.Classes.{down}
-use Rattle.offset_allocator.specs.Named.{Block, View, Place, Grant, used_block, free_block, units, times, count_named, starts_free, IsApart, names_at, push, without, remove, push_all, remove_all, replace, free_start, without_start, free_end, without_end, free_part, IsWellFormed, IsNew, place_of, free_at, free}
+use Rattle.offset_allocator.specs.Named.{Block, View, Place, Grant, used_block, free_block, units, times, count_named, starts_free, IsApart, names_at, push, without, remove, push_all, remove_all, replace, free_start, without_start, free_part, IsWellFormed, IsNew, place_of, free_at, free}
 use Rattle.offset_allocator.specs.Relations.{SameSpace, Splits}
 use Rattle.offset_allocator.proofs.ViewOrders.{hit_cases, names_same, length_remove, times_remove}
 use Rattle.offset_allocator.proofs.ViewReplaced.{listed_named}
-use Rattle.offset_allocator.proofs.ViewApart.{apart_parts, first_false, second_false, ends_free}
+use Rattle.offset_allocator.proofs.ViewApart.{apart_parts, first_false, second_false, ends_free, no_end, no_start}
 use Rattle.offset_allocator.proofs.ViewSteps.{place_here}
 use Rattle.offset_allocator.proofs.Ranges.{beside}
 use Rattle.offset_allocator.proofs.Split.{part_sums}
@@ -42,16 +42,6 @@ put_remove c x xs order h b e z =
     ∙ ap (λ l. slice_set order c (x ∷ l)) (names_same order c (without x (names_at order c)) h b ∙ ap (without x) e ∙ without_first x xs z)
     ∙ ap (slice_set order c) (sym e)
     ∙ set-get_or order c []
-
--- the ends of lists
-pub no_end : (bs : List Block) → ends_free bs ≡ false → (free_end bs ≡ []) × (without_end bs ≡ bs)
-no_end [] e = (refl, refl)
-no_end (b ∷ []) e = (ap (λ (f : Bool). if f then b ∷ [] else []) e, ap (λ (f : Bool). if f then [] else b ∷ []) e)
-no_end (b ∷ c ∷ bs) e = let r = no_end (c ∷ bs) e in (r.0, ap (λ l. b ∷ l) r.1)
-
-pub no_start : (bs : List Block) → starts_free bs ≡ false → (free_start bs ≡ []) × (without_start bs ≡ bs)
-no_start [] e = (refl, refl)
-no_start (b ∷ bs) e = (ap (λ (f : Bool). if f then b ∷ [] else []) e, ap (λ (f : Bool). if f then bs else b ∷ bs) e)
 
 part_start : (x n : ℕ) (bs : List Block) → starts_free bs ≡ false → (free_start (free_part x n ++ bs) ≡ free_part x n) × (without_start (free_part x n ++ bs) ≡ bs)
 part_start x zero bs e = no_start bs e

@@ -1,7 +1,6 @@
 pub mod Cells
 pub mod Classes
 pub mod Count
-pub mod Functional
 pub mod Named
 pub mod Orders
 pub mod Ranges

@@ -21,8 +21,7 @@ ghost use Rattle.offset_allocator.specs.Orders.{IsSmallestFrom};
 ghost use Rattle.offset_allocator.specs.Ranges.{range_of, size_of, Grants, IsLive, KeepsAll, KeepsOthers};
 ghost use Rattle.offset_allocator.specs.Reports.{IsGoodRefusal};
 ghost use Rattle.offset_allocator.specs.Named.{IsWellFormed, ends_used, is_full, padding_to, free, free_sizes, largest_free};
-ghost use Rattle.offset_allocator.specs.Relations.{Splits, Allocates, Aligns, Frees, Extends, CanExtend, IsAlignment, SameSpace, IsSplitNearBest, IsFresh, Resets};
-ghost use Rattle.offset_allocator.specs.Functional.{ExtendsBy};
+ghost use Rattle.offset_allocator.specs.Relations.{Splits, Allocates, Aligns, Frees, Adds, Extends, CanExtend, IsAlignment, SameSpace, IsSplitNearBest, IsFresh, Resets};
 ghost use Rattle.offset_allocator.specs.Start.{IsStarted};
 ghost use Rattle.offset_allocator.specs.Promises.{IsReport, IsFullReport, CanGrant, IsWhy, HasRoomFor, blocks_needed, units_needed};
 
@@ -514,7 +513,8 @@ impl<NI: NodeIndex> Allocator<NI> {
         requires more { 0 < more }
         requires fits { self.old.size + more ≤ 4294967295 }
         requires free { ends_used self.old.blocks ≡ false }
-        ensures step { ExtendsBy more self.old self.new true }
+        ensures step { Adds more self.old self.new }
+        ensures kept { KeepsAll self.old self.new }
         ensures accesses_min { self.old.accesses + 10 ≤ self.new.accesses }
         ensures accesses_max { self.new.accesses ≤ self.old.accesses + 16 }
     {
@@ -544,8 +544,9 @@ impl<NI: NodeIndex> Allocator<NI> {
         requires more { 0 < more }
         requires fits { self.old.size + more ≤ 4294967295 }
         requires used { ends_used self.old.blocks ≡ true }
-        requires room { is_full self.old ≡ false }
-        ensures step { ExtendsBy more self.old self.new true }
+        requires room { HasRoomFor 1 self.old }
+        ensures step { Adds more self.old self.new }
+        ensures kept { KeepsAll self.old self.new }
         ensures accesses_min { self.old.accesses + 9 ≤ self.new.accesses }
         ensures accesses_max { self.new.accesses ≤ self.old.accesses + 19 }
     {

@@ -53,3 +53,6 @@ invariant_of-self g c = let at = goal.at.invariant_of-self g c in (done g at.Aft
 
 pub returns-clause-step : goal.returns-clause-step
 returns-clause-step g c = let at = goal.at.returns-clause-step g c in rw (← c.self.view_is) (done g at.After-push (pre g at.After-self) c.push.new.count).1
+
+pub returns-clause-kept : goal.returns-clause-kept
+returns-clause-kept g c = let at = goal.at.returns-clause-kept g c in rw (← c.self.view_is) (done g at.After-push (pre g at.After-self) c.push.new.count).2
