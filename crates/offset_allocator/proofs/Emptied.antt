@@ -4,8 +4,8 @@ use Rattle.std.proofs.Common.{◌≡◌, ◌≢◌, ℕ, suc, append_assoc, ◌<
 use Rattle.std.proofs.lemmas.List.{length-replicate}
 use Rattle.std.proofs.lemmas.Bool.{cases_lt, false≢true}
 use Rattle.offset_allocator.specs.Classes.{down}
-use Rattle.offset_allocator.specs.Named.{Block, View, Place, one, is_free, free_block, units, count_named, used_of, times, count_listed, names_at, push, IsApart, IsWellFormed, place_of, is_used_at, free_start, without_start, free_end, without_end, coalesce, free_at, free, reset}
-use Rattle.offset_allocator.specs.Relations.{SameSpace, Resets}
+use Rattle.offset_allocator.specs.Named.{Block, View, one, is_free, free_block, units, count_named, used_of, times, count_listed, names_at, push, IsApart, IsWellFormed, place_of, is_used_at, reset}
+use Rattle.offset_allocator.specs.Relations.{SameSpace, Frees, Resets}
 use Rattle.offset_allocator.specs.Space.{last_or}
 use Rattle.offset_allocator.proofs.Ends.{Ended, ended}
 use Rattle.offset_allocator.proofs.Sizes.{down_small}
@@ -13,8 +13,8 @@ use Rattle.offset_allocator.specs.Ranges.{IsLive}
 use Rattle.offset_allocator.proofs.Reading.{used_live}
 use Rattle.offset_allocator.proofs.ViewApart.{apart_parts, first_false}
 use Rattle.offset_allocator.proofs.ViewOrders.{hit_cases, hit_at, hit_other, names_same, names_other, length_put, tally_append}
-use Rattle.offset_allocator.proofs.ViewSteps.{place_at, place_here}
-use Rattle.offset_allocator.proofs.ViewTaken.{replicate_none, tally_end, tally_start}
+use Rattle.offset_allocator.proofs.ViewSteps.{place_here}
+use Rattle.offset_allocator.proofs.ViewTaken.{replicate_none}
 
 -- lists of names
 no_name : (l : List ℕ) → ((y : ℕ) → times y l ≡ 0) → l ≡ []
@@ -132,31 +132,15 @@ module _ (bs : List Block) (last : ℕ) (ends : last_or None bs ≡ Some last) (
   before_live v is None e = tt
   before_live v is (Some x) e = used_live x v (ap (λ (l : List Block). is_used_at (place_of x l)) is ∙ before_used x (sym e))
 
--- a release
-module _ (v : View) (x : ℕ) where
-  freed : (P : View → Type 0) → P v → ((p : Place) → place_of x v.blocks ≡ Some p → P (coalesce v p.before (p.block ∷ []) p.block.name p.after)) → P (free x v)
-  freed P none some = go (place_of x v.blocks) refl
-    where
-      go : (o : Option Place) → place_of x v.blocks ≡ o → P (free_at v o)
-      go None e = none
-      go (Some p) e = some p e
-
-  pub freed_size : (free x v).size ≡ v.size
-  freed_size = freed (λ (w : View). w.size ≡ v.size) refl (λ p e. refl)
-
-  pub freed_limit : (free x v).max_allocs ≡ v.max_allocs
-  freed_limit = freed (λ (w : View). w.max_allocs ≡ v.max_allocs) refl (λ p e. refl)
-
-  pub freed_fewer : is_used_at (place_of x v.blocks) ≡ true → used_of (free x v).blocks < used_of v.blocks
-  freed_fewer live = go (place_of x v.blocks) refl
-    where
-      go : (o : Option Place) → place_of x v.blocks ≡ o → used_of (free_at v o).blocks < used_of v.blocks
-      go None e = absurd (false≢true (sym (ap is_used_at e) ∙ live))
-      go (Some p) e =
-          let f : Block → ℕ = λ b. one b.used in
-          let used : one p.block.used ≡ 1 = ap one (sym (ap is_used_at e) ∙ live) in
-          let whole = ap used_of (place_at x v.blocks p e).0 in
-          omega (arith, used, whole, tally_append f p.before (p.block ∷ p.after), tally_end f p.before, tally_start f p.after, tally_append f (without_end p.before) (free_block p.block.name (units (free_end p.before ++ (p.block ∷ free_start p.after))) ∷ without_start p.after))
+-- a release leaves fewer used blocks
+pub freed_fewer : (x : ℕ) (v w : View) → Frees x v w → used_of w.blocks < used_of v.blocks
+freed_fewer x v w f =
+    let used : Block → ℕ = λ b. one b.used in
+    let old = ap used_of f.blocks ∙ tally_append used f.before ((f.left ++ (f.block ∷ f.right)) ++ f.after) in
+    let middle = tally_append used (f.left ++ (f.block ∷ f.right)) f.after in
+    let inner = tally_append used f.left (f.block ∷ f.right) in
+    let new = ap (λ (u : View). used_of u.blocks) f.view ∙ tally_append used f.before _ in
+    omega (arith, ap one f.used, old, middle, inner, new)
 
 -- a space without a used block is as a reset leaves one
 pub as_reset : (v w : View) → IsWellFormed v → used_of v.blocks ≡ 0 → SameSpace v w → Resets v w

@@ -3,19 +3,20 @@ use Rattle.std.proofs.Common.{◌≡◌, ℕ, ◌+◌, ◌<◌, ◌^◌, Bool, t
 use Rattle.std.proofs.lemmas.Bool.{false≢true}
 use Rattle.offset_allocator.specs.Classes.{down}
 use Rattle.offset_allocator.specs.Cells.{Cells, Room, Node}
-use Rattle.offset_allocator.specs.Named.{Block, View, Place, one, is_free, count_named, count_listed, names_at, IsWellFormed, units, place_of, is_used_at, free_end, without_end, free_start, without_start, remove_all, push, free_block, free, free_at, coalesce, remove, times}
+use Rattle.offset_allocator.specs.Named.{Block, View, Place, one, is_free, count_named, count_listed, names_at, IsWellFormed, units, place_of, is_used_at, free_end, without_end, free_start, without_start, remove_all, push, free_block, replace, IsApart, remove, times}
 use Rattle.offset_allocator.specs.Space.{IsChain, HasPlace, blocks, coalesced_before}
 use Rattle.offset_allocator.specs.Orders.{Among, IsUnlisted, class_lists, Binned}
 use Rattle.offset_allocator.specs.State.{Fields, IsSound, view_of, free_units, AreListed, AreFiled, AreSound, shown}
 use Rattle.offset_allocator.proofs.Split.{well_counted}
-use Rattle.offset_allocator.proofs.Joints.{with_accesses}
 use Rattle.offset_allocator.proofs.Places.{located, at_place}
 use Rattle.offset_allocator.proofs.Views.{blocks-chain}
 use Rattle.offset_allocator.proofs.ViewSteps.{place_at}
 use Rattle.offset_allocator.proofs.ViewOrders.{tally_append, hit_cases, times_remove_all, length_remove_all}
 use Rattle.offset_allocator.proofs.ViewReplaced.{listed_named}
-use Rattle.offset_allocator.proofs.ViewTaken.{well_free, tally_end, tally_start}
-use Rattle.offset_allocator.proofs.Split.{well_counted}
+use Rattle.offset_allocator.proofs.ViewTaken.{well_frees, tally_end, tally_start}
+use Rattle.offset_allocator.proofs.ViewApart.{apart_parts, apart_coalesced, coalesced_parts}
+use Rattle.offset_allocator.proofs.Released.{idle_append, idle_end, idle_start}
+use Rattle.offset_allocator.specs.Relations.{SameSpace, Frees}
 use Rattle.offset_allocator.proofs.Joints.{stepped, free_most, among_times, times_among, free_units-append, free_units-free, free_units-used}
 
 -- the sum that `listed` takes, of one block
@@ -168,15 +169,30 @@ module _ {f : Fields} {x : ℕ} (r : Release f x) where
 
   pub freed : (d : Cells) (last' count' top' acc' : ℕ) → IsChain d.room (length f.cells.room.nodes) last' count' (without_end at.place.before ++ free_block at.place.block.name whole ∷ without_start at.place.after) → Binned max d.links top'
       → class_lists f.max d.links ≡ push (down whole) x left_twice
-      → IsSound f.max f.size f.limit d last' count' top' (f.free + at.place.block.size) × (view_of f.max f.size f.limit d last' acc' ≡ with_accesses acc' (free x (shown f)))
+      → IsSound f.max f.size f.limit d last' count' top' (f.free + at.place.block.size) × Frees x (shown f) (view_of f.max f.size f.limit d last' acc')
   freed d last' count' top' acc' chain bins eo =
-      let gone : List Block = free_end fs ++ ((b ∷ []) ++ free_start cs) in
+      let gone : List Block = free_end fs ++ (b ∷ free_start cs) in
       let sum : units gone ≡ (units (free_end fs) + b.size) + units (free_start cs) = tally_append (λ (d : Block). d.size) (free_end fs) (b ∷ free_start cs) ∙ omega arith in
-      let is : free x v ≡ coalesce v fs (b ∷ []) b.name cs = ap (free_at v) at.is in
       let removes : remove_all gone ls ≡ remove_all (free_start cs) (remove_all (free_end fs) ls) = remove_all-append (free_end fs) (b ∷ free_start cs) ls ∙ remove_used b (free_start cs) (remove_all (free_end fs) ls) used in
       let was = ap free_units at.stood ∙ free_units-append fs (b ∷ cs) ∙ ap (λ k. free_units fs + k) (free_units-used b cs used) in
-      let freed : Block = free_block b.name whole in
+      let freed : Block = free_block x (units gone) in
       let total = free_units-append (without_end fs) (freed ∷ without_start cs) ∙ ap (λ k. free_units (without_end fs) + k) (free_units-free freed (without_start cs) refl) in
-      let left = stepped f s (coalesce v fs (b ∷ []) b.name cs) d (f.free + b.size) acc' (subst IsWellFormed is (well_free v w x)) refl chain (rw sum refl) bins (rw (removes, sum, at.held.name) eo)
-      (omega (arith, s.total, was, total, units_end fs, units_start cs, tally_end (λ (d : Block). if d.used then 0 else d.size) fs, tally_start (λ (d : Block). if d.used then 0 else d.size) cs)) in
-      (left.0, left.1 ∙ ap (with_accesses acc') (sym is))
+      let left_view : View = replace v (without_end fs) gone (freed ∷ []) (without_start cs) in
+      let apart = apart_parts fs (b ∷ cs) (subst IsApart at.stood w.apart) in
+      let frees : (u : View) → SameSpace left_view u → Frees x v u = λ u same. record {
+        before = without_end fs;
+        left = free_end fs;
+        block = b;
+        right = free_start cs;
+        after = without_start cs;
+        blocks = at.stood ∙ coalesced_parts fs (b ∷ []) cs;
+        named = at.held.name;
+        used = used;
+        free = idle_append (free_end fs) (free_start cs) (idle_end fs) (idle_start cs);
+        view = same;
+        apart = subst IsApart (sym (ap (λ (u : View). u.blocks) same)) (apart_coalesced fs freed cs apart.0 apart.1.1);
+      } in
+      let named : IsChain d.room (length f.cells.room.nodes) last' count' (without_end fs ++ free_block x whole ∷ without_start cs) = subst (λ y. IsChain d.room (length f.cells.room.nodes) last' count' (without_end fs ++ free_block y whole ∷ without_start cs)) at.held.name chain in
+      let left = stepped f s left_view d (f.free + b.size) acc' (well_frees x v left_view w (frees left_view refl)) refl (rw sum named) refl bins (rw (removes, sum) eo)
+      (omega (arith, s.total, was, total, sum, units_end fs, units_start cs, tally_end (λ (d : Block). if d.used then 0 else d.size) fs, tally_start (λ (d : Block). if d.used then 0 else d.size) cs)) in
+      (left.0, frees _ left.1)

@@ -1,16 +1,15 @@
 -- What each call leaves of the ranges of live handles.
-use Rattle.std.proofs.Common.{◌≡◌, ◌≢◌, ℕ, IfSome, zero, suc, ◌+◌, ◌≤◌, Bool, true, false, not, ◌&&◌, List, [], ◌∷◌, ◌++◌, Option, Some, None, nat_eq, if◌then◌else◌, refl, sym, ap, subst, ◌∙◌, inl, inr, arith, append_assoc, add-zero, add_assoc, eq-eqb, ne_eqb}
+use Rattle.std.proofs.Common.{◌≡◌, ◌≢◌, ℕ, IfSome, zero, suc, ◌+◌, ◌≤◌, Bool, true, false, ◌&&◌, List, [], ◌∷◌, ◌++◌, Option, Some, None, nat_eq, if◌then◌else◌, refl, sym, ap, subst, ◌∙◌, inl, inr, arith, append_assoc, add-zero, add_assoc, eq-eqb, ne_eqb}
 use Rattle.std.proofs.lemmas.Bool.{false≢true}
-use Rattle.offset_allocator.specs.Named.{Block, View, Place, Grant, one, units, count_named, used_block, free_block, free_part, free_start, without_start, free_end, without_end, IsWellFormed, place_of, is_used_at, free_at, free}
-use Rattle.offset_allocator.specs.Ranges.{Range, range_of, AreDisjoint, Grants, KeepsAll, KeepsOthers, KeepsRanges, IsLive}
-use Rattle.offset_allocator.specs.Relations.{SameSpace, Splits, Adds}
+use Rattle.offset_allocator.specs.Named.{Block, View, Place, Grant, one, units, count_named, used_block, free_block, free_part, IsWellFormed, place_of}
+use Rattle.offset_allocator.specs.Ranges.{Range, range_of, AreDisjoint, Grants, KeepsAll, KeepsOthers, KeepsRanges}
+use Rattle.offset_allocator.specs.Relations.{SameSpace, Splits, Frees, Adds}
 use Rattle.std.specs.List.{AllByRecursion}
 use Rattle.offset_allocator.proofs.ViewOrders.{tally_append, hit_cases}
 use Rattle.offset_allocator.proofs.ViewSteps.{place_at, no_place}
-use Rattle.offset_allocator.proofs.ViewApart.{coalesced_parts}
-use Rattle.offset_allocator.proofs.Reading.{live_used, range_at}
+use Rattle.offset_allocator.proofs.Released.{idle_parts}
+use Rattle.offset_allocator.proofs.Reading.{range_at}
 use Rattle.offset_allocator.proofs.Split.{part_sums}
-use Rattle.offset_allocator.proofs.ViewTaken.{tally_end, tally_start, well_free}
 
 -- the range of the used block named x, where the first of the blocks has this offset
 abbrev range_from : ℕ → ℕ → List Block → Option Range
@@ -228,22 +227,6 @@ module _ {needed n : ℕ} {padding_at : ℕ → ℕ} {v w : View} {g : Grant} (s
   })
 
 -- a release
-none_if : (x : ℕ) (b : Block) (u : Bool) → b.used ≡ u → (bs : List Block) → HasNone x (if not u then b ∷ [] else [])
-unfolding HasNone
-none_if x b true e bs = tt
-none_if x b false e bs = none_idle x b e
-
-none_start : (x : ℕ) (bs : List Block) → HasNone x (free_start bs)
-unfolding HasNone
-none_start x [] = tt
-none_start x (b ∷ bs) = none_if x b b.used refl bs
-
-none_end : (x : ℕ) (bs : List Block) → HasNone x (free_end bs)
-unfolding HasNone
-none_end x [] = tt
-none_end x (b ∷ []) = none_if x b b.used refl []
-none_end x (b ∷ c ∷ bs) = none_end x (c ∷ bs)
-
 none_beside : (x y : ℕ) → y ≢ x → (b : Block) → x ≡ b.name → HasNone y (b ∷ [])
 unfolding HasNone
 none_beside x y d b e = (ap (λ t. b.used && t) (ne_eqb y b.name (λ k. d (k ∙ sym e))) ∙ right b.used, tt)
@@ -252,44 +235,42 @@ none_beside x y d b e = (ap (λ t. b.used && t) (ne_eqb y b.name (λ k. d (k ∙
     right true = refl
     right false = refl
 
-freed_if : (x : ℕ) (v : View) → IsWellFormed v → (o : Option Place) → place_of x v.blocks ≡ o → is_used_at o ≡ true → IsWellFormed (free_at v o) → (range_of x (free_at v o) ≡ None) × KeepsOthers x v (free_at v o)
-freed_if x v f None e live after = absurd (false≢true live)
-freed_if x v f (Some p) e live after =
-    let at = place_at x v.blocks p e in
-    let alone = beside x p.before p.block p.after at.1 (let k = ap (count_named x) at.0 in let d = f.distinct x in omega arith) in
-    let w = free_at v (Some p) in
-    let old = free_end p.before ++ ((p.block ∷ []) ++ free_start p.after) in
-    let stood = at.0 ∙ coalesced_parts p.before (p.block ∷ []) p.after in
-    let gone : HasNone x w.blocks = none_append x (without_end p.before) (free_block p.block.name (units old) ∷ without_start p.after)
-    (none_named x (without_end p.before) (let t = tally_end (λ (b : Block). one (nat_eq x b.name)) p.before in let k = alone.0 in omega arith))
-    (none_append x (free_block p.block.name (units old) ∷ []) (without_start p.after) (none_idle x (free_block p.block.name (units old)) refl) (none_named x (without_start p.after) (let t = tally_start (λ (b : Block). one (nat_eq x b.name)) p.after in let k = alone.1 in omega arith))) in (
-      range_is x w after ∙ nothing x 0 w.blocks gone,
-      λ y d. range_is y w after ∙ swapped y 0 (without_end p.before) old (free_block p.block.name (units old) ∷ []) (without_start p.after) (omega arith)
-          (none_append y (free_end p.before) _ (none_end y p.before) (none_append y (p.block ∷ []) (free_start p.after) (none_beside x y d p.block at.1) (none_start y p.after)))
-          (none_idle y (free_block p.block.name (units old)) refl)
-          ∙ sym (ap (λ l. range_from y 0 l) stood) ∙ sym (range_is y v f),
-    )
+none_idle_all : (x : ℕ) (bs : List Block) → AllByRecursion (λ b. b.used ≡ false) bs → HasNone x bs
+unfolding HasNone
+none_idle_all x [] i = tt
+none_idle_all x (b ∷ bs) i = (ap (λ (u : Bool). u && nat_eq x b.name) i.0, none_idle_all x bs i.1)
 
-freed : (x : ℕ) (v w : View) → IsWellFormed v → IsLive x v → SameSpace (free x v) w → (range_of x w ≡ None) × KeepsOthers x v w
-freed x v w f live but =
-    let h = freed_if x v f (place_of x v.blocks) refl (live_used x v live) (well_free v f x) in
-    (ap (range_of x) but ∙ h.0, λ y d. ap (range_of y) but ∙ h.1 y d)
+module _ (x : ℕ) (v w : View) (k : IsWellFormed v) (after : IsWellFormed w) (f : Frees x v w) where
+  abbrev old : List Block
+  old = f.left ++ (f.block ∷ f.right)
 
-pub freed_gone : (x : ℕ) (v w : View) → IsWellFormed v → IsLive x v → SameSpace (free x v) w → range_of x w ≡ None
-freed_gone x v w f live but = (freed x v w f live but).0
+  abbrev freed : Block
+  freed = free_block x (units old)
 
-pub freed_others : (x : ℕ) (v w : View) → IsWellFormed v → IsLive x v → SameSpace (free x v) w → KeepsOthers x v w
-freed_others x v w f live but = (freed x v w f live but).1
+  remade : (y : ℕ) → range_of y w ≡ range_from y 0 (f.before ++ (freed ∷ f.after))
+  remade y = range_is y w after ∙ ap (λ (u : View). range_from y 0 u.blocks) f.view
+
+  pub frees_gone : range_of x w ≡ None
+  frees_gone =
+      let here : one (nat_eq x f.block.name) ≡ 1 = elim (hit_cases x f.block.name) [ inl h ↦ h.1 | inr h ↦ absurd (h.0 (sym f.named)) ] in
+      let all = ap (count_named x) f.blocks ∙ tally_append (λ (b : Block). one (nat_eq x b.name)) f.before (old ++ f.after) in
+      let middle = tally_append (λ (b : Block). one (nat_eq x b.name)) old f.after in
+      let inner = tally_append (λ (b : Block). one (nat_eq x b.name)) f.left (f.block ∷ f.right) in
+      remade x ∙ nothing x 0 _ (none_append x f.before (freed ∷ f.after) (none_named x f.before (omega (arith, k.distinct x, all, middle, inner, here))) (none_append x (freed ∷ []) f.after (none_idle x freed refl) (none_named x f.after (omega (arith, k.distinct x, all, middle, inner, here)))))
+
+  pub frees_others : KeepsOthers x v w
+  frees_others y d =
+      let idle = idle_parts f.left f.right f.free in
+      remade y
+      ∙ swapped y 0 f.before old (freed ∷ []) f.after (omega arith)
+      (none_append y f.left (f.block ∷ f.right) (none_idle_all y f.left idle.0) (none_append y (f.block ∷ []) f.right (none_beside x y d f.block (sym f.named)) (none_idle_all y f.right idle.1)))
+      (none_idle y freed refl)
+      ∙ sym (ap (range_from y 0) f.blocks) ∙ sym (range_is y v k)
 
 -- more units at the end
 shut : (x offset : ℕ) (bs cs : List Block) → HasNone x cs → range_from x offset (bs ++ cs) ≡ range_from x offset bs
 shut x offset [] cs h = nothing x offset cs h
 shut x offset (b ∷ bs) cs h = ap (λ r. if b.used && nat_eq x b.name then Some (record { offset = offset; size = b.size }) else r) (shut x (offset + b.size) bs cs h)
-
-none_idle_all : (x : ℕ) (bs : List Block) → AllByRecursion (λ b. b.used ≡ false) bs → HasNone x bs
-unfolding HasNone
-none_idle_all x [] i = tt
-none_idle_all x (b ∷ bs) i = (ap (λ (u : Bool). u && nat_eq x b.name) i.0, none_idle_all x bs i.1)
 
 pub adds_keep : (v w : View) → IsWellFormed v → IsWellFormed w → (more : ℕ) → Adds more v w → KeepsAll v w
 adds_keep v w f after more s x =

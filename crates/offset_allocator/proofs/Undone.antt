@@ -2,12 +2,11 @@
 use Rattle.std.proofs.Common.{ℕ, Some, refl, subst, arith}
 use Rattle.offset_allocator.specs.Named.{View, Grant, IsWellFormed}
 use Rattle.offset_allocator.specs.Relations.{SameSpace, Allocates, Frees}
-use Rattle.offset_allocator.proofs.Released.{freed_by}
 use Rattle.offset_allocator.proofs.Served.{split_as, well_served}
-use Rattle.offset_allocator.proofs.ViewUndo.{undo_same}
+use Rattle.offset_allocator.proofs.ViewUndo.{undone}
 
 pub is_undone : (n : ℕ) (v : View) → IsWellFormed v → (w u : View) (g : Grant) → Allocates n v w (Some g) → Frees g.name w u → SameSpace v u
-is_undone n v known w u g a f = undo_same n v w u g known a.1 (freed_by w u (well_served 1 n n (λ offset. 0) v w known (omega arith) (λ o l. absurd (omega arith)) g a) g.name f)
+is_undone n v known w u g a f = undone n v w u g known (well_served 1 n n (λ offset. 0) v w known (omega arith) (λ o l. absurd (omega arith)) g a) a.1 f
 
 -- a grant leaves no trace where it is released, though other requests were refused between
 pub taken_back : (n : ℕ) (v w u z : View) (g : Grant) → IsWellFormed v → Allocates n v w (Some g) → SameSpace w u → Frees g.name u z → SameSpace v z

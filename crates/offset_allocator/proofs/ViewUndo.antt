@@ -1,17 +1,20 @@
 -- A request that is granted, and released at once, leaves no trace.
-use Rattle.std.proofs.Common.{◌≡◌, ℕ, zero, suc, ◌+◌, ◌<◌, ◌≤◌, Bool, true, false, ◌&&◌, List, [], ◌∷◌, ◌++◌, length, Option, Some, None, slice_set, refl, sym, ap, ap₂, subst, ◌∙◌, inl, inr, arith, eq-eqb, ne_eqb}
+use Rattle.std.proofs.Common.{◌≡◌, ℕ, zero, suc, ◌<◌, ◌≤◌, Bool, true, false, not, ◌&&◌, List, [], ◌∷◌, ◌++◌, length, Some, slice_set, refl, sym, ap, ap₂, subst, ◌∙◌, inl, inr, arith, eq-eqb, ne_eqb, append_assoc}
 use Rattle.std.proofs.lemmas.List.{set-get_or}
 use Rattle.offset_allocator.specs.Classes.{down}
-use Rattle.offset_allocator.specs.Named.{Block, View, Place, Grant, used_block, free_block, units, times, count_named, starts_free, IsApart, names_at, push, without, remove, push_all, remove_all, replace, free_start, without_start, free_part, IsWellFormed, IsNew, place_of, free_at, free}
-use Rattle.offset_allocator.specs.Relations.{SameSpace, Splits}
-use Rattle.offset_allocator.proofs.ViewOrders.{hit_cases, names_same, length_remove, times_remove}
-use Rattle.offset_allocator.proofs.ViewReplaced.{listed_named}
-use Rattle.offset_allocator.proofs.ViewApart.{apart_parts, first_false, second_false, ends_free, no_end, no_start}
-use Rattle.offset_allocator.proofs.ViewSteps.{place_here}
+use Rattle.std.specs.List.{AllByRecursion}
+use Rattle.offset_allocator.specs.Named.{Block, View, Place, Grant, used_block, free_block, units, times, count_named, starts_free, IsApart, names_at, push, without, remove, push_all, remove_all, replace, free_start, without_start, free_end, without_end, free_part, IsWellFormed, place_of}
+use Rattle.offset_allocator.specs.Relations.{SameSpace, Splits, Frees}
 use Rattle.offset_allocator.proofs.Ranges.{beside}
+use Rattle.offset_allocator.proofs.Released.{idle_parts, end_is, start_is}
+use Rattle.offset_allocator.proofs.Rows.{one-same}
+use Rattle.offset_allocator.proofs.Sizes.{down_small}
 use Rattle.offset_allocator.proofs.Split.{part_sums}
 use Rattle.offset_allocator.proofs.Unused.{new_unused}
-use Rattle.offset_allocator.proofs.Sizes.{down_small}
+use Rattle.offset_allocator.proofs.ViewApart.{ends_free, apart_parts, first_false, second_false, no_end, no_start}
+use Rattle.offset_allocator.proofs.ViewOrders.{hit_cases, names_same, length_remove, times_remove}
+use Rattle.offset_allocator.proofs.ViewReplaced.{listed_named}
+use Rattle.offset_allocator.proofs.ViewSteps.{place_here}
 
 set_again : (order : List (List ℕ)) (c : ℕ) (l m : List ℕ) → slice_set (slice_set order c l) c m ≡ slice_set order c m
 set_again [] c l m = refl
@@ -54,69 +57,89 @@ orders_back x (suc n) order h e = remove_put (down (suc n)) x order h (down_smal
 free_is : (b : Block) → b.used ≡ false → b ≡ free_block b.name b.size
 free_is b f = ap (λ (u : Bool). record { name = b.name; size = b.size; used = u }) f
 
--- the block named x is split into n units and a remainder of units left, and freed
-module _ (v : View) (w : IsWellFormed v) (n left rest x size : ℕ) (before after : List Block) (older : List ℕ) (new : 1 ≤ left → IsNew rest v)
-    (stood : v.blocks ≡ before ++ (free_block x size ∷ after)) (first : names_at v.order (down size) ≡ x ∷ older) (whole : n + left ≡ size) where
+-- a name of a well-formed space is at one place
+one_place : (v : View) → IsWellFormed v → (x : ℕ) (fs gs cs ds : List Block) (b d : Block) → v.blocks ≡ fs ++ (b ∷ cs) → v.blocks ≡ gs ++ (d ∷ ds) → b.name ≡ x → d.name ≡ x → (fs ≡ gs) × (b ≡ d) × (cs ≡ ds)
+one_place v w x fs gs cs ds b d e f p q =
+    let at : (hs es : List Block) (c : Block) → v.blocks ≡ hs ++ (c ∷ es) → c.name ≡ x → place_of x v.blocks ≡ Some (record { before = hs; block = c; after = es }) = λ hs es c g r.
+    ap (place_of x) g ∙ place_here x hs c es (beside x hs c es (sym r) (omega (arith, w.distinct x, ap (count_named x) g))).0 (sym r) in
+    let same : (let z : Place = record { before = fs; block = b; after = cs } in z) ≡ record { before = gs; block = d; after = ds } = let h = sym (at fs cs b e p) ∙ at gs ds d f q in cc in
+    (ap (λ (z : Place). z.before) same, ap (λ (z : Place). z.block) same, ap (λ (z : Place). z.after) same)
+
+-- a grant without padding, and its release
+module _ (n : ℕ) (v w u : View) (g : Grant) (known : IsWellFormed v) (left : IsWellFormed w) (s : Splits n n (λ offset. 0) v w g) (f : Frees g.name w u) where
+  abbrev x : ℕ
+  x = s.block.name
+
+  abbrev size : ℕ
+  size = s.block.size
+
+  abbrev remainder : List Block
+  remainder = free_part s.remainder_name s.remainder
+
   abbrev order : List (List ℕ)
   order = remove (down size) x v.order
 
-  abbrev split_view : View
-  split_view = replace v before (free_block x size ∷ []) (used_block x n ∷ free_part rest left) after
+  named : g.name ≡ x
+  named = ap (λ (h : Grant). h.name) s.grant
 
-  parts : IsApart before × IsApart (free_block x size ∷ after) × ((ends_free before && starts_free (free_block x size ∷ after)) ≡ false)
-  parts = apart_parts before (free_block x size ∷ after) (subst IsApart stood w.apart)
+  old : s.block ≡ free_block x size
+  old = free_is s.block s.free
 
-  end : ends_free before ≡ false
-  end = first_false (ends_free before) true parts.2 refl
+  -- what the grant leaves
+  split : w ≡ record v { blocks = s.before ++ (used_block x n ∷ (remainder ++ s.after)); order = push_all remainder order; accesses = w.accesses }
+  split = s.view ∙ ap₂ (λ (l : List Block) (b : Block). record (replace v s.before (b ∷ []) (l ++ (used_block x n ∷ remainder)) s.after) { accesses = w.accesses }) (ap (free_part s.padding_name) s.padded) old
 
-  beginning : starts_free after ≡ false
-  beginning = second_false true (starts_free after) parts.1.0 refl
+  -- the release takes the block as the grant left it
+  here : (s.before ≡ f.before ++ f.left) × (used_block x n ≡ f.block) × (remainder ++ s.after ≡ f.right ++ f.after)
+  here = one_place w left x s.before (f.before ++ f.left) (remainder ++ s.after) (f.right ++ f.after) (used_block x n) f.block (ap (λ (z : View). z.blocks) split) (f.blocks ∙ simp append_assoc) refl (f.named ∙ named)
+
+  -- nothing free was beside the block
+  parts : IsApart s.before × IsApart (s.block ∷ s.after) × ((ends_free s.before && not s.block.used) ≡ false)
+  parts = apart_parts s.before (s.block ∷ s.after) (subst IsApart s.blocks known.apart)
+
+  left_parts : IsApart (f.before ++ f.left) × IsApart (f.block ∷ (f.right ++ f.after)) × ((ends_free (f.before ++ f.left) && not f.block.used) ≡ false)
+  left_parts = apart_parts (f.before ++ f.left) (f.block ∷ (f.right ++ f.after)) (subst IsApart (f.blocks ∙ simp append_assoc) left.apart)
+
+  abbrev freed : Block
+  freed = free_block g.name (units (f.left ++ (f.block ∷ f.right)))
+
+  freed_parts : IsApart f.before × IsApart (freed ∷ f.after) × ((ends_free f.before && true) ≡ false)
+  freed_parts = apart_parts f.before (freed ∷ f.after) (subst IsApart (ap (λ (z : View). z.blocks) f.view) f.apart)
+
+  idle : AllByRecursion (λ b. b.used ≡ false) f.left × AllByRecursion (λ b. b.used ≡ false) f.right
+  idle = idle_parts f.left f.right f.free
+
+  left_end : (f.left ≡ []) × (f.before ≡ s.before)
+  left_end =
+      let none = no_end s.before (first_false (ends_free s.before) (not s.block.used) parts.2 (ap not s.free)) in
+      let is = end_is f.before f.left idle.0 left_parts.0 (first_false (ends_free f.before) true freed_parts.2 refl) in
+      (sym is.0 ∙ ap free_end (sym here.0) ∙ none.0, sym is.1 ∙ ap without_end (sym here.0) ∙ none.1)
+
+  right_start : (f.right ≡ remainder) × (f.after ≡ s.after)
+  right_start =
+      let some = part_start s.remainder_name s.remainder s.after (second_false (not s.block.used) (starts_free s.after) parts.1.0 (ap not s.free)) in
+      let is = start_is f.right f.after idle.1 left_parts.1.1 (second_false true (starts_free f.after) freed_parts.1.0 refl) in
+      (sym is.0 ∙ ap free_start (sym here.2) ∙ some.0, sym is.1 ∙ ap without_start (sym here.2) ∙ some.1)
 
   once : times x (names_at v.order (down size)) ≡ 1
-  once = let o = w.orders (down size) x in let d = w.distinct x in let l = listed_named (down size) x v.blocks in elim (hit_cases x x) [
-    | inl i ↦ let k = i.1 in let f = ap (times x) first in omega arith
-    | inr i ↦ absurd (i.0 refl)
-  ]
+  once = omega (arith, known.orders (down size) x, known.distinct x, listed_named (down size) x v.blocks, ap (times x) s.newest, one-same x)
 
-  older_absent : times x older ≡ 0
-  older_absent = let o = once in let f = ap (times x) first in elim (hit_cases x x) [ inl i ↦ let k = i.1 in omega arith | inr i ↦ absurd (i.0 refl) ]
+  older_absent : times x s.older ≡ 0
+  older_absent = omega (arith, once, ap (times x) s.newest, one-same x)
 
-  rest_absent : 1 ≤ left → times rest (names_at order (down left)) ≡ 0
-  rest_absent l = omega (arith, times_remove (down size) x (down left) rest v.order w.classes (down_small size) once, w.orders (down left) rest, listed_named (down left) rest v.blocks, (new_unused rest v (new l)).absent)
+  rest_absent : 1 ≤ s.remainder → times s.remainder_name (names_at order (down s.remainder)) ≡ 0
+  rest_absent l = omega (arith, times_remove (down size) x (down s.remainder) s.remainder_name v.order known.classes (down_small size) once, known.orders (down s.remainder) s.remainder_name, listed_named (down s.remainder) s.remainder_name v.blocks, (new_unused s.remainder_name v (s.remainder_new l)).absent)
 
-  sized : units (used_block x n ∷ free_part rest left) ≡ size
-  sized = omega (arith, whole, (part_sums rest left).1)
+  sized : units (used_block x n ∷ remainder) ≡ size
+  sized = omega (arith, s.whole, s.padded, (part_sums s.remainder_name s.remainder).1)
 
-  there : place_of x split_view.blocks ≡ Some (record { before = before; block = used_block x n; after = free_part rest left ++ after })
-  there = place_here x before (used_block x n) (free_part rest left ++ after) (beside x before (free_block x size) after refl (omega (arith, w.distinct x, ap (count_named x) stood))).0 refl
-
-  abbrev coalesced_of : List Block → List Block → List Block → List Block → View
-  coalesced_of fe we fs ws = record split_view { blocks = we ++ (free_block x (units (fe ++ (used_block x n ∷ fs))) ∷ ws); order = push (down (units (fe ++ (used_block x n ∷ fs)))) x (remove_all (fe ++ (used_block x n ∷ fs)) split_view.order) }
-
-  undone : free x split_view ≡ v
+  pub undone : SameSpace v u
   undone =
-      ap (free_at split_view) there
-      ∙ ap₂ (λ fe we. coalesced_of fe we (free_start (free_part rest left ++ after)) (without_start (free_part rest left ++ after))) (no_end before end).0 (no_end before end).1
-      ∙ ap₂ (λ fs ws. coalesced_of [] before fs ws) (part_start rest left after beginning).0 (part_start rest left after beginning).1
-      ∙ ap (λ m. record split_view { blocks = before ++ (free_block x m ∷ after); order = push (down m) x (remove_all (free_part rest left) (push_all (free_part rest left) order)) }) sized
-      ∙ ap₂ (λ bs o. record v { blocks = bs; order = o }) (sym stood)
-      (ap (push (down size) x) (orders_back rest left order (length_remove (down size) x v.order ∙ w.classes) rest_absent) ∙ put_remove (down size) x older v.order w.classes (down_small size) first older_absent)
-
-free_but : (v : View) (x accesses : ℕ) (o : Option Place) → free_at (record v { accesses = accesses }) o ≡ record (free_at v o) { accesses = accesses }
-free_but v x accesses None = refl
-free_but v x accesses (Some p) = refl
-
--- for a grant
-pub undo_same : (n : ℕ) (v w z : View) (g : Grant) → IsWellFormed v → Splits n n (λ offset. 0) v w g → SameSpace (free g.name w) z → SameSpace v z
-undo_same n v w z g f s but =
-    let is = free_is s.block s.free in
-    let none : free_part s.padding_name s.padding ≡ [] = ap (free_part s.padding_name) s.padded in
-    let old : View = replace v s.before (free_block s.block.name s.block.size ∷ []) (used_block s.block.name n ∷ free_part s.remainder_name s.remainder) s.after in
-    let same : w ≡ record old { accesses = w.accesses } =
-    s.view ∙ ap₂ (λ (l : List Block) (b : Block). record (replace v s.before (b ∷ []) (l ++ (used_block s.block.name n ∷ free_part s.remainder_name s.remainder)) s.after) { accesses = w.accesses }) none is in
-    but
-    ∙ ap (λ (h : Grant). record (free h.name w) { accesses = z.accesses }) s.grant
-    ∙ ap (λ (u : View). record (free s.block.name u) { accesses = z.accesses }) same
-    ∙ ap (λ (u : View). record u { accesses = z.accesses }) (free_but old s.block.name w.accesses (place_of s.block.name old.blocks))
-    ∙ ap (λ (u : View). record u { accesses = z.accesses }) (undone v f n s.remainder s.remainder_name s.block.name s.block.size s.before s.after s.older s.remainder_new
-    (s.blocks ∙ ap (λ (b : Block). s.before ++ (b ∷ s.after)) is) s.newest (omega (arith, s.whole, s.padded)))
+      f.view
+      ∙ ap₂ (λ (l r : List Block). record (replace w f.before (l ++ (f.block ∷ r)) (free_block g.name (units (l ++ (f.block ∷ r))) ∷ []) f.after) { accesses = u.accesses }) left_end.0 right_start.0
+      ∙ ap₂ (λ (l r : List Block). record (replace w l (f.block ∷ remainder) (free_block g.name (units (f.block ∷ remainder)) ∷ []) r) { accesses = u.accesses }) left_end.1 right_start.1
+      ∙ ap₂ (λ (i : ℕ) (b : Block). record (replace w s.before (b ∷ remainder) (free_block i (units (b ∷ remainder)) ∷ []) s.after) { accesses = u.accesses }) named (sym here.1)
+      ∙ ap (λ (z : View). record (replace z s.before (used_block x n ∷ remainder) (free_block x (units (used_block x n ∷ remainder)) ∷ []) s.after) { accesses = u.accesses }) split
+      ∙ ap (λ m. record v { blocks = s.before ++ (free_block x m ∷ s.after); order = push (down m) x (remove_all remainder (push_all remainder order)); accesses = u.accesses }) sized
+      ∙ ap₂ (λ bs o. record v { blocks = bs; order = o; accesses = u.accesses }) (ap (λ b. s.before ++ (b ∷ s.after)) (sym old) ∙ sym s.blocks)
+      (ap (push (down size) x) (orders_back s.remainder_name s.remainder order (length_remove (down size) x v.order ∙ known.classes) rest_absent) ∙ put_remove (down size) x s.older v.order known.classes (down_small size) s.newest older_absent)

@@ -20,7 +20,7 @@ ghost use Rattle.offset_allocator.specs.Cells.{AreEmpty};
 ghost use Rattle.offset_allocator.specs.Orders.{IsSmallestFrom};
 ghost use Rattle.offset_allocator.specs.Ranges.{range_of, size_of, Grants, IsLive, KeepsAll, KeepsOthers};
 ghost use Rattle.offset_allocator.specs.Reports.{IsGoodRefusal};
-ghost use Rattle.offset_allocator.specs.Named.{IsWellFormed, ends_used, is_full, padding_to, free, free_sizes, largest_free};
+ghost use Rattle.offset_allocator.specs.Named.{IsWellFormed, ends_used, is_full, padding_to, free_sizes, largest_free};
 ghost use Rattle.offset_allocator.specs.Relations.{Splits, Allocates, Aligns, Frees, Adds, Extends, CanExtend, IsAlignment, SameSpace, IsSplitNearBest, IsFresh, Resets};
 ghost use Rattle.offset_allocator.specs.Start.{IsStarted};
 ghost use Rattle.offset_allocator.specs.Promises.{IsReport, IsFullReport, CanGrant, IsWhy, HasRoomFor, blocks_needed, units_needed};
@@ -364,8 +364,7 @@ impl<NI: NodeIndex> Allocator<NI> {
     #[inline(always)]
     fn release(&mut self, name: u32)
         requires live { IsLive name self.old }
-        ensures frees { Frees name self.old self.new }
-        ensures step { SameSpace (free name self.old) self.new }
+        ensures step { Frees name self.old self.new }
         ensures gone { range_of name self.new ≡ None }
         ensures others { KeepsOthers name self.old self.new }
         ensures accesses_min { self.old.accesses + 9 ≤ self.new.accesses }

@@ -1,7 +1,6 @@
-use Rattle.std.proofs.Common.{◌∙◌, ℕ, ap, refl, arith}
+use Rattle.std.proofs.Common.{◌∙◌, ap, refl, arith}
 use Rattle.offset_allocator.specs.Named.{View, used_of}
-use Rattle.offset_allocator.proofs.Reading.{live_used}
-use Rattle.offset_allocator.proofs.Emptied.{freed_size, freed_limit, freed_fewer, reset_alike}
+use Rattle.offset_allocator.proofs.Emptied.{freed_fewer, reset_alike}
 use Rattle.offset_allocator.proofs.Allocator.free_all.Goals as goal
 
 pub loop-name-init : goal.loop-name-init
@@ -10,16 +9,13 @@ loop-name-init g c = record { size = refl; limit = refl; grows = omega arith }
 pub loop-name-smaller : goal.loop-name-smaller
 loop-name-smaller g c =
     let was : View = c.last_used.new.self in
-    let fewer = freed_fewer was c.in-Some.name (live_used c.in-Some.name was c.in-Some.ensures.used) in
-    omega (arith, fewer, ap (λ (u : View). used_of u.blocks) c.release.ensures.step, ap (λ (u : View). used_of u.blocks) c.last_used.ensures.same)
+    omega (arith, freed_fewer c.in-Some.name was c.release.new.self c.release.ensures.step, ap (λ (u : View). used_of u.blocks) c.last_used.ensures.same)
 
 pub loop-name-preserved : goal.loop-name-preserved
 loop-name-preserved g c =
-    let was : View = c.last_used.new.self in
-    let x : ℕ = c.in-Some.name in
     record {
-      size = ap (λ (u : View). u.size) c.release.ensures.step ∙ freed_size was x ∙ ap (λ (u : View). u.size) c.last_used.ensures.same ∙ c.loop-name.invariant.size;
-      limit = ap (λ (u : View). u.max_allocs) c.release.ensures.step ∙ freed_limit was x ∙ ap (λ (u : View). u.max_allocs) c.last_used.ensures.same ∙ c.loop-name.invariant.limit;
+      size = ap (λ (u : View). u.size) c.release.ensures.step.view ∙ ap (λ (u : View). u.size) c.last_used.ensures.same ∙ c.loop-name.invariant.size;
+      limit = ap (λ (u : View). u.max_allocs) c.release.ensures.step.view ∙ ap (λ (u : View). u.max_allocs) c.last_used.ensures.same ∙ c.loop-name.invariant.limit;
       grows = omega (arith, c.release.ensures.accesses_min, c.last_used.ensures.accesses_kept, c.loop-name.invariant.grows);
     }
 

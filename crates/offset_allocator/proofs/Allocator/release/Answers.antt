@@ -1,17 +1,17 @@
 use Rattle.std.proofs.Common.{refl, ◌≡◌, ◌+◌, ◌∙◌, ℕ, length, ap, arith}
 use Rattle.offset_allocator.specs.Cells.{Node}
-use Rattle.offset_allocator.specs.Named.{IsWellFormed, free_start, remove_all, free}
+use Rattle.offset_allocator.specs.Named.{IsWellFormed, free_start, remove_all}
 use Rattle.offset_allocator.specs.Space.{HasPlace, coalesced_before, coalesced_after}
 use Rattle.offset_allocator.specs.Orders.{class_lists}
 use Rattle.offset_allocator.specs.State.{Fields, AreSound, shown}
-use Rattle.offset_allocator.proofs.Joints.{with_accesses}
 use Rattle.offset_allocator.proofs.Sizes.{down_small}
 use Rattle.offset_allocator.proofs.Places.{at_place}
 use Rattle.offset_allocator.proofs.Freeing.{Release, at, room_for, listed, listed_after, left_twice, unlisted_second, freed, named_live}
-use Rattle.offset_allocator.proofs.Ranges.{freed_gone, freed_others}
+use Rattle.offset_allocator.proofs.Ranges.{frees_gone, frees_others}
 use Rattle.offset_allocator.proofs.Reading.{live_used}
 use Rattle.offset_allocator.proofs.Sound.{fields_of, known_sound}
-use Rattle.offset_allocator.proofs.Released.{frees}
+use Rattle.offset_allocator.proofs.ViewTaken.{well_frees}
+use Rattle.offset_allocator.specs.Relations.{Frees}
 use Rattle.offset_allocator.proofs.Allocator.release.Goals as goal
 use Rattle.offset_allocator.proofs.Allocator.release.Goals.{After-self, After-with_before-size, After-with_after-size, After-push}
 use Rattle.offset_allocator.proofs.Allocator.release.Given.{Over}
@@ -43,17 +43,16 @@ after g c k = record (fields_of g.NI.NodeIndex.MAX c.self.inside) {
   accesses = k;
 }
 
-done : (g : Over) (c : After-push g) (k : ℕ) → AreSound (after g c k) × (shown (after g c k) ≡ with_accesses k (free c.args.name c.args.self.now))
+done : (g : Over) (c : After-push g) (k : ℕ) → AreSound (after g c k) × Frees c.args.name c.args.self.now (shown (after g c k))
 done g c k =
     let here = goal.at.returns-clause-step g c in
-    let x : ℕ = c.args.name in
     let new : Fields = after g c k in
     let r = release g here.After-self in
     let merged = third g here.After-with_after-size r in
     let sized = c.with_after-size.ensures.size ∙ ap (λ (v : Node). v.size) (at_place merged) in
     let order = rw (c.mark.ensures.links, lists g here.After-with_after-size r, c.uint_to_float_round_down.ensures.is, sized) at c.push.ensures.lists in
     let left = freed r new.cells new.last new.count new.top k (rw c.push.ensures.room (c.mark.ensures.place _ _ _ _ merged).chain) c.push.ensures.held order in
-    (rw (c.size-size.ensures.size ∙ ap (λ (v : Node). v.size) (at_place (at r).held)) left.0, left.1 ∙ ap (λ v. with_accesses k (free x v)) c.self.view_is)
+    (rw (c.size-size.ensures.size ∙ ap (λ (v : Node). v.size) (at_place (at r).held)) left.0, rw (← c.self.view_is) left.1)
 
 pub size-size-requires : goal.size-size-requires
 size-size-requires g c = (at (release g (goal.at.size-size-requires g c).After-self)).held.below
@@ -99,15 +98,12 @@ invariant_of-self g c = (done g c 0).0
 pub returns-clause-step : goal.returns-clause-step
 returns-clause-step g c = (done g c c.push.new.count).1
 
--- the view before it is well formed
+-- the views before and after it are well formed
 well : (g : Over) (c : After-push g) → IsWellFormed c.args.self.now
 well g c = (known_sound (fields_of g.NI.NodeIndex.MAX c.self.inside) c.self.invariant c.args.self.now c.self.view_is).0
 
 pub returns-clause-gone : goal.returns-clause-gone
-returns-clause-gone g c = freed_gone _ _ _ (well g c) c.requires.live (returns-clause-step g c)
+returns-clause-gone g c = let f = returns-clause-step g c in frees_gone _ _ _ (well g c) (well_frees _ _ _ (well g c) f) f
 
 pub returns-clause-others : goal.returns-clause-others
-returns-clause-others g c = freed_others _ _ _ (well g c) c.requires.live (returns-clause-step g c)
-
-pub returns-clause-frees : goal.returns-clause-frees
-returns-clause-frees g c = frees _ _ (well g c) _ c.requires.live (returns-clause-step g c)
+returns-clause-others g c = let f = returns-clause-step g c in frees_others _ _ _ (well g c) (well_frees _ _ _ (well g c) f) f
