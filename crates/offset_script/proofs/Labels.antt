@@ -4,7 +4,7 @@ use Rattle.std.proofs.lemmas.Bool.{cases_lt, true≢false, false≢true}
 use Rattle.offset_allocator.specs.Classes.{down}
 use Rattle.offset_script.specs.Machine.{Tag, Live, Free, is_free, has_number, stamp}
 use Rattle.offset_script.specs.Machine as plain
-use Rattle.offset_allocator.specs.Named.{Block, View, one, times, count_named, count_listed, names_at, push_all, remove_all, IsWellFormed, IsUnused}
+use Rattle.offset_allocator.specs.Named.{Block, View, one, times, count_named, count_listed, names_at, push_all, remove_all, IsWellFormed}
 use Rattle.offset_script.specs.Agreement.{Label, by_name, by_tag, stamp_of, IsFalling}
 use Rattle.offset_script.proofs.Well.{count, hit}
 use Rattle.offset_allocator.proofs.ViewOrders.{tally_append, hit_cases, length_remove_all}
@@ -28,18 +28,27 @@ map_both f (x ∷ xs) ys = ap (λ l. f x ∷ l) (map_both f xs ys)
 pub map_three : {A B : Type 0} (f : A → B) (xs ys zs : List A) → map f (xs ++ (ys ++ zs)) ≡ map f xs ++ (map f ys ++ map f zs)
 map_three f xs ys zs = map_both f xs (ys ++ zs) ∙ ap (λ l. map f xs ++ l) (map_both f ys zs)
 
--- a mapped list that is split was split before
+-- a mapped list that is split in two was split before
+pub map_parts : {A B : Type 0} (f : A → B) (ls : List A) (xs ys : List B) → map f ls ≡ xs ++ ys → (front : List A) × (back : List A) × (ls ≡ front ++ back) × (map f front ≡ xs) × (map f back ≡ ys)
+map_parts f ls [] ys e = ([], ls, refl, refl, e)
+map_parts f [] (x ∷ xs) ys e = absurd (cc)
+map_parts f (l ∷ ls) (x ∷ xs) ys e =
+    let r = map_parts f ls xs ys (cc) in
+    let head : f l ≡ x = cc in
+    (l ∷ r.0, r.1, ap (λ z. l ∷ z) r.2, ap₂ (λ y z. y ∷ z) head r.3, r.4)
+
+-- the first of a mapped list
+pub map_first : {A B : Type 0} (f : A → B) (ls : List A) (b : B) (after : List B) → map f ls ≡ b ∷ after → (x : A) × (ys : List A) × (ls ≡ x ∷ ys) × (f x ≡ b) × (map f ys ≡ after)
+map_first f [] b after e = absurd (cc)
+map_first f (x ∷ ys) b after e = (x, ys, refl, (cc), (cc))
+
+-- a mapped list that is split at an item was split before
 pub map_split : {A B : Type 0} (f : A → B) (ls : List A) (before : List B) (b : B) (after : List B) → map f ls ≡ before ++ b ∷ after
     → (xs : List A) × (x : A) × (ys : List A) × (ls ≡ xs ++ x ∷ ys) × (map f xs ≡ before) × (f x ≡ b) × (map f ys ≡ after)
-map_split f [] [] b after e = absurd (cc)
-map_split f [] (c ∷ before) b after e = absurd (cc)
-map_split f (l ∷ ls) [] b after e = ([], l, ls, refl, refl, (cc), (cc))
-map_split {A = A} {B = B} f (l ∷ ls) (c ∷ before) b after e =
-    more (map_split f ls before b after (cc)) (cc)
-  where
-    more : ((xs : List A) × (x : A) × (ys : List A) × (ls ≡ xs ++ x ∷ ys) × (map f xs ≡ before) × (f x ≡ b) × (map f ys ≡ after)) → f l ≡ c
-        → (xs : List A) × (x : A) × (ys : List A) × (l ∷ ls ≡ xs ++ x ∷ ys) × (map f xs ≡ c ∷ before) × (f x ≡ b) × (map f ys ≡ after)
-    more r head = (l ∷ r.0, r.1, r.2, ap (λ z. l ∷ z) r.3, ap₂ (λ x xs. x ∷ xs) head r.4, r.5, r.6)
+map_split f ls before b after e =
+    let r = map_parts f ls before (b ∷ after) e in
+    let h = map_first f r.1 b after r.4 in
+    (r.0, h.0, h.1, r.2 ∙ ap (λ l. r.0 ++ l) h.2, r.3, h.3, h.4)
 
 -- stamps
 pub stamp_none : (x : ℕ) (ls : List Label) → count_named x (names ls) ≡ 0 → stamp_of x ls ≡ 0
@@ -88,10 +97,6 @@ pub gives_all : (ls : List Label) → ((x : ℕ) → count_named x (names ls) �
 gives_all ls most = gives_from [] ls most
 
 -- every stamp is below t
-some_or_none : (n : ℕ) → (n ≡ 0) ⊎ (1 ≤ n)
-some_or_none zero = inl refl
-some_or_none (suc n) = inr (omega arith)
-
 stamp_or_zero : (t : Tag) → (stamp t ≡ 0) ⊎ ((s : ℕ) × (t ≡ Free s))
 stamp_or_zero (Live k) = inl refl
 stamp_or_zero (Free s) = inr (s, refl)
@@ -122,7 +127,11 @@ not_true : (b : Bool) → not b ≡ true → b ≡ false
 not_true true e = absurd (false≢true e)
 not_true false e = refl
 
-not_false : (b : Bool) → not b ≡ false → b ≡ true
+pub not_not : (b : Bool) → not (not b) ≡ b
+not_not true = refl
+not_not false = refl
+
+pub not_false : (b : Bool) → not b ≡ false → b ≡ true
 not_false true e = refl
 not_false false e = absurd (true≢false e)
 
@@ -135,10 +144,10 @@ rises_named f t (l ∷ ls) g r = (
 
 -- new blocks in place of old ones, where the new stamps are above the old
 pub newest_replaced : (v : View) (before old new after : List Label) → IsWellFormed v → v.blocks ≡ names (before ++ (old ++ after)) → ((x : ℕ) → count_named x (names (before ++ (new ++ after))) ≤ 1)
-    → ((x : ℕ) → 1 ≤ count_named x (names new) → (1 ≤ count_named x (names old)) ⊎ IsUnused x v) → (t : ℕ) → ((x : ℕ) → stamp_of x (before ++ (old ++ after)) < t) → Rises t new
+    → (t : ℕ) → ((x : ℕ) → stamp_of x (before ++ (old ++ after)) < t) → Rises t new
     → ((c : ℕ) → IsFalling (λ x. stamp_of x (before ++ (old ++ after))) (names_at v.order c))
     → (c : ℕ) → IsFalling (λ x. stamp_of x (before ++ (new ++ after))) (names_at (push_all (names new) (remove_all (names old) v.order)) c)
-newest_replaced v before old new after w e distinct origin t low rises newest = falling_put_all f' t (names new) (remove_all (names old) v.order) (length_remove_all (names old) v.order ∙ w.classes)
+newest_replaced v before old new after w e distinct t low rises newest = falling_put_all f' t (names new) (remove_all (names old) v.order) (length_remove_all (names old) v.order ∙ w.classes)
     (λ d. falling_same f f' _ (same d) (falling_remove_all f (names old) v.order w.classes newest d))
     (λ d y m. let s = same d y m in let l = low y in omega arith)
     (rises_named f' t new (gives_parts f' new after (gives_parts f' before (new ++ after) (gives_all _ distinct)).1).0 rises)
@@ -162,8 +171,7 @@ newest_replaced v before old new after w e distinct origin t low rises newest = 
         let b = listed_named d y (names before) in
         let a = listed_named d y (names after) in
         let gone : count_named y (names old) ≡ 0 = omega arith in
-        let absent : count_named y (names new) ≡ 0 = elim (some_or_none (count_named y (names new))) [
-          | inl z ↦ z
-          | inr s ↦ elim (origin y s) [ inl i ↦ absurd (omega arith) | inr u ↦ absurd (let k = u.absent in omega arith) ]
-        ] in
+        let new_parts = ap (count_named y) (map_three by_name before new after) ∙ tally_three (λ (b : Block). one (nat_eq y b.name)) (names before) (names new) (names after) in
+        let once = distinct y in
+        let absent : count_named y (names new) ≡ 0 = omega arith in
         omega (arith, tally_three (λ (l : Label). if nat_eq y l.name then stamp l.tag else 0) before old after, tally_three (λ (l : Label). if nat_eq y l.name then stamp l.tag else 0) before new after, stamp_none y old gone, stamp_none y new absent)

@@ -1,7 +1,8 @@
 -- What holds of every state that the machine reaches.
-use Rattle.std.proofs.Common.{◌≡◌, ◌≢◌, ℕ, zero, suc, ◌+◌, ◌-◌, ◌*◌, ◌<◌, ◌≤◌, Bool, true, false, ◌&&◌, ◌||◌, ◌⊎◌, List, [], ◌∷◌, ◌++◌, length, Option, Some, None, nat_eq, nat_lt, nat_le, if◌then◌else◌, refl, sym, ap, subst, ◌∙◌, inl, inr, arith, eq-eqb, ne_eqb, leb-false, length-append}
+use Rattle.std.proofs.Common.{◌≡◌, ◌≢◌, ℕ, zero, suc, ◌+◌, ◌-◌, ◌*◌, ◌<◌, ◌≤◌, Bool, true, false, ◌&&◌, ◌||◌, ◌⊎◌, List, [], ◌∷◌, ◌++◌, length, Option, Some, None, nat_eq, nat_lt, nat_le, if◌then◌else◌, refl, sym, ap, ap₂, subst, ◌∙◌, inl, inr, arith, eq-eqb, ne_eqb, leb-false, length-append}
 use Rattle.std.proofs.lemmas.Bool.{cases_eq, true≢false, false≢true}
 use Rattle.std.proofs.lemmas.Bool.Decides.{nat_tests}
+use Rattle.std.specs.List.{AllByRecursion}
 use Rattle.offset_script.specs.declared.scripts.Command.{Command}
 use Rattle.offset_script.specs.declared.scripts.Command.TheVariants as command
 use Rattle.offset_allocator.specs.Classes.{down}
@@ -102,11 +103,11 @@ and_false : (x y : Bool) → x ≡ false → (x && y) ≡ false
 and_false true y e = absurd (true≢false e)
 and_false false y e = refl
 
-and_false_right : (x y : Bool) → y ≡ false → (x && y) ≡ false
+pub and_false_right : (x y : Bool) → y ≡ false → (x && y) ≡ false
 and_false_right true y e = e
 and_false_right false y e = refl
 
-and_true : (x : Bool) → (x && true) ≡ false → x ≡ false
+pub and_true : (x : Bool) → (x && true) ≡ false → x ≡ false
 and_true true e = e
 and_true false e = refl
 
@@ -152,6 +153,40 @@ apart_coalesce xs n s ys a b =
     let l = apart_without_end xs a in
     let r = apart_without_start ys b in
     apart_append (without_end xs) _ l.0 (r.1, r.0) (and_false _ _ l.1)
+
+-- all of these are free
+abbrev pub AllFree : List Block → Type 0
+AllFree bs = AllByRecursion (λ b. is_free b.tag ≡ true) bs
+
+-- of these blocks at most one is free
+pub few_free : (fs : List Block) → AllFree fs → Apart fs → length fs ≤ 1
+few_free [] f a = omega arith
+few_free (b ∷ []) f a = omega arith
+few_free (b ∷ c ∷ fs) f a = absurd (true≢false (sym (ap (λ x. x && is_free c.tag) f.0 ∙ f.1.0) ∙ a.0))
+
+-- a free block, or none, after a list that does not end free
+few_at_end : (xs fs : List Block) → length fs ≤ 1 → AllFree fs → ends_free xs ≡ false → (without_end (xs ++ fs) ≡ xs) × (free_end (xs ++ fs) ≡ total fs)
+few_at_end [] [] l f e = (refl, refl)
+few_at_end [] (b ∷ []) l f e = (ap (λ x. if x then [] else b ∷ []) f.0, ap (λ x. if x then b.size else 0) f.0 ∙ omega arith)
+few_at_end [] (b ∷ c ∷ fs) l f e = absurd (omega arith)
+few_at_end (x ∷ []) [] l f e = (ap (λ y. if y then [] else x ∷ []) e, ap (λ y. if y then x.size else 0) e)
+few_at_end (x ∷ []) (b ∷ fs) l f e = let r = few_at_end [] (b ∷ fs) l f refl in (ap (λ z. x ∷ z) r.0, r.1)
+few_at_end (x ∷ y ∷ xs) fs l f e = let r = few_at_end (y ∷ xs) fs l f e in (ap (λ z. x ∷ z) r.0, r.1)
+
+-- a free block, or none, before a list that does not start free
+few_at_start : (fs ys : List Block) → length fs ≤ 1 → AllFree fs → starts_free ys ≡ false → (without_start (fs ++ ys) ≡ ys) × (free_start (fs ++ ys) ≡ total fs)
+few_at_start [] [] l f e = (refl, refl)
+few_at_start [] (y ∷ ys) l f e = (ap (λ x. if x then ys else y ∷ ys) e, ap (λ x. if x then y.size else 0) e)
+few_at_start (b ∷ []) ys l f e = (ap (λ x. if x then ys else b ∷ ys) f.0, ap (λ x. if x then b.size else 0) f.0 ∙ omega arith)
+few_at_start (b ∷ c ∷ fs) ys l f e = absurd (omega arith)
+
+-- what becomes free coalesces with the free blocks before and after it
+pub coalesce_parts : (xs fs : List Block) (n s : ℕ) (gs ys : List Block) → length fs ≤ 1 → AllFree fs → length gs ≤ 1 → AllFree gs → ends_free xs ≡ false → starts_free ys ≡ false
+    → coalesce (xs ++ fs) n s (gs ++ ys) ≡ xs ++ block (total fs + n + total gs) (Free s) ∷ ys
+coalesce_parts xs fs n s gs ys l f m g e h =
+    let x = few_at_end xs fs l f e in
+    let y = few_at_start gs ys m g h in
+    ap₂ (λ (u v : List Block). u ++ block (free_end (xs ++ fs) + n + free_start (gs ++ ys)) (Free s) ∷ v) x.0 y.0 ∙ ap₂ (λ (u v : ℕ). xs ++ block (u + n + v) (Free s) ∷ ys) x.1 y.1
 
 -- the machine
 pub well_start : (size limit : ℕ) → 2 ≤ limit → Well (start size limit)
