@@ -1,5 +1,5 @@
 -- What each call of the allocator leaves agrees with what the plain machine leaves, and the answers are the same.
-use Rattle.std.proofs.Common.{◌≡◌, ◌≢◌, ℕ, zero, suc, ◌+◌, ◌-◌, ◌*◌, ◌<◌, ◌≤◌, min, Bool, true, false, not, ◌&&◌, ◌||◌, ◌⊎◌, List, [], ◌∷◌, ◌++◌, replicate, length, sum, Option, Some, None, nat_eq, nat_lt, nat_le, if◌then◌else◌, refl, sym, ap, ap₂, subst, subst₂, ◌∙◌, inl, inr, arith, eq-eqb, ne_eqb, le-leb, le-ltb, leb-true, leb-false, append_assoc, append-nil}
+use Rattle.std.proofs.Common.{◌≡◌, ℕ, zero, suc, ◌+◌, ◌-◌, ◌<◌, ◌≤◌, Bool, true, false, not, ◌&&◌, ◌||◌, ◌⊎◌, List, [], ◌∷◌, ◌++◌, replicate, length, sum, Option, Some, None, nat_eq, nat_lt, nat_le, if◌then◌else◌, refl, sym, ap, ap₂, subst, subst₂, ◌∙◌, inl, inr, arith, eq-eqb, ne_eqb, le-leb, le-ltb, leb-false, append_assoc, append-nil}
 use Rattle.std.proofs.lemmas.Bool.{cases_eq, cases_lt, true≢false, false≢true, lt-leb, ltb-true, ltb-false}
 use Rattle.offset_allocator.specs.Classes.{up, down}
 use Rattle.offset_allocator.specs.Reports.{largest, rows_below}
@@ -9,15 +9,16 @@ use Rattle.offset_script.specs.Machine as machine
 use Rattle.offset_allocator.specs.Named.{Block, View, Place, Grant, place_of, tally, one, units, times, count_listed, used_block, free_block, free_part, names_at, push_all, remove_all, IsWellFormed, replace, max_size, padding_to}
 use Rattle.offset_allocator.specs.Named as named
 use Rattle.offset_allocator.specs.Promises.{HasRoomFor, CanGrant, blocks_needed, units_needed}
-use Rattle.offset_allocator.specs.Relations.{SameSpace, Splits, Serves, Frees, Adds, CanExtend, Extends}
+use Rattle.offset_allocator.specs.Relations.{SameSpace, Serves, Frees, Adds, CanExtend, Extends}
 use Rattle.offset_script.specs.Agreement.{Label, by_name, by_tag, stamp_of, IsFalling, name_of, Agrees, answer_of, with_name, without_name, kept_after, grant_count_after}
-use Rattle.offset_script.proofs.Well.{Well, and_false_right, count, count-append, hit, apart_parts, and_true, few_free, coalesce_parts, chosen_at}
+use Rattle.offset_script.proofs.Well.{Well, both_true, and_false_right, count, count-append, hit, hit_self, apart_parts, and_true, end_of, start_of, coalesce_parts, chosen_at}
 use Rattle.offset_script.proofs.Well as well
 use Rattle.std.specs.List.{AllByRecursion}
-use Rattle.std.proofs.lemmas.List.{length-map, get_or-replicate, get_or_past, length-replicate}
+use Rattle.std.proofs.lemmas.List.{map-append, length-map, get_or-replicate, get_or_past, length-replicate}
 use Rattle.offset_allocator.proofs.ViewOrders.{tally_append, names_same, names_other}
 use Rattle.offset_allocator.proofs.Sizes.{down_small, fits_size}
-use Rattle.offset_script.proofs.Labels.{names, tags, map_both, map_three, map_parts, map_first, stamps_below, Rises, newest_replaced, not_false}
+use Rattle.offset_script.proofs.Members.{map_parts, map_first}
+use Rattle.offset_script.proofs.Labels.{names, tags, map_three, stamps_below, Rises, newest_replaced, not_false}
 use Rattle.offset_script.proofs.Chosen.{Spot, whole, place_at, named_spot, named_place, plain_place, some_same, IsLabelled, none_chosen, chosen, place_of_spot}
 use Rattle.offset_script.proofs.Ends.{AllFree, free_named, free_tagged, apart_tagged, ends_live_last, last_free, total_units, length_labels, free_sizes_labels, or_else, or_none, name_append, name_skip, name_free, name_none, name_missing, name_found}
 
@@ -54,10 +55,10 @@ abbrev new_labels : (front padding x n k rest left t : ℕ) → List Label
 new_labels front padding x n k rest left t = free_labels front padding t ++ live_label x n k ∷ free_labels rest left (t + 1)
 
 names_new : (front padding x n k rest left t : ℕ) → names (new_labels front padding x n k rest left t) ≡ free_part front padding ++ used_block x n ∷ free_part rest left
-names_new front padding x n k rest left t = map_both by_name (free_labels front padding t) _ ∙ ap₂ (λ a b. a ++ used_block x n ∷ b) (names_free_labels front padding t) (names_free_labels rest left (t + 1))
+names_new front padding x n k rest left t = map-append by_name (free_labels front padding t) _ ∙ ap₂ (λ a b. a ++ used_block x n ∷ b) (names_free_labels front padding t) (names_free_labels rest left (t + 1))
 
 tags_new : (front padding x n k rest left t : ℕ) → tags (new_labels front padding x n k rest left t) ≡ machine.free_block padding t ++ machine.block n (Live k) ∷ machine.free_block left (t + 1)
-tags_new front padding x n k rest left t = map_both by_tag (free_labels front padding t) _ ∙ ap₂ (λ a b. a ++ machine.block n (Live k) ∷ b) (tags_free_labels front padding t) (tags_free_labels rest left (t + 1))
+tags_new front padding x n k rest left t = map-append by_tag (free_labels front padding t) _ ∙ ap₂ (λ a b. a ++ machine.block n (Live k) ∷ b) (tags_free_labels front padding t) (tags_free_labels rest left (t + 1))
 
 name_new : (j front padding x n k rest left t : ℕ) → name_of j (new_labels front padding x n k rest left t) ≡ (if nat_eq j k then Some x else None)
 name_new j front padding x n k rest left t =
@@ -79,10 +80,6 @@ rises_new front (suc padding) x n k rest left t = (λ e. absurd (true≢false e)
 name_replaced : (j : ℕ) (before old new after : List Label) → name_of j old ≡ name_of j new → name_of j (before ++ (old ++ after)) ≡ name_of j (before ++ (new ++ after))
 name_replaced j before old new after e =
     name_append j before (old ++ after) ∙ ap (or_else (name_of j before)) (name_append j old after ∙ ap (λ o. or_else o (name_of j after)) e ∙ sym (name_append j new after)) ∙ sym (name_append j before (new ++ after))
-
--- a tag equals itself
-hit_same : (k : ℕ) → hit (Live k) (Live k) ≡ 1
-hit_same k = elim (well.hit_cases k k) [ inl i ↦ i.1 | inr i ↦ absurd (i.0 refl) ]
 
 -- a request has the same answer, and what it leaves agrees
 pub record Matches (u : View) (kept_name : ℕ → Option ℕ) (grants : ℕ) (r : Option Grant) (p : machine.Outcome) : Type 0 where
@@ -145,7 +142,7 @@ module _ (v : View) (kept_name : ℕ → Option ℕ) (s : State) (w : IsWellForm
         names_are = names_new front padding sp.label.name n k rest left (stamp_of_padding s) ∙ ap (λ m. free_part front padding ++ used_block sp.label.name n ∷ free_part rest m) (omega arith)
 
         first : name_of k sp.before ≡ None
-        first = name_none k sp.before (omega (arith, ws.granted k (omega arith), ap (count (Live k)) (g.state ∙ ap tags e ∙ map_both by_tag sp.before (sp.label ∷ sp.after)), count-append (Live k) (tags sp.before) (tags (sp.label ∷ sp.after))))
+        first = name_none k sp.before (omega (arith, ws.granted k (omega arith), ap (count (Live k)) (g.state ∙ ap tags e ∙ map-append by_tag sp.before (sp.label ∷ sp.after)), count-append (Live k) (tags sp.before) (tags (sp.label ∷ sp.after))))
 
         handles : (j : ℕ) → with_name k sp.label.name kept_name j ≡ name_of j (sp.before ++ (new ++ sp.after))
         handles j = elim (cases_eq j k) [
@@ -171,19 +168,18 @@ module _ (v : View) (kept_name : ℕ → Option ℕ) (s : State) (w : IsWellForm
         parted = e ∙ ap₂ (λ y z. y ++ (old ++ z)) at_front at_back ∙ simp append_assoc
 
         parts : (xs ys : List Label) → well.Apart (tags (xs ++ ys)) → well.Apart (tags xs) × well.Apart (tags ys) × ((well.ends_free (tags xs) && well.starts_free (tags ys)) ≡ false)
-        parts xs ys h = apart_parts (tags xs) (tags ys) (subst well.Apart (map_both by_tag xs ys) h)
+        parts xs ys h = apart_parts (tags xs) (tags ys) (subst well.Apart (map-append by_tag xs ys) h)
 
         apart : well.Apart (tags (left ++ (old ++ right)))
         apart = (parts (left ++ (old ++ right)) after (parts before ((left ++ (old ++ right)) ++ after) (subst well.Apart (g.state ∙ ap tags parted) ws.apart)).1).0
 
         apart' : well.Apart (tags before) × well.Apart (tags (l ∷ after)) × ((well.ends_free (tags before) && true) ≡ false)
-        apart' = parts before (l ∷ after) (apart_tagged (before ++ (l ∷ after)) (subst named.IsApart (ap (λ (x : View). x.blocks) same ∙ sym (map_both by_name before (l ∷ after))) w'.apart))
+        apart' = parts before (l ∷ after) (apart_tagged (before ++ (l ∷ after)) (subst named.IsApart (ap (λ (x : View). x.blocks) same ∙ sym (map-append by_name before (l ∷ after))) w'.apart))
 
         state : machine.coalesce (tags front) n (stamp_of_call s) (tags back) ≡ tags (before ++ (l ∷ after))
-        state = ap₂ (λ y z. machine.coalesce y n (stamp_of_call s) z) (ap tags at_front ∙ map_both by_tag before left) (ap tags at_back ∙ map_both by_tag right after)
-            ∙ coalesce_parts (tags before) (tags left) n (stamp_of_call s) (tags right) (tags after) (few_free (tags left) (free_tagged left fl) (parts left (old ++ right) apart).0) (free_tagged left fl)
-            (few_free (tags right) (free_tagged right fr) (parts old right (parts left (old ++ right) apart).1).1) (free_tagged right fr) (and_true _ apart'.2) apart'.1.0
-            ∙ sym (map_both by_tag before (l ∷ after))
+        state = ap₂ (λ y z. machine.coalesce y n (stamp_of_call s) z) (ap tags at_front ∙ map-append by_tag before left) (ap tags at_back ∙ map-append by_tag right after)
+            ∙ coalesce_parts (tags before) (tags left) n (stamp_of_call s) (tags right) (tags after) (end_of _ _ (free_tagged left fl) (parts left (old ++ right) apart).0 (and_true _ apart'.2)) (start_of _ _ (free_tagged right fr) (parts old right (parts left (old ++ right) apart).1).1 apart'.1.0)
+            ∙ sym (map-append by_tag before (l ∷ after))
 
   same_length : length v.blocks ≡ length s.blocks
   same_length = ap length g.view ∙ sym (length_labels g.labels) ∙ sym (ap length g.state)
@@ -244,13 +240,9 @@ module _ (v : View) (kept_name : ℕ → Option ℕ) (s : State) (w : IsWellForm
   too_large n l None e = refl
   too_large n l (Some p) e =
       let c = chosen_at n s.blocks p e in
-      let fit = fits_size n p.block.size (second (is_free p.block.tag) (nat_le (up n) (down p.block.size)) c.1) in
+      let fit = fits_size n p.block.size (both_true (is_free p.block.tag) (nat_le (up n) (down p.block.size)) c.1).1 in
       absurd (omega (arith, fit, l, w.fits, w.whole, same_units, ap total c.0, total_middle p.before p.block p.after))
     where
-      second : (x y : Bool) → (x && y) ≡ true → y ≡ true
-      second true y e = e
-      second false y e = absurd (false≢true e)
-
       total_middle : (xs : List machine.Block) (b : machine.Block) (ys : List machine.Block) → b.size ≤ total (xs ++ b ∷ ys)
       total_middle [] b ys = omega arith
       total_middle (x ∷ xs) b ys = let ih = total_middle xs b ys in omega arith
@@ -345,13 +337,13 @@ module _ (v : View) (kept_name : ℕ → Option ℕ) (s : State) (w : IsWellForm
 
       same : SameSpace (replace v (names front.0) (names (front.1 ++ (sp.label ∷ back.0))) (free_block x (total (tags front.1) + sp.label.size + total (tags back.0)) ∷ []) (names back.1)) u
       same =
-          subst (λ z. SameSpace (replace v (names front.0) z (free_block x (total (tags front.1) + sp.label.size + total (tags back.0)) ∷ []) (names back.1)) u) (sym (map_both by_name front.1 (sp.label ∷ back.0)))
+          subst (λ z. SameSpace (replace v (names front.0) z (free_block x (total (tags front.1) + sp.label.size + total (tags back.0)) ∷ []) (names back.1)) u) (sym (map-append by_name front.1 (sp.label ∷ back.0)))
           (subst (λ m. SameSpace (replace v (names front.0) (names front.1 ++ (by_name sp.label ∷ names back.0)) (free_block x m ∷ []) (names back.1)) u) sizes
           (subst₂ (λ y z. SameSpace (replace v y (names front.1 ++ (by_name sp.label ∷ names back.0)) (free_block x (units (names front.1 ++ (by_name sp.label ∷ names back.0))) ∷ []) z) u) (sym front.3) (sym back.4)
           (subst (λ m. SameSpace (replace v f.before m (free_block x (units m) ∷ []) f.after) u) (sym (ap₂ (λ y z. y ++ (by_name sp.label ∷ z)) front.4 back.3 ∙ ap (λ (b : Block). f.left ++ (b ∷ f.right)) (ap (λ (p : Place). p.block) place))) f.view)))
 
       later : name_of k sp.after ≡ None
-      later = name_none k sp.after (omega (arith, ws.once (Live k), ap (count (Live k)) (g.state ∙ ap tags l.split ∙ map_both by_tag sp.before (sp.label ∷ sp.after)), count-append (Live k) (tags sp.before) (tags (sp.label ∷ sp.after)), ap (hit (Live k)) l.tag, hit_same k))
+      later = name_none k sp.after (omega (arith, ws.once (Live k), ap (count (Live k)) (g.state ∙ ap tags l.split ∙ map-append by_tag sp.before (sp.label ∷ sp.after)), count-append (Live k) (tags sp.before) (tags (sp.label ∷ sp.after)), ap (hit (Live k)) l.tag, hit_self (Live k)))
 
       handles : (j : ℕ) → without_name k kept_name j ≡ or_else (name_of j sp.before) (name_of j sp.after)
       handles j = elim (cases_eq j k) [
@@ -411,7 +403,7 @@ module _ (v : View) (kept_name : ℕ → Option ℕ) (s : State) (w : IsWellForm
       go true f h = inl (room_for 1 h)
       go false f h =
           let r = last_free g.labels (let a = w.some in let b = ap length g.view in let c = length_labels g.labels in let d = length-map g.labels by_name in omega arith) (sym (ap machine.ends_live g.state) ∙ f) in
-          inr (names r.0, by_name r.1, g.view ∙ ap names r.2 ∙ map_both by_name r.0 (r.1 ∷ []), ap not r.3)
+          inr (names r.0, by_name r.1, g.view ∙ ap names r.2 ∙ map-append by_name r.0 (r.1 ∷ []), ap not r.3)
 
   abbrev outcome : ℕ → Bool → machine.Outcome
   outcome more b = if b then returns_only s machine.Refused else leaves s (machine.coalesce s.blocks (suc more) (stamp_of_call s) []) machine.Extended

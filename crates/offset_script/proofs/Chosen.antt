@@ -1,16 +1,18 @@
 -- The plain machine chooses the block that a grant splits: the newest of the smallest class that fits.
 use Rattle.std.proofs.Common.{◌≡◌, ◌≢◌, ℕ, ◌<◌, ◌≤◌, Bool, true, false, not, ◌&&◌, ◌||◌, List, [], ◌∷◌, ◌++◌, Option, Some, None, nat_eq, nat_lt, nat_le, refl, sym, ap, subst, ◌∙◌, inl, inr, arith, eq-eqb, le-leb, lt-ltb, leb-true}
-use Rattle.std.proofs.lemmas.Bool.{cases_eq, cases_lt, true≢false, false≢true}
+use Rattle.std.proofs.lemmas.List.{map-append}
+use Rattle.std.proofs.lemmas.Bool.{cases_eq, cases_lt, true≢false}
 use Rattle.offset_allocator.specs.Classes.{up, down}
 use Rattle.offset_script.specs.Machine.{Tag, Live, Free, is_free, has_number, stamp, fits, is_taken_before, chosen_place}
 use Rattle.offset_script.specs.Machine as plain
 use Rattle.offset_allocator.specs.Named.{Block, View, Place, Grant, place_of, one, times, count_named, count_listed, names_at, IsWellFormed}
 use Rattle.offset_allocator.specs.Relations.{Splits}
 use Rattle.offset_script.specs.Agreement.{Label, by_name, by_tag, stamp_of, IsFalling}
-use Rattle.offset_script.proofs.Well.{Occurs, IsBest, chosen_at, not_chosen}
+use Rattle.offset_script.proofs.Well.{both_true, chosen_at, not_chosen}
 use Rattle.offset_allocator.proofs.ViewOrders.{tally_append, hit_cases}
 use Rattle.offset_allocator.proofs.ViewSteps.{place_here}
-use Rattle.offset_script.proofs.Labels.{names, tags, map_both, map_split, gives_parts, gives_all, not_false}
+use Rattle.offset_script.proofs.Members.{In, in_right, map_split}
+use Rattle.offset_script.proofs.Labels.{names, tags, gives_parts, gives_all, not_false}
 
 -- a list of labels, split at one
 pub record Spot : Type 0 where
@@ -58,17 +60,12 @@ plain_spot ls p e = go (map_split by_tag ls p.before p.block p.after e)
     go : ((xs : List Label) × (x : Label) × (ys : List Label) × (ls ≡ xs ++ x ∷ ys) × (tags xs ≡ p.before) × (by_tag x ≡ p.block) × (tags ys ≡ p.after)) → (s : Spot) × (ls ≡ whole s) × (plain_place s ≡ p)
     go r = (record { before = r.0; label = r.1; after = r.2 }, r.3, same_plain r.4 r.5 r.6)
 
--- the block at a place is in the list
-pub occurs_middle : (xs : List plain.Block) (b : plain.Block) (ys : List plain.Block) → Occurs b (xs ++ b ∷ ys)
-occurs_middle [] b ys = inl refl
-occurs_middle (x ∷ xs) b ys = inr (occurs_middle xs b ys)
-
-occurs_spot : (s : Spot) → Occurs (by_tag s.label) (tags (whole s))
-occurs_spot s = subst (Occurs (by_tag s.label)) (sym (map_both by_tag s.before (s.label ∷ s.after))) (occurs_middle (tags s.before) (by_tag s.label) (tags s.after))
+occurs_spot : (s : Spot) → In (by_tag s.label) (tags (whole s))
+occurs_spot s = subst (In (by_tag s.label)) (sym (map-append by_tag s.before (s.label ∷ s.after))) (in_right (by_tag s.label) (tags s.before) (by_tag s.label ∷ tags s.after) (inl refl))
 
 -- a spot splits the named blocks
 pub names_whole : (s : Spot) → names (whole s) ≡ names s.before ++ by_name s.label ∷ names s.after
-names_whole s = map_both by_name s.before (s.label ∷ s.after)
+names_whole s = map-append by_name s.before (s.label ∷ s.after)
 
 -- what holds of a view and a list of labels that agree
 pub record IsLabelled (v : View) (ls : List Label) : Type 0 where
@@ -114,10 +111,6 @@ newer_before a b e l = rw (eq-eqb (down a.size) (down b.size) e, lt-ltb (stamp b
 spot_fits : (n : ℕ) (l : Label) → is_free l.tag ≡ true → up n ≤ down l.size → fits n (by_tag l) ≡ true
 spot_fits n l f c = rw (f, le-leb (up n) (down l.size) c) refl
 
-both_parts : (x y : Bool) → (x && y) ≡ true → (x ≡ true) × (y ≡ true)
-both_parts true y e = (refl, e)
-both_parts false y e = absurd (false≢true e)
-
 pub some_same : (p q : Place) → ◌≡◌ {A = Option Place} (Some p) (Some q) → p ≡ q
 some_same p q e = cc
 
@@ -127,7 +120,7 @@ module _ (v : View) (w : IsWellFormed v) (ls : List Label) (a : IsLabelled v ls)
   chosen_spot p e =
       let c = chosen_at n (tags ls) p e in
       let r = plain_spot ls p c.0 in
-      let parts = both_parts (is_free r.0.label.tag) (nat_le (up n) (down r.0.label.size)) (ap (λ (q : plain.Place). fits n q.block) r.2 ∙ c.1) in
+      let parts = both_true (is_free r.0.label.tag) (nat_le (up n) (down r.0.label.size)) (ap (λ (q : plain.Place). fits n q.block) r.2 ∙ c.1) in
       (r.0, r.1, r.2, parts.0, leb-true (up n) (down r.0.label.size) parts.1)
 
   none_if : ((c : ℕ) × (up n ≤ c) × (names_at v.order c ≢ []) → ⊥) → (o : Option plain.Place) → chosen_place n (tags ls) ≡ o → o ≡ None
@@ -198,8 +191,8 @@ module _ (v : View) (w : IsWellFormed v) (ls : List Label) (a : IsLabelled v ls)
         s : (s : Spot) × (ls ≡ whole s) × (named_place s ≡ place_at t.before t.block t.after) × (is_free s.label.tag ≡ true)
         s = taken_spot
 
-        there : Occurs (by_tag s.0.label) (tags ls)
-        there = subst (λ xs. Occurs (by_tag s.0.label) (tags xs)) (sym s.1) (occurs_spot s.0)
+        there : In (by_tag s.0.label) (tags ls)
+        there = subst (λ xs. In (by_tag s.0.label) (tags xs)) (sym s.1) (occurs_spot s.0)
 
         fit : fits n (by_tag s.0.label) ≡ true
         fit = spot_fits n s.0.label s.3 (let e = ap (λ (p : Place). down p.block.size) s.2 in let c = t.fits in omega arith)

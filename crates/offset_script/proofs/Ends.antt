@@ -1,12 +1,12 @@
 -- Labels at the ends of lists, and the names of grants.
-use Rattle.std.proofs.Common.{◌≡◌, ℕ, suc, ◌+◌, ◌≤◌, Bool, true, false, not, ◌&&◌, List, [], ◌∷◌, ◌++◌, length, Option, Some, None, if◌then◌else◌, refl, sym, ap, subst, subst₂, ◌∙◌, inl, inr, arith, ne_eqb}
-use Rattle.std.proofs.lemmas.Bool.{cases_eq, true≢false, false≢true}
+use Rattle.std.proofs.Common.{◌≡◌, ℕ, suc, ◌+◌, ◌≤◌, Bool, true, false, not, ◌&&◌, List, [], ◌∷◌, ◌++◌, length, Option, Some, None, if◌then◌else◌, refl, ap, subst, subst₂, ◌∙◌, arith}
+use Rattle.std.proofs.lemmas.Bool.{true≢false, false≢true}
 use Rattle.offset_script.specs.Machine.{Tag, Live, Free, is_free, has_number, stamp, total}
 use Rattle.offset_script.specs.Machine as plain
 use Rattle.offset_allocator.specs.Named as named
 use Rattle.offset_allocator.specs.Named.{Block, tally, units, one}
-use Rattle.offset_script.specs.Agreement.{Label, by_name, by_tag, name_of}
-use Rattle.offset_script.proofs.Well.{count, hit, hit_cases}
+use Rattle.offset_script.specs.Agreement.{Label, by_tag, name_of}
+use Rattle.offset_script.proofs.Well.{count, hit, hit_number, number_of}
 use Rattle.offset_script.proofs.Well as well
 use Rattle.offset_script.proofs.Labels.{names, tags, not_not, not_false}
 use Rattle.std.specs.List.{AllByRecursion}
@@ -90,18 +90,10 @@ pub name_free : (k : ℕ) (ls : List Label) → AllFree ls → name_of k ls ≡ 
 name_free k [] f = refl
 name_free k (l ∷ ls) f = name_skip k l ls f.0 ∙ name_free k ls f.1
 
-hit_number : (k : ℕ) (t : Tag) → hit (Live k) t ≡ 0 → has_number k t ≡ false
-hit_number k (Live j) e = elim (hit_cases k j) [ inl h ↦ absurd (let n = h.1 in omega arith) | inr h ↦ ne_eqb k j h.0 ]
-hit_number k (Free s) e = refl
-
 -- where no block is live with a number, there is no name of it
 pub name_none : (k : ℕ) (ls : List Label) → count (Live k) (tags ls) ≡ 0 → name_of k ls ≡ None
 name_none k [] e = refl
 name_none k (l ∷ ls) e = let ih = name_none k ls (omega arith) in rw (hit_number k l.tag (omega arith)) ih
-
-number_of : (k : ℕ) (t : Tag) → has_number k t ≡ true → t ≡ Live k
-number_of k (Live j) e = elim (cases_eq k j) [ inl h ↦ ap Live (sym h) | inr h ↦ absurd (true≢false (sym e ∙ ne_eqb k j h)) ]
-number_of k (Free s) e = absurd (false≢true e)
 
 -- a grant whose name is kept
 pub name_missing : (k : ℕ) (ls : List Label) → name_of k ls ≡ None → plain.place_of k (tags ls) ≡ None

@@ -1,12 +1,13 @@
 -- Blocks with both their names and their tags.
-use Rattle.std.proofs.Common.{◌≡◌, ℕ, zero, suc, ◌+◌, ◌<◌, ◌≤◌, Bool, true, false, not, ◌&&◌, ◌⊎◌, List, [], ◌∷◌, ◌++◌, map, nat_eq, if◌then◌else◌, refl, sym, ap, ap₂, subst, ◌∙◌, inl, inr, arith, eq-eqb, ne_eqb, append_assoc}
+use Rattle.std.proofs.Common.{◌≡◌, ℕ, ◌+◌, ◌<◌, ◌≤◌, Bool, true, false, not, ◌&&◌, ◌⊎◌, List, [], ◌∷◌, ◌++◌, map, nat_eq, if◌then◌else◌, refl, sym, ap, subst, ◌∙◌, inl, inr, arith, eq-eqb, ne_eqb, append_assoc}
+use Rattle.std.proofs.lemmas.List.{map-append}
 use Rattle.std.proofs.lemmas.Bool.{cases_lt, true≢false, false≢true}
 use Rattle.offset_allocator.specs.Classes.{down}
 use Rattle.offset_script.specs.Machine.{Tag, Live, Free, is_free, has_number, stamp}
 use Rattle.offset_script.specs.Machine as plain
 use Rattle.offset_allocator.specs.Named.{Block, View, one, times, count_named, count_listed, names_at, push_all, remove_all, IsWellFormed}
 use Rattle.offset_script.specs.Agreement.{Label, by_name, by_tag, stamp_of, IsFalling}
-use Rattle.offset_script.proofs.Well.{count, hit}
+use Rattle.offset_script.proofs.Well.{count, hit, hit_self}
 use Rattle.offset_allocator.proofs.ViewOrders.{tally_append, hit_cases, length_remove_all}
 use Rattle.offset_script.proofs.Falling.{falling_remove_all, falling_same, falling_put_all, IsRising}
 use Rattle.offset_allocator.proofs.ViewReplaced.{tally_three, listed_named, orders_replaced}
@@ -19,36 +20,9 @@ names ls = map by_name ls
 abbrev pub tags : List Label → List plain.Block
 tags ls = map by_tag ls
 
--- a map over two lists
-pub map_both : {A B : Type 0} (f : A → B) (xs ys : List A) → map f (xs ++ ys) ≡ map f xs ++ map f ys
-map_both f [] ys = refl
-map_both f (x ∷ xs) ys = ap (λ l. f x ∷ l) (map_both f xs ys)
-
 -- a map over three lists
 pub map_three : {A B : Type 0} (f : A → B) (xs ys zs : List A) → map f (xs ++ (ys ++ zs)) ≡ map f xs ++ (map f ys ++ map f zs)
-map_three f xs ys zs = map_both f xs (ys ++ zs) ∙ ap (λ l. map f xs ++ l) (map_both f ys zs)
-
--- a mapped list that is split in two was split before
-pub map_parts : {A B : Type 0} (f : A → B) (ls : List A) (xs ys : List B) → map f ls ≡ xs ++ ys → (front : List A) × (back : List A) × (ls ≡ front ++ back) × (map f front ≡ xs) × (map f back ≡ ys)
-map_parts f ls [] ys e = ([], ls, refl, refl, e)
-map_parts f [] (x ∷ xs) ys e = absurd (cc)
-map_parts f (l ∷ ls) (x ∷ xs) ys e =
-    let r = map_parts f ls xs ys (cc) in
-    let head : f l ≡ x = cc in
-    (l ∷ r.0, r.1, ap (λ z. l ∷ z) r.2, ap₂ (λ y z. y ∷ z) head r.3, r.4)
-
--- the first of a mapped list
-pub map_first : {A B : Type 0} (f : A → B) (ls : List A) (b : B) (after : List B) → map f ls ≡ b ∷ after → (x : A) × (ys : List A) × (ls ≡ x ∷ ys) × (f x ≡ b) × (map f ys ≡ after)
-map_first f [] b after e = absurd (cc)
-map_first f (x ∷ ys) b after e = (x, ys, refl, (cc), (cc))
-
--- a mapped list that is split at an item was split before
-pub map_split : {A B : Type 0} (f : A → B) (ls : List A) (before : List B) (b : B) (after : List B) → map f ls ≡ before ++ b ∷ after
-    → (xs : List A) × (x : A) × (ys : List A) × (ls ≡ xs ++ x ∷ ys) × (map f xs ≡ before) × (f x ≡ b) × (map f ys ≡ after)
-map_split f ls before b after e =
-    let r = map_parts f ls before (b ∷ after) e in
-    let h = map_first f r.1 b after r.4 in
-    (r.0, h.0, h.1, r.2 ∙ ap (λ l. r.0 ++ l) h.2, r.3, h.3, h.4)
+map_three f xs ys zs = map-append f xs (ys ++ zs) ∙ ap (λ l. map f xs ++ l) (map-append f ys zs)
 
 -- stamps
 pub stamp_none : (x : ℕ) (ls : List Label) → count_named x (names ls) ≡ 0 → stamp_of x ls ≡ 0
@@ -72,7 +46,7 @@ stamp_append : (x : ℕ) (xs ys : List Label) → stamp_of x (xs ++ ys) ≡ stam
 stamp_append x xs ys = tally_append (λ (l : Label). if nat_eq x l.name then stamp l.tag else 0) xs ys
 
 named_append : (x : ℕ) (xs ys : List Label) → count_named x (names (xs ++ ys)) ≡ count_named x (names xs) + count_named x (names ys)
-named_append x xs ys = ap (count_named x) (map_both by_name xs ys) ∙ tally_append (λ (b : Block). one (nat_eq x b.name)) (names xs) (names ys)
+named_append x xs ys = ap (count_named x) (map-append by_name xs ys) ∙ tally_append (λ (b : Block). one (nat_eq x b.name)) (names xs) (names ys)
 
 stamp_at : (before : List Label) (l : Label) (after : List Label) → count_named l.name (names (before ++ l ∷ after)) ≤ 1 → stamp_of l.name (before ++ l ∷ after) ≡ stamp l.tag
 stamp_at before l after most = elim (hit_cases l.name l.name) [
@@ -101,9 +75,6 @@ stamp_or_zero : (t : Tag) → (stamp t ≡ 0) ⊎ ((s : ℕ) × (t ≡ Free s))
 stamp_or_zero (Live k) = inl refl
 stamp_or_zero (Free s) = inr (s, refl)
 
-hit_self : (s : ℕ) → hit (Free s) (Free s) ≡ 1
-hit_self s = ap (λ (b : Bool). elim b [ true ↦ 1 | false ↦ 0 ]) (eq-eqb s s refl)
-
 pub stamps_below : (t : ℕ) (ls : List Label) → ((x : ℕ) → count_named x (names ls) ≤ 1) → ((x : ℕ) → t ≤ x → count (Free x) (tags ls) ≡ 0) → 1 ≤ t → (x : ℕ) → stamp_of x ls < t
 stamps_below t [] most low pos x = omega arith
 stamps_below t (l ∷ ls) most low pos x = elim (hit_cases x l.name) [
@@ -113,7 +84,7 @@ stamps_below t (l ∷ ls) most low pos x = elim (hit_cases x l.name) [
       let z = stamp_none x ls (omega arith) in
       rw (eq-eqb x l.name i.0) (elim (stamp_or_zero l.tag) [
         | inl e ↦ omega arith
-        | inr r ↦ let e = ap stamp r.1 in elim (cases_lt r.0 t) [ inl b ↦ omega arith | inr b ↦ absurd (let c = low r.0 b in let h = ap (hit (Free r.0)) r.1 in let s = hit_self r.0 in omega arith) ]
+        | inr r ↦ let e = ap stamp r.1 in elim (cases_lt r.0 t) [ inl b ↦ omega arith | inr b ↦ absurd (let c = low r.0 b in let h = ap (hit (Free r.0)) r.1 in let s = hit_self (Free r.0) in omega arith) ]
       ])
   | inr i ↦ let k = i.1 in let ih = stamps_below t ls (λ y. let m = most y in omega arith) (λ y b. let c = low y b in omega arith) pos x in rw (ne_eqb x l.name i.0) (omega arith)
 ]

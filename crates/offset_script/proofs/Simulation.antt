@@ -13,7 +13,7 @@ use Rattle.offset_script.specs.declared.scripts.Command.TheVariants as command
 use Rattle.offset_script.specs.Machine.{State, step, start, after}
 use Rattle.offset_script.specs.Machine as machine
 use Rattle.offset_allocator.specs.Named.{View, Grant, total_free, largest_free, free_sizes, max_size, IsWellFormed}
-use Rattle.offset_script.specs.Agreement.{IsReached, name_in, kept_name, answer_of, with_name, without_name, kept_after, grant_count_after}
+use Rattle.offset_script.specs.Agreement.{IsReached, name_in, kept_name, with_name, without_name, kept_after, grant_count_after}
 use Rattle.offset_allocator.specs.Relations.{IsFresh, Allocates, Aligns, Frees, Extends, Resets}
 use Rattle.offset_script.proofs.Well.{Well, well_start, well_after}
 use Rattle.offset_script.proofs.Agreed.{Matches, serve_agrees, aligned_agrees, extend_agrees, free_agrees, live_agrees, gone_agrees, size_agrees, report_agrees, full_agrees, agrees_quiet, agrees_kept, alone_agrees, same_units}
