@@ -1,9 +1,8 @@
 -- What a call does to the range of a grant.
-use Rattle.std.proofs.Common.{◌≡◌, ◌≢◌, ℕ, zero, suc, ◌+◌, ◌-◌, ◌≤◌, Bool, true, false, List, [], ◌∷◌, ◌++◌, Option, Some, None, nat_eq, if◌then◌else◌, refl, sym, ap, ◌∙◌, inl, inr, arith, ne_eqb, eq-eqb}
+use Rattle.std.proofs.Common.{◌≡◌, ◌≢◌, ℕ, zero, suc, ◌+◌, ◌-◌, ◌≤◌, Bool, true, false, List, [], ◌∷◌, ◌++◌, Option, Some, None, nat_eq, if◌then◌else◌, refl, sym, ap, ap₂, ◌∙◌, inl, inr, arith, ne_eqb, eq-eqb, append-nil}
 use Rattle.std.proofs.lemmas.Bool.{cases_eq, true≢false, false≢true}
-use Rattle.offset_script.specs.Machine.{Tag, Live, Free, Block, block, is_free, has_number, total, Place, place_of, free_block, free_start, without_start, free_end, without_end, coalesce}
-use Rattle.offset_script.proofs.Well.{count, hit, one, whole, found_at, count-append, number_hit, granted_blocks}
-use Rattle.offset_script.proofs.Totals.{total_end}
+use Rattle.offset_script.specs.Machine.{Tag, Live, Free, Block, block, is_free, has_number, total, Place, place_of, free_block, coalesce}
+use Rattle.offset_script.proofs.Well.{count, hit, one, whole, found_at, count-append, number_hit, granted_blocks, total-append, AllFree, coalesced}
 use Rattle.offset_lives.specs.Lives.{range_of}
 
 -- the first of two options that is not `None`
@@ -54,31 +53,25 @@ range_none k offset (b ∷ bs) h = past k offset b bs (no_hit (has_number k b.ta
     no_hit true e z = absurd (omega arith)
     no_hit false e z = refl
 
+-- free blocks belong to no grant
+range_free : (k offset : ℕ) (fs ys : List Block) → AllFree fs → range_of k offset (fs ++ ys) ≡ range_of k (offset + total fs) ys
+range_free k offset [] ys f = ap (λ o. range_of k o ys) (omega arith)
+range_free k offset (b ∷ fs) ys f = past k offset b (fs ++ ys) (free_number k b.tag f.0) ∙ range_free k (offset + b.size) fs ys f.1 ∙ ap (λ o. range_of k o ys) (omega arith)
+
+either_none : (r : Option (ℕ × ℕ)) → either_of r None ≡ r
+either_none None = refl
+either_none (Some r) = refl
+
 -- blocks that coalesce belonged to no grant
-range_without_start : (k offset : ℕ) (bs : List Block) → range_of k (offset + free_start bs) (without_start bs) ≡ range_of k offset bs
-range_without_start k offset [] = refl
-range_without_start k offset (b ∷ bs) = either (is_free b.tag) refl
-  where
-    either : (x : Bool) → is_free b.tag ≡ x → range_of k (offset + (if x then b.size else 0)) (if x then bs else b ∷ bs) ≡ range_of k offset (b ∷ bs)
-    either true e = sym (past k offset b bs (free_number k b.tag e))
-    either false e = ap (λ o. range_of k o (b ∷ bs)) (omega arith)
-
-range_without_end : (k offset : ℕ) (bs : List Block) → range_of k offset (without_end bs) ≡ range_of k offset bs
-range_without_end k offset [] = refl
-range_without_end k offset (b ∷ []) = either (is_free b.tag) refl
-  where
-    either : (x : Bool) → is_free b.tag ≡ x → range_of k offset (if x then [] else b ∷ []) ≡ range_of k offset (b ∷ [])
-    either true e = sym (past k offset b [] (free_number k b.tag e))
-    either false e = refl
-range_without_end k offset (b ∷ c ∷ bs) = ap (λ r. if has_number k b.tag then Some (offset, b.size) else r) (range_without_end k (offset + b.size) (c ∷ bs))
-
 pub range_coalesce : (k : ℕ) (xs : List Block) (n s : ℕ) (ys : List Block) → range_of k 0 (coalesce xs n s ys) ≡ either_of (range_of k 0 xs) (range_of k (total xs + n) ys)
 range_coalesce k xs n s ys =
-    let l = total_end xs in
-    at_start k (without_end xs) (block (free_end xs + n + free_start ys) (Free s) ∷ without_start ys)
-    ∙ ap (λ r. either_of r (range_of k (total (without_end xs) + (free_end xs + n + free_start ys)) (without_start ys))) (range_without_end k 0 xs)
-    ∙ ap (λ o. either_of (range_of k 0 xs) (range_of k o (without_start ys))) (omega arith)
-    ∙ ap (either_of (range_of k 0 xs)) (range_without_start k (total xs + n) ys)
+    let c = coalesced xs n s ys in
+    let front : range_of k 0 xs ≡ range_of k 0 c.front =
+    ap (range_of k 0) c.at_front ∙ at_start k c.front c.last
+    ∙ ap (either_of (range_of k 0 c.front)) (ap (range_of k (total c.front)) (sym (append-nil c.last)) ∙ range_free k (total c.front) c.last [] c.end.free) ∙ either_none _ in
+    ap (range_of k 0) c.is ∙ at_start k c.front (block (total c.last + n + total c.first) (Free s) ∷ c.back)
+    ∙ ap₂ (λ r o. either_of r (range_of k o c.back)) (sym front) (omega (arith, ap total c.at_front, total-append c.front c.last))
+    ∙ ap (either_of (range_of k 0 xs)) (sym (ap (range_of k (total xs + n)) c.at_back ∙ range_free k (total xs + n) c.first c.back c.start.free))
 
 -- a release leaves the other ranges
 pub range_released : (k j n s : ℕ) (bs : List Block) (p : Place) → place_of j bs ≡ Some p → n ≡ p.block.size → k ≢ j → range_of k 0 (coalesce p.before n s p.after) ≡ range_of k 0 bs

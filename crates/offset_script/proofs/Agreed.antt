@@ -1,23 +1,26 @@
--- Each named step returns the answer of the plain machine, and leaves a view that agrees with it.
-use Rattle.std.proofs.Common.{◌≡◌, ◌≢◌, ℕ, zero, suc, ◌+◌, ◌-◌, ◌*◌, ◌<◌, ◌≤◌, Bool, true, false, not, ◌&&◌, ◌||◌, ◌⊎◌, List, [], ◌∷◌, ◌++◌, replicate, length, sum, Option, Some, None, nat_eq, nat_lt, nat_le, if◌then◌else◌, refl, sym, ap, ap₂, subst, ◌∙◌, inl, inr, arith, eq-eqb, ne_eqb, leb-false, append_assoc}
-use Rattle.std.proofs.lemmas.Bool.{cases_eq, cases_lt, true≢false, false≢true}
-use Rattle.offset_allocator.specs.Classes.{down}
+-- What each call of the allocator leaves agrees with what the plain machine leaves, and the answers are the same.
+use Rattle.std.proofs.Common.{◌≡◌, ℕ, zero, suc, ◌+◌, ◌-◌, ◌<◌, ◌≤◌, Bool, true, false, not, ◌&&◌, ◌||◌, ◌⊎◌, List, [], ◌∷◌, ◌++◌, replicate, length, sum, Option, Some, None, nat_eq, nat_lt, nat_le, if◌then◌else◌, refl, sym, ap, ap₂, subst, subst₂, ◌∙◌, inl, inr, arith, eq-eqb, ne_eqb, le-leb, le-ltb, leb-false, append_assoc, append-nil}
+use Rattle.std.proofs.lemmas.Bool.{cases_eq, cases_lt, true≢false, false≢true, lt-leb, ltb-true, ltb-false}
+use Rattle.offset_allocator.specs.Classes.{up, down}
 use Rattle.offset_allocator.specs.Reports.{largest, rows_below}
 use Rattle.offset_script.specs.declared.scripts.Command.TheVariants as command
 use Rattle.offset_script.specs.Machine.{Tag, Live, Free, is_free, has_number, stamp, total, chosen_place, State, Answer, step, returns_only, leaves, stamp_of_padding, stamp_of_call}
 use Rattle.offset_script.specs.Machine as machine
-use Rattle.offset_allocator.specs.Named.{Block, View, Place, Grant, Outcome, place_of, tally, one, units, times, count_listed, used_block, free_block, free_part, names_at, push, push_all, remove_all, IsWellFormed, IsUnused, replace, refuse, grant_in, grant_or_refuse, place_for, serve, is_short_of, allocate, allocate_aligned, coalesce, free_at, free, reset, extend_by, is_extendable, name_or, max_size, padding_to}
+use Rattle.offset_allocator.specs.Named.{Block, View, Place, Grant, place_of, tally, one, units, times, count_listed, used_block, free_block, free_part, names_at, push_all, remove_all, IsWellFormed, replace, max_size, padding_to}
 use Rattle.offset_allocator.specs.Named as named
+use Rattle.offset_allocator.specs.Promises.{HasRoomFor, CanGrant, blocks_needed, units_needed}
+use Rattle.offset_allocator.specs.Relations.{SameSpace, Serves, Frees, Adds, CanExtend, Extends}
 use Rattle.offset_script.specs.Agreement.{Label, by_name, by_tag, stamp_of, IsFalling, name_of, Agrees, answer_of, with_name, without_name, kept_after, grant_count_after}
-use Rattle.offset_script.proofs.Well.{Well, count, count-append, hit}
+use Rattle.offset_script.proofs.Well.{Well, both_true, and_false_right, count, count-append, hit, hit_self, apart_parts, and_true, end_of, start_of, coalesce_parts, chosen_at}
 use Rattle.offset_script.proofs.Well as well
-use Rattle.std.proofs.lemmas.List.{get_or-replicate, get_or_past, length-replicate}
-use Rattle.offset_allocator.proofs.ViewOrders.{tally_append, hit_cases, names_same, names_other}
-use Rattle.offset_allocator.proofs.Sizes.{down_small}
-use Rattle.offset_allocator.proofs.ViewTaken.{well_granted_at, well_free, well_extended, padding_small, append_nil, end_cases, name_or_there}
-use Rattle.offset_script.proofs.Labels.{names, tags, map_both, map_three, stamps_below, Rises, newest_replaced}
-use Rattle.offset_script.proofs.Chosen.{Spot, whole, named_place, plain_place, IsLabelled, SameChoice, neither, both, same_choice, place_of_spot}
-use Rattle.offset_script.proofs.Ends.{free_start, without_start, free_end, without_end, names_free_start, names_without_start, names_free_end, names_without_end, tags_without_start, tags_without_end, free_start_units, free_end_units, total_units, length_labels, free_sizes_labels, or_else, or_none, name_append, name_skip, name_without_end, name_without_start, name_none, name_missing, name_found, ends_used_label, end_parts, start_parts}
+use Rattle.std.specs.List.{AllByRecursion}
+use Rattle.std.proofs.lemmas.List.{map-append, length-map, get_or-replicate, get_or_past, length-replicate}
+use Rattle.offset_allocator.proofs.ViewOrders.{tally_append, names_same, names_other}
+use Rattle.offset_allocator.proofs.Sizes.{down_small, fits_size}
+use Rattle.offset_script.proofs.Members.{map_parts, map_first}
+use Rattle.offset_script.proofs.Labels.{names, tags, map_three, stamps_below, Rises, newest_replaced, not_false}
+use Rattle.offset_script.proofs.Chosen.{Spot, whole, place_at, named_spot, named_place, plain_place, some_same, IsLabelled, none_chosen, chosen, place_of_spot}
+use Rattle.offset_script.proofs.Ends.{AllFree, free_named, free_tagged, apart_tagged, ends_live_last, last_free, total_units, length_labels, free_sizes_labels, or_else, or_none, name_append, name_skip, name_free, name_none, name_missing, name_found}
 
 -- a call that leaves the blocks as they are
 pub agrees_quiet : (v : View) (kept_name : ℕ → Option ℕ) (s : State) → Agrees v kept_name s → (a : Answer) → Agrees v kept_name (returns_only s a).state
@@ -52,10 +55,10 @@ abbrev new_labels : (front padding x n k rest left t : ℕ) → List Label
 new_labels front padding x n k rest left t = free_labels front padding t ++ live_label x n k ∷ free_labels rest left (t + 1)
 
 names_new : (front padding x n k rest left t : ℕ) → names (new_labels front padding x n k rest left t) ≡ free_part front padding ++ used_block x n ∷ free_part rest left
-names_new front padding x n k rest left t = map_both by_name (free_labels front padding t) _ ∙ ap₂ (λ a b. a ++ used_block x n ∷ b) (names_free_labels front padding t) (names_free_labels rest left (t + 1))
+names_new front padding x n k rest left t = map-append by_name (free_labels front padding t) _ ∙ ap₂ (λ a b. a ++ used_block x n ∷ b) (names_free_labels front padding t) (names_free_labels rest left (t + 1))
 
 tags_new : (front padding x n k rest left t : ℕ) → tags (new_labels front padding x n k rest left t) ≡ machine.free_block padding t ++ machine.block n (Live k) ∷ machine.free_block left (t + 1)
-tags_new front padding x n k rest left t = map_both by_tag (free_labels front padding t) _ ∙ ap₂ (λ a b. a ++ machine.block n (Live k) ∷ b) (tags_free_labels front padding t) (tags_free_labels rest left (t + 1))
+tags_new front padding x n k rest left t = map-append by_tag (free_labels front padding t) _ ∙ ap₂ (λ a b. a ++ machine.block n (Live k) ∷ b) (tags_free_labels front padding t) (tags_free_labels rest left (t + 1))
 
 name_new : (j front padding x n k rest left t : ℕ) → name_of j (new_labels front padding x n k rest left t) ≡ (if nat_eq j k then Some x else None)
 name_new j front padding x n k rest left t =
@@ -78,370 +81,380 @@ name_replaced : (j : ℕ) (before old new after : List Label) → name_of j old 
 name_replaced j before old new after e =
     name_append j before (old ++ after) ∙ ap (or_else (name_of j before)) (name_append j old after ∙ ap (λ o. or_else o (name_of j after)) e ∙ sym (name_append j new after)) ∙ sym (name_append j before (new ++ after))
 
--- their names are that of the old block, or unused
-origin_new : (v : View) (front padding x n rest left : ℕ) (b : Block) → x ≡ b.name → IsUnused front v → IsUnused rest v → (y : ℕ) → 1 ≤ named.count_named y (free_part front padding ++ used_block x n ∷ free_part rest left) → (1 ≤ named.count_named y (b ∷ [])) ⊎ IsUnused y v
-origin_new v front padding x n rest left b same uf ur y l = elim (hit_cases y front) [
-  | inl i ↦ inr (subst (λ z. IsUnused z v) (sym i.0) uf)
-  | inr i ↦ elim (hit_cases y rest) [
-    | inl j ↦ inr (subst (λ z. IsUnused z v) (sym j.0) ur)
-    | inr j ↦ inl (let m = tally_append (λ (b : Block). one (nat_eq y b.name)) (free_part front padding) (used_block x n ∷ free_part rest left) in let p = part front padding i.1 in let q = part rest left j.1 in let k = ap (λ z. one (nat_eq y z)) same in omega arith)
-  ]
-]
-  where
-    part : (z n : ℕ) → one (nat_eq y z) ≡ 0 → named.count_named y (free_part z n) ≡ 0
-    part z zero e = refl
-    part z (suc n) e = omega arith
+-- a request has the same answer, and what it leaves agrees
+pub record Matches (u : View) (kept_name : ℕ → Option ℕ) (grants : ℕ) (r : Option Grant) (p : machine.Outcome) : Type 0 where
+  pub answer : p.answer ≡ answer_of grants r
+  pub agrees : Agrees u (kept_after grants r kept_name) p.state
+  pub grants_after : p.state.grants ≡ grant_count_after grants r
+
+-- accesses are no part of the agreement
+pub agrees_but : (v w : View) (kept_name : ℕ → Option ℕ) (s : State) → SameSpace v w → Agrees v kept_name s → Agrees w kept_name s
+agrees_but v w kept_name s e g = subst (λ x. Agrees x kept_name s) (sym e) (record { labels = g.labels; view = g.view; state = g.state; limit = g.limit; newest = g.newest; handles = g.handles })
 
 module _ (v : View) (kept_name : ℕ → Option ℕ) (s : State) (w : IsWellFormed v) (ws : Well s) (g : Agrees v kept_name s) where
   labelled : IsLabelled v g.labels
   labelled = record { view = g.view; newest = g.newest }
 
-  low : (ls : List Label) → g.labels ≡ ls → (x : ℕ) → stamp_of x ls < 2 * (s.calls + 1)
-  low ls e = subst (λ ls. (x : ℕ) → stamp_of x ls < 2 * (s.calls + 1)) e (stamps_below (2 * (s.calls + 1)) g.labels (λ x. subst (λ bs. named.count_named x bs ≤ 1) g.view (w.distinct x)) (λ x b. subst (λ bs. count (Free x) bs ≡ 0) g.state (ws.stamped x b)) (omega arith))
+  low : (ls : List Label) → g.labels ≡ ls → (x : ℕ) → stamp_of x ls < stamp_of_padding s
+  low ls e = subst (λ ls. (x : ℕ) → stamp_of x ls < stamp_of_padding s) e (stamps_below (stamp_of_padding s) g.labels (λ x. subst (λ bs. named.count_named x bs ≤ 1) g.view (w.distinct x)) (λ x b. subst (λ bs. count (Free x) bs ≡ 0) g.state (ws.stamped x b)) (omega arith))
 
   newest_at : (ls : List Label) → g.labels ≡ ls → (c : ℕ) → IsFalling (λ x. stamp_of x ls) (names_at v.order c)
   newest_at ls e = subst (λ ls. (c : ℕ) → IsFalling (λ x. stamp_of x ls) (names_at v.order c)) e g.newest
 
-  agrees_grant : (n padding front rest : ℕ) (sp : Spot) → g.labels ≡ whole sp → is_free sp.label.tag ≡ true → IsUnused front v → IsUnused rest v → IsWellFormed (grant_in v n padding front rest (named_place sp)).view
-      → Agrees (grant_in v n padding front rest (named_place sp)).view (with_name (s.grants + 1) sp.label.name kept_name) (machine.grant s n padding (plain_place sp)).state
-  agrees_grant n padding front rest sp e f uf ur w' = record {
-    labels = sp.before ++ (new ++ sp.after);
-    view = view;
-    state = ap (λ z. tags sp.before ++ z) (sym (append_assoc (machine.free_block padding t) (machine.block n (Live (s.grants + 1)) ∷ machine.free_block left (t + 1)) (tags sp.after)))
-        ∙ sym (map_three by_tag sp.before new sp.after ∙ ap (λ z. tags sp.before ++ (z ++ tags sp.after)) (tags_new front padding sp.label.name n (s.grants + 1) rest left t));
-    limit = g.limit;
-    newest = λ c. subst (λ put. IsFalling (λ x. stamp_of x (sp.before ++ (new ++ sp.after))) (names_at (push_all put (remove_all (by_name sp.label ∷ []) v.order)) c)) names_are
-        (newest_replaced v sp.before (sp.label ∷ []) new sp.after w (g.view ∙ ap names e) (λ x. subst (λ bs. named.count_named x bs ≤ 1) view (w'.distinct x))
-        (λ x l. origin_new v front padding sp.label.name n rest left (by_name sp.label) refl uf ur x (subst (λ bs. 1 ≤ named.count_named x bs) names_are l))
-        t (low (whole sp) e) (rises_new front padding sp.label.name n (s.grants + 1) rest left t) (newest_at (whole sp) e) c);
-    handles = handles;
-  }
-    where
-      t : ℕ
-      t = 2 * (s.calls + 1)
+  -- new blocks in place of old ones
+  module _ (u : View) (w' : IsWellFormed u) where
+    agrees_replaced : (size : ℕ) (before old new after : List Label) → g.labels ≡ before ++ (old ++ after) → SameSpace (record (replace v (names before) (names old) (names new) (names after)) { size = size }) u
+        → (t : State) → t.limit ≡ s.limit → t.blocks ≡ tags (before ++ (new ++ after)) → Rises (stamp_of_padding s) new
+        → (kept_name' : ℕ → Option ℕ) → ((j : ℕ) → kept_name' j ≡ name_of j (before ++ (new ++ after))) → Agrees u kept_name' t
+    agrees_replaced size before old new after e same t limit state rises kept_name' handles = record {
+      labels = before ++ (new ++ after);
+      view = view;
+      state = state;
+      limit = limit ∙ g.limit ∙ sym (ap (λ (x : View). x.max_allocs) same);
+      newest = λ c. subst (λ o. IsFalling (λ x. stamp_of x (before ++ (new ++ after))) (names_at o c)) (sym (ap (λ (x : View). x.order) same))
+          (newest_replaced v before old new after w (g.view ∙ ap names e) (λ x. subst (λ bs. named.count_named x bs ≤ 1) view (w'.distinct x)) (stamp_of_padding s) (low _ e) rises (newest_at _ e) c);
+      handles = handles;
+    }
+      where
+        view : u.blocks ≡ names (before ++ (new ++ after))
+        view = ap (λ (x : View). x.blocks) same ∙ sym (map_three by_name before new after)
 
-      left : ℕ
-      left = sp.label.size - (padding + n)
+    -- a grant
+    grant_agrees : (n padding remainder front rest : ℕ) (sp : Spot) → g.labels ≡ whole sp → is_free sp.label.tag ≡ true → padding + n + remainder ≡ sp.label.size
+        → SameSpace (replace v (names sp.before) (by_name sp.label ∷ []) (free_part front padding ++ used_block sp.label.name n ∷ free_part rest remainder) (names sp.after)) u
+        → Agrees u (with_name (s.grants + 1) sp.label.name kept_name) (machine.grant s n padding (plain_place sp)).state
+    grant_agrees n padding remainder front rest sp e f fill same = agrees_replaced v.size sp.before (sp.label ∷ []) new sp.after e
+        (subst (λ put. SameSpace (replace v (names sp.before) (by_name sp.label ∷ []) put (names sp.after)) u) (sym names_are) same) _ refl
+        (ap (λ z. tags sp.before ++ z) (sym (append_assoc (machine.free_block padding (stamp_of_padding s)) (machine.block n (Live k) ∷ machine.free_block left (stamp_of_call s)) (tags sp.after)))
+        ∙ sym (map_three by_tag sp.before new sp.after ∙ ap (λ z. tags sp.before ++ (z ++ tags sp.after)) (tags_new front padding sp.label.name n k rest left (stamp_of_padding s))))
+        (rises_new front padding sp.label.name n k rest left (stamp_of_padding s)) _ handles
+      where
+        k : ℕ
+        k = s.grants + 1
 
-      new : List Label
-      new = new_labels front padding sp.label.name n (s.grants + 1) rest left t
+        left : ℕ
+        left = sp.label.size - (padding + n)
 
-      names_are : names new ≡ free_part front padding ++ used_block sp.label.name n ∷ free_part rest left
-      names_are = names_new front padding sp.label.name n (s.grants + 1) rest left t
+        new : List Label
+        new = new_labels front padding sp.label.name n k rest left (stamp_of_padding s)
 
-      view : names sp.before ++ ((free_part front padding ++ used_block sp.label.name n ∷ free_part rest left) ++ names sp.after) ≡ names (sp.before ++ (new ++ sp.after))
-      view = sym (map_three by_name sp.before new sp.after ∙ ap (λ z. names sp.before ++ (z ++ names sp.after)) names_are)
+        names_are : names new ≡ free_part front padding ++ used_block sp.label.name n ∷ free_part rest remainder
+        names_are = names_new front padding sp.label.name n k rest left (stamp_of_padding s) ∙ ap (λ m. free_part front padding ++ used_block sp.label.name n ∷ free_part rest m) (omega arith)
 
-      first : name_of (s.grants + 1) sp.before ≡ None
-      first = name_none (s.grants + 1) sp.before (omega (arith, ws.granted (s.grants + 1) (omega arith), ap (count (Live (s.grants + 1))) (g.state ∙ ap tags e ∙ map_both by_tag sp.before (sp.label ∷ sp.after)), count-append (Live (s.grants + 1)) (tags sp.before) (tags (sp.label ∷ sp.after))))
+        first : name_of k sp.before ≡ None
+        first = name_none k sp.before (omega (arith, ws.granted k (omega arith), ap (count (Live k)) (g.state ∙ ap tags e ∙ map-append by_tag sp.before (sp.label ∷ sp.after)), count-append (Live k) (tags sp.before) (tags (sp.label ∷ sp.after))))
 
-      handles : (j : ℕ) → with_name (s.grants + 1) sp.label.name kept_name j ≡ name_of j (sp.before ++ (new ++ sp.after))
-      handles j = elim (cases_eq j (s.grants + 1)) [
-        | inl i ↦ subst (λ k. with_name (s.grants + 1) sp.label.name kept_name k ≡ name_of k (sp.before ++ (new ++ sp.after))) (sym i)
-            (rw (eq-eqb (s.grants + 1) (s.grants + 1) refl) (sym (name_append (s.grants + 1) sp.before (new ++ sp.after) ∙ ap₂ or_else first (name_append (s.grants + 1) new sp.after ∙ ap (λ o. or_else o (name_of (s.grants + 1) sp.after)) (name_new (s.grants + 1) front padding sp.label.name n (s.grants + 1) rest left t ∙ ap (λ (b : Bool). if b then Some sp.label.name else None) (eq-eqb (s.grants + 1) (s.grants + 1) refl))))))
-        | inr i ↦ rw (ne_eqb j (s.grants + 1) i) (g.handles j ∙ ap (name_of j) e ∙ name_replaced j sp.before (sp.label ∷ []) new sp.after (name_skip j sp.label [] f ∙ sym (name_new j front padding sp.label.name n (s.grants + 1) rest left t ∙ ap (λ (b : Bool). if b then Some sp.label.name else None) (ne_eqb j (s.grants + 1) i))))
-      ]
+        handles : (j : ℕ) → with_name k sp.label.name kept_name j ≡ name_of j (sp.before ++ (new ++ sp.after))
+        handles j = elim (cases_eq j k) [
+          | inl i ↦ subst (λ k'. with_name k sp.label.name kept_name k' ≡ name_of k' (sp.before ++ (new ++ sp.after))) (sym i)
+              (rw (eq-eqb k k refl) (sym (name_append k sp.before (new ++ sp.after) ∙ ap₂ or_else first (name_append k new sp.after ∙ ap (λ o. or_else o (name_of k sp.after)) (name_new k front padding sp.label.name n k rest left (stamp_of_padding s) ∙ ap (λ (b : Bool). if b then Some sp.label.name else None) (eq-eqb k k refl))))))
+          | inr i ↦ rw (ne_eqb j k i) (g.handles j ∙ ap (name_of j) e ∙ name_replaced j sp.before (sp.label ∷ []) new sp.after (name_skip j sp.label [] f ∙ sym (name_new j front padding sp.label.name n k rest left (stamp_of_padding s) ∙ ap (λ (b : Bool). if b then Some sp.label.name else None) (ne_eqb j k i))))
+        ]
 
--- a tag equals itself
-hit_same : (k : ℕ) → hit (Live k) (Live k) ≡ 1
-hit_same k = elim (well.hit_cases k k) [ inl i ↦ i.1 | inr i ↦ absurd (i.0 refl) ]
+    -- what becomes free, between lists that end and start with free blocks
+    coalesced_agrees : (front before left old back right after : List Label) (x n size : ℕ) → g.labels ≡ front ++ (old ++ back) → front ≡ before ++ left → back ≡ right ++ after → AllFree left → AllFree right
+        → SameSpace (record (replace v (names before) (names (left ++ (old ++ right))) (free_block x (total (tags left) + n + total (tags right)) ∷ []) (names after)) { size = size }) u
+        → (kept_name' : ℕ → Option ℕ) → ((j : ℕ) → kept_name' j ≡ or_else (name_of j front) (name_of j back)) → (a : Answer)
+        → Agrees u kept_name' (leaves s (machine.coalesce (tags front) n (stamp_of_call s) (tags back)) a).state
+    coalesced_agrees front before left old back right after x n size e at_front at_back fl fr same kept_name' handles a =
+        agrees_replaced size before (left ++ (old ++ right)) (l ∷ []) after parted same _ refl state (λ e. absurd (true≢false e), λ e. (omega arith, tt)) kept_name'
+        (λ j. handles j ∙ ap₂ or_else (ap (name_of j) at_front ∙ name_append j before left ∙ ap (or_else (name_of j before)) (name_free j left fl) ∙ or_none _)
+        (ap (name_of j) at_back ∙ name_append j right after ∙ ap (λ o. or_else o (name_of j after)) (name_free j right fr)) ∙ sym (name_append j before (l ∷ after)))
+      where
+        l : Label
+        l = record { name = x; size = total (tags left) + n + total (tags right); tag = Free (stamp_of_call s) }
 
--- a request has the same answer, and what it leaves agrees
-pub record Matches (kept_name : ℕ → Option ℕ) (grants : ℕ) (o : Outcome) (p : machine.Outcome) : Type 0 where
-  pub answer : p.answer ≡ answer_of grants o.grant
-  pub agrees : Agrees o.view (kept_after grants o.grant kept_name) p.state
-  pub grants_after : p.state.grants ≡ grant_count_after grants o.grant
+        parted : g.labels ≡ before ++ ((left ++ (old ++ right)) ++ after)
+        parted = e ∙ ap₂ (λ y z. y ++ (old ++ z)) at_front at_back ∙ simp append_assoc
 
--- two choices by the same test match where their branches do
-matches_if : (kept_name : ℕ → Option ℕ) (grants : ℕ) (b c : Bool) → b ≡ c → (x y : Outcome) (x' y' : machine.Outcome) → (b ≡ true → Matches kept_name grants x x') → (b ≡ false → Matches kept_name grants y y') → Matches kept_name grants (if b then x else y) (if c then x' else y')
-matches_if kept_name grants b c e x y x' y' f g = subst (λ d. Matches kept_name grants (if b then x else y) (if d then x' else y')) e (go b f g)
-  where
-    go : (b : Bool) → (b ≡ true → Matches kept_name grants x x') → (b ≡ false → Matches kept_name grants y y') → Matches kept_name grants (if b then x else y) (if b then x' else y')
-    go true f g = f refl
-    go false f g = g refl
+        parts : (xs ys : List Label) → well.Apart (tags (xs ++ ys)) → well.Apart (tags xs) × well.Apart (tags ys) × ((well.ends_free (tags xs) && well.starts_free (tags ys)) ≡ false)
+        parts xs ys h = apart_parts (tags xs) (tags ys) (subst well.Apart (map-append by_tag xs ys) h)
 
-module _ (v : View) (kept_name : ℕ → Option ℕ) (s : State) (w : IsWellFormed v) (ws : Well s) (g : Agrees v kept_name s) where
+        apart : well.Apart (tags (left ++ (old ++ right)))
+        apart = (parts (left ++ (old ++ right)) after (parts before ((left ++ (old ++ right)) ++ after) (subst well.Apart (g.state ∙ ap tags parted) ws.apart)).1).0
+
+        apart' : well.Apart (tags before) × well.Apart (tags (l ∷ after)) × ((well.ends_free (tags before) && true) ≡ false)
+        apart' = parts before (l ∷ after) (apart_tagged (before ++ (l ∷ after)) (subst named.IsApart (ap (λ (x : View). x.blocks) same ∙ sym (map-append by_name before (l ∷ after))) w'.apart))
+
+        state : machine.coalesce (tags front) n (stamp_of_call s) (tags back) ≡ tags (before ++ (l ∷ after))
+        state = ap₂ (λ y z. machine.coalesce y n (stamp_of_call s) z) (ap tags at_front ∙ map-append by_tag before left) (ap tags at_back ∙ map-append by_tag right after)
+            ∙ coalesce_parts (tags before) (tags left) n (stamp_of_call s) (tags right) (tags after) (end_of _ _ (free_tagged left fl) (parts left (old ++ right) apart).0 (and_true _ apart'.2)) (start_of _ _ (free_tagged right fr) (parts old right (parts left (old ++ right) apart).1).1 apart'.1.0)
+            ∙ sym (map-append by_tag before (l ∷ after))
+
   same_length : length v.blocks ≡ length s.blocks
   same_length = ap length g.view ∙ sym (length_labels g.labels) ∙ sym (ap length g.state)
 
   pub same_units : units v.blocks ≡ total s.blocks
   same_units = ap units g.view ∙ sym (total_units g.labels) ∙ sym (ap total g.state)
 
-  short_alike : (spare : ℕ) → is_short_of spare v ≡ machine.is_short_of spare s
-  short_alike spare = ap₂ (λ m n. nat_le m (n + spare)) (sym g.limit) same_length
+  -- room for more blocks
+  has_room : (k : ℕ) → HasRoomFor k v → machine.is_short_of k s ≡ false
+  has_room k room = lt-leb s.limit (length s.blocks + k) (let e = g.limit in let f = same_length in omega arith)
 
-  refused_alike : Matches kept_name s.grants (refuse v) (returns_only s machine.Refused)
-  refused_alike = record { answer = refl; agrees = agrees_quiet v kept_name s g machine.Refused; grants_after = refl }
+  room_for : (k : ℕ) → machine.is_short_of k s ≡ false → HasRoomFor k v
+  room_for k e = let h = leb-false s.limit (length s.blocks + k) e in let e = g.limit in let f = same_length in omega arith
 
-  granted_alike : (n padding front rest : ℕ) (sp : Spot) → g.labels ≡ whole sp → is_free sp.label.tag ≡ true → IsUnused front v → IsUnused rest v → IsWellFormed (grant_in v n padding front rest (named_place sp)).view
-      → Matches kept_name s.grants (grant_in v n padding front rest (named_place sp)) (machine.grant s n padding (plain_place sp))
-  granted_alike n padding front rest sp e f uf ur w' = record {
-    answer = ap (λ o. machine.Grant (s.grants + 1) (o + padding)) (total_units sp.before);
-    agrees = agrees_grant v kept_name s w ws g n padding front rest sp e f uf ur w';
-    grants_after = refl;
-  }
+  module _ (blocks needed n : ℕ) (padding_at : ℕ → ℕ) (u : View) (w' : IsWellFormed u) where
+    -- a request that is refused
+    refused_is : (CanGrant blocks needed v → ⊥) → machine.request s blocks needed n padding_at ≡ returns_only s machine.Refused
+    refused_is none = go (machine.is_short_of blocks s) refl
+      where
+        go : (b : Bool) → machine.is_short_of blocks s ≡ b → (if b then returns_only s machine.Refused else machine.grant_or_refuse s n padding_at (chosen_place needed s.blocks)) ≡ returns_only s machine.Refused
+        go true e = refl
+        go false e = ap (machine.grant_or_refuse s n padding_at) (ap (chosen_place needed) g.state ∙ none_chosen v w g.labels labelled needed (λ h. none (room_for blocks e, h)))
 
-  requested_alike : (spare needed n : ℕ) (padding_at : ℕ → ℕ) (front rest : ℕ) → IsUnused front v → IsUnused rest v
-      → ((o : Option Place) → place_for needed v ≡ o → IsWellFormed (grant_or_refuse v n padding_at front rest o).view)
-      → (o : Option Place) (q : Option machine.Place) → SameChoice v w g.labels (labelled v kept_name s w ws g) needed o q → place_for needed v ≡ o → Matches kept_name s.grants (grant_or_refuse v n padding_at front rest o) (machine.grant_or_refuse s n padding_at q)
-  requested_alike spare needed n padding_at front rest uf ur well None None neither e = refused_alike
-  requested_alike spare needed n padding_at front rest uf ur well o q (both sp le f) e =
-      subst (λ m. Matches kept_name s.grants (grant_in v n (padding_at (units (names sp.before))) front rest (named_place sp)) (machine.grant s n (padding_at m) (plain_place sp))) (sym (total_units sp.before))
-      (granted_alike n (padding_at (units (names sp.before))) front rest sp le f uf ur (well (Some (named_place sp)) e))
+    -- a request that is granted, of a block at a place
+    granted_is : HasRoomFor blocks v → (padding : ℕ) (sp : Spot) → chosen_place needed (tags g.labels) ≡ Some (plain_place sp) → padding ≡ padding_at (units (names sp.before)) → machine.request s blocks needed n padding_at ≡ machine.grant s n padding (plain_place sp)
+    granted_is room padding sp at e =
+        ap (λ (b : Bool). if b then returns_only s machine.Refused else machine.grant_or_refuse s n padding_at (chosen_place needed s.blocks)) (has_room blocks room)
+        ∙ ap (machine.grant_or_refuse s n padding_at) (ap (chosen_place needed) g.state ∙ at) ∙ ap (λ m. machine.grant s n m (plain_place sp)) (ap padding_at (total_units sp.before) ∙ sym e)
 
-  pub request_alike : (spare needed n : ℕ) (padding_at : ℕ → ℕ) (front rest : ℕ) → (is_short_of spare v ≡ false → IsUnused front v × IsUnused rest v × ((o : ℕ) → (padding_at o ≡ 0) ⊎ (front ≢ rest)))
-      → ((o : ℕ) → padding_at o + n ≤ needed) → ((o : ℕ) → length (free_part front (padding_at o)) + 1 ≤ spare)
-      → Matches kept_name s.grants (serve spare needed n padding_at front rest v) (machine.request s spare needed n padding_at)
-  request_alike spare needed n padding_at front rest u enough fronts = matches_if kept_name s.grants (is_short_of spare v) (machine.is_short_of spare s) (short_alike spare) _ _ _ _
-      (λ e. refused_alike)
-      (λ e. requested_alike spare needed n padding_at front rest (u e).0 (u e).1
-      (well_granted_at v w spare needed n padding_at front rest (u e).0 (u e).1 enough fronts (u e).2 (leb-false v.max_allocs (length v.blocks + spare) e))
-      (place_for needed v) (chosen_place needed s.blocks)
-      (subst (λ bs. SameChoice v w g.labels (labelled v kept_name s w ws g) needed (place_for needed v) (chosen_place needed bs)) (sym g.state) (same_choice v w g.labels (labelled v kept_name s w ws g) needed)) refl)
+    -- what a grant says of the place of the block that is split
+    abbrev IsGrantAt : Grant → (padding remainder front rest : ℕ) → Place → Type 0
+    IsGrantAt a padding remainder front rest q = (a ≡ record { name = q.block.name; offset = units q.before + padding }) × (padding ≡ padding_at (units q.before)) × (padding + n + remainder ≡ q.block.size)
+        × SameSpace (replace v q.before (q.block ∷ []) (free_part front padding ++ used_block q.block.name n ∷ free_part rest remainder) q.after) u
 
-  -- a request
-  pub allocate_agrees : (n rest : ℕ) → IsUnused rest v → Matches kept_name s.grants (allocate n rest v) (step (command.Alloc n) s)
-  allocate_agrees n rest u = request_alike 1 n n (λ offset. 0) rest rest (λ e. (u, u, λ o. inl refl)) (λ o. omega arith) (λ o. omega arith)
+    pub serve_agrees : (r : Option Grant) → Serves blocks needed n padding_at v u r → Matches u kept_name s.grants r (machine.request s blocks needed n padding_at)
+    serve_agrees None e = subst (Matches u kept_name s.grants None) (sym (refused_is e.0)) (record { answer = refl; agrees = agrees_but v u kept_name _ e.1 (agrees_quiet v kept_name s g machine.Refused); grants_after = refl })
+    serve_agrees (Some a) e =
+        let t = e.1 in
+        let c = chosen v w g.labels labelled needed n padding_at u a t in
+        let at = subst (IsGrantAt a t.padding t.remainder t.padding_name t.remainder_name) (sym c.place) (t.grant, t.padded, t.whole, t.view) in
+        subst (Matches u kept_name s.grants (Some a)) (sym (granted_is e.0 t.padding c.spot c.is at.1)) (record {
+          answer = ap (machine.Grant (s.grants + 1)) (ap (λ m. m + t.padding) (total_units c.spot.before) ∙ sym (ap (λ (a : Grant). a.offset) at.0));
+          agrees = subst (λ x. Agrees u (with_name (s.grants + 1) x kept_name) (machine.grant s n t.padding (plain_place c.spot)).state) (sym (ap (λ (a : Grant). a.name) at.0))
+              (grant_agrees u w' n t.padding t.remainder t.padding_name t.remainder_name c.spot c.split c.free at.2 at.3);
+          grants_after = refl;
+        })
 
-  pub aligned_agrees : (n align front rest : ℕ) → IsUnused rest v → (is_short_of 2 v ≡ false → IsUnused front v × (front ≢ rest)) → Matches kept_name s.grants (allocate_aligned n align front rest v) (step (command.Align n align) s)
-  aligned_agrees n align front rest ur uf = matches_if kept_name s.grants (nat_le align 1) (nat_le align 1) refl _ _ _ _
-      (λ e. allocate_agrees n rest ur)
-      (λ e. matches_if kept_name s.grants (nat_lt max_size (n + align - 1)) (nat_lt max_size (n + align - 1)) refl _ _ _ _
-      (λ f. refused_alike)
-      (λ f. request_alike 2 (n + align - 1) n (padding_to align) front rest (λ h. ((uf h).0, ur, λ o. inr (uf h).1))
-      (λ o. let b = leb-false align 1 e in let p = padding_small align o b in omega arith)
-      (λ o. short (padding_to align o))))
+  -- an aligned request
+  request_alike : (blocks blocks' needed needed' n : ℕ) (padding_at padding_at' : ℕ → ℕ) → blocks ≡ blocks' → needed ≡ needed' → ((o : ℕ) → padding_at o ≡ padding_at' o)
+      → machine.request s blocks needed n padding_at ≡ machine.request s blocks' needed' n padding_at'
+  request_alike blocks blocks' needed needed' n padding_at padding_at' e f h = ap₂ (λ b m. machine.request s b m n padding_at) e f ∙ ap (λ (o : machine.Outcome). if machine.is_short_of blocks' s then returns_only s machine.Refused else o) (go (chosen_place needed' s.blocks))
     where
-      short : (p : ℕ) → length (free_part front p) + 1 ≤ 2
-      short zero = omega arith
-      short (suc p) = omega arith
+      go : (o : Option machine.Place) → machine.grant_or_refuse s n padding_at o ≡ machine.grant_or_refuse s n padding_at' o
+      go None = refl
+      go (Some p) = ap (λ m. machine.grant s n m p) (h (total p.before))
 
-  -- what becomes free
-  coalesce_agrees : (before old after : List Label) (x n size : ℕ) (kept_name' : ℕ → Option ℕ) (a : Answer) → g.labels ≡ before ++ (old ++ after) → (1 ≤ named.count_named x (names (free_end before ++ (old ++ free_start after)))) ⊎ IsUnused x v
-      → IsWellFormed (record (replace v (named.without_end (names before)) (named.free_end (names before) ++ (names old ++ named.free_start (names after))) (free_block x n ∷ []) (named.without_start (names after))) { size = size })
-      → ((j : ℕ) → kept_name' j ≡ name_of j (without_end before ++ ((record { name = x; size = n; tag = Free (stamp_of_call s) }) ∷ without_start after)))
-      → Agrees (record (replace v (named.without_end (names before)) (named.free_end (names before) ++ (names old ++ named.free_start (names after))) (free_block x n ∷ []) (named.without_start (names after))) { size = size })
-      kept_name' (leaves s (machine.without_end (tags before) ++ machine.block n (Free (stamp_of_call s)) ∷ machine.without_start (tags after)) a).state
-  coalesce_agrees before old after x n size kept_name' a e origin w' handles = record {
-    labels = without_end before ++ (l ∷ without_start after);
-    view = view;
-    state = sym (map_both by_tag (without_end before) (l ∷ without_start after) ∙ ap₂ (λ y z. y ++ machine.block n (Free (stamp_of_call s)) ∷ z) (tags_without_end before) (tags_without_start after));
-    limit = g.limit;
-    newest = λ c. subst (λ gone. IsFalling (λ y. stamp_of y (without_end before ++ (l ∷ without_start after))) (names_at (push_all (free_block x n ∷ []) (remove_all gone v.order)) c)) gone_are
-        (newest_replaced v (without_end before) (free_end before ++ (old ++ free_start after)) (l ∷ []) (without_start after) w (g.view ∙ ap names parted)
-        (λ y. subst (λ bs. named.count_named y bs ≤ 1) view (w'.distinct y))
-        (λ y m. elim (hit_cases y x) [ inl i ↦ subst (λ z. (1 ≤ named.count_named z (names (free_end before ++ (old ++ free_start after)))) ⊎ IsUnused z v) (sym i.0) origin | inr i ↦ absurd (let k = i.1 in omega arith) ])
-        (2 * (s.calls + 1)) (low v kept_name s w ws g _ parted) (λ e. absurd (true≢false e), λ e. (omega arith, tt)) (newest_at v kept_name s w ws g _ parted) c);
-    handles = handles;
-  }
+  too_large : (n : ℕ) → max_size < n → (o : Option machine.Place) → chosen_place n s.blocks ≡ o → o ≡ None
+  too_large n l None e = refl
+  too_large n l (Some p) e =
+      let c = chosen_at n s.blocks p e in
+      let fit = fits_size n p.block.size (both_true (is_free p.block.tag) (nat_le (up n) (down p.block.size)) c.1).1 in
+      absurd (omega (arith, fit, l, w.fits, w.whole, same_units, ap total c.0, total_middle p.before p.block p.after))
     where
-      l : Label
-      l = record { name = x; size = n; tag = Free (stamp_of_call s) }
+      total_middle : (xs : List machine.Block) (b : machine.Block) (ys : List machine.Block) → b.size ≤ total (xs ++ b ∷ ys)
+      total_middle [] b ys = omega arith
+      total_middle (x ∷ xs) b ys = let ih = total_middle xs b ys in omega arith
 
-      view : named.without_end (names before) ++ (free_block x n ∷ named.without_start (names after)) ≡ names (without_end before ++ (l ∷ without_start after))
-      view = sym (map_both by_name (without_end before) (l ∷ without_start after) ∙ ap₂ (λ y z. y ++ free_block x n ∷ z) (names_without_end before) (names_without_start after))
+  aligned_is : (n align : ℕ) → 1 ≤ align → step (command.Align n align) s ≡ machine.request s (blocks_needed align) (units_needed n align) n (padding_to align)
+  aligned_is n align some = elim (cases_lt 1 align) [
+    | inl l ↦ ap (λ (b : Bool). if b then machine.allocate n s else large (nat_lt max_size (n + align - 1))) (lt-leb align 1 l) ∙ go (nat_lt max_size (n + align - 1)) refl ∙ ap (λ k. machine.request s k (units_needed n align) n (padding_to align)) (let e : 2 ≡ blocks_needed align = omega arith in e)
+    | inr l ↦ ap (λ (b : Bool). if b then machine.allocate n s else large (nat_lt max_size (n + align - 1))) (le-leb align 1 l) ∙ request_alike 1 (blocks_needed align) n (units_needed n align) n (λ offset. 0) (padding_to align) (omega arith) (omega arith) (λ o. omega arith)
+  ]
+    where
+      large : Bool → machine.Outcome
+      large b = if b then returns_only s machine.Refused else machine.request s 2 (n + align - 1) n (padding_to align)
 
-      parted : g.labels ≡ without_end before ++ ((free_end before ++ (old ++ free_start after)) ++ without_start after)
-      parted = e ∙ ap (λ z. z ++ (old ++ after)) (end_parts before) ∙ ap (λ z. (without_end before ++ free_end before) ++ (old ++ z)) (start_parts after) ∙ simp append_assoc
+      short : (b : Bool) → returns_only s machine.Refused ≡ (if b then returns_only s machine.Refused else returns_only s machine.Refused)
+      short true = refl
+      short false = refl
 
-      gone_are : names (free_end before ++ (old ++ free_start after)) ≡ named.free_end (names before) ++ (names old ++ named.free_start (names after))
-      gone_are = map_three by_name (free_end before) old (free_start after) ∙ ap₂ (λ y z. y ++ (names old ++ z)) (names_free_end before) (names_free_start after)
+      go : (b : Bool) → nat_lt max_size (n + align - 1) ≡ b → large b ≡ machine.request s 2 (n + align - 1) n (padding_to align)
+      go true e = short (machine.is_short_of 2 s) ∙ ap (λ (o : Option machine.Place). if machine.is_short_of 2 s then returns_only s machine.Refused else machine.grant_or_refuse s n (padding_to align) o) (sym (too_large (n + align - 1) (ltb-true max_size (n + align - 1) e) (chosen_place (n + align - 1) s.blocks) refl))
+      go false e = refl
 
-  -- a release
-  pub record Released (k x : ℕ) : Type 0 where
-    pub used : named.is_used_at (place_of x v.blocks) ≡ true
-    pub answer : (step (command.Free k) s).answer ≡ machine.Freed
-    pub agrees : Agrees (free x v) (without_name k kept_name) (step (command.Free k) s).state
+  pub aligned_agrees : (n align : ℕ) → 1 ≤ align → (u : View) → IsWellFormed u → (r : Option Grant) → Serves (blocks_needed align) (units_needed n align) n (padding_to align) v u r → Matches u kept_name s.grants r (step (command.Align n align) s)
+  aligned_agrees n align some u w' r e = subst (Matches u kept_name s.grants r) (sym (aligned_is n align some)) (serve_agrees (blocks_needed align) (units_needed n align) n (padding_to align) u w' r e)
 
+  -- a grant that is not live
   pub gone_agrees : (k : ℕ) → kept_name k ≡ None → ((step (command.Free k) s).answer ≡ machine.Gone) × Agrees v kept_name (step (command.Free k) s).state × ((step (command.Size k) s).answer ≡ machine.Gone)
   gone_agrees k e =
       let none : machine.place_of k s.blocks ≡ None = ap (machine.place_of k) g.state ∙ name_missing k g.labels (sym (g.handles k) ∙ e) in
       (ap (λ (o : Option machine.Place). (machine.release s o).answer) none, subst (λ (o : Option machine.Place). Agrees v kept_name (machine.release s o).state) (sym none) (agrees_quiet v kept_name s g machine.Gone), ap (λ (o : Option machine.Place). machine.size_at o) none)
 
-  released_at : (k x : ℕ) (sp : Spot) → g.labels ≡ whole sp → sp.label.name ≡ x → sp.label.tag ≡ Live k → machine.place_of k (tags g.labels) ≡ Some (plain_place sp) → name_of k sp.before ≡ None → Released k x
-  released_at k x sp e name tag found first = record {
-    used = ap named.is_used_at there ∙ ap (λ t. not (is_free t)) tag;
-    answer = ap (λ (o : Option machine.Place). (machine.release s o).answer) place;
-    agrees = subst (λ (o : Option Place). Agrees (free_at v o) (without_name k kept_name) (machine.release s (machine.place_of k s.blocks)).state) (sym there)
-        (subst (λ (o : Option machine.Place). Agrees (free_at v (Some (named_place sp))) (without_name k kept_name) (machine.release s o).state) (sym place)
-        (subst (λ m. Agrees (free_at v (Some (named_place sp))) (without_name k kept_name) (leaves s (machine.without_end (tags sp.before) ++ machine.block m (Free (stamp_of_call s)) ∷ machine.without_start (tags sp.after)) machine.Freed).state) sizes
-        (coalesce_agrees sp.before (sp.label ∷ []) sp.after sp.label.name (units (named.free_end (names sp.before) ++ (by_name sp.label ∷ named.free_start (names sp.after)))) v.size (without_name k kept_name) machine.Freed e
-        (inl present) (subst (λ (o : Option Place). IsWellFormed (free_at v o)) there (well_free v w x)) handles)));
-  }
-    where
-      there : place_of x v.blocks ≡ Some (named_place sp)
-      there = ap (λ y. place_of y v.blocks) (sym name) ∙ place_of_spot v w sp (g.view ∙ ap names e)
+  -- a live grant
+  record LiveAt (k x : ℕ) : Type 0 where
+    spot : Spot
+    split : g.labels ≡ whole spot
+    tag : spot.label.tag ≡ Live k
+    named : place_of x v.blocks ≡ Some (named_place spot)
+    placed : machine.place_of k s.blocks ≡ Some (plain_place spot)
+    first : name_of k spot.before ≡ None
 
-      place : machine.place_of k s.blocks ≡ Some (plain_place sp)
-      place = ap (machine.place_of k) g.state ∙ found
-
-      sizes : units (named.free_end (names sp.before) ++ (by_name sp.label ∷ named.free_start (names sp.after))) ≡ machine.free_end (tags sp.before) + sp.label.size + machine.free_start (tags sp.after)
-      sizes = omega (arith, tally_append (λ (b : Block). b.size) (named.free_end (names sp.before)) (by_name sp.label ∷ named.free_start (names sp.after)), free_end_units sp.before, free_start_units sp.after, ap units (names_free_end sp.before), ap units (names_free_start sp.after))
-
-      present : 1 ≤ named.count_named sp.label.name (names (free_end sp.before ++ (sp.label ∷ free_start sp.after)))
-      present = elim (hit_cases sp.label.name sp.label.name) [
-        | inl i ↦ omega (arith, i.1, ap (named.count_named sp.label.name) (map_both by_name (free_end sp.before) (sp.label ∷ free_start sp.after)), tally_append (λ (b : Block). one (nat_eq sp.label.name b.name)) (names (free_end sp.before)) (names (sp.label ∷ free_start sp.after)))
-        | inr i ↦ absurd (i.0 refl)
-      ]
-
-      counts : count (Live k) (tags g.labels) ≤ 1
-      counts = subst (λ bs. count (Live k) bs ≤ 1) g.state (ws.once (Live k))
-
-      later : name_of k sp.after ≡ None
-      later = name_none k sp.after (omega (arith, counts, ap (count (Live k)) (ap tags e ∙ map_both by_tag sp.before (sp.label ∷ sp.after)), count-append (Live k) (tags sp.before) (tags (sp.label ∷ sp.after)), ap (hit (Live k)) tag, hit_same k))
-
-      names_left : (j : ℕ) → name_of j (without_end sp.before ++ ((record { name = sp.label.name; size = units (named.free_end (names sp.before) ++ (by_name sp.label ∷ named.free_start (names sp.after))); tag = Free (stamp_of_call s) }) ∷ without_start sp.after)) ≡ or_else (name_of j sp.before) (name_of j sp.after)
-      names_left j = name_append j (without_end sp.before) _ ∙ ap₂ or_else (name_without_end j sp.before) (name_without_start j sp.after)
-
-      handles : (j : ℕ) → without_name k kept_name j ≡ name_of j (without_end sp.before ++ ((record { name = sp.label.name; size = units (named.free_end (names sp.before) ++ (by_name sp.label ∷ named.free_start (names sp.after))); tag = Free (stamp_of_call s) }) ∷ without_start sp.after))
-      handles j = elim (cases_eq j k) [
-        | inl i ↦ rw (eq-eqb j k i) (sym (names_left j ∙ ap (λ z. or_else (name_of z sp.before) (name_of z sp.after)) i ∙ ap₂ or_else first later))
-        | inr i ↦ rw (ne_eqb j k i) (g.handles j ∙ ap (name_of j) e ∙ name_append j sp.before (sp.label ∷ sp.after) ∙ ap (or_else (name_of j sp.before)) (other j i) ∙ sym (names_left j))
-      ]
-        where
-          other : (j : ℕ) → j ≢ k → name_of j (sp.label ∷ sp.after) ≡ name_of j sp.after
-          other j i = ap (λ t. if has_number j t then Some sp.label.name else name_of j sp.after) tag ∙ ap (λ (b : Bool). if b then Some sp.label.name else name_of j sp.after) (ne_eqb j k i)
-
-  pub free_agrees : (k x : ℕ) → kept_name k ≡ Some x → Released k x
-  free_agrees k x e =
+  live_at : (k x : ℕ) → kept_name k ≡ Some x → LiveAt k x
+  live_at k x e =
       let r = name_found k x g.labels (sym (g.handles k) ∙ e) in
-      released_at k x (record { before = r.0; label = r.1; after = r.2 }) r.3 r.4 r.5 r.6 r.7
+      let sp : Spot = record { before = r.0; label = r.1; after = r.2 } in
+      record {
+        spot = sp;
+        split = r.3;
+        tag = r.5;
+        named = ap (λ y. place_of y v.blocks) (sym r.4) ∙ place_of_spot v w sp (g.view ∙ ap names r.3);
+        placed = ap (machine.place_of k) g.state ∙ r.6;
+        first = r.7;
+      }
+
+  pub live_agrees : (k x : ℕ) → kept_name k ≡ Some x → named.is_used_at (place_of x v.blocks) ≡ true
+  live_agrees k x e = let l = live_at k x e in ap named.is_used_at l.named ∙ ap (λ t. not (is_free t)) l.tag
 
   pub size_agrees : (k x : ℕ) → kept_name k ≡ Some x → (step (command.Size k) s).answer ≡ machine.Size (named.size_at (place_of x v.blocks))
-  size_agrees k x e = size_of (name_found k x g.labels (sym (g.handles k) ∙ e))
-    where
-      size_of : ((before : List Label) × (l : Label) × (after : List Label) × (g.labels ≡ before ++ l ∷ after) × (l.name ≡ x) × (l.tag ≡ Live k) × (machine.place_of k (tags g.labels) ≡ Some (record { before = tags before; block = by_tag l; after = tags after })) × (name_of k before ≡ None))
-          → (step (command.Size k) s).answer ≡ machine.Size (named.size_at (place_of x v.blocks))
-      size_of r =
-          let sp : Spot = record { before = r.0; label = r.1; after = r.2 } in
-          let there : place_of x v.blocks ≡ Some (named_place sp) = ap (λ y. place_of y v.blocks) (sym r.4) ∙ place_of_spot v w sp (g.view ∙ ap names r.3) in
-          ap machine.size_at (ap (machine.place_of k) g.state ∙ r.6) ∙ ap machine.Size (sym (ap named.size_at there ∙ ap (λ t. if not (is_free t) then sp.label.size else 0) r.5))
+  size_agrees k x e = let l = live_at k x e in ap machine.size_at l.placed ∙ ap machine.Size (sym (ap named.size_at l.named ∙ ap (λ t. if not (is_free t) then l.spot.label.size else 0) l.tag))
 
-  -- one free block
-  pub reset_agrees : (x : ℕ) → Agrees (reset x v) (λ k. None) (step command.Reset s).state
-  reset_agrees x = record {
-    labels = (record { name = x; size = v.size; tag = Free (stamp_of_call s) }) ∷ [];
-    view = refl;
-    state = ap (λ n. machine.block n (Free (stamp_of_call s)) ∷ []) (sym same_units ∙ w.whole);
-    limit = g.limit;
-    newest = λ c. elim (cases_eq c (down v.size)) [
-      | inl e ↦ subst (λ d. IsFalling f (names_at (push (down v.size) x (replicate 256 [])) d)) (sym e) (subst (IsFalling f) (sym (names_same (replicate 256 []) (down v.size) _ (length-replicate {A = List ℕ} 256 []) (down_small v.size))) (subst (λ l. IsFalling f (x ∷ l)) (sym (empty (down v.size))) ((λ y m. absurd (omega arith)), tt)))
-      | inr n ↦ subst (IsFalling f) (sym (names_other (replicate 256 []) (down v.size) c _ n ∙ empty c)) tt
-    ];
-    handles = λ k. refl;
-  }
+  -- a release
+  pub free_agrees : (k x : ℕ) → kept_name k ≡ Some x → (u : View) → IsWellFormed u → Frees x v u → ((step (command.Free k) s).answer ≡ machine.Freed) × Agrees u (without_name k kept_name) (step (command.Free k) s).state
+  free_agrees k x e u w' f = (
+    ap (λ (o : Option machine.Place). (machine.release s o).answer) l.placed,
+    subst (λ (o : Option machine.Place). Agrees u (without_name k kept_name) (machine.release s o).state) (sym l.placed)
+        (coalesced_agrees u w' sp.before front.0 front.1 (sp.label ∷ []) sp.after back.0 back.1 x sp.label.size v.size l.split front.2 back.2 free.0 free.1 same (without_name k kept_name) handles machine.Freed),
+  )
     where
-      f : ℕ → ℕ
-      f y = stamp_of y ((record { name = x; size = v.size; tag = Free (stamp_of_call s) }) ∷ [])
+      l : LiveAt k x
+      l = live_at k x e
 
-      empty : (c : ℕ) → names_at (replicate 256 []) c ≡ []
-      empty c = elim (cases_lt c 256) [ inl l ↦ get_or-replicate 256 c [] [] l | inr l ↦ get_or_past (replicate 256 []) c [] l ]
+      sp : Spot
+      sp = l.spot
+
+      whole_is : v.blocks ≡ (f.before ++ f.left) ++ f.block ∷ (f.right ++ f.after)
+      whole_is = f.blocks ∙ simp append_assoc
+
+      place : named_place sp ≡ place_at (f.before ++ f.left) f.block (f.right ++ f.after)
+      place =
+          let r = named_spot g.labels (place_at (f.before ++ f.left) f.block (f.right ++ f.after)) (sym g.view ∙ whole_is) in
+          some_same (named_place sp) (named_place r.0) (sym l.named ∙ ap (λ y. place_of y v.blocks) (sym f.named ∙ sym (ap (λ (p : Place). p.block.name) r.2)) ∙ place_of_spot v w r.0 (g.view ∙ ap names r.1)) ∙ r.2
+
+      front : (xs : List Label) × (ys : List Label) × (sp.before ≡ xs ++ ys) × (names xs ≡ f.before) × (names ys ≡ f.left)
+      front = map_parts by_name sp.before f.before f.left (ap (λ (p : Place). p.before) place)
+
+      back : (xs : List Label) × (ys : List Label) × (sp.after ≡ xs ++ ys) × (names xs ≡ f.right) × (names ys ≡ f.after)
+      back = map_parts by_name sp.after f.right f.after (ap (λ (p : Place). p.after) place)
+
+      free : AllFree front.1 × AllFree back.0
+      free = free_named front.1 back.0 (subst (AllByRecursion (λ b. b.used ≡ false)) (sym (ap₂ (λ y z. y ++ z) front.4 back.3)) f.free)
+
+      sizes : units (names front.1 ++ (by_name sp.label ∷ names back.0)) ≡ total (tags front.1) + sp.label.size + total (tags back.0)
+      sizes = omega (arith, tally_append (λ (b : Block). b.size) (names front.1) (by_name sp.label ∷ names back.0), total_units front.1, total_units back.0)
+
+      same : SameSpace (replace v (names front.0) (names (front.1 ++ (sp.label ∷ back.0))) (free_block x (total (tags front.1) + sp.label.size + total (tags back.0)) ∷ []) (names back.1)) u
+      same =
+          subst (λ z. SameSpace (replace v (names front.0) z (free_block x (total (tags front.1) + sp.label.size + total (tags back.0)) ∷ []) (names back.1)) u) (sym (map-append by_name front.1 (sp.label ∷ back.0)))
+          (subst (λ m. SameSpace (replace v (names front.0) (names front.1 ++ (by_name sp.label ∷ names back.0)) (free_block x m ∷ []) (names back.1)) u) sizes
+          (subst₂ (λ y z. SameSpace (replace v y (names front.1 ++ (by_name sp.label ∷ names back.0)) (free_block x (units (names front.1 ++ (by_name sp.label ∷ names back.0))) ∷ []) z) u) (sym front.3) (sym back.4)
+          (subst (λ m. SameSpace (replace v f.before m (free_block x (units m) ∷ []) f.after) u) (sym (ap₂ (λ y z. y ++ (by_name sp.label ∷ z)) front.4 back.3 ∙ ap (λ (b : Block). f.left ++ (b ∷ f.right)) (ap (λ (p : Place). p.block) place))) f.view)))
+
+      later : name_of k sp.after ≡ None
+      later = name_none k sp.after (omega (arith, ws.once (Live k), ap (count (Live k)) (g.state ∙ ap tags l.split ∙ map-append by_tag sp.before (sp.label ∷ sp.after)), count-append (Live k) (tags sp.before) (tags (sp.label ∷ sp.after)), ap (hit (Live k)) l.tag, hit_self (Live k)))
+
+      handles : (j : ℕ) → without_name k kept_name j ≡ or_else (name_of j sp.before) (name_of j sp.after)
+      handles j = elim (cases_eq j k) [
+        | inl i ↦ rw (eq-eqb j k i) (sym (ap (λ z. or_else (name_of z sp.before) (name_of z sp.after)) i ∙ ap₂ or_else l.first later))
+        | inr i ↦ rw (ne_eqb j k i) (g.handles j ∙ ap (name_of j) l.split ∙ name_append j sp.before (sp.label ∷ sp.after)
+            ∙ ap (or_else (name_of j sp.before)) (ap (λ t. if has_number j t then Some sp.label.name else name_of j sp.after) l.tag ∙ ap (λ (b : Bool). if b then Some sp.label.name else name_of j sp.after) (ne_eqb j k i)))
+      ]
 
   -- more units at the end
-  pub record Extends (more : ℕ) (e : named.Extension) : Type 0 where
-    pub answer : (step (command.Extend more) s).answer ≡ (if e.done then machine.Extended else machine.Refused)
-    pub agrees : Agrees e.view kept_name (step (command.Extend more) s).state
-
-  extended_agrees : (more x : ℕ) → IsUnused x v → is_extendable more v ≡ true → Agrees (extend_by more x v) kept_name (leaves s (machine.coalesce s.blocks more (stamp_of_call s) []) machine.Extended).state
-  extended_agrees more x u e =
-      subst (λ bs. Agrees (extend_by more x v) kept_name (leaves s (machine.coalesce bs more (stamp_of_call s) []) machine.Extended).state) (sym g.state)
-      (subst (λ bs. Agrees (record (replace v (named.without_end bs) (named.free_end bs) (free_block (name_or x (named.free_end v.blocks)) n ∷ []) []) { size = v.size + more }) kept_name (leaves s (machine.coalesce (tags g.labels) more (stamp_of_call s) []) machine.Extended).state) (sym g.view)
-      (subst (λ gone. Agrees (record (replace v (named.without_end (names g.labels)) gone (free_block (name_or x (named.free_end v.blocks)) n ∷ []) []) { size = v.size + more }) kept_name (leaves s (machine.coalesce (tags g.labels) more (stamp_of_call s) []) machine.Extended).state) (append_nil (named.free_end (names g.labels)))
-      (subst (λ m. Agrees (record (replace v (named.without_end (names g.labels)) (named.free_end (names g.labels) ++ []) (free_block (name_or x (named.free_end v.blocks)) n ∷ []) []) { size = v.size + more }) kept_name (leaves s (machine.without_end (tags g.labels) ++ machine.block m (Free (stamp_of_call s)) ∷ []) machine.Extended).state) sizes
-      (coalesce_agrees g.labels [] [] (name_or x (named.free_end v.blocks)) n (v.size + more) kept_name machine.Extended (sym (labels_nil g.labels)) origin
-      (subst (λ gone. IsWellFormed (record (replace v (named.without_end (names g.labels)) gone (free_block (name_or x (named.free_end v.blocks)) n ∷ []) []) { size = v.size + more })) (sym (append_nil (named.free_end (names g.labels))))
-      (subst (λ bs. IsWellFormed (record (replace v (named.without_end bs) (named.free_end bs) (free_block (name_or x (named.free_end v.blocks)) n ∷ []) []) { size = v.size + more })) g.view (well_extended v w more x u e)))
-      (λ j. g.handles j ∙ sym (name_without_end j g.labels) ∙ sym (name_append j (without_end g.labels) _ ∙ or_none _))))))
+  added_agrees : (more : ℕ) (u : View) → IsWellFormed u → Adds more v u → Agrees u kept_name (leaves s (machine.coalesce s.blocks more (stamp_of_call s) []) machine.Extended).state
+  added_agrees more u w' f =
+      subst (λ bs. Agrees u kept_name (leaves s (machine.coalesce bs more (stamp_of_call s) []) machine.Extended).state) (sym g.state)
+      (coalesced_agrees u w' g.labels p.0 p.1 [] [] [] [] f.name more (v.size + more) (sym (append-nil g.labels)) p.2 refl free tt same kept_name (λ j. g.handles j ∙ sym (or_none _)) machine.Extended)
     where
-      n : ℕ
-      n = units (named.free_end v.blocks) + more
+      p : (xs : List Label) × (ys : List Label) × (g.labels ≡ xs ++ ys) × (names xs ≡ f.before) × (names ys ≡ f.last)
+      p = map_parts by_name g.labels f.before f.last (sym g.view ∙ f.blocks)
 
-      sizes : n ≡ machine.free_end (tags g.labels) + more + 0
-      sizes = omega (arith, free_end_units g.labels, ap units (names_free_end g.labels), ap (λ bs. units (named.free_end bs)) g.view)
+      free : AllFree p.1
+      free = (free_named p.1 [] (subst (AllByRecursion (λ b. b.used ≡ false)) (sym (append-nil (names p.1) ∙ p.4)) f.free)).0
 
-      labels_nil : (ls : List Label) → ls ++ [] ≡ ls
-      labels_nil [] = refl
-      labels_nil (l ∷ ls) = ap (λ z. l ∷ z) (labels_nil ls)
+      sizes : units (names p.1) + more ≡ total (tags p.1) + more + 0
+      sizes = omega (arith, total_units p.1)
 
-      gone : names (free_end g.labels ++ []) ≡ named.free_end v.blocks
-      gone = ap names (labels_nil (free_end g.labels)) ∙ names_free_end g.labels ∙ ap named.free_end (sym g.view)
+      same : SameSpace (record (replace v (names p.0) (names (p.1 ++ [])) (free_block f.name (total (tags p.1) + more + 0) ∷ []) []) { size = v.size + more }) u
+      same =
+          subst₂ (λ z m. SameSpace (record (replace v (names p.0) z (free_block f.name m ∷ []) []) { size = v.size + more }) u) (ap names (sym (append-nil p.1))) sizes
+          (subst₂ (λ y z. SameSpace (record (replace v y z (free_block f.name (units z + more) ∷ []) []) { size = v.size + more }) u) (sym p.3) (sym p.4) f.view)
 
-      origin : (1 ≤ named.count_named (name_or x (named.free_end v.blocks)) (names (free_end g.labels ++ []))) ⊎ IsUnused (name_or x (named.free_end v.blocks)) v
-      origin = subst (λ bs. (1 ≤ named.count_named (name_or x (named.free_end v.blocks)) bs) ⊎ IsUnused (name_or x (named.free_end v.blocks)) v) (sym gone) (elim (end_cases v.blocks) [
-        | inl f ↦ inl (name_or_there x (named.free_end v.blocks) f.0)
-        | inr r ↦ elim r [
-          | inl f ↦ inr (subst (λ l. IsUnused (name_or x l) v) (sym f.0) u)
-          | inr f ↦ absurd (let some = w.some in let l = ap length f in omega arith)
-        ]
-      ])
+  -- when the machine refuses to extend
+  abbrev is_refused : ℕ → Bool
+  is_refused more = nat_lt max_size (total s.blocks + more) || (machine.ends_live s.blocks && machine.is_short_of 1 s)
 
-  pub extend_agrees : (more x : ℕ) → IsUnused x v → Extends more (named.extend more x v)
-  extend_agrees zero x u = record { answer = refl; agrees = agrees_quiet v kept_name s g machine.Extended }
-  extend_agrees (suc more) x u = go (is_extendable (suc more) v) refl
+  extendable : (more : ℕ) → CanExtend more v → is_refused more ≡ false
+  extendable more c = ap₂ (λ (x y : Bool). x || y) (le-ltb max_size (total s.blocks + more) (let a = c.0 in let e = same_units in let f = w.whole in omega arith)) (elim c.1 [
+    | inl room ↦ ap (λ (b : Bool). machine.ends_live s.blocks && b) (has_room 1 room) ∙ and_false_right (machine.ends_live s.blocks) false refl
+    | inr l ↦
+        let r = map_parts by_name g.labels l.0 (l.1 ∷ []) (sym g.view ∙ l.2) in
+        let h = map_first by_name r.1 l.1 [] r.4 in
+        ap (λ (b : Bool). b && machine.is_short_of 1 s) (ap machine.ends_live (g.state ∙ ap tags (r.2 ∙ ap (λ z. r.0 ++ z) (h.2 ∙ ap (λ z. h.0 ∷ z) (none h.1 h.4)))) ∙ ends_live_last r.0 h.0 ∙ ap (λ (b : Bool). if b then false else true) (not_false _ (ap (λ (b : Block). b.used) h.3 ∙ l.3)))
+  ])
     where
-      test : (nat_lt max_size (total s.blocks + suc more) || (machine.ends_live s.blocks && machine.is_short_of 1 s)) ≡ (nat_lt max_size (v.size + suc more) || (named.ends_used v.blocks && is_short_of 1 v))
-      test = ap₂ (λ n (b : Bool). nat_lt max_size (n + suc more) || b) (sym same_units ∙ w.whole) (ap₂ (λ (b c : Bool). b && c) (ap machine.ends_live g.state ∙ sym (ends_used_label g.labels) ∙ sym (ap named.ends_used g.view)) (sym (short_alike 1)))
+      none : (ls : List Label) → names ls ≡ [] → ls ≡ []
+      none [] e = refl
+      none (l ∷ ls) e = absurd cc
 
-      not_true : (b : Bool) → not b ≡ true → b ≡ false
-      not_true true e = absurd (false≢true e)
-      not_true false e = refl
+  can_extend : (more : ℕ) → is_refused more ≡ false → CanExtend more v
+  can_extend more e = (
+    (let l = ltb-false max_size (total s.blocks + more) (or_parts _ _ e).0 in let f = same_units in let h = w.whole in omega arith),
+    go (machine.ends_live s.blocks) refl (or_parts _ _ e).1,
+  )
+    where
+      or_parts : (x y : Bool) → (x || y) ≡ false → (x ≡ false) × (y ≡ false)
+      or_parts true y e = absurd (true≢false e)
+      or_parts false y e = (refl, e)
 
-      not_false : (b : Bool) → not b ≡ false → b ≡ true
-      not_false true e = refl
-      not_false false e = absurd (true≢false e)
+      go : (b : Bool) → machine.ends_live s.blocks ≡ b → (b && machine.is_short_of 1 s) ≡ false → HasRoomFor 1 v ⊎ ((before : List Block) × (last : Block) × (v.blocks ≡ before ++ last ∷ []) × (last.used ≡ false))
+      go true f h = inl (room_for 1 h)
+      go false f h =
+          let r = last_free g.labels (let a = w.some in let b = ap length g.view in let c = length_labels g.labels in let d = length-map g.labels by_name in omega arith) (sym (ap machine.ends_live g.state) ∙ f) in
+          inr (names r.0, by_name r.1, g.view ∙ ap names r.2 ∙ map-append by_name r.0 (r.1 ∷ []), ap not r.3)
 
-      go : (b : Bool) → is_extendable (suc more) v ≡ b → Extends (suc more) (if b then record { view = extend_by (suc more) x v; done = true } else record { view = v; done = false })
-      go true e =
-          let f = test ∙ not_true _ e in
-          let at = ap (λ (b : Bool). if b then returns_only s machine.Refused else leaves s (machine.coalesce s.blocks (suc more) (stamp_of_call s) []) machine.Extended) f in
-          record { answer = ap (λ (o : machine.Outcome). o.answer) at; agrees = subst (λ (o : machine.Outcome). Agrees (extend_by (suc more) x v) kept_name o.state) (sym at) (extended_agrees (suc more) x u e) }
-      go false e =
-          let f = test ∙ not_false _ e in
-          let at = ap (λ (b : Bool). if b then returns_only s machine.Refused else leaves s (machine.coalesce s.blocks (suc more) (stamp_of_call s) []) machine.Extended) f in
-          record { answer = ap (λ (o : machine.Outcome). o.answer) at; agrees = subst (λ (o : machine.Outcome). Agrees v kept_name o.state) (sym at) (agrees_quiet v kept_name s g machine.Refused) }
+  abbrev outcome : ℕ → Bool → machine.Outcome
+  outcome more b = if b then returns_only s machine.Refused else leaves s (machine.coalesce s.blocks (suc more) (stamp_of_call s) []) machine.Extended
+
+  pub extend_agrees : (more : ℕ) (u : View) (done : Bool) → IsWellFormed u → Extends more v u done → ((step (command.Extend more) s).answer ≡ (if done then machine.Extended else machine.Refused)) × Agrees u kept_name (step (command.Extend more) s).state
+  extend_agrees zero u true w' (inl z) = (refl, agrees_but v u kept_name _ z.1 (agrees_quiet v kept_name s g machine.Extended))
+  extend_agrees zero u true w' (inr h) = absurd (let l = h.0 in omega arith)
+  extend_agrees zero u false w' h = absurd (let l = h.0 in omega arith)
+  extend_agrees (suc more) u true w' (inl z) = absurd (let l = z.0 in omega arith)
+  extend_agrees (suc more) u true w' (inr h) = subst (λ (o : machine.Outcome). (o.answer ≡ machine.Extended) × Agrees u kept_name o.state) (sym (ap (outcome more) (extendable (suc more) h.1))) (refl, added_agrees (suc more) u w' h.2)
+  extend_agrees (suc more) u false w' h = subst (λ (o : machine.Outcome). (o.answer ≡ machine.Refused) × Agrees u kept_name o.state) (sym (ap (outcome more) (refused (is_refused (suc more)) refl))) (refl, agrees_but v u kept_name _ h.2 (agrees_quiet v kept_name s g machine.Refused))
+    where
+      refused : (b : Bool) → is_refused (suc more) ≡ b → is_refused (suc more) ≡ true
+      refused true e = e
+      refused false e = absurd (h.1 (can_extend (suc more) e))
 
   -- questions
   same_sizes : machine.free_sizes s.blocks ≡ named.free_sizes v.blocks
   same_sizes = ap machine.free_sizes g.state ∙ free_sizes_labels g.labels ∙ sym (ap named.free_sizes g.view)
 
   pub report_agrees : (step command.Report s).answer ≡ machine.Report (named.total_free v) (named.largest_free v)
-  report_agrees = ap₂ (λ (b : Bool) ns. if b then machine.Report 0 0 else machine.Report (sum ns) (largest ns)) (sym (short_alike 1)) same_sizes ∙ both_ways (is_short_of 1 v)
+  report_agrees = ap₂ (λ (b : Bool) ns. if b then machine.Report 0 0 else machine.Report (sum ns) (largest ns)) (ap₂ (λ m n. nat_le m (n + 1)) g.limit (sym same_length)) same_sizes ∙ both_ways (named.is_full v)
     where
       both_ways : (b : Bool) → (if b then machine.Report 0 0 else machine.Report (sum (named.free_sizes v.blocks)) (largest (named.free_sizes v.blocks))) ≡ machine.Report (if b then 0 else sum (named.free_sizes v.blocks)) (if b then 0 else largest (named.free_sizes v.blocks))
       both_ways true = refl
       both_ways false = refl
 
-  pub full_agrees : (step command.Full s).answer ≡ machine.Full (named.free_rows v)
+  pub full_agrees : (step command.Full s).answer ≡ machine.Full (rows_below 256 (named.free_sizes v.blocks))
   full_agrees = ap (λ ns. machine.Full (rows_below 256 ns)) same_sizes
 
 -- other names for the same handles
 pub agrees_kept : (v : View) (kept_name kept_name' : ℕ → Option ℕ) (s : State) → ((k : ℕ) → kept_name' k ≡ kept_name k) → Agrees v kept_name s → Agrees v kept_name' s
 agrees_kept v kept_name kept_name' s e g = record { labels = g.labels; view = g.view; state = g.state; limit = g.limit; newest = g.newest; handles = λ k. e k ∙ g.handles k }
 
--- accesses are no part of the agreement
-pub agrees_but : (v w : View) (kept_name : ℕ → Option ℕ) (s : State) → w ≡ record v { accesses = w.accesses } → Agrees v kept_name s → Agrees w kept_name s
-agrees_but v w kept_name s e g = subst (λ x. Agrees x kept_name s) (sym e) (record { labels = g.labels; view = g.view; state = g.state; limit = g.limit; newest = g.newest; handles = g.handles })
-
--- nor of what makes a view well formed
-pub formed_but : (v w : View) → w ≡ record v { accesses = w.accesses } → IsWellFormed v → IsWellFormed w
-formed_but v w e f = subst IsWellFormed (sym e) (record { some = f.some; distinct = f.distinct; below = f.below; whole = f.whole; fits = f.fits; apart = f.apart; classes = f.classes; orders = f.orders; room = f.room; spare = f.spare })
-
 -- one free block and no grants
-pub start_agrees : (v : View) (x size limit : ℕ) (kept_name : ℕ → Option ℕ) → v.blocks ≡ free_block x size ∷ [] → v.order ≡ push (down size) x (replicate 256 []) → v.max_allocs ≡ limit → ((k : ℕ) → kept_name k ≡ None) → Agrees v kept_name (machine.start size limit)
-start_agrees v x size limit kept_name blocks order max none = record {
-  labels = (record { name = x; size = size; tag = Free 0 }) ∷ [];
+pub alone_agrees : (v : View) (x size stamp : ℕ) (kept_name : ℕ → Option ℕ) (s : State) → v.blocks ≡ free_block x size ∷ [] → v.order ≡ push_all (free_block x size ∷ []) (replicate 256 []) → s.limit ≡ v.max_allocs → s.blocks ≡ machine.block size (Free stamp) ∷ []
+    → ((k : ℕ) → kept_name k ≡ None) → Agrees v kept_name s
+alone_agrees v x size stamp kept_name s blocks order limit state none = record {
+  labels = (record { name = x; size = size; tag = Free stamp }) ∷ [];
   view = blocks;
-  state = refl;
-  limit = sym max;
+  state = state;
+  limit = limit;
   newest = λ c. subst (λ o. IsFalling f (names_at o c)) (sym order) (elim (cases_eq c (down size)) [
-    | inl e ↦ subst (λ d. IsFalling f (names_at (push (down size) x (replicate 256 [])) d)) (sym e) (subst (IsFalling f) (sym (names_same (replicate 256 []) (down size) _ (length-replicate {A = List ℕ} 256 []) (down_small size))) (subst (λ l. IsFalling f (x ∷ l)) (sym (empty (down size))) ((λ y m. absurd (omega arith)), tt)))
+    | inl e ↦ subst (λ d. IsFalling f (names_at (push_all (free_block x size ∷ []) (replicate 256 [])) d)) (sym e) (subst (IsFalling f) (sym (names_same (replicate 256 []) (down size) _ (length-replicate {A = List ℕ} 256 []) (down_small size))) (subst (λ l. IsFalling f (x ∷ l)) (sym (empty (down size))) ((λ y m. absurd (omega arith)), tt)))
     | inr n ↦ subst (IsFalling f) (sym (names_other (replicate 256 []) (down size) c _ n ∙ empty c)) tt
   ]);
   handles = none;
 }
   where
     f : ℕ → ℕ
-    f y = stamp_of y ((record { name = x; size = size; tag = Free 0 }) ∷ [])
+    f y = stamp_of y ((record { name = x; size = size; tag = Free stamp }) ∷ [])
 
     empty : (c : ℕ) → names_at (replicate 256 []) c ≡ []
     empty c = elim (cases_lt c 256) [ inl l ↦ get_or-replicate 256 c [] [] l | inr l ↦ get_or_past (replicate 256 []) c [] l ]

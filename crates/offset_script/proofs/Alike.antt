@@ -1,15 +1,16 @@
 -- Two states that differ only in numbers, and in stamps of the same order in each class, return the same answers.
-use Rattle.std.proofs.Common.{◌≡◌, ℕ, zero, suc, ◌+◌, ◌-◌, ◌*◌, ◌<◌, ◌≤◌, Bool, true, false, ◌&&◌, ◌||◌, ◌⊎◌, List, [], ◌∷◌, length, map, Option, Some, None, option_map, nat_eq, nat_lt, nat_le, if◌then◌else◌, refl, sym, ap, ap₂, subst, subst₂, ⊎_elim, ◌∙◌, inl, inr, arith, lt-ltb, le-ltb, sum}
+use Rattle.std.proofs.Common.{◌≡◌, ℕ, zero, suc, ◌+◌, ◌-◌, ◌*◌, ◌<◌, ◌≤◌, Bool, true, false, ◌⊎◌, List, [], ◌∷◌, ◌++◌, map, Option, None, nat_eq, nat_lt, if◌then◌else◌, refl, sym, ap, ap₂, subst, subst₂, ⊎_elim, ◌∙◌, inl, inr, arith, lt-ltb, le-ltb, sum}
 use Rattle.offset_script.specs.declared.scripts.Command.{Command}
 use Rattle.offset_script.specs.declared.scripts.Command.TheVariants as command
-use Rattle.offset_script.specs.Machine.{Free, Block, block, has_number, total, free_sizes, chosen_place, place_of, ends_live, coalesce, State, Answer, Outcome, step, answers, after, request, grant, grant_or_refuse, is_short_of, returns_only, leaves, release, size_at, report, reset, extend, stamp_of_call}
-use Rattle.offset_allocator.specs.Named.{max_size, padding_to}
+use Rattle.offset_script.specs.Machine.{Free, Block, block, has_number, total, Place, fits, chosen_place, place_of, ends_live, coalesce, State, Answer, Outcome, step, answers, after, request, grant, grant_or_refuse, is_short_of, returns_only, leaves, release, size_at, report, reset, extend, stamp_of_call}
+use Rattle.offset_allocator.specs.Named.{padding_to}
 use Rattle.offset_script.specs.Machine as machine
 use Rattle.offset_allocator.specs.Reports.{largest, rows_below}
-use Rattle.offset_script.proofs.Pairs.{Kind, Lives, Frees, Pair, pair, left_tag, right_tag, lefts, rights, In, in_left, in_right, Agree, AllAgree, SameOrder, PairPlace, whole, left_place, right_place}
+use Rattle.offset_script.proofs.Members.{In, in_left, in_right}
+use Rattle.offset_script.proofs.Pairs.{Kind, Lives, Frees, Pair, pair, left_tag, right_tag, left, right, lefts, rights, Agree, AllAgree, SameOrder, SamePlace, neither, both}
 use Rattle.std.proofs.lemmas.Bool.{cases_lt, true≢false, false≢true}
 use Rattle.std.proofs.lemmas.Bool.Decides.{nat_tests}
-use Rattle.offset_script.proofs.Pairs.{same_length, same_total, same_sizes, same_ends_live, coalesce_pairs, lefts_coalesce, rights_coalesce, in_coalesce, pair_place_of, left_place_of, right_place_of, found_in, pair_chosen, left_chosen, right_chosen, chosen_in, pairs_granted, in_granted, lefts_granted, rights_granted}
+use Rattle.offset_script.proofs.Pairs.{same_total, same_short, same_units, same_free_sizes, same_refusal, both_coalesced, same_place_of, same_chosen, pairs_granted, in_granted, lefts_granted, rights_granted}
 use Rattle.offset_script.specs.Histories.{renumber, raise_number}
 
 -- Numbers are changed by r, and stamps are below x and below y.
@@ -121,112 +122,86 @@ same_if r d false false o p o' p' e f g = g
 same_if r d true false o p o' p' e f g = absurd (true≢false e)
 same_if r d false true o p o' p' e f g = absurd (false≢true e)
 
-same_short : (r : ℕ → ℕ) (d : ℕ) (s t : State) → Alike r d s t → (n : ℕ) → is_short_of n s ≡ is_short_of n t
-same_short r d s t a n = ap₂ (λ x y. nat_le x (y + n)) a.limit (ap length a.left_blocks ∙ same_length a.pairs ∙ ap length (sym a.right_blocks))
-
-same_units : (r : ℕ → ℕ) (d : ℕ) (s t : State) → Alike r d s t → total s.blocks ≡ total t.blocks
-same_units r d s t a = ap total a.left_blocks ∙ same_total a.pairs ∙ ap total (sym a.right_blocks)
-
-same_free_sizes : (r : ℕ → ℕ) (d : ℕ) (s t : State) → Alike r d s t → free_sizes s.blocks ≡ free_sizes t.blocks
-same_free_sizes r d s t a = ap free_sizes a.left_blocks ∙ same_sizes a.pairs ∙ ap free_sizes (sym a.right_blocks)
-
 -- a grant
 fresh_kinds : (g h x y : ℕ) (q : Pair) → (q.kind ≡ Frees (2 * (x + 1)) (2 * (y + 1))) ⊎ (q.kind ≡ Lives (g + 1) (h + 1)) ⊎ (q.kind ≡ Frees (2 * (x + 1) + 1) (2 * (y + 1) + 1)) → Fresh g h x y q.kind
 fresh_kinds g h x y q (inl e) = subst (Fresh g h x y) (sym e) (0, omega arith, omega arith, omega arith)
 fresh_kinds g h x y q (inr (inl e)) = subst (Fresh g h x y) (sym e) (refl, refl)
 fresh_kinds g h x y q (inr (inr e)) = subst (Fresh g h x y) (sym e) (1, omega arith, omega arith, omega arith)
 
-left_granted : (r : ℕ → ℕ) (d : ℕ) (s t : State) (a : Alike r d s t) (c : PairPlace) (n padding : ℕ) (q : Pair) → a.pairs ≡ whole c
-    → In q (whole c) ⊎ ((q.kind ≡ Frees (2 * (s.calls + 1)) (2 * (t.calls + 1))) ⊎ (q.kind ≡ Lives (s.grants + 1) (t.grants + 1)) ⊎ (q.kind ≡ Frees (2 * (s.calls + 1) + 1) (2 * (t.calls + 1) + 1)))
+left_granted : (r : ℕ → ℕ) (d : ℕ) (s t : State) (a : Alike r d s t) (ps : List Pair) (q : Pair) → a.pairs ≡ ps
+    → In q ps ⊎ ((q.kind ≡ Frees (2 * (s.calls + 1)) (2 * (t.calls + 1))) ⊎ (q.kind ≡ Lives (s.grants + 1) (t.grants + 1)) ⊎ (q.kind ≡ Frees (2 * (s.calls + 1) + 1) (2 * (t.calls + 1) + 1)))
     → In q a.pairs ⊎ Fresh s.grants t.grants s.calls t.calls q.kind
-left_granted r d s t a c n padding q e (inl i) = inl (subst (In q) (sym e) i)
-left_granted r d s t a c n padding q e (inr f) = inr (fresh_kinds s.grants t.grants s.calls t.calls q f)
+left_granted r d s t a ps q e (inl i) = inl (subst (In q) (sym e) i)
+left_granted r d s t a ps q e (inr f) = inr (fresh_kinds s.grants t.grants s.calls t.calls q f)
 
-same_grant : (r : ℕ → ℕ) (d : ℕ) (s t : State) (a : Alike r d s t) (n padding : ℕ) (c : PairPlace) → a.pairs ≡ whole c
-    → SameOutcome r d (grant s n padding (left_place c)) (grant t n padding (right_place c))
-same_grant r d s t a n padding c e =
+same_grant : (r : ℕ → ℕ) (d : ℕ) (s t : State) (a : Alike r d s t) (n padding : ℕ) (xs : List Pair) (q : Pair) (ys : List Pair) → a.pairs ≡ xs ++ q ∷ ys
+    → SameOutcome r d (grant s n padding (record { before = lefts xs; block = left q; after = lefts ys })) (grant t n padding (record { before = rights xs; block = right q; after = rights ys }))
+same_grant r d s t a n padding xs q ys e =
     let front = Frees (2 * (s.calls + 1)) (2 * (t.calls + 1)) in
     let live = Lives (s.grants + 1) (t.grants + 1) in
     let rest = Frees (2 * (s.calls + 1) + 1) (2 * (t.calls + 1) + 1) in
     record {
-      answer = ap₂ machine.Grant (omega (arith, a.grants)) (ap (λ n. n + padding) (same_total c.before));
-      state = keeps_alike r d s t a (pairs_granted c n padding front live rest) (s.grants + 1) (t.grants + 1) _ _
-          (sym (lefts_granted c n padding _ _ _ _ _ _)) (sym (rights_granted c n padding _ _ _ _ _ _))
-          (λ q i. left_granted r d s t a c n padding q e (in_granted q c n padding front live rest i))
+      answer = ap₂ machine.Grant (omega (arith, a.grants)) (ap (λ n. n + padding) (same_total xs));
+      state = keeps_alike r d s t a (pairs_granted xs q ys n padding front live rest) (s.grants + 1) (t.grants + 1) _ _
+          (sym (lefts_granted xs q ys n padding _ _ _ _ _ _)) (sym (rights_granted xs q ys n padding _ _ _ _ _ _))
+          (λ x i. left_granted r d s t a (xs ++ q ∷ ys) x e (in_granted x xs q ys n padding front live rest i))
           (omega arith) (omega arith) (omega (arith, a.grants));
     }
 
-same_granted : (r : ℕ → ℕ) (d : ℕ) (s t : State) (a : Alike r d s t) (n needed : ℕ) (padding_at : ℕ → ℕ) (o : Option PairPlace) → pair_chosen needed a.pairs ≡ o
-    → SameOutcome r d (grant_or_refuse s n padding_at (option_map left_place o)) (grant_or_refuse t n padding_at (option_map right_place o))
-same_granted r d s t a n needed padding_at None e = same_quiet r d s t a _ _ refl
-same_granted r d s t a n needed padding_at (Some c) e =
-    subst (λ x. SameOutcome r d (grant s n (padding_at (total (lefts c.before))) (left_place c)) (grant t n (padding_at x) (right_place c))) (same_total c.before)
-    (same_grant r d s t a n (padding_at (total (lefts c.before))) c (chosen_in needed a.pairs c e).0)
+same_granted : (r : ℕ → ℕ) (d : ℕ) (s t : State) (a : Alike r d s t) (n needed : ℕ) (padding_at : ℕ → ℕ) (o o' : Option Place) → SamePlace (λ x. fits needed (left x) ≡ true) a.pairs o o'
+    → SameOutcome r d (grant_or_refuse s n padding_at o) (grant_or_refuse t n padding_at o')
+same_granted r d s t a n needed padding_at None None neither = same_quiet r d s t a _ _ refl
+same_granted r d s t a n needed padding_at o o' (both xs q ys e f) =
+    subst (λ x. SameOutcome r d (grant s n (padding_at (total (lefts xs))) (record { before = lefts xs; block = left q; after = lefts ys })) (grant t n (padding_at x) (record { before = rights xs; block = right q; after = rights ys }))) (same_total xs)
+    (same_grant r d s t a n (padding_at (total (lefts xs))) xs q ys e)
 
 same_request : (r : ℕ → ℕ) (d : ℕ) (s t : State) (a : Alike r d s t) (spare needed n : ℕ) (padding_at : ℕ → ℕ) → SameOutcome r d (request s spare needed n padding_at) (request t spare needed n padding_at)
-same_request r d s t a spare needed n padding_at = same_if r d _ _ _ _ _ _ (same_short r d s t a spare) (same_quiet r d s t a _ _ refl)
-    (subst₂ (λ x y. SameOutcome r d (grant_or_refuse s n padding_at x) (grant_or_refuse t n padding_at y))
-    (sym (ap (chosen_place needed) a.left_blocks ∙ left_chosen needed a.pairs))
-    (sym (ap (chosen_place needed) a.right_blocks ∙ right_chosen needed a.pairs a.agree))
-    (same_granted r d s t a n needed padding_at (pair_chosen needed a.pairs) refl))
+same_request r d s t a spare needed n padding_at = same_if r d _ _ _ _ _ _ (same_short s t a.pairs a.limit a.left_blocks a.right_blocks spare) (same_quiet r d s t a _ _ refl)
+    (subst₂ (λ x y. SameOutcome r d (grant_or_refuse s n padding_at (chosen_place needed x)) (grant_or_refuse t n padding_at (chosen_place needed y))) (sym a.left_blocks) (sym a.right_blocks)
+    (same_granted r d s t a n needed padding_at _ _ (same_chosen needed a.pairs a.agree)))
 
 -- the place of a grant
 same_number : (r : ℕ → ℕ) (x y k : ℕ) (q : Kind) → Matched r x y q → has_number k (left_tag q) ≡ has_number (r k) (right_tag q)
 same_number r x y k (Lives i j) m = m k
 same_number r x y k (Frees s u) m = refl
 
-left_found : (r : ℕ → ℕ) (d : ℕ) (s t : State) → Alike r d s t → (k : ℕ) → (o : List Pair) → s.blocks ≡ lefts o → place_of k s.blocks ≡ option_map left_place (pair_place_of k o)
-left_found r d s t a k o e = ap (place_of k) e ∙ left_place_of k o
+same_placed : (r : ℕ → ℕ) (d : ℕ) (s t : State) (a : Alike r d s t) (k : ℕ) → SamePlace (λ q. Unit {0}) a.pairs (place_of k s.blocks) (place_of (r k) t.blocks)
+same_placed r d s t a k = subst₂ (λ x y. SamePlace (λ q. Unit {0}) a.pairs (place_of k x) (place_of (r k) y)) (sym a.left_blocks) (sym a.right_blocks) (same_place_of k (r k) a.pairs (λ q i. same_number r _ _ k q.kind (a.matched q i)))
 
-right_found : (r : ℕ → ℕ) (d : ℕ) (s t : State) (a : Alike r d s t) (k : ℕ) → place_of (r k) t.blocks ≡ option_map right_place (pair_place_of k a.pairs)
-right_found r d s t a k = ap (place_of (r k)) a.right_blocks ∙ right_place_of k (r k) a.pairs (λ q i. same_number r _ _ k q.kind (a.matched q i))
-
-left_released : (r : ℕ → ℕ) (d : ℕ) (s t : State) (a : Alike r d s t) (ps : List Pair) (n : ℕ) (qs : List Pair) → ((q : Pair) → In q ps ⊎ In q qs → In q a.pairs)
-    → (q : Pair) → (In q ps ⊎ In q qs) ⊎ (q.kind ≡ Frees (2 * (s.calls + 1) + 1) (2 * (t.calls + 1) + 1)) → In q a.pairs ⊎ Fresh s.grants t.grants s.calls t.calls q.kind
-left_released r d s t a ps n qs old q (inl i) = inl (old q i)
-left_released r d s t a ps n qs old q (inr e) = inr (fresh_kinds s.grants t.grants s.calls t.calls q (inr (inr e)))
-
-in_parts : (q : Pair) (c : PairPlace) → In q c.before ⊎ In q c.after → In q (whole c)
-in_parts q c (inl i) = in_left q c.before _ i
-in_parts q c (inr i) = in_right q c.before _ (inr i)
+left_released : (r : ℕ → ℕ) (d : ℕ) (s t : State) (a : Alike r d s t) (q : Pair) → In q a.pairs ⊎ (q.kind ≡ Frees (2 * (s.calls + 1) + 1) (2 * (t.calls + 1) + 1)) → In q a.pairs ⊎ Fresh s.grants t.grants s.calls t.calls q.kind
+left_released r d s t a q (inl i) = inl i
+left_released r d s t a q (inr e) = inr (fresh_kinds s.grants t.grants s.calls t.calls q (inr (inr e)))
 
 same_coalesce : (r : ℕ → ℕ) (d : ℕ) (s t : State) (a : Alike r d s t) (x : Answer) (ps : List Pair) (n : ℕ) (qs : List Pair) → x ≡ raise_number d x → ((q : Pair) → In q ps ⊎ In q qs → In q a.pairs)
     → SameOutcome r d (leaves s (coalesce (lefts ps) n (stamp_of_call s) (lefts qs)) x) (leaves t (coalesce (rights ps) n (stamp_of_call t) (rights qs)) x)
 same_coalesce r d s t a x ps n qs e old =
-    let k = Frees (2 * (s.calls + 1) + 1) (2 * (t.calls + 1) + 1) in
-    same_leaves r d s t a x x (coalesce_pairs ps n k qs) _ _ e
-    (sym (lefts_coalesce ps n _ _ qs)) (sym (rights_coalesce ps n _ _ qs))
-    (λ q i. left_released r d s t a ps n qs old q (in_coalesce q ps n k qs i))
+    let c = both_coalesced ps n (2 * (s.calls + 1) + 1) (2 * (t.calls + 1) + 1) qs in
+    same_leaves r d s t a x x c.pairs _ _ e c.on_left c.on_right (λ q i. left_released r d s t a q (elim (c.old q i) [ inl h ↦ inl (old q h) | inr h ↦ inr h ]))
 
-same_released : (r : ℕ → ℕ) (d : ℕ) (s t : State) (a : Alike r d s t) (k : ℕ) (o : Option PairPlace) → pair_place_of k a.pairs ≡ o → SameOutcome r d (release s (option_map left_place o)) (release t (option_map right_place o))
-same_released r d s t a k None e = same_quiet r d s t a _ _ refl
-same_released r d s t a k (Some c) e = same_coalesce r d s t a machine.Freed c.before c.pair.size c.after refl
-    (λ q i. subst (In q) (sym (found_in k a.pairs c e)) (in_parts q c i))
+in_parts : (x : Pair) (xs : List Pair) (q : Pair) (ys : List Pair) → In x xs ⊎ In x ys → In x (xs ++ q ∷ ys)
+in_parts x xs q ys (inl i) = in_left x xs _ i
+in_parts x xs q ys (inr i) = in_right x xs _ (inr i)
 
-same_release : (r : ℕ → ℕ) (d : ℕ) (s t : State) (a : Alike r d s t) (k : ℕ) → SameOutcome r d (release s (place_of k s.blocks)) (release t (place_of (r k) t.blocks))
-same_release r d s t a k = subst₂ (λ x y. SameOutcome r d (release s x) (release t y))
-    (sym (left_found r d s t a k a.pairs a.left_blocks)) (sym (right_found r d s t a k))
-    (same_released r d s t a k (pair_place_of k a.pairs) refl)
+same_released : (r : ℕ → ℕ) (d : ℕ) (s t : State) (a : Alike r d s t) (o o' : Option Place) → SamePlace (λ q. Unit {0}) a.pairs o o' → SameOutcome r d (release s o) (release t o')
+same_released r d s t a None None neither = same_quiet r d s t a _ _ refl
+same_released r d s t a o o' (both xs q ys e f) = same_coalesce r d s t a machine.Freed xs q.size ys refl (λ x i. subst (In x) (sym e) (in_parts x xs q ys i))
 
-size_of_place : (d : ℕ) (o : Option PairPlace) → size_at (option_map left_place o) ≡ raise_number d (size_at (option_map right_place o))
-size_of_place d None = refl
-size_of_place d (Some c) = refl
-
-same_size : (r : ℕ → ℕ) (d : ℕ) (s t : State) (a : Alike r d s t) (k : ℕ) → size_at (place_of k s.blocks) ≡ raise_number d (size_at (place_of (r k) t.blocks))
-same_size r d s t a k = ap size_at (left_found r d s t a k a.pairs a.left_blocks) ∙ size_of_place d (pair_place_of k a.pairs) ∙ ap (λ o. raise_number d (size_at o)) (sym (right_found r d s t a k))
+same_size : (r : ℕ → ℕ) (d : ℕ) (s t : State) (a : Alike r d s t) (o o' : Option Place) → SamePlace (λ q. Unit {0}) a.pairs o o' → size_at o ≡ raise_number d (size_at o')
+same_size r d s t a None None neither = refl
+same_size r d s t a o o' (both xs q ys e f) = refl
 
 same_report_if : (d : ℕ) (b : Bool) (x y : ℕ) → (if b then machine.Report 0 0 else machine.Report x y) ≡ raise_number d (if b then machine.Report 0 0 else machine.Report x y)
 same_report_if d true x y = refl
 same_report_if d false x y = refl
 
 same_report : (r : ℕ → ℕ) (d : ℕ) (s t : State) (a : Alike r d s t) → report s ≡ raise_number d (report t)
-same_report r d s t a = same_report_if d (is_short_of 1 s) _ _ ∙ ap₂ (λ b l. raise_number d (if b then machine.Report 0 0 else machine.Report (sum l) (largest l))) (same_short r d s t a 1) (same_free_sizes r d s t a)
+same_report r d s t a = same_report_if d (is_short_of 1 s) _ _ ∙ ap₂ (λ b l. raise_number d (if b then machine.Report 0 0 else machine.Report (sum l) (largest l))) (same_short s t a.pairs a.limit a.left_blocks a.right_blocks 1) (same_free_sizes s t a.pairs a.limit a.left_blocks a.right_blocks)
 
 same_reset : (r : ℕ → ℕ) (d : ℕ) (s t : State) (a : Alike r d s t) → SameOutcome r d (reset s) (reset t)
 same_reset r d s t a =
     let q = pair (total s.blocks) (Frees (2 * (s.calls + 1) + 1) (2 * (t.calls + 1) + 1)) in
-    same_leaves r d s t a _ _ (q ∷ []) _ _ refl refl (ap (λ n. block n (Free (stamp_of_call t)) ∷ []) (sym (same_units r d s t a)))
-    (λ x i. left_released r d s t a [] 0 [] (λ q i. absurd (⊎_elim (λ h. h) (λ h. h) i)) x (inr (only x q i)))
+    same_leaves r d s t a _ _ (q ∷ []) _ _ refl refl (ap (λ n. block n (Free (stamp_of_call t)) ∷ []) (sym (same_units s t a.pairs a.limit a.left_blocks a.right_blocks)))
+    (λ x i. left_released r d s t a x (inr (only x q i)))
   where
     only : (x q : Pair) → In x (q ∷ []) → x.kind ≡ q.kind
     only x q (inl e) = ap (λ (z : Pair). z.kind) e
@@ -234,18 +209,16 @@ same_reset r d s t a =
 
 same_extend : (r : ℕ → ℕ) (d : ℕ) (s t : State) (a : Alike r d s t) (more : ℕ) → SameOutcome r d (extend more s) (extend more t)
 same_extend r d s t a zero = same_quiet r d s t a _ _ refl
-same_extend r d s t a (suc more) = same_if r d _ _ _ _ _ _
-    (ap₂ (λ x y. x || y) (ap (λ n. nat_lt max_size (n + suc more)) (same_units r d s t a)) (ap₂ (λ x y. x && y) (ap ends_live a.left_blocks ∙ same_ends_live a.pairs ∙ ap ends_live (sym a.right_blocks)) (same_short r d s t a 1)))
-    (same_quiet r d s t a _ _ refl)
+same_extend r d s t a (suc more) = same_if r d _ _ _ _ _ _ (same_refusal s t a.pairs a.limit a.left_blocks a.right_blocks (suc more)) (same_quiet r d s t a _ _ refl)
     (subst₂ (λ x y. SameOutcome r d (leaves s (coalesce x (suc more) (stamp_of_call s) []) machine.Extended) (leaves t (coalesce y (suc more) (stamp_of_call t) []) machine.Extended)) (sym a.left_blocks) (sym a.right_blocks)
     (same_coalesce r d s t a machine.Extended a.pairs (suc more) [] refl (λ q i. ⊎_elim (λ h. h) (λ h. absurd h) i)))
 
 pub alike_step : (r : ℕ → ℕ) (d : ℕ) (c : Command) (s t : State) → Alike r d s t → SameOutcome r d (step c s) (step (renumber r c) t)
 alike_step r d (command.Alloc n) s t a = same_request r d s t a 1 n n (λ offset. 0)
-alike_step r d (command.Free k) s t a = same_release r d s t a k
-alike_step r d (command.Size k) s t a = same_quiet r d s t a _ _ (same_size r d s t a k)
+alike_step r d (command.Free k) s t a = same_released r d s t a _ _ (same_placed r d s t a k)
+alike_step r d (command.Size k) s t a = same_quiet r d s t a _ _ (same_size r d s t a _ _ (same_placed r d s t a k))
 alike_step r d command.Report s t a = same_quiet r d s t a _ _ (same_report r d s t a)
-alike_step r d command.Full s t a = same_quiet r d s t a _ _ (ap (λ l. machine.Full (rows_below 256 l)) (same_free_sizes r d s t a))
+alike_step r d command.Full s t a = same_quiet r d s t a _ _ (ap (λ l. machine.Full (rows_below 256 l)) (same_free_sizes s t a.pairs a.limit a.left_blocks a.right_blocks))
 alike_step r d command.Reset s t a = same_reset r d s t a
 alike_step r d (command.Align n align) s t a = same_if r d _ _ _ _ _ _ refl (same_request r d s t a 1 n n (λ offset. 0))
     (same_if r d _ _ _ _ _ _ refl (same_quiet r d s t a _ _ refl) (same_request r d s t a 2 (n + align - 1) n (padding_to align)))

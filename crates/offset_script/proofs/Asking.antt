@@ -1,44 +1,20 @@
 -- A question leaves no trace.
-use Rattle.std.proofs.Common.{◌≡◌, ℕ, ◌-◌, ◌≤◌, List, [], ◌∷◌, ◌++◌, map, refl, ap, ap₂, subst, ◌∙◌, inl, inr, arith}
+use Rattle.std.proofs.Common.{◌≡◌, ℕ, ◌-◌, ◌≤◌, List, [], ◌∷◌, ◌++◌, map, refl, ap, subst, ◌∙◌, inl, inr, arith}
 use Rattle.offset_script.specs.declared.scripts.Command.{Command}
 use Rattle.offset_script.specs.declared.scripts.Command.TheVariants as command
-use Rattle.offset_script.specs.Machine.{State, Answer, start, step, answers, after, size_at, report, is_short_of, place_of}
-use Rattle.offset_script.specs.Machine as machine
+use Rattle.offset_script.specs.Machine.{State, start, step, answers, after, is_short_of, place_of}
 use Rattle.offset_script.specs.Histories.{renumber, raise_number, number_without_nest, IsGrant, KeepsSpace, IsQuestion, QuestionsChangeNothing}
 use Rattle.offset_script.specs.Histories as history
+use Rattle.offset_script.proofs.Members.{map_same}
+use Rattle.offset_script.proofs.Fresh.{raise_none, renumber_same}
 use Rattle.offset_script.proofs.Nests.{IsQuiet, quiet_size, quiet_report, number_without_nest_cases, nest_law}
 
 -- the same number, where no grants are left out
 number_without_nest_none : (g k : ℕ) → number_without_nest g 0 k ≡ k
 number_without_nest_none g k = elim (number_without_nest_cases g 0 k) [ inl h ↦ h.1 | inr (inl h) ↦ absurd (omega arith) | inr (inr h) ↦ h.1 ∙ omega arith ]
 
-renumber_none : (g : ℕ) (c : Command) → renumber (number_without_nest g 0) c ≡ c
-renumber_none g (command.Alloc n) = refl
-renumber_none g (command.Free k) = ap command.Free (number_without_nest_none g k)
-renumber_none g (command.Size k) = ap command.Size (number_without_nest_none g k)
-renumber_none g command.Report = refl
-renumber_none g command.Full = refl
-renumber_none g command.Reset = refl
-renumber_none g (command.Align n align) = refl
-renumber_none g (command.Extend more) = refl
-
-raise_none : (a : Answer) → raise_number 0 a ≡ a
-raise_none (machine.Grant k offset) = ap (λ (j : ℕ). machine.Grant j offset) (omega arith)
-raise_none machine.Refused = refl
-raise_none machine.Freed = refl
-raise_none machine.Gone = refl
-raise_none (machine.Size n) = refl
-raise_none (machine.Report free largest) = refl
-raise_none (machine.Full rows) = refl
-raise_none machine.Reset = refl
-raise_none machine.Extended = refl
-
-map_same : {A : Type 0} (f : A → A) → ((x : A) → f x ≡ x) → (xs : List A) → map f xs ≡ xs
-map_same f h [] = refl
-map_same f h (x ∷ xs) = ap₂ (λ y ys. y ∷ ys) (h x) (map_same f h xs)
-
 as_before : (g : ℕ) (cs : List Command) (s : State) (j : ℕ) → j ≡ 0 → map (raise_number j) (answers (map (renumber (number_without_nest g j)) cs) s) ≡ answers cs s
-as_before g cs s j e = rw e (map_same (raise_number 0) raise_none _ ∙ ap (λ l. answers l s) (map_same (renumber (number_without_nest g 0)) (renumber_none g) cs))
+as_before g cs s j e = rw e (map_same (raise_number 0) raise_none _ ∙ ap (λ l. answers l s) (map_same (renumber (number_without_nest g 0)) (renumber_same _ (number_without_nest_none g)) cs))
 
 -- a question is a nest
 question_keeps_space : (q : Command) → IsQuestion q → KeepsSpace q

@@ -1,16 +1,18 @@
--- The first name of the smallest class that fits is that of the block which the plain machine chooses.
+-- The plain machine chooses the block that a grant splits: the newest of the smallest class that fits.
 use Rattle.std.proofs.Common.{◌≡◌, ◌≢◌, ℕ, ◌<◌, ◌≤◌, Bool, true, false, not, ◌&&◌, ◌||◌, List, [], ◌∷◌, ◌++◌, Option, Some, None, nat_eq, nat_lt, nat_le, refl, sym, ap, subst, ◌∙◌, inl, inr, arith, eq-eqb, le-leb, lt-ltb, leb-true}
-use Rattle.std.proofs.lemmas.Bool.{cases_eq, cases_lt, true≢false, false≢true}
+use Rattle.std.proofs.lemmas.List.{map-append}
+use Rattle.std.proofs.lemmas.Bool.{cases_eq, cases_lt, true≢false}
 use Rattle.offset_allocator.specs.Classes.{up, down}
 use Rattle.offset_script.specs.Machine.{Tag, Live, Free, is_free, has_number, stamp, fits, is_taken_before, chosen_place}
 use Rattle.offset_script.specs.Machine as plain
-use Rattle.offset_allocator.specs.Named.{Block, View, Place, place_of, one, times, count_named, count_listed, names_at, IsWellFormed, place_for}
+use Rattle.offset_allocator.specs.Named.{Block, View, Place, Grant, place_of, one, times, count_named, count_listed, names_at, IsWellFormed}
+use Rattle.offset_allocator.specs.Relations.{Splits}
 use Rattle.offset_script.specs.Agreement.{Label, by_name, by_tag, stamp_of, IsFalling}
-use Rattle.offset_script.proofs.Well.{Occurs, IsBest, chosen_at, not_chosen}
+use Rattle.offset_script.proofs.Well.{both_true, chosen_at, not_chosen}
 use Rattle.offset_allocator.proofs.ViewOrders.{tally_append, hit_cases}
 use Rattle.offset_allocator.proofs.ViewSteps.{place_here}
-use Rattle.offset_allocator.proofs.ViewTaken.{IsTaken, taken_at, not_taken}
-use Rattle.offset_script.proofs.Labels.{names, tags, map_both, map_split, gives_parts, gives_all}
+use Rattle.offset_script.proofs.Members.{In, in_right, map_split}
+use Rattle.offset_script.proofs.Labels.{names, tags, gives_parts, gives_all, not_false}
 
 -- a list of labels, split at one
 pub record Spot : Type 0 where
@@ -58,17 +60,12 @@ plain_spot ls p e = go (map_split by_tag ls p.before p.block p.after e)
     go : ((xs : List Label) × (x : Label) × (ys : List Label) × (ls ≡ xs ++ x ∷ ys) × (tags xs ≡ p.before) × (by_tag x ≡ p.block) × (tags ys ≡ p.after)) → (s : Spot) × (ls ≡ whole s) × (plain_place s ≡ p)
     go r = (record { before = r.0; label = r.1; after = r.2 }, r.3, same_plain r.4 r.5 r.6)
 
--- the block at a place is in the list
-pub occurs_middle : (xs : List plain.Block) (b : plain.Block) (ys : List plain.Block) → Occurs b (xs ++ b ∷ ys)
-occurs_middle [] b ys = inl refl
-occurs_middle (x ∷ xs) b ys = inr (occurs_middle xs b ys)
-
-occurs_spot : (s : Spot) → Occurs (by_tag s.label) (tags (whole s))
-occurs_spot s = subst (Occurs (by_tag s.label)) (sym (map_both by_tag s.before (s.label ∷ s.after))) (occurs_middle (tags s.before) (by_tag s.label) (tags s.after))
+occurs_spot : (s : Spot) → In (by_tag s.label) (tags (whole s))
+occurs_spot s = subst (In (by_tag s.label)) (sym (map-append by_tag s.before (s.label ∷ s.after))) (in_right (by_tag s.label) (tags s.before) (by_tag s.label ∷ tags s.after) (inl refl))
 
 -- a spot splits the named blocks
 pub names_whole : (s : Spot) → names (whole s) ≡ names s.before ++ by_name s.label ∷ names s.after
-names_whole s = map_both by_name s.before (s.label ∷ s.after)
+names_whole s = map-append by_name s.before (s.label ∷ s.after)
 
 -- what holds of a view and a list of labels that agree
 pub record IsLabelled (v : View) (ls : List Label) : Type 0 where
@@ -114,94 +111,100 @@ newer_before a b e l = rw (eq-eqb (down a.size) (down b.size) e, lt-ltb (stamp b
 spot_fits : (n : ℕ) (l : Label) → is_free l.tag ≡ true → up n ≤ down l.size → fits n (by_tag l) ≡ true
 spot_fits n l f c = rw (f, le-leb (up n) (down l.size) c) refl
 
-both_parts : (x y : Bool) → (x && y) ≡ true → (x ≡ true) × (y ≡ true)
-both_parts true y e = (refl, e)
-both_parts false y e = absurd (false≢true e)
-
-not_not : (b : Bool) → not (not b) ≡ true → b ≡ true
-not_not true e = refl
-not_not false e = absurd (false≢true e)
+pub some_same : (p q : Place) → ◌≡◌ {A = Option Place} (Some p) (Some q) → p ≡ q
+some_same p q e = cc
 
 module _ (v : View) (w : IsWellFormed v) (ls : List Label) (a : IsLabelled v ls) (n : ℕ) where
-  -- a block that the allocator takes exists, and fits
-  taken_spot : (q : Place) → IsTaken n v q → (s : Spot) × (ls ≡ whole s) × (named_place s ≡ q) × (is_free s.label.tag ≡ true) × (up n ≤ down s.label.size)
-  taken_spot q t = let r = named_spot ls q (sym a.view ∙ t.stood) in
-      (r.0, r.1, r.2, not_not (is_free r.0.label.tag) (ap (λ (p : Place). not p.block.used) r.2 ∙ t.free), (let e = ap (λ (p : Place). down p.block.size) r.2 in let c = t.class in omega arith))
-
-  none_taken : chosen_place n (tags ls) ≡ None → (o : Option Place) → place_for n v ≡ o → place_for n v ≡ None
-  none_taken e None f = f
-  none_taken e (Some q) f =
-      let s = taken_spot q (taken_at n v w q f) in
-      absurd (true≢false (sym (spot_fits n s.0.label s.3 s.4) ∙ not_chosen n (tags ls) e (by_tag s.0.label) (subst (λ xs. Occurs (by_tag s.0.label) (tags xs)) (sym s.1) (occurs_spot s.0))))
-
-  -- two free blocks, the first of its class and the one that is chosen over all others, are the same
-  same_name : (q : Place) (t : IsTaken n v q) (m l : Spot) → ls ≡ whole m → named_place m ≡ q → ls ≡ whole l → is_free m.label.tag ≡ true → is_free l.label.tag ≡ true → up n ≤ down m.label.size → up n ≤ down l.label.size
-      → is_taken_before (by_tag m.label) (by_tag l.label) ≡ false → m.label.name ≡ l.label.name
-  same_name q t m l em place el fm fl cm cl best = elim (cases_eq m.label.name l.label.name) [
-    | inl e ↦ e
-    | inr d ↦ absurd (elim (cases_lt (down m.label.size) (down l.label.size)) [
-      | inl less ↦ true≢false (sym (smaller_before m.label l.label less) ∙ best)
-      | inr more ↦ elim (cases_lt (down l.label.size) (down m.label.size)) [
-        | inl less ↦ let none = t.least (down l.label.size) cl (let k = class in omega arith) in let one_there = count_listed in omega (arith, ap (times l.label.name) none)
-        | inr same ↦ true≢false (sym (newer_before m.label l.label (omega arith) (newer d (omega arith))) ∙ best)
-      ]
-    ])
-  ]
-    where
-      class : down m.label.size ≡ down q.block.size
-      class = ap (λ (p : Place). down p.block.size) place
-
-      name : m.label.name ≡ q.block.name
-      name = ap (λ (p : Place). p.block.name) place
-
-      count_listed : 1 ≤ times l.label.name (names_at v.order (down l.label.size))
-      count_listed = listed_spot v w l (a.view ∙ ap names el) fl
-
-      newer : m.label.name ≢ l.label.name → down m.label.size ≡ down l.label.size → stamp l.label.tag < stamp m.label.tag
-      newer d e =
-          let order = ap (names_at v.order) (sym e ∙ class) ∙ t.first in
-          let falls = subst (IsFalling (λ x. stamp_of x ls)) t.first (a.newest (down q.block.size)) in
-          let there : 1 ≤ times l.label.name t.after_one = elim (hit_cases l.label.name q.block.name) [
-            | inl i ↦ absurd (d (name ∙ sym i.0))
-            | inr i ↦ let k = i.1 in let h = count_listed in let c = ap (times l.label.name) order in omega arith
-          ] in
-          let lower = falls.0 l.label.name there in
-          let sm = ap (stamp_of m.label.name) em ∙ spot_stamp v w m (a.view ∙ ap names em) in
-          let sl = ap (stamp_of l.label.name) el ∙ spot_stamp v w l (a.view ∙ ap names el) in
-          let sq = ap (λ x. stamp_of x ls) name in
-          omega arith
-
-  some_taken : (p : plain.Place) → chosen_place n (tags ls) ≡ Some p → (o : Option Place) → place_for n v ≡ o → (s : Spot) × (ls ≡ whole s) × (place_for n v ≡ Some (named_place s)) × (plain_place s ≡ p) × (is_free s.label.tag ≡ true)
-  some_taken p e o f =
+  -- the place that the machine chooses
+  chosen_spot : (p : plain.Place) → chosen_place n (tags ls) ≡ Some p → (s : Spot) × (ls ≡ whole s) × (plain_place s ≡ p) × (is_free s.label.tag ≡ true) × (up n ≤ down s.label.size)
+  chosen_spot p e =
       let c = chosen_at n (tags ls) p e in
       let r = plain_spot ls p c.0 in
-      let l = r.0 in
-      let parts = both_parts (is_free l.label.tag) (nat_le (up n) (down l.label.size)) (ap (λ (q : plain.Place). fits n q.block) r.2 ∙ c.1) in
-      let class = leb-true (up n) (down l.label.size) parts.1 in
-      (l, r.1, found p l r.1 r.2 parts.0 class c.2 o f, r.2, parts.0)
-    where
-      found : (p : plain.Place) (l : Spot) → ls ≡ whole l → plain_place l ≡ p → is_free l.label.tag ≡ true → up n ≤ down l.label.size → IsBest n (tags ls) p.block → (o : Option Place) → place_for n v ≡ o → place_for n v ≡ Some (named_place l)
-      found p l el place fl cl best None f =
-          let none = not_taken n v w f (down l.label.size) cl in
-          absurd (let h = listed_spot v w l (a.view ∙ ap names el) fl in let z = ap (times l.label.name) none in omega arith)
-      found p l el place fl cl best (Some q) f =
-          let t = taken_at n v w q f in
-          let s = taken_spot q t in
-          let m = s.0 in
-          let first = best (by_tag m.label) (subst (λ xs. Occurs (by_tag m.label) (tags xs)) (sym s.1) (occurs_spot m)) (spot_fits n m.label s.3 s.4) in
-          let name = same_name q t m l s.1 s.2 el s.3 fl s.4 cl (ap (λ (q : plain.Place). is_taken_before (by_tag m.label) q.block) place ∙ first) in
-          f ∙ ap Some (sym s.2) ∙ sym (place_of_spot v w m (a.view ∙ ap names s.1)) ∙ ap (λ x. place_of x v.blocks) name ∙ place_of_spot v w l (a.view ∙ ap names el)
+      let parts = both_true (is_free r.0.label.tag) (nat_le (up n) (down r.0.label.size)) (ap (λ (q : plain.Place). fits n q.block) r.2 ∙ c.1) in
+      (r.0, r.1, r.2, parts.0, leb-true (up n) (down r.0.label.size) parts.1)
 
-  -- the allocator takes the block that the machine chooses
-  pub data SameChoice : Option Place → Option plain.Place → Type 0 where
-    neither : SameChoice None None
-    both : (s : Spot) → ls ≡ whole s → is_free s.label.tag ≡ true → SameChoice (Some (named_place s)) (Some (plain_place s))
+  none_if : ((c : ℕ) × (up n ≤ c) × (names_at v.order c ≢ []) → ⊥) → (o : Option plain.Place) → chosen_place n (tags ls) ≡ o → o ≡ None
+  none_if none None e = refl
+  none_if none (Some p) e =
+      let r = chosen_spot p e in
+      absurd (none (down r.0.label.size, r.4, λ z. let h = listed_spot v w r.0 (a.view ∙ ap names r.1) r.3 in let k = ap (times r.0.label.name) z in absurd (omega arith)))
 
-  same_choice_if : (o : Option plain.Place) → chosen_place n (tags ls) ≡ o → SameChoice (place_for n v) o
-  same_choice_if None e = subst (λ t. SameChoice t None) (sym (none_taken e (place_for n v) refl)) neither
-  same_choice_if (Some p) e =
-      let r = some_taken p e (place_for n v) refl in
-      subst (λ t. SameChoice t (Some p)) (sym r.2) (subst (λ q. SameChoice (Some (named_place r.0)) (Some q)) r.3 (both r.0 r.1 r.4))
+  -- where no bin of a large enough class has a block, the machine chooses none
+  pub none_chosen : ((c : ℕ) × (up n ≤ c) × (names_at v.order c ≢ []) → ⊥) → chosen_place n (tags ls) ≡ None
+  none_chosen none = none_if none (chosen_place n (tags ls)) refl
 
-  pub same_choice : SameChoice (place_for n v) (chosen_place n (tags ls))
-  same_choice = same_choice_if (chosen_place n (tags ls)) refl
+  module _ (m : ℕ) (padding_at : ℕ → ℕ) (u : View) (g : Grant) (t : Splits n m padding_at v u g) where
+    -- where the block that is split is
+    taken_spot : (s : Spot) × (ls ≡ whole s) × (named_place s ≡ place_at t.before t.block t.after) × (is_free s.label.tag ≡ true)
+    taken_spot =
+        let r = named_spot ls (place_at t.before t.block t.after) (sym a.view ∙ t.blocks) in
+        (r.0, r.1, r.2, not_false (is_free r.0.label.tag) (ap (λ (p : Place). p.block.used) r.2 ∙ t.free))
+
+    -- it is the first of its bin, and of another block that is chosen over all, this one has the name
+    same_name : (s l : Spot) → ls ≡ whole s → named_place s ≡ place_at t.before t.block t.after → ls ≡ whole l → is_free l.label.tag ≡ true → up n ≤ down l.label.size
+        → is_taken_before (by_tag s.label) (by_tag l.label) ≡ false → s.label.name ≡ l.label.name
+    same_name s l es place el fl cl best = elim (cases_eq s.label.name l.label.name) [
+      | inl e ↦ e
+      | inr d ↦ absurd (elim (cases_lt (down s.label.size) (down l.label.size)) [
+        | inl less ↦ true≢false (sym (smaller_before s.label l.label less) ∙ best)
+        | inr more ↦ elim (cases_lt (down l.label.size) (down s.label.size)) [
+          | inl less ↦ let none = t.smallest (down l.label.size) cl (let k = class in omega arith) in let one_there = listed in omega (arith, ap (times l.label.name) none)
+          | inr same ↦ true≢false (sym (newer_before s.label l.label (omega arith) (newer d (omega arith))) ∙ best)
+        ]
+      ])
+    ]
+      where
+        class : down s.label.size ≡ down t.block.size
+        class = ap (λ (p : Place). down p.block.size) place
+
+        name : s.label.name ≡ t.block.name
+        name = ap (λ (p : Place). p.block.name) place
+
+        listed : 1 ≤ times l.label.name (names_at v.order (down l.label.size))
+        listed = listed_spot v w l (a.view ∙ ap names el) fl
+
+        newer : s.label.name ≢ l.label.name → down s.label.size ≡ down l.label.size → stamp l.label.tag < stamp s.label.tag
+        newer d e =
+            let order = ap (names_at v.order) (sym e ∙ class) ∙ t.newest in
+            let falls = subst (IsFalling (λ x. stamp_of x ls)) t.newest (a.newest (down t.block.size)) in
+            let there : 1 ≤ times l.label.name t.older = elim (hit_cases l.label.name t.block.name) [
+              | inl i ↦ absurd (d (name ∙ sym i.0))
+              | inr i ↦ let k = i.1 in let h = listed in let c = ap (times l.label.name) order in omega arith
+            ] in
+            let lower = falls.0 l.label.name there in
+            let ss = ap (stamp_of s.label.name) es ∙ spot_stamp v w s (a.view ∙ ap names es) in
+            let sl = ap (stamp_of l.label.name) el ∙ spot_stamp v w l (a.view ∙ ap names el) in
+            let sq = ap (λ x. stamp_of x ls) name in
+            omega arith
+
+    -- the machine chooses it
+    pub record Choice : Type 0 where
+      pub spot : Spot
+      pub split : ls ≡ whole spot
+      pub place : named_place spot ≡ place_at t.before t.block t.after
+      pub free : is_free spot.label.tag ≡ true
+      pub is : chosen_place n (tags ls) ≡ Some (plain_place spot)
+
+    choice_if : (o : Option plain.Place) → chosen_place n (tags ls) ≡ o → Choice
+    choice_if o e = go o e
+      where
+        s : (s : Spot) × (ls ≡ whole s) × (named_place s ≡ place_at t.before t.block t.after) × (is_free s.label.tag ≡ true)
+        s = taken_spot
+
+        there : In (by_tag s.0.label) (tags ls)
+        there = subst (λ xs. In (by_tag s.0.label) (tags xs)) (sym s.1) (occurs_spot s.0)
+
+        fit : fits n (by_tag s.0.label) ≡ true
+        fit = spot_fits n s.0.label s.3 (let e = ap (λ (p : Place). down p.block.size) s.2 in let c = t.fits in omega arith)
+
+        go : (o : Option plain.Place) → chosen_place n (tags ls) ≡ o → Choice
+        go None e = absurd (true≢false (sym fit ∙ not_chosen n (tags ls) e (by_tag s.0.label) there))
+        go (Some p) e =
+            let l = chosen_spot p e in
+            let best = (chosen_at n (tags ls) p e).2 (by_tag s.0.label) there fit in
+            let name = same_name s.0 l.0 s.1 s.2 l.1 l.3 l.4 (ap (λ (q : plain.Place). is_taken_before (by_tag s.0.label) q.block) l.2 ∙ best) in
+            let same = some_same (named_place l.0) (named_place s.0) (sym (place_of_spot v w l.0 (a.view ∙ ap names l.1)) ∙ ap (λ x. place_of x v.blocks) (sym name) ∙ place_of_spot v w s.0 (a.view ∙ ap names s.1)) in
+            record { spot = l.0; split = l.1; place = same ∙ s.2; free = l.3; is = e ∙ ap Some (sym l.2) }
+
+    pub chosen : Choice
+    chosen = choice_if (chosen_place n (tags ls)) refl

@@ -1,5 +1,5 @@
 -- Releases in a row leave the same space in any order.
-use Rattle.std.proofs.Common.{◌≡◌, ℕ, zero, suc, ◌+◌, ◌-◌, Bool, true, false, ◌&&◌, ◌||◌, List, [], ◌∷◌, ◌++◌, length, sum, Option, Some, None, option_map, is_some, nat_eq, nat_lt, nat_le, if◌then◌else◌, refl, sym, ap, ap₂, subst, subst₂, ◌∙◌, inl, inr, arith, eq-eqb, eqb-true}
+use Rattle.std.proofs.Common.{◌≡◌, ℕ, zero, suc, ◌+◌, ◌-◌, Bool, true, false, ◌&&◌, ◌||◌, List, [], ◌∷◌, ◌++◌, sum, Option, Some, None, is_some, nat_eq, nat_lt, nat_le, if◌then◌else◌, refl, sym, ap, ap₂, subst, subst₂, ◌∙◌, inl, inr, arith, eq-eqb, eqb-true}
 use Rattle.std.proofs.lemmas.Bool.{true≢false, false≢true}
 use Rattle.offset_script.specs.declared.scripts.Command.{Command}
 use Rattle.offset_script.specs.declared.scripts.Command.TheVariants as command
@@ -9,8 +9,9 @@ use Rattle.offset_script.specs.Machine.{Tag, Live, Free, Block, block, is_free, 
 use Rattle.offset_allocator.specs.Named.{max_size, padding_to}
 use Rattle.offset_script.specs.Machine as machine
 use Rattle.offset_script.specs.Histories.{holder, outline, widen, is_among, collapse_block, collapse, without_offset, releases, ReleasesCommute}
-use Rattle.offset_script.proofs.Pairs.{Kind, Lives, Frees, Pair, pair, left_tag, right_tag, left, right, lefts, rights, In, same_free, same_length, same_total, same_sizes, same_ends_live, PairPlace, left_place, right_place, pair_place_of, left_place_of, right_place_of}
-use Rattle.offset_script.proofs.Well.{Well, count, hit, hit_cases, count-append, starts_free, Apart, apart_parts, found_at, not_found, well_start, well_after, well_step}
+use Rattle.offset_script.proofs.Members.{In}
+use Rattle.offset_script.proofs.Pairs.{Kind, Lives, Frees, Pair, pair, left_tag, right_tag, left, right, lefts, rights, same_free, same_short, same_free_sizes, same_refusal, SamePlace, neither, both, same_place_of}
+use Rattle.offset_script.proofs.Well.{Well, count, hit, hit_self, number_of, count-append, starts_free, Apart, apart_parts, found_at, not_found, well_start, well_after, well_step}
 use Rattle.offset_script.proofs.Similar.{SameNumber}
 
 -- sizes, and the numbers of live blocks
@@ -60,10 +61,7 @@ collapse_one_more k ks (b ∷ o) = collapse_block_more k ks b.0 b.1 (collapse (k
 
 -- where nothing is to be released
 no_hit : (t : Tag) (j : ℕ) → t ≡ Live j → (c : ℕ) → hit (Live j) t + c ≡ 0 → ⊥
-no_hit t j e c z = let h : hit (Live j) t ≡ 1 = ap (hit (Live j)) e ∙ self in omega arith
-  where
-    self : hit (Live j) (Live j) ≡ 1
-    self = elim (hit_cases j j) [ inl h ↦ h.1 | inr h ↦ absurd (h.0 refl) ]
+no_hit t j e c z = let h : hit (Live j) t ≡ 1 = ap (hit (Live j)) e ∙ hit_self (Live j) in omega arith
 
 widen_outline : (n : ℕ) (bs : List Block) → widen n (outline bs) ≡ (n + free_start bs, None) ∷ outline (without_start bs)
 widen_outline n [] = ap (λ x. (x, None) ∷ []) (let e : n ≡ n + 0 = omega arith in e)
@@ -137,18 +135,13 @@ coalesce_outline k (x ∷ y ∷ xs) n st ys a b c d =
     ∙ ap (collapse_block (k ∷ []) x.size (holder x.tag)) (coalesce_outline k (y ∷ xs) n st ys a.1 b (omega arith) d)
 
 -- releases in a row
-holder_live : (k : ℕ) (t : Tag) → has_number k t ≡ true → t ≡ Live k
-holder_live k (Live j) e = ap Live (sym (eqb-true k j e))
-holder_live k (Free s) e = absurd (false≢true e)
-
 released_outline : (s : State) → Well s → (k : ℕ) (o : Option Place) → place_of k s.blocks ≡ o → outline (release s o).state.blocks ≡ collapse (k ∷ []) (outline s.blocks)
 released_outline s w k None e = sym (unchanged (k ∷ []) s.blocks w.apart (none_of k s.blocks (not_found k s.blocks e)))
 released_outline s w k (Some p) e =
     let f = found_at k s.blocks p e in
-    let tag : p.block.tag ≡ Live k = holder_live k p.block.tag f.1 in
+    let tag : p.block.tag ≡ Live k = number_of k p.block.tag f.1 in
     let parts = apart_parts p.before (p.block ∷ p.after) (subst Apart f.0 w.apart) in
-    let self : hit (Live k) (Live k) ≡ 1 = elim (hit_cases k k) [ inl h ↦ h.1 | inr h ↦ absurd (h.0 refl) ] in
-    let own : hit (Live k) p.block.tag ≡ 1 = ap (hit (Live k)) tag ∙ self in
+    let own : hit (Live k) p.block.tag ≡ 1 = ap (hit (Live k)) tag ∙ hit_self (Live k) in
     let once = w.once (Live k) in
     let none_after : count (Live k) p.after ≡ 0 = omega (arith, own, once, ap (count (Live k)) f.0, count-append (Live k) p.before (p.block ∷ p.after), f.2) in
     coalesce_outline k p.before p.block.size (stamp_of_call s) p.after parts.0 parts.1.1 f.2 none_after
@@ -220,15 +213,6 @@ paired [] (c ∷ cs) e = absurd (no_outline _ _ (sym e))
 paired (b ∷ bs) [] e = absurd (no_outline _ _ e)
 paired (b ∷ bs) (c ∷ cs) e = paired_cons b c bs cs (head_outline _ _ _ _ e) (paired bs cs (tail_outline _ _ _ _ e))
 
-same_short : (s t : State) → SameSpace s t → (n : ℕ) → is_short_of n s ≡ is_short_of n t
-same_short s t a n = ap₂ (λ x y. nat_le x (y + n)) a.limit (ap length a.left_blocks ∙ same_length a.pairs ∙ ap length (sym a.right_blocks))
-
-same_units : (s t : State) → SameSpace s t → total s.blocks ≡ total t.blocks
-same_units s t a = ap total a.left_blocks ∙ same_total a.pairs ∙ ap total (sym a.right_blocks)
-
-same_free_sizes : (s t : State) → SameSpace s t → free_sizes s.blocks ≡ free_sizes t.blocks
-same_free_sizes s t a = ap free_sizes a.left_blocks ∙ same_sizes a.pairs ∙ ap free_sizes (sym a.right_blocks)
-
 -- whether a request is granted goes by the sizes
 some_if : (b c : Bool) (p q : Place) → is_some (if b && c then Some p else Some q) ≡ (b || true)
 some_if true true p q = refl
@@ -243,10 +227,10 @@ some_chosen : (n : ℕ) (b : Block) (bs : List Block) (o : Option Place) → is_
 some_chosen n b bs None = some_or_none (fits n b) (here b bs)
 some_chosen n b bs (Some p) = some_if (fits n b) (is_taken_before b p.block) (here b bs) (prepend b p)
 
-same_chosen : (n : ℕ) (p : List Pair) → is_some (chosen_place n (lefts p)) ≡ is_some (chosen_place n (rights p))
-same_chosen n [] = refl
-same_chosen n (q ∷ p) = some_chosen n (left q) (lefts p) (chosen_place n (lefts p))
-    ∙ ap₂ (λ x y. (x && nat_le (up n) (down q.size)) || y) (same_free q.kind) (same_chosen n p)
+some_same : (n : ℕ) (p : List Pair) → is_some (chosen_place n (lefts p)) ≡ is_some (chosen_place n (rights p))
+some_same n [] = refl
+some_same n (q ∷ p) = some_chosen n (left q) (lefts p) (chosen_place n (lefts p))
+    ∙ ap₂ (λ x y. (x && nat_le (up n) (down q.size)) || y) (same_free q.kind) (some_same n p)
     ∙ sym (some_chosen n (right q) (rights p) (chosen_place n (rights p)))
 
 same_granted : (s t : State) → s.grants ≡ t.grants → (n : ℕ) (padding_at : ℕ → ℕ) (o p : Option Place) → is_some o ≡ is_some p → without_offset (grant_or_refuse s n padding_at o).answer ≡ without_offset (grant_or_refuse t n padding_at p).answer
@@ -263,32 +247,31 @@ same_if false true o p o' p' e f g = absurd (false≢true e)
 
 same_request : (s t : State) → SameSpace s t → (spare needed n : ℕ) (padding_at : ℕ → ℕ) → without_offset (request s spare needed n padding_at).answer ≡ without_offset (request t spare needed n padding_at).answer
 same_request s t a spare needed n padding_at = same_if (is_short_of spare s) (is_short_of spare t) (returns_only s machine.Refused) (returns_only t machine.Refused) (grant_or_refuse s n padding_at (chosen_place needed s.blocks)) (grant_or_refuse t n padding_at (chosen_place needed t.blocks))
-    (same_short s t a spare) refl (same_granted s t a.grants n padding_at _ _ (ap (λ bs. is_some (chosen_place needed bs)) a.left_blocks ∙ same_chosen needed a.pairs ∙ ap (λ bs. is_some (chosen_place needed bs)) (sym a.right_blocks)))
+    (same_short s t a.pairs a.limit a.left_blocks a.right_blocks spare) refl (same_granted s t a.grants n padding_at _ _ (ap (λ bs. is_some (chosen_place needed bs)) a.left_blocks ∙ some_same needed a.pairs ∙ ap (λ bs. is_some (chosen_place needed bs)) (sym a.right_blocks)))
 
 same_number : (k : ℕ) (q : Kind) → SameNumber q → has_number k (left_tag q) ≡ has_number k (right_tag q)
 same_number k (Lives i j) e = ap (nat_eq k) e
 same_number k (Frees s u) e = refl
 
-same_placed : (s t : State) (o : Option PairPlace) → (without_offset (release s (option_map left_place o)).answer ≡ without_offset (release t (option_map right_place o)).answer) × (size_at (option_map left_place o) ≡ size_at (option_map right_place o))
-same_placed s t None = (refl, refl)
-same_placed s t (Some c) = (refl, refl)
+same_released : (s t : State) (p : List Pair) (o o' : Option Place) → SamePlace (λ q. Unit {0}) p o o' → (without_offset (release s o).answer ≡ without_offset (release t o').answer) × (size_at o ≡ size_at o')
+same_released s t p None None neither = (refl, refl)
+same_released s t p o o' (both xs q ys e f) = (refl, refl)
 
 same_place : (s t : State) → SameSpace s t → (k : ℕ) → (without_offset (release s (place_of k s.blocks)).answer ≡ without_offset (release t (place_of k t.blocks)).answer) × (size_at (place_of k s.blocks) ≡ size_at (place_of k t.blocks))
-same_place s t a k = subst₂ (λ x y. (without_offset (release s x).answer ≡ without_offset (release t y).answer) × (size_at x ≡ size_at y))
-    (sym (ap (place_of k) a.left_blocks ∙ left_place_of k a.pairs)) (sym (ap (place_of k) a.right_blocks ∙ right_place_of k k a.pairs (λ q i. same_number k q.kind (a.numbers q i))))
-    (same_placed s t (pair_place_of k a.pairs))
+same_place s t a k = subst₂ (λ x y. (without_offset (release s (place_of k x)).answer ≡ without_offset (release t (place_of k y)).answer) × (size_at (place_of k x) ≡ size_at (place_of k y))) (sym a.left_blocks) (sym a.right_blocks)
+    (same_released s t a.pairs _ _ (same_place_of k k a.pairs (λ q i. same_number k q.kind (a.numbers q i))))
 
 same_extend : (s t : State) → SameSpace s t → (more : ℕ) → without_offset (step (command.Extend more) s).answer ≡ without_offset (step (command.Extend more) t).answer
 same_extend s t a zero = refl
 same_extend s t a (suc more) = same_if (nat_lt max_size (total s.blocks + suc more) || (ends_live s.blocks && is_short_of 1 s)) (nat_lt max_size (total t.blocks + suc more) || (ends_live t.blocks && is_short_of 1 t)) (returns_only s machine.Refused) (returns_only t machine.Refused) (leaves s (coalesce s.blocks (suc more) (stamp_of_call s) []) machine.Extended) (leaves t (coalesce t.blocks (suc more) (stamp_of_call t) []) machine.Extended)
-    (ap₂ (λ x y. nat_lt max_size (x + suc more) || y) (same_units s t a) (ap₂ (λ x y. x && y) (ap ends_live a.left_blocks ∙ same_ends_live a.pairs ∙ ap ends_live (sym a.right_blocks)) (same_short s t a 1))) refl refl
+    (same_refusal s t a.pairs a.limit a.left_blocks a.right_blocks (suc more)) refl refl
 
 same_next : (s t : State) → SameSpace s t → (c : Command) → without_offset (step c s).answer ≡ without_offset (step c t).answer
 same_next s t a (command.Alloc n) = same_request s t a 1 n n (λ offset. 0)
 same_next s t a (command.Free k) = (same_place s t a k).0
 same_next s t a (command.Size k) = ap without_offset (same_place s t a k).1
-same_next s t a command.Report = ap₂ (λ b l. without_offset (if b then machine.Report 0 0 else machine.Report (sum l) (largest l))) (same_short s t a 1) (same_free_sizes s t a)
-same_next s t a command.Full = ap (λ l. machine.Full (rows_below 256 l)) (same_free_sizes s t a)
+same_next s t a command.Report = ap₂ (λ b l. without_offset (if b then machine.Report 0 0 else machine.Report (sum l) (largest l))) (same_short s t a.pairs a.limit a.left_blocks a.right_blocks 1) (same_free_sizes s t a.pairs a.limit a.left_blocks a.right_blocks)
+same_next s t a command.Full = ap (λ l. machine.Full (rows_below 256 l)) (same_free_sizes s t a.pairs a.limit a.left_blocks a.right_blocks)
 same_next s t a command.Reset = refl
 same_next s t a (command.Align n align) = same_if (nat_le align 1) (nat_le align 1) (step (command.Alloc n) s) (step (command.Alloc n) t) (if nat_lt max_size (n + align - 1) then returns_only s machine.Refused else request s 2 (n + align - 1) n (padding_to align)) (if nat_lt max_size (n + align - 1) then returns_only t machine.Refused else request t 2 (n + align - 1) n (padding_to align))
     refl (same_request s t a 1 n n (λ offset. 0))

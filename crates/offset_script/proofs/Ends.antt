@@ -1,92 +1,52 @@
 -- Labels at the ends of lists, and the names of grants.
-use Rattle.std.proofs.Common.{◌≡◌, ℕ, suc, ◌+◌, Bool, true, false, not, List, [], ◌∷◌, ◌++◌, length, Option, Some, None, if◌then◌else◌, refl, sym, ap, ◌∙◌, inl, inr, arith, ne_eqb}
-use Rattle.std.proofs.lemmas.Bool.{cases_eq, true≢false, false≢true}
+use Rattle.std.proofs.Common.{◌≡◌, ℕ, suc, ◌+◌, ◌≤◌, Bool, true, false, not, ◌&&◌, List, [], ◌∷◌, ◌++◌, length, Option, Some, None, if◌then◌else◌, refl, ap, subst, subst₂, ◌∙◌, arith}
+use Rattle.std.proofs.lemmas.Bool.{true≢false, false≢true}
 use Rattle.offset_script.specs.Machine.{Tag, Live, Free, is_free, has_number, stamp, total}
 use Rattle.offset_script.specs.Machine as plain
 use Rattle.offset_allocator.specs.Named as named
 use Rattle.offset_allocator.specs.Named.{Block, tally, units, one}
-use Rattle.offset_script.specs.Agreement.{Label, by_name, by_tag, name_of}
-use Rattle.offset_script.proofs.Well.{count, hit, hit_cases}
-use Rattle.offset_script.proofs.Labels.{names, tags}
+use Rattle.offset_script.specs.Agreement.{Label, by_tag, name_of}
+use Rattle.offset_script.proofs.Well.{count, hit, hit_number, number_of}
+use Rattle.offset_script.proofs.Well as well
+use Rattle.offset_script.proofs.Labels.{names, tags, not_not, not_false}
+use Rattle.std.specs.List.{AllByRecursion}
 
--- the free label at the start of a list, if there is one
-abbrev pub free_start : List Label → List Label
-free_start [] = []
-free_start (l ∷ ls) = if is_free l.tag then l ∷ [] else []
-
--- the list without it
-abbrev pub without_start : List Label → List Label
-without_start [] = []
-without_start (l ∷ ls) = if is_free l.tag then ls else l ∷ ls
-
--- the free label at the end of a list, if there is one
-abbrev pub free_end : List Label → List Label
-free_end [] = []
-free_end (l ∷ []) = if is_free l.tag then l ∷ [] else []
-free_end (l ∷ m ∷ ls) = free_end (m ∷ ls)
-
--- the list without it
-abbrev pub without_end : List Label → List Label
-without_end [] = []
-without_end (l ∷ []) = if is_free l.tag then [] else l ∷ []
-without_end (l ∷ m ∷ ls) = l ∷ without_end (m ∷ ls)
-
--- a list is split at its free end
-pub end_parts : (ls : List Label) → ls ≡ without_end ls ++ free_end ls
-end_parts [] = refl
-end_parts (l ∷ []) = elim (is_free l.tag) as (λ u. l ∷ [] ≡ (if u then [] else l ∷ []) ++ (if u then l ∷ [] else [])) [ true ↦ refl | false ↦ refl ]
-end_parts (l ∷ m ∷ ls) = ap (λ z. l ∷ z) (end_parts (m ∷ ls))
-
--- a list is split at its free start
-pub start_parts : (ls : List Label) → ls ≡ free_start ls ++ without_start ls
-start_parts [] = refl
-start_parts (l ∷ ls) = elim (is_free l.tag) as (λ u. l ∷ ls ≡ (if u then l ∷ [] else []) ++ (if u then ls else l ∷ ls)) [ true ↦ refl | false ↦ refl ]
+-- all of these are free
+abbrev pub AllFree : List Label → Type 0
+AllFree ls = AllByRecursion (λ l. is_free l.tag ≡ true) ls
 
 -- by names
-pub names_free_start : (ls : List Label) → names (free_start ls) ≡ named.free_start (names ls)
-names_free_start [] = refl
-names_free_start (l ∷ ls) = elim (is_free l.tag) as (λ u. names (if u then l ∷ [] else []) ≡ (if not (not u) then by_name l ∷ [] else [])) [ true ↦ refl | false ↦ refl ]
-
-pub names_without_start : (ls : List Label) → names (without_start ls) ≡ named.without_start (names ls)
-names_without_start [] = refl
-names_without_start (l ∷ ls) = elim (is_free l.tag) as (λ u. names (if u then ls else l ∷ ls) ≡ (if not (not u) then names ls else by_name l ∷ names ls)) [ true ↦ refl | false ↦ refl ]
-
-pub names_free_end : (ls : List Label) → names (free_end ls) ≡ named.free_end (names ls)
-names_free_end [] = refl
-names_free_end (l ∷ []) = elim (is_free l.tag) as (λ u. names (if u then l ∷ [] else []) ≡ (if not (not u) then by_name l ∷ [] else [])) [ true ↦ refl | false ↦ refl ]
-names_free_end (l ∷ m ∷ ls) = names_free_end (m ∷ ls)
-
-pub names_without_end : (ls : List Label) → names (without_end ls) ≡ named.without_end (names ls)
-names_without_end [] = refl
-names_without_end (l ∷ []) = elim (is_free l.tag) as (λ u. names (if u then [] else l ∷ []) ≡ (if not (not u) then [] else by_name l ∷ [])) [ true ↦ refl | false ↦ refl ]
-names_without_end (l ∷ m ∷ ls) = ap (λ z. by_name l ∷ z) (names_without_end (m ∷ ls))
-
--- a list of blocks ends used just where it ends live
-pub ends_used_label : (ls : List Label) → named.ends_used (names ls) ≡ plain.ends_live (tags ls)
-ends_used_label [] = refl
-ends_used_label (l ∷ []) = elim (is_free l.tag) as (λ u. not u ≡ (if u then false else true)) [ true ↦ refl | false ↦ refl ]
-ends_used_label (l ∷ m ∷ ls) = ends_used_label (m ∷ ls)
+pub free_named : (xs ys : List Label) → AllByRecursion (λ b. b.used ≡ false) (names xs ++ names ys) → AllFree xs × AllFree ys
+free_named [] [] f = (tt, tt)
+free_named [] (y ∷ ys) f = (tt, (not_false _ f.0, (free_named [] ys f.1).1))
+free_named (x ∷ xs) ys f = let r = free_named xs ys f.1 in ((not_false _ f.0, r.0), r.1)
 
 -- by tags
-pub tags_without_start : (ls : List Label) → tags (without_start ls) ≡ plain.without_start (tags ls)
-tags_without_start [] = refl
-tags_without_start (l ∷ ls) = elim (is_free l.tag) as (λ u. tags (if u then ls else l ∷ ls) ≡ (if u then tags ls else by_tag l ∷ tags ls)) [ true ↦ refl | false ↦ refl ]
+pub free_tagged : (ls : List Label) → AllFree ls → well.AllFree (tags ls)
+free_tagged [] f = tt
+free_tagged (l ∷ ls) f = (f.0, free_tagged ls f.1)
 
-pub tags_without_end : (ls : List Label) → tags (without_end ls) ≡ plain.without_end (tags ls)
-tags_without_end [] = refl
-tags_without_end (l ∷ []) = elim (is_free l.tag) as (λ u. tags (if u then [] else l ∷ []) ≡ (if u then [] else by_tag l ∷ [])) [ true ↦ refl | false ↦ refl ]
-tags_without_end (l ∷ m ∷ ls) = ap (λ z. by_tag l ∷ z) (tags_without_end (m ∷ ls))
+-- free neighbours, by names and by tags
+pub apart_tagged : (ls : List Label) → named.IsApart (names ls) → well.Apart (tags ls)
+apart_tagged [] a = tt
+apart_tagged (l ∷ []) a = (subst (λ x. (x && false) ≡ false) (not_not (is_free l.tag)) a.0, tt)
+apart_tagged (l ∷ m ∷ ls) a = (subst₂ (λ x y. (x && y) ≡ false) (not_not (is_free l.tag)) (not_not (is_free m.tag)) a.0, apart_tagged (m ∷ ls) a.1)
 
--- the units of the free start
-pub free_start_units : (ls : List Label) → plain.free_start (tags ls) ≡ units (names (free_start ls))
-free_start_units [] = refl
-free_start_units (l ∷ ls) = elim (is_free l.tag) as (λ u. (if u then l.size else 0) ≡ units (names (if u then l ∷ [] else []))) [ true ↦ omega arith | false ↦ refl ]
+-- a list of blocks ends live just where its last block is live
+pub ends_live_last : (ls : List Label) (l : Label) → plain.ends_live (tags (ls ++ l ∷ [])) ≡ (if is_free l.tag then false else true)
+ends_live_last [] l = refl
+ends_live_last (x ∷ []) l = refl
+ends_live_last (x ∷ y ∷ ls) l = ends_live_last (y ∷ ls) l
 
--- the units of the free end
-pub free_end_units : (ls : List Label) → plain.free_end (tags ls) ≡ units (names (free_end ls))
-free_end_units [] = refl
-free_end_units (l ∷ []) = elim (is_free l.tag) as (λ u. (if u then l.size else 0) ≡ units (names (if u then l ∷ [] else []))) [ true ↦ omega arith | false ↦ refl ]
-free_end_units (l ∷ m ∷ ls) = free_end_units (m ∷ ls)
+-- where it does not, its last block is free
+pub last_free : (ls : List Label) → 1 ≤ length ls → plain.ends_live (tags ls) ≡ false → (front : List Label) × (l : Label) × (ls ≡ front ++ l ∷ []) × (is_free l.tag ≡ true)
+last_free [] some e = absurd (omega arith)
+last_free (l ∷ []) some e = ([], l, refl, go (is_free l.tag) e)
+  where
+    go : (x : Bool) → (if x then false else true) ≡ false → x ≡ true
+    go true e = refl
+    go false e = absurd (true≢false e)
+last_free (l ∷ m ∷ ls) some e = let r = last_free (m ∷ ls) (omega arith) e in (l ∷ r.0, r.1, ap (λ z. l ∷ z) r.2, r.3)
 
 -- the units of all
 pub total_units : (ls : List Label) → total (tags ls) ≡ units (names ls)
@@ -125,39 +85,15 @@ no_number k (Free s) e = refl
 pub name_skip : (k : ℕ) (l : Label) (ls : List Label) → is_free l.tag ≡ true → name_of k (l ∷ ls) ≡ name_of k ls
 name_skip k l ls e = rw (no_number k l.tag e) refl
 
-free_if : (k : ℕ) (l : Label) (u : Bool) → is_free l.tag ≡ u → name_of k (if u then l ∷ [] else []) ≡ None
-free_if k l true e = name_skip k l [] e
-free_if k l false e = refl
-
-pub name_free_end : (k : ℕ) (ls : List Label) → name_of k (free_end ls) ≡ None
-name_free_end k [] = refl
-name_free_end k (l ∷ []) = free_if k l (is_free l.tag) refl
-name_free_end k (l ∷ m ∷ ls) = name_free_end k (m ∷ ls)
-
-pub name_free_start : (k : ℕ) (ls : List Label) → name_of k (free_start ls) ≡ None
-name_free_start k [] = refl
-name_free_start k (l ∷ ls) = free_if k l (is_free l.tag) refl
-
--- a free block at the end has no grant
-pub name_without_end : (k : ℕ) (ls : List Label) → name_of k (without_end ls) ≡ name_of k ls
-name_without_end k ls = sym (ap (name_of k) (end_parts ls) ∙ name_append k (without_end ls) (free_end ls) ∙ ap (or_else (name_of k (without_end ls))) (name_free_end k ls) ∙ or_none _)
-
--- a free block at the start has no grant
-pub name_without_start : (k : ℕ) (ls : List Label) → name_of k (without_start ls) ≡ name_of k ls
-name_without_start k ls = sym (ap (name_of k) (start_parts ls) ∙ name_append k (free_start ls) (without_start ls) ∙ ap (λ o. or_else o (name_of k (without_start ls))) (name_free_start k ls))
-
-hit_number : (k : ℕ) (t : Tag) → hit (Live k) t ≡ 0 → has_number k t ≡ false
-hit_number k (Live j) e = elim (hit_cases k j) [ inl h ↦ absurd (let n = h.1 in omega arith) | inr h ↦ ne_eqb k j h.0 ]
-hit_number k (Free s) e = refl
+-- free blocks have no grant
+pub name_free : (k : ℕ) (ls : List Label) → AllFree ls → name_of k ls ≡ None
+name_free k [] f = refl
+name_free k (l ∷ ls) f = name_skip k l ls f.0 ∙ name_free k ls f.1
 
 -- where no block is live with a number, there is no name of it
 pub name_none : (k : ℕ) (ls : List Label) → count (Live k) (tags ls) ≡ 0 → name_of k ls ≡ None
 name_none k [] e = refl
 name_none k (l ∷ ls) e = let ih = name_none k ls (omega arith) in rw (hit_number k l.tag (omega arith)) ih
-
-number_of : (k : ℕ) (t : Tag) → has_number k t ≡ true → t ≡ Live k
-number_of k (Live j) e = elim (cases_eq k j) [ inl h ↦ ap Live (sym h) | inr h ↦ absurd (true≢false (sym e ∙ ne_eqb k j h)) ]
-number_of k (Free s) e = absurd (false≢true e)
 
 -- a grant whose name is kept
 pub name_missing : (k : ℕ) (ls : List Label) → name_of k ls ≡ None → plain.place_of k (tags ls) ≡ None

@@ -1,5 +1,5 @@
 -- A state without live blocks continues as a fresh one, and a fresh one that is extended as a larger one.
-use Rattle.std.proofs.Common.{◌≡◌, ℕ, zero, suc, ◌+◌, ◌-◌, ◌*◌, ◌<◌, ◌≤◌, true, false, ◌&&◌, ◌||◌, List, [], ◌∷◌, length, map, IsTrue, nat_lt, if◌then◌else◌, refl, sym, ap, ap₂, subst, subst₂, le-ltb, ◌∙◌, inl, inr, arith, le-leb}
+use Rattle.std.proofs.Common.{◌≡◌, ℕ, zero, suc, ◌+◌, ◌-◌, ◌*◌, ◌<◌, ◌≤◌, true, false, ◌&&◌, ◌||◌, List, [], ◌∷◌, length, IsTrue, nat_lt, if◌then◌else◌, refl, sym, ap, ap₂, subst, subst₂, le-ltb, ◌∙◌, inl, inr, arith, le-leb}
 use Rattle.std.proofs.lemmas.Bool.{cases_lt, lt-leb, true≢false}
 use Rattle.std.specs.List.{AllByRecursion}
 use Rattle.offset_allocator.specs.Named.{max_size}
@@ -8,7 +8,8 @@ use Rattle.offset_script.specs.declared.scripts.Command.TheVariants as command
 use Rattle.offset_script.specs.Machine.{Tag, Live, Free, Block, block, is_free, total, State, Answer, start, step, answers, after, returns_only, leaves}
 use Rattle.offset_script.specs.Machine as machine
 use Rattle.offset_script.specs.Histories.{renumber, raise_number, fresh_number, EmptySpaceContinuesAsFresh, ExtendedSpaceIsLarger}
-use Rattle.offset_script.proofs.Pairs.{Frees, Pair, pair, In, Agree}
+use Rattle.offset_script.proofs.Members.{In, map_same}
+use Rattle.offset_script.proofs.Pairs.{Frees, Pair, pair, Agree}
 use Rattle.offset_script.proofs.Alike.{Alike, alike_answers}
 use Rattle.offset_script.proofs.Well.{Well, Apart, count, hit_cases, well_start, well_after}
 
@@ -69,7 +70,7 @@ fresh_law size limit h cs none =
     λ more. alike_answers _ _ more s (start (total s.blocks) s.limit) (alike_fresh s f.0 f.1 f.2 (stamp_below s w f.0 f.1 f.2))
 
 -- a fresh space that is extended
-raise_none : (a : Answer) → raise_number 0 a ≡ a
+pub raise_none : (a : Answer) → raise_number 0 a ≡ a
 raise_none (machine.Grant k offset) = ap (λ n. machine.Grant n offset) (let e : k + 0 ≡ k = omega arith in e)
 raise_none machine.Refused = refl
 raise_none machine.Freed = refl
@@ -83,19 +84,16 @@ raise_none machine.Extended = refl
 fresh_number_none : (k : ℕ) → fresh_number 0 k ≡ k
 fresh_number_none k = elim (cases_lt 0 k) [ inl l ↦ let h = fresh_number_future 0 k l in omega (arith, h) | inr l ↦ let h = fresh_number_past 0 k l in omega (arith, h, l) ]
 
-renumber_none : (c : Command) → renumber (fresh_number 0) c ≡ c
-renumber_none (command.Alloc n) = refl
-renumber_none (command.Free k) = ap command.Free (fresh_number_none k)
-renumber_none (command.Size k) = ap command.Size (fresh_number_none k)
-renumber_none command.Report = refl
-renumber_none command.Full = refl
-renumber_none command.Reset = refl
-renumber_none (command.Align n align) = refl
-renumber_none (command.Extend more) = refl
-
-map_same : {A : Type 0} (f : A → A) → ((x : A) → f x ≡ x) → (xs : List A) → map f xs ≡ xs
-map_same f h [] = refl
-map_same f h (x ∷ xs) = ap₂ (λ y ys. y ∷ ys) (h x) (map_same f h xs)
+-- numbers that stay leave commands as they are
+pub renumber_same : (r : ℕ → ℕ) → ((k : ℕ) → r k ≡ k) → (c : Command) → renumber r c ≡ c
+renumber_same r e (command.Alloc n) = refl
+renumber_same r e (command.Free k) = ap command.Free (e k)
+renumber_same r e (command.Size k) = ap command.Size (e k)
+renumber_same r e command.Report = refl
+renumber_same r e command.Full = refl
+renumber_same r e command.Reset = refl
+renumber_same r e (command.Align n align) = refl
+renumber_same r e (command.Extend more) = refl
 
 -- one free block before any grant, whatever its stamp
 abbrev alone : ℕ → ℕ → ℕ → State
@@ -105,7 +103,7 @@ alone_is_fresh : (limit n x : ℕ) → x < 4 → (cs : List Command) → answers
 alone_is_fresh limit n x h cs =
     alike_answers _ _ cs (alone limit n x) (start (total (alone limit n x).blocks) limit) (alike_fresh (alone limit n x) n x refl (omega arith))
     ∙ map_same (raise_number 0) raise_none _
-    ∙ ap₂ (λ l m. answers l (start m limit)) (map_same (renumber (fresh_number 0)) renumber_none cs) (let e : n + 0 ≡ n = omega arith in e)
+    ∙ ap₂ (λ l m. answers l (start m limit)) (map_same (renumber (fresh_number 0)) (renumber_same _ fresh_number_none) cs) (let e : n + 0 ≡ n = omega arith in e)
 
 extended : (size more limit : ℕ) → nat_lt max_size (size + 0 + suc more) ≡ false → (step (command.Extend (suc more)) (start size limit)).state ≡ alone limit (size + suc more) 3
 extended size more limit e = ap (λ b. (if b || false then returns_only (start size limit) machine.Refused else leaves (start size limit) (block (size + suc more + 0) (Free 3) ∷ []) machine.Extended).state) e

@@ -1,12 +1,13 @@
 -- Blocks with both their names and their tags.
-use Rattle.std.proofs.Common.{◌≡◌, ℕ, zero, suc, ◌+◌, ◌<◌, ◌≤◌, Bool, true, false, not, ◌&&◌, ◌⊎◌, List, [], ◌∷◌, ◌++◌, map, nat_eq, if◌then◌else◌, refl, sym, ap, ap₂, subst, ◌∙◌, inl, inr, arith, eq-eqb, ne_eqb, append_assoc}
+use Rattle.std.proofs.Common.{◌≡◌, ℕ, ◌+◌, ◌<◌, ◌≤◌, Bool, true, false, not, ◌&&◌, ◌⊎◌, List, [], ◌∷◌, ◌++◌, map, nat_eq, if◌then◌else◌, refl, sym, ap, subst, ◌∙◌, inl, inr, arith, eq-eqb, ne_eqb, append_assoc}
+use Rattle.std.proofs.lemmas.List.{map-append}
 use Rattle.std.proofs.lemmas.Bool.{cases_lt, true≢false, false≢true}
 use Rattle.offset_allocator.specs.Classes.{down}
 use Rattle.offset_script.specs.Machine.{Tag, Live, Free, is_free, has_number, stamp}
 use Rattle.offset_script.specs.Machine as plain
-use Rattle.offset_allocator.specs.Named.{Block, View, one, times, count_named, count_listed, names_at, push_all, remove_all, IsWellFormed, IsUnused}
+use Rattle.offset_allocator.specs.Named.{Block, View, one, times, count_named, count_listed, names_at, push_all, remove_all, IsWellFormed}
 use Rattle.offset_script.specs.Agreement.{Label, by_name, by_tag, stamp_of, IsFalling}
-use Rattle.offset_script.proofs.Well.{count, hit}
+use Rattle.offset_script.proofs.Well.{count, hit, hit_self}
 use Rattle.offset_allocator.proofs.ViewOrders.{tally_append, hit_cases, length_remove_all}
 use Rattle.offset_script.proofs.Falling.{falling_remove_all, falling_same, falling_put_all, IsRising}
 use Rattle.offset_allocator.proofs.ViewReplaced.{tally_three, listed_named, orders_replaced}
@@ -19,27 +20,9 @@ names ls = map by_name ls
 abbrev pub tags : List Label → List plain.Block
 tags ls = map by_tag ls
 
--- a map over two lists
-pub map_both : {A B : Type 0} (f : A → B) (xs ys : List A) → map f (xs ++ ys) ≡ map f xs ++ map f ys
-map_both f [] ys = refl
-map_both f (x ∷ xs) ys = ap (λ l. f x ∷ l) (map_both f xs ys)
-
 -- a map over three lists
 pub map_three : {A B : Type 0} (f : A → B) (xs ys zs : List A) → map f (xs ++ (ys ++ zs)) ≡ map f xs ++ (map f ys ++ map f zs)
-map_three f xs ys zs = map_both f xs (ys ++ zs) ∙ ap (λ l. map f xs ++ l) (map_both f ys zs)
-
--- a mapped list that is split was split before
-pub map_split : {A B : Type 0} (f : A → B) (ls : List A) (before : List B) (b : B) (after : List B) → map f ls ≡ before ++ b ∷ after
-    → (xs : List A) × (x : A) × (ys : List A) × (ls ≡ xs ++ x ∷ ys) × (map f xs ≡ before) × (f x ≡ b) × (map f ys ≡ after)
-map_split f [] [] b after e = absurd (cc)
-map_split f [] (c ∷ before) b after e = absurd (cc)
-map_split f (l ∷ ls) [] b after e = ([], l, ls, refl, refl, (cc), (cc))
-map_split {A = A} {B = B} f (l ∷ ls) (c ∷ before) b after e =
-    more (map_split f ls before b after (cc)) (cc)
-  where
-    more : ((xs : List A) × (x : A) × (ys : List A) × (ls ≡ xs ++ x ∷ ys) × (map f xs ≡ before) × (f x ≡ b) × (map f ys ≡ after)) → f l ≡ c
-        → (xs : List A) × (x : A) × (ys : List A) × (l ∷ ls ≡ xs ++ x ∷ ys) × (map f xs ≡ c ∷ before) × (f x ≡ b) × (map f ys ≡ after)
-    more r head = (l ∷ r.0, r.1, r.2, ap (λ z. l ∷ z) r.3, ap₂ (λ x xs. x ∷ xs) head r.4, r.5, r.6)
+map_three f xs ys zs = map-append f xs (ys ++ zs) ∙ ap (λ l. map f xs ++ l) (map-append f ys zs)
 
 -- stamps
 pub stamp_none : (x : ℕ) (ls : List Label) → count_named x (names ls) ≡ 0 → stamp_of x ls ≡ 0
@@ -63,7 +46,7 @@ stamp_append : (x : ℕ) (xs ys : List Label) → stamp_of x (xs ++ ys) ≡ stam
 stamp_append x xs ys = tally_append (λ (l : Label). if nat_eq x l.name then stamp l.tag else 0) xs ys
 
 named_append : (x : ℕ) (xs ys : List Label) → count_named x (names (xs ++ ys)) ≡ count_named x (names xs) + count_named x (names ys)
-named_append x xs ys = ap (count_named x) (map_both by_name xs ys) ∙ tally_append (λ (b : Block). one (nat_eq x b.name)) (names xs) (names ys)
+named_append x xs ys = ap (count_named x) (map-append by_name xs ys) ∙ tally_append (λ (b : Block). one (nat_eq x b.name)) (names xs) (names ys)
 
 stamp_at : (before : List Label) (l : Label) (after : List Label) → count_named l.name (names (before ++ l ∷ after)) ≤ 1 → stamp_of l.name (before ++ l ∷ after) ≡ stamp l.tag
 stamp_at before l after most = elim (hit_cases l.name l.name) [
@@ -88,16 +71,9 @@ pub gives_all : (ls : List Label) → ((x : ℕ) → count_named x (names ls) �
 gives_all ls most = gives_from [] ls most
 
 -- every stamp is below t
-some_or_none : (n : ℕ) → (n ≡ 0) ⊎ (1 ≤ n)
-some_or_none zero = inl refl
-some_or_none (suc n) = inr (omega arith)
-
 stamp_or_zero : (t : Tag) → (stamp t ≡ 0) ⊎ ((s : ℕ) × (t ≡ Free s))
 stamp_or_zero (Live k) = inl refl
 stamp_or_zero (Free s) = inr (s, refl)
-
-hit_self : (s : ℕ) → hit (Free s) (Free s) ≡ 1
-hit_self s = ap (λ (b : Bool). elim b [ true ↦ 1 | false ↦ 0 ]) (eq-eqb s s refl)
 
 pub stamps_below : (t : ℕ) (ls : List Label) → ((x : ℕ) → count_named x (names ls) ≤ 1) → ((x : ℕ) → t ≤ x → count (Free x) (tags ls) ≡ 0) → 1 ≤ t → (x : ℕ) → stamp_of x ls < t
 stamps_below t [] most low pos x = omega arith
@@ -108,7 +84,7 @@ stamps_below t (l ∷ ls) most low pos x = elim (hit_cases x l.name) [
       let z = stamp_none x ls (omega arith) in
       rw (eq-eqb x l.name i.0) (elim (stamp_or_zero l.tag) [
         | inl e ↦ omega arith
-        | inr r ↦ let e = ap stamp r.1 in elim (cases_lt r.0 t) [ inl b ↦ omega arith | inr b ↦ absurd (let c = low r.0 b in let h = ap (hit (Free r.0)) r.1 in let s = hit_self r.0 in omega arith) ]
+        | inr r ↦ let e = ap stamp r.1 in elim (cases_lt r.0 t) [ inl b ↦ omega arith | inr b ↦ absurd (let c = low r.0 b in let h = ap (hit (Free r.0)) r.1 in let s = hit_self (Free r.0) in omega arith) ]
       ])
   | inr i ↦ let k = i.1 in let ih = stamps_below t ls (λ y. let m = most y in omega arith) (λ y b. let c = low y b in omega arith) pos x in rw (ne_eqb x l.name i.0) (omega arith)
 ]
@@ -122,7 +98,11 @@ not_true : (b : Bool) → not b ≡ true → b ≡ false
 not_true true e = absurd (false≢true e)
 not_true false e = refl
 
-not_false : (b : Bool) → not b ≡ false → b ≡ true
+pub not_not : (b : Bool) → not (not b) ≡ b
+not_not true = refl
+not_not false = refl
+
+pub not_false : (b : Bool) → not b ≡ false → b ≡ true
 not_false true e = refl
 not_false false e = absurd (true≢false e)
 
@@ -135,10 +115,10 @@ rises_named f t (l ∷ ls) g r = (
 
 -- new blocks in place of old ones, where the new stamps are above the old
 pub newest_replaced : (v : View) (before old new after : List Label) → IsWellFormed v → v.blocks ≡ names (before ++ (old ++ after)) → ((x : ℕ) → count_named x (names (before ++ (new ++ after))) ≤ 1)
-    → ((x : ℕ) → 1 ≤ count_named x (names new) → (1 ≤ count_named x (names old)) ⊎ IsUnused x v) → (t : ℕ) → ((x : ℕ) → stamp_of x (before ++ (old ++ after)) < t) → Rises t new
+    → (t : ℕ) → ((x : ℕ) → stamp_of x (before ++ (old ++ after)) < t) → Rises t new
     → ((c : ℕ) → IsFalling (λ x. stamp_of x (before ++ (old ++ after))) (names_at v.order c))
     → (c : ℕ) → IsFalling (λ x. stamp_of x (before ++ (new ++ after))) (names_at (push_all (names new) (remove_all (names old) v.order)) c)
-newest_replaced v before old new after w e distinct origin t low rises newest = falling_put_all f' t (names new) (remove_all (names old) v.order) (length_remove_all (names old) v.order ∙ w.classes)
+newest_replaced v before old new after w e distinct t low rises newest = falling_put_all f' t (names new) (remove_all (names old) v.order) (length_remove_all (names old) v.order ∙ w.classes)
     (λ d. falling_same f f' _ (same d) (falling_remove_all f (names old) v.order w.classes newest d))
     (λ d y m. let s = same d y m in let l = low y in omega arith)
     (rises_named f' t new (gives_parts f' new after (gives_parts f' before (new ++ after) (gives_all _ distinct)).1).0 rises)
@@ -162,8 +142,7 @@ newest_replaced v before old new after w e distinct origin t low rises newest = 
         let b = listed_named d y (names before) in
         let a = listed_named d y (names after) in
         let gone : count_named y (names old) ≡ 0 = omega arith in
-        let absent : count_named y (names new) ≡ 0 = elim (some_or_none (count_named y (names new))) [
-          | inl z ↦ z
-          | inr s ↦ elim (origin y s) [ inl i ↦ absurd (omega arith) | inr u ↦ absurd (let k = u.absent in omega arith) ]
-        ] in
+        let new_parts = ap (count_named y) (map_three by_name before new after) ∙ tally_three (λ (b : Block). one (nat_eq y b.name)) (names before) (names new) (names after) in
+        let once = distinct y in
+        let absent : count_named y (names new) ≡ 0 = omega arith in
         omega (arith, tally_three (λ (l : Label). if nat_eq y l.name then stamp l.tag else 0) before old after, tally_three (λ (l : Label). if nat_eq y l.name then stamp l.tag else 0) before new after, stamp_none y old gone, stamp_none y new absent)

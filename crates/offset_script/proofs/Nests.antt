@@ -1,6 +1,6 @@
 -- A nest leaves no trace.
-use Rattle.std.proofs.Common.{length, ◌≡◌, ◌≢◌, ℕ, zero, suc, ◌+◌, ◌-◌, ◌*◌, ◌<◌, ◌≤◌, Bool, true, false, ◌&&◌, ◌⊎◌, List, [], ◌∷◌, ◌++◌, Option, Some, None, nat_eq, nat_lt, nat_le, if◌then◌else◌, refl, sym, ap, subst, ◌∙◌, inl, inr, arith, leb-false, le-leb, ne_eqb}
-use Rattle.std.proofs.lemmas.Bool.{cases_lt, lt-leb, false≢true}
+use Rattle.std.proofs.Common.{length, ◌≡◌, ◌≢◌, ℕ, zero, suc, ◌+◌, ◌-◌, ◌*◌, ◌<◌, ◌≤◌, Bool, true, false, ◌⊎◌, List, [], ◌∷◌, ◌++◌, Option, Some, None, nat_eq, nat_lt, nat_le, if◌then◌else◌, refl, sym, ap, subst, ◌∙◌, inl, inr, arith, leb-false, le-leb, ne_eqb}
+use Rattle.std.proofs.lemmas.Bool.{cases_lt, lt-leb}
 use Rattle.offset_script.specs.declared.scripts.Command.{Command}
 use Rattle.offset_script.specs.declared.scripts.Command.TheVariants as command
 use Rattle.offset_allocator.specs.Classes.{up, down}
@@ -10,12 +10,13 @@ use Rattle.offset_script.specs.Machine as machine
 use Rattle.offset_script.specs.Histories.{IsGrant, KeepsSpace, Nest, number_without_nest, NestLeavesNoTrace}
 use Rattle.offset_script.specs.Histories as history
 use Rattle.offset_script.specs.Totals.{requested_units}
+use Rattle.offset_script.proofs.Members.{in_map}
 use Rattle.offset_script.proofs.Pairs.{Kind, Lives, Frees, left_tag, right_tag, left, right, lefts, rights}
 use Rattle.offset_script.proofs.Alike.{Alike, Matched, alike_answers}
-use Rattle.offset_script.proofs.Well.{Well, count, chosen_at, well_start, well_after, well_step}
+use Rattle.offset_script.proofs.Well.{Well, both_true, in_count, count, chosen_at, well_start, well_after, well_step}
 use Rattle.offset_allocator.proofs.Sizes.{fits_size}
 use Rattle.offset_script.proofs.Similar.{SameNumber, Similar, similar_refl, similar_sym, similar_trans}
-use Rattle.offset_script.proofs.Restored.{Restored, restored, occurs_count, occurs_left, occurs_right}
+use Rattle.offset_script.proofs.Restored.{Restored, restored}
 
 -- What a call does that keeps the space: it only returns an answer, or grants, or releases.
 
@@ -60,10 +61,6 @@ does_if c s false o p f g = g refl
 only : (c : Command) (s : State) (a : Answer) → IsQuiet a → Does c s (returns_only s a)
 only c s a q = inl (record { answer = a; quiet = q; is = refl })
 
-both_right : (x y : Bool) → (x && y) ≡ true → y ≡ true
-both_right true y e = e
-both_right false y e = absurd (false≢true e)
-
 does_grant : (c : Command) (s : State) → length s.blocks + 1 < s.limit → (needed : ℕ) (padding_at : ℕ → ℕ) → ((o : ℕ) → padding_at o + requested_units c ≤ needed) → (p : Option Place) → chosen_place needed s.blocks ≡ p → Does c s (grant_or_refuse s (requested_units c) padding_at p)
 does_grant c s room needed padding_at h None e = only c s machine.Refused tt
 does_grant c s room needed padding_at h (Some p) e = inr (inl (record {
@@ -72,7 +69,7 @@ does_grant c s room needed padding_at h (Some p) e = inr (inl (record {
   place = p;
   room = room;
   chose = e;
-  within = let f = chosen_at needed s.blocks p e in let l = fits_size needed p.block.size (both_right (is_free p.block.tag) (nat_le (up needed) (down p.block.size)) f.1) in let m = h (total p.before) in omega arith;
+  within = let f = chosen_at needed s.blocks p e in let l = fits_size needed p.block.size (both_true (is_free p.block.tag) (nat_le (up needed) (down p.block.size)) f.1).1 in let m = h (total p.before) in omega arith;
   is = refl;
 }))
 
@@ -216,8 +213,8 @@ alike_after s t w v m = record {
   left_blocks = turned.left_blocks;
   right_blocks = turned.right_blocks;
   matched = λ q i. matched_kind s t w v (t.grants - s.grants) q.kind (turned.numbers q i)
-      (subst (λ bs. 1 ≤ count (left_tag q.kind) bs) (sym turned.left_blocks) (occurs_count (left q) (lefts turned.pairs) (occurs_left q turned.pairs i)))
-      (subst (λ bs. 1 ≤ count (right_tag q.kind) bs) (sym turned.right_blocks) (occurs_count (right q) (rights turned.pairs) (occurs_right q turned.pairs i)));
+      (subst (λ bs. 1 ≤ count (left_tag q.kind) bs) (sym turned.left_blocks) (in_count (left q) (lefts turned.pairs) (in_map left q turned.pairs i)))
+      (subst (λ bs. 1 ≤ count (right_tag q.kind) bs) (sym turned.right_blocks) (in_count (right q) (rights turned.pairs) (in_map right q turned.pairs i)));
   agree = turned.agree;
   grants = omega (arith, m.grants);
   past = λ k l. number_without_nest_past s.grants (t.grants - s.grants) k (omega (arith, m.grants));

@@ -1,8 +1,9 @@
 -- Lists of blocks that differ only in stamps of the same order in each class.
-use Rattle.std.proofs.Common.{◌≡◌, ℕ, true, List, [], ◌∷◌, nat_eq, nat_lt, refl, sym, ap, ap₂, subst, subst₂, ◌∙◌, inl, inr, arith}
+use Rattle.std.proofs.Common.{◌≡◌, ℕ, true, List, [], ◌∷◌, map, nat_eq, nat_lt, refl, sym, ap, ap₂, subst, subst₂, ◌∙◌, inl, inr, arith}
 use Rattle.offset_allocator.specs.Classes.{down}
 use Rattle.offset_script.specs.Machine.{Tag, Live, Free, Block, block}
-use Rattle.offset_script.proofs.Pairs.{Kind, Lives, Frees, Pair, pair, left_tag, right_tag, left, right, lefts, rights, In, Agree, AllAgree, SameOrder}
+use Rattle.offset_script.proofs.Members.{In, map_in, map_twice, map_same}
+use Rattle.offset_script.proofs.Pairs.{Kind, Lives, Frees, Pair, pair, left_tag, right_tag, left, right, lefts, rights, Agree, AllAgree, SameOrder}
 
 -- a live pair has one number
 abbrev pub SameNumber : Kind → Type 0
@@ -22,10 +23,9 @@ abbrev twin : Tag → Kind
 twin (Live k) = Lives k k
 twin (Free s) = Frees s s
 
--- each block with itself
-abbrev twins : List Block → List Pair
-twins [] = []
-twins (b ∷ bs) = pair b.size (twin b.tag) ∷ twins bs
+-- a block with itself
+abbrev twin_pair : Block → Pair
+twin_pair b = pair b.size (twin b.tag)
 
 left_twin : (t : Tag) → t ≡ left_tag (twin t)
 left_twin (Live k) = refl
@@ -34,19 +34,6 @@ left_twin (Free s) = refl
 right_twin : (t : Tag) → t ≡ right_tag (twin t)
 right_twin (Live k) = refl
 right_twin (Free s) = refl
-
-lefts_twins : (bs : List Block) → bs ≡ lefts (twins bs)
-lefts_twins [] = refl
-lefts_twins (b ∷ bs) = ap₂ (λ t l. block b.size t ∷ l) (left_twin b.tag) (lefts_twins bs)
-
-rights_twins : (bs : List Block) → bs ≡ rights (twins bs)
-rights_twins [] = refl
-rights_twins (b ∷ bs) = ap₂ (λ t l. block b.size t ∷ l) (right_twin b.tag) (rights_twins bs)
-
-twin_of : (q : Pair) (bs : List Block) → In q (twins bs) → (t : Tag) × (q.kind ≡ twin t)
-twin_of q [] h = absurd h
-twin_of q (b ∷ bs) (inl e) = (b.tag, ap (λ (z : Pair). z.kind) e)
-twin_of q (b ∷ bs) (inr h) = twin_of q bs h
 
 twin_number : (t : Tag) → SameNumber (twin t)
 twin_number (Live k) = refl
@@ -59,11 +46,11 @@ twin_order (Free s) (Free u) = refl
 
 pub similar_refl : (bs : List Block) → Similar bs bs
 similar_refl bs = record {
-  pairs = twins bs;
-  left_blocks = lefts_twins bs;
-  right_blocks = rights_twins bs;
-  numbers = λ q i. let t = twin_of q bs i in subst SameNumber (sym t.1) (twin_number t.0);
-  agree = λ a b i j same. let t = twin_of a bs i in let u = twin_of b bs j in subst₂ SameOrder (sym t.1) (sym u.1) (twin_order t.0 u.0);
+  pairs = map twin_pair bs;
+  left_blocks = sym (map_twice left twin_pair (λ b. b) (λ b. ap (block b.size) (sym (left_twin b.tag))) bs ∙ map_same (λ b. b) (λ b. refl) bs);
+  right_blocks = sym (map_twice right twin_pair (λ b. b) (λ b. ap (block b.size) (sym (right_twin b.tag))) bs ∙ map_same (λ b. b) (λ b. refl) bs);
+  numbers = λ q i. let t = map_in twin_pair q bs i in subst (λ (x : Pair). SameNumber x.kind) (sym t.2) (twin_number t.0.tag);
+  agree = λ a b i j. let t = map_in twin_pair a bs i in let u = map_in twin_pair b bs j in subst₂ Agree (sym t.2) (sym u.2) (λ same. twin_order t.0.tag u.0.tag);
 }
 
 -- through a third
@@ -79,15 +66,6 @@ composed [] p = []
 composed (q ∷ ps) [] = []
 composed (q ∷ ps) (r ∷ rs) = pair q.size (glued q.kind r.kind) ∷ composed ps rs
 
-head_of : (b c : Block) (bs cs : List Block) → b ∷ bs ≡ c ∷ cs → b ≡ c
-head_of b c bs cs e = cc
-
-tail_of : (b c : Block) (bs cs : List Block) → b ∷ bs ≡ c ∷ cs → bs ≡ cs
-tail_of b c bs cs e = cc
-
-no_head : (b : Block) (bs : List Block) → b ∷ bs ≡ [] → ⊥
-no_head b bs e = cc
-
 left_glued : (k l : Kind) → right_tag k ≡ left_tag l → left_tag (glued k l) ≡ left_tag k
 left_glued (Lives i j) (Lives k l) e = refl
 left_glued (Lives i j) (Frees s u) e = refl
@@ -102,16 +80,16 @@ right_glued (Frees s u) (Lives i j) e = absurd (grind (arith, e))
 
 lefts_composed : (p r : List Pair) → rights p ≡ lefts r → lefts (composed p r) ≡ lefts p
 lefts_composed [] r e = refl
-lefts_composed (q ∷ p) [] e = absurd (no_head _ _ e)
-lefts_composed (q ∷ p) (x ∷ r) e = ap₂ (λ t l. block q.size t ∷ l) (left_glued q.kind x.kind (ap (λ (b : Block). b.tag) (head_of _ _ _ _ e))) (lefts_composed p r (tail_of _ _ _ _ e))
+lefts_composed (q ∷ p) [] e = absurd (cc)
+lefts_composed (q ∷ p) (x ∷ r) e = ap₂ (λ t l. block q.size t ∷ l) (left_glued q.kind x.kind (ap (λ (b : Block). b.tag) (let h : right q ≡ left x = cc in h))) (lefts_composed p r (cc))
 
 rights_composed : (p r : List Pair) → rights p ≡ lefts r → rights (composed p r) ≡ rights r
 rights_composed [] [] e = refl
-rights_composed [] (x ∷ r) e = absurd (no_head _ _ (sym e))
-rights_composed (q ∷ p) [] e = absurd (no_head _ _ e)
+rights_composed [] (x ∷ r) e = absurd (cc)
+rights_composed (q ∷ p) [] e = absurd (cc)
 rights_composed (q ∷ p) (x ∷ r) e =
-    let h = head_of _ _ _ _ e in
-    ap₂ (λ (b : Block) l. b ∷ l) (ap₂ block (ap (λ (b : Block). b.size) h) (right_glued q.kind x.kind (ap (λ (b : Block). b.tag) h))) (rights_composed p r (tail_of _ _ _ _ e))
+    let h : right q ≡ left x = cc in
+    ap₂ (λ (b : Block) l. b ∷ l) (ap₂ block (ap (λ (b : Block). b.size) h) (right_glued q.kind x.kind (ap (λ (b : Block). b.tag) h))) (rights_composed p r (cc))
 
 -- where a composed pair comes from
 record From (z : Pair) (p r : List Pair) : Type 0 where
@@ -129,8 +107,8 @@ later z q x p r f = record { first = f.first; second = f.second; in_first = inr 
 from_of : (z : Pair) (p r : List Pair) → rights p ≡ lefts r → In z (composed p r) → From z p r
 from_of z [] r e i = absurd i
 from_of z (q ∷ p) [] e i = absurd i
-from_of z (q ∷ p) (x ∷ r) e (inl h) = record { first = q; second = x; in_first = inl refl; in_second = inl refl; same = head_of _ _ _ _ e; size = ap (λ (z : Pair). z.size) h; kind = ap (λ (z : Pair). z.kind) h }
-from_of z (q ∷ p) (x ∷ r) e (inr i) = later z q x p r (from_of z p r (tail_of _ _ _ _ e) i)
+from_of z (q ∷ p) (x ∷ r) e (inl h) = record { first = q; second = x; in_first = inl refl; in_second = inl refl; same = cc; size = ap (λ (z : Pair). z.size) h; kind = ap (λ (z : Pair). z.kind) h }
+from_of z (q ∷ p) (x ∷ r) e (inr i) = later z q x p r (from_of z p r (cc) i)
 
 glued_number : (k l : Kind) → right_tag k ≡ left_tag l → SameNumber k → SameNumber l → SameNumber (glued k l)
 glued_number (Lives i j) (Lives k l) e m n = grind (arith, e)
@@ -174,10 +152,9 @@ abbrev flipped : Kind → Kind
 flipped (Lives i j) = Lives j i
 flipped (Frees s u) = Frees u s
 
--- the pairs the other way round
-abbrev flips : List Pair → List Pair
-flips [] = []
-flips (q ∷ p) = pair q.size (flipped q.kind) ∷ flips p
+-- a pair the other way round
+abbrev flip : Pair → Pair
+flip q = pair q.size (flipped q.kind)
 
 left_flipped : (k : Kind) → left_tag (flipped k) ≡ right_tag k
 left_flipped (Lives i j) = refl
@@ -186,19 +163,6 @@ left_flipped (Frees s u) = refl
 right_flipped : (k : Kind) → right_tag (flipped k) ≡ left_tag k
 right_flipped (Lives i j) = refl
 right_flipped (Frees s u) = refl
-
-lefts_flips : (p : List Pair) → lefts (flips p) ≡ rights p
-lefts_flips [] = refl
-lefts_flips (q ∷ p) = ap₂ (λ t l. block q.size t ∷ l) (left_flipped q.kind) (lefts_flips p)
-
-rights_flips : (p : List Pair) → rights (flips p) ≡ lefts p
-rights_flips [] = refl
-rights_flips (q ∷ p) = ap₂ (λ t l. block q.size t ∷ l) (right_flipped q.kind) (rights_flips p)
-
-in_flips : (z : Pair) (p : List Pair) → In z (flips p) → (q : Pair) × In q p × (z ≡ pair q.size (flipped q.kind))
-in_flips z [] i = absurd i
-in_flips z (q ∷ p) (inl e) = (q, inl refl, e)
-in_flips z (q ∷ p) (inr i) = let h = in_flips z p i in (h.0, inr h.1, h.2)
 
 flipped_number : (k : Kind) → SameNumber k → SameNumber (flipped k)
 flipped_number (Lives i j) e = sym e
@@ -211,10 +175,10 @@ flipped_order (Frees s u) (Frees t v) e = sym e
 
 pub similar_sym : (bs cs : List Block) → Similar bs cs → Similar cs bs
 similar_sym bs cs m = record {
-  pairs = flips m.pairs;
-  left_blocks = m.right_blocks ∙ sym (lefts_flips m.pairs);
-  right_blocks = m.left_blocks ∙ sym (rights_flips m.pairs);
-  numbers = λ z i. let h = in_flips z m.pairs i in subst (λ (x : Pair). SameNumber x.kind) (sym h.2) (flipped_number h.0.kind (m.numbers h.0 h.1));
-  agree = λ y z i j. let h = in_flips y m.pairs i in let g = in_flips z m.pairs j in
+  pairs = map flip m.pairs;
+  left_blocks = m.right_blocks ∙ sym (map_twice left flip right (λ q. ap (block q.size) (left_flipped q.kind)) m.pairs);
+  right_blocks = m.left_blocks ∙ sym (map_twice right flip left (λ q. ap (block q.size) (right_flipped q.kind)) m.pairs);
+  numbers = λ z i. let h = map_in flip z m.pairs i in subst (λ (x : Pair). SameNumber x.kind) (sym h.2) (flipped_number h.0.kind (m.numbers h.0 h.1));
+  agree = λ y z i j. let h = map_in flip y m.pairs i in let g = map_in flip z m.pairs j in
       subst₂ Agree (sym h.2) (sym g.2) (λ same. flipped_order h.0.kind g.0.kind (m.agree h.0 g.0 h.1 g.1 same));
 }

@@ -12,15 +12,11 @@ use Rattle.offset_script.specs.declared.scripts.Command.{Command}
 use Rattle.offset_script.specs.declared.scripts.Command.TheVariants as command
 use Rattle.offset_script.specs.Machine.{State, step, start, after}
 use Rattle.offset_script.specs.Machine as machine
-use Rattle.offset_allocator.specs.Named.{View, Grant, Outcome, allocate, allocate_aligned, free, total_free, largest_free, free_sizes, max_size, IsWellFormed}
-use Rattle.offset_script.specs.Agreement.{IsReached, name_in, kept_name, answer_of, with_name, without_name, kept_after, grant_count_after}
-use Rattle.offset_allocator.specs.Relations.{SameSpace, IsFresh, Allocates, Aligns, Frees, Extends, Resets}
-use Rattle.offset_allocator.specs.Functional.{AllocatesBy, AlignsBy, ExtendsBy}
-use Rattle.offset_allocator.proofs.Related.{allocates_by, aligns_by}
-use Rattle.offset_allocator.proofs.Released.{freed_by, extends_by}
+use Rattle.offset_allocator.specs.Named.{View, Grant, total_free, largest_free, free_sizes, max_size, IsWellFormed}
+use Rattle.offset_script.specs.Agreement.{IsReached, name_in, kept_name, with_name, without_name, kept_after, grant_count_after}
+use Rattle.offset_allocator.specs.Relations.{IsFresh, Allocates, Aligns, Frees, Extends, Resets}
 use Rattle.offset_script.proofs.Well.{Well, well_start, well_after}
-use Rattle.offset_allocator.proofs.ViewTaken.{well_allocate, well_aligned, well_extend, well_free, well_reset, well_alone}
-use Rattle.offset_script.proofs.Agreed.{Matches, allocate_agrees, aligned_agrees, extend_agrees, free_agrees, gone_agrees, size_agrees, reset_agrees, report_agrees, full_agrees, agrees_quiet, agrees_kept, agrees_but, formed_but, start_agrees}
+use Rattle.offset_script.proofs.Agreed.{Matches, serve_agrees, aligned_agrees, extend_agrees, free_agrees, live_agrees, gone_agrees, size_agrees, report_agrees, full_agrees, agrees_quiet, agrees_kept, alone_agrees, same_units}
 use Rattle.offset_script.specs.declared.answers.Answer as program
 use Rattle.offset_script.specs.declared.answers.Answer.TheVariants as program_answer
 use Rattle.offset_script.specs.declared.answers.FullRow.{FullRow}
@@ -54,53 +50,37 @@ kept_set hs k l (suc j) = elim (cases_eq j k) [
 ]
 
 -- requests
-module _ (c : Command) (v w : View) (hs left : List (Option Grant)) (o : Outcome) (alike : (s : State) → IsReached s → Represents v hs s → Matches (kept_name hs) s.grants o (step c s)) (formed : IsWellFormed v → IsWellFormed o.view) (but : SameSpace o.view w) where
-  represents_request : (r : Option Grant) → r ≡ o.grant → (s : State) → IsReached s → Represents v hs s → ((k : ℕ) → kept_name left k ≡ kept_after s.grants r (kept_name hs) k) → length left ≡ grant_count_after s.grants r → Represents w left (step c s).state
-  represents_request r e s reached st same len =
+module _ (c : Command) (v w : View) (formed : IsWellFormed w) (hs left : List (Option Grant)) (r : Option Grant) (alike : (s : State) → IsReached s → Represents v hs s → Matches w (kept_name hs) s.grants r (step c s)) where
+  represents_request : (s : State) → IsReached s → Represents v hs s → ((k : ℕ) → kept_name left k ≡ kept_after s.grants r (kept_name hs) k) → length left ≡ grant_count_after s.grants r → Represents w left (step c s).state
+  represents_request s reached st same len =
       let m = alike s reached st in
-      record {
-        formed = formed_but _ w but (formed st.formed);
-        agrees = agrees_but _ w (kept_name left) _ but (agrees_kept _ (kept_after s.grants o.grant (kept_name hs)) (kept_name left) _ (λ k. same k ∙ ap (λ o. kept_after s.grants o (kept_name hs) k) e) m.agrees);
-        grants = len ∙ ap (grant_count_after s.grants) e ∙ sym m.grants_after;
-      }
+      record { formed = formed; agrees = agrees_kept _ (kept_after s.grants r (kept_name hs)) (kept_name left) _ same m.agrees; grants = len ∙ sym m.grants_after }
 
-  request_refused : None ≡ o.grant → left ≡ hs → Simulates v hs w left c program_answer.Refused
-  request_refused e l = record {
-    answer = λ s reached st. let m = alike s reached st in sym (m.answer ∙ ap (answer_of s.grants) (sym e));
-    state = λ s reached st. represents_request None e s reached st (λ k. ap (λ l. kept_name l k) l) (ap length l ∙ st.grants);
-  }
+-- a request that is refused
+refused_simulates : (c : Command) (v w : View) → IsWellFormed w → (hs left : List (Option Grant)) → ((s : State) → IsReached s → Represents v hs s → Matches w (kept_name hs) s.grants None (step c s)) → left ≡ hs → Simulates v hs w left c program_answer.Refused
+refused_simulates c v w formed hs left alike l = record {
+  answer = λ s reached st. sym (alike s reached st).answer;
+  state = λ s reached st. represents_request c v w formed hs left None alike s reached st (λ k. ap (λ l. kept_name l k) l) (ap length l ∙ st.grants);
+}
 
-  request_granted : (h : Grant) (number offset : ℕ) → Some h ≡ o.grant → left ≡ hs ++ Some h ∷ [] → number ≡ length left → offset ≡ h.offset → Simulates v hs w left c (program_answer.Grant number offset)
-  request_granted h number offset a l e f = record {
-    answer = λ s reached st. let m = alike s reached st in ap₂ machine.Grant (e ∙ ap length l ∙ length-append hs (Some h ∷ []) ∙ ap (λ k. k + 1) st.grants) f ∙ sym (m.answer ∙ ap (answer_of s.grants) (sym a));
-    state = λ s reached st. represents_request (Some h) a s reached st (λ k. ap (λ l. kept_name l k) l ∙ kept_push hs h k ∙ ap (λ g. with_name (g + 1) h.name (kept_name hs) k) st.grants) (ap length l ∙ length-append hs (Some h ∷ []) ∙ ap (λ g. g + 1) st.grants);
-  }
-
-  request_simulates : (r : Option Grant) (a : program.Answer) → r ≡ o.grant → IsKept r hs left a → Simulates v hs w left c a
-  request_simulates None a e k = subst (Simulates v hs w left c) (sym k.1) (request_refused e k.0)
-  request_simulates (Some h) a e k = subst (Simulates v hs w left c) (sym k.1) (request_granted h (length left) h.offset e k.0 refl refl)
-
--- what is represented is well formed
-formed_simulates : (v w : View) (hs left : List (Option Grant)) (c : Command) (a : program.Answer) → (IsWellFormed v → Simulates v hs w left c a) → Simulates v hs w left c a
-formed_simulates v w hs left c a f = record { answer = λ s reached st. (f st.formed).answer s reached st; state = λ s reached st. (f st.formed).state s reached st }
+-- a request that is granted
+granted_simulates : (c : Command) (v w : View) → IsWellFormed w → (hs left : List (Option Grant)) (h : Grant) → ((s : State) → IsReached s → Represents v hs s → Matches w (kept_name hs) s.grants (Some h) (step c s)) → left ≡ hs ++ Some h ∷ []
+    → Simulates v hs w left c (program_answer.Grant (length left) h.offset)
+granted_simulates c v w formed hs left h alike l = record {
+  answer = λ s reached st. ap (λ n. machine.Grant n h.offset) (ap length l ∙ length-append hs (Some h ∷ []) ∙ ap (λ k. k + 1) st.grants) ∙ sym (alike s reached st).answer;
+  state = λ s reached st. represents_request c v w formed hs left (Some h) alike s reached st (λ k. ap (λ l. kept_name l k) l ∙ kept_push hs h k ∙ ap (λ g. with_name (g + 1) h.name (kept_name hs) k) st.grants) (ap length l ∙ length-append hs (Some h ∷ []) ∙ ap (λ g. g + 1) st.grants);
+}
 
 -- a request, whose grant is kept
-allocated_simulates : (n : ℕ) (v w : View) (hs left : List (Option Grant)) (r : Option Grant) (a : program.Answer) → AllocatesBy n v w r → IsKept r hs left a → Simulates v hs w left (command.Alloc n) a
-allocated_simulates n v w hs left r a al k = request_simulates (command.Alloc n) v w hs left (allocate n al.rest v)
-    (λ s reached st. allocate_agrees v (kept_name hs) s st.formed (well_of s reached) st.agrees n al.rest al.unused)
-    (λ f. well_allocate v f n al.rest al.unused) al.view r a al.answer k
+request_simulates : (c : Command) (v w : View) → IsWellFormed w → (hs left : List (Option Grant)) (r : Option Grant) (a : program.Answer) → ((s : State) → IsReached s → Represents v hs s → Matches w (kept_name hs) s.grants r (step c s)) → IsKept r hs left a → Simulates v hs w left c a
+request_simulates c v w formed hs left None a alike k = subst (Simulates v hs w left c) (sym k.1) (refused_simulates c v w formed hs left alike k.0)
+request_simulates c v w formed hs left (Some h) a alike k = subst (Simulates v hs w left c) (sym k.1) (granted_simulates c v w formed hs left h alike k.0)
 
-pub allocate_simulates : (n : ℕ) (v w : View) (hs left : List (Option Grant)) (r : Option Grant) (a : program.Answer) → Allocates n v w r → IsKept r hs left a → Simulates v hs w left (command.Alloc n) a
-allocate_simulates n v w hs left r a al k = formed_simulates v w hs left (command.Alloc n) a (λ f. allocated_simulates n v w hs left r a (allocates_by n v w r f al) k)
+pub allocate_simulates : (n : ℕ) (v w : View) → IsWellFormed w → (hs left : List (Option Grant)) (r : Option Grant) (a : program.Answer) → Allocates n v w r → IsKept r hs left a → Simulates v hs w left (command.Alloc n) a
+allocate_simulates n v w formed hs left r a al k = request_simulates (command.Alloc n) v w formed hs left r a (λ s reached st. serve_agrees v (kept_name hs) s st.formed (well_of s reached) st.agrees 1 n n (λ offset. 0) w formed r al) k
 
--- an aligned request
-aligned_by_simulates : (n align : ℕ) (v w : View) (hs left : List (Option Grant)) (r : Option Grant) (a : program.Answer) → AlignsBy n align v w r → IsKept r hs left a → Simulates v hs w left (command.Align n align) a
-aligned_by_simulates n align v w hs left r a al k = request_simulates (command.Align n align) v w hs left (allocate_aligned n align al.front al.rest v)
-    (λ s reached st. aligned_agrees v (kept_name hs) s st.formed (well_of s reached) st.agrees n align al.front al.rest al.unused al.apart)
-    (λ f. well_aligned v f n align al.front al.rest al.unused al.apart) al.view r a al.answer k
-
-pub aligned_simulates : (n align : ℕ) (v w : View) (hs left : List (Option Grant)) (r : Option Grant) (a : program.Answer) → 1 ≤ align → Aligns n align v w r → IsKept r hs left a → Simulates v hs w left (command.Align n align) a
-aligned_simulates n align v w hs left r a some al k = formed_simulates v w hs left (command.Align n align) a (λ f. aligned_by_simulates n align v w hs left r a (aligns_by n align v w f some r al) k)
+pub aligned_simulates : (n align : ℕ) (v w : View) → IsWellFormed w → (hs left : List (Option Grant)) (r : Option Grant) (a : program.Answer) → 1 ≤ align → Aligns n align v w r → IsKept r hs left a → Simulates v hs w left (command.Align n align) a
+aligned_simulates n align v w formed hs left r a some al k = request_simulates (command.Align n align) v w formed hs left r a (λ s reached st. aligned_agrees v (kept_name hs) s st.formed (well_of s reached) st.agrees n align some w formed r al) k
 
 -- more units
 extend_grants : (more : ℕ) (s : State) → (machine.extend more s).state.grants ≡ s.grants
@@ -112,18 +92,11 @@ extend_grants (suc more) s = either (nat_lt max_size (machine.total s.blocks + s
     either false = refl
 
 -- more units, or a refusal
-extended_by_simulates : (more : ℕ) (v w : View) (hs : List (Option Grant)) (done : Bool) (a : program.Answer) → ExtendsBy more v w done → answer_view a ≡ (if done then machine.Extended else machine.Refused) → Simulates v hs w hs (command.Extend more) a
-extended_by_simulates more v w hs done a e f = record {
-  answer = λ s reached st. f ∙ ap (λ (b : Bool). if b then machine.Extended else machine.Refused) e.answer ∙ sym (extend_agrees v (kept_name hs) s st.formed (well_of s reached) st.agrees more e.name e.unused).answer;
-  state = λ s reached st. record {
-    formed = formed_but _ w e.view (well_extend v st.formed more e.name e.unused);
-    agrees = agrees_but _ w _ _ e.view (extend_agrees v (kept_name hs) s st.formed (well_of s reached) st.agrees more e.name e.unused).agrees;
-    grants = st.grants ∙ sym (extend_grants more s);
-  };
+pub extended_simulates : (more : ℕ) (v w : View) → IsWellFormed w → (hs : List (Option Grant)) (done : Bool) (a : program.Answer) → Extends more v w done → answer_view a ≡ (if done then machine.Extended else machine.Refused) → Simulates v hs w hs (command.Extend more) a
+extended_simulates more v w formed hs done a e f = record {
+  answer = λ s reached st. f ∙ sym (extend_agrees v (kept_name hs) s st.formed (well_of s reached) st.agrees more w done formed e).0;
+  state = λ s reached st. record { formed = formed; agrees = (extend_agrees v (kept_name hs) s st.formed (well_of s reached) st.agrees more w done formed e).1; grants = st.grants ∙ sym (extend_grants more s) };
 }
-
-pub extended_simulates : (more : ℕ) (v w : View) (hs : List (Option Grant)) (done : Bool) (a : program.Answer) → Extends more v w done → answer_view a ≡ (if done then machine.Extended else machine.Refused) → Simulates v hs w hs (command.Extend more) a
-extended_simulates more v w hs done a e f = formed_simulates v w hs hs (command.Extend more) a (λ known. extended_by_simulates more v w hs done a (extends_by v known more w done e) f)
 
 -- releases
 release_grants : (s : State) (o : Option _) → (machine.release s o).state.grants ≡ s.grants
@@ -139,26 +112,23 @@ gone_simulates v hs k e = record {
 
 -- a kept handle is live
 pub live_kept : (v : View) (hs : List (Option Grant)) (k x : ℕ) → RepresentsReached v hs → kept_name hs k ≡ Some x → IsLive x v
-live_kept v hs k x i e = used_live x v (free_agrees v (kept_name hs) i.state i.represents.formed (well_of i.state i.reached) i.represents.agrees k x e).used
+live_kept v hs k x i e = used_live x v (live_agrees v (kept_name hs) i.state i.represents.formed (well_of i.state i.reached) i.represents.agrees k x e)
 
 -- a release of a live grant, whose handle is removed
-freed_by_simulates : (v w : View) (hs : List (Option Grant)) (k x : ℕ) → kept_name hs (suc k) ≡ Some x → k < length hs → SameSpace (free x v) w → Simulates v hs w (slice_set hs k None) (command.Free (suc k)) program_answer.Freed
-freed_by_simulates v w hs k x e l but = record {
-  answer = λ s reached st. sym (free_agrees v (kept_name hs) s st.formed (well_of s reached) st.agrees (suc k) x e).answer;
+freed_simulates : (v w : View) → IsWellFormed w → (hs : List (Option Grant)) (k x : ℕ) → kept_name hs (suc k) ≡ Some x → k < length hs → Frees x v w → Simulates v hs w (slice_set hs k None) (command.Free (suc k)) program_answer.Freed
+freed_simulates v w formed hs k x e l f = record {
+  answer = λ s reached st. sym (free_agrees v (kept_name hs) s st.formed (well_of s reached) st.agrees (suc k) x e w formed f).0;
   state = λ s reached st. record {
-    formed = formed_but _ w but (well_free v st.formed x);
-    agrees = agrees_but _ w _ _ but (agrees_kept _ (without_name (suc k) (kept_name hs)) _ _ (kept_set hs k l) (free_agrees v (kept_name hs) s st.formed (well_of s reached) st.agrees (suc k) x e).agrees);
+    formed = formed;
+    agrees = agrees_kept _ (without_name (suc k) (kept_name hs)) _ _ (kept_set hs k l) (free_agrees v (kept_name hs) s st.formed (well_of s reached) st.agrees (suc k) x e w formed f).1;
     grants = length-set _ _ _ ∙ st.grants ∙ sym (release_grants s _);
   };
 }
 
-freed_simulates : (v w : View) (hs : List (Option Grant)) (k x : ℕ) → kept_name hs (suc k) ≡ Some x → k < length hs → Frees x v w → Simulates v hs w (slice_set hs k None) (command.Free (suc k)) program_answer.Freed
-freed_simulates v w hs k x e l f = formed_simulates v w hs (slice_set hs k None) (command.Free (suc k)) program_answer.Freed (λ known. freed_by_simulates v w hs k x e l (freed_by v w known x f))
-
 -- the same, by the number of the grant
-pub released_simulates : (v w : View) (hs left : List (Option Grant)) (number x : ℕ) → kept_name hs number ≡ Some x → (1 ≤ number) × (number ≤ length hs) → Frees x v w → left ≡ slice_set hs (number - 1) None → Simulates v hs w left (command.Free number) program_answer.Freed
-released_simulates v w hs left zero x e l but f = absurd (omega arith)
-released_simulates v w hs left (suc k) x e l but f = let same : suc k - 1 ≡ k = omega arith in subst (λ z. Simulates v hs w z (command.Free (suc k)) program_answer.Freed) (sym (f ∙ ap (λ i. slice_set hs i None) same)) (freed_simulates v w hs k x e (omega arith) but)
+pub released_simulates : (v w : View) → IsWellFormed w → (hs left : List (Option Grant)) (number x : ℕ) → kept_name hs number ≡ Some x → (1 ≤ number) × (number ≤ length hs) → Frees x v w → left ≡ slice_set hs (number - 1) None → Simulates v hs w left (command.Free number) program_answer.Freed
+released_simulates v w formed hs left zero x e l but f = absurd (omega arith)
+released_simulates v w formed hs left (suc k) x e l but f = let same : suc k - 1 ≡ k = omega arith in subst (λ z. Simulates v hs w z (command.Free (suc k)) program_answer.Freed) (sym (f ∙ ap (λ i. slice_set hs i None) same)) (freed_simulates v w formed hs k x e (omega arith) but)
 
 -- what leaves the blocks as they are
 quiet : (v : View) (hs : List (Option Grant)) (s : State) (a : machine.Answer) → Represents v hs s → Represents v hs (machine.returns_only s a).state
@@ -203,27 +173,24 @@ none_kept hs none zero = refl
 none_kept hs none (suc k) = elim (cases_lt k (length hs)) [ inl l ↦ ap name_in (none k l) | inr m ↦ ap name_in (get_or_past hs k None m) ]
 
 -- a reset, where no handle is left
-pub reset_simulates : (v w : View) (hs left : List (Option Grant)) → Resets v w → length left ≡ length hs → ((i : ℕ) → i < length left → slice_index_or left i None ≡ None) → Simulates v hs w left command.Reset program_answer.Reset
-reset_simulates v w hs left r len none = record {
+pub reset_simulates : (v w : View) → IsWellFormed w → (hs left : List (Option Grant)) → Resets v w → length left ≡ length hs → ((i : ℕ) → i < length left → slice_index_or left i None ≡ None) → Simulates v hs w left command.Reset program_answer.Reset
+reset_simulates v w formed hs left r len none = record {
   answer = λ s reached st. refl;
   state = λ s reached st. record {
-    formed = formed_but _ w r.view (well_reset v st.formed r.name r.below);
-    agrees = agrees_but _ w _ _ r.view (agrees_kept _ (λ k. None) _ _ (none_kept left none) (reset_agrees v (kept_name hs) s st.formed (well_of s reached) st.agrees r.name));
+    formed = formed;
+    agrees = alone_agrees w r.name v.size (machine.stamp_of_call s) (kept_name left) _ (ap (λ (u : View). u.blocks) r.view) (ap (λ (u : View). u.order) r.view) (st.agrees.limit ∙ sym (ap (λ (u : View). u.max_allocs) r.view))
+        (ap (λ n. machine.block n (machine.Free (machine.stamp_of_call s)) ∷ []) (sym (same_units v (kept_name hs) s st.formed (well_of s reached) st.agrees) ∙ st.formed.whole)) (none_kept left none);
     grants = len ∙ st.grants;
   };
 }
 
 -- a fresh space represents the first state
-pub fresh_represents : (w : View) (size limit : ℕ) (hs : List (Option Grant)) → 2 ≤ limit → size ≤ 4294967295 → IsFresh size limit w → hs ≡ [] → Represents w hs (start size limit)
-fresh_represents w size limit hs two small f e = subst (λ l. Represents w l (start size limit)) (sym e) (record {
-  formed = subst IsWellFormed (sym f.view) (well_alone (record { size = size; max_allocs = limit; blocks = []; order = []; accesses = 0 }) f.name size 0 two f.below small);
-  agrees = start_agrees w f.name size limit (kept_name []) (ap (λ (v : View). v.blocks) f.view) (ap (λ (v : View). v.order) f.view) (ap (λ (v : View). v.max_allocs) f.view) none;
+pub fresh_represents : (w : View) → IsWellFormed w → (size limit : ℕ) (hs : List (Option Grant)) → IsFresh size limit w → hs ≡ [] → Represents w hs (start size limit)
+fresh_represents w formed size limit hs f e = subst (λ l. Represents w l (start size limit)) (sym e) (record {
+  formed = formed;
+  agrees = alone_agrees w f.name size 0 (kept_name []) (start size limit) (ap (λ (v : View). v.blocks) f.view) (ap (λ (v : View). v.order) f.view) (sym (ap (λ (v : View). v.max_allocs) f.view)) refl (none_kept [] (λ i l. refl));
   grants = refl;
 })
-  where
-    none : (k : ℕ) → kept_name [] k ≡ None
-    none zero = refl
-    none (suc k) = refl
 
 -- a row more of the full report
 map_more : (rows : List FullRow) (r : FullRow) → map row_view (rows ++ r ∷ []) ≡ map row_view rows ++ row_view r ∷ []

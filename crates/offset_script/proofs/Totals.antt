@@ -9,39 +9,16 @@ use Rattle.offset_script.specs.Machine.{Live, Free, Block, block, is_free, total
 use Rattle.offset_script.specs.Machine as machine
 use Rattle.offset_script.specs.Histories.{KeepsSpace}
 use Rattle.offset_script.specs.Totals.{requested_units, live_units, live_blocks, added_units, added_by, SizesAddUp, FewAreLive, FullSpaceRefuses}
-use Rattle.offset_script.proofs.Well.{whole, chosen_at, found_at, granted_blocks}
+use Rattle.offset_script.proofs.Well.{whole, chosen_at, found_at, granted_blocks, total-append, AllFree, coalesced, free_part}
 use Rattle.offset_script.proofs.Nests.{does}
 
-pub total-append : (xs ys : List Block) → total (xs ++ ys) ≡ total xs + total ys
-total-append [] ys = omega arith
-total-append (b ∷ xs) ys = let ih = total-append xs ys in omega (arith, ih)
-
-pub total_free_block : (n s : ℕ) → total (free_block n s) ≡ n
-total_free_block zero s = refl
-total_free_block (suc n) s = omega arith
-
-pub total_start : (bs : List Block) → free_start bs + total (without_start bs) ≡ total bs
-total_start [] = refl
-total_start (b ∷ bs) = either (is_free b.tag)
-  where
-    either : (x : Bool) → (if x then b.size else 0) + total (if x then bs else b ∷ bs) ≡ b.size + total bs
-    either true = refl
-    either false = omega arith
-
-pub total_end : (bs : List Block) → free_end bs + total (without_end bs) ≡ total bs
-total_end [] = refl
-total_end (b ∷ []) = either (is_free b.tag)
-  where
-    either : (x : Bool) → (if x then b.size else 0) + total (if x then [] else b ∷ []) ≡ b.size + 0
-    either true = refl
-    either false = omega arith
-total_end (b ∷ c ∷ bs) = let ih = total_end (c ∷ bs) in omega (arith, ih)
-
 total_coalesce : (xs : List Block) (n s : ℕ) (ys : List Block) → total (coalesce xs n s ys) ≡ total xs + (n + total ys)
-total_coalesce xs n s ys = omega (arith, total-append (without_end xs) (block (free_end xs + n + free_start ys) (Free s) ∷ without_start ys), total_end xs, total_start ys)
+total_coalesce xs n s ys =
+    let c = coalesced xs n s ys in
+    omega (arith, ap total c.is, total-append c.front (block (total c.last + n + total c.first) (Free s) ∷ c.back), ap total c.at_front, total-append c.front c.last, ap total c.at_back, total-append c.first c.back)
 
 total_granted : (p : Place) (n padding front k rest : ℕ) → padding + n ≤ p.block.size → total (granted_blocks p n padding front k rest) ≡ total (whole p)
-total_granted p n padding front k rest h = omega (arith, total-append p.before (p.block ∷ p.after), total-append p.before (free_block padding front ++ (block n (Live k) ∷ (free_block (p.block.size - (padding + n)) rest ++ p.after))), total-append (free_block padding front) (block n (Live k) ∷ (free_block (p.block.size - (padding + n)) rest ++ p.after)), total-append (free_block (p.block.size - (padding + n)) rest) p.after, total_free_block padding front, total_free_block (p.block.size - (padding + n)) rest)
+total_granted p n padding front k rest h = omega (arith, total-append p.before (p.block ∷ p.after), total-append p.before (free_block padding front ++ (block n (Live k) ∷ (free_block (p.block.size - (padding + n)) rest ++ p.after))), total-append (free_block padding front) (block n (Live k) ∷ (free_block (p.block.size - (padding + n)) rest ++ p.after)), total-append (free_block (p.block.size - (padding + n)) rest) p.after, (free_part padding front).2, (free_part (p.block.size - (padding + n)) rest).2)
 
 live-append : (xs ys : List Block) → live_blocks (xs ++ ys) ≡ live_blocks xs + live_blocks ys
 live-append [] ys = omega arith
@@ -59,25 +36,14 @@ live_length (b ∷ bs) = let ih = live_length bs in either (is_free b.tag) ih
     either true h = omega arith
     either false h = omega arith
 
-live_start : (bs : List Block) → live_blocks (without_start bs) ≡ live_blocks bs
-live_start [] = refl
-live_start (b ∷ bs) = either (is_free b.tag) refl
-  where
-    either : (x : Bool) → is_free b.tag ≡ x → live_blocks (if x then bs else b ∷ bs) ≡ (if is_free b.tag then 0 else 1) + live_blocks bs
-    either true e = let h : live_blocks bs ≡ 0 + live_blocks bs = omega arith in h ∙ ap (λ x. (if x then 0 else 1) + live_blocks bs) (sym e)
-    either false e = refl
-
-live_end : (bs : List Block) → live_blocks (without_end bs) ≡ live_blocks bs
-live_end [] = refl
-live_end (b ∷ []) = either (is_free b.tag) refl
-  where
-    either : (x : Bool) → is_free b.tag ≡ x → live_blocks (if x then [] else b ∷ []) ≡ (if is_free b.tag then 0 else 1) + 0
-    either true e = ap (λ x. (if x then 0 else 1) + 0) (sym e)
-    either false e = refl
-live_end (b ∷ c ∷ bs) = let ih = live_end (c ∷ bs) in omega (arith, ih)
+live_none : (fs : List Block) → AllFree fs → live_blocks fs ≡ 0
+live_none [] f = refl
+live_none (b ∷ fs) f = ap (λ x. (if x then 0 else 1) + live_blocks fs) f.0 ∙ ap (λ n. 0 + n) (live_none fs f.1)
 
 live_coalesce : (xs : List Block) (n s : ℕ) (ys : List Block) → live_blocks (coalesce xs n s ys) ≡ live_blocks xs + live_blocks ys
-live_coalesce xs n s ys = omega (arith, live-append (without_end xs) (block (free_end xs + n + free_start ys) (Free s) ∷ without_start ys), live_end xs, live_start ys)
+live_coalesce xs n s ys =
+    let c = coalesced xs n s ys in
+    omega (arith, ap live_blocks c.is, live-append c.front (block (total c.last + n + total c.first) (Free s) ∷ c.back), ap live_blocks c.at_front, live-append c.front c.last, ap live_blocks c.at_back, live-append c.first c.back, live_none c.last c.end.free, live_none c.first c.start.free)
 
 live_granted : (p : Place) (n padding front k rest : ℕ) → live_blocks (granted_blocks p n padding front k rest) ≡ live_blocks p.before + (1 + live_blocks p.after)
 live_granted p n padding front k rest = omega (arith, live-append p.before (free_block padding front ++ (block n (Live k) ∷ (free_block (p.block.size - (padding + n)) rest ++ p.after))), live-append (free_block padding front) (block n (Live k) ∷ (free_block (p.block.size - (padding + n)) rest ++ p.after)), live-append (free_block (p.block.size - (padding + n)) rest) p.after, live_free_block padding front, live_free_block (p.block.size - (padding + n)) rest)

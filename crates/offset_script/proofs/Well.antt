@@ -1,12 +1,14 @@
 -- What holds of every state that the machine reaches.
-use Rattle.std.proofs.Common.{◌≡◌, ◌≢◌, ℕ, zero, suc, ◌+◌, ◌-◌, ◌*◌, ◌<◌, ◌≤◌, Bool, true, false, ◌&&◌, ◌||◌, ◌⊎◌, List, [], ◌∷◌, ◌++◌, length, Option, Some, None, nat_eq, nat_lt, nat_le, if◌then◌else◌, refl, sym, ap, subst, ◌∙◌, inl, inr, arith, eq-eqb, ne_eqb, leb-false, length-append}
-use Rattle.std.proofs.lemmas.Bool.{cases_eq, true≢false, false≢true}
+use Rattle.std.proofs.Common.{◌≡◌, ◌≢◌, ℕ, zero, suc, ◌+◌, ◌-◌, ◌*◌, ◌<◌, ◌≤◌, Bool, true, false, ◌&&◌, ◌||◌, ◌⊎◌, List, [], ◌∷◌, ◌++◌, length, Option, Some, None, nat_eq, nat_lt, nat_le, if◌then◌else◌, refl, sym, ap, ap₂, subst, ◌∙◌, inl, inr, arith, eq-eqb, ne_eqb, leb-false, length-append, append-nil}
+use Rattle.std.proofs.lemmas.Bool.{cases_eq, cases_lt, true≢false, false≢true}
 use Rattle.std.proofs.lemmas.Bool.Decides.{nat_tests}
+use Rattle.std.specs.List.{AllByRecursion}
 use Rattle.offset_script.specs.declared.scripts.Command.{Command}
 use Rattle.offset_script.specs.declared.scripts.Command.TheVariants as command
 use Rattle.offset_allocator.specs.Classes.{down}
 use Rattle.offset_script.specs.Machine.{Tag, Live, Free, Block, block, is_free, has_number, stamp, total, Place, here, prepend, prepend_if_found, fits, is_taken_before, choose, chosen_place, place_of, free_block, free_start, without_start, free_end, without_end, ends_live, coalesce, State, Answer, Outcome, start, step, answers, after, request, grant, grant_or_refuse, is_short_of, returns_only, leaves, release, size_at, report, full_report, reset, extend, stamp_of_call, stamp_of_padding}
 use Rattle.offset_script.specs.Machine as machine
+use Rattle.offset_script.proofs.Members.{In}
 use Rattle.offset_allocator.specs.Named.{max_size, padding_to}
 
 -- whether the first block of a list is free
@@ -72,43 +74,55 @@ hit_cases x y = elim (cases_eq x y) [
   | inr n ↦ inr (n, ap one (ne_eqb x y n))
 ]
 
+pub hit_self : (t : Tag) → hit t t ≡ 1
+hit_self (Live k) = elim (hit_cases k k) [ inl h ↦ h.1 | inr h ↦ absurd (h.0 refl) ]
+hit_self (Free s) = elim (hit_cases s s) [ inl h ↦ h.1 | inr h ↦ absurd (h.0 refl) ]
+
+-- the tag of a block that is in a list occurs there
+pub in_count : (c : Block) (bs : List Block) → In c bs → 1 ≤ count c.tag bs
+in_count c [] i = absurd i
+in_count c (b ∷ bs) (inl e) = let h : hit c.tag b.tag ≡ 1 = ap (λ (x : Block). hit c.tag x.tag) (sym e) ∙ hit_self c.tag in omega arith
+in_count c (b ∷ bs) (inr i) = let ih = in_count c bs i in omega arith
+
+-- a tag of a number
+pub hit_number : (k : ℕ) (t : Tag) → hit (Live k) t ≡ 0 → has_number k t ≡ false
+hit_number k (Live j) e = elim (hit_cases k j) [ inl h ↦ absurd (let n = h.1 in omega arith) | inr h ↦ ne_eqb k j h.0 ]
+hit_number k (Free s) e = refl
+
+pub number_of : (k : ℕ) (t : Tag) → has_number k t ≡ true → t ≡ Live k
+number_of k (Live j) e = elim (cases_eq k j) [ inl h ↦ ap Live (sym h) | inr h ↦ absurd (true≢false (sym e ∙ ne_eqb k j h)) ]
+number_of k (Free s) e = absurd (false≢true e)
+
 pub count_free_block : (t : Tag) (n s : ℕ) → count t (free_block n s) ≤ hit t (Free s)
 count_free_block t zero s = omega arith
 count_free_block t (suc n) s = omega arith
 
-pub count_without_start : (t : Tag) (bs : List Block) → count t (without_start bs) ≤ count t bs
-count_without_start t [] = omega arith
-count_without_start t (b ∷ bs) = either (is_free b.tag)
-  where
-    either : (x : Bool) → count t (if x then bs else b ∷ bs) ≤ hit t b.tag + count t bs
-    either true = omega arith
-    either false = omega arith
-
-pub count_without_end : (t : Tag) (bs : List Block) → count t (without_end bs) ≤ count t bs
-count_without_end t [] = omega arith
-count_without_end t (b ∷ []) = either (is_free b.tag)
-  where
-    either : (x : Bool) → count t (if x then [] else b ∷ []) ≤ hit t b.tag + 0
-    either true = omega arith
-    either false = omega arith
-count_without_end t (b ∷ c ∷ bs) = let ih = count_without_end t (c ∷ bs) in omega (arith, ih)
-
--- coalescing adds one tag
-pub count_coalesce : (t : Tag) (xs : List Block) (n s : ℕ) (ys : List Block) → count t (coalesce xs n s ys) ≤ count t xs + (hit t (Free s) + count t ys)
-count_coalesce t xs n s ys = omega (arith, count-append t (without_end xs) (block (free_end xs + n + free_start ys) (Free s) ∷ without_start ys), count_without_end t xs, count_without_start t ys)
+-- the units of two lists are added
+pub total-append : (xs ys : List Block) → total (xs ++ ys) ≡ total xs + total ys
+total-append [] ys = omega arith
+total-append (b ∷ xs) ys = let ih = total-append xs ys in omega (arith, ih)
 
 -- neighbours
 and_false : (x y : Bool) → x ≡ false → (x && y) ≡ false
 and_false true y e = absurd (true≢false e)
 and_false false y e = refl
 
-and_false_right : (x y : Bool) → y ≡ false → (x && y) ≡ false
+pub and_false_right : (x y : Bool) → y ≡ false → (x && y) ≡ false
 and_false_right true y e = e
 and_false_right false y e = refl
 
-and_true : (x : Bool) → (x && true) ≡ false → x ≡ false
+pub and_true : (x : Bool) → (x && true) ≡ false → x ≡ false
 and_true true e = e
 and_true false e = refl
+
+-- of two tests that do not both hold, the other one fails
+pub left_false : (x y : Bool) → (x && y) ≡ false → y ≡ true → x ≡ false
+left_false true y e h = sym h ∙ e
+left_false false y e h = refl
+
+pub right_false : (x y : Bool) → (x && y) ≡ false → x ≡ true → y ≡ false
+right_false true y e h = e
+right_false false y e h = absurd (false≢true h)
 
 -- two lists that do not meet in two free blocks
 pub apart_append : (xs ys : List Block) → Apart xs → Apart ys → (ends_free xs && starts_free ys) ≡ false → Apart (xs ++ ys)
@@ -122,36 +136,126 @@ apart_parts [] ys a = (tt, a, refl)
 apart_parts (x ∷ []) ys a = ((and_false_right (is_free x.tag) false refl, tt), a.1, a.0)
 apart_parts (x ∷ y ∷ xs) ys a = let p = apart_parts (y ∷ xs) ys a.1 in ((a.0, p.0), p.1, p.2)
 
--- a list without its free start
-pub apart_without_start : (bs : List Block) → Apart bs → Apart (without_start bs) × (starts_free (without_start bs) ≡ false)
-apart_without_start [] a = (tt, refl)
-apart_without_start (b ∷ bs) a = either (is_free b.tag) refl
-  where
-    either : (x : Bool) → is_free b.tag ≡ x → Apart (if x then bs else b ∷ bs) × (starts_free (if x then bs else b ∷ bs) ≡ false)
-    either true e = (a.1, rw e at a.0)
-    either false e = (a, e)
+-- all of these are free
+abbrev pub AllFree : List Block → Type 0
+AllFree bs = AllByRecursion (λ b. is_free b.tag ≡ true) bs
 
--- a list without its free end
-pub apart_without_end : (bs : List Block) → Apart bs → Apart (without_end bs) × (ends_free (without_end bs) ≡ false)
-apart_without_end [] a = (tt, refl)
-apart_without_end (b ∷ []) a = either (is_free b.tag) refl
+-- of neighbours at most one is free
+pub few_free : (fs : List Block) → AllFree fs → Apart fs → length fs ≤ 1
+few_free [] f a = omega arith
+few_free (b ∷ []) f a = omega arith
+few_free (b ∷ c ∷ fs) f a = absurd (true≢false (sym (ap (λ x. x && is_free c.tag) f.0 ∙ f.1.0) ∙ a.0))
+
+-- ---- what is free at the ends of a list
+
+-- a list ends with fs, after xs: a free block, or nothing if it does not end free
+pub record IsEnd (xs fs : List Block) : Type 0 where
+  pub few : length fs ≤ 1
+  pub free : AllFree fs
+  pub live : length fs ≡ 0 → ends_free (xs ++ fs) ≡ false
+
+-- a list starts with gs, before ys: a free block, or nothing if it does not start free
+pub record IsStart (gs ys : List Block) : Type 0 where
+  pub few : length gs ≤ 1
+  pub free : AllFree gs
+  pub live : length gs ≡ 0 → starts_free (gs ++ ys) ≡ false
+
+-- free blocks after a list that does not end free, and before one that does not start free
+pub end_of : (xs fs : List Block) → AllFree fs → Apart fs → ends_free xs ≡ false → IsEnd xs fs
+end_of xs fs f a e = record { few = few_free fs f a; free = f; live = none fs }
   where
-    either : (x : Bool) → is_free b.tag ≡ x → Apart (if x then [] else b ∷ []) × (ends_free (if x then [] else b ∷ []) ≡ false)
-    either true e = (tt, refl)
-    either false e = (a, e)
-apart_without_end (b ∷ c ∷ []) a = either (is_free c.tag) refl
+    none : (fs : List Block) → length fs ≡ 0 → ends_free (xs ++ fs) ≡ false
+    none [] h = ap ends_free (append-nil xs) ∙ e
+    none (b ∷ fs) h = absurd (omega arith)
+
+pub start_of : (gs ys : List Block) → AllFree gs → Apart gs → starts_free ys ≡ false → IsStart gs ys
+start_of gs ys f a e = record { few = few_free gs f a; free = f; live = none gs }
   where
-    either : (x : Bool) → is_free c.tag ≡ x → Apart (b ∷ (if x then [] else c ∷ [])) × (ends_free (b ∷ (if x then [] else c ∷ [])) ≡ false)
-    either true e = let h = rw e at a.0 in ((and_false_right (is_free b.tag) false refl, tt), and_true (is_free b.tag) h)
-    either false e = (a, e)
-apart_without_end (b ∷ c ∷ d ∷ bs) a = let ih = apart_without_end (c ∷ d ∷ bs) a.1 in ((a.0, ih.0), ih.1)
+    none : (gs : List Block) → length gs ≡ 0 → starts_free (gs ++ ys) ≡ false
+    none [] h = e
+    none (b ∷ gs) h = absurd (omega arith)
+
+end_is : (xs fs : List Block) → IsEnd xs fs → (without_end (xs ++ fs) ≡ xs) × (free_end (xs ++ fs) ≡ total fs)
+end_is [] [] e = (refl, refl)
+end_is [] (b ∷ []) e = (ap (λ x. if x then [] else b ∷ []) e.free.0, ap (λ x. if x then b.size else 0) e.free.0 ∙ omega arith)
+end_is [] (b ∷ c ∷ fs) e = absurd (let l = e.few in omega arith)
+end_is (x ∷ []) [] e = (ap (λ y. if y then [] else x ∷ []) (e.live refl), ap (λ y. if y then x.size else 0) (e.live refl))
+end_is (x ∷ []) (b ∷ fs) e = let r = end_is [] (b ∷ fs) (record { few = e.few; free = e.free; live = e.live }) in (ap (λ z. x ∷ z) r.0, r.1)
+end_is (x ∷ y ∷ xs) fs e = let r = end_is (y ∷ xs) fs (record { few = e.few; free = e.free; live = e.live }) in (ap (λ z. x ∷ z) r.0, r.1)
+
+start_is : (gs ys : List Block) → IsStart gs ys → (without_start (gs ++ ys) ≡ ys) × (free_start (gs ++ ys) ≡ total gs)
+start_is [] [] e = (refl, refl)
+start_is [] (y ∷ ys) e = (ap (λ x. if x then ys else y ∷ ys) (e.live refl), ap (λ x. if x then y.size else 0) (e.live refl))
+start_is (b ∷ []) ys e = (ap (λ x. if x then ys else b ∷ ys) e.free.0, ap (λ x. if x then b.size else 0) e.free.0 ∙ omega arith)
+start_is (b ∷ c ∷ gs) ys e = absurd (let l = e.few in omega arith)
+
+-- what becomes free coalesces with the free blocks before and after it
+pub coalesce_parts : (xs fs : List Block) (n s : ℕ) (gs ys : List Block) → IsEnd xs fs → IsStart gs ys → coalesce (xs ++ fs) n s (gs ++ ys) ≡ xs ++ block (total fs + n + total gs) (Free s) ∷ ys
+coalesce_parts xs fs n s gs ys e h =
+    let x = end_is xs fs e in
+    let y = start_is gs ys h in
+    ap₂ (λ (u v : List Block). u ++ block (free_end (xs ++ fs) + n + free_start (gs ++ ys)) (Free s) ∷ v) x.0 y.0 ∙ ap₂ (λ (u v : ℕ). xs ++ block (u + n + v) (Free s) ∷ ys) x.1 y.1
+
+ended : (bs : List Block) → (xs : List Block) × (fs : List Block) × (bs ≡ xs ++ fs) × IsEnd xs fs
+ended [] = ([], [], refl, record { few = omega arith; free = tt; live = λ h. refl })
+ended (b ∷ []) = go (is_free b.tag) refl
+  where
+    go : (x : Bool) → is_free b.tag ≡ x → (xs : List Block) × (fs : List Block) × (b ∷ [] ≡ xs ++ fs) × IsEnd xs fs
+    go true e = ([], b ∷ [], refl, record { few = omega arith; free = (e, tt); live = λ h. absurd (omega arith) })
+    go false e = (b ∷ [], [], refl, record { few = omega arith; free = tt; live = λ h. e })
+ended (b ∷ c ∷ bs) =
+    let r = ended (c ∷ bs) in
+    (b ∷ r.0, r.1, ap (λ z. b ∷ z) r.2, record { few = r.3.few; free = r.3.free; live = λ h. ap (λ z. ends_free (b ∷ z)) (sym r.2) ∙ ap ends_free r.2 ∙ r.3.live h })
+
+started : (bs : List Block) → (gs : List Block) × (ys : List Block) × (bs ≡ gs ++ ys) × IsStart gs ys
+started [] = ([], [], refl, record { few = omega arith; free = tt; live = λ h. refl })
+started (b ∷ bs) = go (is_free b.tag) refl
+  where
+    go : (x : Bool) → is_free b.tag ≡ x → (gs : List Block) × (ys : List Block) × (b ∷ bs ≡ gs ++ ys) × IsStart gs ys
+    go true e = (b ∷ [], bs, refl, record { few = omega arith; free = (e, tt); live = λ h. absurd (omega arith) })
+    go false e = ([], b ∷ bs, refl, record { few = omega arith; free = tt; live = λ h. e })
+
+-- what coalesces, and what stays
+pub record Coalesced (xs : List Block) (n s : ℕ) (ys : List Block) : Type 0 where
+  pub front : List Block
+  pub last : List Block
+  pub first : List Block
+  pub back : List Block
+  pub at_front : xs ≡ front ++ last
+  pub at_back : ys ≡ first ++ back
+  pub end : IsEnd front last
+  pub start : IsStart first back
+  pub is : coalesce xs n s ys ≡ front ++ block (total last + n + total first) (Free s) ∷ back
+
+pub coalesced : (xs : List Block) (n s : ℕ) (ys : List Block) → Coalesced xs n s ys
+coalesced xs n s ys =
+    let e = ended xs in
+    let b = started ys in
+    record { front = e.0; last = e.1; first = b.0; back = b.1; at_front = e.2; at_back = b.2; end = e.3; start = b.3; is = ap₂ (λ u v. coalesce u n s v) e.2 b.2 ∙ coalesce_parts e.0 e.1 n s b.0 b.1 e.3 b.3 }
+
+-- coalescing adds one tag
+pub count_coalesce : (t : Tag) (xs : List Block) (n s : ℕ) (ys : List Block) → count t (coalesce xs n s ys) ≤ count t xs + (hit t (Free s) + count t ys)
+count_coalesce t xs n s ys =
+    let c = coalesced xs n s ys in
+    omega (arith, ap (count t) c.is, count-append t c.front (block (total c.last + n + total c.first) (Free s) ∷ c.back), ap (count t) c.at_front, count-append t c.front c.last, ap (count t) c.at_back, count-append t c.first c.back)
+
+-- before a free end and after a free start nothing is free
+end_live : (xs fs : List Block) → IsEnd xs fs → Apart (xs ++ fs) → ends_free xs ≡ false
+end_live xs [] e a = ap ends_free (sym (append-nil xs)) ∙ e.live refl
+end_live xs (b ∷ fs) e a = left_false (ends_free xs) (is_free b.tag) (apart_parts xs (b ∷ fs) a).2 e.free.0
+
+start_live : (gs ys : List Block) → IsStart gs ys → Apart (gs ++ ys) → starts_free ys ≡ false
+start_live [] ys e a = e.live refl
+start_live (b ∷ []) ys e a = right_false (is_free b.tag) (starts_free ys) a.0 e.free.0
+start_live (b ∷ c ∷ gs) ys e a = absurd (let l = e.few in omega arith)
 
 -- coalescing leaves no two free neighbours
 pub apart_coalesce : (xs : List Block) (n s : ℕ) (ys : List Block) → Apart xs → Apart ys → Apart (coalesce xs n s ys)
 apart_coalesce xs n s ys a b =
-    let l = apart_without_end xs a in
-    let r = apart_without_start ys b in
-    apart_append (without_end xs) _ l.0 (r.1, r.0) (and_false _ _ l.1)
+    let c = coalesced xs n s ys in
+    let a' = subst Apart c.at_front a in
+    let b' = subst Apart c.at_back b in
+    subst Apart (sym c.is) (apart_append c.front _ (apart_parts c.front c.last a').0 (start_live c.first c.back c.start b', (apart_parts c.first c.back b').1) (and_false _ _ (end_live c.front c.last c.end a')))
 
 -- the machine
 pub well_start : (size limit : ℕ) → 2 ≤ limit → Well (start size limit)
@@ -223,26 +327,26 @@ pub found_at : (k : ℕ) (bs : List Block) (p : Place) → place_of k bs ≡ Som
 unfolding FoundAt
 found_at k bs p e = subst (FoundAt k bs) e (found_all k bs)
 
+-- a grant is found where its number does not occur before
+pub place_at : (k : ℕ) (xs : List Block) (b : Block) (ys : List Block) → count (Live k) xs ≡ 0 → has_number k b.tag ≡ true → place_of k (xs ++ b ∷ ys) ≡ Some (record { before = xs; block = b; after = ys })
+place_at k [] b ys c e = ap (λ x. if x then Some (here b ys) else prepend_if_found b (place_of k ys)) e
+place_at k (x ∷ xs) b ys c e = ap (λ t. if t then Some (here x (xs ++ b ∷ ys)) else prepend_if_found x (place_of k (xs ++ b ∷ ys))) (hit_number k x.tag (omega arith)) ∙ ap (prepend_if_found x) (place_at k xs b ys (omega arith) e)
+
 -- where a grant is not found, no block has its number
 pub not_found : (k : ℕ) (bs : List Block) → place_of k bs ≡ None → count (Live k) bs ≡ 0
 unfolding FoundAt
 not_found k bs e = subst (FoundAt k bs) e (found_all k bs)
 
--- what is chosen
-abbrev pub Occurs : Block → List Block → Type 0
-Occurs c [] = ⊥
-Occurs c (b ∷ bs) = (c ≡ b) ⊎ Occurs c bs
-
 -- no block that fits is chosen over this one
 abbrev pub IsBest : ℕ → List Block → Block → Type 0
-IsBest n bs b = (c : Block) → Occurs c bs → fits n c ≡ true → is_taken_before c b ≡ false
+IsBest n bs b = (c : Block) → In c bs → fits n c ≡ true → is_taken_before c b ≡ false
 
 -- what was chosen is the best that fits, and where nothing was, nothing fits
 ChosenAt : ℕ → List Block → Option Place → Type 0
-ChosenAt n bs None = (c : Block) → Occurs c bs → fits n c ≡ false
+ChosenAt n bs None = (c : Block) → In c bs → fits n c ≡ false
 ChosenAt n bs (Some p) = (bs ≡ whole p) × (fits n p.block ≡ true) × IsBest n bs p.block
 
-both_true : (x y : Bool) → (x && y) ≡ true → (x ≡ true) × (y ≡ true)
+pub both_true : (x y : Bool) → (x && y) ≡ true → (x ≡ true) × (y ≡ true)
 both_true true y e = (refl, e)
 both_true false y e = absurd (false≢true e)
 
@@ -256,24 +360,20 @@ order_transitive x y z s t u f g = grind (arith, nat_tests)
 taken_transitive : (a b c : Block) → is_taken_before a b ≡ false → is_taken_before c b ≡ true → is_taken_before a c ≡ false
 taken_transitive a b c f g = order_transitive (down a.size) (down b.size) (down c.size) (stamp a.tag) (stamp b.tag) (stamp c.tag) f g
 
-chosen_here : (n : ℕ) (b : Block) (bs : List Block) → fits n b ≡ true → ((c : Block) → Occurs c bs → fits n c ≡ true → is_taken_before c b ≡ false) → IsBest n (b ∷ bs) b
+chosen_here : (n : ℕ) (b : Block) (bs : List Block) → fits n b ≡ true → ((c : Block) → In c bs → fits n c ≡ true → is_taken_before c b ≡ false) → IsBest n (b ∷ bs) b
 chosen_here n b bs f best c (inl e) g = subst (λ (x : Block). is_taken_before x b ≡ false) (sym e) (taken_irreflexive b)
 chosen_here n b bs f best c (inr i) g = best c i g
 
 chosen_prepend : (n : ℕ) (b : Block) (bs : List Block) (d : Block) → (fits n b && is_taken_before b d) ≡ false → IsBest n bs d → IsBest n (b ∷ bs) d
-chosen_prepend n b bs d f best c (inl e) g = subst (λ (x : Block). is_taken_before x d ≡ false) (sym e) (second (fits n b) _ f (subst (λ (x : Block). fits n x ≡ true) e g))
-  where
-    second : (x y : Bool) → (x && y) ≡ false → x ≡ true → y ≡ false
-    second true y e h = e
-    second false y e h = absurd (false≢true h)
+chosen_prepend n b bs d f best c (inl e) g = subst (λ (x : Block). is_taken_before x d ≡ false) (sym e) (right_false (fits n b) _ f (subst (λ (x : Block). fits n x ≡ true) e g))
 chosen_prepend n b bs d f best c (inr i) g = best c i g
 
-choose_none : (n : ℕ) (b : Block) (bs : List Block) → ((c : Block) → Occurs c bs → fits n c ≡ false) → (x : Bool) → fits n b ≡ x → ChosenAt n (b ∷ bs) (if x then Some (here b bs) else None)
+choose_none : (n : ℕ) (b : Block) (bs : List Block) → ((c : Block) → In c bs → fits n c ≡ false) → (x : Bool) → fits n b ≡ x → ChosenAt n (b ∷ bs) (if x then Some (here b bs) else None)
 unfolding ChosenAt
 choose_none n b bs h true e = (refl, e, chosen_here n b bs e (λ c i g. absurd (true≢false (sym g ∙ h c i))))
 choose_none n b bs h false e = λ c i. none c i
   where
-    none : (c : Block) → Occurs c (b ∷ bs) → fits n c ≡ false
+    none : (c : Block) → In c (b ∷ bs) → fits n c ≡ false
     none c (inl same) = subst (λ (x : Block). fits n x ≡ false) (sym same) e
     none c (inr i) = h c i
 
@@ -297,7 +397,7 @@ unfolding ChosenAt
 chosen_at n bs p e = subst (ChosenAt n bs) e (chosen_all n bs)
 
 -- where nothing is chosen, nothing fits
-pub not_chosen : (n : ℕ) (bs : List Block) → chosen_place n bs ≡ None → (c : Block) → Occurs c bs → fits n c ≡ false
+pub not_chosen : (n : ℕ) (bs : List Block) → chosen_place n bs ≡ None → (c : Block) → In c bs → fits n c ≡ false
 unfolding ChosenAt
 not_chosen n bs e = subst (ChosenAt n bs) e (chosen_all n bs)
 
@@ -305,6 +405,10 @@ not_chosen n bs e = subst (ChosenAt n bs) e (chosen_all n bs)
 free_block_short : (n s : ℕ) → length (free_block n s) ≤ 1
 free_block_short zero s = omega arith
 free_block_short (suc n) s = omega arith
+
+pub free_part : (n s : ℕ) → AllFree (free_block n s) × Apart (free_block n s) × (total (free_block n s) ≡ n)
+free_part zero s = (tt, tt, refl)
+free_part (suc n) s = ((refl, tt), (refl, tt), omega arith)
 
 apart_free_block : (n s : ℕ) (ys : List Block) → Apart ys → starts_free ys ≡ false → Apart (free_block n s ++ ys)
 apart_free_block zero s ys a e = a
@@ -320,17 +424,9 @@ count_granted t p n padding front k rest = omega (arith, count-append t p.before
 apart_granted : (p : Place) (n padding front k rest : ℕ) → is_free p.block.tag ≡ true → Apart (whole p) → Apart (granted_blocks p n padding front k rest)
 apart_granted p n padding front k rest f a =
     let parts = apart_parts p.before (p.block ∷ p.after) a in
-    let end : ends_free p.before ≡ false = first (ends_free p.before) (is_free p.block.tag) parts.2 f in
-    let beginning : starts_free p.after ≡ false = second (is_free p.block.tag) (starts_free p.after) parts.1.0 f in
+    let end : ends_free p.before ≡ false = left_false (ends_free p.before) (is_free p.block.tag) parts.2 f in
+    let beginning : starts_free p.after ≡ false = right_false (is_free p.block.tag) (starts_free p.after) parts.1.0 f in
     apart_append p.before _ parts.0 (apart_free_block padding front _ (refl, apart_free_block _ rest p.after parts.1.1 beginning) refl) (and_false _ _ end)
-  where
-    first : (x y : Bool) → (x && y) ≡ false → y ≡ true → x ≡ false
-    first true y e h = sym h ∙ e
-    first false y e h = refl
-
-    second : (x y : Bool) → (x && y) ≡ false → x ≡ true → y ≡ false
-    second true y e h = e
-    second false y e h = absurd (false≢true h)
 
 once_granted : (g x : ℕ) (t : Tag) (old new : ℕ) → new ≤ old + (hit t (Free (2 * x)) + (hit t (Live (g + 1)) + hit t (Free (2 * x + 1)))) → old ≤ 1
     → ((k : ℕ) → t ≡ Live k → g < k → old ≡ 0) → ((y : ℕ) → t ≡ Free y → 2 * x ≤ y → old ≡ 0) → new ≤ 1
@@ -371,28 +467,13 @@ well_grant s w n padding p e f spare room enough =
     sizes : length bs ≡ length p.before + (length (free_block padding (stamp_of_padding s)) + suc (length (free_block (p.block.size - (padding + n)) (stamp_of_call s)) + length p.after))
     sizes = simp length-append
 
-length_without_start : (bs : List Block) → length (without_start bs) ≤ length bs
-length_without_start [] = omega arith
-length_without_start (b ∷ bs) = either (is_free b.tag)
-  where
-    either : (x : Bool) → length (if x then bs else b ∷ bs) ≤ suc (length bs)
-    either true = omega arith
-    either false = omega arith
-
-length_without_end : (bs : List Block) → length (without_end bs) ≤ length bs
-length_without_end [] = omega arith
-length_without_end (b ∷ []) = either (is_free b.tag)
-  where
-    either : (x : Bool) → length (if x then [] else b ∷ []) ≤ 1
-    either true = omega arith
-    either false = omega arith
-length_without_end (b ∷ c ∷ bs) = let ih = length_without_end (c ∷ bs) in omega arith
-
 -- coalescing leaves some block, and at most one more
 pub length_coalesce : (xs : List Block) (n s : ℕ) (ys : List Block) → (1 ≤ length (coalesce xs n s ys)) × (length (coalesce xs n s ys) ≤ length xs + suc (length ys))
 length_coalesce xs n s ys =
-    let e = length-append (without_end xs) (block (free_end xs + n + free_start ys) (Free s) ∷ without_start ys) in
-    (omega arith, omega (arith, length_without_end xs, length_without_start ys))
+    let c = coalesced xs n s ys in
+    let e = ap length c.is ∙ length-append c.front (block (total c.last + n + total c.first) (Free s) ∷ c.back) in
+    let l = c.end.few in
+    (omega arith, omega (arith, ap length c.at_front, ap length c.at_back, length-append c.front c.last, length-append c.first c.back))
 
 well_if : (b : Bool) (o p : Outcome) → (b ≡ true → Well o.state) → (b ≡ false → Well p.state) → Well (if b then o else p).state
 well_if true o p f g = f refl
@@ -422,16 +503,22 @@ well_release s w k (Some p) e =
 
 -- a last block that is free coalesces, so no block is added
 length_at_end : (bs : List Block) (n s : ℕ) → (ends_live bs ≡ false → 1 ≤ length bs → length (coalesce bs n s []) ≤ length bs) × (length (coalesce bs n s []) ≤ length bs + 1)
-length_at_end bs n s = (λ e h. omega (arith, length-append (without_end bs) (block (free_end bs + n + 0) (Free s) ∷ []), shorter bs e h), (length_coalesce bs n s []).1)
+length_at_end bs n s = (λ e h. shorter (coalesced bs n s []) e h, (length_coalesce bs n s []).1)
   where
-    shorter : (bs : List Block) → ends_live bs ≡ false → 1 ≤ length bs → length (without_end bs) + 1 ≤ length bs
-    shorter [] e h = absurd (omega arith)
-    shorter (b ∷ []) e h = either (is_free b.tag) e
+    ends_some : (bs : List Block) → 1 ≤ length bs → ends_live bs ≡ false → ends_free bs ≡ true
+    ends_some [] h e = absurd (omega arith)
+    ends_some (b ∷ []) h e = go (is_free b.tag) e
       where
-        either : (x : Bool) → (if x then false else true) ≡ false → length (if x then [] else b ∷ []) + 1 ≤ 1
-        either true e = omega arith
-        either false e = absurd (true≢false e)
-    shorter (b ∷ c ∷ bs) e h = let ih = shorter (c ∷ bs) e (omega arith) in omega arith
+        go : (x : Bool) → (if x then false else true) ≡ false → x ≡ true
+        go true e = refl
+        go false e = absurd (true≢false e)
+    ends_some (b ∷ c ∷ bs) h e = ends_some (c ∷ bs) (omega arith) e
+
+    shorter : Coalesced bs n s [] → ends_live bs ≡ false → 1 ≤ length bs → length (coalesce bs n s []) ≤ length bs
+    shorter c e h = elim (cases_lt 0 (length c.last)) [
+      | inl l ↦ omega (arith, ap length c.is, length-append c.front (block (total c.last + n + total c.first) (Free s) ∷ c.back), ap length c.at_front, length-append c.front c.last, ap length c.at_back, length-append c.first c.back)
+      | inr l ↦ absurd (true≢false (sym (ends_some bs h e) ∙ ap ends_free c.at_front ∙ c.end.live (omega arith)))
+    ]
 
 or_false : (x y : Bool) → (x || y) ≡ false → y ≡ false
 or_false true y e = absurd (true≢false e)

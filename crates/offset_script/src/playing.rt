@@ -1,6 +1,7 @@
 //! Plays the commands of a script on an allocator.
 
 ghost use Rattle.std.specs.Prelude.{◌≡◌, ◌+◌, ◌<◌, ◌≤◌, All, IfOk, IfSome, IsTrue, length, map, vec_len};
+ghost use Rattle.offset_allocator.specs.Named.{IsWellFormed};
 ghost use Rattle.offset_script.specs.Agreement.{kept_name, name_in};
 ghost use Rattle.offset_script.specs.Answers.{answer_views, answer_view};
 ghost use Rattle.offset_script.specs.Histories.{RestartsFresh, RowsCommute, NestsLeaveNoTrace};
@@ -10,6 +11,7 @@ ghost use Rattle.offset_script.specs.Simulation.{IsKept, RepresentsReached, IsSw
 
 use crate::answers::{Answer, FullRow};
 use crate::scripts::{Command, IndexWidth, Script};
+use offset_allocator::laws::is_well_formed;
 use offset_allocator::{Allocation, Allocator, NodeIndex};
 use std::alloc::{AllocError, Global};
 
@@ -32,8 +34,10 @@ impl<NI: NodeIndex> Player<NI> {
         requires high { max_allocs + 1 < NI.MAX }
         ensures { IfOk result (λ p. Represents p.space p.handles.items (start size max_allocs)) }
     {
+        let space = Allocator::with_max_allocs(alloc, size, max_allocs)?;
+        is_well_formed(&space);
         Ok(Player {
-            space: Allocator::with_max_allocs(alloc, size, max_allocs)?,
+            space,
             handles: Vec::new(alloc),
             swept: 0,
         })
@@ -59,7 +63,9 @@ impl<NI: NodeIndex> Player<NI> {
         ensures handle { IfOk result (λ a. IsKept granted self.old.handles.items
             self.new.handles.items a) }
         ensures space { self.new.space ≡ self.old.space }
+        ensures formed { IsWellFormed self.old.space }
     {
+        is_well_formed(&self.space);
         match granted {
             None => Ok(Answer::Refused),
             Some(handle) => {
@@ -91,6 +97,7 @@ impl<NI: NodeIndex> Player<NI> {
             None => Answer::Gone,
             Some(handle) => {
                 self.space.free(handle);
+                is_well_formed(&self.space);
                 self.handles[number as usize - 1] = None;
                 Answer::Freed
             }
@@ -142,6 +149,7 @@ impl<NI: NodeIndex> Player<NI> {
             self.new.space self.new.handles.items Command.Reset result }
     {
         self.space.reset();
+        is_well_formed(&self.space);
         for i in self.swept..self.handles.len() {
             self.handles[i] = None;
         }
@@ -164,7 +172,9 @@ impl<NI: NodeIndex> Player<NI> {
         ensures { Simulates self.old.space self.old.handles.items
             self.new.space self.new.handles.items (Command.Extend more) result }
     {
-        if self.space.extend(more) {
+        let done = self.space.extend(more);
+        is_well_formed(&self.space);
+        if done {
             Answer::Extended
         } else {
             Answer::Refused
