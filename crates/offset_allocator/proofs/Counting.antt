@@ -6,14 +6,7 @@ use Rattle.offset_allocator.specs.Classes.{down}
 use Rattle.offset_allocator.specs.Reports.{count_of}
 use Rattle.offset_allocator.specs.Named.{Block, View, is_free, one, times, count_listed, names_at, free_sizes, IsWellFormed}
 use Rattle.offset_allocator.proofs.ViewOrders.{hit_cases}
-
--- a list with one name fewer
-drop_one : (x : ℕ) (ys : List ℕ) → 1 ≤ times x ys → (zs : List ℕ) × (length ys ≡ length zs + 1) × ((y : ℕ) → times y ys ≡ one (nat_eq y x) + times y zs)
-drop_one x [] l = absurd (omega arith)
-drop_one x (y ∷ ys) l = elim (hit_cases x y) [
-  | inl h ↦ (ys, omega arith, λ z. ap (λ w. one (nat_eq z w) + times z ys) (sym h.0))
-  | inr h ↦ let r = drop_one x ys (let k = h.1 in omega arith) in (y ∷ r.0, let k = r.1 in omega arith, λ z. let k = r.2 z in omega arith)
-]
+use Rattle.offset_allocator.proofs.Walks.{drop_one}
 
 -- two lists that have each name equally often are of one length
 same_length : (xs ys : List ℕ) → ((x : ℕ) → times x xs ≡ times x ys) → length xs ≡ length ys
