@@ -179,3 +179,7 @@ module _ {none : ℕ} {t : Links} {ls : List (List ℕ)} (k : Linked none t ls) 
 
 pub binned : {none : ℕ} {t : Links} {top : ℕ} {ls : List (List ℕ)} → Linked none t ls → Masked ls t.masks top → Binned none t top × (class_lists none t ≡ ls)
 binned {none} {t} {top} {ls} k m = let e = shown k in (record { linked = subst (Linked none t) (sym e) k; masked = subst (λ l. Masked l t.masks top) (sym e) m }, e)
+
+-- the clauses of a change
+pub clauses : {H L R A B : Type 0} → H × L → R → A → B → record { held : H; lists : L; room : R; accesses_min : A; accesses_max : B }
+clauses p r a b = record { held = p.0; lists = p.1; room = r; accesses_min = a; accesses_max = b }

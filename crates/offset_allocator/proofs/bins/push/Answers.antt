@@ -2,7 +2,7 @@ use Rattle.std.proofs.Common.{◌≡◌, ◌≢◌, ◌∙◌, ap, sym, arith, r
 use Rattle.std.proofs.lemmas.List.{length-set, set_past}
 use Rattle.offset_allocator.specs.Named.{names_at}
 use Rattle.offset_allocator.specs.Orders.{first_of, class_lists}
-use Rattle.offset_allocator.proofs.Binned.{head_below, pushed, binned}
+use Rattle.offset_allocator.proofs.Binned.{head_below, pushed, binned, clauses}
 use Rattle.offset_allocator.proofs.Masks.{flag_full, masked_same, masked_set}
 use Rattle.offset_allocator.proofs.bins.push.Goals as goal
 
@@ -15,20 +15,18 @@ pub returns-then-newest-MAX : goal.returns-then-newest-MAX
 returns-then-newest-MAX g c =
     let k = c.requires.held.linked in
     let h = c.head-first.ensures.cell in
-    let r = binned (pushed k c.args.class c.requires.classed c.set_mask.new.self.links c.args.name c.requires.named c.requires.fresh
+    clauses (binned (pushed k c.args.class c.requires.classed c.set_mask.new.self.links c.args.name c.requires.named c.requires.fresh
     (rw (c.set_mask.ensures.cells, c.set_head.ensures.cells, c.set_newer.ensures.cells, c.set_older.ensures.cells, c.no_link.ensures.number) (sym (set_past _ _ _ (omega (arith, k.names_small, length-set c.args.tables.now.links.newer c.args.name g.NI.NodeIndex.MAX)))))
     (rw (c.set_mask.ensures.cells, c.set_head.ensures.cells, c.set_newer.ensures.cells, c.set_older.ensures.cells, h))
     (rw (c.set_mask.ensures.cells, c.set_head.ensures.cells, c.set_newer.ensures.cells, c.set_older.ensures.cells, c.link_to-link.ensures.number)))
-    (rw (c.set_mask.ensures.cells, c.set_head.ensures.cells, c.set_newer.ensures.cells, c.set_older.ensures.cells) (masked_set c.requires.held.masked k.lists_len c.args.class c.requires.classed _ _ (c.mask-mask.ensures.cell ∙ rw (c.set_head.ensures.cells, c.set_newer.ensures.cells, c.set_older.ensures.cells)) refl)) in
-    record { held = r.0; lists = r.1; room = rw (c.set_mask.ensures.cells, c.set_head.ensures.cells, c.set_newer.ensures.cells, c.set_older.ensures.cells); accesses_min = omega arith; accesses_max = omega arith }
+    (rw (c.set_mask.ensures.cells, c.set_head.ensures.cells, c.set_newer.ensures.cells, c.set_older.ensures.cells) (masked_set c.requires.held.masked k.lists_len c.args.class c.requires.classed _ _ (c.mask-mask.ensures.cell ∙ rw (c.set_head.ensures.cells, c.set_newer.ensures.cells, c.set_older.ensures.cells)) refl))) (rw (c.set_mask.ensures.cells, c.set_head.ensures.cells, c.set_newer.ensures.cells, c.set_older.ensures.cells)) (omega arith) (omega arith)
 
 pub returns-else-newest-MAX : goal.returns-else-newest-MAX
 returns-else-newest-MAX g c =
     let k = c.requires.held.linked in
     let h = c.head-first.ensures.cell in
-    let r = binned (pushed k c.args.class c.requires.classed c.set_newer-else-newest-MAX.new.self.links c.args.name c.requires.named c.requires.fresh
+    clauses (binned (pushed k c.args.class c.requires.classed c.set_newer-else-newest-MAX.new.self.links c.args.name c.requires.named c.requires.fresh
     (rw (c.set_newer-else-newest-MAX.ensures.cells, c.set_head.ensures.cells, c.set_newer.ensures.cells, c.set_older.ensures.cells, c.no_link.ensures.number, c.number-newest.ensures.number, h, c.link_to-link.ensures.number))
     (rw (c.set_newer-else-newest-MAX.ensures.cells, c.set_head.ensures.cells, c.set_newer.ensures.cells, c.set_older.ensures.cells, h))
     (rw (c.set_newer-else-newest-MAX.ensures.cells, c.set_head.ensures.cells, c.set_newer.ensures.cells, c.set_older.ensures.cells, c.link_to-link.ensures.number)))
-    (rw (c.set_newer-else-newest-MAX.ensures.cells, c.set_head.ensures.cells, c.set_newer.ensures.cells, c.set_older.ensures.cells) (masked_same c.requires.held.masked k.lists_len c.args.class c.requires.classed _ (sym (flag_full _ (λ e. let q = h ∙ k.heads c.args.class c.requires.classed ∙ ap (first_of g.NI.NodeIndex.MAX) e in absurd (omega arith)))))) in
-    record { held = r.0; lists = r.1; room = rw (c.set_newer-else-newest-MAX.ensures.cells, c.set_head.ensures.cells, c.set_newer.ensures.cells, c.set_older.ensures.cells); accesses_min = omega arith; accesses_max = omega arith }
+    (rw (c.set_newer-else-newest-MAX.ensures.cells, c.set_head.ensures.cells, c.set_newer.ensures.cells, c.set_older.ensures.cells) (masked_same c.requires.held.masked k.lists_len c.args.class c.requires.classed _ (sym (flag_full _ (λ e. let q = h ∙ k.heads c.args.class c.requires.classed ∙ ap (first_of g.NI.NodeIndex.MAX) e in absurd (omega arith))))))) (rw (c.set_newer-else-newest-MAX.ensures.cells, c.set_head.ensures.cells, c.set_newer.ensures.cells, c.set_older.ensures.cells)) (omega arith) (omega arith)

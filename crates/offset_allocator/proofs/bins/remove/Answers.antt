@@ -1,7 +1,7 @@
 use Rattle.std.proofs.Common.{◌≡◌, ◌≢◌, ◌∙◌, ap, sym, arith, rules, slice_index}
 use Rattle.std.proofs.lemmas.List.{length-set, set_past}
 use Rattle.offset_allocator.specs.Classes.{down}
-use Rattle.offset_allocator.proofs.Binned.{below, newer_in, older_in, is_first, is_later, without_head, later_masked, left, binned}
+use Rattle.offset_allocator.proofs.Binned.{below, newer_in, older_in, is_first, is_later, without_head, later_masked, left, binned, clauses}
 use Rattle.offset_allocator.proofs.Sizes.{down_small}
 use Rattle.offset_allocator.proofs.bins.remove.Goals as goal
 
@@ -36,16 +36,14 @@ pub returns-then-number-MAX-2 : goal.returns-then-number-MAX-2
 returns-then-number-MAX-2 g c =
     let k = c.requires.held.linked in
     let n : slice_index c.args.tables.now.links.newer c.args.name ≢ g.NI.NodeIndex.MAX = λ e. absurd (omega (arith, c.newer-before.ensures.cell)) in
-    let r = binned (left k _ (down_small c.args.size) c.set_newer.new.self.links _ _ _ (is_later k _ (down_small c.args.size) _ c.requires.listed n) c.newer-before.ensures.cell c.older-after.ensures.cell
+    clauses (binned (left k _ (down_small c.args.size) c.set_newer.new.self.links _ _ _ (is_later k _ (down_small c.args.size) _ c.requires.listed n) c.newer-before.ensures.cell c.older-after.ensures.cell
     (rw (c.set_newer.ensures.cells, c.set_older.ensures.cells, c.number-then-number-MAX-2.ensures.number)) (rw (c.set_newer.ensures.cells, c.set_older.ensures.cells, c.number-2.ensures.number)) (rw (c.set_newer.ensures.cells, c.set_older.ensures.cells)))
-    (rw (c.set_newer.ensures.cells, c.set_older.ensures.cells) (later_masked k _ (down_small c.args.size) _ c.requires.listed n c.requires.held.masked)) in
-    record { held = r.0; lists = r.1; room = rw (c.set_newer.ensures.cells, c.set_older.ensures.cells); accesses_min = omega arith; accesses_max = omega arith }
+    (rw (c.set_newer.ensures.cells, c.set_older.ensures.cells) (later_masked k _ (down_small c.args.size) _ c.requires.listed n c.requires.held.masked))) (rw (c.set_newer.ensures.cells, c.set_older.ensures.cells)) (omega arith) (omega arith)
 
 pub returns-else-number-MAX-2 : goal.returns-else-number-MAX-2
 returns-else-number-MAX-2 g c =
     let k = c.requires.held.linked in
     let n : slice_index c.args.tables.now.links.newer c.args.name ≢ g.NI.NodeIndex.MAX = λ e. absurd (omega (arith, c.newer-before.ensures.cell)) in
-    let r = binned (left k _ (down_small c.args.size) c.set_older.new.self.links _ _ _ (is_later k _ (down_small c.args.size) _ c.requires.listed n) c.newer-before.ensures.cell c.older-after.ensures.cell
+    clauses (binned (left k _ (down_small c.args.size) c.set_older.new.self.links _ _ _ (is_later k _ (down_small c.args.size) _ c.requires.listed n) c.newer-before.ensures.cell c.older-after.ensures.cell
     (rw c.set_older.ensures.cells (sym (set_past _ _ _ (omega (arith, k.names_small))))) (rw (c.set_older.ensures.cells, c.number-2.ensures.number)) (rw c.set_older.ensures.cells))
-    (rw c.set_older.ensures.cells (later_masked k _ (down_small c.args.size) _ c.requires.listed n c.requires.held.masked)) in
-    record { held = r.0; lists = r.1; room = rw c.set_older.ensures.cells; accesses_min = omega arith; accesses_max = omega arith }
+    (rw c.set_older.ensures.cells (later_masked k _ (down_small c.args.size) _ c.requires.listed n c.requires.held.masked))) (rw c.set_older.ensures.cells) (omega arith) (omega arith)
