@@ -1,45 +1,185 @@
--- The operations on the tables as a row of writes.
-use Rattle.std.proofs.Common.{◌≡◌, ◌≢◌, ◌<◌, ℕ, ◌*◌, ◌/◌, ◌%◌, ◌^◌, List, ◌∷◌, refl, sym, subst, ◌∙◌, arith, length, slice_index, slice_set, bit_or}
-use Rattle.offset_allocator.specs.Named.{names_at}
-use Rattle.offset_allocator.specs.Orders.{flag, Linked, Masked, IsUnlisted, lists_of, Binned, class_lists}
+-- The bins after a change of one of them.
+use Rattle.std.proofs.Common.{◌≡◌, ◌≢◌, ◌<◌, ◌≤◌, ◌+◌, ◌⊎◌, ℕ, List, [], ◌∷◌, ◌++◌, map, refl, sym, ap, subst, ◌∙◌, inl, inr, arith, length, drop, slice_index, slice_set}
+use Rattle.std.proofs.lemmas.Bool.{cases_eq}
+use Rattle.std.proofs.lemmas.List.{length-set, length-map, get_or-set_same, get_or-set_other, get_or-map, ext_get_or, set-get_or}
 use Rattle.offset_allocator.specs.Cells.{Links}
-use Rattle.offset_allocator.proofs.Find.{flag_name}
-use Rattle.offset_allocator.proofs.Changes.{lists_are, masked_same, masked_set}
-use Rattle.offset_allocator.proofs.Ops.{put_alone, put_before, head_below}
+use Rattle.offset_allocator.specs.Named.{names_at, times, without}
+use Rattle.offset_allocator.specs.Orders.{Chain, Among, flag, first_of, walk, Linked, Masked, IsUnlisted, Binned, class_lists}
+use Rattle.offset_allocator.proofs.Masks.{masked_same}
+use Rattle.offset_allocator.proofs.Rows.{one-same, times-join}
+use Rattle.offset_allocator.proofs.ViewOrders.{hit_cases, names_same, names_other, times_without_le}
+use Rattle.offset_allocator.proofs.Walks.{name_below, older_below, chain_fits, walk_is, IsLater, found, kept, led, not_first, first_same, newer_kept, older_kept, unlinked, without_first, without_later}
 
--- links that hold some lists show those lists
-module _ (none : ℕ) where
-  pub binned : (t : Links) (top : ℕ) (ls : List (List ℕ)) → (Linked none) t.newer t.older t.heads ls → (Masked none) t.heads t.masks top → (Binned none) t top × ((class_lists none) t ≡ ls)
-  binned t top ls k m =
-      let e : (lists_of none) t.older t.heads ≡ ls = (lists_are none) t.newer t.older t.heads ls k in
-      (record { linked = subst (λ z. (Linked none) t.newer t.older t.heads z) (sym e) k; masked = m }, e)
+module _ {none : ℕ} {t : Links} {ls : List (List ℕ)} (k : Linked none t ls) where
+  pub single : (c : ℕ) → c < 256 → (x : ℕ) → times x (names_at ls c) ≤ 1
+  single c h x = elim (cases_eq c 0) [ inl e ↦ omega (arith, k.once c 1 x h (omega arith) (omega arith)) | inr n ↦ omega (arith, k.once c 0 x h (omega arith) n) ]
 
-  module _ (t : Links) (top : ℕ) (b : (Binned none) t top) (x c first : ℕ) (xl : x < length t.newer) (ch : c < 256) (fresh : IsUnlisted x ((class_lists none) t)) (fe : first ≡ slice_index t.heads c) where
-    pub first_in : first ≢ none → first < length t.newer
-    first_in n = rw fe ((head_below none) t.newer t.older t.heads ((class_lists none) t) b.linked c ch (λ e. n (fe ∙ e)))
+  pub fits : (c : ℕ) → c < 256 → length (names_at ls c) ≤ length t.newer
+  fits c ch = chain_fits none t k.names_small none (names_at ls c) (k.chains c ch) (single c ch)
 
-    name_flag : (flag none) x ≡ 1
-    name_flag = (flag_name none) x (omega (arith, b.linked.names_small))
+  -- the lists that the tables hold are those that contracts see
+  pub shown : class_lists none t ≡ ls
+  unfolding class_lists
+  shown =
+      let long = length-map t.heads (walk none t.older (length t.older)) in
+      let hl = k.heads_len in
+      let ll = k.lists_len in
+      ext_get_or [] (map (walk none t.older (length t.older)) t.heads) ls (omega arith) (λ c h.
+      let ch : c < 256 = omega arith in
+      get_or-map (walk none t.older (length t.older)) t.heads c 0 [] (omega arith) ∙ ap (walk none t.older (length t.older)) (k.heads c ch)
+      ∙ walk_is none t k.names_small (length t.older) none (names_at ls c) (omega (arith, k.older_len, fits c ch)) (k.chains c ch))
 
-    module _ (n1 n2 : ℕ) (n1e : n1 ≡ none) (n2e : n2 ≡ x) (t1 t2 t3 t4 : Links) (e1 : t1 ≡ record t { older = slice_set t.older x first }) (e2 : t2 ≡ record t1 { newer = slice_set t1.newer x n1 }) (e3 : t3 ≡ record t2 { heads = slice_set t2.heads c n2 }) where
-      pub put_alone_binned : (v : ℕ) → v ≡ slice_index t3.masks (c / 64) → first ≡ none →
-          t4 ≡ record t3 { masks = slice_set t3.masks (c / 64) (bit_or v (1 * 2 ^ (c % 64) % 18446744073709551616)) } →
-          (Binned none) t4 (bit_or top (1 * 2 ^ (c / 64) % 4294967296)) × ((class_lists none) t4 ≡ slice_set ((class_lists none) t) c (x ∷ names_at ((class_lists none) t) c))
-      put_alone_binned v ve z e4 =
-          let ve' : v ≡ slice_index t.masks (c / 64) = ve ∙ rw (e3, e2, e1) refl in
-          rw (e4, e3, e2, e1, n1e, n2e)
-          (binned (record { newer = slice_set t.newer x none; older = slice_set t.older x first; heads = slice_set t.heads c x; masks = slice_set t.masks (c / 64) (bit_or v (1 * 2 ^ (c % 64) % 18446744073709551616)) })
-          (bit_or top (1 * 2 ^ (c / 64) % 4294967296)) (slice_set ((class_lists none) t) c (x ∷ names_at ((class_lists none) t) c))
-          ((put_alone none) t.newer t.older t.heads ((class_lists none) t) b.linked c ch x first xl fe fresh z)
-          ((masked_set none) t.heads t.masks top b.masked c x ch b.linked.heads_len name_flag v ve'))
+  -- class c has the names ys: only links of names that it has or had are written
+  relisted : (c : ℕ) → c < 256 → (t' : Links) (ys : List ℕ) → length t'.newer ≡ length t.newer → length t'.older ≡ length t.older → t'.heads ≡ slice_set t.heads c (first_of none ys) → Chain none t' none ys
+      → ((y : ℕ) → y < length t.newer → times y ys ≡ 0 → times y (names_at ls c) ≡ 0 → (slice_index t'.newer y ≡ slice_index t.newer y) × (slice_index t'.older y ≡ slice_index t.older y))
+      → ((y d : ℕ) → d < 256 → d ≢ c → times y ys + times y (names_at ls d) ≤ 1) → Linked none t' (slice_set ls c ys)
+  relisted c ch t' ys nl ol hd chain same new =
+      let ll = k.lists_len in
+      let hl = k.heads_len in
+      let other : (d : ℕ) → d ≢ c → names_at (slice_set ls c ys) d ≡ names_at ls d = λ d n. names_other ls c d ys n in
+      let here : (d : ℕ) → d ≡ c → names_at (slice_set ls c ys) d ≡ ys = λ d e. ap (names_at (slice_set ls c ys)) e ∙ names_same ls c ys ll ch in
+      record {
+        older_len = ol ∙ k.older_len ∙ sym nl;
+        names_small = omega (arith, k.names_small);
+        heads_len = rw hd (length-set t.heads c (first_of none ys) ∙ hl);
+        lists_len = length-set ls c ys ∙ ll;
+        heads = λ d h. elim (cases_eq d c) [
+          | inl e ↦ rw (hd, here d e, e) (get_or-set_same t.heads c (first_of none ys) 0 (omega arith))
+          | inr n ↦ rw (hd, other d n) (get_or-set_other t.heads c d (first_of none ys) 0 n ∙ k.heads d h)
+        ];
+        chains = λ d h. elim (cases_eq d c) [
+          | inl e ↦ rw (here d e) chain
+          | inr n ↦ rw (other d n) (kept none t t' nl none (names_at ls d) (λ y a. same y (name_below none t k.names_small none (names_at ls d) (k.chains d h) y a) (omega (arith, new y d h n)) (omega (arith, k.once d c y h ch n))) (k.chains d h))
+        ];
+        once = λ d e x dh eh n. elim (cases_eq d c) [
+          | inl p ↦ let m : e ≢ c = λ q. n (p ∙ sym q) in rw (here d p, other e m) (new x e eh m)
+          | inr p ↦ elim (cases_eq e c) [ inl q ↦ rw (other d p, here e q) (omega (arith, new x d dh p)) | inr q ↦ rw (other d p, other e q) (k.once d e x dh eh n) ]
+        ];
+      }
 
-      pub put_before_binned : (n3 f : ℕ) → n3 ≡ x → f ≡ first → first ≢ none →
-          t4 ≡ record t3 { newer = slice_set t3.newer f n3 } →
-          (Binned none) t4 top × ((class_lists none) t4 ≡ slice_set ((class_lists none) t) c (x ∷ names_at ((class_lists none) t) c))
-      put_before_binned n3 f n3e fe' z e4 =
-          let fl : first < none = omega (arith, first_in z, b.linked.names_small) in
-          rw (e4, e3, e2, e1, n1e, n2e, n3e, fe')
-          (binned (record { newer = slice_set (slice_set t.newer x none) first x; older = slice_set t.older x first; heads = slice_set t.heads c x; masks = t.masks })
-          top (slice_set ((class_lists none) t) c (x ∷ names_at ((class_lists none) t) c))
-          ((put_before none) t.newer t.older t.heads ((class_lists none) t) b.linked c ch x first xl fe fresh z)
-          ((masked_same none) t.heads t.masks top b.masked c x ch b.linked.heads_len (name_flag ∙ sym (rw (← fe) ((flag_name none) first fl)))))
+  module _ (c : ℕ) (ch : c < 256) where
+    -- the first name
+    pub head : names_at ls c ≢ [] → (names_at ls c ≡ slice_index t.heads c ∷ drop 1 (names_at ls c)) × Chain none t none (slice_index t.heads c ∷ drop 1 (names_at ls c))
+    head f = let e = cons (names_at ls c) f (k.heads c ch) in (e, subst (Chain none t none) e (k.chains c ch))
+      where
+        cons : (xs : List ℕ) → xs ≢ [] → slice_index t.heads c ≡ first_of none xs → xs ≡ slice_index t.heads c ∷ drop 1 xs
+        cons [] f e = absurd (f refl)
+        cons (x ∷ xs) f e = ap (λ i. i ∷ xs) (sym e)
+
+    pub head_below : slice_index t.heads c ≢ none → slice_index t.heads c < length t.newer
+    head_below n = (head (λ e. n (k.heads c ch ∙ ap (first_of none) e))).1.0
+
+    pub without_head : names_at ls c ≢ [] → without (slice_index t.heads c) (names_at ls c) ≡ drop 1 (names_at ls c)
+    without_head f = let e = (head f).0 in ap (without (slice_index t.heads c)) e ∙ without_first (slice_index t.heads c) (drop 1 (names_at ls c)) (let o = ap (times (slice_index t.heads c)) e in omega (arith, single c ch (slice_index t.heads c)))
+
+    -- whether names are left
+    pub none_left : (xs : List ℕ) (b : ℕ) → Chain none t b xs → first_of none xs ≡ none → xs ≡ []
+    none_left [] b d e = refl
+    none_left (x ∷ xs) b d e = absurd (omega (arith, d.0, k.names_small))
+
+    pub is_first : (x : ℕ) → Among x (names_at ls c) → slice_index t.newer x ≡ none → (names_at ls c ≢ []) × (slice_index t.heads c ≡ x)
+    is_first x a e = elim (found none t k.names_small none x (names_at ls c) (k.chains c ch) a) [
+      | inl f ↦ (λ n. let q = ap (times x) n in omega arith, k.heads c ch ∙ ap (first_of none) f.1)
+      | inr f ↦ absurd (let l = name_below none t k.names_small none (names_at ls c) (k.chains c ch) none (rw (f.is, e) (omega (arith, times-join none f.front (none ∷ x ∷ f.rest), one-same none))) in omega (arith, k.names_small))
+    ]
+
+    pub below : (x : ℕ) → Among x (names_at ls c) → x < length t.newer
+    below x a = name_below none t k.names_small none (names_at ls c) (k.chains c ch) x a
+
+    pub older_in : (x : ℕ) → Among x (names_at ls c) → slice_index t.older x ≢ none → slice_index t.older x < length t.newer
+    older_in x a n = older_below none t k.names_small none (names_at ls c) (k.chains c ch) x a n
+
+    pub is_later : (x : ℕ) → Among x (names_at ls c) → slice_index t.newer x ≢ none → IsLater none t k.names_small x (names_at ls c)
+    is_later x a n = elim (found none t k.names_small none x (names_at ls c) (k.chains c ch) a) [ inl f ↦ absurd (n f.0) | inr f ↦ f ]
+
+    pub newer_in : (x : ℕ) → Among x (names_at ls c) → slice_index t.newer x ≢ none → slice_index t.newer x < length t.newer
+    newer_in x a n =
+        let f = is_later x a n in
+        let w : ℕ = slice_index t.newer x in
+        below w (omega (arith, ap (times w) f.is, times-join w f.front (w ∷ x ∷ f.rest), one-same w))
+
+    pub later_masked : (x : ℕ) {masks : List ℕ} {top : ℕ} → Among x (names_at ls c) → slice_index t.newer x ≢ none → Masked ls masks top → Masked (slice_set ls c (without x (names_at ls c))) masks top
+    later_masked x a n m =
+        let f = is_later x a n in
+        let is = ap (without x) f.is ∙ without_later x (slice_index t.newer x) f.front f.rest (let o = ap (times x) f.is in omega (arith, single c ch x)) in
+        masked_same m k.lists_len c ch (without x (names_at ls c)) (ap flag is ∙ mid f.front _ _ ∙ sym (ap flag f.is ∙ mid f.front _ _))
+      where
+        mid : (fs : List ℕ) (w : ℕ) (cs : List ℕ) → flag (fs ++ w ∷ cs) ≡ 1
+        mid [] w cs = refl
+        mid (y ∷ fs) w cs = refl
+
+    -- ---- changes
+    module _ (t' : Links) where
+      -- x becomes the first name of the class
+      pub pushed : (x : ℕ) → x < length t.newer → IsUnlisted x ls → t'.newer ≡ slice_set (slice_set t.newer x none) (slice_index t.heads c) x → t'.older ≡ slice_set t.older x (slice_index t.heads c) → t'.heads ≡ slice_set t.heads c x → Linked none t' (slice_set ls c (x ∷ names_at ls c))
+      pushed x l fresh newer older heads =
+          let h : ℕ = slice_index t.heads c in
+          let long : length t'.newer ≡ length t.newer = rw newer (length-set (slice_set t.newer x none) h x ∙ length-set t.newer x none) in
+          let absent : times x (names_at ls c) ≡ 0 = omega (arith, fresh c ch) in
+          let ns = k.names_small in
+          let newer_kept : (y : ℕ) → y ≢ x → y ≢ h → slice_index t'.newer y ≡ slice_index t.newer y = λ y n m. rw newer (get_or-set_other (slice_set t.newer x none) h y x 0 m ∙ get_or-set_other t.newer x y none 0 n) in
+          let older_kept : (y : ℕ) → y ≢ x → slice_index t'.older y ≡ slice_index t.older y = λ y n. rw older (get_or-set_other t.older x y h 0 n) in
+          let head = k.heads c ch in
+          let apart : (y : ℕ) → Among y (names_at ls c) → y ≢ x = λ y a e. let q = ap (λ i. times i (names_at ls c)) e in omega arith in
+          let not_head : (y : ℕ) → y < length t.newer → times y (names_at ls c) ≡ 0 → y ≢ h = λ y b z e. not_first y (names_at ls c) (omega arith) z (e ∙ head) in
+          relisted c ch t' (x ∷ names_at ls c) long (rw older (length-set t.older x h)) heads (
+            omega arith,
+            rw newer (get_or-set_other (slice_set t.newer x none) h x x 0 (not_head x l absent) ∙ get_or-set_same t.newer x none 0 l),
+            rw older (get_or-set_same t.older x h 0 (omega (arith, k.older_len))) ∙ head,
+            led none t t' long none x (names_at ls c) (single c ch) (linked_back (names_at ls c) (k.chains c ch) head) (λ y a n. newer_kept y (apart y a) (λ e. n (e ∙ head))) (λ y a. older_kept y (apart y a)) (k.chains c ch),
+          )
+          (λ y b u v. let n : y ≢ x = λ e. let q = ap (λ i. times i (x ∷ [])) e in omega (arith, one-same x) in (newer_kept y n (not_head y b v), older_kept y n))
+          (λ y d dh n. elim (hit_cases y x) [ inl i ↦ let q = ap (λ j. times j (names_at ls d)) i.0 in let p = ap (λ j. times j (names_at ls c)) i.0 in omega (arith, i.1, fresh d dh) | inr i ↦ omega (arith, i.1, k.once d c y dh ch n) ])
+        where
+          linked_back : (xs : List ℕ) → Chain none t none xs → slice_index t.heads c ≡ first_of none xs → slice_index t'.newer (first_of none xs) ≡ x ⊎ (xs ≡ [])
+          linked_back [] d e = inr refl
+          linked_back (y ∷ xs) d e = inl (rw (newer, ← e) (get_or-set_same (slice_set t.newer x none) (slice_index t.heads c) x 0 (omega (arith, d.0, length-set t.newer x none))))
+
+      -- the first name leaves
+      pub beheaded : (after : ℕ) → names_at ls c ≢ [] → after ≡ slice_index t.older (slice_index t.heads c) → t'.newer ≡ slice_set t.newer after none → t'.older ≡ t.older → t'.heads ≡ slice_set t.heads c after → Linked none t' (slice_set ls c (drop 1 (names_at ls c)))
+      beheaded after full next newer older heads =
+          let xs : List ℕ = drop 1 (names_at ls c) in
+          let h = head full in
+          let first : after ≡ first_of none xs = next ∙ h.1.2 in
+          let few : (y : ℕ) → times y xs ≤ times y (names_at ls c) = λ y. let e = ap (times y) h.0 in omega arith in
+          let long : length t'.newer ≡ length t.newer = rw newer (length-set t.newer after none) in
+          let newer_kept : (y : ℕ) → y ≢ first_of none xs → slice_index t'.newer y ≡ slice_index t.newer y = λ y n. rw newer (get_or-set_other t.newer after y none 0 (λ s. n (s ∙ first))) in
+          let ns = k.names_small in
+          relisted c ch t' xs long (rw older) (rw first at heads)
+          (led none t t' long (slice_index t.heads c) none xs (λ y. omega (arith, few y, single c ch y)) (linked_back xs first (slice_index t.heads c) h.1.3) (λ y a n. newer_kept y n) (λ y a. rw older) h.1.3)
+          (λ y b u v. (newer_kept y (not_first y xs (omega arith) u), rw older))
+          (λ y e eh n. omega (arith, few y, k.once e c y eh ch n))
+        where
+          linked_back : (xs : List ℕ) → after ≡ first_of none xs → (b : ℕ) → Chain none t b xs → slice_index t'.newer (first_of none xs) ≡ none ⊎ (xs ≡ [])
+          linked_back [] e b d = inr refl
+          linked_back (y ∷ xs) e b d = inl (rw (newer, ← e) (get_or-set_same t.newer after none 0 (omega (arith, d.0))))
+
+      -- a later name leaves
+      pub left : (x before after : ℕ) → IsLater none t k.names_small x (names_at ls c) → before ≡ slice_index t.newer x → after ≡ slice_index t.older x → t'.newer ≡ slice_set t.newer after before → t'.older ≡ slice_set t.older before after → t'.heads ≡ t.heads → Linked none t' (slice_set ls c (without x (names_at ls c)))
+      left x before after f be af newer older heads =
+          let w : ℕ = slice_index t.newer x in
+          let ns = k.names_small in
+          let chain : Chain none t none (f.front ++ w ∷ x ∷ f.rest) = rw f.is at (k.chains c ch) in
+          let o : (y : ℕ) → times y (f.front ++ w ∷ x ∷ f.rest) ≤ 1 = rw f.is at (single c ch) in
+          let is : without x (names_at ls c) ≡ f.front ++ w ∷ f.rest = ap (without x) f.is ∙ without_later x w f.front f.rest (o x) in
+          let first : after ≡ first_of none f.rest = af ∙ rest_first f.front none chain in
+          let newer' : t'.newer ≡ slice_set t.newer (first_of none f.rest) w = rw (← first, ← be) newer in
+          let older' : t'.older ≡ slice_set t.older w (first_of none f.rest) = rw (← first, ← be) older in
+          let head : slice_index t.heads c ≡ first_of none (without x (names_at ls c)) = k.heads c ch ∙ ap (first_of none) f.is ∙ first_same none w x f.rest f.front ∙ ap (first_of none) (sym is) in
+          relisted c ch t' (without x (names_at ls c)) (rw newer (length-set t.newer after before)) (rw older (length-set t.older before after)) (heads ∙ sym (rw (← head) (set-get_or t.heads c 0)))
+          (rw is (unlinked none t t' w x f.rest k.names_small k.older_len newer' older' none f.front o chain))
+          (λ y l u v.
+          let z : times y f.front + (times y (w ∷ []) + times y f.rest) ≡ 0 = omega (arith, v, ap (times y) f.is, times-join y f.front (w ∷ x ∷ f.rest)) in
+          (newer_kept none t t' w x f.rest k.names_small k.older_len newer' older' y (not_first y f.rest (omega arith) (omega arith)), older_kept none t t' w x f.rest k.names_small k.older_len newer' older' y (λ e. let q = ap (λ i. times i (w ∷ [])) e in omega (arith, one-same w))))
+          (λ y d dh n. omega (arith, times_without_le x y (names_at ls c), k.once d c y dh ch n))
+        where
+          rest_first : (l : List ℕ) (b : ℕ) → Chain none t b (l ++ slice_index t.newer x ∷ x ∷ f.rest) → slice_index t.older x ≡ first_of none f.rest
+          rest_first [] b d = d.3.2
+          rest_first (y ∷ l) b d = rest_first l y d.3
+
+pub binned : {none : ℕ} {t : Links} {top : ℕ} {ls : List (List ℕ)} → Linked none t ls → Masked ls t.masks top → Binned none t top × (class_lists none t ≡ ls)
+binned {none} {t} {top} {ls} k m = let e = shown k in (record { linked = subst (Linked none t) (sym e) k; masked = subst (λ l. Masked l t.masks top) (sym e) m }, e)
+
+-- the clauses of a change
+pub clauses : {H L R A B : Type 0} → H × L → R → A → B → record { held : H; lists : L; room : R; accesses_min : A; accesses_max : B }
+clauses p r a b = record { held = p.0; lists = p.1; room = r; accesses_min = a; accesses_max = b }

@@ -1,63 +1,92 @@
 -- The names of a class are as many as its free blocks.
-use Rattle.std.proofs.Common.{◌≡◌, ℕ, zero, suc, ◌+◌, ◌*◌, ◌≤◌, true, false, not, cond, ◌&&◌, List, [], ◌∷◌, length, nat_eq, nat_lt, if◌then◌else◌, refl, sym, ap, ◌∙◌, inl, inr, arith, eq-eqb, ne_eqb}
-use Rattle.std.proofs.lemmas.Bool.{cases_eq}
+use Rattle.std.proofs.Common.{◌≡◌, ◌≢◌, ℕ, zero, suc, ◌+◌, ◌*◌, ◌<◌, ◌≤◌, true, false, not, cond, ◌&&◌, List, [], ◌∷◌, length, sum, nat_eq, nat_lt, if◌then◌else◌, refl, sym, ap, inl, inr, arith, eq-eqb, ne_eqb}
+use Rattle.std.proofs.lemmas.Bool.{cases_eq, cases_lt}
 use Rattle.std.proofs.lemmas.Bool.Decides.{nat_tests}
-use Rattle.offset_allocator.specs.Classes.{down}
-use Rattle.offset_allocator.specs.Reports.{count_of}
-use Rattle.offset_allocator.specs.Named.{Block, View, is_free, one, times, count_listed, names_at, free_sizes, IsWellFormed}
-use Rattle.offset_allocator.proofs.ViewOrders.{hit_cases}
+use Rattle.std.proofs.lemmas.List.{get_or_past}
+use Rattle.std.proofs.lemmas.List.Sums.{sum_by-cons}
+use Rattle.offset_allocator.specs.Classes.{value, up, down}
+use Rattle.offset_allocator.specs.Reports.{count_of, largest}
+use Rattle.offset_allocator.specs.Named.{Block, View, one, times, count_listed, names_at, free_sizes, IsWellFormed}
+use Rattle.offset_allocator.specs.Promises.{IsLargestClass}
+use Rattle.offset_allocator.proofs.Classes.{down_small, value_down, value_grows, up_reached}
+use Rattle.offset_allocator.proofs.Rows.{one-same}
+use Rattle.offset_allocator.proofs.Walks.{drop_one}
 
--- a list with one name fewer
-drop_one : (x : ℕ) (ys : List ℕ) → 1 ≤ times x ys → (zs : List ℕ) × (length ys ≡ length zs + 1) × ((y : ℕ) → times y ys ≡ one (nat_eq y x) + times y zs)
-drop_one x [] l = absurd (omega arith)
-drop_one x (y ∷ ys) l = elim (hit_cases x y) [
-  | inl h ↦ (ys, omega arith, λ z. ap (λ w. one (nat_eq z w) + times z ys) (sym h.0))
-  | inr h ↦ let r = drop_one x ys (let k = h.1 in omega arith) in (y ∷ r.0, let k = r.1 in omega arith, λ z. let k = r.2 z in omega arith)
-]
+-- ---- sizes by their classes
+-- a class of which a size is
+count_one : (c n : ℕ) (ns : List ℕ) → 1 ≤ count_of c (n ∷ ns) → (1 ≤ count_of c ns → ⊥) → down n ≡ c
+count_one c n ns l none = elim (cases_eq (down n) c) [ inl e ↦ e | inr m ↦ absurd (let k = rw (ne_eqb (down n) c m) at l in none (omega arith)) ]
 
--- two lists that have each name equally often are of one length
-same_length : (xs ys : List ℕ) → ((x : ℕ) → times x xs ≡ times x ys) → length xs ≡ length ys
-same_length [] [] h = refl
-same_length [] (y ∷ ys) h = elim (hit_cases y y) [ inl e ↦ let k = h y in let o = e.1 in absurd (omega arith) | inr n ↦ absurd (n.0 refl) ]
-same_length (x ∷ xs) ys h =
-    let there : 1 ≤ times x ys = elim (hit_cases x x) [ inl e ↦ let k = h x in let o = e.1 in omega arith | inr n ↦ absurd (n.0 refl) ] in
-    let r = drop_one x ys there in
-    let ih = same_length xs r.0 (λ z. let k = h z in let m = r.2 z in omega arith) in
-    let k = r.1 in
-    omega arith
+self_count : (n : ℕ) (ns : List ℕ) → 1 ≤ count_of (down n) (n ∷ ns)
+self_count n ns = rw (eq-eqb (down n) (down n) refl) (omega arith)
 
--- the names of the free blocks of class c
-class_names : ℕ → List Block → List ℕ
-class_names c [] = []
-class_names c (b ∷ bs) = if is_free b && nat_eq c (down b.size) then b.name ∷ class_names c bs else class_names c bs
-
-times_class : (c x : ℕ) (bs : List Block) → times x (class_names c bs) ≡ count_listed c x bs
-unfolding class_names
-times_class c x [] = refl
-times_class c x (b ∷ bs) =
-    let ih = times_class c x bs in
-    elim b.used as (λ u. times x (if not u && nat_eq c (down b.size) then b.name ∷ class_names c bs else class_names c bs) ≡ one (not u && (nat_eq c (down b.size) && nat_eq x b.name)) + count_listed c x bs) [
-      | true ↦ omega arith
-      | false ↦ elim (nat_eq c (down b.size)) as (λ t. times x (if t then b.name ∷ class_names c bs else class_names c bs) ≡ one (t && nat_eq x b.name) + count_listed c x bs) [ true ↦ omega arith | false ↦ omega arith ]
+value_within : (c : ℕ) (ns : List ℕ) → 1 ≤ count_of c ns → (value c ≤ largest ns) × (value c ≤ sum ns)
+value_within c [] l = absurd (omega arith)
+value_within c (n ∷ ns) l =
+    let s = sum_by-cons (λ (i : ℕ). i) n ns in
+    elim (cases_lt 0 (count_of c ns)) [
+      | inl h ↦ let ih = value_within c ns h in (omega (arith, ih.0), omega (arith, s, ih.1))
+      | inr h ↦ let e = ap value (count_one c n ns l (λ m. omega arith)) in (omega arith, omega (arith, s, value_down n))
     ]
 
-length_class : (c : ℕ) (bs : List Block) → length (class_names c bs) ≡ count_of c (free_sizes bs)
-unfolding class_names
-length_class c [] = refl
-length_class c (b ∷ bs) =
-    let ih = length_class c bs in
-    elim b.used as (λ u. length (if not u && nat_eq c (down b.size) then b.name ∷ class_names c bs else class_names c bs) ≡ count_of c (if u then free_sizes bs else b.size ∷ free_sizes bs)) [
-      | true ↦ ih
-      | false ↦ elim (hit_cases c (down b.size)) [
-        | inl e ↦ rw (eq-eqb c (down b.size) e.0, eq-eqb (down b.size) c (sym e.0)) (omega arith)
-        | inr n ↦ rw (ne_eqb c (down b.size) n.0, ne_eqb (down b.size) c (λ q. n.0 (sym q))) (omega arith)
-      ]
+largest_most : (c : ℕ) (ns : List ℕ) → ((d : ℕ) → c < d → d < 256 → count_of d ns ≡ 0) → largest ns ≤ value c
+largest_most c [] h = omega arith
+largest_most c (n ∷ ns) h =
+    let ih = largest_most c ns (λ d l b. omega (arith, h d l b)) in
+    elim (cases_lt c (down n)) [
+      | inl l ↦ absurd (omega (arith, h (down n) l (down_small n), self_count n ns))
+      | inr l ↦ let g = value_grows (down n) c l in omega arith
     ]
+
+no_sizes : (ns : List ℕ) → ((d : ℕ) → d < 256 → count_of d ns ≡ 0) → largest ns ≡ 0
+no_sizes [] h = refl
+no_sizes (n ∷ ns) h = absurd (omega (arith, h (down n) (down_small n), self_count n ns))
+
+-- ---- names by their classes
+length_listed : (c : ℕ) (bs : List Block) (xs : List ℕ) → ((x : ℕ) → times x xs ≡ count_listed c x bs) → length xs ≡ count_of c (free_sizes bs)
+length_listed c [] [] h = refl
+length_listed c [] (x ∷ xs) h = absurd (omega (arith, h x, one-same x))
+length_listed c (b ∷ bs) xs h = elim b.used as (λ u. ((x : ℕ) → times x xs ≡ one (not u && (nat_eq c (down b.size) && nat_eq x b.name)) + count_listed c x bs) → length xs ≡ count_of c (if u then free_sizes bs else b.size ∷ free_sizes bs)) [
+  | true ↦ λ k. length_listed c bs xs (λ x. omega (arith, k x))
+  | false ↦ λ k. elim (cases_eq (down b.size) c) [
+    | inl e ↦
+        let named : (x : ℕ) → times x xs ≡ one (nat_eq x b.name) + count_listed c x bs = λ x. rw (eq-eqb c (down b.size) (sym e)) at (k x) in
+        let r = drop_one b.name xs (omega (arith, named b.name, one-same b.name)) in
+        rw (eq-eqb (down b.size) c e) (omega (arith, r.1, length_listed c bs r.0 (λ x. omega (arith, named x, r.2 x))))
+    | inr n ↦ rw (ne_eqb (down b.size) c n) (omega (arith, length_listed c bs xs (λ x. let j = rw (ne_eqb c (down b.size) (λ q. n (sym q))) at (k x) in omega arith)))
+  ]
+] h
 
 pub length_names : (v : View) → IsWellFormed v → (c : ℕ) → length (names_at v.order c) ≡ count_of c (free_sizes v.blocks)
-length_names v w c = same_length (names_at v.order c) (class_names c v.blocks) (λ x. w.orders c x ∙ sym (times_class c x v.blocks)) ∙ length_class c v.blocks
+length_names v w c = length_listed c v.blocks (names_at v.order c) (w.orders c)
 
--- how many names the classes below c have
+module _ (v : View) (w : IsWellFormed v) where
+  counted : (c : ℕ) → names_at v.order c ≢ [] → 1 ≤ count_of c (free_sizes v.blocks)
+  counted c n = go (names_at v.order c) n (length_names v w c)
+    where
+      go : (xs : List ℕ) → xs ≢ [] → length xs ≡ count_of c (free_sizes v.blocks) → 1 ≤ count_of c (free_sizes v.blocks)
+      go [] n e = absurd (n refl)
+      go (x ∷ xs) n e = omega arith
+
+  uncounted : (c : ℕ) → names_at v.order c ≡ [] → count_of c (free_sizes v.blocks) ≡ 0
+  uncounted c e = omega (arith, length_names v w c, ap (λ (l : List ℕ). length l) e)
+
+  -- a class that holds n units has no name where fewer units are free
+  pub class_within : (n c : ℕ) → up n ≤ c → names_at v.order c ≢ [] → n ≤ sum (free_sizes v.blocks)
+  class_within n c l some = elim (cases_lt c 256) [
+    | inl h ↦ omega (arith, up_reached n (omega arith), value_grows (up n) c l, (value_within c (free_sizes v.blocks) (counted c some)).1)
+    | inr h ↦ absurd (some (get_or_past v.order c [] (omega (arith, w.classes))))
+  ]
+
+  pub largest_none : ((c : ℕ) → c < 256 → names_at v.order c ≡ []) → largest (free_sizes v.blocks) ≡ 0
+  largest_none e = no_sizes (free_sizes v.blocks) (λ d h. uncounted d (e d h))
+
+  pub largest_some : (c : ℕ) → IsLargestClass v.order c → (largest (free_sizes v.blocks) ≡ value c) × (value c ≤ sum (free_sizes v.blocks))
+  largest_some c k =
+      let f = value_within c (free_sizes v.blocks) (counted c k.1) in
+      (omega (arith, f.0, largest_most c (free_sizes v.blocks) (λ d l h. uncounted d (k.2 d l h))), f.1)
+
+-- ---- how many names the classes below c have
 abbrev pub names_below : ℕ → List (List ℕ) → ℕ
 names_below zero order = 0
 names_below (suc c) order = names_below c order + length (names_at order c)
@@ -83,7 +112,7 @@ counts_one (suc c) n ns =
 
 counts_most : (c : ℕ) (ns : List ℕ) → counts_below c ns ≤ length ns
 counts_most c [] = let z = counts_none c in omega arith
-counts_most c (n ∷ ns) = let o = counts_one c n ns in let ih = counts_most c ns in elim (nat_lt (down n) c) as (λ t. counts_below c (n ∷ ns) ≤ counts_below c ns + cond t 1 0 → counts_below c (n ∷ ns) ≤ suc (length ns)) [ true ↦ λ h. omega arith | false ↦ λ h. omega arith ] o
+counts_most c (n ∷ ns) = let o = counts_one c n ns in let ih = counts_most c ns in grind (arith, nat_tests)
 
 names_counts : (v : View) → IsWellFormed v → (c : ℕ) → names_below c v.order ≡ counts_below c (free_sizes v.blocks)
 unfolding counts_below
@@ -91,8 +120,5 @@ names_counts v w zero = refl
 names_counts v w (suc c) = let ih = names_counts v w c in let k = length_names v w c in omega arith
 
 -- all classes together have at most as many names as there are free blocks
-pub names_most : (v : View) → IsWellFormed v → (c : ℕ) → names_below c v.order ≤ length (free_sizes v.blocks)
-names_most v w c = let a = names_counts v w c in let b = counts_most c (free_sizes v.blocks) in omega arith
-
 pub accesses_most : (v : View) → IsWellFormed v → (c new old : ℕ) → c ≡ 256 → new ≤ old + c + names_below c v.order → new ≤ old + 512 + 2 * length (free_sizes v.blocks)
-accesses_most v w c new old e l = let m = names_most v w c in omega arith
+accesses_most v w c new old e l = omega (arith, names_counts v w c, counts_most c (free_sizes v.blocks))

@@ -1,125 +1,138 @@
--- The smallest class from a class on, by the masks.
-use Rattle.std.proofs.Common.{◌≡◌, ◌≢◌, ◌<◌, ◌≤◌, ℕ, ◌+◌, ◌*◌, ◌/◌, ◌%◌, ◌^◌, List, [], ◌∷◌, bit_and, refl, sym, ◌∙◌, inl, inr, ⊎_elim, arith, true, false, eqb, length, slice_index, w32, w64}
+-- The first and the last class that has a name, by the masks.
+use Rattle.std.proofs.Common.{◌≡◌, ◌≢◌, ◌<◌, ◌≤◌, ℕ, suc, ◌+◌, ◌-◌, ◌*◌, ◌/◌, ◌%◌, ◌^◌, List, [], ◌∷◌, bit_and, refl, sym, ap, ◌∙◌, inl, inr, arith, slice_index, w32, w64, ne_eqb}
 use Rattle.std.specs.Int.{bit_at}
-use Rattle.std.specs.Int.Count.{count_trailing_zeros}
-use Rattle.std.proofs.lemmas.Nat.{div-mul-add, mod-mul-add}
+use Rattle.std.specs.Int.Count.{count_trailing_zeros, count_leading_zeros}
+use Rattle.std.proofs.lemmas.Nat.{pow_pos, leading_top, le-div, div_below, div-mul-add, mod-mul-add}
 use Rattle.std.proofs.lemmas.Nat.Bits.{bit_at_above, bit_at-zero, bit_at-trailing_zeros}
-use Rattle.std.proofs.lemmas.Bool.{cases_lt, cases_eq, eqb-true, eq-eqb}
+use Rattle.std.proofs.lemmas.Bool.{cases_lt, cases_eq}
+use Rattle.std.proofs.Math.Nat.{pow-suc}
 use Rattle.offset_allocator.specs.Named.{names_at}
-use Rattle.offset_allocator.specs.Orders.{flag, mark, Chain, IsSmallestFrom, Masked, Linked}
+use Rattle.offset_allocator.specs.Orders.{flag, mark, IsSmallestFrom, Masked}
+use Rattle.offset_allocator.specs.Promises.{IsLargestClass}
 use Rattle.offset_allocator.proofs.Bits.{none_from, least_from}
 
-module _ (none : ℕ) where
-  pub ne-eqb : (a b : ℕ) → (a ≡ b → ⊥) → eqb a b ≡ false
-  ne-eqb a b h = elim (eqb a b) as (λ v. eqb a b ≡ v → eqb a b ≡ false) [ true ↦ λ e. absurd (h (eqb-true a b e)) | false ↦ λ e. e ] refl
+-- the highest bit of a word
+highest_bit : (k n : ℕ) → n ≢ 0 → n < 2 ^ k → (j : ℕ) × (count_leading_zeros k n + suc j ≡ k) × (bit_at n j ≡ 1) × ((i : ℕ) → j < i → bit_at n i ≡ 0)
+highest_bit k n p h =
+    let (j, q, low, high) = leading_top k n (omega arith) h in
+    let two : 2 ^ suc j ≡ 2 ^ j * 2 = pow-suc 2 j in
+    let at_least : 1 ≤ n / 2 ^ j = le-div 1 n (2 ^ j) (pow_pos j) (omega arith) in
+    let at_most : n / 2 ^ j < 2 = div_below n (2 ^ j) 2 (pow_pos j) (omega arith) in
+    let is : n / 2 ^ j ≡ 1 = omega arith in
+    (j, q, ap (λ x. x % 2) is, λ i l. bit_at_above n (suc j) i high (omega arith))
 
-  pub flag_name : (h : ℕ) → h < none → (flag none) h ≡ 1
-  flag_name h l = rw (ne-eqb h none (λ e. omega arith))
+module _ {ls : List (List ℕ)} {masks : List ℕ} {top : ℕ} (k : Masked ls masks top) where
+  -- a class whose bit is 0, or whose word's bit is 0, has no name
+  clear : (c : ℕ) → c < 256 → bit_at (slice_index masks (c / 64)) (c % 64) ≡ 0 → names_at ls c ≡ []
+  clear c h z = go (names_at ls c) (sym (k.bits c h) ∙ z)
+    where
+      go : (xs : List ℕ) → flag xs ≡ 0 → xs ≡ []
+      go [] e = refl
+      go (x ∷ xs) e = absurd (omega arith)
 
-  pub flag_of_empty : (m : ℕ) (nw od : ℕ → ℕ) (b h : ℕ) (xs : List ℕ) → m ≤ none → (Chain none) m nw od b h xs → (flag none) h ≡ 0 → xs ≡ []
-  flag_of_empty m nw od b h [] s c z = refl
-  flag_of_empty m nw od b h (x ∷ xs) s c z = let e : (flag none) h ≡ 1 = flag_name h (omega (arith, c.0, c.1)) in absurd (omega arith)
+  clear_word : (c : ℕ) → c < 256 → bit_at top (c / 64) ≡ 0 → names_at ls c ≡ []
+  clear_word c h z =
+      let e : slice_index masks (c / 64) ≡ 0 = elim (cases_eq (slice_index masks (c / 64)) 0) [ inl e ↦ e | inr n ↦ absurd (let m : mark (slice_index masks (c / 64)) ≡ 1 = rw (ne_eqb _ 0 n) in omega (arith, k.tops (c / 64) (omega arith))) ] in
+      clear c h (rw e (bit_at-zero (c % 64)))
 
-  pub flag_of_full : (m : ℕ) (nw od : ℕ → ℕ) (b h : ℕ) (xs : List ℕ) → (Chain none) m nw od b h xs → (flag none) h ≡ 1 → xs ≡ [] → ⊥
-  flag_of_full m nw od b h [] c z e = let f : (flag none) h ≡ 0 = rw (eq-eqb h none c) in omega arith
-  flag_of_full m nw od b h (x ∷ xs) c z e = cc
+  full : (w t : ℕ) → w < 4 → t < 64 → bit_at (slice_index masks w) t ≡ 1 → names_at ls (w * 64 + t) ≡ [] → ⊥
+  full w t a b z e =
+      let one : bit_at (slice_index masks ((w * 64 + t) / 64)) ((w * 64 + t) % 64) ≡ 1 = rw (div-mul-add w 64 t b, mod-mul-add w 64 t b) z in
+      let f = ap flag e in omega (arith, k.bits (w * 64 + t) (omega arith))
 
-  mark_one : (w : ℕ) → mark w ≡ 1 → 0 < w
-  mark_one w h = elim (cases_eq w 0) [ inl e ↦ let f : mark w ≡ 0 = rw e in absurd (omega arith) | inr n ↦ omega arith ]
+  -- a word whose bit is set
+  word : (w : ℕ) → bit_at top w ≡ 1 → (w < 4) × (slice_index masks w ≢ 0)
+  word w e = elim (cases_lt w 4) [
+    | inl s ↦ (s, λ z. let m : mark (slice_index masks w) ≡ 0 = ap mark z in omega (arith, k.tops w s))
+    | inr s ↦ absurd (let q = bit_at_above top 4 w k.top_small s in omega arith)
+  ]
 
-  mark_zero : (w : ℕ) → mark w ≡ 0 → w ≡ 0
-  mark_zero w h = elim (cases_eq w 0) [ inl e ↦ e | inr n ↦ let f : mark w ≡ 1 = rw (ne-eqb w 0 n) in absurd (omega arith) ]
+  -- ---- the smallest one from a class on
+  module _ (c : ℕ) (ch : c < 256) (v r : ℕ) (ve : v ≡ slice_index masks (c / 64)) (re : r ≡ bit_and v (18446744073709551615 * 2 ^ (c % 64) % 18446744073709551616)) where
+    v_small : v < 2 ^ 64
+    v_small = rw ve (k.words_small (c / 64) (omega arith))
 
-  module _ (heads masks : List ℕ) (top : ℕ) (k : (Masked none) heads masks top) (ls : List (List ℕ)) (empty : (c : ℕ) → c < 256 → (flag none) (slice_index heads c) ≡ 0 → names_at ls c ≡ []) (full : (c : ℕ) → c < 256 → (flag none) (slice_index heads c) ≡ 1 → names_at ls c ≡ [] → ⊥) where
-    bit : ℕ → ℕ
-    bit c = bit_at (slice_index masks (c / 64)) (c % 64)
+    pub here : r ≢ 0 → IsSmallestFrom c ls (c / 64 * 64 + count_trailing_zeros 64 r)
+    here z =
+        let (a, b, one, zeros) = least_from w64 v (c % 64) v_small (omega arith) (rw re at z) (count_trailing_zeros 64 r) (ap (count_trailing_zeros 64) re) in (
+          omega arith,
+          omega arith,
+          full (c / 64) (count_trailing_zeros 64 r) (omega arith) b (rw (← ve) one),
+          λ d l h. let e : d / 64 ≡ c / 64 = omega arith in clear d (omega arith) (rw (e, ← ve) (zeros (d % 64) (omega arith) (omega arith))),
+        )
 
-    clear : (c : ℕ) → c < 256 → bit_at (slice_index masks (c / 64)) (c % 64) ≡ 0 → names_at ls c ≡ []
-    clear c h z = empty c h (sym (k.bits c h) ∙ z)
+    module _ (z : r ≡ 0) (ws : ℕ) (we : ws ≡ bit_and top (4294967295 * 2 ^ (c / 64 + 1) % 4294967296)) where
+      top_low : top < 2 ^ 32
+      top_low = omega (arith, k.top_small)
 
-    set_bit : (c : ℕ) → c < 256 → bit_at (slice_index masks (c / 64)) (c % 64) ≡ 1 → names_at ls c ≡ [] → ⊥
-    set_bit c h z = full c h (sym (k.bits c h) ∙ z)
+      rest_clear : (d : ℕ) → c ≤ d → d / 64 < c / 64 + 1 → names_at ls d ≡ []
+      rest_clear d l h =
+          let e : d / 64 ≡ c / 64 = omega arith in
+          clear d (omega arith) (rw (e, ← ve) (none_from w64 v (c % 64) v_small (omega arith) (rw re at z) (d % 64) (omega arith) (omega arith)))
 
-    -- a bit of one word, as a class
-    set_at : (w t : ℕ) → w < 4 → t < 64 → bit_at (slice_index masks w) t ≡ 1 → names_at ls (w * 64 + t) ≡ [] → ⊥
-    set_at w t a b z = set_bit (w * 64 + t) (omega arith) (rw (div-mul-add w 64 t b, mod-mul-add w 64 t b) z)
+      pub nowhere : ws ≡ 0 → (d : ℕ) → c ≤ d → d < 256 → names_at ls d ≡ []
+      nowhere y d l h = elim (cases_lt (d / 64) (c / 64 + 1)) [
+        | inl s ↦ rest_clear d l s
+        | inr s ↦ clear_word d h (none_from w32 top (c / 64 + 1) top_low (omega arith) (rw we at y) (d / 64) s (omega arith))
+      ]
 
-    clear_word : (c : ℕ) → c < 256 → bit_at top (c / 64) ≡ 0 → names_at ls c ≡ []
-    clear_word c h z =
-        let e : slice_index masks (c / 64) ≡ 0 = mark_zero (slice_index masks (c / 64)) (sym (k.tops (c / 64) (omega arith)) ∙ z) in
-        clear c h (rw e (bit_at-zero (c % 64)))
+      module _ (y : ws ≢ 0) where
+        lowest : (c / 64 + 1 ≤ count_trailing_zeros 32 ws) × (count_trailing_zeros 32 ws < 32) × (bit_at top (count_trailing_zeros 32 ws) ≡ 1) × ((i : ℕ) → c / 64 + 1 ≤ i → i < count_trailing_zeros 32 ws → bit_at top i ≡ 0)
+        lowest = least_from w32 top (c / 64 + 1) top_low (omega arith) (rw we at y) (count_trailing_zeros 32 ws) (ap (count_trailing_zeros 32) we)
 
-    module _ (class : ℕ) (classed : class < 256) where
-      rest_clear : bit_and (slice_index masks (class / 64)) (18446744073709551615 * 2 ^ (class % 64) % 18446744073709551616) ≡ 0 → (c : ℕ) → class ≤ c → c / 64 ≡ class / 64 → names_at ls c ≡ []
-      rest_clear z c l e =
-          clear c (omega arith) (rw e (none_from w64 (slice_index masks (class / 64)) (class % 64) (k.words_small (class / 64) (omega arith)) (omega arith) z (c % 64) (omega arith) (omega arith)))
+        pub word_below : count_trailing_zeros 32 ws < 4
+        word_below = (word _ lowest.2).0
 
-      pub found_here : bit_and (slice_index masks (class / 64)) (18446744073709551615 * 2 ^ (class % 64) % 18446744073709551616) ≢ 0 → IsSmallestFrom class ls (class / 64 * 64 + count_trailing_zeros 64 (bit_and (slice_index masks (class / 64)) (18446744073709551615 * 2 ^ (class % 64) % 18446744073709551616)))
-      found_here z =
-          let t : ℕ = count_trailing_zeros 64 (bit_and (slice_index masks (class / 64)) (18446744073709551615 * 2 ^ (class % 64) % 18446744073709551616)) in
-          let (a, b, one, zeros) = least_from w64 (slice_index masks (class / 64)) (class % 64) (k.words_small (class / 64) (omega arith)) (omega arith) z t refl in (
-            omega arith,
-            omega arith,
-            set_at (class / 64) t (omega arith) b one,
-            λ d l h. let e : d / 64 ≡ class / 64 = omega arith in clear d (omega arith) (rw e (zeros (d % 64) (omega arith) (omega arith))),
-          )
-
-      pub found_none : bit_and (slice_index masks (class / 64)) (18446744073709551615 * 2 ^ (class % 64) % 18446744073709551616) ≡ 0 → bit_and top (4294967295 * 2 ^ (class / 64 + 1) % 4294967296) ≡ 0 → (c : ℕ) → class ≤ c → c < 256 → names_at ls c ≡ []
-      found_none z y c l h =
-          ⊎_elim
-          (λ (s : c / 64 < class / 64 + 1). rest_clear z c l (omega arith))
-          (λ (s : class / 64 + 1 ≤ c / 64).
-          clear_word c h (none_from w32 top (class / 64 + 1) (omega (arith, k.top_small)) (omega arith) y (c / 64) s (omega arith)))
-          (cases_lt (c / 64) (class / 64 + 1))
-
-      module _ (y : bit_and top (4294967295 * 2 ^ (class / 64 + 1) % 4294967296) ≢ 0) (w : ℕ) (we : w ≡ count_trailing_zeros 32 (bit_and top (4294967295 * 2 ^ (class / 64 + 1) % 4294967296))) where
-        found_word : (class / 64 + 1 ≤ w) × (w < 4) × (bit_at top w ≡ 1) × ((i : ℕ) → class / 64 + 1 ≤ i → i < w → bit_at top i ≡ 0)
-        found_word =
-            let (a, b, one, zeros) = least_from w32 top (class / 64 + 1) (omega (arith, k.top_small)) (omega arith) y w we in
-            ⊎_elim
-            (λ (s : w < 4). (a, s, one, zeros))
-            (λ (s : 4 ≤ w). let q : bit_at top w ≡ 0 = bit_at_above top 4 w k.top_small s in absurd (omega arith))
-            (cases_lt w 4)
-
-        pub found_word_below : w < 4
-        found_word_below = found_word.1
-
-        pub found_above : bit_and (slice_index masks (class / 64)) (18446744073709551615 * 2 ^ (class % 64) % 18446744073709551616) ≡ 0 → IsSmallestFrom class ls (w * 64 + count_trailing_zeros 64 (slice_index masks w))
-        found_above z =
-            let (a, b, one, zeros) = found_word in
-            let n : ℕ = slice_index masks w in
-            let p : 0 < n = mark_one n (sym (k.tops w b) ∙ one) in
-            let (h, bit_one, bit_zeros) = bit_at-trailing_zeros w64 n p (k.words_small w b) in (
+        pub above : (u : ℕ) → u ≡ slice_index masks (count_trailing_zeros 32 ws) → IsSmallestFrom c ls (count_trailing_zeros 32 ws * 64 + count_trailing_zeros 64 u)
+        above u ue =
+            let w : ℕ = count_trailing_zeros 32 ws in
+            let a = lowest.0 in
+            let some = word w lowest.2 in
+            let (h, one, zeros) = bit_at-trailing_zeros w64 u (omega (arith, some.1)) (rw ue (k.words_small w some.0)) in (
               omega arith,
-              omega arith,
-              set_at w (count_trailing_zeros 64 n) b h bit_one,
-              λ d l s.
-                  ⊎_elim
-                  (λ (q : d / 64 < class / 64 + 1). rest_clear z d l (omega arith))
-                  (λ (q : class / 64 + 1 ≤ d / 64).
-                  ⊎_elim
-                  (λ (r : d / 64 < w). clear_word d (omega arith) (zeros (d / 64) q r))
-                  (λ (r : w ≤ d / 64). let e : d / 64 ≡ w = omega arith in clear d (omega arith) (rw e (bit_zeros (d % 64) (omega arith))))
-                  (cases_lt (d / 64) w))
-                  (cases_lt (d / 64) (class / 64 + 1)),
+              omega (arith, some.0),
+              full w (count_trailing_zeros 64 u) some.0 h (rw (← ue) one),
+              λ d l s. elim (cases_lt (d / 64) (c / 64 + 1)) [
+                | inl q ↦ rest_clear d l q
+                | inr q ↦ elim (cases_lt (d / 64) w) [
+                  | inl p ↦ clear_word d (omega (arith, some.0)) (lowest.3 (d / 64) q p)
+                  | inr p ↦ let e : d / 64 ≡ w = omega arith in clear d (omega (arith, some.0)) (rw (e, ← ue) (zeros (d % 64) (omega arith)))
+                ]
+              ],
             )
 
-  -- the same over what the code reads, for the lists that contracts see
-  module _ (newer older heads masks : List ℕ) (top : ℕ) (ls0 ls : List (List ℕ)) (lk : (Linked none) newer older heads ls0) (k : (Masked none) heads masks top) (le : ls0 ≡ ls) (class : ℕ) (classed : class < 256) (v : ℕ) (ve : v ≡ slice_index masks (class / 64)) where
-    empty_at : (c : ℕ) → c < 256 → (flag none) (slice_index heads c) ≡ 0 → names_at ls c ≡ []
-    empty_at c h z = rw (← le) (flag_of_empty (length newer) (slice_index newer) (slice_index older) none (slice_index heads c) (names_at ls0 c) lk.names_small (lk.chains c h) z)
+  -- ---- the largest one
+  pub none_at_all : top ≡ 0 → (c : ℕ) → c < 256 → names_at ls c ≡ []
+  none_at_all e c h = clear_word c h (rw e (bit_at-zero (c / 64)))
 
-    full_at : (c : ℕ) → c < 256 → (flag none) (slice_index heads c) ≡ 1 → names_at ls c ≡ [] → ⊥
-    full_at c h z = rw (← le) (flag_of_full (length newer) (slice_index newer) (slice_index older) none (slice_index heads c) (names_at ls0 c) (lk.chains c h) z)
+  module _ (some : top ≢ 0) where
+    pub last_word : (w : ℕ) × (count_leading_zeros 32 top + suc w ≡ 32) × (bit_at top w ≡ 1) × ((i : ℕ) → w < i → bit_at top i ≡ 0)
+    last_word = highest_bit 32 top some (omega (arith, k.top_small))
 
-    pub here : bit_and v (18446744073709551615 * 2 ^ (class % 64) % 18446744073709551616) ≢ 0 → IsSmallestFrom class ls (class / 64 * 64 + count_trailing_zeros 64 (bit_and v (18446744073709551615 * 2 ^ (class % 64) % 18446744073709551616)))
-    here z = rw ve (found_here heads masks top k ls empty_at full_at class classed (rw ve at z))
+    pub last_below : 31 - count_leading_zeros 32 top < 4
+    last_below = let q = last_word.1 in omega (arith, (word last_word.0 last_word.2).0)
 
-    pub nowhere : bit_and v (18446744073709551615 * 2 ^ (class % 64) % 18446744073709551616) ≡ 0 → bit_and top (4294967295 * 2 ^ (class / 64 + 1) % 4294967296) ≡ 0 → (c : ℕ) → class ≤ c → c < 256 → names_at ls c ≡ []
-    nowhere z y = found_none heads masks top k ls empty_at full_at class classed (rw ve at z) y
+    module _ (n : ℕ) (ne : n ≡ slice_index masks (31 - count_leading_zeros 32 top)) where
+      last_bit : (t : ℕ) × (count_leading_zeros 64 n + suc t ≡ 64) × (bit_at n t ≡ 1) × ((i : ℕ) → t < i → bit_at n i ≡ 0)
+      last_bit =
+          let (w, q, one, zeros) = last_word in
+          let e : 31 - count_leading_zeros 32 top ≡ w = omega arith in
+          highest_bit 64 n (rw (ne, e) (word w one).1) (rw ne (k.words_small _ last_below))
 
-    pub word_below : bit_and top (4294967295 * 2 ^ (class / 64 + 1) % 4294967296) ≢ 0 → count_trailing_zeros 32 (bit_and top (4294967295 * 2 ^ (class / 64 + 1) % 4294967296)) < 4
-    word_below y = found_word_below heads masks top k ls empty_at full_at class classed y (count_trailing_zeros 32 (bit_and top (4294967295 * 2 ^ (class / 64 + 1) % 4294967296))) refl
+      pub bit_within : count_leading_zeros 64 n ≤ 63
+      bit_within = let q = last_bit.1 in omega arith
 
-    pub above : bit_and v (18446744073709551615 * 2 ^ (class % 64) % 18446744073709551616) ≡ 0 → bit_and top (4294967295 * 2 ^ (class / 64 + 1) % 4294967296) ≢ 0 → (u : ℕ) → u ≡ slice_index masks (count_trailing_zeros 32 (bit_and top (4294967295 * 2 ^ (class / 64 + 1) % 4294967296))) → IsSmallestFrom class ls (count_trailing_zeros 32 (bit_and top (4294967295 * 2 ^ (class / 64 + 1) % 4294967296)) * 64 + count_trailing_zeros 64 u)
-    above z y u ue = rw ue (found_above heads masks top k ls empty_at full_at class classed y (count_trailing_zeros 32 (bit_and top (4294967295 * 2 ^ (class / 64 + 1) % 4294967296))) refl (rw ve at z))
+      pub largest_is : IsLargestClass ls ((31 - count_leading_zeros 32 top) * 64 + (63 - count_leading_zeros 64 n))
+      largest_is =
+          let w : ℕ = 31 - count_leading_zeros 32 top in
+          let (v, q, one, zeros) = last_word in
+          let (t, r, bit_one, bit_zeros) = last_bit in
+          let t_is : 63 - count_leading_zeros 64 n ≡ t = omega arith in
+          rw t_is (
+            omega (arith, last_below),
+            full w t last_below (omega arith) (rw (← ne) bit_one),
+            λ d l h. elim (cases_lt w (d / 64)) [
+              | inl x ↦ clear_word d h (zeros (d / 64) (omega arith))
+              | inr x ↦ let e : d / 64 ≡ w = omega arith in clear d h (rw (e, ← ne) (bit_zeros (d % 64) (omega arith)))
+            ],
+          )

@@ -1,6 +1,5 @@
 -- A fresh space.
 use Rattle.std.proofs.Common.{◌≡◌, ◌≢◌, ℕ, zero, suc, ◌+◌, ◌-◌, ◌/◌, ◌%◌, ◌<◌, ◌≤◌, ◌^◌, false, cond, None, List, [], ◌∷◌, ◌++◌, length, get_or, take, replicate, refl, sym, ◌∙◌, ap, ap₂, subst, arith, inl, inr, nat_lt, add-one, slice_index}
-use Rattle.std.proofs.lemmas.Bool.{eq-eqb}
 use Rattle.std.specs.List.{range_with_len}
 use Rattle.std.proofs.lemmas.List.{take_more, length-replicate, get_or-replicate}
 use Rattle.std.proofs.lemmas.List.FromFn.{length-range_with_len, get_or-range_with_len}
@@ -70,32 +69,31 @@ module _ (max m size : ℕ) (some : 0 < m) (small : size < 2 ^ 32) (t : Cells) (
   mask_at : (c : ℕ) → c < 4 → slice_index (replicate 4 0) c ≡ 0
   mask_at c h = get_or-replicate 4 c 0 0 h
 
-  empty_linked : Linked max t.links.newer t.links.older t.links.heads (replicate 256 [])
+  empty_linked : Linked max t.links (replicate 256 [])
   empty_linked = record {
     older_len = s.older ∙ sym s.newer;
     names_small = rw s.newer s.limit;
     heads_len = s.heads;
     lists_len = length-replicate {A = List ℕ} 256 [];
-    chains = λ c h. rw (empty_at c h, e.heads) (head_at c h);
-    apart = λ c d x h _ a _. absurd (rw (empty_at c h) at a);
+    heads = λ c h. rw (empty_at c h, e.heads) (head_at c h);
+    chains = λ c h. rw (empty_at c h) tt;
+    once = λ c d x h l _. rw (empty_at c h, empty_at d l) (omega arith);
   }
 
-  empty_masked : Masked max t.links.heads t.links.masks 0
+  empty_masked : Masked (replicate 256 []) t.links.masks 0
   empty_masked = record {
     masks_len = s.masks;
-    bits = λ c h. rw (e.masks, e.heads, mask_at (c / 64) (omega arith), head_at c h, eq-eqb max max refl) (bit_at-zero (c % 64));
+    bits = λ c h. rw (e.masks, mask_at (c / 64) (omega arith), empty_at c h) (bit_at-zero (c % 64));
     tops = λ w h. rw (e.masks, mask_at w h) (bit_at-zero w);
     top_small = omega arith;
     words_small = λ w h. rw (e.masks, mask_at w h) (omega arith);
   }
 
   pub empty_binned : Binned max t.links 0 × (class_lists max t.links ≡ replicate 256 [])
-  empty_binned = binned max t.links 0 (replicate 256 []) empty_linked empty_masked
+  empty_binned = binned empty_linked empty_masked
 
   pub empty_unlisted : IsUnlisted (m - 1) (class_lists max t.links)
-  empty_unlisted c h a =
-      let b : Among (m - 1) (names_at (replicate 256 []) c) = subst (λ o. Among (m - 1) (names_at o c)) empty_binned.1 a in
-      rw (empty_at c h) at b
+  empty_unlisted c h a = absurd (omega (arith, subst (λ l. Among (m - 1) l) (ap (λ o. names_at o c) empty_binned.1 ∙ empty_at c h) a))
 
   pub started : (d : Cells) (top : ℕ) → 2 ≤ m → m + 1 < max → size ≤ 4294967295 → length d.room.nodes ≡ m → IsSpace d.room (m - 1) (m - 1) → blocks d.room (m - 1) ≡ free_block (m - 1) size ∷ [] → Binned max d.links top
       → class_lists max d.links ≡ push (down size) (m - 1) (replicate 256 []) → IsSound max size m d (m - 1) (m - 1) top size × (view_of max size m d (m - 1) 0 ≡ fresh size m)

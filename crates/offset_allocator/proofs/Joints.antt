@@ -9,24 +9,15 @@ use Rattle.offset_allocator.specs.Space.{IsChain}
 use Rattle.offset_allocator.specs.Orders.{Among, Binned, class_lists, IsUnlisted}
 use Rattle.offset_allocator.proofs.Views.{blocks-chain, space-chain}
 use Rattle.offset_allocator.specs.State.{Fields, AreSound, view_of, free_units}
-use Rattle.offset_allocator.proofs.Walks.{among_without}
-use Rattle.offset_allocator.proofs.ViewOrders.{tally_append, hit_cases}
+use Rattle.offset_allocator.proofs.ViewOrders.{tally_append, times_without_le}
 use Rattle.offset_allocator.proofs.ViewReplaced.{listed_named}
 use Rattle.offset_allocator.proofs.Split.{well_counted}
 
 pub among_times : (x : ℕ) (xs : List ℕ) → Among x xs → 1 ≤ times x xs
-among_times x [] a = absurd a
-among_times x (y ∷ ys) a = elim a [
-  | inl e ↦ elim (hit_cases x y) [ inl h ↦ omega (arith, h.1) | inr h ↦ absurd (h.0 e) ]
-  | inr t ↦ let ih = among_times x ys t in omega arith
-]
+among_times x xs a = a
 
 pub times_among : (x : ℕ) (xs : List ℕ) → 1 ≤ times x xs → Among x xs
-times_among x [] h = absurd (omega arith)
-times_among x (y ∷ ys) h = elim (hit_cases x y) [
-  | inl e ↦ inl e.0
-  | inr n ↦ inr (times_among x ys (omega (arith, n.1)))
-]
+times_among x xs h = h
 
 -- a name that no free block has is in no list
 pub unlisted : (v : View) → IsWellFormed v → (x : ℕ) → ((c : ℕ) → count_listed c x v.blocks ≡ 0) → IsUnlisted x v.order
@@ -39,7 +30,7 @@ pub unlisted_removed : (x y c : ℕ) (ls : List (List ℕ)) → length ls ≡ 25
 unlisted_removed x y c ls n ch u d dh a =
     let l : c < length ls = omega arith in
     elim (cases_eq d c) [
-      | inl e ↦ u c ch (among_without 0 y x (names_at ls c) (subst (λ z. Among x z) (ap (names_at (slice_set ls c (without y (names_at ls c)))) e ∙ get_or-set_same ls c (without y (names_at ls c)) [] l) a))
+      | inl e ↦ u c ch (omega (arith, times_without_le y x (names_at ls c), subst (λ z. Among x z) (ap (names_at (slice_set ls c (without y (names_at ls c)))) e ∙ get_or-set_same ls c (without y (names_at ls c)) [] l) a))
       | inr ne ↦ u d dh (subst (λ z. Among x z) (get_or-set_other ls c d (without y (names_at ls c)) [] ne) a)
     ]
 

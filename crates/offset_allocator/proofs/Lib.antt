@@ -2,7 +2,6 @@ pub mod Split
 pub mod Always
 pub mod Binned
 pub mod Bits
-pub mod Changes
 pub mod Classes
 pub mod Counting
 pub mod Emptied
@@ -14,9 +13,8 @@ pub mod Freeing
 pub mod Fresh
 pub mod Granting
 pub mod Joints
-pub mod Lengths
+pub mod Masks
 pub mod Nodes
-pub mod Ops
 pub mod Overwritten
 pub mod Pieces
 pub mod Places
@@ -25,8 +23,6 @@ pub mod Ranges
 pub mod Refusals
 pub mod Taken
 pub mod Released
-pub mod Removal
-pub mod Removed
 pub mod Rows
 pub mod Served
 pub mod Sizes

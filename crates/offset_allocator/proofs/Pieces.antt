@@ -8,16 +8,14 @@ use Rattle.offset_allocator.specs.Named.{Block, Place, count_named, names_at, fr
 use Rattle.offset_allocator.specs.Orders.{Among, IsUnlisted}
 use Rattle.offset_allocator.specs.Space.{HasPlace}
 use Rattle.offset_allocator.specs.State.{AreUnlisted}
-use Rattle.offset_allocator.proofs.Rows.{one-eq, times-append}
+use Rattle.offset_allocator.proofs.Rows.{one-eq, one-other, times-append}
 use Rattle.offset_allocator.proofs.Sizes.{down_small}
 
 unlisted_put : (y x c : ℕ) (ls : List (List ℕ)) → length ls ≡ 256 → c < 256 → y ≢ x → IsUnlisted y ls → IsUnlisted y (push c x ls)
 unlisted_put y x c ls n ch ne u d dh a =
     let l : c < length ls = omega arith in
     elim (cases_eq d c) [
-      | inl e ↦
-          let P : List ℕ → Type 0 = λ z. Among y z in
-          elim (subst P (ap (names_at (push c x ls)) e ∙ get_or-set_same ls c (x ∷ names_at ls c) [] l) a) as (λ _. ⊥) [ inl q ↦ ne q | inr t ↦ u c ch t ]
+      | inl e ↦ u c ch (omega (arith, one-other y x ne, subst (λ z. Among y z) (ap (names_at (push c x ls)) e ∙ get_or-set_same ls c (x ∷ names_at ls c) [] l) a))
       | inr m ↦ u d dh (subst (λ z. Among y z) (get_or-set_other ls c d (x ∷ names_at ls c) [] m) a)
     ]
 

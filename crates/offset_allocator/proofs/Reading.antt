@@ -1,10 +1,11 @@
 -- What a read of cells says of the view.
-use Rattle.std.proofs.Common.{◌≡◌, ℕ, ◌≤◌, is_some, Bool, true, false, List, Option, None, Some, option_and_then, option_map, unwrap_or, if◌then◌else◌, refl, sym, ap, subst, ◌∙◌}
+use Rattle.std.proofs.Common.{◌≡◌, ℕ, ◌<◌, ◌≤◌, inl, inr, length, arith, is_some, Bool, true, false, Option, None, Some, option_and_then, option_map, unwrap_or, if◌then◌else◌, refl, sym, ap, subst, ◌∙◌}
+use Rattle.std.proofs.lemmas.Bool.{cases_lt}
 use Rattle.offset_allocator.specs.Cells.{Room, Node, node}
-use Rattle.offset_allocator.specs.Named.{Block, View, Place, units, place_of, is_used_at, size_at}
+use Rattle.offset_allocator.specs.Named.{View, Place, units, place_of, is_used_at, size_at}
 use Rattle.offset_allocator.specs.Ranges.{Range, range_of, size_of, IsLive}
 use Rattle.offset_allocator.specs.Space.{blocks, IsRow, IsSpace}
-use Rattle.offset_allocator.specs.State.{Fields, AreSound}
+use Rattle.offset_allocator.specs.State.{Fields, AreSound, shown}
 use Rattle.offset_allocator.proofs.Rows.{node_at}
 use Rattle.offset_allocator.proofs.ViewSteps.{place_at, no_place}
 
@@ -47,33 +48,36 @@ module _ (x : ℕ) (v : View) where
   used_live h = live_is ∙ h
 
 module _ (c : Room) (last count x : ℕ) (h : IsSpace c last count) where
+  place_read : (p : Place) → place_of x (blocks c last) ≡ Some p → ((node c x).used ≡ p.block.used) × ((node c x).size ≡ p.block.size)
+  place_read p e =
+      let a = place_at x (blocks c last) p e in
+      let n = node_at c p.before p.block p.after x (subst (λ l. IsRow c None 0 l None) a.0 h.row) (sym a.1) in
+      (ap (λ (n : Node). n.used) n, ap (λ (n : Node). n.size) n)
+
   pub used_read : (node c x).used ≡ is_used_at (place_of x (blocks c last))
   used_read = go (place_of x (blocks c last)) refl
     where
-      go : (o : Option Place) → place_of x (blocks c last) ≡ o → (node c x).used ≡ is_used_at (place_of x (blocks c last))
-      go None e = h.idle x (no_place x (blocks c last) e) ∙ sym (ap is_used_at e)
-      go (Some p) e =
-          let a = place_at x (blocks c last) p e in
-          let P : List Block → Type 0 = λ l. IsRow c None 0 l None in
-          ap (λ (n : Node). n.used) (node_at c p.before p.block p.after x (subst P a.0 h.row) (sym a.1)) ∙ sym (ap is_used_at e)
+      go : (o : Option Place) → place_of x (blocks c last) ≡ o → (node c x).used ≡ is_used_at o
+      go None e = h.idle x (no_place x (blocks c last) e)
+      go (Some p) e = (place_read p e).0
 
-  pub size_read : is_used_at (place_of x (blocks c last)) ≡ true → (node c x).size ≡ size_at (place_of x (blocks c last))
+  size_read : (node c x).used ≡ true → (node c x).size ≡ size_at (place_of x (blocks c last))
   size_read u = go (place_of x (blocks c last)) refl
     where
-      go : (o : Option Place) → place_of x (blocks c last) ≡ o → (node c x).size ≡ size_at (place_of x (blocks c last))
-      go None e = let f : false ≡ true = sym (ap is_used_at e) ∙ u in absurd (cc)
-      go (Some p) e =
-          let a = place_at x (blocks c last) p e in
-          let P : List Block → Type 0 = λ l. IsRow c None 0 l None in
-          let v : p.block.used ≡ true = sym (ap is_used_at e) ∙ u in
-          ap (λ (n : Node). n.size) (node_at c p.before p.block p.after x (subst P a.0 h.row) (sym a.1)) ∙ sym (ap size_at e ∙ ap (λ (t : Bool). if t then p.block.size else 0) v)
+      go : (o : Option Place) → place_of x (blocks c last) ≡ o → (node c x).size ≡ size_at o
+      go None e = let f = sym (h.idle x (no_place x (blocks c last) e)) ∙ u in absurd (cc)
+      go (Some p) e = let r = place_read p e in rw (sym r.0 ∙ u) r.1
 
 module _ (it : Fields) (x : ℕ) (s : AreSound it) where
   pub none_past : it.limit ≤ x → is_used_at (place_of x (blocks it.cells.room it.last)) ≡ false
-  none_past l = go (place_of x (blocks it.cells.room it.last)) refl
-    where
-      go : (o : Option Place) → place_of x (blocks it.cells.room it.last) ≡ o → is_used_at (place_of x (blocks it.cells.room it.last)) ≡ false
-      go None e = ap is_used_at e
-      go (Some p) e =
-          let h = s.well.below x l in
-          sym (used_read it.cells.room it.last it.count x s.space) ∙ s.space.idle x (h)
+  none_past l = sym (used_read it.cells.room it.last it.count x s.space) ∙ s.space.idle x (s.well.below x l)
+
+  module _ (v : View) (e : shown it ≡ v) (live : IsLive x v) where
+    used : is_used_at (place_of x (blocks it.cells.room it.last)) ≡ true
+    used = ap (λ (u : View). is_used_at (place_of x u.blocks)) e ∙ live_used x v live
+
+    pub live_below : x < length it.cells.room.nodes
+    live_below = elim (cases_lt x it.limit) [ inl l ↦ omega (arith, s.nodes) | inr l ↦ let f = sym (none_past l) ∙ used in absurd (cc) ]
+
+    pub live_size : (node it.cells.room x).size ≡ size_of x v
+    live_size = size_read it.cells.room it.last it.count x s.space (used_read it.cells.room it.last it.count x s.space ∙ used) ∙ ap (λ (u : View). size_at (place_of x u.blocks)) e ∙ sym (size_is x v)

@@ -1,174 +1,175 @@
--- Chains of names linked back and forth: what a change of the links leaves of them.
-use Rattle.std.proofs.Common.{◌≡◌, ◌≢◌, ◌<◌, ◌≤◌, ◌⊎◌, ℕ, zero, suc, List, [], ◌∷◌, refl, sym, ap, subst, ◌∙◌, inl, inr, arith, true, false, cond, eqb, length, slice_index}
-use Rattle.std.proofs.lemmas.Bool.{cases_eq, eqb-true, eq-eqb, or_cases}
-use Rattle.std.proofs.lemmas.Map.Steps.{length-le_from_distinct_below}
-use Rattle.std.specs.List.{IsDistinct, AllByRecursion, list_any}
-use Rattle.offset_allocator.specs.Named.{without}
-use Rattle.offset_allocator.specs.Orders.{Chain, Among, walk}
-use Rattle.offset_allocator.proofs.Find.{ne-eqb}
+-- Names linked back and forth: what a change of the links leaves of them.
+use Rattle.std.proofs.Common.{◌≡◌, ◌≢◌, ◌<◌, ◌≤◌, ◌+◌, ◌⊎◌, ℕ, zero, suc, List, [], ◌∷◌, ◌++◌, refl, sym, ap, ◌∙◌, inl, inr, arith, length, drop, nat_eq, slice_index, slice_set, eq-eqb, ne_eqb}
+use Rattle.std.proofs.lemmas.Bool.{cases_eq}
+use Rattle.std.proofs.lemmas.List.{length-set, get_or-set_same, get_or-set_other}
+use Rattle.offset_allocator.specs.Cells.{Links}
+use Rattle.offset_allocator.specs.Named.{one, times, without}
+use Rattle.offset_allocator.specs.Orders.{Chain, Among, first_of, walk}
+use Rattle.offset_allocator.proofs.Rows.{one-same, times-join}
+use Rattle.offset_allocator.proofs.ViewOrders.{hit_cases}
 
--- ---- a chain under other links that agree on its names
-module _ (none : ℕ) where
-  pub frame : (m : ℕ) (nw od nw' od' : ℕ → ℕ) (b h : ℕ) (xs : List ℕ) → ((y : ℕ) → Among y xs → nw' y ≡ nw y) → ((y : ℕ) → Among y xs → od' y ≡ od y) → (Chain none) m nw od b h xs → (Chain none) m nw' od' b h xs
-  frame m nw od nw' od' b h [] n o c = c
-  frame m nw od nw' od' b h (x ∷ xs) n o c = (
-    c.0,
-    c.1,
-    n x (inl refl) ∙ c.2,
-    subst (λ i. (Chain none) m nw' od' x i xs) (sym (o x (inl refl)))
-        (frame m nw od nw' od' x (od x) xs (λ y a. n y (inr a)) (λ y a. o y (inr a)) c.3),
-  )
+-- ---- lists of names
+-- a list with one name fewer
+pub drop_one : (x : ℕ) (ys : List ℕ) → Among x ys → (zs : List ℕ) × (length ys ≡ length zs + 1) × ((y : ℕ) → times y ys ≡ one (nat_eq y x) + times y zs)
+drop_one x [] l = absurd (omega arith)
+drop_one x (y ∷ ys) l = elim (hit_cases x y) [
+  | inl h ↦ (ys, omega arith, λ z. ap (λ w. one (nat_eq z w) + times z ys) (sym h.0))
+  | inr h ↦ let r = drop_one x ys (omega (arith, h.1)) in (y ∷ r.0, omega (arith, r.1), λ z. omega (arith, r.2 z))
+]
 
-  module _ (m : ℕ) (small : m ≤ none) (nw od : ℕ → ℕ) where
-    pub name_below : (b h : ℕ) (xs : List ℕ) → (Chain none) m nw od b h xs → (y : ℕ) → Among y xs → y < m
-    name_below b h [] c y a = absurd a
-    name_below b h (x ∷ xs) c y a =
-        elim a [ inl e ↦ let l = c.1 in omega arith | inr t ↦ name_below x (od x) xs c.3 y t ]
+-- m names are below m
+length_below : (m : ℕ) (xs : List ℕ) → ((x : ℕ) → times x xs ≤ 1) → ((x : ℕ) → Among x xs → x < m) → length xs ≤ m
+length_below zero [] o l = omega arith
+length_below zero (x ∷ xs) o l = absurd (omega (arith, l x (omega (arith, one-same x))))
+length_below (suc m) xs o l = elim (cases_eq (times m xs) 0) [
+  | inl z ↦ let ih = length_below m xs o (λ x a. let b = l x a in elim (cases_eq x m) [ inl e ↦ let q = ap (λ y. times y xs) e in absurd (omega arith) | inr n ↦ omega arith ]) in omega arith
+  | inr s ↦
+      let r = drop_one m xs (omega arith) in
+      let ih = length_below m r.0 (λ x. omega (arith, r.2 x, o x)) (λ x a. elim (hit_cases x m) [ inl h ↦ absurd (let q = ap (λ y. times y xs) h.0 in omega (arith, o x, r.2 x, h.1)) | inr h ↦ let b = l x (omega (arith, r.2 x)) in let n = h.0 in omega arith ]) in
+      omega (arith, r.1)
+]
 
-    pub same_from_chains : (b b' h : ℕ) (xs ys : List ℕ) → (Chain none) m nw od b h xs → (Chain none) m nw od b' h ys → xs ≡ ys
-    same_from_chains b b' h [] [] c d = refl
-    same_from_chains b b' h [] (y ∷ ys) c d = let l = d.1 in let e = d.0 in absurd (omega arith)
-    same_from_chains b b' h (x ∷ xs) [] c d = let l = c.1 in let e = c.0 in absurd (omega arith)
-    same_from_chains b b' h (x ∷ xs) (y ∷ ys) c d =
-        let e : y ≡ x = sym d.0 ∙ c.0 in
-        let t : xs ≡ ys = same_from_chains x x (od x) xs ys c.3 (subst (λ z. (Chain none) m nw od z (od z) ys) e d.3) in
-        cc
+pub without_absent : (x : ℕ) (xs : List ℕ) → times x xs ≡ 0 → without x xs ≡ xs
+without_absent x [] e = refl
+without_absent x (y ∷ ys) e = elim (hit_cases x y) [
+  | inl i ↦ absurd (omega (arith, i.1))
+  | inr i ↦ rw (ne_eqb y x (λ f. i.0 (sym f)), without_absent x ys (omega (arith, i.1)))
+]
 
-    suffix : (b h : ℕ) (xs : List ℕ) → (Chain none) m nw od b h xs → (x : ℕ) → Among x xs → (zs : List ℕ) × (b' : ℕ) × (Chain none) m nw od b' x (x ∷ zs) × (length (x ∷ zs) ≤ length xs)
-    suffix b h [] c x a = absurd a
-    suffix b h (y ∷ ys) c x a =
-        elim a [
-          | inl e ↦ (ys, b, (refl, rw e c.1, rw e c.2, rw e c.3), omega arith)
-          | inr t ↦ let (zs, b', d, l) = suffix y (od y) ys c.3 x t in (zs, b', d, omega arith)
-        ]
+pub without_first : (x : ℕ) (xs : List ℕ) → times x (x ∷ xs) ≤ 1 → without x (x ∷ xs) ≡ xs
+without_first x xs o = rw (eq-eqb x x refl) (without_absent x xs (omega (arith, one-same x)))
 
-    -- a name is in a chain once
-    pub once : (b h x : ℕ) (xs : List ℕ) → (Chain none) m nw od b h (x ∷ xs) → Among x xs → ⊥
-    once b h x xs c a =
-        let (zs, b', d, l) = suffix x (od x) xs c.3 x a in
-        let e : x ∷ xs ≡ x ∷ zs = same_from_chains b b' x (x ∷ xs) (x ∷ zs) (refl, c.1, c.2, c.3) d in
-        let f : length (x ∷ xs) ≡ length (x ∷ zs) = ap length e in
-        absurd (omega arith)
+pub without_later : (x w : ℕ) (fs cs : List ℕ) → times x (fs ++ w ∷ x ∷ cs) ≤ 1 → without x (fs ++ w ∷ x ∷ cs) ≡ fs ++ w ∷ cs
+without_later x w [] cs o = elim (hit_cases x w) [
+  | inl i ↦ absurd (omega (arith, i.1, one-same x))
+  | inr i ↦ rw (ne_eqb w x (λ f. i.0 (sym f))) (ap (λ l. w ∷ l) (without_first x cs (omega arith)))
+]
+without_later x w (f ∷ fs) cs o = elim (hit_cases x f) [
+  | inl i ↦ absurd (let t = times-later x w fs cs in omega (arith, i.1))
+  | inr i ↦ rw (ne_eqb f x (λ q. i.0 (sym q))) (ap (λ l. f ∷ l) (without_later x w fs cs (omega (arith, i.1))))
+]
+  where
+    times-later : (x w : ℕ) (fs cs : List ℕ) → Among x (fs ++ w ∷ x ∷ cs)
+    times-later x w [] cs = omega (arith, one-same x)
+    times-later x w (f ∷ fs) cs = omega (arith, times-later x w fs cs)
 
-    pub older_among : (b h : ℕ) (xs : List ℕ) → (Chain none) m nw od b h xs → (x : ℕ) → Among x xs → (od x ≡ none) ⊎ Among (od x) xs
-    older_among b h [] c x a = absurd a
-    older_among b h (y ∷ []) c x a = elim a [ inl e ↦ inl (rw e c.3) | inr t ↦ absurd t ]
-    older_among b h (y ∷ (z ∷ zs)) c x a =
-        elim a [
-          | inl e ↦ inr (inr (inl (rw e c.3.0)))
-          | inr t ↦ elim (older_among y (od y) (z ∷ zs) c.3 x t) [ inl n ↦ inl n | inr n ↦ inr (inr n) ]
-        ]
+-- ---- one chain
+module _ (none : ℕ) (t : Links) (small : length t.newer ≤ none) where
+  pub name_below : (b : ℕ) (xs : List ℕ) → Chain none t b xs → (y : ℕ) → Among y xs → y < length t.newer
+  name_below b [] c y a = absurd (omega arith)
+  name_below b (x ∷ xs) c y a = elim (hit_cases y x) [ inl h ↦ omega (arith, h.0, c.0) | inr h ↦ name_below x xs c.3 y (omega (arith, h.1)) ]
 
-    pub newer_among : (b h : ℕ) (xs : List ℕ) → (Chain none) m nw od b h xs → (x : ℕ) → Among x xs → (nw x ≡ b) ⊎ Among (nw x) xs
-    newer_among b h [] c x a = absurd a
-    newer_among b h (y ∷ ys) c x a =
-        elim a [
-          | inl e ↦ inl (rw e c.2)
-          | inr t ↦ elim (newer_among y (od y) ys c.3 x t) [ inl n ↦ inr (inl n) | inr n ↦ inr (inr n) ]
-        ]
+  pub older_below : (b : ℕ) (xs : List ℕ) → Chain none t b xs → (x : ℕ) → Among x xs → slice_index t.older x ≢ none → slice_index t.older x < length t.newer
+  older_below b [] c x a n = absurd (omega arith)
+  older_below b (y ∷ ys) c x a n = elim (hit_cases x y) [
+    | inl h ↦ at ys c.3 (ap (slice_index t.older) h.0 ∙ c.2)
+    | inr h ↦ older_below y ys c.3 x (omega (arith, h.1)) n
+  ]
+    where
+      at : (l : List ℕ) → Chain none t y l → slice_index t.older x ≡ first_of none l → slice_index t.older x < length t.newer
+      at [] d e = absurd (n e)
+      at (z ∷ l) d e = omega (arith, d.0)
 
-    -- the name after b is the first
-    pub first_after : (b h : ℕ) (xs : List ℕ) → (Chain none) m nw od b h xs → (x : ℕ) → Among x xs → (Among b xs → ⊥) → nw x ≡ b → h ≡ x
-    first_after b h [] c x a n e = absurd a
-    first_after b h (y ∷ ys) c x a n e =
-        elim a [
-          | inl f ↦ c.0 ∙ sym f
-          | inr t ↦
-              let r : Among (nw x) (y ∷ ys) = elim (newer_among y (od y) ys c.3 x t) [ inl q ↦ inl q | inr q ↦ inr q ] in
-              absurd (n (subst (λ z. Among z (y ∷ ys)) e r))
-        ]
-
-    pub newer_of_first : (b h : ℕ) (xs : List ℕ) → (Chain none) m nw od b h xs → (x : ℕ) → x < m → h ≡ x → nw x ≡ b
-    newer_of_first b h [] c x l e = absurd (omega arith)
-    newer_of_first b h (y ∷ ys) c x l e = let f : x ≡ y = sym e ∙ c.0 in rw f c.2
-
-    apart_by_tests : (x : ℕ) (xs : List ℕ) → (Among x xs → ⊥) → AllByRecursion (λ y. eqb x y ≡ false) xs
-    apart_by_tests x [] n = tt
-    apart_by_tests x (y ∷ ys) n = ((ne-eqb none) x y (λ e. n (inl e)), apart_by_tests x ys (λ a. n (inr a)))
-
-    distinct : (b h : ℕ) (xs : List ℕ) → (Chain none) m nw od b h xs → IsDistinct eqb xs
-    unfolding IsDistinct
-    distinct b h [] c = tt
-    distinct b h (x ∷ xs) c = (apart_by_tests x xs (once b h x xs c), distinct x (od x) xs c.3)
-
-    among_by_tests : (q : ℕ) (xs : List ℕ) → list_any (eqb q) xs ≡ true → Among q xs
-    among_by_tests q [] h = cc
-    among_by_tests q (x ∷ xs) h =
-        elim (or_cases (eqb q x) (list_any (eqb q) xs) h) [ inl e ↦ inl (eqb-true q x e) | inr t ↦ inr (among_by_tests q xs t) ]
-
-    pub chain_fits : (b h : ℕ) (xs : List ℕ) → (Chain none) m nw od b h xs → length xs ≤ m
-    chain_fits b h xs c =
-        length-le_from_distinct_below xs m (distinct b h xs c) (λ q t. name_below b h xs c q (among_by_tests q xs t))
+  pub chain_fits : (b : ℕ) (xs : List ℕ) → Chain none t b xs → ((x : ℕ) → times x xs ≤ 1) → length xs ≤ length t.newer
+  chain_fits b xs c o = length_below (length t.newer) xs o (name_below b xs c)
 
   -- the walk along the links is the chain
-  pub walk_is : (m : ℕ) (small : m ≤ none) (nw : ℕ → ℕ) (older : List ℕ) (k b h : ℕ) (xs : List ℕ) → length xs ≤ k → (Chain none) m nw (slice_index older) b h xs → (walk none) older k h ≡ xs
+  pub walk_is : (k b : ℕ) (xs : List ℕ) → length xs ≤ k → Chain none t b xs → walk none t.older k (first_of none xs) ≡ xs
   unfolding walk
-  walk_is m small nw older zero b h [] l c = refl
-  walk_is m small nw older zero b h (x ∷ xs) l c = absurd (omega arith)
-  walk_is m small nw older (suc k) b h [] l c = rw (eq-eqb h none c)
-  walk_is m small nw older (suc k) b h (x ∷ xs) l c =
-      let e : h ≡ x = c.0 in
-      let f : x < m = c.1 in
-      let n : eqb x none ≡ false = (ne-eqb none) x none (λ q. omega arith) in
-      let t : (walk none) older k (slice_index older x) ≡ xs = walk_is m small nw older k x (slice_index older x) xs (omega arith) c.3 in
-      rw (e, n) (ap (λ ys. x ∷ ys) t)
+  walk_is zero b [] l c = refl
+  walk_is zero b (x ∷ xs) l c = absurd (omega arith)
+  walk_is (suc k) b [] l c = rw (eq-eqb none none refl)
+  walk_is (suc k) b (x ∷ xs) l c = rw (ne_eqb x none (λ q. omega (arith, c.0)), c.2) (ap (λ ys. x ∷ ys) (walk_is k x xs (omega arith) c.3))
 
-  -- ---- changes
-  pub without_absent : (x : ℕ) (xs : List ℕ) → (Among x xs → ⊥) → without x xs ≡ xs
-  without_absent x [] n = refl
-  without_absent x (y ∷ ys) n = rw ((ne-eqb none) y x (λ e. n (inl (sym e))), without_absent x ys (λ a. n (inr a)))
+  -- a name is the first, or the link to a newer one names the one before it
+  pub record IsLater (x : ℕ) (xs : List ℕ) : Type 0 where
+    pub front : List ℕ
+    pub rest : List ℕ
+    pub is : xs ≡ front ++ slice_index t.newer x ∷ x ∷ rest
 
-  pub among_without : (x y : ℕ) (xs : List ℕ) → Among y (without x xs) → Among y xs
-  among_without x y [] a = a
-  among_without x y (z ∷ zs) a =
-      elim (cases_eq z x) [
-        | inl e ↦ inr (among_without x y zs (rw (eq-eqb z x e) at a))
-        | inr n ↦ elim (rw ((ne-eqb none) z x n) at a) as (λ _. Among y (z ∷ zs)) [ inl e ↦ inl e | inr t ↦ inr (among_without x y zs t) ]
-      ]
+  pub found : (b x : ℕ) (xs : List ℕ) → Chain none t b xs → Among x xs → ((slice_index t.newer x ≡ b) × (xs ≡ x ∷ drop 1 xs)) ⊎ IsLater x xs
+  found b x [] c a = absurd (omega arith)
+  found b x (y ∷ ys) c a = elim (hit_cases x y) [
+    | inl h ↦ inl (ap (slice_index t.newer) h.0 ∙ c.1, ap (λ i. i ∷ ys) (sym h.0))
+    | inr h ↦ elim (found y x ys c.3 (omega (arith, h.1))) [
+      | inl f ↦ inr (record { front = []; rest = drop 1 ys; is = rw f.0 (ap (λ l. y ∷ l) f.1) })
+      | inr f ↦ inr (record { front = y ∷ f.front; rest = f.rest; is = ap (λ l. y ∷ l) f.is })
+    ]
+  ]
 
-  module _ (m : ℕ) (small : m ≤ none) (nw od nw' od' : ℕ → ℕ) where
-    -- another name, or none, before the first
-    pub relink : (b b' h : ℕ) (xs : List ℕ) → (Chain none) m nw od b h xs → (h ≢ none → nw' h ≡ b') → ((y : ℕ) → Among y xs → y ≢ h → nw' y ≡ nw y) → ((y : ℕ) → Among y xs → od' y ≡ od y) → (Chain none) m nw' od' b' h xs
-    relink b b' h [] c f n o = c
-    relink b b' h (x ∷ xs) c f n o =
-        let e : h ≡ x = c.0 in
-        let l : x < m = c.1 in (
-          e,
-          l,
-          sym (ap nw' e) ∙ f (λ q. omega arith),
-          subst (λ i. (Chain none) m nw' od' x i xs) (sym (o x (inl refl)))
-              (frame m nw od nw' od' x (od x) xs (λ y a. n y (inr a) (λ q. once m small nw od b h x xs c (subst (λ z. Among z xs) (q ∙ e) a))) (λ y a. o y (inr a)) c.3),
-        )
+-- ---- a chain under other links
+module _ (none : ℕ) (t t' : Links) (even : length t'.newer ≡ length t.newer) where
+  pub kept : (b : ℕ) (xs : List ℕ) → ((y : ℕ) → Among y xs → (slice_index t'.newer y ≡ slice_index t.newer y) × (slice_index t'.older y ≡ slice_index t.older y)) → Chain none t b xs → Chain none t' b xs
+  kept b [] s c = tt
+  kept b (x ∷ xs) s c = let e = s x (omega (arith, one-same x)) in (omega (arith, c.0), e.0 ∙ c.1, e.1 ∙ c.2, kept x xs (λ y a. s y (omega arith)) c.3)
 
-    -- x is taken out: its neighbours are linked to each other
-    module _ (x : ℕ) (n1 : od x ≢ none → nw' (od x) ≡ nw x) (n2 : (y : ℕ) → y ≢ od x → nw' y ≡ nw y) (o1 : nw x ≢ none → od' (nw x) ≡ od x) (o2 : (y : ℕ) → y ≢ nw x → od' y ≡ od y) where
-      pub removed : (b h : ℕ) (xs : List ℕ) → (Chain none) m nw od b h xs → Among x xs → (Among b xs → ⊥) → (Chain none) m nw' od' b (cond (eqb h x) (od x) h) (without x xs)
-      removed b h [] c a nb = absurd a
-      removed b h (w ∷ ws) c a nb =
-          let hw : h ≡ w = c.0 in
-          let wm : w < m = c.1 in
-          elim (cases_eq w x) [
-            | inl e ↦
-                let absent : Among x ws → ⊥ = λ q. once m small nw od b h w ws c (rw e q) in
-                let nb' : nw x ≡ b = rw (← e) c.2 in
-                let c' : (Chain none) m nw od x (od x) ws = rw (← e) c.3 in
-                let r : (Chain none) m nw' od' b (od x) ws =
-                relink x b (od x) ws c' (λ q. n1 q ∙ nb') (λ y q ne. n2 y ne) (λ y q. o2 y (λ s. nb (inr (subst (λ z. Among z ws) (s ∙ nb') q)))) in
-                rw (eq-eqb h x (hw ∙ e), eq-eqb w x e, without_absent x ws absent) r
-            | inr ne ↦
-                let at : Among x ws = elim a as (λ _. Among x ws) [ inl q ↦ absurd (ne (sym q)) | inr t ↦ t ] in
-                let nw_w : Among w ws → ⊥ = once m small nw od b h w ws c in
-                let apart : w ≢ od x = λ q. elim (older_among m small nw od w (od w) ws c.3 x at) [ inl z ↦ absurd (omega arith) | inr t ↦ nw_w (rw q t) ] in
-                let ih : (Chain none) m nw' od' w (cond (eqb (od w) x) (od x) (od w)) (without x ws) = removed w (od w) ws c.3 at nw_w in
-                let link : od' w ≡ cond (eqb (od w) x) (od x) (od w) =
-                elim (cases_eq (nw x) w) [
-                  | inl q ↦
-                      let f : od w ≡ x = first_after m small nw od w (od w) ws c.3 x at nw_w q in
-                      rw (eq-eqb (od w) x f) (sym (ap od' q) ∙ o1 (λ z. absurd (omega arith)))
-                  | inr q ↦
-                      let xm : x < m = name_below m small nw od w (od w) ws c.3 x at in
-                      rw ((ne-eqb none) (od w) x (λ f. q (newer_of_first m small nw od w (od w) ws c.3 x xm f))) (o2 w (λ s. q (sym s)))
-                ] in
-                rw ((ne-eqb none) h x (λ q. ne (sym hw ∙ q)), (ne-eqb none) w x ne)
-                (hw, wm, n2 w apart ∙ c.2, subst (λ i. (Chain none) m nw' od' w i (without x ws)) (sym link) ih)
-          ]
+  -- another name, or none, before the first
+  pub led : (b b' : ℕ) (xs : List ℕ) → ((x : ℕ) → times x xs ≤ 1) → slice_index t'.newer (first_of none xs) ≡ b' ⊎ (xs ≡ []) → ((y : ℕ) → Among y xs → y ≢ first_of none xs → slice_index t'.newer y ≡ slice_index t.newer y) → ((y : ℕ) → Among y xs → slice_index t'.older y ≡ slice_index t.older y) → Chain none t b xs → Chain none t' b' xs
+  led b b' [] o f n s c = tt
+  led b b' (x ∷ xs) o f n s c = (
+    omega (arith, c.0),
+    elim f [ inl e ↦ e | inr e ↦ absurd (cc) ],
+    s x (omega (arith, one-same x)) ∙ c.2,
+    kept x xs (λ y a. (n y (omega arith) (λ e. let q = ap (λ z. times z xs) e in omega (arith, o x, one-same x)), s y (omega arith))) c.3,
+  )
+
+-- a name that is not in a list is not its first one
+pub not_first : {none : ℕ} (y : ℕ) (xs : List ℕ) → y < none → times y xs ≡ 0 → y ≢ first_of none xs
+not_first y [] l z e = absurd (omega arith)
+not_first y (x ∷ xs) l z e = let q = ap (λ i. times i (x ∷ xs)) e in omega (arith, one-same x)
+
+pub first_same : (none w x : ℕ) (cs l : List ℕ) → first_of none (l ++ w ∷ x ∷ cs) ≡ first_of none (l ++ w ∷ cs)
+first_same none w x cs [] = refl
+first_same none w x cs (y ∷ l) = refl
+
+-- x leaves: the names beside it, w and the first of cs, are linked to each other
+module _ (none : ℕ) (t t' : Links) (w x : ℕ) (cs : List ℕ) (small : length t.newer ≤ none) (even : length t.older ≡ length t.newer) (newer : t'.newer ≡ slice_set t.newer (first_of none cs) w) (older : t'.older ≡ slice_set t.older w (first_of none cs)) where
+  pub newer_kept : (y : ℕ) → y ≢ first_of none cs → slice_index t'.newer y ≡ slice_index t.newer y
+  newer_kept y n = rw newer (get_or-set_other t.newer (first_of none cs) y w 0 n)
+
+  pub older_kept : (y : ℕ) → y ≢ w → slice_index t'.older y ≡ slice_index t.older y
+  older_kept y n = rw older (get_or-set_other t.older w y (first_of none cs) 0 n)
+
+  linked_on : (l : List ℕ) → l ≡ cs → Chain none t x l → slice_index t'.newer (first_of none l) ≡ w ⊎ (l ≡ [])
+  linked_on [] e c = inr refl
+  linked_on (y ∷ l) e c = let f = ap (first_of none) e in inl (rw (newer, ← f) (get_or-set_same t.newer y w 0 c.0))
+
+  pub unlinked : (b : ℕ) (fs : List ℕ) → ((y : ℕ) → times y (fs ++ w ∷ x ∷ cs) ≤ 1) → Chain none t b (fs ++ w ∷ x ∷ cs) → Chain none t' b (fs ++ w ∷ cs)
+  unlinked b [] o c =
+      let long : length t'.newer ≡ length t.newer = rw newer (length-set t.newer (first_of none cs) w) in
+      let alone : times w cs ≡ 0 = omega (arith, o w, one-same w) in (
+        omega (arith, c.0),
+        newer_kept w (not_first w cs (omega (arith, c.0)) alone) ∙ c.1,
+        rw older (get_or-set_same t.older w (first_of none cs) 0 (omega (arith, c.0))),
+        led none t t' long x w cs (λ y. omega (arith, o y)) (linked_on cs refl c.3.3) (λ y a n. newer_kept y n) (λ y a. older_kept y (λ e. let q = ap (λ i. times i cs) e in omega arith)) c.3.3,
+      )
+  unlinked b (f ∷ fs) o c =
+      let long : length t'.newer ≡ length t.newer = rw newer (length-set t.newer (first_of none cs) w) in
+      let alone : times f fs + (times f (w ∷ []) + (times f (x ∷ []) + times f cs)) ≡ 0 = omega (arith, o f, one-same f, times-join f fs (w ∷ x ∷ cs)) in (
+        omega (arith, c.0),
+        newer_kept f (not_first f cs (omega (arith, c.0)) (omega arith)) ∙ c.1,
+        older_kept f (λ e. let q = ap (λ i. times i (w ∷ [])) e in omega (arith, one-same w)) ∙ c.2 ∙ first_same none w x cs fs,
+        unlinked f fs (λ y. omega (arith, o y)) c.3,
+      )
+
+-- names from one on: n names of the list are before it, and `total` are all
+pub record IsTail (none : ℕ) (t : Links) (name n total : ℕ) : Type 0 where
+  pub before : ℕ
+  pub names : List ℕ
+  pub chain : Chain none t before names
+  pub is : name ≡ first_of none names
+  pub counted : n + length names ≡ total
+
+pub tail_next : {none : ℕ} {t : Links} {name n total : ℕ} → IsTail none t name n total → name ≢ none → (name < length t.newer) × (n < total) × IsTail none t (slice_index t.older name) (n + 1) total
+tail_next {none} {t} {name} {n} {total} s ne = go s.names s.before s.chain s.is s.counted
+  where
+    go : (xs : List ℕ) (b : ℕ) → Chain none t b xs → name ≡ first_of none xs → n + length xs ≡ total → (name < length t.newer) × (n < total) × IsTail none t (slice_index t.older name) (n + 1) total
+    go [] b c e l = absurd (ne e)
+    go (x ∷ xs) b c e l = (omega (arith, c.0), omega arith, record { before = x; names = xs; chain = c.3; is = ap (slice_index t.older) e ∙ c.2; counted = omega arith })
+
+pub tail_end : {none : ℕ} {t : Links} {name n total : ℕ} → length t.newer ≤ none → IsTail none t name n total → name ≡ none → n ≡ total
+tail_end {none} {t} {name} {n} {total} small s e = go s.names s.before s.chain s.is s.counted
+  where
+    go : (xs : List ℕ) (b : ℕ) → Chain none t b xs → name ≡ first_of none xs → n + length xs ≡ total → n ≡ total
+    go [] b c f l = omega arith
+    go (x ∷ xs) b c f l = absurd (omega (arith, c.0))

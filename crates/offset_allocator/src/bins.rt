@@ -1,9 +1,9 @@
 //! A bin for each size class: the names of its free blocks, in a list of links between the nodes, with a two-level mask.
-ghost use Rattle.std.specs.Prelude.{◌≡◌, ◌+◌, ◌<◌, ◌≤◌, ◌≢◌, ℕ, List, [], ◌∷◌, slice_set, length, MatchOption};
+ghost use Rattle.std.specs.Prelude.{◌≡◌, ◌+◌, ◌<◌, ◌≤◌, ◌≢◌, ℕ, List, [], ◌∷◌, slice_set, length, drop, slice_index, MatchOption};
 ghost use Rattle.offset_allocator.specs.Classes.{down};
 ghost use Rattle.offset_allocator.specs.Named.{names_at, without};
 ghost use Rattle.offset_allocator.specs.Promises.{IsLargestClass};
-ghost use Rattle.offset_allocator.specs.Orders.{IsUnlisted, IsSmallestFrom, Among, relinked, Linked, Masked, flag, class_lists, Binned};
+ghost use Rattle.offset_allocator.specs.Orders.{IsUnlisted, IsSmallestFrom, Among, Linked, Masked, class_lists, Binned};
 
 use crate::accesses::Accesses;
 use crate::index::{NodeIndex, link_to, no_link, number};
@@ -55,12 +55,11 @@ pub(crate) fn largest<NI: NodeIndex>(
 
 /// The number of the names of a class.
 pub(crate) fn length_of<NI: NodeIndex>(tables: &Tables<NI>, class: u32, count: &mut Accesses) -> u32
-    requires linked { Linked NI.MAX tables.now.links.newer tables.now.links.older tables.now.links.heads (class_lists NI.MAX tables.now.links) }
+    requires linked { Linked NI.MAX tables.now.links (class_lists NI.MAX tables.now.links) }
     requires classed { class < 256 }
     ensures names { result ≡ length (names_at (class_lists NI.MAX tables.now.links) class) }
     ensures accesses { count.new ≡ count.old + 1 + result }
 {
-    tables.shape();
     let mut names = 0;
     let mut name = number(tables.head(class, count));
     while name != NI::MAX {
@@ -89,7 +88,6 @@ pub(crate) fn push<NI: NodeIndex>(
     ensures accesses_min { count.old + 5 ≤ count.new }
     ensures accesses_max { count.new ≤ count.old + 6 }
 {
-    tables.shape();
     let link = link_to(name);
     let first = tables.head(class, count);
     tables.set_older(name, first, count);
@@ -106,32 +104,6 @@ pub(crate) fn push<NI: NodeIndex>(
     }
 }
 
-// Links the node that a link names, if any, to a next newer one.
-fn link_newer<NI: NodeIndex>(tables: &mut Tables<NI>, at: NI, to: NI, count: &mut Accesses)
-    requires { NI.number at ≢ NI.MAX → NI.number at < length tables.old.links.newer }
-    ensures cells { tables.new ≡ record tables.old { links = record tables.old.links { newer = relinked NI.MAX tables.old.links.newer (NI.number at) (NI.number to) } } }
-    ensures accesses_kept { count.old ≤ count.new }
-    ensures accesses_max { count.new ≤ count.old + 1 }
-{
-    let name = number(at);
-    if name != NI::MAX {
-        tables.set_newer(name, to, count);
-    }
-}
-
-// Links the node that a link names, if any, to a next older one.
-fn link_older<NI: NodeIndex>(tables: &mut Tables<NI>, at: NI, to: NI, count: &mut Accesses)
-    requires { NI.number at ≢ NI.MAX → NI.number at < length tables.old.links.older }
-    ensures cells { tables.new ≡ record tables.old { links = record tables.old.links { older = relinked NI.MAX tables.old.links.older (NI.number at) (NI.number to) } } }
-    ensures accesses_kept { count.old ≤ count.new }
-    ensures accesses_max { count.new ≤ count.old + 1 }
-{
-    let name = number(at);
-    if name != NI::MAX {
-        tables.set_older(name, to, count);
-    }
-}
-
 // Clears the bit of a class, which no longer has a name.
 fn clear_class<NI: NodeIndex>(
     tables: &mut Tables<NI>,
@@ -140,7 +112,7 @@ fn clear_class<NI: NodeIndex>(
     count: &mut Accesses,
 )
     requires classed { class < 256 }
-    ensures masked { (heads : List ℕ) (h : ℕ) → Masked NI.MAX heads tables.old.links.masks top_mask.old → length heads ≡ 256 → flag NI.MAX h ≡ 0 → Masked NI.MAX (slice_set heads class h) tables.new.links.masks top_mask.new }
+    ensures masked { (ls : List (List ℕ)) → length ls ≡ 256 → Masked ls tables.old.links.masks top_mask.old → Masked (slice_set ls class []) tables.new.links.masks top_mask.new }
     ensures rest { tables.new ≡ record tables.old { links = record tables.old.links { masks = tables.new.links.masks } } }
     ensures accesses_kept { count.old ≤ count.new }
     ensures accesses_max { count.new ≤ count.old + 2 }
@@ -150,6 +122,33 @@ fn clear_class<NI: NodeIndex>(
     tables.set_mask(word, rest, count);
     if rest == 0 {
         *top_mask &= !(1 << word);
+    }
+}
+
+// Removes the first name of a bin, whose link to the next name is given.
+#[inline(always)]
+fn remove_first<NI: NodeIndex>(
+    tables: &mut Tables<NI>,
+    top_mask: &mut u32,
+    class: u32,
+    after: NI,
+    count: &mut Accesses,
+)
+    requires held { Binned NI.MAX tables.old.links top_mask.old }
+    requires classed { class < 256 }
+    requires full { names_at (class_lists NI.MAX tables.old.links) class ≢ [] }
+    requires after { NI.number after ≡ slice_index tables.old.links.older (slice_index tables.old.links.heads class) }
+    ensures held { Binned NI.MAX tables.new.links top_mask.new }
+    ensures lists { class_lists NI.MAX tables.new.links ≡ slice_set (class_lists NI.MAX tables.old.links) class (drop 1 (names_at (class_lists NI.MAX tables.old.links) class)) }
+    ensures room { tables.new.room ≡ tables.old.room }
+    ensures accesses_min { count.old + 1 ≤ count.new }
+    ensures accesses_max { count.new ≤ count.old + 3 }
+{
+    tables.set_head(class, after, count);
+    if number(after) == NI::MAX {
+        clear_class(tables, top_mask, class, count);
+    } else {
+        tables.set_newer(number(after), no_link(), count);
     }
 }
 
@@ -172,15 +171,20 @@ pub(crate) fn remove<NI: NodeIndex>(
 {
     let before = tables.newer(name, count);
     let after = tables.older(name, count);
-    link_newer(tables, after, before, count);
-    link_older(tables, before, after, count);
     if number(before) == NI::MAX {
         // only the first name has to find its class
-        let class = uint_to_float_round_down(size);
-        tables.set_head(class, after, count);
-        if number(after) == NI::MAX {
-            clear_class(tables, top_mask, class, count);
-        }
+        remove_first(
+            tables,
+            top_mask,
+            uint_to_float_round_down(size),
+            after,
+            count,
+        );
+        return;
+    }
+    tables.set_older(number(before), after, count);
+    if number(after) != NI::MAX {
+        tables.set_newer(number(after), before, count);
     }
 }
 
@@ -203,10 +207,6 @@ pub(crate) fn pop<NI: NodeIndex>(
 {
     let name = number(tables.head(class, count));
     let after = tables.older(name, count);
-    link_newer(tables, after, no_link(), count);
-    tables.set_head(class, after, count);
-    if number(after) == NI::MAX {
-        clear_class(tables, top_mask, class, count);
-    }
+    remove_first(tables, top_mask, class, after, count);
     name
 }

@@ -42,7 +42,6 @@ pub(crate) fn largest<NI: NodeIndex>(
 
 /// The number of the names of a class.
 pub(crate) fn length_of<NI: NodeIndex>(tables: &Tables<NI>, class: u32, count: &mut Accesses) -> u32 {
-    tables.shape();
     let mut names = 0;
     let mut name = number(tables.head(class, count));
     while name != NI::MAX {
@@ -61,7 +60,6 @@ pub(crate) fn push<NI: NodeIndex>(
     class: u32,
     count: &mut Accesses,
 ) {
-    tables.shape();
     let link = link_to(name);
     let first = tables.head(class, count);
     tables.set_older(name, first, count);
@@ -75,22 +73,6 @@ pub(crate) fn push<NI: NodeIndex>(
         *top_mask |= 1 << word;
     } else {
         tables.set_newer(newest, link, count);
-    }
-}
-
-// Links the node that a link names, if any, to a next newer one.
-fn link_newer<NI: NodeIndex>(tables: &mut Tables<NI>, at: NI, to: NI, count: &mut Accesses) {
-    let name = number(at);
-    if name != NI::MAX {
-        tables.set_newer(name, to, count);
-    }
-}
-
-// Links the node that a link names, if any, to a next older one.
-fn link_older<NI: NodeIndex>(tables: &mut Tables<NI>, at: NI, to: NI, count: &mut Accesses) {
-    let name = number(at);
-    if name != NI::MAX {
-        tables.set_older(name, to, count);
     }
 }
 
@@ -109,6 +91,23 @@ fn clear_class<NI: NodeIndex>(
     }
 }
 
+// Removes the first name of a bin, whose link to the next name is given.
+#[inline(always)]
+fn remove_first<NI: NodeIndex>(
+    tables: &mut Tables<NI>,
+    top_mask: &mut u32,
+    class: u32,
+    after: NI,
+    count: &mut Accesses,
+) {
+    tables.set_head(class, after, count);
+    if number(after) == NI::MAX {
+        clear_class(tables, top_mask, class, count);
+    } else {
+        tables.set_newer(number(after), no_link(), count);
+    }
+}
+
 /// Removes a name from the bin of this size.
 #[inline(always)]
 pub(crate) fn remove<NI: NodeIndex>(
@@ -120,15 +119,20 @@ pub(crate) fn remove<NI: NodeIndex>(
 ) {
     let before = tables.newer(name, count);
     let after = tables.older(name, count);
-    link_newer(tables, after, before, count);
-    link_older(tables, before, after, count);
     if number(before) == NI::MAX {
         // only the first name has to find its class
-        let class = uint_to_float_round_down(size);
-        tables.set_head(class, after, count);
-        if number(after) == NI::MAX {
-            clear_class(tables, top_mask, class, count);
-        }
+        remove_first(
+            tables,
+            top_mask,
+            uint_to_float_round_down(size),
+            after,
+            count,
+        );
+        return;
+    }
+    tables.set_older(number(before), after, count);
+    if number(after) != NI::MAX {
+        tables.set_newer(number(after), before, count);
     }
 }
 
@@ -141,10 +145,6 @@ pub(crate) fn pop<NI: NodeIndex>(
 ) -> u32 {
     let name = number(tables.head(class, count));
     let after = tables.older(name, count);
-    link_newer(tables, after, no_link(), count);
-    tables.set_head(class, after, count);
-    if number(after) == NI::MAX {
-        clear_class(tables, top_mask, class, count);
-    }
+    remove_first(tables, top_mask, class, after, count);
     name
 }

@@ -5,6 +5,7 @@
 use crate::memory::Vec;
 use crate::answers::{Answer, FullRow};
 use crate::scripts::{Command, IndexWidth, Script};
+use offset_allocator::laws::is_well_formed;
 use offset_allocator::{Allocation, Allocator, NodeIndex};
 use crate::memory::{AllocError, Global};
 
@@ -20,8 +21,10 @@ struct Player<NI: NodeIndex> {
 impl<NI: NodeIndex> Player<NI> {
     // A fresh space, and no grants.
     fn start(alloc: Global, size: u32, max_allocs: u32) -> Result<Self, AllocError> {
+        let space = Allocator::with_max_allocs(alloc, size, max_allocs)?;
+        is_well_formed(&space);
         Ok(Player {
-            space: Allocator::with_max_allocs(alloc, size, max_allocs)?,
+            space,
             handles: Vec::new(alloc),
             swept: 0,
         })
@@ -40,6 +43,7 @@ impl<NI: NodeIndex> Player<NI> {
 
     // The answer to a request with this result. The handle of a grant is kept under the next number.
     fn keep(&mut self, granted: Option<Allocation<NI>>) -> Result<Answer, AllocError> {
+        is_well_formed(&self.space);
         match granted {
             None => Ok(Answer::Refused),
             Some(handle) => {
@@ -64,6 +68,7 @@ impl<NI: NodeIndex> Player<NI> {
             None => Answer::Gone,
             Some(handle) => {
                 self.space.free(handle);
+                is_well_formed(&self.space);
                 self.handles[number as usize - 1] = None;
                 Answer::Freed
             }
@@ -103,6 +108,7 @@ impl<NI: NodeIndex> Player<NI> {
     // The answer to `reset`. All handles are removed, and numbers go on.
     fn reset(&mut self) -> Answer {
         self.space.reset();
+        is_well_formed(&self.space);
         for i in self.swept..self.handles.len() {
             self.handles[i] = None;
         }
@@ -118,7 +124,9 @@ impl<NI: NodeIndex> Player<NI> {
 
     // The answer to `extend`.
     fn extend(&mut self, more: u32) -> Answer {
-        if self.space.extend(more) {
+        let done = self.space.extend(more);
+        is_well_formed(&self.space);
+        if done {
             Answer::Extended
         } else {
             Answer::Refused

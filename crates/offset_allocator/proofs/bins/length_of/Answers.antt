@@ -1,70 +1,30 @@
-use Rattle.std.proofs.Common.{◌≡◌, ◌≢◌, ◌∙◌, ℕ, subst, sym, ap, arith, length, slice_index}
-use Rattle.offset_allocator.proofs.Lengths.{names_from, IsTail, start, step, tail_fits, nothing_after}
+use Rattle.std.proofs.Common.{◌≤◌, ◌∙◌, arith, rules}
+use Rattle.offset_allocator.proofs.Binned.{fits}
+use Rattle.offset_allocator.proofs.Walks.{tail_next, tail_end}
 use Rattle.offset_allocator.proofs.bins.length_of.Goals as goal
 
 pub loop-name-init : goal.loop-name-init
-loop-name-init g c =
-    let lk = c.requires.linked in
-    let s = start g.NI.NodeIndex.MAX c.args.tables.now.links.newer c.args.tables.now.links.older lk.names_small lk.older_len c.args.tables.now.links.heads _ lk c.args.class c.requires.classed in
-    let l = ap length s.0 in
-    let P : ℕ → Type 0 = λ n. IsTail g.NI.NodeIndex.MAX c.args.tables.now.links.newer c.args.tables.now.links.older n in
-    let h : c.number-name.result ≡ slice_index c.args.tables.now.links.heads c.args.class = c.number-name.ensures.number ∙ c.head.ensures.cell in
-    let e = ap (λ n. length (names_from g.NI.NodeIndex.MAX c.args.tables.now.links.older n)) h in
-    record {
-      tail = subst P (sym h) s.1;
-      counted = omega arith;
-      accesses = omega arith;
-    }
+loop-name-init g c = record {
+  tail = record { before = g.NI.NodeIndex.MAX; names = _; chain = c.requires.linked.chains c.args.class c.requires.classed; is = c.number-name.ensures.number ∙ c.head.ensures.cell ∙ c.requires.linked.heads c.args.class c.requires.classed; counted = omega arith };
+  accesses = omega arith;
+}
 
 pub overflow_add-names : goal.overflow_add-names
 overflow_add-names g c =
-    let lk = c.requires.linked in
-    let n : c.loop-name.name ≢ g.NI.NodeIndex.MAX = omega arith in
-    let t = step g.NI.NodeIndex.MAX c.args.tables.now.links.newer c.args.tables.now.links.older lk.names_small lk.older_len c.loop-name.name n c.loop-name.invariant.tail in
-    let whole = start g.NI.NodeIndex.MAX c.args.tables.now.links.newer c.args.tables.now.links.older lk.names_small lk.older_len c.args.tables.now.links.heads _ lk c.args.class c.requires.classed in
-    let fits = tail_fits g.NI.NodeIndex.MAX c.args.tables.now.links.newer c.args.tables.now.links.older lk.names_small lk.older_len _ whole.1 in
-    let same = ap length whole.0 in
-    let most = c.shape.ensures.word in
-    let nodes = c.shape.ensures.newer in
-    let small = lk.names_small in
-    let one = t.1 in
-    let k = c.loop-name.invariant.counted in
-    omega arith
+    let word : g.NI.NodeIndex.MAX ≤ 4294967295 = search rules in
+    omega (arith, (tail_next c.loop-name.invariant.tail (omega arith)).1, fits c.requires.linked c.args.class c.requires.classed, c.requires.linked.names_small)
 
 pub older-requires : goal.older-requires
-older-requires g c =
-    let lk = c.requires.linked in
-    let n : c.loop-name.name ≢ g.NI.NodeIndex.MAX = omega arith in
-    (step g.NI.NodeIndex.MAX c.args.tables.now.links.newer c.args.tables.now.links.older lk.names_small lk.older_len c.loop-name.name n c.loop-name.invariant.tail).0
+older-requires g c = omega (arith, (tail_next c.loop-name.invariant.tail (omega arith)).0, c.requires.linked.older_len)
 
 pub loop-name-smaller : goal.loop-name-smaller
-loop-name-smaller g c =
-    let lk = c.requires.linked in
-    let n : c.loop-name.name ≢ g.NI.NodeIndex.MAX = omega arith in
-    let t = step g.NI.NodeIndex.MAX c.args.tables.now.links.newer c.args.tables.now.links.older lk.names_small lk.older_len c.loop-name.name n c.loop-name.invariant.tail in
-    let one = t.1 in
-    let e = ap (λ n. length (names_from g.NI.NodeIndex.MAX c.args.tables.now.links.older n)) (c.number-name-in-loop-name.ensures.number ∙ c.older.ensures.cell) in
-    omega arith
+loop-name-smaller g c = omega (arith, (tail_next c.loop-name.invariant.tail (omega arith)).1)
 
 pub loop-name-preserved : goal.loop-name-preserved
-loop-name-preserved g c =
-    let lk = c.requires.linked in
-    let n : c.loop-name.name ≢ g.NI.NodeIndex.MAX = omega arith in
-    let t = step g.NI.NodeIndex.MAX c.args.tables.now.links.newer c.args.tables.now.links.older lk.names_small lk.older_len c.loop-name.name n c.loop-name.invariant.tail in
-    let one = t.1 in
-    let e = ap (λ n. length (names_from g.NI.NodeIndex.MAX c.args.tables.now.links.older n)) (c.number-name-in-loop-name.ensures.number ∙ c.older.ensures.cell) in
-    let P : ℕ → Type 0 = λ n. IsTail g.NI.NodeIndex.MAX c.args.tables.now.links.newer c.args.tables.now.links.older n in
-    let k = c.loop-name.invariant.counted in
-    let a = c.loop-name.invariant.accesses in
-    record {
-      tail = subst P (sym (c.number-name-in-loop-name.ensures.number ∙ c.older.ensures.cell)) t.2;
-      counted = omega arith;
-      accesses = omega arith;
-    }
+loop-name-preserved g c = record {
+  tail = rw (c.number-name-in-loop-name.ensures.number, c.older.ensures.cell) (tail_next c.loop-name.invariant.tail (omega arith)).2;
+  accesses = omega arith;
+}
 
 pub returns-clause-names : goal.returns-clause-names
-returns-clause-names g c =
-    let lk = c.requires.linked in
-    let z = nothing_after g.NI.NodeIndex.MAX c.args.tables.now.links.newer c.args.tables.now.links.older lk.names_small lk.older_len c.loop-name.name (omega arith) c.loop-name.invariant.tail in
-    let k = c.loop-name.invariant.counted in
-    omega arith
+returns-clause-names g c = tail_end c.requires.linked.names_small c.loop-name.invariant.tail (omega arith)

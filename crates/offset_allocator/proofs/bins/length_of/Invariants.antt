@@ -1,15 +1,14 @@
-use Rattle.std.proofs.Common.{◌≡◌, ◌+◌, length}
+use Rattle.std.proofs.Common.{◌≡◌, ◌+◌, ◌-◌, length}
 use Rattle.offset_allocator.specs.Named.{names_at}
 use Rattle.offset_allocator.specs.Orders.{class_lists}
-use Rattle.offset_allocator.proofs.Lengths.{names_from, IsTail}
+use Rattle.offset_allocator.proofs.Walks.{IsTail}
 use Rattle.offset_allocator.proofs.bins.length_of.Given as goal
 
 abbrev pub invariant-loop-name : goal.invariant-loop-name
 invariant-loop-name g l = record {
-  tail : IsTail g.NI.NodeIndex.MAX l.tables.links.newer l.tables.links.older l.name;
-  counted : l.names + length (names_from g.NI.NodeIndex.MAX l.tables.links.older l.name) ≡ length (names_at (class_lists g.NI.NodeIndex.MAX l.tables.links) l.class);
+  tail : IsTail g.NI.NodeIndex.MAX l.tables.links l.name l.names (length (names_at (class_lists g.NI.NodeIndex.MAX l.tables.links) l.class));
   accesses : l.count ≡ l.fn.count + 1 + l.names;
 }
 
 abbrev pub decreases-loop-name : goal.decreases-loop-name
-decreases-loop-name g l = length (names_from g.NI.NodeIndex.MAX l.tables.links.older l.name)
+decreases-loop-name g l = length (names_at (class_lists g.NI.NodeIndex.MAX l.tables.links) l.class) - l.names

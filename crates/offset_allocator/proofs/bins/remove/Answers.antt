@@ -1,87 +1,48 @@
-use Rattle.std.proofs.Common.{ℕ, ◌≡◌, ◌≢◌, refl, ap, ◌∙◌, arith, length, slice_set}
-use Rattle.std.proofs.lemmas.Bool.{eq-eqb}
-use Rattle.offset_allocator.specs.Classes.{down}
-use Rattle.offset_allocator.specs.Named.{names_at, without}
-use Rattle.offset_allocator.specs.Cells.{Cells, Links}
-use Rattle.offset_allocator.specs.Orders.{flag, Masked, Binned, class_lists}
+use Rattle.std.proofs.Common.{◌≢◌, ◌∙◌, sym, arith, slice_index}
+use Rattle.std.proofs.lemmas.List.{set_past}
+use Rattle.offset_allocator.proofs.Binned.{below, newer_in, older_in, is_first, is_later, without_head, later_masked, left, binned, clauses}
 use Rattle.offset_allocator.proofs.Sizes.{down_small}
-use Rattle.offset_allocator.proofs.Removed.{name_newer, name_older, after_in, before_in, first, later, masks_kept}
 use Rattle.offset_allocator.proofs.bins.remove.Goals as goal
-use Rattle.offset_allocator.proofs.bins.remove.Given.{Over}
-
-links : Cells → Links
-links v = v.links
-
-none_flag : (none h : ℕ) → h ≡ none → flag none h ≡ 0
-none_flag none h e = rw (eq-eqb h none e)
 
 pub newer-before-requires : goal.newer-before-requires
-newer-before-requires g c =
-    name_newer g.NI.NodeIndex.MAX c.args.tables.now.links c.args.top_mask.now c.requires.held c.args.name (down c.args.size) (down_small c.args.size) c.requires.listed
+newer-before-requires g c = below c.requires.held.linked _ (down_small c.args.size) _ c.requires.listed
 
 pub older-after-requires : goal.older-after-requires
-older-after-requires g c =
-    name_older g.NI.NodeIndex.MAX c.args.tables.now.links c.args.top_mask.now c.requires.held c.args.name (down c.args.size) (down_small c.args.size) c.requires.listed
+older-after-requires g c = omega (arith, below c.requires.held.linked _ (down_small c.args.size) _ c.requires.listed, c.requires.held.linked.older_len)
 
-pub link_newer-requires : goal.link_newer-requires
-link_newer-requires g c =
-    after_in g.NI.NodeIndex.MAX c.args.tables.now.links c.args.top_mask.now c.requires.held c.args.name (down c.args.size) (down_small c.args.size) c.requires.listed
-    _ _ c.newer-before.ensures.cell c.older-after.ensures.cell
+pub set_older-requires : goal.set_older-requires
+set_older-requires g c =
+    let l = newer_in c.requires.held.linked _ (down_small c.args.size) _ c.requires.listed (λ e. absurd (omega arith)) in
+    omega (arith, l, c.requires.held.linked.older_len)
 
-pub link_older-requires : goal.link_older-requires
-link_older-requires g c =
-    rw c.link_newer.ensures.cells (before_in g.NI.NodeIndex.MAX c.args.tables.now.links c.args.top_mask.now c.requires.held c.args.name (down c.args.size) (down_small c.args.size) c.requires.listed
-    _ _ c.newer-before.ensures.cell c.older-after.ensures.cell)
+pub set_newer-requires : goal.set_newer-requires
+set_newer-requires g c =
+    let l = older_in c.requires.held.linked _ (down_small c.args.size) _ c.requires.listed (λ e. absurd (omega arith)) in
+    rw c.set_older.ensures.cells (omega (arith, l))
 
-emptied : (g : Over) (c : goal.After-clear_class g) → Binned g.NI.NodeIndex.MAX c.clear_class.new.tables.links c.clear_class.new.top_mask × (class_lists g.NI.NodeIndex.MAX c.clear_class.new.tables.links ≡ slice_set (class_lists g.NI.NodeIndex.MAX c.args.tables.now.links) (down c.args.size) (without c.args.name (names_at (class_lists g.NI.NodeIndex.MAX c.args.tables.now.links) (down c.args.size)))) × (length c.clear_class.new.tables.links.newer ≡ length c.args.tables.now.links.newer)
-unfolding links
-emptied g c =
-    let z : g.NI.NodeIndex.number c.newer-before.result ≡ g.NI.NodeIndex.MAX = omega arith in
-    let y : (g.NI.NodeIndex.number c.older-after.result) ≡ g.NI.NodeIndex.MAX = omega arith in
-    let m : Masked g.NI.NodeIndex.MAX (slice_set c.args.tables.now.links.heads (down c.args.size) (g.NI.NodeIndex.number c.older-after.result)) c.clear_class.new.tables.links.masks c.clear_class.new.top_mask =
-    rw c.uint_to_float_round_down-class.ensures.is at (c.clear_class.ensures.masked c.args.tables.now.links.heads (g.NI.NodeIndex.number c.older-after.result)
-    (rw (c.set_head.ensures.cells, c.link_older.ensures.cells, c.link_newer.ensures.cells) c.requires.held.masked) c.requires.held.linked.heads_len (none_flag _ _ y)) in
-    first g.NI.NodeIndex.MAX c.args.tables.now.links c.args.top_mask.now c.requires.held c.args.name (down c.args.size) (down_small c.args.size) c.requires.listed
-    _ _ c.newer-before.ensures.cell c.older-after.ensures.cell _ _ (ap links c.link_newer.ensures.cells) (ap links c.link_older.ensures.cells) _ _ _ z (rw c.uint_to_float_round_down-class.ensures.is at (ap links (rw c.set_head.ensures.cells at c.clear_class.ensures.rest))) m
+pub remove_first-requires-clause-after : goal.remove_first-requires-clause-after
+remove_first-requires-clause-after g c =
+    let f = is_first c.requires.held.linked _ (down_small c.args.size) _ c.requires.listed (sym c.newer-before.ensures.cell ∙ omega arith) in
+    rw (c.uint_to_float_round_down.ensures.is, f.1) c.older-after.ensures.cell
 
-pub returns-then-number-MAX-2-clause-held : goal.returns-then-number-MAX-2-clause-held
-returns-then-number-MAX-2-clause-held g c = (emptied g c).0
+pub returns-then-number-MAX-clause-lists : goal.returns-then-number-MAX-clause-lists
+returns-then-number-MAX-clause-lists g c =
+    let f = is_first c.requires.held.linked _ (down_small c.args.size) _ c.requires.listed (sym c.newer-before.ensures.cell ∙ omega arith) in
+    let w = without_head c.requires.held.linked _ (down_small c.args.size) f.0 in
+    rw (← f.1, w) (rw c.uint_to_float_round_down.ensures.is at c.remove_first.ensures.lists)
 
-pub returns-then-number-MAX-2-clause-lists : goal.returns-then-number-MAX-2-clause-lists
-returns-then-number-MAX-2-clause-lists g c = (emptied g c).1
+pub returns-then-number-MAX-2 : goal.returns-then-number-MAX-2
+returns-then-number-MAX-2 g c =
+    let k = c.requires.held.linked in
+    let n : slice_index c.args.tables.now.links.newer c.args.name ≢ g.NI.NodeIndex.MAX = λ e. absurd (omega (arith, c.newer-before.ensures.cell)) in
+    clauses (binned (left k _ (down_small c.args.size) c.set_newer.new.self.links _ _ _ (is_later k _ (down_small c.args.size) _ c.requires.listed n) c.newer-before.ensures.cell c.older-after.ensures.cell
+    (rw (c.set_newer.ensures.cells, c.set_older.ensures.cells, c.number-then-number-MAX-2.ensures.number)) (rw (c.set_newer.ensures.cells, c.set_older.ensures.cells, c.number-2.ensures.number)) (rw (c.set_newer.ensures.cells, c.set_older.ensures.cells)))
+    (rw (c.set_newer.ensures.cells, c.set_older.ensures.cells) (later_masked k _ (down_small c.args.size) _ c.requires.listed n c.requires.held.masked))) (rw (c.set_newer.ensures.cells, c.set_older.ensures.cells)) (omega arith) (omega arith)
 
-pub returns-else-number-MAX-2-clause-held : goal.returns-else-number-MAX-2-clause-held
-unfolding links
-returns-else-number-MAX-2-clause-held g c =
-    let z : g.NI.NodeIndex.number c.newer-before.result ≡ g.NI.NodeIndex.MAX = omega arith in
-    let n : (g.NI.NodeIndex.number c.older-after.result) ≢ g.NI.NodeIndex.MAX = omega arith in
-    let m = masks_kept g.NI.NodeIndex.MAX c.args.tables.now.links c.args.top_mask.now c.requires.held c.args.name (down c.args.size) (down_small c.args.size) c.requires.listed
-    _ _ c.newer-before.ensures.cell c.older-after.ensures.cell _ _ (ap links c.link_newer.ensures.cells) (ap links c.link_older.ensures.cells) z n in
-    (first g.NI.NodeIndex.MAX c.args.tables.now.links c.args.top_mask.now c.requires.held c.args.name (down c.args.size) (down_small c.args.size) c.requires.listed
-    _ _ c.newer-before.ensures.cell c.older-after.ensures.cell _ _ (ap links c.link_newer.ensures.cells) (ap links c.link_older.ensures.cells) c.set_head.new.self.links c.args.tables.now.links.masks c.args.top_mask.now z
-    ((rw c.uint_to_float_round_down-class.ensures.is at (ap links c.set_head.ensures.cells)) ∙ rw (c.link_older.ensures.cells, c.link_newer.ensures.cells) refl) m).0
-
-pub returns-else-number-MAX-2-clause-lists : goal.returns-else-number-MAX-2-clause-lists
-unfolding links
-returns-else-number-MAX-2-clause-lists g c =
-    let z : g.NI.NodeIndex.number c.newer-before.result ≡ g.NI.NodeIndex.MAX = omega arith in
-    let n : (g.NI.NodeIndex.number c.older-after.result) ≢ g.NI.NodeIndex.MAX = omega arith in
-    let m = masks_kept g.NI.NodeIndex.MAX c.args.tables.now.links c.args.top_mask.now c.requires.held c.args.name (down c.args.size) (down_small c.args.size) c.requires.listed
-    _ _ c.newer-before.ensures.cell c.older-after.ensures.cell _ _ (ap links c.link_newer.ensures.cells) (ap links c.link_older.ensures.cells) z n in
-    (first g.NI.NodeIndex.MAX c.args.tables.now.links c.args.top_mask.now c.requires.held c.args.name (down c.args.size) (down_small c.args.size) c.requires.listed
-    _ _ c.newer-before.ensures.cell c.older-after.ensures.cell _ _ (ap links c.link_newer.ensures.cells) (ap links c.link_older.ensures.cells) c.set_head.new.self.links c.args.tables.now.links.masks c.args.top_mask.now z
-    ((rw c.uint_to_float_round_down-class.ensures.is at (ap links c.set_head.ensures.cells)) ∙ rw (c.link_older.ensures.cells, c.link_newer.ensures.cells) refl) m).1
-
-pub returns-else-number-MAX-clause-held : goal.returns-else-number-MAX-clause-held
-unfolding links
-returns-else-number-MAX-clause-held g c =
-    let n : (g.NI.NodeIndex.number c.newer-before.result) ≢ g.NI.NodeIndex.MAX = omega arith in
-    (later g.NI.NodeIndex.MAX c.args.tables.now.links c.args.top_mask.now c.requires.held c.args.name (down c.args.size) (down_small c.args.size) c.requires.listed
-    _ _ c.newer-before.ensures.cell c.older-after.ensures.cell _ _ (ap links c.link_newer.ensures.cells) (ap links c.link_older.ensures.cells) n).0
-
-pub returns-else-number-MAX-clause-lists : goal.returns-else-number-MAX-clause-lists
-unfolding links
-returns-else-number-MAX-clause-lists g c =
-    let n : (g.NI.NodeIndex.number c.newer-before.result) ≢ g.NI.NodeIndex.MAX = omega arith in
-    (later g.NI.NodeIndex.MAX c.args.tables.now.links c.args.top_mask.now c.requires.held c.args.name (down c.args.size) (down_small c.args.size) c.requires.listed
-    _ _ c.newer-before.ensures.cell c.older-after.ensures.cell _ _ (ap links c.link_newer.ensures.cells) (ap links c.link_older.ensures.cells) n).1
+pub returns-else-number-MAX-2 : goal.returns-else-number-MAX-2
+returns-else-number-MAX-2 g c =
+    let k = c.requires.held.linked in
+    let n : slice_index c.args.tables.now.links.newer c.args.name ≢ g.NI.NodeIndex.MAX = λ e. absurd (omega (arith, c.newer-before.ensures.cell)) in
+    clauses (binned (left k _ (down_small c.args.size) c.set_older.new.self.links _ _ _ (is_later k _ (down_small c.args.size) _ c.requires.listed n) c.newer-before.ensures.cell c.older-after.ensures.cell
+    (rw c.set_older.ensures.cells (sym (set_past _ _ _ (omega (arith, k.names_small))))) (rw (c.set_older.ensures.cells, c.number-2.ensures.number)) (rw c.set_older.ensures.cells))
+    (rw c.set_older.ensures.cells (later_masked k _ (down_small c.args.size) _ c.requires.listed n c.requires.held.masked))) (rw c.set_older.ensures.cells) (omega arith) (omega arith)
