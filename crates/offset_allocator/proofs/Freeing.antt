@@ -145,8 +145,8 @@ module _ {f : Fields} {x : ℕ} (r : Release f x) where
       (λ k y. omega (arith, w.orders k y, w.distinct y, listed_named k y bs))
       (λ k y. omega (arith, w.orders k y, parts k y))
 
-  pub listed_after : (d : Room) (count' : ℕ) → HasPlace d (length f.cells.room.nodes) f.last count' x (coalesced_before at.place) → AreListed d (length f.cells.room.nodes) f.last count' (remove_all (free_end at.place.before) (class_lists f.max f.cells.links))
-  listed_after d count' h = filed_listed ls₁ h.chain
+  pub listed_after : (d : Room) (last' count' : ℕ) → HasPlace d (length f.cells.room.nodes) last' count' x (coalesced_before at.place) → AreListed d (length f.cells.room.nodes) last' count' (remove_all (free_end at.place.before) (class_lists f.max f.cells.links))
+  listed_after d last' count' h = filed_listed ls₁ h.chain
       (λ k y. omega (arith, removed k y, w.orders k y, parts k y, tally_append (λ d. share k y d) (without_end fs) (b₁ ∷ cs), share_used k y b₁ used, tally_start (λ d. share k y d) cs))
 
   -- coalesced with a free block after it too

@@ -7,7 +7,7 @@ use Rattle.offset_allocator.proofs.Split.{well_counted}
 
 -- an allocator's fields, with the largest number of its index type
 abbrev pub fields_of : {A B : Type 0} → ℕ → Inside A B → Fields
-fields_of max a = record { max = max; size = a.size; limit = a.max_allocs; cells = a.tables; last = a.last; count = a.spare_count; top = a.top_mask; free = a.free_total; accesses = a.accesses }
+fields_of max a = record { max = max; size = a.size; limit = a.max_allocs; cells = a.store.tables; last = a.store.last; count = a.store.spare_count; top = a.store.top_mask; free = a.free_total; accesses = a.store.accesses }
 
 -- the view of sound fields is well formed, and of a size that a word holds
 pub known_sound : (f : Fields) → AreSound f → (v : View) → shown f ≡ v → IsWellFormed v × (v.size ≤ 4294967295)

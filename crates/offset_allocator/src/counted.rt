@@ -40,7 +40,7 @@ pub fn allocation_size_counted<NI: NodeIndex>(
 {
     let name = index::number::<NI>(NI::of_nonmax(allocation.name()));
     if allocator.uses(name, count) {
-        chain::size(&allocator.tables, name, count)
+        chain::size(&allocator.store.tables, name, count)
     } else {
         0
     }
@@ -56,13 +56,17 @@ pub fn storage_report_counted<NI: NodeIndex>(
     ensures accesses_min { 1 ≤ largest_free allocator.now → count.old + 1 ≤ count.new }
     ensures accesses_max { count.new ≤ count.old + 8 }
 {
-    if allocator.spare_count < 2 {
+    if allocator.store.spare_count < 2 {
         return StorageReport {
             total_free_space: 0,
             largest_free_region: 0,
         };
     }
-    let largest_free_region = match bins::largest(&allocator.tables, allocator.top_mask, count) {
+    let largest_free_region = match bins::largest(
+        &allocator.store.tables,
+        allocator.store.top_mask,
+        count,
+    ) {
         None => 0,
         Some(class) => float_to_uint(class),
     };
@@ -85,7 +89,7 @@ pub fn storage_report_full_counted<NI: NodeIndex>(
     for class in 0..256u32 {
         report.free_regions[class as usize] = StorageReportFullRegion {
             size: float_to_uint(class),
-            count: bins::length_of(&allocator.tables, class, count),
+            count: bins::length_of(&allocator.store.tables, class, count),
         };
     }
     report
@@ -122,14 +126,19 @@ pub fn refusal_aligned_counted<NI: NodeIndex>(
 {
     let blocks = align.min(2);
     let units = size as u64 + (align - 1) as u64;
-    if allocator.spare_count <= blocks {
+    if allocator.store.spare_count <= blocks {
         return Some(Refusal::Nodes);
     }
     if units > allocator.free_total as u64 {
         return Some(Refusal::Space);
     }
     let smallest = uint_to_float_round_up(units as u32);
-    match bins::find_at_or_above(&allocator.tables, allocator.top_mask, smallest, count) {
+    match bins::find_at_or_above(
+        &allocator.store.tables,
+        allocator.store.top_mask,
+        smallest,
+        count,
+    ) {
         None => Some(Refusal::Fragmented),
         Some(_) => None,
     }

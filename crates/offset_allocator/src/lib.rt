@@ -37,6 +37,7 @@ mod merge;
 mod parts;
 mod reports;
 pub mod small_float;
+mod store;
 mod tables;
 #[cfg(test)]
 mod tests;
@@ -49,6 +50,7 @@ use small_float::{uint_to_float_round_down, uint_to_float_round_up};
 use std::alloc::{AllocError, Global};
 use std::fmt;
 use std::marker::Model;
+use store::Store;
 use tables::Tables;
 
 /// One space, and what of it is granted.
@@ -60,15 +62,7 @@ pub struct Allocator<NI: NodeIndex = u32> {
     max_allocs: u32,
     // the units of all free blocks
     free_total: u32,
-    // bit w says whether word w of the bins' mask is not 0
-    top_mask: u32,
-    // the number of names that no block has
-    spare_count: u32,
-    // the name of the last block in space order
-    last: u32,
-    tables: Tables<NI>,
-    // takes no bytes at run time
-    accesses: Accesses,
+    store: Store<NI>,
 }
 
 impl<NI: NodeIndex> Model for Allocator<NI> {
@@ -77,9 +71,9 @@ impl<NI: NodeIndex> Model for Allocator<NI> {
 
     ghost Value = { View };
 
-    ghost view = { λ a. view_of NI.MAX a.size a.max_allocs a.tables a.last a.accesses };
+    ghost view = { λ a. view_of NI.MAX a.size a.max_allocs a.store.tables a.store.last a.store.accesses };
 
-    ghost invariant = { λ a. IsSound NI.MAX a.size a.max_allocs a.tables a.last a.spare_count a.top_mask a.free_total };
+    ghost invariant = { λ a. IsSound NI.MAX a.size a.max_allocs a.store.tables a.store.last a.store.spare_count a.store.top_mask a.free_total };
 }
 
 // The handle of a name.
@@ -144,11 +138,13 @@ impl<NI: NodeIndex> Allocator<NI> {
             size,
             max_allocs,
             free_total: size,
-            top_mask,
-            spare_count: max_allocs - 1,
-            last: max_allocs - 1,
-            tables,
-            accesses: Accesses::new(),
+            store: Store {
+                tables,
+                top_mask,
+                last: max_allocs - 1,
+                spare_count: max_allocs - 1,
+                accesses: Accesses::new(),
+            },
         })
     }
 
@@ -160,10 +156,18 @@ impl<NI: NodeIndex> Allocator<NI> {
         ensures none { result ≡ None → Resets self.old self.new }
         ensures accesses_kept { self.old.accesses ≤ self.new.accesses }
     {
-        if chain::is_used(&self.tables, self.last, &mut self.accesses) {
-            return Some(self.last);
+        if chain::is_used(
+            &self.store.tables,
+            self.store.last,
+            &mut self.store.accesses,
+        ) {
+            return Some(self.store.last);
         }
-        chain::before(&self.tables, self.last, &mut self.accesses)
+        chain::before(
+            &self.store.tables,
+            self.store.last,
+            &mut self.store.accesses,
+        )
     }
 
     // Frees every live range. It is out of line, so that `reset` stays small where it is inlined.
@@ -182,16 +186,16 @@ impl<NI: NodeIndex> Allocator<NI> {
         ensures step { Resets self.old self.new }
         ensures accesses_kept { self.old.accesses ≤ self.new.accesses }
     {
-        self.tables.clear();
-        self.top_mask = start(
-            &mut self.tables,
+        self.store.tables.clear();
+        self.store.top_mask = start(
+            &mut self.store.tables,
             self.size,
             self.max_allocs,
-            &mut self.accesses,
+            &mut self.store.accesses,
         );
         self.free_total = self.size;
-        self.spare_count = self.max_allocs - 1;
-        self.last = self.max_allocs - 1;
+        self.store.spare_count = self.max_allocs - 1;
+        self.store.last = self.max_allocs - 1;
     }
 
     /// Makes the whole space one free block again, in place. The block of every earlier handle is gone.
@@ -233,7 +237,7 @@ impl<NI: NodeIndex> Allocator<NI> {
     pub fn block_count(&self) -> u32
         ensures { result ≡ length self.now.blocks }
     {
-        self.max_allocs - self.spare_count
+        self.max_allocs - self.store.spare_count
     }
 
     /// Whether `max_allocs - 1` blocks exist. Then every request is refused, and the short report is 0, 0, until a
@@ -257,24 +261,20 @@ impl<NI: NodeIndex> Allocator<NI> {
         ensures accesses_max { self.new.accesses ≤ self.old.accesses + 43 }
     {
         let name = bins::pop(
-            &mut self.tables,
-            &mut self.top_mask,
+            &mut self.store.tables,
+            &mut self.store.top_mask,
             class,
-            &mut self.accesses,
+            &mut self.store.accesses,
         );
-        let offset = chain::offset(&self.tables, name, &mut self.accesses);
-        let whole = chain::size(&self.tables, name, &mut self.accesses);
+        let offset = chain::offset(&self.store.tables, name, &mut self.store.accesses);
+        let whole = chain::size(&self.store.tables, name, &mut self.store.accesses);
         let padding = (align - offset % align) % align;
         parts::divide(
-            &mut self.tables,
-            &mut self.top_mask,
-            &mut self.last,
-            &mut self.spare_count,
+            &mut self.store,
             name,
             padding,
             size,
             whole - (padding + size),
-            &mut self.accesses,
         );
         self.free_total -= size;
         handle_of(offset + padding, name)
@@ -291,14 +291,19 @@ impl<NI: NodeIndex> Allocator<NI> {
         ensures accesses_min { IsSome result → self.old.accesses + 7 ≤ self.new.accesses }
         ensures accesses_max { self.new.accesses ≤ self.old.accesses + 45 }
     {
-        if self.spare_count <= align.min(2) {
+        if self.store.spare_count <= align.min(2) {
             return None;
         }
         if size > u32::MAX - (align - 1) {
             return None;
         }
         let smallest = uint_to_float_round_up(size + (align - 1));
-        match bins::find_at_or_above(&self.tables, self.top_mask, smallest, &mut self.accesses) {
+        match bins::find_at_or_above(
+            &self.store.tables,
+            self.store.top_mask,
+            smallest,
+            &mut self.store.accesses,
+        ) {
             None => None,
             Some(class) => Some(self.grant(class, size, align)),
         }
@@ -370,33 +375,23 @@ impl<NI: NodeIndex> Allocator<NI> {
         ensures accesses_min { self.old.accesses + 9 ≤ self.new.accesses }
         ensures accesses_max { self.new.accesses ≤ self.old.accesses + 128 }
     {
-        let size = chain::size(&self.tables, name, &mut self.accesses);
+        let size = chain::size(&self.store.tables, name, &mut self.store.accesses);
         self.free_total += size;
-        let size = merge::with_before(
-            &mut self.tables,
-            &mut self.top_mask,
-            &mut self.spare_count,
+        let size = merge::with_before(&mut self.store, name, size);
+        let size = merge::with_after(&mut self.store, name, size);
+        chain::mark(
+            &mut self.store.tables,
             name,
-            size,
-            &mut self.accesses,
+            false,
+            &mut self.store.accesses,
         );
-        let size = merge::with_after(
-            &mut self.tables,
-            &mut self.top_mask,
-            &mut self.last,
-            &mut self.spare_count,
-            name,
-            size,
-            &mut self.accesses,
-        );
-        chain::mark(&mut self.tables, name, false, &mut self.accesses);
-        self.tables.shape();
+        self.store.tables.shape();
         bins::push(
-            &mut self.tables,
-            &mut self.top_mask,
+            &mut self.store.tables,
+            &mut self.store.top_mask,
             name,
             uint_to_float_round_down(size),
-            &mut self.accesses,
+            &mut self.store.accesses,
         );
     }
 
@@ -408,7 +403,7 @@ impl<NI: NodeIndex> Allocator<NI> {
         ensures accesses_max { count.new ≤ count.old + 1 }
     {
         if name < self.max_allocs {
-            chain::is_used(&self.tables, name, count)
+            chain::is_used(&self.store.tables, name, count)
         } else {
             false
         }
@@ -517,22 +512,31 @@ impl<NI: NodeIndex> Allocator<NI> {
         ensures accesses_min { self.old.accesses + 10 ≤ self.new.accesses }
         ensures accesses_max { self.new.accesses ≤ self.old.accesses + 16 }
     {
-        let whole = chain::size(&self.tables, self.last, &mut self.accesses);
-        bins::remove(
-            &mut self.tables,
-            &mut self.top_mask,
-            self.last,
-            whole,
-            &mut self.accesses,
+        let whole = chain::size(
+            &self.store.tables,
+            self.store.last,
+            &mut self.store.accesses,
         );
-        chain::grow(&mut self.tables, self.last, more, &mut self.accesses);
-        self.tables.shape();
+        bins::remove(
+            &mut self.store.tables,
+            &mut self.store.top_mask,
+            self.store.last,
+            whole,
+            &mut self.store.accesses,
+        );
+        chain::grow(
+            &mut self.store.tables,
+            self.store.last,
+            more,
+            &mut self.store.accesses,
+        );
+        self.store.tables.shape();
         bins::push(
-            &mut self.tables,
-            &mut self.top_mask,
-            self.last,
+            &mut self.store.tables,
+            &mut self.store.top_mask,
+            self.store.last,
             uint_to_float_round_down(whole + more),
-            &mut self.accesses,
+            &mut self.store.accesses,
         );
         self.size += more;
         self.free_total += more;
@@ -549,27 +553,32 @@ impl<NI: NodeIndex> Allocator<NI> {
         ensures accesses_min { self.old.accesses + 9 ≤ self.new.accesses }
         ensures accesses_max { self.new.accesses ≤ self.old.accesses + 19 }
     {
-        let end = self.last;
-        let offset = chain::offset(&self.tables, end, &mut self.accesses);
-        let whole = chain::size(&self.tables, end, &mut self.accesses);
+        let end = self.store.last;
+        let offset = chain::offset(&self.store.tables, end, &mut self.store.accesses);
+        let whole = chain::size(&self.store.tables, end, &mut self.store.accesses);
         let name = chain::split(
-            &mut self.tables,
-            &mut self.last,
-            &mut self.spare_count,
+            &mut self.store.tables,
+            &mut self.store.last,
+            &mut self.store.spare_count,
             end,
             offset,
             whole,
             whole,
-            &mut self.accesses,
+            &mut self.store.accesses,
         );
-        chain::grow(&mut self.tables, self.last, more, &mut self.accesses);
-        self.tables.shape();
+        chain::grow(
+            &mut self.store.tables,
+            self.store.last,
+            more,
+            &mut self.store.accesses,
+        );
+        self.store.tables.shape();
         bins::push(
-            &mut self.tables,
-            &mut self.top_mask,
+            &mut self.store.tables,
+            &mut self.store.top_mask,
             name,
             uint_to_float_round_down(more),
-            &mut self.accesses,
+            &mut self.store.accesses,
         );
         self.size += more;
         self.free_total += more;
@@ -600,12 +609,16 @@ impl<NI: NodeIndex> Allocator<NI> {
         if more > u32::MAX - self.size {
             return false;
         }
-        let used = chain::is_used(&self.tables, self.last, &mut self.accesses);
+        let used = chain::is_used(
+            &self.store.tables,
+            self.store.last,
+            &mut self.store.accesses,
+        );
         if !used {
             self.widen(more);
             return true;
         }
-        if self.spare_count < 2 {
+        if self.store.spare_count < 2 {
             return false;
         }
         self.append(more);

@@ -44,6 +44,7 @@ mod merge;
 mod parts;
 mod reports;
 pub mod small_float;
+mod store;
 mod tables;
 
 pub use accesses::Accesses;
@@ -52,6 +53,7 @@ pub use index::{NodeIndex, NodeIndexNonMax, NonMaxU16, NonMaxU32};
 pub use reports::{Refusal, StorageReport, StorageReportFull, StorageReportFullRegion};
 use small_float::{uint_to_float_round_down, uint_to_float_round_up};
 use core::fmt;
+use store::Store;
 use tables::Tables;
 
 /// One space, and what of it is granted.
@@ -62,15 +64,7 @@ pub struct Allocator<NI: NodeIndex = u32> {
     max_allocs: u32,
     // the units of all free blocks
     free_total: u32,
-    // bit w says whether word w of the bins' mask is not 0
-    top_mask: u32,
-    // the number of names that no block has
-    spare_count: u32,
-    // the name of the last block in space order
-    last: u32,
-    tables: Tables<NI>,
-    // takes no bytes at run time
-    accesses: Accesses,
+    store: Store<NI>,
 }
 
 // The handle of a name.
@@ -122,21 +116,31 @@ impl<NI: NodeIndex> Allocator<NI> {
             size,
             max_allocs,
             free_total: size,
-            top_mask,
-            spare_count: max_allocs - 1,
-            last: max_allocs - 1,
-            tables,
-            accesses: Accesses::new(),
+            store: Store {
+                tables,
+                top_mask,
+                last: max_allocs - 1,
+                spare_count: max_allocs - 1,
+                accesses: Accesses::new(),
+            },
         })
     }
 
     // The name of a live range, or `None` where nothing is live: then the space is as after a reset. Since no two
     // neighbours are free, the last used block is the last block or the one before it.
     fn last_used(&mut self) -> Option<u32> {
-        if chain::is_used(&self.tables, self.last, &mut self.accesses) {
-            return Some(self.last);
+        if chain::is_used(
+            &self.store.tables,
+            self.store.last,
+            &mut self.store.accesses,
+        ) {
+            return Some(self.store.last);
         }
-        chain::before(&self.tables, self.last, &mut self.accesses)
+        chain::before(
+            &self.store.tables,
+            self.store.last,
+            &mut self.store.accesses,
+        )
     }
 
     // Frees every live range. It is out of line, so that `reset` stays small where it is inlined.
@@ -149,16 +153,16 @@ impl<NI: NodeIndex> Allocator<NI> {
 
     // Rewrites all tables in place.
     fn clear(&mut self) {
-        self.tables.clear();
-        self.top_mask = start(
-            &mut self.tables,
+        self.store.tables.clear();
+        self.store.top_mask = start(
+            &mut self.store.tables,
             self.size,
             self.max_allocs,
-            &mut self.accesses,
+            &mut self.store.accesses,
         );
         self.free_total = self.size;
-        self.spare_count = self.max_allocs - 1;
-        self.last = self.max_allocs - 1;
+        self.store.spare_count = self.max_allocs - 1;
+        self.store.last = self.max_allocs - 1;
     }
 
     /// Makes the whole space one free block again, in place. The block of every earlier handle is gone.
@@ -187,7 +191,7 @@ impl<NI: NodeIndex> Allocator<NI> {
 
     /// The number of blocks, live and free.
     pub fn block_count(&self) -> u32 {
-        self.max_allocs - self.spare_count
+        self.max_allocs - self.store.spare_count
     }
 
     /// Whether `max_allocs - 1` blocks exist. Then every request is refused, and the short report is 0, 0, until a
@@ -200,24 +204,20 @@ impl<NI: NodeIndex> Allocator<NI> {
     #[inline(always)]
     fn grant(&mut self, class: u32, size: u32, align: u32) -> Allocation<NI> {
         let name = bins::pop(
-            &mut self.tables,
-            &mut self.top_mask,
+            &mut self.store.tables,
+            &mut self.store.top_mask,
             class,
-            &mut self.accesses,
+            &mut self.store.accesses,
         );
-        let offset = chain::offset(&self.tables, name, &mut self.accesses);
-        let whole = chain::size(&self.tables, name, &mut self.accesses);
+        let offset = chain::offset(&self.store.tables, name, &mut self.store.accesses);
+        let whole = chain::size(&self.store.tables, name, &mut self.store.accesses);
         let padding = (align - offset % align) % align;
         parts::divide(
-            &mut self.tables,
-            &mut self.top_mask,
-            &mut self.last,
-            &mut self.spare_count,
+            &mut self.store,
             name,
             padding,
             size,
             whole - (padding + size),
-            &mut self.accesses,
         );
         self.free_total -= size;
         handle_of(offset + padding, name)
@@ -227,14 +227,19 @@ impl<NI: NodeIndex> Allocator<NI> {
     // `allocate`, there is no padding.
     #[inline(always)]
     fn serve(&mut self, size: u32, align: u32) -> Option<Allocation<NI>> {
-        if self.spare_count <= align.min(2) {
+        if self.store.spare_count <= align.min(2) {
             return None;
         }
         if size > u32::MAX - (align - 1) {
             return None;
         }
         let smallest = uint_to_float_round_up(size + (align - 1));
-        match bins::find_at_or_above(&self.tables, self.top_mask, smallest, &mut self.accesses) {
+        match bins::find_at_or_above(
+            &self.store.tables,
+            self.store.top_mask,
+            smallest,
+            &mut self.store.accesses,
+        ) {
             None => None,
             Some(class) => Some(self.grant(class, size, align)),
         }
@@ -267,40 +272,30 @@ impl<NI: NodeIndex> Allocator<NI> {
     // a caller's only call of `free` can be inlined.
     #[inline(always)]
     fn release(&mut self, name: u32) {
-        let size = chain::size(&self.tables, name, &mut self.accesses);
+        let size = chain::size(&self.store.tables, name, &mut self.store.accesses);
         self.free_total += size;
-        let size = merge::with_before(
-            &mut self.tables,
-            &mut self.top_mask,
-            &mut self.spare_count,
+        let size = merge::with_before(&mut self.store, name, size);
+        let size = merge::with_after(&mut self.store, name, size);
+        chain::mark(
+            &mut self.store.tables,
             name,
-            size,
-            &mut self.accesses,
+            false,
+            &mut self.store.accesses,
         );
-        let size = merge::with_after(
-            &mut self.tables,
-            &mut self.top_mask,
-            &mut self.last,
-            &mut self.spare_count,
-            name,
-            size,
-            &mut self.accesses,
-        );
-        chain::mark(&mut self.tables, name, false, &mut self.accesses);
-        self.tables.shape();
+        self.store.tables.shape();
         bins::push(
-            &mut self.tables,
-            &mut self.top_mask,
+            &mut self.store.tables,
+            &mut self.store.top_mask,
             name,
             uint_to_float_round_down(size),
-            &mut self.accesses,
+            &mut self.store.accesses,
         );
     }
 
     // Whether a name is that of a used block.
     fn uses(&self, name: u32, count: &mut Accesses) -> bool {
         if name < self.max_allocs {
-            chain::is_used(&self.tables, name, count)
+            chain::is_used(&self.store.tables, name, count)
         } else {
             false
         }
@@ -360,22 +355,31 @@ impl<NI: NodeIndex> Allocator<NI> {
 
     // Adds units to the last block, which is free.
     fn widen(&mut self, more: u32) {
-        let whole = chain::size(&self.tables, self.last, &mut self.accesses);
-        bins::remove(
-            &mut self.tables,
-            &mut self.top_mask,
-            self.last,
-            whole,
-            &mut self.accesses,
+        let whole = chain::size(
+            &self.store.tables,
+            self.store.last,
+            &mut self.store.accesses,
         );
-        chain::grow(&mut self.tables, self.last, more, &mut self.accesses);
-        self.tables.shape();
+        bins::remove(
+            &mut self.store.tables,
+            &mut self.store.top_mask,
+            self.store.last,
+            whole,
+            &mut self.store.accesses,
+        );
+        chain::grow(
+            &mut self.store.tables,
+            self.store.last,
+            more,
+            &mut self.store.accesses,
+        );
+        self.store.tables.shape();
         bins::push(
-            &mut self.tables,
-            &mut self.top_mask,
-            self.last,
+            &mut self.store.tables,
+            &mut self.store.top_mask,
+            self.store.last,
             uint_to_float_round_down(whole + more),
-            &mut self.accesses,
+            &mut self.store.accesses,
         );
         self.size += more;
         self.free_total += more;
@@ -383,27 +387,32 @@ impl<NI: NodeIndex> Allocator<NI> {
 
     // Puts a free block after the last one, which is used.
     fn append(&mut self, more: u32) {
-        let end = self.last;
-        let offset = chain::offset(&self.tables, end, &mut self.accesses);
-        let whole = chain::size(&self.tables, end, &mut self.accesses);
+        let end = self.store.last;
+        let offset = chain::offset(&self.store.tables, end, &mut self.store.accesses);
+        let whole = chain::size(&self.store.tables, end, &mut self.store.accesses);
         let name = chain::split(
-            &mut self.tables,
-            &mut self.last,
-            &mut self.spare_count,
+            &mut self.store.tables,
+            &mut self.store.last,
+            &mut self.store.spare_count,
             end,
             offset,
             whole,
             whole,
-            &mut self.accesses,
+            &mut self.store.accesses,
         );
-        chain::grow(&mut self.tables, self.last, more, &mut self.accesses);
-        self.tables.shape();
+        chain::grow(
+            &mut self.store.tables,
+            self.store.last,
+            more,
+            &mut self.store.accesses,
+        );
+        self.store.tables.shape();
         bins::push(
-            &mut self.tables,
-            &mut self.top_mask,
+            &mut self.store.tables,
+            &mut self.store.top_mask,
             name,
             uint_to_float_round_down(more),
-            &mut self.accesses,
+            &mut self.store.accesses,
         );
         self.size += more;
         self.free_total += more;
@@ -421,12 +430,16 @@ impl<NI: NodeIndex> Allocator<NI> {
         if more > u32::MAX - self.size {
             return false;
         }
-        let used = chain::is_used(&self.tables, self.last, &mut self.accesses);
+        let used = chain::is_used(
+            &self.store.tables,
+            self.store.last,
+            &mut self.store.accesses,
+        );
         if !used {
             self.widen(more);
             return true;
         }
-        if self.spare_count < 2 {
+        if self.store.spare_count < 2 {
             return false;
         }
         self.append(more);

@@ -2,26 +2,31 @@
 
 //! Coalesces a block with the free blocks beside it, which leave their bins.
 
-use crate::accesses::Accesses;
 use crate::index::NodeIndex;
-use crate::tables::Tables;
+use crate::store::Store;
 use crate::{bins, chain};
 
 /// Coalesces a free block directly before a block of this size into it, and returns its size then.
 #[inline(always)]
-pub(crate) fn with_before<NI: NodeIndex>(
-    tables: &mut Tables<NI>,
-    top_mask: &mut u32,
-    spare_count: &mut u32,
-    name: u32,
-    size: u32,
-    count: &mut Accesses,
-) -> u32 {
-    if let Some(previous) = chain::before(tables, name, count) {
-        if !chain::is_used(tables, previous, count) {
-            let more = chain::size(tables, previous, count);
-            bins::remove(tables, top_mask, previous, more, count);
-            chain::coalesce_before(tables, spare_count, previous, name, more + size, count);
+pub(crate) fn with_before<NI: NodeIndex>(store: &mut Store<NI>, name: u32, size: u32) -> u32 {
+    if let Some(previous) = chain::before(&store.tables, name, &mut store.accesses) {
+        if !chain::is_used(&store.tables, previous, &mut store.accesses) {
+            let more = chain::size(&store.tables, previous, &mut store.accesses);
+            bins::remove(
+                &mut store.tables,
+                &mut store.top_mask,
+                previous,
+                more,
+                &mut store.accesses,
+            );
+            chain::coalesce_before(
+                &mut store.tables,
+                &mut store.spare_count,
+                previous,
+                name,
+                more + size,
+                &mut store.accesses,
+            );
             return more + size;
         }
     }
@@ -30,27 +35,25 @@ pub(crate) fn with_before<NI: NodeIndex>(
 
 /// Coalesces a free block directly after a block of this size into it, and returns its size then.
 #[inline(always)]
-pub(crate) fn with_after<NI: NodeIndex>(
-    tables: &mut Tables<NI>,
-    top_mask: &mut u32,
-    last: &mut u32,
-    spare_count: &mut u32,
-    name: u32,
-    size: u32,
-    count: &mut Accesses,
-) -> u32 {
-    if let Some(following) = chain::after(tables, name, count) {
-        if !chain::is_used(tables, following, count) {
-            let more = chain::size(tables, following, count);
-            bins::remove(tables, top_mask, following, more, count);
+pub(crate) fn with_after<NI: NodeIndex>(store: &mut Store<NI>, name: u32, size: u32) -> u32 {
+    if let Some(following) = chain::after(&store.tables, name, &mut store.accesses) {
+        if !chain::is_used(&store.tables, following, &mut store.accesses) {
+            let more = chain::size(&store.tables, following, &mut store.accesses);
+            bins::remove(
+                &mut store.tables,
+                &mut store.top_mask,
+                following,
+                more,
+                &mut store.accesses,
+            );
             chain::coalesce_after(
-                tables,
-                last,
-                spare_count,
+                &mut store.tables,
+                &mut store.last,
+                &mut store.spare_count,
                 name,
                 following,
                 size + more,
-                count,
+                &mut store.accesses,
             );
             return size + more;
         }

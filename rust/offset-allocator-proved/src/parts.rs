@@ -2,34 +2,32 @@
 
 //! Splits a block: padding, a used middle, and a remainder.
 
-use crate::accesses::Accesses;
 use crate::index::NodeIndex;
 use crate::small_float::uint_to_float_round_down;
-use crate::tables::Tables;
+use crate::store::Store;
 use crate::{bins, chain};
 
 // Splits the first units off a block, unless these are none, as a free block in its bin, under the name that is
 // returned.
 #[inline(always)]
-fn split_padding<NI: NodeIndex>(
-    tables: &mut Tables<NI>,
-    top_mask: &mut u32,
-    spare_count: &mut u32,
-    name: u32,
-    units: u32,
-    count: &mut Accesses,
-) -> u32 {
+fn split_padding<NI: NodeIndex>(store: &mut Store<NI>, name: u32, units: u32) -> u32 {
     if units == 0 {
         return name;
     }
-    let front = chain::split_before(tables, spare_count, name, units, count);
-    tables.shape();
+    let front = chain::split_before(
+        &mut store.tables,
+        &mut store.spare_count,
+        name,
+        units,
+        &mut store.accesses,
+    );
+    store.tables.shape();
     bins::push(
-        tables,
-        top_mask,
+        &mut store.tables,
+        &mut store.top_mask,
         front,
         uint_to_float_round_down(units),
-        count,
+        &mut store.accesses,
     );
     front
 }
@@ -37,37 +35,28 @@ fn split_padding<NI: NodeIndex>(
 // Splits a block after `size` units. The units after these, unless they are none, become a free block in its bin, under
 // the name that is returned.
 #[inline(always)]
-fn split_remainder<NI: NodeIndex>(
-    tables: &mut Tables<NI>,
-    top_mask: &mut u32,
-    last: &mut u32,
-    spare_count: &mut u32,
-    name: u32,
-    size: u32,
-    left: u32,
-    count: &mut Accesses,
-) -> u32 {
+fn split_remainder<NI: NodeIndex>(store: &mut Store<NI>, name: u32, size: u32, left: u32) -> u32 {
     if left == 0 {
         return name;
     }
-    let offset = chain::offset(tables, name, count);
+    let offset = chain::offset(&store.tables, name, &mut store.accesses);
     let rest = chain::split(
-        tables,
-        last,
-        spare_count,
+        &mut store.tables,
+        &mut store.last,
+        &mut store.spare_count,
         name,
         offset,
         size + left,
         size,
-        count,
+        &mut store.accesses,
     );
-    tables.shape();
+    store.tables.shape();
     bins::push(
-        tables,
-        top_mask,
+        &mut store.tables,
+        &mut store.top_mask,
         rest,
         uint_to_float_round_down(left),
-        count,
+        &mut store.accesses,
     );
     rest
 }
@@ -76,18 +65,14 @@ fn split_remainder<NI: NodeIndex>(
 /// are left. The names of the padding and of the remainder are returned, where these have units.
 #[inline(always)]
 pub(crate) fn divide<NI: NodeIndex>(
-    tables: &mut Tables<NI>,
-    top_mask: &mut u32,
-    last: &mut u32,
-    spare_count: &mut u32,
+    store: &mut Store<NI>,
     name: u32,
     padding: u32,
     size: u32,
     left: u32,
-    count: &mut Accesses,
 ) -> (u32, u32) {
-    let front = split_padding(tables, top_mask, spare_count, name, padding, count);
-    chain::mark(tables, name, true, count);
-    let rest = split_remainder(tables, top_mask, last, spare_count, name, size, left, count);
+    let front = split_padding(store, name, padding);
+    chain::mark(&mut store.tables, name, true, &mut store.accesses);
+    let rest = split_remainder(store, name, size, left);
     (front, rest)
 }

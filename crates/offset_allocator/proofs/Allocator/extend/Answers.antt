@@ -21,7 +21,7 @@ pub is_used-used-requires : goal.is_used-used-requires
 is_used-used-requires g c = (end_place c.self.invariant.space).below
 
 -- what is read is whether the last block is used
-read : (g : Over) (c : After-is_used-used g) → ends_used (blocks c.self.inside.tables.room c.self.inside.last) ≡ c.is_used-used.result
+read : (g : Over) (c : After-is_used-used g) → ends_used (blocks c.self.inside.store.tables.room c.self.inside.store.last) ≡ c.is_used-used.result
 read g c = sym (used_at_end (fields_of g.NI.NodeIndex.MAX c.self.inside) c.args.more c.self.invariant) ∙ used_read _ _ _ _ c.self.invariant.space ∙ sym (c.is_used-used.ensures.used _ _ c.self.invariant.space)
 
 pub widen-requires-clause-free : goal.widen-requires-clause-free

@@ -60,7 +60,7 @@ overflow_add-offset g c =
     omega (arith, small)
 
 -- the fields that are left, and what was split
-done : (g : Over) (c : After-divide g) → Call (fields_of g.NI.NodeIndex.MAX c.self.inside) (units_needed c.args.size c.args.align) c.args.class c.pop-name.result → (k : ℕ) (f : Fields) → f ≡ record (fields_of g.NI.NodeIndex.MAX c.self.inside) { cells = c.divide.new.tables; last = c.divide.new.last; count = c.divide.new.spare_count; top = c.divide.new.top_mask; free = c.self.inside.free_total - c.args.size; accesses = k }
+done : (g : Over) (c : After-divide g) → Call (fields_of g.NI.NodeIndex.MAX c.self.inside) (units_needed c.args.size c.args.align) c.args.class c.pop-name.result → (k : ℕ) (f : Fields) → f ≡ record (fields_of g.NI.NodeIndex.MAX c.self.inside) { cells = c.divide.new.store.tables; last = c.divide.new.store.last; count = c.divide.new.store.spare_count; top = c.divide.new.store.top_mask; free = c.self.inside.free_total - c.args.size; accesses = k }
     → AreSound f × Splits (units_needed c.args.size c.args.align) c.args.size (padding_to c.args.align) (shown (fields_of g.NI.NodeIndex.MAX c.self.inside)) (shown f) (record { name = c.pop-name.result; offset = c.offset-offset.result + padding_to c.args.align c.offset-offset.result })
 done g c p k f e =
     let h = held p c.pop-name.ensures.room in
@@ -77,4 +77,4 @@ invariant_of-self g c = let at = goal.at.invariant_of-self g c in (done g at.Aft
 pub returns-clause-step : goal.returns-clause-step
 returns-clause-step g c =
     let at = goal.at.returns-clause-step g c in
-    rw (c.handle_of.ensures, ← c.self.view_is) (done g at.After-divide (call g at.After-pop-name) c.divide.new.count _ refl).1
+    rw (c.handle_of.ensures, ← c.self.view_is) (done g at.After-divide (call g at.After-pop-name) c.divide.new.store.accesses _ refl).1

@@ -14,7 +14,7 @@ is_used-requires g c = (end_place c.self.invariant.space).below
 
 pub returns-then-is_used-clause-used : goal.returns-then-is_used-clause-used
 returns-then-is_used-clause-used g c =
-    used_live c.self.inside.last (shown (record (fields_of g.NI.NodeIndex.MAX c.self.inside) { accesses = c.is_used.new.count })) (sym (c.is_used.ensures.used _ _ c.self.invariant.space) ∙ c.if-is_used.true)
+    used_live c.self.inside.store.last (shown (record (fields_of g.NI.NodeIndex.MAX c.self.inside) { accesses = c.is_used.new.count })) (sym (c.is_used.ensures.used _ _ c.self.invariant.space) ∙ c.if-is_used.true)
 
 pub before-requires : goal.before-requires
 before-requires g c = (end_place c.self.invariant.space).below

@@ -20,24 +20,24 @@ release : (g : Over) (c : After-self g) → Release (fields_of g.NI.NodeIndex.MA
 release g c = record { sound = c.self.invariant; live = named_live _ _ _ _ c.self.view_is refl (live_used c.args.name c.args.self.now c.requires.live) }
 
 -- the block once it is coalesced with a free one before it, and with one after it too
-second : (g : Over) (c : After-with_before-size g) (r : Release (fields_of g.NI.NodeIndex.MAX c.self.inside) c.args.name) → HasPlace c.with_before-size.new.tables.room (length c.self.inside.tables.room.nodes) c.self.inside.last c.with_before-size.new.spare_count c.args.name (coalesced_before (at r).place)
-second g c r = c.with_before-size.ensures.place _ _ _ (at r).held
+second : (g : Over) (c : After-with_before-size g) (r : Release (fields_of g.NI.NodeIndex.MAX c.self.inside) c.args.name) → HasPlace c.with_before-size.new.store.tables.room (length c.self.inside.store.tables.room.nodes) c.with_before-size.new.store.last c.with_before-size.new.store.spare_count c.args.name (coalesced_before (at r).place)
+second g c r = c.with_before-size.ensures.place _ _ (at r).held
 
-third : (g : Over) (c : After-with_after-size g) (r : Release (fields_of g.NI.NodeIndex.MAX c.self.inside) c.args.name) → HasPlace c.with_after-size.new.tables.room (length c.self.inside.tables.room.nodes) c.with_after-size.new.last c.with_after-size.new.spare_count c.args.name (coalesced_after (coalesced_before (at r).place))
-third g c r = c.with_after-size.ensures.place _ _ (c.with_before-size.ensures.place _ _ _ (at r).held)
+third : (g : Over) (c : After-with_after-size g) (r : Release (fields_of g.NI.NodeIndex.MAX c.self.inside) c.args.name) → HasPlace c.with_after-size.new.store.tables.room (length c.self.inside.store.tables.room.nodes) c.with_after-size.new.store.last c.with_after-size.new.store.spare_count c.args.name (coalesced_after (coalesced_before (at r).place))
+third g c r = c.with_after-size.ensures.place _ _ (c.with_before-size.ensures.place _ _ (at r).held)
 
 -- the bins that are left
-lists : (g : Over) (c : After-with_after-size g) (r : Release (fields_of g.NI.NodeIndex.MAX c.self.inside) c.args.name) → class_lists g.NI.NodeIndex.MAX c.with_after-size.new.tables.links ≡ left_twice r
+lists : (g : Over) (c : After-with_after-size g) (r : Release (fields_of g.NI.NodeIndex.MAX c.self.inside) c.args.name) → class_lists g.NI.NodeIndex.MAX c.with_after-size.new.store.tables.links ≡ left_twice r
 lists g c r =
     let held = (at r).held in
-    c.with_after-size.ensures.lists _ _ (c.with_before-size.ensures.place _ _ _ held) ∙ ap (remove_all (free_start (at r).place.after)) (c.with_before-size.ensures.lists _ _ _ held)
+    c.with_after-size.ensures.lists _ _ (c.with_before-size.ensures.place _ _ held) ∙ ap (remove_all (free_start (at r).place.after)) (c.with_before-size.ensures.lists _ _ held)
 
 -- the fields that the release leaves, with any number of accesses counted
 abbrev after : (g : Over) → After-push g → ℕ → Fields
 after g c k = record (fields_of g.NI.NodeIndex.MAX c.self.inside) {
   cells = c.push.new.tables;
-  last = c.with_after-size.new.last;
-  count = c.with_after-size.new.spare_count;
+  last = c.with_after-size.new.store.last;
+  count = c.with_after-size.new.store.spare_count;
   top = c.push.new.top_mask;
   free = c.self.inside.free_total + c.size-size.result;
   accesses = k;
@@ -65,14 +65,14 @@ overflow_add-self g c =
 pub with_before-size-requires-clause-place : goal.with_before-size-requires-clause-place
 with_before-size-requires-clause-place g c =
     let r = release g (goal.at.with_before-size-requires-clause-place g c).After-self in
-    (_, _, _, (at r).held, listed r)
+    (_, _, (at r).held, listed r)
 
 pub with_after-size-requires-clause-place : goal.with_after-size-requires-clause-place
 with_after-size-requires-clause-place g c =
     let here = goal.at.with_after-size-requires-clause-place g c in
     let r = release g here.After-self in
     let held = second g here.After-with_before-size r in
-    (_, _, held, rw (c.with_before-size.ensures.lists _ _ _ (at r).held) (listed_after r _ _ held))
+    (_, _, held, rw (c.with_before-size.ensures.lists _ _ (at r).held) (listed_after r _ _ _ held))
 
 pub mark-requires : goal.mark-requires
 mark-requires g c = let here = goal.at.mark-requires g c in (third g here.After-with_after-size (release g here.After-self)).below

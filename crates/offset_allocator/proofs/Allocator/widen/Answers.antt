@@ -37,7 +37,7 @@ push-requires-clause-fresh g c =
 pub overflow_add-self-2 : goal.overflow_add-self-2
 overflow_add-self-2 g c = omega (arith, free_fits (pre g (goal.at.overflow_add-self-2 g c).After-self))
 
-done : (g : Over) (c : After-push g) (r : Growth (fields_of g.NI.NodeIndex.MAX c.self.inside) c.args.more false) (k : ℕ) → Grown r c.push.new.tables c.self.inside.last c.self.inside.spare_count c.push.new.top_mask k
+done : (g : Over) (c : After-push g) (r : Growth (fields_of g.NI.NodeIndex.MAX c.self.inside) c.args.more false) (k : ℕ) → Grown r c.push.new.tables c.self.inside.store.last c.self.inside.store.spare_count c.push.new.top_mask k
 done g c r k =
     let grown = c.grow.ensures.place _ _ _ _ (end_held r c.remove.ensures.room) in
     widened r c.push.new.tables k (rw c.push.ensures.room grown.chain) c.push.ensures.held

@@ -4,19 +4,19 @@ use Rattle.offset_allocator.proofs.Sizes.{down_small}
 use Rattle.offset_allocator.proofs.parts.split_padding.Goals as goal
 
 pub returns-then-units-eq0-clause-place : goal.returns-then-units-eq0-clause-place
-returns-then-units-eq0-clause-place g c m last p h = no_padding c.args.name c.args.units h (omega arith)
+returns-then-units-eq0-clause-place g c m p h = no_padding c.args.name c.args.units h (omega arith)
 
 pub split_before-front-requires-clause-place : goal.split_before-front-requires-clause-place
-split_before-front-requires-clause-place g c = (_, _, _, c.requires.place.3)
+split_before-front-requires-clause-place g c = (_, _, _, c.requires.place.2)
 
 pub push-requires-clause-classed : goal.push-requires-clause-classed
 push-requires-clause-classed g c = omega (arith, down_small c.args.units, c.uint_to_float_round_down.ensures.is)
 
 pub push-requires-clause-fresh : goal.push-requires-clause-fresh
 push-requires-clause-fresh g c =
-    rw c.split_before-front.ensures.links (c.requires.place.4 _ (c.split_before-front.ensures.fresh _ _ _ c.requires.place.3))
+    rw c.split_before-front.ensures.links (c.requires.place.3 _ (c.split_before-front.ensures.fresh _ _ _ c.requires.place.2))
 
 pub returns-clause-place : goal.returns-clause-place
-returns-clause-place g c m last p h =
+returns-clause-place g c m p h =
     let some = some_part c.split_before-front.result c.args.units (omega arith) in
     rw (c.push.ensures.room, ← some) (c.split_before-front.ensures.place _ _ _ h)

@@ -1,0 +1,21 @@
+// Printed by rust/erase from crates/offset_allocator/src/store.rt: change it there.
+
+//! The tables, with the numbers that belong to them.
+
+use crate::accesses::Accesses;
+use crate::index::NodeIndex;
+use crate::tables::Tables;
+
+/// The tables, and what is known of them beside: which bins are not empty, which block is the last, how many names are
+/// unused. It has no invariant of its own: `merge` and `parts` take one step on it, and an allocator has it between steps.
+pub(crate) struct Store<NI: NodeIndex> {
+    pub(crate) tables: Tables<NI>,
+    // bit w says whether word w of the bins' mask is not 0
+    pub(crate) top_mask: u32,
+    // the name of the last block in space order
+    pub(crate) last: u32,
+    // the number of names that no block has
+    pub(crate) spare_count: u32,
+    // takes no bytes at run time
+    pub(crate) accesses: Accesses,
+}
