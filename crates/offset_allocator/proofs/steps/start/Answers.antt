@@ -4,7 +4,7 @@ use Rattle.offset_allocator.specs.Named.{push}
 use Rattle.offset_allocator.specs.Orders.{class_lists, Binned, IsUnlisted}
 use Rattle.offset_allocator.proofs.Sizes.{down_small}
 use Rattle.offset_allocator.proofs.Fresh.{empty_binned, empty_unlisted, started}
-use Rattle.offset_allocator.proofs.start.Goals as goal
+use Rattle.offset_allocator.proofs.steps.start.Goals as goal
 
 pub push-requires-clause-held : goal.push-requires-clause-held
 push-requires-clause-held g c =

@@ -1,0 +1,299 @@
+//! The steps of which the public calls are made: each leaves an allocator whose blocks and bins agree.
+ghost use Rattle.std.specs.Prelude.{◌≡◌, ◌↔◌, ◌+◌, ◌<◌, ◌≤◌, None, false, true, IsTrue, IsSome, IfSome};
+ghost use Rattle.offset_allocator.specs.Classes.{up};
+ghost use Rattle.offset_allocator.specs.Cells.{AreEmpty};
+ghost use Rattle.offset_allocator.specs.Orders.{IsSmallestFrom};
+ghost use Rattle.offset_allocator.specs.Ranges.{range_of, IsLive, KeepsAll, KeepsOthers};
+ghost use Rattle.offset_allocator.specs.Named.{IsWellFormed, ends_used, padding_to};
+ghost use Rattle.offset_allocator.specs.Relations.{Splits, Aligns, Frees, Adds, SameSpace, Resets};
+ghost use Rattle.offset_allocator.specs.Start.{IsStarted};
+ghost use Rattle.offset_allocator.specs.Promises.{HasRoomFor, blocks_needed, units_needed};
+
+use crate::accesses::Accesses;
+use crate::handle::Allocation;
+use crate::index::NodeIndex;
+use crate::small_float::{uint_to_float_round_down, uint_to_float_round_up};
+use crate::tables::Tables;
+use crate::{Allocator, bins, chain, merge, parts};
+
+/// The handle of a name.
+fn handle_of<NI: NodeIndex>(offset: u32, name: u32) -> Allocation<NI>
+    requires { name < NI.MAX }
+    ensures { result ≡ record { name = name; offset = offset } }
+{
+    Allocation::make(offset, NI::from_u32(name).to_name())
+}
+
+/// Makes the whole space one free block, under the name `max_allocs - 1`, in tables with no used node, and returns the
+/// top mask.
+pub(crate) fn start<NI: NodeIndex>(
+    tables: &mut Tables<NI>,
+    size: u32,
+    max_allocs: u32,
+    count: &mut Accesses,
+) -> u32
+    requires empty { AreEmpty NI.MAX max_allocs tables.old }
+    requires limit_min { 2 ≤ max_allocs }
+    requires limit_max { max_allocs + 1 < NI.MAX }
+    ensures started { IsStarted NI.MAX size max_allocs tables.new result }
+    ensures accesses_kept { count.old ≤ count.new }
+{
+    let mut top_mask = 0;
+    tables.shape();
+    chain::start(tables, size, max_allocs, count);
+    bins::push(
+        tables,
+        &mut top_mask,
+        max_allocs - 1,
+        uint_to_float_round_down(size),
+        count,
+    );
+    top_mask
+}
+
+impl<NI: NodeIndex> Allocator<NI> {
+    /// The name of a live range, or `None` where nothing is live: then the space is as after a reset. Since no two
+    /// neighbours are free, the last used block is the last block or the one before it.
+    pub(crate) fn last_used(&mut self) -> Option<u32>
+        ensures same { SameSpace self.old self.new }
+        ensures used { IfSome result (λ x. IsLive x self.new) }
+        ensures none { result ≡ None → Resets self.old self.new }
+        ensures accesses_kept { self.old.accesses ≤ self.new.accesses }
+    {
+        if chain::is_used(
+            &self.store.tables,
+            self.store.last,
+            &mut self.store.accesses,
+        ) {
+            return Some(self.store.last);
+        }
+        chain::before(
+            &self.store.tables,
+            self.store.last,
+            &mut self.store.accesses,
+        )
+    }
+
+    /// Frees every live range. It is out of line, so that `reset` stays small where it is inlined.
+    #[inline(never)]
+    pub(crate) fn free_all(&mut self)
+        ensures step { Resets self.old self.new }
+        ensures accesses_kept { self.old.accesses ≤ self.new.accesses }
+    {
+        while let Some(name) = self.last_used() {
+            self.release(name);
+        }
+    }
+
+    /// Rewrites all tables in place.
+    pub(crate) fn clear(&mut self)
+        ensures step { Resets self.old self.new }
+        ensures accesses_kept { self.old.accesses ≤ self.new.accesses }
+    {
+        self.store.tables.clear();
+        self.store.top_mask = start(
+            &mut self.store.tables,
+            self.size,
+            self.max_allocs,
+            &mut self.store.accesses,
+        );
+        self.free_total = self.size;
+        self.store.spare_count = self.max_allocs - 1;
+        self.store.last = self.max_allocs - 1;
+    }
+
+    /// Grants units of the newest block of a class, from the first multiple of `align` in it on.
+    #[inline(always)]
+    pub(crate) fn grant(&mut self, class: u32, size: u32, align: u32) -> Allocation<NI>
+        requires some { 1 ≤ align }
+        requires fits { units_needed size align ≤ 4294967295 }
+        requires room { HasRoomFor (blocks_needed align) self.old }
+        requires smallest { IsSmallestFrom (up (units_needed size align)) self.old.order class }
+        ensures step { Splits (units_needed size align) size (padding_to align) self.old self.new result }
+        ensures accesses_min { self.old.accesses + 6 ≤ self.new.accesses }
+        ensures accesses_max { self.new.accesses ≤ self.old.accesses + 43 }
+    {
+        let name = bins::pop(
+            &mut self.store.tables,
+            &mut self.store.top_mask,
+            class,
+            &mut self.store.accesses,
+        );
+        let offset = chain::offset(&self.store.tables, name, &mut self.store.accesses);
+        let whole = chain::size(&self.store.tables, name, &mut self.store.accesses);
+        let padding = (align - offset % align) % align;
+        parts::divide(
+            &mut self.store,
+            name,
+            padding,
+            size,
+            whole - (padding + size),
+        );
+        self.free_total -= size;
+        handle_of(offset + padding, name)
+    }
+
+    /// A request for units from a multiple of `align` on. With `align` 1, which is a constant where this is inlined into
+    /// `allocate`, there is no padding.
+    #[inline(always)]
+    pub(crate) fn serve(&mut self, size: u32, align: u32) -> Option<Allocation<NI>>
+        requires { 1 ≤ align }
+        ensures formed { IsWellFormed self.old }
+        ensures step { Aligns size align self.old self.new result }
+        ensures accesses_kept { self.old.accesses ≤ self.new.accesses }
+        ensures accesses_min { IsSome result → self.old.accesses + 7 ≤ self.new.accesses }
+        ensures accesses_max { self.new.accesses ≤ self.old.accesses + 45 }
+    {
+        if self.store.spare_count <= align.min(2) {
+            return None;
+        }
+        if size > u32::MAX - (align - 1) {
+            return None;
+        }
+        let smallest = uint_to_float_round_up(size + (align - 1));
+        match bins::find_at_or_above(
+            &self.store.tables,
+            self.store.top_mask,
+            smallest,
+            &mut self.store.accesses,
+        ) {
+            None => None,
+            Some(class) => Some(self.grant(class, size, align)),
+        }
+    }
+
+    /// Frees the block of a name. It is inlined into `free` and into `free_all`: so `free` shares no code with `reset`, and
+    /// a caller's only call of `free` can be inlined.
+    #[inline(always)]
+    pub(crate) fn release(&mut self, name: u32)
+        requires live { IsLive name self.old }
+        ensures step { Frees name self.old self.new }
+        ensures gone { range_of name self.new ≡ None }
+        ensures others { KeepsOthers name self.old self.new }
+        ensures accesses_min { self.old.accesses + 9 ≤ self.new.accesses }
+        ensures accesses_max { self.new.accesses ≤ self.old.accesses + 128 }
+    {
+        let size = chain::size(&self.store.tables, name, &mut self.store.accesses);
+        self.free_total += size;
+        let size = merge::with_before(&mut self.store, name, size);
+        let size = merge::with_after(&mut self.store, name, size);
+        chain::mark(
+            &mut self.store.tables,
+            name,
+            false,
+            &mut self.store.accesses,
+        );
+        self.store.tables.shape();
+        bins::push(
+            &mut self.store.tables,
+            &mut self.store.top_mask,
+            name,
+            uint_to_float_round_down(size),
+            &mut self.store.accesses,
+        );
+    }
+
+    /// Whether a name is that of a used block.
+    pub(crate) fn uses(&self, name: u32, count: &mut Accesses) -> bool
+        ensures live { IsTrue result ↔ IsLive name self.now }
+        ensures accesses_kept { count.old ≤ count.new }
+        ensures accesses_min { name < self.now.max_allocs → count.old + 1 ≤ count.new }
+        ensures accesses_max { count.new ≤ count.old + 1 }
+    {
+        if name < self.max_allocs {
+            chain::is_used(&self.store.tables, name, count)
+        } else {
+            false
+        }
+    }
+
+    /// Adds units to the last block, which is free.
+    pub(crate) fn widen(&mut self, more: u32)
+        requires more { 0 < more }
+        requires fits { self.old.size + more ≤ 4294967295 }
+        requires free { ends_used self.old.blocks ≡ false }
+        ensures step { Adds more self.old self.new }
+        ensures kept { KeepsAll self.old self.new }
+        ensures accesses_min { self.old.accesses + 10 ≤ self.new.accesses }
+        ensures accesses_max { self.new.accesses ≤ self.old.accesses + 16 }
+    {
+        let whole = chain::size(
+            &self.store.tables,
+            self.store.last,
+            &mut self.store.accesses,
+        );
+        bins::remove(
+            &mut self.store.tables,
+            &mut self.store.top_mask,
+            self.store.last,
+            whole,
+            &mut self.store.accesses,
+        );
+        chain::grow(
+            &mut self.store.tables,
+            self.store.last,
+            more,
+            &mut self.store.accesses,
+        );
+        self.store.tables.shape();
+        bins::push(
+            &mut self.store.tables,
+            &mut self.store.top_mask,
+            self.store.last,
+            uint_to_float_round_down(whole + more),
+            &mut self.store.accesses,
+        );
+        self.size += more;
+        self.free_total += more;
+    }
+
+    /// Puts a free block after the last one, which is used.
+    pub(crate) fn append(&mut self, more: u32)
+        requires more { 0 < more }
+        requires fits { self.old.size + more ≤ 4294967295 }
+        requires used { ends_used self.old.blocks ≡ true }
+        requires room { HasRoomFor 1 self.old }
+        ensures step { Adds more self.old self.new }
+        ensures kept { KeepsAll self.old self.new }
+        ensures accesses_min { self.old.accesses + 9 ≤ self.new.accesses }
+        ensures accesses_max { self.new.accesses ≤ self.old.accesses + 19 }
+    {
+        let end = self.store.last;
+        let offset = chain::offset(&self.store.tables, end, &mut self.store.accesses);
+        let whole = chain::size(&self.store.tables, end, &mut self.store.accesses);
+        let name = chain::split(
+            &mut self.store.tables,
+            &mut self.store.last,
+            &mut self.store.spare_count,
+            end,
+            offset,
+            whole,
+            whole,
+            &mut self.store.accesses,
+        );
+        chain::grow(
+            &mut self.store.tables,
+            self.store.last,
+            more,
+            &mut self.store.accesses,
+        );
+        self.store.tables.shape();
+        bins::push(
+            &mut self.store.tables,
+            &mut self.store.top_mask,
+            name,
+            uint_to_float_round_down(more),
+            &mut self.store.accesses,
+        );
+        self.size += more;
+        self.free_total += more;
+    }
+
+    /// The blocks and the bins agree. A step of proofs, which does nothing.
+    pub(crate) fn formed(&self)
+        ensures { IsWellFormed self.now }
+    {
+        // a look at a field recalls the invariant
+        let _ = &self.size;
+    }
+}
