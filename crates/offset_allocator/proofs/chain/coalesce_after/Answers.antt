@@ -1,7 +1,7 @@
-use Rattle.std.proofs.Common.{◌∙◌, length, ap, arith, List, ℕ}
+use Rattle.std.proofs.Common.{◌∙◌, length, ap, arith, refl, List, ℕ}
 use Rattle.offset_allocator.specs.Cells.{Cells, Room}
 use Rattle.offset_allocator.proofs.Exchange.{back_to, relinked_spare}
-use Rattle.offset_allocator.proofs.Nodes.{length-put, spare-put}
+use Rattle.offset_allocator.proofs.Nodes.{length-put, spare-put, nodes-with_spare}
 use Rattle.offset_allocator.proofs.Places.{next_place, next_below, spare_room}
 use Rattle.offset_allocator.proofs.Writes.{coalesce_after_place}
 use Rattle.offset_allocator.proofs.chain.coalesce_after.Goals as goal
@@ -27,3 +27,18 @@ returns-clause-place g c m p h =
     let room : Cells → Room = λ v. v.room in
     coalesce_after_place c.point_back.new.tables.room h c.requires.next c.requires.free c.requires.total c.after-next.ensures.cell
     (ap room c.set_size.ensures.cells) (ap room c.set_after.ensures.cells) c.point_back.ensures.cells c.point_back.ensures.last (rw c.link_to.ensures.number at (ap room c.set_spare.ensures.cells))
+
+pub set_after-requires : goal.set_after-requires
+set_after-requires g c = rw (c.set_size.ensures.cells, length-put) c.requires.place.2.below
+
+pub point_back-requires-clause-name : goal.point_back-requires-clause-name
+point_back-requires-clause-name g c = rw (c.set_after.ensures.cells, length-put, c.set_size.ensures.cells, length-put) c.requires.place.2.below
+
+pub returns-clause-links : goal.returns-clause-links
+returns-clause-links g c = rw (c.set_spare.ensures.cells, c.point_back.ensures.links, c.set_after.ensures.cells, c.set_size.ensures.cells) refl
+
+pub returns-clause-limit : goal.returns-clause-limit
+returns-clause-limit g c = rw (c.set_spare.ensures.cells, nodes-with_spare, c.point_back.ensures.limit, c.set_after.ensures.cells, length-put, c.set_size.ensures.cells, length-put) refl
+
+pub returns-clause-accesses_max : goal.returns-clause-accesses_max
+returns-clause-accesses_max g c = omega arith

@@ -1,7 +1,7 @@
-use Rattle.std.proofs.Common.{◌∙◌, length, ap, arith, List, ℕ}
+use Rattle.std.proofs.Common.{◌∙◌, length, ap, arith, refl, List, ℕ}
 use Rattle.offset_allocator.specs.Cells.{Cells, Room}
 use Rattle.offset_allocator.proofs.Exchange.{on_to, relinked_spare}
-use Rattle.offset_allocator.proofs.Nodes.{length-put, spare-put}
+use Rattle.offset_allocator.proofs.Nodes.{length-put, spare-put, nodes-with_spare}
 use Rattle.offset_allocator.proofs.Places.{previous_place, previous_below, spare_room}
 use Rattle.offset_allocator.proofs.Writes.{coalesce_before_place}
 use Rattle.offset_allocator.proofs.chain.coalesce_before.Goals as goal
@@ -30,3 +30,21 @@ returns-clause-place g c m last p h =
     let room : Cells → Room = λ v. v.room in
     coalesce_before_place c.point_on.new.tables.room h c.requires.previous c.requires.free c.offset-offset.ensures.cell c.requires.total c.before-link.ensures.cell
     (ap room c.set_offset.ensures.cells) (ap room c.set_size.ensures.cells) (ap room c.set_before.ensures.cells) c.point_on.ensures.cells (rw c.link_to.ensures.number at (ap room c.set_spare.ensures.cells))
+
+pub set_size-requires : goal.set_size-requires
+set_size-requires g c = rw (c.set_offset.ensures.cells, length-put) c.requires.place.3.below
+
+pub set_before-requires : goal.set_before-requires
+set_before-requires g c = rw (c.set_size.ensures.cells, length-put, c.set_offset.ensures.cells, length-put) c.requires.place.3.below
+
+pub point_on-requires-clause-name : goal.point_on-requires-clause-name
+point_on-requires-clause-name g c = rw (c.set_before.ensures.cells, length-put, c.set_size.ensures.cells, length-put, c.set_offset.ensures.cells, length-put) c.requires.place.3.below
+
+pub returns-clause-links : goal.returns-clause-links
+returns-clause-links g c = rw (c.set_spare.ensures.cells, c.point_on.ensures.links, c.set_before.ensures.cells, c.set_size.ensures.cells, c.set_offset.ensures.cells) refl
+
+pub returns-clause-limit : goal.returns-clause-limit
+returns-clause-limit g c = rw (c.set_spare.ensures.cells, nodes-with_spare, c.point_on.ensures.limit, c.set_before.ensures.cells, length-put, c.set_size.ensures.cells, length-put, c.set_offset.ensures.cells, length-put) refl
+
+pub returns-clause-accesses_max : goal.returns-clause-accesses_max
+returns-clause-accesses_max g c = omega arith

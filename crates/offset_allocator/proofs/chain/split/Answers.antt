@@ -1,4 +1,4 @@
-use Rattle.std.proofs.Common.{◌∷◌, ◌++◌, ◌∙◌, ap, arith}
+use Rattle.std.proofs.Common.{◌∷◌, ◌++◌, ◌∙◌, ap, arith, refl}
 use Rattle.offset_allocator.specs.Cells.{Cells, Room, Node}
 use Rattle.offset_allocator.proofs.Exchange.{IsTop, top}
 use Rattle.offset_allocator.proofs.Nodes.{length-put}
@@ -46,3 +46,18 @@ returns-clause-fresh g c m p h = (top _ h.chain c.requires.room (c.number-rest.e
 
 pub returns-clause-below : goal.returns-clause-below
 returns-clause-below g c = (new g (goal.at.returns-clause-below g c).After-number-rest).below
+
+pub set_size-requires : goal.set_size-requires
+set_size-requires g c = rw (c.place.ensures.cells, length-put) c.requires.place.2.below
+
+pub set_after-requires : goal.set_after-requires
+set_after-requires g c = rw (c.set_size.ensures.cells, length-put, c.place.ensures.cells, length-put) c.requires.place.2.below
+
+pub returns-clause-links : goal.returns-clause-links
+returns-clause-links g c = rw (c.point_back.ensures.links, c.set_after.ensures.cells, c.set_size.ensures.cells, c.place.ensures.cells) refl
+
+pub returns-clause-limit : goal.returns-clause-limit
+returns-clause-limit g c = rw (c.point_back.ensures.limit, c.set_after.ensures.cells, length-put, c.set_size.ensures.cells, length-put, c.place.ensures.cells, length-put) refl
+
+pub returns-clause-accesses_max : goal.returns-clause-accesses_max
+returns-clause-accesses_max g c = omega arith
