@@ -11,4 +11,4 @@ pub returns-clause-others : goal.returns-clause-others
 returns-clause-others g c = let e : c.number.result ≡ c.args.allocation.name = cc in rw (← e) c.release.ensures.others
 
 pub returns-clause-step : goal.returns-clause-step
-returns-clause-step g c = let e : c.number.result ≡ c.args.allocation.name = cc in rw (← e) c.release.ensures.frees
+returns-clause-step g c = let e : c.number.result ≡ c.args.allocation.name = cc in rw (← e) c.release.ensures.step
