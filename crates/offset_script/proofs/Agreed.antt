@@ -11,16 +11,17 @@ use Rattle.offset_allocator.specs.Named as named
 use Rattle.offset_allocator.specs.Promises.{HasRoomFor, CanGrant, blocks_needed, units_needed}
 use Rattle.offset_allocator.specs.Relations.{SameSpace, Serves, Frees, Adds, CanExtend, Extends}
 use Rattle.offset_script.specs.Agreement.{Label, by_name, by_tag, stamp_of, IsFalling, name_of, Agrees, answer_of, with_name, without_name, kept_after, grant_count_after}
-use Rattle.offset_script.proofs.Well.{Well, both_true, and_false_right, count, count-append, hit, hit_self, apart_parts, and_true, end_of, start_of, coalesce_parts, chosen_at}
+use Rattle.offset_script.proofs.Well.{Well, count, count-append, hit, hit_self, apart_parts, and_true, end_of, start_of, coalesce_parts, chosen_at}
 use Rattle.offset_script.proofs.Well as well
 use Rattle.std.specs.List.{AllByRecursion}
 use Rattle.std.proofs.lemmas.List.{map-append, length-map, get_or-replicate, get_or_past, length-replicate}
 use Rattle.offset_allocator.proofs.ViewOrders.{tally_append, names_same, names_other}
 use Rattle.offset_allocator.proofs.Sizes.{down_small, fits_size}
 use Rattle.offset_script.proofs.Members.{map_parts, map_first}
-use Rattle.offset_script.proofs.Labels.{names, tags, map_three, stamps_below, Rises, newest_replaced, not_false}
+use Rattle.offset_script.proofs.Labels.{names, tags, map_three, stamps_below, Rises, newest_replaced}
 use Rattle.offset_script.proofs.Chosen.{Spot, whole, place_at, named_spot, named_place, plain_place, some_same, IsLabelled, none_chosen, chosen, place_of_spot}
 use Rattle.offset_script.proofs.Ends.{AllFree, free_named, free_tagged, apart_tagged, ends_live_last, last_free, total_units, length_labels, free_sizes_labels, or_else, or_none, name_append, name_skip, name_free, name_none, name_missing, name_found}
+use Rattle.offset_script.proofs.Tests.{both_true, and_false_right, or_false, not_false}
 
 -- a call that leaves the blocks as they are
 pub agrees_quiet : (v : View) (kept_name : ℕ → Option ℕ) (s : State) → Agrees v kept_name s → (a : Answer) → Agrees v kept_name (returns_only s a).state
@@ -391,14 +392,10 @@ module _ (v : View) (kept_name : ℕ → Option ℕ) (s : State) (w : IsWellForm
 
   can_extend : (more : ℕ) → is_refused more ≡ false → CanExtend more v
   can_extend more e = (
-    (let l = ltb-false max_size (total s.blocks + more) (or_parts _ _ e).0 in let f = same_units in let h = w.whole in omega arith),
-    go (machine.ends_live s.blocks) refl (or_parts _ _ e).1,
+    (let l = ltb-false max_size (total s.blocks + more) (or_false _ _ e).0 in let f = same_units in let h = w.whole in omega arith),
+    go (machine.ends_live s.blocks) refl (or_false _ _ e).1,
   )
     where
-      or_parts : (x y : Bool) → (x || y) ≡ false → (x ≡ false) × (y ≡ false)
-      or_parts true y e = absurd (true≢false e)
-      or_parts false y e = (refl, e)
-
       go : (b : Bool) → machine.ends_live s.blocks ≡ b → (b && machine.is_short_of 1 s) ≡ false → HasRoomFor 1 v ⊎ ((before : List Block) × (last : Block) × (v.blocks ≡ before ++ last ∷ []) × (last.used ≡ false))
       go true f h = inl (room_for 1 h)
       go false f h =

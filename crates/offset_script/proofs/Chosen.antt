@@ -8,11 +8,12 @@ use Rattle.offset_script.specs.Machine as plain
 use Rattle.offset_allocator.specs.Named.{Block, View, Place, Grant, place_of, one, times, count_named, count_listed, names_at, IsWellFormed}
 use Rattle.offset_allocator.specs.Relations.{Splits}
 use Rattle.offset_script.specs.Agreement.{Label, by_name, by_tag, stamp_of, IsFalling}
-use Rattle.offset_script.proofs.Well.{both_true, chosen_at, not_chosen}
+use Rattle.offset_script.proofs.Well.{chosen_at, not_chosen}
 use Rattle.offset_allocator.proofs.ViewOrders.{tally_append, hit_cases}
 use Rattle.offset_allocator.proofs.ViewSteps.{place_here}
 use Rattle.offset_script.proofs.Members.{In, in_right, map_split}
-use Rattle.offset_script.proofs.Labels.{names, tags, gives_parts, gives_all, not_false}
+use Rattle.offset_script.proofs.Labels.{names, tags, gives_parts, gives_all}
+use Rattle.offset_script.proofs.Tests.{both_true, not_false}
 
 -- a list of labels, split at one
 pub record Spot : Type 0 where

@@ -8,8 +8,9 @@ use Rattle.offset_allocator.specs.Named.{Block, tally, units, one}
 use Rattle.offset_script.specs.Agreement.{Label, by_tag, name_of}
 use Rattle.offset_script.proofs.Well.{count, hit, hit_number, number_of}
 use Rattle.offset_script.proofs.Well as well
-use Rattle.offset_script.proofs.Labels.{names, tags, not_not, not_false}
+use Rattle.offset_script.proofs.Labels.{names, tags}
 use Rattle.std.specs.List.{AllByRecursion}
+use Rattle.offset_script.proofs.Tests.{not_not, not_false}
 
 -- all of these are free
 abbrev pub AllFree : List Label → Type 0

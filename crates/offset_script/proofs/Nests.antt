@@ -13,10 +13,11 @@ use Rattle.offset_script.specs.Totals.{requested_units}
 use Rattle.offset_script.proofs.Members.{in_map}
 use Rattle.offset_script.proofs.Pairs.{Kind, Lives, Frees, left_tag, right_tag, left, right, lefts, rights}
 use Rattle.offset_script.proofs.Alike.{Alike, Matched, alike_answers}
-use Rattle.offset_script.proofs.Well.{Well, both_true, in_count, count, chosen_at, well_start, well_after, well_step}
+use Rattle.offset_script.proofs.Well.{Well, in_count, count, chosen_at, well_start, well_after, well_step}
 use Rattle.offset_allocator.proofs.Sizes.{fits_size}
 use Rattle.offset_script.proofs.Similar.{SameNumber, Similar, similar_refl, similar_sym, similar_trans}
 use Rattle.offset_script.proofs.Restored.{Restored, restored}
+use Rattle.offset_script.proofs.Tests.{both_true, if_both}
 
 -- What a call does that keeps the space: it only returns an answer, or grants, or releases.
 
@@ -54,10 +55,6 @@ pub record Only (s : State) (o : Outcome) : Type 0 where
 abbrev pub Does : Command → State → Outcome → Type 0
 Does c s o = Only s o ⊎ (Granted (requested_units c) s o ⊎ Released c s o)
 
-does_if : (c : Command) (s : State) (b : Bool) (o p : Outcome) → (b ≡ true → Does c s o) → (b ≡ false → Does c s p) → Does c s (if b then o else p)
-does_if c s true o p f g = f refl
-does_if c s false o p f g = g refl
-
 only : (c : Command) (s : State) (a : Answer) → IsQuiet a → Does c s (returns_only s a)
 only c s a q = inl (record { answer = a; quiet = q; is = refl })
 
@@ -74,7 +71,7 @@ does_grant c s room needed padding_at h (Some p) e = inr (inl (record {
 }))
 
 does_request : (c : Command) (s : State) (spare : ℕ) → 1 ≤ spare → (needed : ℕ) (padding_at : ℕ → ℕ) → ((o : ℕ) → padding_at o + requested_units c ≤ needed) → Does c s (request s spare needed (requested_units c) padding_at)
-does_request c s spare some needed padding_at h = does_if c s (is_short_of spare s) (returns_only s machine.Refused) (grant_or_refuse s (requested_units c) padding_at (chosen_place needed s.blocks)) (λ e. only c s machine.Refused tt) (λ e. does_grant c s (let l = leb-false s.limit (length s.blocks + spare) e in omega arith) needed padding_at h (chosen_place needed s.blocks) refl)
+does_request c s spare some needed padding_at h = if_both (Does c s) (is_short_of spare s) (returns_only s machine.Refused) (grant_or_refuse s (requested_units c) padding_at (chosen_place needed s.blocks)) (λ e. only c s machine.Refused tt) (λ e. does_grant c s (let l = leb-false s.limit (length s.blocks + spare) e in omega arith) needed padding_at h (chosen_place needed s.blocks) refl)
 
 does_release : (s : State) (k : ℕ) (o : Option Place) → place_of k s.blocks ≡ o → Does (command.Free k) s (release s o)
 does_release s k None e = only (command.Free k) s machine.Gone tt
@@ -98,9 +95,9 @@ does (command.Size k) s h = only (command.Size k) s _ (quiet_size (place_of k s.
 does command.Report s h = only command.Report s _ (quiet_report (is_short_of 1 s) _ _)
 does command.Full s h = only command.Full s (full_report s) tt
 does command.Reset s h = absurd h
-does (command.Align n align) s h = does_if (command.Align n align) s (nat_le align 1) (step (command.Alloc n) s) (if nat_lt max_size (n + align - 1) then returns_only s machine.Refused else request s 2 (n + align - 1) n (padding_to align))
+does (command.Align n align) s h = if_both (Does (command.Align n align) s) (nat_le align 1) (step (command.Alloc n) s) (if nat_lt max_size (n + align - 1) then returns_only s machine.Refused else request s 2 (n + align - 1) n (padding_to align))
     (λ e. does_request (command.Align n align) s 1 (omega arith) n (λ offset. 0) (λ o. omega arith))
-    (λ e. does_if (command.Align n align) s (nat_lt max_size (n + align - 1)) (returns_only s machine.Refused) (request s 2 (n + align - 1) n (padding_to align)) (λ f. only (command.Align n align) s machine.Refused tt)
+    (λ e. if_both (Does (command.Align n align) s) (nat_lt max_size (n + align - 1)) (returns_only s machine.Refused) (request s 2 (n + align - 1) n (padding_to align)) (λ f. only (command.Align n align) s machine.Refused tt)
     (λ f. does_request (command.Align n align) s 2 (omega arith) (n + align - 1) (padding_to align) (λ o. padding_fits n align o (leb-false align 1 e))))
 does (command.Extend more) s h = absurd h
 

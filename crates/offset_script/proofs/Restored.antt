@@ -7,8 +7,9 @@ use Rattle.offset_allocator.specs.Classes.{up, down}
 use Rattle.offset_script.specs.Machine.{Tag, Live, Free, Block, block, is_free, has_number, stamp, total, Place, fits, place_of, free_block, coalesce, State, stamp_of_call, stamp_of_padding}
 use Rattle.offset_script.proofs.Members.{In, in_append, in_left, in_right, in_map, map_parts, map_first}
 use Rattle.offset_script.proofs.Pairs.{Kind, Lives, Frees, Pair, pair, left_tag, right_tag, left, right, lefts, rights, same_total, same_end, same_start, Agree, AllAgree, SameOrder}
-use Rattle.offset_script.proofs.Well.{Well, both_true, left_false, right_false, whole, count, hit, hit_self, in_count, count-append, count_free_block, starts_free, ends_free, Apart, apart_parts, IsEnd, IsStart, end_of, start_of, coalesce_parts, free_part, place_at, IsBest, granted_blocks}
+use Rattle.offset_script.proofs.Well.{Well, whole, count, hit, hit_self, in_count, count-append, count_free_block, starts_free, ends_free, Apart, apart_parts, IsEnd, IsStart, end_of, start_of, coalesce_parts, free_part, place_at, IsBest, granted_blocks}
 use Rattle.offset_script.proofs.Similar.{SameNumber, Similar}
+use Rattle.offset_script.proofs.Tests.{both_true, left_false, right_false}
 
 same_hit : (k : ℕ) (q : Kind) → SameNumber q → hit (Live k) (left_tag q) ≡ hit (Live k) (right_tag q)
 same_hit k (Lives i j) e = ap (λ x. hit (Live k) (Live x)) e

@@ -1,11 +1,11 @@
 -- A player simulates the plain machine, call by call.
-use Rattle.std.proofs.Common.{◌≡◌, ℕ, zero, suc, ◌+◌, ◌-◌, ◌%◌, ◌^◌, ◌<◌, ◌≤◌, Bool, true, false, ◌&&◌, ◌||◌, nat_lt, List, [], ◌∷◌, ◌++◌, map, length, Option, Some, None, Result, Ok, Err, IfOk, slice_index_or, slice_set, get_or, if◌then◌else◌, refl, sym, ap, ap₂, subst, ◌∙◌, inl, inr, arith, eq-eqb, ne_eqb, add-one, length-append}
-use Rattle.std.proofs.lemmas.List.{get_or-set_same, get_or-set_other, get_or_past, length-set}
+use Rattle.std.proofs.Common.{◌≡◌, ℕ, zero, suc, ◌+◌, ◌-◌, ◌%◌, ◌^◌, ◌<◌, ◌≤◌, Bool, true, false, ◌&&◌, ◌||◌, nat_lt, List, [], ◌∷◌, ◌++◌, map, length, Option, Some, None, Result, Ok, Err, IfOk, slice_index_or, slice_set, get_or, if◌then◌else◌, refl, sym, ap, ap₂, subst, ◌∙◌, inl, inr, arith, eq-eqb, ne_eqb, add-one, length-append, append-nil}
+use Rattle.std.proofs.lemmas.List.{map-append, get_or-set_same, get_or-set_other, get_or_past, length-set}
 use Rattle.std.proofs.Math.ListN.{get_or-append}
 use Rattle.std.proofs.Math.Seq.{get_or-append_seam}
 use Rattle.std.proofs.lemmas.Bool.{cases_eq, cases_lt}
 use Rattle.offset_allocator.specs.Classes.{value}
-use Rattle.offset_allocator.specs.Reports.{Row, row, rows_below, count_of}
+use Rattle.offset_allocator.specs.Reports.{row, rows_below, count_of}
 use Rattle.offset_allocator.specs.declared.reports.StorageReportFull.{StorageReportFull}
 use Rattle.offset_allocator.specs.declared.reports.StorageReportFullRegion.{StorageReportFullRegion}
 use Rattle.offset_script.specs.declared.scripts.Command.{Command}
@@ -192,20 +192,10 @@ fresh_represents w formed size limit hs f e = subst (λ l. Represents w l (start
   grants = refl;
 })
 
--- a row more of the full report
-map_more : (rows : List FullRow) (r : FullRow) → map row_view (rows ++ r ∷ []) ≡ map row_view rows ++ row_view r ∷ []
-map_more [] r = refl
-map_more (x ∷ rows) r = ap (λ l. row_view x ∷ l) (map_more rows r)
-
 -- the row of a class with free blocks
 row_of : (c n : ℕ) → 0 < n → row c n ≡ record { class = c; size = value c % 2 ^ 32; count = n } ∷ []
 row_of c zero l = absurd (omega arith)
 row_of c (suc n) l = refl
-
--- nothing is added
-append_nil : (rs : List Row) → rs ++ [] ≡ rs
-append_nil [] = refl
-append_nil (r ∷ rs) = ap (λ l. r ∷ l) (append_nil rs)
 
 -- a class with free blocks adds its row
 pub rows_more : (c : ℕ) (v : View) (report : StorageReportFull) (d : StorageReportFullRegion) (left rows : List FullRow) (r : FullRow) → IsFullReport report v → c < 256 → map row_view rows ≡ rows_below c (free_sizes v.blocks)
@@ -215,7 +205,7 @@ rows_more c v report d left rows r full l e f h pos =
     let at = full c d l in
     let count = ap (λ (x : StorageReportFullRegion). x.count) at in
     let size = ap (λ (x : StorageReportFullRegion). x.size) at in
-    rw add-one (ap (map row_view) f ∙ map_more rows r ∙ ap₂ (λ xs y. xs ++ row_view y ∷ []) e h ∙ ap₂ (λ (s n : ℕ). rows_below c (free_sizes v.blocks) ++ record { class = c; size = s; count = n } ∷ []) size count ∙ ap (λ z. rows_below c (free_sizes v.blocks) ++ z) (sym (row_of c (count_of c (free_sizes v.blocks)) (omega arith))))
+    rw add-one (ap (map row_view) f ∙ map-append row_view rows (r ∷ []) ∙ ap₂ (λ xs y. xs ++ row_view y ∷ []) e h ∙ ap₂ (λ (s n : ℕ). rows_below c (free_sizes v.blocks) ++ record { class = c; size = s; count = n } ∷ []) size count ∙ ap (λ z. rows_below c (free_sizes v.blocks) ++ z) (sym (row_of c (count_of c (free_sizes v.blocks)) (omega arith))))
 
 -- a class with none adds nothing
 pub rows_same : (c : ℕ) (v : View) (report : StorageReportFull) (d : StorageReportFullRegion) (rows : List FullRow) → IsFullReport report v → c < 256 → map row_view rows ≡ rows_below c (free_sizes v.blocks) → (slice_index_or report.free_regions c d).count ≤ 0
@@ -223,4 +213,4 @@ pub rows_same : (c : ℕ) (v : View) (report : StorageReportFull) (d : StorageRe
 rows_same c v report d rows full l e nothing =
     let count = ap (λ (x : StorageReportFullRegion). x.count) (full c d l) in
     let none : count_of c (free_sizes v.blocks) ≡ 0 = omega arith in
-    rw add-one (e ∙ sym (ap (λ n. rows_below c (free_sizes v.blocks) ++ row c n) none ∙ append_nil _))
+    rw add-one (e ∙ sym (ap (λ n. rows_below c (free_sizes v.blocks) ++ row c n) none ∙ append-nil _))

@@ -11,6 +11,7 @@ use Rattle.offset_script.specs.Histories.{KeepsSpace}
 use Rattle.offset_script.specs.Totals.{requested_units, live_units, live_blocks, added_units, added_by, SizesAddUp, FewAreLive, FullSpaceRefuses}
 use Rattle.offset_script.proofs.Well.{whole, chosen_at, found_at, granted_blocks, total-append, AllFree, coalesced, free_part}
 use Rattle.offset_script.proofs.Nests.{does}
+use Rattle.offset_script.proofs.Tests.{if_both}
 
 total_coalesce : (xs : List Block) (n s : ℕ) (ys : List Block) → total (coalesce xs n s ys) ≡ total xs + (n + total ys)
 total_coalesce xs n s ys =
@@ -60,10 +61,6 @@ total_kept c s k = elim (does c s k) [
 pub Adds : Command → State → Outcome → Type 0
 Adds c s o = total o.state.blocks ≡ total s.blocks + added_units c o.answer
 
-adds_if : (c : Command) (s : State) (b : Bool) (o p : Outcome) → Adds c s o → Adds c s p → Adds c s (if b then o else p)
-adds_if c s true o p f g = f
-adds_if c s false o p f g = g
-
 adds_none : (n m : ℕ) → n ≡ m → n ≡ m + 0
 adds_none n m e = omega arith
 
@@ -77,8 +74,8 @@ adds_step command.Full s = adds_none _ _ refl
 adds_step command.Reset s = refl
 adds_step (command.Align n align) s = adds_none _ _ (total_kept (command.Align n align) s tt)
 adds_step (command.Extend zero) s = adds_none _ _ refl
-adds_step (command.Extend (suc more)) s = adds_if (command.Extend (suc more)) s (nat_lt max_size (total s.blocks + suc more) || (ends_live s.blocks && is_short_of 1 s)) (returns_only s machine.Refused) (leaves s (coalesce s.blocks (suc more) (stamp_of_call s) []) machine.Extended)
-    (adds_none _ _ refl) (let j = total_coalesce s.blocks (suc more) (stamp_of_call s) [] in omega arith)
+adds_step (command.Extend (suc more)) s = if_both (Adds (command.Extend (suc more)) s) (nat_lt max_size (total s.blocks + suc more) || (ends_live s.blocks && is_short_of 1 s)) (returns_only s machine.Refused) (leaves s (coalesce s.blocks (suc more) (stamp_of_call s) []) machine.Extended)
+    (λ e. adds_none _ _ refl) (λ e. let j = total_coalesce s.blocks (suc more) (stamp_of_call s) [] in omega arith)
 
 adds_all : (cs : List Command) (s : State) → total (after cs s).blocks ≡ total s.blocks + added_by cs s
 unfolding Adds
@@ -107,10 +104,6 @@ sums_law size limit cs = let p = parted (after cs (start size limit)).blocks in 
 Few : State → Outcome → Type 0
 Few s o = (live_blocks o.state.blocks + 2 ≤ s.limit) × (o.state.limit ≡ s.limit)
 
-few_if : (s : State) (b : Bool) (o p : Outcome) → Few s o → Few s p → Few s (if b then o else p)
-few_if s true o p f g = f
-few_if s false o p f g = g
-
 few_kept : (c : Command) (s : State) → KeepsSpace c → live_blocks s.blocks + 2 ≤ s.limit → Few s (step c s)
 unfolding Few
 few_kept c s k h = elim (does c s k) [
@@ -131,8 +124,8 @@ few_step command.Full s h = (h, refl)
 few_step command.Reset s h = (omega arith, refl)
 few_step (command.Align n align) s h = few_kept (command.Align n align) s tt h
 few_step (command.Extend zero) s h = (h, refl)
-few_step (command.Extend (suc more)) s h = few_if s (nat_lt max_size (total s.blocks + suc more) || (ends_live s.blocks && is_short_of 1 s)) (returns_only s machine.Refused) (leaves s (coalesce s.blocks (suc more) (stamp_of_call s) []) machine.Extended)
-    (h, refl) (let j = live_coalesce s.blocks (suc more) (stamp_of_call s) [] in omega arith, refl)
+few_step (command.Extend (suc more)) s h = if_both (Few s) (nat_lt max_size (total s.blocks + suc more) || (ends_live s.blocks && is_short_of 1 s)) (returns_only s machine.Refused) (leaves s (coalesce s.blocks (suc more) (stamp_of_call s) []) machine.Extended)
+    (λ e. (h, refl)) (λ e. (let j = live_coalesce s.blocks (suc more) (stamp_of_call s) [] in omega arith, refl))
 
 few_all : (cs : List Command) (s : State) (limit : ℕ) → s.limit ≡ limit → live_blocks s.blocks + 2 ≤ limit → live_blocks (after cs s).blocks + 2 ≤ limit
 unfolding Few
@@ -149,15 +142,11 @@ short_too s spare some h = le-leb s.limit (length s.blocks + spare) (omega arith
 refused : (s : State) (spare needed n : ℕ) (padding_at : ℕ → ℕ) → 1 ≤ spare → s.limit ≤ length s.blocks + 1 → (request s spare needed n padding_at).answer ≡ machine.Refused
 refused s spare needed n padding_at some h = ap (λ b. (if b then returns_only s machine.Refused else grant_or_refuse s n padding_at (chosen_place needed s.blocks)).answer) (short_too s spare some h)
 
-refused_if : (b : Bool) (o p : Outcome) → o.answer ≡ machine.Refused → p.answer ≡ machine.Refused → (if b then o else p).answer ≡ machine.Refused
-refused_if true o p f g = f
-refused_if false o p f g = g
-
 pub full_law : FullSpaceRefuses
 full_law s h = (
   λ n. refused s 1 n n (λ offset. 0) (omega arith) h,
-  λ n align. refused_if (nat_le align 1) (step (command.Alloc n) s) (if nat_lt max_size (n + align - 1) then returns_only s machine.Refused else request s 2 (n + align - 1) n (padding_to align))
-      (refused s 1 n n (λ offset. 0) (omega arith) h)
-      (refused_if (nat_lt max_size (n + align - 1)) (returns_only s machine.Refused) (request s 2 (n + align - 1) n (padding_to align)) refl (refused s 2 (n + align - 1) n (padding_to align) (omega arith) h)),
+  λ n align. if_both (λ (o : Outcome). o.answer ≡ machine.Refused) (nat_le align 1) (step (command.Alloc n) s) (if nat_lt max_size (n + align - 1) then returns_only s machine.Refused else request s 2 (n + align - 1) n (padding_to align))
+      (λ e. refused s 1 n n (λ offset. 0) (omega arith) h)
+      (λ e. if_both (λ (o : Outcome). o.answer ≡ machine.Refused) (nat_lt max_size (n + align - 1)) (returns_only s machine.Refused) (request s 2 (n + align - 1) n (padding_to align)) (λ f. refl) (λ f. refused s 2 (n + align - 1) n (padding_to align) (omega arith) h)),
   ap (λ b. if b then machine.Report 0 0 else machine.Report (sum (free_sizes s.blocks)) (largest (free_sizes s.blocks))) (short_too s 1 (omega arith) h),
 )

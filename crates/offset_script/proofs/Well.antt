@@ -10,6 +10,7 @@ use Rattle.offset_script.specs.Machine.{Tag, Live, Free, Block, block, is_free, 
 use Rattle.offset_script.specs.Machine as machine
 use Rattle.offset_script.proofs.Members.{In}
 use Rattle.offset_allocator.specs.Named.{max_size, padding_to}
+use Rattle.offset_script.proofs.Tests.{both_true, and_false, and_false_right, left_false, right_false, or_false, if_both}
 
 -- whether the first block of a list is free
 abbrev pub starts_free : List Block → Bool
@@ -103,26 +104,9 @@ total-append [] ys = omega arith
 total-append (b ∷ xs) ys = let ih = total-append xs ys in omega (arith, ih)
 
 -- neighbours
-and_false : (x y : Bool) → x ≡ false → (x && y) ≡ false
-and_false true y e = absurd (true≢false e)
-and_false false y e = refl
-
-pub and_false_right : (x y : Bool) → y ≡ false → (x && y) ≡ false
-and_false_right true y e = e
-and_false_right false y e = refl
-
 pub and_true : (x : Bool) → (x && true) ≡ false → x ≡ false
 and_true true e = e
 and_true false e = refl
-
--- of two tests that do not both hold, the other one fails
-pub left_false : (x y : Bool) → (x && y) ≡ false → y ≡ true → x ≡ false
-left_false true y e h = sym h ∙ e
-left_false false y e h = refl
-
-pub right_false : (x y : Bool) → (x && y) ≡ false → x ≡ true → y ≡ false
-right_false true y e h = e
-right_false false y e h = absurd (false≢true h)
 
 -- two lists that do not meet in two free blocks
 pub apart_append : (xs ys : List Block) → Apart xs → Apart ys → (ends_free xs && starts_free ys) ≡ false → Apart (xs ++ ys)
@@ -346,10 +330,6 @@ ChosenAt : ℕ → List Block → Option Place → Type 0
 ChosenAt n bs None = (c : Block) → In c bs → fits n c ≡ false
 ChosenAt n bs (Some p) = (bs ≡ whole p) × (fits n p.block ≡ true) × IsBest n bs p.block
 
-pub both_true : (x y : Bool) → (x && y) ≡ true → (x ≡ true) × (y ≡ true)
-both_true true y e = (refl, e)
-both_true false y e = absurd (false≢true e)
-
 -- the order in which blocks are chosen
 taken_irreflexive : (b : Block) → is_taken_before b b ≡ false
 taken_irreflexive b = grind (arith, nat_tests)
@@ -475,10 +455,6 @@ length_coalesce xs n s ys =
     let l = c.end.few in
     (omega arith, omega (arith, ap length c.at_front, ap length c.at_back, length-append c.front c.last, length-append c.first c.back))
 
-well_if : (b : Bool) (o p : Outcome) → (b ≡ true → Well o.state) → (b ≡ false → Well p.state) → Well (if b then o else p).state
-well_if true o p f g = f refl
-well_if false o p f g = g refl
-
 well_granted : (s : State) → Well s → (needed n : ℕ) (padding_at : ℕ → ℕ) (spare : ℕ) → ((o x : ℕ) → length (free_block (padding_at o) x) + 1 ≤ spare) → length s.blocks + spare < s.limit
     → (o : Option Place) → chosen_place needed s.blocks ≡ o → Well (grant_or_refuse s n padding_at o).state
 well_granted s w needed n padding_at spare enough room None e = well_quiet s w machine.Refused
@@ -487,7 +463,7 @@ well_granted s w needed n padding_at spare enough room (Some p) e =
     well_grant s w n (padding_at (total p.before)) p c.0 (both_true _ _ c.1).0 spare room (enough _ _)
 
 well_request : (s : State) → Well s → (spare needed n : ℕ) (padding_at : ℕ → ℕ) → ((o x : ℕ) → length (free_block (padding_at o) x) + 1 ≤ spare) → Well (request s spare needed n padding_at).state
-well_request s w spare needed n padding_at enough = well_if (is_short_of spare s) _ _ (λ e. well_quiet s w machine.Refused)
+well_request s w spare needed n padding_at enough = if_both (λ (o : Outcome). Well o.state) (is_short_of spare s) _ _ (λ e. well_quiet s w machine.Refused)
     (λ e. well_granted s w needed n padding_at spare enough (leb-false s.limit (length s.blocks + spare) e) (chosen_place needed s.blocks) refl)
 
 -- a release
@@ -520,10 +496,6 @@ length_at_end bs n s = (λ e h. shorter (coalesced bs n s []) e h, (length_coale
       | inr l ↦ absurd (true≢false (sym (ends_some bs h e) ∙ ap ends_free c.at_front ∙ c.end.live (omega arith)))
     ]
 
-or_false : (x y : Bool) → (x || y) ≡ false → y ≡ false
-or_false true y e = absurd (true≢false e)
-or_false false y e = e
-
 and_cases : (x y : Bool) → (x && y) ≡ false → (x ≡ false) ⊎ (y ≡ false)
 and_cases true y e = inr e
 and_cases false y e = inl refl
@@ -531,12 +503,12 @@ and_cases false y e = inl refl
 -- more units at the end
 well_extend : (s : State) → Well s → (more : ℕ) → Well (extend more s).state
 well_extend s w zero = well_quiet s w machine.Extended
-well_extend s w (suc more) = well_if (nat_lt max_size (total s.blocks + suc more) || (ends_live s.blocks && is_short_of 1 s)) _ _ (λ e. well_quiet s w machine.Refused) (λ e.
+well_extend s w (suc more) = if_both (λ (o : Outcome). Well o.state) (nat_lt max_size (total s.blocks + suc more) || (ends_live s.blocks && is_short_of 1 s)) _ _ (λ e. well_quiet s w machine.Refused) (λ e.
     let sizes = length_coalesce s.blocks (suc more) (stamp_of_call s) [] in
     let at_end = length_at_end s.blocks (suc more) (stamp_of_call s) in
     let r = w.room in
     well_leaves s w _ machine.Extended sizes.0
-    (elim (and_cases (ends_live s.blocks) (is_short_of 1 s) (or_false _ _ e)) [
+    (elim (and_cases (ends_live s.blocks) (is_short_of 1 s) (or_false _ _ e).1) [
       | inl free ↦ omega (arith, at_end.0 free w.some)
       | inr spare ↦ omega (arith, at_end.1, leb-false s.limit (length s.blocks + 1) spare)
     ])
@@ -558,8 +530,8 @@ well_step (command.Size k) s w = well_quiet s w (size_at (place_of k s.blocks))
 well_step command.Report s w = well_quiet s w (report s)
 well_step command.Full s w = well_quiet s w (full_report s)
 well_step command.Reset s w = well_reset s w
-well_step (command.Align n align) s w = well_if (nat_le align 1) _ _ (λ e. well_request s w 1 n n (λ offset. 0) no_padding)
-    (λ e. well_if (nat_lt max_size (n + align - 1)) _ _ (λ e. well_quiet s w machine.Refused) (λ e. well_request s w 2 (n + align - 1) n (padding_to align) (λ o x. let h = free_block_short (padding_to align o) x in omega arith)))
+well_step (command.Align n align) s w = if_both (λ (o : Outcome). Well o.state) (nat_le align 1) _ _ (λ e. well_request s w 1 n n (λ offset. 0) no_padding)
+    (λ e. if_both (λ (o : Outcome). Well o.state) (nat_lt max_size (n + align - 1)) _ _ (λ e. well_quiet s w machine.Refused) (λ e. well_request s w 2 (n + align - 1) n (padding_to align) (λ o x. let h = free_block_short (padding_to align o) x in omega arith)))
 well_step (command.Extend more) s w = well_extend s w more
 
 -- so do all commands in order
