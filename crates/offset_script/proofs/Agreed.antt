@@ -4,13 +4,13 @@ use Rattle.std.proofs.lemmas.Bool.{cases_eq, cases_lt, true≢false, false≢tru
 use Rattle.offset_allocator.specs.Classes.{up, down}
 use Rattle.offset_allocator.specs.Reports.{largest, rows_below}
 use Rattle.offset_script.specs.declared.scripts.Command.TheVariants as command
-use Rattle.offset_script.specs.Machine.{Tag, Live, Free, is_free, has_number, stamp, total, chosen_place, State, Answer, step, returns_only, leaves, stamp_of_padding, stamp_of_call}
+use Rattle.offset_script.specs.Machine.{max_size, padding_to, Tag, Live, Free, is_free, has_number, stamp, total, chosen_place, State, Answer, step, returns_only, leaves, stamp_of_padding, stamp_of_call}
 use Rattle.offset_script.specs.Machine as machine
-use Rattle.offset_allocator.specs.Named.{Block, View, Place, Grant, place_of, tally, one, units, times, count_listed, used_block, free_block, free_part, names_at, push_all, remove_all, IsWellFormed, replace, max_size, padding_to}
+use Rattle.offset_allocator.specs.Named.{Block, View, Place, Grant, place_of, tally, one, units, times, count_listed, used_block, free_block, free_part, names_at, push_all, remove_all, IsWellFormed, replace}
 use Rattle.offset_allocator.specs.Named as named
 use Rattle.offset_allocator.specs.Promises.{HasRoomFor, CanGrant, blocks_needed, units_needed}
 use Rattle.offset_allocator.specs.Relations.{SameSpace, Serves, Frees, Adds, CanExtend, Extends}
-use Rattle.offset_script.specs.Agreement.{Label, by_name, by_tag, stamp_of, IsFalling, name_of, Agrees, answer_of, with_name, without_name, kept_after, grant_count_after}
+use Rattle.offset_script.specs.Agreement.{Label, by_name, by_tag, stamp_of, IsFalling, name_of, Agrees}
 use Rattle.offset_script.proofs.Well.{Well, count, count-append, hit, hit_self, apart_parts, and_true, end_of, start_of, coalesce_parts, chosen_at}
 use Rattle.offset_script.proofs.Well as well
 use Rattle.std.specs.List.{AllByRecursion}
@@ -22,6 +22,29 @@ use Rattle.offset_script.proofs.Labels.{names, tags, map_three, stamps_below, Ri
 use Rattle.offset_script.proofs.Chosen.{Spot, whole, place_at, named_spot, named_place, plain_place, some_same, IsLabelled, none_chosen, chosen, place_of_spot}
 use Rattle.offset_script.proofs.Ends.{AllFree, free_named, free_tagged, apart_tagged, ends_live_last, last_free, total_units, length_labels, free_sizes_labels, or_else, or_none, name_append, name_skip, name_free, name_none, name_missing, name_found}
 use Rattle.offset_script.proofs.Tests.{both_true, and_false_right, or_false, not_false}
+
+-- the answer to a request, when g grants were made before it
+abbrev pub answer_of : ℕ → Option Grant → Answer
+answer_of g None = machine.Refused
+answer_of g (Some a) = machine.Grant (g + 1) a.offset
+
+-- the kept names, with x as that of grant k
+abbrev pub with_name : ℕ → ℕ → (ℕ → Option ℕ) → ℕ → Option ℕ
+with_name k x kept_name j = if nat_eq j k then Some x else kept_name j
+
+-- the kept names, without that of grant k
+abbrev pub without_name : ℕ → (ℕ → Option ℕ) → ℕ → Option ℕ
+without_name k kept_name j = if nat_eq j k then None else kept_name j
+
+-- the names kept after a request, when g grants were made before it
+abbrev pub kept_after : ℕ → Option Grant → (ℕ → Option ℕ) → ℕ → Option ℕ
+kept_after g None kept_name = kept_name
+kept_after g (Some a) kept_name = with_name (g + 1) a.name kept_name
+
+-- the grants made after a request, when g were made before it
+abbrev pub grant_count_after : ℕ → Option Grant → ℕ
+grant_count_after g None = g
+grant_count_after g (Some a) = g + 1
 
 -- a call that leaves the blocks as they are
 pub agrees_quiet : (v : View) (kept_name : ℕ → Option ℕ) (s : State) → Agrees v kept_name s → (a : Answer) → Agrees v kept_name (returns_only s a).state

@@ -4,9 +4,10 @@ use Rattle.std.proofs.lemmas.Bool.{cases_lt, lt-leb}
 use Rattle.offset_script.specs.declared.scripts.Command.{Command}
 use Rattle.offset_script.specs.declared.scripts.Command.TheVariants as command
 use Rattle.offset_allocator.specs.Classes.{up, down}
-use Rattle.offset_script.specs.Machine.{Live, Free, is_free, total, Place, chosen_place, place_of, coalesce, State, Answer, Outcome, start, step, after, request, grant, grant_or_refuse, is_short_of, returns_only, leaves, release, size_at, full_report, stamp_of_call}
-use Rattle.offset_allocator.specs.Named.{max_size, padding_to}
+use Rattle.offset_script.specs.Machine.{Live, Free, is_free, total, Place, chosen_place, place_of, coalesce, State, Answer, Outcome, start, step, after, request, grant, grant_or_refuse, is_short_of, returns_only, leaves, release, size_at, stamp_of_call}
+use Rattle.offset_script.specs.Machine.{max_size, padding_to}
 use Rattle.offset_script.specs.Machine as machine
+use Rattle.offset_allocator.specs.Reports.{rows_below}
 use Rattle.offset_script.specs.Histories.{IsGrant, KeepsSpace, Nest, number_without_nest, NestLeavesNoTrace}
 use Rattle.offset_script.specs.Histories as history
 use Rattle.offset_script.specs.Totals.{requested_units}
@@ -93,7 +94,7 @@ does (command.Alloc n) s k = does_request (command.Alloc n) s 1 (omega arith) n 
 does (command.Free k) s h = does_release s k (place_of k s.blocks) refl
 does (command.Size k) s h = only (command.Size k) s _ (quiet_size (place_of k s.blocks))
 does command.Report s h = only command.Report s _ (quiet_report (is_short_of 1 s) _ _)
-does command.Full s h = only command.Full s (full_report s) tt
+does command.Full s h = only command.Full s (machine.Full (rows_below 256 (machine.free_sizes s.blocks))) tt
 does command.Reset s h = absurd h
 does (command.Align n align) s h = if_both (Does (command.Align n align) s) (nat_le align 1) (step (command.Alloc n) s) (if nat_lt max_size (n + align - 1) then returns_only s machine.Refused else request s 2 (n + align - 1) n (padding_to align))
     (λ e. does_request (command.Align n align) s 1 (omega arith) n (λ offset. 0) (λ o. omega arith))

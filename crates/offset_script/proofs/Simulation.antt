@@ -10,20 +10,20 @@ use Rattle.offset_allocator.specs.declared.reports.StorageReportFull.{StorageRep
 use Rattle.offset_allocator.specs.declared.reports.StorageReportFullRegion.{StorageReportFullRegion}
 use Rattle.offset_script.specs.declared.scripts.Command.{Command}
 use Rattle.offset_script.specs.declared.scripts.Command.TheVariants as command
-use Rattle.offset_script.specs.Machine.{State, step, start, after}
+use Rattle.offset_script.specs.Machine.{max_size, State, step, start, after}
 use Rattle.offset_script.specs.Machine as machine
-use Rattle.offset_allocator.specs.Named.{View, Grant, total_free, largest_free, free_sizes, max_size, IsWellFormed}
-use Rattle.offset_script.specs.Agreement.{IsReached, name_in, kept_name, with_name, without_name, kept_after, grant_count_after}
+use Rattle.offset_allocator.specs.Named.{View, Grant, total_free, largest_free, free_sizes, IsWellFormed}
+use Rattle.offset_script.specs.Agreement.{IsReached, name_in, kept_name}
 use Rattle.offset_allocator.specs.Relations.{IsFresh, Allocates, Aligns, Frees, Extends, Resets}
 use Rattle.offset_script.proofs.Well.{Well, well_start, well_after}
-use Rattle.offset_script.proofs.Agreed.{Matches, serve_agrees, aligned_agrees, extend_agrees, free_agrees, live_agrees, gone_agrees, size_agrees, report_agrees, full_agrees, agrees_quiet, agrees_kept, alone_agrees, same_units}
+use Rattle.offset_script.proofs.Agreed.{with_name, without_name, kept_after, grant_count_after, Matches, serve_agrees, aligned_agrees, extend_agrees, free_agrees, live_agrees, gone_agrees, size_agrees, report_agrees, full_agrees, agrees_quiet, agrees_kept, alone_agrees, same_units}
 use Rattle.offset_script.specs.declared.answers.Answer as program
 use Rattle.offset_script.specs.declared.answers.Answer.TheVariants as program_answer
 use Rattle.offset_script.specs.declared.answers.FullRow.{FullRow}
 use Rattle.offset_allocator.specs.Promises.{IsFullReport}
 use Rattle.offset_allocator.specs.Ranges.{IsLive, size_of}
 use Rattle.offset_allocator.proofs.Reading.{used_live, size_is}
-use Rattle.offset_script.specs.Answers.{answer_view, row_view}
+use Rattle.offset_script.specs.Machine.{answer_view, row_view}
 use Rattle.offset_script.specs.Simulation.{Represents, Simulates, RepresentsReached, IsKept}
 
 -- what holds of every state holds of a reached one

@@ -6,10 +6,11 @@ use Rattle.std.specs.List.{AllByRecursion}
 use Rattle.offset_script.specs.declared.scripts.Command.{Command}
 use Rattle.offset_script.specs.declared.scripts.Command.TheVariants as command
 use Rattle.offset_allocator.specs.Classes.{down}
-use Rattle.offset_script.specs.Machine.{Tag, Live, Free, Block, block, is_free, has_number, stamp, total, Place, here, prepend, prepend_if_found, fits, is_taken_before, choose, chosen_place, place_of, free_block, free_start, without_start, free_end, without_end, ends_live, coalesce, State, Answer, Outcome, start, step, answers, after, request, grant, grant_or_refuse, is_short_of, returns_only, leaves, release, size_at, report, full_report, reset, extend, stamp_of_call, stamp_of_padding}
+use Rattle.offset_script.specs.Machine.{Tag, Live, Free, Block, block, is_free, has_number, stamp, total, Place, here, prepend, prepend_if_found, fits, is_taken_before, choose, chosen_place, place_of, free_block, free_start, without_start, free_end, without_end, ends_live, coalesce, State, Answer, Outcome, start, step, answers, after, request, grant, grant_or_refuse, is_short_of, returns_only, leaves, release, size_at, report, reset, extend, stamp_of_call, stamp_of_padding}
 use Rattle.offset_script.specs.Machine as machine
+use Rattle.offset_allocator.specs.Reports.{rows_below}
 use Rattle.offset_script.proofs.Members.{In}
-use Rattle.offset_allocator.specs.Named.{max_size, padding_to}
+use Rattle.offset_script.specs.Machine.{max_size, padding_to}
 use Rattle.offset_script.proofs.Tests.{both_true, and_false, and_false_right, left_false, right_false, or_false, if_both}
 
 -- whether the first block of a list is free
@@ -528,7 +529,7 @@ well_step (command.Alloc n) s w = well_request s w 1 n n (λ offset. 0) no_paddi
 well_step (command.Free k) s w = well_release s w k (place_of k s.blocks) refl
 well_step (command.Size k) s w = well_quiet s w (size_at (place_of k s.blocks))
 well_step command.Report s w = well_quiet s w (report s)
-well_step command.Full s w = well_quiet s w (full_report s)
+well_step command.Full s w = well_quiet s w (machine.Full (rows_below 256 (machine.free_sizes s.blocks)))
 well_step command.Reset s w = well_reset s w
 well_step (command.Align n align) s w = if_both (λ (o : Outcome). Well o.state) (nat_le align 1) _ _ (λ e. well_request s w 1 n n (λ offset. 0) no_padding)
     (λ e. if_both (λ (o : Outcome). Well o.state) (nat_lt max_size (n + align - 1)) _ _ (λ e. well_quiet s w machine.Refused) (λ e. well_request s w 2 (n + align - 1) n (padding_to align) (λ o x. let h = free_block_short (padding_to align o) x in omega arith)))

@@ -1,8 +1,8 @@
 //! Answers, and their text.
 
 ghost use Rattle.std.specs.Prelude.{◌≡◌, ◌++◌, OnOk, IfOk, string_bytes, map};
-ghost use Rattle.offset_script.specs.Answers.{row_view, answer_view, answer_views};
-ghost use Rattle.offset_script.specs.Running.{row_line, rows_text, lines_of_answer, text_of};
+ghost use Rattle.offset_script.specs.Machine.{row_view, answer_view, answer_views};
+ghost use Rattle.offset_script.specs.Grammar.{row_line, rows_text, lines_of_answer, text_of};
 
 use offset_allocator::StorageReport;
 use std::alloc::{AllocError, Global};
@@ -64,7 +64,7 @@ fn put_rows(out: &mut String, rows: &[FullRow]) -> Result<(), AllocError>
 }
 
 // Appends the lines of an answer.
-#[tactic(auto, unfolding(crate::specs::Running::lines_of_answer))]
+#[tactic(auto, unfolding(crate::specs::Grammar::lines_of_answer))]
 fn put_answer(out: &mut String, answer: &Answer) -> Result<(), AllocError>
     ensures { OnOk result (string_bytes out.new ≡ string_bytes out.old ++ lines_of_answer (answer_view answer.now)) }
 {

@@ -1,8 +1,8 @@
 use Rattle.std.proofs.Common.{◌≡◌, ◌++◌, take}
 use Rattle.std.specs.Prelude.{map}
 use Rattle.std.specs.String.{string_bytes}
-use Rattle.offset_script.specs.Answers.{row_view}
-use Rattle.offset_script.specs.Running.{rows_text}
+use Rattle.offset_script.specs.Machine.{row_view}
+use Rattle.offset_script.specs.Grammar.{rows_text}
 use Rattle.offset_script.proofs.answers.put_rows.Given as goal
 
 abbrev pub invariant-loop-row : goal.invariant-loop-row
