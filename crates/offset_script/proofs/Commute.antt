@@ -1,5 +1,5 @@
 -- Releases in a row leave the same space in any order.
-use Rattle.std.proofs.Common.{◌≡◌, ℕ, zero, suc, ◌+◌, ◌-◌, Bool, true, false, ◌&&◌, ◌||◌, List, [], ◌∷◌, ◌++◌, sum, Option, Some, None, is_some, nat_eq, nat_lt, nat_le, if◌then◌else◌, refl, sym, ap, ap₂, subst, subst₂, ◌∙◌, inl, inr, arith, eq-eqb, eqb-true}
+use Rattle.std.proofs.Common.{◌≡◌, ℕ, zero, suc, ◌+◌, ◌-◌, Bool, true, false, ◌&&◌, ◌||◌, List, [], ◌∷◌, ◌++◌, sum, Option, Some, None, is_some, nat_eq, nat_lt, nat_le, if◌then◌else◌, refl, sym, ap, ap₂, subst, subst₂, ◌∙◌, arith, eq-eqb, eqb-true}
 use Rattle.std.proofs.lemmas.Bool.{true≢false, false≢true}
 use Rattle.offset_script.specs.declared.scripts.Command.{Command}
 use Rattle.offset_script.specs.declared.scripts.Command.TheVariants as command
@@ -9,10 +9,9 @@ use Rattle.offset_script.specs.Machine.{Tag, Live, Free, Block, block, is_free, 
 use Rattle.offset_script.specs.Machine.{max_size, padding_to}
 use Rattle.offset_script.specs.Machine as machine
 use Rattle.offset_script.specs.Histories.{holder, outline, widen, is_among, collapse_block, collapse, without_offset, releases, ReleasesCommute}
-use Rattle.offset_script.proofs.Members.{In}
-use Rattle.offset_script.proofs.Pairs.{Kind, Lives, Frees, Pair, pair, left_tag, right_tag, left, right, lefts, rights, same_free, same_short, same_free_sizes, same_refusal, SamePlace, neither, both, same_place_of}
+use Rattle.offset_script.proofs.Pairs.{Kind, Lives, Frees, Pair, left_tag, right_tag, left, right, lefts, rights, same_free, same_short, same_free_sizes, same_refusal, SamePlace, neither, both, same_place_of}
 use Rattle.offset_script.proofs.Well.{Well, count, hit, hit_self, number_of, count-append, starts_free, Apart, apart_parts, found_at, not_found, well_start, well_after, well_step}
-use Rattle.offset_script.proofs.Similar.{SameNumber}
+use Rattle.offset_script.proofs.Similar.{SameNumber, Paired, paired}
 use Rattle.offset_script.proofs.Tests.{if_same}
 
 -- sizes, and the numbers of live blocks
@@ -163,38 +162,6 @@ released_scalars s (Some p) = (refl, refl)
 releases_scalars : (ks : List ℕ) (s : State) → ((after (releases ks) s).limit ≡ s.limit) × ((after (releases ks) s).grants ≡ s.grants)
 releases_scalars [] s = (refl, refl)
 releases_scalars (k ∷ ks) s = let r = released_scalars s (place_of k s.blocks) in let ih = releases_scalars ks (step (command.Free k) s).state in (ih.0 ∙ r.0, ih.1 ∙ r.1)
-
--- two lists of blocks of the same sizes and numbers
-record Paired (bs cs : List Block) : Type 0 where
-  pairs : List Pair
-  left_blocks : bs ≡ lefts pairs
-  right_blocks : cs ≡ rights pairs
-  numbers : (q : Pair) → In q pairs → SameNumber q.kind
-
-paired_tag : (t u : Tag) → holder t ≡ holder u → (k : Kind) × (t ≡ left_tag k) × (u ≡ right_tag k) × SameNumber k
-paired_tag (Live i) (Live j) e = (Lives i j, refl, refl, number i j e)
-  where
-    number : (i j : ℕ) → ◌≡◌ {A = Option ℕ} (Some i) (Some j) → i ≡ j
-    number i j e = cc
-paired_tag (Live i) (Free s) e = absurd (grind (arith, e))
-paired_tag (Free s) (Live i) e = absurd (grind (arith, e))
-paired_tag (Free s) (Free u) e = (Frees s u, refl, refl, tt)
-
-paired_cons : (b c : Block) (bs cs : List Block) → ◌≡◌ {A = ℕ × Option ℕ} (b.size, holder b.tag) (c.size, holder c.tag) → Paired bs cs → Paired (b ∷ bs) (c ∷ cs)
-paired_cons b c bs cs e p =
-    let t = paired_tag b.tag c.tag (ap (λ (x : ℕ × Option ℕ). x.1) e) in
-    record {
-      pairs = pair b.size t.0 ∷ p.pairs;
-      left_blocks = ap₂ (λ t l. block b.size t ∷ l) t.1 p.left_blocks;
-      right_blocks = ap₂ (λ (x : Block) l. x ∷ l) (ap₂ block (ap (λ (x : ℕ × Option ℕ). x.0) (sym e)) t.2) p.right_blocks;
-      numbers = λ q i. elim i [ inl h ↦ subst (λ (x : Pair). SameNumber x.kind) (sym h) t.3 | inr h ↦ p.numbers q h ];
-    }
-
-paired : (bs cs : List Block) → outline bs ≡ outline cs → Paired bs cs
-paired [] [] e = record { pairs = []; left_blocks = refl; right_blocks = refl; numbers = λ q i. absurd i }
-paired [] (c ∷ cs) e = absurd (cc)
-paired (b ∷ bs) [] e = absurd (cc)
-paired (b ∷ bs) (c ∷ cs) e = paired_cons b c bs cs (cc) (paired bs cs (cc))
 
 -- one command at two states of one outline
 record SameSpace (s t : State) : Type 0 where

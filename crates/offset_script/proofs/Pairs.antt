@@ -1,9 +1,9 @@
 -- Two lists of blocks of the same sizes, both live or both free at each place, seen as one list of pairs.
-use Rattle.std.proofs.Common.{◌≡◌, ℕ, zero, suc, ◌+◌, ◌-◌, true, false, ◌&&◌, ◌||◌, ◌⊎◌, List, [], ◌∷◌, ◌++◌, map, length, Option, Some, None, nat_eq, nat_lt, nat_le, if◌then◌else◌, refl, sym, ap, ap₂, subst, subst₂, ◌∙◌, inl, inr, arith, eq-eqb, eqb-true}
+use Rattle.std.proofs.Common.{◌≡◌, ℕ, zero, suc, ◌+◌, ◌-◌, true, false, ◌&&◌, ◌||◌, ◌⊎◌, List, [], ◌∷◌, ◌++◌, map, length, Option, Some, None, option_map, nat_eq, nat_lt, nat_le, if◌then◌else◌, refl, sym, ap, ap₂, subst, subst₂, ◌∙◌, inl, inr, arith, eq-eqb, eqb-true}
 use Rattle.std.proofs.lemmas.List.{map-append}
 use Rattle.std.proofs.lemmas.Bool.{false≢true}
 use Rattle.offset_allocator.specs.Classes.{up, down}
-use Rattle.offset_script.specs.Machine.{Tag, Live, Free, Block, block, is_free, has_number, stamp, total, free_sizes, Place, fits, is_taken_before, choose, chosen_place, prepend_if_found, place_of, free_block, ends_live, coalesce, State, is_short_of}
+use Rattle.offset_script.specs.Machine.{Tag, Live, Free, Block, block, is_free, has_number, stamp, total, free_sizes, Place, fits, is_taken_before, choose, chosen_place, prepend, place_of, free_block, ends_live, coalesce, State, is_short_of}
 use Rattle.offset_script.specs.Machine.{max_size}
 use Rattle.offset_script.proofs.Members.{In, in_append, in_left, in_right, map_parts}
 use Rattle.offset_script.proofs.Well.{starts_free, ends_free, AllFree, IsEnd, IsStart, Coalesced, coalesced, coalesce_parts}
@@ -152,7 +152,7 @@ pub data SamePlace (P : Pair → Type 0) (p : List Pair) : Option Place → Opti
   neither : SamePlace P p None None
   both : (xs : List Pair) (q : Pair) (ys : List Pair) → p ≡ xs ++ q ∷ ys → P q → SamePlace P p (Some (record { before = lefts xs; block = left q; after = lefts ys })) (Some (record { before = rights xs; block = right q; after = rights ys }))
 
-same_later : (P : Pair → Type 0) (q : Pair) (p : List Pair) (o o' : Option Place) → SamePlace P p o o' → SamePlace P (q ∷ p) (prepend_if_found (left q) o) (prepend_if_found (right q) o')
+same_later : (P : Pair → Type 0) (q : Pair) (p : List Pair) (o o' : Option Place) → SamePlace P p o o' → SamePlace P (q ∷ p) (option_map (prepend (left q)) o) (option_map (prepend (right q)) o')
 same_later P q p None None neither = neither
 same_later P q p o o' (both xs x ys e f) = both (q ∷ xs) x ys (ap (λ l. q ∷ l) e) f
 

@@ -1,12 +1,12 @@
 -- What holds of every state that the machine reaches.
-use Rattle.std.proofs.Common.{◌≡◌, ◌≢◌, ℕ, zero, suc, ◌+◌, ◌-◌, ◌*◌, ◌<◌, ◌≤◌, Bool, true, false, ◌&&◌, ◌||◌, ◌⊎◌, List, [], ◌∷◌, ◌++◌, length, Option, Some, None, nat_eq, nat_lt, nat_le, if◌then◌else◌, refl, sym, ap, ap₂, subst, ◌∙◌, inl, inr, arith, eq-eqb, ne_eqb, leb-false, length-append, append-nil}
+use Rattle.std.proofs.Common.{◌≡◌, ◌≢◌, ℕ, zero, suc, ◌+◌, ◌-◌, ◌*◌, ◌<◌, ◌≤◌, Bool, true, false, ◌&&◌, ◌||◌, ◌⊎◌, List, [], ◌∷◌, ◌++◌, length, Option, Some, None, option_map, nat_eq, nat_lt, nat_le, if◌then◌else◌, refl, sym, ap, ap₂, subst, ◌∙◌, inl, inr, arith, eq-eqb, ne_eqb, leb-false, length-append, append-nil}
 use Rattle.std.proofs.lemmas.Bool.{cases_eq, cases_lt, true≢false, false≢true}
 use Rattle.std.proofs.lemmas.Bool.Decides.{nat_tests}
 use Rattle.std.specs.List.{AllByRecursion}
 use Rattle.offset_script.specs.declared.scripts.Command.{Command}
 use Rattle.offset_script.specs.declared.scripts.Command.TheVariants as command
 use Rattle.offset_allocator.specs.Classes.{down}
-use Rattle.offset_script.specs.Machine.{Tag, Live, Free, Block, block, is_free, has_number, stamp, total, Place, here, prepend, prepend_if_found, fits, is_taken_before, choose, chosen_place, place_of, free_block, free_start, without_start, free_end, without_end, ends_live, coalesce, State, Answer, Outcome, start, step, answers, after, request, grant, grant_or_refuse, is_short_of, returns_only, leaves, release, size_at, report, reset, extend, stamp_of_call, stamp_of_padding}
+use Rattle.offset_script.specs.Machine.{Tag, Live, Free, Block, block, is_free, has_number, stamp, total, Place, here, prepend, fits, is_taken_before, choose, chosen_place, place_of, free_block, free_start, without_start, free_end, without_end, ends_live, coalesce, State, Answer, Outcome, start, step, answers, after, request, grant, grant_or_refuse, is_short_of, returns_only, leaves, release, size_at, report, reset, extend, stamp_of_call, stamp_of_padding}
 use Rattle.offset_script.specs.Machine as machine
 use Rattle.offset_allocator.specs.Reports.{rows_below}
 use Rattle.offset_script.proofs.Members.{In}
@@ -296,7 +296,7 @@ pub number_hit : (k : ℕ) (t : Tag) → hit (Live k) t ≡ one (has_number k t)
 number_hit k (Live j) = refl
 number_hit k (Free s) = refl
 
-found_step : (k : ℕ) (b : Block) (bs : List Block) (o : Option Place) → FoundAt k bs o → (x : Bool) → has_number k b.tag ≡ x → FoundAt k (b ∷ bs) (if x then Some (here b bs) else prepend_if_found b o)
+found_step : (k : ℕ) (b : Block) (bs : List Block) (o : Option Place) → FoundAt k bs o → (x : Bool) → has_number k b.tag ≡ x → FoundAt k (b ∷ bs) (if x then Some (here b bs) else option_map (prepend b) o)
 unfolding FoundAt
 found_step k b bs o f true e = (refl, e, refl)
 found_step k b bs None f false e = let h : hit (Live k) b.tag ≡ 0 = number_hit k b.tag ∙ ap one e in omega arith
@@ -314,8 +314,8 @@ found_at k bs p e = subst (FoundAt k bs) e (found_all k bs)
 
 -- a grant is found where its number does not occur before
 pub place_at : (k : ℕ) (xs : List Block) (b : Block) (ys : List Block) → count (Live k) xs ≡ 0 → has_number k b.tag ≡ true → place_of k (xs ++ b ∷ ys) ≡ Some (record { before = xs; block = b; after = ys })
-place_at k [] b ys c e = ap (λ x. if x then Some (here b ys) else prepend_if_found b (place_of k ys)) e
-place_at k (x ∷ xs) b ys c e = ap (λ t. if t then Some (here x (xs ++ b ∷ ys)) else prepend_if_found x (place_of k (xs ++ b ∷ ys))) (hit_number k x.tag (omega arith)) ∙ ap (prepend_if_found x) (place_at k xs b ys (omega arith) e)
+place_at k [] b ys c e = ap (λ x. if x then Some (here b ys) else option_map (prepend b) (place_of k ys)) e
+place_at k (x ∷ xs) b ys c e = ap (λ t. if t then Some (here x (xs ++ b ∷ ys)) else option_map (prepend x) (place_of k (xs ++ b ∷ ys))) (hit_number k x.tag (omega arith)) ∙ ap (option_map (prepend x)) (place_at k xs b ys (omega arith) e)
 
 -- where a grant is not found, no block has its number
 pub not_found : (k : ℕ) (bs : List Block) → place_of k bs ≡ None → count (Live k) bs ≡ 0

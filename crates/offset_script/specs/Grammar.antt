@@ -202,10 +202,6 @@ line_end = 10 ∷ []
 abbrev pub row_line : Row → List ℕ
 row_line row = codes "class " ++ decimal row.class ++ codes " size " ++ decimal row.size ++ codes " count " ++ decimal row.count ++ line_end
 
--- the lines of rows
-abbrev pub rows_text : List Row → List ℕ
-rows_text rows = flat_map row_line rows
-
 -- the lines of an answer: one, and of a full report also one for each row
 unfoldable pub lines_of_answer : Answer → List ℕ
 lines_of_answer (machine.Grant number offset) = codes "grant " ++ decimal number ++ codes " at " ++ decimal offset ++ line_end
@@ -214,7 +210,7 @@ lines_of_answer machine.Freed = codes "freed" ++ line_end
 lines_of_answer machine.Gone = codes "gone" ++ line_end
 lines_of_answer (machine.Size n) = codes "size " ++ decimal n ++ line_end
 lines_of_answer (machine.Report free largest) = codes "free " ++ decimal free ++ codes " largest " ++ decimal largest ++ line_end
-lines_of_answer (machine.Full rows) = codes "full " ++ decimal (length rows) ++ line_end ++ rows_text rows
+lines_of_answer (machine.Full rows) = codes "full " ++ decimal (length rows) ++ line_end ++ flat_map row_line rows
 lines_of_answer machine.Reset = codes "reset" ++ line_end
 lines_of_answer machine.Extended = codes "extended" ++ line_end
 

@@ -1,5 +1,5 @@
 -- The plain stamped machine: the space as a list of blocks, commands in, answers out.
-use Rattle.std.specs.Prelude.{◌≡◌, ℕ, zero, suc, ◌+◌, ◌-◌, ◌*◌, ◌%◌, Bool, true, false, ◌&&◌, ◌||◌, List, [], ◌∷◌, ◌++◌, length, map, sum, Option, Some, None, nat_eq, nat_lt, nat_le, if◌then◌else◌}
+use Rattle.std.specs.Prelude.{◌≡◌, ℕ, zero, suc, ◌+◌, ◌-◌, ◌*◌, ◌%◌, Bool, true, false, ◌&&◌, ◌||◌, List, [], ◌∷◌, ◌++◌, length, map, sum, Option, Some, None, option_map, nat_eq, nat_lt, nat_le, if◌then◌else◌}
 use Rattle.offset_allocator.specs.Classes.{up, down}
 use Rattle.offset_allocator.specs.Reports.{largest, Row, rows_below}
 use Rattle.offset_script.specs.declared.scripts.Command.{Command}
@@ -81,15 +81,10 @@ abbrev pub chosen_place : ℕ → List Block → Option Place
 chosen_place n [] = None
 chosen_place n (b ∷ bs) = choose n b bs (chosen_place n bs)
 
--- the same for a place that may be missing
-abbrev pub prepend_if_found : Block → Option Place → Option Place
-prepend_if_found b None = None
-prepend_if_found b (Some p) = Some (prepend b p)
-
 -- the place of the live block of grant k
 abbrev pub place_of : ℕ → List Block → Option Place
 place_of k [] = None
-place_of k (b ∷ bs) = if has_number k b.tag then Some (here b bs) else prepend_if_found b (place_of k bs)
+place_of k (b ∷ bs) = if has_number k b.tag then Some (here b bs) else option_map (prepend b) (place_of k bs)
 
 -- a free block of n units, or nothing where n is 0
 abbrev pub free_block : ℕ → ℕ → List Block
