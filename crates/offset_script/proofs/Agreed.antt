@@ -292,10 +292,14 @@ module _ (v : View) (kept_name : ℕ → Option ℕ) (s : State) (w : IsWellForm
   aligned_agrees n align some u w' r e = subst (Matches u kept_name s.grants r) (sym (aligned_is n align some)) (serve_agrees (blocks_needed align) (units_needed n align) n (padding_to align) u w' r e)
 
   -- a grant that is not live
-  pub gone_agrees : (k : ℕ) → kept_name k ≡ None → ((step (command.Free k) s).answer ≡ machine.Gone) × Agrees v kept_name (step (command.Free k) s).state × ((step (command.Size k) s).answer ≡ machine.Gone)
-  gone_agrees k e =
-      let none : machine.place_of k s.blocks ≡ None = ap (machine.place_of k) g.state ∙ name_missing k g.labels (sym (g.handles k) ∙ e) in
-      (ap (λ (o : Option machine.Place). (machine.release s o).answer) none, subst (λ (o : Option machine.Place). Agrees v kept_name (machine.release s o).state) (sym none) (agrees_quiet v kept_name s g machine.Gone), ap (λ (o : Option machine.Place). machine.size_at o) none)
+  none_there : (k : ℕ) → kept_name k ≡ None → machine.place_of k s.blocks ≡ None
+  none_there k e = ap (machine.place_of k) g.state ∙ name_missing k g.labels (sym (g.handles k) ∙ e)
+
+  pub gone_agrees : (k : ℕ) → kept_name k ≡ None → ((step (command.Free k) s).answer ≡ machine.Gone) × Agrees v kept_name (step (command.Free k) s).state × ((step (command.Free k) s).state.grants ≡ s.grants)
+  gone_agrees k e = subst (λ (o : Option machine.Place). ((machine.release s o).answer ≡ machine.Gone) × Agrees v kept_name (machine.release s o).state × ((machine.release s o).state.grants ≡ s.grants)) (sym (none_there k e)) (refl, agrees_quiet v kept_name s g machine.Gone, refl)
+
+  pub size_gone_agrees : (k : ℕ) → kept_name k ≡ None → (step (command.Size k) s).answer ≡ machine.Gone
+  size_gone_agrees k e = ap machine.size_at (none_there k e)
 
   -- a live grant
   record LiveAt (k x : ℕ) : Type 0 where
@@ -326,12 +330,10 @@ module _ (v : View) (kept_name : ℕ → Option ℕ) (s : State) (w : IsWellForm
   size_agrees k x e = let l = live_at k x e in ap machine.size_at l.placed ∙ ap machine.Size (sym (ap named.size_at l.named ∙ ap (λ t. if not (is_free t) then l.spot.label.size else 0) l.tag))
 
   -- a release
-  pub free_agrees : (k x : ℕ) → kept_name k ≡ Some x → (u : View) → IsWellFormed u → Frees x v u → ((step (command.Free k) s).answer ≡ machine.Freed) × Agrees u (without_name k kept_name) (step (command.Free k) s).state
-  free_agrees k x e u w' f = (
-    ap (λ (o : Option machine.Place). (machine.release s o).answer) l.placed,
-    subst (λ (o : Option machine.Place). Agrees u (without_name k kept_name) (machine.release s o).state) (sym l.placed)
-        (coalesced_agrees u w' sp.before front.0 front.1 (sp.label ∷ []) sp.after back.0 back.1 x sp.label.size v.size l.split front.2 back.2 free.0 free.1 same (without_name k kept_name) handles machine.Freed),
-  )
+  pub free_agrees : (k x : ℕ) → kept_name k ≡ Some x → (u : View) → IsWellFormed u → Frees x v u
+      → ((step (command.Free k) s).answer ≡ machine.Freed) × Agrees u (without_name k kept_name) (step (command.Free k) s).state × ((step (command.Free k) s).state.grants ≡ s.grants)
+  free_agrees k x e u w' f = subst (λ (o : Option machine.Place). ((machine.release s o).answer ≡ machine.Freed) × Agrees u (without_name k kept_name) (machine.release s o).state × ((machine.release s o).state.grants ≡ s.grants)) (sym l.placed)
+      (refl, coalesced_agrees u w' sp.before front.0 front.1 (sp.label ∷ []) sp.after back.0 back.1 x sp.label.size v.size l.split front.2 back.2 free.0 free.1 same (without_name k kept_name) handles machine.Freed, refl)
     where
       l : LiveAt k x
       l = live_at k x e
@@ -428,13 +430,15 @@ module _ (v : View) (kept_name : ℕ → Option ℕ) (s : State) (w : IsWellForm
   abbrev outcome : ℕ → Bool → machine.Outcome
   outcome more b = if b then returns_only s machine.Refused else leaves s (machine.coalesce s.blocks (suc more) (stamp_of_call s) []) machine.Extended
 
-  pub extend_agrees : (more : ℕ) (u : View) (done : Bool) → IsWellFormed u → Extends more v u done → ((step (command.Extend more) s).answer ≡ (if done then machine.Extended else machine.Refused)) × Agrees u kept_name (step (command.Extend more) s).state
-  extend_agrees zero u true w' (inl z) = (refl, agrees_but v u kept_name _ z.1 (agrees_quiet v kept_name s g machine.Extended))
+  pub extend_agrees : (more : ℕ) (u : View) (done : Bool) → IsWellFormed u → Extends more v u done
+      → ((step (command.Extend more) s).answer ≡ (if done then machine.Extended else machine.Refused)) × Agrees u kept_name (step (command.Extend more) s).state × ((step (command.Extend more) s).state.grants ≡ s.grants)
+  extend_agrees zero u true w' (inl z) = (refl, agrees_but v u kept_name _ z.1 (agrees_quiet v kept_name s g machine.Extended), refl)
   extend_agrees zero u true w' (inr h) = absurd (let l = h.0 in omega arith)
   extend_agrees zero u false w' h = absurd (let l = h.0 in omega arith)
   extend_agrees (suc more) u true w' (inl z) = absurd (let l = z.0 in omega arith)
-  extend_agrees (suc more) u true w' (inr h) = subst (λ (o : machine.Outcome). (o.answer ≡ machine.Extended) × Agrees u kept_name o.state) (sym (ap (outcome more) (extendable (suc more) h.1))) (refl, added_agrees (suc more) u w' h.2)
-  extend_agrees (suc more) u false w' h = subst (λ (o : machine.Outcome). (o.answer ≡ machine.Refused) × Agrees u kept_name o.state) (sym (ap (outcome more) (refused (is_refused (suc more)) refl))) (refl, agrees_but v u kept_name _ h.2 (agrees_quiet v kept_name s g machine.Refused))
+  extend_agrees (suc more) u true w' (inr h) = subst (λ (o : machine.Outcome). (o.answer ≡ machine.Extended) × Agrees u kept_name o.state × (o.state.grants ≡ s.grants)) (sym (ap (outcome more) (extendable (suc more) h.1))) (refl, added_agrees (suc more) u w' h.2, refl)
+  extend_agrees (suc more) u false w' h = subst (λ (o : machine.Outcome). (o.answer ≡ machine.Refused) × Agrees u kept_name o.state × (o.state.grants ≡ s.grants)) (sym (ap (outcome more) (refused (is_refused (suc more)) refl)))
+      (refl, agrees_but v u kept_name _ h.2 (agrees_quiet v kept_name s g machine.Refused), refl)
     where
       refused : (b : Bool) → is_refused (suc more) ≡ b → is_refused (suc more) ≡ true
       refused true e = e
