@@ -11,7 +11,7 @@ use Rattle.offset_allocator.specs.Named as named
 use Rattle.offset_allocator.specs.Promises.{HasRoomFor, CanGrant, blocks_needed, units_needed}
 use Rattle.offset_allocator.specs.Relations.{SameSpace, Serves, Frees, Adds, CanExtend, Extends}
 use Rattle.offset_script.specs.Agreement.{Label, by_name, by_tag, stamp_of, IsFalling, name_of, Agrees}
-use Rattle.offset_script.proofs.Well.{Well, count, count-append, hit, hit_self, apart_parts, and_true, end_of, start_of, coalesce_parts, chosen_at}
+use Rattle.offset_script.proofs.Well.{Well, not_there, count, count-append, hit, hit_self, apart_parts, and_true, end_of, start_of, coalesce_parts, chosen_at}
 use Rattle.offset_script.proofs.Well as well
 use Rattle.std.specs.List.{AllByRecursion}
 use Rattle.std.proofs.lemmas.List.{map-append, length-map, get_or-replicate, get_or_past, length-replicate}
@@ -120,7 +120,7 @@ module _ (v : View) (kept_name : ℕ → Option ℕ) (s : State) (w : IsWellForm
   labelled = record { view = g.view; newest = g.newest }
 
   low : (ls : List Label) → g.labels ≡ ls → (x : ℕ) → stamp_of x ls < stamp_of_padding s
-  low ls e = subst (λ ls. (x : ℕ) → stamp_of x ls < stamp_of_padding s) e (stamps_below (stamp_of_padding s) g.labels (λ x. subst (λ bs. named.count_named x bs ≤ 1) g.view (w.distinct x)) (λ x b. subst (λ bs. count (Free x) bs ≡ 0) g.state (ws.stamped x b)) (omega arith))
+  low ls e = subst (λ ls. (x : ℕ) → stamp_of x ls < stamp_of_padding s) e (stamps_below (stamp_of_padding s) g.labels (λ x. subst (λ bs. named.count_named x bs ≤ 1) g.view (w.distinct x)) (λ x b. subst (λ bs. count (Free x) bs ≡ 0) g.state (not_there s ws (Free x) (λ o. absurd (omega arith)))) (omega arith))
 
   newest_at : (ls : List Label) → g.labels ≡ ls → (c : ℕ) → IsFalling (λ x. stamp_of x ls) (names_at v.order c)
   newest_at ls e = subst (λ ls. (c : ℕ) → IsFalling (λ x. stamp_of x ls) (names_at v.order c)) e g.newest
@@ -166,7 +166,7 @@ module _ (v : View) (kept_name : ℕ → Option ℕ) (s : State) (w : IsWellForm
         names_are = names_new front padding sp.label.name n k rest left (stamp_of_padding s) ∙ ap (λ m. free_part front padding ++ used_block sp.label.name n ∷ free_part rest m) (omega arith)
 
         first : name_of k sp.before ≡ None
-        first = name_none k sp.before (omega (arith, ws.granted k (omega arith), ap (count (Live k)) (g.state ∙ ap tags e ∙ map-append by_tag sp.before (sp.label ∷ sp.after)), count-append (Live k) (tags sp.before) (tags (sp.label ∷ sp.after))))
+        first = name_none k sp.before (omega (arith, not_there s ws (Live k) (λ o. absurd (let l = o.1 in omega arith)), ap (count (Live k)) (g.state ∙ ap tags e ∙ map-append by_tag sp.before (sp.label ∷ sp.after)), count-append (Live k) (tags sp.before) (tags (sp.label ∷ sp.after))))
 
         handles : (j : ℕ) → with_name k sp.label.name kept_name j ≡ name_of j (sp.before ++ (new ++ sp.after))
         handles j = elim (cases_eq j k) [

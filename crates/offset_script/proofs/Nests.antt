@@ -192,17 +192,9 @@ number_without_nest_past g j k l = elim (number_without_nest_cases g j k) [ inl 
 number_without_nest_future : (g j k : ℕ) → g + j < k → number_without_nest g j k + j ≡ k
 number_without_nest_future g j k l = elim (number_without_nest_cases g j k) [ inl h ↦ absurd (omega arith) | inr (inl h) ↦ absurd (omega arith) | inr (inr h) ↦ omega arith ]
 
--- the stamps of blocks are below the next, and their numbers are those of grants
-stamp_below : (s : State) → Well s → (x : ℕ) → 1 ≤ count (Free x) s.blocks → x < 2 * (s.calls + 1)
-stamp_below s w x c = elim (cases_lt x (2 * (s.calls + 1))) [ inl l ↦ l | inr l ↦ let o = w.stamped x l in absurd (omega arith) ]
-
-pub number_within : (s : State) → Well s → (k : ℕ) → 1 ≤ count (Live k) s.blocks → (1 ≤ k) × (k ≤ s.grants)
-number_within s w zero c = let o = w.from_one in absurd (omega arith)
-number_within s w (suc k) c = elim (cases_lt s.grants (suc k)) [ inl l ↦ let o = w.granted (suc k) l in absurd (omega arith) | inr l ↦ (omega arith, l) ]
-
 matched_kind : (s t : State) → Well s → Well t → (j : ℕ) (q : Kind) → SameNumber q → 1 ≤ count (left_tag q) t.blocks → 1 ≤ count (right_tag q) s.blocks → Matched (number_without_nest s.grants j) (2 * (t.calls + 1)) (2 * (s.calls + 1)) q
-matched_kind s t w v j (Lives i i') e c d = λ k. let b = number_within s w i' d in subst (λ x. nat_eq k x ≡ nat_eq (number_without_nest s.grants j k) i') (sym e) (number_without_nest_kept s.grants j i' k b.0 b.1)
-matched_kind s t w v j (Frees x y) e c d = (stamp_below t v x c, stamp_below s w y d)
+matched_kind s t w v j (Lives i i') e c d = λ k. let b = w.old (Live i') d in subst (λ x. nat_eq k x ≡ nat_eq (number_without_nest s.grants j k) i') (sym e) (number_without_nest_kept s.grants j i' k b.0 b.1)
+matched_kind s t w v j (Frees x y) e c d = (v.old (Free x) c, w.old (Free y) d)
 
 alike_after : (s t : State) → Well s → Well t → Traceless s t → Alike (number_without_nest s.grants (t.grants - s.grants)) (t.grants - s.grants) t s
 alike_after s t w v m = record {

@@ -31,11 +31,7 @@ live_free_block (suc n) s = refl
 
 live_length : (bs : List Block) → live_blocks bs ≤ length bs
 live_length [] = omega arith
-live_length (b ∷ bs) = let ih = live_length bs in either (is_free b.tag) ih
-  where
-    either : (x : Bool) → live_blocks bs ≤ length bs → (if x then 0 else 1) + live_blocks bs ≤ suc (length bs)
-    either true h = omega arith
-    either false h = omega arith
+live_length (b ∷ bs) = let ih = live_length bs in elim (is_free b.tag) as (λ x. (if x then 0 else 1) + live_blocks bs ≤ suc (length bs)) [ true ↦ omega arith | false ↦ omega arith ]
 
 live_none : (fs : List Block) → AllFree fs → live_blocks fs ≡ 0
 live_none [] f = refl
@@ -85,17 +81,10 @@ adds_all (c ∷ cs) s = let a = adds_step c s in let ih = adds_all cs (step c s)
 -- the live and the free units of a list
 parted : (bs : List Block) → live_units bs + sum (free_sizes bs) ≡ total bs
 parted [] = refl
-parted (b ∷ bs) = let ih = parted bs in either (is_free b.tag) ih
-  where
-    either : (x : Bool) → live_units bs + sum (free_sizes bs) ≡ total bs → ((if x then 0 else b.size) + live_units bs) + sum (if x then b.size ∷ free_sizes bs else free_sizes bs) ≡ b.size + total bs
-    either true ih = one_more ih
-      where
-        one_more : live_units bs + sum (free_sizes bs) ≡ total bs → (0 + live_units bs) + sum (b.size ∷ free_sizes bs) ≡ b.size + total bs
-        one_more ih = let e : sum (b.size ∷ free_sizes bs) ≡ b.size + sum (free_sizes bs) = sum_by-cons (λ n. n) b.size (free_sizes bs) in omega (arith, e, ih)
-    either false ih = one_more ih
-      where
-        one_more : live_units bs + sum (free_sizes bs) ≡ total bs → (b.size + live_units bs) + sum (free_sizes bs) ≡ b.size + total bs
-        one_more ih = omega arith
+parted (b ∷ bs) =
+    let ih = parted bs in
+    let e : sum (b.size ∷ free_sizes bs) ≡ b.size + sum (free_sizes bs) = sum_by-cons (λ n. n) b.size (free_sizes bs) in
+    elim (is_free b.tag) as (λ x. ((if x then 0 else b.size) + live_units bs) + sum (if x then b.size ∷ free_sizes bs else free_sizes bs) ≡ b.size + total bs) [ true ↦ omega (arith, e, ih) | false ↦ omega (arith, ih) ]
 
 pub sums_law : SizesAddUp
 sums_law size limit cs = let p = parted (after cs (start size limit)).blocks in let a = adds_all cs (start size limit) in omega arith

@@ -50,15 +50,22 @@ abbrev pub count : Tag → List Block → ℕ
 count t [] = 0
 count t (b ∷ bs) = hit t b.tag + count t bs
 
+-- the tag of a block that a call before has left
+abbrev pub IsOld : State → Tag → Type 0
+IsOld s (Live k) = (1 ≤ k) × (k ≤ s.grants)
+IsOld s (Free x) = x < stamp_of_padding s
+
 -- what holds of every state that the machine reaches
 pub record Well (s : State) : Type 0 where
   pub some : 1 ≤ length s.blocks
   pub apart : Apart s.blocks
   pub once : (t : Tag) → count t s.blocks ≤ 1
-  pub granted : (k : ℕ) → s.grants < k → count (Live k) s.blocks ≡ 0
-  pub from_one : count (Live 0) s.blocks ≡ 0
-  pub stamped : (x : ℕ) → 2 * (s.calls + 1) ≤ x → count (Free x) s.blocks ≡ 0
+  pub old : (t : Tag) → 1 ≤ count t s.blocks → IsOld s t
   pub room : length s.blocks + 1 ≤ s.limit
+
+-- a tag of a later call is not there
+pub not_there : (s : State) → Well s → (t : Tag) → (IsOld s t → ⊥) → count t s.blocks ≡ 0
+not_there s w t n = elim (cases_lt 0 (count t s.blocks)) [ inl l ↦ absurd (n (w.old t l)) | inr l ↦ omega arith ]
 
 -- the list that was split
 abbrev pub whole : Place → List Block
@@ -244,48 +251,43 @@ apart_coalesce xs n s ys a b =
 
 -- the machine
 pub well_start : (size limit : ℕ) → 2 ≤ limit → Well (start size limit)
-well_start size limit h = record {
-  some = omega arith;
-  apart = (refl, tt);
-  once = λ t. omega (arith, at_most_one (same_tag t (Free 0)));
-  granted = λ k l. refl;
-  from_one = refl;
-  stamped = λ x l. elim (hit_cases x 0) [ inl e ↦ absurd (omega arith) | inr e ↦ omega arith ];
-  room = omega arith;
-}
+well_start size limit h = record { some = omega arith; apart = (refl, tt); once = λ t. omega (arith, at_most_one (same_tag t (Free 0))); old = λ t c. first t c; room = omega arith }
   where
     at_most_one : (b : Bool) → one b ≤ 1
     at_most_one true = omega arith
     at_most_one false = omega arith
 
+    first : (t : Tag) → 1 ≤ hit t (Free 0) + 0 → IsOld (start size limit) t
+    first (Live k) c = absurd (omega arith)
+    first (Free x) c = elim (hit_cases x 0) [ inl e ↦ omega arith | inr e ↦ absurd (omega arith) ]
+
+-- a call after which each tag occurs no more often than before, except for new ones
+module _ (s s' : State) (w : Well s) (news : Tag → ℕ) (counts : (t : Tag) → count t s'.blocks ≤ count t s.blocks + news t) (fresh : (t : Tag) → (news t ≡ 0) ⊎ ((news t ≡ 1) × (IsOld s t → ⊥) × IsOld s' t)) (grants : s.grants ≤ s'.grants) (calls : s.calls ≤ s'.calls) where
+  still_old : (t : Tag) → IsOld s t → IsOld s' t
+  still_old (Live k) o = (o.0, omega (arith, o.1))
+  still_old (Free x) o = omega arith
+
+  well_next : 1 ≤ length s'.blocks → length s'.blocks + 1 ≤ s'.limit → Apart s'.blocks → Well s'
+  well_next some room apart = record {
+    some = some;
+    apart = apart;
+    once = λ t. elim (fresh t) [ inl z ↦ omega (arith, counts t, w.once t) | inr n ↦ omega (arith, counts t, not_there s w t n.1) ];
+    old = λ t c. elim (fresh t) [ inl z ↦ still_old t (w.old t (omega (arith, counts t))) | inr n ↦ n.2 ];
+    room = room;
+  }
+
 -- a call that leaves the blocks as they are
 well_quiet : (s : State) → Well s → (a : Answer) → Well (returns_only s a).state
-well_quiet s w a = record {
-  some = w.some;
-  apart = w.apart;
-  once = w.once;
-  granted = w.granted;
-  from_one = w.from_one;
-  stamped = λ x l. w.stamped x (omega arith);
-  room = w.room;
-}
+well_quiet s w a = well_next s (returns_only s a).state w (λ t. 0) (λ t. omega arith) (λ t. inl refl) (omega arith) (omega arith) w.some w.room w.apart
 
 -- blocks that a call leaves, where each tag occurs no more often than before, except for the stamp of the call
 well_leaves : (s : State) → Well s → (bs : List Block) (a : Answer) → 1 ≤ length bs → length bs + 1 ≤ s.limit → Apart bs
     → ((t : Tag) → count t bs ≤ count t s.blocks + hit t (Free (stamp_of_call s))) → Well (leaves s bs a).state
-well_leaves s w bs a some room apart counts = record {
-  some = some;
-  apart = apart;
-  once = λ t. once_of t (counts t) (w.once t);
-  granted = λ k l. let h = counts (Live k) in let o = w.granted k l in omega arith;
-  from_one = let h = counts (Live 0) in let o = w.from_one in omega arith;
-  stamped = λ x l. let h = counts (Free x) in let o = w.stamped x (omega arith) in elim (hit_cases x (stamp_of_call s)) [ inl e ↦ absurd (omega arith) | inr e ↦ omega arith ];
-  room = room;
-}
+well_leaves s w bs a some room apart counts = well_next s (leaves s bs a).state w (λ t. hit t (Free (stamp_of_call s))) counts fresh (omega arith) (omega arith) some room apart
   where
-    once_of : (t : Tag) → count t bs ≤ count t s.blocks + hit t (Free (stamp_of_call s)) → count t s.blocks ≤ 1 → count t bs ≤ 1
-    once_of (Live k) h o = omega arith
-    once_of (Free x) h o = elim (hit_cases x (stamp_of_call s)) [ inl e ↦ let z = w.stamped x (omega arith) in omega arith | inr e ↦ omega arith ]
+    fresh : (t : Tag) → (hit t (Free (stamp_of_call s)) ≡ 0) ⊎ ((hit t (Free (stamp_of_call s)) ≡ 1) × (IsOld s t → ⊥) × IsOld (leaves s bs a).state t)
+    fresh (Live k) = inl refl
+    fresh (Free x) = elim (hit_cases x (stamp_of_call s)) [ inl e ↦ inr (e.1, λ o. absurd (omega arith), omega arith) | inr e ↦ inl e.1 ]
 
 -- what is found
 FoundAt : ℕ → List Block → Option Place → Type 0
@@ -409,44 +411,23 @@ apart_granted p n padding front k rest f a =
     let beginning : starts_free p.after ≡ false = right_false (is_free p.block.tag) (starts_free p.after) parts.1.0 f in
     apart_append p.before _ parts.0 (apart_free_block padding front _ (refl, apart_free_block _ rest p.after parts.1.1 beginning) refl) (and_false _ _ end)
 
-once_granted : (g x : ℕ) (t : Tag) (old new : ℕ) → new ≤ old + (hit t (Free (2 * x)) + (hit t (Live (g + 1)) + hit t (Free (2 * x + 1)))) → old ≤ 1
-    → ((k : ℕ) → t ≡ Live k → g < k → old ≡ 0) → ((y : ℕ) → t ≡ Free y → 2 * x ≤ y → old ≡ 0) → new ≤ 1
-once_granted g x (Live k) old new h o live free = elim (hit_cases k (g + 1)) [
-  | inl e ↦ let z = live k refl (omega arith) in omega arith
-  | inr e ↦ omega arith
-]
-once_granted g x (Free y) old new h o live free = elim (hit_cases y (2 * x)) [
-  | inl e ↦ let z = free y refl (omega arith) in elim (hit_cases y (2 * x + 1)) [ inl e' ↦ absurd (omega arith) | inr e' ↦ omega arith ]
-  | inr e ↦ elim (hit_cases y (2 * x + 1)) [ inl e' ↦ let z = free y refl (omega arith) in omega arith | inr e' ↦ omega arith ]
-]
-
 -- a grant
 well_grant : (s : State) → Well s → (n padding : ℕ) (p : Place) → s.blocks ≡ whole p → is_free p.block.tag ≡ true → (spare : ℕ) → length s.blocks + spare < s.limit
     → length (free_block padding (stamp_of_padding s)) + 1 ≤ spare → Well (grant s n padding p).state
-well_grant s w n padding p e f spare room enough =
-    let counts : (t : Tag) → count t bs ≤ count t s.blocks + (hit t (Free (stamp_of_padding s)) + (hit t (Live (s.grants + 1)) + hit t (Free (stamp_of_call s)))) =
-    λ t. omega (arith, count_granted t p n padding (stamp_of_padding s) (s.grants + 1) (stamp_of_call s), ap (count t) e) in
-    record {
-      some = omega (arith, sizes);
-      apart = apart_granted p n padding _ _ _ f (subst Apart e w.apart);
-      once = λ t. once_granted s.grants (s.calls + 1) t (count t s.blocks) (count t bs) (counts t) (w.once t)
-          (λ k same l. subst (λ x. count x s.blocks ≡ 0) (sym same) (w.granted k l))
-          (λ y same l. subst (λ x. count x s.blocks ≡ 0) (sym same) (w.stamped y l));
-      granted = λ k l. let h = counts (Live k) in let o = w.granted k (omega arith) in elim (hit_cases k (s.grants + 1)) [ inl e' ↦ absurd (omega arith) | inr e' ↦ omega arith ];
-      from_one = let h = counts (Live 0) in let o = w.from_one in elim (hit_cases 0 (s.grants + 1)) [ inl e' ↦ absurd (omega arith) | inr e' ↦ omega arith ];
-      stamped = λ x l. let h = counts (Free x) in let o = w.stamped x (omega arith) in
-          elim (hit_cases x (stamp_of_padding s)) [
-            | inl e' ↦ absurd (omega arith)
-            | inr e' ↦ elim (hit_cases x (stamp_of_call s)) [ inl e'' ↦ absurd (omega arith) | inr e'' ↦ omega arith ]
-          ];
-      room = omega (arith, sizes, ap length e, length-append p.before (p.block ∷ p.after), free_block_short (p.block.size - (padding + n)) (stamp_of_call s));
-    }
+well_grant s w n padding p e f spare room enough = well_next s (grant s n padding p).state w (λ t. hit t (Free (stamp_of_padding s)) + (hit t (Live (s.grants + 1)) + hit t (Free (stamp_of_call s))))
+    (λ t. omega (arith, count_granted t p n padding (stamp_of_padding s) (s.grants + 1) (stamp_of_call s), ap (count t) e)) fresh (omega arith) (omega arith)
+    (omega (arith, sizes)) (omega (arith, sizes, ap length e, length-append p.before (p.block ∷ p.after), free_block_short (p.block.size - (padding + n)) (stamp_of_call s))) (apart_granted p n padding _ _ _ f (subst Apart e w.apart))
   where
-    bs : List Block
-    bs = granted_blocks p n padding (stamp_of_padding s) (s.grants + 1) (stamp_of_call s)
-
-    sizes : length bs ≡ length p.before + (length (free_block padding (stamp_of_padding s)) + suc (length (free_block (p.block.size - (padding + n)) (stamp_of_call s)) + length p.after))
+    sizes : length (granted_blocks p n padding (stamp_of_padding s) (s.grants + 1) (stamp_of_call s)) ≡ length p.before + (length (free_block padding (stamp_of_padding s)) + suc (length (free_block (p.block.size - (padding + n)) (stamp_of_call s)) + length p.after))
     sizes = simp length-append
+
+    fresh : (t : Tag) → (hit t (Free (stamp_of_padding s)) + (hit t (Live (s.grants + 1)) + hit t (Free (stamp_of_call s))) ≡ 0)
+        ⊎ ((hit t (Free (stamp_of_padding s)) + (hit t (Live (s.grants + 1)) + hit t (Free (stamp_of_call s))) ≡ 1) × (IsOld s t → ⊥) × IsOld (grant s n padding p).state t)
+    fresh (Live k) = elim (hit_cases k (s.grants + 1)) [ inl e ↦ inr (omega (arith, e.1), λ o. absurd (omega (arith, o.1, e.0)), (omega arith, omega arith)) | inr e ↦ inl (omega (arith, e.1)) ]
+    fresh (Free x) = elim (hit_cases x (stamp_of_padding s)) [
+      | inl e ↦ elim (hit_cases x (stamp_of_call s)) [ inl h ↦ absurd (omega (arith, e.0, h.0)) | inr h ↦ inr (omega (arith, e.1, h.1), λ o. absurd (omega arith), omega (arith, e.0)) ]
+      | inr e ↦ elim (hit_cases x (stamp_of_call s)) [ inl h ↦ inr (omega (arith, e.1, h.1), λ o. absurd (omega (arith, o, h.0)), omega (arith, h.0)) | inr h ↦ inl (omega (arith, e.1, h.1)) ]
+    ]
 
 -- coalescing leaves some block, and at most one more
 pub length_coalesce : (xs : List Block) (n s : ℕ) (ys : List Block) → (1 ≤ length (coalesce xs n s ys)) × (length (coalesce xs n s ys) ≤ length xs + suc (length ys))
