@@ -11,7 +11,7 @@ use Rattle.offset_allocator.specs.Named as named
 use Rattle.offset_allocator.specs.Promises.{HasRoomFor, CanGrant, blocks_needed, units_needed}
 use Rattle.offset_allocator.specs.Relations.{SameSpace, Serves, Frees, Adds, CanExtend, Extends}
 use Rattle.offset_script.specs.Agreement.{Label, by_name, by_tag, stamp_of, IsFalling, name_of, Agrees}
-use Rattle.offset_script.proofs.Well.{Well, not_there, count, count-append, hit, hit_self, apart_parts, and_true, end_of, start_of, coalesce_parts, chosen_at}
+use Rattle.offset_script.proofs.Well.{Well, found_at, not_found, number_of, not_there, count, count-append, hit, hit_self, apart_parts, and_true, end_of, start_of, coalesce_parts, chosen_at}
 use Rattle.offset_script.proofs.Well as well
 use Rattle.std.specs.List.{AllByRecursion}
 use Rattle.std.proofs.lemmas.List.{map-append, length-map, get_or-replicate, get_or_past, length-replicate}
@@ -19,8 +19,8 @@ use Rattle.offset_allocator.proofs.ViewOrders.{tally_append, names_same, names_o
 use Rattle.offset_allocator.proofs.Sizes.{down_small, fits_size}
 use Rattle.offset_script.proofs.Members.{map_parts, map_first}
 use Rattle.offset_script.proofs.Labels.{names, tags, map_three, stamps_below, Rises, newest_replaced}
-use Rattle.offset_script.proofs.Chosen.{Spot, whole, place_at, named_spot, named_place, plain_place, some_same, IsLabelled, none_chosen, chosen, place_of_spot}
-use Rattle.offset_script.proofs.Ends.{AllFree, free_named, free_tagged, apart_tagged, ends_live_last, last_free, total_units, length_labels, free_sizes_labels, or_else, or_none, name_append, name_skip, name_free, name_none, name_missing, name_found}
+use Rattle.offset_script.proofs.Chosen.{Spot, whole, place_at, named_spot, plain_spot, named_place, plain_place, some_same, IsLabelled, none_chosen, chosen, place_of_spot}
+use Rattle.offset_script.proofs.Ends.{AllFree, free_named, free_tagged, apart_tagged, ends_live_last, last_free, total_units, length_labels, free_sizes_labels, or_else, or_none, name_append, name_skip, name_free, name_none}
 use Rattle.offset_script.proofs.Tests.{both_true, and_false_right, or_false, not_false}
 
 -- the answer to a request, when g grants were made before it
@@ -291,17 +291,7 @@ module _ (v : View) (kept_name : ℕ → Option ℕ) (s : State) (w : IsWellForm
   pub aligned_agrees : (n align : ℕ) → 1 ≤ align → (u : View) → IsWellFormed u → (r : Option Grant) → Serves (blocks_needed align) (units_needed n align) n (padding_to align) v u r → Matches u kept_name s.grants r (step (command.Align n align) s)
   aligned_agrees n align some u w' r e = subst (Matches u kept_name s.grants r) (sym (aligned_is n align some)) (serve_agrees (blocks_needed align) (units_needed n align) n (padding_to align) u w' r e)
 
-  -- a grant that is not live
-  none_there : (k : ℕ) → kept_name k ≡ None → machine.place_of k s.blocks ≡ None
-  none_there k e = ap (machine.place_of k) g.state ∙ name_missing k g.labels (sym (g.handles k) ∙ e)
-
-  pub gone_agrees : (k : ℕ) → kept_name k ≡ None → ((step (command.Free k) s).answer ≡ machine.Gone) × Agrees v kept_name (step (command.Free k) s).state × ((step (command.Free k) s).state.grants ≡ s.grants)
-  gone_agrees k e = subst (λ (o : Option machine.Place). ((machine.release s o).answer ≡ machine.Gone) × Agrees v kept_name (machine.release s o).state × ((machine.release s o).state.grants ≡ s.grants)) (sym (none_there k e)) (refl, agrees_quiet v kept_name s g machine.Gone, refl)
-
-  pub size_gone_agrees : (k : ℕ) → kept_name k ≡ None → (step (command.Size k) s).answer ≡ machine.Gone
-  size_gone_agrees k e = ap machine.size_at (none_there k e)
-
-  -- a live grant
+  -- a live grant, whose block has the name x
   record LiveAt (k x : ℕ) : Type 0 where
     spot : Spot
     split : g.labels ≡ whole spot
@@ -310,18 +300,38 @@ module _ (v : View) (kept_name : ℕ → Option ℕ) (s : State) (w : IsWellForm
     placed : machine.place_of k s.blocks ≡ Some (plain_place spot)
     first : name_of k spot.before ≡ None
 
+  live_spot : (k : ℕ) (p : machine.Place) → machine.place_of k s.blocks ≡ Some p → (x : ℕ) × (kept_name k ≡ Some x) × LiveAt k x
+  live_spot k p e =
+      let h = found_at k s.blocks p e in
+      let r = plain_spot g.labels p (sym g.state ∙ h.0) in
+      let tag = number_of k r.0.label.tag (ap (λ (q : machine.Place). has_number k q.block.tag) r.2 ∙ h.1) in
+      let first = name_none k r.0.before (ap (λ (q : machine.Place). count (Live k) q.before) r.2 ∙ h.2) in (
+        r.0.label.name,
+        g.handles k ∙ ap (name_of k) r.1 ∙ name_append k r.0.before (r.0.label ∷ r.0.after) ∙ ap (λ o. or_else o (name_of k (r.0.label ∷ r.0.after))) first
+            ∙ ap (λ t. if has_number k t then Some r.0.label.name else name_of k r.0.after) tag ∙ ap (λ (b : Bool). if b then Some r.0.label.name else name_of k r.0.after) (eq-eqb k k refl),
+        record { spot = r.0; split = r.1; tag = tag; named = place_of_spot v w r.0 (g.view ∙ ap names r.1); placed = e ∙ ap Some (sym r.2); first = first },
+      )
+
   live_at : (k x : ℕ) → kept_name k ≡ Some x → LiveAt k x
-  live_at k x e =
-      let r = name_found k x g.labels (sym (g.handles k) ∙ e) in
-      let sp : Spot = record { before = r.0; label = r.1; after = r.2 } in
-      record {
-        spot = sp;
-        split = r.3;
-        tag = r.5;
-        named = ap (λ y. place_of y v.blocks) (sym r.4) ∙ place_of_spot v w sp (g.view ∙ ap names r.3);
-        placed = ap (machine.place_of k) g.state ∙ r.6;
-        first = r.7;
-      }
+  live_at k x e = go (machine.place_of k s.blocks) refl
+    where
+      go : (o : Option machine.Place) → machine.place_of k s.blocks ≡ o → LiveAt k x
+      go None f = absurd (let n = sym (g.handles k ∙ name_none k g.labels (ap (count (Live k)) (sym g.state) ∙ not_found k s.blocks f)) ∙ e in cc)
+      go (Some p) f = let r = live_spot k p f in let n = sym r.1 ∙ e in subst (LiveAt k) (cc) r.2
+
+  -- a grant that is not live
+  none_there : (k : ℕ) → kept_name k ≡ None → machine.place_of k s.blocks ≡ None
+  none_there k e = go (machine.place_of k s.blocks) refl
+    where
+      go : (o : Option machine.Place) → machine.place_of k s.blocks ≡ o → machine.place_of k s.blocks ≡ None
+      go None f = f
+      go (Some p) f = absurd (let n = sym (live_spot k p f).1 ∙ e in cc)
+
+  pub gone_agrees : (k : ℕ) → kept_name k ≡ None → ((step (command.Free k) s).answer ≡ machine.Gone) × Agrees v kept_name (step (command.Free k) s).state × ((step (command.Free k) s).state.grants ≡ s.grants)
+  gone_agrees k e = subst (λ (o : Option machine.Place). ((machine.release s o).answer ≡ machine.Gone) × Agrees v kept_name (machine.release s o).state × ((machine.release s o).state.grants ≡ s.grants)) (sym (none_there k e)) (refl, agrees_quiet v kept_name s g machine.Gone, refl)
+
+  pub size_gone_agrees : (k : ℕ) → kept_name k ≡ None → (step (command.Size k) s).answer ≡ machine.Gone
+  size_gone_agrees k e = ap machine.size_at (none_there k e)
 
   pub live_agrees : (k x : ℕ) → kept_name k ≡ Some x → named.is_used_at (place_of x v.blocks) ≡ true
   live_agrees k x e = let l = live_at k x e in ap named.is_used_at l.named ∙ ap (λ t. not (is_free t)) l.tag

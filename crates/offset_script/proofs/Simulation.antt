@@ -1,5 +1,5 @@
 -- A player simulates the plain machine, call by call.
-use Rattle.std.proofs.Common.{◌≡◌, ℕ, zero, suc, ◌+◌, ◌-◌, ◌%◌, ◌^◌, ◌<◌, ◌≤◌, Bool, true, false, ◌&&◌, ◌||◌, nat_lt, List, [], ◌∷◌, ◌++◌, map, length, Option, Some, None, Result, Ok, Err, IfOk, slice_index_or, slice_set, get_or, if◌then◌else◌, refl, sym, ap, ap₂, subst, ◌∙◌, inl, inr, arith, eq-eqb, ne_eqb, add-one, length-append, append-nil}
+use Rattle.std.proofs.Common.{◌≡◌, ℕ, zero, suc, ◌+◌, ◌-◌, ◌%◌, ◌^◌, ◌<◌, ◌≤◌, Bool, List, [], ◌∷◌, ◌++◌, map, length, Option, Some, None, Result, Ok, Err, IfOk, slice_index_or, slice_set, get_or, if◌then◌else◌, refl, sym, ap, ap₂, subst, ◌∙◌, inl, inr, arith, eq-eqb, ne_eqb, add-one, length-append, append-nil}
 use Rattle.std.proofs.lemmas.List.{map-append, get_or-set_same, get_or-set_other, get_or_past, length-set}
 use Rattle.std.proofs.Math.ListN.{get_or-append}
 use Rattle.std.proofs.Math.Seq.{get_or-append_seam}
@@ -16,7 +16,7 @@ use Rattle.offset_allocator.specs.Named.{View, Grant, total_free, largest_free, 
 use Rattle.offset_script.specs.Agreement.{Agrees, IsReached, name_in, kept_name}
 use Rattle.offset_allocator.specs.Relations.{IsFresh, Allocates, Aligns, Frees, Extends, Resets}
 use Rattle.offset_script.proofs.Well.{Well, well_start, well_after}
-use Rattle.offset_script.proofs.Agreed.{with_name, without_name, kept_after, grant_count_after, Matches, serve_agrees, aligned_agrees, extend_agrees, free_agrees, live_agrees, gone_agrees, size_gone_agrees, size_agrees, report_agrees, full_agrees, agrees_quiet, agrees_kept, alone_agrees, same_units}
+use Rattle.offset_script.proofs.Agreed.{with_name, without_name, Matches, serve_agrees, aligned_agrees, extend_agrees, free_agrees, live_agrees, gone_agrees, size_gone_agrees, size_agrees, report_agrees, full_agrees, agrees_quiet, agrees_kept, alone_agrees, same_units}
 use Rattle.offset_script.specs.declared.answers.Answer as program
 use Rattle.offset_script.specs.declared.answers.Answer.TheVariants as program_answer
 use Rattle.offset_script.specs.declared.answers.FullRow.{FullRow}
@@ -66,8 +66,7 @@ request_simulates c v w formed hs left None a alike k = simulates c v w hs left 
     (ap answer_view k.1 ∙ sym m.answer, agrees_kept _ (kept_name hs) _ _ (λ j. ap (λ l. kept_name l j) k.0) m.agrees, ap length k.0 ∙ len ∙ sym m.grants_after))
 request_simulates c v w formed hs left (Some h) a alike k = simulates c v w hs left a (λ s st. formed) (λ s f ws g len.
     let m = alike s f ws g in
-    let count = ap length k.0 ∙ length-append hs (Some h ∷ []) ∙ ap (λ n. n + 1) len in
-    (
+    let count = ap length k.0 ∙ length-append hs (Some h ∷ []) ∙ ap (λ n. n + 1) len in (
       ap answer_view k.1 ∙ ap (λ n. machine.Grant n h.offset) count ∙ sym m.answer,
       agrees_kept _ (with_name (s.grants + 1) h.name (kept_name hs)) _ _ (λ j. ap (λ l. kept_name l j) k.0 ∙ kept_push hs h j ∙ ap (λ n. with_name (n + 1) h.name (kept_name hs) j) len) m.agrees,
       count ∙ sym m.grants_after,
@@ -140,13 +139,12 @@ none_kept hs none (suc k) = elim (cases_lt k (length hs)) [ inl l ↦ ap name_in
 
 -- a reset, where no handle is left
 pub reset_simulates : (v w : View) → IsWellFormed w → (hs left : List (Option Grant)) → Resets v w → length left ≡ length hs → ((i : ℕ) → i < length left → slice_index_or left i None ≡ None) → Simulates v hs w left command.Reset program_answer.Reset
-reset_simulates v w formed hs left r len none = simulates command.Reset v w hs left program_answer.Reset (λ s st. formed) (λ s f ws g count.
-    (
-      refl,
-      alone_agrees w r.name v.size (machine.stamp_of_call s) (kept_name left) _ (ap (λ (u : View). u.blocks) r.view) (ap (λ (u : View). u.order) r.view) (g.limit ∙ sym (ap (λ (u : View). u.max_allocs) r.view))
-          (ap (λ n. machine.block n (machine.Free (machine.stamp_of_call s)) ∷ []) (sym (same_units v (kept_name hs) s f ws g) ∙ f.whole)) (none_kept left none),
-      len ∙ count,
-    ))
+reset_simulates v w formed hs left r len none = simulates command.Reset v w hs left program_answer.Reset (λ s st. formed) (λ s f ws g count. (
+  refl,
+  alone_agrees w r.name v.size (machine.stamp_of_call s) (kept_name left) _ (ap (λ (u : View). u.blocks) r.view) (ap (λ (u : View). u.order) r.view) (g.limit ∙ sym (ap (λ (u : View). u.max_allocs) r.view))
+      (ap (λ n. machine.block n (machine.Free (machine.stamp_of_call s)) ∷ []) (sym (same_units v (kept_name hs) s f ws g) ∙ f.whole)) (none_kept left none),
+  len ∙ count,
+))
 
 -- a fresh space represents the first state
 pub fresh_represents : (w : View) → IsWellFormed w → (size limit : ℕ) (hs : List (Option Grant)) → IsFresh size limit w → hs ≡ [] → Represents w hs (start size limit)

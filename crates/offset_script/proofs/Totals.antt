@@ -1,5 +1,5 @@
 -- The sums of sizes, and the numbers of live blocks, that every call keeps.
-use Rattle.std.proofs.Common.{◌≡◌, ℕ, zero, suc, ◌+◌, ◌-◌, ◌≤◌, Bool, true, false, ◌&&◌, ◌||◌, List, [], ◌∷◌, ◌++◌, length, nat_le, nat_lt, if◌then◌else◌, refl, sym, ap, subst, ◌∙◌, inl, inr, arith, le-leb, length-append, sum}
+use Rattle.std.proofs.Common.{◌≡◌, ℕ, zero, suc, ◌+◌, ◌-◌, ◌≤◌, true, false, ◌&&◌, ◌||◌, List, [], ◌∷◌, ◌++◌, length, nat_le, nat_lt, if◌then◌else◌, refl, sym, ap, subst, ◌∙◌, inl, inr, arith, le-leb, length-append, sum}
 use Rattle.std.proofs.lemmas.List.Sums.{sum_by-cons}
 use Rattle.offset_script.specs.Machine.{max_size, padding_to}
 use Rattle.offset_allocator.specs.Reports.{largest}
