@@ -9,7 +9,7 @@ use Rattle.offset_script.specs.Machine.{Live, Block, total, Place, place_of, end
 use Rattle.offset_script.specs.Machine as machine
 use Rattle.offset_script.specs.Histories.{KeepsSpace}
 use Rattle.offset_script.specs.Totals.{requested_units}
-use Rattle.offset_script.proofs.Well.{Well, count, whole, chosen_at, count-append, not_found}
+use Rattle.offset_script.proofs.Well.{Well, not_there, count, whole, chosen_at, count-append, not_found}
 use Rattle.offset_script.proofs.Nests.{IsQuiet, does, Granted}
 use Rattle.offset_lives.specs.Lives.{Life, life_of_answer, lives_from, lives_of, range_of, blocks_after, is_on, IsSeen}
 use Rattle.offset_lives.specs.Lives as lives
@@ -141,7 +141,7 @@ grant_says c s w d =
     )
   where
     none : (p : Place) → s.blocks ≡ whole p → count (Live (s.grants + 1)) p.before ≡ 0
-    none p e = let g = w.granted (s.grants + 1) (omega arith) in let a = count-append (Live (s.grants + 1)) p.before (p.block ∷ p.after) in omega (arith, g, a, ap (count (Live (s.grants + 1))) e)
+    none p e = let g = not_there s w (Live (s.grants + 1)) (λ o. absurd (let l = o.1 in omega arith)) in let a = count-append (Live (s.grants + 1)) p.before (p.block ∷ p.after) in omega (arith, g, a, ap (count (Live (s.grants + 1))) e)
 
 keeping_says : (c : Command) (s : State) → Well s → KeepsSpace c → Says c s (step c s)
 keeping_says c s w keeps = elim (does c s keeps) [

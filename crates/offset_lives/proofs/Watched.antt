@@ -10,7 +10,7 @@ use Rattle.offset_script.specs.Machine as machine
 use Rattle.offset_script.proofs.Asking.{after_question}
 use Rattle.offset_script.proofs.Nests.{after-append}
 use Rattle.offset_script.specs.declared.answers.Answer as program
-use Rattle.offset_script.specs.Answers.{answer_view}
+use Rattle.offset_script.specs.Machine.{answer_view}
 use Rattle.offset_lives.specs.Reported.{report_view, reports_from, reports_of, with_reports}
 
 -- any commands have the same answers

@@ -9,7 +9,7 @@ use Rattle.offset_script.specs.declared.scripts.Command.{Command}
 use Rattle.offset_script.specs.Machine.{State, Answer, start, step, answers, after}
 use Rattle.offset_script.specs.Machine as machine
 use Rattle.offset_script.specs.Totals.{requested_units}
-use Rattle.offset_script.proofs.Well.{Well, well_start, well_step}
+use Rattle.offset_script.proofs.Well.{Well, not_there, well_start, well_step}
 use Rattle.offset_lives.specs.Lives.{Life, leaves, life_of_answer, end_from, lives_from, lives_of, range_of, is_on, LivesAreSeen}
 use Rattle.offset_lives.proofs.Ranges.{range_none}
 use Rattle.offset_lives.proofs.Seen.{grants_of, call_keeps, call_ends, call_counts, call_grants}
@@ -60,7 +60,7 @@ pub record Shown (j : ℕ) (cs : List Command) (s : State) (l : Life) : Type 0 w
   pub seen : (i : ℕ) → i ≤ length cs → range_of l.number 0 (after (take i cs) s).blocks ≡ (if is_on (j + i) l then Some (l.offset, l.size) else None)
 
 not_yet : (s : State) → Well s → (l : Life) (i : ℕ) → s.grants < l.number → i ≤ l.first → range_of l.number 0 s.blocks ≡ (if is_on i l then Some (l.offset, l.size) else None)
-not_yet s w l i later early = range_none l.number 0 s.blocks (w.granted l.number later)
+not_yet s w l i later early = range_none l.number 0 s.blocks (not_there s w (machine.Live l.number) (λ o. absurd (let m = o.1 in omega arith)))
     ∙ ap (λ b. if b && nat_le i l.last then Some (l.offset, l.size) else None) (sym (off l.first i early))
   where
     off : (x y : ℕ) → y ≤ x → nat_lt x y ≡ false

@@ -1,7 +1,7 @@
 //! The lives of grants.
 
 ghost use Rattle.std.specs.Prelude.{◌≡◌, ℕ, ◌+◌, ◌-◌, ◌^◌, ◌<◌, ◌≤◌, All, AllPairs, IfOk, map, reverse, option_map, option_to_list, if◌then◌else◌};
-ghost use Rattle.offset_script.specs.Answers.{answer_view};
+ghost use Rattle.offset_script.specs.Machine.{answer_view};
 ghost use Rattle.offset_script.specs.Machine as machine;
 ghost use Rattle.offset_script.specs.Totals.{requested_units};
 ghost use Rattle.offset_lives.specs.Ends.{grants_in, end_in};

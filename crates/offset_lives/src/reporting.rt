@@ -1,7 +1,7 @@
 //! The reports between the commands of a script.
 
 ghost use Rattle.std.specs.Prelude.{◌≡◌, ℕ, All, IfOk, IsTrue, map, option_map};
-ghost use Rattle.offset_script.specs.Answers.{answer_view};
+ghost use Rattle.offset_script.specs.Machine.{answer_view};
 ghost use Rattle.offset_script.specs.Grammar.{has_valid_alignment};
 ghost use Rattle.offset_script.specs.Machine as machine;
 ghost use Rattle.offset_lives.specs.Reported.{reports_of, report_view, with_reports};

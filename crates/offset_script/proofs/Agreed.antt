@@ -4,23 +4,47 @@ use Rattle.std.proofs.lemmas.Bool.{cases_eq, cases_lt, true≢false, false≢tru
 use Rattle.offset_allocator.specs.Classes.{up, down}
 use Rattle.offset_allocator.specs.Reports.{largest, rows_below}
 use Rattle.offset_script.specs.declared.scripts.Command.TheVariants as command
-use Rattle.offset_script.specs.Machine.{Tag, Live, Free, is_free, has_number, stamp, total, chosen_place, State, Answer, step, returns_only, leaves, stamp_of_padding, stamp_of_call}
+use Rattle.offset_script.specs.Machine.{max_size, padding_to, Tag, Live, Free, is_free, has_number, stamp, total, chosen_place, State, Answer, step, returns_only, leaves, stamp_of_padding, stamp_of_call}
 use Rattle.offset_script.specs.Machine as machine
-use Rattle.offset_allocator.specs.Named.{Block, View, Place, Grant, place_of, tally, one, units, times, count_listed, used_block, free_block, free_part, names_at, push_all, remove_all, IsWellFormed, replace, max_size, padding_to}
+use Rattle.offset_allocator.specs.Named.{Block, View, Place, Grant, place_of, tally, one, units, times, count_listed, used_block, free_block, free_part, names_at, push_all, remove_all, IsWellFormed, replace}
 use Rattle.offset_allocator.specs.Named as named
 use Rattle.offset_allocator.specs.Promises.{HasRoomFor, CanGrant, blocks_needed, units_needed}
 use Rattle.offset_allocator.specs.Relations.{SameSpace, Serves, Frees, Adds, CanExtend, Extends}
-use Rattle.offset_script.specs.Agreement.{Label, by_name, by_tag, stamp_of, IsFalling, name_of, Agrees, answer_of, with_name, without_name, kept_after, grant_count_after}
-use Rattle.offset_script.proofs.Well.{Well, both_true, and_false_right, count, count-append, hit, hit_self, apart_parts, and_true, end_of, start_of, coalesce_parts, chosen_at}
+use Rattle.offset_script.specs.Agreement.{Label, by_name, by_tag, stamp_of, IsFalling, name_of, Agrees}
+use Rattle.offset_script.proofs.Well.{Well, found_at, not_found, number_of, not_there, count, count-append, hit, hit_self, apart_parts, and_true, end_of, start_of, coalesce_parts, chosen_at}
 use Rattle.offset_script.proofs.Well as well
 use Rattle.std.specs.List.{AllByRecursion}
 use Rattle.std.proofs.lemmas.List.{map-append, length-map, get_or-replicate, get_or_past, length-replicate}
 use Rattle.offset_allocator.proofs.ViewOrders.{tally_append, names_same, names_other}
 use Rattle.offset_allocator.proofs.Sizes.{down_small, fits_size}
 use Rattle.offset_script.proofs.Members.{map_parts, map_first}
-use Rattle.offset_script.proofs.Labels.{names, tags, map_three, stamps_below, Rises, newest_replaced, not_false}
-use Rattle.offset_script.proofs.Chosen.{Spot, whole, place_at, named_spot, named_place, plain_place, some_same, IsLabelled, none_chosen, chosen, place_of_spot}
-use Rattle.offset_script.proofs.Ends.{AllFree, free_named, free_tagged, apart_tagged, ends_live_last, last_free, total_units, length_labels, free_sizes_labels, or_else, or_none, name_append, name_skip, name_free, name_none, name_missing, name_found}
+use Rattle.offset_script.proofs.Labels.{names, tags, map_three, stamps_below, Rises, newest_replaced}
+use Rattle.offset_script.proofs.Chosen.{Spot, whole, place_at, named_spot, plain_spot, named_place, plain_place, some_same, IsLabelled, none_chosen, chosen, place_of_spot}
+use Rattle.offset_script.proofs.Ends.{AllFree, free_named, free_tagged, apart_tagged, ends_live_last, last_free, total_units, length_labels, free_sizes_labels, or_else, or_none, name_append, name_skip, name_free, name_none}
+use Rattle.offset_script.proofs.Tests.{both_true, and_false_right, or_false, not_false}
+
+-- the answer to a request, when g grants were made before it
+abbrev pub answer_of : ℕ → Option Grant → Answer
+answer_of g None = machine.Refused
+answer_of g (Some a) = machine.Grant (g + 1) a.offset
+
+-- the kept names, with x as that of grant k
+abbrev pub with_name : ℕ → ℕ → (ℕ → Option ℕ) → ℕ → Option ℕ
+with_name k x kept_name j = if nat_eq j k then Some x else kept_name j
+
+-- the kept names, without that of grant k
+abbrev pub without_name : ℕ → (ℕ → Option ℕ) → ℕ → Option ℕ
+without_name k kept_name j = if nat_eq j k then None else kept_name j
+
+-- the names kept after a request, when g grants were made before it
+abbrev pub kept_after : ℕ → Option Grant → (ℕ → Option ℕ) → ℕ → Option ℕ
+kept_after g None kept_name = kept_name
+kept_after g (Some a) kept_name = with_name (g + 1) a.name kept_name
+
+-- the grants made after a request, when g were made before it
+abbrev pub grant_count_after : ℕ → Option Grant → ℕ
+grant_count_after g None = g
+grant_count_after g (Some a) = g + 1
 
 -- a call that leaves the blocks as they are
 pub agrees_quiet : (v : View) (kept_name : ℕ → Option ℕ) (s : State) → Agrees v kept_name s → (a : Answer) → Agrees v kept_name (returns_only s a).state
@@ -96,7 +120,7 @@ module _ (v : View) (kept_name : ℕ → Option ℕ) (s : State) (w : IsWellForm
   labelled = record { view = g.view; newest = g.newest }
 
   low : (ls : List Label) → g.labels ≡ ls → (x : ℕ) → stamp_of x ls < stamp_of_padding s
-  low ls e = subst (λ ls. (x : ℕ) → stamp_of x ls < stamp_of_padding s) e (stamps_below (stamp_of_padding s) g.labels (λ x. subst (λ bs. named.count_named x bs ≤ 1) g.view (w.distinct x)) (λ x b. subst (λ bs. count (Free x) bs ≡ 0) g.state (ws.stamped x b)) (omega arith))
+  low ls e = subst (λ ls. (x : ℕ) → stamp_of x ls < stamp_of_padding s) e (stamps_below (stamp_of_padding s) g.labels (λ x. subst (λ bs. named.count_named x bs ≤ 1) g.view (w.distinct x)) (λ x b. subst (λ bs. count (Free x) bs ≡ 0) g.state (not_there s ws (Free x) (λ o. absurd (omega arith)))) (omega arith))
 
   newest_at : (ls : List Label) → g.labels ≡ ls → (c : ℕ) → IsFalling (λ x. stamp_of x ls) (names_at v.order c)
   newest_at ls e = subst (λ ls. (c : ℕ) → IsFalling (λ x. stamp_of x ls) (names_at v.order c)) e g.newest
@@ -142,7 +166,7 @@ module _ (v : View) (kept_name : ℕ → Option ℕ) (s : State) (w : IsWellForm
         names_are = names_new front padding sp.label.name n k rest left (stamp_of_padding s) ∙ ap (λ m. free_part front padding ++ used_block sp.label.name n ∷ free_part rest m) (omega arith)
 
         first : name_of k sp.before ≡ None
-        first = name_none k sp.before (omega (arith, ws.granted k (omega arith), ap (count (Live k)) (g.state ∙ ap tags e ∙ map-append by_tag sp.before (sp.label ∷ sp.after)), count-append (Live k) (tags sp.before) (tags (sp.label ∷ sp.after))))
+        first = name_none k sp.before (omega (arith, not_there s ws (Live k) (λ o. absurd (let l = o.1 in omega arith)), ap (count (Live k)) (g.state ∙ ap tags e ∙ map-append by_tag sp.before (sp.label ∷ sp.after)), count-append (Live k) (tags sp.before) (tags (sp.label ∷ sp.after))))
 
         handles : (j : ℕ) → with_name k sp.label.name kept_name j ≡ name_of j (sp.before ++ (new ++ sp.after))
         handles j = elim (cases_eq j k) [
@@ -267,13 +291,7 @@ module _ (v : View) (kept_name : ℕ → Option ℕ) (s : State) (w : IsWellForm
   pub aligned_agrees : (n align : ℕ) → 1 ≤ align → (u : View) → IsWellFormed u → (r : Option Grant) → Serves (blocks_needed align) (units_needed n align) n (padding_to align) v u r → Matches u kept_name s.grants r (step (command.Align n align) s)
   aligned_agrees n align some u w' r e = subst (Matches u kept_name s.grants r) (sym (aligned_is n align some)) (serve_agrees (blocks_needed align) (units_needed n align) n (padding_to align) u w' r e)
 
-  -- a grant that is not live
-  pub gone_agrees : (k : ℕ) → kept_name k ≡ None → ((step (command.Free k) s).answer ≡ machine.Gone) × Agrees v kept_name (step (command.Free k) s).state × ((step (command.Size k) s).answer ≡ machine.Gone)
-  gone_agrees k e =
-      let none : machine.place_of k s.blocks ≡ None = ap (machine.place_of k) g.state ∙ name_missing k g.labels (sym (g.handles k) ∙ e) in
-      (ap (λ (o : Option machine.Place). (machine.release s o).answer) none, subst (λ (o : Option machine.Place). Agrees v kept_name (machine.release s o).state) (sym none) (agrees_quiet v kept_name s g machine.Gone), ap (λ (o : Option machine.Place). machine.size_at o) none)
-
-  -- a live grant
+  -- a live grant, whose block has the name x
   record LiveAt (k x : ℕ) : Type 0 where
     spot : Spot
     split : g.labels ≡ whole spot
@@ -282,18 +300,38 @@ module _ (v : View) (kept_name : ℕ → Option ℕ) (s : State) (w : IsWellForm
     placed : machine.place_of k s.blocks ≡ Some (plain_place spot)
     first : name_of k spot.before ≡ None
 
+  live_spot : (k : ℕ) (p : machine.Place) → machine.place_of k s.blocks ≡ Some p → (x : ℕ) × (kept_name k ≡ Some x) × LiveAt k x
+  live_spot k p e =
+      let h = found_at k s.blocks p e in
+      let r = plain_spot g.labels p (sym g.state ∙ h.0) in
+      let tag = number_of k r.0.label.tag (ap (λ (q : machine.Place). has_number k q.block.tag) r.2 ∙ h.1) in
+      let first = name_none k r.0.before (ap (λ (q : machine.Place). count (Live k) q.before) r.2 ∙ h.2) in (
+        r.0.label.name,
+        g.handles k ∙ ap (name_of k) r.1 ∙ name_append k r.0.before (r.0.label ∷ r.0.after) ∙ ap (λ o. or_else o (name_of k (r.0.label ∷ r.0.after))) first
+            ∙ ap (λ t. if has_number k t then Some r.0.label.name else name_of k r.0.after) tag ∙ ap (λ (b : Bool). if b then Some r.0.label.name else name_of k r.0.after) (eq-eqb k k refl),
+        record { spot = r.0; split = r.1; tag = tag; named = place_of_spot v w r.0 (g.view ∙ ap names r.1); placed = e ∙ ap Some (sym r.2); first = first },
+      )
+
   live_at : (k x : ℕ) → kept_name k ≡ Some x → LiveAt k x
-  live_at k x e =
-      let r = name_found k x g.labels (sym (g.handles k) ∙ e) in
-      let sp : Spot = record { before = r.0; label = r.1; after = r.2 } in
-      record {
-        spot = sp;
-        split = r.3;
-        tag = r.5;
-        named = ap (λ y. place_of y v.blocks) (sym r.4) ∙ place_of_spot v w sp (g.view ∙ ap names r.3);
-        placed = ap (machine.place_of k) g.state ∙ r.6;
-        first = r.7;
-      }
+  live_at k x e = go (machine.place_of k s.blocks) refl
+    where
+      go : (o : Option machine.Place) → machine.place_of k s.blocks ≡ o → LiveAt k x
+      go None f = absurd (let n = sym (g.handles k ∙ name_none k g.labels (ap (count (Live k)) (sym g.state) ∙ not_found k s.blocks f)) ∙ e in cc)
+      go (Some p) f = let r = live_spot k p f in let n = sym r.1 ∙ e in subst (LiveAt k) (cc) r.2
+
+  -- a grant that is not live
+  none_there : (k : ℕ) → kept_name k ≡ None → machine.place_of k s.blocks ≡ None
+  none_there k e = go (machine.place_of k s.blocks) refl
+    where
+      go : (o : Option machine.Place) → machine.place_of k s.blocks ≡ o → machine.place_of k s.blocks ≡ None
+      go None f = f
+      go (Some p) f = absurd (let n = sym (live_spot k p f).1 ∙ e in cc)
+
+  pub gone_agrees : (k : ℕ) → kept_name k ≡ None → ((step (command.Free k) s).answer ≡ machine.Gone) × Agrees v kept_name (step (command.Free k) s).state × ((step (command.Free k) s).state.grants ≡ s.grants)
+  gone_agrees k e = subst (λ (o : Option machine.Place). ((machine.release s o).answer ≡ machine.Gone) × Agrees v kept_name (machine.release s o).state × ((machine.release s o).state.grants ≡ s.grants)) (sym (none_there k e)) (refl, agrees_quiet v kept_name s g machine.Gone, refl)
+
+  pub size_gone_agrees : (k : ℕ) → kept_name k ≡ None → (step (command.Size k) s).answer ≡ machine.Gone
+  size_gone_agrees k e = ap machine.size_at (none_there k e)
 
   pub live_agrees : (k x : ℕ) → kept_name k ≡ Some x → named.is_used_at (place_of x v.blocks) ≡ true
   live_agrees k x e = let l = live_at k x e in ap named.is_used_at l.named ∙ ap (λ t. not (is_free t)) l.tag
@@ -302,12 +340,10 @@ module _ (v : View) (kept_name : ℕ → Option ℕ) (s : State) (w : IsWellForm
   size_agrees k x e = let l = live_at k x e in ap machine.size_at l.placed ∙ ap machine.Size (sym (ap named.size_at l.named ∙ ap (λ t. if not (is_free t) then l.spot.label.size else 0) l.tag))
 
   -- a release
-  pub free_agrees : (k x : ℕ) → kept_name k ≡ Some x → (u : View) → IsWellFormed u → Frees x v u → ((step (command.Free k) s).answer ≡ machine.Freed) × Agrees u (without_name k kept_name) (step (command.Free k) s).state
-  free_agrees k x e u w' f = (
-    ap (λ (o : Option machine.Place). (machine.release s o).answer) l.placed,
-    subst (λ (o : Option machine.Place). Agrees u (without_name k kept_name) (machine.release s o).state) (sym l.placed)
-        (coalesced_agrees u w' sp.before front.0 front.1 (sp.label ∷ []) sp.after back.0 back.1 x sp.label.size v.size l.split front.2 back.2 free.0 free.1 same (without_name k kept_name) handles machine.Freed),
-  )
+  pub free_agrees : (k x : ℕ) → kept_name k ≡ Some x → (u : View) → IsWellFormed u → Frees x v u
+      → ((step (command.Free k) s).answer ≡ machine.Freed) × Agrees u (without_name k kept_name) (step (command.Free k) s).state × ((step (command.Free k) s).state.grants ≡ s.grants)
+  free_agrees k x e u w' f = subst (λ (o : Option machine.Place). ((machine.release s o).answer ≡ machine.Freed) × Agrees u (without_name k kept_name) (machine.release s o).state × ((machine.release s o).state.grants ≡ s.grants)) (sym l.placed)
+      (refl, coalesced_agrees u w' sp.before front.0 front.1 (sp.label ∷ []) sp.after back.0 back.1 x sp.label.size v.size l.split front.2 back.2 free.0 free.1 same (without_name k kept_name) handles machine.Freed, refl)
     where
       l : LiveAt k x
       l = live_at k x e
@@ -391,14 +427,10 @@ module _ (v : View) (kept_name : ℕ → Option ℕ) (s : State) (w : IsWellForm
 
   can_extend : (more : ℕ) → is_refused more ≡ false → CanExtend more v
   can_extend more e = (
-    (let l = ltb-false max_size (total s.blocks + more) (or_parts _ _ e).0 in let f = same_units in let h = w.whole in omega arith),
-    go (machine.ends_live s.blocks) refl (or_parts _ _ e).1,
+    (let l = ltb-false max_size (total s.blocks + more) (or_false _ _ e).0 in let f = same_units in let h = w.whole in omega arith),
+    go (machine.ends_live s.blocks) refl (or_false _ _ e).1,
   )
     where
-      or_parts : (x y : Bool) → (x || y) ≡ false → (x ≡ false) × (y ≡ false)
-      or_parts true y e = absurd (true≢false e)
-      or_parts false y e = (refl, e)
-
       go : (b : Bool) → machine.ends_live s.blocks ≡ b → (b && machine.is_short_of 1 s) ≡ false → HasRoomFor 1 v ⊎ ((before : List Block) × (last : Block) × (v.blocks ≡ before ++ last ∷ []) × (last.used ≡ false))
       go true f h = inl (room_for 1 h)
       go false f h =
@@ -408,13 +440,15 @@ module _ (v : View) (kept_name : ℕ → Option ℕ) (s : State) (w : IsWellForm
   abbrev outcome : ℕ → Bool → machine.Outcome
   outcome more b = if b then returns_only s machine.Refused else leaves s (machine.coalesce s.blocks (suc more) (stamp_of_call s) []) machine.Extended
 
-  pub extend_agrees : (more : ℕ) (u : View) (done : Bool) → IsWellFormed u → Extends more v u done → ((step (command.Extend more) s).answer ≡ (if done then machine.Extended else machine.Refused)) × Agrees u kept_name (step (command.Extend more) s).state
-  extend_agrees zero u true w' (inl z) = (refl, agrees_but v u kept_name _ z.1 (agrees_quiet v kept_name s g machine.Extended))
+  pub extend_agrees : (more : ℕ) (u : View) (done : Bool) → IsWellFormed u → Extends more v u done
+      → ((step (command.Extend more) s).answer ≡ (if done then machine.Extended else machine.Refused)) × Agrees u kept_name (step (command.Extend more) s).state × ((step (command.Extend more) s).state.grants ≡ s.grants)
+  extend_agrees zero u true w' (inl z) = (refl, agrees_but v u kept_name _ z.1 (agrees_quiet v kept_name s g machine.Extended), refl)
   extend_agrees zero u true w' (inr h) = absurd (let l = h.0 in omega arith)
   extend_agrees zero u false w' h = absurd (let l = h.0 in omega arith)
   extend_agrees (suc more) u true w' (inl z) = absurd (let l = z.0 in omega arith)
-  extend_agrees (suc more) u true w' (inr h) = subst (λ (o : machine.Outcome). (o.answer ≡ machine.Extended) × Agrees u kept_name o.state) (sym (ap (outcome more) (extendable (suc more) h.1))) (refl, added_agrees (suc more) u w' h.2)
-  extend_agrees (suc more) u false w' h = subst (λ (o : machine.Outcome). (o.answer ≡ machine.Refused) × Agrees u kept_name o.state) (sym (ap (outcome more) (refused (is_refused (suc more)) refl))) (refl, agrees_but v u kept_name _ h.2 (agrees_quiet v kept_name s g machine.Refused))
+  extend_agrees (suc more) u true w' (inr h) = subst (λ (o : machine.Outcome). (o.answer ≡ machine.Extended) × Agrees u kept_name o.state × (o.state.grants ≡ s.grants)) (sym (ap (outcome more) (extendable (suc more) h.1))) (refl, added_agrees (suc more) u w' h.2, refl)
+  extend_agrees (suc more) u false w' h = subst (λ (o : machine.Outcome). (o.answer ≡ machine.Refused) × Agrees u kept_name o.state × (o.state.grants ≡ s.grants)) (sym (ap (outcome more) (refused (is_refused (suc more)) refl)))
+      (refl, agrees_but v u kept_name _ h.2 (agrees_quiet v kept_name s g machine.Refused), refl)
     where
       refused : (b : Bool) → is_refused (suc more) ≡ b → is_refused (suc more) ≡ true
       refused true e = e

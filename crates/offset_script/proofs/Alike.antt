@@ -8,10 +8,11 @@ use Rattle.offset_script.specs.Machine as machine
 use Rattle.offset_allocator.specs.Reports.{largest, rows_below}
 use Rattle.offset_script.proofs.Members.{In, in_left, in_right}
 use Rattle.offset_script.proofs.Pairs.{Kind, Lives, Frees, Pair, pair, left_tag, right_tag, left, right, lefts, rights, Agree, AllAgree, SameOrder, SamePlace, neither, both}
-use Rattle.std.proofs.lemmas.Bool.{cases_lt, true≢false, false≢true}
+use Rattle.std.proofs.lemmas.Bool.{cases_lt}
 use Rattle.std.proofs.lemmas.Bool.Decides.{nat_tests}
 use Rattle.offset_script.proofs.Pairs.{same_total, same_short, same_units, same_free_sizes, same_refusal, both_coalesced, same_place_of, same_chosen, pairs_granted, in_granted, lefts_granted, rights_granted}
 use Rattle.offset_script.specs.Histories.{renumber, raise_number}
+use Rattle.offset_script.proofs.Tests.{if_same}
 
 -- Numbers are changed by r, and stamps are below x and below y.
 abbrev pub Matched : (ℕ → ℕ) → ℕ → ℕ → Kind → Type 0
@@ -116,12 +117,6 @@ same_leaves : (r : ℕ → ℕ) (d : ℕ) (s t : State) (a : Alike r d s t) (x y
     → SameOutcome r d (leaves s bs x) (leaves t cs y)
 same_leaves r d s t a x y p bs cs e on_left on_right each = record { answer = e; state = keeps_alike r d s t a p s.grants t.grants bs cs on_left on_right each (omega arith) (omega arith) a.grants }
 
-same_if : (r : ℕ → ℕ) (d : ℕ) (b c : Bool) (o p o' p' : Outcome) → b ≡ c → SameOutcome r d o p → SameOutcome r d o' p' → SameOutcome r d (if b then o else o') (if c then p else p')
-same_if r d true true o p o' p' e f g = f
-same_if r d false false o p o' p' e f g = g
-same_if r d true false o p o' p' e f g = absurd (true≢false e)
-same_if r d false true o p o' p' e f g = absurd (false≢true e)
-
 -- a grant
 fresh_kinds : (g h x y : ℕ) (q : Pair) → (q.kind ≡ Frees (2 * (x + 1)) (2 * (y + 1))) ⊎ (q.kind ≡ Lives (g + 1) (h + 1)) ⊎ (q.kind ≡ Frees (2 * (x + 1) + 1) (2 * (y + 1) + 1)) → Fresh g h x y q.kind
 fresh_kinds g h x y q (inl e) = subst (Fresh g h x y) (sym e) (0, omega arith, omega arith, omega arith)
@@ -156,7 +151,7 @@ same_granted r d s t a n needed padding_at o o' (both xs q ys e f) =
     (same_grant r d s t a n (padding_at (total (lefts xs))) xs q ys e)
 
 same_request : (r : ℕ → ℕ) (d : ℕ) (s t : State) (a : Alike r d s t) (spare needed n : ℕ) (padding_at : ℕ → ℕ) → SameOutcome r d (request s spare needed n padding_at) (request t spare needed n padding_at)
-same_request r d s t a spare needed n padding_at = same_if r d _ _ _ _ _ _ (same_short s t a.pairs a.limit a.left_blocks a.right_blocks spare) (same_quiet r d s t a _ _ refl)
+same_request r d s t a spare needed n padding_at = if_same (SameOutcome r d) _ _ _ _ _ _ (same_short s t a.pairs a.limit a.left_blocks a.right_blocks spare) (λ e. same_quiet r d s t a _ _ refl)
     (subst₂ (λ x y. SameOutcome r d (grant_or_refuse s n padding_at (chosen_place needed x)) (grant_or_refuse t n padding_at (chosen_place needed y))) (sym a.left_blocks) (sym a.right_blocks)
     (same_granted r d s t a n needed padding_at _ _ (same_chosen needed a.pairs a.agree)))
 
@@ -209,7 +204,7 @@ same_reset r d s t a =
 
 same_extend : (r : ℕ → ℕ) (d : ℕ) (s t : State) (a : Alike r d s t) (more : ℕ) → SameOutcome r d (extend more s) (extend more t)
 same_extend r d s t a zero = same_quiet r d s t a _ _ refl
-same_extend r d s t a (suc more) = same_if r d _ _ _ _ _ _ (same_refusal s t a.pairs a.limit a.left_blocks a.right_blocks (suc more)) (same_quiet r d s t a _ _ refl)
+same_extend r d s t a (suc more) = if_same (SameOutcome r d) _ _ _ _ _ _ (same_refusal s t a.pairs a.limit a.left_blocks a.right_blocks (suc more)) (λ e. same_quiet r d s t a _ _ refl)
     (subst₂ (λ x y. SameOutcome r d (leaves s (coalesce x (suc more) (stamp_of_call s) []) machine.Extended) (leaves t (coalesce y (suc more) (stamp_of_call t) []) machine.Extended)) (sym a.left_blocks) (sym a.right_blocks)
     (same_coalesce r d s t a machine.Extended a.pairs (suc more) [] refl (λ q i. ⊎_elim (λ h. h) (λ h. absurd h) i)))
 
@@ -220,8 +215,8 @@ alike_step r d (command.Size k) s t a = same_quiet r d s t a _ _ (same_size r d 
 alike_step r d command.Report s t a = same_quiet r d s t a _ _ (same_report r d s t a)
 alike_step r d command.Full s t a = same_quiet r d s t a _ _ (ap (λ l. machine.Full (rows_below 256 l)) (same_free_sizes s t a.pairs a.limit a.left_blocks a.right_blocks))
 alike_step r d command.Reset s t a = same_reset r d s t a
-alike_step r d (command.Align n align) s t a = same_if r d _ _ _ _ _ _ refl (same_request r d s t a 1 n n (λ offset. 0))
-    (same_if r d _ _ _ _ _ _ refl (same_quiet r d s t a _ _ refl) (same_request r d s t a 2 (n + align - 1) n (padding_to align)))
+alike_step r d (command.Align n align) s t a = if_same (SameOutcome r d) _ _ _ _ _ _ refl (λ e. same_request r d s t a 1 n n (λ offset. 0))
+    (if_same (SameOutcome r d) _ _ _ _ _ _ refl (λ e. same_quiet r d s t a _ _ refl) (same_request r d s t a 2 (n + align - 1) n (padding_to align)))
 alike_step r d (command.Extend more) s t a = same_extend r d s t a more
 
 -- alike states return the same answers to any commands

@@ -1,5 +1,5 @@
 -- The plain machine chooses the block that a grant splits: the newest of the smallest class that fits.
-use Rattle.std.proofs.Common.{◌≡◌, ◌≢◌, ℕ, ◌<◌, ◌≤◌, Bool, true, false, not, ◌&&◌, ◌||◌, List, [], ◌∷◌, ◌++◌, Option, Some, None, nat_eq, nat_lt, nat_le, refl, sym, ap, subst, ◌∙◌, inl, inr, arith, eq-eqb, le-leb, lt-ltb, leb-true}
+use Rattle.std.proofs.Common.{◌≡◌, ◌≢◌, ℕ, ◌<◌, ◌≤◌, Bool, true, false, not, ◌&&◌, ◌||◌, List, [], ◌∷◌, ◌++◌, Option, Some, None, nat_eq, nat_lt, nat_le, refl, sym, ap, ap₂, subst, ◌∙◌, inl, inr, arith, eq-eqb, le-leb, lt-ltb, leb-true}
 use Rattle.std.proofs.lemmas.List.{map-append}
 use Rattle.std.proofs.lemmas.Bool.{cases_eq, cases_lt, true≢false}
 use Rattle.offset_allocator.specs.Classes.{up, down}
@@ -8,11 +8,12 @@ use Rattle.offset_script.specs.Machine as plain
 use Rattle.offset_allocator.specs.Named.{Block, View, Place, Grant, place_of, one, times, count_named, count_listed, names_at, IsWellFormed}
 use Rattle.offset_allocator.specs.Relations.{Splits}
 use Rattle.offset_script.specs.Agreement.{Label, by_name, by_tag, stamp_of, IsFalling}
-use Rattle.offset_script.proofs.Well.{both_true, chosen_at, not_chosen}
+use Rattle.offset_script.proofs.Well.{chosen_at, not_chosen}
 use Rattle.offset_allocator.proofs.ViewOrders.{tally_append, hit_cases}
 use Rattle.offset_allocator.proofs.ViewSteps.{place_here}
 use Rattle.offset_script.proofs.Members.{In, in_right, map_split}
-use Rattle.offset_script.proofs.Labels.{names, tags, gives_parts, gives_all, not_false}
+use Rattle.offset_script.proofs.Labels.{names, tags, gives_parts, gives_all}
+use Rattle.offset_script.proofs.Tests.{both_true, not_false}
 
 -- a list of labels, split at one
 pub record Spot : Type 0 where
@@ -40,25 +41,17 @@ named_place s = record { before = names s.before; block = by_name s.label; after
 abbrev pub plain_place : Spot → plain.Place
 plain_place s = record { before = tags s.before; block = by_tag s.label; after = tags s.after }
 
-same_place : {xs ys xs' ys' : List Block} {b b' : Block} → xs ≡ xs' → b ≡ b' → ys ≡ ys' → place_at xs b ys ≡ place_at xs' b' ys'
-same_place {ys = ys} {xs' = xs'} {b = b} {b' = b'} e f g = ap (λ l. place_at l b ys) e ∙ ap (λ c. place_at xs' c ys) f ∙ ap (place_at xs' b') g
-
-same_plain : {xs ys xs' ys' : List plain.Block} {b b' : plain.Block} → xs ≡ xs' → b ≡ b' → ys ≡ ys' → plain_at xs b ys ≡ plain_at xs' b' ys'
-same_plain {ys = ys} {xs' = xs'} {b = b} {b' = b'} e f g = ap (λ l. plain_at l b ys) e ∙ ap (λ c. plain_at xs' c ys) f ∙ ap (plain_at xs' b') g
-
 -- where named blocks are split, their labels are
 pub named_spot : (ls : List Label) (p : Place) → names ls ≡ p.before ++ p.block ∷ p.after → (s : Spot) × (ls ≡ whole s) × (named_place s ≡ p)
-named_spot ls p e = go (map_split by_name ls p.before p.block p.after e)
-  where
-    go : ((xs : List Label) × (x : Label) × (ys : List Label) × (ls ≡ xs ++ x ∷ ys) × (names xs ≡ p.before) × (by_name x ≡ p.block) × (names ys ≡ p.after)) → (s : Spot) × (ls ≡ whole s) × (named_place s ≡ p)
-    go r = (record { before = r.0; label = r.1; after = r.2 }, r.3, same_place r.4 r.5 r.6)
+named_spot ls p e =
+    let r = map_split by_name ls p.before p.block p.after e in
+    (record { before = r.0; label = r.1; after = r.2 }, r.3, ap₂ (λ x y. place_at x (by_name r.1) y) r.4 r.6 ∙ ap (λ b. place_at p.before b p.after) r.5)
 
 -- where plain blocks are split, their labels are
 pub plain_spot : (ls : List Label) (p : plain.Place) → tags ls ≡ p.before ++ p.block ∷ p.after → (s : Spot) × (ls ≡ whole s) × (plain_place s ≡ p)
-plain_spot ls p e = go (map_split by_tag ls p.before p.block p.after e)
-  where
-    go : ((xs : List Label) × (x : Label) × (ys : List Label) × (ls ≡ xs ++ x ∷ ys) × (tags xs ≡ p.before) × (by_tag x ≡ p.block) × (tags ys ≡ p.after)) → (s : Spot) × (ls ≡ whole s) × (plain_place s ≡ p)
-    go r = (record { before = r.0; label = r.1; after = r.2 }, r.3, same_plain r.4 r.5 r.6)
+plain_spot ls p e =
+    let r = map_split by_tag ls p.before p.block p.after e in
+    (record { before = r.0; label = r.1; after = r.2 }, r.3, ap₂ (λ x y. plain_at x (by_tag r.1) y) r.4 r.6 ∙ ap (λ b. plain_at p.before b p.after) r.5)
 
 occurs_spot : (s : Spot) → In (by_tag s.label) (tags (whole s))
 occurs_spot s = subst (In (by_tag s.label)) (sym (map-append by_tag s.before (s.label ∷ s.after))) (in_right (by_tag s.label) (tags s.before) (by_tag s.label ∷ tags s.after) (inl refl))

@@ -1,18 +1,18 @@
 -- Releases in a row leave the same space in any order.
-use Rattle.std.proofs.Common.{◌≡◌, ℕ, zero, suc, ◌+◌, ◌-◌, Bool, true, false, ◌&&◌, ◌||◌, List, [], ◌∷◌, ◌++◌, sum, Option, Some, None, is_some, nat_eq, nat_lt, nat_le, if◌then◌else◌, refl, sym, ap, ap₂, subst, subst₂, ◌∙◌, inl, inr, arith, eq-eqb, eqb-true}
+use Rattle.std.proofs.Common.{◌≡◌, ℕ, zero, suc, ◌+◌, ◌-◌, Bool, true, false, ◌&&◌, ◌||◌, List, [], ◌∷◌, ◌++◌, sum, Option, Some, None, is_some, nat_eq, nat_lt, nat_le, if◌then◌else◌, refl, sym, ap, ap₂, subst, subst₂, ◌∙◌, arith, eq-eqb, eqb-true}
 use Rattle.std.proofs.lemmas.Bool.{true≢false, false≢true}
 use Rattle.offset_script.specs.declared.scripts.Command.{Command}
 use Rattle.offset_script.specs.declared.scripts.Command.TheVariants as command
 use Rattle.offset_allocator.specs.Classes.{up, down}
 use Rattle.offset_allocator.specs.Reports.{largest, rows_below}
 use Rattle.offset_script.specs.Machine.{Tag, Live, Free, Block, block, is_free, has_number, total, free_sizes, Place, here, prepend, fits, is_taken_before, choose, chosen_place, place_of, free_start, without_start, ends_live, coalesce, State, Outcome, start, step, after, request, grant_or_refuse, is_short_of, returns_only, leaves, release, size_at, stamp_of_call}
-use Rattle.offset_allocator.specs.Named.{max_size, padding_to}
+use Rattle.offset_script.specs.Machine.{max_size, padding_to}
 use Rattle.offset_script.specs.Machine as machine
 use Rattle.offset_script.specs.Histories.{holder, outline, widen, is_among, collapse_block, collapse, without_offset, releases, ReleasesCommute}
-use Rattle.offset_script.proofs.Members.{In}
-use Rattle.offset_script.proofs.Pairs.{Kind, Lives, Frees, Pair, pair, left_tag, right_tag, left, right, lefts, rights, same_free, same_short, same_free_sizes, same_refusal, SamePlace, neither, both, same_place_of}
+use Rattle.offset_script.proofs.Pairs.{Kind, Lives, Frees, Pair, left_tag, right_tag, left, right, lefts, rights, same_free, same_short, same_free_sizes, same_refusal, SamePlace, neither, both, same_place_of}
 use Rattle.offset_script.proofs.Well.{Well, count, hit, hit_self, number_of, count-append, starts_free, Apart, apart_parts, found_at, not_found, well_start, well_after, well_step}
-use Rattle.offset_script.proofs.Similar.{SameNumber}
+use Rattle.offset_script.proofs.Similar.{SameNumber, Paired, paired}
+use Rattle.offset_script.proofs.Tests.{if_same}
 
 -- sizes, and the numbers of live blocks
 abbrev Outline : Type 0
@@ -167,51 +167,7 @@ releases_scalars (k ∷ ks) s = let r = released_scalars s (place_of k s.blocks)
 record SameSpace (s t : State) : Type 0 where
   limit : s.limit ≡ t.limit
   grants : s.grants ≡ t.grants
-  pairs : List Pair
-  left_blocks : s.blocks ≡ lefts pairs
-  right_blocks : t.blocks ≡ rights pairs
-  numbers : (q : Pair) → In q pairs → SameNumber q.kind
-
--- two lists of blocks of the same sizes and numbers
-record Paired (bs cs : List Block) : Type 0 where
-  pairs : List Pair
-  left_blocks : bs ≡ lefts pairs
-  right_blocks : cs ≡ rights pairs
-  numbers : (q : Pair) → In q pairs → SameNumber q.kind
-
-paired_tag : (t u : Tag) → holder t ≡ holder u → (k : Kind) × (t ≡ left_tag k) × (u ≡ right_tag k) × SameNumber k
-paired_tag (Live i) (Live j) e = (Lives i j, refl, refl, number i j e)
-  where
-    number : (i j : ℕ) → ◌≡◌ {A = Option ℕ} (Some i) (Some j) → i ≡ j
-    number i j e = cc
-paired_tag (Live i) (Free s) e = absurd (grind (arith, e))
-paired_tag (Free s) (Live i) e = absurd (grind (arith, e))
-paired_tag (Free s) (Free u) e = (Frees s u, refl, refl, tt)
-
-head_outline : (a b : ℕ × Option ℕ) (o p : Outline) → a ∷ o ≡ b ∷ p → a ≡ b
-head_outline a b o p e = cc
-
-tail_outline : (a b : ℕ × Option ℕ) (o p : Outline) → a ∷ o ≡ b ∷ p → o ≡ p
-tail_outline a b o p e = cc
-
-no_outline : (a : ℕ × Option ℕ) (o : Outline) → a ∷ o ≡ [] → ⊥
-no_outline a o e = cc
-
-paired_cons : (b c : Block) (bs cs : List Block) → ◌≡◌ {A = ℕ × Option ℕ} (b.size, holder b.tag) (c.size, holder c.tag) → Paired bs cs → Paired (b ∷ bs) (c ∷ cs)
-paired_cons b c bs cs e p =
-    let t = paired_tag b.tag c.tag (ap (λ (x : ℕ × Option ℕ). x.1) e) in
-    record {
-      pairs = pair b.size t.0 ∷ p.pairs;
-      left_blocks = ap₂ (λ t l. block b.size t ∷ l) t.1 p.left_blocks;
-      right_blocks = ap₂ (λ (x : Block) l. x ∷ l) (ap₂ block (ap (λ (x : ℕ × Option ℕ). x.0) (sym e)) t.2) p.right_blocks;
-      numbers = λ q i. elim i [ inl h ↦ subst (λ (x : Pair). SameNumber x.kind) (sym h) t.3 | inr h ↦ p.numbers q h ];
-    }
-
-paired : (bs cs : List Block) → outline bs ≡ outline cs → Paired bs cs
-paired [] [] e = record { pairs = []; left_blocks = refl; right_blocks = refl; numbers = λ q i. absurd i }
-paired [] (c ∷ cs) e = absurd (no_outline _ _ (sym e))
-paired (b ∷ bs) [] e = absurd (no_outline _ _ e)
-paired (b ∷ bs) (c ∷ cs) e = paired_cons b c bs cs (head_outline _ _ _ _ e) (paired bs cs (tail_outline _ _ _ _ e))
+  blocks : Paired s.blocks t.blocks
 
 -- whether a request is granted goes by the sizes
 some_if : (b c : Bool) (p q : Place) → is_some (if b && c then Some p else Some q) ≡ (b || true)
@@ -239,15 +195,9 @@ same_granted s t g n padding_at None (Some p) e = absurd (false≢true e)
 same_granted s t g n padding_at (Some o) None e = absurd (true≢false e)
 same_granted s t g n padding_at (Some o) (Some p) e = ap (λ k. machine.Grant (k + 1) 0) g
 
-same_if : (b c : Bool) (o p o' p' : Outcome) → b ≡ c → without_offset o.answer ≡ without_offset p.answer → without_offset o'.answer ≡ without_offset p'.answer → without_offset (if b then o else o').answer ≡ without_offset (if c then p else p').answer
-same_if true true o p o' p' e f g = f
-same_if false false o p o' p' e f g = g
-same_if true false o p o' p' e f g = absurd (true≢false e)
-same_if false true o p o' p' e f g = absurd (false≢true e)
-
 same_request : (s t : State) → SameSpace s t → (spare needed n : ℕ) (padding_at : ℕ → ℕ) → without_offset (request s spare needed n padding_at).answer ≡ without_offset (request t spare needed n padding_at).answer
-same_request s t a spare needed n padding_at = same_if (is_short_of spare s) (is_short_of spare t) (returns_only s machine.Refused) (returns_only t machine.Refused) (grant_or_refuse s n padding_at (chosen_place needed s.blocks)) (grant_or_refuse t n padding_at (chosen_place needed t.blocks))
-    (same_short s t a.pairs a.limit a.left_blocks a.right_blocks spare) refl (same_granted s t a.grants n padding_at _ _ (ap (λ bs. is_some (chosen_place needed bs)) a.left_blocks ∙ some_same needed a.pairs ∙ ap (λ bs. is_some (chosen_place needed bs)) (sym a.right_blocks)))
+same_request s t a spare needed n padding_at = if_same (λ (o p : Outcome). without_offset o.answer ≡ without_offset p.answer) (is_short_of spare s) (is_short_of spare t) (returns_only s machine.Refused) (returns_only t machine.Refused) (grant_or_refuse s n padding_at (chosen_place needed s.blocks)) (grant_or_refuse t n padding_at (chosen_place needed t.blocks))
+    (same_short s t a.blocks.pairs a.limit a.blocks.left_blocks a.blocks.right_blocks spare) (λ e. refl) (same_granted s t a.grants n padding_at _ _ (ap (λ bs. is_some (chosen_place needed bs)) a.blocks.left_blocks ∙ some_same needed a.blocks.pairs ∙ ap (λ bs. is_some (chosen_place needed bs)) (sym a.blocks.right_blocks)))
 
 same_number : (k : ℕ) (q : Kind) → SameNumber q → has_number k (left_tag q) ≡ has_number k (right_tag q)
 same_number k (Lives i j) e = ap (nat_eq k) e
@@ -258,28 +208,25 @@ same_released s t p None None neither = (refl, refl)
 same_released s t p o o' (both xs q ys e f) = (refl, refl)
 
 same_place : (s t : State) → SameSpace s t → (k : ℕ) → (without_offset (release s (place_of k s.blocks)).answer ≡ without_offset (release t (place_of k t.blocks)).answer) × (size_at (place_of k s.blocks) ≡ size_at (place_of k t.blocks))
-same_place s t a k = subst₂ (λ x y. (without_offset (release s (place_of k x)).answer ≡ without_offset (release t (place_of k y)).answer) × (size_at (place_of k x) ≡ size_at (place_of k y))) (sym a.left_blocks) (sym a.right_blocks)
-    (same_released s t a.pairs _ _ (same_place_of k k a.pairs (λ q i. same_number k q.kind (a.numbers q i))))
+same_place s t a k = subst₂ (λ x y. (without_offset (release s (place_of k x)).answer ≡ without_offset (release t (place_of k y)).answer) × (size_at (place_of k x) ≡ size_at (place_of k y))) (sym a.blocks.left_blocks) (sym a.blocks.right_blocks)
+    (same_released s t a.blocks.pairs _ _ (same_place_of k k a.blocks.pairs (λ q i. same_number k q.kind (a.blocks.numbers q i))))
 
 same_extend : (s t : State) → SameSpace s t → (more : ℕ) → without_offset (step (command.Extend more) s).answer ≡ without_offset (step (command.Extend more) t).answer
 same_extend s t a zero = refl
-same_extend s t a (suc more) = same_if (nat_lt max_size (total s.blocks + suc more) || (ends_live s.blocks && is_short_of 1 s)) (nat_lt max_size (total t.blocks + suc more) || (ends_live t.blocks && is_short_of 1 t)) (returns_only s machine.Refused) (returns_only t machine.Refused) (leaves s (coalesce s.blocks (suc more) (stamp_of_call s) []) machine.Extended) (leaves t (coalesce t.blocks (suc more) (stamp_of_call t) []) machine.Extended)
-    (same_refusal s t a.pairs a.limit a.left_blocks a.right_blocks (suc more)) refl refl
+same_extend s t a (suc more) = if_same (λ (o p : Outcome). without_offset o.answer ≡ without_offset p.answer) (nat_lt max_size (total s.blocks + suc more) || (ends_live s.blocks && is_short_of 1 s)) (nat_lt max_size (total t.blocks + suc more) || (ends_live t.blocks && is_short_of 1 t)) (returns_only s machine.Refused) (returns_only t machine.Refused) (leaves s (coalesce s.blocks (suc more) (stamp_of_call s) []) machine.Extended) (leaves t (coalesce t.blocks (suc more) (stamp_of_call t) []) machine.Extended)
+    (same_refusal s t a.blocks.pairs a.limit a.blocks.left_blocks a.blocks.right_blocks (suc more)) (λ e. refl) refl
 
 same_next : (s t : State) → SameSpace s t → (c : Command) → without_offset (step c s).answer ≡ without_offset (step c t).answer
 same_next s t a (command.Alloc n) = same_request s t a 1 n n (λ offset. 0)
 same_next s t a (command.Free k) = (same_place s t a k).0
 same_next s t a (command.Size k) = ap without_offset (same_place s t a k).1
-same_next s t a command.Report = ap₂ (λ b l. without_offset (if b then machine.Report 0 0 else machine.Report (sum l) (largest l))) (same_short s t a.pairs a.limit a.left_blocks a.right_blocks 1) (same_free_sizes s t a.pairs a.limit a.left_blocks a.right_blocks)
-same_next s t a command.Full = ap (λ l. machine.Full (rows_below 256 l)) (same_free_sizes s t a.pairs a.limit a.left_blocks a.right_blocks)
+same_next s t a command.Report = ap₂ (λ b l. without_offset (if b then machine.Report 0 0 else machine.Report (sum l) (largest l))) (same_short s t a.blocks.pairs a.limit a.blocks.left_blocks a.blocks.right_blocks 1) (same_free_sizes s t a.blocks.pairs a.limit a.blocks.left_blocks a.blocks.right_blocks)
+same_next s t a command.Full = ap (λ l. machine.Full (rows_below 256 l)) (same_free_sizes s t a.blocks.pairs a.limit a.blocks.left_blocks a.blocks.right_blocks)
 same_next s t a command.Reset = refl
-same_next s t a (command.Align n align) = same_if (nat_le align 1) (nat_le align 1) (step (command.Alloc n) s) (step (command.Alloc n) t) (if nat_lt max_size (n + align - 1) then returns_only s machine.Refused else request s 2 (n + align - 1) n (padding_to align)) (if nat_lt max_size (n + align - 1) then returns_only t machine.Refused else request t 2 (n + align - 1) n (padding_to align))
-    refl (same_request s t a 1 n n (λ offset. 0))
-    (same_if (nat_lt max_size (n + align - 1)) (nat_lt max_size (n + align - 1)) (returns_only s machine.Refused) (returns_only t machine.Refused) (request s 2 (n + align - 1) n (padding_to align)) (request t 2 (n + align - 1) n (padding_to align)) refl refl (same_request s t a 2 (n + align - 1) n (padding_to align)))
+same_next s t a (command.Align n align) = if_same (λ (o p : Outcome). without_offset o.answer ≡ without_offset p.answer) (nat_le align 1) (nat_le align 1) (step (command.Alloc n) s) (step (command.Alloc n) t) (if nat_lt max_size (n + align - 1) then returns_only s machine.Refused else request s 2 (n + align - 1) n (padding_to align)) (if nat_lt max_size (n + align - 1) then returns_only t machine.Refused else request t 2 (n + align - 1) n (padding_to align))
+    refl (λ e. same_request s t a 1 n n (λ offset. 0))
+    (if_same (λ (o p : Outcome). without_offset o.answer ≡ without_offset p.answer) (nat_lt max_size (n + align - 1)) (nat_lt max_size (n + align - 1)) (returns_only s machine.Refused) (returns_only t machine.Refused) (request s 2 (n + align - 1) n (padding_to align)) (request t 2 (n + align - 1) n (padding_to align)) refl (λ e. refl) (same_request s t a 2 (n + align - 1) n (padding_to align)))
 same_next s t a (command.Extend more) = same_extend s t a more
-
-same_space : (s t : State) → s.limit ≡ t.limit → s.grants ≡ t.grants → outline s.blocks ≡ outline t.blocks → SameSpace s t
-same_space s t l g e = let p = paired s.blocks t.blocks e in record { limit = l; grants = g; pairs = p.pairs; left_blocks = p.left_blocks; right_blocks = p.right_blocks; numbers = p.numbers }
 
 pub commute_law : ReleasesCommute
 commute_law size limit h cs ks =
@@ -289,5 +236,5 @@ commute_law size limit h cs ks =
     let scalars = releases_scalars ks s in
     record {
       space = space;
-      next = λ t is. same_next (after (releases ks) s) t (same_space (after (releases ks) s) t (scalars.0 ∙ sym is.limit) (scalars.1 ∙ sym is.grants) (space ∙ sym is.blocks));
+      next = λ t is. same_next (after (releases ks) s) t (record { limit = scalars.0 ∙ sym is.limit; grants = scalars.1 ∙ sym is.grants; blocks = paired _ _ (space ∙ sym is.blocks) });
     }

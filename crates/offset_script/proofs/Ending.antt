@@ -13,8 +13,10 @@ use Rattle.offset_script.specs.declared.faults.RunFault.TheVariants as faults
 use Rattle.offset_script.specs.declared.scripts.Script.{Script}
 use Rattle.offset_script.specs.Faults.{as_run_fault}
 use Rattle.offset_script.specs.Grammar.{meaning_of}
-use Rattle.offset_script.specs.Running.{view, Fails, RunOf, ScriptOf, HasText, Sends, AreAnswers, is_write_fault, text_of}
-use Rattle.offset_script.specs.Machine.{Answer}
+use Rattle.offset_script.specs.Grammar.{RunOf, text_of}
+use Rattle.offset_script.specs.Running.{view, Fails, ScriptOf}
+use Rattle.offset_script.specs.Running.{HasText, Sends, is_write_fault}
+use Rattle.offset_script.specs.Machine.{Answer, IsPlayed}
 use Rattle.offset_script.proofs.Steps.{is_too_long}
 
 -- a longer beginning
@@ -74,10 +76,10 @@ not_read faults.Memory (Some text) left old new w h = tt
 not_read faults.Read (Some text) left old new w h = tt
 not_read faults.Write (Some text) left old new w h = absurd (true≢false w)
 
-pub all_sent : (sent : List ℕ) (script : Script) (rs : List Answer) (from left old new : Option (List ℕ)) → IfSome from (λ text. ScriptOf (Ok script) text left) → AreAnswers (view script) rs → sent ≡ text_of rs → Appends old new sent → IfSome from (λ text. RunOf (Ok tt) text left old new)
+pub all_sent : (sent : List ℕ) (script : Script) (rs : List Answer) (from left old new : Option (List ℕ)) → IfSome from (λ text. ScriptOf (Ok script) text left) → IsPlayed script.size script.max_allocs script.commands.items rs → sent ≡ text_of rs → Appends old new sent → IfSome from (λ text. RunOf (Ok tt) text left old new)
 all_sent sent script rs None left old new h played e sends = tt
 all_sent sent script rs (Some text) left old new h played e sends = (h.0, record { plan = view script; answers = rs; played = played; means = h.1; writes = rw (← e) sends })
 
-pub prefix_sent : (sent : List ℕ) (script : Script) (rs : List Answer) (from left old new : Option (List ℕ)) → IfSome from (λ text. ScriptOf (Ok script) text left) → AreAnswers (view script) rs → sent ≡ text_of rs → Sends false sent old new → IfSome from (λ text. RunOf (Err faults.Write) text left old new)
+pub prefix_sent : (sent : List ℕ) (script : Script) (rs : List Answer) (from left old new : Option (List ℕ)) → IfSome from (λ text. ScriptOf (Ok script) text left) → IsPlayed script.size script.max_allocs script.commands.items rs → sent ≡ text_of rs → Sends false sent old new → IfSome from (λ text. RunOf (Err faults.Write) text left old new)
 prefix_sent sent script rs None left old new h played e sends = tt
 prefix_sent sent script rs (Some text) left old new h played e sends = (h.0, record { plan = view script; answers = rs; played = played; front = sends.0; back = sends.1; means = h.1; parts = sym e ∙ sends.2; writes = sends.3 })

@@ -5,11 +5,12 @@ use Rattle.offset_script.specs.Machine.{Tag, Live, Free, is_free, has_number, st
 use Rattle.offset_script.specs.Machine as plain
 use Rattle.offset_allocator.specs.Named as named
 use Rattle.offset_allocator.specs.Named.{Block, tally, units, one}
-use Rattle.offset_script.specs.Agreement.{Label, by_tag, name_of}
+use Rattle.offset_script.specs.Agreement.{Label, name_of}
 use Rattle.offset_script.proofs.Well.{count, hit, hit_number, number_of}
 use Rattle.offset_script.proofs.Well as well
-use Rattle.offset_script.proofs.Labels.{names, tags, not_not, not_false}
+use Rattle.offset_script.proofs.Labels.{names, tags}
 use Rattle.std.specs.List.{AllByRecursion}
+use Rattle.offset_script.proofs.Tests.{not_not, not_false}
 
 -- all of these are free
 abbrev pub AllFree : List Label → Type 0
@@ -94,25 +95,3 @@ name_free k (l ∷ ls) f = name_skip k l ls f.0 ∙ name_free k ls f.1
 pub name_none : (k : ℕ) (ls : List Label) → count (Live k) (tags ls) ≡ 0 → name_of k ls ≡ None
 name_none k [] e = refl
 name_none k (l ∷ ls) e = let ih = name_none k ls (omega arith) in rw (hit_number k l.tag (omega arith)) ih
-
--- a grant whose name is kept
-pub name_missing : (k : ℕ) (ls : List Label) → name_of k ls ≡ None → plain.place_of k (tags ls) ≡ None
-name_missing k [] e = refl
-name_missing k (l ∷ ls) e = go (has_number k l.tag) e (name_missing k ls)
-  where
-    go : (u : Bool) → (if u then Some l.name else name_of k ls) ≡ None → (name_of k ls ≡ None → plain.place_of k (tags ls) ≡ None) → (if u then Some (plain.here (by_tag l) (tags ls)) else plain.prepend_if_found (by_tag l) (plain.place_of k (tags ls))) ≡ None
-    go true e ih = absurd (cc)
-    go false e ih = ap (plain.prepend_if_found (by_tag l)) (ih e)
-
--- where the name of a grant is kept, its block exists
-pub name_found : (k x : ℕ) (ls : List Label) → name_of k ls ≡ Some x
-    → (before : List Label) × (l : Label) × (after : List Label) × (ls ≡ before ++ l ∷ after) × (l.name ≡ x) × (l.tag ≡ Live k) × (plain.place_of k (tags ls) ≡ Some (record { before = tags before; block = by_tag l; after = tags after })) × (name_of k before ≡ None)
-name_found k x [] e = absurd (cc)
-name_found k x (l ∷ ls) e = go (has_number k l.tag) refl e (name_found k x ls)
-  where
-    go : (u : Bool) → has_number k l.tag ≡ u → (if u then Some l.name else name_of k ls) ≡ Some x
-        → (name_of k ls ≡ Some x → (before : List Label) × (m : Label) × (after : List Label) × (ls ≡ before ++ m ∷ after) × (m.name ≡ x) × (m.tag ≡ Live k) × (plain.place_of k (tags ls) ≡ Some (record { before = tags before; block = by_tag m; after = tags after })) × (name_of k before ≡ None))
-        → (before : List Label) × (m : Label) × (after : List Label) × (l ∷ ls ≡ before ++ m ∷ after) × (m.name ≡ x) × (m.tag ≡ Live k)
-        × ((if u then Some (plain.here (by_tag l) (tags ls)) else plain.prepend_if_found (by_tag l) (plain.place_of k (tags ls))) ≡ Some (record { before = tags before; block = by_tag m; after = tags after })) × (name_of k before ≡ None)
-    go true h e ih = ([], l, ls, refl, (cc), number_of k l.tag h, refl, refl)
-    go false h e ih = let r = ih e in (l ∷ r.0, r.1, r.2, ap (λ z. l ∷ z) r.3, r.4, r.5, ap (plain.prepend_if_found (by_tag l)) r.6, rw h r.7)

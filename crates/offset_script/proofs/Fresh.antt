@@ -2,7 +2,7 @@
 use Rattle.std.proofs.Common.{◌≡◌, ℕ, zero, suc, ◌+◌, ◌-◌, ◌*◌, ◌<◌, ◌≤◌, true, false, ◌&&◌, ◌||◌, List, [], ◌∷◌, length, IsTrue, nat_lt, if◌then◌else◌, refl, sym, ap, ap₂, subst, subst₂, le-ltb, ◌∙◌, inl, inr, arith, le-leb}
 use Rattle.std.proofs.lemmas.Bool.{cases_lt, lt-leb, true≢false}
 use Rattle.std.specs.List.{AllByRecursion}
-use Rattle.offset_allocator.specs.Named.{max_size}
+use Rattle.offset_script.specs.Machine.{max_size}
 use Rattle.offset_script.specs.declared.scripts.Command.{Command}
 use Rattle.offset_script.specs.declared.scripts.Command.TheVariants as command
 use Rattle.offset_script.specs.Machine.{Tag, Live, Free, Block, block, is_free, total, State, Answer, start, step, answers, after, returns_only, leaves}
@@ -11,7 +11,7 @@ use Rattle.offset_script.specs.Histories.{renumber, raise_number, fresh_number, 
 use Rattle.offset_script.proofs.Members.{In, map_same}
 use Rattle.offset_script.proofs.Pairs.{Frees, Pair, pair, Agree}
 use Rattle.offset_script.proofs.Alike.{Alike, alike_answers}
-use Rattle.offset_script.proofs.Well.{Well, Apart, count, hit_cases, well_start, well_after}
+use Rattle.offset_script.proofs.Well.{Well, Apart, count, hit_self, well_start, well_after}
 
 -- one free block
 abbrev IsOneFree : List Block → Type 0
@@ -56,18 +56,12 @@ alike_fresh s n x e h = record {
     only a b (inl i) (inr j) = absurd j
     only a b (inr i) j = absurd i
 
-stamp_below : (s : State) → Well s → (n x : ℕ) → s.blocks ≡ block n (Free x) ∷ [] → x < 2 * (s.calls + 1)
-stamp_below s w n x e = elim (cases_lt x (2 * (s.calls + 1))) [
-  | inl l ↦ l
-  | inr l ↦ let o = w.stamped x l in let c = ap (count (Free x)) e in elim (hit_cases x x) [ inl same ↦ absurd (omega arith) | inr differ ↦ absurd (differ.0 refl) ]
-]
-
 pub fresh_law : EmptySpaceContinuesAsFresh
 fresh_law size limit h cs none =
     let s = after cs (start size limit) in
     let w : Well s = well_after cs _ (well_start size limit h) in
     let f : IsOneFree s.blocks = one_free s.blocks w.some w.apart none in
-    λ more. alike_answers _ _ more s (start (total s.blocks) s.limit) (alike_fresh s f.0 f.1 f.2 (stamp_below s w f.0 f.1 f.2))
+    λ more. alike_answers _ _ more s (start (total s.blocks) s.limit) (alike_fresh s f.0 f.1 f.2 (w.old (Free f.1) (let c = ap (count (Free f.1)) f.2 in let h = hit_self (Free f.1) in omega arith)))
 
 -- a fresh space that is extended
 pub raise_none : (a : Answer) → raise_number 0 a ≡ a

@@ -1,7 +1,7 @@
 -- Blocks with both their names and their tags.
-use Rattle.std.proofs.Common.{◌≡◌, ℕ, ◌+◌, ◌<◌, ◌≤◌, Bool, true, false, not, ◌&&◌, ◌⊎◌, List, [], ◌∷◌, ◌++◌, map, nat_eq, if◌then◌else◌, refl, sym, ap, subst, ◌∙◌, inl, inr, arith, eq-eqb, ne_eqb, append_assoc}
+use Rattle.std.proofs.Common.{◌≡◌, ℕ, ◌+◌, ◌<◌, ◌≤◌, true, false, not, ◌&&◌, ◌⊎◌, List, [], ◌∷◌, ◌++◌, map, nat_eq, if◌then◌else◌, refl, sym, ap, subst, ◌∙◌, inl, inr, arith, eq-eqb, ne_eqb, append_assoc}
 use Rattle.std.proofs.lemmas.List.{map-append}
-use Rattle.std.proofs.lemmas.Bool.{cases_lt, true≢false, false≢true}
+use Rattle.std.proofs.lemmas.Bool.{cases_lt}
 use Rattle.offset_allocator.specs.Classes.{down}
 use Rattle.offset_script.specs.Machine.{Tag, Live, Free, is_free, has_number, stamp}
 use Rattle.offset_script.specs.Machine as plain
@@ -11,6 +11,7 @@ use Rattle.offset_script.proofs.Well.{count, hit, hit_self}
 use Rattle.offset_allocator.proofs.ViewOrders.{tally_append, hit_cases, length_remove_all}
 use Rattle.offset_script.proofs.Falling.{falling_remove_all, falling_same, falling_put_all, IsRising}
 use Rattle.offset_allocator.proofs.ViewReplaced.{tally_three, listed_named, orders_replaced}
+use Rattle.offset_script.proofs.Tests.{not_true, not_false}
 
 -- the blocks by name
 abbrev pub names : List Label → List Block
@@ -93,18 +94,6 @@ stamps_below t (l ∷ ls) most low pos x = elim (hit_cases x l.name) [
 abbrev pub Rises : ℕ → List Label → Type 0
 Rises t [] = Unit {0}
 Rises t (l ∷ ls) = (is_free l.tag ≡ false → Rises t ls) × (is_free l.tag ≡ true → (t ≤ stamp l.tag) × Rises (stamp l.tag + 1) ls)
-
-not_true : (b : Bool) → not b ≡ true → b ≡ false
-not_true true e = absurd (false≢true e)
-not_true false e = refl
-
-pub not_not : (b : Bool) → not (not b) ≡ b
-not_not true = refl
-not_not false = refl
-
-pub not_false : (b : Bool) → not b ≡ false → b ≡ true
-not_false true e = refl
-not_false false e = absurd (true≢false e)
 
 rises_named : (f : ℕ → ℕ) (t : ℕ) (ls : List Label) → GivesStamps f ls → Rises t ls → IsRising f t (names ls)
 rises_named f t [] g r = tt

@@ -1,22 +1,24 @@
 -- A nest leaves no trace.
-use Rattle.std.proofs.Common.{length, ◌≡◌, ◌≢◌, ℕ, zero, suc, ◌+◌, ◌-◌, ◌*◌, ◌<◌, ◌≤◌, Bool, true, false, ◌⊎◌, List, [], ◌∷◌, ◌++◌, Option, Some, None, nat_eq, nat_lt, nat_le, if◌then◌else◌, refl, sym, ap, subst, ◌∙◌, inl, inr, arith, leb-false, le-leb, ne_eqb}
+use Rattle.std.proofs.Common.{length, ◌≡◌, ◌≢◌, ℕ, ◌+◌, ◌-◌, ◌*◌, ◌<◌, ◌≤◌, Bool, true, false, ◌⊎◌, List, [], ◌∷◌, ◌++◌, Option, Some, None, nat_eq, nat_lt, nat_le, if◌then◌else◌, refl, sym, ap, subst, ◌∙◌, inl, inr, arith, leb-false, le-leb, ne_eqb}
 use Rattle.std.proofs.lemmas.Bool.{cases_lt, lt-leb}
 use Rattle.offset_script.specs.declared.scripts.Command.{Command}
 use Rattle.offset_script.specs.declared.scripts.Command.TheVariants as command
 use Rattle.offset_allocator.specs.Classes.{up, down}
-use Rattle.offset_script.specs.Machine.{Live, Free, is_free, total, Place, chosen_place, place_of, coalesce, State, Answer, Outcome, start, step, after, request, grant, grant_or_refuse, is_short_of, returns_only, leaves, release, size_at, full_report, stamp_of_call}
-use Rattle.offset_allocator.specs.Named.{max_size, padding_to}
+use Rattle.offset_script.specs.Machine.{Live, Free, is_free, total, Place, chosen_place, place_of, coalesce, State, Answer, Outcome, start, step, after, request, grant, grant_or_refuse, is_short_of, returns_only, leaves, release, size_at, stamp_of_call}
+use Rattle.offset_script.specs.Machine.{max_size, padding_to}
 use Rattle.offset_script.specs.Machine as machine
+use Rattle.offset_allocator.specs.Reports.{rows_below}
 use Rattle.offset_script.specs.Histories.{IsGrant, KeepsSpace, Nest, number_without_nest, NestLeavesNoTrace}
 use Rattle.offset_script.specs.Histories as history
 use Rattle.offset_script.specs.Totals.{requested_units}
 use Rattle.offset_script.proofs.Members.{in_map}
 use Rattle.offset_script.proofs.Pairs.{Kind, Lives, Frees, left_tag, right_tag, left, right, lefts, rights}
 use Rattle.offset_script.proofs.Alike.{Alike, Matched, alike_answers}
-use Rattle.offset_script.proofs.Well.{Well, both_true, in_count, count, chosen_at, well_start, well_after, well_step}
+use Rattle.offset_script.proofs.Well.{Well, in_count, count, chosen_at, well_start, well_after, well_step}
 use Rattle.offset_allocator.proofs.Sizes.{fits_size}
 use Rattle.offset_script.proofs.Similar.{SameNumber, Similar, similar_refl, similar_sym, similar_trans}
 use Rattle.offset_script.proofs.Restored.{Restored, restored}
+use Rattle.offset_script.proofs.Tests.{both_true, if_both}
 
 -- What a call does that keeps the space: it only returns an answer, or grants, or releases.
 
@@ -54,10 +56,6 @@ pub record Only (s : State) (o : Outcome) : Type 0 where
 abbrev pub Does : Command → State → Outcome → Type 0
 Does c s o = Only s o ⊎ (Granted (requested_units c) s o ⊎ Released c s o)
 
-does_if : (c : Command) (s : State) (b : Bool) (o p : Outcome) → (b ≡ true → Does c s o) → (b ≡ false → Does c s p) → Does c s (if b then o else p)
-does_if c s true o p f g = f refl
-does_if c s false o p f g = g refl
-
 only : (c : Command) (s : State) (a : Answer) → IsQuiet a → Does c s (returns_only s a)
 only c s a q = inl (record { answer = a; quiet = q; is = refl })
 
@@ -74,7 +72,7 @@ does_grant c s room needed padding_at h (Some p) e = inr (inl (record {
 }))
 
 does_request : (c : Command) (s : State) (spare : ℕ) → 1 ≤ spare → (needed : ℕ) (padding_at : ℕ → ℕ) → ((o : ℕ) → padding_at o + requested_units c ≤ needed) → Does c s (request s spare needed (requested_units c) padding_at)
-does_request c s spare some needed padding_at h = does_if c s (is_short_of spare s) (returns_only s machine.Refused) (grant_or_refuse s (requested_units c) padding_at (chosen_place needed s.blocks)) (λ e. only c s machine.Refused tt) (λ e. does_grant c s (let l = leb-false s.limit (length s.blocks + spare) e in omega arith) needed padding_at h (chosen_place needed s.blocks) refl)
+does_request c s spare some needed padding_at h = if_both (Does c s) (is_short_of spare s) (returns_only s machine.Refused) (grant_or_refuse s (requested_units c) padding_at (chosen_place needed s.blocks)) (λ e. only c s machine.Refused tt) (λ e. does_grant c s (let l = leb-false s.limit (length s.blocks + spare) e in omega arith) needed padding_at h (chosen_place needed s.blocks) refl)
 
 does_release : (s : State) (k : ℕ) (o : Option Place) → place_of k s.blocks ≡ o → Does (command.Free k) s (release s o)
 does_release s k None e = only (command.Free k) s machine.Gone tt
@@ -96,11 +94,11 @@ does (command.Alloc n) s k = does_request (command.Alloc n) s 1 (omega arith) n 
 does (command.Free k) s h = does_release s k (place_of k s.blocks) refl
 does (command.Size k) s h = only (command.Size k) s _ (quiet_size (place_of k s.blocks))
 does command.Report s h = only command.Report s _ (quiet_report (is_short_of 1 s) _ _)
-does command.Full s h = only command.Full s (full_report s) tt
+does command.Full s h = only command.Full s (machine.Full (rows_below 256 (machine.free_sizes s.blocks))) tt
 does command.Reset s h = absurd h
-does (command.Align n align) s h = does_if (command.Align n align) s (nat_le align 1) (step (command.Alloc n) s) (if nat_lt max_size (n + align - 1) then returns_only s machine.Refused else request s 2 (n + align - 1) n (padding_to align))
+does (command.Align n align) s h = if_both (Does (command.Align n align) s) (nat_le align 1) (step (command.Alloc n) s) (if nat_lt max_size (n + align - 1) then returns_only s machine.Refused else request s 2 (n + align - 1) n (padding_to align))
     (λ e. does_request (command.Align n align) s 1 (omega arith) n (λ offset. 0) (λ o. omega arith))
-    (λ e. does_if (command.Align n align) s (nat_lt max_size (n + align - 1)) (returns_only s machine.Refused) (request s 2 (n + align - 1) n (padding_to align)) (λ f. only (command.Align n align) s machine.Refused tt)
+    (λ e. if_both (Does (command.Align n align) s) (nat_lt max_size (n + align - 1)) (returns_only s machine.Refused) (request s 2 (n + align - 1) n (padding_to align)) (λ f. only (command.Align n align) s machine.Refused tt)
     (λ f. does_request (command.Align n align) s 2 (omega arith) (n + align - 1) (padding_to align) (λ o. padding_fits n align o (leb-false align 1 e))))
 does (command.Extend more) s h = absurd h
 
@@ -194,17 +192,9 @@ number_without_nest_past g j k l = elim (number_without_nest_cases g j k) [ inl 
 number_without_nest_future : (g j k : ℕ) → g + j < k → number_without_nest g j k + j ≡ k
 number_without_nest_future g j k l = elim (number_without_nest_cases g j k) [ inl h ↦ absurd (omega arith) | inr (inl h) ↦ absurd (omega arith) | inr (inr h) ↦ omega arith ]
 
--- the stamps of blocks are below the next, and their numbers are those of grants
-stamp_below : (s : State) → Well s → (x : ℕ) → 1 ≤ count (Free x) s.blocks → x < 2 * (s.calls + 1)
-stamp_below s w x c = elim (cases_lt x (2 * (s.calls + 1))) [ inl l ↦ l | inr l ↦ let o = w.stamped x l in absurd (omega arith) ]
-
-pub number_within : (s : State) → Well s → (k : ℕ) → 1 ≤ count (Live k) s.blocks → (1 ≤ k) × (k ≤ s.grants)
-number_within s w zero c = let o = w.from_one in absurd (omega arith)
-number_within s w (suc k) c = elim (cases_lt s.grants (suc k)) [ inl l ↦ let o = w.granted (suc k) l in absurd (omega arith) | inr l ↦ (omega arith, l) ]
-
 matched_kind : (s t : State) → Well s → Well t → (j : ℕ) (q : Kind) → SameNumber q → 1 ≤ count (left_tag q) t.blocks → 1 ≤ count (right_tag q) s.blocks → Matched (number_without_nest s.grants j) (2 * (t.calls + 1)) (2 * (s.calls + 1)) q
-matched_kind s t w v j (Lives i i') e c d = λ k. let b = number_within s w i' d in subst (λ x. nat_eq k x ≡ nat_eq (number_without_nest s.grants j k) i') (sym e) (number_without_nest_kept s.grants j i' k b.0 b.1)
-matched_kind s t w v j (Frees x y) e c d = (stamp_below t v x c, stamp_below s w y d)
+matched_kind s t w v j (Lives i i') e c d = λ k. let b = w.old (Live i') d in subst (λ x. nat_eq k x ≡ nat_eq (number_without_nest s.grants j k) i') (sym e) (number_without_nest_kept s.grants j i' k b.0 b.1)
+matched_kind s t w v j (Frees x y) e c d = (v.old (Free x) c, w.old (Free y) d)
 
 alike_after : (s t : State) → Well s → Well t → Traceless s t → Alike (number_without_nest s.grants (t.grants - s.grants)) (t.grants - s.grants) t s
 alike_after s t w v m = record {

@@ -1,12 +1,13 @@
 -- Two lists of blocks of the same sizes, both live or both free at each place, seen as one list of pairs.
-use Rattle.std.proofs.Common.{◌≡◌, ℕ, zero, suc, ◌+◌, ◌-◌, Bool, true, false, ◌&&◌, ◌||◌, ◌⊎◌, List, [], ◌∷◌, ◌++◌, map, length, Option, Some, None, nat_eq, nat_lt, nat_le, if◌then◌else◌, refl, sym, ap, ap₂, subst, subst₂, ◌∙◌, inl, inr, arith, eq-eqb, eqb-true}
+use Rattle.std.proofs.Common.{◌≡◌, ℕ, zero, suc, ◌+◌, ◌-◌, true, false, ◌&&◌, ◌||◌, ◌⊎◌, List, [], ◌∷◌, ◌++◌, map, length, Option, Some, None, option_map, nat_eq, nat_lt, nat_le, if◌then◌else◌, refl, sym, ap, ap₂, subst, subst₂, ◌∙◌, inl, inr, arith, eq-eqb, eqb-true}
 use Rattle.std.proofs.lemmas.List.{map-append}
 use Rattle.std.proofs.lemmas.Bool.{false≢true}
 use Rattle.offset_allocator.specs.Classes.{up, down}
-use Rattle.offset_script.specs.Machine.{Tag, Live, Free, Block, block, is_free, has_number, stamp, total, free_sizes, Place, fits, is_taken_before, choose, chosen_place, prepend_if_found, place_of, free_block, ends_live, coalesce, State, is_short_of}
-use Rattle.offset_allocator.specs.Named.{max_size}
+use Rattle.offset_script.specs.Machine.{Tag, Live, Free, Block, block, is_free, has_number, stamp, total, free_sizes, Place, fits, is_taken_before, choose, chosen_place, prepend, place_of, free_block, ends_live, coalesce, State, is_short_of}
+use Rattle.offset_script.specs.Machine.{max_size}
 use Rattle.offset_script.proofs.Members.{In, in_append, in_left, in_right, map_parts}
-use Rattle.offset_script.proofs.Well.{both_true, starts_free, ends_free, AllFree, IsEnd, IsStart, Coalesced, coalesced, coalesce_parts}
+use Rattle.offset_script.proofs.Well.{starts_free, ends_free, AllFree, IsEnd, IsStart, Coalesced, coalesced, coalesce_parts}
+use Rattle.offset_script.proofs.Tests.{both_true, same_and, if_same}
 
 -- two blocks at one place: both live, with their numbers, or both free, with their stamps
 pub data Kind : Type 0 where
@@ -151,20 +152,14 @@ pub data SamePlace (P : Pair → Type 0) (p : List Pair) : Option Place → Opti
   neither : SamePlace P p None None
   both : (xs : List Pair) (q : Pair) (ys : List Pair) → p ≡ xs ++ q ∷ ys → P q → SamePlace P p (Some (record { before = lefts xs; block = left q; after = lefts ys })) (Some (record { before = rights xs; block = right q; after = rights ys }))
 
-same_later : (P : Pair → Type 0) (q : Pair) (p : List Pair) (o o' : Option Place) → SamePlace P p o o' → SamePlace P (q ∷ p) (prepend_if_found (left q) o) (prepend_if_found (right q) o')
+same_later : (P : Pair → Type 0) (q : Pair) (p : List Pair) (o o' : Option Place) → SamePlace P p o o' → SamePlace P (q ∷ p) (option_map (prepend (left q)) o) (option_map (prepend (right q)) o')
 same_later P q p None None neither = neither
 same_later P q p o o' (both xs x ys e f) = both (q ∷ xs) x ys (ap (λ l. q ∷ l) e) f
-
-same_if : (P : Pair → Type 0) (p : List Pair) (b c : Bool) (x y x' y' : Option Place) → b ≡ c → (b ≡ true → SamePlace P p x x') → SamePlace P p y y' → SamePlace P p (if b then x else y) (if c then x' else y')
-same_if P p true true x y x' y' e f g = f refl
-same_if P p false false x y x' y' e f g = g
-same_if P p true false x y x' y' e f g = absurd (false≢true (sym e))
-same_if P p false true x y x' y' e f g = absurd (false≢true e)
 
 -- the places of numbers that occur at the same pairs
 pub same_place_of : (k k' : ℕ) (p : List Pair) → ((q : Pair) → In q p → has_number k (left_tag q.kind) ≡ has_number k' (right_tag q.kind)) → SamePlace (λ q. Unit {0}) p (place_of k (lefts p)) (place_of k' (rights p))
 same_place_of k k' [] same = neither
-same_place_of k k' (q ∷ p) same = same_if (λ q. Unit {0}) (q ∷ p) _ _ _ _ _ _ (same q (inl refl)) (λ e. both [] q p refl tt) (same_later (λ q. Unit {0}) q p _ _ (same_place_of k k' p (λ x h. same x (inr h))))
+same_place_of k k' (q ∷ p) same = if_same (SamePlace (λ q. Unit {0}) (q ∷ p)) _ _ _ _ _ _ (same q (inl refl)) (λ e. both [] q p refl tt) (same_later (λ q. Unit {0}) q p _ _ (same_place_of k k' p (λ x h. same x (inr h))))
 
 -- of two free pairs of one class, the stamps have the same order on both sides
 abbrev pub SameOrder : Kind → Kind → Type 0
@@ -183,10 +178,6 @@ AllAgree p = (a b : Pair) → In a p → In b p → Agree a b
 same_fits : (n : ℕ) (q : Pair) → fits n (left q) ≡ fits n (right q)
 same_fits n q = ap (λ b. b && nat_le (up n) (down q.size)) (same_free q.kind)
 
-same_and : (x y z : Bool) → (x ≡ true → y ≡ z) → (x && y) ≡ (x && z)
-same_and true y z h = h refl
-same_and false y z h = refl
-
 same_tests : (x y : ℕ) (k l : Kind) → is_free (left_tag k) ≡ true → is_free (left_tag l) ≡ true → (nat_eq y x ≡ true → SameOrder l k)
     → (nat_lt x y || (nat_eq x y && nat_lt (stamp (left_tag l)) (stamp (left_tag k)))) ≡ (nat_lt x y || (nat_eq x y && nat_lt (stamp (right_tag l)) (stamp (right_tag k))))
 same_tests x y (Frees s u) (Frees t v) f g h = ap (λ b. nat_lt x y || b) (same_and (nat_eq x y) _ _ (λ e. h (eq-eqb y x (sym (eqb-true x y e)))))
@@ -199,8 +190,8 @@ same_test m a b f g h = same_tests (down a.size) (down b.size) a.kind b.kind (bo
 
 -- what is chosen, where any two pairs agree
 choose_same : (n : ℕ) (q : Pair) (p : List Pair) (o o' : Option Place) → AllAgree (q ∷ p) → SamePlace (λ x. fits n (left x) ≡ true) p o o' → SamePlace (λ x. fits n (left x) ≡ true) (q ∷ p) (choose n (left q) (lefts p) o) (choose n (right q) (rights p) o')
-choose_same n q p None None agree neither = same_if _ (q ∷ p) _ _ _ _ _ _ (same_fits n q) (λ e. both [] q p refl e) neither
-choose_same n q p o o' agree (both xs x ys e f) = same_if (λ x. fits n (left x) ≡ true) (q ∷ p) _ _ _ _ _ _
+choose_same n q p None None agree neither = if_same (SamePlace _ (q ∷ p)) _ _ _ _ _ _ (same_fits n q) (λ e. both [] q p refl e) neither
+choose_same n q p o o' agree (both xs x ys e f) = if_same (SamePlace (λ x. fits n (left x) ≡ true) (q ∷ p)) _ _ _ _ _ _
     (same_and (fits n (left q)) _ _ (λ g. same_test n q x g f (agree x q (inr (subst (In x) (sym e) (in_right x xs (x ∷ ys) (inl refl)))) (inl refl))) ∙ ap (λ b. b && is_taken_before (right q) (right x)) (same_fits n q))
     (λ h. both [] q p refl (both_true _ _ h).0) (both (q ∷ xs) x ys (ap (λ l. q ∷ l) e) f)
 

@@ -1,14 +1,15 @@
 -- A release after a grant, with a nest between them, restores the block that was split, as the newest of its class.
-use Rattle.std.proofs.Common.{◌≡◌, ℕ, ◌+◌, ◌-◌, ◌*◌, ◌<◌, ◌≤◌, true, false, ◌&&◌, ◌||◌, ◌⊎◌, List, [], ◌∷◌, ◌++◌, Some, nat_eq, nat_lt, nat_le, refl, sym, ap, ap₂, subst, subst₂, ◌∙◌, inl, inr, arith, append_assoc, eqb-true, eq-eqb, lt-ltb, le-ltb}
+use Rattle.std.proofs.Common.{◌≡◌, ℕ, ◌+◌, ◌-◌, ◌<◌, ◌≤◌, true, false, ◌&&◌, ◌||◌, ◌⊎◌, List, [], ◌∷◌, ◌++◌, Some, nat_eq, nat_lt, nat_le, refl, sym, ap, ap₂, subst, subst₂, ◌∙◌, inl, inr, arith, append_assoc, eqb-true, eq-eqb, lt-ltb, le-ltb}
 use Rattle.std.proofs.lemmas.List.{map-append}
-use Rattle.std.proofs.lemmas.Bool.{cases_lt, cases_eq, false≢true}
+use Rattle.std.proofs.lemmas.Bool.{cases_eq, false≢true}
 use Rattle.std.proofs.lemmas.Bool.Decides.{nat_tests}
 use Rattle.offset_allocator.specs.Classes.{up, down}
 use Rattle.offset_script.specs.Machine.{Tag, Live, Free, Block, block, is_free, has_number, stamp, total, Place, fits, place_of, free_block, coalesce, State, stamp_of_call, stamp_of_padding}
 use Rattle.offset_script.proofs.Members.{In, in_append, in_left, in_right, in_map, map_parts, map_first}
 use Rattle.offset_script.proofs.Pairs.{Kind, Lives, Frees, Pair, pair, left_tag, right_tag, left, right, lefts, rights, same_total, same_end, same_start, Agree, AllAgree, SameOrder}
-use Rattle.offset_script.proofs.Well.{Well, both_true, left_false, right_false, whole, count, hit, hit_self, in_count, count-append, count_free_block, starts_free, ends_free, Apart, apart_parts, IsEnd, IsStart, end_of, start_of, coalesce_parts, free_part, place_at, IsBest, granted_blocks}
+use Rattle.offset_script.proofs.Well.{Well, not_there, whole, count, hit, hit_self, in_count, count-append, count_free_block, starts_free, ends_free, Apart, apart_parts, IsEnd, IsStart, end_of, start_of, coalesce_parts, free_part, place_at, IsBest, granted_blocks}
 use Rattle.offset_script.proofs.Similar.{SameNumber, Similar}
+use Rattle.offset_script.proofs.Tests.{both_true, left_false, right_false}
 
 same_hit : (k : ℕ) (q : Kind) → SameNumber q → hit (Live k) (left_tag q) ≡ hit (Live k) (right_tag q)
 same_hit k (Lives i j) e = ap (λ x. hit (Live k) (Live x)) e
@@ -52,43 +53,6 @@ older s w p n u e tag f best z t i same =
         let l = elsewhere i in
         let o = w.once (Free t) in
         omega (arith, own, l, o, ap (count (Free t)) e, count-append (Free t) p.before (p.block ∷ p.after))
-
--- the pairs after a grant, one part after the other
-record Parts (ps : List Pair) (p : Place) (n padding front k rest : ℕ) : Type 0 where
-  before : List Pair
-  padding_bit : List Pair
-  live : Pair
-  remainder_bit : List Pair
-  after : List Pair
-  whole : ps ≡ before ++ (padding_bit ++ (live ∷ (remainder_bit ++ after)))
-  on_before : lefts before ≡ p.before
-  on_padding : lefts padding_bit ≡ free_block padding front
-  on_live : left live ≡ block n (Live k)
-  on_remainder : lefts remainder_bit ≡ free_block (p.block.size - (padding + n)) rest
-  on_after : lefts after ≡ p.after
-
-whole_parts : (ps xs a fs b : List Pair) (l : Pair) (c rs ys : List Pair) → ps ≡ xs ++ a → a ≡ fs ++ b → b ≡ l ∷ c → c ≡ rs ++ ys → ps ≡ xs ++ (fs ++ (l ∷ (rs ++ ys)))
-whole_parts ps xs a fs b l c rs ys e f g h = e ∙ ap (λ z. xs ++ z) (f ∙ ap (λ z. fs ++ z) (g ∙ ap (λ z. l ∷ z) h))
-
-parts_of : (ps : List Pair) (p : Place) (n padding front k rest : ℕ) → granted_blocks p n padding front k rest ≡ lefts ps → Parts ps p n padding front k rest
-parts_of ps p n padding front k rest e =
-    let a = map_parts left ps p.before (free_block padding front ++ (block n (Live k) ∷ (free_block (p.block.size - (padding + n)) rest ++ p.after))) (sym e) in
-    let b = map_parts left a.1 (free_block padding front) (block n (Live k) ∷ (free_block (p.block.size - (padding + n)) rest ++ p.after)) a.4 in
-    let c = map_first left b.1 (block n (Live k)) (free_block (p.block.size - (padding + n)) rest ++ p.after) b.4 in
-    let d = map_parts left c.1 (free_block (p.block.size - (padding + n)) rest) p.after c.4 in
-    record {
-      before = a.0;
-      padding_bit = b.0;
-      live = c.0;
-      remainder_bit = d.0;
-      after = d.1;
-      whole = whole_parts ps a.0 a.1 b.0 b.1 c.0 c.1 d.0 d.1 a.2 b.2 c.2 d.2;
-      on_before = a.3;
-      on_padding = b.3;
-      on_live = c.3;
-      on_remainder = d.3;
-      on_after = d.4;
-    }
 
 rights_parts : (xs fs : List Pair) (l : Pair) (rs ys : List Pair) → rights (xs ++ (fs ++ (l ∷ (rs ++ ys)))) ≡ (rights xs ++ rights fs) ++ right l ∷ (rights rs ++ rights ys)
 rights_parts xs fs l rs ys = map-append right xs _ ∙ ap (λ z. rights xs ++ z) (map-append right fs _ ∙ ap (λ z. rights fs ++ right l ∷ z) (map-append right rs ys)) ∙ sym (append_assoc (rights xs) (rights fs) _)
@@ -149,33 +113,49 @@ free_stamp (Live k) e = absurd (false≢true e)
 none_in_all : (s : State) → Well s → (k : ℕ) (xs : List Block) (b : Block) (ys : List Block) → s.blocks ≡ xs ++ b ∷ ys → s.grants < k → (before padding_bit : List Pair) (padding front : ℕ) → lefts before ≡ xs → lefts padding_bit ≡ free_block padding front
     → ((q : Pair) → In q before → SameNumber q.kind) → ((q : Pair) → In q padding_bit → SameNumber q.kind) → count (Live k) (rights before ++ rights padding_bit) ≡ 0
 none_in_all s w k xs b ys e l before padding_bit padding front on_before on_padding n m =
-    let all = w.granted k l in
+    let all = not_there s w (Live k) (λ o. absurd (let m = o.1 in omega arith)) in
     let free : count (Live k) (free_block padding front) ≤ 0 = count_free_block (Live k) padding front in
     omega (arith, all, free, ap (count (Live k)) e, count-append (Live k) xs (b ∷ ys), count-append (Live k) (rights before) (rights padding_bit), same_count k before n, same_count k padding_bit m, ap (count (Live k)) on_before, ap (count (Live k)) on_padding)
 
 pub restored : (s : State) → Well s → (p : Place) (needed n padding : ℕ) → s.blocks ≡ whole p → fits needed p.block ≡ true → IsBest needed s.blocks p.block → padding + n ≤ p.block.size
     → (t : State) → Well t → Similar (granted_blocks p n padding (stamp_of_padding s) (s.grants + 1) (stamp_of_call s)) t.blocks → Restored s t
 restored s w p needed n padding e f best enough t v m = record {
-  place = record { before = rights parts.before ++ rights parts.padding_bit; block = right parts.live; after = rights parts.remainder_bit ++ rights parts.after };
-  found = ap (place_of (s.grants + 1)) blocks ∙ place_at (s.grants + 1) _ (right parts.live) _ none_before (live_number parts.live.kind (s.grants + 1) (ap (λ (b : Block). b.tag) parts.on_live) (m.numbers parts.live live_in));
-  similar = subst₂ Similar left_side (sym right_side) (similar_restored m.pairs parts.before parts.after z (stamp p.block.tag) (stamp_of_call t) old m.numbers m.agree newest);
+  place = record { before = rights a.0 ++ rights b.0; block = right c.0; after = rights d.0 ++ rights d.1 };
+  found = ap (place_of (s.grants + 1)) blocks ∙ place_at (s.grants + 1) _ (right c.0) _ none_before (live_number c.0.kind (s.grants + 1) (ap (λ (b : Block). b.tag) c.3) (m.numbers c.0 live_in));
+  similar = subst₂ Similar left_side (sym right_side) (similar_restored m.pairs a.0 d.1 z (stamp p.block.tag) (stamp_of_call t) old m.numbers m.agree newest);
 }
   where
     z : ℕ
     z = p.block.size
 
-    parts : Parts m.pairs p n padding (stamp_of_padding s) (s.grants + 1) (stamp_of_call s)
-    parts = parts_of m.pairs p n padding (stamp_of_padding s) (s.grants + 1) (stamp_of_call s) m.left_blocks
+    rest : List Block
+    rest = free_block (z - (padding + n)) (stamp_of_call s)
 
-    blocks : t.blocks ≡ (rights parts.before ++ rights parts.padding_bit) ++ right parts.live ∷ (rights parts.remainder_bit ++ rights parts.after)
-    blocks = m.right_blocks ∙ ap rights parts.whole ∙ rights_parts parts.before parts.padding_bit parts.live parts.remainder_bit parts.after
+    -- the pairs after the grant, one part after the other
+    a : (front : List Pair) × (back : List Pair) × (m.pairs ≡ front ++ back) × (lefts front ≡ p.before) × (lefts back ≡ free_block padding (stamp_of_padding s) ++ (block n (Live (s.grants + 1)) ∷ (rest ++ p.after)))
+    a = map_parts left m.pairs p.before (free_block padding (stamp_of_padding s) ++ (block n (Live (s.grants + 1)) ∷ (rest ++ p.after))) (sym m.left_blocks)
 
-    live_in : In parts.live m.pairs
-    live_in = subst (In parts.live) (sym parts.whole) (in_right parts.live parts.before (parts.padding_bit ++ (parts.live ∷ (parts.remainder_bit ++ parts.after))) (in_right parts.live parts.padding_bit (parts.live ∷ (parts.remainder_bit ++ parts.after)) (inl refl)))
+    b : (front : List Pair) × (back : List Pair) × (a.1 ≡ front ++ back) × (lefts front ≡ free_block padding (stamp_of_padding s)) × (lefts back ≡ block n (Live (s.grants + 1)) ∷ (rest ++ p.after))
+    b = map_parts left a.1 (free_block padding (stamp_of_padding s)) (block n (Live (s.grants + 1)) ∷ (rest ++ p.after)) a.4
 
-    old : (q : Pair) → In q parts.before ⊎ In q parts.after → In q m.pairs
-    old q (inl i) = subst (In q) (sym parts.whole) (in_left q parts.before (parts.padding_bit ++ (parts.live ∷ (parts.remainder_bit ++ parts.after))) i)
-    old q (inr i) = subst (In q) (sym parts.whole) (in_right q parts.before (parts.padding_bit ++ (parts.live ∷ (parts.remainder_bit ++ parts.after))) (in_right q parts.padding_bit (parts.live ∷ (parts.remainder_bit ++ parts.after)) (inr (in_right q parts.remainder_bit parts.after i))))
+    c : (q : Pair) × (back : List Pair) × (b.1 ≡ q ∷ back) × (left q ≡ block n (Live (s.grants + 1))) × (lefts back ≡ rest ++ p.after)
+    c = map_first left b.1 (block n (Live (s.grants + 1))) (rest ++ p.after) b.4
+
+    d : (front : List Pair) × (back : List Pair) × (c.1 ≡ front ++ back) × (lefts front ≡ rest) × (lefts back ≡ p.after)
+    d = map_parts left c.1 rest p.after c.4
+
+    parts_whole : m.pairs ≡ a.0 ++ (b.0 ++ (c.0 ∷ (d.0 ++ d.1)))
+    parts_whole = a.2 ∙ ap (λ y. a.0 ++ y) (b.2 ∙ ap (λ y. b.0 ++ y) (c.2 ∙ ap (λ y. c.0 ∷ y) d.2))
+
+    blocks : t.blocks ≡ (rights a.0 ++ rights b.0) ++ right c.0 ∷ (rights d.0 ++ rights d.1)
+    blocks = m.right_blocks ∙ ap rights parts_whole ∙ rights_parts a.0 b.0 c.0 d.0 d.1
+
+    live_in : In c.0 m.pairs
+    live_in = subst (In c.0) (sym parts_whole) (in_right c.0 a.0 (b.0 ++ (c.0 ∷ (d.0 ++ d.1))) (in_right c.0 b.0 (c.0 ∷ (d.0 ++ d.1)) (inl refl)))
+
+    old : (q : Pair) → In q a.0 ⊎ In q d.1 → In q m.pairs
+    old q (inl i) = subst (In q) (sym parts_whole) (in_left q a.0 (b.0 ++ (c.0 ∷ (d.0 ++ d.1))) i)
+    old q (inr i) = subst (In q) (sym parts_whole) (in_right q a.0 (b.0 ++ (c.0 ∷ (d.0 ++ d.1))) (in_right q b.0 (c.0 ∷ (d.0 ++ d.1)) (inr (in_right q d.0 d.1 i))))
 
     free : is_free p.block.tag ≡ true
     free = (both_true (is_free p.block.tag) (nat_le (up needed) (down p.block.size)) f).0
@@ -186,36 +166,36 @@ restored s w p needed n padding e f best enough t v m = record {
     apart : Apart p.before × (((is_free p.block.tag && starts_free p.after) ≡ false) × Apart p.after) × ((ends_free p.before && is_free p.block.tag) ≡ false)
     apart = apart_parts p.before (p.block ∷ p.after) (subst Apart e w.apart)
 
-    ends : IsEnd (rights parts.before) (rights parts.padding_bit)
-    ends = same_end parts.before parts.padding_bit (subst₂ IsEnd (sym parts.on_before) (sym parts.on_padding)
+    ends : IsEnd (rights a.0) (rights b.0)
+    ends = same_end a.0 b.0 (subst₂ IsEnd (sym a.3) (sym b.3)
         (end_of p.before (free_block padding (stamp_of_padding s)) (free_part padding _).0 (free_part padding _).1 (left_false (ends_free p.before) (is_free p.block.tag) apart.2 free)))
 
-    starts : IsStart (rights parts.remainder_bit) (rights parts.after)
-    starts = same_start parts.remainder_bit parts.after (subst₂ IsStart (sym parts.on_remainder) (sym parts.on_after)
+    starts : IsStart (rights d.0) (rights d.1)
+    starts = same_start d.0 d.1 (subst₂ IsStart (sym d.3) (sym d.4)
         (start_of (free_block (z - (padding + n)) (stamp_of_call s)) p.after (free_part _ _).0 (free_part _ _).1 (right_false (is_free p.block.tag) (starts_free p.after) apart.1.0 free)))
 
-    right_side : coalesce (rights parts.before ++ rights parts.padding_bit) parts.live.size (stamp_of_call t) (rights parts.remainder_bit ++ rights parts.after) ≡ rights parts.before ++ block z (Free (stamp_of_call t)) ∷ rights parts.after
-    right_side = coalesce_parts (rights parts.before) (rights parts.padding_bit) parts.live.size (stamp_of_call t) (rights parts.remainder_bit) (rights parts.after) ends starts
-        ∙ ap (λ x. rights parts.before ++ block x (Free (stamp_of_call t)) ∷ rights parts.after) (let l : parts.live.size ≡ n = ap (λ (b : Block). b.size) parts.on_live in
-        omega (arith, l, same_total parts.padding_bit, ap total parts.on_padding, (free_part padding (stamp_of_padding s)).2, same_total parts.remainder_bit, ap total parts.on_remainder, (free_part (z - (padding + n)) (stamp_of_call s)).2))
+    right_side : coalesce (rights a.0 ++ rights b.0) c.0.size (stamp_of_call t) (rights d.0 ++ rights d.1) ≡ rights a.0 ++ block z (Free (stamp_of_call t)) ∷ rights d.1
+    right_side = coalesce_parts (rights a.0) (rights b.0) c.0.size (stamp_of_call t) (rights d.0) (rights d.1) ends starts
+        ∙ ap (λ x. rights a.0 ++ block x (Free (stamp_of_call t)) ∷ rights d.1) (let l : c.0.size ≡ n = ap (λ (b : Block). b.size) c.3 in
+        omega (arith, l, same_total b.0, ap total b.3, (free_part padding (stamp_of_padding s)).2, same_total d.0, ap total d.3, (free_part (z - (padding + n)) (stamp_of_call s)).2))
 
-    left_side : lefts parts.before ++ block z (Free (stamp p.block.tag)) ∷ lefts parts.after ≡ s.blocks
-    left_side = ap₂ (λ x y. x ++ block z (Free (stamp p.block.tag)) ∷ y) parts.on_before parts.on_after ∙ ap (λ x. p.before ++ block z x ∷ p.after) (sym tag) ∙ sym e
+    left_side : lefts a.0 ++ block z (Free (stamp p.block.tag)) ∷ lefts d.1 ≡ s.blocks
+    left_side = ap₂ (λ x y. x ++ block z (Free (stamp p.block.tag)) ∷ y) a.3 d.4 ∙ ap (λ x. p.before ++ block z x ∷ p.after) (sym tag) ∙ sym e
 
-    none_before : count (Live (s.grants + 1)) (rights parts.before ++ rights parts.padding_bit) ≡ 0
-    none_before = none_in_all s w (s.grants + 1) p.before p.block p.after e (omega arith) parts.before parts.padding_bit padding (stamp_of_padding s) parts.on_before parts.on_padding
-        (λ q i. m.numbers q (old q (inl i))) (λ q i. m.numbers q (subst (In q) (sym parts.whole) (in_right q parts.before (parts.padding_bit ++ (parts.live ∷ (parts.remainder_bit ++ parts.after))) (in_left q parts.padding_bit (parts.live ∷ (parts.remainder_bit ++ parts.after)) i))))
+    none_before : count (Live (s.grants + 1)) (rights a.0 ++ rights b.0) ≡ 0
+    none_before = none_in_all s w (s.grants + 1) p.before p.block p.after e (omega arith) a.0 b.0 padding (stamp_of_padding s) a.3 b.3
+        (λ q i. m.numbers q (old q (inl i))) (λ q i. m.numbers q (subst (In q) (sym parts_whole) (in_right q a.0 (b.0 ++ (c.0 ∷ (d.0 ++ d.1))) (in_left q b.0 (c.0 ∷ (d.0 ++ d.1)) i))))
 
     below : (q : Pair) (y : ℕ) → In q m.pairs → right_tag q.kind ≡ Free y → y < stamp_of_call t
     below q y i k = let c = subst (λ x. 1 ≤ count x t.blocks) k (subst (λ bs. 1 ≤ count (right_tag q.kind) bs) (sym m.right_blocks) (in_count (right q) (rights m.pairs) (in_map right q m.pairs i))) in
-        elim (cases_lt y (2 * (t.calls + 1))) [ inl l ↦ omega arith | inr l ↦ let o = v.stamped y l in absurd (omega (arith, o, c)) ]
+        let o = v.old (Free y) c in omega arith
 
-    newest : (q : Pair) (x y : ℕ) → In q parts.before ⊎ In q parts.after → q.kind ≡ Frees x y → nat_eq (down q.size) (down z) ≡ true → (x < stamp p.block.tag) × (y < stamp_of_call t)
+    newest : (q : Pair) (x y : ℕ) → In q a.0 ⊎ In q d.1 → q.kind ≡ Frees x y → nat_eq (down q.size) (down z) ≡ true → (x < stamp p.block.tag) × (y < stamp_of_call t)
     newest q x y i k same = (older s w p needed (stamp p.block.tag) e tag f best q.size x (stood i) same, below q y (old q i) (ap right_tag k))
       where
         own : (bs : List Block) → In (left q) bs → In (block q.size (Free x)) bs
         own bs h = subst (λ c. In (block q.size c) bs) (ap left_tag k) h
 
-        stood : In q parts.before ⊎ In q parts.after → In (block q.size (Free x)) p.before ⊎ In (block q.size (Free x)) p.after
-        stood (inl h) = inl (own p.before (subst (In (left q)) parts.on_before (in_map left q parts.before h)))
-        stood (inr h) = inr (own p.after (subst (In (left q)) parts.on_after (in_map left q parts.after h)))
+        stood : In q a.0 ⊎ In q d.1 → In (block q.size (Free x)) p.before ⊎ In (block q.size (Free x)) p.after
+        stood (inl h) = inl (own p.before (subst (In (left q)) a.3 (in_map left q a.0 h)))
+        stood (inr h) = inr (own p.after (subst (In (left q)) d.4 (in_map left q d.1 h)))

@@ -1,14 +1,49 @@
 -- Lists of blocks that differ only in stamps of the same order in each class.
-use Rattle.std.proofs.Common.{◌≡◌, ℕ, true, List, [], ◌∷◌, map, nat_eq, nat_lt, refl, sym, ap, ap₂, subst, subst₂, ◌∙◌, inl, inr, arith}
+use Rattle.std.proofs.Common.{◌≡◌, ℕ, zero, suc, true, List, [], ◌∷◌, Option, Some, is_none, nat_eq, nat_lt, get_or, refl, sym, ap, ap₂, subst, subst₂, ◌∙◌, inl, inr, arith}
+use Rattle.std.proofs.lemmas.Bool.{false≢true}
+use Rattle.std.proofs.Math.ListN.{get_or-map}
 use Rattle.offset_allocator.specs.Classes.{down}
-use Rattle.offset_script.specs.Machine.{Tag, Live, Free, Block, block}
-use Rattle.offset_script.proofs.Members.{In, map_in, map_twice, map_same}
+use Rattle.offset_script.specs.Machine.{Tag, Live, Free, Block, block, is_free, stamp}
+use Rattle.offset_script.specs.Histories.{holder, outline}
+use Rattle.offset_script.proofs.Members.{In}
 use Rattle.offset_script.proofs.Pairs.{Kind, Lives, Frees, Pair, pair, left_tag, right_tag, left, right, lefts, rights, Agree, AllAgree, SameOrder}
 
 -- a live pair has one number
 abbrev pub SameNumber : Kind → Type 0
 SameNumber (Lives i j) = i ≡ j
 SameNumber (Frees s u) = Unit {0}
+
+-- two lists of blocks of the same sizes and numbers
+pub record Paired (bs cs : List Block) : Type 0 where
+  pub pairs : List Pair
+  pub left_blocks : bs ≡ lefts pairs
+  pub right_blocks : cs ≡ rights pairs
+  pub numbers : (q : Pair) → In q pairs → SameNumber q.kind
+
+paired_tag : (t u : Tag) → holder t ≡ holder u → (k : Kind) × (t ≡ left_tag k) × (u ≡ right_tag k) × SameNumber k
+paired_tag (Live i) (Live j) e = (Lives i j, refl, refl, number i j e)
+  where
+    number : (i j : ℕ) → ◌≡◌ {A = Option ℕ} (Some i) (Some j) → i ≡ j
+    number i j e = cc
+paired_tag (Live i) (Free s) e = absurd (grind (arith, e))
+paired_tag (Free s) (Live i) e = absurd (grind (arith, e))
+paired_tag (Free s) (Free u) e = (Frees s u, refl, refl, tt)
+
+paired_cons : (b c : Block) (bs cs : List Block) → ◌≡◌ {A = ℕ × Option ℕ} (b.size, holder b.tag) (c.size, holder c.tag) → Paired bs cs → Paired (b ∷ bs) (c ∷ cs)
+paired_cons b c bs cs e p =
+    let t = paired_tag b.tag c.tag (ap (λ (x : ℕ × Option ℕ). x.1) e) in
+    record {
+      pairs = pair b.size t.0 ∷ p.pairs;
+      left_blocks = ap₂ (λ t l. block b.size t ∷ l) t.1 p.left_blocks;
+      right_blocks = ap₂ (λ (x : Block) l. x ∷ l) (ap₂ block (ap (λ (x : ℕ × Option ℕ). x.0) (sym e)) t.2) p.right_blocks;
+      numbers = λ q i. elim i [ inl h ↦ subst (λ (x : Pair). SameNumber x.kind) (sym h) t.3 | inr h ↦ p.numbers q h ];
+    }
+
+pub paired : (bs cs : List Block) → outline bs ≡ outline cs → Paired bs cs
+paired [] [] e = record { pairs = []; left_blocks = refl; right_blocks = refl; numbers = λ q i. absurd i }
+paired [] (c ∷ cs) e = absurd (cc)
+paired (b ∷ bs) [] e = absurd (cc)
+paired (b ∷ bs) (c ∷ cs) e = paired_cons b c bs cs (cc) (paired bs cs (cc))
 
 -- two lists that differ only in stamps, which have the same order in each class
 pub record Similar (bs cs : List Block) : Type 0 where
@@ -18,167 +53,125 @@ pub record Similar (bs cs : List Block) : Type 0 where
   pub numbers : (q : Pair) → In q pairs → SameNumber q.kind
   pub agree : AllAgree pairs
 
--- a tag with itself
-abbrev twin : Tag → Kind
-twin (Live k) = Lives k k
-twin (Free s) = Frees s s
+-- the block at a place, or a live one past the end
+abbrev at : ℕ → List Block → Block
+at i bs = get_or bs i (block 0 (Live 0))
 
--- a block with itself
-abbrev twin_pair : Block → Pair
-twin_pair b = pair b.size (twin b.tag)
+-- the same, place by place: equal sizes and numbers, and stamps of free blocks of a class in the same order
+record IsOrdered (bs cs : List Block) : Type 0 where
+  same : outline bs ≡ outline cs
+  order : (i j : ℕ) → is_free (at i bs).tag ≡ true → is_free (at j bs).tag ≡ true → nat_eq (down (at i bs).size) (down (at j bs).size) ≡ true
+      → nat_lt (stamp (at i bs).tag) (stamp (at j bs).tag) ≡ nat_lt (stamp (at i cs).tag) (stamp (at j cs).tag)
 
-left_twin : (t : Tag) → t ≡ left_tag (twin t)
-left_twin (Live k) = refl
-left_twin (Free s) = refl
+module _ (bs cs : List Block) (e : outline bs ≡ outline cs) (i : ℕ) where
+  shape_same : ◌≡◌ {A = ℕ × Option ℕ} ((at i bs).size, holder (at i bs).tag) ((at i cs).size, holder (at i cs).tag)
+  shape_same = sym (get_or-map (λ (b : Block). (b.size, holder b.tag)) bs i (block 0 (Live 0))) ∙ ap (λ o. get_or o i (0, Some 0)) e ∙ get_or-map (λ (b : Block). (b.size, holder b.tag)) cs i (block 0 (Live 0))
 
-right_twin : (t : Tag) → t ≡ right_tag (twin t)
-right_twin (Live k) = refl
-right_twin (Free s) = refl
+  size_same : (at i bs).size ≡ (at i cs).size
+  size_same = ap (λ (x : ℕ × Option ℕ). x.0) shape_same
 
-twin_number : (t : Tag) → SameNumber (twin t)
-twin_number (Live k) = refl
-twin_number (Free s) = tt
+  free_same : is_free (at i bs).tag ≡ is_free (at i cs).tag
+  free_same = held (at i bs).tag ∙ ap (λ (x : ℕ × Option ℕ). is_none x.1) shape_same ∙ sym (held (at i cs).tag)
+    where
+      held : (t : Tag) → is_free t ≡ is_none (holder t)
+      held (Live k) = refl
+      held (Free s) = refl
 
-twin_order : (t u : Tag) → SameOrder (twin t) (twin u)
-twin_order (Live k) u = tt
-twin_order (Free s) (Live k) = tt
-twin_order (Free s) (Free u) = refl
+-- pairs by their places
+abbrev pair_at : ℕ → List Pair → Pair
+pair_at i p = get_or p i (pair 0 (Lives 0 0))
+
+in_at : (i : ℕ) (p : List Pair) → is_free (left_tag (pair_at i p).kind) ≡ true → In (pair_at i p) p
+in_at i [] f = absurd (false≢true f)
+in_at zero (q ∷ p) f = inl refl
+in_at (suc i) (q ∷ p) f = inr (in_at i p f)
+
+at_in : (q : Pair) (p : List Pair) → In q p → (i : ℕ) × (pair_at i p ≡ q)
+at_in q [] h = absurd h
+at_in q (x ∷ p) (inl e) = (0, sym e)
+at_in q (x ∷ p) (inr h) = let r = at_in q p h in (suc r.0, r.1)
+
+-- the order of stamps of two pairs
+abbrev InOrder : Kind → Kind → Type 0
+InOrder k l = nat_lt (stamp (left_tag k)) (stamp (left_tag l)) ≡ nat_lt (stamp (right_tag k)) (stamp (right_tag l))
+
+in_order : (k l : Kind) → is_free (left_tag k) ≡ true → is_free (left_tag l) ≡ true → SameOrder k l → InOrder k l
+in_order (Frees s u) (Frees t v) f g h = h
+in_order (Frees s u) (Lives i j) f g h = absurd (false≢true g)
+in_order (Lives i j) l f g h = absurd (false≢true f)
+
+same_order : (k l : Kind) → (is_free (left_tag k) ≡ true → is_free (left_tag l) ≡ true → InOrder k l) → SameOrder k l
+same_order (Frees s u) (Frees t v) h = h refl refl
+same_order (Frees s u) (Lives i j) h = tt
+same_order (Lives i j) l h = tt
+
+same_outline : (p : List Pair) → ((q : Pair) → In q p → SameNumber q.kind) → outline (lefts p) ≡ outline (rights p)
+same_outline [] h = refl
+same_outline (q ∷ p) h = ap₂ (λ x (o : List (ℕ × Option ℕ)). (q.size, x) ∷ o) (held q.kind (h q (inl refl))) (same_outline p (λ x i. h x (inr i)))
+  where
+    held : (k : Kind) → SameNumber k → holder (left_tag k) ≡ holder (right_tag k)
+    held (Lives i j) e = ap Some e
+    held (Frees s u) e = refl
+
+-- what the blocks at a place are, by their pair
+module _ (bs cs : List Block) (p : List Pair) (l : bs ≡ lefts p) (r : cs ≡ rights p) where
+  left_at : (i : ℕ) → at i bs ≡ left (pair_at i p)
+  left_at i = ap (at i) l ∙ get_or-map left p i (pair 0 (Lives 0 0))
+
+  right_at : (i : ℕ) → at i cs ≡ right (pair_at i p)
+  right_at i = ap (at i) r ∙ get_or-map right p i (pair 0 (Lives 0 0))
+
+  order_at : (i j : ℕ) → nat_lt (stamp (at i bs).tag) (stamp (at j bs).tag) ≡ nat_lt (stamp (at i cs).tag) (stamp (at j cs).tag) → InOrder (pair_at i p).kind (pair_at j p).kind
+  order_at i j h = sym (ap₂ (λ (x y : Block). nat_lt (stamp x.tag) (stamp y.tag)) (left_at i) (left_at j)) ∙ h ∙ ap₂ (λ (x y : Block). nat_lt (stamp x.tag) (stamp y.tag)) (right_at i) (right_at j)
+
+ordered : (bs cs : List Block) → Similar bs cs → IsOrdered bs cs
+ordered bs cs m = record {
+  same = ap outline m.left_blocks ∙ same_outline m.pairs m.numbers ∙ sym (ap outline m.right_blocks);
+  order = λ i j f g e.
+      let l = left_at bs cs m.pairs m.left_blocks m.right_blocks in
+      let r = right_at bs cs m.pairs m.left_blocks m.right_blocks in
+      let f' = sym (ap (λ (b : Block). is_free b.tag) (l i)) ∙ f in
+      let g' = sym (ap (λ (b : Block). is_free b.tag) (l j)) ∙ g in
+      ap₂ (λ (x y : Block). nat_lt (stamp x.tag) (stamp y.tag)) (l i) (l j)
+      ∙ in_order (pair_at i m.pairs).kind (pair_at j m.pairs).kind f' g' (m.agree _ _ (in_at i m.pairs f') (in_at j m.pairs g') (sym (ap₂ (λ (x y : Block). nat_eq (down x.size) (down y.size)) (l i) (l j)) ∙ e))
+      ∙ sym (ap₂ (λ (x y : Block). nat_lt (stamp x.tag) (stamp y.tag)) (r i) (r j));
+}
+
+similar : (bs cs : List Block) → IsOrdered bs cs → Similar bs cs
+similar bs cs m = record {
+  pairs = p.pairs;
+  left_blocks = p.left_blocks;
+  right_blocks = p.right_blocks;
+  numbers = p.numbers;
+  agree = λ a b i j. let x = at_in a p.pairs i in let y = at_in b p.pairs j in subst₂ Agree x.1 y.1 (agreed x.0 y.0);
+}
+  where
+    p : Paired bs cs
+    p = paired bs cs m.same
+
+    agreed : (i j : ℕ) → Agree (pair_at i p.pairs) (pair_at j p.pairs)
+    agreed i j e =
+        let l = left_at bs cs p.pairs p.left_blocks p.right_blocks in
+        same_order _ _ (λ f g. order_at bs cs p.pairs p.left_blocks p.right_blocks i j
+        (m.order i j (ap (λ (b : Block). is_free b.tag) (l i) ∙ f) (ap (λ (b : Block). is_free b.tag) (l j) ∙ g) (ap₂ (λ (x y : Block). nat_eq (down x.size) (down y.size)) (l i) (l j) ∙ e)))
 
 pub similar_refl : (bs : List Block) → Similar bs bs
-similar_refl bs = record {
-  pairs = map twin_pair bs;
-  left_blocks = sym (map_twice left twin_pair (λ b. b) (λ b. ap (block b.size) (sym (left_twin b.tag))) bs ∙ map_same (λ b. b) (λ b. refl) bs);
-  right_blocks = sym (map_twice right twin_pair (λ b. b) (λ b. ap (block b.size) (sym (right_twin b.tag))) bs ∙ map_same (λ b. b) (λ b. refl) bs);
-  numbers = λ q i. let t = map_in twin_pair q bs i in subst (λ (x : Pair). SameNumber x.kind) (sym t.2) (twin_number t.0.tag);
-  agree = λ a b i j. let t = map_in twin_pair a bs i in let u = map_in twin_pair b bs j in subst₂ Agree (sym t.2) (sym u.2) (λ same. twin_order t.0.tag u.0.tag);
-}
-
--- through a third
-abbrev glued : Kind → Kind → Kind
-glued (Lives i j) (Lives k l) = Lives i l
-glued (Lives i j) (Frees s u) = Lives i i
-glued (Frees s u) (Frees t v) = Frees s v
-glued (Frees s u) (Lives i j) = Frees s s
-
--- the first blocks of one list of pairs with the second ones of another
-abbrev composed : List Pair → List Pair → List Pair
-composed [] p = []
-composed (q ∷ ps) [] = []
-composed (q ∷ ps) (r ∷ rs) = pair q.size (glued q.kind r.kind) ∷ composed ps rs
-
-left_glued : (k l : Kind) → right_tag k ≡ left_tag l → left_tag (glued k l) ≡ left_tag k
-left_glued (Lives i j) (Lives k l) e = refl
-left_glued (Lives i j) (Frees s u) e = refl
-left_glued (Frees s u) (Frees t v) e = refl
-left_glued (Frees s u) (Lives i j) e = refl
-
-right_glued : (k l : Kind) → right_tag k ≡ left_tag l → right_tag (glued k l) ≡ right_tag l
-right_glued (Lives i j) (Lives k l) e = refl
-right_glued (Lives i j) (Frees s u) e = absurd (grind (arith, e))
-right_glued (Frees s u) (Frees t v) e = refl
-right_glued (Frees s u) (Lives i j) e = absurd (grind (arith, e))
-
-lefts_composed : (p r : List Pair) → rights p ≡ lefts r → lefts (composed p r) ≡ lefts p
-lefts_composed [] r e = refl
-lefts_composed (q ∷ p) [] e = absurd (cc)
-lefts_composed (q ∷ p) (x ∷ r) e = ap₂ (λ t l. block q.size t ∷ l) (left_glued q.kind x.kind (ap (λ (b : Block). b.tag) (let h : right q ≡ left x = cc in h))) (lefts_composed p r (cc))
-
-rights_composed : (p r : List Pair) → rights p ≡ lefts r → rights (composed p r) ≡ rights r
-rights_composed [] [] e = refl
-rights_composed [] (x ∷ r) e = absurd (cc)
-rights_composed (q ∷ p) [] e = absurd (cc)
-rights_composed (q ∷ p) (x ∷ r) e =
-    let h : right q ≡ left x = cc in
-    ap₂ (λ (b : Block) l. b ∷ l) (ap₂ block (ap (λ (b : Block). b.size) h) (right_glued q.kind x.kind (ap (λ (b : Block). b.tag) h))) (rights_composed p r (cc))
-
--- where a composed pair comes from
-record From (z : Pair) (p r : List Pair) : Type 0 where
-  first : Pair
-  second : Pair
-  in_first : In first p
-  in_second : In second r
-  same : right first ≡ left second
-  size : z.size ≡ first.size
-  kind : z.kind ≡ glued first.kind second.kind
-
-later : (z : Pair) (q x : Pair) (p r : List Pair) → From z p r → From z (q ∷ p) (x ∷ r)
-later z q x p r f = record { first = f.first; second = f.second; in_first = inr f.in_first; in_second = inr f.in_second; same = f.same; size = f.size; kind = f.kind }
-
-from_of : (z : Pair) (p r : List Pair) → rights p ≡ lefts r → In z (composed p r) → From z p r
-from_of z [] r e i = absurd i
-from_of z (q ∷ p) [] e i = absurd i
-from_of z (q ∷ p) (x ∷ r) e (inl h) = record { first = q; second = x; in_first = inl refl; in_second = inl refl; same = cc; size = ap (λ (z : Pair). z.size) h; kind = ap (λ (z : Pair). z.kind) h }
-from_of z (q ∷ p) (x ∷ r) e (inr i) = later z q x p r (from_of z p r (cc) i)
-
-glued_number : (k l : Kind) → right_tag k ≡ left_tag l → SameNumber k → SameNumber l → SameNumber (glued k l)
-glued_number (Lives i j) (Lives k l) e m n = grind (arith, e)
-glued_number (Lives i j) (Frees s u) e m n = refl
-glued_number (Frees s u) (Frees t v) e m n = tt
-glued_number (Frees s u) (Lives i j) e m n = tt
-
-glued_order : (k l m n : Kind) → right_tag k ≡ left_tag l → right_tag m ≡ left_tag n → SameOrder k m → SameOrder l n → SameOrder (glued k l) (glued m n)
-glued_order (Lives i j) (Lives k l) m n e f a b = tt
-glued_order (Lives i j) (Frees s u) m n e f a b = tt
-glued_order (Frees s u) (Lives i j) m n e f a b = absurd (grind (arith, e))
-glued_order (Frees s u) (Frees t v) (Lives i j) (Lives k l) e f a b = tt
-glued_order (Frees s u) (Frees t v) (Lives i j) (Frees x y) e f a b = tt
-glued_order (Frees s u) (Frees t v) (Frees x y) (Lives i j) e f a b = absurd (grind (arith, f))
-glued_order (Frees s u) (Frees t v) (Frees x y) (Frees x' y') e f a b = a ∙ ap₂ nat_lt (stamps u t e) (stamps y x' f) ∙ b
-  where
-    stamps : (s u : ℕ) → Free s ≡ Free u → s ≡ u
-    stamps s u e = cc
-
-pub similar_trans : (xs bs cs : List Block) → Similar xs bs → Similar bs cs → Similar xs cs
-similar_trans xs bs cs a b = record {
-  pairs = composed a.pairs b.pairs;
-  left_blocks = a.left_blocks ∙ sym (lefts_composed a.pairs b.pairs middle);
-  right_blocks = b.right_blocks ∙ sym (rights_composed a.pairs b.pairs middle);
-  numbers = λ q i. let f = from_of q a.pairs b.pairs middle i in
-      subst SameNumber (sym f.kind) (glued_number f.first.kind f.second.kind (ap (λ (b : Block). b.tag) f.same) (a.numbers f.first f.in_first) (b.numbers f.second f.in_second));
-  agree = λ x y i j e. ordered x y (from_of x a.pairs b.pairs middle i) (from_of y a.pairs b.pairs middle j) e;
-}
-  where
-    middle : rights a.pairs ≡ lefts b.pairs
-    middle = sym a.right_blocks ∙ b.left_blocks
-
-    ordered : (x y : Pair) → From x a.pairs b.pairs → From y a.pairs b.pairs → Agree x y
-    ordered x y f g e = subst₂ SameOrder (sym f.kind) (sym g.kind) (glued_order f.first.kind f.second.kind g.first.kind g.second.kind
-        (ap (λ (b : Block). b.tag) f.same) (ap (λ (b : Block). b.tag) g.same)
-        (a.agree f.first g.first f.in_first g.in_first (subst₂ (λ m n. nat_eq (down m) (down n) ≡ true) f.size g.size e))
-        (b.agree f.second g.second f.in_second g.in_second (subst₂ (λ m n. nat_eq (down m) (down n) ≡ true) (f.size ∙ ap (λ (b : Block). b.size) f.same) (g.size ∙ ap (λ (b : Block). b.size) g.same) e)))
-
--- two tags the other way round
-abbrev flipped : Kind → Kind
-flipped (Lives i j) = Lives j i
-flipped (Frees s u) = Frees u s
-
--- a pair the other way round
-abbrev flip : Pair → Pair
-flip q = pair q.size (flipped q.kind)
-
-left_flipped : (k : Kind) → left_tag (flipped k) ≡ right_tag k
-left_flipped (Lives i j) = refl
-left_flipped (Frees s u) = refl
-
-right_flipped : (k : Kind) → right_tag (flipped k) ≡ left_tag k
-right_flipped (Lives i j) = refl
-right_flipped (Frees s u) = refl
-
-flipped_number : (k : Kind) → SameNumber k → SameNumber (flipped k)
-flipped_number (Lives i j) e = sym e
-flipped_number (Frees s u) e = tt
-
-flipped_order : (k l : Kind) → SameOrder k l → SameOrder (flipped k) (flipped l)
-flipped_order (Lives i j) l e = tt
-flipped_order (Frees s u) (Lives i j) e = tt
-flipped_order (Frees s u) (Frees t v) e = sym e
+similar_refl bs = similar bs bs (record { same = refl; order = λ i j f g e. refl })
 
 pub similar_sym : (bs cs : List Block) → Similar bs cs → Similar cs bs
-similar_sym bs cs m = record {
-  pairs = map flip m.pairs;
-  left_blocks = m.right_blocks ∙ sym (map_twice left flip right (λ q. ap (block q.size) (left_flipped q.kind)) m.pairs);
-  right_blocks = m.left_blocks ∙ sym (map_twice right flip left (λ q. ap (block q.size) (right_flipped q.kind)) m.pairs);
-  numbers = λ z i. let h = map_in flip z m.pairs i in subst (λ (x : Pair). SameNumber x.kind) (sym h.2) (flipped_number h.0.kind (m.numbers h.0 h.1));
-  agree = λ y z i j. let h = map_in flip y m.pairs i in let g = map_in flip z m.pairs j in
-      subst₂ Agree (sym h.2) (sym g.2) (λ same. flipped_order h.0.kind g.0.kind (m.agree h.0 g.0 h.1 g.1 same));
-}
+similar_sym bs cs m =
+    let o = ordered bs cs m in
+    let size = size_same bs cs o.same in
+    let free = free_same bs cs o.same in
+    similar cs bs (record { same = sym o.same; order = λ i j f g e. sym (o.order i j (free i ∙ f) (free j ∙ g) (ap₂ (λ x y. nat_eq (down x) (down y)) (size i) (size j) ∙ e)) })
+
+pub similar_trans : (xs bs cs : List Block) → Similar xs bs → Similar bs cs → Similar xs cs
+similar_trans xs bs cs a b =
+    let o = ordered xs bs a in
+    let p = ordered bs cs b in
+    let size = size_same xs bs o.same in
+    let free = free_same xs bs o.same in
+    similar xs cs (record {
+      same = o.same ∙ p.same;
+      order = λ i j f g e. o.order i j f g e ∙ p.order i j (sym (free i) ∙ f) (sym (free j) ∙ g) (sym (ap₂ (λ x y. nat_eq (down x) (down y)) (size i) (size j)) ∙ e);
+    })

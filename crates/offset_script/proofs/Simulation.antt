@@ -1,29 +1,29 @@
 -- A player simulates the plain machine, call by call.
-use Rattle.std.proofs.Common.{◌≡◌, ℕ, zero, suc, ◌+◌, ◌-◌, ◌%◌, ◌^◌, ◌<◌, ◌≤◌, Bool, true, false, ◌&&◌, ◌||◌, nat_lt, List, [], ◌∷◌, ◌++◌, map, length, Option, Some, None, Result, Ok, Err, IfOk, slice_index_or, slice_set, get_or, if◌then◌else◌, refl, sym, ap, ap₂, subst, ◌∙◌, inl, inr, arith, eq-eqb, ne_eqb, add-one, length-append}
-use Rattle.std.proofs.lemmas.List.{get_or-set_same, get_or-set_other, get_or_past, length-set}
+use Rattle.std.proofs.Common.{◌≡◌, ℕ, zero, suc, ◌+◌, ◌-◌, ◌%◌, ◌^◌, ◌<◌, ◌≤◌, Bool, List, [], ◌∷◌, ◌++◌, map, length, Option, Some, None, Result, Ok, Err, IfOk, slice_index_or, slice_set, get_or, if◌then◌else◌, refl, sym, ap, ap₂, subst, ◌∙◌, inl, inr, arith, eq-eqb, ne_eqb, add-one, length-append, append-nil}
+use Rattle.std.proofs.lemmas.List.{map-append, get_or-set_same, get_or-set_other, get_or_past, length-set}
 use Rattle.std.proofs.Math.ListN.{get_or-append}
 use Rattle.std.proofs.Math.Seq.{get_or-append_seam}
 use Rattle.std.proofs.lemmas.Bool.{cases_eq, cases_lt}
 use Rattle.offset_allocator.specs.Classes.{value}
-use Rattle.offset_allocator.specs.Reports.{Row, row, rows_below, count_of}
+use Rattle.offset_allocator.specs.Reports.{row, rows_below, count_of}
 use Rattle.offset_allocator.specs.declared.reports.StorageReportFull.{StorageReportFull}
 use Rattle.offset_allocator.specs.declared.reports.StorageReportFullRegion.{StorageReportFullRegion}
 use Rattle.offset_script.specs.declared.scripts.Command.{Command}
 use Rattle.offset_script.specs.declared.scripts.Command.TheVariants as command
-use Rattle.offset_script.specs.Machine.{State, step, start, after}
+use Rattle.offset_script.specs.Machine.{max_size, State, step, start, after}
 use Rattle.offset_script.specs.Machine as machine
-use Rattle.offset_allocator.specs.Named.{View, Grant, total_free, largest_free, free_sizes, max_size, IsWellFormed}
-use Rattle.offset_script.specs.Agreement.{IsReached, name_in, kept_name, with_name, without_name, kept_after, grant_count_after}
+use Rattle.offset_allocator.specs.Named.{View, Grant, total_free, largest_free, free_sizes, IsWellFormed}
+use Rattle.offset_script.specs.Agreement.{Agrees, IsReached, name_in, kept_name}
 use Rattle.offset_allocator.specs.Relations.{IsFresh, Allocates, Aligns, Frees, Extends, Resets}
 use Rattle.offset_script.proofs.Well.{Well, well_start, well_after}
-use Rattle.offset_script.proofs.Agreed.{Matches, serve_agrees, aligned_agrees, extend_agrees, free_agrees, live_agrees, gone_agrees, size_agrees, report_agrees, full_agrees, agrees_quiet, agrees_kept, alone_agrees, same_units}
+use Rattle.offset_script.proofs.Agreed.{with_name, without_name, Matches, serve_agrees, aligned_agrees, extend_agrees, free_agrees, live_agrees, gone_agrees, size_gone_agrees, size_agrees, report_agrees, full_agrees, agrees_quiet, agrees_kept, alone_agrees, same_units}
 use Rattle.offset_script.specs.declared.answers.Answer as program
 use Rattle.offset_script.specs.declared.answers.Answer.TheVariants as program_answer
 use Rattle.offset_script.specs.declared.answers.FullRow.{FullRow}
 use Rattle.offset_allocator.specs.Promises.{IsFullReport}
 use Rattle.offset_allocator.specs.Ranges.{IsLive, size_of}
 use Rattle.offset_allocator.proofs.Reading.{used_live, size_is}
-use Rattle.offset_script.specs.Answers.{answer_view, row_view}
+use Rattle.offset_script.specs.Machine.{answer_view, row_view}
 use Rattle.offset_script.specs.Simulation.{Represents, Simulates, RepresentsReached, IsKept}
 
 -- what holds of every state holds of a reached one
@@ -49,66 +49,46 @@ kept_set hs k l (suc j) = elim (cases_eq j k) [
   | inr n ↦ ap name_in (get_or-set_other hs k j None None n) ∙ sym (ap (λ (b : Bool). if b then None else kept_name hs (suc j)) (ne_eqb (suc j) (suc k) (omega arith)))
 ]
 
--- requests
-module _ (c : Command) (v w : View) (formed : IsWellFormed w) (hs left : List (Option Grant)) (r : Option Grant) (alike : (s : State) → IsReached s → Represents v hs s → Matches w (kept_name hs) s.grants r (step c s)) where
-  represents_request : (s : State) → IsReached s → Represents v hs s → ((k : ℕ) → kept_name left k ≡ kept_after s.grants r (kept_name hs) k) → length left ≡ grant_count_after s.grants r → Represents w left (step c s).state
-  represents_request s reached st same len =
-      let m = alike s reached st in
-      record { formed = formed; agrees = agrees_kept _ (kept_after s.grants r (kept_name hs)) (kept_name left) _ same m.agrees; grants = len ∙ sym m.grants_after }
-
--- a request that is refused
-refused_simulates : (c : Command) (v w : View) → IsWellFormed w → (hs left : List (Option Grant)) → ((s : State) → IsReached s → Represents v hs s → Matches w (kept_name hs) s.grants None (step c s)) → left ≡ hs → Simulates v hs w left c program_answer.Refused
-refused_simulates c v w formed hs left alike l = record {
-  answer = λ s reached st. sym (alike s reached st).answer;
-  state = λ s reached st. represents_request c v w formed hs left None alike s reached st (λ k. ap (λ l. kept_name l k) l) (ap length l ∙ st.grants);
-}
-
--- a request that is granted
-granted_simulates : (c : Command) (v w : View) → IsWellFormed w → (hs left : List (Option Grant)) (h : Grant) → ((s : State) → IsReached s → Represents v hs s → Matches w (kept_name hs) s.grants (Some h) (step c s)) → left ≡ hs ++ Some h ∷ []
-    → Simulates v hs w left c (program_answer.Grant (length left) h.offset)
-granted_simulates c v w formed hs left h alike l = record {
-  answer = λ s reached st. ap (λ n. machine.Grant n h.offset) (ap length l ∙ length-append hs (Some h ∷ []) ∙ ap (λ k. k + 1) st.grants) ∙ sym (alike s reached st).answer;
-  state = λ s reached st. represents_request c v w formed hs left (Some h) alike s reached st (λ k. ap (λ l. kept_name l k) l ∙ kept_push hs h k ∙ ap (λ g. with_name (g + 1) h.name (kept_name hs) k) st.grants) (ap length l ∙ length-append hs (Some h ∷ []) ∙ ap (λ g. g + 1) st.grants);
+-- a call returns the answer of the plain machine, and what it leaves agrees with the state that the machine leaves
+simulates : (c : Command) (v w : View) (hs left : List (Option Grant)) (a : program.Answer) → ((s : State) → Represents v hs s → IsWellFormed w)
+    → ((s : State) → IsWellFormed v → Well s → Agrees v (kept_name hs) s → length hs ≡ s.grants → (answer_view a ≡ (step c s).answer) × Agrees w (kept_name left) (step c s).state × (length left ≡ (step c s).state.grants))
+    → Simulates v hs w left c a
+simulates c v w hs left a formed f = record {
+  answer = λ s reached st. (f s st.formed (well_of s reached) st.agrees st.grants).0;
+  state = λ s reached st. let r = f s st.formed (well_of s reached) st.agrees st.grants in record { formed = formed s st; agrees = r.1; grants = r.2 };
 }
 
 -- a request, whose grant is kept
-request_simulates : (c : Command) (v w : View) → IsWellFormed w → (hs left : List (Option Grant)) (r : Option Grant) (a : program.Answer) → ((s : State) → IsReached s → Represents v hs s → Matches w (kept_name hs) s.grants r (step c s)) → IsKept r hs left a → Simulates v hs w left c a
-request_simulates c v w formed hs left None a alike k = subst (Simulates v hs w left c) (sym k.1) (refused_simulates c v w formed hs left alike k.0)
-request_simulates c v w formed hs left (Some h) a alike k = subst (Simulates v hs w left c) (sym k.1) (granted_simulates c v w formed hs left h alike k.0)
+request_simulates : (c : Command) (v w : View) → IsWellFormed w → (hs left : List (Option Grant)) (r : Option Grant) (a : program.Answer)
+    → ((s : State) → IsWellFormed v → Well s → Agrees v (kept_name hs) s → Matches w (kept_name hs) s.grants r (step c s)) → IsKept r hs left a → Simulates v hs w left c a
+request_simulates c v w formed hs left None a alike k = simulates c v w hs left a (λ s st. formed) (λ s f ws g len.
+    let m = alike s f ws g in
+    (ap answer_view k.1 ∙ sym m.answer, agrees_kept _ (kept_name hs) _ _ (λ j. ap (λ l. kept_name l j) k.0) m.agrees, ap length k.0 ∙ len ∙ sym m.grants_after))
+request_simulates c v w formed hs left (Some h) a alike k = simulates c v w hs left a (λ s st. formed) (λ s f ws g len.
+    let m = alike s f ws g in
+    let count = ap length k.0 ∙ length-append hs (Some h ∷ []) ∙ ap (λ n. n + 1) len in (
+      ap answer_view k.1 ∙ ap (λ n. machine.Grant n h.offset) count ∙ sym m.answer,
+      agrees_kept _ (with_name (s.grants + 1) h.name (kept_name hs)) _ _ (λ j. ap (λ l. kept_name l j) k.0 ∙ kept_push hs h j ∙ ap (λ n. with_name (n + 1) h.name (kept_name hs) j) len) m.agrees,
+      count ∙ sym m.grants_after,
+    ))
 
 pub allocate_simulates : (n : ℕ) (v w : View) → IsWellFormed w → (hs left : List (Option Grant)) (r : Option Grant) (a : program.Answer) → Allocates n v w r → IsKept r hs left a → Simulates v hs w left (command.Alloc n) a
-allocate_simulates n v w formed hs left r a al k = request_simulates (command.Alloc n) v w formed hs left r a (λ s reached st. serve_agrees v (kept_name hs) s st.formed (well_of s reached) st.agrees 1 n n (λ offset. 0) w formed r al) k
+allocate_simulates n v w formed hs left r a al k = request_simulates (command.Alloc n) v w formed hs left r a (λ s f ws g. serve_agrees v (kept_name hs) s f ws g 1 n n (λ offset. 0) w formed r al) k
 
 pub aligned_simulates : (n align : ℕ) (v w : View) → IsWellFormed w → (hs left : List (Option Grant)) (r : Option Grant) (a : program.Answer) → 1 ≤ align → Aligns n align v w r → IsKept r hs left a → Simulates v hs w left (command.Align n align) a
-aligned_simulates n align v w formed hs left r a some al k = request_simulates (command.Align n align) v w formed hs left r a (λ s reached st. aligned_agrees v (kept_name hs) s st.formed (well_of s reached) st.agrees n align some w formed r al) k
-
--- more units
-extend_grants : (more : ℕ) (s : State) → (machine.extend more s).state.grants ≡ s.grants
-extend_grants zero s = refl
-extend_grants (suc more) s = either (nat_lt max_size (machine.total s.blocks + suc more) || (machine.ends_live s.blocks && machine.is_short_of 1 s))
-  where
-    either : (b : Bool) → (if b then machine.returns_only s machine.Refused else machine.leaves s (machine.coalesce s.blocks (suc more) (machine.stamp_of_call s) []) machine.Extended).state.grants ≡ s.grants
-    either true = refl
-    either false = refl
+aligned_simulates n align v w formed hs left r a some al k = request_simulates (command.Align n align) v w formed hs left r a (λ s f ws g. aligned_agrees v (kept_name hs) s f ws g n align some w formed r al) k
 
 -- more units, or a refusal
 pub extended_simulates : (more : ℕ) (v w : View) → IsWellFormed w → (hs : List (Option Grant)) (done : Bool) (a : program.Answer) → Extends more v w done → answer_view a ≡ (if done then machine.Extended else machine.Refused) → Simulates v hs w hs (command.Extend more) a
-extended_simulates more v w formed hs done a e f = record {
-  answer = λ s reached st. f ∙ sym (extend_agrees v (kept_name hs) s st.formed (well_of s reached) st.agrees more w done formed e).0;
-  state = λ s reached st. record { formed = formed; agrees = (extend_agrees v (kept_name hs) s st.formed (well_of s reached) st.agrees more w done formed e).1; grants = st.grants ∙ sym (extend_grants more s) };
-}
-
--- releases
-release_grants : (s : State) (o : Option _) → (machine.release s o).state.grants ≡ s.grants
-release_grants s None = refl
-release_grants s (Some p) = refl
+extended_simulates more v w formed hs done a e same = simulates (command.Extend more) v w hs hs a (λ s st. formed) (λ s f ws g len.
+    let r = extend_agrees v (kept_name hs) s f ws g more w done formed e in
+    (same ∙ sym r.0, r.1, len ∙ sym r.2))
 
 -- a release of a grant that is not live
 pub gone_simulates : (v : View) (hs : List (Option Grant)) (k : ℕ) → kept_name hs k ≡ None → Simulates v hs v hs (command.Free k) program_answer.Gone
-gone_simulates v hs k e = record {
-  answer = λ s reached st. sym (gone_agrees v (kept_name hs) s st.formed (well_of s reached) st.agrees k e).0;
-  state = λ s reached st. record { formed = st.formed; agrees = (gone_agrees v (kept_name hs) s st.formed (well_of s reached) st.agrees k e).1; grants = st.grants ∙ sym (release_grants s _) };
-}
+gone_simulates v hs k e = simulates (command.Free k) v v hs hs program_answer.Gone (λ s st. st.formed) (λ s f ws g len.
+    let r = gone_agrees v (kept_name hs) s f ws g k e in
+    (sym r.0, r.1, len ∙ sym r.2))
 
 -- a kept handle is live
 pub live_kept : (v : View) (hs : List (Option Grant)) (k x : ℕ) → RepresentsReached v hs → kept_name hs k ≡ Some x → IsLive x v
@@ -116,51 +96,36 @@ live_kept v hs k x i e = used_live x v (live_agrees v (kept_name hs) i.state i.r
 
 -- a release of a live grant, whose handle is removed
 freed_simulates : (v w : View) → IsWellFormed w → (hs : List (Option Grant)) (k x : ℕ) → kept_name hs (suc k) ≡ Some x → k < length hs → Frees x v w → Simulates v hs w (slice_set hs k None) (command.Free (suc k)) program_answer.Freed
-freed_simulates v w formed hs k x e l f = record {
-  answer = λ s reached st. sym (free_agrees v (kept_name hs) s st.formed (well_of s reached) st.agrees (suc k) x e w formed f).0;
-  state = λ s reached st. record {
-    formed = formed;
-    agrees = agrees_kept _ (without_name (suc k) (kept_name hs)) _ _ (kept_set hs k l) (free_agrees v (kept_name hs) s st.formed (well_of s reached) st.agrees (suc k) x e w formed f).1;
-    grants = length-set _ _ _ ∙ st.grants ∙ sym (release_grants s _);
-  };
-}
+freed_simulates v w formed hs k x e l freed = simulates (command.Free (suc k)) v w hs (slice_set hs k None) program_answer.Freed (λ s st. formed) (λ s f ws g len.
+    let r = free_agrees v (kept_name hs) s f ws g (suc k) x e w formed freed in
+    (sym r.0, agrees_kept _ (without_name (suc k) (kept_name hs)) _ _ (kept_set hs k l) r.1, length-set _ _ _ ∙ len ∙ sym r.2))
 
 -- the same, by the number of the grant
 pub released_simulates : (v w : View) → IsWellFormed w → (hs left : List (Option Grant)) (number x : ℕ) → kept_name hs number ≡ Some x → (1 ≤ number) × (number ≤ length hs) → Frees x v w → left ≡ slice_set hs (number - 1) None → Simulates v hs w left (command.Free number) program_answer.Freed
 released_simulates v w formed hs left zero x e l but f = absurd (omega arith)
 released_simulates v w formed hs left (suc k) x e l but f = let same : suc k - 1 ≡ k = omega arith in subst (λ z. Simulates v hs w z (command.Free (suc k)) program_answer.Freed) (sym (f ∙ ap (λ i. slice_set hs i None) same)) (freed_simulates v w formed hs k x e (omega arith) but)
 
--- what leaves the blocks as they are
-quiet : (v : View) (hs : List (Option Grant)) (s : State) (a : machine.Answer) → Represents v hs s → Represents v hs (machine.returns_only s a).state
-quiet v hs s a st = record { formed = st.formed; agrees = agrees_quiet v (kept_name hs) s st.agrees a; grants = st.grants }
+-- a question leaves all as it is
+asks : (c : Command) (v : View) (hs : List (Option Grant)) (a : program.Answer) → ((s : State) → (step c s).state ≡ record s { calls = s.calls + 1 })
+    → ((s : State) → IsWellFormed v → Well s → Agrees v (kept_name hs) s → answer_view a ≡ (step c s).answer) → Simulates v hs v hs c a
+asks c v hs a same f = simulates c v v hs hs a (λ s st. st.formed) (λ s w ws g len.
+    (f s w ws g, subst (Agrees v (kept_name hs)) (sym (same s)) (agrees_quiet v (kept_name hs) s g machine.Gone), len ∙ ap (λ (t : State). t.grants) (sym (same s))))
 
 -- the size of a grant that is not live
 pub size_gone_simulates : (v : View) (hs : List (Option Grant)) (k : ℕ) → kept_name hs k ≡ None → Simulates v hs v hs (command.Size k) program_answer.Gone
-size_gone_simulates v hs k e = record {
-  answer = λ s reached st. sym (gone_agrees v (kept_name hs) s st.formed (well_of s reached) st.agrees k e).2;
-  state = λ s reached st. quiet v hs s machine.Gone st;
-}
+size_gone_simulates v hs k e = asks (command.Size k) v hs program_answer.Gone (λ s. refl) (λ s w ws g. sym (size_gone_agrees v (kept_name hs) s w ws g k e))
 
 -- the size of a live grant
 pub size_simulates : (v : View) (hs : List (Option Grant)) (k x n : ℕ) → kept_name hs k ≡ Some x → n ≡ size_of x v → Simulates v hs v hs (command.Size k) (program_answer.Size n)
-size_simulates v hs k x n e f = record {
-  answer = λ s reached st. ap machine.Size (f ∙ size_is x v) ∙ sym (size_agrees v (kept_name hs) s st.formed (well_of s reached) st.agrees k x e);
-  state = λ s reached st. quiet v hs s machine.Gone st;
-}
+size_simulates v hs k x n e f = asks (command.Size k) v hs (program_answer.Size n) (λ s. refl) (λ s w ws g. ap machine.Size (f ∙ size_is x v) ∙ sym (size_agrees v (kept_name hs) s w ws g k x e))
 
 -- the report
 pub report_simulates : (v : View) (hs : List (Option Grant)) (total largest : ℕ) → total ≡ total_free v → largest ≡ largest_free v → Simulates v hs v hs command.Report (program_answer.Report (record { total_free_space = total; largest_free_region = largest }))
-report_simulates v hs total largest e f = record {
-  answer = λ s reached st. ap₂ machine.Report e f ∙ sym (report_agrees v (kept_name hs) s st.formed (well_of s reached) st.agrees);
-  state = λ s reached st. quiet v hs s machine.Gone st;
-}
+report_simulates v hs total largest e f = asks command.Report v hs _ (λ s. refl) (λ s w ws g. ap₂ machine.Report e f ∙ sym (report_agrees v (kept_name hs) s w ws g))
 
 -- the full report, once all classes are seen
 pub full_simulates : (v : View) (hs : List (Option Grant)) (rows : List FullRow) (c : ℕ) (a : program.Answer) → answer_view a ≡ machine.Full (map row_view rows) → map row_view rows ≡ rows_below c (free_sizes v.blocks) → c ≡ 256 → Simulates v hs v hs command.Full a
-full_simulates v hs rows c a e f all = record {
-  answer = λ s reached st. e ∙ ap machine.Full (f ∙ ap (λ n. rows_below n (free_sizes v.blocks)) all) ∙ sym (full_agrees v (kept_name hs) s st.formed (well_of s reached) st.agrees);
-  state = λ s reached st. quiet v hs s machine.Gone st;
-}
+full_simulates v hs rows c a e f all = asks command.Full v hs a (λ s. refl) (λ s w ws g. e ∙ ap machine.Full (f ∙ ap (λ n. rows_below n (free_sizes v.blocks)) all) ∙ sym (full_agrees v (kept_name hs) s w ws g))
 
 -- a clause of what a call returned, from another
 pub if_ok : {A E : Type 0} {P Q : A → Type 0} (r : Result A E) → ((a : A) → P a → Q a) → IfOk r P → IfOk r Q
@@ -174,15 +139,12 @@ none_kept hs none (suc k) = elim (cases_lt k (length hs)) [ inl l ↦ ap name_in
 
 -- a reset, where no handle is left
 pub reset_simulates : (v w : View) → IsWellFormed w → (hs left : List (Option Grant)) → Resets v w → length left ≡ length hs → ((i : ℕ) → i < length left → slice_index_or left i None ≡ None) → Simulates v hs w left command.Reset program_answer.Reset
-reset_simulates v w formed hs left r len none = record {
-  answer = λ s reached st. refl;
-  state = λ s reached st. record {
-    formed = formed;
-    agrees = alone_agrees w r.name v.size (machine.stamp_of_call s) (kept_name left) _ (ap (λ (u : View). u.blocks) r.view) (ap (λ (u : View). u.order) r.view) (st.agrees.limit ∙ sym (ap (λ (u : View). u.max_allocs) r.view))
-        (ap (λ n. machine.block n (machine.Free (machine.stamp_of_call s)) ∷ []) (sym (same_units v (kept_name hs) s st.formed (well_of s reached) st.agrees) ∙ st.formed.whole)) (none_kept left none);
-    grants = len ∙ st.grants;
-  };
-}
+reset_simulates v w formed hs left r len none = simulates command.Reset v w hs left program_answer.Reset (λ s st. formed) (λ s f ws g count. (
+  refl,
+  alone_agrees w r.name v.size (machine.stamp_of_call s) (kept_name left) _ (ap (λ (u : View). u.blocks) r.view) (ap (λ (u : View). u.order) r.view) (g.limit ∙ sym (ap (λ (u : View). u.max_allocs) r.view))
+      (ap (λ n. machine.block n (machine.Free (machine.stamp_of_call s)) ∷ []) (sym (same_units v (kept_name hs) s f ws g) ∙ f.whole)) (none_kept left none),
+  len ∙ count,
+))
 
 -- a fresh space represents the first state
 pub fresh_represents : (w : View) → IsWellFormed w → (size limit : ℕ) (hs : List (Option Grant)) → IsFresh size limit w → hs ≡ [] → Represents w hs (start size limit)
@@ -192,20 +154,10 @@ fresh_represents w formed size limit hs f e = subst (λ l. Represents w l (start
   grants = refl;
 })
 
--- a row more of the full report
-map_more : (rows : List FullRow) (r : FullRow) → map row_view (rows ++ r ∷ []) ≡ map row_view rows ++ row_view r ∷ []
-map_more [] r = refl
-map_more (x ∷ rows) r = ap (λ l. row_view x ∷ l) (map_more rows r)
-
 -- the row of a class with free blocks
 row_of : (c n : ℕ) → 0 < n → row c n ≡ record { class = c; size = value c % 2 ^ 32; count = n } ∷ []
 row_of c zero l = absurd (omega arith)
 row_of c (suc n) l = refl
-
--- nothing is added
-append_nil : (rs : List Row) → rs ++ [] ≡ rs
-append_nil [] = refl
-append_nil (r ∷ rs) = ap (λ l. r ∷ l) (append_nil rs)
 
 -- a class with free blocks adds its row
 pub rows_more : (c : ℕ) (v : View) (report : StorageReportFull) (d : StorageReportFullRegion) (left rows : List FullRow) (r : FullRow) → IsFullReport report v → c < 256 → map row_view rows ≡ rows_below c (free_sizes v.blocks)
@@ -215,7 +167,7 @@ rows_more c v report d left rows r full l e f h pos =
     let at = full c d l in
     let count = ap (λ (x : StorageReportFullRegion). x.count) at in
     let size = ap (λ (x : StorageReportFullRegion). x.size) at in
-    rw add-one (ap (map row_view) f ∙ map_more rows r ∙ ap₂ (λ xs y. xs ++ row_view y ∷ []) e h ∙ ap₂ (λ (s n : ℕ). rows_below c (free_sizes v.blocks) ++ record { class = c; size = s; count = n } ∷ []) size count ∙ ap (λ z. rows_below c (free_sizes v.blocks) ++ z) (sym (row_of c (count_of c (free_sizes v.blocks)) (omega arith))))
+    rw add-one (ap (map row_view) f ∙ map-append row_view rows (r ∷ []) ∙ ap₂ (λ xs y. xs ++ row_view y ∷ []) e h ∙ ap₂ (λ (s n : ℕ). rows_below c (free_sizes v.blocks) ++ record { class = c; size = s; count = n } ∷ []) size count ∙ ap (λ z. rows_below c (free_sizes v.blocks) ++ z) (sym (row_of c (count_of c (free_sizes v.blocks)) (omega arith))))
 
 -- a class with none adds nothing
 pub rows_same : (c : ℕ) (v : View) (report : StorageReportFull) (d : StorageReportFullRegion) (rows : List FullRow) → IsFullReport report v → c < 256 → map row_view rows ≡ rows_below c (free_sizes v.blocks) → (slice_index_or report.free_regions c d).count ≤ 0
@@ -223,4 +175,4 @@ pub rows_same : (c : ℕ) (v : View) (report : StorageReportFull) (d : StorageRe
 rows_same c v report d rows full l e nothing =
     let count = ap (λ (x : StorageReportFullRegion). x.count) (full c d l) in
     let none : count_of c (free_sizes v.blocks) ≡ 0 = omega arith in
-    rw add-one (e ∙ sym (ap (λ n. rows_below c (free_sizes v.blocks) ++ row c n) none ∙ append_nil _))
+    rw add-one (e ∙ sym (ap (λ n. rows_below c (free_sizes v.blocks) ++ row c n) none ∙ append-nil _))

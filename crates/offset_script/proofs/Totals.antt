@@ -1,7 +1,7 @@
 -- The sums of sizes, and the numbers of live blocks, that every call keeps.
-use Rattle.std.proofs.Common.{◌≡◌, ℕ, zero, suc, ◌+◌, ◌-◌, ◌≤◌, Bool, true, false, ◌&&◌, ◌||◌, List, [], ◌∷◌, ◌++◌, length, nat_le, nat_lt, if◌then◌else◌, refl, sym, ap, subst, ◌∙◌, inl, inr, arith, le-leb, length-append, sum}
+use Rattle.std.proofs.Common.{◌≡◌, ℕ, zero, suc, ◌+◌, ◌-◌, ◌≤◌, true, false, ◌&&◌, ◌||◌, List, [], ◌∷◌, ◌++◌, length, nat_le, nat_lt, if◌then◌else◌, refl, sym, ap, subst, ◌∙◌, inl, inr, arith, le-leb, length-append, sum}
 use Rattle.std.proofs.lemmas.List.Sums.{sum_by-cons}
-use Rattle.offset_allocator.specs.Named.{max_size, padding_to}
+use Rattle.offset_script.specs.Machine.{max_size, padding_to}
 use Rattle.offset_allocator.specs.Reports.{largest}
 use Rattle.offset_script.specs.declared.scripts.Command.{Command}
 use Rattle.offset_script.specs.declared.scripts.Command.TheVariants as command
@@ -11,6 +11,7 @@ use Rattle.offset_script.specs.Histories.{KeepsSpace}
 use Rattle.offset_script.specs.Totals.{requested_units, live_units, live_blocks, added_units, added_by, SizesAddUp, FewAreLive, FullSpaceRefuses}
 use Rattle.offset_script.proofs.Well.{whole, chosen_at, found_at, granted_blocks, total-append, AllFree, coalesced, free_part}
 use Rattle.offset_script.proofs.Nests.{does}
+use Rattle.offset_script.proofs.Tests.{if_both}
 
 total_coalesce : (xs : List Block) (n s : ℕ) (ys : List Block) → total (coalesce xs n s ys) ≡ total xs + (n + total ys)
 total_coalesce xs n s ys =
@@ -30,11 +31,7 @@ live_free_block (suc n) s = refl
 
 live_length : (bs : List Block) → live_blocks bs ≤ length bs
 live_length [] = omega arith
-live_length (b ∷ bs) = let ih = live_length bs in either (is_free b.tag) ih
-  where
-    either : (x : Bool) → live_blocks bs ≤ length bs → (if x then 0 else 1) + live_blocks bs ≤ suc (length bs)
-    either true h = omega arith
-    either false h = omega arith
+live_length (b ∷ bs) = let ih = live_length bs in elim (is_free b.tag) as (λ x. (if x then 0 else 1) + live_blocks bs ≤ suc (length bs)) [ true ↦ omega arith | false ↦ omega arith ]
 
 live_none : (fs : List Block) → AllFree fs → live_blocks fs ≡ 0
 live_none [] f = refl
@@ -60,10 +57,6 @@ total_kept c s k = elim (does c s k) [
 pub Adds : Command → State → Outcome → Type 0
 Adds c s o = total o.state.blocks ≡ total s.blocks + added_units c o.answer
 
-adds_if : (c : Command) (s : State) (b : Bool) (o p : Outcome) → Adds c s o → Adds c s p → Adds c s (if b then o else p)
-adds_if c s true o p f g = f
-adds_if c s false o p f g = g
-
 adds_none : (n m : ℕ) → n ≡ m → n ≡ m + 0
 adds_none n m e = omega arith
 
@@ -77,8 +70,8 @@ adds_step command.Full s = adds_none _ _ refl
 adds_step command.Reset s = refl
 adds_step (command.Align n align) s = adds_none _ _ (total_kept (command.Align n align) s tt)
 adds_step (command.Extend zero) s = adds_none _ _ refl
-adds_step (command.Extend (suc more)) s = adds_if (command.Extend (suc more)) s (nat_lt max_size (total s.blocks + suc more) || (ends_live s.blocks && is_short_of 1 s)) (returns_only s machine.Refused) (leaves s (coalesce s.blocks (suc more) (stamp_of_call s) []) machine.Extended)
-    (adds_none _ _ refl) (let j = total_coalesce s.blocks (suc more) (stamp_of_call s) [] in omega arith)
+adds_step (command.Extend (suc more)) s = if_both (Adds (command.Extend (suc more)) s) (nat_lt max_size (total s.blocks + suc more) || (ends_live s.blocks && is_short_of 1 s)) (returns_only s machine.Refused) (leaves s (coalesce s.blocks (suc more) (stamp_of_call s) []) machine.Extended)
+    (λ e. adds_none _ _ refl) (λ e. let j = total_coalesce s.blocks (suc more) (stamp_of_call s) [] in omega arith)
 
 adds_all : (cs : List Command) (s : State) → total (after cs s).blocks ≡ total s.blocks + added_by cs s
 unfolding Adds
@@ -88,17 +81,10 @@ adds_all (c ∷ cs) s = let a = adds_step c s in let ih = adds_all cs (step c s)
 -- the live and the free units of a list
 parted : (bs : List Block) → live_units bs + sum (free_sizes bs) ≡ total bs
 parted [] = refl
-parted (b ∷ bs) = let ih = parted bs in either (is_free b.tag) ih
-  where
-    either : (x : Bool) → live_units bs + sum (free_sizes bs) ≡ total bs → ((if x then 0 else b.size) + live_units bs) + sum (if x then b.size ∷ free_sizes bs else free_sizes bs) ≡ b.size + total bs
-    either true ih = one_more ih
-      where
-        one_more : live_units bs + sum (free_sizes bs) ≡ total bs → (0 + live_units bs) + sum (b.size ∷ free_sizes bs) ≡ b.size + total bs
-        one_more ih = let e : sum (b.size ∷ free_sizes bs) ≡ b.size + sum (free_sizes bs) = sum_by-cons (λ n. n) b.size (free_sizes bs) in omega (arith, e, ih)
-    either false ih = one_more ih
-      where
-        one_more : live_units bs + sum (free_sizes bs) ≡ total bs → (b.size + live_units bs) + sum (free_sizes bs) ≡ b.size + total bs
-        one_more ih = omega arith
+parted (b ∷ bs) =
+    let ih = parted bs in
+    let e : sum (b.size ∷ free_sizes bs) ≡ b.size + sum (free_sizes bs) = sum_by-cons (λ n. n) b.size (free_sizes bs) in
+    elim (is_free b.tag) as (λ x. ((if x then 0 else b.size) + live_units bs) + sum (if x then b.size ∷ free_sizes bs else free_sizes bs) ≡ b.size + total bs) [ true ↦ omega (arith, e, ih) | false ↦ omega (arith, ih) ]
 
 pub sums_law : SizesAddUp
 sums_law size limit cs = let p = parted (after cs (start size limit)).blocks in let a = adds_all cs (start size limit) in omega arith
@@ -106,10 +92,6 @@ sums_law size limit cs = let p = parted (after cs (start size limit)).blocks in 
 -- an outcome where no more than limit - 2 blocks are live
 Few : State → Outcome → Type 0
 Few s o = (live_blocks o.state.blocks + 2 ≤ s.limit) × (o.state.limit ≡ s.limit)
-
-few_if : (s : State) (b : Bool) (o p : Outcome) → Few s o → Few s p → Few s (if b then o else p)
-few_if s true o p f g = f
-few_if s false o p f g = g
 
 few_kept : (c : Command) (s : State) → KeepsSpace c → live_blocks s.blocks + 2 ≤ s.limit → Few s (step c s)
 unfolding Few
@@ -131,8 +113,8 @@ few_step command.Full s h = (h, refl)
 few_step command.Reset s h = (omega arith, refl)
 few_step (command.Align n align) s h = few_kept (command.Align n align) s tt h
 few_step (command.Extend zero) s h = (h, refl)
-few_step (command.Extend (suc more)) s h = few_if s (nat_lt max_size (total s.blocks + suc more) || (ends_live s.blocks && is_short_of 1 s)) (returns_only s machine.Refused) (leaves s (coalesce s.blocks (suc more) (stamp_of_call s) []) machine.Extended)
-    (h, refl) (let j = live_coalesce s.blocks (suc more) (stamp_of_call s) [] in omega arith, refl)
+few_step (command.Extend (suc more)) s h = if_both (Few s) (nat_lt max_size (total s.blocks + suc more) || (ends_live s.blocks && is_short_of 1 s)) (returns_only s machine.Refused) (leaves s (coalesce s.blocks (suc more) (stamp_of_call s) []) machine.Extended)
+    (λ e. (h, refl)) (λ e. (let j = live_coalesce s.blocks (suc more) (stamp_of_call s) [] in omega arith, refl))
 
 few_all : (cs : List Command) (s : State) (limit : ℕ) → s.limit ≡ limit → live_blocks s.blocks + 2 ≤ limit → live_blocks (after cs s).blocks + 2 ≤ limit
 unfolding Few
@@ -149,15 +131,11 @@ short_too s spare some h = le-leb s.limit (length s.blocks + spare) (omega arith
 refused : (s : State) (spare needed n : ℕ) (padding_at : ℕ → ℕ) → 1 ≤ spare → s.limit ≤ length s.blocks + 1 → (request s spare needed n padding_at).answer ≡ machine.Refused
 refused s spare needed n padding_at some h = ap (λ b. (if b then returns_only s machine.Refused else grant_or_refuse s n padding_at (chosen_place needed s.blocks)).answer) (short_too s spare some h)
 
-refused_if : (b : Bool) (o p : Outcome) → o.answer ≡ machine.Refused → p.answer ≡ machine.Refused → (if b then o else p).answer ≡ machine.Refused
-refused_if true o p f g = f
-refused_if false o p f g = g
-
 pub full_law : FullSpaceRefuses
 full_law s h = (
   λ n. refused s 1 n n (λ offset. 0) (omega arith) h,
-  λ n align. refused_if (nat_le align 1) (step (command.Alloc n) s) (if nat_lt max_size (n + align - 1) then returns_only s machine.Refused else request s 2 (n + align - 1) n (padding_to align))
-      (refused s 1 n n (λ offset. 0) (omega arith) h)
-      (refused_if (nat_lt max_size (n + align - 1)) (returns_only s machine.Refused) (request s 2 (n + align - 1) n (padding_to align)) refl (refused s 2 (n + align - 1) n (padding_to align) (omega arith) h)),
+  λ n align. if_both (λ (o : Outcome). o.answer ≡ machine.Refused) (nat_le align 1) (step (command.Alloc n) s) (if nat_lt max_size (n + align - 1) then returns_only s machine.Refused else request s 2 (n + align - 1) n (padding_to align))
+      (λ e. refused s 1 n n (λ offset. 0) (omega arith) h)
+      (λ e. if_both (λ (o : Outcome). o.answer ≡ machine.Refused) (nat_lt max_size (n + align - 1)) (returns_only s machine.Refused) (request s 2 (n + align - 1) n (padding_to align)) (λ f. refl) (λ f. refused s 2 (n + align - 1) n (padding_to align) (omega arith) h)),
   ap (λ b. if b then machine.Report 0 0 else machine.Report (sum (free_sizes s.blocks)) (largest (free_sizes s.blocks))) (short_too s 1 (omega arith) h),
 )

@@ -1,15 +1,17 @@
 -- What holds of every state that the machine reaches.
-use Rattle.std.proofs.Common.{◌≡◌, ◌≢◌, ℕ, zero, suc, ◌+◌, ◌-◌, ◌*◌, ◌<◌, ◌≤◌, Bool, true, false, ◌&&◌, ◌||◌, ◌⊎◌, List, [], ◌∷◌, ◌++◌, length, Option, Some, None, nat_eq, nat_lt, nat_le, if◌then◌else◌, refl, sym, ap, ap₂, subst, ◌∙◌, inl, inr, arith, eq-eqb, ne_eqb, leb-false, length-append, append-nil}
+use Rattle.std.proofs.Common.{◌≡◌, ◌≢◌, ℕ, zero, suc, ◌+◌, ◌-◌, ◌<◌, ◌≤◌, Bool, true, false, ◌&&◌, ◌||◌, ◌⊎◌, List, [], ◌∷◌, ◌++◌, length, Option, Some, None, option_map, nat_eq, nat_lt, nat_le, if◌then◌else◌, refl, sym, ap, ap₂, subst, ◌∙◌, inl, inr, arith, eq-eqb, ne_eqb, leb-false, length-append, append-nil}
 use Rattle.std.proofs.lemmas.Bool.{cases_eq, cases_lt, true≢false, false≢true}
 use Rattle.std.proofs.lemmas.Bool.Decides.{nat_tests}
 use Rattle.std.specs.List.{AllByRecursion}
 use Rattle.offset_script.specs.declared.scripts.Command.{Command}
 use Rattle.offset_script.specs.declared.scripts.Command.TheVariants as command
 use Rattle.offset_allocator.specs.Classes.{down}
-use Rattle.offset_script.specs.Machine.{Tag, Live, Free, Block, block, is_free, has_number, stamp, total, Place, here, prepend, prepend_if_found, fits, is_taken_before, choose, chosen_place, place_of, free_block, free_start, without_start, free_end, without_end, ends_live, coalesce, State, Answer, Outcome, start, step, answers, after, request, grant, grant_or_refuse, is_short_of, returns_only, leaves, release, size_at, report, full_report, reset, extend, stamp_of_call, stamp_of_padding}
+use Rattle.offset_script.specs.Machine.{Tag, Live, Free, Block, block, is_free, has_number, stamp, total, Place, here, prepend, fits, is_taken_before, choose, chosen_place, place_of, free_block, free_start, without_start, free_end, without_end, ends_live, coalesce, State, Answer, Outcome, start, step, answers, after, request, grant, grant_or_refuse, is_short_of, returns_only, leaves, release, size_at, report, reset, extend, stamp_of_call, stamp_of_padding}
 use Rattle.offset_script.specs.Machine as machine
+use Rattle.offset_allocator.specs.Reports.{rows_below}
 use Rattle.offset_script.proofs.Members.{In}
-use Rattle.offset_allocator.specs.Named.{max_size, padding_to}
+use Rattle.offset_script.specs.Machine.{max_size, padding_to}
+use Rattle.offset_script.proofs.Tests.{both_true, and_false, and_false_right, left_false, right_false, or_false, if_both}
 
 -- whether the first block of a list is free
 abbrev pub starts_free : List Block → Bool
@@ -48,15 +50,22 @@ abbrev pub count : Tag → List Block → ℕ
 count t [] = 0
 count t (b ∷ bs) = hit t b.tag + count t bs
 
+-- the tag of a block that a call before has left
+abbrev pub IsOld : State → Tag → Type 0
+IsOld s (Live k) = (1 ≤ k) × (k ≤ s.grants)
+IsOld s (Free x) = x < stamp_of_padding s
+
 -- what holds of every state that the machine reaches
 pub record Well (s : State) : Type 0 where
   pub some : 1 ≤ length s.blocks
   pub apart : Apart s.blocks
   pub once : (t : Tag) → count t s.blocks ≤ 1
-  pub granted : (k : ℕ) → s.grants < k → count (Live k) s.blocks ≡ 0
-  pub from_one : count (Live 0) s.blocks ≡ 0
-  pub stamped : (x : ℕ) → 2 * (s.calls + 1) ≤ x → count (Free x) s.blocks ≡ 0
+  pub old : (t : Tag) → 1 ≤ count t s.blocks → IsOld s t
   pub room : length s.blocks + 1 ≤ s.limit
+
+-- a tag of a later call is not there
+pub not_there : (s : State) → Well s → (t : Tag) → (IsOld s t → ⊥) → count t s.blocks ≡ 0
+not_there s w t n = elim (cases_lt 0 (count t s.blocks)) [ inl l ↦ absurd (n (w.old t l)) | inr l ↦ omega arith ]
 
 -- the list that was split
 abbrev pub whole : Place → List Block
@@ -103,26 +112,9 @@ total-append [] ys = omega arith
 total-append (b ∷ xs) ys = let ih = total-append xs ys in omega (arith, ih)
 
 -- neighbours
-and_false : (x y : Bool) → x ≡ false → (x && y) ≡ false
-and_false true y e = absurd (true≢false e)
-and_false false y e = refl
-
-pub and_false_right : (x y : Bool) → y ≡ false → (x && y) ≡ false
-and_false_right true y e = e
-and_false_right false y e = refl
-
 pub and_true : (x : Bool) → (x && true) ≡ false → x ≡ false
 and_true true e = e
 and_true false e = refl
-
--- of two tests that do not both hold, the other one fails
-pub left_false : (x y : Bool) → (x && y) ≡ false → y ≡ true → x ≡ false
-left_false true y e h = sym h ∙ e
-left_false false y e h = refl
-
-pub right_false : (x y : Bool) → (x && y) ≡ false → x ≡ true → y ≡ false
-right_false true y e h = e
-right_false false y e h = absurd (false≢true h)
 
 -- two lists that do not meet in two free blocks
 pub apart_append : (xs ys : List Block) → Apart xs → Apart ys → (ends_free xs && starts_free ys) ≡ false → Apart (xs ++ ys)
@@ -259,48 +251,43 @@ apart_coalesce xs n s ys a b =
 
 -- the machine
 pub well_start : (size limit : ℕ) → 2 ≤ limit → Well (start size limit)
-well_start size limit h = record {
-  some = omega arith;
-  apart = (refl, tt);
-  once = λ t. omega (arith, at_most_one (same_tag t (Free 0)));
-  granted = λ k l. refl;
-  from_one = refl;
-  stamped = λ x l. elim (hit_cases x 0) [ inl e ↦ absurd (omega arith) | inr e ↦ omega arith ];
-  room = omega arith;
-}
+well_start size limit h = record { some = omega arith; apart = (refl, tt); once = λ t. omega (arith, at_most_one (same_tag t (Free 0))); old = λ t c. first t c; room = omega arith }
   where
     at_most_one : (b : Bool) → one b ≤ 1
     at_most_one true = omega arith
     at_most_one false = omega arith
 
+    first : (t : Tag) → 1 ≤ hit t (Free 0) + 0 → IsOld (start size limit) t
+    first (Live k) c = absurd (omega arith)
+    first (Free x) c = elim (hit_cases x 0) [ inl e ↦ omega arith | inr e ↦ absurd (omega arith) ]
+
+-- a call after which each tag occurs no more often than before, except for new ones
+module _ (s s' : State) (w : Well s) (news : Tag → ℕ) (counts : (t : Tag) → count t s'.blocks ≤ count t s.blocks + news t) (fresh : (t : Tag) → (news t ≡ 0) ⊎ ((news t ≡ 1) × (IsOld s t → ⊥) × IsOld s' t)) (grants : s.grants ≤ s'.grants) (calls : s.calls ≤ s'.calls) where
+  still_old : (t : Tag) → IsOld s t → IsOld s' t
+  still_old (Live k) o = (o.0, omega (arith, o.1))
+  still_old (Free x) o = omega arith
+
+  well_next : 1 ≤ length s'.blocks → length s'.blocks + 1 ≤ s'.limit → Apart s'.blocks → Well s'
+  well_next some room apart = record {
+    some = some;
+    apart = apart;
+    once = λ t. elim (fresh t) [ inl z ↦ omega (arith, counts t, w.once t) | inr n ↦ omega (arith, counts t, not_there s w t n.1) ];
+    old = λ t c. elim (fresh t) [ inl z ↦ still_old t (w.old t (omega (arith, counts t))) | inr n ↦ n.2 ];
+    room = room;
+  }
+
 -- a call that leaves the blocks as they are
 well_quiet : (s : State) → Well s → (a : Answer) → Well (returns_only s a).state
-well_quiet s w a = record {
-  some = w.some;
-  apart = w.apart;
-  once = w.once;
-  granted = w.granted;
-  from_one = w.from_one;
-  stamped = λ x l. w.stamped x (omega arith);
-  room = w.room;
-}
+well_quiet s w a = well_next s (returns_only s a).state w (λ t. 0) (λ t. omega arith) (λ t. inl refl) (omega arith) (omega arith) w.some w.room w.apart
 
 -- blocks that a call leaves, where each tag occurs no more often than before, except for the stamp of the call
 well_leaves : (s : State) → Well s → (bs : List Block) (a : Answer) → 1 ≤ length bs → length bs + 1 ≤ s.limit → Apart bs
     → ((t : Tag) → count t bs ≤ count t s.blocks + hit t (Free (stamp_of_call s))) → Well (leaves s bs a).state
-well_leaves s w bs a some room apart counts = record {
-  some = some;
-  apart = apart;
-  once = λ t. once_of t (counts t) (w.once t);
-  granted = λ k l. let h = counts (Live k) in let o = w.granted k l in omega arith;
-  from_one = let h = counts (Live 0) in let o = w.from_one in omega arith;
-  stamped = λ x l. let h = counts (Free x) in let o = w.stamped x (omega arith) in elim (hit_cases x (stamp_of_call s)) [ inl e ↦ absurd (omega arith) | inr e ↦ omega arith ];
-  room = room;
-}
+well_leaves s w bs a some room apart counts = well_next s (leaves s bs a).state w (λ t. hit t (Free (stamp_of_call s))) counts fresh (omega arith) (omega arith) some room apart
   where
-    once_of : (t : Tag) → count t bs ≤ count t s.blocks + hit t (Free (stamp_of_call s)) → count t s.blocks ≤ 1 → count t bs ≤ 1
-    once_of (Live k) h o = omega arith
-    once_of (Free x) h o = elim (hit_cases x (stamp_of_call s)) [ inl e ↦ let z = w.stamped x (omega arith) in omega arith | inr e ↦ omega arith ]
+    fresh : (t : Tag) → (hit t (Free (stamp_of_call s)) ≡ 0) ⊎ ((hit t (Free (stamp_of_call s)) ≡ 1) × (IsOld s t → ⊥) × IsOld (leaves s bs a).state t)
+    fresh (Live k) = inl refl
+    fresh (Free x) = elim (hit_cases x (stamp_of_call s)) [ inl e ↦ inr (e.1, λ o. absurd (omega arith), omega arith) | inr e ↦ inl e.1 ]
 
 -- what is found
 FoundAt : ℕ → List Block → Option Place → Type 0
@@ -311,7 +298,7 @@ pub number_hit : (k : ℕ) (t : Tag) → hit (Live k) t ≡ one (has_number k t)
 number_hit k (Live j) = refl
 number_hit k (Free s) = refl
 
-found_step : (k : ℕ) (b : Block) (bs : List Block) (o : Option Place) → FoundAt k bs o → (x : Bool) → has_number k b.tag ≡ x → FoundAt k (b ∷ bs) (if x then Some (here b bs) else prepend_if_found b o)
+found_step : (k : ℕ) (b : Block) (bs : List Block) (o : Option Place) → FoundAt k bs o → (x : Bool) → has_number k b.tag ≡ x → FoundAt k (b ∷ bs) (if x then Some (here b bs) else option_map (prepend b) o)
 unfolding FoundAt
 found_step k b bs o f true e = (refl, e, refl)
 found_step k b bs None f false e = let h : hit (Live k) b.tag ≡ 0 = number_hit k b.tag ∙ ap one e in omega arith
@@ -329,8 +316,8 @@ found_at k bs p e = subst (FoundAt k bs) e (found_all k bs)
 
 -- a grant is found where its number does not occur before
 pub place_at : (k : ℕ) (xs : List Block) (b : Block) (ys : List Block) → count (Live k) xs ≡ 0 → has_number k b.tag ≡ true → place_of k (xs ++ b ∷ ys) ≡ Some (record { before = xs; block = b; after = ys })
-place_at k [] b ys c e = ap (λ x. if x then Some (here b ys) else prepend_if_found b (place_of k ys)) e
-place_at k (x ∷ xs) b ys c e = ap (λ t. if t then Some (here x (xs ++ b ∷ ys)) else prepend_if_found x (place_of k (xs ++ b ∷ ys))) (hit_number k x.tag (omega arith)) ∙ ap (prepend_if_found x) (place_at k xs b ys (omega arith) e)
+place_at k [] b ys c e = ap (λ x. if x then Some (here b ys) else option_map (prepend b) (place_of k ys)) e
+place_at k (x ∷ xs) b ys c e = ap (λ t. if t then Some (here x (xs ++ b ∷ ys)) else option_map (prepend x) (place_of k (xs ++ b ∷ ys))) (hit_number k x.tag (omega arith)) ∙ ap (option_map (prepend x)) (place_at k xs b ys (omega arith) e)
 
 -- where a grant is not found, no block has its number
 pub not_found : (k : ℕ) (bs : List Block) → place_of k bs ≡ None → count (Live k) bs ≡ 0
@@ -345,10 +332,6 @@ IsBest n bs b = (c : Block) → In c bs → fits n c ≡ true → is_taken_befor
 ChosenAt : ℕ → List Block → Option Place → Type 0
 ChosenAt n bs None = (c : Block) → In c bs → fits n c ≡ false
 ChosenAt n bs (Some p) = (bs ≡ whole p) × (fits n p.block ≡ true) × IsBest n bs p.block
-
-pub both_true : (x y : Bool) → (x && y) ≡ true → (x ≡ true) × (y ≡ true)
-both_true true y e = (refl, e)
-both_true false y e = absurd (false≢true e)
 
 -- the order in which blocks are chosen
 taken_irreflexive : (b : Block) → is_taken_before b b ≡ false
@@ -428,44 +411,23 @@ apart_granted p n padding front k rest f a =
     let beginning : starts_free p.after ≡ false = right_false (is_free p.block.tag) (starts_free p.after) parts.1.0 f in
     apart_append p.before _ parts.0 (apart_free_block padding front _ (refl, apart_free_block _ rest p.after parts.1.1 beginning) refl) (and_false _ _ end)
 
-once_granted : (g x : ℕ) (t : Tag) (old new : ℕ) → new ≤ old + (hit t (Free (2 * x)) + (hit t (Live (g + 1)) + hit t (Free (2 * x + 1)))) → old ≤ 1
-    → ((k : ℕ) → t ≡ Live k → g < k → old ≡ 0) → ((y : ℕ) → t ≡ Free y → 2 * x ≤ y → old ≡ 0) → new ≤ 1
-once_granted g x (Live k) old new h o live free = elim (hit_cases k (g + 1)) [
-  | inl e ↦ let z = live k refl (omega arith) in omega arith
-  | inr e ↦ omega arith
-]
-once_granted g x (Free y) old new h o live free = elim (hit_cases y (2 * x)) [
-  | inl e ↦ let z = free y refl (omega arith) in elim (hit_cases y (2 * x + 1)) [ inl e' ↦ absurd (omega arith) | inr e' ↦ omega arith ]
-  | inr e ↦ elim (hit_cases y (2 * x + 1)) [ inl e' ↦ let z = free y refl (omega arith) in omega arith | inr e' ↦ omega arith ]
-]
-
 -- a grant
 well_grant : (s : State) → Well s → (n padding : ℕ) (p : Place) → s.blocks ≡ whole p → is_free p.block.tag ≡ true → (spare : ℕ) → length s.blocks + spare < s.limit
     → length (free_block padding (stamp_of_padding s)) + 1 ≤ spare → Well (grant s n padding p).state
-well_grant s w n padding p e f spare room enough =
-    let counts : (t : Tag) → count t bs ≤ count t s.blocks + (hit t (Free (stamp_of_padding s)) + (hit t (Live (s.grants + 1)) + hit t (Free (stamp_of_call s)))) =
-    λ t. omega (arith, count_granted t p n padding (stamp_of_padding s) (s.grants + 1) (stamp_of_call s), ap (count t) e) in
-    record {
-      some = omega (arith, sizes);
-      apart = apart_granted p n padding _ _ _ f (subst Apart e w.apart);
-      once = λ t. once_granted s.grants (s.calls + 1) t (count t s.blocks) (count t bs) (counts t) (w.once t)
-          (λ k same l. subst (λ x. count x s.blocks ≡ 0) (sym same) (w.granted k l))
-          (λ y same l. subst (λ x. count x s.blocks ≡ 0) (sym same) (w.stamped y l));
-      granted = λ k l. let h = counts (Live k) in let o = w.granted k (omega arith) in elim (hit_cases k (s.grants + 1)) [ inl e' ↦ absurd (omega arith) | inr e' ↦ omega arith ];
-      from_one = let h = counts (Live 0) in let o = w.from_one in elim (hit_cases 0 (s.grants + 1)) [ inl e' ↦ absurd (omega arith) | inr e' ↦ omega arith ];
-      stamped = λ x l. let h = counts (Free x) in let o = w.stamped x (omega arith) in
-          elim (hit_cases x (stamp_of_padding s)) [
-            | inl e' ↦ absurd (omega arith)
-            | inr e' ↦ elim (hit_cases x (stamp_of_call s)) [ inl e'' ↦ absurd (omega arith) | inr e'' ↦ omega arith ]
-          ];
-      room = omega (arith, sizes, ap length e, length-append p.before (p.block ∷ p.after), free_block_short (p.block.size - (padding + n)) (stamp_of_call s));
-    }
+well_grant s w n padding p e f spare room enough = well_next s (grant s n padding p).state w (λ t. hit t (Free (stamp_of_padding s)) + (hit t (Live (s.grants + 1)) + hit t (Free (stamp_of_call s))))
+    (λ t. omega (arith, count_granted t p n padding (stamp_of_padding s) (s.grants + 1) (stamp_of_call s), ap (count t) e)) fresh (omega arith) (omega arith)
+    (omega (arith, sizes)) (omega (arith, sizes, ap length e, length-append p.before (p.block ∷ p.after), free_block_short (p.block.size - (padding + n)) (stamp_of_call s))) (apart_granted p n padding _ _ _ f (subst Apart e w.apart))
   where
-    bs : List Block
-    bs = granted_blocks p n padding (stamp_of_padding s) (s.grants + 1) (stamp_of_call s)
-
-    sizes : length bs ≡ length p.before + (length (free_block padding (stamp_of_padding s)) + suc (length (free_block (p.block.size - (padding + n)) (stamp_of_call s)) + length p.after))
+    sizes : length (granted_blocks p n padding (stamp_of_padding s) (s.grants + 1) (stamp_of_call s)) ≡ length p.before + (length (free_block padding (stamp_of_padding s)) + suc (length (free_block (p.block.size - (padding + n)) (stamp_of_call s)) + length p.after))
     sizes = simp length-append
+
+    fresh : (t : Tag) → (hit t (Free (stamp_of_padding s)) + (hit t (Live (s.grants + 1)) + hit t (Free (stamp_of_call s))) ≡ 0)
+        ⊎ ((hit t (Free (stamp_of_padding s)) + (hit t (Live (s.grants + 1)) + hit t (Free (stamp_of_call s))) ≡ 1) × (IsOld s t → ⊥) × IsOld (grant s n padding p).state t)
+    fresh (Live k) = elim (hit_cases k (s.grants + 1)) [ inl e ↦ inr (omega (arith, e.1), λ o. absurd (omega (arith, o.1, e.0)), (omega arith, omega arith)) | inr e ↦ inl (omega (arith, e.1)) ]
+    fresh (Free x) = elim (hit_cases x (stamp_of_padding s)) [
+      | inl e ↦ elim (hit_cases x (stamp_of_call s)) [ inl h ↦ absurd (omega (arith, e.0, h.0)) | inr h ↦ inr (omega (arith, e.1, h.1), λ o. absurd (omega arith), omega (arith, e.0)) ]
+      | inr e ↦ elim (hit_cases x (stamp_of_call s)) [ inl h ↦ inr (omega (arith, e.1, h.1), λ o. absurd (omega (arith, o, h.0)), omega (arith, h.0)) | inr h ↦ inl (omega (arith, e.1, h.1)) ]
+    ]
 
 -- coalescing leaves some block, and at most one more
 pub length_coalesce : (xs : List Block) (n s : ℕ) (ys : List Block) → (1 ≤ length (coalesce xs n s ys)) × (length (coalesce xs n s ys) ≤ length xs + suc (length ys))
@@ -475,10 +437,6 @@ length_coalesce xs n s ys =
     let l = c.end.few in
     (omega arith, omega (arith, ap length c.at_front, ap length c.at_back, length-append c.front c.last, length-append c.first c.back))
 
-well_if : (b : Bool) (o p : Outcome) → (b ≡ true → Well o.state) → (b ≡ false → Well p.state) → Well (if b then o else p).state
-well_if true o p f g = f refl
-well_if false o p f g = g refl
-
 well_granted : (s : State) → Well s → (needed n : ℕ) (padding_at : ℕ → ℕ) (spare : ℕ) → ((o x : ℕ) → length (free_block (padding_at o) x) + 1 ≤ spare) → length s.blocks + spare < s.limit
     → (o : Option Place) → chosen_place needed s.blocks ≡ o → Well (grant_or_refuse s n padding_at o).state
 well_granted s w needed n padding_at spare enough room None e = well_quiet s w machine.Refused
@@ -487,7 +445,7 @@ well_granted s w needed n padding_at spare enough room (Some p) e =
     well_grant s w n (padding_at (total p.before)) p c.0 (both_true _ _ c.1).0 spare room (enough _ _)
 
 well_request : (s : State) → Well s → (spare needed n : ℕ) (padding_at : ℕ → ℕ) → ((o x : ℕ) → length (free_block (padding_at o) x) + 1 ≤ spare) → Well (request s spare needed n padding_at).state
-well_request s w spare needed n padding_at enough = well_if (is_short_of spare s) _ _ (λ e. well_quiet s w machine.Refused)
+well_request s w spare needed n padding_at enough = if_both (λ (o : Outcome). Well o.state) (is_short_of spare s) _ _ (λ e. well_quiet s w machine.Refused)
     (λ e. well_granted s w needed n padding_at spare enough (leb-false s.limit (length s.blocks + spare) e) (chosen_place needed s.blocks) refl)
 
 -- a release
@@ -520,10 +478,6 @@ length_at_end bs n s = (λ e h. shorter (coalesced bs n s []) e h, (length_coale
       | inr l ↦ absurd (true≢false (sym (ends_some bs h e) ∙ ap ends_free c.at_front ∙ c.end.live (omega arith)))
     ]
 
-or_false : (x y : Bool) → (x || y) ≡ false → y ≡ false
-or_false true y e = absurd (true≢false e)
-or_false false y e = e
-
 and_cases : (x y : Bool) → (x && y) ≡ false → (x ≡ false) ⊎ (y ≡ false)
 and_cases true y e = inr e
 and_cases false y e = inl refl
@@ -531,12 +485,12 @@ and_cases false y e = inl refl
 -- more units at the end
 well_extend : (s : State) → Well s → (more : ℕ) → Well (extend more s).state
 well_extend s w zero = well_quiet s w machine.Extended
-well_extend s w (suc more) = well_if (nat_lt max_size (total s.blocks + suc more) || (ends_live s.blocks && is_short_of 1 s)) _ _ (λ e. well_quiet s w machine.Refused) (λ e.
+well_extend s w (suc more) = if_both (λ (o : Outcome). Well o.state) (nat_lt max_size (total s.blocks + suc more) || (ends_live s.blocks && is_short_of 1 s)) _ _ (λ e. well_quiet s w machine.Refused) (λ e.
     let sizes = length_coalesce s.blocks (suc more) (stamp_of_call s) [] in
     let at_end = length_at_end s.blocks (suc more) (stamp_of_call s) in
     let r = w.room in
     well_leaves s w _ machine.Extended sizes.0
-    (elim (and_cases (ends_live s.blocks) (is_short_of 1 s) (or_false _ _ e)) [
+    (elim (and_cases (ends_live s.blocks) (is_short_of 1 s) (or_false _ _ e).1) [
       | inl free ↦ omega (arith, at_end.0 free w.some)
       | inr spare ↦ omega (arith, at_end.1, leb-false s.limit (length s.blocks + 1) spare)
     ])
@@ -556,10 +510,10 @@ well_step (command.Alloc n) s w = well_request s w 1 n n (λ offset. 0) no_paddi
 well_step (command.Free k) s w = well_release s w k (place_of k s.blocks) refl
 well_step (command.Size k) s w = well_quiet s w (size_at (place_of k s.blocks))
 well_step command.Report s w = well_quiet s w (report s)
-well_step command.Full s w = well_quiet s w (full_report s)
+well_step command.Full s w = well_quiet s w (machine.Full (rows_below 256 (machine.free_sizes s.blocks)))
 well_step command.Reset s w = well_reset s w
-well_step (command.Align n align) s w = well_if (nat_le align 1) _ _ (λ e. well_request s w 1 n n (λ offset. 0) no_padding)
-    (λ e. well_if (nat_lt max_size (n + align - 1)) _ _ (λ e. well_quiet s w machine.Refused) (λ e. well_request s w 2 (n + align - 1) n (padding_to align) (λ o x. let h = free_block_short (padding_to align o) x in omega arith)))
+well_step (command.Align n align) s w = if_both (λ (o : Outcome). Well o.state) (nat_le align 1) _ _ (λ e. well_request s w 1 n n (λ offset. 0) no_padding)
+    (λ e. if_both (λ (o : Outcome). Well o.state) (nat_lt max_size (n + align - 1)) _ _ (λ e. well_quiet s w machine.Refused) (λ e. well_request s w 2 (n + align - 1) n (padding_to align) (λ o x. let h = free_block_short (padding_to align o) x in omega arith)))
 well_step (command.Extend more) s w = well_extend s w more
 
 -- so do all commands in order

@@ -1,8 +1,8 @@
 -- When the named view of an allocator, with the handles kept for its grants, shows the blocks of a plain state.
-use Rattle.std.specs.Prelude.{◌≡◌, ℕ, zero, suc, ◌+◌, ◌<◌, ◌≤◌, not, List, [], ◌∷◌, map, Option, Some, None, slice_index_or, nat_eq, if◌then◌else◌}
+use Rattle.std.specs.Prelude.{◌≡◌, ℕ, zero, suc, ◌<◌, ◌≤◌, not, List, [], ◌∷◌, map, Option, Some, None, slice_index_or, nat_eq, if◌then◌else◌}
 use Rattle.offset_allocator.specs.Named.{Block, View, Grant, tally, times, names_at}
 use Rattle.offset_script.specs.declared.scripts.Command.{Command}
-use Rattle.offset_script.specs.Machine.{Tag, is_free, has_number, stamp, State, Answer, start, after}
+use Rattle.offset_script.specs.Machine.{Tag, is_free, has_number, stamp, State, start, after}
 use Rattle.offset_script.specs.Machine as machine
 
 -- a block with both its name and its tag
@@ -60,26 +60,3 @@ name_in (Some h) = Some h.name
 abbrev pub kept_name : List (Option Grant) → ℕ → Option ℕ
 kept_name hs zero = None
 kept_name hs (suc k) = name_in (slice_index_or hs k None)
-
--- the answer to a request, when g grants were made before it
-abbrev pub answer_of : ℕ → Option Grant → Answer
-answer_of g None = machine.Refused
-answer_of g (Some a) = machine.Grant (g + 1) a.offset
-
--- the kept names, with x as that of grant k
-abbrev pub with_name : ℕ → ℕ → (ℕ → Option ℕ) → ℕ → Option ℕ
-with_name k x kept_name j = if nat_eq j k then Some x else kept_name j
-
--- the kept names, without that of grant k
-abbrev pub without_name : ℕ → (ℕ → Option ℕ) → ℕ → Option ℕ
-without_name k kept_name j = if nat_eq j k then None else kept_name j
-
--- the names kept after a request, when g grants were made before it
-abbrev pub kept_after : ℕ → Option Grant → (ℕ → Option ℕ) → ℕ → Option ℕ
-kept_after g None kept_name = kept_name
-kept_after g (Some a) kept_name = with_name (g + 1) a.name kept_name
-
--- the grants made after a request, when g were made before it
-abbrev pub grant_count_after : ℕ → Option Grant → ℕ
-grant_count_after g None = g
-grant_count_after g (Some a) = g + 1

@@ -1,6 +1,8 @@
--- What a text means: a script, or the fault of its first faulty line.
-use Rattle.std.specs.Prelude.{ℕ, ◌+◌, ◌^◌, Bool, true, not, ◌&&◌, List, [], ◌∷◌, length, filter, count_by, Option, Some, None, option_and_then, Result, Ok, Err, nat_lt, nat_le, ◌==◌, if◌then◌else◌, codes}
-use Rattle.std.specs.List.{slice_split}
+-- What a text means, a script or the fault of its first faulty line, and the text of answers to a script.
+use Rattle.std.specs.Prelude.{◌≡◌, ℕ, ◌+◌, ◌^◌, Bool, true, not, ◌&&◌, List, [], ◌∷◌, ◌++◌, length, drop, filter, count_by, Option, Some, None, option_and_then, Result, Ok, Err, nat_lt, nat_le, ◌==◌, if◌then◌else◌, codes}
+use Rattle.std.specs.List.{slice_split, flat_map}
+use Rattle.std.specs.Fmt.{decimal}
+use Rattle.std.specs.Io.KnownBytes.{Appends}
 use Rattle.std.specs.Str.{bytes_eq, all_ascii_digits}
 use Rattle.std.specs.Str.Parse.{digits_value}
 use Rattle.std.specs.Int.{is_power_of_two}
@@ -11,6 +13,12 @@ use Rattle.offset_script.specs.declared.scripts.IndexWidth.TheVariants.{Bits16, 
 use Rattle.offset_script.specs.declared.scripts.Header.{Header}
 use Rattle.offset_script.specs.declared.faults.ScriptFault.{ScriptFault}
 use Rattle.offset_script.specs.declared.faults.ScriptFault.TheVariants.{TooLong, BadHeader, BadLimit, BadCommand}
+use Rattle.offset_script.specs.declared.faults.ScriptFault.TheVariants as scripts
+use Rattle.offset_script.specs.declared.faults.RunFault.{RunFault}
+use Rattle.offset_script.specs.declared.faults.RunFault.TheVariants.{Script, Memory, Read, Write}
+use Rattle.offset_allocator.specs.Reports.{Row}
+use Rattle.offset_script.specs.Machine.{Answer, IsPlayed}
+use Rattle.offset_script.specs.Machine as machine
 
 -- the parts of a text between the bytes `at`
 abbrev pub parts : ℕ → List ℕ → List (List ℕ)
@@ -183,3 +191,60 @@ line_ends text = count_by (λ b. b == 10) text
 -- what a text means: a script, or the fault of its first faulty line
 unfoldable pub meaning_of : List ℕ → Result Plan ScriptFault
 meaning_of text = if nat_lt 1048576 (length text) then Err TooLong else plan_of (1 + line_ends text) (significant_from 1 text)
+
+-- ---- the text of answers
+
+-- the byte that ends a line
+abbrev pub line_end : List ℕ
+line_end = 10 ∷ []
+
+-- the line of a row
+abbrev pub row_line : Row → List ℕ
+row_line row = codes "class " ++ decimal row.class ++ codes " size " ++ decimal row.size ++ codes " count " ++ decimal row.count ++ line_end
+
+-- the lines of an answer: one, and of a full report also one for each row
+unfoldable pub lines_of_answer : Answer → List ℕ
+lines_of_answer (machine.Grant number offset) = codes "grant " ++ decimal number ++ codes " at " ++ decimal offset ++ line_end
+lines_of_answer machine.Refused = codes "none" ++ line_end
+lines_of_answer machine.Freed = codes "freed" ++ line_end
+lines_of_answer machine.Gone = codes "gone" ++ line_end
+lines_of_answer (machine.Size n) = codes "size " ++ decimal n ++ line_end
+lines_of_answer (machine.Report free largest) = codes "free " ++ decimal free ++ codes " largest " ++ decimal largest ++ line_end
+lines_of_answer (machine.Full rows) = codes "full " ++ decimal (length rows) ++ line_end ++ flat_map row_line rows
+lines_of_answer machine.Reset = codes "reset" ++ line_end
+lines_of_answer machine.Extended = codes "extended" ++ line_end
+
+-- the text of the answers
+abbrev pub text_of : List Answer → List ℕ
+text_of answers = flat_map lines_of_answer answers
+
+-- ---- what a run leaves
+
+-- the text means a script, and the whole text of its answers was appended
+pub record WritesAnswers (text : List ℕ) (old new : Option (List ℕ)) : Type 0 where
+  pub plan : Plan
+  pub answers : List Answer
+  pub means : meaning_of text ≡ Ok plan
+  pub played : IsPlayed plan.header.size plan.header.max_allocs plan.commands answers
+  pub writes : Appends old new (text_of answers)
+
+-- the text means a script, and a beginning of the text of its answers was appended
+pub record BeginsAnswers (text : List ℕ) (old new : Option (List ℕ)) : Type 0 where
+  pub plan : Plan
+  pub answers : List Answer
+  pub front : List ℕ
+  pub back : List ℕ
+  pub means : meaning_of text ≡ Ok plan
+  pub played : IsPlayed plan.header.size plan.header.max_allocs plan.commands answers
+  pub parts : text_of answers ≡ front ++ back
+  pub writes : Appends old new front
+
+-- What a run returned, left of a source with this text, and wrote: on `Ok` all answers of the script that the text
+-- means, on `Write` a beginning of them, and else the fault of the text. On `Memory` and `Read` nothing is said.
+abbrev pub RunOf : Result (Unit {0}) RunFault → List ℕ → Option (List ℕ) → Option (List ℕ) → Option (List ℕ) → Type 0
+RunOf (Ok u) text left old new = (left ≡ Some []) × WritesAnswers text old new
+RunOf (Err (Script scripts.TooLong)) text left old new = (left ≡ Some (drop 1048577 text)) × (meaning_of text ≡ Err scripts.TooLong)
+RunOf (Err (Script f)) text left old new = (left ≡ Some []) × (meaning_of text ≡ Err f)
+RunOf (Err Memory) text left old new = Unit {0}
+RunOf (Err Read) text left old new = Unit {0}
+RunOf (Err Write) text left old new = (left ≡ Some []) × BeginsAnswers text old new

@@ -1,10 +1,9 @@
 -- Laws over whole histories of the plain machine.
 use Rattle.std.specs.Prelude.{take, drop, ◌≡◌, ◌≢◌, ℕ, ◌+◌, ◌-◌, ◌≤◌, Bool, false, ◌||◌, List, [], ◌∷◌, ◌++◌, length, map, Option, Some, None, IsTrue, nat_eq, nat_le, if◌then◌else◌}
 use Rattle.std.specs.List.{AllByRecursion}
-use Rattle.offset_allocator.specs.Named.{max_size}
 use Rattle.offset_script.specs.declared.scripts.Command.{Command}
 use Rattle.offset_script.specs.declared.scripts.Command.TheVariants as command
-use Rattle.offset_script.specs.Machine.{Tag, Live, Free, Block, is_free, total, State, Answer, start, step, answers, after}
+use Rattle.offset_script.specs.Machine.{max_size, Tag, Live, Free, Block, is_free, total, State, Answer, start, step, answers, after}
 use Rattle.offset_script.specs.Machine as machine
 
 -- a command with the function r applied to its grant number
@@ -44,13 +43,10 @@ fresh_number g k = if nat_le k g then 0 else k - g
 abbrev pub answers_as_fresh : State → List Command → List Answer
 answers_as_fresh s cs = map (raise_number s.grants) (answers (map (renumber (fresh_number s.grants)) cs) (start (total s.blocks) s.limit))
 
--- any commands now have the answers of a fresh machine
-abbrev pub ContinuesAsFresh : State → Type 0
-ContinuesAsFresh s = (cs : List Command) → answers cs s ≡ answers_as_fresh s cs
-
 -- after any commands that leave no block live, the space continues as a fresh one
 abbrev pub EmptySpaceContinuesAsFresh : Type 0
-EmptySpaceContinuesAsFresh = (size limit : ℕ) → 2 ≤ limit → (cs : List Command) → HasNoLive (after cs (start size limit)) → ContinuesAsFresh (after cs (start size limit))
+EmptySpaceContinuesAsFresh = (size limit : ℕ) → 2 ≤ limit → (cs : List Command) → HasNoLive (after cs (start size limit))
+    → (next : List Command) → answers next (after cs (start size limit)) ≡ answers_as_fresh (after cs (start size limit)) next
 
 -- wherever no block is live, the answers found from there on are those of a fresh machine
 abbrev pub RestartsFresh : ℕ → ℕ → List Command → List Answer → Type 0
@@ -69,8 +65,7 @@ holder (Free s) = None
 
 -- the blocks without their stamps: their sizes, and the numbers of the live ones
 abbrev pub outline : List Block → List (ℕ × Option ℕ)
-outline [] = []
-outline (b ∷ bs) = (b.size, holder b.tag) ∷ outline bs
+outline bs = map (λ b. (b.size, holder b.tag)) bs
 
 -- n more free units before these blocks, coalesced with a free block at their start
 abbrev pub widen : ℕ → List (ℕ × Option ℕ) → List (ℕ × Option ℕ)
@@ -117,8 +112,7 @@ without_offset machine.Extended = machine.Extended
 
 -- releases of the grants of these numbers, in this order
 abbrev pub releases : List ℕ → List Command
-releases [] = []
-releases (k ∷ ks) = command.Free k ∷ releases ks
+releases ks = map command.Free ks
 
 -- releases in a row leave the sizes and grants of the collapse, and a next command has the same answer as there, except
 -- for the offset of a grant
@@ -173,14 +167,10 @@ number_without_nest g j k = if nat_le k g then k else if nat_le k (g + j) then 0
 abbrev pub answers_as_before : State → State → List Command → List Answer
 answers_as_before s t cs = map (raise_number (t.grants - s.grants)) (answers (map (renumber (number_without_nest s.grants (t.grants - s.grants))) cs) s)
 
--- any commands have the answers in t that they have in s
-abbrev pub ContinuesAsBefore : State → State → Type 0
-ContinuesAsBefore s t = (cs : List Command) → answers cs t ≡ answers_as_before s t cs
-
 -- after any commands, any nest leaves a state that continues as the one before it
 abbrev pub NestLeavesNoTrace : Type 0
 NestLeavesNoTrace = (size limit : ℕ) → 2 ≤ limit → (cs nest : List Command) → Nest (after cs (start size limit)) nest
-    → ContinuesAsBefore (after cs (start size limit)) (after nest (after cs (start size limit)))
+    → (next : List Command) → answers next (after nest (after cs (start size limit))) ≡ answers_as_before (after cs (start size limit)) (after nest (after cs (start size limit))) next
 
 -- wherever a nest occurs in the commands, the answers found after it are those without it
 abbrev pub NestsLeaveNoTrace : ℕ → ℕ → List Command → List Answer → Type 0

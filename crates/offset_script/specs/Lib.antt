@@ -1,5 +1,4 @@
 pub mod Agreement
-pub mod Answers
 pub mod Devices
 pub mod Faults
 pub mod Grammar

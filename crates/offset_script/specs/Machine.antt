@@ -1,10 +1,12 @@
 -- The plain stamped machine: the space as a list of blocks, commands in, answers out.
-use Rattle.std.specs.Prelude.{◌≡◌, ℕ, zero, suc, ◌+◌, ◌-◌, ◌*◌, Bool, true, false, ◌&&◌, ◌||◌, List, [], ◌∷◌, ◌++◌, length, sum, Option, Some, None, nat_eq, nat_lt, nat_le, if◌then◌else◌}
+use Rattle.std.specs.Prelude.{◌≡◌, ℕ, zero, suc, ◌+◌, ◌-◌, ◌*◌, ◌%◌, Bool, true, false, ◌&&◌, ◌||◌, List, [], ◌∷◌, ◌++◌, length, map, sum, Option, Some, None, option_map, nat_eq, nat_lt, nat_le, if◌then◌else◌}
 use Rattle.offset_allocator.specs.Classes.{up, down}
-use Rattle.offset_allocator.specs.Named.{max_size, padding_to}
 use Rattle.offset_allocator.specs.Reports.{largest, Row, rows_below}
 use Rattle.offset_script.specs.declared.scripts.Command.{Command}
 use Rattle.offset_script.specs.declared.scripts.Command.TheVariants as command
+use Rattle.offset_script.specs.declared.answers.FullRow.{FullRow}
+use Rattle.offset_script.specs.declared.answers.Answer as program
+use Rattle.offset_script.specs.declared.answers.Answer.TheVariants as program_answer
 
 -- ---- blocks
 
@@ -79,15 +81,10 @@ abbrev pub chosen_place : ℕ → List Block → Option Place
 chosen_place n [] = None
 chosen_place n (b ∷ bs) = choose n b bs (chosen_place n bs)
 
--- the same for a place that may be missing
-abbrev pub prepend_if_found : Block → Option Place → Option Place
-prepend_if_found b None = None
-prepend_if_found b (Some p) = Some (prepend b p)
-
 -- the place of the live block of grant k
 abbrev pub place_of : ℕ → List Block → Option Place
 place_of k [] = None
-place_of k (b ∷ bs) = if has_number k b.tag then Some (here b bs) else prepend_if_found b (place_of k bs)
+place_of k (b ∷ bs) = if has_number k b.tag then Some (here b bs) else option_map (prepend b) (place_of k bs)
 
 -- a free block of n units, or nothing where n is 0
 abbrev pub free_block : ℕ → ℕ → List Block
@@ -201,6 +198,14 @@ grant_or_refuse s n padding_at (Some p) = grant s n (padding_at (total p.before)
 abbrev pub request : State → ℕ → ℕ → ℕ → (ℕ → ℕ) → Outcome
 request s spare needed n padding_at = if is_short_of spare s then returns_only s Refused else grant_or_refuse s n padding_at (chosen_place needed s.blocks)
 
+-- the largest number of units of a space
+abbrev pub max_size : ℕ
+max_size = 4294967295
+
+-- the smallest number that takes an offset to a multiple of align
+abbrev pub padding_to : ℕ → ℕ → ℕ
+padding_to align offset = (align - offset % align) % align
+
 -- a request for n units
 abbrev pub allocate : ℕ → State → Outcome
 allocate n s = request s 1 n n (λ offset. 0)
@@ -223,10 +228,6 @@ size_at (Some p) = Size p.block.size
 abbrev pub report : State → Answer
 report s = if is_short_of 1 s then Report 0 0 else Report (sum (free_sizes s.blocks)) (largest (free_sizes s.blocks))
 
--- the classes that have a free block
-abbrev pub full_report : State → Answer
-full_report s = Full (rows_below 256 (free_sizes s.blocks))
-
 -- the whole space becomes one free block
 abbrev pub reset : State → Outcome
 reset s = leaves s (block (total s.blocks) (Free (stamp_of_call s)) ∷ []) Reset
@@ -243,7 +244,7 @@ step (command.Alloc n) s = allocate n s
 step (command.Free k) s = release s (place_of k s.blocks)
 step (command.Size k) s = returns_only s (size_at (place_of k s.blocks))
 step command.Report s = returns_only s (report s)
-step command.Full s = returns_only s (full_report s)
+step command.Full s = returns_only s (Full (rows_below 256 (free_sizes s.blocks)))
 step command.Reset s = reset s
 step (command.Align n align) s = allocate_aligned n align s
 step (command.Extend more) s = extend more s
@@ -261,3 +262,25 @@ after (c ∷ cs) s = after cs (step c s).state
 -- these are the answers of the plain machine to these commands, from one free block of size units
 unfoldable pub IsPlayed : ℕ → ℕ → List Command → List Answer → Type 0
 IsPlayed size limit commands given = given ≡ answers commands (start size limit)
+
+-- ---- the answers of the program
+
+-- a row of a full report, as the machine has it
+abbrev pub row_view : FullRow → Row
+row_view row = record { class = row.class; size = row.size; count = row.count }
+
+-- an answer, as the machine returns it
+abbrev pub answer_view : program.Answer → Answer
+answer_view (program_answer.Grant number offset) = Grant number offset
+answer_view program_answer.Refused = Refused
+answer_view program_answer.Freed = Freed
+answer_view program_answer.Gone = Gone
+answer_view (program_answer.Size n) = Size n
+answer_view (program_answer.Report r) = Report r.total_free_space r.largest_free_region
+answer_view (program_answer.Full rows) = Full (map row_view rows.items)
+answer_view program_answer.Reset = Reset
+answer_view program_answer.Extended = Extended
+
+-- answers, as the machine returns them
+abbrev pub answer_views : List program.Answer → List Answer
+answer_views given = map answer_view given

@@ -1,8 +1,9 @@
 //! Answers, and their text.
 
 ghost use Rattle.std.specs.Prelude.{◌≡◌, ◌++◌, OnOk, IfOk, string_bytes, map};
-ghost use Rattle.offset_script.specs.Answers.{row_view, answer_view, answer_views};
-ghost use Rattle.offset_script.specs.Running.{row_line, rows_text, lines_of_answer, text_of};
+ghost use Rattle.std.specs.List.{flat_map};
+ghost use Rattle.offset_script.specs.Machine.{row_view, answer_view, answer_views};
+ghost use Rattle.offset_script.specs.Grammar.{row_line, lines_of_answer, text_of};
 
 use offset_allocator::StorageReport;
 use std::alloc::{AllocError, Global};
@@ -55,7 +56,7 @@ fn put_row(out: &mut String, row: &FullRow) -> Result<(), AllocError>
 // Appends the lines of rows.
 fn put_rows(out: &mut String, rows: &[FullRow]) -> Result<(), AllocError>
     ensures { OnOk result
-        (string_bytes out.new ≡ string_bytes out.old ++ rows_text (map row_view rows.now)) }
+        (string_bytes out.new ≡ string_bytes out.old ++ flat_map row_line (map row_view rows.now)) }
 {
     for row in rows {
         put_row(out, row)?;
@@ -64,7 +65,7 @@ fn put_rows(out: &mut String, rows: &[FullRow]) -> Result<(), AllocError>
 }
 
 // Appends the lines of an answer.
-#[tactic(auto, unfolding(crate::specs::Running::lines_of_answer))]
+#[tactic(auto, unfolding(crate::specs::Grammar::lines_of_answer))]
 fn put_answer(out: &mut String, answer: &Answer) -> Result<(), AllocError>
     ensures { OnOk result (string_bytes out.new ≡ string_bytes out.old ++ lines_of_answer (answer_view answer.now)) }
 {

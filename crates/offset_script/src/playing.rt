@@ -3,10 +3,9 @@
 ghost use Rattle.std.specs.Prelude.{◌≡◌, ◌+◌, ◌<◌, ◌≤◌, All, IfOk, IfSome, IsTrue, length, map, vec_len};
 ghost use Rattle.offset_allocator.specs.Named.{IsWellFormed};
 ghost use Rattle.offset_script.specs.Agreement.{kept_name, name_in};
-ghost use Rattle.offset_script.specs.Answers.{answer_views, answer_view};
+ghost use Rattle.offset_script.specs.Machine.{answer_views, answer_view, answers, start, IsPlayed};
 ghost use Rattle.offset_script.specs.Histories.{RestartsFresh, RowsCommute, NestsLeaveNoTrace};
 ghost use Rattle.offset_script.specs.Grammar.{has_valid_alignment};
-ghost use Rattle.offset_script.specs.Machine.{answers, start, IsPlayed};
 ghost use Rattle.offset_script.specs.Simulation.{IsKept, RepresentsReached, IsSwept, Simulates, Represents};
 
 use crate::answers::{Answer, FullRow};

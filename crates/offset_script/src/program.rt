@@ -5,7 +5,8 @@ ghost use Rattle.offset_script.specs.declared.faults.RunFault.{RunFault};
 ghost use Rattle.offset_script.specs.declared.faults.RunFault.TheVariants as faults;
 ghost use Rattle.offset_script.specs.declared.faults.ScriptFault.TheVariants as scripts;
 ghost use Rattle.offset_script.specs.Faults.{status_of};
-ghost use Rattle.offset_script.specs.Running.{RunOf, Untouched, WritesFault, is_read_fault, is_write_fault};
+ghost use Rattle.offset_script.specs.Grammar.{RunOf};
+ghost use Rattle.offset_script.specs.Running.{Untouched, WritesFault, is_read_fault, is_write_fault};
 
 use crate::devices::{Sink, Source};
 use crate::running::run;

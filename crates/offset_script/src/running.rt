@@ -1,7 +1,8 @@
 //! Runs a script from a source to a sink.
 
 ghost use Rattle.std.specs.Prelude.{◌≡◌, ◌≢◌, true, false, IfOk, IfErr, IfSome, OnOk, if◌then◌else◌};
-ghost use Rattle.offset_script.specs.Running.{RunOf, ScriptOf, Untouched, HasText, is_read_fault, is_write_fault, IsReadingFault};
+ghost use Rattle.offset_script.specs.Grammar.{RunOf};
+ghost use Rattle.offset_script.specs.Running.{ScriptOf, Untouched, HasText, is_read_fault, is_write_fault, IsReadingFault};
 ghost use Rattle.offset_script.specs.declared.faults.RunFault.TheVariants as faults;
 ghost use Rattle.offset_script.specs.declared.faults.ScriptFault.TheVariants as scripts;
 

@@ -2,7 +2,8 @@
 
 ghost use Rattle.std.specs.Prelude.{◌≡◌, ◌++◌, true, IsTrue, if◌then◌else◌};
 ghost use Rattle.std.specs.List.{flat_map};
-ghost use Rattle.offset_script.specs.Running.{line_end, Sends};
+ghost use Rattle.offset_script.specs.Grammar.{line_end};
+ghost use Rattle.offset_script.specs.Running.{Sends};
 ghost use Rattle.offset_script.specs.Faults.{fault_line};
 
 use crate::devices::Sink;

@@ -1,5 +1,5 @@
 use Rattle.std.proofs.Common.{ap}
-use Rattle.offset_script.specs.Answers.{answer_view}
+use Rattle.offset_script.specs.Machine.{answer_view}
 use Rattle.offset_lives.proofs.living.life_of_answer.Goals as goal
 
 pub of-requires : goal.of-requires

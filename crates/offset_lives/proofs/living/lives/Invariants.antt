@@ -1,5 +1,5 @@
 use Rattle.std.proofs.Common.{◌≡◌, ℕ, ◌+◌, ◌≤◌, length, map, reverse, drop}
-use Rattle.offset_script.specs.Answers.{answer_views}
+use Rattle.offset_script.specs.Machine.{answer_views}
 use Rattle.offset_lives.specs.Ends.{grants_in, end_in}
 use Rattle.offset_lives.specs.Lives.{life_view, end_from, lives_from}
 use Rattle.offset_lives.proofs.living.lives.Given as goal

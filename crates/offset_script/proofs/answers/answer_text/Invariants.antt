@@ -1,7 +1,7 @@
 use Rattle.std.proofs.Common.{◌≡◌, take}
 use Rattle.std.specs.String.{string_bytes}
-use Rattle.offset_script.specs.Answers.{answer_views}
-use Rattle.offset_script.specs.Running.{text_of}
+use Rattle.offset_script.specs.Machine.{answer_views}
+use Rattle.offset_script.specs.Grammar.{text_of}
 use Rattle.offset_script.proofs.answers.answer_text.Given as goal
 
 abbrev pub invariant-loop-answer : goal.invariant-loop-answer

@@ -1,9 +1,10 @@
 use Rattle.std.proofs.Common.{◌≡◌, ◌++◌, take}
 use Rattle.std.specs.Prelude.{map}
 use Rattle.std.specs.String.{string_bytes}
-use Rattle.offset_script.specs.Answers.{row_view}
-use Rattle.offset_script.specs.Running.{rows_text}
+use Rattle.offset_script.specs.Machine.{row_view}
+use Rattle.std.specs.List.{flat_map}
+use Rattle.offset_script.specs.Grammar.{row_line}
 use Rattle.offset_script.proofs.answers.put_rows.Given as goal
 
 abbrev pub invariant-loop-row : goal.invariant-loop-row
-invariant-loop-row l = string_bytes l.out ≡ string_bytes l.fn.out ++ rows_text (map row_view (take l.row-index l.rows))
+invariant-loop-row l = string_bytes l.out ≡ string_bytes l.fn.out ++ flat_map row_line (map row_view (take l.row-index l.rows))

@@ -1,60 +1,38 @@
-use Rattle.std.proofs.Common.{◌<◌, map, take, length, refl, sym, subst, arith, IsTrue, ◌≡◌, ℕ, zero, suc, ◌+◌, ◌≤◌, List, [], ◌∷◌, ◌++◌, drop, get_or, ap, ap₂, ◌∙◌, add-one, append-nil}
+use Rattle.std.proofs.Common.{◌<◌, map, take, length, refl, sym, subst, arith, IsTrue, ◌≡◌, ℕ, zero, suc, ◌+◌, ◌≤◌, List, [], ◌∷◌, ◌++◌, drop, get_or, ap, ap₂, ◌∙◌, add-one, append-nil, append_assoc, drop-cons}
+use Rattle.std.proofs.lemmas.List.{map-append, take_more, drop_all}
 use Rattle.std.proofs.lemmas.List.Elements.{All-get_or}
 use Rattle.offset_script.specs.Agreement.{IsReached}
 use Rattle.offset_script.specs.Grammar.{has_valid_alignment}
 use Rattle.offset_script.specs.Machine.{answers, start, after, State, Answer, step}
 use Rattle.offset_script.specs.Simulation.{Represents}
-use Rattle.offset_script.specs.Answers.{answer_view}
+use Rattle.offset_script.specs.Machine.{answer_view}
 use Rattle.offset_script.specs.declared.scripts.Command.{Command}
 use Rattle.offset_script.specs.Histories.{RestartsFresh, NestsLeaveNoTrace, RowsCommute, answers_as_before, releases, without_offset}
 use Rattle.offset_script.specs.declared.answers.Answer as program
 use Rattle.offset_script.proofs.Fresh.{fresh_law}
-use Rattle.offset_script.proofs.Nests.{nest_law}
+use Rattle.offset_script.proofs.Nests.{after-append, nest_law}
 use Rattle.offset_script.proofs.Commute.{commute_law}
 use Rattle.offset_script.proofs.playing.play.Goals as goal
 
 -- A loop over commands: one more command, and one more answer.
 
 -- the state after one more command
-after_suc : (cs : List Command) (s : State) (i : ℕ) (d : Command) → i < length cs → after (take (suc i) cs) s ≡ (step (get_or cs i d) (after (take i cs) s)).state
-after_suc [] s i d h = absurd (omega arith)
-after_suc (c ∷ cs) s zero d h = refl
-after_suc (c ∷ cs) s (suc i) d h = after_suc cs (step c s).state i d (omega arith)
-
--- the first answer to what is left, and the others
-answers_suc : (cs : List Command) (t : State) (i : ℕ) (d : Command) → i < length cs → answers (drop i cs) t ≡ (step (get_or cs i d) t).answer ∷ answers (drop (suc i) cs) (step (get_or cs i d) t).state
-answers_suc [] t i d h = absurd (omega arith)
-answers_suc (c ∷ cs) t zero d h = refl
-answers_suc (c ∷ cs) t (suc i) d h = answers_suc cs t i d (omega arith)
-
--- the same, as a loop counts
 after_more : (cs : List Command) (s : State) (i : ℕ) (d : Command) → i < length cs → after (take (i + 1) cs) s ≡ (step (get_or cs i d) (after (take i cs) s)).state
-after_more cs s i d h = rw add-one (after_suc cs s i d h)
-
--- one more answer, before the others
-map_answers : (xs : List program.Answer) (x : program.Answer) (as' : List Answer) → map answer_view (xs ++ x ∷ []) ++ as' ≡ map answer_view xs ++ (answer_view x ∷ as')
-map_answers [] x as' = refl
-map_answers (y ∷ xs) x as' = ap (λ l. answer_view y ∷ l) (map_answers xs x as')
+after_more cs s i d h = ap (λ l. after l s) (take_more cs i d h) ∙ after-append (take i cs) (get_or cs i d ∷ []) s
 
 -- the answers so far, one more, and those to what is left
 answers_more : (cs : List Command) (s : State) (i : ℕ) (d : Command) (found left : List program.Answer) (x : program.Answer) (all : List Answer) → i < length cs → left ≡ found ++ x ∷ []
     → answer_view x ≡ (step (get_or cs i d) (after (take i cs) s)).answer → map answer_view found ++ answers (drop i cs) (after (take i cs) s) ≡ all
     → map answer_view left ++ answers (drop (i + 1) cs) (after (take (i + 1) cs) s) ≡ all
-answers_more cs s i d found left x all h f e so_far = rw add-one
-    (ap (λ l. map answer_view l ++ answers (drop (suc i) cs) (after (take (suc i) cs) s)) f
-    ∙ map_answers found x (answers (drop (suc i) cs) (after (take (suc i) cs) s))
-    ∙ ap (λ l. map answer_view found ++ l) (ap₂ (λ y t. y ∷ answers (drop (suc i) cs) t) e (after_suc cs s i d h) ∙ sym (answers_suc cs (after (take i cs) s) i d h))
-    ∙ so_far)
-
-all_past : (cs : List Command) (i : ℕ) (t : State) → length cs ≤ i → answers (drop i cs) t ≡ []
-all_past [] zero t h = refl
-all_past [] (suc i) t h = refl
-all_past (c ∷ cs) zero t h = absurd (omega arith)
-all_past (c ∷ cs) (suc i) t h = all_past cs i t (omega arith)
+answers_more cs s i d found left x all h f e so_far =
+    ap (λ l. map answer_view l ++ answers (drop (i + 1) cs) (after (take (i + 1) cs) s)) f
+    ∙ ap (λ l. l ++ answers (drop (i + 1) cs) (after (take (i + 1) cs) s)) (map-append answer_view found (x ∷ [])) ∙ append_assoc (map answer_view found) _ _
+    ∙ ap (λ l. map answer_view found ++ l) (ap₂ (λ y t. y ∷ answers (drop (i + 1) cs) t) e (after_more cs s i d h) ∙ rw add-one (sym (ap (λ l. answers l (after (take i cs) s)) (drop-cons cs i d h))))
+    ∙ so_far
 
 -- where nothing is left, the answers so far are those to all
 answers_all : (cs : List Command) (s : State) (i : ℕ) (found : List program.Answer) (all : List Answer) → length cs ≤ i → map answer_view found ++ answers (drop i cs) (after (take i cs) s) ≡ all → map answer_view found ≡ all
-answers_all cs s i found all h so_far = sym (append-nil (map answer_view found)) ∙ ap (λ l. map answer_view found ++ l) (sym (all_past cs i (after (take i cs) s) h)) ∙ so_far
+answers_all cs s i found all h so_far = sym (append-nil (map answer_view found)) ∙ ap (λ l. map answer_view found ++ l) (sym (ap (λ l. answers l (after (take i cs) s)) (drop_all i cs h))) ∙ so_far
 
 -- The laws over whole histories, of the answers to a list of commands.
 
@@ -72,22 +50,18 @@ answers_past : (xs ys : List Command) (s : State) → drop (length xs) (answers 
 answers_past [] ys s = refl
 answers_past (x ∷ xs) ys s = answers_past xs ys (step x s).state
 
-after_both : (xs ys : List Command) (s : State) → after (xs ++ ys) s ≡ after ys (after xs s)
-after_both [] ys s = refl
-after_both (x ∷ xs) ys s = after_both xs ys (step x s).state
-
 nests : (size limit : ℕ) (cs : List Command) (found : List Answer) → 2 ≤ limit → found ≡ answers cs (start size limit) → NestsLeaveNoTrace size limit cs found
 nests size limit cs found h e before nest rest parts n =
     let s = start size limit in
     ap (drop (length (before ++ nest))) (e ∙ ap (λ c. answers c s) parts)
     ∙ answers_past (before ++ nest) rest s
-    ∙ subst (λ t. answers rest t ≡ answers_as_before (after before s) t rest) (sym (after_both before nest s)) (nest_law size limit h before nest n rest)
+    ∙ subst (λ t. answers rest t ≡ answers_as_before (after before s) t rest) (sym (after-append before nest s)) (nest_law size limit h before nest n rest)
 
 rows : (size limit : ℕ) (cs : List Command) (found : List Answer) → 2 ≤ limit → found ≡ answers cs (start size limit) → RowsCommute size limit cs found
 rows size limit cs found h e before ks c rest parts t is =
     let s = start size limit in
     ap (λ l. map without_offset (take 1 l)) (ap (drop (length (before ++ releases ks))) (e ∙ ap (λ c. answers c s) parts) ∙ answers_past (before ++ releases ks) (c ∷ rest) s)
-    ∙ ap (λ (u : State). without_offset (step c u).answer ∷ []) (after_both before (releases ks) s)
+    ∙ ap (λ (u : State). without_offset (step c u).answer ∷ []) (after-append before (releases ks) s)
     ∙ ap (λ a. a ∷ []) ((commute_law size limit h before ks).next t is c)
 
 pub call-requires : goal.call-requires
@@ -114,23 +88,15 @@ loop-command-preserved g c =
       so_far = answers_more cs s i _ c.loop-command.found.items _ c.in_ok-call.field-0 (answers cs s) within c.in_ok-push.ensures.items (same_choice.answer state reached c.loop-command.invariant.represents) c.loop-command.invariant.so_far;
     }
 
-pub returns-clause-fresh : goal.returns-clause-fresh
-returns-clause-fresh g c =
+pub returns : goal.returns
+returns g c =
     let cs = c.args.commands.now in
     let s = start c.args.size c.args.max_allocs in
     let found = c.loop-command.found.items in
-    fresh c.args.size c.args.max_allocs cs (map answer_view found) c.requires.low (answers_all cs s c.loop-command.command-index found (answers cs s) (omega arith) c.loop-command.invariant.so_far)
-
-pub returns-clause-rows : goal.returns-clause-rows
-returns-clause-rows g c =
-    let cs = c.args.commands.now in
-    let s = start c.args.size c.args.max_allocs in
-    let found = c.loop-command.found.items in
-    rows c.args.size c.args.max_allocs cs (map answer_view found) c.requires.low (answers_all cs s c.loop-command.command-index found (answers cs s) (omega arith) c.loop-command.invariant.so_far)
-
-pub returns-clause-nests : goal.returns-clause-nests
-returns-clause-nests g c =
-    let cs = c.args.commands.now in
-    let s = start c.args.size c.args.max_allocs in
-    let found = c.loop-command.found.items in
-    nests c.args.size c.args.max_allocs cs (map answer_view found) c.requires.low (answers_all cs s c.loop-command.command-index found (answers cs s) (omega arith) c.loop-command.invariant.so_far)
+    let all : map answer_view found ≡ answers cs s = answers_all cs s c.loop-command.command-index found (answers cs s) (omega arith) c.loop-command.invariant.so_far in
+    record {
+      answers = all;
+      fresh = fresh c.args.size c.args.max_allocs cs (map answer_view found) c.requires.low all;
+      rows = rows c.args.size c.args.max_allocs cs (map answer_view found) c.requires.low all;
+      nests = nests c.args.size c.args.max_allocs cs (map answer_view found) c.requires.low all;
+    }

@@ -1,5 +1,5 @@
 use Rattle.std.proofs.Common.{refl, ap, ◌∙◌, arith, map}
-use Rattle.offset_script.specs.Answers.{row_view}
+use Rattle.offset_script.specs.Machine.{row_view}
 use Rattle.offset_script.proofs.Simulation.{full_simulates, rows_more, rows_same}
 use Rattle.offset_script.proofs.playing.Player.full.Goals as goal
 use Rattle.offset_script.proofs.playing.Player.full.Goals.{then-region-gt0+in_ok-push, else-region-gt0}

@@ -1,7 +1,7 @@
 use Rattle.std.proofs.Common.{◌≡◌, map}
 use Rattle.offset_allocator.specs.Named.{free_sizes}
 use Rattle.offset_allocator.specs.Reports.{rows_below}
-use Rattle.offset_script.specs.Answers.{row_view}
+use Rattle.offset_script.specs.Machine.{row_view}
 use Rattle.offset_script.proofs.playing.Player.full.Given as goal
 
 -- the rows of the classes so far
