@@ -38,7 +38,6 @@ fn split_padding<NI: NodeIndex>(
         return name;
     }
     let front = chain::split_before(tables, spare_count, name, units, count);
-    tables.shape();
     bins::push(
         tables,
         top_mask,
@@ -86,7 +85,6 @@ fn split_remainder<NI: NodeIndex>(
         size,
         count,
     );
-    tables.shape();
     bins::push(
         tables,
         top_mask,
