@@ -1,6 +1,6 @@
 -- Entries and use flags as one list of nodes.
 use Rattle.std.proofs.Common.{◌≡◌, ℕ, zero, suc, replicate, [], ◌∷◌, ◌<◌, ◌≤◌, Bool, false, List, length, map, set, get_or, refl, sym, ◌∙◌, ap, arith, inl, inr}
-use Rattle.std.proofs.lemmas.List.{get_or_past, get_or-replicate, length-replicate, length-map, map-set, set-get_or}
+use Rattle.std.proofs.lemmas.List.{get_or_past, get_or_read, get_or-replicate, length-replicate, length-map, map-set, set-get_or}
 use Rattle.std.proofs.lemmas.Slice.Zip.{length-zip}
 use Rattle.std.proofs.Math.Seq.{map-set_same}
 use Rattle.std.proofs.lemmas.Bool.{cases_lt}
@@ -78,9 +78,9 @@ module _ {A B : Type 0} (max : ℕ) (number : A → ℕ) (t : Inside A B) {c : C
   unfolding node
   read x n l at = rw (← e) (entry_at max number ns us x n (in_nodes x l) at)
 
-  pub read-used : (x : ℕ) → x < length c.room.nodes → (node c.room x).used ≡ get_or us x false
+  pub read-used : (x : ℕ) (u : Bool) → length us ≡ length ns → x < length c.room.nodes → u ≡ get_or us x u → u ≡ (node c.room x).used
   unfolding node
-  read-used x l = rw (← e) (flag_at max number ns us x (in_nodes x l))
+  read-used x u even l at = get_or_read us x u (omega (arith, within x even l)) at false ∙ sym (rw (← e) (flag_at max number ns us x (in_nodes x l)))
 
   -- an entry written in what the chain of blocks sees: f is the change of the node
   pub wrote-room : (x : ℕ) (n m : Entry A) (f : Node → Node) → x < length c.room.nodes → n ≡ get_or ns x n → ((u : Bool) → node_of max number m u ≡ f (node_of max number n u)) → number m.newer ≡ number n.newer → number m.older ≡ number n.older
@@ -131,3 +131,6 @@ shaped max number t h w =
       limit = rw n h.limit;
       word = omega (arith, n, h.limit);
     }
+
+-- a name below the number of nodes is below each table's length
+pub ruleset cells = (length-nodes_of, within)

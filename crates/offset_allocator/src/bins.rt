@@ -79,7 +79,7 @@ pub(crate) fn push<NI: NodeIndex>(
     count: &mut Accesses,
 )
     requires held { Binned NI.MAX tables.old.links top_mask.old }
-    requires named { name < length tables.old.links.newer }
+    requires named { name < length tables.old.room.nodes }
     requires classed { class < 256 }
     requires fresh { IsUnlisted name (class_lists NI.MAX tables.old.links) }
     ensures held { Binned NI.MAX tables.new.links top_mask.new }
@@ -88,6 +88,7 @@ pub(crate) fn push<NI: NodeIndex>(
     ensures accesses_min { count.old + 5 ≤ count.new }
     ensures accesses_max { count.new ≤ count.old + 6 }
 {
+    tables.shape();
     let link = link_to(name);
     let first = tables.head(class, count);
     tables.set_older(name, first, count);

@@ -1,12 +1,12 @@
 //! The cells: the only place that reads or writes them. A function on a cell touches that one, and counts it;
 //! `with_len` and `clear` go over whole tables, and count none.
 
-ghost use Rattle.std.specs.Prelude.{◌≡◌, ◌+◌, ◌<◌, ◌≤◌, [], length, map, replicate, slice_set, slice_index, vec_capacity, IfOk};
+ghost use Rattle.std.specs.Prelude.{◌≡◌, ◌+◌, ◌<◌, ◌≤◌, [], Some, length, map, replicate, slice_set, slice_index, vec_capacity, IfOk};
 ghost use Rattle.std.specs.List.{range_with_len};
 ghost use Rattle.offset_allocator.specs.Cells.{AreEmpty, AreShaped, link_of, node, put, with_spare};
 
 use crate::accesses::Accesses;
-use crate::index::{NodeIndex, no_link};
+use crate::index::{NodeIndex, link_to, no_link};
 use std::alloc::{AllocError, Global};
 use std::marker::Model;
 
@@ -145,6 +145,7 @@ fn rising<NI: NodeIndex>(mut values: Vec<NI>, len: u32) -> Result<Vec<NI>, Alloc
     Ok(values)
 }
 
+#[tactic(auto, using(crate::proofs::Zip::cells))]
 impl<NI: NodeIndex> Tables<NI> {
     /// Tables for `len` nodes, none of them used. Every table has its room before any is filled.
     pub(crate) fn with_len(alloc: Global, len: u32) -> Result<Self, AllocError>
@@ -183,6 +184,15 @@ impl<NI: NodeIndex> Tables<NI> {
     {
         // a look at a field recalls the invariant
         let _ = &self.nodes;
+    }
+
+    /// The link to a node.
+    pub(crate) fn link_to(&self, name: u32) -> NI
+        requires { name < length self.now.room.nodes }
+        ensures { link_of NI.MAX (NI.number result) ≡ Some name }
+    {
+        let _ = &self.nodes;
+        link_to(name)
     }
 
     /// The offset of a node.

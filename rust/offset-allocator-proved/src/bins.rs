@@ -60,6 +60,7 @@ pub(crate) fn push<NI: NodeIndex>(
     class: u32,
     count: &mut Accesses,
 ) {
+    tables.shape();
     let link = link_to(name);
     let first = tables.head(class, count);
     tables.set_older(name, first, count);

@@ -41,18 +41,20 @@ fn point_back<NI: NodeIndex>(
     name: u32,
     count: &mut Accesses,
 ) {
-    tables.shape();
     match linked(link) {
-        Some(after) => tables.set_before(after, link_to(name), count),
+        Some(after) => {
+            let back = tables.link_to(name);
+            tables.set_before(after, back, count)
+        }
         None => *last = name,
     }
 }
 
 // Makes a node the one after the node that a link names.
 fn point_on<NI: NodeIndex>(tables: &mut Tables<NI>, link: NI, name: u32, count: &mut Accesses) {
-    tables.shape();
     if let Some(before) = linked(link) {
-        tables.set_after(before, link_to(name), count);
+        let on = tables.link_to(name);
+        tables.set_after(before, on, count);
     }
 }
 
@@ -101,21 +103,14 @@ pub(crate) fn split<NI: NodeIndex>(
     kept: u32,
     count: &mut Accesses,
 ) -> u32 {
-    tables.shape();
     *spare_count -= 1;
     let rest = number(tables.spare(*spare_count, count));
     let next = tables.after(name, count);
-    place(
-        tables,
-        rest,
-        offset + kept,
-        size - kept,
-        link_to(name),
-        next,
-        count,
-    );
+    let back = tables.link_to(name);
+    let on = tables.link_to(rest);
+    place(tables, rest, offset + kept, size - kept, back, next, count);
     tables.set_size(name, kept, count);
-    tables.set_after(name, link_to(rest), count);
+    tables.set_after(name, on, count);
     point_back(tables, last, next, rest, count);
     rest
 }
@@ -180,16 +175,17 @@ pub(crate) fn split_before<NI: NodeIndex>(
     cut: u32,
     count: &mut Accesses,
 ) -> u32 {
-    tables.shape();
     *spare_count -= 1;
     let front = number(tables.spare(*spare_count, count));
     let offset = tables.offset(name, count);
     let size = tables.size(name, count);
     let link = tables.before(name, count);
-    place(tables, front, offset, cut, link, link_to(name), count);
+    let on = tables.link_to(name);
+    let back = tables.link_to(front);
+    place(tables, front, offset, cut, link, on, count);
     tables.set_offset(name, offset + cut, count);
     tables.set_size(name, size - cut, count);
-    tables.set_before(name, link_to(front), count);
+    tables.set_before(name, back, count);
     point_on(tables, link, front, count);
     front
 }

@@ -5,7 +5,7 @@
 
 use crate::memory::Vec;
 use crate::accesses::Accesses;
-use crate::index::{NodeIndex, no_link};
+use crate::index::{NodeIndex, link_to, no_link};
 use crate::memory::{AllocError, Global};
 
 /// A block's offset and size, the links to its neighbours in space, and the links to the next nodes of its size class.
@@ -138,6 +138,12 @@ impl<NI: NodeIndex> Tables<NI> {
     pub(crate) fn shape(&self) {
         // a look at a field recalls the invariant
         let _ = &self.nodes;
+    }
+
+    /// The link to a node.
+    pub(crate) fn link_to(&self, name: u32) -> NI {
+        let _ = &self.nodes;
+        link_to(name)
     }
 
     /// The offset of a node.

@@ -14,7 +14,7 @@ pub returns-then-newest-MAX : goal.returns-then-newest-MAX
 returns-then-newest-MAX g c =
     let k = c.requires.held.linked in
     let h = c.head-first.ensures.cell in
-    clauses (binned (pushed k c.args.class c.requires.classed c.set_mask.new.self.links c.args.name c.requires.named c.requires.fresh
+    clauses (binned (pushed k c.args.class c.requires.classed c.set_mask.new.self.links c.args.name (omega (arith, c.requires.named, c.shape.ensures.newer)) c.requires.fresh
     (rw (c.set_mask.ensures.cells, c.set_head.ensures.cells, c.set_newer.ensures.cells, c.set_older.ensures.cells, c.no_link.ensures.number) (sym (set_past _ _ _ (omega (arith, k.names_small, length-set c.args.tables.now.links.newer c.args.name g.NI.NodeIndex.MAX)))))
     (rw (c.set_mask.ensures.cells, c.set_head.ensures.cells, c.set_newer.ensures.cells, c.set_older.ensures.cells, h))
     (rw (c.set_mask.ensures.cells, c.set_head.ensures.cells, c.set_newer.ensures.cells, c.set_older.ensures.cells, c.link_to-link.ensures.number)))
@@ -24,7 +24,7 @@ pub returns-else-newest-MAX : goal.returns-else-newest-MAX
 returns-else-newest-MAX g c =
     let k = c.requires.held.linked in
     let h = c.head-first.ensures.cell in
-    clauses (binned (pushed k c.args.class c.requires.classed c.set_newer-else-newest-MAX.new.self.links c.args.name c.requires.named c.requires.fresh
+    clauses (binned (pushed k c.args.class c.requires.classed c.set_newer-else-newest-MAX.new.self.links c.args.name (omega (arith, c.requires.named, c.shape.ensures.newer)) c.requires.fresh
     (rw (c.set_newer-else-newest-MAX.ensures.cells, c.set_head.ensures.cells, c.set_newer.ensures.cells, c.set_older.ensures.cells, c.no_link.ensures.number, c.number-newest.ensures.number, h, c.link_to-link.ensures.number))
     (rw (c.set_newer-else-newest-MAX.ensures.cells, c.set_head.ensures.cells, c.set_newer.ensures.cells, c.set_older.ensures.cells, h))
     (rw (c.set_newer-else-newest-MAX.ensures.cells, c.set_head.ensures.cells, c.set_newer.ensures.cells, c.set_older.ensures.cells, c.link_to-link.ensures.number)))

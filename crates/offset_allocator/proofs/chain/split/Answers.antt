@@ -24,8 +24,8 @@ place-requires-clause-name g c = (new g (goal.at.place-requires-clause-name g c)
 pub place-requires-clause-idle : goal.place-requires-clause-idle
 place-requires-clause-idle g c = (new g (goal.at.place-requires-clause-idle g c).After-number-rest).idle
 
-pub link_to-requires-2 : goal.link_to-requires-2
-link_to-requires-2 g c = omega (arith, c.shape.ensures.limit, (new g (goal.at.link_to-requires-2 g c).After-number-rest).below)
+pub link_to-on-requires : goal.link_to-on-requires
+link_to-on-requires g c = (new g (goal.at.link_to-on-requires g c).After-number-rest).below
 
 pub point_back-requires-clause-link : goal.point_back-requires-clause-link
 point_back-requires-clause-link g c =
@@ -38,7 +38,7 @@ point_back-requires-clause-name g c =
 pub returns-clause-place : goal.returns-clause-place
 returns-clause-place g c m p h =
     let room : Cells → Room = λ v. v.room in
-    split_place h c.requires.room (c.number-rest.ensures.number ∙ c.spare.ensures.cell) c.requires.within c.requires.offset c.requires.size c.after-next.ensures.cell c.link_to.ensures.link c.link_to-2.ensures.link
+    split_place h c.requires.room (c.number-rest.ensures.number ∙ c.spare.ensures.cell) c.requires.within c.requires.offset c.requires.size c.after-next.ensures.cell c.link_to-back.ensures c.link_to-on.ensures
     (ap room c.place.ensures.cells) (ap room c.set_size.ensures.cells) (ap room c.set_after.ensures.cells) c.point_back.ensures.cells c.point_back.ensures.last
 
 pub returns-clause-fresh : goal.returns-clause-fresh

@@ -24,8 +24,8 @@ overflow_add-offset g c =
     let at = at_place h in
     omega (arith, c.offset-offset.ensures.cell, c.requires.within, ap (λ (v : Node). v.offset) at, ap (λ (v : Node). v.size) at, end_fits h)
 
-pub link_to-requires-2 : goal.link_to-requires-2
-link_to-requires-2 g c = omega (arith, c.shape.ensures.limit, (new g (goal.at.link_to-requires-2 g c).After-number-front).below)
+pub link_to-back-requires : goal.link_to-back-requires
+link_to-back-requires g c = (new g (goal.at.link_to-back-requires g c).After-number-front).below
 
 pub point_on-requires-clause-link : goal.point_on-requires-clause-link
 point_on-requires-clause-link g c =
@@ -38,7 +38,7 @@ point_on-requires-clause-name g c =
 pub returns-clause-place : goal.returns-clause-place
 returns-clause-place g c m last p h =
     let room : Cells → Room = λ v. v.room in
-    split_before_place h c.requires.room (c.number-front.ensures.number ∙ c.spare.ensures.cell) (omega (arith, c.requires.within, c.size-size.ensures.cell)) c.offset-offset.ensures.cell c.size-size.ensures.cell c.before-link.ensures.cell c.link_to.ensures.link c.link_to-2.ensures.link
+    split_before_place h c.requires.room (c.number-front.ensures.number ∙ c.spare.ensures.cell) (omega (arith, c.requires.within, c.size-size.ensures.cell)) c.offset-offset.ensures.cell c.size-size.ensures.cell c.before-link.ensures.cell c.link_to-on.ensures c.link_to-back.ensures
     (ap room c.place.ensures.cells) (ap room c.set_offset.ensures.cells) (ap room c.set_size.ensures.cells) (ap room c.set_before.ensures.cells) c.point_on.ensures.cells
 
 pub returns-clause-fresh : goal.returns-clause-fresh
