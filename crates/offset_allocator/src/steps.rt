@@ -183,7 +183,6 @@ impl<NI: NodeIndex> Allocator<NI> {
             false,
             &mut self.store.accesses,
         );
-        self.store.tables.shape();
         bins::push(
             &mut self.store.tables,
             &mut self.store.top_mask,
@@ -235,7 +234,6 @@ impl<NI: NodeIndex> Allocator<NI> {
             more,
             &mut self.store.accesses,
         );
-        self.store.tables.shape();
         bins::push(
             &mut self.store.tables,
             &mut self.store.top_mask,
@@ -277,7 +275,6 @@ impl<NI: NodeIndex> Allocator<NI> {
             more,
             &mut self.store.accesses,
         );
-        self.store.tables.shape();
         bins::push(
             &mut self.store.tables,
             &mut self.store.top_mask,

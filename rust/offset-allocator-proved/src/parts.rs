@@ -21,7 +21,6 @@ fn split_padding<NI: NodeIndex>(store: &mut Store<NI>, name: u32, units: u32) ->
         units,
         &mut store.accesses,
     );
-    store.tables.shape();
     bins::push(
         &mut store.tables,
         &mut store.top_mask,
@@ -50,7 +49,6 @@ fn split_remainder<NI: NodeIndex>(store: &mut Store<NI>, name: u32, size: u32, l
         size,
         &mut store.accesses,
     );
-    store.tables.shape();
     bins::push(
         &mut store.tables,
         &mut store.top_mask,

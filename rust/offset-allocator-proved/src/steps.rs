@@ -134,7 +134,6 @@ impl<NI: NodeIndex> Allocator<NI> {
             false,
             &mut self.store.accesses,
         );
-        self.store.tables.shape();
         bins::push(
             &mut self.store.tables,
             &mut self.store.top_mask,
@@ -173,7 +172,6 @@ impl<NI: NodeIndex> Allocator<NI> {
             more,
             &mut self.store.accesses,
         );
-        self.store.tables.shape();
         bins::push(
             &mut self.store.tables,
             &mut self.store.top_mask,
@@ -206,7 +204,6 @@ impl<NI: NodeIndex> Allocator<NI> {
             more,
             &mut self.store.accesses,
         );
-        self.store.tables.shape();
         bins::push(
             &mut self.store.tables,
             &mut self.store.top_mask,

@@ -80,7 +80,7 @@ mark-requires g c = let here = goal.at.mark-requires g c in (third g here.After-
 pub push-requires-clause-named : goal.push-requires-clause-named
 push-requires-clause-named g c =
     let here = goal.at.push-requires-clause-named g c in
-    omega (arith, (third g here.After-with_after-size (release g here.After-self)).below, c.mark.ensures.limit, c.shape.ensures.newer)
+    omega (arith, (third g here.After-with_after-size (release g here.After-self)).below, c.mark.ensures.limit)
 
 pub push-requires-clause-classed : goal.push-requires-clause-classed
 push-requires-clause-classed g c =

@@ -25,7 +25,7 @@ pub grow-requires-clause-place : goal.grow-requires-clause-place
 grow-requires-clause-place g c = (_, _, _, _, end_held (pre g (goal.at.grow-requires-clause-place g c).After-self) c.remove.ensures.room)
 
 pub push-requires-clause-named : goal.push-requires-clause-named
-push-requires-clause-named g c = omega (arith, (end_place c.self.invariant.space).below, c.grow.ensures.limit, ap (λ (r : Room). length r.nodes) c.remove.ensures.room, c.shape.ensures.newer)
+push-requires-clause-named g c = omega (arith, (end_place c.self.invariant.space).below, c.grow.ensures.limit, ap (λ (r : Room). length r.nodes) c.remove.ensures.room)
 
 pub push-requires-clause-classed : goal.push-requires-clause-classed
 push-requires-clause-classed g c = omega (arith, down_small (c.size-whole.result + c.args.more), c.uint_to_float_round_down.ensures.is)
