@@ -1,22 +1,26 @@
 //! What an allocator is made of.
 
 use crate::accesses::Accesses;
+use crate::store::Store;
 use crate::tables::Tables;
 use crate::{Allocator, NodeIndex};
 use std::test::Fail;
 
-// Beside the scalars one set of tables is kept, and nothing else: the pattern has to name every field.
+// Beside the scalars one set of tables is kept, and nothing else: the patterns have to name every field.
 fn spares<NI: NodeIndex>(allocator: &Allocator<NI>) -> u32 {
     let Allocator {
         size,
         max_allocs,
         free_total,
-        top_mask,
-        spare_count,
-        last,
-        tables,
-        accesses,
+        store,
     } = allocator;
+    let Store {
+        tables,
+        top_mask,
+        last,
+        spare_count,
+        accesses,
+    } = store;
     let _size: &u32 = size;
     let _max_allocs: &u32 = max_allocs;
     let _free_total: &u32 = free_total;

@@ -141,8 +141,8 @@ impl<NI: NodeIndex> Allocator<NI> {
     ///
     /// `None` is returned where `max_allocs - 1` blocks exist, even for an exact fit, and where no free block is of such
     /// a class; then nothing changes. A request of at least one unit is granted exactly when it is at most the
-    /// `largest_free_region` that `storage_report` returns just before. It makes at most 64 accesses to the tables (the
-    /// promise; the bounds proved for its parts add up to 26), and takes no memory.
+    /// `largest_free_region` that `storage_report` returns just before. It makes at most 64 accesses to the tables, and takes
+    /// no memory.
     pub fn allocate(&mut self, size: u32) -> Option<Allocation<NI>> {
         self.serve(size, 1)
     }
@@ -152,7 +152,7 @@ impl<NI: NodeIndex> Allocator<NI> {
     ///
     /// The handle has to be live, which `is_live` says. Only its name counts, and not its public
     /// `offset`: a stale handle whose name was granted again is live, and frees that range. It makes at
-    /// most 128 accesses to the tables (the bounds of its parts add up to 40), and takes no memory.
+    /// most 128 accesses to the tables, and takes no memory.
     pub fn free(&mut self, allocation: Allocation<NI>) {
         assert!(self.is_live(allocation), "the handle must be live");
         self.release(index::number(NI::of_nonmax(allocation.name())));
