@@ -91,34 +91,30 @@ abbrev pub names_below : ℕ → List (List ℕ) → ℕ
 names_below zero order = 0
 names_below (suc c) order = names_below c order + length (names_at order c)
 
-counts_below : ℕ → List ℕ → ℕ
-counts_below zero ns = 0
-counts_below (suc c) ns = counts_below c ns + count_of c ns
+-- how many sizes are of the classes below c
+sizes_below : ℕ → List ℕ → ℕ
+sizes_below c [] = 0
+sizes_below c (n ∷ ns) = cond (nat_lt (down n) c) 1 0 + sizes_below c ns
 
-counts_none : (c : ℕ) → counts_below c [] ≡ 0
-unfolding counts_below
-counts_none zero = refl
-counts_none (suc c) = let ih = counts_none c in omega arith
+sizes_none : (ns : List ℕ) → sizes_below 0 ns ≡ 0
+unfolding sizes_below
+sizes_none [] = refl
+sizes_none (n ∷ ns) = let ih = sizes_none ns in grind (arith, nat_tests)
 
-counts_one : (c n : ℕ) (ns : List ℕ) → counts_below c (n ∷ ns) ≤ counts_below c ns + cond (nat_lt (down n) c) 1 0
-unfolding counts_below
-counts_one zero n ns = omega arith
-counts_one (suc c) n ns =
-    let ih = counts_one c n ns in
+sizes_more : (c : ℕ) (ns : List ℕ) → (sizes_below (suc c) ns ≡ sizes_below c ns + count_of c ns) × (sizes_below c ns ≤ length ns)
+unfolding sizes_below
+sizes_more c [] = (refl, omega arith)
+sizes_more c (n ∷ ns) =
+    let (e, l) = sizes_more c ns in
     elim (cases_eq (down n) c) [
-      | inl e ↦ rw (eq-eqb (down n) c e) (grind (arith, nat_tests, ih))
-      | inr m ↦ rw (ne_eqb (down n) c m) (grind (arith, nat_tests, ih))
+      | inl q ↦ rw (eq-eqb (down n) c q) (grind (arith, nat_tests, e), grind (arith, nat_tests, l))
+      | inr m ↦ rw (ne_eqb (down n) c m) (grind (arith, nat_tests, e, m), grind (arith, nat_tests, l))
     ]
 
-counts_most : (c : ℕ) (ns : List ℕ) → counts_below c ns ≤ length ns
-counts_most c [] = let z = counts_none c in omega arith
-counts_most c (n ∷ ns) = let o = counts_one c n ns in let ih = counts_most c ns in grind (arith, nat_tests)
-
-names_counts : (v : View) → IsWellFormed v → (c : ℕ) → names_below c v.order ≡ counts_below c (free_sizes v.blocks)
-unfolding counts_below
-names_counts v w zero = refl
-names_counts v w (suc c) = let ih = names_counts v w c in let k = length_names v w c in omega arith
+names_counts : (v : View) → IsWellFormed v → (c : ℕ) → names_below c v.order ≡ sizes_below c (free_sizes v.blocks)
+names_counts v w zero = sym (sizes_none (free_sizes v.blocks))
+names_counts v w (suc c) = omega (arith, names_counts v w c, length_names v w c, (sizes_more c (free_sizes v.blocks)).0)
 
 -- all classes together have at most as many names as there are free blocks
 pub accesses_most : (v : View) → IsWellFormed v → (c new old : ℕ) → c ≡ 256 → new ≤ old + c + names_below c v.order → new ≤ old + 512 + 2 * length (free_sizes v.blocks)
-accesses_most v w c new old e l = omega (arith, names_counts v w c, counts_most c (free_sizes v.blocks))
+accesses_most v w c new old e l = omega (arith, names_counts v w c, (sizes_more c (free_sizes v.blocks)).1)

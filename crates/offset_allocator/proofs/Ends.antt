@@ -1,5 +1,5 @@
 -- The last block of a list, and whether it is free.
-use Rattle.std.proofs.Common.{◌≡◌, ℕ, Bool, true, false, not, List, [], ◌∷◌, ◌++◌, Some, None, if◌then◌else◌, refl, ap}
+use Rattle.std.proofs.Common.{◌≡◌, ◌≢◌, ℕ, Bool, true, false, not, List, [], ◌∷◌, ◌++◌, Some, None, if◌then◌else◌, refl, ap}
 use Rattle.offset_allocator.specs.Named.{Block, free_end, without_end, free_start, without_start}
 use Rattle.offset_allocator.specs.Space.{last_or}
 
@@ -17,6 +17,14 @@ ended_from b (d ∷ bs) w e = let r = ended_from d bs w e in record { front = b 
 pub ended : (bs : List Block) (w : ℕ) → last_or None bs ≡ Some w → Ended w bs
 ended [] w e = absurd (cc)
 ended (b ∷ bs) w e = ended_from b bs w e
+
+last_some : (k : ℕ) (bs : List Block) → last_or (Some k) bs ≢ None
+last_some k [] e = absurd (cc)
+last_some k (b ∷ bs) e = last_some b.name bs e
+
+pub last_none : (bs : List Block) → last_or None bs ≡ None → bs ≡ []
+last_none [] e = refl
+last_none (b ∷ bs) e = absurd (last_some b.name bs e)
 
 pub end_free : (fs : List Block) (d : Block) → d.used ≡ false → (free_end (fs ++ d ∷ []) ≡ d ∷ []) × (without_end (fs ++ d ∷ []) ≡ fs)
 end_free [] d e = (ap (λ (u : Bool). if not u then d ∷ [] else []) e, ap (λ (u : Bool). if not u then [] else d ∷ []) e)

@@ -16,26 +16,15 @@ each-le c m last count bs h k = grind (arith, h.each k)
 pub there-below : (c : Room) (m last count x : ℕ) (bs : List Block) → IsChain c m last count bs → 1 ≤ count_named x bs → x < m
 there-below c m last count x bs h st = let e = h.each x in grind (arith, nat_tests)
 
-spares-more : (c : Room) (count : ℕ) → count < length c.spare → spares c (count + 1) ≡ spares c count ++ get_or c.spare count 0 ∷ []
-unfolding spares
-spares-more c count l = take_more c.spare count 0 l
-
-spares-same : (c d : Room) (count : ℕ) → d.spare ≡ c.spare → spares d count ≡ spares c count
-unfolding spares
-spares-same c d count e = ap (λ s. take count s) e
-
-spares-push : (c d : Room) (count y : ℕ) → count < length c.spare → d.spare ≡ set c.spare count y → spares d (count + 1) ≡ spares c count ++ y ∷ []
-unfolding spares
-spares-push c d count y l e = ap (λ s. take (count + 1) s) e ∙ take_more_set c.spare count y l
-
 -- the name on top of the stack
-pub top_names : (c : Room) (count : ℕ) → 0 < count → count ≤ length c.spare → (k : ℕ) → times k (spares c count) ≡ times k (spares c (count - 1)) + one (nat_eq k (get_or c.spare (count - 1) 0))
+top_names : (c : Room) (count : ℕ) → 0 < count → count ≤ length c.spare → (k : ℕ) → times k (spares c count) ≡ times k (spares c (count - 1)) + one (nat_eq k (get_or c.spare (count - 1) 0))
+unfolding spares
 top_names c count some l k =
-    let same : (count - 1) + 1 ≡ count = omega arith in
-    ap (λ n. times k (spares c n)) (sym same) ∙ ap (times k) (spares-more c (count - 1) (omega arith)) ∙ omega (arith, times-join k (spares c (count - 1)) (get_or c.spare (count - 1) 0 ∷ []))
+    let same : count ≡ (count - 1) + 1 = omega arith in
+    ap (λ n. times k (take n c.spare)) same ∙ ap (times k) (take_more c.spare (count - 1) 0 (omega arith)) ∙ omega (arith, times-join k (take (count - 1) c.spare) (get_or c.spare (count - 1) 0 ∷ []))
 
 -- what is true of an unused name
-pub spare_new : (c : Room) (m last count : ℕ) (bs : List Block) → IsChain c m last count bs → (y : ℕ) → 1 ≤ times y (spares c count) → (count_named y bs ≡ 0) × (y < length c.nodes)
+spare_new : (c : Room) (m last count : ℕ) (bs : List Block) → IsChain c m last count bs → (y : ℕ) → 1 ≤ times y (spares c count) → (count_named y bs ≡ 0) × (y < length c.nodes)
 spare_new c m last count bs h y l = let e = h.each y in let low : y < m = grind (arith, nat_tests) in (omega (arith, each-le c m last count bs h y), omega (arith, low, h.cells))
 
 pub record IsTop (c : Room) (count y : ℕ) (bs : List Block) : Type 0 where
@@ -52,10 +41,13 @@ top {c} {m} {last} {count} {bs} y h some e =
     record { below = new.1; absent = new.0; idle = h.idle y new.0; names = names }
 
 pub kept_names : (c e : Room) (count : ℕ) → e.spare ≡ c.spare → (k : ℕ) → times k (spares e count) ≡ times k (spares c count)
-kept_names c e count same k = rw (spares-same c e count same)
+unfolding spares
+kept_names c e count same k = ap (λ s. times k (take count s)) same
 
 pub pushed_names : (c e : Room) (count y : ℕ) → count < length c.spare → e.spare ≡ set c.spare count y → (k : ℕ) → times k (spares e (count + 1)) ≡ times k (spares c count) + one (nat_eq k y)
-pushed_names c e count y l same k = rw (spares-push c e count y l same) (omega (arith, times-join k (spares c count) (y ∷ [])))
+unfolding spares
+pushed_names c e count y l same k =
+    ap (λ s. times k (take (count + 1) s)) same ∙ ap (times k) (take_more_set c.spare count y l) ∙ omega (arith, times-join k (take count c.spare) (y ∷ []))
 
 -- one write
 pub record Wrote (c d : Room) (x : ℕ) (n : Node) : Type 0 where

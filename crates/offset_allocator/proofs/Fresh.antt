@@ -36,10 +36,10 @@ times-rising k (suc j) s l h =
 abbrev pub whole_node : ℕ → Node
 whole_node size = record { offset = 0; size = size; used = false; before = None; after = None }
 
-module _ (max m size : ℕ) (some : 0 < m) (small : size < 2 ^ 32) (t : Cells) (s : AreShaped max t) (e : AreEmpty max m t) where
-  pub start-chain : (d : Room) → d ≡ put t.room (m - 1) (whole_node size) → IsChain d m (m - 1) (m - 1) (free_block (m - 1) size ∷ [])
+module _ {max m : ℕ} {t : Cells} (s : AreShaped max t) (e : AreEmpty max m t) where
+  pub start-chain : (size : ℕ) → 0 < m → size < 2 ^ 32 → (d : Room) → d ≡ put t.room (m - 1) (whole_node size) → IsChain d m (m - 1) (m - 1) (free_block (m - 1) size ∷ [])
   unfolding spares
-  start-chain d q =
+  start-chain size some small d q =
       let l : m - 1 < length t.room.nodes = rw e.nodes (omega arith) in
       let stack_is : d.spare ≡ range_with_len 0 m = rw q (spare-put t.room (m - 1) _ ∙ e.spare) in
       let long = length-range_with_len 0 m in
@@ -63,11 +63,8 @@ module _ (max m size : ℕ) (some : 0 < m) (small : size < 2 ^ 32) (t : Cells) (
   empty_at : (c : ℕ) → c < 256 → names_at (replicate 256 []) c ≡ []
   empty_at c h = get_or-replicate 256 c [] [] h
 
-  head_at : (c : ℕ) → c < 256 → slice_index (replicate 256 max) c ≡ max
-  head_at c h = get_or-replicate 256 c max 0 h
-
-  mask_at : (c : ℕ) → c < 4 → slice_index (replicate 4 0) c ≡ 0
-  mask_at c h = get_or-replicate 4 c 0 0 h
+  mask_at : (w : ℕ) → w < 4 → slice_index t.links.masks w ≡ 0
+  mask_at w h = rw e.masks (get_or-replicate 4 w 0 0 h)
 
   empty_linked : Linked max t.links (replicate 256 [])
   empty_linked = record {
@@ -75,7 +72,7 @@ module _ (max m size : ℕ) (some : 0 < m) (small : size < 2 ^ 32) (t : Cells) (
     names_small = rw s.newer s.limit;
     heads_len = s.heads;
     lists_len = length-replicate {A = List ℕ} 256 [];
-    heads = λ c h. rw (empty_at c h, e.heads) (head_at c h);
+    heads = λ c h. rw (empty_at c h, e.heads) (get_or-replicate 256 c max 0 h);
     chains = λ c h. rw (empty_at c h) tt;
     once = λ c d x h l _. rw (empty_at c h, empty_at d l) (omega arith);
   }
@@ -83,10 +80,10 @@ module _ (max m size : ℕ) (some : 0 < m) (small : size < 2 ^ 32) (t : Cells) (
   empty_masked : Masked (replicate 256 []) t.links.masks 0
   empty_masked = record {
     masks_len = s.masks;
-    bits = λ c h. rw (e.masks, mask_at (c / 64) (omega arith), empty_at c h) (bit_at-zero (c % 64));
-    tops = λ w h. rw (e.masks, mask_at w h) (bit_at-zero w);
+    bits = λ c h. rw (mask_at (c / 64) (omega arith), empty_at c h) (bit_at-zero (c % 64));
+    tops = λ w h. rw (mask_at w h) (bit_at-zero w);
     top_small = omega arith;
-    words_small = λ w h. rw (e.masks, mask_at w h) (omega arith);
+    words_small = λ w h. rw (mask_at w h) (omega arith);
   }
 
   pub empty_binned : Binned max t.links 0 × (class_lists max t.links ≡ replicate 256 [])
@@ -95,17 +92,18 @@ module _ (max m size : ℕ) (some : 0 < m) (small : size < 2 ^ 32) (t : Cells) (
   pub empty_unlisted : IsUnlisted (m - 1) (class_lists max t.links)
   empty_unlisted c h a = absurd (omega (arith, subst (λ l. Among (m - 1) l) (ap (λ o. names_at o c) empty_binned.1 ∙ empty_at c h) a))
 
-  pub started : (d : Cells) (top : ℕ) → 2 ≤ m → m + 1 < max → size ≤ 4294967295 → length d.room.nodes ≡ m → IsSpace d.room (m - 1) (m - 1) → blocks d.room (m - 1) ≡ free_block (m - 1) size ∷ [] → Binned max d.links top
-      → class_lists max d.links ≡ push (down size) (m - 1) (replicate 256 []) → IsSound max size m d (m - 1) (m - 1) top size × (view_of max size m d (m - 1) 0 ≡ fresh size m)
-  started d top two least sized nodes space eb bins lists =
-      let ev : view_of max size m d (m - 1) 0 ≡ fresh size m = ap₂ (λ (b : List Block) (o : List (List ℕ)). let u : View = record { size = size; max_allocs = m; blocks = b; order = o; accesses = 0 } in u) eb lists in (
-        record {
-          nodes = nodes;
-          least = least;
-          space = space;
-          bins = bins;
-          well = subst IsWellFormed (sym ev) (well_alone (fresh size m) (m - 1) size 0 two (omega arith) sized);
-          total = ap free_units eb ∙ omega arith;
-        },
-        ev,
-      )
+-- the fields of a fresh allocator
+pub started : (max m size : ℕ) (d : Cells) (top : ℕ) → 2 ≤ m → m + 1 < max → size ≤ 4294967295 → length d.room.nodes ≡ m → IsSpace d.room (m - 1) (m - 1) → blocks d.room (m - 1) ≡ free_block (m - 1) size ∷ [] → Binned max d.links top
+    → class_lists max d.links ≡ push (down size) (m - 1) (replicate 256 []) → IsSound max size m d (m - 1) (m - 1) top size × (view_of max size m d (m - 1) 0 ≡ fresh size m)
+started max m size d top two least sized nodes space eb bins lists =
+    let ev : view_of max size m d (m - 1) 0 ≡ fresh size m = ap₂ (λ (b : List Block) (o : List (List ℕ)). let u : View = record { size = size; max_allocs = m; blocks = b; order = o; accesses = 0 } in u) eb lists in (
+      record {
+        nodes = nodes;
+        least = least;
+        space = space;
+        bins = bins;
+        well = subst IsWellFormed (sym ev) (well_alone (fresh size m) (m - 1) size 0 two (omega arith) sized);
+        total = ap free_units eb ∙ omega arith;
+      },
+      ev,
+    )

@@ -1,13 +1,11 @@
 -- Tables that are numbered from the start.
 use Rattle.std.proofs.Common.{◌≡◌, ℕ, ◌+◌, ◌<◌, ◌≤◌, List, [], ◌∷◌, ◌++◌, get_or, length, map, take, set, ap, subst, sym, ◌∙◌, inl, inr, arith, Result, MatchResult, OnOk}
 use Rattle.std.specs.List.{range_with_len}
-use Rattle.std.proofs.lemmas.Bool.{cases_lt}
-use Rattle.std.proofs.lemmas.List.{same_lists, get_or_append_left, take_more_set, map-append, length-map, length-append}
-use Rattle.std.proofs.lemmas.List.FromFn.{length-range_with_len, get_or-range_with_len}
+use Rattle.std.proofs.lemmas.List.{take_more_set, map-append, map-id, length-map}
+use Rattle.std.proofs.lemmas.List.FromFn.{length-range_with_len, map-range_with_len_more}
 use Rattle.std.proofs.lemmas.Iterator.{YieldsList, YieldsList-from_range, maps}
 use Rattle.std.proofs.lemmas.Iterator.Adapters.{fact_from_extend}
 use Rattle.std.proofs.iter.Yields.{nat_range_steps}
-use Rattle.std.proofs.Math.Seq.{get_or-append_seam}
 use Rattle.std.specs.Fn.{Called}
 use Rattle.std.specs.Iterator.{AlwaysYields, Drains, Yields}
 use Rattle.std.specs.Iterator.Adapters.{map_source, map_callee}
@@ -16,13 +14,7 @@ use Rattle.std.specs.declared.ops.Range.{Range}
 use denote.Param.Members.{Mut}
 
 range_more : (n : ℕ) → range_with_len 0 n ++ n ∷ [] ≡ range_with_len 0 (n + 1)
-range_more n = same_lists _ _ (length-append (range_with_len 0 n) (n ∷ []) ∙ (let p = length-range_with_len 0 n in let r = length-range_with_len 0 (n + 1) in omega arith)) (λ j d b. elim (cases_lt j n) [
-  | inl lt ↦ get_or_append_left (range_with_len 0 n) (n ∷ []) d j (rw (length-range_with_len 0 n) lt) ∙ get_or-range_with_len 0 n j d lt ∙ sym (get_or-range_with_len 0 (n + 1) j d (omega arith))
-  | inr ge ↦
-      let same : length (range_with_len 0 n) ≡ j = (let p = length-range_with_len 0 n in let r = length-append (range_with_len 0 n) (n ∷ []) in omega arith) in
-      let last : n ≡ 0 + j = (let p = length-range_with_len 0 n in omega arith) in
-      ap (λ (i : ℕ). get_or (range_with_len 0 n ++ n ∷ []) i d) (sym same) ∙ get_or-append_seam (range_with_len 0 n) n [] d ∙ last ∙ sym (get_or-range_with_len 0 (n + 1) j d (omega arith))
-])
+range_more n = ap (λ l. l ++ n ∷ []) (sym (map-id (range_with_len 0 n))) ∙ sym (map-range_with_len_more (λ (i : ℕ). i) 0 n n (omega arith)) ∙ map-id (range_with_len 0 (n + 1))
 
 -- one more number written
 pub rising_more : {A : Type 0} (number : A → ℕ) (xs : List A) (i : ℕ) (v : A) → i < length xs → map number (take i xs) ≡ range_with_len 0 i → number v ≡ i → map number (take (i + 1) (set xs i v)) ≡ range_with_len 0 (i + 1)

@@ -5,7 +5,7 @@ use Rattle.offset_allocator.specs.Cells.{Room, Node, node}
 use Rattle.offset_allocator.specs.Space.{first_or, last_or, IsChain, IsSpace, HasPlace, blocks, coalesced_before, coalesced_after}
 use Rattle.offset_allocator.specs.Named.{Block, Place, place_of, units, free_end, free_start, remove, remove_all}
 use Rattle.offset_allocator.proofs.Rows.{last_or-append, node_at, one-eq, times-append, units-append}
-use Rattle.offset_allocator.proofs.Ends.{ended, end_free, end_used, end_kept, start_kept}
+use Rattle.offset_allocator.proofs.Ends.{ended, last_none, end_free, end_used, end_kept, start_kept}
 use Rattle.offset_allocator.proofs.Exchange.{there-below}
 use Rattle.offset_allocator.proofs.ViewSteps.{place_at}
 
@@ -86,15 +86,7 @@ pub used_before : {c : Room} {m last count x y : ℕ} {p : Place} → HasPlace c
 used_before h e u = let n = previous_place h e in ap free_end n.is ∙ (end_used n.front n.block (sym (ap (λ (v : Node). v.used) (at_place n.place)) ∙ u)).0
 
 pub none_before : {c : Room} {m last count x : ℕ} {p : Place} → HasPlace c m last count x p → None ≡ (node c x).before → free_end p.before ≡ []
-none_before {p = p} h e = go p.before (e ∙ ap (λ (v : Node). v.before) (at_place h))
-  where
-    from : (b : Block) (l : List Block) → None ≡ last_or (Some b.name) l → ⊥
-    from b [] e = cc
-    from b (d ∷ l) e = from d l e
-
-    go : (l : List Block) → None ≡ last_or None l → free_end l ≡ []
-    go [] e = refl
-    go (b ∷ l) e = absurd (from b l e)
+none_before {p = p} h e = ap free_end (last_none p.before (sym (e ∙ ap (λ (v : Node). v.before) (at_place h))))
 
 pub kept_before : {c : Room} {m last count x : ℕ} {p : Place} → HasPlace c m last count x p → free_end p.before ≡ [] → HasPlace c m last count x (coalesced_before p)
 kept_before {p = p} h e = let z : 0 + p.block.size ≡ p.block.size = omega arith in rw (e, end_kept p.before e, z) h

@@ -7,7 +7,7 @@ use Rattle.std.proofs.lemmas.Bool.{cases_lt}
 use Rattle.std.specs.List.{zip}
 use Rattle.offset_allocator.specs.Cells.{Cells, Node, Room, blank, node, put, AreShaped}
 use Rattle.offset_allocator.specs.View.{node_of, nodes_of, cells_of, AreEven}
-use Rattle.offset_allocator.specs.declared.tables.Node.{Node as Entry}
+use Rattle.offset_allocator.specs.declared.entry.Node.{Node as Entry}
 use Rattle.offset_allocator.specs.declared.tables.Tables.TheInside.{Inside}
 
 module _ {A : Type 0} (max : ℕ) (number : A → ℕ) where

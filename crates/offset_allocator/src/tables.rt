@@ -2,25 +2,14 @@
 //! `with_len` and `clear` go over whole tables, and count none.
 
 ghost use Rattle.std.specs.Prelude.{◌≡◌, ◌+◌, ◌<◌, ◌≤◌, [], Some, length, map, replicate, slice_set, slice_index, vec_capacity, IfOk};
-ghost use Rattle.std.specs.List.{range_with_len};
 ghost use Rattle.offset_allocator.specs.Cells.{AreEmpty, AreShaped, link_of, node, put, with_spare};
 
 use crate::accesses::Accesses;
+use crate::entry::{Node, blank_nodes};
+use crate::fills::{fill, filled, probe, renumber, reserved, rising};
 use crate::index::{NodeIndex, link_to, no_link};
 use std::alloc::{AllocError, Global};
 use std::marker::Model;
-
-/// A block's offset and size, the links to its neighbours in space, and the links to the next nodes of its size class.
-/// A link is the number of a node, or the largest number of its type, which names none.
-#[derive(Clone, Copy)]
-struct Node<NI> {
-    offset: u32,
-    size: u32,
-    before: NI,
-    after: NI,
-    newer: NI,
-    older: NI,
-}
 
 /// The nodes, whether each is used, the newest node of each size class, the masks of the classes, and the stack of
 /// unused names.
@@ -43,106 +32,6 @@ impl<NI: NodeIndex> Model for Tables<NI> {
     ghost view = { λ t. cells_of NI.MAX NI.number t };
 
     ghost invariant = { λ t. AreEven NI.MAX t };
-}
-
-// Requests the bytes of all tables at once, and returns them. A system that promises more memory than it has would
-// grant each table, and end the program when they are filled; this one request it refuses. A link is taken to have
-// the bytes that its numbers need, as those of `u16` and `u32` have.
-fn probe<NI: NodeIndex>(alloc: Global, nodes: u32) -> Result<(), AllocError> {
-    let link: usize = if NI::MAX < 256 {
-        1
-    } else if NI::MAX < 65536 {
-        2
-    } else {
-        4
-    };
-    let node = 4 + 4 + 1 + 5 * link;
-    let _all: Vec<u8> = Vec::with_capacity(alloc, node * nodes as usize + 256 * link)?;
-    Ok(())
-}
-
-// An empty table, with room for `length` values.
-fn reserved<T>(alloc: Global, length: usize) -> Result<Vec<T>, AllocError>
-    ensures empty { IfOk result (λ v. v.items ≡ []) }
-    ensures exact { IfOk result (λ v. vec_capacity v ≡ length) }
-{
-    Vec::with_capacity(alloc, length)
-}
-
-// A reserved table, filled with one value.
-#[inline(always)]
-fn filled<T: Copy>(mut values: Vec<T>, value: T, length: usize) -> Result<Vec<T>, AllocError>
-    requires { values.items ≡ [] }
-    ensures { IfOk result (λ v. v.items ≡ replicate length value) }
-{
-    values.resize(length, value)?;
-    Ok(values)
-}
-
-// A reserved table of nodes, filled. With links of 16 or 32 bits each bit of a node is one, as in no link, so that the
-// table is written as one run of bytes. A function of its own, so that the fill is compiled for this value: among the
-// tests of `with_len` it is not.
-fn blank_nodes<NI: NodeIndex>(
-    nodes: Vec<Node<NI>>,
-    count: usize,
-) -> Result<Vec<Node<NI>>, AllocError>
-    requires { nodes.items ≡ [] }
-    ensures { IfOk result (λ v. length v.items ≡ count) }
-{
-    let none = no_link::<NI>();
-    let node = Node {
-        offset: u32::MAX,
-        size: u32::MAX,
-        before: none,
-        after: none,
-        newer: none,
-        older: none,
-    };
-    filled(nodes, node, count)
-}
-
-// Writes one value over a slice.
-fn fill_cells<T: Copy>(cells: &mut [T], value: T)
-    ensures { cells.new ≡ replicate (length cells.old) value }
-{
-    for i in 0..cells.len() {
-        cells[i] = value;
-    }
-}
-
-// Writes one value over a whole table. As a slice: there no write can move the table, and many go at once.
-fn fill<T: Copy>(values: &mut Vec<T>, value: T)
-    ensures { values.new.items ≡ replicate (length values.old.items) value }
-{
-    fill_cells(values, value);
-}
-
-// Writes the numbers below the length over a slice, in order.
-fn renumber_cells<NI: NodeIndex>(cells: &mut [NI])
-    requires { length cells.old ≤ NI.MAX }
-    ensures { map NI.number cells.new ≡ range_with_len 0 (length cells.old) }
-{
-    for i in 0..cells.len() {
-        cells[i] = NI::from_u32(i as u32);
-    }
-}
-
-// Writes the numbers below the length over a table, in order.
-fn renumber<NI: NodeIndex>(values: &mut Vec<NI>)
-    requires { length values.old.items ≤ NI.MAX }
-    ensures { map NI.number values.new.items ≡ range_with_len 0 (length values.old.items) }
-{
-    renumber_cells(values);
-}
-
-// A reserved table, filled with the numbers below `len`, in order, each written once.
-fn rising<NI: NodeIndex>(mut values: Vec<NI>, len: u32) -> Result<Vec<NI>, AllocError>
-    requires empty { values.items ≡ [] }
-    requires limit_max { len ≤ NI.MAX }
-    ensures { IfOk result (λ v. map NI.number v.items ≡ range_with_len 0 len) }
-{
-    values.extend((0..len).map(|i| NI::from_u32(i)))?;
-    Ok(values)
 }
 
 #[tactic(auto, using(crate::proofs::Zip::cells))]

@@ -5,20 +5,10 @@
 
 use crate::memory::Vec;
 use crate::accesses::Accesses;
+use crate::entry::{Node, blank_nodes};
+use crate::fills::{fill, filled, probe, renumber, reserved, rising};
 use crate::index::{NodeIndex, link_to, no_link};
 use crate::memory::{AllocError, Global};
-
-/// A block's offset and size, the links to its neighbours in space, and the links to the next nodes of its size class.
-/// A link is the number of a node, or the largest number of its type, which names none.
-#[derive(Clone, Copy)]
-struct Node<NI> {
-    offset: u32,
-    size: u32,
-    before: NI,
-    after: NI,
-    newer: NI,
-    older: NI,
-}
 
 /// The nodes, whether each is used, the newest node of each size class, the masks of the classes, and the stack of
 /// unused names.
@@ -28,83 +18,6 @@ pub(crate) struct Tables<NI: NodeIndex> {
     heads: Vec<NI>,
     masks: [u64; 4],
     spare: Vec<NI>,
-}
-
-// Requests the bytes of all tables at once, and returns them. A system that promises more memory than it has would
-// grant each table, and end the program when they are filled; this one request it refuses. A link is taken to have
-// the bytes that its numbers need, as those of `u16` and `u32` have.
-fn probe<NI: NodeIndex>(alloc: Global, nodes: u32) -> Result<(), AllocError> {
-    let link: usize = if NI::MAX < 256 {
-        1
-    } else if NI::MAX < 65536 {
-        2
-    } else {
-        4
-    };
-    let node = 4 + 4 + 1 + 5 * link;
-    let _all: Vec<u8> = Vec::with_capacity(alloc, node * nodes as usize + 256 * link)?;
-    Ok(())
-}
-
-// An empty table, with room for `length` values.
-fn reserved<T>(alloc: Global, length: usize) -> Result<Vec<T>, AllocError> {
-    Vec::with_capacity(alloc, length)
-}
-
-// A reserved table, filled with one value.
-#[inline(always)]
-fn filled<T: Copy>(mut values: Vec<T>, value: T, length: usize) -> Result<Vec<T>, AllocError> {
-    values.resize(length, value)?;
-    Ok(values)
-}
-
-// A reserved table of nodes, filled. With links of 16 or 32 bits each bit of a node is one, as in no link, so that the
-// table is written as one run of bytes. A function of its own, so that the fill is compiled for this value: among the
-// tests of `with_len` it is not.
-fn blank_nodes<NI: NodeIndex>(
-    nodes: Vec<Node<NI>>,
-    count: usize,
-) -> Result<Vec<Node<NI>>, AllocError> {
-    let none = no_link::<NI>();
-    let node = Node {
-        offset: u32::MAX,
-        size: u32::MAX,
-        before: none,
-        after: none,
-        newer: none,
-        older: none,
-    };
-    filled(nodes, node, count)
-}
-
-// Writes one value over a slice.
-fn fill_cells<T: Copy>(cells: &mut [T], value: T) {
-    for i in 0..cells.len() {
-        cells[i] = value;
-    }
-}
-
-// Writes one value over a whole table. As a slice: there no write can move the table, and many go at once.
-fn fill<T: Copy>(values: &mut Vec<T>, value: T) {
-    fill_cells(values, value);
-}
-
-// Writes the numbers below the length over a slice, in order.
-fn renumber_cells<NI: NodeIndex>(cells: &mut [NI]) {
-    for i in 0..cells.len() {
-        cells[i] = NI::from_u32(i as u32);
-    }
-}
-
-// Writes the numbers below the length over a table, in order.
-fn renumber<NI: NodeIndex>(values: &mut Vec<NI>) {
-    renumber_cells(values);
-}
-
-// A reserved table, filled with the numbers below `len`, in order, each written once.
-fn rising<NI: NodeIndex>(mut values: Vec<NI>, len: u32) -> Result<Vec<NI>, AllocError> {
-    values.extend((0..len).map(|i| NI::from_u32(i)))?;
-    Ok(values)
 }
 
 impl<NI: NodeIndex> Tables<NI> {

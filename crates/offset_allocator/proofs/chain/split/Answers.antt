@@ -1,16 +1,10 @@
 use Rattle.std.proofs.Common.{◌∷◌, ◌++◌, ◌∙◌, ap, arith, refl}
 use Rattle.offset_allocator.specs.Cells.{Cells, Room, Node}
-use Rattle.offset_allocator.proofs.Exchange.{IsTop, top}
+use Rattle.offset_allocator.proofs.Exchange.{top}
 use Rattle.offset_allocator.proofs.Nodes.{length-put}
 use Rattle.offset_allocator.proofs.Places.{at_place, end_fits, next_below}
 use Rattle.offset_allocator.proofs.Writes.{split_place}
 use Rattle.offset_allocator.proofs.chain.split.Goals as goal
-use Rattle.offset_allocator.proofs.chain.split.Goals.{After-number-rest}
-use Rattle.offset_allocator.proofs.chain.split.Given.{Over}
-
--- the name of the remainder
-new : (g : Over) (c : After-number-rest g) → IsTop c.args.tables.now.room c.args.spare_count.now c.number-rest.result (c.requires.place.1.before ++ c.requires.place.1.block ∷ c.requires.place.1.after)
-new g c = top _ c.requires.place.2.chain c.requires.room (c.number-rest.ensures.number ∙ c.spare.ensures.cell)
 
 pub overflow_add-offset : goal.overflow_add-offset
 overflow_add-offset g c =
@@ -19,13 +13,13 @@ overflow_add-offset g c =
     omega (arith, c.requires.offset, c.requires.size, c.requires.within, ap (λ (v : Node). v.offset) at, ap (λ (v : Node). v.size) at, end_fits h)
 
 pub place-requires-clause-name : goal.place-requires-clause-name
-place-requires-clause-name g c = (new g (goal.at.place-requires-clause-name g c).After-number-rest).below
+place-requires-clause-name g c = (top _ c.requires.place.2.chain c.requires.room (c.number-rest.ensures.number ∙ c.spare.ensures.cell)).below
 
 pub place-requires-clause-idle : goal.place-requires-clause-idle
-place-requires-clause-idle g c = (new g (goal.at.place-requires-clause-idle g c).After-number-rest).idle
+place-requires-clause-idle g c = (top _ c.requires.place.2.chain c.requires.room (c.number-rest.ensures.number ∙ c.spare.ensures.cell)).idle
 
 pub link_to-on-requires : goal.link_to-on-requires
-link_to-on-requires g c = (new g (goal.at.link_to-on-requires g c).After-number-rest).below
+link_to-on-requires g c = (top _ c.requires.place.2.chain c.requires.room (c.number-rest.ensures.number ∙ c.spare.ensures.cell)).below
 
 pub point_back-requires-clause-link : goal.point_back-requires-clause-link
 point_back-requires-clause-link g c =
@@ -33,7 +27,7 @@ point_back-requires-clause-link g c =
 
 pub point_back-requires-clause-name : goal.point_back-requires-clause-name
 point_back-requires-clause-name g c =
-    rw (c.set_after.ensures.cells, length-put, c.set_size.ensures.cells, length-put, c.place.ensures.cells, length-put) (new g (goal.at.point_back-requires-clause-name g c).After-number-rest).below
+    rw (c.set_after.ensures.cells, length-put, c.set_size.ensures.cells, length-put, c.place.ensures.cells, length-put) (top _ c.requires.place.2.chain c.requires.room (c.number-rest.ensures.number ∙ c.spare.ensures.cell)).below
 
 pub returns-clause-place : goal.returns-clause-place
 returns-clause-place g c m p h =
@@ -45,7 +39,7 @@ pub returns-clause-fresh : goal.returns-clause-fresh
 returns-clause-fresh g c m p h = (top _ h.chain c.requires.room (c.number-rest.ensures.number ∙ c.spare.ensures.cell)).absent
 
 pub returns-clause-below : goal.returns-clause-below
-returns-clause-below g c = (new g (goal.at.returns-clause-below g c).After-number-rest).below
+returns-clause-below g c = (top _ c.requires.place.2.chain c.requires.room (c.number-rest.ensures.number ∙ c.spare.ensures.cell)).below
 
 pub set_size-requires : goal.set_size-requires
 set_size-requires g c = rw (c.place.ensures.cells, length-put) c.requires.place.2.below

@@ -1,22 +1,16 @@
 use Rattle.std.proofs.Common.{◌∷◌, ◌++◌, ◌∙◌, ap, arith, refl}
 use Rattle.offset_allocator.specs.Cells.{Cells, Room, Node}
-use Rattle.offset_allocator.proofs.Exchange.{IsTop, top}
+use Rattle.offset_allocator.proofs.Exchange.{top}
 use Rattle.offset_allocator.proofs.Nodes.{length-put}
 use Rattle.offset_allocator.proofs.Places.{at_place, end_fits, previous_below}
 use Rattle.offset_allocator.proofs.Writes.{split_before_place}
 use Rattle.offset_allocator.proofs.chain.split_before.Goals as goal
-use Rattle.offset_allocator.proofs.chain.split_before.Goals.{After-number-front}
-use Rattle.offset_allocator.proofs.chain.split_before.Given.{Over}
-
--- the name of the padding
-new : (g : Over) (c : After-number-front g) → IsTop c.args.tables.now.room c.args.spare_count.now c.number-front.result (c.requires.place.2.before ++ c.requires.place.2.block ∷ c.requires.place.2.after)
-new g c = top _ c.requires.place.3.chain c.requires.room (c.number-front.ensures.number ∙ c.spare.ensures.cell)
 
 pub place-requires-clause-name : goal.place-requires-clause-name
-place-requires-clause-name g c = (new g (goal.at.place-requires-clause-name g c).After-number-front).below
+place-requires-clause-name g c = (top _ c.requires.place.3.chain c.requires.room (c.number-front.ensures.number ∙ c.spare.ensures.cell)).below
 
 pub place-requires-clause-idle : goal.place-requires-clause-idle
-place-requires-clause-idle g c = (new g (goal.at.place-requires-clause-idle g c).After-number-front).idle
+place-requires-clause-idle g c = (top _ c.requires.place.3.chain c.requires.room (c.number-front.ensures.number ∙ c.spare.ensures.cell)).idle
 
 pub overflow_add-offset : goal.overflow_add-offset
 overflow_add-offset g c =
@@ -25,7 +19,7 @@ overflow_add-offset g c =
     omega (arith, c.offset-offset.ensures.cell, c.requires.within, ap (λ (v : Node). v.offset) at, ap (λ (v : Node). v.size) at, end_fits h)
 
 pub link_to-back-requires : goal.link_to-back-requires
-link_to-back-requires g c = (new g (goal.at.link_to-back-requires g c).After-number-front).below
+link_to-back-requires g c = (top _ c.requires.place.3.chain c.requires.room (c.number-front.ensures.number ∙ c.spare.ensures.cell)).below
 
 pub point_on-requires-clause-link : goal.point_on-requires-clause-link
 point_on-requires-clause-link g c =
@@ -33,7 +27,7 @@ point_on-requires-clause-link g c =
 
 pub point_on-requires-clause-name : goal.point_on-requires-clause-name
 point_on-requires-clause-name g c =
-    rw (c.set_before.ensures.cells, length-put, c.set_size.ensures.cells, length-put, c.set_offset.ensures.cells, length-put, c.place.ensures.cells, length-put) (new g (goal.at.point_on-requires-clause-name g c).After-number-front).below
+    rw (c.set_before.ensures.cells, length-put, c.set_size.ensures.cells, length-put, c.set_offset.ensures.cells, length-put, c.place.ensures.cells, length-put) (top _ c.requires.place.3.chain c.requires.room (c.number-front.ensures.number ∙ c.spare.ensures.cell)).below
 
 pub returns-clause-place : goal.returns-clause-place
 returns-clause-place g c m last p h =
@@ -45,7 +39,7 @@ pub returns-clause-fresh : goal.returns-clause-fresh
 returns-clause-fresh g c m last p h = (top _ h.chain c.requires.room (c.number-front.ensures.number ∙ c.spare.ensures.cell)).absent
 
 pub returns-clause-below : goal.returns-clause-below
-returns-clause-below g c = (new g (goal.at.returns-clause-below g c).After-number-front).below
+returns-clause-below g c = (top _ c.requires.place.3.chain c.requires.room (c.number-front.ensures.number ∙ c.spare.ensures.cell)).below
 
 pub set_offset-requires : goal.set_offset-requires
 set_offset-requires g c = rw (c.place.ensures.cells, length-put) c.requires.place.3.below

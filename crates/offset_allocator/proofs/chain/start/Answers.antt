@@ -17,7 +17,7 @@ done : (g : Over) (c : goal.After-place g) → IsChain c.place.new.tables.room c
 done g c =
     let written : Option ℕ → Option ℕ → Cells = λ b a. record c.args.tables.now { room = put c.args.tables.now.room (c.args.max_allocs - 1) (record { offset = 0; size = c.args.size; used = false; before = b; after = a }) } in
     let rm = ap (λ (v : Cells). v.room) (c.place.ensures.cells ∙ ap₂ written c.no_link.ensures.link c.no_link-2.ensures.link) in
-    start-chain g.NI.NodeIndex.MAX c.args.max_allocs c.args.size (omega arith) (omega arith) c.args.tables.now c.shape.ensures c.requires.empty c.place.new.tables.room rm
+    start-chain c.shape.ensures c.requires.empty c.args.size (omega arith) (omega arith) c.place.new.tables.room rm
 
 pub returns-clause-space : goal.returns-clause-space
 returns-clause-space g c = space-chain _ _ _ _ _ (done g c)

@@ -1,6 +1,6 @@
 use Rattle.std.proofs.Common.{◌≡◌, length, map, take}
 use Rattle.std.specs.List.{range_with_len}
-use Rattle.offset_allocator.proofs.tables.renumber_cells.Given as goal
+use Rattle.offset_allocator.proofs.fills.renumber_cells.Given as goal
 
 abbrev pub invariant-loop-i : goal.invariant-loop-i
 invariant-loop-i g l = record {

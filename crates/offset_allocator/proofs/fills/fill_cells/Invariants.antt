@@ -1,5 +1,5 @@
 use Rattle.std.proofs.Common.{◌≡◌, length, replicate, take}
-use Rattle.offset_allocator.proofs.tables.fill_cells.Given as goal
+use Rattle.offset_allocator.proofs.fills.fill_cells.Given as goal
 
 abbrev pub invariant-loop-i : goal.invariant-loop-i
 invariant-loop-i g l = record {

@@ -2,7 +2,7 @@ use Rattle.std.proofs.Common.{◌≡◌, ◌∙◌, ap, sym, arith, length, map}
 use Rattle.std.proofs.lemmas.List.{length-set, take_all}
 use Rattle.std.specs.List.{range_with_len}
 use Rattle.offset_allocator.proofs.Overwritten.{rising_more}
-use Rattle.offset_allocator.proofs.tables.renumber_cells.Goals as goal
+use Rattle.offset_allocator.proofs.fills.renumber_cells.Goals as goal
 
 pub loop-i-preserved : goal.loop-i-preserved
 loop-i-preserved g c =

@@ -1,6 +1,6 @@
 use Rattle.std.proofs.Common.{refl}
 use Rattle.offset_allocator.proofs.Nodes.{length-put}
-use Rattle.offset_allocator.proofs.chain.point_on.Goals as goal
+use Rattle.offset_allocator.proofs.links.point_back.Goals as goal
 
 pub returns-in-Some-clause-limit : goal.returns-in-Some-clause-limit
-returns-in-Some-clause-limit g c = rw (c.set_after.ensures.cells, length-put) refl
+returns-in-Some-clause-limit g c = rw (c.set_before.ensures.cells, length-put) refl

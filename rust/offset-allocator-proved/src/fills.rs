@@ -1,0 +1,69 @@
+// Printed by rust/erase from crates/offset_allocator/src/fills.rt: change it there.
+
+//! Tables as they are requested and filled: each has its room before any is filled.
+
+use crate::memory::Vec;
+use crate::index::NodeIndex;
+use crate::memory::{AllocError, Global};
+
+/// Requests the bytes of all tables at once, and returns them. A system that promises more memory than it has would
+/// grant each table, and end the program when they are filled; this one request it refuses. A link is taken to have
+/// the bytes that its numbers need, as those of `u16` and `u32` have.
+pub(crate) fn probe<NI: NodeIndex>(alloc: Global, nodes: u32) -> Result<(), AllocError> {
+    let link: usize = if NI::MAX < 256 {
+        1
+    } else if NI::MAX < 65536 {
+        2
+    } else {
+        4
+    };
+    let node = 4 + 4 + 1 + 5 * link;
+    let _all: Vec<u8> = Vec::with_capacity(alloc, node * nodes as usize + 256 * link)?;
+    Ok(())
+}
+
+/// An empty table, with room for `length` values.
+pub(crate) fn reserved<T>(alloc: Global, length: usize) -> Result<Vec<T>, AllocError> {
+    Vec::with_capacity(alloc, length)
+}
+
+/// A reserved table, filled with one value.
+#[inline(always)]
+pub(crate) fn filled<T: Copy>(
+    mut values: Vec<T>,
+    value: T,
+    length: usize,
+) -> Result<Vec<T>, AllocError> {
+    values.resize(length, value)?;
+    Ok(values)
+}
+
+// Writes one value over a slice.
+fn fill_cells<T: Copy>(cells: &mut [T], value: T) {
+    for i in 0..cells.len() {
+        cells[i] = value;
+    }
+}
+
+/// Writes one value over a whole table. As a slice: there no write can move the table, and many go at once.
+pub(crate) fn fill<T: Copy>(values: &mut Vec<T>, value: T) {
+    fill_cells(values, value);
+}
+
+// Writes the numbers below the length over a slice, in order.
+fn renumber_cells<NI: NodeIndex>(cells: &mut [NI]) {
+    for i in 0..cells.len() {
+        cells[i] = NI::from_u32(i as u32);
+    }
+}
+
+/// Writes the numbers below the length over a table, in order.
+pub(crate) fn renumber<NI: NodeIndex>(values: &mut Vec<NI>) {
+    renumber_cells(values);
+}
+
+/// A reserved table, filled with the numbers below `len`, in order, each written once.
+pub(crate) fn rising<NI: NodeIndex>(mut values: Vec<NI>, len: u32) -> Result<Vec<NI>, AllocError> {
+    values.extend((0..len).map(|i| NI::from_u32(i)))?;
+    Ok(values)
+}
