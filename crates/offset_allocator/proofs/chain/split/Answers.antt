@@ -1,4 +1,4 @@
-use Rattle.std.proofs.Common.{◌∷◌, ◌++◌, ◌∙◌, ap, arith, refl}
+use Rattle.std.proofs.Common.{◌∙◌, ap, arith, refl}
 use Rattle.offset_allocator.specs.Cells.{Cells, Room, Node}
 use Rattle.offset_allocator.proofs.Exchange.{top}
 use Rattle.offset_allocator.proofs.Nodes.{length-put}
