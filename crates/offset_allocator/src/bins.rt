@@ -1,5 +1,5 @@
 //! A bin for each size class: the names of its free blocks, in a list of links between the nodes, with a two-level mask.
-ghost use Rattle.std.specs.Prelude.{◌≡◌, ◌+◌, ◌<◌, ◌≤◌, ◌≢◌, ℕ, List, [], ◌∷◌, slice_set, length, drop, slice_index, MatchOption};
+ghost use Rattle.std.specs.Prelude.{◌≡◌, ◌+◌, ◌<◌, ◌≤◌, ◌≢◌, ℕ, List, [], ◌∷◌, slice_set, length, MatchOption};
 ghost use Rattle.offset_allocator.specs.Classes.{down};
 ghost use Rattle.offset_allocator.specs.Named.{names_at, without};
 ghost use Rattle.offset_allocator.specs.Promises.{IsLargestClass};
@@ -126,30 +126,16 @@ fn clear_class<NI: NodeIndex>(
     }
 }
 
-// Removes the first name of a bin, whose link to the next name is given.
-#[inline(always)]
-fn remove_first<NI: NodeIndex>(
-    tables: &mut Tables<NI>,
-    top_mask: &mut u32,
-    class: u32,
-    after: NI,
-    count: &mut Accesses,
-)
-    requires held { Binned NI.MAX tables.old.links top_mask.old }
-    requires classed { class < 256 }
-    requires full { names_at (class_lists NI.MAX tables.old.links) class ≢ [] }
-    requires after { NI.number after ≡ slice_index tables.old.links.older (slice_index tables.old.links.heads class) }
-    ensures held { Binned NI.MAX tables.new.links top_mask.new }
-    ensures lists { class_lists NI.MAX tables.new.links ≡ slice_set (class_lists NI.MAX tables.old.links) class (drop 1 (names_at (class_lists NI.MAX tables.old.links) class)) }
-    ensures room { tables.new.room ≡ tables.old.room }
-    ensures accesses_min { count.old + 1 ≤ count.new }
-    ensures accesses_max { count.new ≤ count.old + 3 }
+// Links the node that a link names, if any, to a next newer one.
+fn link_newer<NI: NodeIndex>(tables: &mut Tables<NI>, at: NI, to: NI, count: &mut Accesses)
+    requires limit { length tables.old.links.newer ≤ NI.MAX }
+    requires named { NI.number at ≢ NI.MAX → NI.number at < length tables.old.links.newer }
+    ensures cells { tables.new ≡ record tables.old { links = record tables.old.links { newer = slice_set tables.old.links.newer (NI.number at) (NI.number to) } } }
+    ensures accesses_kept { count.old ≤ count.new }
+    ensures accesses_max { count.new ≤ count.old + 1 }
 {
-    tables.set_head(class, after, count);
-    if number(after) == NI::MAX {
-        clear_class(tables, top_mask, class, count);
-    } else {
-        tables.set_newer(number(after), no_link(), count);
+    if number(at) != NI::MAX {
+        tables.set_newer(number(at), to, count);
     }
 }
 
@@ -172,20 +158,16 @@ pub(crate) fn remove<NI: NodeIndex>(
 {
     let before = tables.newer(name, count);
     let after = tables.older(name, count);
-    if number(before) == NI::MAX {
-        // only the first name has to find its class
-        remove_first(
-            tables,
-            top_mask,
-            uint_to_float_round_down(size),
-            after,
-            count,
-        );
+    link_newer(tables, after, before, count);
+    if number(before) != NI::MAX {
+        tables.set_older(number(before), after, count);
         return;
     }
-    tables.set_older(number(before), after, count);
-    if number(after) != NI::MAX {
-        tables.set_newer(number(after), before, count);
+    // only the first name has to find its class
+    let class = uint_to_float_round_down(size);
+    tables.set_head(class, after, count);
+    if number(after) == NI::MAX {
+        clear_class(tables, top_mask, class, count);
     }
 }
 
@@ -208,6 +190,11 @@ pub(crate) fn pop<NI: NodeIndex>(
 {
     let name = number(tables.head(class, count));
     let after = tables.older(name, count);
-    remove_first(tables, top_mask, class, after, count);
+    tables.set_head(class, after, count);
+    if number(after) == NI::MAX {
+        clear_class(tables, top_mask, class, count);
+    } else {
+        tables.set_newer(number(after), no_link(), count);
+    }
     name
 }

@@ -92,20 +92,10 @@ fn clear_class<NI: NodeIndex>(
     }
 }
 
-// Removes the first name of a bin, whose link to the next name is given.
-#[inline(always)]
-fn remove_first<NI: NodeIndex>(
-    tables: &mut Tables<NI>,
-    top_mask: &mut u32,
-    class: u32,
-    after: NI,
-    count: &mut Accesses,
-) {
-    tables.set_head(class, after, count);
-    if number(after) == NI::MAX {
-        clear_class(tables, top_mask, class, count);
-    } else {
-        tables.set_newer(number(after), no_link(), count);
+// Links the node that a link names, if any, to a next newer one.
+fn link_newer<NI: NodeIndex>(tables: &mut Tables<NI>, at: NI, to: NI, count: &mut Accesses) {
+    if number(at) != NI::MAX {
+        tables.set_newer(number(at), to, count);
     }
 }
 
@@ -120,20 +110,16 @@ pub(crate) fn remove<NI: NodeIndex>(
 ) {
     let before = tables.newer(name, count);
     let after = tables.older(name, count);
-    if number(before) == NI::MAX {
-        // only the first name has to find its class
-        remove_first(
-            tables,
-            top_mask,
-            uint_to_float_round_down(size),
-            after,
-            count,
-        );
+    link_newer(tables, after, before, count);
+    if number(before) != NI::MAX {
+        tables.set_older(number(before), after, count);
         return;
     }
-    tables.set_older(number(before), after, count);
-    if number(after) != NI::MAX {
-        tables.set_newer(number(after), before, count);
+    // only the first name has to find its class
+    let class = uint_to_float_round_down(size);
+    tables.set_head(class, after, count);
+    if number(after) == NI::MAX {
+        clear_class(tables, top_mask, class, count);
     }
 }
 
@@ -146,6 +132,11 @@ pub(crate) fn pop<NI: NodeIndex>(
 ) -> u32 {
     let name = number(tables.head(class, count));
     let after = tables.older(name, count);
-    remove_first(tables, top_mask, class, after, count);
+    tables.set_head(class, after, count);
+    if number(after) == NI::MAX {
+        clear_class(tables, top_mask, class, count);
+    } else {
+        tables.set_newer(number(after), no_link(), count);
+    }
     name
 }

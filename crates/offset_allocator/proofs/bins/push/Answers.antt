@@ -14,18 +14,20 @@ pub returns-then-newest-MAX : goal.returns-then-newest-MAX
 returns-then-newest-MAX g c =
     let k = c.requires.held.linked in
     let h = c.head-first.ensures.cell in
+    let e = rw (c.set_head.ensures.cells, c.set_newer.ensures.cells, c.set_older.ensures.cells) at c.set_mask.ensures.cells in
     clauses (binned (pushed k c.args.class c.requires.classed c.set_mask.new.self.links c.args.name (omega (arith, c.requires.named, c.shape.ensures.newer)) c.requires.fresh
-    (rw (c.set_mask.ensures.cells, c.set_head.ensures.cells, c.set_newer.ensures.cells, c.set_older.ensures.cells, c.no_link.ensures.number) (sym (set_past _ _ _ (omega (arith, k.names_small, length-set c.args.tables.now.links.newer c.args.name g.NI.NodeIndex.MAX)))))
-    (rw (c.set_mask.ensures.cells, c.set_head.ensures.cells, c.set_newer.ensures.cells, c.set_older.ensures.cells, h))
-    (rw (c.set_mask.ensures.cells, c.set_head.ensures.cells, c.set_newer.ensures.cells, c.set_older.ensures.cells, c.link_to-link.ensures.number)))
-    (rw (c.set_mask.ensures.cells, c.set_head.ensures.cells, c.set_newer.ensures.cells, c.set_older.ensures.cells) (masked_set c.requires.held.masked k.lists_len c.args.class c.requires.classed _ _ (c.mask-mask.ensures.cell ∙ rw (c.set_head.ensures.cells, c.set_newer.ensures.cells, c.set_older.ensures.cells)) refl))) (rw (c.set_mask.ensures.cells, c.set_head.ensures.cells, c.set_newer.ensures.cells, c.set_older.ensures.cells)) (omega arith) (omega arith)
+    (rw (e, c.no_link.ensures.number) (sym (set_past _ _ _ (omega (arith, k.names_small, length-set c.args.tables.now.links.newer c.args.name g.NI.NodeIndex.MAX)))))
+    (rw (e, h))
+    (rw (e, c.link_to-link.ensures.number)))
+    (rw e (masked_set c.requires.held.masked k.lists_len c.args.class c.requires.classed _ _ (c.mask-mask.ensures.cell ∙ rw (c.set_head.ensures.cells, c.set_newer.ensures.cells, c.set_older.ensures.cells)) refl))) (rw e) (omega arith) (omega arith)
 
 pub returns-else-newest-MAX : goal.returns-else-newest-MAX
 returns-else-newest-MAX g c =
     let k = c.requires.held.linked in
     let h = c.head-first.ensures.cell in
+    let e = rw (c.set_head.ensures.cells, c.set_newer.ensures.cells, c.set_older.ensures.cells) at c.set_newer-else-newest-MAX.ensures.cells in
     clauses (binned (pushed k c.args.class c.requires.classed c.set_newer-else-newest-MAX.new.self.links c.args.name (omega (arith, c.requires.named, c.shape.ensures.newer)) c.requires.fresh
-    (rw (c.set_newer-else-newest-MAX.ensures.cells, c.set_head.ensures.cells, c.set_newer.ensures.cells, c.set_older.ensures.cells, c.no_link.ensures.number, c.number-newest.ensures.number, h, c.link_to-link.ensures.number))
-    (rw (c.set_newer-else-newest-MAX.ensures.cells, c.set_head.ensures.cells, c.set_newer.ensures.cells, c.set_older.ensures.cells, h))
-    (rw (c.set_newer-else-newest-MAX.ensures.cells, c.set_head.ensures.cells, c.set_newer.ensures.cells, c.set_older.ensures.cells, c.link_to-link.ensures.number)))
-    (rw (c.set_newer-else-newest-MAX.ensures.cells, c.set_head.ensures.cells, c.set_newer.ensures.cells, c.set_older.ensures.cells) (masked_same c.requires.held.masked k.lists_len c.args.class c.requires.classed _ (sym (flag_full _ (λ e. let q = h ∙ k.heads c.args.class c.requires.classed ∙ ap (first_of g.NI.NodeIndex.MAX) e in absurd (omega arith))))))) (rw (c.set_newer-else-newest-MAX.ensures.cells, c.set_head.ensures.cells, c.set_newer.ensures.cells, c.set_older.ensures.cells)) (omega arith) (omega arith)
+    (rw (e, c.no_link.ensures.number, c.number-newest.ensures.number, h, c.link_to-link.ensures.number))
+    (rw (e, h))
+    (rw (e, c.link_to-link.ensures.number)))
+    (rw e (masked_same c.requires.held.masked k.lists_len c.args.class c.requires.classed _ (sym (flag_full _ (λ z. let q = h ∙ k.heads c.args.class c.requires.classed ∙ ap (first_of g.NI.NodeIndex.MAX) z in absurd (omega arith))))))) (rw e) (omega arith) (omega arith)

@@ -1,6 +1,10 @@
-use Rattle.std.proofs.Common.{◌≢◌, ◌∙◌, sym, arith, slice_index}
+use Rattle.std.proofs.Common.{◌≡◌, ◌≢◌, ◌∙◌, ap, sym, arith, slice_index}
 use Rattle.std.proofs.lemmas.List.{set_past}
-use Rattle.offset_allocator.proofs.Binned.{below, newer_in, older_in, is_first, is_later, without_head, later_masked, left, binned, clauses}
+use Rattle.offset_allocator.specs.Classes.{down}
+use Rattle.offset_allocator.specs.Named.{without, names_at}
+use Rattle.offset_allocator.specs.Orders.{first_of, class_lists}
+use Rattle.offset_allocator.proofs.Binned.{below, newer_in, older_in, is_first, is_later, head, without_head, none_left, beheaded, later_masked, left, binned, clauses}
+use Rattle.offset_allocator.proofs.Masks.{flag_full, masked_same}
 use Rattle.offset_allocator.proofs.Sizes.{down_small}
 use Rattle.offset_allocator.proofs.bins.remove.Goals as goal
 
@@ -10,39 +14,44 @@ newer-before-requires g c = below c.requires.held.linked _ (down_small c.args.si
 pub older-after-requires : goal.older-after-requires
 older-after-requires g c = omega (arith, below c.requires.held.linked _ (down_small c.args.size) _ c.requires.listed, c.requires.held.linked.older_len)
 
+pub link_newer-requires-clause-named : goal.link_newer-requires-clause-named
+link_newer-requires-clause-named g c n = rw c.older-after.ensures.cell (older_in c.requires.held.linked _ (down_small c.args.size) _ c.requires.listed (λ e. n (c.older-after.ensures.cell ∙ e)))
+
 pub set_older-requires : goal.set_older-requires
 set_older-requires g c =
     let l = newer_in c.requires.held.linked _ (down_small c.args.size) _ c.requires.listed (λ e. absurd (omega arith)) in
-    omega (arith, l, c.requires.held.linked.older_len)
+    rw c.link_newer.ensures.cells (omega (arith, l, c.requires.held.linked.older_len))
 
-pub set_newer-requires : goal.set_newer-requires
-set_newer-requires g c =
-    let l = older_in c.requires.held.linked _ (down_small c.args.size) _ c.requires.listed (λ e. absurd (omega arith)) in
-    rw c.set_older.ensures.cells (omega (arith, l))
-
-pub remove_first-requires-clause-after : goal.remove_first-requires-clause-after
-remove_first-requires-clause-after g c =
-    let f = is_first c.requires.held.linked _ (down_small c.args.size) _ c.requires.listed (sym c.newer-before.ensures.cell ∙ omega arith) in
-    rw (c.uint_to_float_round_down.ensures.is, f.1) c.older-after.ensures.cell
-
-pub returns-then-number-MAX-clause-lists : goal.returns-then-number-MAX-clause-lists
-returns-then-number-MAX-clause-lists g c =
-    let f = is_first c.requires.held.linked _ (down_small c.args.size) _ c.requires.listed (sym c.newer-before.ensures.cell ∙ omega arith) in
-    let w = without_head c.requires.held.linked _ (down_small c.args.size) f.0 in
-    rw (← f.1, w) (rw c.uint_to_float_round_down.ensures.is at c.remove_first.ensures.lists)
+pub returns-then-number-MAX : goal.returns-then-number-MAX
+returns-then-number-MAX g c =
+    let k = c.requires.held.linked in
+    let n : slice_index c.args.tables.now.links.newer c.args.name ≢ g.NI.NodeIndex.MAX = λ e. absurd (omega (arith, c.newer-before.ensures.cell)) in
+    let e = rw c.link_newer.ensures.cells at c.set_older.ensures.cells in
+    clauses (binned (left k _ (down_small c.args.size) c.set_older.new.self.links _ _ _ (is_later k _ (down_small c.args.size) _ c.requires.listed n) c.newer-before.ensures.cell c.older-after.ensures.cell
+    (rw e) (rw (e, c.number-then-number-MAX.ensures.number)) (rw e))
+    (rw e (later_masked k _ (down_small c.args.size) _ c.requires.listed n c.requires.held.masked))) (rw e) (omega arith) (omega arith)
 
 pub returns-then-number-MAX-2 : goal.returns-then-number-MAX-2
 returns-then-number-MAX-2 g c =
     let k = c.requires.held.linked in
-    let n : slice_index c.args.tables.now.links.newer c.args.name ≢ g.NI.NodeIndex.MAX = λ e. absurd (omega (arith, c.newer-before.ensures.cell)) in
-    clauses (binned (left k _ (down_small c.args.size) c.set_newer.new.self.links _ _ _ (is_later k _ (down_small c.args.size) _ c.requires.listed n) c.newer-before.ensures.cell c.older-after.ensures.cell
-    (rw (c.set_newer.ensures.cells, c.set_older.ensures.cells, c.number-then-number-MAX-2.ensures.number)) (rw (c.set_newer.ensures.cells, c.set_older.ensures.cells, c.number-2.ensures.number)) (rw (c.set_newer.ensures.cells, c.set_older.ensures.cells)))
-    (rw (c.set_newer.ensures.cells, c.set_older.ensures.cells) (later_masked k _ (down_small c.args.size) _ c.requires.listed n c.requires.held.masked))) (rw (c.set_newer.ensures.cells, c.set_older.ensures.cells)) (omega arith) (omega arith)
+    let z : g.NI.NodeIndex.number c.newer-before.result ≡ g.NI.NodeIndex.MAX = omega arith in
+    let f = is_first k _ (down_small c.args.size) _ c.requires.listed (sym c.newer-before.ensures.cell ∙ z) in
+    let h = head k _ (down_small c.args.size) f.0 in
+    let w = rw f.1 at (without_head k _ (down_small c.args.size) f.0) in
+    let next = rw (← f.1) at c.older-after.ensures.cell in
+    let none = none_left k _ (down_small c.args.size) _ _ h.1.3 (sym (next ∙ h.1.2) ∙ omega arith) in
+    let e = rw (c.set_head.ensures.cells, c.link_newer.ensures.cells, c.uint_to_float_round_down-class.ensures.is) at c.clear_class.ensures.rest in
+    let m = rw c.uint_to_float_round_down-class.ensures.is at (c.clear_class.ensures.masked _ k.lists_len (rw (c.set_head.ensures.cells, c.link_newer.ensures.cells) c.requires.held.masked)) in
+    clauses (binned (rw w (beheaded k _ (down_small c.args.size) c.clear_class.new.tables.links _ f.0 next (rw (e, z)) (rw e) (rw e))) (rw (w, none) m)) (rw e) (omega arith) (omega arith)
 
 pub returns-else-number-MAX-2 : goal.returns-else-number-MAX-2
 returns-else-number-MAX-2 g c =
     let k = c.requires.held.linked in
-    let n : slice_index c.args.tables.now.links.newer c.args.name ≢ g.NI.NodeIndex.MAX = λ e. absurd (omega (arith, c.newer-before.ensures.cell)) in
-    clauses (binned (left k _ (down_small c.args.size) c.set_older.new.self.links _ _ _ (is_later k _ (down_small c.args.size) _ c.requires.listed n) c.newer-before.ensures.cell c.older-after.ensures.cell
-    (rw c.set_older.ensures.cells (sym (set_past _ _ _ (omega (arith, k.names_small))))) (rw (c.set_older.ensures.cells, c.number-2.ensures.number)) (rw c.set_older.ensures.cells))
-    (rw c.set_older.ensures.cells (later_masked k _ (down_small c.args.size) _ c.requires.listed n c.requires.held.masked))) (rw c.set_older.ensures.cells) (omega arith) (omega arith)
+    let z : g.NI.NodeIndex.number c.newer-before.result ≡ g.NI.NodeIndex.MAX = omega arith in
+    let f = is_first k _ (down_small c.args.size) _ c.requires.listed (sym c.newer-before.ensures.cell ∙ z) in
+    let h = head k _ (down_small c.args.size) f.0 in
+    let w = rw f.1 at (without_head k _ (down_small c.args.size) f.0) in
+    let next = rw (← f.1) at c.older-after.ensures.cell in
+    let e = rw (c.link_newer.ensures.cells, c.uint_to_float_round_down-class.ensures.is) at c.set_head.ensures.cells in
+    clauses (binned (rw w (beheaded k _ (down_small c.args.size) c.set_head.new.self.links _ f.0 next (rw (e, z)) (rw e) (rw e)))
+    (rw (w, e) (masked_same c.requires.held.masked k.lists_len _ (down_small c.args.size) _ (flag_full _ (λ s. let q = next ∙ h.1.2 ∙ ap (first_of g.NI.NodeIndex.MAX) s in absurd (omega arith)) ∙ sym (flag_full _ f.0))))) (rw e) (omega arith) (omega arith)
