@@ -4,8 +4,7 @@ use Rattle.std.proofs.lemmas.List.{drop_more, get_or-map, length-map, reverse-ap
 use Rattle.std.specs.List.{prefix_len}
 use Rattle.offset_script.specs.declared.scripts.Command.{Command}
 use Rattle.offset_script.specs.declared.answers.Answer as program
-use Rattle.offset_script.specs.Machine.{answer_view}
-use Rattle.offset_script.specs.Machine.{State, Answer, start, step, answers}
+use Rattle.offset_script.specs.Machine.{answer_view, State, Answer, start, step, answers}
 use Rattle.offset_script.specs.Machine as machine
 use Rattle.offset_script.proofs.Well.{Well, well_step}
 use Rattle.offset_lives.specs.declared.living.Life as found

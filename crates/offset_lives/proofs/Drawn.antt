@@ -7,8 +7,7 @@ use Rattle.offset_script.specs.declared.faults.ScriptFault.TheVariants as script
 use Rattle.offset_script.specs.declared.faults.RunFault.{RunFault}
 use Rattle.offset_script.specs.declared.faults.RunFault.TheVariants as faults
 use Rattle.offset_script.specs.declared.scripts.Script.{Script}
-use Rattle.offset_script.specs.Running.{view, ScriptOf}
-use Rattle.offset_script.specs.Running.{Sends, is_write_fault}
+use Rattle.offset_script.specs.Running.{view, ScriptOf, Sends, is_write_fault}
 use Rattle.offset_lives.specs.Drawing.{DrawOf, IsPicture}
 
 -- a drawing that ends with its reading

@@ -5,12 +5,11 @@ use Rattle.std.proofs.lemmas.Grind.{take_at_read}
 use Rattle.offset_allocator.specs.declared.reports.StorageReport.{StorageReport}
 use Rattle.offset_script.specs.declared.scripts.Command.{Command}
 use Rattle.offset_script.specs.declared.scripts.Command.TheVariants as command
-use Rattle.offset_script.specs.Machine.{State, Answer, start, step, answers, after, report, is_short_of}
+use Rattle.offset_script.specs.Machine.{State, Answer, start, step, answers, after, report, is_short_of, answer_view}
 use Rattle.offset_script.specs.Machine as machine
 use Rattle.offset_script.proofs.Asking.{after_question}
 use Rattle.offset_script.proofs.Nests.{after-append}
 use Rattle.offset_script.specs.declared.answers.Answer as program
-use Rattle.offset_script.specs.Machine.{answer_view}
 use Rattle.offset_lives.specs.Reported.{report_view, reports_from, reports_of, with_reports}
 
 -- any commands have the same answers

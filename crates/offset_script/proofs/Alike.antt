@@ -7,10 +7,9 @@ use Rattle.offset_allocator.specs.Named.{padding_to}
 use Rattle.offset_script.specs.Machine as machine
 use Rattle.offset_allocator.specs.Reports.{largest, rows_below}
 use Rattle.offset_script.proofs.Members.{In, in_left, in_right}
-use Rattle.offset_script.proofs.Pairs.{Kind, Lives, Frees, Pair, pair, left_tag, right_tag, left, right, lefts, rights, Agree, AllAgree, SameOrder, SamePlace, neither, both}
+use Rattle.offset_script.proofs.Pairs.{Kind, Lives, Frees, Pair, pair, left_tag, right_tag, left, right, lefts, rights, Agree, AllAgree, SameOrder, SamePlace, neither, both, same_total, same_short, same_units, same_free_sizes, same_refusal, both_coalesced, same_place_of, same_chosen, pairs_granted, in_granted, lefts_granted, rights_granted}
 use Rattle.std.proofs.lemmas.Bool.{cases_lt}
 use Rattle.std.proofs.lemmas.Bool.Decides.{nat_tests}
-use Rattle.offset_script.proofs.Pairs.{same_total, same_short, same_units, same_free_sizes, same_refusal, both_coalesced, same_place_of, same_chosen, pairs_granted, in_granted, lefts_granted, rights_granted}
 use Rattle.offset_script.specs.Histories.{renumber, raise_number}
 use Rattle.offset_script.proofs.Tests.{if_same}
 

@@ -1,16 +1,16 @@
 -- Releases in a row leave the same space in any order.
-use Rattle.std.proofs.Common.{◌≡◌, ℕ, zero, suc, ◌+◌, ◌-◌, Bool, true, false, ◌&&◌, ◌||◌, List, [], ◌∷◌, ◌++◌, sum, Option, Some, None, is_some, nat_eq, nat_lt, nat_le, if◌then◌else◌, refl, sym, ap, ap₂, subst, subst₂, ◌∙◌, arith, eq-eqb, eqb-true}
+use Rattle.std.proofs.Common.{◌≡◌, ℕ, zero, suc, ◌+◌, ◌-◌, Bool, true, false, ◌&&◌, ◌||◌, List, [], ◌∷◌, ◌++◌, sum, Option, Some, None, is_some, nat_eq, nat_lt, nat_le, if◌then◌else◌, refl, sym, ap, ap₂, subst, subst₂, ◌∙◌, arith, eq-eqb, eqb-true, append_assoc}
+use Rattle.std.proofs.lemmas.List.{map-append}
 use Rattle.std.proofs.lemmas.Bool.{true≢false, false≢true}
 use Rattle.offset_script.specs.declared.scripts.Command.{Command}
 use Rattle.offset_script.specs.declared.scripts.Command.TheVariants as command
 use Rattle.offset_allocator.specs.Classes.{up, down}
 use Rattle.offset_allocator.specs.Reports.{largest, rows_below}
-use Rattle.offset_script.specs.Machine.{Tag, Live, Free, Block, block, is_free, has_number, total, free_sizes, Place, here, prepend, fits, is_taken_before, choose, chosen_place, place_of, free_start, without_start, ends_live, coalesce, State, Outcome, start, step, after, request, grant_or_refuse, is_short_of, returns_only, leaves, release, size_at, stamp_of_call}
-use Rattle.offset_script.specs.Machine.{max_size, padding_to}
+use Rattle.offset_script.specs.Machine.{Tag, Live, Free, Block, block, is_free, has_number, total, free_sizes, Place, here, prepend, fits, is_taken_before, choose, chosen_place, place_of, free_start, without_start, ends_live, coalesce, State, Outcome, start, step, after, request, grant_or_refuse, is_short_of, returns_only, leaves, release, size_at, stamp_of_call, max_size, padding_to}
 use Rattle.offset_script.specs.Machine as machine
 use Rattle.offset_script.specs.Histories.{holder, outline, widen, is_among, collapse_block, collapse, without_offset, releases, ReleasesCommute}
 use Rattle.offset_script.proofs.Pairs.{Kind, Lives, Frees, Pair, left_tag, right_tag, left, right, lefts, rights, same_free, same_short, same_free_sizes, same_refusal, SamePlace, neither, both, same_place_of}
-use Rattle.offset_script.proofs.Well.{Well, count, hit, hit_self, number_of, count-append, starts_free, Apart, apart_parts, found_at, not_found, well_start, well_after, well_step}
+use Rattle.offset_script.proofs.Well.{Well, AllFree, coalesced, apart_coalesce, count_coalesce, count, hit, hit_self, number_of, count-append, starts_free, Apart, apart_parts, found_at, not_found, well_start, well_after, well_step}
 use Rattle.offset_script.proofs.Similar.{SameNumber, Paired, paired}
 use Rattle.offset_script.proofs.Tests.{if_same}
 
@@ -63,14 +63,6 @@ collapse_one_more k ks (b ∷ o) = collapse_block_more k ks b.0 b.1 (collapse (k
 no_hit : (t : Tag) (j : ℕ) → t ≡ Live j → (c : ℕ) → hit (Live j) t + c ≡ 0 → ⊥
 no_hit t j e c z = let h : hit (Live j) t ≡ 1 = ap (hit (Live j)) e ∙ hit_self (Live j) in omega arith
 
-widen_outline : (n : ℕ) (bs : List Block) → widen n (outline bs) ≡ (n + free_start bs, None) ∷ outline (without_start bs)
-widen_outline n [] = ap (λ x. (x, None) ∷ []) (let e : n ≡ n + 0 = omega arith in e)
-widen_outline n (b ∷ bs) = go b.size b.tag
-  where
-    go : (m : ℕ) (t : Tag) → widen n (outline (block m t ∷ bs)) ≡ (n + free_start (block m t ∷ bs), None) ∷ outline (without_start (block m t ∷ bs))
-    go m (Live j) = ap (λ x. (x, None) ∷ (m, Some j) ∷ outline bs) (let e : n ≡ n + 0 = omega arith in e)
-    go m (Free s) = refl
-
 widen_apart : (n : ℕ) (bs : List Block) → starts_free bs ≡ false → widen n (outline bs) ≡ (n, None) ∷ outline bs
 widen_apart n [] e = refl
 widen_apart n (b ∷ bs) e = go b.size b.tag e
@@ -102,37 +94,39 @@ only_k k j e = eqb-true j k (sym (or_nothing (nat_eq j k)) ∙ e)
 none_of : (k : ℕ) (bs : List Block) → count (Live k) bs ≡ 0 → (j : ℕ) → is_among j (k ∷ []) ≡ true → count (Live j) bs ≡ 0
 none_of k bs z j e = subst (λ x. count (Live x) bs ≡ 0) (sym (only_k k j e)) z
 
-at_release : (k n : ℕ) (ys : List Block) → Apart ys → count (Live k) ys ≡ 0 → collapse (k ∷ []) (outline (block n (Live k) ∷ ys)) ≡ (n + free_start ys, None) ∷ outline (without_start ys)
-at_release k n ys b d =
-    ap (λ x. if x || false then widen n (collapse (k ∷ []) (outline ys)) else (n, Some k) ∷ collapse (k ∷ []) (outline ys)) (eq-eqb k k refl)
-    ∙ ap (widen n) (unchanged (k ∷ []) ys b (none_of k ys d))
-    ∙ widen_outline n ys
+free_holder : (t : Tag) → is_free t ≡ true → holder t ≡ None
+free_holder (Live j) e = absurd (false≢true e)
+free_holder (Free s) e = refl
 
-starts_coalesce : (y : Block) (xs : List Block) (n st : ℕ) (ys : List Block) → starts_free (coalesce (y ∷ xs) n st ys) ≡ is_free y.tag
-starts_coalesce y [] n st ys = go (is_free y.tag) refl
-  where
-    go : (t : Bool) → is_free y.tag ≡ t → starts_free ((if t then [] else y ∷ []) ++ block ((if is_free y.tag then y.size else 0) + n + free_start ys) (Free st) ∷ without_start ys) ≡ is_free y.tag
-    go true e = sym e
-    go false e = refl
-starts_coalesce y (x ∷ xs) n st ys = refl
+-- free blocks after units that are free, and before them
+free_after : (ks : List ℕ) (n : ℕ) (gs : List Block) (o : Outline) → AllFree gs → widen n (collapse ks (outline gs ++ o)) ≡ widen (n + total gs) (collapse ks o)
+free_after ks n [] o f = ap (λ m. widen m (collapse ks o)) (omega arith)
+free_after ks n (b ∷ gs) o f = ap (λ h. widen n (collapse_block ks b.size h (collapse ks (outline gs ++ o)))) (free_holder b.tag f.0) ∙ widen-widen n b.size _ ∙ free_after ks (n + b.size) gs o f.1 ∙ ap (λ m. widen m (collapse ks o)) (omega arith)
 
--- the block before the one that is released
-coalesce_last : (k z : ℕ) (t : Tag) (n st : ℕ) (ys : List Block) → ((j : ℕ) → t ≡ Live j → is_among j (k ∷ []) ≡ false)
-    → outline (coalesce (block z t ∷ []) n st ys) ≡ collapse_block (k ∷ []) z (holder t) ((n + free_start ys, None) ∷ outline (without_start ys))
-coalesce_last k z (Live j) n st ys h =
-    ap (λ x. (z, Some j) ∷ (x, None) ∷ outline (without_start ys)) (let e : 0 + n + free_start ys ≡ n + free_start ys = omega arith in e)
-    ∙ ap (λ b. if b then widen z ((n + free_start ys, None) ∷ outline (without_start ys)) else (z, Some j) ∷ (n + free_start ys, None) ∷ outline (without_start ys)) (sym (h j refl))
-coalesce_last k z (Free s) n st ys h = ap (λ x. (x, None) ∷ outline (without_start ys)) (let e : z + n + free_start ys ≡ z + (n + free_start ys) = omega arith in e)
+free_before : (ks : List ℕ) (n : ℕ) (fs : List Block) (o p : Outline) → AllFree fs → collapse ks o ≡ widen n p → collapse ks (outline fs ++ o) ≡ widen (total fs + n) p
+free_before ks n [] o p f e = e ∙ ap (λ m. widen m p) (omega arith)
+free_before ks n (b ∷ fs) o p f e = ap (λ h. collapse_block ks b.size h (collapse ks (outline fs ++ o))) (free_holder b.tag f.0) ∙ ap (widen b.size) (free_before ks n fs o p f.1 e) ∙ widen-widen b.size (total fs + n) p ∙ ap (λ m. widen m p) (omega arith)
 
-coalesce_outline : (k : ℕ) (xs : List Block) (n st : ℕ) (ys : List Block) → Apart xs → Apart ys → count (Live k) xs ≡ 0 → count (Live k) ys ≡ 0
-    → outline (coalesce xs n st ys) ≡ collapse (k ∷ []) (outline (xs ++ block n (Live k) ∷ ys))
-coalesce_outline k [] n st ys a b c d =
-    ap (λ x. (x, None) ∷ outline (without_start ys)) (let e : 0 + n + free_start ys ≡ n + free_start ys = omega arith in e) ∙ sym (at_release k n ys b d)
-coalesce_outline k (x ∷ []) n st ys a b c d =
-    coalesce_last k x.size x.tag n st ys (not_among (k ∷ []) x [] (none_of k (x ∷ []) c)) ∙ ap (collapse_block (k ∷ []) x.size (holder x.tag)) (sym (at_release k n ys b d))
-coalesce_outline k (x ∷ y ∷ xs) n st ys a b c d =
-    sym (stays (k ∷ []) x.size x.tag (coalesce (y ∷ xs) n st ys) (not_among (k ∷ []) x (y ∷ xs) (none_of k (x ∷ y ∷ xs) c)) (ap (λ t. is_free x.tag && t) (starts_coalesce y xs n st ys) ∙ a.0))
-    ∙ ap (collapse_block (k ∷ []) x.size (holder x.tag)) (coalesce_outline k (y ∷ xs) n st ys a.1 b (omega arith) d)
+-- a collapse goes by the collapse of what comes last
+collapse_same : (ks : List ℕ) (o p q : Outline) → collapse ks p ≡ collapse ks q → collapse ks (o ++ p) ≡ collapse ks (o ++ q)
+collapse_same ks [] p q e = e
+collapse_same ks (b ∷ o) p q e = ap (collapse_block ks b.0 b.1) (collapse_same ks o p q e)
+
+coalesce_outline : (k : ℕ) (xs : List Block) (n st : ℕ) (ys : List Block) → Apart (coalesce xs n st ys) → count (Live k) (coalesce xs n st ys) ≡ 0 → outline (coalesce xs n st ys) ≡ collapse (k ∷ []) (outline (xs ++ block n (Live k) ∷ ys))
+coalesce_outline k xs n st ys a none =
+    let c = coalesced xs n st ys in
+    let m = total c.last + n + total c.first in
+    let tail = outline c.last ++ ((n, Some k) ∷ (outline c.first ++ outline c.back)) in
+    let released : collapse (k ∷ []) ((n, Some k) ∷ (outline c.first ++ outline c.back)) ≡ widen (n + total c.first) (collapse (k ∷ []) (outline c.back)) =
+    ap (λ x. if x || false then widen n (collapse (k ∷ []) (outline c.first ++ outline c.back)) else (n, Some k) ∷ collapse (k ∷ []) (outline c.first ++ outline c.back)) (eq-eqb k k refl) ∙ free_after (k ∷ []) n c.first (outline c.back) c.start.free in
+    let same : collapse (k ∷ []) ((m, None) ∷ outline c.back) ≡ collapse (k ∷ []) tail =
+    sym (free_before (k ∷ []) (n + total c.first) c.last _ _ c.end.free released ∙ ap (λ i. widen i (collapse (k ∷ []) (outline c.back))) (omega arith)) in
+    let parts : outline ((c.front ++ c.last) ++ block n (Live k) ∷ (c.first ++ c.back)) ≡ outline c.front ++ tail = simp (map-append, append_assoc) in
+    sym (unchanged (k ∷ []) (coalesce xs n st ys) a (none_of k (coalesce xs n st ys) none))
+    ∙ ap (λ bs. collapse (k ∷ []) (outline bs)) c.is
+    ∙ ap (collapse (k ∷ [])) (map-append (λ (b : Block). (b.size, holder b.tag)) c.front (block m (Free st) ∷ c.back))
+    ∙ collapse_same (k ∷ []) (outline c.front) ((m, None) ∷ outline c.back) tail same
+    ∙ ap (collapse (k ∷ [])) (sym (ap₂ (λ x y. outline (x ++ block n (Live k) ∷ y)) c.at_front c.at_back ∙ parts))
 
 -- releases in a row
 released_outline : (s : State) → Well s → (k : ℕ) (o : Option Place) → place_of k s.blocks ≡ o → outline (release s o).state.blocks ≡ collapse (k ∷ []) (outline s.blocks)
@@ -144,7 +138,7 @@ released_outline s w k (Some p) e =
     let own : hit (Live k) p.block.tag ≡ 1 = ap (hit (Live k)) tag ∙ hit_self (Live k) in
     let once = w.once (Live k) in
     let none_after : count (Live k) p.after ≡ 0 = omega (arith, own, once, ap (count (Live k)) f.0, count-append (Live k) p.before (p.block ∷ p.after), f.2) in
-    coalesce_outline k p.before p.block.size (stamp_of_call s) p.after parts.0 parts.1.1 f.2 none_after
+    coalesce_outline k p.before p.block.size (stamp_of_call s) p.after (apart_coalesce p.before _ _ p.after parts.0 parts.1.1) (omega (arith, f.2, none_after, count_coalesce (Live k) p.before p.block.size (stamp_of_call s) p.after))
     ∙ ap (λ t. collapse (k ∷ []) (outline (p.before ++ block p.block.size t ∷ p.after))) (sym tag)
     ∙ ap (λ bs. collapse (k ∷ []) (outline bs)) (sym f.0)
 

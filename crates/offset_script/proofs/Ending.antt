@@ -12,10 +12,8 @@ use Rattle.offset_script.specs.declared.faults.RunFault.{RunFault}
 use Rattle.offset_script.specs.declared.faults.RunFault.TheVariants as faults
 use Rattle.offset_script.specs.declared.scripts.Script.{Script}
 use Rattle.offset_script.specs.Faults.{as_run_fault}
-use Rattle.offset_script.specs.Grammar.{meaning_of}
-use Rattle.offset_script.specs.Grammar.{RunOf, text_of}
-use Rattle.offset_script.specs.Running.{view, Fails, ScriptOf}
-use Rattle.offset_script.specs.Running.{HasText, Sends, is_write_fault}
+use Rattle.offset_script.specs.Grammar.{meaning_of, RunOf, text_of}
+use Rattle.offset_script.specs.Running.{view, Fails, ScriptOf, HasText, Sends, is_write_fault}
 use Rattle.offset_script.specs.Machine.{Answer, IsPlayed}
 use Rattle.offset_script.proofs.Steps.{is_too_long}
 

@@ -1,4 +1,4 @@
--- Labels at the ends of lists, and the names of grants.
+-- Labels by names and by tags: what is free, sums, and the names of grants.
 use Rattle.std.proofs.Common.{◌≡◌, ℕ, suc, ◌+◌, ◌≤◌, Bool, true, false, not, ◌&&◌, List, [], ◌∷◌, ◌++◌, length, Option, Some, None, if◌then◌else◌, refl, ap, subst, subst₂, ◌∙◌, arith}
 use Rattle.std.proofs.lemmas.Bool.{true≢false, false≢true}
 use Rattle.offset_script.specs.Machine.{Tag, Live, Free, is_free, has_number, stamp, total}

@@ -2,10 +2,9 @@
 use Rattle.std.proofs.Common.{◌≡◌, ℕ, zero, suc, ◌+◌, ◌-◌, ◌*◌, ◌<◌, ◌≤◌, true, false, ◌&&◌, ◌||◌, List, [], ◌∷◌, length, IsTrue, nat_lt, if◌then◌else◌, refl, sym, ap, ap₂, subst, subst₂, le-ltb, ◌∙◌, inl, inr, arith, le-leb}
 use Rattle.std.proofs.lemmas.Bool.{cases_lt, lt-leb, true≢false}
 use Rattle.std.specs.List.{AllByRecursion}
-use Rattle.offset_script.specs.Machine.{max_size}
+use Rattle.offset_script.specs.Machine.{max_size, Tag, Live, Free, Block, block, is_free, total, State, Answer, start, step, answers, after, returns_only, leaves}
 use Rattle.offset_script.specs.declared.scripts.Command.{Command}
 use Rattle.offset_script.specs.declared.scripts.Command.TheVariants as command
-use Rattle.offset_script.specs.Machine.{Tag, Live, Free, Block, block, is_free, total, State, Answer, start, step, answers, after, returns_only, leaves}
 use Rattle.offset_script.specs.Machine as machine
 use Rattle.offset_script.specs.Histories.{renumber, raise_number, fresh_number, EmptySpaceContinuesAsFresh, ExtendedSpaceIsLarger}
 use Rattle.offset_script.proofs.Members.{In, map_same}

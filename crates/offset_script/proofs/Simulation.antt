@@ -10,7 +10,7 @@ use Rattle.offset_allocator.specs.declared.reports.StorageReportFull.{StorageRep
 use Rattle.offset_allocator.specs.declared.reports.StorageReportFullRegion.{StorageReportFullRegion}
 use Rattle.offset_script.specs.declared.scripts.Command.{Command}
 use Rattle.offset_script.specs.declared.scripts.Command.TheVariants as command
-use Rattle.offset_script.specs.Machine.{max_size, State, step, start, after}
+use Rattle.offset_script.specs.Machine.{max_size, State, step, start, after, answer_view, row_view}
 use Rattle.offset_script.specs.Machine as machine
 use Rattle.offset_allocator.specs.Named.{View, Grant, total_free, largest_free, free_sizes, IsWellFormed}
 use Rattle.offset_script.specs.Agreement.{Agrees, IsReached, name_in, kept_name}
@@ -23,7 +23,6 @@ use Rattle.offset_script.specs.declared.answers.FullRow.{FullRow}
 use Rattle.offset_allocator.specs.Promises.{IsFullReport}
 use Rattle.offset_allocator.specs.Ranges.{IsLive, size_of}
 use Rattle.offset_allocator.proofs.Reading.{used_live, size_is}
-use Rattle.offset_script.specs.Machine.{answer_view, row_view}
 use Rattle.offset_script.specs.Simulation.{Represents, Simulates, RepresentsReached, IsKept}
 
 -- what holds of every state holds of a reached one

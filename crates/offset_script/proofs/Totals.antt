@@ -1,11 +1,10 @@
 -- The sums of sizes, and the numbers of live blocks, that every call keeps.
 use Rattle.std.proofs.Common.{◌≡◌, ℕ, zero, suc, ◌+◌, ◌-◌, ◌≤◌, true, false, ◌&&◌, ◌||◌, List, [], ◌∷◌, ◌++◌, length, nat_le, nat_lt, if◌then◌else◌, refl, sym, ap, subst, ◌∙◌, inl, inr, arith, le-leb, length-append, sum}
 use Rattle.std.proofs.lemmas.List.Sums.{sum_by-cons}
-use Rattle.offset_script.specs.Machine.{max_size, padding_to}
+use Rattle.offset_script.specs.Machine.{max_size, padding_to, Live, Free, Block, block, is_free, total, free_sizes, Place, chosen_place, free_block, free_start, without_start, free_end, without_end, ends_live, coalesce, State, Outcome, start, step, after, is_short_of, returns_only, leaves, request, grant_or_refuse, stamp_of_call, stamp_of_padding}
 use Rattle.offset_allocator.specs.Reports.{largest}
 use Rattle.offset_script.specs.declared.scripts.Command.{Command}
 use Rattle.offset_script.specs.declared.scripts.Command.TheVariants as command
-use Rattle.offset_script.specs.Machine.{Live, Free, Block, block, is_free, total, free_sizes, Place, chosen_place, free_block, free_start, without_start, free_end, without_end, ends_live, coalesce, State, Outcome, start, step, after, is_short_of, returns_only, leaves, request, grant_or_refuse, stamp_of_call, stamp_of_padding}
 use Rattle.offset_script.specs.Machine as machine
 use Rattle.offset_script.specs.Histories.{KeepsSpace}
 use Rattle.offset_script.specs.Totals.{requested_units, live_units, live_blocks, added_units, added_by, SizesAddUp, FewAreLive, FullSpaceRefuses}

@@ -1,4 +1,4 @@
--- What holds of every state that the machine reaches.
+-- What holds of lists of blocks, and of every state that the machine reaches.
 use Rattle.std.proofs.Common.{◌≡◌, ◌≢◌, ℕ, zero, suc, ◌+◌, ◌-◌, ◌<◌, ◌≤◌, Bool, true, false, ◌&&◌, ◌||◌, ◌⊎◌, List, [], ◌∷◌, ◌++◌, length, Option, Some, None, option_map, nat_eq, nat_lt, nat_le, if◌then◌else◌, refl, sym, ap, ap₂, subst, ◌∙◌, inl, inr, arith, eq-eqb, ne_eqb, leb-false, length-append, append-nil}
 use Rattle.std.proofs.lemmas.Bool.{cases_eq, cases_lt, true≢false, false≢true}
 use Rattle.std.proofs.lemmas.Bool.Decides.{nat_tests}
@@ -6,11 +6,10 @@ use Rattle.std.specs.List.{AllByRecursion}
 use Rattle.offset_script.specs.declared.scripts.Command.{Command}
 use Rattle.offset_script.specs.declared.scripts.Command.TheVariants as command
 use Rattle.offset_allocator.specs.Classes.{down}
-use Rattle.offset_script.specs.Machine.{Tag, Live, Free, Block, block, is_free, has_number, stamp, total, Place, here, prepend, fits, is_taken_before, choose, chosen_place, place_of, free_block, free_start, without_start, free_end, without_end, ends_live, coalesce, State, Answer, Outcome, start, step, answers, after, request, grant, grant_or_refuse, is_short_of, returns_only, leaves, release, size_at, report, reset, extend, stamp_of_call, stamp_of_padding}
+use Rattle.offset_script.specs.Machine.{Tag, Live, Free, Block, block, is_free, has_number, stamp, total, Place, here, prepend, fits, is_taken_before, choose, chosen_place, place_of, free_block, free_start, without_start, free_end, without_end, ends_live, coalesce, State, Answer, Outcome, start, step, answers, after, request, grant, grant_or_refuse, is_short_of, returns_only, leaves, release, size_at, report, reset, extend, stamp_of_call, stamp_of_padding, max_size, padding_to}
 use Rattle.offset_script.specs.Machine as machine
 use Rattle.offset_allocator.specs.Reports.{rows_below}
 use Rattle.offset_script.proofs.Members.{In}
-use Rattle.offset_script.specs.Machine.{max_size, padding_to}
 use Rattle.offset_script.proofs.Tests.{both_true, and_false, and_false_right, left_false, right_false, or_false, if_both}
 
 -- whether the first block of a list is free

@@ -5,8 +5,7 @@ use Rattle.offset_script.specs.declared.scripts.Command.{Command}
 use Rattle.offset_script.specs.declared.answers.Answer as program
 use Rattle.offset_script.specs.declared.answers.Answer.TheVariants as program_answer
 use Rattle.offset_script.specs.Agreement.{Agrees, IsReached, kept_name}
-use Rattle.offset_script.specs.Machine.{answer_view}
-use Rattle.offset_script.specs.Machine.{State, step}
+use Rattle.offset_script.specs.Machine.{answer_view, State, step}
 
 -- an allocator with the view v, and the handles of its grants so far, represent a state of the plain machine
 pub record Represents (v : View) (handles : List (Option Grant)) (s : State) : Type 0 where

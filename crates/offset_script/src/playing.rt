@@ -34,6 +34,7 @@ impl<NI: NodeIndex> Player<NI> {
         ensures { IfOk result (λ p. Represents p.space p.handles.items (start size max_allocs)) }
     {
         let space = Allocator::with_max_allocs(alloc, size, max_allocs)?;
+        // A step of the proof, which does nothing, here and below.
         is_well_formed(&space);
         Ok(Player {
             space,

@@ -3,8 +3,7 @@
 ghost use Rattle.std.specs.Prelude.{◌≡◌, [], Some, Ok, Err, IfOk};
 ghost use Rattle.offset_script.specs.declared.faults.ScriptFault.{ScriptFault};
 ghost use Rattle.offset_script.specs.declared.faults.RunFault.TheVariants as faults;
-ghost use Rattle.offset_script.specs.Grammar.{meaning_of};
-ghost use Rattle.offset_script.specs.Grammar.{WritesAnswers};
+ghost use Rattle.offset_script.specs.Grammar.{meaning_of, WritesAnswers};
 
 use offset_script::{FromRead, IntoWrite, RunFault, run};
 use std::alloc::Global;

@@ -1,8 +1,7 @@
 use Rattle.std.proofs.Common.{◌≡◌, ◌+◌, ◌-◌, length, get_or, if◌then◌else◌, All, AllPairs, List, sym, ap, ◌∙◌, arith}
 use Rattle.std.proofs.lemmas.List.{length-map}
 use Rattle.offset_script.specs.declared.scripts.Command.{Command}
-use Rattle.offset_script.specs.Machine.{answer_view, answer_views}
-use Rattle.offset_script.specs.Machine.{Answer, State, answers, start, IsPlayed}
+use Rattle.offset_script.specs.Machine.{answer_view, answer_views, Answer, State, answers, start, IsPlayed}
 use Rattle.offset_script.proofs.Well.{well_start}
 use Rattle.offset_lives.specs.Ends.{end_in}
 use Rattle.offset_lives.specs.Lives.{leaves, AreApart, IsWithin}

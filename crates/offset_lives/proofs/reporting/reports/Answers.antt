@@ -1,8 +1,7 @@
 use Rattle.std.proofs.Common.{◌≡◌, map, length, List, ap, ◌∙◌, arith}
 use Rattle.std.proofs.lemmas.List.{length-map, take_all}
 use Rattle.offset_script.specs.declared.scripts.Command.{Command}
-use Rattle.offset_script.specs.Machine.{answer_view}
-use Rattle.offset_script.specs.Machine.{answers, start, IsPlayed}
+use Rattle.offset_script.specs.Machine.{answer_view, answers, start, IsPlayed}
 use Rattle.offset_lives.specs.Reported.{reports_of, with_reports}
 use Rattle.offset_lives.proofs.Watched.{answers_watched, reports_count, found_report, report_taken, report_there}
 use Rattle.offset_lives.proofs.reporting.reports.Goals as goal

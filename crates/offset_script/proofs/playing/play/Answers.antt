@@ -3,9 +3,8 @@ use Rattle.std.proofs.lemmas.List.{map-append, take_more, drop_all}
 use Rattle.std.proofs.lemmas.List.Elements.{All-get_or}
 use Rattle.offset_script.specs.Agreement.{IsReached}
 use Rattle.offset_script.specs.Grammar.{has_valid_alignment}
-use Rattle.offset_script.specs.Machine.{answers, start, after, State, Answer, step}
+use Rattle.offset_script.specs.Machine.{answers, start, after, State, Answer, step, answer_view}
 use Rattle.offset_script.specs.Simulation.{Represents}
-use Rattle.offset_script.specs.Machine.{answer_view}
 use Rattle.offset_script.specs.declared.scripts.Command.{Command}
 use Rattle.offset_script.specs.Histories.{RestartsFresh, NestsLeaveNoTrace, RowsCommute, answers_as_before, releases, without_offset}
 use Rattle.offset_script.specs.declared.answers.Answer as program

@@ -1,6 +1,5 @@
 use Rattle.std.proofs.Common.{◌≡◌, map, take, drop, ◌++◌}
-use Rattle.offset_script.specs.Machine.{answer_view}
-use Rattle.offset_script.specs.Machine.{answers, after, start}
+use Rattle.offset_script.specs.Machine.{answer_view, answers, after, start}
 use Rattle.offset_script.specs.Simulation.{Represents}
 use Rattle.offset_script.proofs.playing.play.Given as goal
 
