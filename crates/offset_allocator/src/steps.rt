@@ -60,18 +60,11 @@ impl<NI: NodeIndex> Allocator<NI> {
         ensures none { result ≡ None → Resets self.old self.new }
         ensures accesses_kept { self.old.accesses ≤ self.new.accesses }
     {
-        if chain::is_used(
-            &self.store.tables,
-            self.store.last,
-            &mut self.store.accesses,
-        ) {
-            return Some(self.store.last);
+        let last = self.store.last;
+        if chain::is_used(&self.store.tables, last, &mut self.store.accesses) {
+            return Some(last);
         }
-        chain::before(
-            &self.store.tables,
-            self.store.last,
-            &mut self.store.accesses,
-        )
+        chain::before(&self.store.tables, last, &mut self.store.accesses)
     }
 
     /// Frees every live range. It is out of line, so that `reset` stays small where it is inlined.

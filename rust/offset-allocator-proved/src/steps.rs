@@ -39,18 +39,11 @@ impl<NI: NodeIndex> Allocator<NI> {
     /// The name of a live range, or `None` where nothing is live: then the space is as after a reset. Since no two
     /// neighbours are free, the last used block is the last block or the one before it.
     pub(crate) fn last_used(&mut self) -> Option<u32> {
-        if chain::is_used(
-            &self.store.tables,
-            self.store.last,
-            &mut self.store.accesses,
-        ) {
-            return Some(self.store.last);
+        let last = self.store.last;
+        if chain::is_used(&self.store.tables, last, &mut self.store.accesses) {
+            return Some(last);
         }
-        chain::before(
-            &self.store.tables,
-            self.store.last,
-            &mut self.store.accesses,
-        )
+        chain::before(&self.store.tables, last, &mut self.store.accesses)
     }
 
     /// Frees every live range. It is out of line, so that `reset` stays small where it is inlined.

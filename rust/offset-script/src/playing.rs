@@ -22,6 +22,7 @@ impl<NI: NodeIndex> Player<NI> {
     // A fresh space, and no grants.
     fn start(alloc: Global, size: u32, max_allocs: u32) -> Result<Self, AllocError> {
         let space = Allocator::with_max_allocs(alloc, size, max_allocs)?;
+        // A step of the proof, which does nothing, here and below.
         is_well_formed(&space);
         Ok(Player {
             space,

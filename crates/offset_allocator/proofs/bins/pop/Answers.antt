@@ -1,4 +1,4 @@
-use Rattle.std.proofs.Common.{◌≡◌, ◌∙◌, ◌∷◌, ap, sym, arith}
+use Rattle.std.proofs.Common.{◌∙◌, ap, sym, arith}
 use Rattle.std.proofs.lemmas.List.{set_past}
 use Rattle.offset_allocator.specs.Orders.{first_of}
 use Rattle.offset_allocator.proofs.Binned.{head, without_head, none_left, beheaded, binned, popped}

@@ -1,8 +1,5 @@
 use Rattle.std.proofs.Common.{◌≡◌, ◌≢◌, ◌∙◌, ap, sym, arith, slice_index}
-use Rattle.std.proofs.lemmas.List.{set_past}
-use Rattle.offset_allocator.specs.Classes.{down}
-use Rattle.offset_allocator.specs.Named.{without, names_at}
-use Rattle.offset_allocator.specs.Orders.{first_of, class_lists}
+use Rattle.offset_allocator.specs.Orders.{first_of}
 use Rattle.offset_allocator.proofs.Binned.{below, newer_in, older_in, is_first, is_later, head, without_head, none_left, beheaded, later_masked, left, binned, clauses}
 use Rattle.offset_allocator.proofs.Masks.{flag_full, masked_same}
 use Rattle.offset_allocator.proofs.Sizes.{down_small}
