@@ -1,12 +1,11 @@
 -- Sums and bounds of a well formed view.
-use Rattle.std.proofs.Common.{◌≡◌, ℕ, ◌+◌, ◌-◌, ◌*◌, ◌/◌, ◌%◌, ◌<◌, ◌≤◌, Bool, true, false, not, ◌&&◌, ◌⊎◌, ◌↔◌, List, [], ◌∷◌, ◌++◌, length, sum, if◌then◌else◌, refl, sym, ap, ap₂, subst, ◌∙◌, inl, inr, arith, le-leb}
+use Rattle.std.proofs.Common.{◌≡◌, ℕ, ◌+◌, ◌<◌, ◌≤◌, Bool, true, false, not, ◌&&◌, ◌↔◌, List, [], ◌∷◌, ◌++◌, length, sum, if◌then◌else◌, refl, sym, ap, ap₂, subst, ◌∙◌, arith, le-leb}
 use Rattle.std.specs.List.{AllByRecursion}
-use Rattle.std.proofs.lemmas.Bool.{cases_lt, true≢false}
+use Rattle.std.proofs.lemmas.Bool.{true≢false}
 use Rattle.std.proofs.lemmas.List.Sums.{sum_by-cons}
-use Rattle.std.proofs.lemmas.Nat.{mod-mul-add}
 use Rattle.offset_allocator.specs.Classes.{value, up, down}
 use Rattle.offset_allocator.specs.Reports.{largest}
-use Rattle.offset_allocator.specs.Named.{Block, View, used_units, total_free, largest_free, units, free_sizes, free_block, IsApart, IsWellFormed, max_size, padding_to}
+use Rattle.offset_allocator.specs.Named.{Block, View, used_units, total_free, largest_free, units, free_sizes, free_block, IsApart, IsWellFormed, max_size}
 use Rattle.offset_allocator.specs.Relations.{IsFresh}
 use Rattle.offset_allocator.specs.Promises.{CanGrant}
 use Rattle.offset_allocator.proofs.Taken.{fitting}
@@ -49,38 +48,6 @@ pub reports_nothing : (v : View) → v.max_allocs ≤ length v.blocks + 1 → (t
 reports_nothing v h =
     let full = le-leb v.max_allocs (length v.blocks + 1) h in
     (ap (λ b. if b then 0 else sum (free_sizes v.blocks)) full, ap (λ b. if b then 0 else largest (free_sizes v.blocks)) full)
-
--- padding
-module _ (align offset : ℕ) (some : 1 ≤ align) where
-  padded : ((offset % align ≡ 0) × (padding_to align offset ≡ 0)) ⊎ ((0 < offset % align) × (offset % align < align) × (padding_to align offset ≡ align - offset % align))
-  padded = elim (cases_lt 0 (offset % align)) [
-    | inl l ↦ inr (l, below, small (align - offset % align) (omega (arith, below, l)))
-    | inr l ↦ let z : offset % align ≡ 0 = omega arith in inl (z, ap (λ r. (align - r) % align) z ∙ whole)
-  ]
-    where
-      below : offset % align < align
-      below = omega arith
-
-      small : (n : ℕ) → n < align → n % align ≡ n
-      small n h = let e : n ≡ 0 * align + n = omega arith in ap (λ n. n % align) e ∙ mod-mul-add 0 align n h
-
-      whole : (align - 0) % align ≡ 0
-      whole = let e : align - 0 ≡ 1 * align + 0 = omega arith in ap (λ n. n % align) e ∙ mod-mul-add 1 align 0 (omega arith)
-
-  pub reaches : (offset + padding_to align offset) % align ≡ 0
-  reaches = elim padded [
-    | inl z ↦ ap (λ n. (offset + n) % align) z.1 ∙ (let e : offset + 0 ≡ offset = omega arith in ap (λ n. n % align) e ∙ z.0)
-    | inr p ↦ let e : offset + padding_to align offset ≡ (offset / align + 1) * align + 0 = omega (arith, p.1, p.2) in ap (λ n. n % align) e ∙ mod-mul-add (offset / align + 1) align 0 (omega arith)
-  ]
-
-  pub least : (k : ℕ) → (offset + k) % align ≡ 0 → padding_to align offset ≤ k
-  least k m = elim padded [
-    | inl z ↦ omega (arith, z.1)
-    | inr p ↦ elim (cases_lt k (padding_to align offset)) [
-      | inl l ↦ let e : offset + k ≡ (offset / align) * align + (offset % align + k) = omega arith in absurd (let s = ap (λ n. n % align) e ∙ mod-mul-add (offset / align) align (offset % align + k) (omega (arith, l, p.1, p.2)) in omega (arith, s, m, p.0))
-      | inr l ↦ l
-    ]
-  ]
 
 head_of : (b c : Block) (bs cs : List Block) → b ∷ bs ≡ c ∷ cs → b ≡ c
 head_of b c bs cs e = cc

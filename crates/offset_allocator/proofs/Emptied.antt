@@ -8,7 +8,7 @@ use Rattle.offset_allocator.specs.Named.{Block, View, one, is_free, free_block, 
 use Rattle.offset_allocator.specs.Relations.{SameSpace, Frees, Resets}
 use Rattle.offset_allocator.specs.Space.{last_or}
 use Rattle.offset_allocator.proofs.Ends.{Ended, ended, last_none}
-use Rattle.offset_allocator.proofs.Sizes.{down_small}
+use Rattle.offset_allocator.proofs.Classes.{down_small}
 use Rattle.offset_allocator.specs.Ranges.{IsLive}
 use Rattle.offset_allocator.proofs.Reading.{used_live}
 use Rattle.offset_allocator.proofs.Rows.{one-same, one-eq}

@@ -1,13 +1,13 @@
 -- What more units at the end leave of the whole allocator.
-use Rattle.std.proofs.Common.{◌≡◌, ℕ, ◌+◌, ◌-◌, ◌<◌, ◌≤◌, ◌^◌, Bool, true, false, not, ◌&&◌, ◌⊎◌, List, [], ◌∷◌, ◌++◌, length, refl, sym, ap, subst, ◌∙◌, inl, inr, arith, slice_set, nat_eq}
-use Rattle.std.proofs.lemmas.Bool.{true≢false}
+use Rattle.std.proofs.Common.{◌≡◌, ◌↔◌, ℕ, ◌+◌, ◌-◌, ◌<◌, ◌≤◌, ◌^◌, Bool, true, false, not, ◌&&◌, ◌⊎◌, List, [], ◌∷◌, ◌++◌, length, refl, sym, ap, subst, ◌∙◌, inl, inr, arith, slice_set, nat_eq}
+use Rattle.std.proofs.lemmas.Bool.{true≢false, false≢true}
 use Rattle.offset_allocator.specs.Classes.{down}
 use Rattle.offset_allocator.specs.Cells.{Cells, Room, Node, node}
 use Rattle.std.specs.List.{AllByRecursion}
-use Rattle.offset_allocator.specs.Named.{Block, View, count_named, names_at, count_listed, one, is_free, IsApart, IsWellFormed, IsUnused, free_block, units, replace, remove_all, push, remove, without, ends_used}
+use Rattle.offset_allocator.specs.Named.{Block, View, count_named, names_at, count_listed, one, is_free, IsApart, IsWellFormed, IsUnused, free_block, units, replace, remove_all, push, remove, without, times, ends_used}
 use Rattle.offset_allocator.specs.Promises.{HasRoomFor}
 use Rattle.offset_allocator.specs.Ranges.{KeepsAll}
-use Rattle.offset_allocator.specs.Relations.{Adds, CanExtend}
+use Rattle.offset_allocator.specs.Relations.{Adds, CanExtend, Extends}
 use Rattle.offset_allocator.specs.Space.{IsChain, HasPlace, blocks}
 use Rattle.offset_allocator.specs.Orders.{Among, IsUnlisted, class_lists, Binned}
 use Rattle.offset_allocator.specs.State.{Fields, AreSound, shown, free_units}
@@ -16,12 +16,12 @@ use Rattle.offset_allocator.proofs.Ends.{Ended, ended}
 use Rattle.offset_allocator.proofs.Places.{at_place, end_place}
 use Rattle.offset_allocator.proofs.Unused.{is_new}
 use Rattle.offset_allocator.proofs.Freeing.{filed_listed}
-use Rattle.offset_allocator.proofs.ViewApart.{ends_free, apart_parts, first_false}
+use Rattle.offset_allocator.proofs.ViewApart.{append_nil, ends_free, apart_parts, first_false}
 use Rattle.offset_allocator.proofs.ViewOrders.{tally_append, times_remove_all}
 use Rattle.offset_allocator.proofs.ViewReplaced.{listed_named}
-use Rattle.offset_allocator.proofs.ViewTaken.{append_nil, well_added}
+use Rattle.offset_allocator.proofs.ViewTaken.{well_added}
 use Rattle.offset_allocator.proofs.Ranges.{adds_keep}
-use Rattle.offset_allocator.proofs.Joints.{stepped, free_most, among_times, unused_unlisted, remove_free, free_units-append, free_units-free}
+use Rattle.offset_allocator.proofs.Joints.{stepped, free_most, unused_unlisted, remove_free, free_units-append, free_units-free}
 use Rattle.offset_allocator.proofs.Split.{well_counted, well_same}
 
 pub ends_last : (fs : List Block) (b : Block) → ends_used (fs ++ b ∷ []) ≡ b.used
@@ -170,7 +170,7 @@ module _ {it : Fields} {more : ℕ} (r : Growth it more false) where
       let split : (k y : ℕ) → count_listed k y bs ≡ count_listed k y (end r).front + count_listed k y ((end r).last ∷ []) = λ k y. ap (count_listed k y) (end r).is ∙ tally_append (λ (d : Block). one (is_free d && (nat_eq k (down d.size) && nat_eq y d.name))) (end r).front ((end r).last ∷ []) in
       let left = times_remove_all ((end r).last ∷ []) l known.classes (λ k y. omega (arith, known.orders k y, known.distinct y, listed_named k y bs)) (λ k y. omega (arith, known.orders k y, split k y)) d it.last in
       let alone : count_named it.last (end r).front ≡ 0 = omega (arith, known.distinct it.last, ap (count_named it.last) (end r).is, times-append it.last (end r).front ((end r).last ∷ []), one-eq it.last (end r).last.name (end r).name) in
-      omega (arith, among_times it.last _ (rw is_left at a), left, known.orders d it.last, split d it.last, listed_named d it.last (end r).front, alone)
+      let there : 1 ≤ times it.last (names_at (remove_all ((end r).last ∷ []) l) d) = rw is_left at a in omega (arith, there, left, known.orders d it.last, split d it.last, listed_named d it.last (end r).front, alone)
 
   pub widened : (d : Cells) (k : ℕ) {count top : ℕ} → IsChain d.room (length it.cells.room.nodes) it.last count ((end r).front ++ record (end r).last { size = (end r).last.size + more } ∷ []) → Binned it.max d.links top
       → class_lists it.max d.links ≡ push (down ((node it.cells.room it.last).size + more)) it.last widen_left → Grown r d it.last count top k
@@ -182,3 +182,12 @@ module _ {it : Fields} {more : ℕ} (r : Growth it more false) where
       grown r d k it.last (end r).front ((end r).last ∷ []) (end r).is (first_false (ends_free (end r).front) (not (end r).last.used) parts.2 (ap not (b_used r))) (b_used r, tt) (named, tt)
       (inl (omega (arith, one-eq it.last (end r).last.name named))) (inl (omega arith)) (λ n. absurd (cc))
       (rw (b_used r, named, sum) at chain) bins (rw (← is_left, ← size_is) eo)
+
+-- what was counted before changes nothing of it
+pub adds_counted : (more : ℕ) (v w : View) (accesses : ℕ) → Adds more (record v { accesses = accesses }) w → Adds more v w
+adds_counted more v w accesses g = record { before = g.before; last = g.last; blocks = g.blocks; free = g.free; name = g.name; named = g.named; new = λ n. let u = g.new n in record { below = u.below; absent = u.absent }; view = g.view; apart = g.apart }
+
+-- when it is done
+pub extends_done : (more : ℕ) (v w : View) (done : Bool) → Extends more v w done → (done ≡ true) ↔ (1 ≤ more → CanExtend more v)
+extends_done more v w true e = (λ h l. elim e [ inl z ↦ absurd (let n = z.0 in omega arith) | inr g ↦ g.1 ], λ h. refl)
+extends_done more v w false e = (λ h. absurd (false≢true h), λ h. absurd (e.1 (h e.0)))

@@ -1,5 +1,5 @@
 -- What it leaves of the whole allocator to free a block.
-use Rattle.std.proofs.Common.{◌≡◌, ℕ, ◌+◌, ◌<◌, ◌^◌, Bool, true, false, not, ◌&&◌, List, [], ◌∷◌, ◌++◌, length, Option, Some, None, if◌then◌else◌, refl, sym, ap, ap₂, subst, ◌∙◌, arith, nat_eq, inl, inr}
+use Rattle.std.proofs.Common.{◌≡◌, ℕ, ◌+◌, ◌<◌, ◌≤◌, ◌^◌, Bool, true, false, not, ◌&&◌, List, [], ◌∷◌, ◌++◌, length, Option, Some, None, if◌then◌else◌, refl, sym, ap, ap₂, subst, ◌∙◌, arith, nat_eq, inl, inr}
 use Rattle.std.proofs.lemmas.Bool.{false≢true}
 use Rattle.offset_allocator.specs.Classes.{down}
 use Rattle.offset_allocator.specs.Cells.{Cells, Room, Node}
@@ -17,7 +17,7 @@ use Rattle.offset_allocator.proofs.ViewTaken.{well_frees, tally_end, tally_start
 use Rattle.offset_allocator.proofs.ViewApart.{apart_parts, apart_coalesced, coalesced_parts}
 use Rattle.offset_allocator.proofs.Released.{idle_append, idle_end, idle_start}
 use Rattle.offset_allocator.specs.Relations.{SameSpace, Frees}
-use Rattle.offset_allocator.proofs.Joints.{stepped, free_most, among_times, times_among, free_units-append, free_units-free, free_units-used}
+use Rattle.offset_allocator.proofs.Joints.{stepped, free_most, free_units-append, free_units-free, free_units-used}
 
 -- the sum that `listed` takes, of one block
 abbrev share : ℕ → ℕ → Block → ℕ
@@ -33,7 +33,7 @@ filed_listed {c} {m} {last} {count} {bs} ls h f x p held u =
     let y : ℕ = p.block.name in
     let e : bs ≡ p.before ++ p.block ∷ p.after = sym (blocks-chain c m last count bs h) ∙ blocks-chain c m last count _ held.chain in
     let own : share k y p.block ≡ 1 = ap (λ (v : Bool). one (not v && (nat_eq k k && nat_eq y y))) (sym (ap (λ (v : Node). v.used) at) ∙ u) ∙ (elim (hit_cases k k) [ inl a ↦ elim (hit_cases y y) [ inl b ↦ both (nat_eq k k) (nat_eq y y) a.1 b.1 | inr b ↦ absurd (b.0 refl) ] | inr a ↦ absurd (a.0 refl) ]) in
-    let there : Among y (names_at ls k) = times_among y (names_at ls k) (omega (arith, f k y, ap (count_listed k y) e, tally_append (λ b. share k y b) p.before (p.block ∷ p.after))) in
+    let there : Among y (names_at ls k) = (omega (arith, f k y, ap (count_listed k y) e, tally_append (λ b. share k y b) p.before (p.block ∷ p.after))) in
     rw (ap (λ (v : Node). v.size) at) (rw held.name at there)
   where
     both : (a b : Bool) → one a ≡ 1 → one b ≡ 1 → one (a && b) ≡ 1
@@ -162,7 +162,7 @@ module _ {f : Fields} {x : ℕ} (r : Release f x) where
       let r = times_remove_all (free_start cs) ls₁ (length_remove_all (free_end fs) ls ∙ w.classes)
       (λ i y. omega (arith, removed i y, w.orders i y, w.distinct y, listed_named i y bs))
       (λ i y. omega (arith, removed i y, w.orders i y, parts i y)) in
-      omega (arith, among_times x _ a, r k x, removed k x, w.orders k x, parts k x, listed_named k x fs, at.alone, tally_end (λ d. share k x d) fs, tally_start (λ d. share k x d) cs, listed_named k x cs, one_x)
+      let there : 1 ≤ times x (names_at left_twice k) = a in omega (arith, there, r k x, removed k x, w.orders k x, parts k x, listed_named k x fs, at.alone, tally_end (λ d. share k x d) fs, tally_start (λ d. share k x d) cs, listed_named k x cs, one_x)
     where
       hits : one (nat_eq x b.name) ≡ 1
       hits = elim (hit_cases x b.name) [ inl h ↦ h.1 | inr h ↦ absurd (h.0 (sym at.held.name)) ]

@@ -10,7 +10,7 @@ use Rattle.offset_allocator.specs.Relations.{SameSpace, Splits}
 use Rattle.offset_allocator.proofs.Rows.{one-same, one-eq, times-append}
 use Rattle.offset_allocator.proofs.Exchange.{each-le, there-below}
 use Rattle.offset_allocator.proofs.Places.{placed, end_fits}
-use Rattle.offset_allocator.proofs.Sizes.{fits_size}
+use Rattle.offset_allocator.proofs.Classes.{fits_size}
 use Rattle.offset_allocator.proofs.Split.{well_counted, well_split, part_room}
 use Rattle.offset_allocator.proofs.Taken.{Taken, taken}
 use Rattle.offset_allocator.proofs.Unused.{is_new}

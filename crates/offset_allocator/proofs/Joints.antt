@@ -3,7 +3,7 @@ use Rattle.std.proofs.Common.{◌≡◌, ℕ, zero, suc, ◌+◌, ◌<◌, ◌�
 use Rattle.std.proofs.lemmas.Bool.{cases_eq}
 use Rattle.std.proofs.lemmas.List.{get_or-set_same, get_or-set_other}
 use Rattle.offset_allocator.specs.Classes.{down}
-use Rattle.offset_allocator.specs.Named.{units, Block, View, count_named, count_listed, names_at, IsWellFormed, free_part, remove_all, remove, times, without}
+use Rattle.offset_allocator.specs.Named.{units, Block, View, count_named, count_listed, names_at, IsWellFormed, free_part, remove_all, remove, without}
 use Rattle.offset_allocator.specs.Cells.{Cells}
 use Rattle.offset_allocator.specs.Space.{IsChain}
 use Rattle.offset_allocator.specs.Orders.{Among, Binned, class_lists, IsUnlisted}
@@ -13,15 +13,9 @@ use Rattle.offset_allocator.proofs.ViewOrders.{tally_append, times_without_le}
 use Rattle.offset_allocator.proofs.ViewReplaced.{listed_named}
 use Rattle.offset_allocator.proofs.Split.{well_counted}
 
-pub among_times : (x : ℕ) (xs : List ℕ) → Among x xs → 1 ≤ times x xs
-among_times x xs a = a
-
-pub times_among : (x : ℕ) (xs : List ℕ) → 1 ≤ times x xs → Among x xs
-times_among x xs h = h
-
 -- a name that no free block has is in no list
 pub unlisted : (v : View) → IsWellFormed v → (x : ℕ) → ((c : ℕ) → count_listed c x v.blocks ≡ 0) → IsUnlisted x v.order
-unlisted v w x h c ch a = omega (arith, among_times x (names_at v.order c) a, w.orders c x, h c)
+unlisted v w x h c ch a = omega (arith, a, w.orders c x, h c)
 
 pub unused_unlisted : (v : View) → IsWellFormed v → (x : ℕ) → count_named x v.blocks ≡ 0 → IsUnlisted x v.order
 unused_unlisted v w x h = unlisted v w x (λ c. omega (arith, listed_named c x v.blocks))

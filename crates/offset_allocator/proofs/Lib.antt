@@ -16,6 +16,7 @@ pub mod Joints
 pub mod Masks
 pub mod Nodes
 pub mod Overwritten
+pub mod Padding
 pub mod Pieces
 pub mod Places
 pub mod Powers
@@ -25,7 +26,6 @@ pub mod Taken
 pub mod Released
 pub mod Rows
 pub mod Served
-pub mod Sizes
 pub mod Sound
 pub mod Reading
 pub mod Undone

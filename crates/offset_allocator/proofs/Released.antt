@@ -1,11 +1,9 @@
--- Free blocks at the ends of lists, and what contracts say of an extension.
-use Rattle.std.proofs.Common.{◌↔◌, ◌≡◌, ℕ, ◌≤◌, Bool, true, false, not, ◌&&◌, List, [], ◌∷◌, ◌++◌, if◌then◌else◌, refl, sym, ap, ap₂, ◌∙◌, inl, inr, arith}
-use Rattle.std.proofs.lemmas.Bool.{false≢true, true≢false}
+-- Free blocks at the ends of lists.
+use Rattle.std.proofs.Common.{◌≡◌, Bool, true, false, not, ◌&&◌, List, [], ◌∷◌, ◌++◌, if◌then◌else◌, refl, sym, ap, ap₂, ◌∙◌}
+use Rattle.std.proofs.lemmas.Bool.{true≢false}
 use Rattle.std.specs.List.{AllByRecursion}
-use Rattle.offset_allocator.specs.Named.{Block, View, IsApart, free_start, without_start, free_end, without_end, starts_free}
-use Rattle.offset_allocator.specs.Relations.{Adds, CanExtend, Extends}
-use Rattle.offset_allocator.proofs.ViewApart.{ends_free, apart_parts, no_end, no_start}
-use Rattle.offset_allocator.proofs.ViewTaken.{append_nil}
+use Rattle.offset_allocator.specs.Named.{Block, IsApart, free_start, without_start, free_end, without_end, starts_free}
+use Rattle.offset_allocator.proofs.ViewApart.{append_nil, ends_free, apart_parts, no_end, no_start}
 
 pub idle_append : (bs cs : List Block) → AllByRecursion (λ b. b.used ≡ false) bs → AllByRecursion (λ b. b.used ≡ false) cs → AllByRecursion (λ b. b.used ≡ false) (bs ++ cs)
 idle_append [] cs h k = k
@@ -47,12 +45,3 @@ pub start_is : (right after : List Block) → AllByRecursion (λ b. b.used ≡ f
 start_is [] after i a e = no_start after e
 start_is (b ∷ []) after i a e = (ap (λ (u : Bool). if not u then b ∷ [] else []) i.0, ap (λ (u : Bool). if not u then after else b ∷ after) i.0)
 start_is (b ∷ c ∷ right) after i a e = absurd (two_free b c (right ++ after) i.0 i.1.0 a)
-
--- what was counted before changes nothing of it
-pub adds_counted : (more : ℕ) (v w : View) (accesses : ℕ) → Adds more (record v { accesses = accesses }) w → Adds more v w
-adds_counted more v w accesses g = record { before = g.before; last = g.last; blocks = g.blocks; free = g.free; name = g.name; named = g.named; new = λ n. let u = g.new n in record { below = u.below; absent = u.absent }; view = g.view; apart = g.apart }
-
--- when it is done
-pub extends_done : (more : ℕ) (v w : View) (done : Bool) → Extends more v w done → (done ≡ true) ↔ (1 ≤ more → CanExtend more v)
-extends_done more v w true e = (λ h l. elim e [ inl z ↦ absurd (let n = z.0 in omega arith) | inr g ↦ g.1 ], λ h. refl)
-extends_done more v w false e = (λ h. absurd (false≢true h), λ h. absurd (e.1 (h e.0)))

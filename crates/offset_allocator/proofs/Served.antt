@@ -6,7 +6,7 @@ use Rattle.offset_allocator.specs.Named.{View, Grant, units, count_named, place_
 use Rattle.offset_allocator.specs.Reports.{largest, IsGoodRefusal}
 use Rattle.offset_allocator.specs.Promises.{HasRoomFor, CanGrant, units_needed}
 use Rattle.offset_allocator.specs.Relations.{SameSpace, Splits, Serves, Allocates, Aligns, IsSplitNearBest}
-use Rattle.offset_allocator.proofs.Always.{reaches}
+use Rattle.offset_allocator.proofs.Padding.{reaches}
 use Rattle.offset_allocator.proofs.Refusals.{fit_small}
 use Rattle.offset_allocator.proofs.Split.{well_split, part_room}
 use Rattle.offset_allocator.proofs.Ranges.{beside, split_grants}

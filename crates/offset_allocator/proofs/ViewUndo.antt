@@ -8,7 +8,7 @@ use Rattle.offset_allocator.specs.Relations.{SameSpace, Splits, Frees}
 use Rattle.offset_allocator.proofs.Ranges.{beside}
 use Rattle.offset_allocator.proofs.Released.{idle_parts, end_is, start_is}
 use Rattle.offset_allocator.proofs.Rows.{one-same}
-use Rattle.offset_allocator.proofs.Sizes.{down_small}
+use Rattle.offset_allocator.proofs.Classes.{down_small}
 use Rattle.offset_allocator.proofs.Split.{part_sums}
 use Rattle.offset_allocator.proofs.Unused.{new_unused}
 use Rattle.offset_allocator.proofs.ViewApart.{ends_free, apart_parts, first_false, second_false, no_end, no_start}

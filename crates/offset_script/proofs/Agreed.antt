@@ -16,7 +16,7 @@ use Rattle.offset_script.proofs.Well as well
 use Rattle.std.specs.List.{AllByRecursion}
 use Rattle.std.proofs.lemmas.List.{map-append, length-map, get_or-replicate, get_or_past, length-replicate}
 use Rattle.offset_allocator.proofs.ViewOrders.{tally_append, names_same, names_other}
-use Rattle.offset_allocator.proofs.Sizes.{down_small, fits_size}
+use Rattle.offset_allocator.proofs.Classes.{down_small, fits_size}
 use Rattle.offset_script.proofs.Members.{map_parts, map_first}
 use Rattle.offset_script.proofs.Labels.{names, tags, map_three, stamps_below, Rises, newest_replaced}
 use Rattle.offset_script.proofs.Chosen.{Spot, whole, place_at, named_spot, plain_spot, named_place, plain_place, some_same, IsLabelled, none_chosen, chosen, place_of_spot}

@@ -3,7 +3,7 @@ use Rattle.std.proofs.Common.{◌≡◌, ◌≢◌, ℕ, ◌+◌, ◌<◌, ◌�
 use Rattle.std.proofs.lemmas.Bool.{cases_eq}
 use Rattle.offset_allocator.specs.Classes.{down}
 use Rattle.offset_allocator.specs.Named.{Block, one, times, names_at, push, without, remove, push_all, remove_all}
-use Rattle.offset_allocator.proofs.Sizes.{down_small}
+use Rattle.offset_allocator.proofs.Classes.{down_small}
 use Rattle.offset_allocator.proofs.ViewOrders.{if_value, hit_cases, names_same, names_other, length_put, length_remove, times_without_le, hit, times_put}
 use Rattle.offset_script.specs.Agreement.{IsFalling}
 

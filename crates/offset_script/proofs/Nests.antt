@@ -14,7 +14,7 @@ use Rattle.offset_script.proofs.Members.{in_map}
 use Rattle.offset_script.proofs.Pairs.{Kind, Lives, Frees, left_tag, right_tag, left, right, lefts, rights}
 use Rattle.offset_script.proofs.Alike.{Alike, Matched, alike_answers}
 use Rattle.offset_script.proofs.Well.{Well, in_count, count, chosen_at, well_start, well_after, well_step}
-use Rattle.offset_allocator.proofs.Sizes.{fits_size}
+use Rattle.offset_allocator.proofs.Classes.{fits_size}
 use Rattle.offset_script.proofs.Similar.{SameNumber, Similar, similar_refl, similar_sym, similar_trans}
 use Rattle.offset_script.proofs.Restored.{Restored, restored}
 use Rattle.offset_script.proofs.Tests.{both_true, if_both}

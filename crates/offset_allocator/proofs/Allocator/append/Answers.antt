@@ -1,7 +1,7 @@
 use Rattle.std.proofs.Common.{ℕ, true, refl, ap, arith}
 use Rattle.offset_allocator.specs.Named.{units}
 use Rattle.offset_allocator.proofs.Sound.{fields_of}
-use Rattle.offset_allocator.proofs.Sizes.{down_small}
+use Rattle.offset_allocator.proofs.Classes.{down_small}
 use Rattle.offset_allocator.proofs.Places.{end_place, last_place}
 use Rattle.offset_allocator.proofs.Views.{blocks-chain}
 use Rattle.offset_allocator.proofs.Extending.{Growth, Grown, end_held, free_fits, split_fits, append_unlisted, appended}

@@ -1,7 +1,7 @@
 use Rattle.std.proofs.Common.{◌+◌, ℕ, length, false, ap, arith}
 use Rattle.offset_allocator.specs.Cells.{Room}
 use Rattle.offset_allocator.proofs.Sound.{fields_of}
-use Rattle.offset_allocator.proofs.Sizes.{down_small}
+use Rattle.offset_allocator.proofs.Classes.{down_small}
 use Rattle.offset_allocator.proofs.Places.{end_place}
 use Rattle.offset_allocator.proofs.Extending.{Growth, Grown, end_held, end_small, free_fits, widen_listed, widen_unlisted, widened}
 use Rattle.offset_allocator.proofs.Allocator.widen.Goals as goal

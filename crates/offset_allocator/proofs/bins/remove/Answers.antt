@@ -2,7 +2,7 @@ use Rattle.std.proofs.Common.{◌≡◌, ◌≢◌, ◌∙◌, ap, sym, arith, s
 use Rattle.offset_allocator.specs.Orders.{first_of}
 use Rattle.offset_allocator.proofs.Binned.{below, newer_in, older_in, is_first, is_later, head, without_head, none_left, beheaded, later_masked, left, binned, clauses}
 use Rattle.offset_allocator.proofs.Masks.{flag_full, masked_same}
-use Rattle.offset_allocator.proofs.Sizes.{down_small}
+use Rattle.offset_allocator.proofs.Classes.{down_small}
 use Rattle.offset_allocator.proofs.bins.remove.Goals as goal
 
 pub newer-before-requires : goal.newer-before-requires

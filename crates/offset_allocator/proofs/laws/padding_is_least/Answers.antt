@@ -1,4 +1,4 @@
-use Rattle.offset_allocator.proofs.Always.{reaches, least}
+use Rattle.offset_allocator.proofs.Padding.{reaches, least}
 use Rattle.offset_allocator.proofs.laws.padding_is_least.Goals as goal
 
 pub returns-clause-reaches : goal.returns-clause-reaches

@@ -2,7 +2,7 @@ use Rattle.std.proofs.Common.{◌≡◌, ◌-◌, ap, arith}
 use Rattle.offset_allocator.specs.Cells.{Node}
 use Rattle.offset_allocator.proofs.Pieces.{no_remainder, some_part}
 use Rattle.offset_allocator.proofs.Places.{at_place, end_fits}
-use Rattle.offset_allocator.proofs.Sizes.{down_small}
+use Rattle.offset_allocator.proofs.Classes.{down_small}
 use Rattle.offset_allocator.proofs.parts.split_remainder.Goals as goal
 
 pub returns-then-left-eq0-clause-place : goal.returns-then-left-eq0-clause-place

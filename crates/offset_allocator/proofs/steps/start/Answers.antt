@@ -2,7 +2,7 @@ use Rattle.std.proofs.Common.{ap, sym, ◌∙◌, arith, ◌-◌, ℕ, List, [],
 use Rattle.offset_allocator.specs.Cells.{Links}
 use Rattle.offset_allocator.specs.Named.{push}
 use Rattle.offset_allocator.specs.Orders.{class_lists, Binned, IsUnlisted}
-use Rattle.offset_allocator.proofs.Sizes.{down_small}
+use Rattle.offset_allocator.proofs.Classes.{down_small}
 use Rattle.offset_allocator.proofs.Fresh.{empty_binned, empty_unlisted, started}
 use Rattle.offset_allocator.proofs.steps.start.Goals as goal
 

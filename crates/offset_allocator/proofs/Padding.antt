@@ -1,0 +1,36 @@
+-- Padding: the smallest number that takes an offset to a multiple of an alignment.
+use Rattle.std.proofs.Common.{◌≡◌, ℕ, ◌+◌, ◌-◌, ◌*◌, ◌/◌, ◌%◌, ◌<◌, ◌≤◌, ◌⊎◌, ap, ◌∙◌, inl, inr, arith}
+use Rattle.std.proofs.lemmas.Bool.{cases_lt}
+use Rattle.std.proofs.lemmas.Nat.{mod-mul-add}
+use Rattle.offset_allocator.specs.Named.{padding_to}
+
+module _ (align offset : ℕ) (some : 1 ≤ align) where
+  padded : ((offset % align ≡ 0) × (padding_to align offset ≡ 0)) ⊎ ((0 < offset % align) × (offset % align < align) × (padding_to align offset ≡ align - offset % align))
+  padded = elim (cases_lt 0 (offset % align)) [
+    | inl l ↦ inr (l, below, small (align - offset % align) (omega (arith, below, l)))
+    | inr l ↦ let z : offset % align ≡ 0 = omega arith in inl (z, ap (λ r. (align - r) % align) z ∙ whole)
+  ]
+    where
+      below : offset % align < align
+      below = omega arith
+
+      small : (n : ℕ) → n < align → n % align ≡ n
+      small n h = let e : n ≡ 0 * align + n = omega arith in ap (λ n. n % align) e ∙ mod-mul-add 0 align n h
+
+      whole : (align - 0) % align ≡ 0
+      whole = let e : align - 0 ≡ 1 * align + 0 = omega arith in ap (λ n. n % align) e ∙ mod-mul-add 1 align 0 (omega arith)
+
+  pub reaches : (offset + padding_to align offset) % align ≡ 0
+  reaches = elim padded [
+    | inl z ↦ ap (λ n. (offset + n) % align) z.1 ∙ (let e : offset + 0 ≡ offset = omega arith in ap (λ n. n % align) e ∙ z.0)
+    | inr p ↦ let e : offset + padding_to align offset ≡ (offset / align + 1) * align + 0 = omega (arith, p.1, p.2) in ap (λ n. n % align) e ∙ mod-mul-add (offset / align + 1) align 0 (omega arith)
+  ]
+
+  pub least : (k : ℕ) → (offset + k) % align ≡ 0 → padding_to align offset ≤ k
+  least k m = elim padded [
+    | inl z ↦ omega (arith, z.1)
+    | inr p ↦ elim (cases_lt k (padding_to align offset)) [
+      | inl l ↦ let e : offset + k ≡ (offset / align) * align + (offset % align + k) = omega arith in absurd (let s = ap (λ n. n % align) e ∙ mod-mul-add (offset / align) align (offset % align + k) (omega (arith, l, p.1, p.2)) in omega (arith, s, m, p.0))
+      | inr l ↦ l
+    ]
+  ]
