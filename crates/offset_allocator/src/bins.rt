@@ -10,7 +10,7 @@ use crate::index::{NodeIndex, link_to, no_link, number};
 use crate::small_float::uint_to_float_round_down;
 use crate::tables::Tables;
 
-/// The smallest class from a class on that has a name.
+/// The smallest class at or above `class` whose bin is not empty.
 pub(crate) fn find_at_or_above<NI: NodeIndex>(
     tables: &Tables<NI>,
     top_mask: u32,
@@ -36,7 +36,7 @@ pub(crate) fn find_at_or_above<NI: NodeIndex>(
     Some(found * 64 + tables.mask(found, count).trailing_zeros())
 }
 
-/// The largest class that has a name.
+/// The largest class whose bin is not empty.
 pub(crate) fn largest<NI: NodeIndex>(
     tables: &Tables<NI>,
     top_mask: u32,

@@ -11,8 +11,8 @@ use crate::small_float::uint_to_float_round_down;
 use crate::store::Store;
 use crate::{bins, chain};
 
-// Splits the first units off a block, unless these are none, as a free block in its bin, under the name that is
-// returned.
+// Splits the first units off a block: they become a free block in its bin, under the name that is returned. Where they
+// are none, nothing changes, and the name returned is that of the block.
 #[inline(always)]
 fn split_padding<NI: NodeIndex>(store: &mut Store<NI>, name: u32, units: u32) -> u32
     requires place { (m : ℕ) × (p : Place) × HasPlace store.old.tables.room m store.old.last store.old.spare_count name p × AreUnlisted (p.before ++ p.block ∷ p.after) (class_lists NI.MAX store.old.tables.links) }
@@ -47,8 +47,8 @@ fn split_padding<NI: NodeIndex>(store: &mut Store<NI>, name: u32, units: u32) ->
     front
 }
 
-// Splits a block after `size` units. The units after these, unless they are none, become a free block in its bin, under
-// the name that is returned.
+// Splits a block after `size` units. The units that are left become a free block in its bin, under the name that is
+// returned. Where none are left, nothing changes, and the name returned is that of the block.
 #[inline(always)]
 fn split_remainder<NI: NodeIndex>(store: &mut Store<NI>, name: u32, size: u32, left: u32) -> u32
     requires place { (m : ℕ) × (p : Place) × HasPlace store.old.tables.room m store.old.last store.old.spare_count name p × AreUnlisted (p.before ++ p.block ∷ p.after) (class_lists NI.MAX store.old.tables.links) }

@@ -95,7 +95,7 @@ impl<NI: NodeIndex> Allocator<NI> {
         self.store.last = self.max_allocs - 1;
     }
 
-    /// Grants units of the newest block of a class, from the first multiple of `align` in it on.
+    /// Grants `size` units of the newest block of a class, beginning at the first multiple of `align` in that block.
     #[inline(always)]
     pub(crate) fn grant(&mut self, class: u32, size: u32, align: u32) -> Allocation<NI>
         requires some { 1 ≤ align }
@@ -131,6 +131,7 @@ impl<NI: NodeIndex> Allocator<NI> {
     #[inline(always)]
     pub(crate) fn serve(&mut self, size: u32, align: u32) -> Option<Allocation<NI>>
         requires { 1 ≤ align }
+        // the public clauses follow from the step and from this
         ensures formed { IsWellFormed self.old }
         ensures step { Aligns size align self.old self.new result }
         ensures accesses_kept { self.old.accesses ≤ self.new.accesses }

@@ -7,8 +7,8 @@ use crate::small_float::uint_to_float_round_down;
 use crate::store::Store;
 use crate::{bins, chain};
 
-// Splits the first units off a block, unless these are none, as a free block in its bin, under the name that is
-// returned.
+// Splits the first units off a block: they become a free block in its bin, under the name that is returned. Where they
+// are none, nothing changes, and the name returned is that of the block.
 #[inline(always)]
 fn split_padding<NI: NodeIndex>(store: &mut Store<NI>, name: u32, units: u32) -> u32 {
     if units == 0 {
@@ -31,8 +31,8 @@ fn split_padding<NI: NodeIndex>(store: &mut Store<NI>, name: u32, units: u32) ->
     front
 }
 
-// Splits a block after `size` units. The units after these, unless they are none, become a free block in its bin, under
-// the name that is returned.
+// Splits a block after `size` units. The units that are left become a free block in its bin, under the name that is
+// returned. Where none are left, nothing changes, and the name returned is that of the block.
 #[inline(always)]
 fn split_remainder<NI: NodeIndex>(store: &mut Store<NI>, name: u32, size: u32, left: u32) -> u32 {
     if left == 0 {

@@ -68,7 +68,7 @@ impl<NI: NodeIndex> Allocator<NI> {
         self.store.last = self.max_allocs - 1;
     }
 
-    /// Grants units of the newest block of a class, from the first multiple of `align` in it on.
+    /// Grants `size` units of the newest block of a class, beginning at the first multiple of `align` in that block.
     #[inline(always)]
     pub(crate) fn grant(&mut self, class: u32, size: u32, align: u32) -> Allocation<NI> {
         let name = bins::pop(
