@@ -97,14 +97,14 @@ pub(crate) fn split<NI: NodeIndex>(
     count: &mut Accesses,
 ) -> u32
     requires place { (m : ℕ) × (p : Place) × HasPlace tables.old.room m last.old spare_count.old name p }
-    requires room { 0 < spare_count.old }
+    requires spare { 0 < spare_count.old }
     requires offset { offset ≡ (node tables.old.room name).offset }
     requires size { size ≡ (node tables.old.room name).size }
     requires within { kept ≤ size }
     ensures place { (m : ℕ) (p : Place) → HasPlace tables.old.room m last.old spare_count.old name p → HasPlace tables.new.room m last.new spare_count.new name (record p { block = record p.block { size = kept }; after = free_block result (p.block.size - kept) ∷ p.after }) }
     ensures links { tables.new.links ≡ tables.old.links }
     ensures limit { length tables.new.room.nodes ≡ length tables.old.room.nodes }
-    ensures left { spare_count.new + 1 ≡ spare_count.old }
+    ensures spares { spare_count.new + 1 ≡ spare_count.old }
     ensures fresh { (m : ℕ) (p : Place) → HasPlace tables.old.room m last.old spare_count.old name p → count_named result (p.before ++ p.block ∷ p.after) ≡ 0 }
     ensures below { result < length tables.old.room.nodes }
     ensures accesses_kept { count.old ≤ count.new }
@@ -213,12 +213,12 @@ pub(crate) fn split_before<NI: NodeIndex>(
     count: &mut Accesses,
 ) -> u32
     requires place { (m last : ℕ) × (p : Place) × HasPlace tables.old.room m last spare_count.old name p }
-    requires room { 0 < spare_count.old }
+    requires spare { 0 < spare_count.old }
     requires within { cut ≤ (node tables.old.room name).size }
     ensures place { (m last : ℕ) (p : Place) → HasPlace tables.old.room m last spare_count.old name p → HasPlace tables.new.room m last spare_count.new name (record { before = p.before ++ free_block result cut ∷ []; block = record p.block { size = p.block.size - cut }; after = p.after }) }
     ensures links { tables.new.links ≡ tables.old.links }
     ensures limit { length tables.new.room.nodes ≡ length tables.old.room.nodes }
-    ensures left { spare_count.new + 1 ≡ spare_count.old }
+    ensures spares { spare_count.new + 1 ≡ spare_count.old }
     ensures fresh { (m last : ℕ) (p : Place) → HasPlace tables.old.room m last spare_count.old name p → count_named result (p.before ++ p.block ∷ p.after) ≡ 0 }
     ensures below { result < length tables.old.room.nodes }
     ensures accesses_kept { count.old ≤ count.new }

@@ -17,13 +17,13 @@ use crate::{bins, chain};
 fn split_padding<NI: NodeIndex>(store: &mut Store<NI>, name: u32, units: u32) -> u32
     requires place { (m : ℕ) × (p : Place) × HasPlace store.old.tables.room m store.old.last store.old.spare_count name p × AreUnlisted (p.before ++ p.block ∷ p.after) (class_lists NI.MAX store.old.tables.links) }
     requires held { Binned NI.MAX store.old.tables.links store.old.top_mask }
-    requires room { 0 < store.old.spare_count }
+    requires spare { 0 < store.old.spare_count }
     requires within { units ≤ (node store.old.tables.room name).size }
     ensures place { (m : ℕ) (p : Place) → HasPlace store.old.tables.room m store.old.last store.old.spare_count name p → HasPlace store.new.tables.room m store.new.last store.new.spare_count name (record { before = p.before ++ free_part result units; block = record p.block { size = p.block.size - units }; after = p.after }) }
     ensures held { Binned NI.MAX store.new.tables.links store.new.top_mask }
     ensures lists { class_lists NI.MAX store.new.tables.links ≡ push_all (free_part result units) (class_lists NI.MAX store.old.tables.links) }
     ensures limit { length store.new.tables.room.nodes ≡ length store.old.tables.room.nodes }
-    ensures left { store.old.spare_count ≤ store.new.spare_count + 1 }
+    ensures spares { store.old.spare_count ≤ store.new.spare_count + 1 }
     ensures accesses_kept { store.old.accesses ≤ store.new.accesses }
     ensures accesses_max { store.new.accesses ≤ store.old.accesses + 18 }
 {
@@ -53,7 +53,7 @@ fn split_padding<NI: NodeIndex>(store: &mut Store<NI>, name: u32, units: u32) ->
 fn split_remainder<NI: NodeIndex>(store: &mut Store<NI>, name: u32, size: u32, left: u32) -> u32
     requires place { (m : ℕ) × (p : Place) × HasPlace store.old.tables.room m store.old.last store.old.spare_count name p × AreUnlisted (p.before ++ p.block ∷ p.after) (class_lists NI.MAX store.old.tables.links) }
     requires held { Binned NI.MAX store.old.tables.links store.old.top_mask }
-    requires room { 0 < store.old.spare_count }
+    requires spare { 0 < store.old.spare_count }
     requires whole { size + left ≡ (node store.old.tables.room name).size }
     ensures place { (m : ℕ) (p : Place) → HasPlace store.old.tables.room m store.old.last store.old.spare_count name p → HasPlace store.new.tables.room m store.new.last store.new.spare_count name (record p { block = record p.block { size = size }; after = free_part result left ++ p.after }) }
     ensures held { Binned NI.MAX store.new.tables.links store.new.top_mask }
@@ -98,7 +98,7 @@ pub(crate) fn divide<NI: NodeIndex>(
 ) -> (u32, u32)
     requires place { (m : ℕ) × (p : Place) × HasPlace store.old.tables.room m store.old.last store.old.spare_count name p × AreUnlisted (p.before ++ p.block ∷ p.after) (class_lists NI.MAX store.old.tables.links) }
     requires held { Binned NI.MAX store.old.tables.links store.old.top_mask }
-    requires room { 1 < store.old.spare_count }
+    requires spare { 1 < store.old.spare_count }
     requires whole { padding + size + left ≡ (node store.old.tables.room name).size }
     ensures place { (m : ℕ) (p : Place) → HasPlace store.old.tables.room m store.old.last store.old.spare_count name p → HasPlace store.new.tables.room m store.new.last store.new.spare_count name (record { before = p.before ++ free_part result.0 padding; block = used_block p.block.name size; after = free_part result.1 left ++ p.after }) }
     ensures held { Binned NI.MAX store.new.tables.links store.new.top_mask }

@@ -100,7 +100,7 @@ impl<NI: NodeIndex> Allocator<NI> {
     pub(crate) fn grant(&mut self, class: u32, size: u32, align: u32) -> Allocation<NI>
         requires some { 1 ≤ align }
         requires fits { units_needed size align ≤ 4294967295 }
-        requires room { HasRoomFor (blocks_needed align) self.old }
+        requires enough { HasRoomFor (blocks_needed align) self.old }
         requires smallest { IsSmallestFrom (up (units_needed size align)) self.old.order class }
         ensures step { Splits (units_needed size align) size (padding_to align) self.old self.new result }
         ensures accesses_min { self.old.accesses + 6 ≤ self.new.accesses }
@@ -244,7 +244,7 @@ impl<NI: NodeIndex> Allocator<NI> {
         requires more { 0 < more }
         requires fits { self.old.size + more ≤ 4294967295 }
         requires used { ends_used self.old.blocks ≡ true }
-        requires room { HasRoomFor 1 self.old }
+        requires enough { HasRoomFor 1 self.old }
         ensures step { Adds more self.old self.new }
         ensures kept { KeepsAll self.old self.new }
         ensures accesses_min { self.old.accesses + 9 ≤ self.new.accesses }

@@ -45,7 +45,7 @@ done : (g : Over) (c : After-push g) (r : Growth (fields_of g.NI.NodeIndex.MAX c
 done g c r k =
     let held = end_held r refl in
     let grown = c.grow.ensures.place _ _ _ _ (last_place _ _ _ (c.split-name.ensures.place _ _ held)) in
-    appended r c.push.new.tables k (rw (← c.self.view_is) at c.requires.room) c.size-whole.ensures.size (rw c.push.ensures.room grown.chain) c.push.ensures.held
+    appended r c.push.new.tables k (rw (← c.self.view_is) at c.requires.enough) c.size-whole.ensures.size (rw c.push.ensures.room grown.chain) c.push.ensures.held
     (rw (c.grow.ensures.links, c.split-name.ensures.links, c.uint_to_float_round_down.ensures.is) at c.push.ensures.lists) (c.split-name.ensures.fresh _ _ held) c.split-name.ensures.below
 
 pub invariant_of-self : goal.invariant_of-self

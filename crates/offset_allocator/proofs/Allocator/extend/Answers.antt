@@ -29,8 +29,8 @@ widen-requires-clause-free g c = read g (goal.at.widen-requires-clause-free g c)
 pub append-requires-clause-used : goal.append-requires-clause-used
 append-requires-clause-used g c = read g (goal.at.append-requires-clause-used g c).After-is_used-used ∙ c.if-not-used.false
 
-pub append-requires-clause-room : goal.append-requires-clause-room
-append-requires-clause-room g c = is_open (fields_of g.NI.NodeIndex.MAX c.self.inside) c.self.invariant 1 0 (omega arith)
+pub append-requires-clause-enough : goal.append-requires-clause-enough
+append-requires-clause-enough g c = is_open (fields_of g.NI.NodeIndex.MAX c.self.inside) c.self.invariant 1 0 (omega arith)
 
 pub returns-then-self-lt2-clause-step : goal.returns-then-self-lt2-clause-step
 returns-then-self-lt2-clause-step g c =

@@ -68,7 +68,7 @@ done g c p k f e =
     let oe = c.offset-offset.ensures.offset ∙ ap (λ (v : Node). v.offset) at in
     let we = c.size-whole.ensures.size ∙ ap (λ (v : Node). v.size) at in
     let place = c.divide.ensures.place _ _ h in
-    let room = subst (HasRoomFor (blocks_needed c.args.align)) (sym c.self.view_is) c.requires.room in
+    let room = subst (HasRoomFor (blocks_needed c.args.align)) (sym c.self.view_is) c.requires.enough in
     rw (e, oe) (granted p c.args.size (padding_to c.args.align) (λ o. within c.args.size c.args.align o c.requires.some) (blocks_needed c.args.align) room (omega (arith, c.requires.some)) (two c.args.align) _ _ _ _ _ (rw (oe, we) at place) c.divide.ensures.held (rw (oe, we, c.pop-name.ensures.lists) at c.divide.ensures.lists))
 
 pub invariant_of-self : goal.invariant_of-self

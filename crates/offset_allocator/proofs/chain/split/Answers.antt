@@ -13,13 +13,13 @@ overflow_add-offset g c =
     omega (arith, c.requires.offset, c.requires.size, c.requires.within, ap (λ (v : Node). v.offset) at, ap (λ (v : Node). v.size) at, end_fits h)
 
 pub place-requires-clause-name : goal.place-requires-clause-name
-place-requires-clause-name g c = (top _ c.requires.place.2.chain c.requires.room (c.number-rest.ensures.number ∙ c.spare.ensures.cell)).below
+place-requires-clause-name g c = (top _ c.requires.place.2.chain c.requires.spare (c.number-rest.ensures.number ∙ c.spare.ensures.cell)).below
 
 pub place-requires-clause-idle : goal.place-requires-clause-idle
-place-requires-clause-idle g c = (top _ c.requires.place.2.chain c.requires.room (c.number-rest.ensures.number ∙ c.spare.ensures.cell)).idle
+place-requires-clause-idle g c = (top _ c.requires.place.2.chain c.requires.spare (c.number-rest.ensures.number ∙ c.spare.ensures.cell)).idle
 
 pub link_to-on-requires : goal.link_to-on-requires
-link_to-on-requires g c = (top _ c.requires.place.2.chain c.requires.room (c.number-rest.ensures.number ∙ c.spare.ensures.cell)).below
+link_to-on-requires g c = (top _ c.requires.place.2.chain c.requires.spare (c.number-rest.ensures.number ∙ c.spare.ensures.cell)).below
 
 pub point_back-requires-clause-link : goal.point_back-requires-clause-link
 point_back-requires-clause-link g c =
@@ -27,19 +27,19 @@ point_back-requires-clause-link g c =
 
 pub point_back-requires-clause-name : goal.point_back-requires-clause-name
 point_back-requires-clause-name g c =
-    rw (c.set_after.ensures.cells, length-put, c.set_size.ensures.cells, length-put, c.place.ensures.cells, length-put) (top _ c.requires.place.2.chain c.requires.room (c.number-rest.ensures.number ∙ c.spare.ensures.cell)).below
+    rw (c.set_after.ensures.cells, length-put, c.set_size.ensures.cells, length-put, c.place.ensures.cells, length-put) (top _ c.requires.place.2.chain c.requires.spare (c.number-rest.ensures.number ∙ c.spare.ensures.cell)).below
 
 pub returns-clause-place : goal.returns-clause-place
 returns-clause-place g c m p h =
     let room : Cells → Room = λ v. v.room in
-    split_place h c.requires.room (c.number-rest.ensures.number ∙ c.spare.ensures.cell) c.requires.within c.requires.offset c.requires.size c.after-next.ensures.cell c.link_to-back.ensures c.link_to-on.ensures
+    split_place h c.requires.spare (c.number-rest.ensures.number ∙ c.spare.ensures.cell) c.requires.within c.requires.offset c.requires.size c.after-next.ensures.cell c.link_to-back.ensures c.link_to-on.ensures
     (ap room c.place.ensures.cells) (ap room c.set_size.ensures.cells) (ap room c.set_after.ensures.cells) c.point_back.ensures.cells c.point_back.ensures.last
 
 pub returns-clause-fresh : goal.returns-clause-fresh
-returns-clause-fresh g c m p h = (top _ h.chain c.requires.room (c.number-rest.ensures.number ∙ c.spare.ensures.cell)).absent
+returns-clause-fresh g c m p h = (top _ h.chain c.requires.spare (c.number-rest.ensures.number ∙ c.spare.ensures.cell)).absent
 
 pub returns-clause-below : goal.returns-clause-below
-returns-clause-below g c = (top _ c.requires.place.2.chain c.requires.room (c.number-rest.ensures.number ∙ c.spare.ensures.cell)).below
+returns-clause-below g c = (top _ c.requires.place.2.chain c.requires.spare (c.number-rest.ensures.number ∙ c.spare.ensures.cell)).below
 
 pub set_size-requires : goal.set_size-requires
 set_size-requires g c = rw (c.place.ensures.cells, length-put) c.requires.place.2.below

@@ -7,10 +7,10 @@ use Rattle.offset_allocator.proofs.Writes.{split_before_place}
 use Rattle.offset_allocator.proofs.chain.split_before.Goals as goal
 
 pub place-requires-clause-name : goal.place-requires-clause-name
-place-requires-clause-name g c = (top _ c.requires.place.3.chain c.requires.room (c.number-front.ensures.number ∙ c.spare.ensures.cell)).below
+place-requires-clause-name g c = (top _ c.requires.place.3.chain c.requires.spare (c.number-front.ensures.number ∙ c.spare.ensures.cell)).below
 
 pub place-requires-clause-idle : goal.place-requires-clause-idle
-place-requires-clause-idle g c = (top _ c.requires.place.3.chain c.requires.room (c.number-front.ensures.number ∙ c.spare.ensures.cell)).idle
+place-requires-clause-idle g c = (top _ c.requires.place.3.chain c.requires.spare (c.number-front.ensures.number ∙ c.spare.ensures.cell)).idle
 
 pub overflow_add-offset : goal.overflow_add-offset
 overflow_add-offset g c =
@@ -19,7 +19,7 @@ overflow_add-offset g c =
     omega (arith, c.offset-offset.ensures.cell, c.requires.within, ap (λ (v : Node). v.offset) at, ap (λ (v : Node). v.size) at, end_fits h)
 
 pub link_to-back-requires : goal.link_to-back-requires
-link_to-back-requires g c = (top _ c.requires.place.3.chain c.requires.room (c.number-front.ensures.number ∙ c.spare.ensures.cell)).below
+link_to-back-requires g c = (top _ c.requires.place.3.chain c.requires.spare (c.number-front.ensures.number ∙ c.spare.ensures.cell)).below
 
 pub point_on-requires-clause-link : goal.point_on-requires-clause-link
 point_on-requires-clause-link g c =
@@ -27,19 +27,19 @@ point_on-requires-clause-link g c =
 
 pub point_on-requires-clause-name : goal.point_on-requires-clause-name
 point_on-requires-clause-name g c =
-    rw (c.set_before.ensures.cells, length-put, c.set_size.ensures.cells, length-put, c.set_offset.ensures.cells, length-put, c.place.ensures.cells, length-put) (top _ c.requires.place.3.chain c.requires.room (c.number-front.ensures.number ∙ c.spare.ensures.cell)).below
+    rw (c.set_before.ensures.cells, length-put, c.set_size.ensures.cells, length-put, c.set_offset.ensures.cells, length-put, c.place.ensures.cells, length-put) (top _ c.requires.place.3.chain c.requires.spare (c.number-front.ensures.number ∙ c.spare.ensures.cell)).below
 
 pub returns-clause-place : goal.returns-clause-place
 returns-clause-place g c m last p h =
     let room : Cells → Room = λ v. v.room in
-    split_before_place h c.requires.room (c.number-front.ensures.number ∙ c.spare.ensures.cell) (omega (arith, c.requires.within, c.size-size.ensures.cell)) c.offset-offset.ensures.cell c.size-size.ensures.cell c.before-link.ensures.cell c.link_to-on.ensures c.link_to-back.ensures
+    split_before_place h c.requires.spare (c.number-front.ensures.number ∙ c.spare.ensures.cell) (omega (arith, c.requires.within, c.size-size.ensures.cell)) c.offset-offset.ensures.cell c.size-size.ensures.cell c.before-link.ensures.cell c.link_to-on.ensures c.link_to-back.ensures
     (ap room c.place.ensures.cells) (ap room c.set_offset.ensures.cells) (ap room c.set_size.ensures.cells) (ap room c.set_before.ensures.cells) c.point_on.ensures.cells
 
 pub returns-clause-fresh : goal.returns-clause-fresh
-returns-clause-fresh g c m last p h = (top _ h.chain c.requires.room (c.number-front.ensures.number ∙ c.spare.ensures.cell)).absent
+returns-clause-fresh g c m last p h = (top _ h.chain c.requires.spare (c.number-front.ensures.number ∙ c.spare.ensures.cell)).absent
 
 pub returns-clause-below : goal.returns-clause-below
-returns-clause-below g c = (top _ c.requires.place.3.chain c.requires.room (c.number-front.ensures.number ∙ c.spare.ensures.cell)).below
+returns-clause-below g c = (top _ c.requires.place.3.chain c.requires.spare (c.number-front.ensures.number ∙ c.spare.ensures.cell)).below
 
 pub set_offset-requires : goal.set_offset-requires
 set_offset-requires g c = rw (c.place.ensures.cells, length-put) c.requires.place.3.below
