@@ -39,7 +39,7 @@ blocks c last = walk c (length c.nodes) (Some last) []
 unfoldable pub spares : Room → ℕ → List ℕ
 spares c count = take count c.spare
 
--- the tables hold the blocks bs, which end in last, and count unused names
+-- the tables hold the blocks bs, which end in last, and have `count` unused names
 pub record IsChain (c : Room) (m last count : ℕ) (bs : List Block) : Type 0 where
   pub cells : length c.nodes ≡ m
   pub stack : length c.spare ≡ m
@@ -50,7 +50,7 @@ pub record IsChain (c : Room) (m last count : ℕ) (bs : List Block) : Type 0 wh
   pub full : length bs + count ≡ m
   pub fits : units bs < 2 ^ 32
 
--- the tables hold a chain of nodes that ends in last, and count unused names
+-- the tables hold a chain of nodes that ends in last, and have `count` unused names
 abbrev pub IsSpace : Room → ℕ → ℕ → Type 0
 IsSpace c last count = IsChain c (length c.nodes) last count (blocks c last)
 
