@@ -47,13 +47,20 @@ fn split_padding<NI: NodeIndex>(store: &mut Store<NI>, name: u32, units: u32) ->
     front
 }
 
-// Splits a block after `size` units. The units that are left become a free block in its bin, under the name that is
+// Splits a block, of this offset, after `size` units. The units that are left become a free block in its bin, under the name that is
 // returned. Where none are left, nothing changes, and the name returned is that of the block.
 #[inline(always)]
-fn split_remainder<NI: NodeIndex>(store: &mut Store<NI>, name: u32, size: u32, left: u32) -> u32
+fn split_remainder<NI: NodeIndex>(
+    store: &mut Store<NI>,
+    name: u32,
+    offset: u32,
+    size: u32,
+    left: u32,
+) -> u32
     requires place { (m : ℕ) × (p : Place) × HasPlace store.old.tables.room m store.old.last store.old.spare_count name p × AreUnlisted (p.before ++ p.block ∷ p.after) (class_lists NI.MAX store.old.tables.links) }
     requires held { Binned NI.MAX store.old.tables.links store.old.top_mask }
     requires spare { 0 < store.old.spare_count }
+    requires offset { offset ≡ (node store.old.tables.room name).offset }
     requires whole { size + left ≡ (node store.old.tables.room name).size }
     ensures place { (m : ℕ) (p : Place) → HasPlace store.old.tables.room m store.old.last store.old.spare_count name p → HasPlace store.new.tables.room m store.new.last store.new.spare_count name (record p { block = record p.block { size = size }; after = free_part result left ++ p.after }) }
     ensures held { Binned NI.MAX store.new.tables.links store.new.top_mask }
@@ -65,7 +72,6 @@ fn split_remainder<NI: NodeIndex>(store: &mut Store<NI>, name: u32, size: u32, l
     if left == 0 {
         return name;
     }
-    let offset = chain::offset(&store.tables, name, &mut store.accesses);
     let rest = chain::split(
         &mut store.tables,
         &mut store.last,
@@ -86,12 +92,13 @@ fn split_remainder<NI: NodeIndex>(store: &mut Store<NI>, name: u32, size: u32, l
     rest
 }
 
-/// Splits a block into `padding` free units, `size` used units under its name, and a free remainder of the units that
-/// are left. The names of the padding and of the remainder are returned, where these have units.
+/// Splits a block into `padding` free units, `size` used units under its name, from `start` on, and a free remainder of
+/// the units that are left. The names of the padding and of the remainder are returned, where these have units.
 #[inline(always)]
 pub(crate) fn divide<NI: NodeIndex>(
     store: &mut Store<NI>,
     name: u32,
+    start: u32,
     padding: u32,
     size: u32,
     left: u32,
@@ -99,6 +106,7 @@ pub(crate) fn divide<NI: NodeIndex>(
     requires place { (m : ℕ) × (p : Place) × HasPlace store.old.tables.room m store.old.last store.old.spare_count name p × AreUnlisted (p.before ++ p.block ∷ p.after) (class_lists NI.MAX store.old.tables.links) }
     requires held { Binned NI.MAX store.old.tables.links store.old.top_mask }
     requires spare { 1 < store.old.spare_count }
+    requires start { start ≡ (node store.old.tables.room name).offset + padding }
     requires whole { padding + size + left ≡ (node store.old.tables.room name).size }
     ensures place { (m : ℕ) (p : Place) → HasPlace store.old.tables.room m store.old.last store.old.spare_count name p → HasPlace store.new.tables.room m store.new.last store.new.spare_count name (record { before = p.before ++ free_part result.0 padding; block = used_block p.block.name size; after = free_part result.1 left ++ p.after }) }
     ensures held { Binned NI.MAX store.new.tables.links store.new.top_mask }
@@ -109,6 +117,6 @@ pub(crate) fn divide<NI: NodeIndex>(
 {
     let front = split_padding(store, name, padding);
     chain::mark(&mut store.tables, name, true, &mut store.accesses);
-    let rest = split_remainder(store, name, size, left);
+    let rest = split_remainder(store, name, start, size, left);
     (front, rest)
 }

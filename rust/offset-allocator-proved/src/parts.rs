@@ -31,14 +31,19 @@ fn split_padding<NI: NodeIndex>(store: &mut Store<NI>, name: u32, units: u32) ->
     front
 }
 
-// Splits a block after `size` units. The units that are left become a free block in its bin, under the name that is
+// Splits a block, of this offset, after `size` units. The units that are left become a free block in its bin, under the name that is
 // returned. Where none are left, nothing changes, and the name returned is that of the block.
 #[inline(always)]
-fn split_remainder<NI: NodeIndex>(store: &mut Store<NI>, name: u32, size: u32, left: u32) -> u32 {
+fn split_remainder<NI: NodeIndex>(
+    store: &mut Store<NI>,
+    name: u32,
+    offset: u32,
+    size: u32,
+    left: u32,
+) -> u32 {
     if left == 0 {
         return name;
     }
-    let offset = chain::offset(&store.tables, name, &mut store.accesses);
     let rest = chain::split(
         &mut store.tables,
         &mut store.last,
@@ -59,18 +64,19 @@ fn split_remainder<NI: NodeIndex>(store: &mut Store<NI>, name: u32, size: u32, l
     rest
 }
 
-/// Splits a block into `padding` free units, `size` used units under its name, and a free remainder of the units that
-/// are left. The names of the padding and of the remainder are returned, where these have units.
+/// Splits a block into `padding` free units, `size` used units under its name, from `start` on, and a free remainder of
+/// the units that are left. The names of the padding and of the remainder are returned, where these have units.
 #[inline(always)]
 pub(crate) fn divide<NI: NodeIndex>(
     store: &mut Store<NI>,
     name: u32,
+    start: u32,
     padding: u32,
     size: u32,
     left: u32,
 ) -> (u32, u32) {
     let front = split_padding(store, name, padding);
     chain::mark(&mut store.tables, name, true, &mut store.accesses);
-    let rest = split_remainder(store, name, size, left);
+    let rest = split_remainder(store, name, start, size, left);
     (front, rest)
 }

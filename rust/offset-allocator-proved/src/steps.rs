@@ -80,15 +80,17 @@ impl<NI: NodeIndex> Allocator<NI> {
         let offset = chain::offset(&self.store.tables, name, &mut self.store.accesses);
         let whole = chain::size(&self.store.tables, name, &mut self.store.accesses);
         let padding = (align - offset % align) % align;
+        let start = offset + padding;
         parts::divide(
             &mut self.store,
             name,
+            start,
             padding,
             size,
             whole - (padding + size),
         );
         self.free_total -= size;
-        handle_of(offset + padding, name)
+        handle_of(start, name)
     }
 
     /// A request for units from a multiple of `align` on. With `align` 1, which is a constant where this is inlined into

@@ -53,9 +53,9 @@ divide-requires-clause-whole g c = let at = goal.at.divide-requires-clause-whole
 pub overflow_sub-self : goal.overflow_sub-self
 overflow_sub-self g c = units_free (call g (goal.at.overflow_sub-self g c).After-pop-name) c.args.size (padding_to c.args.align) (λ o. within c.args.size c.args.align o c.requires.some)
 
-pub overflow_add-offset : goal.overflow_add-offset
-overflow_add-offset g c =
-    let p = call g (goal.at.overflow_add-offset g c).After-pop-name in
+pub overflow_add-start : goal.overflow_add-start
+overflow_add-start g c =
+    let p = call g (goal.at.overflow_add-start g c).After-pop-name in
     let small : c.offset-offset.result + padding_to c.args.align c.offset-offset.result < 2 ^ 32 = rw (c.offset-offset.ensures.offset, at_place (held p c.pop-name.ensures.room)) (padding_fits p c.args.size (padding_to c.args.align) (λ o. within c.args.size c.args.align o c.requires.some)) in
     omega (arith, small)
 

@@ -2,6 +2,9 @@ use Rattle.std.proofs.Common.{refl, ap, arith}
 use Rattle.offset_allocator.specs.Cells.{Node}
 use Rattle.offset_allocator.proofs.Pieces.{unlisted_part}
 use Rattle.offset_allocator.proofs.Places.{at_place}
+use Rattle.offset_allocator.proofs.Rows.{units-append}
+use Rattle.offset_allocator.proofs.Split.{part_sums}
+use Rattle.offset_allocator.specs.Named.{free_part}
 use Rattle.offset_allocator.proofs.parts.divide.Goals as goal
 
 pub split_padding-front-requires-clause-place : goal.split_padding-front-requires-clause-place
@@ -23,3 +26,9 @@ split_remainder-rest-requires-clause-whole g c =
 
 pub returns-clause-place : goal.returns-clause-place
 returns-clause-place g c m p h = c.split_remainder-rest.ensures.place _ _ (c.mark.ensures.place _ _ _ _ (c.split_padding-front.ensures.place _ _ h))
+
+pub split_remainder-rest-requires-clause-offset : goal.split_remainder-rest-requires-clause-offset
+split_remainder-rest-requires-clause-offset g c =
+    let h = c.requires.place.2 in
+    let now = at_place (c.mark.ensures.place _ _ _ _ (c.split_padding-front.ensures.place _ _ h)) in
+    omega (arith, c.requires.start, ap (λ (v : Node). v.offset) (at_place h), ap (λ (v : Node). v.offset) now, units-append c.requires.place.1.before (free_part c.split_padding-front.result c.args.padding), (part_sums c.split_padding-front.result c.args.padding).1)
