@@ -1,4 +1,4 @@
-//! Tables as they are requested and filled: each has its room before any is filled.
+//! Requests and fills tables: all are reserved before any is filled.
 ghost use Rattle.std.specs.Prelude.{◌≡◌, ◌≤◌, [], length, map, replicate, vec_capacity, IfOk};
 ghost use Rattle.std.specs.List.{range_with_len};
 
@@ -52,7 +52,8 @@ fn fill_cells<T: Copy>(cells: &mut [T], value: T)
     }
 }
 
-/// Writes one value over a whole table. As a slice: there no write can move the table, and many go at once.
+/// Writes one value over a whole table. It goes through a slice, where no write can move the table, so that the compiler
+/// uses wide stores.
 pub(crate) fn fill<T: Copy>(values: &mut Vec<T>, value: T)
     ensures { values.new.items ≡ replicate (length values.old.items) value }
 {

@@ -1,4 +1,4 @@
-//! The steps of which the public calls are made: each leaves an allocator whose blocks and bins agree.
+//! The private methods that the public calls are made of. Each leaves an allocator whose blocks and bins agree.
 ghost use Rattle.std.specs.Prelude.{◌≡◌, ◌↔◌, ◌+◌, ◌<◌, ◌≤◌, None, false, true, IsTrue, IsSome, IfSome};
 ghost use Rattle.offset_allocator.specs.Classes.{up};
 ghost use Rattle.offset_allocator.specs.Cells.{AreEmpty};

@@ -20,8 +20,8 @@ pub(crate) struct Node<NI> {
 }
 
 /// A reserved table of nodes, filled. With links of 16 or 32 bits each bit of a node is one, as in no link, so that the
-/// table is written as one run of bytes. A function of its own, so that the fill is compiled for this value: among the
-/// tests of `with_len` it is not.
+/// table is written as one run of bytes. This is a separate function because the compiler does not see that inside
+/// `with_len`.
 pub(crate) fn blank_nodes<NI: NodeIndex>(
     nodes: Vec<Node<NI>>,
     count: usize,

@@ -1,6 +1,6 @@
 // Printed by rust/erase from crates/offset_allocator/src/fills.rt: change it there.
 
-//! Tables as they are requested and filled: each has its room before any is filled.
+//! Requests and fills tables: all are reserved before any is filled.
 
 use crate::memory::Vec;
 use crate::index::NodeIndex;
@@ -45,7 +45,8 @@ fn fill_cells<T: Copy>(cells: &mut [T], value: T) {
     }
 }
 
-/// Writes one value over a whole table. As a slice: there no write can move the table, and many go at once.
+/// Writes one value over a whole table. It goes through a slice, where no write can move the table, so that the compiler
+/// uses wide stores.
 pub(crate) fn fill<T: Copy>(values: &mut Vec<T>, value: T) {
     fill_cells(values, value);
 }

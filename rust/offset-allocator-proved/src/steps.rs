@@ -1,6 +1,6 @@
 // Printed by rust/erase from crates/offset_allocator/src/steps.rt: change it there.
 
-//! The steps of which the public calls are made: each leaves an allocator whose blocks and bins agree.
+//! The private methods that the public calls are made of. Each leaves an allocator whose blocks and bins agree.
 
 use crate::accesses::Accesses;
 use crate::handle::Allocation;

@@ -1,13 +1,13 @@
 // Printed by rust/erase from crates/offset_allocator/src/store.rt: change it there.
 
-//! The tables, with the numbers that belong to them.
+//! The tables, with the numbers that say where their lists begin.
 
 use crate::accesses::Accesses;
 use crate::index::NodeIndex;
 use crate::tables::Tables;
 
-/// The tables, and what is known of them beside: which bins are not empty, which block is the last, how many names are
-/// unused. It has no invariant of its own: `merge` and `parts` take one step on it, and an allocator has it between steps.
+/// The tables, which bins are not empty, which block is the last, and how many names are unused. It has no invariant:
+/// `merge` and `parts` change it in the middle of a step, and the invariant of `Allocator` holds between steps.
 pub(crate) struct Store<NI: NodeIndex> {
     pub(crate) tables: Tables<NI>,
     // bit w says whether word w of the bins' mask is not 0
