@@ -54,12 +54,12 @@ name_taken {t} {w} {d} {count} {y} {b} tp some other cells spare row two both = 
 }
 
 -- a remainder is split off
-pub split_place : {t w₁ w₂ w₃ d : Room} {m last last' count x n y o s : ℕ} {a b c : Option ℕ} {p : Place} → HasPlace t m last count x p → 0 < count → y ≡ get_or t.spare (count - 1) 0 → n ≤ s
+pub split_place : {t w₁ w₂ d : Room} {m last last' count x n y o s : ℕ} {a b c : Option ℕ} {p : Place} → HasPlace t m last count x p → 0 < count → y ≡ get_or t.spare (count - 1) 0 → n ≤ s
     → o ≡ (node t x).offset → s ≡ (node t x).size → a ≡ (node t x).after → b ≡ Some x → c ≡ Some y
-    → w₁ ≡ put t y (record { offset = o + n; size = s - n; used = false; before = b; after = a }) → w₂ ≡ put w₁ x (record (node w₁ x) { size = n }) → w₃ ≡ put w₂ x (record (node w₂ x) { after = c })
-    → IsRelinked a (back_to y) w₃ d → MatchOption a (last' ≡ y) (λ _. last' ≡ last)
+    → w₁ ≡ put t y (record { offset = o + n; size = s - n; used = false; before = b; after = a }) → w₂ ≡ put w₁ x (record (node w₁ x) { size = n; after = c })
+    → IsRelinked a (back_to y) w₂ d → MatchOption a (last' ≡ y) (λ _. last' ≡ last)
     → HasPlace d m last' (count - 1) x (record p { block = record p.block { size = n }; after = free_block y (p.block.size - n) ∷ p.after })
-split_place {t} {w₁} {w₂} {w₃} {d} {m} {last} {last'} {count} {x} {n} {y} {o} {s} {a} {b} {c} {p} h some popped within eo es ea eb ec e₁ e₂ e₃ linked moved =
+split_place {t} {w₁} {w₂} {d} {m} {last} {last'} {count} {x} {n} {y} {o} {s} {a} {b} {c} {p} h some popped within eo es ea eb ec e₁ e₂ linked moved =
     let at = at_place h in
     let tp = top y h.chain some popped in
     let ao : o ≡ units p.before = eo ∙ ap (λ v. v.offset) at in
@@ -68,22 +68,21 @@ split_place {t} {w₁} {w₂} {w₃} {d} {m} {last} {last'} {count} {x} {n} {y} 
     let ne : y ≢ x = not_top h tp in
     let s₁ = wrote e₁ tp.below in
     let s₂ = wrote e₂ (omega (arith, s₁.cells, h.below)) in
-    let s₃ = wrote e₃ (omega (arith, s₂.cells, s₁.cells, h.below)) in
-    let at_x : node w₃ x ≡ record { offset = units p.before; size = n; used = p.block.used; before = last_or None p.before; after = Some y } =
-    s₃.here ∙ ap (λ (v : Node). record v { after = c }) (s₂.here ∙ ap (λ (v : Node). record v { size = n }) (s₁.other x (λ q. ne (sym q)) ∙ at)) ∙ rw ec refl in
-    let at_y : node w₃ y ≡ record { offset = units p.before + n; size = p.block.size - n; used = false; before = Some x; after = first_or None p.after } = s₃.other y ne ∙ s₂.other y ne ∙ s₁.here ∙ rw (ao, sized, aa, eb) refl in
-    let exchange : IsExchange t w₃ d d count (count - 1) p.before (p.block ∷ []) (record p.block { size = n } ∷ free_block y (p.block.size - n) ∷ []) p.after =
-    name_taken tp some (λ k u v. let nx : k ≢ x = λ q. u (q ∙ sym h.name) in s₃.other k nx ∙ s₂.other k nx ∙ s₁.other k v) (s₃.cells ∙ s₂.cells ∙ s₁.cells) (relinked_spare (back_to y) w₃ d a linked ∙ s₃.spare ∙ s₂.spare ∙ s₁.spare)
+    let at_x : node w₂ x ≡ record { offset = units p.before; size = n; used = p.block.used; before = last_or None p.before; after = Some y } =
+    s₂.here ∙ ap (λ (v : Node). record v { size = n; after = c }) (s₁.other x (λ q. ne (sym q)) ∙ at) ∙ rw ec refl in
+    let at_y : node w₂ y ≡ record { offset = units p.before + n; size = p.block.size - n; used = false; before = Some x; after = first_or None p.after } = s₂.other y ne ∙ s₁.here ∙ rw (ao, sized, aa, eb) refl in
+    let exchange : IsExchange t w₂ d d count (count - 1) p.before (p.block ∷ []) (record p.block { size = n } ∷ free_block y (p.block.size - n) ∷ []) p.after =
+    name_taken tp some (λ k u v. let nx : k ≢ x = λ q. u (q ∙ sym h.name) in s₂.other k nx ∙ s₁.other k v) (s₂.cells ∙ s₁.cells) (relinked_spare (back_to y) w₂ d a linked ∙ s₂.spare ∙ s₁.spare)
     (rw h.name (at_x, (at_y, tt))) (λ k. omega arith) refl in
     placed (link_back h.chain exchange last' y (rw aa at linked) refl refl (omega arith) (rw aa at moved)) h.name
 
 -- padding is split off
-pub split_before_place : {t w₁ w₂ w₃ w₄ d : Room} {m last count x n y o s : ℕ} {a b c : Option ℕ} {p : Place} → HasPlace t m last count x p → 0 < count → y ≡ get_or t.spare (count - 1) 0 → n ≤ s
+pub split_before_place : {t w₁ w₂ d : Room} {m last count x n y o s : ℕ} {a b c : Option ℕ} {p : Place} → HasPlace t m last count x p → 0 < count → y ≡ get_or t.spare (count - 1) 0 → n ≤ s
     → o ≡ (node t x).offset → s ≡ (node t x).size → a ≡ (node t x).before → b ≡ Some x → c ≡ Some y
-    → w₁ ≡ put t y (record { offset = o; size = n; used = false; before = a; after = b }) → w₂ ≡ put w₁ x (record (node w₁ x) { offset = o + n }) → w₃ ≡ put w₂ x (record (node w₂ x) { size = s - n }) → w₄ ≡ put w₃ x (record (node w₃ x) { before = c })
-    → IsRelinked a (on_to y) w₄ d
+    → w₁ ≡ put t y (record { offset = o; size = n; used = false; before = a; after = b }) → w₂ ≡ put w₁ x (record (node w₁ x) { offset = o + n; size = s - n; before = c })
+    → IsRelinked a (on_to y) w₂ d
     → HasPlace d m last (count - 1) x (record { before = p.before ++ free_block y n ∷ []; block = record p.block { size = p.block.size - n }; after = p.after })
-split_before_place {t} {w₁} {w₂} {w₃} {w₄} {d} {m} {last} {count} {x} {n} {y} {o} {s} {a} {b} {c} {p} h some popped within eo es ea eb ec e₁ e₂ e₃ e₄ linked =
+split_before_place {t} {w₁} {w₂} {d} {m} {last} {count} {x} {n} {y} {o} {s} {a} {b} {c} {p} h some popped within eo es ea eb ec e₁ e₂ linked =
     let at = at_place h in
     let tp = top y h.chain some popped in
     let ao : o ≡ units p.before = eo ∙ ap (λ v. v.offset) at in
@@ -92,22 +91,20 @@ split_before_place {t} {w₁} {w₂} {w₃} {w₄} {d} {m} {last} {count} {x} {n
     let ne : y ≢ x = not_top h tp in
     let s₁ = wrote e₁ tp.below in
     let s₂ = wrote e₂ (omega (arith, s₁.cells, h.below)) in
-    let s₃ = wrote e₃ (omega (arith, s₂.cells, s₁.cells, h.below)) in
-    let s₄ = wrote e₄ (omega (arith, s₃.cells, s₂.cells, s₁.cells, h.below)) in
-    let at_x : node w₄ x ≡ record { offset = units p.before + n; size = p.block.size - n; used = p.block.used; before = Some y; after = first_or None p.after } =
-    s₄.here ∙ ap (λ (v : Node). record v { before = c }) (s₃.here ∙ ap (λ (v : Node). record v { size = s - n }) (s₂.here ∙ ap (λ (v : Node). record v { offset = o + n }) (s₁.other x (λ q. ne (sym q)) ∙ at))) ∙ rw (ao, sized, ec) refl in
-    let at_y : node w₄ y ≡ record { offset = units p.before; size = n; used = false; before = last_or None p.before; after = Some x } = s₄.other y ne ∙ s₃.other y ne ∙ s₂.other y ne ∙ s₁.here ∙ rw (ao, aa, eb) refl in
-    let exchange : IsExchange t w₄ d d count (count - 1) p.before (p.block ∷ []) (free_block y n ∷ record p.block { size = p.block.size - n } ∷ []) p.after =
-    name_taken tp some (λ k u v. let nx : k ≢ x = λ q. u (q ∙ sym h.name) in s₄.other k nx ∙ s₃.other k nx ∙ s₂.other k nx ∙ s₁.other k v) (s₄.cells ∙ s₃.cells ∙ s₂.cells ∙ s₁.cells) (relinked_spare (on_to y) w₄ d a linked ∙ s₄.spare ∙ s₃.spare ∙ s₂.spare ∙ s₁.spare)
+    let at_x : node w₂ x ≡ record { offset = units p.before + n; size = p.block.size - n; used = p.block.used; before = Some y; after = first_or None p.after } =
+    s₂.here ∙ ap (λ (v : Node). record v { offset = o + n; size = s - n; before = c }) (s₁.other x (λ q. ne (sym q)) ∙ at) ∙ rw (ao, sized, ec) refl in
+    let at_y : node w₂ y ≡ record { offset = units p.before; size = n; used = false; before = last_or None p.before; after = Some x } = s₂.other y ne ∙ s₁.here ∙ rw (ao, aa, eb) refl in
+    let exchange : IsExchange t w₂ d d count (count - 1) p.before (p.block ∷ []) (free_block y n ∷ record p.block { size = p.block.size - n } ∷ []) p.after =
+    name_taken tp some (λ k u v. let nx : k ≢ x = λ q. u (q ∙ sym h.name) in s₂.other k nx ∙ s₁.other k v) (s₂.cells ∙ s₁.cells) (relinked_spare (on_to y) w₂ d a linked ∙ s₂.spare ∙ s₁.spare)
     (rw h.name (at_y, (at_x, tt))) (λ k. omega arith) refl in
     placed (rw append_assoc (link_on h.chain exchange y (rw aa at linked) refl refl (omega arith))) h.name
 
 -- a block is coalesced with the free one after it
-pub coalesce_after_place : (d : Room) {t w₁ w₂ e : Room} {m last last' count x y s : ℕ} {a : Option ℕ} {p : Place} → HasPlace t m last count x p → Some y ≡ (node t x).after → (node t y).used ≡ false
-    → s ≡ (node t x).size + (node t y).size → a ≡ (node t y).after → w₁ ≡ put t x (record (node t x) { size = s }) → w₂ ≡ put w₁ x (record (node w₁ x) { after = a })
-    → IsRelinked a (back_to x) w₂ d → MatchOption a (last' ≡ x) (λ _. last' ≡ last) → e ≡ with_spare d count y
+pub coalesce_after_place : (d : Room) {t w e : Room} {m last last' count x y s : ℕ} {a : Option ℕ} {p : Place} → HasPlace t m last count x p → Some y ≡ (node t x).after → (node t y).used ≡ false
+    → s ≡ (node t x).size + (node t y).size → a ≡ (node t y).after → w ≡ put t x (record (node t x) { size = s; after = a })
+    → IsRelinked a (back_to x) w d → MatchOption a (last' ≡ x) (λ _. last' ≡ last) → e ≡ with_spare d count y
     → HasPlace e m last' (count + 1) x (coalesced_after p)
-coalesce_after_place d {t} {w₁} {w₂} {e} {m} {last} {last'} {count} {x} {y} {s} {a} {p} h next free es ea e₁ e₂ linked moved e₃ =
+coalesce_after_place d {t} {w} {e} {m} {last} {last'} {count} {x} {y} {s} {a} {p} h next free es ea e₁ linked moved e₂ =
     let n = next_place h next in
     let b : Block = n.block in
     let at_y = at_place n.place in
@@ -115,19 +112,18 @@ coalesce_after_place d {t} {w₁} {w₂} {e} {m} {last} {last'} {count} {x} {y} 
     let aa : a ≡ first_or None n.rest = ea ∙ ap (λ (v : Node). v.after) at_y in
     let sized : s ≡ p.block.size + (b.size + 0) = omega (arith, es, ap (λ (v : Node). v.size) (at_place h), ap (λ (v : Node). v.size) at_y) in
     let s₁ = wrote e₁ h.below in
-    let s₂ = wrote e₂ (omega (arith, s₁.cells, h.below)) in
-    let exchange : IsExchange t w₂ d e count (count + 1) p.before (p.block ∷ b ∷ []) (record p.block { size = p.block.size + (b.size + 0) } ∷ []) n.rest =
-    name_freed p.block b (rw n.is at h.chain) n.place.name free (λ k q. s₂.other k (λ z. q (z ∙ sym h.name)) ∙ s₁.other k (λ z. q (z ∙ sym h.name))) (s₂.cells ∙ s₁.cells) (relinked_spare (back_to x) w₂ d a linked ∙ s₂.spare ∙ s₁.spare) e₃
-    (simp h.name (s₂.here ∙ ap (λ (v : Node). record v { after = a }) (s₁.here ∙ ap (λ (v : Node). record v { size = s }) (at_place h)) ∙ rw (sized, aa) refl, tt))
+    let exchange : IsExchange t w d e count (count + 1) p.before (p.block ∷ b ∷ []) (record p.block { size = p.block.size + (b.size + 0) } ∷ []) n.rest =
+    name_freed p.block b (rw n.is at h.chain) n.place.name free (λ k q. s₁.other k (λ z. q (z ∙ sym h.name))) s₁.cells (relinked_spare (back_to x) w d a linked ∙ s₁.spare) e₂
+    (simp h.name (s₁.here ∙ ap (λ (v : Node). record v { size = s; after = a }) (at_place h) ∙ rw (sized, aa) refl, tt))
     (λ k. omega arith) refl in
     rw (n.is, idle) (placed (link_back (rw n.is at h.chain) exchange last' x (rw aa at linked) (ap (λ i. Some i) h.name) refl (omega arith) (rw aa at moved)) h.name)
 
 -- a free block is coalesced into the one after it
-pub coalesce_before_place : (d : Room) {t w₁ w₂ w₃ e : Room} {m last count x y o s : ℕ} {a : Option ℕ} {p : Place} → HasPlace t m last count x p → Some y ≡ (node t x).before → (node t y).used ≡ false
-    → o ≡ (node t y).offset → s ≡ (node t y).size + (node t x).size → a ≡ (node t y).before → w₁ ≡ put t x (record (node t x) { offset = o }) → w₂ ≡ put w₁ x (record (node w₁ x) { size = s }) → w₃ ≡ put w₂ x (record (node w₂ x) { before = a })
-    → IsRelinked a (on_to x) w₃ d → e ≡ with_spare d count y
+pub coalesce_before_place : (d : Room) {t w e : Room} {m last count x y o s : ℕ} {a : Option ℕ} {p : Place} → HasPlace t m last count x p → Some y ≡ (node t x).before → (node t y).used ≡ false
+    → o ≡ (node t y).offset → s ≡ (node t y).size + (node t x).size → a ≡ (node t y).before → w ≡ put t x (record (node t x) { offset = o; size = s; before = a })
+    → IsRelinked a (on_to x) w d → e ≡ with_spare d count y
     → HasPlace e m last (count + 1) x (coalesced_before p)
-coalesce_before_place d {t} {w₁} {w₂} {w₃} {e} {m} {last} {count} {x} {y} {o} {s} {a} {p} h previous free eo es ea e₁ e₂ e₃ linked e₄ =
+coalesce_before_place d {t} {w} {e} {m} {last} {count} {x} {y} {o} {s} {a} {p} h previous free eo es ea e₁ linked e₂ =
     let n = previous_place h previous in
     let b : Block = n.block in
     let at_y = at_place n.place in
@@ -136,11 +132,9 @@ coalesce_before_place d {t} {w₁} {w₂} {w₃} {e} {m} {last} {count} {x} {y} 
     let ao : o ≡ units n.front = eo ∙ ap (λ (v : Node). v.offset) at_y in
     let sized : s ≡ (b.size + 0) + p.block.size = omega (arith, es, ap (λ (v : Node). v.size) (at_place h), ap (λ (v : Node). v.size) at_y) in
     let s₁ = wrote e₁ h.below in
-    let s₂ = wrote e₂ (omega (arith, s₁.cells, h.below)) in
-    let s₃ = wrote e₃ (omega (arith, s₂.cells, s₁.cells, h.below)) in
-    let exchange : IsExchange t w₃ d e count (count + 1) n.front (b ∷ p.block ∷ []) (record p.block { size = (b.size + 0) + p.block.size } ∷ []) p.after =
-    name_freed p.block b n.place.chain n.place.name free (λ k q. s₃.other k (λ z. q (z ∙ sym h.name)) ∙ s₂.other k (λ z. q (z ∙ sym h.name)) ∙ s₁.other k (λ z. q (z ∙ sym h.name))) (s₃.cells ∙ s₂.cells ∙ s₁.cells) (relinked_spare (on_to x) w₃ d a linked ∙ s₃.spare ∙ s₂.spare ∙ s₁.spare) e₄
-    (simp h.name (s₃.here ∙ ap (λ (v : Node). record v { before = a }) (s₂.here ∙ ap (λ (v : Node). record v { size = s }) (s₁.here ∙ ap (λ (v : Node). record v { offset = o }) (at_place h))) ∙ rw (ao, sized, aa) refl, tt))
+    let exchange : IsExchange t w d e count (count + 1) n.front (b ∷ p.block ∷ []) (record p.block { size = (b.size + 0) + p.block.size } ∷ []) p.after =
+    name_freed p.block b n.place.chain n.place.name free (λ k q. s₁.other k (λ z. q (z ∙ sym h.name))) s₁.cells (relinked_spare (on_to x) w d a linked ∙ s₁.spare) e₂
+    (simp h.name (s₁.here ∙ ap (λ (v : Node). record v { offset = o; size = s; before = a }) (at_place h) ∙ rw (ao, sized, aa) refl, tt))
     (λ k. omega arith) refl in
     rw (n.is, is.0, is.1) (placed (link_on n.place.chain exchange x (rw aa at linked) (ap (λ i. Some i) h.name) refl (omega arith)) h.name)
 

@@ -1,32 +1,10 @@
-//! Writes of a node between two links, and of the links to it.
-ghost use Rattle.std.specs.Prelude.{◌≡◌, ◌+◌, ◌<◌, ◌≤◌, length, MatchOption, IfSome, false, Some};
+//! Writes of the links to a node.
+ghost use Rattle.std.specs.Prelude.{◌≡◌, ◌+◌, ◌<◌, ◌≤◌, length, MatchOption, IfSome, Some};
 ghost use Rattle.offset_allocator.specs.Cells.{node, put, link_of};
 
 use crate::accesses::Accesses;
 use crate::index::{NodeIndex, linked};
 use crate::tables::Tables;
-
-/// Writes the cells of an unused node, for a free block between two links.
-#[tactic(auto, using(crate::proofs::Nodes::lengths))]
-pub(crate) fn place<NI: NodeIndex>(
-    tables: &mut Tables<NI>,
-    name: u32,
-    offset: u32,
-    size: u32,
-    before: NI,
-    after: NI,
-    count: &mut Accesses,
-)
-    requires name { name < length tables.old.room.nodes }
-    requires idle { (node tables.old.room name).used ≡ false }
-    ensures accesses { count.new ≡ count.old + 4 }
-    ensures cells { tables.new ≡ record tables.old { room = put tables.old.room name (record { offset = offset; size = size; used = false; before = link_of NI.MAX (NI.number before); after = link_of NI.MAX (NI.number after) }) } }
-{
-    tables.set_offset(name, offset, count);
-    tables.set_size(name, size, count);
-    tables.set_before(name, before, count);
-    tables.set_after(name, after, count);
-}
 
 /// Makes a node the one before the node that a link names, or the last one.
 #[tactic(auto, using(crate::proofs::Nodes::lengths))]

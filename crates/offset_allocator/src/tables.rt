@@ -1,7 +1,7 @@
-//! The cells: the only place that reads or writes them. A function on a cell touches that one, and counts it;
+//! The cells: the only place that reads or writes them. A function on cells touches those, and counts each;
 //! `with_len` and `clear` go over whole tables, and count none.
 
-ghost use Rattle.std.specs.Prelude.{◌≡◌, ◌+◌, ◌<◌, ◌≤◌, [], Some, length, map, replicate, slice_set, slice_index, vec_capacity, IfOk};
+ghost use Rattle.std.specs.Prelude.{◌≡◌, ◌+◌, ◌<◌, ◌≤◌, [], false, Some, length, map, replicate, slice_set, slice_index, vec_capacity, IfOk};
 ghost use Rattle.offset_allocator.specs.Cells.{AreEmpty, AreShaped, link_of, node, put, with_spare};
 
 use crate::accesses::Accesses;
@@ -94,16 +94,6 @@ impl<NI: NodeIndex> Tables<NI> {
         self.nodes[name as usize].offset
     }
 
-    /// Writes the offset of a node.
-    pub(crate) fn set_offset(&mut self, name: u32, offset: u32, count: &mut Accesses)
-        requires { name < length self.old.room.nodes }
-        ensures cells { self.new ≡ record self.old { room = put self.old.room name (record (node self.old.room name) { offset = offset }) } }
-        ensures accesses { count.new ≡ count.old + 1 }
-    {
-        count.tick();
-        self.nodes[name as usize].offset = offset;
-    }
-
     /// The size of a node.
     pub(crate) fn size(&self, name: u32, count: &mut Accesses) -> u32
         requires { name < length self.now.room.nodes }
@@ -182,6 +172,67 @@ impl<NI: NodeIndex> Tables<NI> {
     {
         count.tick();
         self.nodes[name as usize].after = link;
+    }
+
+    /// Writes the cells of an unused node, for a free block between two links.
+    pub(crate) fn set_block(
+        &mut self,
+        name: u32,
+        offset: u32,
+        size: u32,
+        before: NI,
+        after: NI,
+        count: &mut Accesses,
+    )
+        requires name { name < length self.old.room.nodes }
+        requires idle { (node self.old.room name).used ≡ false }
+        ensures cells { self.new ≡ record self.old { room = put self.old.room name (record { offset = offset; size = size; used = false; before = link_of NI.MAX (NI.number before); after = link_of NI.MAX (NI.number after) }) } }
+        ensures accesses { count.new ≡ count.old + 4 }
+    {
+        count.tick();
+        count.tick();
+        count.tick();
+        count.tick();
+        let node = &mut self.nodes[name as usize];
+        node.offset = offset;
+        node.size = size;
+        node.before = before;
+        node.after = after;
+    }
+
+    /// Writes where a node begins, its size, and the link to the node before it in space.
+    pub(crate) fn set_start(
+        &mut self,
+        name: u32,
+        offset: u32,
+        size: u32,
+        link: NI,
+        count: &mut Accesses,
+    )
+        requires { name < length self.old.room.nodes }
+        ensures cells { self.new ≡ record self.old { room = put self.old.room name (record (node self.old.room name) { offset = offset; size = size; before = link_of NI.MAX (NI.number link) }) } }
+        ensures accesses { count.new ≡ count.old + 3 }
+    {
+        count.tick();
+        count.tick();
+        count.tick();
+        let node = &mut self.nodes[name as usize];
+        node.offset = offset;
+        node.size = size;
+        node.before = link;
+    }
+
+    /// Writes the size of a node, and the link to the node after it in space.
+    pub(crate) fn set_end(&mut self, name: u32, size: u32, link: NI, count: &mut Accesses)
+        requires { name < length self.old.room.nodes }
+        ensures cells { self.new ≡ record self.old { room = put self.old.room name (record (node self.old.room name) { size = size; after = link_of NI.MAX (NI.number link) }) } }
+        ensures accesses { count.new ≡ count.old + 2 }
+    {
+        count.tick();
+        count.tick();
+        let node = &mut self.nodes[name as usize];
+        node.size = size;
+        node.after = link;
     }
 
     /// An entry of the stack of unused names.

@@ -4,7 +4,7 @@
 
 use crate::accesses::Accesses;
 use crate::index::{NodeIndex, link_to, linked, no_link, number};
-use crate::links::{place, point_back, point_on};
+use crate::links::{point_back, point_on};
 use crate::tables::Tables;
 
 /// Makes the whole space one free block, under the last name, in tables with no used node.
@@ -15,7 +15,7 @@ pub(crate) fn start<NI: NodeIndex>(
     count: &mut Accesses,
 ) {
     tables.shape();
-    place(tables, max_allocs - 1, 0, size, no_link(), no_link(), count);
+    tables.set_block(max_allocs - 1, 0, size, no_link(), no_link(), count);
 }
 
 /// The offset of a block.
@@ -68,9 +68,8 @@ pub(crate) fn split<NI: NodeIndex>(
     let next = tables.after(name, count);
     let back = tables.link_to(name);
     let on = tables.link_to(rest);
-    place(tables, rest, offset + kept, size - kept, back, next, count);
-    tables.set_size(name, kept, count);
-    tables.set_after(name, on, count);
+    tables.set_block(rest, offset + kept, size - kept, back, next, count);
+    tables.set_end(name, kept, on, count);
     point_back(tables, last, next, rest, count);
     rest
 }
@@ -88,8 +87,7 @@ pub(crate) fn coalesce_after<NI: NodeIndex>(
 ) {
     tables.shape();
     let next = tables.after(following, count);
-    tables.set_size(name, total, count);
-    tables.set_after(name, next, count);
+    tables.set_end(name, total, next, count);
     point_back(tables, last, next, name, count);
     tables.set_spare(*spare_count, link_to(following), count);
     *spare_count += 1;
@@ -108,9 +106,7 @@ pub(crate) fn coalesce_before<NI: NodeIndex>(
     tables.shape();
     let offset = tables.offset(previous, count);
     let link = tables.before(previous, count);
-    tables.set_offset(name, offset, count);
-    tables.set_size(name, total, count);
-    tables.set_before(name, link, count);
+    tables.set_start(name, offset, total, link, count);
     point_on(tables, link, name, count);
     tables.set_spare(*spare_count, link_to(previous), count);
     *spare_count += 1;
@@ -142,10 +138,8 @@ pub(crate) fn split_before<NI: NodeIndex>(
     let link = tables.before(name, count);
     let on = tables.link_to(name);
     let back = tables.link_to(front);
-    place(tables, front, offset, cut, link, on, count);
-    tables.set_offset(name, offset + cut, count);
-    tables.set_size(name, size - cut, count);
-    tables.set_before(name, back, count);
+    tables.set_block(front, offset, cut, link, on, count);
+    tables.set_start(name, offset + cut, size - cut, back, count);
     point_on(tables, link, front, count);
     front
 }

@@ -55,8 +55,6 @@ pub(crate) fn no_link<NI: NodeIndex>() -> NI {
 
 /// The node that a link names, if any.
 pub(crate) fn linked<NI: NodeIndex>(link: NI) -> Option<u32> {
-    match link.to_nonmax() {
-        None => None,
-        Some(name) => Some(name.to_usize() as u32),
-    }
+    let name = number(link);
+    if name == NI::MAX { None } else { Some(name) }
 }

@@ -1,26 +1,10 @@
 // Printed by rust/erase from crates/offset_allocator/src/links.rt: change it there.
 
-//! Writes of a node between two links, and of the links to it.
+//! Writes of the links to a node.
 
 use crate::accesses::Accesses;
 use crate::index::{NodeIndex, linked};
 use crate::tables::Tables;
-
-/// Writes the cells of an unused node, for a free block between two links.
-pub(crate) fn place<NI: NodeIndex>(
-    tables: &mut Tables<NI>,
-    name: u32,
-    offset: u32,
-    size: u32,
-    before: NI,
-    after: NI,
-    count: &mut Accesses,
-) {
-    tables.set_offset(name, offset, count);
-    tables.set_size(name, size, count);
-    tables.set_before(name, before, count);
-    tables.set_after(name, after, count);
-}
 
 /// Makes a node the one before the node that a link names, or the last one.
 pub(crate) fn point_back<NI: NodeIndex>(

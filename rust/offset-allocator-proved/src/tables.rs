@@ -1,6 +1,6 @@
 // Printed by rust/erase from crates/offset_allocator/src/tables.rt: change it there.
 
-//! The cells: the only place that reads or writes them. A function on a cell touches that one, and counts it;
+//! The cells: the only place that reads or writes them. A function on cells touches those, and counts each;
 //! `with_len` and `clear` go over whole tables, and count none.
 
 use crate::memory::Vec;
@@ -65,12 +65,6 @@ impl<NI: NodeIndex> Tables<NI> {
         self.nodes[name as usize].offset
     }
 
-    /// Writes the offset of a node.
-    pub(crate) fn set_offset(&mut self, name: u32, offset: u32, count: &mut Accesses) {
-        count.tick();
-        self.nodes[name as usize].offset = offset;
-    }
-
     /// The size of a node.
     pub(crate) fn size(&self, name: u32, count: &mut Accesses) -> u32 {
         count.tick();
@@ -117,6 +111,54 @@ impl<NI: NodeIndex> Tables<NI> {
     pub(crate) fn set_after(&mut self, name: u32, link: NI, count: &mut Accesses) {
         count.tick();
         self.nodes[name as usize].after = link;
+    }
+
+    /// Writes the cells of an unused node, for a free block between two links.
+    pub(crate) fn set_block(
+        &mut self,
+        name: u32,
+        offset: u32,
+        size: u32,
+        before: NI,
+        after: NI,
+        count: &mut Accesses,
+    ) {
+        count.tick();
+        count.tick();
+        count.tick();
+        count.tick();
+        let node = &mut self.nodes[name as usize];
+        node.offset = offset;
+        node.size = size;
+        node.before = before;
+        node.after = after;
+    }
+
+    /// Writes where a node begins, its size, and the link to the node before it in space.
+    pub(crate) fn set_start(
+        &mut self,
+        name: u32,
+        offset: u32,
+        size: u32,
+        link: NI,
+        count: &mut Accesses,
+    ) {
+        count.tick();
+        count.tick();
+        count.tick();
+        let node = &mut self.nodes[name as usize];
+        node.offset = offset;
+        node.size = size;
+        node.before = link;
+    }
+
+    /// Writes the size of a node, and the link to the node after it in space.
+    pub(crate) fn set_end(&mut self, name: u32, size: u32, link: NI, count: &mut Accesses) {
+        count.tick();
+        count.tick();
+        let node = &mut self.nodes[name as usize];
+        node.size = size;
+        node.after = link;
     }
 
     /// An entry of the stack of unused names.

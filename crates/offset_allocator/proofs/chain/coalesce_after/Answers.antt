@@ -11,7 +11,7 @@ after-next-requires g c = (next_place c.requires.place.2 c.requires.next).place.
 
 pub point_back-requires-clause-link : goal.point_back-requires-clause-link
 point_back-requires-clause-link g c =
-    rw (c.after-next.ensures.cell, c.set_after.ensures.cells, length-put, c.set_size.ensures.cells, length-put) (next_below (next_place c.requires.place.2 c.requires.next).place)
+    rw (c.after-next.ensures.cell, c.set_end.ensures.cells, length-put) (next_below (next_place c.requires.place.2 c.requires.next).place)
 
 pub link_to-requires : goal.link_to-requires
 link_to-requires g c = omega (arith, c.shape.ensures.limit, (next_place c.requires.place.2 c.requires.next).place.below)
@@ -19,26 +19,23 @@ link_to-requires g c = omega (arith, c.shape.ensures.limit, (next_place c.requir
 pub set_spare-requires : goal.set_spare-requires
 set_spare-requires g c =
     let room : Cells → Room = λ v. v.room in
-    let same = ap (λ (l : List ℕ). length l) (relinked_spare (back_to c.args.name) _ _ _ c.point_back.ensures.cells ∙ ap (λ (r : Room). r.spare) (ap room c.set_after.ensures.cells) ∙ spare-put _ _ _ ∙ ap (λ (r : Room). r.spare) (ap room c.set_size.ensures.cells) ∙ spare-put _ _ _) in
+    let same = ap (λ (l : List ℕ). length l) (relinked_spare (back_to c.args.name) _ _ _ c.point_back.ensures.cells ∙ ap (λ (r : Room). r.spare) (ap room c.set_end.ensures.cells) ∙ spare-put _ _ _) in
     omega (arith, same, spare_room c.requires.place.2)
 
 pub returns-clause-place : goal.returns-clause-place
 returns-clause-place g c m p h =
     let room : Cells → Room = λ v. v.room in
     coalesce_after_place c.point_back.new.tables.room h c.requires.next c.requires.free c.requires.total c.after-next.ensures.cell
-    (ap room c.set_size.ensures.cells) (ap room c.set_after.ensures.cells) c.point_back.ensures.cells c.point_back.ensures.last (rw c.link_to.ensures.number at (ap room c.set_spare.ensures.cells))
-
-pub set_after-requires : goal.set_after-requires
-set_after-requires g c = rw (c.set_size.ensures.cells, length-put) c.requires.place.2.below
+    (ap room c.set_end.ensures.cells) c.point_back.ensures.cells c.point_back.ensures.last (rw c.link_to.ensures.number at (ap room c.set_spare.ensures.cells))
 
 pub point_back-requires-clause-name : goal.point_back-requires-clause-name
-point_back-requires-clause-name g c = rw (c.set_after.ensures.cells, length-put, c.set_size.ensures.cells, length-put) c.requires.place.2.below
+point_back-requires-clause-name g c = rw (c.set_end.ensures.cells, length-put) c.requires.place.2.below
 
 pub returns-clause-links : goal.returns-clause-links
-returns-clause-links g c = rw (c.set_spare.ensures.cells, c.point_back.ensures.links, c.set_after.ensures.cells, c.set_size.ensures.cells) refl
+returns-clause-links g c = rw (c.set_spare.ensures.cells, c.point_back.ensures.links, c.set_end.ensures.cells) refl
 
 pub returns-clause-limit : goal.returns-clause-limit
-returns-clause-limit g c = rw (c.set_spare.ensures.cells, nodes-with_spare, c.point_back.ensures.limit, c.set_after.ensures.cells, length-put, c.set_size.ensures.cells, length-put) refl
+returns-clause-limit g c = rw (c.set_spare.ensures.cells, nodes-with_spare, c.point_back.ensures.limit, c.set_end.ensures.cells, length-put) refl
 
 pub returns-clause-accesses_max : goal.returns-clause-accesses_max
 returns-clause-accesses_max g c = omega arith

@@ -14,7 +14,7 @@ before-link-requires g c = (previous_place c.requires.place.3 c.requires.previou
 
 pub point_on-requires-clause-link : goal.point_on-requires-clause-link
 point_on-requires-clause-link g c =
-    rw (c.before-link.ensures.cell, c.set_before.ensures.cells, length-put, c.set_size.ensures.cells, length-put, c.set_offset.ensures.cells, length-put) (previous_below (previous_place c.requires.place.3 c.requires.previous).place)
+    rw (c.before-link.ensures.cell, c.set_start.ensures.cells, length-put) (previous_below (previous_place c.requires.place.3 c.requires.previous).place)
 
 pub link_to-requires : goal.link_to-requires
 link_to-requires g c = omega (arith, c.shape.ensures.limit, (previous_place c.requires.place.3 c.requires.previous).place.below)
@@ -22,29 +22,23 @@ link_to-requires g c = omega (arith, c.shape.ensures.limit, (previous_place c.re
 pub set_spare-requires : goal.set_spare-requires
 set_spare-requires g c =
     let room : Cells → Room = λ v. v.room in
-    let same = ap (λ (l : List ℕ). length l) (relinked_spare (on_to c.args.name) _ _ _ c.point_on.ensures.cells ∙ ap (λ (r : Room). r.spare) (ap room c.set_before.ensures.cells) ∙ spare-put _ _ _ ∙ ap (λ (r : Room). r.spare) (ap room c.set_size.ensures.cells) ∙ spare-put _ _ _ ∙ ap (λ (r : Room). r.spare) (ap room c.set_offset.ensures.cells) ∙ spare-put _ _ _) in
+    let same = ap (λ (l : List ℕ). length l) (relinked_spare (on_to c.args.name) _ _ _ c.point_on.ensures.cells ∙ ap (λ (r : Room). r.spare) (ap room c.set_start.ensures.cells) ∙ spare-put _ _ _) in
     omega (arith, same, spare_room c.requires.place.3)
 
 pub returns-clause-place : goal.returns-clause-place
 returns-clause-place g c m last p h =
     let room : Cells → Room = λ v. v.room in
     coalesce_before_place c.point_on.new.tables.room h c.requires.previous c.requires.free c.offset-offset.ensures.cell c.requires.total c.before-link.ensures.cell
-    (ap room c.set_offset.ensures.cells) (ap room c.set_size.ensures.cells) (ap room c.set_before.ensures.cells) c.point_on.ensures.cells (rw c.link_to.ensures.number at (ap room c.set_spare.ensures.cells))
-
-pub set_size-requires : goal.set_size-requires
-set_size-requires g c = rw (c.set_offset.ensures.cells, length-put) c.requires.place.3.below
-
-pub set_before-requires : goal.set_before-requires
-set_before-requires g c = rw (c.set_size.ensures.cells, length-put, c.set_offset.ensures.cells, length-put) c.requires.place.3.below
+    (ap room c.set_start.ensures.cells) c.point_on.ensures.cells (rw c.link_to.ensures.number at (ap room c.set_spare.ensures.cells))
 
 pub point_on-requires-clause-name : goal.point_on-requires-clause-name
-point_on-requires-clause-name g c = rw (c.set_before.ensures.cells, length-put, c.set_size.ensures.cells, length-put, c.set_offset.ensures.cells, length-put) c.requires.place.3.below
+point_on-requires-clause-name g c = rw (c.set_start.ensures.cells, length-put) c.requires.place.3.below
 
 pub returns-clause-links : goal.returns-clause-links
-returns-clause-links g c = rw (c.set_spare.ensures.cells, c.point_on.ensures.links, c.set_before.ensures.cells, c.set_size.ensures.cells, c.set_offset.ensures.cells) refl
+returns-clause-links g c = rw (c.set_spare.ensures.cells, c.point_on.ensures.links, c.set_start.ensures.cells) refl
 
 pub returns-clause-limit : goal.returns-clause-limit
-returns-clause-limit g c = rw (c.set_spare.ensures.cells, nodes-with_spare, c.point_on.ensures.limit, c.set_before.ensures.cells, length-put, c.set_size.ensures.cells, length-put, c.set_offset.ensures.cells, length-put) refl
+returns-clause-limit g c = rw (c.set_spare.ensures.cells, nodes-with_spare, c.point_on.ensures.limit, c.set_start.ensures.cells, length-put) refl
 
 pub returns-clause-accesses_max : goal.returns-clause-accesses_max
 returns-clause-accesses_max g c = omega arith

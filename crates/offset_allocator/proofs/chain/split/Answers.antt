@@ -12,28 +12,28 @@ overflow_add-offset g c =
     let at = at_place h in
     omega (arith, c.requires.offset, c.requires.size, c.requires.within, ap (λ (v : Node). v.offset) at, ap (λ (v : Node). v.size) at, end_fits h)
 
-pub place-requires-clause-name : goal.place-requires-clause-name
-place-requires-clause-name g c = (top _ c.requires.place.2.chain c.requires.spare (c.number-rest.ensures.number ∙ c.spare.ensures.cell)).below
+pub set_block-requires-clause-name : goal.set_block-requires-clause-name
+set_block-requires-clause-name g c = (top _ c.requires.place.2.chain c.requires.spare (c.number-rest.ensures.number ∙ c.spare.ensures.cell)).below
 
-pub place-requires-clause-idle : goal.place-requires-clause-idle
-place-requires-clause-idle g c = (top _ c.requires.place.2.chain c.requires.spare (c.number-rest.ensures.number ∙ c.spare.ensures.cell)).idle
+pub set_block-requires-clause-idle : goal.set_block-requires-clause-idle
+set_block-requires-clause-idle g c = (top _ c.requires.place.2.chain c.requires.spare (c.number-rest.ensures.number ∙ c.spare.ensures.cell)).idle
 
 pub link_to-on-requires : goal.link_to-on-requires
 link_to-on-requires g c = (top _ c.requires.place.2.chain c.requires.spare (c.number-rest.ensures.number ∙ c.spare.ensures.cell)).below
 
 pub point_back-requires-clause-link : goal.point_back-requires-clause-link
 point_back-requires-clause-link g c =
-    rw (c.after-next.ensures.cell, c.set_after.ensures.cells, length-put, c.set_size.ensures.cells, length-put, c.place.ensures.cells, length-put) (next_below c.requires.place.2)
+    rw (c.after-next.ensures.cell, c.set_end.ensures.cells, length-put, c.set_block.ensures.cells, length-put) (next_below c.requires.place.2)
 
 pub point_back-requires-clause-name : goal.point_back-requires-clause-name
 point_back-requires-clause-name g c =
-    rw (c.set_after.ensures.cells, length-put, c.set_size.ensures.cells, length-put, c.place.ensures.cells, length-put) (top _ c.requires.place.2.chain c.requires.spare (c.number-rest.ensures.number ∙ c.spare.ensures.cell)).below
+    rw (c.set_end.ensures.cells, length-put, c.set_block.ensures.cells, length-put) (top _ c.requires.place.2.chain c.requires.spare (c.number-rest.ensures.number ∙ c.spare.ensures.cell)).below
 
 pub returns-clause-place : goal.returns-clause-place
 returns-clause-place g c m p h =
     let room : Cells → Room = λ v. v.room in
     split_place h c.requires.spare (c.number-rest.ensures.number ∙ c.spare.ensures.cell) c.requires.within c.requires.offset c.requires.size c.after-next.ensures.cell c.link_to-back.ensures c.link_to-on.ensures
-    (ap room c.place.ensures.cells) (ap room c.set_size.ensures.cells) (ap room c.set_after.ensures.cells) c.point_back.ensures.cells c.point_back.ensures.last
+    (ap room c.set_block.ensures.cells) (ap room c.set_end.ensures.cells) c.point_back.ensures.cells c.point_back.ensures.last
 
 pub returns-clause-fresh : goal.returns-clause-fresh
 returns-clause-fresh g c m p h = (top _ h.chain c.requires.spare (c.number-rest.ensures.number ∙ c.spare.ensures.cell)).absent
@@ -41,17 +41,14 @@ returns-clause-fresh g c m p h = (top _ h.chain c.requires.spare (c.number-rest.
 pub returns-clause-below : goal.returns-clause-below
 returns-clause-below g c = (top _ c.requires.place.2.chain c.requires.spare (c.number-rest.ensures.number ∙ c.spare.ensures.cell)).below
 
-pub set_size-requires : goal.set_size-requires
-set_size-requires g c = rw (c.place.ensures.cells, length-put) c.requires.place.2.below
-
-pub set_after-requires : goal.set_after-requires
-set_after-requires g c = rw (c.set_size.ensures.cells, length-put, c.place.ensures.cells, length-put) c.requires.place.2.below
+pub set_end-requires : goal.set_end-requires
+set_end-requires g c = rw (c.set_block.ensures.cells, length-put) c.requires.place.2.below
 
 pub returns-clause-links : goal.returns-clause-links
-returns-clause-links g c = rw (c.point_back.ensures.links, c.set_after.ensures.cells, c.set_size.ensures.cells, c.place.ensures.cells) refl
+returns-clause-links g c = rw (c.point_back.ensures.links, c.set_end.ensures.cells, c.set_block.ensures.cells) refl
 
 pub returns-clause-limit : goal.returns-clause-limit
-returns-clause-limit g c = rw (c.point_back.ensures.limit, c.set_after.ensures.cells, length-put, c.set_size.ensures.cells, length-put, c.place.ensures.cells, length-put) refl
+returns-clause-limit g c = rw (c.point_back.ensures.limit, c.set_end.ensures.cells, length-put, c.set_block.ensures.cells, length-put) refl
 
 pub returns-clause-accesses_max : goal.returns-clause-accesses_max
 returns-clause-accesses_max g c = omega arith

@@ -6,11 +6,11 @@ use Rattle.offset_allocator.proofs.Places.{at_place, end_fits, previous_below}
 use Rattle.offset_allocator.proofs.Writes.{split_before_place}
 use Rattle.offset_allocator.proofs.chain.split_before.Goals as goal
 
-pub place-requires-clause-name : goal.place-requires-clause-name
-place-requires-clause-name g c = (top _ c.requires.place.3.chain c.requires.spare (c.number-front.ensures.number ∙ c.spare.ensures.cell)).below
+pub set_block-requires-clause-name : goal.set_block-requires-clause-name
+set_block-requires-clause-name g c = (top _ c.requires.place.3.chain c.requires.spare (c.number-front.ensures.number ∙ c.spare.ensures.cell)).below
 
-pub place-requires-clause-idle : goal.place-requires-clause-idle
-place-requires-clause-idle g c = (top _ c.requires.place.3.chain c.requires.spare (c.number-front.ensures.number ∙ c.spare.ensures.cell)).idle
+pub set_block-requires-clause-idle : goal.set_block-requires-clause-idle
+set_block-requires-clause-idle g c = (top _ c.requires.place.3.chain c.requires.spare (c.number-front.ensures.number ∙ c.spare.ensures.cell)).idle
 
 pub overflow_add-offset : goal.overflow_add-offset
 overflow_add-offset g c =
@@ -23,17 +23,17 @@ link_to-back-requires g c = (top _ c.requires.place.3.chain c.requires.spare (c.
 
 pub point_on-requires-clause-link : goal.point_on-requires-clause-link
 point_on-requires-clause-link g c =
-    rw (c.before-link.ensures.cell, c.set_before.ensures.cells, length-put, c.set_size.ensures.cells, length-put, c.set_offset.ensures.cells, length-put, c.place.ensures.cells, length-put) (previous_below c.requires.place.3)
+    rw (c.before-link.ensures.cell, c.set_start.ensures.cells, length-put, c.set_block.ensures.cells, length-put) (previous_below c.requires.place.3)
 
 pub point_on-requires-clause-name : goal.point_on-requires-clause-name
 point_on-requires-clause-name g c =
-    rw (c.set_before.ensures.cells, length-put, c.set_size.ensures.cells, length-put, c.set_offset.ensures.cells, length-put, c.place.ensures.cells, length-put) (top _ c.requires.place.3.chain c.requires.spare (c.number-front.ensures.number ∙ c.spare.ensures.cell)).below
+    rw (c.set_start.ensures.cells, length-put, c.set_block.ensures.cells, length-put) (top _ c.requires.place.3.chain c.requires.spare (c.number-front.ensures.number ∙ c.spare.ensures.cell)).below
 
 pub returns-clause-place : goal.returns-clause-place
 returns-clause-place g c m last p h =
     let room : Cells → Room = λ v. v.room in
     split_before_place h c.requires.spare (c.number-front.ensures.number ∙ c.spare.ensures.cell) (omega (arith, c.requires.within, c.size-size.ensures.cell)) c.offset-offset.ensures.cell c.size-size.ensures.cell c.before-link.ensures.cell c.link_to-on.ensures c.link_to-back.ensures
-    (ap room c.place.ensures.cells) (ap room c.set_offset.ensures.cells) (ap room c.set_size.ensures.cells) (ap room c.set_before.ensures.cells) c.point_on.ensures.cells
+    (ap room c.set_block.ensures.cells) (ap room c.set_start.ensures.cells) c.point_on.ensures.cells
 
 pub returns-clause-fresh : goal.returns-clause-fresh
 returns-clause-fresh g c m last p h = (top _ h.chain c.requires.spare (c.number-front.ensures.number ∙ c.spare.ensures.cell)).absent
@@ -41,20 +41,14 @@ returns-clause-fresh g c m last p h = (top _ h.chain c.requires.spare (c.number-
 pub returns-clause-below : goal.returns-clause-below
 returns-clause-below g c = (top _ c.requires.place.3.chain c.requires.spare (c.number-front.ensures.number ∙ c.spare.ensures.cell)).below
 
-pub set_offset-requires : goal.set_offset-requires
-set_offset-requires g c = rw (c.place.ensures.cells, length-put) c.requires.place.3.below
-
-pub set_size-requires : goal.set_size-requires
-set_size-requires g c = rw (c.set_offset.ensures.cells, length-put, c.place.ensures.cells, length-put) c.requires.place.3.below
-
-pub set_before-requires : goal.set_before-requires
-set_before-requires g c = rw (c.set_size.ensures.cells, length-put, c.set_offset.ensures.cells, length-put, c.place.ensures.cells, length-put) c.requires.place.3.below
+pub set_start-requires : goal.set_start-requires
+set_start-requires g c = rw (c.set_block.ensures.cells, length-put) c.requires.place.3.below
 
 pub returns-clause-links : goal.returns-clause-links
-returns-clause-links g c = rw (c.point_on.ensures.links, c.set_before.ensures.cells, c.set_size.ensures.cells, c.set_offset.ensures.cells, c.place.ensures.cells) refl
+returns-clause-links g c = rw (c.point_on.ensures.links, c.set_start.ensures.cells, c.set_block.ensures.cells) refl
 
 pub returns-clause-limit : goal.returns-clause-limit
-returns-clause-limit g c = rw (c.point_on.ensures.limit, c.set_before.ensures.cells, length-put, c.set_size.ensures.cells, length-put, c.set_offset.ensures.cells, length-put, c.place.ensures.cells, length-put) refl
+returns-clause-limit g c = rw (c.point_on.ensures.limit, c.set_start.ensures.cells, length-put, c.set_block.ensures.cells, length-put) refl
 
 pub returns-clause-accesses_max : goal.returns-clause-accesses_max
 returns-clause-accesses_max g c = omega arith

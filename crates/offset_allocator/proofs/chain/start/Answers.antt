@@ -7,17 +7,17 @@ use Rattle.offset_allocator.proofs.Views.{blocks-chain, space-chain}
 use Rattle.offset_allocator.proofs.chain.start.Goals as goal
 use Rattle.offset_allocator.proofs.chain.start.Given.{Over}
 
-pub place-requires-clause-name : goal.place-requires-clause-name
-place-requires-clause-name g c = omega (arith, c.requires.empty.nodes, c.requires.some)
+pub set_block-requires-clause-name : goal.set_block-requires-clause-name
+set_block-requires-clause-name g c = omega (arith, c.requires.empty.nodes, c.requires.some)
 
-pub place-requires-clause-idle : goal.place-requires-clause-idle
-place-requires-clause-idle g c = c.requires.empty.idle _
+pub set_block-requires-clause-idle : goal.set_block-requires-clause-idle
+set_block-requires-clause-idle g c = c.requires.empty.idle _
 
-done : (g : Over) (c : goal.After-place g) → IsChain c.place.new.tables.room c.args.max_allocs (c.args.max_allocs - 1) (c.args.max_allocs - 1) (free_block (c.args.max_allocs - 1) c.args.size ∷ [])
+done : (g : Over) (c : goal.After-set_block g) → IsChain c.set_block.new.self.room c.args.max_allocs (c.args.max_allocs - 1) (c.args.max_allocs - 1) (free_block (c.args.max_allocs - 1) c.args.size ∷ [])
 done g c =
     let written : Option ℕ → Option ℕ → Cells = λ b a. record c.args.tables.now { room = put c.args.tables.now.room (c.args.max_allocs - 1) (record { offset = 0; size = c.args.size; used = false; before = b; after = a }) } in
-    let rm = ap (λ (v : Cells). v.room) (c.place.ensures.cells ∙ ap₂ written c.no_link.ensures.link c.no_link-2.ensures.link) in
-    start-chain c.shape.ensures c.requires.empty c.args.size (omega arith) (omega arith) c.place.new.tables.room rm
+    let rm = ap (λ (v : Cells). v.room) (c.set_block.ensures.cells ∙ ap₂ written c.no_link.ensures.link c.no_link-2.ensures.link) in
+    start-chain c.shape.ensures c.requires.empty c.args.size (omega arith) (omega arith) c.set_block.new.self.room rm
 
 pub returns-clause-space : goal.returns-clause-space
 returns-clause-space g c = space-chain _ _ _ _ _ (done g c)
