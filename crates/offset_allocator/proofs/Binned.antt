@@ -1,13 +1,13 @@
 -- The bins after a change of one of them.
 use Rattle.std.proofs.Common.{◌≡◌, ◌≢◌, ◌<◌, ◌≤◌, ◌+◌, ◌⊎◌, ℕ, List, [], ◌∷◌, ◌++◌, map, refl, sym, ap, subst, ◌∙◌, inl, inr, arith, length, drop, slice_index, slice_set}
 use Rattle.std.proofs.lemmas.Bool.{cases_eq}
-use Rattle.std.proofs.lemmas.List.{length-set, length-map, get_or-set_same, get_or-set_other, get_or-map, ext_get_or, set-get_or}
+use Rattle.std.proofs.lemmas.List.{length-set, length-map, get_or-set_same, get_or-set_other, get_or-map, ext_get_or, set-get_or, set-set, set_comm}
 use Rattle.offset_allocator.specs.Cells.{Links}
-use Rattle.offset_allocator.specs.Named.{names_at, times, without}
+use Rattle.offset_allocator.specs.Named.{names_at, times, without, push, remove}
 use Rattle.offset_allocator.specs.Orders.{Chain, Among, flag, first_of, walk, Linked, Masked, IsUnlisted, Binned, class_lists}
-use Rattle.offset_allocator.proofs.Masks.{masked_same}
+use Rattle.offset_allocator.proofs.Masks.{masked_same, flag_full}
 use Rattle.offset_allocator.proofs.Rows.{one-same, times-join}
-use Rattle.offset_allocator.proofs.ViewOrders.{hit_cases, names_same, names_other, times_without_le}
+use Rattle.offset_allocator.proofs.ViewOrders.{hit_cases, names_same, names_other, times_without_le, unlisted_removed}
 use Rattle.offset_allocator.proofs.Walks.{name_below, older_below, chain_fits, walk_is, IsLater, found, kept, led, not_first, first_same, newer_kept, older_kept, unlinked, without_first, without_later}
 
 module _ {none : ℕ} {t : Links} {ls : List (List ℕ)} (k : Linked none t ls) where
@@ -176,6 +176,25 @@ module _ {none : ℕ} {t : Links} {ls : List (List ℕ)} (k : Linked none t ls) 
           rest_first : (l : List ℕ) (b : ℕ) → Chain none t b (l ++ slice_index t.newer x ∷ x ∷ f.rest) → slice_index t.older x ≡ first_of none f.rest
           rest_first [] b d = d.3.2
           rest_first (y ∷ l) b d = rest_first l y d.3
+
+-- x takes the place of the first name: the links are those of a removal and a push
+pub exchanged : {none : ℕ} {t : Links} {ls : List (List ℕ)} (k : Linked none t ls) (c : ℕ) → c < 256 → (t' : Links) (x after : ℕ) → x < length t.newer → IsUnlisted x ls → names_at ls c ≢ [] → after ≡ slice_index t.older (slice_index t.heads c)
+    → t'.newer ≡ slice_set (slice_set t.newer x none) after x → t'.older ≡ slice_set t.older x after → t'.heads ≡ slice_set t.heads c x → Linked none t' (push c x (remove c (slice_index t.heads c) ls))
+exchanged {none} {t} {ls} k c ch t' x after l fresh full next newer older heads =
+    let h = head k c ch full in
+    let ns = k.names_small in
+    let hl = k.heads_len in
+    let absent : times x (drop 1 (names_at ls c)) ≡ 0 = omega (arith, fresh c ch, ap (times x) h.0) in
+    let apart : after ≢ x = λ e. not_first x (drop 1 (names_at ls c)) (omega arith) absent (sym e ∙ next ∙ h.1.2) in
+    let left : Links = record t { newer = slice_set t.newer after none; heads = slice_set t.heads c after } in
+    let rest : Linked none left (remove c (slice_index t.heads c) ls) = rw (without_head k c ch full) (beheaded k c ch left after full next refl refl refl) in
+    let first : slice_index left.heads c ≡ after = get_or-set_same t.heads c after 0 (omega arith) in
+    pushed rest c ch t' x (omega (arith, length-set t.newer after none)) (unlisted_removed x (slice_index t.heads c) c ls k.lists_len ch fresh)
+    (rw first (newer ∙ sym (ap (λ (i : List ℕ). slice_set i after x) (set_comm t.newer after x none none apart) ∙ set-set (slice_set t.newer x none) after none x)))
+    (rw first older) (heads ∙ sym (set-set t.heads c after x))
+
+pub exchange_masked : {ls : List (List ℕ)} {masks : List ℕ} {top : ℕ} → Masked ls masks top → length ls ≡ 256 → (c x y : ℕ) → c < 256 → names_at ls c ≢ [] → Masked (push c x (remove c y ls)) masks top
+exchange_masked {ls} m n c x y ch full = rw (set-set ls c (without y (names_at ls c)) (x ∷ names_at (remove c y ls) c)) (masked_same m n c ch _ (sym (flag_full _ full)))
 
 pub binned : {none : ℕ} {t : Links} {top : ℕ} {ls : List (List ℕ)} → Linked none t ls → Masked ls t.masks top → Binned none t top × (class_lists none t ≡ ls)
 binned {none} {t} {top} {ls} k m = let e = shown k in (record { linked = subst (Linked none t) (sym e) k; masked = subst (λ l. Masked l t.masks top) (sym e) m }, e)

@@ -14,7 +14,8 @@ use Rattle.offset_allocator.proofs.Classes.{fits_size}
 use Rattle.offset_allocator.proofs.Split.{well_counted, well_split, part_room}
 use Rattle.offset_allocator.proofs.Taken.{Taken, taken}
 use Rattle.offset_allocator.proofs.Unused.{is_new}
-use Rattle.offset_allocator.proofs.Joints.{stepped, unused_unlisted, unlisted_removed, free_part_units, remove_free, free_units-append, free_units-free, free_units-used}
+use Rattle.offset_allocator.proofs.ViewOrders.{unlisted_removed}
+use Rattle.offset_allocator.proofs.Joints.{stepped, unused_unlisted, free_part_units, remove_free, free_units-append, free_units-free, free_units-used}
 
 -- a grant: sound fields, the smallest class large enough that has a block, and the first name there
 pub record Call (f : Fields) (needed class x : ℕ) : Type 0 where

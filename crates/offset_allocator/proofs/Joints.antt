@@ -1,15 +1,13 @@
 -- The chain, the bins and the view together.
-use Rattle.std.proofs.Common.{◌≡◌, ℕ, zero, suc, ◌+◌, ◌<◌, ◌≤◌, Bool, true, false, List, [], ◌∷◌, ◌++◌, length, if◌then◌else◌, refl, sym, ap, subst, ◌∙◌, inl, inr, arith, slice_set}
-use Rattle.std.proofs.lemmas.Bool.{cases_eq}
-use Rattle.std.proofs.lemmas.List.{get_or-set_same, get_or-set_other}
+use Rattle.std.proofs.Common.{◌≡◌, ℕ, zero, suc, ◌+◌, ◌≤◌, Bool, true, false, List, [], ◌∷◌, ◌++◌, length, if◌then◌else◌, refl, sym, ap, subst, ◌∙◌, arith}
 use Rattle.offset_allocator.specs.Classes.{down}
-use Rattle.offset_allocator.specs.Named.{units, Block, View, count_named, count_listed, names_at, IsWellFormed, free_part, remove_all, remove, without}
+use Rattle.offset_allocator.specs.Named.{units, Block, View, count_named, count_listed, IsWellFormed, free_part, remove_all, remove}
 use Rattle.offset_allocator.specs.Cells.{Cells}
 use Rattle.offset_allocator.specs.Space.{IsChain}
-use Rattle.offset_allocator.specs.Orders.{Among, Binned, class_lists, IsUnlisted}
+use Rattle.offset_allocator.specs.Orders.{Binned, class_lists, IsUnlisted}
 use Rattle.offset_allocator.proofs.Views.{blocks-chain, space-chain}
 use Rattle.offset_allocator.specs.State.{Fields, AreSound, view_of, free_units}
-use Rattle.offset_allocator.proofs.ViewOrders.{tally_append, times_without_le}
+use Rattle.offset_allocator.proofs.ViewOrders.{tally_append}
 use Rattle.offset_allocator.proofs.ViewReplaced.{listed_named}
 use Rattle.offset_allocator.proofs.Split.{well_counted}
 
@@ -19,14 +17,6 @@ unlisted v w x h c ch a = omega (arith, a, w.orders c x, h c)
 
 pub unused_unlisted : (v : View) → IsWellFormed v → (x : ℕ) → count_named x v.blocks ≡ 0 → IsUnlisted x v.order
 unused_unlisted v w x h = unlisted v w x (λ c. omega (arith, listed_named c x v.blocks))
-
-pub unlisted_removed : (x y c : ℕ) (ls : List (List ℕ)) → length ls ≡ 256 → c < 256 → IsUnlisted x ls → IsUnlisted x (slice_set ls c (without y (names_at ls c)))
-unlisted_removed x y c ls n ch u d dh a =
-    let l : c < length ls = omega arith in
-    elim (cases_eq d c) [
-      | inl e ↦ u c ch (omega (arith, times_without_le y x (names_at ls c), subst (λ z. Among x z) (ap (names_at (slice_set ls c (without y (names_at ls c)))) e ∙ get_or-set_same ls c (without y (names_at ls c)) [] l) a))
-      | inr ne ↦ u d dh (subst (λ z. Among x z) (get_or-set_other ls c d (without y (names_at ls c)) [] ne) a)
-    ]
 
 -- whatever was counted
 abbrev pub with_accesses : ℕ → View → View

@@ -1,7 +1,7 @@
 //! A bin for each size class: the names of its free blocks, in a list of links between the nodes, with a two-level mask.
 ghost use Rattle.std.specs.Prelude.{◌≡◌, ◌+◌, ◌<◌, ◌≤◌, ◌≢◌, ℕ, List, [], ◌∷◌, slice_set, length, MatchOption};
 ghost use Rattle.offset_allocator.specs.Classes.{down};
-ghost use Rattle.offset_allocator.specs.Named.{names_at, without};
+ghost use Rattle.offset_allocator.specs.Named.{names_at, without, push, remove};
 ghost use Rattle.offset_allocator.specs.Promises.{IsLargestClass};
 ghost use Rattle.offset_allocator.specs.Orders.{IsUnlisted, IsSmallestFrom, Among, Linked, Masked, class_lists, Binned};
 
@@ -83,7 +83,7 @@ pub(crate) fn push<NI: NodeIndex>(
     requires classed { class < 256 }
     requires fresh { IsUnlisted name (class_lists NI.MAX tables.old.links) }
     ensures held { Binned NI.MAX tables.new.links top_mask.new }
-    ensures lists { class_lists NI.MAX tables.new.links ≡ slice_set (class_lists NI.MAX tables.old.links) class (name ∷ names_at (class_lists NI.MAX tables.old.links) class) }
+    ensures lists { class_lists NI.MAX tables.new.links ≡ push class name (class_lists NI.MAX tables.old.links) }
     ensures room { tables.new.room ≡ tables.old.room }
     ensures accesses_min { count.old + 5 ≤ count.new }
     ensures accesses_max { count.new ≤ count.old + 6 }
@@ -151,7 +151,7 @@ pub(crate) fn remove<NI: NodeIndex>(
     requires held { Binned NI.MAX tables.old.links top_mask.old }
     requires listed { Among name (names_at (class_lists NI.MAX tables.old.links) (down size)) }
     ensures held { Binned NI.MAX tables.new.links top_mask.new }
-    ensures lists { class_lists NI.MAX tables.new.links ≡ slice_set (class_lists NI.MAX tables.old.links) (down size) (without name (names_at (class_lists NI.MAX tables.old.links) (down size))) }
+    ensures lists { class_lists NI.MAX tables.new.links ≡ remove (down size) name (class_lists NI.MAX tables.old.links) }
     ensures room { tables.new.room ≡ tables.old.room }
     ensures accesses_min { count.old + 2 ≤ count.new }
     ensures accesses_max { count.new ≤ count.old + 7 }
@@ -171,6 +171,45 @@ pub(crate) fn remove<NI: NodeIndex>(
     }
 }
 
+/// Removes the name `gone` from the bin of this size, and pushes another one onto the bin of a class. Where `gone` is the
+/// newest of that same bin, the other one takes its place.
+#[inline(always)]
+pub(crate) fn exchange<NI: NodeIndex>(
+    tables: &mut Tables<NI>,
+    top_mask: &mut u32,
+    gone: u32,
+    size: u32,
+    name: u32,
+    class: u32,
+    count: &mut Accesses,
+)
+    requires held { Binned NI.MAX tables.old.links top_mask.old }
+    requires listed { Among gone (names_at (class_lists NI.MAX tables.old.links) (down size)) }
+    requires named { name < length tables.old.room.nodes }
+    requires classed { class < 256 }
+    requires fresh { IsUnlisted name (class_lists NI.MAX tables.old.links) }
+    ensures held { Binned NI.MAX tables.new.links top_mask.new }
+    ensures lists { class_lists NI.MAX tables.new.links ≡ push class name (remove (down size) gone (class_lists NI.MAX tables.old.links)) }
+    ensures room { tables.new.room ≡ tables.old.room }
+    ensures accesses_min { count.old + 5 ≤ count.new }
+    ensures accesses_max { count.new ≤ count.old + 14 }
+{
+    tables.shape();
+    let before = tables.newer(gone, count);
+    if number(before) == NI::MAX && class == uint_to_float_round_down(size) {
+        // the bin is empty neither before nor after, so the masks stay
+        let after = tables.older(gone, count);
+        let newest = link_to(name);
+        tables.set_older(name, after, count);
+        tables.set_newer(name, no_link(), count);
+        tables.set_head(class, newest, count);
+        link_newer(tables, after, newest, count);
+    } else {
+        remove(tables, top_mask, gone, size, count);
+        push(tables, top_mask, name, class, count);
+    }
+}
+
 /// Pops the newest name of a bin.
 pub(crate) fn pop<NI: NodeIndex>(
     tables: &mut Tables<NI>,
@@ -183,7 +222,7 @@ pub(crate) fn pop<NI: NodeIndex>(
     requires full { names_at (class_lists NI.MAX tables.old.links) class ≢ [] }
     ensures first { names_at (class_lists NI.MAX tables.old.links) class ≡ result ∷ without result (names_at (class_lists NI.MAX tables.old.links) class) }
     ensures held { Binned NI.MAX tables.new.links top_mask.new }
-    ensures lists { class_lists NI.MAX tables.new.links ≡ slice_set (class_lists NI.MAX tables.old.links) class (without result (names_at (class_lists NI.MAX tables.old.links) class)) }
+    ensures lists { class_lists NI.MAX tables.new.links ≡ remove class result (class_lists NI.MAX tables.old.links) }
     ensures room { tables.new.room ≡ tables.old.room }
     ensures accesses_min { count.old + 3 ≤ count.new }
     ensures accesses_max { count.new ≤ count.old + 6 }
