@@ -4,7 +4,7 @@ use Rattle.std.proofs.Common.{◌≡◌, ℕ, append_assoc, ◌<◌, ◌≤◌, 
 use Rattle.std.proofs.lemmas.List.{length-replicate, ext_get_or}
 use Rattle.std.proofs.lemmas.Bool.{cases_lt, false≢true}
 use Rattle.offset_allocator.specs.Classes.{down}
-use Rattle.offset_allocator.specs.Named.{Block, View, one, is_free, free_block, units, count_named, used_of, times, count_listed, names_at, push, IsApart, IsWellFormed, place_of, is_used_at, reset}
+use Rattle.offset_allocator.specs.Named.{Block, View, one, is_free, free_block, units, count_named, used_of, times, count_listed, names_at, push, IsApart, IsWellFormed, place_of, is_used_at}
 use Rattle.offset_allocator.specs.Relations.{SameSpace, Frees, Resets}
 use Rattle.offset_allocator.specs.Space.{last_or}
 use Rattle.offset_allocator.proofs.Ends.{Ended, ended, last_none}
@@ -42,7 +42,7 @@ lone [] s a u = absurd (omega arith)
 lone (b ∷ []) s a u = (b, ap (λ (f : Bool). record { name = b.name; size = b.size; used = f } ∷ []) (unused b.used (omega arith)))
 lone (b ∷ d ∷ bs) s a u = absurd (false≢true (sym (rw (unused b.used (omega arith), unused d.used (omega arith)) at a.0)))
 
-pub emptied : (v : View) → IsWellFormed v → used_of v.blocks ≡ 0 → (x : ℕ) × (x < v.max_allocs) × (v ≡ reset x v)
+pub emptied : (v : View) → IsWellFormed v → used_of v.blocks ≡ 0 → (x : ℕ) × (x < v.max_allocs) × (v ≡ record v { blocks = free_block x v.size ∷ []; order = push (down v.size) x (replicate 256 []) })
 emptied v w u =
     let l = lone v.blocks w.some w.apart u in
     let x : ℕ = l.0.name in

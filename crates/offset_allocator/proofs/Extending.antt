@@ -4,17 +4,17 @@ use Rattle.std.proofs.lemmas.Bool.{true≢false, false≢true}
 use Rattle.offset_allocator.specs.Classes.{down}
 use Rattle.offset_allocator.specs.Cells.{Cells, Room, Node, node}
 use Rattle.std.specs.List.{AllByRecursion}
-use Rattle.offset_allocator.specs.Named.{Block, View, count_named, names_at, count_listed, one, is_free, IsApart, IsWellFormed, IsUnused, free_block, units, replace, remove_all, push, remove, without, times, ends_used}
+use Rattle.offset_allocator.specs.Named.{Block, View, count_named, names_at, count_listed, one, is_free, IsApart, IsWellFormed, IsNew, free_block, units, replace, remove_all, push, remove, without, times, ends_used}
 use Rattle.offset_allocator.specs.Promises.{HasRoomFor}
 use Rattle.offset_allocator.specs.Ranges.{KeepsAll}
 use Rattle.offset_allocator.specs.Relations.{Adds, CanExtend, Extends}
 use Rattle.offset_allocator.specs.Space.{IsChain, HasPlace, blocks}
 use Rattle.offset_allocator.specs.Orders.{Among, IsUnlisted, class_lists, Binned}
-use Rattle.offset_allocator.specs.State.{Fields, AreSound, shown, free_units}
+use Rattle.offset_allocator.specs.State.{free_units}
+use Rattle.offset_allocator.proofs.Sound.{Fields, AreSound, shown}
 use Rattle.offset_allocator.proofs.Rows.{units-append, times-append, one-eq}
 use Rattle.offset_allocator.proofs.Ends.{Ended, ended}
 use Rattle.offset_allocator.proofs.Places.{at_place, end_place}
-use Rattle.offset_allocator.proofs.Unused.{is_new}
 use Rattle.offset_allocator.proofs.Freeing.{filed_listed}
 use Rattle.offset_allocator.proofs.ViewApart.{append_nil, ends_free, apart_parts, first_false}
 use Rattle.offset_allocator.proofs.ViewOrders.{tally_append, times_remove_all}
@@ -119,7 +119,7 @@ module _ {it : Fields} {more : ℕ} {used : Bool} (r : Growth it more used) wher
       AreSound new × Adds more (shown it) (shown new) × KeepsAll (shown it) (shown new)
 
   grown : (d : Cells) {last count top : ℕ} (k x : ℕ) (before old : List Block) → bs ≡ before ++ old → ends_free before ≡ false → AllByRecursion (λ b. b.used ≡ false) old → AllByRecursion (λ b. b.name ≡ x) old
-      → (1 ≤ count_named x old) ⊎ IsUnused x v → (1 ≤ length old) ⊎ (length bs + 1 < it.limit) → (old ≡ [] → IsUnused x v)
+      → (1 ≤ count_named x old) ⊎ IsNew x v → (1 ≤ length old) ⊎ (length bs + 1 < it.limit) → (old ≡ [] → IsNew x v)
       → IsChain d.room (length it.cells.room.nodes) last count (before ++ free_block x (units old + more) ∷ []) → Binned it.max d.links top
       → class_lists it.max d.links ≡ push (down (units old + more)) x (remove_all old ls) → Grown d last count top k
   grown d {last} {count} {top} k x before old e closed idle named name spare new chain bins lists =
@@ -128,7 +128,7 @@ module _ {it : Fields} {more : ℕ} {used : Bool} (r : Growth it more used) wher
       let total = free_units-append before old in
       let left = stepped it s left_view d (it.free + more) k well refl chain refl bins lists
       (free_units-append before (free_block x (units old + more) ∷ []) ∙ omega (arith, r.sound.total, ap free_units e, total, idle_units old idle, free_units-free (free_block x (units old + more)) [] refl)) in
-      let added : Adds more v (shown (record it { size = it.size + more; cells = d; last = last; count = count; top = top; free = it.free + more; accesses = k })) = record { before = before; last = old; blocks = e; free = idle; name = x; named = named; new = λ n. is_new x v (new n); view = left.1; apart = subst IsApart (sym (ap (λ (u : View). u.blocks) left.1)) well.apart } in
+      let added : Adds more v (shown (record it { size = it.size + more; cells = d; last = last; count = count; top = top; free = it.free + more; accesses = k })) = record { before = before; last = old; blocks = e; free = idle; name = x; named = named; new = λ n. new n; view = left.1; apart = subst IsApart (sym (ap (λ (u : View). u.blocks) left.1)) well.apart } in
       (left.0, added, adds_keep v _ w (well_same left_view _ left.1 well) more added)
 
 -- after a used block
@@ -146,7 +146,7 @@ module _ {it : Fields} {more : ℕ} (r : Growth it more true) where
       let whole : n ≡ (end r).last.size = e ∙ size_at_end r in
       let none : (end r).last.size - (end r).last.size ≡ 0 = omega arith in
       let sum : 0 + more ≡ more = omega arith in
-      let unused : IsUnused y (shown it) = record { below = omega (arith, below, r.sound.nodes); absent = ap (count_named y) (end r).is ∙ new } in
+      let unused : IsNew y (shown it) = record { below = omega (arith, below, r.sound.nodes); absent = ap (count_named y) (end r).is ∙ new } in
       grown r d k y ((end r).front ++ (end r).last ∷ []) [] ((end r).is ∙ sym (append_nil _)) (ends_free_last (end r).front (end r).last ∙ ap not (b_used r)) tt tt (inr unused) (inr room) (λ _. unused)
       (rw (whole, none) at chain) bins (rw sum eo)
 

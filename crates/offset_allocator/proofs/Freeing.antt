@@ -6,7 +6,8 @@ use Rattle.offset_allocator.specs.Cells.{Cells, Room, Node}
 use Rattle.offset_allocator.specs.Named.{Block, View, Place, one, is_free, count_named, count_listed, names_at, IsWellFormed, units, place_of, is_used_at, free_end, without_end, free_start, without_start, remove_all, push, free_block, replace, IsApart, remove, times}
 use Rattle.offset_allocator.specs.Space.{IsChain, HasPlace, blocks, coalesced_before}
 use Rattle.offset_allocator.specs.Orders.{Among, IsUnlisted, class_lists, Binned}
-use Rattle.offset_allocator.specs.State.{Fields, IsSound, view_of, free_units, AreListed, AreFiled, AreSound, shown}
+use Rattle.offset_allocator.specs.State.{IsSound, view_of, free_units, AreListed}
+use Rattle.offset_allocator.proofs.Sound.{Fields, AreSound, shown}
 use Rattle.offset_allocator.proofs.Split.{well_counted}
 use Rattle.offset_allocator.proofs.Places.{located, at_place}
 use Rattle.offset_allocator.proofs.Views.{blocks-chain}
@@ -26,7 +27,7 @@ share k y b = one (is_free b && (nat_eq k (down b.size) && nat_eq y b.name))
 share_used : (k y : ℕ) (b : Block) → b.used ≡ true → share k y b ≡ 0
 share_used k y b e = ap (λ (u : Bool). one (not u && (nat_eq k (down b.size) && nat_eq y b.name))) e
 
-pub filed_listed : {c : Room} {m last count : ℕ} {bs : List Block} (ls : List (List ℕ)) → IsChain c m last count bs → AreFiled bs ls → AreListed c m last count ls
+pub filed_listed : {c : Room} {m last count : ℕ} {bs : List Block} (ls : List (List ℕ)) → IsChain c m last count bs → ((k y : ℕ) → times y (names_at ls k) ≡ count_listed k y bs) → AreListed c m last count ls
 filed_listed {c} {m} {last} {count} {bs} ls h f x p held u =
     let at = at_place held in
     let k : ℕ = down p.block.size in

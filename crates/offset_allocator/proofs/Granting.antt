@@ -2,10 +2,11 @@
 use Rattle.std.proofs.Common.{◌≡◌, ℕ, zero, suc, ◌+◌, ◌-◌, ◌<◌, ◌≤◌, ◌^◌, List, [], ◌∷◌, ◌++◌, length, refl, sym, ap, ap₂, ◌∙◌, arith, slice_set, append_assoc, le-leb, nat_eq}
 use Rattle.offset_allocator.specs.Classes.{up, down}
 use Rattle.offset_allocator.specs.Cells.{Cells, Room}
-use Rattle.offset_allocator.specs.Named.{Block, View, Place, Grant, one, count_named, names_at, IsWellFormed, IsUnused, free_part, used_block, units, replace, remove_all, push_all, remove, without}
+use Rattle.offset_allocator.specs.Named.{Block, View, Place, Grant, one, count_named, names_at, IsWellFormed, IsNew, free_part, used_block, units, replace, remove_all, push_all, remove, without}
 use Rattle.offset_allocator.specs.Space.{HasPlace}
 use Rattle.offset_allocator.specs.Orders.{IsSmallestFrom, class_lists, Binned}
-use Rattle.offset_allocator.specs.State.{Fields, AreSound, AreUnlisted, shown, free_units}
+use Rattle.offset_allocator.specs.State.{AreUnlisted, free_units}
+use Rattle.offset_allocator.proofs.Sound.{Fields, AreSound, shown}
 use Rattle.offset_allocator.specs.Relations.{SameSpace, Splits}
 use Rattle.offset_allocator.proofs.Rows.{one-same, one-eq, times-append}
 use Rattle.offset_allocator.proofs.Exchange.{each-le, there-below}
@@ -13,7 +14,6 @@ use Rattle.offset_allocator.proofs.Places.{placed, end_fits}
 use Rattle.offset_allocator.proofs.Classes.{fits_size}
 use Rattle.offset_allocator.proofs.Split.{well_counted, well_split, part_room}
 use Rattle.offset_allocator.proofs.Taken.{Taken, taken}
-use Rattle.offset_allocator.proofs.Unused.{is_new}
 use Rattle.offset_allocator.proofs.ViewOrders.{unlisted_removed}
 use Rattle.offset_allocator.proofs.Joints.{stepped, unused_unlisted, free_part_units, remove_free, free_units-append, free_units-free, free_units-used}
 
@@ -94,7 +94,7 @@ module _ {f : Fields} {needed class x : ℕ} (call : Call f needed class x) wher
       names : (y : ℕ) → (count_named y p.before + count_named y (free_part front padding)) + (count_named y (used_block p.block.name n ∷ []) + (count_named y (free_part rest left) + count_named y p.after)) ≤ 1
       names y = omega (arith, each-le d.room _ last count _ there.chain y, times-append y (p.before ++ free_part front padding) (used_block p.block.name n ∷ (free_part rest left ++ p.after)), times-append y p.before (free_part front padding), times-append y (free_part rest left) p.after)
 
-      unused : (y : ℕ) → 1 ≤ count_named y (free_part front padding) + count_named y (free_part rest left) → IsUnused y v
+      unused : (y : ℕ) → 1 ≤ count_named y (free_part front padding) + count_named y (free_part rest left) → IsNew y v
       unused y l =
           let some : 1 ≤ count_named y ((p.before ++ free_part front padding) ++ used_block p.block.name n ∷ (free_part rest left ++ p.after)) = omega (arith, l, times-append y (p.before ++ free_part front padding) (used_block p.block.name n ∷ (free_part rest left ++ p.after)), times-append y p.before (free_part front padding), times-append y (free_part rest left) p.after) in
           record {
@@ -125,8 +125,8 @@ module _ {f : Fields} {needed class x : ℕ} (call : Call f needed class x) wher
         whole = omega (arith, whole_fits);
         padding_name = front;
         remainder_name = rest;
-        padding_new = λ l. is_new front v (unused front (omega (arith, part_names front front padding l, one-same front)));
-        remainder_new = λ l. is_new rest v (unused rest (omega (arith, part_names rest rest left l, one-same rest)));
+        padding_new = λ l. unused front (omega (arith, part_names front front padding l, one-same front));
+        remainder_new = λ l. unused rest (omega (arith, part_names rest rest left l, one-same rest));
         differ = λ l m q. absurd (omega (arith, names front, part_names front front padding l, one-same front, part_names front rest left m, one-eq front rest (sym q)));
         grant = ap (λ i. record { name = i; offset = units p.before + padding }) (sym got.name);
         view = same;

@@ -6,7 +6,8 @@ use Rattle.offset_allocator.specs.Cells.{Cells}
 use Rattle.offset_allocator.specs.Space.{IsChain}
 use Rattle.offset_allocator.specs.Orders.{Binned, class_lists, IsUnlisted}
 use Rattle.offset_allocator.proofs.Views.{blocks-chain, space-chain}
-use Rattle.offset_allocator.specs.State.{Fields, AreSound, view_of, free_units}
+use Rattle.offset_allocator.specs.State.{view_of, free_units}
+use Rattle.offset_allocator.proofs.Sound.{Fields, AreSound}
 use Rattle.offset_allocator.proofs.ViewOrders.{tally_append}
 use Rattle.offset_allocator.proofs.ViewReplaced.{listed_named}
 use Rattle.offset_allocator.proofs.Split.{well_counted}

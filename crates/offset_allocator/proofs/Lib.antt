@@ -29,7 +29,6 @@ pub mod Served
 pub mod Sound
 pub mod Reading
 pub mod Undone
-pub mod Unused
 pub mod ViewApart
 pub mod ViewFits
 pub mod ViewOrders

@@ -2,10 +2,10 @@
 use Rattle.std.proofs.Common.{◌≡◌, ℕ, ◌<◌, ◌≤◌, inl, inr, length, arith, is_some, Bool, true, false, Option, None, Some, option_and_then, option_map, unwrap_or, if◌then◌else◌, refl, sym, ap, subst, ◌∙◌}
 use Rattle.std.proofs.lemmas.Bool.{cases_lt}
 use Rattle.offset_allocator.specs.Cells.{Room, Node, node}
-use Rattle.offset_allocator.specs.Named.{View, Place, units, place_of, is_used_at, size_at}
+use Rattle.offset_allocator.specs.Named.{View, Place, units, place_of, is_used_at}
 use Rattle.offset_allocator.specs.Ranges.{Range, range_of, size_of, IsLive}
 use Rattle.offset_allocator.specs.Space.{blocks, IsRow, IsSpace}
-use Rattle.offset_allocator.specs.State.{Fields, AreSound, shown}
+use Rattle.offset_allocator.proofs.Sound.{Fields, AreSound, shown}
 use Rattle.offset_allocator.proofs.Rows.{node_at}
 use Rattle.offset_allocator.proofs.ViewSteps.{place_at, no_place}
 
@@ -16,6 +16,11 @@ range_at o = option_and_then (λ (p : Place). if p.block.used then Some (record 
 -- the units of a range, or 0 where there is none
 abbrev units_in : Option Range → ℕ
 units_in o = unwrap_or (option_map (λ (r : Range). r.size) o) 0
+
+-- the size of the used block at a place, or 0
+abbrev size_at : Option Place → ℕ
+size_at None = 0
+size_at (Some p) = if p.block.used then p.block.size else 0
 
 -- a name is live where its block is used
 range_some : (o : Option Place) → is_some {T = Range} (range_at o) ≡ is_used_at o

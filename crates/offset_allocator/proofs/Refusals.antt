@@ -3,7 +3,8 @@ use Rattle.std.proofs.Common.{◌≡◌, ℕ, ◌+◌, ◌<◌, ◌≤◌, true,
 use Rattle.std.proofs.lemmas.List.Sums.{sum_by-cons}
 use Rattle.offset_allocator.specs.Named.{Block, View, units, free_sizes, IsWellFormed}
 use Rattle.offset_allocator.specs.Space.{blocks}
-use Rattle.offset_allocator.specs.State.{Fields, AreSound, shown, free_units}
+use Rattle.offset_allocator.specs.State.{free_units}
+use Rattle.offset_allocator.proofs.Sound.{Fields, AreSound, shown}
 use Rattle.offset_allocator.specs.Promises.{HasRoomFor}
 use Rattle.offset_allocator.proofs.Counting.{class_within}
 use Rattle.offset_allocator.proofs.Taken.{HasFit}

@@ -1,11 +1,32 @@
 -- The fields of an allocator, and what their invariant says of the view.
 use Rattle.std.proofs.Common.{◌≡◌, ℕ, ◌≤◌, ap, subst, arith}
 use Rattle.offset_allocator.specs.Named.{View, IsWellFormed}
-use Rattle.offset_allocator.specs.State.{Fields, AreSound, shown}
+use Rattle.offset_allocator.specs.Cells.{Cells}
+use Rattle.offset_allocator.specs.State.{view_of, IsSound}
 use Rattle.offset_allocator.specs.declared.Allocator.TheInside.{Inside}
 use Rattle.offset_allocator.proofs.Split.{well_counted}
 
--- an allocator's fields, with the largest number of its index type
+-- the fields, with the largest number of the index type
+pub record Fields : Type 0 where
+  pub max : ℕ
+  pub size : ℕ
+  pub limit : ℕ
+  pub cells : Cells
+  pub last : ℕ
+  pub count : ℕ
+  pub top : ℕ
+  pub free : ℕ
+  pub accesses : ℕ
+
+-- what contracts see of them
+abbrev pub shown : Fields → View
+shown it = view_of it.max it.size it.limit it.cells it.last it.accesses
+
+-- what is true of them between two calls
+abbrev pub AreSound : Fields → Type 0
+AreSound it = IsSound it.max it.size it.limit it.cells it.last it.count it.top it.free
+
+-- the fields of an allocator
 abbrev pub fields_of : {A B : Type 0} → ℕ → Inside A B → Fields
 fields_of max a = record { max = max; size = a.size; limit = a.max_allocs; cells = a.store.tables; last = a.store.last; count = a.store.spare_count; top = a.store.top_mask; free = a.free_total; accesses = a.store.accesses }
 

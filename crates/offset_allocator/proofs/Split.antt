@@ -1,11 +1,10 @@
 -- What a split leaves is well formed.
 use Rattle.std.proofs.Common.{◌≡◌, ℕ, zero, suc, ◌+◌, ◌<◌, ◌≤◌, true, false, not, ◌⊎◌, List, [], ◌∷◌, ◌++◌, length, nat_eq, refl, sym, ap, subst, ◌∙◌, inl, inr, arith, length-append, append_assoc}
-use Rattle.offset_allocator.specs.Named.{Block, View, Grant, one, used_block, units, count_named, used_of, IsApart, IsWellFormed, IsNew, IsUnused, free_part, replace}
+use Rattle.offset_allocator.specs.Named.{Block, View, Grant, one, used_block, units, count_named, used_of, IsApart, IsWellFormed, IsNew, free_part, replace}
 use Rattle.offset_allocator.specs.Relations.{SameSpace, Splits}
 use Rattle.offset_allocator.proofs.ViewOrders.{tally_append, hit_cases}
 use Rattle.offset_allocator.proofs.ViewReplaced.{tally_three, well_replaced}
 use Rattle.offset_allocator.proofs.ViewApart.{apart_granted}
-use Rattle.offset_allocator.proofs.Unused.{new_unused}
 
 -- whatever was counted
 pub well_counted : (v : View) (k : ℕ) → IsWellFormed v → IsWellFormed (record v { accesses = k })
@@ -29,10 +28,10 @@ used_most [] = omega arith
 used_most (b ∷ bs) = let ih = used_most bs in elim b.used as (λ u. one u + used_of bs ≤ suc (length bs)) [ true ↦ omega arith | false ↦ omega arith ]
 
 -- its name, where it has units, is new
-part_name : (v : View) (y n : ℕ) → (1 ≤ n → IsNew y v) → (x : ℕ) → (count_named x (free_part y n) ≡ 0) ⊎ ((x ≡ y) × (1 ≤ n) × (count_named x (free_part y n) ≡ 1) × IsUnused x v)
+part_name : (v : View) (y n : ℕ) → (1 ≤ n → IsNew y v) → (x : ℕ) → (count_named x (free_part y n) ≡ 0) ⊎ ((x ≡ y) × (1 ≤ n) × (count_named x (free_part y n) ≡ 1) × IsNew x v)
 part_name v y zero new x = inl refl
 part_name v y (suc n) new x = elim (hit_cases x y) [
-  | inl h ↦ inr (h.0, omega arith, omega (arith, h.1), subst (λ z. IsUnused z v) (sym h.0) (new_unused y v (new (omega arith))))
+  | inl h ↦ inr (h.0, omega arith, omega (arith, h.1), subst (λ z. IsNew z v) (sym h.0) (new (omega arith)))
   | inr h ↦ inl (omega (arith, h.1))
 ]
 
@@ -91,7 +90,7 @@ module _ {needed n : ℕ} {padding_at : ℕ → ℕ} {v u : View} {g : Grant} (s
         ]
       ]
 
-      names : (x : ℕ) → 1 ≤ count_named x new → (1 ≤ count_named x (s.block ∷ [])) ⊎ IsUnused x v
+      names : (x : ℕ) → 1 ≤ count_named x new → (1 ≤ count_named x (s.block ∷ [])) ⊎ IsNew x v
       names x l = elim (part_name v s.padding_name s.padding s.padding_new x) [
         | inl a ↦ elim (part_name v s.remainder_name s.remainder s.remainder_new x) [ inl b ↦ inl (omega (arith, a, b, l, names_new x)) | inr b ↦ inr b.3 ]
         | inr a ↦ inr a.3

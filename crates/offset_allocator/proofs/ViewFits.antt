@@ -3,7 +3,7 @@ use Rattle.std.proofs.Common.{◌≡◌, ℕ, ◌*◌, ◌^◌, ◌<◌, ◌≤�
 use Rattle.std.specs.List.{AllByRecursion}
 use Rattle.std.proofs.lemmas.Bool.{cases_lt, true≢false}
 use Rattle.offset_allocator.specs.Classes.{value, up, down}
-use Rattle.offset_allocator.specs.Reports.{largest, IsNearBestFit, IsGoodRefusal}
+use Rattle.offset_allocator.specs.Reports.{largest, IsGoodRefusal}
 use Rattle.offset_allocator.specs.Named.{Block, View, is_free, times, count_listed, units, names_at, free_sizes, IsWellFormed}
 use Rattle.offset_allocator.proofs.ViewOrders.{if_value}
 use Rattle.offset_allocator.proofs.Taken.{HasFit, fitting}
@@ -65,7 +65,7 @@ module _ (v : View) (w : IsWellFormed v) (n : ℕ) (small : n ≤ 4294967295) (s
   there b i f e = let l = there_listed b v.blocks i f in let o = w.orders (down b.size) b.name in let z = ap (times b.name) e in omega arith
 
   -- the block that is taken is of the smallest class from up n on that has one
-  pub near_best_fit : (b : Block) → HasName b v.blocks → ((c : ℕ) → up n ≤ c → c < down b.size → names_at v.order c ≡ []) → IsNearBestFit n b.size (free_sizes v.blocks)
+  pub near_best_fit : (b : Block) → HasName b v.blocks → ((c : ℕ) → up n ≤ c → c < down b.size → names_at v.order c ≡ []) → AllByRecursion (λ t. 9 * n ≤ 8 * t → 8 * b.size ≤ 9 * t) (free_sizes v.blocks)
   near_best_fit b i smallest = all_free (λ z. 9 * n ≤ 8 * z → 8 * b.size ≤ 9 * z) v.blocks (λ d j f l. near_best b.size d.size (fits_word b i) (fits_word d j) (elim (cases_lt (down d.size) (down b.size)) [
     | inl m ↦ absurd (there d j f (smallest (down d.size) (serves n d.size word (fits_word d j) l) m))
     | inr m ↦ m

@@ -10,7 +10,6 @@ use Rattle.offset_allocator.proofs.Released.{idle_parts, end_is, start_is}
 use Rattle.offset_allocator.proofs.Rows.{one-same}
 use Rattle.offset_allocator.proofs.Classes.{down_small}
 use Rattle.offset_allocator.proofs.Split.{part_sums}
-use Rattle.offset_allocator.proofs.Unused.{new_unused}
 use Rattle.offset_allocator.proofs.ViewApart.{ends_free, apart_parts, first_false, second_false, no_end, no_start}
 use Rattle.offset_allocator.proofs.ViewOrders.{hit_cases, names_same, length_remove, times_remove}
 use Rattle.offset_allocator.proofs.ViewReplaced.{listed_named}
@@ -128,7 +127,7 @@ module _ (n : ℕ) (v w u : View) (g : Grant) (known : IsWellFormed v) (left : I
   older_absent = omega (arith, once, ap (times x) s.newest, one-same x)
 
   rest_absent : 1 ≤ s.remainder → times s.remainder_name (names_at order (down s.remainder)) ≡ 0
-  rest_absent l = omega (arith, times_remove (down size) x (down s.remainder) s.remainder_name v.order known.classes (down_small size) once, known.orders (down s.remainder) s.remainder_name, listed_named (down s.remainder) s.remainder_name v.blocks, (new_unused s.remainder_name v (s.remainder_new l)).absent)
+  rest_absent l = omega (arith, times_remove (down size) x (down s.remainder) s.remainder_name v.order known.classes (down_small size) once, known.orders (down s.remainder) s.remainder_name, listed_named (down s.remainder) s.remainder_name v.blocks, (s.remainder_new l).absent)
 
   sized : units (used_block x n ∷ remainder) ≡ size
   sized = omega (arith, s.whole, s.padded, (part_sums s.remainder_name s.remainder).1)

@@ -4,7 +4,7 @@ use Rattle.std.specs.Int.{is_power_of_two, IsPowerOfTwo}
 use Rattle.std.specs.List.{AllByRecursion}
 use Rattle.offset_allocator.specs.Classes.{up, down}
 use Rattle.offset_allocator.specs.Promises.{HasRoomFor, CanGrant, blocks_needed, units_needed}
-use Rattle.offset_allocator.specs.Named.{View, Block, Grant, Place, units, names_at, free_sizes, IsApart, IsNew, padding_to, replace, push_all, free_block, free_part, place_of}
+use Rattle.offset_allocator.specs.Named.{View, Block, Grant, Place, units, names_at, free_sizes, IsApart, IsNew, max_size, padding_to, replace, push_all, free_block, free_part, place_of}
 
 -- the same space, however many accesses are counted
 abbrev pub SameSpace : View → View → Type 0
@@ -88,10 +88,10 @@ pub record Adds (more : ℕ) (v w : View) : Type 0 where
   -- afterwards no two free blocks are neighbours: so last is the last block if that is free
   pub apart : IsApart w.blocks
 
--- a space can have this many units more: the sum is at most 4294967295, and there is room for one more block or the last
+-- a space can have this many units more: the sum is at most the largest size, and there is room for one more block or the last
 -- block is free
 abbrev pub CanExtend : ℕ → View → Type 0
-CanExtend more v = (v.size + more ≤ 4294967295) × (HasRoomFor 1 v ⊎ ((before : List Block) × (last : Block) × (v.blocks ≡ before ++ last ∷ []) × (last.used ≡ false)))
+CanExtend more v = (v.size + more ≤ max_size) × (HasRoomFor 1 v ⊎ ((before : List Block) × (last : Block) × (v.blocks ≡ before ++ last ∷ []) × (last.used ≡ false)))
 
 -- a call for more units at the end
 abbrev pub Extends : ℕ → View → View → Bool → Type 0

@@ -21,15 +21,11 @@ IsRow c p o (b ∷ bs) q =
     (node c b.name ≡ record { offset = o; size = b.size; used = b.used; before = p; after = first_or q bs })
     × IsRow c (Some b.name) (o + b.size) bs q
 
--- the block that the node k holds
-abbrev pub block_at : Room → ℕ → Block
-block_at c k = record { name = k; size = (node c k).size; used = (node c k).used }
-
 -- the blocks from a link back, before those that were met already
 abbrev pub walk : Room → ℕ → Option ℕ → List Block → List Block
 walk c zero q rest = rest
 walk c (suc f) None rest = rest
-walk c (suc f) (Some k) rest = walk c f (node c k).before (block_at c k ∷ rest)
+walk c (suc f) (Some k) rest = walk c f (node c k).before (record { name = k; size = (node c k).size; used = (node c k).used } ∷ rest)
 
 -- the blocks of the space, in order: a walk back from the last one
 unfoldable pub blocks : Room → ℕ → List Block

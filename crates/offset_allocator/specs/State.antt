@@ -29,26 +29,6 @@ pub record IsSound (max size limit : ℕ) (c : Cells) (last count top free : ℕ
   pub well : IsWellFormed (view_of max size limit c last 0)
   pub total : free_units (blocks c.room last) ≡ free
 
--- the fields, with the largest number of the index type
-pub record Fields : Type 0 where
-  pub max : ℕ
-  pub size : ℕ
-  pub limit : ℕ
-  pub cells : Cells
-  pub last : ℕ
-  pub count : ℕ
-  pub top : ℕ
-  pub free : ℕ
-  pub accesses : ℕ
-
--- what contracts see of them
-abbrev pub shown : Fields → View
-shown it = view_of it.max it.size it.limit it.cells it.last it.accesses
-
--- what is true of them between two calls
-abbrev pub AreSound : Fields → Type 0
-AreSound it = IsSound it.max it.size it.limit it.cells it.last it.count it.top it.free
-
 -- every free block is in its bin
 abbrev pub AreListed : Room → ℕ → ℕ → ℕ → List (List ℕ) → Type 0
 AreListed c m last count ls = (x : ℕ) (p : Place) → HasPlace c m last count x p → (node c x).used ≡ false → Among x (names_at ls (down (node c x).size))
@@ -56,7 +36,3 @@ AreListed c m last count ls = (x : ℕ) (p : Place) → HasPlace c m last count 
 -- a name that no block has is in no bin
 abbrev pub AreUnlisted : List Block → List (List ℕ) → Type 0
 AreUnlisted bs ls = (y : ℕ) → count_named y bs ≡ 0 → IsUnlisted y ls
-
--- the bins hold the free blocks, each once
-abbrev pub AreFiled : List Block → List (List ℕ) → Type 0
-AreFiled bs ls = (k y : ℕ) → times y (names_at ls k) ≡ count_listed k y bs

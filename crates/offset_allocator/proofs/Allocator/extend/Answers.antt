@@ -1,12 +1,11 @@
 use Rattle.std.proofs.Common.{◌≡◌, ◌∙◌, true, false, refl, inl, inr, arith, ap, subst, sym}
 use Rattle.offset_allocator.specs.Named.{View}
-use Rattle.offset_allocator.specs.State.{shown, Fields}
+use Rattle.offset_allocator.proofs.Sound.{shown, Fields, fields_of}
 use Rattle.offset_allocator.specs.Relations.{Extends}
 use Rattle.offset_allocator.proofs.Extending.{used_at_end, can_widen, cannot_append, adds_counted, extends_done}
 use Rattle.offset_allocator.proofs.Places.{end_place}
 use Rattle.offset_allocator.proofs.Reading.{used_read}
 use Rattle.offset_allocator.proofs.Refusals.{is_open}
-use Rattle.offset_allocator.proofs.Sound.{fields_of}
 use Rattle.offset_allocator.proofs.Allocator.extend.Goals as goal
 use Rattle.offset_allocator.proofs.Allocator.extend.Goals.{After-is_used-used}
 use Rattle.offset_allocator.proofs.Allocator.extend.Given.{Over}

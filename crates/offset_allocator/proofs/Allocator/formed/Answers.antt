@@ -1,7 +1,6 @@
 use Rattle.std.proofs.Common.{subst}
 use Rattle.offset_allocator.specs.Named.{IsWellFormed}
-use Rattle.offset_allocator.specs.State.{Fields, AreSound, shown}
-use Rattle.offset_allocator.proofs.Sound.{fields_of}
+use Rattle.offset_allocator.proofs.Sound.{Fields, AreSound, shown, fields_of}
 use Rattle.offset_allocator.proofs.Allocator.formed.Goals as goal
 
 -- The blocks and the bins of a sound allocator agree, whatever its accesses.

@@ -5,10 +5,9 @@ use Rattle.offset_allocator.specs.Named.{View, padding_to}
 use Rattle.offset_allocator.specs.Orders.{IsSmallestFrom}
 use Rattle.offset_allocator.specs.Promises.{HasRoomFor, blocks_needed, units_needed}
 use Rattle.offset_allocator.specs.Relations.{Splits}
-use Rattle.offset_allocator.specs.State.{shown, AreSound, Fields}
+use Rattle.offset_allocator.proofs.Sound.{shown, AreSound, Fields, fields_of}
 use Rattle.offset_allocator.proofs.Granting.{Call, held, unlisted, whole_fits, padding_fits, units_free, granted}
 use Rattle.offset_allocator.proofs.Places.{at_place}
-use Rattle.offset_allocator.proofs.Sound.{fields_of}
 use Rattle.offset_allocator.proofs.Allocator.grant.Goals as goal
 use Rattle.offset_allocator.proofs.Allocator.grant.Goals.{After-pop-name, After-size-whole, After-divide}
 use Rattle.offset_allocator.proofs.Allocator.grant.Given.{Over}

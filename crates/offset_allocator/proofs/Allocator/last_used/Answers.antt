@@ -2,10 +2,9 @@ use Rattle.std.proofs.Common.{refl, sym, ap, subst, ◌∙◌}
 use Rattle.offset_allocator.specs.Cells.{Node}
 use Rattle.offset_allocator.specs.Named.{View}
 use Rattle.offset_allocator.specs.Relations.{Resets}
-use Rattle.offset_allocator.specs.State.{shown}
+use Rattle.offset_allocator.proofs.Sound.{shown, fields_of, known_sound}
 use Rattle.offset_allocator.proofs.Places.{at_place, end_place}
 use Rattle.offset_allocator.proofs.Emptied.{as_reset, before_live, none_used}
-use Rattle.offset_allocator.proofs.Sound.{fields_of, known_sound}
 use Rattle.offset_allocator.proofs.Reading.{used_live}
 use Rattle.offset_allocator.proofs.Allocator.last_used.Goals as goal
 

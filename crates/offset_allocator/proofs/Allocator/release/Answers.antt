@@ -3,13 +3,12 @@ use Rattle.offset_allocator.specs.Cells.{Node}
 use Rattle.offset_allocator.specs.Named.{IsWellFormed, free_start, remove_all}
 use Rattle.offset_allocator.specs.Space.{HasPlace, coalesced_before, coalesced_after}
 use Rattle.offset_allocator.specs.Orders.{class_lists}
-use Rattle.offset_allocator.specs.State.{Fields, AreSound, shown}
+use Rattle.offset_allocator.proofs.Sound.{Fields, AreSound, shown, fields_of, known_sound}
 use Rattle.offset_allocator.proofs.Classes.{down_small}
 use Rattle.offset_allocator.proofs.Places.{at_place}
 use Rattle.offset_allocator.proofs.Freeing.{Release, at, room_for, listed, listed_after, left_twice, unlisted_second, freed, named_live}
 use Rattle.offset_allocator.proofs.Ranges.{frees_gone, frees_others}
 use Rattle.offset_allocator.proofs.Reading.{live_used}
-use Rattle.offset_allocator.proofs.Sound.{fields_of, known_sound}
 use Rattle.offset_allocator.proofs.ViewTaken.{well_frees}
 use Rattle.offset_allocator.specs.Relations.{Frees}
 use Rattle.offset_allocator.proofs.Allocator.release.Goals as goal

@@ -1,11 +1,10 @@
 use Rattle.std.proofs.Common.{◌<◌, ◌+◌, ◌-◌, Some, None, arith, refl, subst}
 use Rattle.offset_allocator.specs.Named.{View, max_size, padding_to}
-use Rattle.offset_allocator.specs.State.{Fields, shown}
+use Rattle.offset_allocator.proofs.Sound.{Fields, shown, fields_of, known_sound}
 use Rattle.offset_allocator.specs.Promises.{blocks_needed, units_needed}
 use Rattle.offset_allocator.specs.Relations.{Aligns}
 use Rattle.offset_allocator.proofs.Classes.{below_value_up}
 use Rattle.offset_allocator.proofs.Refusals.{is_open}
-use Rattle.offset_allocator.proofs.Sound.{fields_of, known_sound}
 use Rattle.offset_allocator.proofs.Served.{serves_counted, past_refuses}
 use Rattle.offset_allocator.proofs.Allocator.serve.Goals as goal
 

@@ -3,13 +3,12 @@ use Rattle.std.proofs.lemmas.Bool.{cases_lt}
 use Rattle.std.proofs.lemmas.List.{get_or_past}
 use Rattle.offset_allocator.specs.Named.{View, free_sizes}
 use Rattle.offset_allocator.specs.Classes.{up}
-use Rattle.offset_allocator.specs.State.{Fields}
+use Rattle.offset_allocator.proofs.Sound.{Fields, fields_of, known_sound}
 use Rattle.offset_allocator.specs.Promises.{HasRoomFor, CanGrant, blocks_needed, units_needed}
 use Rattle.offset_allocator.proofs.Classes.{below_value_up}
 use Rattle.offset_allocator.proofs.Counting.{class_within}
 use Rattle.offset_allocator.proofs.Powers.{not_zero}
 use Rattle.offset_allocator.proofs.Refusals.{is_open, total_is}
-use Rattle.offset_allocator.proofs.Sound.{fields_of, known_sound}
 use Rattle.offset_allocator.proofs.counted.refusal_aligned_counted.Goals as goal
 
 pub returns-then-units-allocator-clause-why : goal.returns-then-units-allocator-clause-why

@@ -4,8 +4,7 @@ use Rattle.offset_allocator.specs.declared.reports.StorageReportFullRegion.{Stor
 use Rattle.offset_allocator.specs.Classes.{value}
 use Rattle.offset_allocator.specs.Reports.{count_of}
 use Rattle.offset_allocator.specs.Named.{View, free_sizes}
-use Rattle.offset_allocator.specs.State.{shown}
-use Rattle.offset_allocator.proofs.Sound.{fields_of}
+use Rattle.offset_allocator.proofs.Sound.{shown, fields_of}
 use Rattle.offset_allocator.proofs.Counting.{length_names, accesses_most}
 use Rattle.offset_allocator.proofs.counted.storage_report_full_counted.Goals as goal
 
