@@ -119,6 +119,12 @@ module _ {A B : Type 0} (max : ℕ) (number : A → ℕ) (t : Inside A B) {c : C
       let older = map-set (λ (k : Entry A). number k.older) ns x (record n { older = link }) in
       rw (← e) (rw (nodes, newer, older) refl)
 
+  pub wrote-links : (x : ℕ) (n : Entry A) (newer older : A) → length us ≡ length ns → x < length c.links.newer → n ≡ get_or ns x n → seen (set ns x (record n { newer = newer; older = older })) us ≡ record c { links = record c.links { newer = set c.links.newer x (number newer); older = set c.links.older x (number older) } }
+  wrote-links x n newer older even l at =
+      let short : x < length ns = omega (arith, l, ap (λ (v : Cells). length v.links.newer) e, length-map ns (λ (k : Entry A). number k.newer)) in
+      let m : Entry A = record n { newer = newer; older = older } in
+      rw (← e) (rw (kept x n m even short at (λ u. refl), map-set (λ (k : Entry A). number k.newer) ns x m, map-set (λ (k : Entry A). number k.older) ns x m) refl)
+
 pub shaped : {A B : Type 0} (max : ℕ) (number : A → ℕ) (t : Inside A B) → AreEven max t → max ≤ 4294967295 → AreShaped max (cells_of max number t)
 shaped max number t h w =
     let n = length-nodes_of max number t.nodes.items t.used.items h.used in

@@ -91,9 +91,8 @@ pub(crate) fn push<NI: NodeIndex>(
     tables.shape();
     let link = link_to(name);
     let first = tables.head(class, count);
-    tables.set_older(name, first, count);
-    tables.set_newer(name, no_link(), count);
     tables.set_head(class, link, count);
+    tables.set_links(name, no_link(), first, count);
     let newest = number(first);
     if newest == NI::MAX {
         let word = class / 64;
@@ -200,9 +199,8 @@ pub(crate) fn exchange<NI: NodeIndex>(
         // the bin is empty neither before nor after, so the masks stay
         let after = tables.older(gone, count);
         let newest = link_to(name);
-        tables.set_older(name, after, count);
-        tables.set_newer(name, no_link(), count);
         tables.set_head(class, newest, count);
+        tables.set_links(name, no_link(), after, count);
         link_newer(tables, after, newest, count);
     } else {
         remove(tables, top_mask, gone, size, count);

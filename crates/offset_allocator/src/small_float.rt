@@ -2,7 +2,7 @@
 //! Each size below 8 is a class of its own; from there on the 256 classes rise in steps of at most an eighth.
 
 ghost use Rattle.std.specs.Prelude.{◌≡◌, ◌<◌, ◌≤◌, ◌%◌, ◌^◌, ◌*◌, ◌-◌, ◌↔◌, ℕ};
-ghost use Rattle.offset_allocator.specs.Classes.{value, up, down, IsExponent};
+ghost use Rattle.offset_allocator.specs.Classes.{value, up, down};
 
 /// How many bits of a class are its mantissa.
 pub const MANTISSA_BITS: u32 = 3;
@@ -22,8 +22,7 @@ pub fn uint_to_float_round_up(size: u32) -> u32
         return size;
     }
     // the class after the last one whose value is too small
-    let below = size - 1;
-    class_of(below, 31 - below.leading_zeros()) + 1
+    uint_to_float_round_down(size - 1) + 1
 }
 
 /// The largest class whose value is at most `size` units: the class of a free block of this size. It is at most 239.
@@ -32,14 +31,7 @@ pub fn uint_to_float_round_down(size: u32) -> u32
     ensures largest { (c : ℕ) → ((c ≤ result) ↔ (value c ≤ size)) }
 {
     // with the exponent of 8 a smaller size is its own class, so no branch is needed
-    class_of(size, 31 - (size | MANTISSA_VALUE).leading_zeros())
-}
-
-/// The class of a block of `size` units, from the exponent of the size.
-fn class_of(size: u32, exponent: u32) -> u32
-    requires { IsExponent size exponent }
-    ensures is { result ≡ down size }
-{
+    let exponent = 31 - (size | MANTISSA_VALUE).leading_zeros();
     let start = exponent - MANTISSA_BITS;
     // the leading one of a size from 8 on carries into the exponent
     (start << MANTISSA_BITS) + (size >> start)

@@ -295,6 +295,19 @@ impl<NI: NodeIndex> Tables<NI> {
         self.nodes[name as usize].older = link;
     }
 
+    /// Writes both links of a node in its class.
+    pub(crate) fn set_links(&mut self, name: u32, newer: NI, older: NI, count: &mut Accesses)
+        requires { name < length self.old.links.newer }
+        ensures cells { self.new ≡ record self.old { links = record self.old.links { newer = slice_set self.old.links.newer name (NI.number newer); older = slice_set self.old.links.older name (NI.number older) } } }
+        ensures accesses { count.new ≡ count.old + 2 }
+    {
+        count.tick();
+        count.tick();
+        let node = &mut self.nodes[name as usize];
+        node.newer = newer;
+        node.older = older;
+    }
+
     /// The link to the newest node of a class.
     pub(crate) fn head(&self, class: u32, count: &mut Accesses) -> NI
         requires { class < length self.now.links.heads }

@@ -63,9 +63,8 @@ pub(crate) fn push<NI: NodeIndex>(
     tables.shape();
     let link = link_to(name);
     let first = tables.head(class, count);
-    tables.set_older(name, first, count);
-    tables.set_newer(name, no_link(), count);
     tables.set_head(class, link, count);
+    tables.set_links(name, no_link(), first, count);
     let newest = number(first);
     if newest == NI::MAX {
         let word = class / 64;
@@ -120,6 +119,33 @@ pub(crate) fn remove<NI: NodeIndex>(
     tables.set_head(class, after, count);
     if number(after) == NI::MAX {
         clear_class(tables, top_mask, class, count);
+    }
+}
+
+/// Removes the name `gone` from the bin of this size, and pushes another one onto the bin of a class. Where `gone` is the
+/// newest of that same bin, the other one takes its place.
+#[inline(always)]
+pub(crate) fn exchange<NI: NodeIndex>(
+    tables: &mut Tables<NI>,
+    top_mask: &mut u32,
+    gone: u32,
+    size: u32,
+    name: u32,
+    class: u32,
+    count: &mut Accesses,
+) {
+    tables.shape();
+    let before = tables.newer(gone, count);
+    if number(before) == NI::MAX && class == uint_to_float_round_down(size) {
+        // the bin is empty neither before nor after, so the masks stay
+        let after = tables.older(gone, count);
+        let newest = link_to(name);
+        tables.set_head(class, newest, count);
+        tables.set_links(name, no_link(), after, count);
+        link_newer(tables, after, newest, count);
+    } else {
+        remove(tables, top_mask, gone, size, count);
+        push(tables, top_mask, name, class, count);
     }
 }
 

@@ -197,6 +197,15 @@ impl<NI: NodeIndex> Tables<NI> {
         self.nodes[name as usize].older = link;
     }
 
+    /// Writes both links of a node in its class.
+    pub(crate) fn set_links(&mut self, name: u32, newer: NI, older: NI, count: &mut Accesses) {
+        count.tick();
+        count.tick();
+        let node = &mut self.nodes[name as usize];
+        node.newer = newer;
+        node.older = older;
+    }
+
     /// The link to the newest node of a class.
     pub(crate) fn head(&self, class: u32, count: &mut Accesses) -> NI {
         count.tick();

@@ -11,7 +11,7 @@ newer-before-requires g c = below c.requires.held.linked _ (down_small c.args.si
 
 pub link_newer-requires-clause-named : goal.link_newer-requires-clause-named
 link_newer-requires-clause-named g c n =
-    rw (c.set_head.ensures.cells, c.set_newer.ensures.cells, c.set_older.ensures.cells, length-set, c.older-after.ensures.cell) (older_in c.requires.held.linked _ (down_small c.args.size) _ c.requires.listed (λ e. n (c.older-after.ensures.cell ∙ e)))
+    rw (c.set_links.ensures.cells, c.set_head.ensures.cells, length-set, c.older-after.ensures.cell) (older_in c.requires.held.linked _ (down_small c.args.size) _ c.requires.listed (λ e. n (c.older-after.ensures.cell ∙ e)))
 
 pub push-requires-clause-fresh : goal.push-requires-clause-fresh
 push-requires-clause-fresh g c =
@@ -23,7 +23,7 @@ returns-then-class-uint_to_float_round_down g c =
     let same : c.args.class ≡ down c.args.size = c.if-class-uint_to_float_round_down.true ∙ c.uint_to_float_round_down.ensures.is in
     let z : g.NI.NodeIndex.number c.newer-before.result ≡ g.NI.NodeIndex.MAX = omega arith in
     let f = is_first k _ (down_small c.args.size) _ c.requires.listed (sym c.newer-before.ensures.cell ∙ z) in
-    let e = rw (c.set_head.ensures.cells, c.set_newer.ensures.cells, c.set_older.ensures.cells) at c.link_newer.ensures.cells in
+    let e = rw (c.set_links.ensures.cells, c.set_head.ensures.cells) at c.link_newer.ensures.cells in
     let next = rw (← f.1) at (c.older-after.ensures.cell) in
     rw same (clauses (binned (rw f.1 at (exchanged k _ (down_small c.args.size) c.link_newer.new.tables.links c.args.name _ (omega (arith, c.requires.named, c.shape.ensures.newer)) c.requires.fresh f.0 next
     (rw (e, c.no_link.ensures.number, c.link_to-newest.ensures.number))
