@@ -123,6 +123,34 @@ pub(crate) fn remove<NI: NodeIndex>(
     }
 }
 
+/// Removes the name `gone` from the bin of this size, and pushes another one onto the bin of a class. Where `gone` is the
+/// newest of that same bin, the other one takes its place.
+#[inline(always)]
+pub(crate) fn exchange<NI: NodeIndex>(
+    tables: &mut Tables<NI>,
+    top_mask: &mut u32,
+    gone: u32,
+    size: u32,
+    name: u32,
+    class: u32,
+    count: &mut Accesses,
+) {
+    tables.shape();
+    let before = tables.newer(gone, count);
+    if number(before) == NI::MAX && class == uint_to_float_round_down(size) {
+        // the bin is empty neither before nor after, so the masks stay
+        let after = tables.older(gone, count);
+        let newest = link_to(name);
+        tables.set_older(name, after, count);
+        tables.set_newer(name, no_link(), count);
+        tables.set_head(class, newest, count);
+        link_newer(tables, after, newest, count);
+    } else {
+        remove(tables, top_mask, gone, size, count);
+        push(tables, top_mask, name, class, count);
+    }
+}
+
 /// Pops the newest name of a bin.
 pub(crate) fn pop<NI: NodeIndex>(
     tables: &mut Tables<NI>,
