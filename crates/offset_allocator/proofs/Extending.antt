@@ -1,10 +1,10 @@
 -- What more units at the end leave of the whole allocator.
-use Rattle.std.proofs.Common.{◌≡◌, ◌↔◌, ℕ, ◌+◌, ◌-◌, ◌<◌, ◌≤◌, ◌^◌, Bool, true, false, not, ◌&&◌, ◌⊎◌, List, [], ◌∷◌, ◌++◌, length, refl, sym, ap, subst, ◌∙◌, inl, inr, arith, slice_set, nat_eq}
+use Rattle.std.proofs.Common.{◌≡◌, ◌↔◌, ℕ, ◌+◌, ◌-◌, ◌<◌, ◌≤◌, ◌^◌, Bool, true, false, not, ◌⊎◌, List, [], ◌∷◌, ◌++◌, length, refl, sym, ap, subst, ◌∙◌, inl, inr, arith, slice_set}
 use Rattle.std.proofs.lemmas.Bool.{true≢false, false≢true}
 use Rattle.offset_allocator.specs.Classes.{down}
 use Rattle.offset_allocator.specs.Cells.{Cells, Room, Node, node}
 use Rattle.std.specs.List.{AllByRecursion}
-use Rattle.offset_allocator.specs.Named.{Block, View, count_named, names_at, count_listed, one, is_free, IsApart, IsWellFormed, IsNew, free_block, units, replace, remove_all, push, remove, without, times, ends_used}
+use Rattle.offset_allocator.specs.Named.{Block, View, count_named, names_at, count_listed, is_free, IsApart, IsWellFormed, IsNew, free_block, units, replace, remove_all, push, remove, without, times, ends_used}
 use Rattle.offset_allocator.specs.Promises.{HasRoomFor}
 use Rattle.offset_allocator.specs.Ranges.{KeepsAll}
 use Rattle.offset_allocator.specs.Relations.{Adds, CanExtend, Extends}
@@ -15,7 +15,7 @@ use Rattle.offset_allocator.proofs.Sound.{Fields, AreSound, shown}
 use Rattle.offset_allocator.proofs.Rows.{units-append, times-append, one-eq}
 use Rattle.offset_allocator.proofs.Ends.{Ended, ended}
 use Rattle.offset_allocator.proofs.Places.{at_place, end_place}
-use Rattle.offset_allocator.proofs.Freeing.{filed_listed}
+use Rattle.offset_allocator.proofs.Filed.{share, counts_once}
 use Rattle.offset_allocator.proofs.ViewApart.{append_nil, ends_free, apart_parts, first_false}
 use Rattle.offset_allocator.proofs.ViewOrders.{tally_append, times_remove_all}
 use Rattle.offset_allocator.proofs.ViewReplaced.{listed_named}
@@ -160,14 +160,17 @@ module _ {it : Fields} {more : ℕ} (r : Growth it more false) where
   is_left = rw (size_at_end r) (sym (remove_free (end r).last (class_lists it.max it.cells.links) (b_used r) ∙ ap (λ i. remove (down (end r).last.size) i (class_lists it.max it.cells.links)) (end r).name))
 
   pub widen_listed : Among it.last (names_at (class_lists it.max it.cells.links) (down (node it.cells.room it.last).size))
-  widen_listed = filed_listed (class_lists it.max it.cells.links) r.sound.space (w r).orders it.last _ (end_held r refl) (ap (λ (n : Node). n.used) (at_place (end_held r refl)) ∙ b_used r)
+  widen_listed =
+      let k : ℕ = down (node it.cells.room it.last).size in
+      let there = counts_once (end_held r refl) (ap (λ (n : Node). n.used) (at_place (end_held r refl)) ∙ b_used r) in
+      omega (arith, there, (w r).orders k it.last, ap (count_listed k it.last) (end r).is, tally_append (share k it.last) (end r).front ((end r).last ∷ []))
 
   pub widen_unlisted : IsUnlisted it.last widen_left
   widen_unlisted d dh a =
       let l : List (List ℕ) = class_lists it.max it.cells.links in
       let bs : List Block = blocks it.cells.room it.last in
       let known = w r in
-      let split : (k y : ℕ) → count_listed k y bs ≡ count_listed k y (end r).front + count_listed k y ((end r).last ∷ []) = λ k y. ap (count_listed k y) (end r).is ∙ tally_append (λ (d : Block). one (is_free d && (nat_eq k (down d.size) && nat_eq y d.name))) (end r).front ((end r).last ∷ []) in
+      let split : (k y : ℕ) → count_listed k y bs ≡ count_listed k y (end r).front + count_listed k y ((end r).last ∷ []) = λ k y. ap (count_listed k y) (end r).is ∙ tally_append (share k y) (end r).front ((end r).last ∷ []) in
       let left = times_remove_all ((end r).last ∷ []) l known.classes (λ k y. omega (arith, known.orders k y, known.distinct y, listed_named k y bs)) (λ k y. omega (arith, known.orders k y, split k y)) d it.last in
       let alone : count_named it.last (end r).front ≡ 0 = omega (arith, known.distinct it.last, ap (count_named it.last) (end r).is, times-append it.last (end r).front ((end r).last ∷ []), one-eq it.last (end r).last.name (end r).name) in
       let there : 1 ≤ times it.last (names_at (remove_all ((end r).last ∷ []) l) d) = rw is_left at a in omega (arith, there, left, known.orders d it.last, split d it.last, listed_named d it.last (end r).front, alone)

@@ -1,45 +1,26 @@
 -- What it leaves of the whole allocator to free a block.
-use Rattle.std.proofs.Common.{◌≡◌, ℕ, ◌+◌, ◌<◌, ◌≤◌, ◌^◌, Bool, true, false, not, ◌&&◌, List, [], ◌∷◌, ◌++◌, length, Option, Some, None, if◌then◌else◌, refl, sym, ap, ap₂, subst, ◌∙◌, arith, nat_eq, inl, inr}
+use Rattle.std.proofs.Common.{◌≡◌, ℕ, ◌+◌, ◌<◌, ◌^◌, Bool, true, false, not, ◌&&◌, List, [], ◌∷◌, ◌++◌, length, Option, Some, None, if◌then◌else◌, refl, sym, ap, ap₂, subst, ◌∙◌, arith, nat_eq}
 use Rattle.std.proofs.lemmas.Bool.{false≢true}
 use Rattle.offset_allocator.specs.Classes.{down}
-use Rattle.offset_allocator.specs.Cells.{Cells, Room, Node}
-use Rattle.offset_allocator.specs.Named.{Block, View, Place, one, is_free, count_named, count_listed, names_at, IsWellFormed, units, place_of, is_used_at, free_end, without_end, free_start, without_start, remove_all, push, free_block, replace, IsApart, remove, times}
-use Rattle.offset_allocator.specs.Space.{IsChain, HasPlace, blocks, coalesced_before}
-use Rattle.offset_allocator.specs.Orders.{Among, IsUnlisted, class_lists, Binned}
-use Rattle.offset_allocator.specs.State.{IsSound, view_of, free_units, AreListed}
+use Rattle.offset_allocator.specs.Cells.{Cells}
+use Rattle.offset_allocator.specs.Named.{Block, View, Place, one, count_named, count_listed, IsWellFormed, units, place_of, is_used_at, free_end, without_end, free_start, without_start, remove_all, push, free_block, replace, IsApart, remove}
+use Rattle.offset_allocator.specs.Space.{IsChain, HasPlace, blocks}
+use Rattle.offset_allocator.specs.Orders.{class_lists, Binned}
+use Rattle.offset_allocator.specs.State.{IsSound, view_of, free_units, AreFiled}
+use Rattle.offset_allocator.proofs.Filed.{share}
 use Rattle.offset_allocator.proofs.Sound.{Fields, AreSound, shown}
 use Rattle.offset_allocator.proofs.Split.{well_counted}
-use Rattle.offset_allocator.proofs.Places.{located, at_place}
-use Rattle.offset_allocator.proofs.Views.{blocks-chain}
+use Rattle.offset_allocator.proofs.Places.{located}
 use Rattle.offset_allocator.proofs.ViewSteps.{place_at}
-use Rattle.offset_allocator.proofs.ViewOrders.{tally_append, hit_cases, times_remove_all, length_remove_all}
-use Rattle.offset_allocator.proofs.ViewReplaced.{listed_named}
+use Rattle.offset_allocator.proofs.ViewOrders.{tally_append}
 use Rattle.offset_allocator.proofs.ViewTaken.{well_frees, tally_end, tally_start}
 use Rattle.offset_allocator.proofs.ViewApart.{apart_parts, apart_coalesced, coalesced_parts}
 use Rattle.offset_allocator.proofs.Released.{idle_append, idle_end, idle_start}
 use Rattle.offset_allocator.specs.Relations.{SameSpace, Frees}
 use Rattle.offset_allocator.proofs.Joints.{stepped, free_most, free_units-append, free_units-free, free_units-used}
 
--- the sum that `listed` takes, of one block
-abbrev share : ℕ → ℕ → Block → ℕ
-share k y b = one (is_free b && (nat_eq k (down b.size) && nat_eq y b.name))
-
 share_used : (k y : ℕ) (b : Block) → b.used ≡ true → share k y b ≡ 0
 share_used k y b e = ap (λ (u : Bool). one (not u && (nat_eq k (down b.size) && nat_eq y b.name))) e
-
-pub filed_listed : {c : Room} {m last count : ℕ} {bs : List Block} (ls : List (List ℕ)) → IsChain c m last count bs → ((k y : ℕ) → times y (names_at ls k) ≡ count_listed k y bs) → AreListed c m last count ls
-filed_listed {c} {m} {last} {count} {bs} ls h f x p held u =
-    let at = at_place held in
-    let k : ℕ = down p.block.size in
-    let y : ℕ = p.block.name in
-    let e : bs ≡ p.before ++ p.block ∷ p.after = sym (blocks-chain c m last count bs h) ∙ blocks-chain c m last count _ held.chain in
-    let own : share k y p.block ≡ 1 = ap (λ (v : Bool). one (not v && (nat_eq k k && nat_eq y y))) (sym (ap (λ (v : Node). v.used) at) ∙ u) ∙ (elim (hit_cases k k) [ inl a ↦ elim (hit_cases y y) [ inl b ↦ both (nat_eq k k) (nat_eq y y) a.1 b.1 | inr b ↦ absurd (b.0 refl) ] | inr a ↦ absurd (a.0 refl) ]) in
-    let there : Among y (names_at ls k) = (omega (arith, f k y, ap (count_listed k y) e, tally_append (λ b. share k y b) p.before (p.block ∷ p.after))) in
-    rw (ap (λ (v : Node). v.size) at) (rw held.name at there)
-  where
-    both : (a b : Bool) → one a ≡ 1 → one b ≡ 1 → one (a && b) ≡ 1
-    both true b e f = f
-    both false b e f = absurd (omega arith)
 
 remove_all-append : (ys zs : List Block) (o : List (List ℕ)) → remove_all (ys ++ zs) o ≡ remove_all zs (remove_all ys o)
 remove_all-append [] zs o = refl
@@ -128,48 +109,19 @@ module _ {f : Fields} {x : ℕ} (r : Release f x) where
       let u = ap units at.stood ∙ tally_append (λ (d : Block). d.size) fs (b ∷ cs) in
       omega (arith, s.total, t, u, free_most fs, free_most cs, s.space.fits)
 
-  pub listed : AreListed f.cells.room (length f.cells.room.nodes) f.last f.count (class_lists f.max f.cells.links)
-  listed = filed_listed ls s.space w.orders
+  -- the bins hold the other free blocks
+  pub filed : AreFiled (at.place.before ++ at.place.after) (class_lists f.max f.cells.links)
+  filed k y = omega (arith, w.orders k y, ap (count_listed k y) at.stood, tally_append (share k y) fs (b ∷ cs), share_used k y b used, tally_append (share k y) fs cs)
 
-  -- coalesced with a free block before it
-  abbrev b₁ : Block
-  b₁ = record b { size = units (free_end fs) + b.size }
-
-  abbrev ls₁ : List (List ℕ)
-  ls₁ = remove_all (free_end fs) ls
-
-  parts : (k y : ℕ) → count_listed k y bs ≡ (count_listed k y (without_end fs) + count_listed k y (free_end fs)) + (count_listed k y (free_start cs) + count_listed k y (without_start cs))
-  parts k y = omega (arith, ap (count_listed k y) at.stood, tally_append (λ d. share k y d) fs (b ∷ cs), share_used k y b used, tally_end (λ d. share k y d) fs, tally_start (λ d. share k y d) cs)
-
-  removed : (k y : ℕ) → times y (names_at ls₁ k) + count_listed k y (free_end fs) ≡ times y (names_at ls k)
-  removed = times_remove_all (free_end fs) ls w.classes
-      (λ k y. omega (arith, w.orders k y, w.distinct y, listed_named k y bs))
-      (λ k y. omega (arith, w.orders k y, parts k y))
-
-  pub listed_after : (d : Room) (last' count' : ℕ) → HasPlace d (length f.cells.room.nodes) last' count' x (coalesced_before at.place) → AreListed d (length f.cells.room.nodes) last' count' (remove_all (free_end at.place.before) (class_lists f.max f.cells.links))
-  listed_after d last' count' h = filed_listed ls₁ h.chain
-      (λ k y. omega (arith, removed k y, w.orders k y, parts k y, tally_append (λ d. share k y d) (without_end fs) (b₁ ∷ cs), share_used k y b₁ used, tally_start (λ d. share k y d) cs))
-
-  -- coalesced with a free block after it too
+  -- the size of the whole block, and the bins without the blocks that are coalesced into it
   abbrev pub whole : ℕ
   whole = (units (free_end at.place.before) + at.place.block.size) + units (free_start at.place.after)
 
-  abbrev pub left_twice : List (List ℕ)
-  left_twice = remove_all (free_start at.place.after) (remove_all (free_end at.place.before) (class_lists f.max f.cells.links))
-
-  pub unlisted_second : IsUnlisted x left_twice
-  unlisted_second k kh a =
-      let one_x : count_named x cs ≡ 0 = omega (arith, w.distinct x, ap (count_named x) at.stood, tally_append (λ (d : Block). one (nat_eq x d.name)) fs (b ∷ cs), hits) in
-      let r = times_remove_all (free_start cs) ls₁ (length_remove_all (free_end fs) ls ∙ w.classes)
-      (λ i y. omega (arith, removed i y, w.orders i y, w.distinct y, listed_named i y bs))
-      (λ i y. omega (arith, removed i y, w.orders i y, parts i y)) in
-      let there : 1 ≤ times x (names_at left_twice k) = a in omega (arith, there, r k x, removed k x, w.orders k x, parts k x, listed_named k x fs, at.alone, tally_end (λ d. share k x d) fs, tally_start (λ d. share k x d) cs, listed_named k x cs, one_x)
-    where
-      hits : one (nat_eq x b.name) ≡ 1
-      hits = elim (hit_cases x b.name) [ inl h ↦ h.1 | inr h ↦ absurd (h.0 (sym at.held.name)) ]
+  abbrev pub left : List (List ℕ)
+  left = remove_all (free_start at.place.after) (remove_all (free_end at.place.before) (class_lists f.max f.cells.links))
 
   pub freed : (d : Cells) (last' count' top' acc' : ℕ) → IsChain d.room (length f.cells.room.nodes) last' count' (without_end at.place.before ++ free_block at.place.block.name whole ∷ without_start at.place.after) → Binned max d.links top'
-      → class_lists f.max d.links ≡ push (down whole) x left_twice
+      → class_lists f.max d.links ≡ push (down whole) x left
       → IsSound f.max f.size f.limit d last' count' top' (f.free + at.place.block.size) × Frees x (shown f) (view_of f.max f.size f.limit d last' acc')
   freed d last' count' top' acc' chain bins eo =
       let gone : List Block = free_end fs ++ (b ∷ free_start cs) in

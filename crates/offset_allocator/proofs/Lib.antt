@@ -8,6 +8,7 @@ pub mod Emptied
 pub mod Ends
 pub mod Exchange
 pub mod Extending
+pub mod Filed
 pub mod Find
 pub mod Freeing
 pub mod Fresh

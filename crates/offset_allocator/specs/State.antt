@@ -1,10 +1,9 @@
 -- What is true of an allocator's fields.
-use Rattle.std.specs.Prelude.{◌≡◌, ℕ, ◌+◌, ◌<◌, length, false, List, if◌then◌else◌}
-use Rattle.offset_allocator.specs.Classes.{down}
-use Rattle.offset_allocator.specs.Cells.{Cells, Room, node}
-use Rattle.offset_allocator.specs.Orders.{Binned, class_lists, Among, IsUnlisted}
-use Rattle.offset_allocator.specs.Space.{IsSpace, HasPlace, blocks}
-use Rattle.offset_allocator.specs.Named.{View, Block, IsWellFormed, Place, tally, times, names_at, count_named, count_listed}
+use Rattle.std.specs.Prelude.{◌≡◌, ℕ, ◌+◌, ◌<◌, length, List, if◌then◌else◌}
+use Rattle.offset_allocator.specs.Cells.{Cells}
+use Rattle.offset_allocator.specs.Orders.{Binned, class_lists, IsUnlisted}
+use Rattle.offset_allocator.specs.Space.{IsSpace, blocks}
+use Rattle.offset_allocator.specs.Named.{View, Block, IsWellFormed, tally, times, names_at, count_named, count_listed}
 
 -- the units of the free blocks
 abbrev pub free_units : List Block → ℕ
@@ -29,10 +28,10 @@ pub record IsSound (max size limit : ℕ) (c : Cells) (last count top free : ℕ
   pub well : IsWellFormed (view_of max size limit c last 0)
   pub total : free_units (blocks c.room last) ≡ free
 
--- every free block is in its bin
-abbrev pub AreListed : Room → ℕ → ℕ → ℕ → List (List ℕ) → Type 0
-AreListed c m last count ls = (x : ℕ) (p : Place) → HasPlace c m last count x p → (node c x).used ≡ false → Among x (names_at ls (down (node c x).size))
-
 -- a name that no block has is in no bin
 abbrev pub AreUnlisted : List Block → List (List ℕ) → Type 0
 AreUnlisted bs ls = (y : ℕ) → count_named y bs ≡ 0 → IsUnlisted y ls
+
+-- the bins hold the free blocks, each once
+abbrev pub AreFiled : List Block → List (List ℕ) → Type 0
+AreFiled bs ls = (k y : ℕ) → times y (names_at ls k) ≡ count_listed k y bs

@@ -1,19 +1,56 @@
-//! Coalesces a block with the free blocks beside it, which leave their bins.
-ghost use Rattle.std.specs.Prelude.{ℕ, ◌≡◌, ◌+◌, ◌≤◌, length};
+//! Coalesces a free block with the free blocks beside it, and puts the whole block on its bin.
+ghost use Rattle.std.specs.Prelude.{ℕ, ◌≡◌, ◌+◌, ◌≤◌, ◌++◌, [], Some, false, length, MatchOption};
+ghost use Rattle.offset_allocator.specs.Classes.{down};
 ghost use Rattle.offset_allocator.specs.Cells.{node};
-ghost use Rattle.offset_allocator.specs.Named.{Place, free_end, free_start, remove_all};
+ghost use Rattle.offset_allocator.specs.Named.{Place, free_end, free_start, push, remove_all};
 ghost use Rattle.offset_allocator.specs.Space.{HasPlace, coalesced_before, coalesced_after};
 ghost use Rattle.offset_allocator.specs.Orders.{Binned, class_lists};
-ghost use Rattle.offset_allocator.specs.State.{AreListed};
+ghost use Rattle.offset_allocator.specs.State.{AreFiled};
 
+use crate::accesses::Accesses;
 use crate::index::NodeIndex;
+use crate::small_float::uint_to_float_round_down;
 use crate::store::Store;
+use crate::tables::Tables;
 use crate::{bins, chain};
 
-/// Coalesces a free block directly before a block of this size into it, and returns its size then.
+// The name of a free block directly before a block, if one is.
 #[inline(always)]
-pub(crate) fn with_before<NI: NodeIndex>(store: &mut Store<NI>, name: u32, size: u32) -> u32
-    requires place { (m : ℕ) × (p : Place) × HasPlace store.old.tables.room m store.old.last store.old.spare_count name p × AreListed store.old.tables.room m store.old.last store.old.spare_count (class_lists NI.MAX store.old.tables.links) }
+fn free_before<NI: NodeIndex>(tables: &Tables<NI>, name: u32, count: &mut Accesses) -> Option<u32>
+    requires place { (m last spare : ℕ) × (p : Place) × HasPlace tables.now.room m last spare name p }
+    ensures free { MatchOption result ((m last spare : ℕ) (p : Place) → HasPlace tables.now.room m last spare name p → free_end p.before ≡ []) (λ x. (Some x ≡ (node tables.now.room name).before) × ((node tables.now.room x).used ≡ false)) }
+    ensures accesses_min { count.old + 1 ≤ count.new }
+    ensures accesses_max { count.new ≤ count.old + 2 }
+{
+    if let Some(previous) = chain::before(tables, name, count) {
+        if !chain::is_used(tables, previous, count) {
+            return Some(previous);
+        }
+    }
+    None
+}
+
+// The name of a free block directly after a block, if one is.
+#[inline(always)]
+fn free_after<NI: NodeIndex>(tables: &Tables<NI>, name: u32, count: &mut Accesses) -> Option<u32>
+    requires place { (m last spare : ℕ) × (p : Place) × HasPlace tables.now.room m last spare name p }
+    ensures free { MatchOption result ((m last spare : ℕ) (p : Place) → HasPlace tables.now.room m last spare name p → free_start p.after ≡ []) (λ x. (Some x ≡ (node tables.now.room name).after) × ((node tables.now.room x).used ≡ false)) }
+    ensures accesses_min { count.old + 1 ≤ count.new }
+    ensures accesses_max { count.new ≤ count.old + 2 }
+{
+    if let Some(following) = chain::after(tables, name, count) {
+        if !chain::is_used(tables, following, count) {
+            return Some(following);
+        }
+    }
+    None
+}
+
+// Coalesces a free block directly before a block of this size into it, and returns its size then. The free block leaves
+// its bin.
+#[inline(always)]
+fn with_before<NI: NodeIndex>(store: &mut Store<NI>, name: u32, size: u32) -> u32
+    requires place { (m : ℕ) × (p : Place) × HasPlace store.old.tables.room m store.old.last store.old.spare_count name p × AreFiled (p.before ++ p.after) (class_lists NI.MAX store.old.tables.links) }
     requires held { Binned NI.MAX store.old.tables.links store.old.top_mask }
     requires size { size ≡ (node store.old.tables.room name).size }
     ensures place { (m : ℕ) (p : Place) → HasPlace store.old.tables.room m store.old.last store.old.spare_count name p → HasPlace store.new.tables.room m store.new.last store.new.spare_count name (coalesced_before p) }
@@ -24,65 +61,91 @@ pub(crate) fn with_before<NI: NodeIndex>(store: &mut Store<NI>, name: u32, size:
     ensures accesses_min { store.old.accesses + 1 ≤ store.new.accesses }
     ensures accesses_max { store.new.accesses ≤ store.old.accesses + 17 }
 {
-    if let Some(previous) = chain::before(&store.tables, name, &mut store.accesses) {
-        if !chain::is_used(&store.tables, previous, &mut store.accesses) {
-            let more = chain::size(&store.tables, previous, &mut store.accesses);
-            bins::remove(
-                &mut store.tables,
-                &mut store.top_mask,
-                previous,
-                more,
-                &mut store.accesses,
-            );
-            chain::coalesce_before(
-                &mut store.tables,
-                &mut store.spare_count,
-                previous,
-                name,
-                more + size,
-                &mut store.accesses,
-            );
-            return more + size;
-        }
+    if let Some(previous) = free_before(&store.tables, name, &mut store.accesses) {
+        let more = chain::size(&store.tables, previous, &mut store.accesses);
+        let whole = more + size;
+        bins::remove(
+            &mut store.tables,
+            &mut store.top_mask,
+            previous,
+            more,
+            &mut store.accesses,
+        );
+        chain::coalesce_before(
+            &mut store.tables,
+            &mut store.spare_count,
+            previous,
+            name,
+            whole,
+            &mut store.accesses,
+        );
+        return whole;
     }
     size
 }
 
-/// Coalesces a free block directly after a block of this size into it, and returns its size then.
+/// Coalesces a block of this size, which is in no bin, with the free blocks beside it, and pushes the whole block onto its
+/// bin. There it takes the place of the block that is coalesced last, where that is the newest one.
 #[inline(always)]
-pub(crate) fn with_after<NI: NodeIndex>(store: &mut Store<NI>, name: u32, size: u32) -> u32
-    requires place { (m : ℕ) × (p : Place) × HasPlace store.old.tables.room m store.old.last store.old.spare_count name p × AreListed store.old.tables.room m store.old.last store.old.spare_count (class_lists NI.MAX store.old.tables.links) }
+pub(crate) fn coalesce<NI: NodeIndex>(store: &mut Store<NI>, name: u32, size: u32)
+    requires place { (m : ℕ) × (p : Place) × HasPlace store.old.tables.room m store.old.last store.old.spare_count name p × AreFiled (p.before ++ p.after) (class_lists NI.MAX store.old.tables.links) }
     requires held { Binned NI.MAX store.old.tables.links store.old.top_mask }
     requires size { size ≡ (node store.old.tables.room name).size }
-    ensures place { (m : ℕ) (p : Place) → HasPlace store.old.tables.room m store.old.last store.old.spare_count name p → HasPlace store.new.tables.room m store.new.last store.new.spare_count name (coalesced_after p) }
+    ensures place { (m : ℕ) (p : Place) → HasPlace store.old.tables.room m store.old.last store.old.spare_count name p → HasPlace store.new.tables.room m store.new.last store.new.spare_count name (coalesced_after (coalesced_before p)) }
     ensures held { Binned NI.MAX store.new.tables.links store.new.top_mask }
-    ensures lists { (m : ℕ) (p : Place) → HasPlace store.old.tables.room m store.old.last store.old.spare_count name p → class_lists NI.MAX store.new.tables.links ≡ remove_all (free_start p.after) (class_lists NI.MAX store.old.tables.links) }
-    ensures limit { length store.new.tables.room.nodes ≡ length store.old.tables.room.nodes }
-    ensures size { result ≡ (node store.new.tables.room name).size }
-    ensures accesses_min { store.old.accesses + 1 ≤ store.new.accesses }
-    ensures accesses_max { store.new.accesses ≤ store.old.accesses + 15 }
+    ensures lists { (m : ℕ) (p : Place) → HasPlace store.old.tables.room m store.old.last store.old.spare_count name p → class_lists NI.MAX store.new.tables.links ≡ push (down (node store.new.tables.room name).size) name (remove_all (free_start p.after) (remove_all (free_end p.before) (class_lists NI.MAX store.old.tables.links))) }
+    ensures accesses_min { store.old.accesses + 7 ≤ store.new.accesses }
+    ensures accesses_max { store.new.accesses ≤ store.old.accesses + 39 }
 {
-    if let Some(following) = chain::after(&store.tables, name, &mut store.accesses) {
-        if !chain::is_used(&store.tables, following, &mut store.accesses) {
-            let more = chain::size(&store.tables, following, &mut store.accesses);
-            bins::remove(
-                &mut store.tables,
-                &mut store.top_mask,
-                following,
-                more,
-                &mut store.accesses,
-            );
-            chain::coalesce_after(
-                &mut store.tables,
-                &mut store.last,
-                &mut store.spare_count,
-                name,
-                following,
-                size + more,
-                &mut store.accesses,
-            );
-            return size + more;
-        }
+    if let Some(following) = free_after(&store.tables, name, &mut store.accesses) {
+        let size = with_before(store, name, size);
+        let more = chain::size(&store.tables, following, &mut store.accesses);
+        let whole = size + more;
+        chain::coalesce_after(
+            &mut store.tables,
+            &mut store.last,
+            &mut store.spare_count,
+            name,
+            following,
+            whole,
+            &mut store.accesses,
+        );
+        bins::exchange(
+            &mut store.tables,
+            &mut store.top_mask,
+            following,
+            more,
+            name,
+            uint_to_float_round_down(whole),
+            &mut store.accesses,
+        );
+    } else if let Some(previous) = free_before(&store.tables, name, &mut store.accesses) {
+        let more = chain::size(&store.tables, previous, &mut store.accesses);
+        let whole = more + size;
+        chain::coalesce_before(
+            &mut store.tables,
+            &mut store.spare_count,
+            previous,
+            name,
+            whole,
+            &mut store.accesses,
+        );
+        bins::exchange(
+            &mut store.tables,
+            &mut store.top_mask,
+            previous,
+            more,
+            name,
+            uint_to_float_round_down(whole),
+            &mut store.accesses,
+        );
+    } else {
+        bins::push(
+            &mut store.tables,
+            &mut store.top_mask,
+            name,
+            uint_to_float_round_down(size),
+            &mut store.accesses,
+        );
     }
-    size
 }

@@ -171,21 +171,13 @@ impl<NI: NodeIndex> Allocator<NI> {
     {
         let size = chain::size(&self.store.tables, name, &mut self.store.accesses);
         self.free_total += size;
-        let size = merge::with_before(&mut self.store, name, size);
-        let size = merge::with_after(&mut self.store, name, size);
         chain::mark(
             &mut self.store.tables,
             name,
             false,
             &mut self.store.accesses,
         );
-        bins::push(
-            &mut self.store.tables,
-            &mut self.store.top_mask,
-            name,
-            uint_to_float_round_down(size),
-            &mut self.store.accesses,
-        );
+        merge::coalesce(&mut self.store, name, size);
     }
 
     /// Whether a name is that of a used block.

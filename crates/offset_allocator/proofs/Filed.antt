@@ -1,0 +1,65 @@
+-- A block in no bin, where the bins hold the other free blocks.
+use Rattle.std.proofs.Common.{◌≡◌, ℕ, ◌+◌, ◌≤◌, Bool, true, false, ◌&&◌, Some, None, List, [], ◌∷◌, ◌++◌, length, nat_eq, refl, sym, ap, ◌∙◌, arith, inl, inr}
+use Rattle.offset_allocator.specs.Classes.{down}
+use Rattle.offset_allocator.specs.Cells.{Room, Node, node}
+use Rattle.offset_allocator.specs.Named.{Block, Place, one, is_free, count_named, count_listed, names_at, free_end, without_end, remove_all}
+use Rattle.offset_allocator.specs.Space.{HasPlace, first_or}
+use Rattle.offset_allocator.specs.Orders.{Among, IsUnlisted}
+use Rattle.offset_allocator.specs.State.{AreFiled}
+use Rattle.offset_allocator.proofs.Exchange.{each-le}
+use Rattle.offset_allocator.proofs.Places.{at_place, next_place, previous_place}
+use Rattle.offset_allocator.proofs.Rows.{one-eq, times-append}
+use Rattle.offset_allocator.proofs.ViewOrders.{tally_append, hit_cases, times_remove_all}
+use Rattle.offset_allocator.proofs.ViewReplaced.{listed_named}
+use Rattle.offset_allocator.proofs.ViewTaken.{tally_end}
+
+-- the sum that `count_listed` takes, of one block
+abbrev pub share : ℕ → ℕ → Block → ℕ
+share k y b = one (is_free b && (nat_eq k (down b.size) && nat_eq y b.name))
+
+-- a free block counts once
+pub counts_once : {c : Room} {m last count y : ℕ} {p : Place} → HasPlace c m last count y p → (node c y).used ≡ false → share (down (node c y).size) y p.block ≡ 1
+counts_once {c} {y = y} {p = p} h u =
+    let at = at_place h in
+    rw (ap (λ (v : Node). v.size) at, ← ap (λ (v : Node). v.used) at, u, h.name) (elim (hit_cases (down p.block.size) (down p.block.size)) [ inl a ↦ elim (hit_cases y y) [ inl b ↦ both _ _ a.1 b.1 | inr b ↦ absurd (b.0 refl) ] | inr a ↦ absurd (a.0 refl) ])
+  where
+    both : (a b : Bool) → one a ≡ 1 → one b ≡ 1 → one (a && b) ≡ 1
+    both true b e f = f
+    both false b e f = absurd (omega arith)
+
+few : {c : Room} {m last count x : ℕ} {p : Place} → HasPlace c m last count x p → (y : ℕ) → count_named y (p.before ++ p.after) + one (nat_eq y p.block.name) ≤ 1
+few {c} {m} {last} {count} {p = p} h y = omega (arith, each-le c m last count _ h.chain y, times-append y p.before p.after, times-append y p.before (p.block ∷ p.after))
+
+module _ {c : Room} {m last count x : ℕ} {p : Place} (h : HasPlace c m last count x p) (ls : List (List ℕ)) (f : AreFiled (p.before ++ p.after) ls) where
+  pub unlisted : IsUnlisted x ls
+  unlisted k b a = omega (arith, f k x, listed_named k x (p.before ++ p.after), few h x, one-eq x p.block.name h.name)
+
+  -- the free blocks beside it are in their bins
+  pub previous_filed : {y : ℕ} → Some y ≡ (node c x).before → (node c y).used ≡ false → Among y (names_at ls (down (node c y).size))
+  previous_filed {y} e u =
+      let n = previous_place h e in
+      let k : ℕ = down (node c y).size in
+      omega (arith, f k y, tally_append (share k y) p.before p.after, ap (count_listed k y) n.is, tally_append (share k y) n.front (n.block ∷ []), counts_once n.place u)
+
+  pub next_filed : {y : ℕ} → Some y ≡ (node c x).after → (node c y).used ≡ false → Among y (names_at ls (down (node c y).size))
+  next_filed {y} e u =
+      let n = next_place h e in
+      let k : ℕ = down (node c y).size in
+      omega (arith, f k y, tally_append (share k y) p.before p.after, ap (count_listed k y) n.is, counts_once n.place u)
+
+  -- a free block before it leaves its bin
+  pub filed_before : length ls ≡ 256 → AreFiled (without_end p.before ++ p.after) (remove_all (free_end p.before) ls)
+  filed_before long k y =
+      let parts : (k y : ℕ) → count_listed k y (p.before ++ p.after) ≡ (count_listed k y (without_end p.before) + count_listed k y (free_end p.before)) + count_listed k y p.after = λ k y. omega (arith, tally_append (share k y) p.before p.after, tally_end (share k y) p.before) in
+      let left = times_remove_all (free_end p.before) ls long (λ k y. omega (arith, f k y, listed_named k y (p.before ++ p.after), few h y)) (λ k y. omega (arith, f k y, parts k y)) in
+      omega (arith, f k y, parts k y, left k y, tally_append (share k y) (without_end p.before) p.after)
+
+-- the block after a block is the same, whatever became of those before it
+pub next_same : {c d : Room} {m last count last' count' x y : ℕ} {p q : Place} → HasPlace c m last count x p → HasPlace d m last' count' x q → p.after ≡ q.after → Some y ≡ (node c x).after → (Some y ≡ (node d x).after) × ((node d y).used ≡ (node c y).used)
+next_same {c} {d} {x = x} {y = y} h g same e =
+    let n = next_place h e in
+    let e' : Some y ≡ (node d x).after = e ∙ ap (λ (v : Node). v.after) (at_place h) ∙ ap (first_or None) same ∙ sym (ap (λ (v : Node). v.after) (at_place g)) in
+    let n' = next_place g e' in
+    let both : n'.block ∷ n'.rest ≡ n.block ∷ n.rest = sym n'.is ∙ sym same ∙ n.is in
+    let one : n'.block ≡ n.block = cc in
+    (e', ap (λ (v : Node). v.used) (at_place n'.place) ∙ ap (λ (b : Block). b.used) one ∙ sym (ap (λ (v : Node). v.used) (at_place n.place)))
