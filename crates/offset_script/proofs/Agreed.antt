@@ -4,10 +4,11 @@ use Rattle.std.proofs.lemmas.Bool.{cases_eq, cases_lt, true≢false, false≢tru
 use Rattle.offset_allocator.specs.Classes.{up, down}
 use Rattle.offset_allocator.specs.Reports.{largest, rows_below}
 use Rattle.offset_script.specs.declared.scripts.Command.TheVariants as command
-use Rattle.offset_script.specs.Machine.{max_size, padding_to, Tag, Live, Free, is_free, has_number, stamp, total, chosen_place, State, Answer, step, returns_only, leaves, stamp_of_padding, stamp_of_call}
+use Rattle.offset_script.specs.Machine.{Tag, Live, Free, is_free, has_number, stamp, total, chosen_place, State, Answer, step, returns_only, leaves, stamp_of_padding, stamp_of_call}
 use Rattle.offset_script.specs.Machine as machine
-use Rattle.offset_allocator.specs.Named.{Block, View, Place, Grant, place_of, tally, one, units, times, count_listed, used_block, free_block, free_part, names_at, push_all, remove_all, IsWellFormed, replace}
+use Rattle.offset_allocator.specs.Named.{Block, View, Place, Grant, place_of, tally, one, units, times, count_listed, used_block, free_block, free_part, names_at, push_all, remove_all, IsWellFormed, replace, max_size, padding_to}
 use Rattle.offset_allocator.specs.Named as named
+use Rattle.offset_allocator.proofs.Reading.{size_at}
 use Rattle.offset_allocator.specs.Promises.{HasRoomFor, CanGrant, blocks_needed, units_needed}
 use Rattle.offset_allocator.specs.Relations.{SameSpace, Serves, Frees, Adds, CanExtend, Extends}
 use Rattle.offset_script.specs.Agreement.{Label, by_name, by_tag, stamp_of, IsFalling, name_of, Agrees}
@@ -336,8 +337,8 @@ module _ (v : View) (kept_name : ℕ → Option ℕ) (s : State) (w : IsWellForm
   pub live_agrees : (k x : ℕ) → kept_name k ≡ Some x → named.is_used_at (place_of x v.blocks) ≡ true
   live_agrees k x e = let l = live_at k x e in ap named.is_used_at l.named ∙ ap (λ t. not (is_free t)) l.tag
 
-  pub size_agrees : (k x : ℕ) → kept_name k ≡ Some x → (step (command.Size k) s).answer ≡ machine.Size (named.size_at (place_of x v.blocks))
-  size_agrees k x e = let l = live_at k x e in ap machine.size_at l.placed ∙ ap machine.Size (sym (ap named.size_at l.named ∙ ap (λ t. if not (is_free t) then l.spot.label.size else 0) l.tag))
+  pub size_agrees : (k x : ℕ) → kept_name k ≡ Some x → (step (command.Size k) s).answer ≡ machine.Size (size_at (place_of x v.blocks))
+  size_agrees k x e = let l = live_at k x e in ap machine.size_at l.placed ∙ ap machine.Size (sym (ap size_at l.named ∙ ap (λ t. if not (is_free t) then l.spot.label.size else 0) l.tag))
 
   -- a release
   pub free_agrees : (k x : ℕ) → kept_name k ≡ Some x → (u : View) → IsWellFormed u → Frees x v u
