@@ -14,34 +14,22 @@ as_before g cs s j e = rw e (map_same (raise_number 0) raise_none _ ∙ ap (λ l
 
 -- a question is a nest
 question_keeps_space : (q : Command) → IsQuestion q → KeepsSpace q
-question_keeps_space (command.Alloc n) h = absurd h
-question_keeps_space (command.Free k) h = absurd h
 question_keeps_space (command.Size k) h = tt
 question_keeps_space command.Report h = tt
 question_keeps_space command.Full h = tt
-question_keeps_space command.Reset h = absurd h
-question_keeps_space (command.Align n align) h = absurd h
-question_keeps_space (command.Extend more) h = absurd h
+question_keeps_space other h = absurd h
 
 quiet : (q : Command) (s : State) → IsQuestion q → IsQuiet (step q s).answer
-quiet (command.Alloc n) s h = absurd h
-quiet (command.Free k) s h = absurd h
 quiet (command.Size k) s h = quiet_size (place_of k s.blocks)
 quiet command.Report s h = quiet_report (is_short_of 1 s) _ _
 quiet command.Full s h = tt
-quiet command.Reset s h = absurd h
-quiet (command.Align n align) s h = absurd h
-quiet (command.Extend more) s h = absurd h
+quiet other s h = absurd h
 
 no_grants : (q : Command) (s : State) → IsQuestion q → (step q s).state.grants - s.grants ≡ 0
-no_grants (command.Alloc n) s h = absurd h
-no_grants (command.Free k) s h = absurd h
 no_grants (command.Size k) s h = omega arith
 no_grants command.Report s h = omega arith
 no_grants command.Full s h = omega arith
-no_grants command.Reset s h = absurd h
-no_grants (command.Align n align) s h = absurd h
-no_grants (command.Extend more) s h = absurd h
+no_grants other s h = absurd h
 
 -- commands after a question have the same answers as without it
 pub after_question : (size limit : ℕ) → 2 ≤ limit → (before : List Command) (q : Command) → IsQuestion q → (rest : List Command)

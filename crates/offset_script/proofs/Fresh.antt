@@ -61,25 +61,13 @@ fresh_law size limit h cs none =
 -- a fresh space that is extended
 pub raise_none : (a : Answer) → raise_number 0 a ≡ a
 raise_none (machine.Grant k offset) = ap (λ n. machine.Grant n offset) (let e : k + 0 ≡ k = omega arith in e)
-raise_none machine.Refused = refl
-raise_none machine.Freed = refl
-raise_none machine.Gone = refl
-raise_none (machine.Size n) = refl
-raise_none (machine.Report f l) = refl
-raise_none (machine.Full rows) = refl
-raise_none machine.Reset = refl
-raise_none machine.Extended = refl
+raise_none other = refl
 
 -- numbers that stay leave commands as they are
 pub renumber_same : (r : ℕ → ℕ) → ((k : ℕ) → r k ≡ k) → (c : Command) → renumber r c ≡ c
-renumber_same r e (command.Alloc n) = refl
 renumber_same r e (command.Free k) = ap command.Free (e k)
 renumber_same r e (command.Size k) = ap command.Size (e k)
-renumber_same r e command.Report = refl
-renumber_same r e command.Full = refl
-renumber_same r e command.Reset = refl
-renumber_same r e (command.Align n align) = refl
-renumber_same r e (command.Extend more) = refl
+renumber_same r e other = refl
 
 -- one free block before any grant, whatever its stamp
 abbrev alone : ℕ → ℕ → ℕ → State

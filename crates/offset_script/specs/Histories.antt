@@ -7,28 +7,16 @@ use Rattle.offset_script.specs.declared.scripts.Command.TheVariants as command
 use Rattle.offset_script.specs.Machine.{Tag, Live, Free, Block, is_free, total, State, Answer, start, step, answers, after}
 use Rattle.offset_script.specs.Machine as machine
 
--- a command with the function r applied to its grant number
+-- a command with the function r applied to its grant number, if it has one
 abbrev pub renumber : (ℕ → ℕ) → Command → Command
-renumber r (command.Alloc n) = command.Alloc n
 renumber r (command.Free k) = command.Free (r k)
 renumber r (command.Size k) = command.Size (r k)
-renumber r command.Report = command.Report
-renumber r command.Full = command.Full
-renumber r command.Reset = command.Reset
-renumber r (command.Align n align) = command.Align n align
-renumber r (command.Extend more) = command.Extend more
+renumber r other = other
 
--- an answer with g added to the number of a grant
+-- an answer with g added to the number of a grant, if it is one
 abbrev pub raise_number : ℕ → Answer → Answer
 raise_number g (machine.Grant k offset) = machine.Grant (k + g) offset
-raise_number g machine.Refused = machine.Refused
-raise_number g machine.Freed = machine.Freed
-raise_number g machine.Gone = machine.Gone
-raise_number g (machine.Size n) = machine.Size n
-raise_number g (machine.Report free largest) = machine.Report free largest
-raise_number g (machine.Full rows) = machine.Full rows
-raise_number g machine.Reset = machine.Reset
-raise_number g machine.Extended = machine.Extended
+raise_number g other = other
 
 -- ---- answers with other grant numbers
 
@@ -85,14 +73,7 @@ pub record IsCollapse (ks : List ℕ) (s t : State) : Type 0 where
 -- an answer without the offset of a grant
 abbrev pub without_offset : Answer → Answer
 without_offset (machine.Grant k offset) = machine.Grant k 0
-without_offset machine.Refused = machine.Refused
-without_offset machine.Freed = machine.Freed
-without_offset machine.Gone = machine.Gone
-without_offset (machine.Size n) = machine.Size n
-without_offset (machine.Report free largest) = machine.Report free largest
-without_offset (machine.Full rows) = machine.Full rows
-without_offset machine.Reset = machine.Reset
-without_offset machine.Extended = machine.Extended
+without_offset other = other
 
 -- releases of the grants of these numbers, in this order
 abbrev pub releases : List ℕ → List Command
@@ -117,14 +98,9 @@ IsGrant a k = (offset : ℕ) × (a ≡ machine.Grant k offset)
 
 -- neither a reset nor an extension
 abbrev pub KeepsSpace : Command → Type 0
-KeepsSpace (command.Alloc n) = Unit {0}
-KeepsSpace (command.Free k) = Unit {0}
-KeepsSpace (command.Size k) = Unit {0}
-KeepsSpace command.Report = Unit {0}
-KeepsSpace command.Full = Unit {0}
 KeepsSpace command.Reset = ⊥
-KeepsSpace (command.Align n align) = Unit {0}
 KeepsSpace (command.Extend more) = ⊥
+KeepsSpace other = Unit {0}
 
 -- from this state on, these commands release each block that they are granted, the last one first, and no other block
 pub data Nest : State → List Command → Type 0 where
@@ -146,11 +122,7 @@ NestsLeaveNoTrace size limit cs found = (before nest rest : List Command) → cs
 
 -- whether a command is a question: it changes nothing
 abbrev pub IsQuestion : Command → Type 0
-IsQuestion (command.Alloc n) = ⊥
-IsQuestion (command.Free k) = ⊥
 IsQuestion (command.Size k) = Unit {0}
 IsQuestion command.Report = Unit {0}
 IsQuestion command.Full = Unit {0}
-IsQuestion command.Reset = ⊥
-IsQuestion (command.Align n align) = ⊥
-IsQuestion (command.Extend more) = ⊥
+IsQuestion other = ⊥
