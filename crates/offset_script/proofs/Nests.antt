@@ -1,6 +1,6 @@
 -- A nest leaves no trace.
 use Rattle.std.proofs.Common.{length, ◌≡◌, ◌≢◌, ℕ, ◌+◌, ◌-◌, ◌*◌, ◌<◌, ◌≤◌, Bool, true, false, ◌⊎◌, List, [], ◌∷◌, ◌++◌, Option, Some, None, nat_eq, nat_lt, nat_le, if◌then◌else◌, refl, sym, ap, subst, ◌∙◌, inl, inr, arith, leb-false, le-leb, ne_eqb}
-use Rattle.std.proofs.lemmas.Bool.{cases_lt, lt-leb}
+use Rattle.std.proofs.lemmas.Bool.{cases_lt, lt-leb, and_parts}
 use Rattle.offset_script.specs.declared.scripts.Command.{Command}
 use Rattle.offset_script.specs.declared.scripts.Command.TheVariants as command
 use Rattle.offset_allocator.specs.Classes.{up, down}
@@ -18,7 +18,7 @@ use Rattle.offset_script.proofs.Well.{Well, in_count, count, chosen_at, well_sta
 use Rattle.offset_allocator.proofs.Classes.{fits_size}
 use Rattle.offset_script.proofs.Similar.{SameNumber, Similar, similar_refl, similar_sym, similar_trans}
 use Rattle.offset_script.proofs.Restored.{Restored, restored}
-use Rattle.offset_script.proofs.Tests.{both_true, if_both}
+use Rattle.offset_script.proofs.Tests.{if_both}
 
 -- What a call does that keeps the space: it only returns an answer, or grants, or releases.
 
@@ -67,7 +67,7 @@ does_grant c s room needed padding_at h (Some p) e = inr (inl (record {
   place = p;
   room = room;
   chose = e;
-  within = let f = chosen_at needed s.blocks p e in let l = fits_size needed p.block.size (both_true (is_free p.block.tag) (nat_le (up needed) (down p.block.size)) f.1).1 in let m = h (total p.before) in omega arith;
+  within = let f = chosen_at needed s.blocks p e in let l = fits_size needed p.block.size (and_parts (is_free p.block.tag) (nat_le (up needed) (down p.block.size)) f.1).1 in let m = h (total p.before) in omega arith;
   is = refl;
 }))
 

@@ -1,5 +1,5 @@
 -- The plain stamped machine: the space as a list of blocks, commands in, answers out.
-use Rattle.std.specs.Prelude.{◌≡◌, ℕ, zero, suc, ◌+◌, ◌-◌, ◌*◌, Bool, true, false, ◌&&◌, ◌||◌, List, [], ◌∷◌, ◌++◌, length, map, sum, Option, Some, None, option_map, nat_eq, nat_lt, nat_le, if◌then◌else◌}
+use Rattle.std.specs.Prelude.{◌≡◌, ℕ, zero, suc, ◌+◌, ◌-◌, ◌*◌, Bool, true, false, ◌&&◌, ◌||◌, not, List, [], ◌∷◌, ◌++◌, length, map, sum, Option, Some, None, option_map, nat_eq, nat_lt, nat_le, if◌then◌else◌}
 use Rattle.offset_allocator.specs.Classes.{up, down}
 use Rattle.offset_allocator.specs.Named.{max_size, padding_to}
 use Rattle.offset_allocator.specs.Reports.{largest, Row, rows_below}
@@ -117,7 +117,7 @@ without_end (b ∷ c ∷ bs) = b ∷ without_end (c ∷ bs)
 -- whether the last block of a list is live
 abbrev pub ends_live : List Block → Bool
 ends_live [] = false
-ends_live (b ∷ []) = if is_free b.tag then false else true
+ends_live (b ∷ []) = not (is_free b.tag)
 ends_live (b ∷ c ∷ bs) = ends_live (c ∷ bs)
 
 -- n units between two lists become free, with stamp s, and coalesce with a free block right before and one right after
