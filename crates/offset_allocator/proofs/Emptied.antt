@@ -2,7 +2,7 @@
 -- and where none is left the space is one free block.
 use Rattle.std.proofs.Common.{◌≡◌, ℕ, append_assoc, ◌<◌, ◌≤◌, Bool, true, false, not, List, [], ◌∷◌, ◌++◌, length, replicate, Option, Some, None, IfSome, nat_eq, refl, sym, ap, ap₂, subst, ◌∙◌, arith, inl, inr}
 use Rattle.std.proofs.lemmas.List.{length-replicate, ext_get_or}
-use Rattle.std.proofs.lemmas.Bool.{cases_lt, false≢true}
+use Rattle.std.proofs.lemmas.Bool.{cases_lt, false≢true, not-false}
 use Rattle.offset_allocator.specs.Classes.{down}
 use Rattle.offset_allocator.specs.Named.{Block, View, one, is_free, free_block, units, count_named, used_of, times, count_listed, names_at, push, IsApart, IsWellFormed, place_of, is_used_at}
 use Rattle.offset_allocator.specs.Relations.{SameSpace, Frees, Resets}
@@ -12,7 +12,7 @@ use Rattle.offset_allocator.proofs.Classes.{down_small}
 use Rattle.offset_allocator.specs.Ranges.{IsLive}
 use Rattle.offset_allocator.proofs.Reading.{used_live}
 use Rattle.offset_allocator.proofs.Rows.{one-same, one-eq}
-use Rattle.offset_allocator.proofs.ViewApart.{apart_parts, first_false}
+use Rattle.offset_allocator.proofs.ViewApart.{apart_parts, left_false}
 use Rattle.offset_allocator.proofs.ViewOrders.{hit_cases, hit_at, hit_other, names_same, names_other, length_put, tally_append}
 use Rattle.offset_allocator.proofs.ViewSteps.{place_here}
 use Rattle.offset_allocator.proofs.ViewTaken.{replicate_none}
@@ -91,13 +91,9 @@ module _ (bs : List Block) (last : ℕ) (ends : last_or None bs ≡ Some last) (
       let d : Block = e2.last in
       let is : bs ≡ e2.front ++ (d ∷ b ∷ []) = end.is ∙ ap (λ (l : List Block). l ++ b ∷ []) e2.is ∙ append_assoc e2.front (d ∷ []) (b ∷ []) in
       let parts = apart_parts e2.front (d ∷ b ∷ []) (subst IsApart is apart) in
-      let used : d.used ≡ true = not_false d.used (first_false (is_free d) (is_free b) parts.1.0 (ap not is_idle)) in
+      let used : d.used ≡ true = not-false d.used (left_false (is_free d) (is_free b) parts.1.0 (ap not is_idle)) in
       let absent : count_named x e2.front ≡ 0 = omega (arith, one-eq x d.name e2.name, each x, ap (count_named x) is, tally_append (λ (d : Block). one (nat_eq x d.name)) e2.front (d ∷ b ∷ [])) in
       ap is_used_at (ap (place_of x) is ∙ place_here x e2.front d (b ∷ []) absent (sym e2.name)) ∙ used
-    where
-      not_false : (u : Bool) → not u ≡ false → u ≡ true
-      not_false true e = refl
-      not_false false e = absurd (false≢true (sym e))
 
   pub none_used : last_or None (ended bs last ends).front ≡ None → used_of bs ≡ 0
   none_used e = omega (arith, ap used_of (end.is ∙ ap (λ (l : List Block). l ++ b ∷ []) (last_none front e)), ap one is_idle)

@@ -1,5 +1,5 @@
 -- What more units at the end leave of the whole allocator.
-use Rattle.std.proofs.Common.{◌≡◌, ◌↔◌, ℕ, ◌+◌, ◌-◌, ◌<◌, ◌≤◌, ◌^◌, Bool, true, false, not, ◌⊎◌, List, [], ◌∷◌, ◌++◌, length, refl, sym, ap, subst, ◌∙◌, inl, inr, arith, slice_set}
+use Rattle.std.proofs.Common.{◌≡◌, ◌↔◌, ℕ, ◌+◌, ◌-◌, ◌<◌, ◌≤◌, ◌^◌, Bool, true, false, not, ◌⊎◌, List, [], ◌∷◌, ◌++◌, length, refl, sym, ap, subst, ◌∙◌, inl, inr, arith, slice_set, append-nil}
 use Rattle.std.proofs.lemmas.Bool.{true≢false, false≢true}
 use Rattle.offset_allocator.specs.Classes.{down}
 use Rattle.offset_allocator.specs.Cells.{Cells, Room, Node, node}
@@ -16,7 +16,7 @@ use Rattle.offset_allocator.proofs.Rows.{units-append, times-append, one-eq}
 use Rattle.offset_allocator.proofs.Ends.{Ended, ended}
 use Rattle.offset_allocator.proofs.Places.{at_place, end_place}
 use Rattle.offset_allocator.proofs.Filed.{share, counts_once}
-use Rattle.offset_allocator.proofs.ViewApart.{append_nil, ends_free, apart_parts, first_false}
+use Rattle.offset_allocator.proofs.ViewApart.{ends_free, apart_parts, left_false}
 use Rattle.offset_allocator.proofs.ViewOrders.{tally_append, times_remove_all}
 use Rattle.offset_allocator.proofs.ViewReplaced.{listed_named}
 use Rattle.offset_allocator.proofs.ViewTaken.{well_added}
@@ -147,7 +147,7 @@ module _ {it : Fields} {more : ℕ} (r : Growth it more true) where
       let none : (end r).last.size - (end r).last.size ≡ 0 = omega arith in
       let sum : 0 + more ≡ more = omega arith in
       let unused : IsNew y (shown it) = record { below = omega (arith, below, r.sound.nodes); absent = ap (count_named y) (end r).is ∙ new } in
-      grown r d k y ((end r).front ++ (end r).last ∷ []) [] ((end r).is ∙ sym (append_nil _)) (ends_free_last (end r).front (end r).last ∙ ap not (b_used r)) tt tt (inr unused) (inr room) (λ _. unused)
+      grown r d k y ((end r).front ++ (end r).last ∷ []) [] ((end r).is ∙ sym (append-nil _)) (ends_free_last (end r).front (end r).last ∙ ap not (b_used r)) tt tt (inr unused) (inr room) (λ _. unused)
       (rw (whole, none) at chain) bins (rw sum eo)
 
 -- the last block is free
@@ -182,7 +182,7 @@ module _ {it : Fields} {more : ℕ} (r : Growth it more false) where
       let sum : (end r).last.size + more ≡ units ((end r).last ∷ []) + more = omega arith in
       let named = (end r).name in
       let parts = apart_parts (end r).front ((end r).last ∷ []) (subst IsApart (end r).is (w r).apart) in
-      grown r d k it.last (end r).front ((end r).last ∷ []) (end r).is (first_false (ends_free (end r).front) (not (end r).last.used) parts.2 (ap not (b_used r))) (b_used r, tt) (named, tt)
+      grown r d k it.last (end r).front ((end r).last ∷ []) (end r).is (left_false (ends_free (end r).front) (not (end r).last.used) parts.2 (ap not (b_used r))) (b_used r, tt) (named, tt)
       (inl (omega (arith, one-eq it.last (end r).last.name named))) (inl (omega arith)) (λ n. absurd (cc))
       (rw (b_used r, named, sum) at chain) bins (rw (← is_left, ← size_is) eo)
 

@@ -18,7 +18,7 @@ abbrev units_in : Option Range → ℕ
 units_in o = unwrap_or (option_map (λ (r : Range). r.size) o) 0
 
 -- the size of the used block at a place, or 0
-abbrev size_at : Option Place → ℕ
+abbrev pub size_at : Option Place → ℕ
 size_at None = 0
 size_at (Some p) = if p.block.used then p.block.size else 0
 

@@ -1,9 +1,9 @@
 -- Free blocks at the ends of lists.
-use Rattle.std.proofs.Common.{◌≡◌, Bool, true, false, not, ◌&&◌, List, [], ◌∷◌, ◌++◌, if◌then◌else◌, refl, sym, ap, ap₂, ◌∙◌}
+use Rattle.std.proofs.Common.{◌≡◌, Bool, true, false, not, ◌&&◌, List, [], ◌∷◌, ◌++◌, if◌then◌else◌, refl, sym, ap, ap₂, ◌∙◌, append-nil}
 use Rattle.std.proofs.lemmas.Bool.{true≢false}
 use Rattle.std.specs.List.{AllByRecursion}
 use Rattle.offset_allocator.specs.Named.{Block, IsApart, free_start, without_start, free_end, without_end, starts_free}
-use Rattle.offset_allocator.proofs.ViewApart.{append_nil, ends_free, apart_parts, no_end, no_start}
+use Rattle.offset_allocator.proofs.ViewApart.{ends_free, apart_parts, no_end, no_start}
 
 pub idle_append : (bs cs : List Block) → AllByRecursion (λ b. b.used ≡ false) bs → AllByRecursion (λ b. b.used ≡ false) cs → AllByRecursion (λ b. b.used ≡ false) (bs ++ cs)
 idle_append [] cs h k = k
@@ -37,7 +37,7 @@ two_free b c bs e f a = true≢false (ap₂ (λ (x y : Bool). not x && not y) (s
 
 -- free blocks after a list that ends in none are its free end
 pub end_is : (before left : List Block) → AllByRecursion (λ b. b.used ≡ false) left → IsApart (before ++ left) → ends_free before ≡ false → (free_end (before ++ left) ≡ left) × (without_end (before ++ left) ≡ before)
-end_is before [] i a e = let n = no_end before e in (ap free_end (append_nil before) ∙ n.0, ap without_end (append_nil before) ∙ n.1)
+end_is before [] i a e = let n = no_end before e in (ap free_end (append-nil before) ∙ n.0, ap without_end (append-nil before) ∙ n.1)
 end_is before (b ∷ []) i a e = end_one before b i.0
 end_is before (b ∷ c ∷ left) i a e = absurd (two_free b c left i.0 i.1.0 (apart_parts before (b ∷ c ∷ left) a).1)
 

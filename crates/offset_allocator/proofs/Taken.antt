@@ -1,6 +1,6 @@
 -- The block that a request takes, and when there is one.
 use Rattle.std.proofs.Common.{◌≡◌, ◌≢◌, ℕ, ◌≤◌, Bool, true, false, not, ◌&&◌, List, [], ◌∷◌, ◌++◌, Option, Some, None, nat_eq, refl, sym, ap, inl, inr, arith}
-use Rattle.std.proofs.lemmas.Bool.{false≢true}
+use Rattle.std.proofs.lemmas.Bool.{false≢true, not-true}
 use Rattle.offset_allocator.specs.Classes.{up, down}
 use Rattle.offset_allocator.specs.Named.{Block, View, Place, one, is_free, times, count_named, count_listed, names_at, place_of, IsWellFormed}
 use Rattle.offset_allocator.proofs.ViewOrders.{tally_append, hit_cases}
@@ -14,10 +14,6 @@ pub record Taken (v : View) (c x : ℕ) : Type 0 where
   pub name : place.block.name ≡ x
   pub free : place.block.used ≡ false
   pub class : down place.block.size ≡ c
-
-pub not_true : (u : Bool) → not u ≡ true → u ≡ false
-not_true true e = absurd (false≢true e)
-not_true false e = refl
 
 hit_parts : (f : Bool) (c d : ℕ) (r : Bool) → 1 ≤ one (f && (nat_eq c d && r)) → (f ≡ true) × (c ≡ d)
 hit_parts true c d r l = (refl, elim (hit_cases c d) [ inl e ↦ e.0 | inr m ↦ absurd (go (nat_eq c d) m.1 l) ])
@@ -50,7 +46,7 @@ taken v w c x xs e = go (place_of x v.blocks) refl
     go (Some p) f =
         let b = place_at x v.blocks p f in
         let l = listed_block c x p.before p.block p.after b.1 (omega (arith, w.distinct x, ap (count_named x) b.0)) (omega (arith, listed, ap (count_listed c x) b.0)) in
-        record { place = p; stood = b.0; name = sym b.1; free = not_true p.block.used l.0; class = sym l.1 }
+        record { place = p; stood = b.0; name = sym b.1; free = not-true p.block.used l.0; class = sym l.1 }
 
 -- some bin is not empty whose class is large enough
 abbrev pub HasFit : ℕ → View → Type 0

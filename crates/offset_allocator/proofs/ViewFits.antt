@@ -1,11 +1,10 @@
 -- When a request is granted, and how well what it takes fits.
 use Rattle.std.proofs.Common.{◌≡◌, ℕ, ◌*◌, ◌^◌, ◌<◌, ◌≤◌, true, not, ◌⊎◌, ◌↔◌, List, [], ◌∷◌, ◌++◌, refl, sym, ap, subst, ◌∙◌, inl, inr, arith, eq-eqb, le_trans}
 use Rattle.std.specs.List.{AllByRecursion}
-use Rattle.std.proofs.lemmas.Bool.{cases_lt, true≢false}
+use Rattle.std.proofs.lemmas.Bool.{cases_lt, true≢false, cond_both}
 use Rattle.offset_allocator.specs.Classes.{value, up, down}
 use Rattle.offset_allocator.specs.Reports.{largest, IsGoodRefusal}
 use Rattle.offset_allocator.specs.Named.{Block, View, is_free, times, count_listed, units, names_at, free_sizes, IsWellFormed}
-use Rattle.offset_allocator.proofs.ViewOrders.{if_value}
 use Rattle.offset_allocator.proofs.Taken.{HasFit, fitting}
 use Rattle.offset_allocator.proofs.Classes.{serves, near_best, up_law, down_law}
 
@@ -22,13 +21,13 @@ there_listed b (c ∷ bs) (inr i) f = let ih = there_listed b bs i f in omega ar
 -- what holds of each free block in a list holds of their sizes
 all_free : (P : ℕ → Type 0) (bs : List Block) → ((b : Block) → HasName b bs → is_free b ≡ true → P b.size) → AllByRecursion P (free_sizes bs)
 all_free P [] h = tt
-all_free P (b ∷ bs) h = if_value b.used (free_sizes bs) (b.size ∷ free_sizes bs) (AllByRecursion P)
+all_free P (b ∷ bs) h = cond_both b.used (free_sizes bs) (b.size ∷ free_sizes bs) (AllByRecursion P)
     (λ e. all_free P bs (λ c i. h c (inr i)))
     (λ e. (h b (inl refl) (ap not e), all_free P bs (λ c i. h c (inr i))))
 
 pub reported : (n : ℕ) (bs : List Block) → 1 ≤ n → n ≤ largest (free_sizes bs) → (b : Block) × (HasName b bs) × (is_free b ≡ true) × (n ≤ value (down b.size))
 reported n [] l = λ h. absurd (omega arith)
-reported n (b ∷ bs) l = if_value b.used (free_sizes bs) (b.size ∷ free_sizes bs) (λ ns. n ≤ largest ns → (c : Block) × (HasName c (b ∷ bs)) × (is_free c ≡ true) × (n ≤ value (down c.size)))
+reported n (b ∷ bs) l = cond_both b.used (free_sizes bs) (b.size ∷ free_sizes bs) (λ ns. n ≤ largest ns → (c : Block) × (HasName c (b ∷ bs)) × (is_free c ≡ true) × (n ≤ value (down c.size)))
     (λ e h. let r = reported n bs l h in (r.0, inr r.1, r.2, r.3))
     (λ e h. elim (cases_lt (value (down b.size)) n) [
       | inl m ↦ let r = reported n bs l (omega arith) in (r.0, inr r.1, r.2, r.3)
@@ -37,10 +36,10 @@ reported n (b ∷ bs) l = if_value b.used (free_sizes bs) (b.size ∷ free_sizes
 
 pub reports_all : (b : Block) (bs : List Block) → HasName b bs → is_free b ≡ true → value (down b.size) ≤ largest (free_sizes bs)
 reports_all b [] i f = absurd i
-reports_all b (c ∷ bs) (inl e) f = if_value c.used (free_sizes bs) (c.size ∷ free_sizes bs) (λ ns. value (down b.size) ≤ largest ns)
+reports_all b (c ∷ bs) (inl e) f = cond_both c.used (free_sizes bs) (c.size ∷ free_sizes bs) (λ ns. value (down b.size) ≤ largest ns)
     (λ g. absurd (true≢false (sym f ∙ ap is_free e ∙ ap not g)))
     (λ g. let s = ap (λ (x : Block). value (down x.size)) e in omega arith)
-reports_all b (c ∷ bs) (inr i) f = if_value c.used (free_sizes bs) (c.size ∷ free_sizes bs) (λ ns. value (down b.size) ≤ largest ns)
+reports_all b (c ∷ bs) (inr i) f = cond_both c.used (free_sizes bs) (c.size ∷ free_sizes bs) (λ ns. value (down b.size) ≤ largest ns)
     (λ g. reports_all b bs i f)
     (λ g. let r = reports_all b bs i f in omega arith)
 

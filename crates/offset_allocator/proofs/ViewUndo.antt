@@ -1,5 +1,6 @@
 -- A request that is granted, and released at once, leaves no trace.
 use Rattle.std.proofs.Common.{◌≡◌, ℕ, zero, suc, ◌<◌, ◌≤◌, Bool, true, false, not, ◌&&◌, List, [], ◌∷◌, ◌++◌, length, Some, slice_set, refl, sym, ap, ap₂, subst, ◌∙◌, inl, inr, arith, eq-eqb, ne_eqb, append_assoc}
+use Rattle.offset_allocator.proofs.Walks.{without_first}
 use Rattle.std.proofs.lemmas.List.{set-get_or}
 use Rattle.offset_allocator.specs.Classes.{down}
 use Rattle.std.specs.List.{AllByRecursion}
@@ -10,7 +11,7 @@ use Rattle.offset_allocator.proofs.Released.{idle_parts, end_is, start_is}
 use Rattle.offset_allocator.proofs.Rows.{one-same}
 use Rattle.offset_allocator.proofs.Classes.{down_small}
 use Rattle.offset_allocator.proofs.Split.{part_sums}
-use Rattle.offset_allocator.proofs.ViewApart.{ends_free, apart_parts, first_false, second_false, no_end, no_start}
+use Rattle.offset_allocator.proofs.ViewApart.{ends_free, apart_parts, left_false, right_false, no_end, no_start}
 use Rattle.offset_allocator.proofs.ViewOrders.{hit_cases, names_same, length_remove, times_remove}
 use Rattle.offset_allocator.proofs.ViewReplaced.{listed_named}
 use Rattle.offset_allocator.proofs.ViewSteps.{place_here}
@@ -20,28 +21,18 @@ set_again [] c l m = refl
 set_again (o ∷ order) zero l m = refl
 set_again (o ∷ order) (suc c) l m = ap (λ z. o ∷ z) (set_again order c l m)
 
-without_absent : (x : ℕ) (xs : List ℕ) → times x xs ≡ 0 → without x xs ≡ xs
-without_absent x [] e = refl
-without_absent x (y ∷ ys) e = elim (hit_cases x y) [
-  | inl i ↦ absurd (let k = i.1 in omega arith)
-  | inr i ↦ rw (ne_eqb y x (λ f. i.0 (sym f))) (ap (λ z. y ∷ z) (without_absent x ys (let k = i.1 in omega arith)))
-]
-
-without_first : (x : ℕ) (xs : List ℕ) → times x xs ≡ 0 → without x (x ∷ xs) ≡ xs
-without_first x xs e = rw (eq-eqb x x refl) (without_absent x xs e)
-
 -- a name that is put in and leaves
 remove_put : (c x : ℕ) (order : List (List ℕ)) → length order ≡ 256 → c < 256 → times x (names_at order c) ≡ 0 → remove c x (push c x order) ≡ order
 remove_put c x order h b e =
     set_again order c (x ∷ names_at order c) _
-    ∙ ap (slice_set order c) (ap (without x) (names_same order c (x ∷ names_at order c) h b) ∙ without_first x (names_at order c) e)
+    ∙ ap (slice_set order c) (ap (without x) (names_same order c (x ∷ names_at order c) h b) ∙ without_first x (names_at order c) (omega (arith, e, one-same x)))
     ∙ set-get_or order c []
 
 -- a first name that leaves and is put in
 put_remove : (c x : ℕ) (xs : List ℕ) (order : List (List ℕ)) → length order ≡ 256 → c < 256 → names_at order c ≡ x ∷ xs → times x xs ≡ 0 → push c x (remove c x order) ≡ order
 put_remove c x xs order h b e z =
     set_again order c (without x (names_at order c)) _
-    ∙ ap (λ l. slice_set order c (x ∷ l)) (names_same order c (without x (names_at order c)) h b ∙ ap (without x) e ∙ without_first x xs z)
+    ∙ ap (λ l. slice_set order c (x ∷ l)) (names_same order c (without x (names_at order c)) h b ∙ ap (without x) e ∙ without_first x xs (omega (arith, z, one-same x)))
     ∙ ap (slice_set order c) (sym e)
     ∙ set-get_or order c []
 
@@ -110,14 +101,14 @@ module _ (n : ℕ) (v w u : View) (g : Grant) (known : IsWellFormed v) (left : I
 
   left_end : (f.left ≡ []) × (f.before ≡ s.before)
   left_end =
-      let none = no_end s.before (first_false (ends_free s.before) (not s.block.used) parts.2 (ap not s.free)) in
-      let is = end_is f.before f.left idle.0 left_parts.0 (first_false (ends_free f.before) true freed_parts.2 refl) in
+      let none = no_end s.before (left_false (ends_free s.before) (not s.block.used) parts.2 (ap not s.free)) in
+      let is = end_is f.before f.left idle.0 left_parts.0 (left_false (ends_free f.before) true freed_parts.2 refl) in
       (sym is.0 ∙ ap free_end (sym here.0) ∙ none.0, sym is.1 ∙ ap without_end (sym here.0) ∙ none.1)
 
   right_start : (f.right ≡ remainder) × (f.after ≡ s.after)
   right_start =
-      let some = part_start s.remainder_name s.remainder s.after (second_false (not s.block.used) (starts_free s.after) parts.1.0 (ap not s.free)) in
-      let is = start_is f.right f.after idle.1 left_parts.1.1 (second_false true (starts_free f.after) freed_parts.1.0 refl) in
+      let some = part_start s.remainder_name s.remainder s.after (right_false (not s.block.used) (starts_free s.after) parts.1.0 (ap not s.free)) in
+      let is = start_is f.right f.after idle.1 left_parts.1.1 (right_false true (starts_free f.after) freed_parts.1.0 refl) in
       (sym is.0 ∙ ap free_start (sym here.2) ∙ some.0, sym is.1 ∙ ap without_start (sym here.2) ∙ some.1)
 
   once : times x (names_at v.order (down size)) ≡ 1

@@ -1,12 +1,12 @@
 //! What a program that draws does: a picture, its status, and the line of its fault.
 
-ghost use Rattle.std.specs.Prelude.{◌≡◌, ◌≢◌, Result, Err, true, IfSome, MatchResult, OnOk, if◌then◌else◌};
+ghost use Rattle.std.specs.Prelude.{◌≡◌, ◌≢◌, Result, Err, true, IfErr, IfSome, MatchResult, OnOk, if◌then◌else◌};
 ghost use Rattle.offset_lives.specs.Drawing.{DrawOf};
 ghost use Rattle.offset_script.specs.declared.faults.RunFault.{RunFault};
 ghost use Rattle.offset_script.specs.declared.faults.RunFault.TheVariants as faults;
 ghost use Rattle.offset_script.specs.declared.faults.ScriptFault.TheVariants as scripts;
 ghost use Rattle.offset_script.specs.Faults.{status_of};
-ghost use Rattle.offset_script.specs.Running.{Untouched, WritesFault, is_read_fault, is_write_fault};
+ghost use Rattle.offset_script.specs.Running.{WritesFault, is_read_fault, is_write_fault};
 
 use crate::drawing::picture;
 use offset_script::{RunFault, Sink, Source, read_script, send, send_fault};
@@ -18,7 +18,7 @@ fn draw<S: Source, K: Sink>(alloc: Global, input: &mut S, output: &mut K) -> Res
     ensures of_text { IfSome (S.left input.old)
         (λ text. DrawOf result text (S.left input.new) (K.held output.old) (K.held output.new)) }
     ensures flushed { OnOk result (K.is_flushed output.new ≡ true) }
-    ensures untouched { Untouched result output.old output.new }
+    ensures untouched { IfErr result (λ f. f ≢ faults.Write → output.new ≡ output.old) }
     ensures memory { result ≢ Err (faults.Script scripts.Memory) }
     ensures read { S.has_failed input.new ≡ (if is_read_fault result then true else S.has_failed input.old) }
     ensures write { K.has_failed output.new ≡ (if is_write_fault result then true else K.has_failed output.old) }
@@ -64,7 +64,7 @@ pub fn draw_program<S: Source, K: Sink, E: Sink>(
         × IfSome (S.left input.old)
         (λ text. DrawOf ended text (S.left input.new) (K.held output.old) (K.held output.new))
         × OnOk ended (K.is_flushed output.new ≡ true)
-        × Untouched ended output.old output.new
+        × IfErr ended (λ f. f ≢ faults.Write → output.new ≡ output.old)
         × (S.has_failed input.new ≡ (if is_read_fault ended then true else S.has_failed input.old))
         × (K.has_failed output.new ≡ (if is_write_fault ended then true else K.has_failed output.old)) }
 {

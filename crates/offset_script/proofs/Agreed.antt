@@ -1,17 +1,20 @@
 -- What each call of the allocator leaves agrees with what the plain machine leaves, and the answers are the same.
 use Rattle.std.proofs.Common.{◌≡◌, ℕ, zero, suc, ◌+◌, ◌-◌, ◌<◌, ◌≤◌, Bool, true, false, not, ◌&&◌, ◌||◌, ◌⊎◌, List, [], ◌∷◌, ◌++◌, replicate, length, sum, Option, Some, None, nat_eq, nat_lt, nat_le, if◌then◌else◌, refl, sym, ap, ap₂, subst, subst₂, ◌∙◌, inl, inr, arith, eq-eqb, ne_eqb, le-leb, le-ltb, leb-false, append_assoc, append-nil}
-use Rattle.std.proofs.lemmas.Bool.{cases_eq, cases_lt, true≢false, false≢true, lt-leb, ltb-true, ltb-false}
+use Rattle.std.specs.Option.{option_or}
+use Rattle.offset_allocator.proofs.ViewApart.{and_true}
+use Rattle.std.proofs.lemmas.Bool.{cases_eq, cases_lt, true≢false, false≢true, lt-leb, ltb-true, ltb-false, and_parts, and_right, or_parts, not-false}
 use Rattle.offset_allocator.specs.Classes.{up, down}
 use Rattle.offset_allocator.specs.Reports.{largest, rows_below}
 use Rattle.offset_script.specs.declared.scripts.Command.TheVariants as command
-use Rattle.offset_script.specs.Machine.{max_size, padding_to, Tag, Live, Free, is_free, has_number, stamp, total, chosen_place, State, Answer, step, returns_only, leaves, stamp_of_padding, stamp_of_call}
+use Rattle.offset_script.specs.Machine.{Tag, Live, Free, is_free, has_number, stamp, total, chosen_place, State, Answer, step, returns_only, leaves, stamp_of_padding, stamp_of_call}
 use Rattle.offset_script.specs.Machine as machine
-use Rattle.offset_allocator.specs.Named.{Block, View, Place, Grant, place_of, tally, one, units, times, count_listed, used_block, free_block, free_part, names_at, push_all, remove_all, IsWellFormed, replace}
+use Rattle.offset_allocator.specs.Named.{Block, View, Place, Grant, place_of, tally, one, units, times, count_listed, used_block, free_block, free_part, names_at, push_all, remove_all, IsWellFormed, replace, max_size, padding_to}
 use Rattle.offset_allocator.specs.Named as named
+use Rattle.offset_allocator.proofs.Reading.{size_at}
 use Rattle.offset_allocator.specs.Promises.{HasRoomFor, CanGrant, blocks_needed, units_needed}
 use Rattle.offset_allocator.specs.Relations.{SameSpace, Serves, Frees, Adds, CanExtend, Extends}
 use Rattle.offset_script.specs.Agreement.{Label, by_name, by_tag, stamp_of, IsFalling, name_of, Agrees}
-use Rattle.offset_script.proofs.Well.{Well, found_at, not_found, number_of, not_there, count, count-append, hit, hit_self, apart_parts, and_true, end_of, start_of, coalesce_parts, chosen_at}
+use Rattle.offset_script.proofs.Well.{Well, found_at, not_found, number_of, not_there, count, count-append, hit, hit_self, apart_parts, end_of, start_of, coalesce_parts, chosen_at}
 use Rattle.offset_script.proofs.Well as well
 use Rattle.std.specs.List.{AllByRecursion}
 use Rattle.std.proofs.lemmas.List.{map-append, length-map, get_or-replicate, get_or_past, length-replicate}
@@ -20,8 +23,7 @@ use Rattle.offset_allocator.proofs.Classes.{down_small, fits_size}
 use Rattle.offset_script.proofs.Members.{map_parts, map_first}
 use Rattle.offset_script.proofs.Labels.{names, tags, map_three, stamps_below, Rises, newest_replaced}
 use Rattle.offset_script.proofs.Chosen.{Spot, whole, place_at, named_spot, plain_spot, named_place, plain_place, some_same, IsLabelled, none_chosen, chosen, place_of_spot}
-use Rattle.offset_script.proofs.Ends.{AllFree, free_named, free_tagged, apart_tagged, ends_live_last, last_free, total_units, length_labels, free_sizes_labels, or_else, or_none, name_append, name_skip, name_free, name_none}
-use Rattle.offset_script.proofs.Tests.{both_true, and_false_right, or_false, not_false}
+use Rattle.offset_script.proofs.Ends.{AllFree, free_named, free_tagged, apart_tagged, ends_live_last, last_free, total_units, length_labels, free_sizes_labels, or_none, name_append, name_skip, name_free, name_none}
 
 -- the answer to a request, when g grants were made before it
 abbrev pub answer_of : ℕ → Option Grant → Answer
@@ -87,7 +89,7 @@ tags_new front padding x n k rest left t = map-append by_tag (free_labels front 
 name_new : (j front padding x n k rest left t : ℕ) → name_of j (new_labels front padding x n k rest left t) ≡ (if nat_eq j k then Some x else None)
 name_new j front padding x n k rest left t =
     name_append j (free_labels front padding t) (live_label x n k ∷ free_labels rest left (t + 1))
-    ∙ ap (λ o. or_else o (name_of j (live_label x n k ∷ free_labels rest left (t + 1)))) (name_free_labels j front padding t)
+    ∙ ap (λ o. option_or o (name_of j (live_label x n k ∷ free_labels rest left (t + 1)))) (name_free_labels j front padding t)
     ∙ ap (λ o. if nat_eq j k then Some x else o) (name_free_labels j rest left (t + 1))
 
 rises_remainder : (x n t u : ℕ) → t ≤ u → Rises t (free_labels x n u)
@@ -103,7 +105,7 @@ rises_new front (suc padding) x n k rest left t = (λ e. absurd (true≢false e)
 -- other names of grants stay
 name_replaced : (j : ℕ) (before old new after : List Label) → name_of j old ≡ name_of j new → name_of j (before ++ (old ++ after)) ≡ name_of j (before ++ (new ++ after))
 name_replaced j before old new after e =
-    name_append j before (old ++ after) ∙ ap (or_else (name_of j before)) (name_append j old after ∙ ap (λ o. or_else o (name_of j after)) e ∙ sym (name_append j new after)) ∙ sym (name_append j before (new ++ after))
+    name_append j before (old ++ after) ∙ ap (option_or (name_of j before)) (name_append j old after ∙ ap (λ o. option_or o (name_of j after)) e ∙ sym (name_append j new after)) ∙ sym (name_append j before (new ++ after))
 
 -- a request has the same answer, and what it leaves agrees
 pub record Matches (u : View) (kept_name : ℕ → Option ℕ) (grants : ℕ) (r : Option Grant) (p : machine.Outcome) : Type 0 where
@@ -171,19 +173,19 @@ module _ (v : View) (kept_name : ℕ → Option ℕ) (s : State) (w : IsWellForm
         handles : (j : ℕ) → with_name k sp.label.name kept_name j ≡ name_of j (sp.before ++ (new ++ sp.after))
         handles j = elim (cases_eq j k) [
           | inl i ↦ subst (λ k'. with_name k sp.label.name kept_name k' ≡ name_of k' (sp.before ++ (new ++ sp.after))) (sym i)
-              (rw (eq-eqb k k refl) (sym (name_append k sp.before (new ++ sp.after) ∙ ap₂ or_else first (name_append k new sp.after ∙ ap (λ o. or_else o (name_of k sp.after)) (name_new k front padding sp.label.name n k rest left (stamp_of_padding s) ∙ ap (λ (b : Bool). if b then Some sp.label.name else None) (eq-eqb k k refl))))))
+              (rw (eq-eqb k k refl) (sym (name_append k sp.before (new ++ sp.after) ∙ ap₂ option_or first (name_append k new sp.after ∙ ap (λ o. option_or o (name_of k sp.after)) (name_new k front padding sp.label.name n k rest left (stamp_of_padding s) ∙ ap (λ (b : Bool). if b then Some sp.label.name else None) (eq-eqb k k refl))))))
           | inr i ↦ rw (ne_eqb j k i) (g.handles j ∙ ap (name_of j) e ∙ name_replaced j sp.before (sp.label ∷ []) new sp.after (name_skip j sp.label [] f ∙ sym (name_new j front padding sp.label.name n k rest left (stamp_of_padding s) ∙ ap (λ (b : Bool). if b then Some sp.label.name else None) (ne_eqb j k i))))
         ]
 
     -- what becomes free, between lists that end and start with free blocks
     coalesced_agrees : (front before left old back right after : List Label) (x n size : ℕ) → g.labels ≡ front ++ (old ++ back) → front ≡ before ++ left → back ≡ right ++ after → AllFree left → AllFree right
         → SameSpace (record (replace v (names before) (names (left ++ (old ++ right))) (free_block x (total (tags left) + n + total (tags right)) ∷ []) (names after)) { size = size }) u
-        → (kept_name' : ℕ → Option ℕ) → ((j : ℕ) → kept_name' j ≡ or_else (name_of j front) (name_of j back)) → (a : Answer)
+        → (kept_name' : ℕ → Option ℕ) → ((j : ℕ) → kept_name' j ≡ option_or (name_of j front) (name_of j back)) → (a : Answer)
         → Agrees u kept_name' (leaves s (machine.coalesce (tags front) n (stamp_of_call s) (tags back)) a).state
     coalesced_agrees front before left old back right after x n size e at_front at_back fl fr same kept_name' handles a =
         agrees_replaced size before (left ++ (old ++ right)) (l ∷ []) after parted same _ refl state (λ e. absurd (true≢false e), λ e. (omega arith, tt)) kept_name'
-        (λ j. handles j ∙ ap₂ or_else (ap (name_of j) at_front ∙ name_append j before left ∙ ap (or_else (name_of j before)) (name_free j left fl) ∙ or_none _)
-        (ap (name_of j) at_back ∙ name_append j right after ∙ ap (λ o. or_else o (name_of j after)) (name_free j right fr)) ∙ sym (name_append j before (l ∷ after)))
+        (λ j. handles j ∙ ap₂ option_or (ap (name_of j) at_front ∙ name_append j before left ∙ ap (option_or (name_of j before)) (name_free j left fl) ∙ or_none _)
+        (ap (name_of j) at_back ∙ name_append j right after ∙ ap (λ o. option_or o (name_of j after)) (name_free j right fr)) ∙ sym (name_append j before (l ∷ after)))
       where
         l : Label
         l = record { name = x; size = total (tags left) + n + total (tags right); tag = Free (stamp_of_call s) }
@@ -264,7 +266,7 @@ module _ (v : View) (kept_name : ℕ → Option ℕ) (s : State) (w : IsWellForm
   too_large n l None e = refl
   too_large n l (Some p) e =
       let c = chosen_at n s.blocks p e in
-      let fit = fits_size n p.block.size (both_true (is_free p.block.tag) (nat_le (up n) (down p.block.size)) c.1).1 in
+      let fit = fits_size n p.block.size (and_parts (is_free p.block.tag) (nat_le (up n) (down p.block.size)) c.1).1 in
       absurd (omega (arith, fit, l, w.fits, w.whole, same_units, ap total c.0, total_middle p.before p.block p.after))
     where
       total_middle : (xs : List machine.Block) (b : machine.Block) (ys : List machine.Block) → b.size ≤ total (xs ++ b ∷ ys)
@@ -307,7 +309,7 @@ module _ (v : View) (kept_name : ℕ → Option ℕ) (s : State) (w : IsWellForm
       let tag = number_of k r.0.label.tag (ap (λ (q : machine.Place). has_number k q.block.tag) r.2 ∙ h.1) in
       let first = name_none k r.0.before (ap (λ (q : machine.Place). count (Live k) q.before) r.2 ∙ h.2) in (
         r.0.label.name,
-        g.handles k ∙ ap (name_of k) r.1 ∙ name_append k r.0.before (r.0.label ∷ r.0.after) ∙ ap (λ o. or_else o (name_of k (r.0.label ∷ r.0.after))) first
+        g.handles k ∙ ap (name_of k) r.1 ∙ name_append k r.0.before (r.0.label ∷ r.0.after) ∙ ap (λ o. option_or o (name_of k (r.0.label ∷ r.0.after))) first
             ∙ ap (λ t. if has_number k t then Some r.0.label.name else name_of k r.0.after) tag ∙ ap (λ (b : Bool). if b then Some r.0.label.name else name_of k r.0.after) (eq-eqb k k refl),
         record { spot = r.0; split = r.1; tag = tag; named = place_of_spot v w r.0 (g.view ∙ ap names r.1); placed = e ∙ ap Some (sym r.2); first = first },
       )
@@ -336,8 +338,8 @@ module _ (v : View) (kept_name : ℕ → Option ℕ) (s : State) (w : IsWellForm
   pub live_agrees : (k x : ℕ) → kept_name k ≡ Some x → named.is_used_at (place_of x v.blocks) ≡ true
   live_agrees k x e = let l = live_at k x e in ap named.is_used_at l.named ∙ ap (λ t. not (is_free t)) l.tag
 
-  pub size_agrees : (k x : ℕ) → kept_name k ≡ Some x → (step (command.Size k) s).answer ≡ machine.Size (named.size_at (place_of x v.blocks))
-  size_agrees k x e = let l = live_at k x e in ap machine.size_at l.placed ∙ ap machine.Size (sym (ap named.size_at l.named ∙ ap (λ t. if not (is_free t) then l.spot.label.size else 0) l.tag))
+  pub size_agrees : (k x : ℕ) → kept_name k ≡ Some x → (step (command.Size k) s).answer ≡ machine.Size (size_at (place_of x v.blocks))
+  size_agrees k x e = let l = live_at k x e in ap machine.size_at l.placed ∙ ap machine.Size (sym (ap size_at l.named ∙ ap (λ t. if not (is_free t) then l.spot.label.size else 0) l.tag))
 
   -- a release
   pub free_agrees : (k x : ℕ) → kept_name k ≡ Some x → (u : View) → IsWellFormed u → Frees x v u
@@ -381,11 +383,11 @@ module _ (v : View) (kept_name : ℕ → Option ℕ) (s : State) (w : IsWellForm
       later : name_of k sp.after ≡ None
       later = name_none k sp.after (omega (arith, ws.once (Live k), ap (count (Live k)) (g.state ∙ ap tags l.split ∙ map-append by_tag sp.before (sp.label ∷ sp.after)), count-append (Live k) (tags sp.before) (tags (sp.label ∷ sp.after)), ap (hit (Live k)) l.tag, hit_self (Live k)))
 
-      handles : (j : ℕ) → without_name k kept_name j ≡ or_else (name_of j sp.before) (name_of j sp.after)
+      handles : (j : ℕ) → without_name k kept_name j ≡ option_or (name_of j sp.before) (name_of j sp.after)
       handles j = elim (cases_eq j k) [
-        | inl i ↦ rw (eq-eqb j k i) (sym (ap (λ z. or_else (name_of z sp.before) (name_of z sp.after)) i ∙ ap₂ or_else l.first later))
+        | inl i ↦ rw (eq-eqb j k i) (sym (ap (λ z. option_or (name_of z sp.before) (name_of z sp.after)) i ∙ ap₂ option_or l.first later))
         | inr i ↦ rw (ne_eqb j k i) (g.handles j ∙ ap (name_of j) l.split ∙ name_append j sp.before (sp.label ∷ sp.after)
-            ∙ ap (or_else (name_of j sp.before)) (ap (λ t. if has_number j t then Some sp.label.name else name_of j sp.after) l.tag ∙ ap (λ (b : Bool). if b then Some sp.label.name else name_of j sp.after) (ne_eqb j k i)))
+            ∙ ap (option_or (name_of j sp.before)) (ap (λ t. if has_number j t then Some sp.label.name else name_of j sp.after) l.tag ∙ ap (λ (b : Bool). if b then Some sp.label.name else name_of j sp.after) (ne_eqb j k i)))
       ]
 
   -- more units at the end
@@ -414,11 +416,11 @@ module _ (v : View) (kept_name : ℕ → Option ℕ) (s : State) (w : IsWellForm
 
   extendable : (more : ℕ) → CanExtend more v → is_refused more ≡ false
   extendable more c = ap₂ (λ (x y : Bool). x || y) (le-ltb max_size (total s.blocks + more) (let a = c.0 in let e = same_units in let f = w.whole in omega arith)) (elim c.1 [
-    | inl room ↦ ap (λ (b : Bool). machine.ends_live s.blocks && b) (has_room 1 room) ∙ and_false_right (machine.ends_live s.blocks) false refl
+    | inl room ↦ ap (λ (b : Bool). machine.ends_live s.blocks && b) (has_room 1 room) ∙ and_right (machine.ends_live s.blocks) false refl
     | inr l ↦
         let r = map_parts by_name g.labels l.0 (l.1 ∷ []) (sym g.view ∙ l.2) in
         let h = map_first by_name r.1 l.1 [] r.4 in
-        ap (λ (b : Bool). b && machine.is_short_of 1 s) (ap machine.ends_live (g.state ∙ ap tags (r.2 ∙ ap (λ z. r.0 ++ z) (h.2 ∙ ap (λ z. h.0 ∷ z) (none h.1 h.4)))) ∙ ends_live_last r.0 h.0 ∙ ap (λ (b : Bool). if b then false else true) (not_false _ (ap (λ (b : Block). b.used) h.3 ∙ l.3)))
+        ap (λ (b : Bool). b && machine.is_short_of 1 s) (ap machine.ends_live (g.state ∙ ap tags (r.2 ∙ ap (λ z. r.0 ++ z) (h.2 ∙ ap (λ z. h.0 ∷ z) (none h.1 h.4)))) ∙ ends_live_last r.0 h.0 ∙ ap not (not-false _ (ap (λ (b : Block). b.used) h.3 ∙ l.3)))
   ])
     where
       none : (ls : List Label) → names ls ≡ [] → ls ≡ []
@@ -427,8 +429,8 @@ module _ (v : View) (kept_name : ℕ → Option ℕ) (s : State) (w : IsWellForm
 
   can_extend : (more : ℕ) → is_refused more ≡ false → CanExtend more v
   can_extend more e = (
-    (let l = ltb-false max_size (total s.blocks + more) (or_false _ _ e).0 in let f = same_units in let h = w.whole in omega arith),
-    go (machine.ends_live s.blocks) refl (or_false _ _ e).1,
+    (let l = ltb-false max_size (total s.blocks + more) (or_parts _ _ e).0 in let f = same_units in let h = w.whole in omega arith),
+    go (machine.ends_live s.blocks) refl (or_parts _ _ e).1,
   )
     where
       go : (b : Bool) → machine.ends_live s.blocks ≡ b → (b && machine.is_short_of 1 s) ≡ false → HasRoomFor 1 v ⊎ ((before : List Block) × (last : Block) × (v.blocks ≡ before ++ last ∷ []) × (last.used ≡ false))

@@ -3,49 +3,33 @@ use Rattle.std.proofs.Common.{◌≡◌, ℕ, ◌-◌, ◌≤◌, List, [], ◌�
 use Rattle.offset_script.specs.declared.scripts.Command.{Command}
 use Rattle.offset_script.specs.declared.scripts.Command.TheVariants as command
 use Rattle.offset_script.specs.Machine.{State, start, step, answers, after, is_short_of, place_of}
-use Rattle.offset_script.specs.Histories.{renumber, raise_number, number_without_nest, IsGrant, KeepsSpace, IsQuestion, QuestionsChangeNothing}
+use Rattle.offset_script.specs.Histories.{renumber, raise_number, number_without, IsGrant, KeepsSpace, IsQuestion}
 use Rattle.offset_script.specs.Histories as history
 use Rattle.offset_script.proofs.Members.{map_same}
 use Rattle.offset_script.proofs.Fresh.{raise_none, renumber_same}
-use Rattle.offset_script.proofs.Nests.{IsQuiet, quiet_size, quiet_report, number_without_nest_cases, nest_law}
+use Rattle.offset_script.proofs.Nests.{IsQuiet, quiet_size, quiet_report, number_without_none, nest_law}
 
--- the same number, where no grants are left out
-number_without_nest_none : (g k : ℕ) → number_without_nest g 0 k ≡ k
-number_without_nest_none g k = elim (number_without_nest_cases g 0 k) [ inl h ↦ h.1 | inr (inl h) ↦ absurd (omega arith) | inr (inr h) ↦ h.1 ∙ omega arith ]
-
-as_before : (g : ℕ) (cs : List Command) (s : State) (j : ℕ) → j ≡ 0 → map (raise_number j) (answers (map (renumber (number_without_nest g j)) cs) s) ≡ answers cs s
-as_before g cs s j e = rw e (map_same (raise_number 0) raise_none _ ∙ ap (λ l. answers l s) (map_same (renumber (number_without_nest g 0)) (renumber_same _ (number_without_nest_none g)) cs))
+as_before : (g : ℕ) (cs : List Command) (s : State) (j : ℕ) → j ≡ 0 → map (raise_number j) (answers (map (renumber (number_without g j)) cs) s) ≡ answers cs s
+as_before g cs s j e = rw e (map_same (raise_number 0) raise_none _ ∙ ap (λ l. answers l s) (map_same (renumber (number_without g 0)) (renumber_same _ (number_without_none g)) cs))
 
 -- a question is a nest
 question_keeps_space : (q : Command) → IsQuestion q → KeepsSpace q
-question_keeps_space (command.Alloc n) h = absurd h
-question_keeps_space (command.Free k) h = absurd h
 question_keeps_space (command.Size k) h = tt
 question_keeps_space command.Report h = tt
 question_keeps_space command.Full h = tt
-question_keeps_space command.Reset h = absurd h
-question_keeps_space (command.Align n align) h = absurd h
-question_keeps_space (command.Extend more) h = absurd h
+question_keeps_space other h = absurd h
 
 quiet : (q : Command) (s : State) → IsQuestion q → IsQuiet (step q s).answer
-quiet (command.Alloc n) s h = absurd h
-quiet (command.Free k) s h = absurd h
 quiet (command.Size k) s h = quiet_size (place_of k s.blocks)
 quiet command.Report s h = quiet_report (is_short_of 1 s) _ _
 quiet command.Full s h = tt
-quiet command.Reset s h = absurd h
-quiet (command.Align n align) s h = absurd h
-quiet (command.Extend more) s h = absurd h
+quiet other s h = absurd h
 
 no_grants : (q : Command) (s : State) → IsQuestion q → (step q s).state.grants - s.grants ≡ 0
-no_grants (command.Alloc n) s h = absurd h
-no_grants (command.Free k) s h = absurd h
 no_grants (command.Size k) s h = omega arith
 no_grants command.Report s h = omega arith
 no_grants command.Full s h = omega arith
-no_grants command.Reset s h = absurd h
-no_grants (command.Align n align) s h = absurd h
-no_grants (command.Extend more) s h = absurd h
+no_grants other s h = absurd h
 
 -- commands after a question have the same answers as without it
 pub after_question : (size limit : ℕ) → 2 ≤ limit → (before : List Command) (q : Command) → IsQuestion q → (rest : List Command)
@@ -60,7 +44,8 @@ pub answers-append : (xs ys : List Command) (s : State) → answers (xs ++ ys) s
 answers-append [] ys s = refl
 answers-append (x ∷ xs) ys s = ap (λ l. (step x s).answer ∷ l) (answers-append xs ys (step x s).state)
 
-pub question_law : QuestionsChangeNothing
+pub question_law : (size limit : ℕ) → 2 ≤ limit → (before : List Command) (q : Command) (rest : List Command) → IsQuestion q
+    → let s = after before (start size limit) in answers (before ++ q ∷ rest) (start size limit) ≡ answers before (start size limit) ++ ((step q s).answer ∷ answers rest s)
 question_law size limit h before q rest asks =
     let s = after before (start size limit) in
     answers-append before (q ∷ rest) (start size limit) ∙ ap (λ l. answers before (start size limit) ++ ((step q s).answer ∷ l)) (after_question size limit h before q asks rest)

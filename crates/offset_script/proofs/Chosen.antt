@@ -1,7 +1,7 @@
 -- The plain machine chooses the block that a grant splits: the newest of the smallest class that fits.
 use Rattle.std.proofs.Common.{◌≡◌, ◌≢◌, ℕ, ◌<◌, ◌≤◌, Bool, true, false, not, ◌&&◌, ◌||◌, List, [], ◌∷◌, ◌++◌, Option, Some, None, nat_eq, nat_lt, nat_le, refl, sym, ap, ap₂, subst, ◌∙◌, inl, inr, arith, eq-eqb, le-leb, lt-ltb, leb-true}
 use Rattle.std.proofs.lemmas.List.{map-append}
-use Rattle.std.proofs.lemmas.Bool.{cases_eq, cases_lt, true≢false}
+use Rattle.std.proofs.lemmas.Bool.{cases_eq, cases_lt, true≢false, and_parts, not-false}
 use Rattle.offset_allocator.specs.Classes.{up, down}
 use Rattle.offset_script.specs.Machine.{Tag, Live, Free, is_free, has_number, stamp, fits, is_taken_before, chosen_place}
 use Rattle.offset_script.specs.Machine as plain
@@ -13,7 +13,6 @@ use Rattle.offset_allocator.proofs.ViewOrders.{tally_append, hit_cases}
 use Rattle.offset_allocator.proofs.ViewSteps.{place_here}
 use Rattle.offset_script.proofs.Members.{In, in_right, map_split}
 use Rattle.offset_script.proofs.Labels.{names, tags, gives_parts, gives_all}
-use Rattle.offset_script.proofs.Tests.{both_true, not_false}
 
 -- a list of labels, split at one
 pub record Spot : Type 0 where
@@ -113,7 +112,7 @@ module _ (v : View) (w : IsWellFormed v) (ls : List Label) (a : IsLabelled v ls)
   chosen_spot p e =
       let c = chosen_at n (tags ls) p e in
       let r = plain_spot ls p c.0 in
-      let parts = both_true (is_free r.0.label.tag) (nat_le (up n) (down r.0.label.size)) (ap (λ (q : plain.Place). fits n q.block) r.2 ∙ c.1) in
+      let parts = and_parts (is_free r.0.label.tag) (nat_le (up n) (down r.0.label.size)) (ap (λ (q : plain.Place). fits n q.block) r.2 ∙ c.1) in
       (r.0, r.1, r.2, parts.0, leb-true (up n) (down r.0.label.size) parts.1)
 
   none_if : ((c : ℕ) × (up n ≤ c) × (names_at v.order c ≢ []) → ⊥) → (o : Option plain.Place) → chosen_place n (tags ls) ≡ o → o ≡ None
@@ -131,7 +130,7 @@ module _ (v : View) (w : IsWellFormed v) (ls : List Label) (a : IsLabelled v ls)
     taken_spot : (s : Spot) × (ls ≡ whole s) × (named_place s ≡ place_at t.before t.block t.after) × (is_free s.label.tag ≡ true)
     taken_spot =
         let r = named_spot ls (place_at t.before t.block t.after) (sym a.view ∙ t.blocks) in
-        (r.0, r.1, r.2, not_false (is_free r.0.label.tag) (ap (λ (p : Place). p.block.used) r.2 ∙ t.free))
+        (r.0, r.1, r.2, not-false (is_free r.0.label.tag) (ap (λ (p : Place). p.block.used) r.2 ∙ t.free))
 
     -- it is the first of its bin, and of another block that is chosen over all, this one has the name
     same_name : (s l : Spot) → ls ≡ whole s → named_place s ≡ place_at t.before t.block t.after → ls ≡ whole l → is_free l.label.tag ≡ true → up n ≤ down l.label.size

@@ -1,14 +1,17 @@
 -- Releases in a row leave the same space in any order.
-use Rattle.std.proofs.Common.{◌≡◌, ℕ, zero, suc, ◌+◌, ◌-◌, Bool, true, false, ◌&&◌, ◌||◌, List, [], ◌∷◌, ◌++◌, sum, Option, Some, None, is_some, nat_eq, nat_lt, nat_le, if◌then◌else◌, refl, sym, ap, ap₂, subst, subst₂, ◌∙◌, arith, eq-eqb, eqb-true, append_assoc}
+use Rattle.std.proofs.Common.{◌≡◌, ℕ, zero, suc, ◌+◌, ◌-◌, Bool, true, false, ◌&&◌, ◌||◌, ◌≤◌, List, [], ◌∷◌, ◌++◌, sum, Option, Some, None, is_some, nat_eq, nat_lt, nat_le, if◌then◌else◌, refl, sym, ap, ap₂, subst, subst₂, ◌∙◌, arith, eq-eqb, eqb-true, append_assoc}
 use Rattle.std.proofs.lemmas.List.{map-append}
 use Rattle.std.proofs.lemmas.Bool.{true≢false, false≢true}
 use Rattle.offset_script.specs.declared.scripts.Command.{Command}
 use Rattle.offset_script.specs.declared.scripts.Command.TheVariants as command
 use Rattle.offset_allocator.specs.Classes.{up, down}
 use Rattle.offset_allocator.specs.Reports.{largest, rows_below}
-use Rattle.offset_script.specs.Machine.{Tag, Live, Free, Block, block, is_free, has_number, total, free_sizes, Place, here, prepend, fits, is_taken_before, choose, chosen_place, place_of, free_start, without_start, ends_live, coalesce, State, Outcome, start, step, after, request, grant_or_refuse, is_short_of, returns_only, leaves, release, size_at, stamp_of_call, max_size, padding_to}
+use Rattle.offset_allocator.specs.Named.{max_size, padding_to}
+use Rattle.offset_script.specs.Machine.{Tag, Live, Free, Block, block, is_free, has_number, total, free_sizes, Place, here, prepend, fits, is_taken_before, choose, chosen_place, place_of, free_start, without_start, ends_live, coalesce, State, Outcome, start, step, after, request, grant_or_refuse, is_short_of, returns_only, leaves, release, size_at, stamp_of_call}
 use Rattle.offset_script.specs.Machine as machine
-use Rattle.offset_script.specs.Histories.{holder, outline, widen, is_among, collapse_block, collapse, without_offset, releases, ReleasesCommute}
+use Rattle.offset_script.specs.Histories.{holder, outline, widen, collapse, without_offset, releases, Commutes}
+use Rattle.std.specs.List.{list_any}
+use Rattle.std.specs.Option.{option_map_or}
 use Rattle.offset_script.proofs.Pairs.{Kind, Lives, Frees, Pair, left_tag, right_tag, left, right, lefts, rights, same_free, same_short, same_free_sizes, same_refusal, SamePlace, neither, both, same_place_of}
 use Rattle.offset_script.proofs.Well.{Well, AllFree, coalesced, apart_coalesce, count_coalesce, count, hit, hit_self, number_of, count-append, starts_free, Apart, apart_parts, found_at, not_found, well_start, well_after, well_step}
 use Rattle.offset_script.proofs.Similar.{SameNumber, Paired, paired}
@@ -17,6 +20,10 @@ use Rattle.offset_script.proofs.Tests.{if_same}
 -- sizes, and the numbers of live blocks
 abbrev Outline : Type 0
 Outline = List (ℕ × Option ℕ)
+
+-- one block before collapsed ones
+abbrev collapse_block : List ℕ → ℕ → Option ℕ → Outline → Outline
+collapse_block ks n h o = if option_map_or (λ k. list_any (nat_eq k) ks) h true then widen n o else (n, h) ∷ o
 
 -- collapsing twice
 widen-widen : (n m : ℕ) (o : Outline) → widen n (widen m o) ≡ widen (n + m) o
@@ -52,8 +59,8 @@ collapse_block_more k ks n None o p ih = collapse-widen ks n o ∙ ap (widen n) 
 collapse_block_more k ks n (Some j) o p ih =
     collapse_if ks (nat_eq j k || false) (widen n o) ((n, Some j) ∷ o)
     ∙ ap (λ x. if nat_eq j k || false then x else collapse_block ks n (Some j) (collapse ks o)) (collapse-widen ks n o)
-    ∙ ap₂ (λ x q. if x then widen n q else (if is_among j ks then widen n q else (n, Some j) ∷ q)) (or_nothing (nat_eq j k)) ih
-    ∙ either_then (nat_eq j k) (is_among j ks) (widen n p) ((n, Some j) ∷ p)
+    ∙ ap₂ (λ x q. if x then widen n q else (if list_any (nat_eq j) ks then widen n q else (n, Some j) ∷ q)) (or_nothing (nat_eq j k)) ih
+    ∙ either_then (nat_eq j k) (list_any (nat_eq j) ks) (widen n p) ((n, Some j) ∷ p)
 
 collapse_one_more : (k : ℕ) (ks : List ℕ) (o : Outline) → collapse ks (collapse (k ∷ []) o) ≡ collapse (k ∷ ks) o
 collapse_one_more k ks [] = refl
@@ -72,26 +79,26 @@ widen_apart n (b ∷ bs) e = go b.size b.tag e
     go m (Free s) e = absurd (true≢false e)
 
 -- a block that is not released stays
-stays : (ks : List ℕ) (n : ℕ) (t : Tag) (bs : List Block) → ((j : ℕ) → t ≡ Live j → is_among j ks ≡ false) → (is_free t && starts_free bs) ≡ false → collapse_block ks n (holder t) (outline bs) ≡ (n, holder t) ∷ outline bs
+stays : (ks : List ℕ) (n : ℕ) (t : Tag) (bs : List Block) → ((j : ℕ) → t ≡ Live j → list_any (nat_eq j) ks ≡ false) → (is_free t && starts_free bs) ≡ false → collapse_block ks n (holder t) (outline bs) ≡ (n, holder t) ∷ outline bs
 stays ks n (Live j) bs h a = ap (λ b. if b then widen n (outline bs) else (n, Some j) ∷ outline bs) (h j refl)
 stays ks n (Free s) bs h a = widen_apart n bs a
 
-not_among : (ks : List ℕ) (b : Block) (bs : List Block) → ((j : ℕ) → is_among j ks ≡ true → count (Live j) (b ∷ bs) ≡ 0) → (j : ℕ) → b.tag ≡ Live j → is_among j ks ≡ false
-not_among ks b bs h j e = go (is_among j ks) refl
+not_among : (ks : List ℕ) (b : Block) (bs : List Block) → ((j : ℕ) → list_any (nat_eq j) ks ≡ true → count (Live j) (b ∷ bs) ≡ 0) → (j : ℕ) → b.tag ≡ Live j → list_any (nat_eq j) ks ≡ false
+not_among ks b bs h j e = go (list_any (nat_eq j) ks) refl
   where
-    go : (x : Bool) → is_among j ks ≡ x → x ≡ false
+    go : (x : Bool) → list_any (nat_eq j) ks ≡ x → x ≡ false
     go true f = absurd (no_hit b.tag j e (count (Live j) bs) (h j f))
     go false f = refl
 
-unchanged : (ks : List ℕ) (bs : List Block) → Apart bs → ((j : ℕ) → is_among j ks ≡ true → count (Live j) bs ≡ 0) → collapse ks (outline bs) ≡ outline bs
+unchanged : (ks : List ℕ) (bs : List Block) → Apart bs → ((j : ℕ) → list_any (nat_eq j) ks ≡ true → count (Live j) bs ≡ 0) → collapse ks (outline bs) ≡ outline bs
 unchanged ks [] a h = refl
 unchanged ks (b ∷ bs) a h = ap (collapse_block ks b.size (holder b.tag)) (unchanged ks bs a.1 (λ j e. let z = h j e in omega arith)) ∙ stays ks b.size b.tag bs (not_among ks b bs h) a.0
 
 -- a release
-only_k : (k j : ℕ) → is_among j (k ∷ []) ≡ true → j ≡ k
+only_k : (k j : ℕ) → list_any (nat_eq j) (k ∷ []) ≡ true → j ≡ k
 only_k k j e = eqb-true j k (sym (or_nothing (nat_eq j k)) ∙ e)
 
-none_of : (k : ℕ) (bs : List Block) → count (Live k) bs ≡ 0 → (j : ℕ) → is_among j (k ∷ []) ≡ true → count (Live j) bs ≡ 0
+none_of : (k : ℕ) (bs : List Block) → count (Live k) bs ≡ 0 → (j : ℕ) → list_any (nat_eq j) (k ∷ []) ≡ true → count (Live j) bs ≡ 0
 none_of k bs z j e = subst (λ x. count (Live x) bs ≡ 0) (sym (only_k k j e)) z
 
 free_holder : (t : Tag) → is_free t ≡ true → holder t ≡ None
@@ -222,7 +229,7 @@ same_next s t a (command.Align n align) = if_same (λ (o p : Outcome). without_o
     (if_same (λ (o p : Outcome). without_offset o.answer ≡ without_offset p.answer) (nat_lt max_size (n + align - 1)) (nat_lt max_size (n + align - 1)) (returns_only s machine.Refused) (returns_only t machine.Refused) (request s 2 (n + align - 1) n (padding_to align)) (request t 2 (n + align - 1) n (padding_to align)) refl (λ e. refl) (same_request s t a 2 (n + align - 1) n (padding_to align)))
 same_next s t a (command.Extend more) = same_extend s t a more
 
-pub commute_law : ReleasesCommute
+pub commute_law : (size limit : ℕ) → 2 ≤ limit → (cs : List Command) (ks : List ℕ) → Commutes ks (after cs (start size limit))
 commute_law size limit h cs ks =
     let s = after cs (start size limit) in
     let w : Well s = well_after cs (start size limit) (well_start size limit h) in

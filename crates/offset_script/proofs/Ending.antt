@@ -12,8 +12,8 @@ use Rattle.offset_script.specs.declared.faults.RunFault.{RunFault}
 use Rattle.offset_script.specs.declared.faults.RunFault.TheVariants as faults
 use Rattle.offset_script.specs.declared.scripts.Script.{Script}
 use Rattle.offset_script.specs.Faults.{as_run_fault}
-use Rattle.offset_script.specs.Grammar.{meaning_of, RunOf, text_of}
-use Rattle.offset_script.specs.Running.{view, Fails, ScriptOf, HasText, Sends, is_write_fault}
+use Rattle.offset_script.specs.Grammar.{meaning_of}
+use Rattle.offset_script.specs.Running.{view, Returns, ScriptOf, HasText, Sends}
 use Rattle.offset_script.specs.Machine.{Answer, IsPlayed}
 use Rattle.offset_script.proofs.Steps.{is_too_long}
 
@@ -45,7 +45,7 @@ whole_or_long bytes text (Some rest) h =
       | inr le ↦ inr (ap Some (sym (drop_at bytes rest 1048577 (omega (arith, h.most))) ∙ ap (drop 1048577) (sym h.takes)), is_too_long bytes (omega arith), is_too_long text (omega (arith, ap length h.takes, length-append bytes rest)))
     ]
 
-pub script_failed : (bytes : List ℕ) (f : ScriptFault) (from left : Option (List ℕ)) → HasText bytes from left → Fails f (meaning_of bytes) → IfSome from (λ text. ScriptOf (Err (as_run_fault f)) text left)
+pub script_failed : (bytes : List ℕ) (f : ScriptFault) (from left : Option (List ℕ)) → HasText bytes from left → Returns (Err f) (meaning_of bytes) → IfSome from (λ text. ScriptOf (Err (as_run_fault f)) text left)
 script_failed bytes f None left h fails = tt
 script_failed bytes scripts.Memory (Some text) left h fails = tt
 script_failed bytes scripts.TooLong (Some text) left h fails =
@@ -61,23 +61,3 @@ pub script_read : (bytes : List ℕ) (script : Script) (from left : Option (List
 script_read bytes script None left h means = tt
 script_read bytes script (Some text) left h means =
     elim (whole_or_long bytes text left h) [ inl w ↦ (w.0, ap meaning_of w.1 ∙ means) | inr l ↦ absurd (let e = sym l.1 ∙ means in cc) ]
-
--- a run that ends with its reading
-pub not_read : (f : RunFault) (from left old new : Option (List ℕ)) → is_write_fault {T = Script} (Err f) ≡ false → IfSome from (λ text. ScriptOf (Err f) text left) → IfSome from (λ text. RunOf (Err f) text left old new)
-not_read f None left old new w h = tt
-not_read (faults.Script scripts.Memory) (Some text) left old new w h = h
-not_read (faults.Script scripts.TooLong) (Some text) left old new w h = h
-not_read (faults.Script (scripts.BadHeader n)) (Some text) left old new w h = h
-not_read (faults.Script (scripts.BadLimit n)) (Some text) left old new w h = h
-not_read (faults.Script (scripts.BadCommand n)) (Some text) left old new w h = h
-not_read faults.Memory (Some text) left old new w h = tt
-not_read faults.Read (Some text) left old new w h = tt
-not_read faults.Write (Some text) left old new w h = absurd (true≢false w)
-
-pub all_sent : (sent : List ℕ) (script : Script) (rs : List Answer) (from left old new : Option (List ℕ)) → IfSome from (λ text. ScriptOf (Ok script) text left) → IsPlayed script.size script.max_allocs script.commands.items rs → sent ≡ text_of rs → Appends old new sent → IfSome from (λ text. RunOf (Ok tt) text left old new)
-all_sent sent script rs None left old new h played e sends = tt
-all_sent sent script rs (Some text) left old new h played e sends = (h.0, record { plan = view script; answers = rs; played = played; means = h.1; writes = rw (← e) sends })
-
-pub prefix_sent : (sent : List ℕ) (script : Script) (rs : List Answer) (from left old new : Option (List ℕ)) → IfSome from (λ text. ScriptOf (Ok script) text left) → IsPlayed script.size script.max_allocs script.commands.items rs → sent ≡ text_of rs → Sends false sent old new → IfSome from (λ text. RunOf (Err faults.Write) text left old new)
-prefix_sent sent script rs None left old new h played e sends = tt
-prefix_sent sent script rs (Some text) left old new h played e sends = (h.0, record { plan = view script; answers = rs; played = played; front = sends.0; back = sends.1; means = h.1; parts = sym e ∙ sends.2; writes = sends.3 })

@@ -1,6 +1,7 @@
 -- Labels by names and by tags: what is free, sums, and the names of grants.
 use Rattle.std.proofs.Common.{◌≡◌, ℕ, suc, ◌+◌, ◌≤◌, Bool, true, false, not, ◌&&◌, List, [], ◌∷◌, ◌++◌, length, Option, Some, None, if◌then◌else◌, refl, ap, subst, subst₂, ◌∙◌, arith}
-use Rattle.std.proofs.lemmas.Bool.{true≢false, false≢true}
+use Rattle.std.specs.Option.{option_or}
+use Rattle.std.proofs.lemmas.Bool.{true≢false, false≢true, not-false}
 use Rattle.offset_script.specs.Machine.{Tag, Live, Free, is_free, has_number, stamp, total}
 use Rattle.offset_script.specs.Machine as plain
 use Rattle.offset_allocator.specs.Named as named
@@ -10,7 +11,7 @@ use Rattle.offset_script.proofs.Well.{count, hit, hit_number, number_of}
 use Rattle.offset_script.proofs.Well as well
 use Rattle.offset_script.proofs.Labels.{names, tags}
 use Rattle.std.specs.List.{AllByRecursion}
-use Rattle.offset_script.proofs.Tests.{not_not, not_false}
+use Rattle.offset_script.proofs.Tests.{not_not}
 
 -- all of these are free
 abbrev pub AllFree : List Label → Type 0
@@ -19,8 +20,8 @@ AllFree ls = AllByRecursion (λ l. is_free l.tag ≡ true) ls
 -- by names
 pub free_named : (xs ys : List Label) → AllByRecursion (λ b. b.used ≡ false) (names xs ++ names ys) → AllFree xs × AllFree ys
 free_named [] [] f = (tt, tt)
-free_named [] (y ∷ ys) f = (tt, (not_false _ f.0, (free_named [] ys f.1).1))
-free_named (x ∷ xs) ys f = let r = free_named xs ys f.1 in ((not_false _ f.0, r.0), r.1)
+free_named [] (y ∷ ys) f = (tt, (not-false _ f.0, (free_named [] ys f.1).1))
+free_named (x ∷ xs) ys f = let r = free_named xs ys f.1 in ((not-false _ f.0, r.0), r.1)
 
 -- by tags
 pub free_tagged : (ls : List Label) → AllFree ls → well.AllFree (tags ls)
@@ -34,7 +35,7 @@ apart_tagged (l ∷ []) a = (subst (λ x. (x && false) ≡ false) (not_not (is_f
 apart_tagged (l ∷ m ∷ ls) a = (subst₂ (λ x y. (x && y) ≡ false) (not_not (is_free l.tag)) (not_not (is_free m.tag)) a.0, apart_tagged (m ∷ ls) a.1)
 
 -- a list of blocks ends live just where its last block is live
-pub ends_live_last : (ls : List Label) (l : Label) → plain.ends_live (tags (ls ++ l ∷ [])) ≡ (if is_free l.tag then false else true)
+pub ends_live_last : (ls : List Label) (l : Label) → plain.ends_live (tags (ls ++ l ∷ [])) ≡ not (is_free l.tag)
 ends_live_last [] l = refl
 ends_live_last (x ∷ []) l = refl
 ends_live_last (x ∷ y ∷ ls) l = ends_live_last (y ∷ ls) l
@@ -42,11 +43,7 @@ ends_live_last (x ∷ y ∷ ls) l = ends_live_last (y ∷ ls) l
 -- where it does not, its last block is free
 pub last_free : (ls : List Label) → 1 ≤ length ls → plain.ends_live (tags ls) ≡ false → (front : List Label) × (l : Label) × (ls ≡ front ++ l ∷ []) × (is_free l.tag ≡ true)
 last_free [] some e = absurd (omega arith)
-last_free (l ∷ []) some e = ([], l, refl, go (is_free l.tag) e)
-  where
-    go : (x : Bool) → (if x then false else true) ≡ false → x ≡ true
-    go true e = refl
-    go false e = absurd (true≢false e)
+last_free (l ∷ []) some e = ([], l, refl, not-false (is_free l.tag) e)
 last_free (l ∷ m ∷ ls) some e = let r = last_free (m ∷ ls) (omega arith) e in (l ∷ r.0, r.1, ap (λ z. l ∷ z) r.2, r.3)
 
 -- the units of all
@@ -65,18 +62,14 @@ free_sizes_labels [] = refl
 free_sizes_labels (l ∷ ls) = let ih = free_sizes_labels ls in elim (is_free l.tag) as (λ u. (if u then l.size ∷ plain.free_sizes (tags ls) else plain.free_sizes (tags ls)) ≡ (if not u then named.free_sizes (names ls) else l.size ∷ named.free_sizes (names ls))) [ true ↦ ap (λ z. l.size ∷ z) ih | false ↦ ih ]
 
 -- the names of grants
-abbrev pub or_else : Option ℕ → Option ℕ → Option ℕ
-or_else None o = o
-or_else (Some x) o = Some x
-
-pub or_none : (o : Option ℕ) → or_else o None ≡ o
+pub or_none : (o : Option ℕ) → option_or o None ≡ o
 or_none None = refl
 or_none (Some x) = refl
 
 -- a grant is in the first list, or else in the second
-pub name_append : (k : ℕ) (xs ys : List Label) → name_of k (xs ++ ys) ≡ or_else (name_of k xs) (name_of k ys)
+pub name_append : (k : ℕ) (xs ys : List Label) → name_of k (xs ++ ys) ≡ option_or (name_of k xs) (name_of k ys)
 name_append k [] ys = refl
-name_append k (x ∷ xs) ys = let ih = name_append k xs ys in elim (has_number k x.tag) as (λ u. (if u then Some x.name else name_of k (xs ++ ys)) ≡ or_else (if u then Some x.name else name_of k xs) (name_of k ys)) [ true ↦ refl | false ↦ ih ]
+name_append k (x ∷ xs) ys = let ih = name_append k xs ys in elim (has_number k x.tag) as (λ u. (if u then Some x.name else name_of k (xs ++ ys)) ≡ option_or (if u then Some x.name else name_of k xs) (name_of k ys)) [ true ↦ refl | false ↦ ih ]
 
 no_number : (k : ℕ) (t : Tag) → is_free t ≡ true → has_number k t ≡ false
 no_number k (Live j) e = absurd (false≢true e)

@@ -1,10 +1,10 @@
 -- Bins whose stamps fall, as names are pushed and removed.
 use Rattle.std.proofs.Common.{◌≡◌, ◌≢◌, ℕ, ◌+◌, ◌<◌, ◌≤◌, true, false, not, cond, ◌&&◌, List, [], ◌∷◌, length, nat_eq, if◌then◌else◌, refl, sym, ap, subst, ◌∙◌, inl, inr, arith, ne_eqb}
-use Rattle.std.proofs.lemmas.Bool.{cases_eq}
+use Rattle.std.proofs.lemmas.Bool.{cases_eq, cond_both}
 use Rattle.offset_allocator.specs.Classes.{down}
 use Rattle.offset_allocator.specs.Named.{Block, one, times, names_at, push, without, remove, push_all, remove_all}
 use Rattle.offset_allocator.proofs.Classes.{down_small}
-use Rattle.offset_allocator.proofs.ViewOrders.{if_value, hit_cases, names_same, names_other, length_put, length_remove, times_without_le, hit, times_put}
+use Rattle.offset_allocator.proofs.ViewOrders.{hit_cases, names_same, names_other, length_put, length_remove, times_without_le, hit, times_put}
 use Rattle.offset_script.specs.Agreement.{IsFalling}
 
 -- a list without a name
@@ -50,7 +50,7 @@ pub falling_put_all : (f : ℕ → ℕ) (t : ℕ) (bs : List Block) (order : Lis
     → ((d y : ℕ) → 1 ≤ times y (names_at order d) → f y < t) → IsRising f t bs → (d : ℕ) → IsFalling f (names_at (push_all bs order) d)
 falling_put_all f t [] order h fall low rise = fall
 falling_put_all f t (b ∷ bs) order h fall low rise =
-    if_value b.used order (push (down b.size) b.name order) (λ o. (d : ℕ) → IsFalling f (names_at (push_all bs o) d))
+    cond_both b.used order (push (down b.size) b.name order) (λ o. (d : ℕ) → IsFalling f (names_at (push_all bs o) d))
     (λ e. falling_put_all f t bs order h fall low (rise.0 e))
     (λ e. let r = rise.1 e in falling_put_all f (f b.name + 1) bs _ (length_put _ _ order ∙ h) (put r.0) (low' r.0) r.1)
   where

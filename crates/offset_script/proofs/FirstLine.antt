@@ -1,10 +1,11 @@
 -- The first line of a text, and the lines after it.
 use Rattle.std.proofs.Common.{◌≡◌, ℕ, suc, ◌+◌, Bool, true, false, cond, not, eqb, List, [], ◌∷◌, length, Option, Some, None, refl, ap, arith}
+use Rattle.std.specs.Option.{option_map_or}
 use Rattle.std.specs.List.{slice_split, onto_first, filter}
 use Rattle.std.proofs.lemmas.List.Splits.{length-slice_split}
 use Rattle.std.proofs.lemmas.Bool.Decides.{nat_tests}
 use Rattle.std.proofs.lemmas.List.{nil_from_length}
-use Rattle.offset_script.specs.Grammar.{parts, parts_after, lines_of_parts, is_skipped, Line, numbered_from, significant_from, line_ends, command_of_words, header_of_words}
+use Rattle.offset_script.specs.Grammar.{parts, lines_of, is_skipped, Line, numbered_from, significant_from, line_ends, command_of_words, header_of_words}
 
 abbrev pub rest_of : Option (List ℕ) → List ℕ
 rest_of None = []
@@ -29,14 +30,14 @@ pub some_part : {X : Type 0} (p : X → Bool) (xs : List X) → (y : List X) × 
 some_part p [] = ([], [], refl)
 some_part {X} p (x ∷ xs) = elim (p x) as (λ b. (y : List X) × (ys : List (List X)) × (cond b ([] ∷ slice_split p xs) (onto_first x (slice_split p xs)) ≡ y ∷ ys)) [ true ↦ ([], slice_split p xs, refl) | false ↦ onto_some x (slice_split p xs) ]
 
-last_lines : (line : List ℕ) (n : ℕ) → filter (λ l. not (is_skipped l.text)) (numbered_from n (lines_of_parts (line ∷ []))) ≡ cond (is_skipped line) [] (record { number = n; text = line } ∷ [])
+last_lines : (line : List ℕ) (n : ℕ) → filter (λ l. not (is_skipped l.text)) (numbered_from n (lines_of (line ∷ []))) ≡ cond (is_skipped line) [] (record { number = n; text = line } ∷ [])
 last_lines [] n = refl
 last_lines (b ∷ bs) n = rw not_zero (elim (eqb b 35) as (λ c. cond (not c) (line_at n (b ∷ bs) ∷ []) [] ≡ cond c [] (line_at n (b ∷ bs) ∷ [])) [ true ↦ refl | false ↦ refl ])
 
-more_lines : (line next : List ℕ) (more : List (List ℕ)) (n : ℕ) → filter (λ l. not (is_skipped l.text)) (numbered_from n (lines_of_parts (line ∷ next ∷ more))) ≡ cond (is_skipped line) (filter (λ l. not (is_skipped l.text)) (numbered_from (n + 1) (lines_of_parts (next ∷ more)))) (record { number = n; text = line } ∷ filter (λ l. not (is_skipped l.text)) (numbered_from (n + 1) (lines_of_parts (next ∷ more))))
-more_lines line next more n = elim (is_skipped line) as (λ b. cond (not b) (record { number = n; text = line } ∷ filter (λ l. not (is_skipped l.text)) (numbered_from (n + 1) (lines_of_parts (next ∷ more)))) (filter (λ l. not (is_skipped l.text)) (numbered_from (n + 1) (lines_of_parts (next ∷ more)))) ≡ cond b (filter (λ l. not (is_skipped l.text)) (numbered_from (n + 1) (lines_of_parts (next ∷ more)))) (record { number = n; text = line } ∷ filter (λ l. not (is_skipped l.text)) (numbered_from (n + 1) (lines_of_parts (next ∷ more))))) [ true ↦ refl | false ↦ refl ]
+more_lines : (line next : List ℕ) (more : List (List ℕ)) (n : ℕ) → filter (λ l. not (is_skipped l.text)) (numbered_from n (lines_of (line ∷ next ∷ more))) ≡ cond (is_skipped line) (filter (λ l. not (is_skipped l.text)) (numbered_from (n + 1) (lines_of (next ∷ more)))) (record { number = n; text = line } ∷ filter (λ l. not (is_skipped l.text)) (numbered_from (n + 1) (lines_of (next ∷ more))))
+more_lines line next more n = elim (is_skipped line) as (λ b. cond (not b) (record { number = n; text = line } ∷ filter (λ l. not (is_skipped l.text)) (numbered_from (n + 1) (lines_of (next ∷ more)))) (filter (λ l. not (is_skipped l.text)) (numbered_from (n + 1) (lines_of (next ∷ more)))) ≡ cond b (filter (λ l. not (is_skipped l.text)) (numbered_from (n + 1) (lines_of (next ∷ more)))) (record { number = n; text = line } ∷ filter (λ l. not (is_skipped l.text)) (numbered_from (n + 1) (lines_of (next ∷ more))))) [ true ↦ refl | false ↦ refl ]
 
-pub significant_step : (n : ℕ) (text line : List ℕ) (after : Option (List ℕ)) → parts 10 text ≡ line ∷ parts_after 10 after
+pub significant_step : (n : ℕ) (text line : List ℕ) (after : Option (List ℕ)) → parts 10 text ≡ line ∷ option_map_or (parts 10) after []
     → significant_from n text ≡ cond (is_skipped line) (significant_from (n + ends_in after) (rest_of after)) (record { number = n; text = line } ∷ significant_from (n + ends_in after) (rest_of after))
 unfolding significant_from
 significant_step n text line None h = rw h (last_lines line n)
@@ -44,7 +45,7 @@ significant_step n text line (Some rest) h =
     let s = some_part (λ b. eqb b 10) rest in
     rw (h, s.2) (more_lines line s.0 s.1 n)
 
-pub ends_step : (text line : List ℕ) (after : Option (List ℕ)) → parts 10 text ≡ line ∷ parts_after 10 after → line_ends text ≡ ends_in after + line_ends (rest_of after)
+pub ends_step : (text line : List ℕ) (after : Option (List ℕ)) → parts 10 text ≡ line ∷ option_map_or (parts 10) after [] → line_ends text ≡ ends_in after + line_ends (rest_of after)
 ends_step text line None h = omega (arith, length-slice_split (λ b. eqb b 10) text, ap length h)
 ends_step text line (Some rest) h = omega (arith, length-slice_split (λ b. eqb b 10) text, length-slice_split (λ b. eqb b 10) rest, ap length h)
 

@@ -2,14 +2,16 @@
 use Rattle.std.proofs.Common.{◌≡◌, ℕ, zero, suc, ◌+◌, ◌-◌, ◌*◌, ◌<◌, ◌≤◌, true, false, ◌&&◌, ◌||◌, List, [], ◌∷◌, length, IsTrue, nat_lt, if◌then◌else◌, refl, sym, ap, ap₂, subst, subst₂, le-ltb, ◌∙◌, inl, inr, arith, le-leb}
 use Rattle.std.proofs.lemmas.Bool.{cases_lt, lt-leb, true≢false}
 use Rattle.std.specs.List.{AllByRecursion}
-use Rattle.offset_script.specs.Machine.{max_size, Tag, Live, Free, Block, block, is_free, total, State, Answer, start, step, answers, after, returns_only, leaves}
+use Rattle.offset_allocator.specs.Named.{max_size}
+use Rattle.offset_script.specs.Machine.{Tag, Live, Free, Block, block, is_free, total, State, Answer, start, step, answers, after, returns_only, leaves}
 use Rattle.offset_script.specs.declared.scripts.Command.{Command}
 use Rattle.offset_script.specs.declared.scripts.Command.TheVariants as command
 use Rattle.offset_script.specs.Machine as machine
-use Rattle.offset_script.specs.Histories.{renumber, raise_number, fresh_number, EmptySpaceContinuesAsFresh, ExtendedSpaceIsLarger}
+use Rattle.offset_script.specs.Histories.{renumber, raise_number, number_without, answers_renumbered, HasNoLive}
 use Rattle.offset_script.proofs.Members.{In, map_same}
 use Rattle.offset_script.proofs.Pairs.{Frees, Pair, pair, Agree}
-use Rattle.offset_script.proofs.Alike.{Alike, alike_answers}
+use Rattle.offset_script.proofs.Alike.{Alike, Matched, alike_answers}
+use Rattle.offset_script.proofs.Nests.{number_without_none, number_without_past, number_without_future}
 use Rattle.offset_script.proofs.Well.{Well, Apart, count, hit_self, well_start, well_after}
 
 -- one free block
@@ -28,23 +30,17 @@ one_free (b ∷ c ∷ bs) some a f =
     let u = free_tag c.tag f.1.0 in
     absurd (true≢false (ap (λ t. is_free t && true) (sym t.1) ∙ ap (λ u. is_free b.tag && is_free u) (sym u.1) ∙ a.0))
 
-fresh_number_past : (g k : ℕ) → k ≤ g → fresh_number g k ≤ 0
-fresh_number_past g k h = subst (λ b. (if b then 0 else k - g) ≤ 0) (sym (le-leb k g h)) (omega arith)
-
-fresh_number_future : (g k : ℕ) → g < k → fresh_number g k + g ≡ k
-fresh_number_future g k h = subst (λ b. (if b then 0 else k - g) + g ≡ k) (sym (lt-leb k g h)) (omega arith)
-
-alike_fresh : (s : State) (n x : ℕ) → s.blocks ≡ block n (Free x) ∷ [] → x < 2 * (s.calls + 1) → Alike (fresh_number s.grants) s.grants s (start (total s.blocks) s.limit)
-alike_fresh s n x e h = record {
+alike_fresh : (s : State) (n x g : ℕ) → g ≡ s.grants → s.blocks ≡ block n (Free x) ∷ [] → x < 2 * (s.calls + 1) → Alike (number_without 0 g) g s (start (total s.blocks) s.limit)
+alike_fresh s n x g same e h = record {
   limit = refl;
   pairs = q ∷ [];
   left_blocks = e;
   right_blocks = ap (λ m. block m (Free 0) ∷ []) (ap total e ∙ omega arith);
-  matched = λ p i. elim i [ inl same ↦ subst (λ (z : Pair). Rattle.offset_script.proofs.Alike.Matched (fresh_number s.grants) (2 * (s.calls + 1)) 2 z.kind) (sym same) (h, omega arith) | inr none ↦ absurd none ];
+  matched = λ p i. elim i [ inl is ↦ subst (λ (z : Pair). Matched (number_without 0 g) (2 * (s.calls + 1)) 2 z.kind) (sym is) (h, omega arith) | inr none ↦ absurd none ];
   agree = λ a b i j. only a b i j;
   grants = omega arith;
-  past = λ k l. fresh_number_past s.grants k l;
-  future = λ k l. fresh_number_future s.grants k l;
+  past = λ k l. number_without_past 0 g k (omega arith);
+  future = λ k l. number_without_future 0 g k (omega arith);
 }
   where
     q : Pair
@@ -55,38 +51,23 @@ alike_fresh s n x e h = record {
     only a b (inl i) (inr j) = absurd j
     only a b (inr i) j = absurd i
 
-pub fresh_law : EmptySpaceContinuesAsFresh
+pub fresh_law : (size limit : ℕ) → 2 ≤ limit → (cs : List Command) → let s = after cs (start size limit) in HasNoLive s → (next : List Command) → answers next s ≡ answers_renumbered (start (total s.blocks) s.limit) s next
 fresh_law size limit h cs none =
     let s = after cs (start size limit) in
     let w : Well s = well_after cs _ (well_start size limit h) in
     let f : IsOneFree s.blocks = one_free s.blocks w.some w.apart none in
-    λ more. alike_answers _ _ more s (start (total s.blocks) s.limit) (alike_fresh s f.0 f.1 f.2 (w.old (Free f.1) (let c = ap (count (Free f.1)) f.2 in let h = hit_self (Free f.1) in omega arith)))
+    λ more. alike_answers _ _ more s (start (total s.blocks) s.limit) (alike_fresh s f.0 f.1 (s.grants - 0) (omega arith) f.2 (w.old (Free f.1) (let c = ap (count (Free f.1)) f.2 in let h = hit_self (Free f.1) in omega arith)))
 
 -- a fresh space that is extended
 pub raise_none : (a : Answer) → raise_number 0 a ≡ a
 raise_none (machine.Grant k offset) = ap (λ n. machine.Grant n offset) (let e : k + 0 ≡ k = omega arith in e)
-raise_none machine.Refused = refl
-raise_none machine.Freed = refl
-raise_none machine.Gone = refl
-raise_none (machine.Size n) = refl
-raise_none (machine.Report f l) = refl
-raise_none (machine.Full rows) = refl
-raise_none machine.Reset = refl
-raise_none machine.Extended = refl
-
-fresh_number_none : (k : ℕ) → fresh_number 0 k ≡ k
-fresh_number_none k = elim (cases_lt 0 k) [ inl l ↦ let h = fresh_number_future 0 k l in omega (arith, h) | inr l ↦ let h = fresh_number_past 0 k l in omega (arith, h, l) ]
+raise_none other = refl
 
 -- numbers that stay leave commands as they are
 pub renumber_same : (r : ℕ → ℕ) → ((k : ℕ) → r k ≡ k) → (c : Command) → renumber r c ≡ c
-renumber_same r e (command.Alloc n) = refl
 renumber_same r e (command.Free k) = ap command.Free (e k)
 renumber_same r e (command.Size k) = ap command.Size (e k)
-renumber_same r e command.Report = refl
-renumber_same r e command.Full = refl
-renumber_same r e command.Reset = refl
-renumber_same r e (command.Align n align) = refl
-renumber_same r e (command.Extend more) = refl
+renumber_same r e other = refl
 
 -- one free block before any grant, whatever its stamp
 abbrev alone : ℕ → ℕ → ℕ → State
@@ -94,14 +75,14 @@ alone limit n x = record { limit = limit; blocks = block n (Free x) ∷ []; call
 
 alone_is_fresh : (limit n x : ℕ) → x < 4 → (cs : List Command) → answers cs (alone limit n x) ≡ answers cs (start n limit)
 alone_is_fresh limit n x h cs =
-    alike_answers _ _ cs (alone limit n x) (start (total (alone limit n x).blocks) limit) (alike_fresh (alone limit n x) n x refl (omega arith))
+    alike_answers _ _ cs (alone limit n x) (start (total (alone limit n x).blocks) limit) (alike_fresh (alone limit n x) n x 0 refl refl (omega arith))
     ∙ map_same (raise_number 0) raise_none _
-    ∙ ap₂ (λ l m. answers l (start m limit)) (map_same (renumber (fresh_number 0)) (renumber_same _ fresh_number_none) cs) (let e : n + 0 ≡ n = omega arith in e)
+    ∙ ap₂ (λ l m. answers l (start m limit)) (map_same (renumber (number_without 0 0)) (renumber_same _ (number_without_none 0)) cs) (let e : n + 0 ≡ n = omega arith in e)
 
 extended : (size more limit : ℕ) → nat_lt max_size (size + 0 + suc more) ≡ false → (step (command.Extend (suc more)) (start size limit)).state ≡ alone limit (size + suc more) 3
 extended size more limit e = ap (λ b. (if b || false then returns_only (start size limit) machine.Refused else leaves (start size limit) (block (size + suc more + 0) (Free 3) ∷ []) machine.Extended).state) e
     ∙ ap (λ n. alone limit n 3) (let h : size + suc more + 0 ≡ size + suc more = omega arith in h)
 
-pub extended_law : ExtendedSpaceIsLarger
+pub extended_law : (size more limit : ℕ) → size + more ≤ max_size → (cs : List Command) → answers cs (after (command.Extend more ∷ []) (start size limit)) ≡ answers cs (start (size + more) limit)
 extended_law size zero limit h cs = alone_is_fresh limit size 0 (omega arith) cs ∙ ap (λ n. answers cs (start n limit)) (let e : size ≡ size + 0 = omega arith in e)
 extended_law size (suc more) limit h cs = ap (answers cs) (extended size more limit (le-ltb max_size (size + 0 + suc more) (omega arith))) ∙ alone_is_fresh limit (size + suc more) 3 (omega arith) cs

@@ -1,7 +1,7 @@
 -- Blocks with both their names and their tags.
 use Rattle.std.proofs.Common.{◌≡◌, ℕ, ◌+◌, ◌<◌, ◌≤◌, true, false, not, ◌&&◌, ◌⊎◌, List, [], ◌∷◌, ◌++◌, map, nat_eq, if◌then◌else◌, refl, sym, ap, subst, ◌∙◌, inl, inr, arith, eq-eqb, ne_eqb, append_assoc}
 use Rattle.std.proofs.lemmas.List.{map-append}
-use Rattle.std.proofs.lemmas.Bool.{cases_lt}
+use Rattle.std.proofs.lemmas.Bool.{cases_lt, not-true, not-false}
 use Rattle.offset_allocator.specs.Classes.{down}
 use Rattle.offset_script.specs.Machine.{Tag, Live, Free, is_free, has_number, stamp}
 use Rattle.offset_script.specs.Machine as plain
@@ -11,7 +11,6 @@ use Rattle.offset_script.proofs.Well.{count, hit, hit_self}
 use Rattle.offset_allocator.proofs.ViewOrders.{tally_append, hit_cases, length_remove_all}
 use Rattle.offset_script.proofs.Falling.{falling_remove_all, falling_same, falling_put_all, IsRising}
 use Rattle.offset_allocator.proofs.ViewReplaced.{tally_three, listed_named, orders_replaced}
-use Rattle.offset_script.proofs.Tests.{not_true, not_false}
 
 -- the blocks by name
 abbrev pub names : List Label → List Block
@@ -98,8 +97,8 @@ Rises t (l ∷ ls) = (is_free l.tag ≡ false → Rises t ls) × (is_free l.tag 
 rises_named : (f : ℕ → ℕ) (t : ℕ) (ls : List Label) → GivesStamps f ls → Rises t ls → IsRising f t (names ls)
 rises_named f t [] g r = tt
 rises_named f t (l ∷ ls) g r = (
-  λ e. rises_named f t ls g.1 (r.0 (not_true _ e)),
-  λ e. let r' = r.1 (not_false _ e) in (omega (arith, g.0, r'.0), subst (λ n. IsRising f (n + 1) (names ls)) (sym g.0) (rises_named f (stamp l.tag + 1) ls g.1 r'.1)),
+  λ e. rises_named f t ls g.1 (r.0 (not-true _ e)),
+  λ e. let r' = r.1 (not-false _ e) in (omega (arith, g.0, r'.0), subst (λ n. IsRising f (n + 1) (names ls)) (sym g.0) (rises_named f (stamp l.tag + 1) ls g.1 r'.1)),
 )
 
 -- new blocks in place of old ones, where the new stamps are above the old

@@ -26,17 +26,6 @@ in_map f x [] h = absurd h
 in_map f x (y ∷ xs) (inl e) = inl (ap f e)
 in_map f x (y ∷ xs) (inr h) = inr (in_map f x xs h)
 
--- an item of a mapped list is an image
-pub map_in : {A B : Type 0} (f : A → B) (y : B) (xs : List A) → In y (map f xs) → (x : A) × In x xs × (y ≡ f x)
-map_in f y [] h = absurd h
-map_in f y (x ∷ xs) (inl e) = (x, inl refl, e)
-map_in f y (x ∷ xs) (inr h) = let r = map_in f y xs h in (r.0, inr r.1, r.2)
-
--- the same items twice mapped
-pub map_twice : {A B C : Type 0} (f : B → C) (g : A → B) (h : A → C) → ((x : A) → f (g x) ≡ h x) → (xs : List A) → map f (map g xs) ≡ map h xs
-map_twice f g h e [] = refl
-map_twice f g h e (x ∷ xs) = ap₂ (λ y ys. y ∷ ys) (e x) (map_twice f g h e xs)
-
 -- a map that changes no item
 pub map_same : {A : Type 0} (f : A → A) → ((x : A) → f x ≡ x) → (xs : List A) → map f xs ≡ xs
 map_same f e [] = refl

@@ -1,13 +1,14 @@
 -- A nest leaves no trace.
 use Rattle.std.proofs.Common.{length, ◌≡◌, ◌≢◌, ℕ, ◌+◌, ◌-◌, ◌*◌, ◌<◌, ◌≤◌, Bool, true, false, ◌⊎◌, List, [], ◌∷◌, ◌++◌, Option, Some, None, nat_eq, nat_lt, nat_le, if◌then◌else◌, refl, sym, ap, subst, ◌∙◌, inl, inr, arith, leb-false, le-leb, ne_eqb}
-use Rattle.std.proofs.lemmas.Bool.{cases_lt, lt-leb}
+use Rattle.std.proofs.lemmas.Bool.{cases_lt, lt-leb, and_parts}
 use Rattle.offset_script.specs.declared.scripts.Command.{Command}
 use Rattle.offset_script.specs.declared.scripts.Command.TheVariants as command
 use Rattle.offset_allocator.specs.Classes.{up, down}
-use Rattle.offset_script.specs.Machine.{Live, Free, is_free, total, Place, chosen_place, place_of, coalesce, State, Answer, Outcome, start, step, after, request, grant, grant_or_refuse, is_short_of, returns_only, leaves, release, size_at, stamp_of_call, max_size, padding_to}
+use Rattle.offset_allocator.specs.Named.{max_size, padding_to}
+use Rattle.offset_script.specs.Machine.{Live, Free, is_free, total, Place, chosen_place, place_of, coalesce, State, Answer, Outcome, start, step, after, answers, request, grant, grant_or_refuse, is_short_of, returns_only, leaves, release, size_at, stamp_of_call}
 use Rattle.offset_script.specs.Machine as machine
 use Rattle.offset_allocator.specs.Reports.{rows_below}
-use Rattle.offset_script.specs.Histories.{IsGrant, KeepsSpace, Nest, number_without_nest, NestLeavesNoTrace}
+use Rattle.offset_script.specs.Histories.{IsGrant, KeepsSpace, Nest, number_without, answers_renumbered}
 use Rattle.offset_script.specs.Histories as history
 use Rattle.offset_script.specs.Totals.{requested_units}
 use Rattle.offset_script.proofs.Members.{in_map}
@@ -17,7 +18,7 @@ use Rattle.offset_script.proofs.Well.{Well, in_count, count, chosen_at, well_sta
 use Rattle.offset_allocator.proofs.Classes.{fits_size}
 use Rattle.offset_script.proofs.Similar.{SameNumber, Similar, similar_refl, similar_sym, similar_trans}
 use Rattle.offset_script.proofs.Restored.{Restored, restored}
-use Rattle.offset_script.proofs.Tests.{both_true, if_both}
+use Rattle.offset_script.proofs.Tests.{if_both}
 
 -- What a call does that keeps the space: it only returns an answer, or grants, or releases.
 
@@ -66,7 +67,7 @@ does_grant c s room needed padding_at h (Some p) e = inr (inl (record {
   place = p;
   room = room;
   chose = e;
-  within = let f = chosen_at needed s.blocks p e in let l = fits_size needed p.block.size (both_true (is_free p.block.tag) (nat_le (up needed) (down p.block.size)) f.1).1 in let m = h (total p.before) in omega arith;
+  within = let f = chosen_at needed s.blocks p e in let l = fits_size needed p.block.size (and_parts (is_free p.block.tag) (nat_le (up needed) (down p.block.size)) f.1).1 in let m = h (total p.before) in omega arith;
   is = refl;
 }))
 
@@ -168,9 +169,9 @@ traceless (history.paired {s = s} {c = c} {k = k} {inner = inner} {outer = outer
     let b : Traceless s3 (after outer s3) = subst (λ x. Traceless x (after outer x)) same (traceless o (subst Well (sym same) (well_step (command.Free k) s2 w2))) in
     subst (Traceless s) (sym (after-append inner (command.Free k ∷ outer) s1)) (traceless_trans s s3 (after outer s3) a b)
 
--- numbers after a nest
-pub number_without_nest_cases : (g j k : ℕ) → ((k ≤ g) × (number_without_nest g j k ≡ k)) ⊎ (((g < k) × (k ≤ g + j) × (number_without_nest g j k ≡ 0)) ⊎ ((g + j < k) × (number_without_nest g j k ≡ k - j)))
-number_without_nest_cases g j k = elim (cases_lt g k) [
+-- numbers after grants that are left out
+pub number_without_cases : (g j k : ℕ) → ((k ≤ g) × (number_without g j k ≡ k)) ⊎ (((g < k) × (k ≤ g + j) × (number_without g j k ≡ 0)) ⊎ ((g + j < k) × (number_without g j k ≡ k - j)))
+number_without_cases g j k = elim (cases_lt g k) [
   | inl l ↦ elim (cases_lt (g + j) k) [
     | inl m ↦ inr (inr (m, ap (λ b. if b then k else if nat_le k (g + j) then 0 else k - j) (lt-leb k g l) ∙ ap (λ b. if b then 0 else k - j) (lt-leb k (g + j) m)))
     | inr m ↦ inr (inl (l, m, ap (λ b. if b then k else if nat_le k (g + j) then 0 else k - j) (lt-leb k g l) ∙ ap (λ b. if b then 0 else k - j) (le-leb k (g + j) m)))
@@ -178,24 +179,28 @@ number_without_nest_cases g j k = elim (cases_lt g k) [
   | inr l ↦ inl (l, ap (λ b. if b then k else if nat_le k (g + j) then 0 else k - j) (le-leb k g l))
 ]
 
-number_without_nest_kept : (g j i k : ℕ) → 1 ≤ i → i ≤ g → nat_eq k i ≡ nat_eq (number_without_nest g j k) i
-number_without_nest_kept g j i k one most = elim (number_without_nest_cases g j k) [
+-- the same number, where no grants are left out
+pub number_without_none : (g k : ℕ) → number_without g 0 k ≡ k
+number_without_none g k = elim (number_without_cases g 0 k) [ inl h ↦ h.1 | inr (inl h) ↦ absurd (omega arith) | inr (inr h) ↦ h.1 ∙ omega arith ]
+
+number_without_kept : (g j i k : ℕ) → 1 ≤ i → i ≤ g → nat_eq k i ≡ nat_eq (number_without g j k) i
+number_without_kept g j i k one most = elim (number_without_cases g j k) [
   | inl h ↦ ap (λ x. nat_eq x i) (sym h.1)
-  | inr (inl h) ↦ ne_eqb k i (λ e. omega arith) ∙ sym (ne_eqb (number_without_nest g j k) i (λ e. omega arith))
-  | inr (inr h) ↦ ne_eqb k i (λ e. omega arith) ∙ sym (ne_eqb (number_without_nest g j k) i (λ e. omega arith))
+  | inr (inl h) ↦ ne_eqb k i (λ e. omega arith) ∙ sym (ne_eqb (number_without g j k) i (λ e. omega arith))
+  | inr (inr h) ↦ ne_eqb k i (λ e. omega arith) ∙ sym (ne_eqb (number_without g j k) i (λ e. omega arith))
 ]
 
-number_without_nest_past : (g j k : ℕ) → k ≤ g + j → number_without_nest g j k ≤ g
-number_without_nest_past g j k l = elim (number_without_nest_cases g j k) [ inl h ↦ omega arith | inr (inl h) ↦ omega arith | inr (inr h) ↦ absurd (omega arith) ]
+pub number_without_past : (g j k : ℕ) → k ≤ g + j → number_without g j k ≤ g
+number_without_past g j k l = elim (number_without_cases g j k) [ inl h ↦ omega arith | inr (inl h) ↦ omega arith | inr (inr h) ↦ absurd (omega arith) ]
 
-number_without_nest_future : (g j k : ℕ) → g + j < k → number_without_nest g j k + j ≡ k
-number_without_nest_future g j k l = elim (number_without_nest_cases g j k) [ inl h ↦ absurd (omega arith) | inr (inl h) ↦ absurd (omega arith) | inr (inr h) ↦ omega arith ]
+pub number_without_future : (g j k : ℕ) → g + j < k → number_without g j k + j ≡ k
+number_without_future g j k l = elim (number_without_cases g j k) [ inl h ↦ absurd (omega arith) | inr (inl h) ↦ absurd (omega arith) | inr (inr h) ↦ omega arith ]
 
-matched_kind : (s t : State) → Well s → Well t → (j : ℕ) (q : Kind) → SameNumber q → 1 ≤ count (left_tag q) t.blocks → 1 ≤ count (right_tag q) s.blocks → Matched (number_without_nest s.grants j) (2 * (t.calls + 1)) (2 * (s.calls + 1)) q
-matched_kind s t w v j (Lives i i') e c d = λ k. let b = w.old (Live i') d in subst (λ x. nat_eq k x ≡ nat_eq (number_without_nest s.grants j k) i') (sym e) (number_without_nest_kept s.grants j i' k b.0 b.1)
+matched_kind : (s t : State) → Well s → Well t → (j : ℕ) (q : Kind) → SameNumber q → 1 ≤ count (left_tag q) t.blocks → 1 ≤ count (right_tag q) s.blocks → Matched (number_without s.grants j) (2 * (t.calls + 1)) (2 * (s.calls + 1)) q
+matched_kind s t w v j (Lives i i') e c d = λ k. let b = w.old (Live i') d in subst (λ x. nat_eq k x ≡ nat_eq (number_without s.grants j k) i') (sym e) (number_without_kept s.grants j i' k b.0 b.1)
 matched_kind s t w v j (Frees x y) e c d = (v.old (Free x) c, w.old (Free y) d)
 
-alike_after : (s t : State) → Well s → Well t → Traceless s t → Alike (number_without_nest s.grants (t.grants - s.grants)) (t.grants - s.grants) t s
+alike_after : (s t : State) → Well s → Well t → Traceless s t → Alike (number_without s.grants (t.grants - s.grants)) (t.grants - s.grants) t s
 alike_after s t w v m = record {
   limit = m.limit;
   pairs = turned.pairs;
@@ -206,16 +211,16 @@ alike_after s t w v m = record {
       (subst (λ bs. 1 ≤ count (right_tag q.kind) bs) (sym turned.right_blocks) (in_count (right q) (rights turned.pairs) (in_map right q turned.pairs i)));
   agree = turned.agree;
   grants = omega (arith, m.grants);
-  past = λ k l. number_without_nest_past s.grants (t.grants - s.grants) k (omega (arith, m.grants));
-  future = λ k l. number_without_nest_future s.grants (t.grants - s.grants) k (omega (arith, m.grants));
+  past = λ k l. number_without_past s.grants (t.grants - s.grants) k (omega (arith, m.grants));
+  future = λ k l. number_without_future s.grants (t.grants - s.grants) k (omega (arith, m.grants));
 }
   where
     turned : Similar t.blocks s.blocks
     turned = similar_sym s.blocks t.blocks m.blocks
 
-pub nest_law : NestLeavesNoTrace
+pub nest_law : (size limit : ℕ) → 2 ≤ limit → (cs nest : List Command) → let s = after cs (start size limit) in Nest s nest → (next : List Command) → answers next (after nest s) ≡ answers_renumbered s (after nest s) next
 nest_law size limit h cs nest n =
     let s = after cs (start size limit) in
     let w : Well s = well_after cs (start size limit) (well_start size limit h) in
     let t = after nest s in
-    λ more. alike_answers (number_without_nest s.grants (t.grants - s.grants)) (t.grants - s.grants) more t s (alike_after s t w (well_after nest s w) (traceless n w))
+    λ more. alike_answers (number_without s.grants (t.grants - s.grants)) (t.grants - s.grants) more t s (alike_after s t w (well_after nest s w) (traceless n w))

@@ -1,12 +1,13 @@
 -- Two lists of blocks of the same sizes, both live or both free at each place, seen as one list of pairs.
-use Rattle.std.proofs.Common.{◌≡◌, ℕ, zero, suc, ◌+◌, ◌-◌, true, false, ◌&&◌, ◌||◌, ◌⊎◌, List, [], ◌∷◌, ◌++◌, map, length, Option, Some, None, option_map, nat_eq, nat_lt, nat_le, if◌then◌else◌, refl, sym, ap, ap₂, subst, subst₂, ◌∙◌, inl, inr, arith, eq-eqb, eqb-true}
+use Rattle.std.proofs.Common.{◌≡◌, ℕ, zero, suc, ◌+◌, ◌-◌, true, false, not, ◌&&◌, ◌||◌, ◌⊎◌, List, [], ◌∷◌, ◌++◌, map, length, Option, Some, None, option_map, nat_eq, nat_lt, nat_le, if◌then◌else◌, refl, sym, ap, ap₂, subst, subst₂, ◌∙◌, inl, inr, arith, eq-eqb, eqb-true}
 use Rattle.std.proofs.lemmas.List.{map-append}
-use Rattle.std.proofs.lemmas.Bool.{false≢true}
+use Rattle.std.proofs.lemmas.Bool.{false≢true, and_parts}
 use Rattle.offset_allocator.specs.Classes.{up, down}
-use Rattle.offset_script.specs.Machine.{Tag, Live, Free, Block, block, is_free, has_number, stamp, total, free_sizes, Place, fits, is_taken_before, choose, chosen_place, prepend, place_of, free_block, ends_live, coalesce, State, is_short_of, max_size}
+use Rattle.offset_allocator.specs.Named.{max_size}
+use Rattle.offset_script.specs.Machine.{Tag, Live, Free, Block, block, is_free, has_number, stamp, total, free_sizes, Place, fits, is_taken_before, choose, chosen_place, prepend, place_of, free_block, ends_live, coalesce, State, is_short_of}
 use Rattle.offset_script.proofs.Members.{In, in_append, in_left, in_right, map_parts}
 use Rattle.offset_script.proofs.Well.{starts_free, ends_free, AllFree, IsEnd, IsStart, Coalesced, coalesced, coalesce_parts}
-use Rattle.offset_script.proofs.Tests.{both_true, same_and, if_same}
+use Rattle.offset_script.proofs.Tests.{same_and, if_same}
 
 -- two blocks at one place: both live, with their numbers, or both free, with their stamps
 pub data Kind : Type 0 where
@@ -80,7 +81,7 @@ same_all_free (q ∷ p) f = (sym (same_free q.kind) ∙ f.0, same_all_free p f.1
 
 pub same_ends_live : (p : List Pair) → ends_live (lefts p) ≡ ends_live (rights p)
 same_ends_live [] = refl
-same_ends_live (q ∷ []) = ap (λ b. if b then false else true) (same_free q.kind)
+same_ends_live (q ∷ []) = ap not (same_free q.kind)
 same_ends_live (q ∷ x ∷ p) = same_ends_live (x ∷ p)
 
 -- two states of such blocks
@@ -185,14 +186,14 @@ same_tests x y (Lives i j) l f g h = absurd (false≢true f)
 
 -- of two pairs that are free and agree, the same one is chosen over the other on both sides
 same_test : (m : ℕ) (a b : Pair) → fits m (left a) ≡ true → fits m (left b) ≡ true → Agree b a → is_taken_before (left a) (left b) ≡ is_taken_before (right a) (right b)
-same_test m a b f g h = same_tests (down a.size) (down b.size) a.kind b.kind (both_true _ _ f).0 (both_true _ _ g).0 h
+same_test m a b f g h = same_tests (down a.size) (down b.size) a.kind b.kind (and_parts _ _ f).0 (and_parts _ _ g).0 h
 
 -- what is chosen, where any two pairs agree
 choose_same : (n : ℕ) (q : Pair) (p : List Pair) (o o' : Option Place) → AllAgree (q ∷ p) → SamePlace (λ x. fits n (left x) ≡ true) p o o' → SamePlace (λ x. fits n (left x) ≡ true) (q ∷ p) (choose n (left q) (lefts p) o) (choose n (right q) (rights p) o')
 choose_same n q p None None agree neither = if_same (SamePlace _ (q ∷ p)) _ _ _ _ _ _ (same_fits n q) (λ e. both [] q p refl e) neither
 choose_same n q p o o' agree (both xs x ys e f) = if_same (SamePlace (λ x. fits n (left x) ≡ true) (q ∷ p)) _ _ _ _ _ _
     (same_and (fits n (left q)) _ _ (λ g. same_test n q x g f (agree x q (inr (subst (In x) (sym e) (in_right x xs (x ∷ ys) (inl refl)))) (inl refl))) ∙ ap (λ b. b && is_taken_before (right q) (right x)) (same_fits n q))
-    (λ h. both [] q p refl (both_true _ _ h).0) (both (q ∷ xs) x ys (ap (λ l. q ∷ l) e) f)
+    (λ h. both [] q p refl (and_parts _ _ h).0) (both (q ∷ xs) x ys (ap (λ l. q ∷ l) e) f)
 
 pub same_chosen : (n : ℕ) (p : List Pair) → AllAgree p → SamePlace (λ x. fits n (left x) ≡ true) p (chosen_place n (lefts p)) (chosen_place n (rights p))
 same_chosen n [] agree = neither

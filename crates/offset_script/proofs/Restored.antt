@@ -1,7 +1,8 @@
 -- A release after a grant, with a nest between them, restores the block that was split, as the newest of its class.
 use Rattle.std.proofs.Common.{◌≡◌, ℕ, ◌+◌, ◌-◌, ◌<◌, ◌≤◌, true, false, ◌&&◌, ◌||◌, ◌⊎◌, List, [], ◌∷◌, ◌++◌, Some, nat_eq, nat_lt, nat_le, refl, sym, ap, ap₂, subst, subst₂, ◌∙◌, inl, inr, arith, append_assoc, eqb-true, eq-eqb, lt-ltb, le-ltb}
+use Rattle.offset_allocator.proofs.ViewApart.{left_false, right_false}
 use Rattle.std.proofs.lemmas.List.{map-append}
-use Rattle.std.proofs.lemmas.Bool.{cases_eq, false≢true}
+use Rattle.std.proofs.lemmas.Bool.{cases_eq, false≢true, and_parts}
 use Rattle.std.proofs.lemmas.Bool.Decides.{nat_tests}
 use Rattle.offset_allocator.specs.Classes.{up, down}
 use Rattle.offset_script.specs.Machine.{Tag, Live, Free, Block, block, is_free, has_number, stamp, total, Place, fits, place_of, free_block, coalesce, State, stamp_of_call, stamp_of_padding}
@@ -9,7 +10,6 @@ use Rattle.offset_script.proofs.Members.{In, in_append, in_left, in_right, in_ma
 use Rattle.offset_script.proofs.Pairs.{Kind, Lives, Frees, Pair, pair, left_tag, right_tag, left, right, lefts, rights, same_total, same_end, same_start, Agree, AllAgree, SameOrder}
 use Rattle.offset_script.proofs.Well.{Well, not_there, whole, count, hit, hit_self, in_count, count-append, count_free_block, starts_free, ends_free, Apart, apart_parts, IsEnd, IsStart, end_of, start_of, coalesce_parts, free_part, place_at, IsBest, granted_blocks}
 use Rattle.offset_script.proofs.Similar.{SameNumber, Similar}
-use Rattle.offset_script.proofs.Tests.{both_true, left_false, right_false}
 
 same_hit : (k : ℕ) (q : Kind) → SameNumber q → hit (Live k) (left_tag q) ≡ hit (Live k) (right_tag q)
 same_hit k (Lives i j) e = ap (λ x. hit (Live k) (Live x)) e
@@ -24,7 +24,7 @@ not_after : (x y s u : ℕ) → (nat_lt x y || (nat_eq x y && nat_lt u s)) ≡ f
 not_after x y s u f e = grind (arith, nat_tests)
 
 fits_too : (n : ℕ) (q : ℕ) (t : Tag) (b : Block) → is_free t ≡ true → nat_eq (down q) (down b.size) ≡ true → fits n b ≡ true → fits n (block q t) ≡ true
-fits_too n q t b f e g = ap₂ (λ x y. x && nat_le (up n) y) f (eqb-true _ _ e) ∙ (both_true (is_free b.tag) _ g).1
+fits_too n q t b f e g = ap₂ (λ x y. x && nat_le (up n) y) f (eqb-true _ _ e) ∙ (and_parts (is_free b.tag) _ g).1
 
 older : (s : State) → Well s → (p : Place) (n u : ℕ) → s.blocks ≡ whole p → p.block.tag ≡ Free u → fits n p.block ≡ true → IsBest n s.blocks p.block
     → (z t : ℕ) → In (block z (Free t)) p.before ⊎ In (block z (Free t)) p.after → nat_eq (down z) (down p.block.size) ≡ true → t < u
@@ -158,7 +158,7 @@ restored s w p needed n padding e f best enough t v m = record {
     old q (inr i) = subst (In q) (sym parts_whole) (in_right q a.0 (b.0 ++ (c.0 ∷ (d.0 ++ d.1))) (in_right q b.0 (c.0 ∷ (d.0 ++ d.1)) (inr (in_right q d.0 d.1 i))))
 
     free : is_free p.block.tag ≡ true
-    free = (both_true (is_free p.block.tag) (nat_le (up needed) (down p.block.size)) f).0
+    free = (and_parts (is_free p.block.tag) (nat_le (up needed) (down p.block.size)) f).0
 
     tag : p.block.tag ≡ Free (stamp p.block.tag)
     tag = free_stamp p.block.tag free

@@ -1,9 +1,9 @@
 -- Worked rows: what the definitions give, by computation.
-use Rattle.std.proofs.Common.{◌≡◌, ℕ, [], ◌∷◌, refl}
+use Rattle.std.proofs.Common.{◌≡◌, ℕ, List, [], ◌∷◌, map, refl}
 use Rattle.offset_script.specs.declared.scripts.Command.TheVariants as command
 use Rattle.offset_allocator.specs.Classes.{value, up, down}
 use Rattle.offset_allocator.specs.Reports.{Row}
-use Rattle.offset_script.specs.Machine.{State, start, answers, after}
+use Rattle.offset_script.specs.Machine.{State, Answer, start, answers, after}
 use Rattle.offset_script.specs.Machine as answer
 use Rattle.offset_script.specs.Histories.{Nest, outline, collapse, releases}
 use Rattle.offset_script.specs.Histories as history
@@ -115,137 +115,30 @@ unfolding value up down
 exact_size_between_classes = refl
 
 -- three releases in every order
-releases_1_2_3 : answers (command.Alloc 10 ∷ command.Alloc 10 ∷ command.Alloc 10 ∷ command.Alloc 10 ∷ command.Free 1 ∷ command.Free 2 ∷ command.Free 3 ∷ command.Full ∷ []) (start 60 8) ≡ answer.Grant 1 0 ∷ answer.Grant 2 10 ∷ answer.Grant 3 20 ∷ answer.Grant 4 30 ∷ answer.Freed ∷ answer.Freed ∷ answer.Freed ∷ answer.Full (row_of 18 20 1 ∷ row_of 23 30 1 ∷ []) ∷ []
-unfolding value up down
-releases_1_2_3 = refl
+released : ℕ → ℕ → ℕ → List Answer
+released i j k = answers (command.Alloc 10 ∷ command.Alloc 10 ∷ command.Alloc 10 ∷ command.Alloc 10 ∷ command.Free i ∷ command.Free j ∷ command.Free k ∷ command.Full ∷ []) (start 60 8)
 
-releases_1_3_2 : answers (command.Alloc 10 ∷ command.Alloc 10 ∷ command.Alloc 10 ∷ command.Alloc 10 ∷ command.Free 1 ∷ command.Free 3 ∷ command.Free 2 ∷ command.Full ∷ []) (start 60 8) ≡ answer.Grant 1 0 ∷ answer.Grant 2 10 ∷ answer.Grant 3 20 ∷ answer.Grant 4 30 ∷ answer.Freed ∷ answer.Freed ∷ answer.Freed ∷ answer.Full (row_of 18 20 1 ∷ row_of 23 30 1 ∷ []) ∷ []
-unfolding value up down
-releases_1_3_2 = refl
+all_released : List Answer
+all_released = answer.Grant 1 0 ∷ answer.Grant 2 10 ∷ answer.Grant 3 20 ∷ answer.Grant 4 30 ∷ answer.Freed ∷ answer.Freed ∷ answer.Freed ∷ answer.Full (row_of 18 20 1 ∷ row_of 23 30 1 ∷ []) ∷ []
 
-releases_2_1_3 : answers (command.Alloc 10 ∷ command.Alloc 10 ∷ command.Alloc 10 ∷ command.Alloc 10 ∷ command.Free 2 ∷ command.Free 1 ∷ command.Free 3 ∷ command.Full ∷ []) (start 60 8) ≡ answer.Grant 1 0 ∷ answer.Grant 2 10 ∷ answer.Grant 3 20 ∷ answer.Grant 4 30 ∷ answer.Freed ∷ answer.Freed ∷ answer.Freed ∷ answer.Full (row_of 18 20 1 ∷ row_of 23 30 1 ∷ []) ∷ []
-unfolding value up down
-releases_2_1_3 = refl
-
-releases_2_3_1 : answers (command.Alloc 10 ∷ command.Alloc 10 ∷ command.Alloc 10 ∷ command.Alloc 10 ∷ command.Free 2 ∷ command.Free 3 ∷ command.Free 1 ∷ command.Full ∷ []) (start 60 8) ≡ answer.Grant 1 0 ∷ answer.Grant 2 10 ∷ answer.Grant 3 20 ∷ answer.Grant 4 30 ∷ answer.Freed ∷ answer.Freed ∷ answer.Freed ∷ answer.Full (row_of 18 20 1 ∷ row_of 23 30 1 ∷ []) ∷ []
-unfolding value up down
-releases_2_3_1 = refl
-
-releases_3_1_2 : answers (command.Alloc 10 ∷ command.Alloc 10 ∷ command.Alloc 10 ∷ command.Alloc 10 ∷ command.Free 3 ∷ command.Free 1 ∷ command.Free 2 ∷ command.Full ∷ []) (start 60 8) ≡ answer.Grant 1 0 ∷ answer.Grant 2 10 ∷ answer.Grant 3 20 ∷ answer.Grant 4 30 ∷ answer.Freed ∷ answer.Freed ∷ answer.Freed ∷ answer.Full (row_of 18 20 1 ∷ row_of 23 30 1 ∷ []) ∷ []
-unfolding value up down
-releases_3_1_2 = refl
-
-releases_3_2_1 : answers (command.Alloc 10 ∷ command.Alloc 10 ∷ command.Alloc 10 ∷ command.Alloc 10 ∷ command.Free 3 ∷ command.Free 2 ∷ command.Free 1 ∷ command.Full ∷ []) (start 60 8) ≡ answer.Grant 1 0 ∷ answer.Grant 2 10 ∷ answer.Grant 3 20 ∷ answer.Grant 4 30 ∷ answer.Freed ∷ answer.Freed ∷ answer.Freed ∷ answer.Full (row_of 18 20 1 ∷ row_of 23 30 1 ∷ []) ∷ []
-unfolding value up down
-releases_3_2_1 = refl
+in_every_order : (released 1 2 3 ≡ all_released) × (released 1 3 2 ≡ all_released) × (released 2 1 3 ≡ all_released) × (released 2 3 1 ≡ all_released) × (released 3 1 2 ≡ all_released) × (released 3 2 1 ≡ all_released)
+unfolding released all_released value up down
+in_every_order = (refl, refl, refl, refl, refl, refl)
 
 -- the collapse of three grants, and what their releases leave
 collapsed : collapse (1 ∷ 2 ∷ 3 ∷ []) (outline (after (command.Alloc 10 ∷ command.Alloc 10 ∷ command.Alloc 10 ∷ command.Alloc 10 ∷ []) (start 60 8)).blocks) ≡ outline (after (command.Alloc 10 ∷ command.Alloc 10 ∷ command.Alloc 10 ∷ command.Alloc 10 ∷ releases (3 ∷ 1 ∷ 2 ∷ [])) (start 60 8)).blocks
 unfolding value up down
 collapsed = refl
 
--- rounding up and down to a class
-up_0 : up 0 ≡ 0
-unfolding value up down
-up_0 = refl
+-- rounding up and down to a class: a size, and both classes
+roundings : List (ℕ × ℕ × ℕ)
+roundings = (0, 0, 0) ∷ (17, 17, 16) ∷ (118, 39, 38) ∷ (1024, 64, 64) ∷ (65536, 112, 112) ∷ (529445, 137, 136) ∷ (1048575, 144, 143) ∷ (4026531840, 239, 239) ∷ (4026531841, 240, 239) ∷ (4294967295, 240, 239) ∷ []
 
-down_0 : down 0 ≡ 0
-unfolding value up down
-down_0 = refl
-
-up_17 : up 17 ≡ 17
-unfolding value up down
-up_17 = refl
-
-down_17 : down 17 ≡ 16
-unfolding value up down
-down_17 = refl
-
-up_118 : up 118 ≡ 39
-unfolding value up down
-up_118 = refl
-
-down_118 : down 118 ≡ 38
-unfolding value up down
-down_118 = refl
-
-up_1024 : up 1024 ≡ 64
-unfolding value up down
-up_1024 = refl
-
-down_1024 : down 1024 ≡ 64
-unfolding value up down
-down_1024 = refl
-
-up_65536 : up 65536 ≡ 112
-unfolding value up down
-up_65536 = refl
-
-down_65536 : down 65536 ≡ 112
-unfolding value up down
-down_65536 = refl
-
-up_529445 : up 529445 ≡ 137
-unfolding value up down
-up_529445 = refl
-
-down_529445 : down 529445 ≡ 136
-unfolding value up down
-down_529445 = refl
-
-up_1048575 : up 1048575 ≡ 144
-unfolding value up down
-up_1048575 = refl
-
-down_1048575 : down 1048575 ≡ 143
-unfolding value up down
-down_1048575 = refl
-
-up_4026531840 : up 4026531840 ≡ 239
-unfolding value up down
-up_4026531840 = refl
-
-down_4026531840 : down 4026531840 ≡ 239
-unfolding value up down
-down_4026531840 = refl
-
-up_4026531841 : up 4026531841 ≡ 240
-unfolding value up down
-up_4026531841 = refl
-
-down_4026531841 : down 4026531841 ≡ 239
-unfolding value up down
-down_4026531841 = refl
-
-up_4294967295 : up 4294967295 ≡ 240
-unfolding value up down
-up_4294967295 = refl
-
-down_4294967295 : down 4294967295 ≡ 239
-unfolding value up down
-down_4294967295 = refl
+round_so : map (λ r. (r.0, up r.0, down r.0)) roundings ≡ roundings
+unfolding roundings value up down
+round_so = refl
 
 -- values of classes
-value_239 : value 239 ≡ 4026531840
+values : map value (30 ∷ 35 ∷ 207 ∷ 239 ∷ 240 ∷ 255 ∷ []) ≡ 56 ∷ 88 ∷ 251658240 ∷ 4026531840 ∷ 4294967296 ∷ 16106127360 ∷ []
 unfolding value
-value_239 = refl
-
-value_240 : value 240 ≡ 4294967296
-unfolding value
-value_240 = refl
-
-value_255 : value 255 ≡ 16106127360
-unfolding value
-value_255 = refl
-
-value_35 : value 35 ≡ 88
-unfolding value
-value_35 = refl
-
-value_30 : value 30 ≡ 56
-unfolding value
-value_30 = refl
-
-value_207 : value 207 ≡ 251658240
-unfolding value
-value_207 = refl
+values = refl

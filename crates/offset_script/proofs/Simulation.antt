@@ -1,5 +1,5 @@
 -- A player simulates the plain machine, call by call.
-use Rattle.std.proofs.Common.{◌≡◌, ℕ, zero, suc, ◌+◌, ◌-◌, ◌%◌, ◌^◌, ◌<◌, ◌≤◌, Bool, List, [], ◌∷◌, ◌++◌, map, length, Option, Some, None, Result, Ok, Err, IfOk, slice_index_or, slice_set, get_or, if◌then◌else◌, refl, sym, ap, ap₂, subst, ◌∙◌, inl, inr, arith, eq-eqb, ne_eqb, add-one, length-append, append-nil}
+use Rattle.std.proofs.Common.{◌≡◌, ℕ, zero, suc, ◌+◌, ◌-◌, ◌%◌, ◌^◌, ◌<◌, ◌≤◌, Bool, List, [], ◌∷◌, ◌++◌, map, length, Option, Some, None, option_map, Result, Ok, Err, IfOk, slice_index_or, slice_set, get_or, if◌then◌else◌, refl, sym, ap, ap₂, subst, ◌∙◌, inl, inr, arith, eq-eqb, ne_eqb, add-one, length-append, append-nil}
 use Rattle.std.proofs.lemmas.List.{map-append, get_or-set_same, get_or-set_other, get_or_past, length-set}
 use Rattle.std.proofs.Math.ListN.{get_or-append}
 use Rattle.std.proofs.Math.Seq.{get_or-append_seam}
@@ -10,10 +10,10 @@ use Rattle.offset_allocator.specs.declared.reports.StorageReportFull.{StorageRep
 use Rattle.offset_allocator.specs.declared.reports.StorageReportFullRegion.{StorageReportFullRegion}
 use Rattle.offset_script.specs.declared.scripts.Command.{Command}
 use Rattle.offset_script.specs.declared.scripts.Command.TheVariants as command
-use Rattle.offset_script.specs.Machine.{max_size, State, step, start, after, answer_view, row_view}
+use Rattle.offset_script.specs.Machine.{State, step, start, after, answer_view, row_view}
 use Rattle.offset_script.specs.Machine as machine
-use Rattle.offset_allocator.specs.Named.{View, Grant, total_free, largest_free, free_sizes, IsWellFormed}
-use Rattle.offset_script.specs.Agreement.{Agrees, IsReached, name_in, kept_name}
+use Rattle.offset_allocator.specs.Named.{View, Grant, total_free, largest_free, free_sizes, IsWellFormed, max_size}
+use Rattle.offset_script.specs.Agreement.{Agrees, IsReached, kept_name}
 use Rattle.offset_allocator.specs.Relations.{IsFresh, Allocates, Aligns, Frees, Extends, Resets}
 use Rattle.offset_script.proofs.Well.{Well, well_start, well_after}
 use Rattle.offset_script.proofs.Agreed.{with_name, without_name, Matches, serve_agrees, aligned_agrees, extend_agrees, free_agrees, live_agrees, gone_agrees, size_gone_agrees, size_agrees, report_agrees, full_agrees, agrees_quiet, agrees_kept, alone_agrees, same_units}
@@ -25,6 +25,10 @@ use Rattle.offset_allocator.specs.Ranges.{IsLive, size_of}
 use Rattle.offset_allocator.proofs.Reading.{used_live, size_is}
 use Rattle.offset_script.specs.Simulation.{Represents, Simulates, RepresentsReached, IsKept}
 
+-- the name in a handle
+abbrev handle_name : Grant → ℕ
+handle_name h = h.name
+
 -- what holds of every state holds of a reached one
 pub well_of : (s : State) → IsReached s → Well s
 well_of s r = subst Well (sym r.reached) (well_after r.commands (start r.size r.limit) (well_start r.size r.limit r.admitted))
@@ -33,10 +37,10 @@ well_of s r = subst Well (sym r.reached) (well_after r.commands (start r.size r.
 pub kept_push : (hs : List (Option Grant)) (h : Grant) (k : ℕ) → kept_name (hs ++ Some h ∷ []) k ≡ with_name (length hs + 1) h.name (kept_name hs) k
 kept_push hs h zero = rw (ne_eqb 0 (length hs + 1) (omega arith)) refl
 kept_push hs h (suc k) = elim (cases_eq k (length hs)) [
-  | inl e ↦ ap name_in (ap (λ i. get_or (hs ++ Some h ∷ []) i None) e ∙ get_or-append_seam hs (Some h) [] None) ∙ sym (ap (λ (b : Bool). if b then Some h.name else kept_name hs (suc k)) (eq-eqb (suc k) (length hs + 1) (omega arith)))
+  | inl e ↦ ap (option_map handle_name) (ap (λ i. get_or (hs ++ Some h ∷ []) i None) e ∙ get_or-append_seam hs (Some h) [] None) ∙ sym (ap (λ (b : Bool). if b then Some h.name else kept_name hs (suc k)) (eq-eqb (suc k) (length hs + 1) (omega arith)))
   | inr n ↦ elim (cases_lt k (length hs)) [
-    | inl l ↦ ap name_in (get_or-append hs (Some h ∷ []) None k l) ∙ sym (ap (λ (b : Bool). if b then Some h.name else kept_name hs (suc k)) (ne_eqb (suc k) (length hs + 1) (omega arith)))
-    | inr m ↦ ap name_in (get_or_past (hs ++ Some h ∷ []) k None (let e = length-append hs (Some h ∷ []) in omega arith)) ∙ sym (ap (λ (b : Bool). if b then Some h.name else kept_name hs (suc k)) (ne_eqb (suc k) (length hs + 1) (omega arith)) ∙ ap name_in (get_or_past hs k None m))
+    | inl l ↦ ap (option_map handle_name) (get_or-append hs (Some h ∷ []) None k l) ∙ sym (ap (λ (b : Bool). if b then Some h.name else kept_name hs (suc k)) (ne_eqb (suc k) (length hs + 1) (omega arith)))
+    | inr m ↦ ap (option_map handle_name) (get_or_past (hs ++ Some h ∷ []) k None (let e = length-append hs (Some h ∷ []) in omega arith)) ∙ sym (ap (λ (b : Bool). if b then Some h.name else kept_name hs (suc k)) (ne_eqb (suc k) (length hs + 1) (omega arith)) ∙ ap (option_map handle_name) (get_or_past hs k None m))
   ]
 ]
 
@@ -44,8 +48,8 @@ kept_push hs h (suc k) = elim (cases_eq k (length hs)) [
 pub kept_set : (hs : List (Option Grant)) (k : ℕ) → k < length hs → (j : ℕ) → kept_name (slice_set hs k None) j ≡ without_name (suc k) (kept_name hs) j
 kept_set hs k l zero = rw (ne_eqb 0 (suc k) (omega arith)) refl
 kept_set hs k l (suc j) = elim (cases_eq j k) [
-  | inl e ↦ ap name_in (ap (λ i. get_or (slice_set hs k None) i None) e ∙ get_or-set_same hs k None None l) ∙ sym (ap (λ (b : Bool). if b then None else kept_name hs (suc j)) (eq-eqb (suc j) (suc k) (ap suc e)))
-  | inr n ↦ ap name_in (get_or-set_other hs k j None None n) ∙ sym (ap (λ (b : Bool). if b then None else kept_name hs (suc j)) (ne_eqb (suc j) (suc k) (omega arith)))
+  | inl e ↦ ap (option_map handle_name) (ap (λ i. get_or (slice_set hs k None) i None) e ∙ get_or-set_same hs k None None l) ∙ sym (ap (λ (b : Bool). if b then None else kept_name hs (suc j)) (eq-eqb (suc j) (suc k) (ap suc e)))
+  | inr n ↦ ap (option_map handle_name) (get_or-set_other hs k j None None n) ∙ sym (ap (λ (b : Bool). if b then None else kept_name hs (suc j)) (ne_eqb (suc j) (suc k) (omega arith)))
 ]
 
 -- a call returns the answer of the plain machine, and what it leaves agrees with the state that the machine leaves
@@ -134,7 +138,7 @@ if_ok (Err e) f p = tt
 -- a reset removes all handles
 none_kept : (hs : List (Option Grant)) → ((i : ℕ) → i < length hs → slice_index_or hs i None ≡ None) → (k : ℕ) → kept_name hs k ≡ None
 none_kept hs none zero = refl
-none_kept hs none (suc k) = elim (cases_lt k (length hs)) [ inl l ↦ ap name_in (none k l) | inr m ↦ ap name_in (get_or_past hs k None m) ]
+none_kept hs none (suc k) = elim (cases_lt k (length hs)) [ inl l ↦ ap (option_map handle_name) (none k l) | inr m ↦ ap (option_map handle_name) (get_or_past hs k None m) ]
 
 -- a reset, where no handle is left
 pub reset_simulates : (v w : View) → IsWellFormed w → (hs left : List (Option Grant)) → Resets v w → length left ≡ length hs → ((i : ℕ) → i < length left → slice_index_or left i None ≡ None) → Simulates v hs w left command.Reset program_answer.Reset

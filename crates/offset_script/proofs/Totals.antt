@@ -1,13 +1,15 @@
 -- The sums of sizes, and the numbers of live blocks, that every call keeps.
-use Rattle.std.proofs.Common.{◌≡◌, ℕ, zero, suc, ◌+◌, ◌-◌, ◌≤◌, true, false, ◌&&◌, ◌||◌, List, [], ◌∷◌, ◌++◌, length, nat_le, nat_lt, if◌then◌else◌, refl, sym, ap, subst, ◌∙◌, inl, inr, arith, le-leb, length-append, sum}
+use Rattle.std.proofs.Common.{◌≡◌, ℕ, zero, suc, ◌+◌, ◌-◌, ◌≤◌, true, false, not, cond, ◌&&◌, ◌||◌, List, [], ◌∷◌, ◌++◌, length, nat_le, nat_lt, if◌then◌else◌, refl, sym, ap, subst, ◌∙◌, inl, inr, arith, le-leb, length-append, sum}
+use Rattle.std.proofs.lemmas.List.Elements.{filter-append}
 use Rattle.std.proofs.lemmas.List.Sums.{sum_by-cons}
-use Rattle.offset_script.specs.Machine.{max_size, padding_to, Live, Free, Block, block, is_free, total, free_sizes, Place, chosen_place, free_block, free_start, without_start, free_end, without_end, ends_live, coalesce, State, Outcome, start, step, after, is_short_of, returns_only, leaves, request, grant_or_refuse, stamp_of_call, stamp_of_padding}
+use Rattle.offset_allocator.specs.Named.{max_size, padding_to}
+use Rattle.offset_script.specs.Machine.{Live, Free, Block, block, is_free, total, free_sizes, Place, chosen_place, free_block, free_start, without_start, free_end, without_end, ends_live, coalesce, State, Outcome, start, step, after, is_short_of, returns_only, leaves, request, grant_or_refuse, stamp_of_call, stamp_of_padding}
 use Rattle.offset_allocator.specs.Reports.{largest}
 use Rattle.offset_script.specs.declared.scripts.Command.{Command}
 use Rattle.offset_script.specs.declared.scripts.Command.TheVariants as command
 use Rattle.offset_script.specs.Machine as machine
 use Rattle.offset_script.specs.Histories.{KeepsSpace}
-use Rattle.offset_script.specs.Totals.{requested_units, live_units, live_blocks, added_units, added_by, SizesAddUp, FewAreLive, FullSpaceRefuses}
+use Rattle.offset_script.specs.Totals.{requested_units, live, added_units, added_by}
 use Rattle.offset_script.proofs.Well.{whole, chosen_at, found_at, granted_blocks, total-append, AllFree, coalesced, free_part}
 use Rattle.offset_script.proofs.Nests.{does}
 use Rattle.offset_script.proofs.Tests.{if_both}
@@ -20,9 +22,12 @@ total_coalesce xs n s ys =
 total_granted : (p : Place) (n padding front k rest : ℕ) → padding + n ≤ p.block.size → total (granted_blocks p n padding front k rest) ≡ total (whole p)
 total_granted p n padding front k rest h = omega (arith, total-append p.before (p.block ∷ p.after), total-append p.before (free_block padding front ++ (block n (Live k) ∷ (free_block (p.block.size - (padding + n)) rest ++ p.after))), total-append (free_block padding front) (block n (Live k) ∷ (free_block (p.block.size - (padding + n)) rest ++ p.after)), total-append (free_block (p.block.size - (padding + n)) rest) p.after, (free_part padding front).2, (free_part (p.block.size - (padding + n)) rest).2)
 
+-- how many blocks are live
+abbrev live_blocks : List Block → ℕ
+live_blocks bs = length (live bs)
+
 live-append : (xs ys : List Block) → live_blocks (xs ++ ys) ≡ live_blocks xs + live_blocks ys
-live-append [] ys = omega arith
-live-append (b ∷ xs) ys = let ih = live-append xs ys in omega (arith, ih)
+live-append xs ys = ap length (filter-append (λ (b : Block). not (is_free b.tag)) xs ys) ∙ length-append (live xs) (live ys)
 
 live_free_block : (n s : ℕ) → live_blocks (free_block n s) ≡ 0
 live_free_block zero s = refl
@@ -30,11 +35,14 @@ live_free_block (suc n) s = refl
 
 live_length : (bs : List Block) → live_blocks bs ≤ length bs
 live_length [] = omega arith
-live_length (b ∷ bs) = let ih = live_length bs in elim (is_free b.tag) as (λ x. (if x then 0 else 1) + live_blocks bs ≤ suc (length bs)) [ true ↦ omega arith | false ↦ omega arith ]
+live_length (b ∷ bs) = let ih = live_length bs in elim (is_free b.tag) as (λ x. length (cond (not x) (b ∷ live bs) (live bs)) ≤ suc (length bs)) [ true ↦ omega arith | false ↦ omega arith ]
+
+live_more : (b : Block) (bs : List Block) → live_blocks bs ≤ live_blocks (b ∷ bs)
+live_more b bs = elim (is_free b.tag) as (λ x. live_blocks bs ≤ length (cond (not x) (b ∷ live bs) (live bs))) [ true ↦ omega arith | false ↦ omega arith ]
 
 live_none : (fs : List Block) → AllFree fs → live_blocks fs ≡ 0
 live_none [] f = refl
-live_none (b ∷ fs) f = ap (λ x. (if x then 0 else 1) + live_blocks fs) f.0 ∙ ap (λ n. 0 + n) (live_none fs f.1)
+live_none (b ∷ fs) f = ap (λ x. length (cond (not x) (b ∷ live fs) (live fs))) f.0 ∙ live_none fs f.1
 
 live_coalesce : (xs : List Block) (n s : ℕ) (ys : List Block) → live_blocks (coalesce xs n s ys) ≡ live_blocks xs + live_blocks ys
 live_coalesce xs n s ys =
@@ -78,14 +86,14 @@ adds_all [] s = omega arith
 adds_all (c ∷ cs) s = let a = adds_step c s in let ih = adds_all cs (step c s).state in omega arith
 
 -- the live and the free units of a list
-parted : (bs : List Block) → live_units bs + sum (free_sizes bs) ≡ total bs
+parted : (bs : List Block) → total (live bs) + sum (free_sizes bs) ≡ total bs
 parted [] = refl
 parted (b ∷ bs) =
     let ih = parted bs in
     let e : sum (b.size ∷ free_sizes bs) ≡ b.size + sum (free_sizes bs) = sum_by-cons (λ n. n) b.size (free_sizes bs) in
-    elim (is_free b.tag) as (λ x. ((if x then 0 else b.size) + live_units bs) + sum (if x then b.size ∷ free_sizes bs else free_sizes bs) ≡ b.size + total bs) [ true ↦ omega (arith, e, ih) | false ↦ omega (arith, ih) ]
+    elim (is_free b.tag) as (λ x. total (cond (not x) (b ∷ live bs) (live bs)) + sum (if x then b.size ∷ free_sizes bs else free_sizes bs) ≡ b.size + total bs) [ true ↦ omega (arith, e, ih) | false ↦ omega (arith, ih) ]
 
-pub sums_law : SizesAddUp
+pub sums_law : (size limit : ℕ) (cs : List Command) → let bs = (after cs (start size limit)).blocks in total (live bs) + sum (free_sizes bs) ≡ size + added_by cs (start size limit)
 sums_law size limit cs = let p = parted (after cs (start size limit)).blocks in let a = adds_all cs (start size limit) in omega arith
 
 -- an outcome where no more than limit - 2 blocks are live
@@ -99,7 +107,7 @@ few_kept c s k h = elim (does c s k) [
   | inr (inl d) ↦ subst (Few s) (sym d.is) (let r = d.room in
       (omega (arith, r, live_granted d.place (requested_units c) d.padding (stamp_of_padding s) (s.grants + 1) (stamp_of_call s), ap length (chosen_at d.needed s.blocks d.place d.chose).0, length-append d.place.before (d.place.block ∷ d.place.after), live_length d.place.before, live_length d.place.after), refl))
   | inr (inr d) ↦ subst (Few s) (sym d.is)
-      (omega (arith, live_coalesce d.place.before d.place.block.size (stamp_of_call s) d.place.after, ap live_blocks (found_at d.number s.blocks d.place d.found).0, live-append d.place.before (d.place.block ∷ d.place.after), h), refl)
+      (omega (arith, live_coalesce d.place.before d.place.block.size (stamp_of_call s) d.place.after, ap live_blocks (found_at d.number s.blocks d.place d.found).0, live-append d.place.before (d.place.block ∷ d.place.after), live_more d.place.block d.place.after, h), refl)
 ]
 
 few_step : (c : Command) (s : State) → live_blocks s.blocks + 2 ≤ s.limit → Few s (step c s)
@@ -120,7 +128,7 @@ unfolding Few
 few_all [] s limit e h = h
 few_all (c ∷ cs) s limit e h = let f = few_step c s (omega arith) in few_all cs (step c s).state limit (f.1 ∙ e) (omega (arith, f.0))
 
-pub few_law : FewAreLive
+pub few_law : (size limit : ℕ) → 2 ≤ limit → (cs : List Command) → live_blocks (after cs (start size limit)).blocks + 2 ≤ limit
 few_law size limit h cs = few_all cs (start size limit) limit refl h
 
 -- a full space is short of any number of blocks
@@ -130,11 +138,13 @@ short_too s spare some h = le-leb s.limit (length s.blocks + spare) (omega arith
 refused : (s : State) (spare needed n : ℕ) (padding_at : ℕ → ℕ) → 1 ≤ spare → s.limit ≤ length s.blocks + 1 → (request s spare needed n padding_at).answer ≡ machine.Refused
 refused s spare needed n padding_at some h = ap (λ b. (if b then returns_only s machine.Refused else grant_or_refuse s n padding_at (chosen_place needed s.blocks)).answer) (short_too s spare some h)
 
-pub full_law : FullSpaceRefuses
-full_law s h = (
-  λ n. refused s 1 n n (λ offset. 0) (omega arith) h,
-  λ n align. if_both (λ (o : Outcome). o.answer ≡ machine.Refused) (nat_le align 1) (step (command.Alloc n) s) (if nat_lt max_size (n + align - 1) then returns_only s machine.Refused else request s 2 (n + align - 1) n (padding_to align))
-      (λ e. refused s 1 n n (λ offset. 0) (omega arith) h)
-      (λ e. if_both (λ (o : Outcome). o.answer ≡ machine.Refused) (nat_lt max_size (n + align - 1)) (returns_only s machine.Refused) (request s 2 (n + align - 1) n (padding_to align)) (λ f. refl) (λ f. refused s 2 (n + align - 1) n (padding_to align) (omega arith) h)),
-  ap (λ b. if b then machine.Report 0 0 else machine.Report (sum (free_sizes s.blocks)) (largest (free_sizes s.blocks))) (short_too s 1 (omega arith) h),
-)
+pub full_refuses : (s : State) (n : ℕ) → s.limit ≤ length s.blocks + 1 → (step (command.Alloc n) s).answer ≡ machine.Refused
+full_refuses s n h = refused s 1 n n (λ offset. 0) (omega arith) h
+
+pub full_refuses_aligned : (s : State) (n align : ℕ) → s.limit ≤ length s.blocks + 1 → (step (command.Align n align) s).answer ≡ machine.Refused
+full_refuses_aligned s n align h = if_both (λ (o : Outcome). o.answer ≡ machine.Refused) (nat_le align 1) (step (command.Alloc n) s) (if nat_lt max_size (n + align - 1) then returns_only s machine.Refused else request s 2 (n + align - 1) n (padding_to align))
+    (λ e. full_refuses s n h)
+    (λ e. if_both (λ (o : Outcome). o.answer ≡ machine.Refused) (nat_lt max_size (n + align - 1)) (returns_only s machine.Refused) (request s 2 (n + align - 1) n (padding_to align)) (λ f. refl) (λ f. refused s 2 (n + align - 1) n (padding_to align) (omega arith) h))
+
+pub full_report : (s : State) → s.limit ≤ length s.blocks + 1 → (step command.Report s).answer ≡ machine.Report 0 0
+full_report s h = ap (λ b. if b then machine.Report 0 0 else machine.Report (sum (free_sizes s.blocks)) (largest (free_sizes s.blocks))) (short_too s 1 (omega arith) h)

@@ -1,16 +1,19 @@
 -- What holds of lists of blocks, and of every state that the machine reaches.
 use Rattle.std.proofs.Common.{◌≡◌, ◌≢◌, ℕ, zero, suc, ◌+◌, ◌-◌, ◌<◌, ◌≤◌, Bool, true, false, ◌&&◌, ◌||◌, ◌⊎◌, List, [], ◌∷◌, ◌++◌, length, Option, Some, None, option_map, nat_eq, nat_lt, nat_le, if◌then◌else◌, refl, sym, ap, ap₂, subst, ◌∙◌, inl, inr, arith, eq-eqb, ne_eqb, leb-false, length-append, append-nil}
-use Rattle.std.proofs.lemmas.Bool.{cases_eq, cases_lt, true≢false, false≢true}
+use Rattle.offset_allocator.proofs.ViewOrders.{hit_cases}
+use Rattle.offset_allocator.proofs.ViewApart.{left_false, right_false}
+use Rattle.std.proofs.lemmas.Bool.{cases_eq, cases_lt, true≢false, false≢true, and_parts, and_left, and_right, or_parts, and_cases, not-false}
 use Rattle.std.proofs.lemmas.Bool.Decides.{nat_tests}
 use Rattle.std.specs.List.{AllByRecursion}
 use Rattle.offset_script.specs.declared.scripts.Command.{Command}
 use Rattle.offset_script.specs.declared.scripts.Command.TheVariants as command
 use Rattle.offset_allocator.specs.Classes.{down}
-use Rattle.offset_script.specs.Machine.{Tag, Live, Free, Block, block, is_free, has_number, stamp, total, Place, here, prepend, fits, is_taken_before, choose, chosen_place, place_of, free_block, free_start, without_start, free_end, without_end, ends_live, coalesce, State, Answer, Outcome, start, step, answers, after, request, grant, grant_or_refuse, is_short_of, returns_only, leaves, release, size_at, report, reset, extend, stamp_of_call, stamp_of_padding, max_size, padding_to}
+use Rattle.offset_allocator.specs.Named.{max_size, padding_to, one}
+use Rattle.offset_script.specs.Machine.{Tag, Live, Free, Block, block, is_free, has_number, stamp, total, Place, here, prepend, fits, is_taken_before, choose, chosen_place, place_of, free_block, free_start, without_start, free_end, without_end, ends_live, coalesce, State, Answer, Outcome, start, step, answers, after, request, grant, grant_or_refuse, is_short_of, returns_only, leaves, release, size_at, report, reset, extend, stamp_of_call, stamp_of_padding}
 use Rattle.offset_script.specs.Machine as machine
 use Rattle.offset_allocator.specs.Reports.{rows_below}
 use Rattle.offset_script.proofs.Members.{In}
-use Rattle.offset_script.proofs.Tests.{both_true, and_false, and_false_right, left_false, right_false, or_false, if_both}
+use Rattle.offset_script.proofs.Tests.{if_both}
 
 -- whether the first block of a list is free
 abbrev pub starts_free : List Block → Bool
@@ -34,11 +37,6 @@ same_tag (Live i) (Live j) = nat_eq i j
 same_tag (Live i) (Free s) = false
 same_tag (Free s) (Live i) = false
 same_tag (Free s) (Free u) = nat_eq s u
-
--- a truth as a number
-abbrev pub one : Bool → ℕ
-one true = 1
-one false = 0
 
 -- 1 where two tags are the same, and else 0
 abbrev pub hit : Tag → Tag → ℕ
@@ -75,13 +73,6 @@ pub count-append : (t : Tag) (xs ys : List Block) → count t (xs ++ ys) ≡ cou
 count-append t [] ys = omega arith
 count-append t (b ∷ xs) ys = let ih = count-append t xs ys in omega (arith, ih)
 
--- two numbers are the same, or not
-pub hit_cases : (x y : ℕ) → ((x ≡ y) × (one (nat_eq x y) ≡ 1)) ⊎ ((x ≢ y) × (one (nat_eq x y) ≡ 0))
-hit_cases x y = elim (cases_eq x y) [
-  | inl e ↦ inl (e, ap one (eq-eqb x y e))
-  | inr n ↦ inr (n, ap one (ne_eqb x y n))
-]
-
 pub hit_self : (t : Tag) → hit t t ≡ 1
 hit_self (Live k) = elim (hit_cases k k) [ inl h ↦ h.1 | inr h ↦ absurd (h.0 refl) ]
 hit_self (Free s) = elim (hit_cases s s) [ inl h ↦ h.1 | inr h ↦ absurd (h.0 refl) ]
@@ -111,9 +102,6 @@ total-append [] ys = omega arith
 total-append (b ∷ xs) ys = let ih = total-append xs ys in omega (arith, ih)
 
 -- neighbours
-pub and_true : (x : Bool) → (x && true) ≡ false → x ≡ false
-and_true true e = e
-and_true false e = refl
 
 -- two lists that do not meet in two free blocks
 pub apart_append : (xs ys : List Block) → Apart xs → Apart ys → (ends_free xs && starts_free ys) ≡ false → Apart (xs ++ ys)
@@ -124,7 +112,7 @@ apart_append (x ∷ y ∷ xs) ys a b e = (a.0, apart_append (y ∷ xs) ys a.1 b 
 -- the parts of a list
 pub apart_parts : (xs ys : List Block) → Apart (xs ++ ys) → Apart xs × Apart ys × ((ends_free xs && starts_free ys) ≡ false)
 apart_parts [] ys a = (tt, a, refl)
-apart_parts (x ∷ []) ys a = ((and_false_right (is_free x.tag) false refl, tt), a.1, a.0)
+apart_parts (x ∷ []) ys a = ((and_right (is_free x.tag) false refl, tt), a.1, a.0)
 apart_parts (x ∷ y ∷ xs) ys a = let p = apart_parts (y ∷ xs) ys a.1 in ((a.0, p.0), p.1, p.2)
 
 -- all of these are free
@@ -246,16 +234,12 @@ apart_coalesce xs n s ys a b =
     let c = coalesced xs n s ys in
     let a' = subst Apart c.at_front a in
     let b' = subst Apart c.at_back b in
-    subst Apart (sym c.is) (apart_append c.front _ (apart_parts c.front c.last a').0 (start_live c.first c.back c.start b', (apart_parts c.first c.back b').1) (and_false _ _ (end_live c.front c.last c.end a')))
+    subst Apart (sym c.is) (apart_append c.front _ (apart_parts c.front c.last a').0 (start_live c.first c.back c.start b', (apart_parts c.first c.back b').1) (and_left _ _ (end_live c.front c.last c.end a')))
 
 -- the machine
 pub well_start : (size limit : ℕ) → 2 ≤ limit → Well (start size limit)
-well_start size limit h = record { some = omega arith; apart = (refl, tt); once = λ t. omega (arith, at_most_one (same_tag t (Free 0))); old = λ t c. first t c; room = omega arith }
+well_start size limit h = record { some = omega arith; apart = (refl, tt); once = λ t. elim (same_tag t (Free 0)) as (λ b. one b + 0 ≤ 1) [ true ↦ omega arith | false ↦ omega arith ]; old = λ t c. first t c; room = omega arith }
   where
-    at_most_one : (b : Bool) → one b ≤ 1
-    at_most_one true = omega arith
-    at_most_one false = omega arith
-
     first : (t : Tag) → 1 ≤ hit t (Free 0) + 0 → IsOld (start size limit) t
     first (Live k) c = absurd (omega arith)
     first (Free x) c = elim (hit_cases x 0) [ inl e ↦ omega arith | inr e ↦ absurd (omega arith) ]
@@ -361,7 +345,7 @@ choose_none n b bs h false e = λ c i. none c i
 
 choose_some : (n : ℕ) (b : Block) (bs : List Block) (p : Place) → ChosenAt n bs (Some p) → (x : Bool) → (fits n b && is_taken_before b p.block) ≡ x → ChosenAt n (b ∷ bs) (if x then Some (here b bs) else Some (prepend b p))
 unfolding ChosenAt
-choose_some n b bs p h true e = (refl, (both_true _ _ e).0, chosen_here n b bs (both_true _ _ e).0 (λ c i g. taken_transitive c p.block b (h.2 c i g) (both_true _ _ e).1))
+choose_some n b bs p h true e = (refl, (and_parts _ _ e).0, chosen_here n b bs (and_parts _ _ e).0 (λ c i g. taken_transitive c p.block b (h.2 c i g) (and_parts _ _ e).1))
 choose_some n b bs p h false e = (ap (λ l. b ∷ l) h.0, h.1, chosen_prepend n b bs p.block e h.2)
 
 choose_step : (n : ℕ) (b : Block) (bs : List Block) (o : Option Place) → ChosenAt n bs o → ChosenAt n (b ∷ bs) (choose n b bs o)
@@ -408,7 +392,7 @@ apart_granted p n padding front k rest f a =
     let parts = apart_parts p.before (p.block ∷ p.after) a in
     let end : ends_free p.before ≡ false = left_false (ends_free p.before) (is_free p.block.tag) parts.2 f in
     let beginning : starts_free p.after ≡ false = right_false (is_free p.block.tag) (starts_free p.after) parts.1.0 f in
-    apart_append p.before _ parts.0 (apart_free_block padding front _ (refl, apart_free_block _ rest p.after parts.1.1 beginning) refl) (and_false _ _ end)
+    apart_append p.before _ parts.0 (apart_free_block padding front _ (refl, apart_free_block _ rest p.after parts.1.1 beginning) refl) (and_left _ _ end)
 
 -- a grant
 well_grant : (s : State) → Well s → (n padding : ℕ) (p : Place) → s.blocks ≡ whole p → is_free p.block.tag ≡ true → (spare : ℕ) → length s.blocks + spare < s.limit
@@ -441,7 +425,7 @@ well_granted : (s : State) → Well s → (needed n : ℕ) (padding_at : ℕ →
 well_granted s w needed n padding_at spare enough room None e = well_quiet s w machine.Refused
 well_granted s w needed n padding_at spare enough room (Some p) e =
     let c = chosen_at needed s.blocks p e in
-    well_grant s w n (padding_at (total p.before)) p c.0 (both_true _ _ c.1).0 spare room (enough _ _)
+    well_grant s w n (padding_at (total p.before)) p c.0 (and_parts _ _ c.1).0 spare room (enough _ _)
 
 well_request : (s : State) → Well s → (spare needed n : ℕ) (padding_at : ℕ → ℕ) → ((o x : ℕ) → length (free_block (padding_at o) x) + 1 ≤ spare) → Well (request s spare needed n padding_at).state
 well_request s w spare needed n padding_at enough = if_both (λ (o : Outcome). Well o.state) (is_short_of spare s) _ _ (λ e. well_quiet s w machine.Refused)
@@ -464,11 +448,7 @@ length_at_end bs n s = (λ e h. shorter (coalesced bs n s []) e h, (length_coale
   where
     ends_some : (bs : List Block) → 1 ≤ length bs → ends_live bs ≡ false → ends_free bs ≡ true
     ends_some [] h e = absurd (omega arith)
-    ends_some (b ∷ []) h e = go (is_free b.tag) e
-      where
-        go : (x : Bool) → (if x then false else true) ≡ false → x ≡ true
-        go true e = refl
-        go false e = absurd (true≢false e)
+    ends_some (b ∷ []) h e = not-false (is_free b.tag) e
     ends_some (b ∷ c ∷ bs) h e = ends_some (c ∷ bs) (omega arith) e
 
     shorter : Coalesced bs n s [] → ends_live bs ≡ false → 1 ≤ length bs → length (coalesce bs n s []) ≤ length bs
@@ -476,10 +456,6 @@ length_at_end bs n s = (λ e h. shorter (coalesced bs n s []) e h, (length_coale
       | inl l ↦ omega (arith, ap length c.is, length-append c.front (block (total c.last + n + total c.first) (Free s) ∷ c.back), ap length c.at_front, length-append c.front c.last, ap length c.at_back, length-append c.first c.back)
       | inr l ↦ absurd (true≢false (sym (ends_some bs h e) ∙ ap ends_free c.at_front ∙ c.end.live (omega arith)))
     ]
-
-and_cases : (x y : Bool) → (x && y) ≡ false → (x ≡ false) ⊎ (y ≡ false)
-and_cases true y e = inr e
-and_cases false y e = inl refl
 
 -- more units at the end
 well_extend : (s : State) → Well s → (more : ℕ) → Well (extend more s).state
@@ -489,7 +465,7 @@ well_extend s w (suc more) = if_both (λ (o : Outcome). Well o.state) (nat_lt ma
     let at_end = length_at_end s.blocks (suc more) (stamp_of_call s) in
     let r = w.room in
     well_leaves s w _ machine.Extended sizes.0
-    (elim (and_cases (ends_live s.blocks) (is_short_of 1 s) (or_false _ _ e).1) [
+    (elim (and_cases (ends_live s.blocks) (is_short_of 1 s) (or_parts _ _ e).1) [
       | inl free ↦ omega (arith, at_end.0 free w.some)
       | inr spare ↦ omega (arith, at_end.1, leb-false s.limit (length s.blocks + 1) spare)
     ])
@@ -498,7 +474,7 @@ well_extend s w (suc more) = if_both (λ (o : Outcome). Well o.state) (nat_lt ma
 
 -- a reset
 well_reset : (s : State) → Well s → Well (reset s).state
-well_reset s w = let r = w.room in let o = w.some in well_leaves s w _ machine.Reset (omega arith) (omega arith) (and_false_right true false refl, tt) (λ t. omega arith)
+well_reset s w = let r = w.room in let o = w.some in well_leaves s w _ machine.Reset (omega arith) (omega arith) (and_right true false refl, tt) (λ t. omega arith)
 
 no_padding : (o x : ℕ) → length (free_block 0 x) + 1 ≤ 1
 no_padding o x = omega arith

@@ -1,5 +1,5 @@
 -- When the named view of an allocator, with the handles kept for its grants, shows the blocks of a plain state.
-use Rattle.std.specs.Prelude.{◌≡◌, ℕ, zero, suc, ◌<◌, ◌≤◌, not, List, [], ◌∷◌, map, Option, Some, None, slice_index_or, nat_eq, if◌then◌else◌}
+use Rattle.std.specs.Prelude.{◌≡◌, ℕ, zero, suc, ◌<◌, ◌≤◌, not, List, [], ◌∷◌, map, Option, Some, None, slice_index_or, option_map, nat_eq, if◌then◌else◌}
 use Rattle.offset_allocator.specs.Named.{Block, View, Grant, tally, times, names_at}
 use Rattle.offset_script.specs.declared.scripts.Command.{Command}
 use Rattle.offset_script.specs.Machine.{Tag, is_free, has_number, stamp, State, start, after}
@@ -51,12 +51,7 @@ pub record IsReached (s : State) : Type 0 where
   pub admitted : 2 ≤ limit
   pub reached : s ≡ after commands (start size limit)
 
--- the name in a handle, if there is one
-abbrev pub name_in : Option Grant → Option ℕ
-name_in None = None
-name_in (Some h) = Some h.name
-
 -- the name of the handle kept for grant k, where handle k - 1 is that of grant k
 abbrev pub kept_name : List (Option Grant) → ℕ → Option ℕ
 kept_name hs zero = None
-kept_name hs (suc k) = name_in (slice_index_or hs k None)
+kept_name hs (suc k) = option_map (λ (h : Grant). h.name) (slice_index_or hs k None)

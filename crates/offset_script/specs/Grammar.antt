@@ -1,5 +1,5 @@
 -- What a text means, a script or the fault of its first faulty line, and the text of answers to a script.
-use Rattle.std.specs.Prelude.{◌≡◌, ℕ, ◌+◌, ◌^◌, Bool, true, not, ◌&&◌, List, [], ◌∷◌, ◌++◌, length, drop, filter, count_by, Option, Some, None, option_and_then, Result, Ok, Err, nat_lt, nat_le, ◌==◌, if◌then◌else◌, codes}
+use Rattle.std.specs.Prelude.{◌≡◌, ℕ, ◌+◌, ◌^◌, Bool, true, not, ◌&&◌, List, [], ◌∷◌, ◌++◌, length, drop, filter, count_by, Option, Some, None, option_and_then, Result, Ok, Err, ok_or, nat_lt, nat_le, ◌==◌, if◌then◌else◌, codes}
 use Rattle.std.specs.List.{slice_split, flat_map}
 use Rattle.std.specs.Fmt.{decimal}
 use Rattle.std.specs.Io.KnownBytes.{Appends}
@@ -24,20 +24,11 @@ use Rattle.offset_script.specs.Machine as machine
 abbrev pub parts : ℕ → List ℕ → List (List ℕ)
 parts at text = slice_split (λ b. b == at) text
 
--- the parts of what comes after such a byte
-abbrev pub parts_after : ℕ → Option (List ℕ) → List (List ℕ)
-parts_after at None = []
-parts_after at (Some rest) = parts at rest
-
 -- ---- words
 
--- 1 to 10 decimal digits of a value that 32 bits hold
-abbrev pub is_number : List ℕ → Bool
-is_number word = nat_lt 0 (length word) && nat_le (length word) 10 && all_ascii_digits word && nat_lt (digits_value 10 word) (2 ^ 32)
-
--- the number that a word spells
+-- the number that a word spells: 1 to 10 decimal digits of a value that 32 bits hold
 unfoldable pub number_of : List ℕ → Option ℕ
-number_of word = if is_number word then Some (digits_value 10 word) else None
+number_of word = if nat_lt 0 (length word) && nat_le (length word) 10 && all_ascii_digits word && nat_lt (digits_value 10 word) (2 ^ 32) then Some (digits_value 10 word) else None
 
 -- the words of a line: exactly one space separates two of them
 abbrev pub words : List ℕ → List (List ℕ)
@@ -123,14 +114,10 @@ is_admitted h = nat_le 2 h.max_allocs && nat_le h.max_allocs (largest_limit h.in
 -- ---- lines
 
 -- the lines, of the parts between line ends: an empty last part is no line
-abbrev pub lines_of_parts : List (List ℕ) → List (List ℕ)
-lines_of_parts [] = []
-lines_of_parts (part ∷ []) = if length part == 0 then [] else part ∷ []
-lines_of_parts (part ∷ next ∷ more) = part ∷ lines_of_parts (next ∷ more)
-
--- the lines of a text
-abbrev pub lines_of : List ℕ → List (List ℕ)
-lines_of text = lines_of_parts (parts 10 text)
+abbrev pub lines_of : List (List ℕ) → List (List ℕ)
+lines_of [] = []
+lines_of (part ∷ []) = if length part == 0 then [] else part ∷ []
+lines_of (part ∷ next ∷ more) = part ∷ lines_of (next ∷ more)
 
 -- whether a line is empty or a comment
 abbrev pub is_skipped : List ℕ → Bool
@@ -149,7 +136,7 @@ numbered_from n (line ∷ more) = record { number = n; text = line } ∷ numbere
 
 -- the lines that are neither empty nor comments, where the first line of the text has number n
 unfoldable pub significant_from : ℕ → List ℕ → List Line
-significant_from n text = filter (λ line. not (is_skipped line.text)) (numbered_from n (lines_of text))
+significant_from n text = filter (λ line. not (is_skipped line.text)) (numbered_from n (lines_of (parts 10 text)))
 
 -- ---- the whole text
 
@@ -164,25 +151,16 @@ abbrev pub ◌>>=!◌ : {A B : Type 0} → Result A ScriptFault → (A → Resul
 (Ok x) >>=! f = f x
 (Err e) >>=! f = Err e
 
--- the header on line n: its form is checked first, and then its limit
-abbrev pub header_on : ℕ → Option Header → Result Header ScriptFault
-header_on n None = Err (BadHeader n)
-header_on n (Some h) = if is_admitted h then Ok h else Err (BadLimit n)
-
--- the command on line n
-abbrev pub command_on : ℕ → Option Command → Result Command ScriptFault
-command_on n None = Err (BadCommand n)
-command_on n (Some c) = Ok c
-
 -- the commands that lines spell, or the fault of the first line that spells none
 unfoldable pub commands_of : List Line → Result (List Command) ScriptFault
 commands_of [] = Ok []
-commands_of (line ∷ more) = command_on line.number (command_of line.text) >>=! λ c. commands_of more >>=! λ cs. Ok (c ∷ cs)
+commands_of (line ∷ more) = ok_or (command_of line.text) (BadCommand line.number) >>=! λ c. commands_of more >>=! λ cs. Ok (c ∷ cs)
 
--- a header and its commands; where there is no line, the header is missing on line `end`
+-- a header, of which first the form is checked and then the limit, and its commands; where there is no line, the header
+-- is missing on line `end`
 unfoldable pub plan_of : ℕ → List Line → Result Plan ScriptFault
 plan_of end [] = Err (BadHeader end)
-plan_of end (line ∷ more) = header_on line.number (header_of line.text) >>=! λ h. commands_of more >>=! λ cs. Ok (record { header = h; commands = cs })
+plan_of end (line ∷ more) = ok_or (header_of line.text) (BadHeader line.number) >>=! λ h. if is_admitted h then (commands_of more >>=! λ cs. Ok (record { header = h; commands = cs })) else Err (BadLimit line.number)
 
 -- how many line ends a text has
 abbrev pub line_ends : List ℕ → ℕ
@@ -217,34 +195,3 @@ lines_of_answer machine.Extended = codes "extended" ++ line_end
 -- the text of the answers
 abbrev pub text_of : List Answer → List ℕ
 text_of answers = flat_map lines_of_answer answers
-
--- ---- what a run leaves
-
--- the text means a script, and the whole text of its answers was appended
-pub record WritesAnswers (text : List ℕ) (old new : Option (List ℕ)) : Type 0 where
-  pub plan : Plan
-  pub answers : List Answer
-  pub means : meaning_of text ≡ Ok plan
-  pub played : IsPlayed plan.header.size plan.header.max_allocs plan.commands answers
-  pub writes : Appends old new (text_of answers)
-
--- the text means a script, and a beginning of the text of its answers was appended
-pub record BeginsAnswers (text : List ℕ) (old new : Option (List ℕ)) : Type 0 where
-  pub plan : Plan
-  pub answers : List Answer
-  pub front : List ℕ
-  pub back : List ℕ
-  pub means : meaning_of text ≡ Ok plan
-  pub played : IsPlayed plan.header.size plan.header.max_allocs plan.commands answers
-  pub parts : text_of answers ≡ front ++ back
-  pub writes : Appends old new front
-
--- What a run returned, left of a source with this text, and wrote: on `Ok` all answers of the script that the text
--- means, on `Write` a beginning of them, and else the fault of the text. On `Memory` and `Read` nothing is said.
-abbrev pub RunOf : Result (Unit {0}) RunFault → List ℕ → Option (List ℕ) → Option (List ℕ) → Option (List ℕ) → Type 0
-RunOf (Ok u) text left old new = (left ≡ Some []) × WritesAnswers text old new
-RunOf (Err (Script scripts.TooLong)) text left old new = (left ≡ Some (drop 1048577 text)) × (meaning_of text ≡ Err scripts.TooLong)
-RunOf (Err (Script f)) text left old new = (left ≡ Some []) × (meaning_of text ≡ Err f)
-RunOf (Err Memory) text left old new = Unit {0}
-RunOf (Err Read) text left old new = Unit {0}
-RunOf (Err Write) text left old new = (left ≡ Some []) × BeginsAnswers text old new

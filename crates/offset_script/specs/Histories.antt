@@ -1,33 +1,32 @@
 -- Laws over whole histories of the plain machine.
-use Rattle.std.specs.Prelude.{take, drop, ◌≡◌, ◌≢◌, ℕ, ◌+◌, ◌-◌, ◌≤◌, Bool, false, ◌||◌, List, [], ◌∷◌, ◌++◌, length, map, Option, Some, None, IsTrue, nat_eq, nat_le, if◌then◌else◌}
-use Rattle.std.specs.List.{AllByRecursion}
+use Rattle.std.specs.Prelude.{take, drop, ◌≡◌, ◌≢◌, ℕ, ◌+◌, ◌-◌, ◌≤◌, true, List, [], ◌∷◌, ◌++◌, length, map, Option, Some, None, IsTrue, nat_eq, nat_le, if◌then◌else◌}
+use Rattle.std.specs.List.{AllByRecursion, list_any}
+use Rattle.std.specs.Option.{option_map_or}
 use Rattle.offset_script.specs.declared.scripts.Command.{Command}
 use Rattle.offset_script.specs.declared.scripts.Command.TheVariants as command
-use Rattle.offset_script.specs.Machine.{max_size, Tag, Live, Free, Block, is_free, total, State, Answer, start, step, answers, after}
+use Rattle.offset_script.specs.Machine.{Tag, Live, Free, Block, is_free, total, State, Answer, start, step, answers, after}
 use Rattle.offset_script.specs.Machine as machine
 
--- a command with the function r applied to its grant number
+-- a command with the function r applied to its grant number, if it has one
 abbrev pub renumber : (ℕ → ℕ) → Command → Command
-renumber r (command.Alloc n) = command.Alloc n
 renumber r (command.Free k) = command.Free (r k)
 renumber r (command.Size k) = command.Size (r k)
-renumber r command.Report = command.Report
-renumber r command.Full = command.Full
-renumber r command.Reset = command.Reset
-renumber r (command.Align n align) = command.Align n align
-renumber r (command.Extend more) = command.Extend more
+renumber r other = other
 
--- an answer with g added to the number of a grant
+-- an answer with g added to the number of a grant, if it is one
 abbrev pub raise_number : ℕ → Answer → Answer
 raise_number g (machine.Grant k offset) = machine.Grant (k + g) offset
-raise_number g machine.Refused = machine.Refused
-raise_number g machine.Freed = machine.Freed
-raise_number g machine.Gone = machine.Gone
-raise_number g (machine.Size n) = machine.Size n
-raise_number g (machine.Report free largest) = machine.Report free largest
-raise_number g (machine.Full rows) = machine.Full rows
-raise_number g machine.Reset = machine.Reset
-raise_number g machine.Extended = machine.Extended
+raise_number g other = other
+
+-- ---- answers with other grant numbers
+
+-- a grant number as it would be without the j grants after the first g; those become 0, the number of no grant
+abbrev pub number_without : ℕ → ℕ → ℕ → ℕ
+number_without g j k = if nat_le k g then k else if nat_le k (g + j) then 0 else k - j
+
+-- the answers from s on, numbered as those from t on, where t has made more grants
+abbrev pub answers_renumbered : State → State → List Command → List Answer
+answers_renumbered s t cs = map (raise_number (t.grants - s.grants)) (answers (map (renumber (number_without s.grants (t.grants - s.grants))) cs) s)
 
 -- ---- a space without live grants continues as a fresh one
 
@@ -35,26 +34,10 @@ raise_number g machine.Extended = machine.Extended
 abbrev pub HasNoLive : State → Type 0
 HasNoLive s = AllByRecursion (λ b. IsTrue (is_free b.tag)) s.blocks
 
--- a grant number as a fresh machine has it that started after g grants; those become 0, the number of no grant
-abbrev pub fresh_number : ℕ → ℕ → ℕ
-fresh_number g k = if nat_le k g then 0 else k - g
-
--- the answers of a fresh machine over as many units, with the number of the grants so far added to its grant numbers
-abbrev pub answers_as_fresh : State → List Command → List Answer
-answers_as_fresh s cs = map (raise_number s.grants) (answers (map (renumber (fresh_number s.grants)) cs) (start (total s.blocks) s.limit))
-
--- after any commands that leave no block live, the space continues as a fresh one
-abbrev pub EmptySpaceContinuesAsFresh : Type 0
-EmptySpaceContinuesAsFresh = (size limit : ℕ) → 2 ≤ limit → (cs : List Command) → HasNoLive (after cs (start size limit))
-    → (next : List Command) → answers next (after cs (start size limit)) ≡ answers_as_fresh (after cs (start size limit)) next
-
--- wherever no block is live, the answers found from there on are those of a fresh machine
+-- wherever no block is live, the answers found from there on are those of a fresh machine of as many units, numbered as
+-- here
 abbrev pub RestartsFresh : ℕ → ℕ → List Command → List Answer → Type 0
-RestartsFresh size limit cs found = (i : ℕ) → HasNoLive (after (take i cs) (start size limit)) → drop i found ≡ answers_as_fresh (after (take i cs) (start size limit)) (drop i cs)
-
--- a fresh space that is extended continues as a fresh space of the summed size
-abbrev pub ExtendedSpaceIsLarger : Type 0
-ExtendedSpaceIsLarger = (size more limit : ℕ) → size + more ≤ max_size → (cs : List Command) → answers cs (after (command.Extend more ∷ []) (start size limit)) ≡ answers cs (start (size + more) limit)
+RestartsFresh size limit cs found = (i : ℕ) → let s = after (take i cs) (start size limit) in HasNoLive s → drop i found ≡ answers_renumbered (start (total s.blocks) s.limit) s (drop i cs)
 
 -- ---- releases commute
 
@@ -76,21 +59,10 @@ widen n (b ∷ bs) = widen_by b.1
     widen_by None = (n + b.0, None) ∷ bs
     widen_by (Some k) = (n, None) ∷ b ∷ bs
 
--- whether k is among these numbers
-abbrev pub is_among : ℕ → List ℕ → Bool
-is_among k [] = false
-is_among k (j ∷ ks) = nat_eq k j || is_among k ks
-
--- one block before collapsed ones: it coalesces with them where it is free or live with one of these numbers, and else
--- stays
-abbrev pub collapse_block : List ℕ → ℕ → Option ℕ → List (ℕ × Option ℕ) → List (ℕ × Option ℕ)
-collapse_block ks n None rest = widen n rest
-collapse_block ks n (Some k) rest = if is_among k ks then widen n rest else (n, Some k) ∷ rest
-
 -- each maximal run of neighbours that are free, or live with one of these numbers, becomes one free block
 abbrev pub collapse : List ℕ → List (ℕ × Option ℕ) → List (ℕ × Option ℕ)
 collapse ks [] = []
-collapse ks (b ∷ bs) = collapse_block ks b.0 b.1 (collapse ks bs)
+collapse ks (b ∷ bs) = if option_map_or (λ k. list_any (nat_eq k) ks) b.1 true then widen b.0 (collapse ks bs) else b ∷ collapse ks bs
 
 -- t is the collapse of s, with any stamps
 pub record IsCollapse (ks : List ℕ) (s t : State) : Type 0 where
@@ -101,14 +73,7 @@ pub record IsCollapse (ks : List ℕ) (s t : State) : Type 0 where
 -- an answer without the offset of a grant
 abbrev pub without_offset : Answer → Answer
 without_offset (machine.Grant k offset) = machine.Grant k 0
-without_offset machine.Refused = machine.Refused
-without_offset machine.Freed = machine.Freed
-without_offset machine.Gone = machine.Gone
-without_offset (machine.Size n) = machine.Size n
-without_offset (machine.Report free largest) = machine.Report free largest
-without_offset (machine.Full rows) = machine.Full rows
-without_offset machine.Reset = machine.Reset
-without_offset machine.Extended = machine.Extended
+without_offset other = other
 
 -- releases of the grants of these numbers, in this order
 abbrev pub releases : List ℕ → List Command
@@ -119,11 +84,6 @@ releases ks = map command.Free ks
 pub record Commutes (ks : List ℕ) (s : State) : Type 0 where
   pub space : outline (after (releases ks) s).blocks ≡ collapse ks (outline s.blocks)
   pub next : (t : State) → IsCollapse ks s t → (c : Command) → without_offset (step c (after (releases ks) s)).answer ≡ without_offset (step c t).answer
-
--- after any commands, releases in a row leave what the collapse of their grants is, which does not depend on their
--- order
-abbrev pub ReleasesCommute : Type 0
-ReleasesCommute = (size limit : ℕ) → 2 ≤ limit → (cs : List Command) (ks : List ℕ) → Commutes ks (after cs (start size limit))
 
 -- wherever releases in a row occur in the commands, the answer found after them is that of the collapse
 abbrev pub RowsCommute : ℕ → ℕ → List Command → List Answer → Type 0
@@ -138,14 +98,9 @@ IsGrant a k = (offset : ℕ) × (a ≡ machine.Grant k offset)
 
 -- neither a reset nor an extension
 abbrev pub KeepsSpace : Command → Type 0
-KeepsSpace (command.Alloc n) = Unit {0}
-KeepsSpace (command.Free k) = Unit {0}
-KeepsSpace (command.Size k) = Unit {0}
-KeepsSpace command.Report = Unit {0}
-KeepsSpace command.Full = Unit {0}
 KeepsSpace command.Reset = ⊥
-KeepsSpace (command.Align n align) = Unit {0}
 KeepsSpace (command.Extend more) = ⊥
+KeepsSpace other = Unit {0}
 
 -- from this state on, these commands release each block that they are granted, the last one first, and no other block
 pub data Nest : State → List Command → Type 0 where
@@ -158,39 +113,16 @@ pub data Nest : State → List Command → Type 0 where
   paired : {s : State} {c : Command} {k : ℕ} {inner outer : List Command} → KeepsSpace c → IsGrant (step c s).answer k
       → Nest (step c s).state inner → Nest (after (inner ++ command.Free k ∷ []) (step c s).state) outer → Nest s (c ∷ (inner ++ (command.Free k ∷ outer)))
 
--- a grant number as it would be without a nest of j grants, where g were made before it; those of the nest become 0,
--- the number of no grant
-abbrev pub number_without_nest : ℕ → ℕ → ℕ → ℕ
-number_without_nest g j k = if nat_le k g then k else if nat_le k (g + j) then 0 else k - j
-
--- the answers from s on, numbered as those from t on, where a nest led from s to t
-abbrev pub answers_as_before : State → State → List Command → List Answer
-answers_as_before s t cs = map (raise_number (t.grants - s.grants)) (answers (map (renumber (number_without_nest s.grants (t.grants - s.grants))) cs) s)
-
--- after any commands, any nest leaves a state that continues as the one before it
-abbrev pub NestLeavesNoTrace : Type 0
-NestLeavesNoTrace = (size limit : ℕ) → 2 ≤ limit → (cs nest : List Command) → Nest (after cs (start size limit)) nest
-    → (next : List Command) → answers next (after nest (after cs (start size limit))) ≡ answers_as_before (after cs (start size limit)) (after nest (after cs (start size limit))) next
-
 -- wherever a nest occurs in the commands, the answers found after it are those without it
 abbrev pub NestsLeaveNoTrace : ℕ → ℕ → List Command → List Answer → Type 0
 NestsLeaveNoTrace size limit cs found = (before nest rest : List Command) → cs ≡ before ++ nest ++ rest → Nest (after before (start size limit)) nest
-    → drop (length (before ++ nest)) found ≡ answers_as_before (after before (start size limit)) (after (before ++ nest) (start size limit)) rest
+    → drop (length (before ++ nest)) found ≡ answers_renumbered (after before (start size limit)) (after (before ++ nest) (start size limit)) rest
 
 -- ---- a question leaves no trace
 
 -- whether a command is a question: it changes nothing
 abbrev pub IsQuestion : Command → Type 0
-IsQuestion (command.Alloc n) = ⊥
-IsQuestion (command.Free k) = ⊥
 IsQuestion (command.Size k) = Unit {0}
 IsQuestion command.Report = Unit {0}
 IsQuestion command.Full = Unit {0}
-IsQuestion command.Reset = ⊥
-IsQuestion (command.Align n align) = ⊥
-IsQuestion (command.Extend more) = ⊥
-
--- a report, or another question, put anywhere into the commands changes no other answer
-abbrev pub QuestionsChangeNothing : Type 0
-QuestionsChangeNothing = (size limit : ℕ) → 2 ≤ limit → (before : List Command) (q : Command) (rest : List Command) → IsQuestion q
-    → answers (before ++ q ∷ rest) (start size limit) ≡ answers before (start size limit) ++ ((step q (after before (start size limit))).answer ∷ answers rest (after before (start size limit)))
+IsQuestion other = ⊥

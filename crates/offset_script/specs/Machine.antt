@@ -1,6 +1,7 @@
 -- The plain stamped machine: the space as a list of blocks, commands in, answers out.
-use Rattle.std.specs.Prelude.{◌≡◌, ℕ, zero, suc, ◌+◌, ◌-◌, ◌*◌, ◌%◌, Bool, true, false, ◌&&◌, ◌||◌, List, [], ◌∷◌, ◌++◌, length, map, sum, Option, Some, None, option_map, nat_eq, nat_lt, nat_le, if◌then◌else◌}
+use Rattle.std.specs.Prelude.{◌≡◌, ℕ, zero, suc, ◌+◌, ◌-◌, ◌*◌, Bool, true, false, ◌&&◌, ◌||◌, not, List, [], ◌∷◌, ◌++◌, length, map, sum, Option, Some, None, option_map, nat_eq, nat_lt, nat_le, if◌then◌else◌}
 use Rattle.offset_allocator.specs.Classes.{up, down}
+use Rattle.offset_allocator.specs.Named.{max_size, padding_to}
 use Rattle.offset_allocator.specs.Reports.{largest, Row, rows_below}
 use Rattle.offset_script.specs.declared.scripts.Command.{Command}
 use Rattle.offset_script.specs.declared.scripts.Command.TheVariants as command
@@ -116,7 +117,7 @@ without_end (b ∷ c ∷ bs) = b ∷ without_end (c ∷ bs)
 -- whether the last block of a list is live
 abbrev pub ends_live : List Block → Bool
 ends_live [] = false
-ends_live (b ∷ []) = if is_free b.tag then false else true
+ends_live (b ∷ []) = not (is_free b.tag)
 ends_live (b ∷ c ∷ bs) = ends_live (c ∷ bs)
 
 -- n units between two lists become free, with stamp s, and coalesce with a free block right before and one right after
@@ -198,14 +199,6 @@ grant_or_refuse s n padding_at (Some p) = grant s n (padding_at (total p.before)
 abbrev pub request : State → ℕ → ℕ → ℕ → (ℕ → ℕ) → Outcome
 request s spare needed n padding_at = if is_short_of spare s then returns_only s Refused else grant_or_refuse s n padding_at (chosen_place needed s.blocks)
 
--- the largest number of units of a space
-abbrev pub max_size : ℕ
-max_size = 4294967295
-
--- the smallest number that takes an offset to a multiple of align
-abbrev pub padding_to : ℕ → ℕ → ℕ
-padding_to align offset = (align - offset % align) % align
-
 -- a request for n units
 abbrev pub allocate : ℕ → State → Outcome
 allocate n s = request s 1 n n (λ offset. 0)
@@ -280,7 +273,3 @@ answer_view (program_answer.Report r) = Report r.total_free_space r.largest_free
 answer_view (program_answer.Full rows) = Full (map row_view rows.items)
 answer_view program_answer.Reset = Reset
 answer_view program_answer.Extended = Extended
-
--- answers, as the machine returns them
-abbrev pub answer_views : List program.Answer → List Answer
-answer_views given = map answer_view given

@@ -6,25 +6,19 @@ use Rattle.offset_script.specs.declared.faults.ScriptFault.TheVariants as script
 use Rattle.offset_script.specs.declared.faults.RunFault.{RunFault}
 use Rattle.offset_script.specs.declared.faults.RunFault.TheVariants.{Script, Memory, Read, Write}
 use Rattle.offset_script.specs.declared.scripts.Script as read
-use Rattle.offset_script.specs.Grammar.{Plan, meaning_of, line_end}
+use Rattle.offset_script.specs.Grammar.{Plan, meaning_of, line_end, text_of}
+use Rattle.offset_script.specs.Machine.{Answer, IsPlayed}
 use Rattle.offset_script.specs.Faults.{fault_line}
 
 -- a script as plain data, without where it lies in memory
 abbrev pub view : read.Script → Plan
 view s = record { header = record { size = s.size; max_allocs = s.max_allocs; index = s.index }; commands = s.commands.items }
 
--- the fault is that of the meaning; nothing is said where memory ran out
-abbrev pub Fails : {Y : Type 0} → ScriptFault → Result Y ScriptFault → Type 0
-Fails scripts.Memory meaning = Unit {0}
-Fails scripts.TooLong meaning = meaning ≡ Err scripts.TooLong
-Fails (scripts.BadHeader n) meaning = meaning ≡ Err (scripts.BadHeader n)
-Fails (scripts.BadLimit n) meaning = meaning ≡ Err (scripts.BadLimit n)
-Fails (scripts.BadCommand n) meaning = meaning ≡ Err (scripts.BadCommand n)
-
--- what was returned is the meaning, shown as plain data, or `Memory`
-abbrev pub Returns : {X Y : Type 0} → (X → Y) → Result X ScriptFault → Result Y ScriptFault → Type 0
-Returns show (Ok x) meaning = meaning ≡ Ok (show x)
-Returns show (Err e) meaning = Fails e meaning
+-- what `parse` returned of a text with this meaning: the script or the fault that it means, or `Memory`
+abbrev pub Returns : Result read.Script ScriptFault → Result Plan ScriptFault → Type 0
+Returns (Ok script) meaning = meaning ≡ Ok (view script)
+Returns (Err scripts.Memory) meaning = Unit {0}
+Returns (Err f) meaning = meaning ≡ Err f
 
 -- What `read_script` returned and left of a source with this text: a script that the text means, or its fault, with
 -- nothing left; for a text that is too long, what follows 1,048,577 bytes is left. On `Memory` and `Read` nothing is
@@ -53,14 +47,6 @@ is_write_fault (Err Memory) = false
 is_write_fault (Err Read) = false
 is_write_fault (Err Write) = true
 
--- a run that returned `Script`, `Memory` or `Read` left its sink as it was
-abbrev pub Untouched : {K : Type 0} → Result (Unit {0}) RunFault → K → K → Type 0
-Untouched (Ok u) old new = Unit {0}
-Untouched (Err (Script f)) old new = new ≡ old
-Untouched (Err Memory) old new = new ≡ old
-Untouched (Err Read) old new = new ≡ old
-Untouched (Err Write) old new = Unit {0}
-
 -- what was read: the whole text, or its first 1,048,577 bytes
 pub record HasText (bytes : List ℕ) (old new : Option (List ℕ)) : Type 0 where
   pub most : length bytes ≤ 1048577
@@ -80,9 +66,20 @@ pub record WritesFault (fault : RunFault) (old new : Option (List ℕ)) (had_fai
   pub failed : has_failed ≡ (if whole then had_failed else true)
   pub flushed : IsTrue whole → is_flushed ≡ true
 
--- a fault that reading can have
-abbrev pub IsReadingFault : RunFault → Type 0
-IsReadingFault (Script f) = ⊥
-IsReadingFault Memory = Unit {0}
-IsReadingFault Read = Unit {0}
-IsReadingFault Write = ⊥
+-- the text means a script, and the text of its answers was sent: all of it was appended, or a beginning
+pub record SendsAnswers (text : List ℕ) (whole : Bool) (old new : Option (List ℕ)) : Type 0 where
+  pub plan : Plan
+  pub answers : List Answer
+  pub means : meaning_of text ≡ Ok plan
+  pub played : IsPlayed plan.header.size plan.header.max_allocs plan.commands answers
+  pub sends : Sends whole (text_of answers) old new
+
+-- What a run returned, left of a source with this text, and wrote: on `Ok` all answers of the script that the text
+-- means, on `Write` a beginning of them, and else the fault of the text. On `Memory` and `Read` nothing is said.
+abbrev pub RunOf : Result (Unit {0}) RunFault → List ℕ → Option (List ℕ) → Option (List ℕ) → Option (List ℕ) → Type 0
+RunOf (Ok u) text left old new = (left ≡ Some []) × SendsAnswers text true old new
+RunOf (Err (Script scripts.TooLong)) text left old new = (left ≡ Some (drop 1048577 text)) × (meaning_of text ≡ Err scripts.TooLong)
+RunOf (Err (Script f)) text left old new = (left ≡ Some []) × (meaning_of text ≡ Err f)
+RunOf (Err Memory) text left old new = Unit {0}
+RunOf (Err Read) text left old new = Unit {0}
+RunOf (Err Write) text left old new = (left ≡ Some []) × SendsAnswers text false old new

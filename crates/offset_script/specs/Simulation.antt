@@ -24,10 +24,6 @@ pub record RepresentsReached (v : View) (handles : List (Option Grant)) : Type 0
   pub reached : IsReached state
   pub represents : Represents v handles state
 
--- no handle is left among the first n
-abbrev pub IsSwept : {A : Type 0} → ℕ → List (Option A) → Type 0
-IsSwept n handles = (k : ℕ) → k < n → IsTrue (is_none (slice_index_or handles k None))
-
 -- the answer is that to a request with this result, and the handle of a grant is kept under the number in the answer
 abbrev pub IsKept : Option Grant → List (Option Grant) → List (Option Grant) → program.Answer → Type 0
 IsKept None handles left a = (left ≡ handles) × (a ≡ program_answer.Refused)

@@ -2,7 +2,7 @@
 
 ghost use Rattle.std.specs.Prelude.{◌≡◌, ◌++◌, OnOk, IfOk, string_bytes, map};
 ghost use Rattle.std.specs.List.{flat_map};
-ghost use Rattle.offset_script.specs.Machine.{row_view, answer_view, answer_views};
+ghost use Rattle.offset_script.specs.Machine.{row_view, answer_view};
 ghost use Rattle.offset_script.specs.Grammar.{row_line, lines_of_answer, text_of};
 
 use offset_allocator::StorageReport;
@@ -92,7 +92,7 @@ fn put_answer(out: &mut String, answer: &Answer) -> Result<(), AllocError>
 
 /// The text of answers: a line for each, and after the line of a full report one for each of its rows.
 pub fn answer_text(alloc: Global, answers: &[Answer]) -> Result<String, AllocError>
-    ensures { IfOk result (λ text. string_bytes text ≡ text_of (answer_views answers.now)) }
+    ensures { IfOk result (λ text. string_bytes text ≡ text_of (map answer_view answers.now)) }
 {
     let mut out = String::new(alloc);
     for answer in answers {

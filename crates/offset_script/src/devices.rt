@@ -1,8 +1,8 @@
 //! Where a script comes from, and where its answers go.
 
-ghost use Rattle.std.specs.Prelude.{◌≡◌, ℕ, ◌<◌, ◌≤◌, Bool, true, false, List, Option, length, IfSome, is_some, if◌then◌else◌};
-ghost use Rattle.offset_script.specs.Devices.{Reading, Writing, PullTakes, PushAdds};
-ghost use Rattle.std.specs.Io.KnownBytes.{Keeps};
+ghost use Rattle.std.specs.Prelude.{◌≡◌, ℕ, ◌<◌, ◌≤◌, Bool, true, false, List, Option, length, take, IfSome, MatchOption, is_some, if◌then◌else◌};
+ghost use Rattle.offset_script.specs.Devices.{Reading, Writing};
+ghost use Rattle.std.specs.Io.KnownBytes.{Consumes, Appends, Keeps, IsAtEnd};
 
 use std::io::{Read, Write};
 use std::marker::Model;
@@ -19,7 +19,9 @@ pub trait Source {
     /// end of the bytes, or for an empty `buf`. `None` is a failure, which takes nothing.
     fn pull(&mut self, buf: &mut [u8]) -> Option<usize>
         ensures count { IfSome result (λ n. n ≤ length buf.new) }
-        ensures bytes { PullTakes (left self.old) (left self.new) result buf.new }
+        ensures bytes { MatchOption result (Keeps (left self.old) (left self.new))
+            (λ n. Consumes (left self.old) (left self.new) (take n buf.new)
+            × (n ≡ 0 → 0 < length buf.new → IsAtEnd (left self.new))) }
         ensures failed { has_failed self.new ≡ (if is_some result then has_failed self.old else true) };
 }
 
@@ -40,7 +42,8 @@ pub trait Sink {
         requires { 0 < length bytes.now }
         ensures least { IfSome result (λ n. 0 < n) }
         ensures count { IfSome result (λ n. n ≤ length bytes.now) }
-        ensures bytes { PushAdds (held self.old) (held self.new) result bytes.now }
+        ensures bytes { MatchOption result (Keeps (held self.old) (held self.new))
+            (λ n. Appends (held self.old) (held self.new) (take n bytes.now)) }
         ensures failed { has_failed self.new ≡ (if is_some result then has_failed self.old else true) }
         ensures flushed { is_flushed self.new ≡ (if is_some result then false else is_flushed self.old) };
 

@@ -1,12 +1,16 @@
 //! Laws on what `parse` reads and on the answers of `play`. The functions do nothing.
 
-ghost use Rattle.std.specs.Prelude.{◌≡◌, ◌↔◌, ℕ, List};
+ghost use Rattle.std.specs.Prelude.{◌≡◌, ◌↔◌, ℕ, ◌+◌, ◌≤◌, List, [], ◌∷◌, ◌++◌, length, sum};
 ghost use Rattle.offset_script.specs.declared.scripts.Command.{Command};
+ghost use Rattle.offset_script.specs.declared.scripts.Command.TheVariants as command;
 ghost use Rattle.offset_script.specs.declared.scripts.Header.{Header};
+ghost use Rattle.offset_allocator.specs.Named.{max_size};
 ghost use Rattle.offset_script.specs.Grammar.{command_of, header_of};
-ghost use Rattle.offset_script.specs.Histories.{EmptySpaceContinuesAsFresh, ExtendedSpaceIsLarger, NestLeavesNoTrace, QuestionsChangeNothing, ReleasesCommute};
+ghost use Rattle.offset_script.specs.Histories.{HasNoLive, answers_renumbered, Commutes, Nest, IsQuestion};
+ghost use Rattle.offset_script.specs.Machine.{State, start, step, after, answers, total, free_sizes};
+ghost use Rattle.offset_script.specs.Machine as machine;
 ghost use Rattle.offset_script.specs.Spelling.{IsSpelling, IsHeaderSpelling};
-ghost use Rattle.offset_script.specs.Totals.{FewAreLive, FullSpaceRefuses, SizesAddUp};
+ghost use Rattle.offset_script.specs.Totals.{live, added_by};
 
 /// A line means a command exactly if it is a spelling of that command.
 pub fn one_spelling()
@@ -20,41 +24,54 @@ pub fn one_header_spelling()
 
 /// A space without live grants continues as a fresh one of its size.
 pub fn an_empty_space_continues_as_fresh()
-    ensures { EmptySpaceContinuesAsFresh }
+    ensures { (size limit : ℕ) → 2 ≤ limit → (cs : List Command) → let s = after cs (start size limit) in
+        HasNoLive s → (next : List Command) → answers next s ≡ answers_renumbered (start (total s.blocks) s.limit) s next }
 {}
 
 /// A fresh space that is extended continues as a fresh one of the summed size.
 pub fn an_extended_space_is_larger()
-    ensures { ExtendedSpaceIsLarger }
+    ensures { (size more limit : ℕ) → size + more ≤ max_size → (cs : List Command)
+        → answers cs (after (command.Extend more ∷ []) (start size limit)) ≡ answers cs (start (size + more) limit) }
 {}
 
 /// Releases in a row leave the same space in any order.
 pub fn releases_commute()
-    ensures { ReleasesCommute }
+    ensures { (size limit : ℕ) → 2 ≤ limit → (cs : List Command) (ks : List ℕ) → Commutes ks (after cs (start size limit)) }
 {}
 
 /// A nest leaves no trace: each of its grants is released in it, the last first, what lies between a grant and its
 /// release is a nest too, no other grant is released, and nothing is reset or extended.
 pub fn a_nest_leaves_no_trace()
-    ensures { NestLeavesNoTrace }
+    ensures { (size limit : ℕ) → 2 ≤ limit → (cs nest : List Command) → let s = after cs (start size limit) in
+        Nest s nest → (next : List Command) → answers next (after nest s) ≡ answers_renumbered s (after nest s) next }
 {}
 
 /// A report, a full report or a question for a size, put anywhere into the commands, changes no other answer.
 pub fn a_question_changes_nothing()
-    ensures { QuestionsChangeNothing }
+    ensures { (size limit : ℕ) → 2 ≤ limit → (before : List Command) (q : Command) (rest : List Command) → IsQuestion q
+        → let s = after before (start size limit) in
+        answers (before ++ q ∷ rest) (start size limit)
+        ≡ answers before (start size limit) ++ ((step q s).answer ∷ answers rest s) }
 {}
 
 /// After any commands, live and free units add up to the size of the space, extensions included.
 pub fn sizes_add_up()
-    ensures { SizesAddUp }
+    ensures { (size limit : ℕ) (cs : List Command) → let bs = (after cs (start size limit)).blocks in
+        total (live bs) + sum (free_sizes bs) ≡ size + added_by cs (start size limit) }
 {}
 
 /// After any commands, at most `limit - 2` grants are live.
 pub fn few_are_live()
-    ensures { FewAreLive }
+    ensures { (size limit : ℕ) → 2 ≤ limit → (cs : List Command)
+        → length (live (after cs (start size limit)).blocks) + 2 ≤ limit }
 {}
 
 /// A space of `limit - 1` blocks refuses every request, and its report is 0 and 0.
 pub fn a_full_space_refuses()
-    ensures { FullSpaceRefuses }
+    ensures grants { (s : State) (n : ℕ) → s.limit ≤ length s.blocks + 1
+        → (step (command.Alloc n) s).answer ≡ machine.Refused }
+    ensures aligned { (s : State) (n align : ℕ) → s.limit ≤ length s.blocks + 1
+        → (step (command.Align n align) s).answer ≡ machine.Refused }
+    ensures report { (s : State) → s.limit ≤ length s.blocks + 1
+        → (step command.Report s).answer ≡ machine.Report 0 0 }
 {}

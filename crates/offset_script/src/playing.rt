@@ -1,12 +1,12 @@
 //! Plays the commands of a script on an allocator.
 
-ghost use Rattle.std.specs.Prelude.{◌≡◌, ◌+◌, ◌<◌, ◌≤◌, All, IfOk, IfSome, IsTrue, length, map, vec_len};
+ghost use Rattle.std.specs.Prelude.{◌≡◌, ◌+◌, ◌<◌, ◌≤◌, All, IfOk, IfSome, IsTrue, None, ℕ, length, map, option_map, slice_index_or, vec_len};
 ghost use Rattle.offset_allocator.specs.Named.{IsWellFormed};
-ghost use Rattle.offset_script.specs.Agreement.{kept_name, name_in};
-ghost use Rattle.offset_script.specs.Machine.{answer_views, answer_view, answers, start, IsPlayed};
+ghost use Rattle.offset_script.specs.Agreement.{kept_name};
+ghost use Rattle.offset_script.specs.Machine.{answer_view, answers, start, IsPlayed};
 ghost use Rattle.offset_script.specs.Histories.{RestartsFresh, RowsCommute, NestsLeaveNoTrace};
 ghost use Rattle.offset_script.specs.Grammar.{has_valid_alignment};
-ghost use Rattle.offset_script.specs.Simulation.{IsKept, RepresentsReached, IsSwept, Simulates, Represents};
+ghost use Rattle.offset_script.specs.Simulation.{IsKept, RepresentsReached, Simulates, Represents};
 
 use crate::answers::{Answer, FullRow};
 use crate::scripts::{Command, IndexWidth, Script};
@@ -23,7 +23,7 @@ struct Player<NI: NodeIndex> {
     // Resets have removed the first handles, up to this number.
     swept: usize,
     ghost within: { swept ≤ vec_len handles },
-    ghost gone: { IsSwept swept handles.items },
+    ghost gone: { (k : ℕ) → k < swept → slice_index_or handles.items k None ≡ None },
 }
 
 impl<NI: NodeIndex> Player<NI> {
@@ -45,7 +45,7 @@ impl<NI: NodeIndex> Player<NI> {
 
     // The handle of the grant of this number, if it is live.
     fn handle(&self, number: u32) -> Option<Allocation<NI>>
-        ensures name { name_in result ≡ kept_name self.now.handles.items number }
+        ensures name { option_map (λ h. h.name) result ≡ kept_name self.now.handles.items number }
         ensures within { IfSome result (λ h. (1 ≤ number)
             × (number ≤ length self.now.handles.items)) }
     {
@@ -245,7 +245,7 @@ pub fn play<NI: NodeIndex>(
 pub fn play_script(alloc: Global, script: &Script) -> Result<Vec<Answer>, AllocError>
     // The answers are those of the plain machine to the commands of the script, from one free block of its size.
     ensures { IfOk result
-        (λ v. IsPlayed script.now.size script.now.max_allocs script.now.commands.items (answer_views v.items)) }
+        (λ v. IsPlayed script.now.size script.now.max_allocs script.now.commands.items (map answer_view v.items)) }
 {
     match script.index {
         IndexWidth::Bits16 => play::<u16>(alloc, script.size, script.max_allocs, &script.commands),

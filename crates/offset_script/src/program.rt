@@ -1,12 +1,11 @@
 //! What a program does: a run, its status, and the line of its fault.
 
-ghost use Rattle.std.specs.Prelude.{◌≡◌, ◌≢◌, Result, Err, true, IfSome, MatchResult, OnOk, if◌then◌else◌};
+ghost use Rattle.std.specs.Prelude.{◌≡◌, ◌≢◌, Result, Err, true, IfErr, IfSome, MatchResult, OnOk, if◌then◌else◌};
 ghost use Rattle.offset_script.specs.declared.faults.RunFault.{RunFault};
 ghost use Rattle.offset_script.specs.declared.faults.RunFault.TheVariants as faults;
 ghost use Rattle.offset_script.specs.declared.faults.ScriptFault.TheVariants as scripts;
 ghost use Rattle.offset_script.specs.Faults.{status_of};
-ghost use Rattle.offset_script.specs.Grammar.{RunOf};
-ghost use Rattle.offset_script.specs.Running.{Untouched, WritesFault, is_read_fault, is_write_fault};
+ghost use Rattle.offset_script.specs.Running.{RunOf, WritesFault, is_read_fault, is_write_fault};
 
 use crate::devices::{Sink, Source};
 use crate::running::run;
@@ -44,7 +43,7 @@ pub fn run_program<S: Source, K: Sink, E: Sink>(
         × IfSome (S.left input.old)
         (λ text. RunOf ended text (S.left input.new) (K.held output.old) (K.held output.new))
         × OnOk ended (K.is_flushed output.new ≡ true)
-        × Untouched ended output.old output.new
+        × IfErr ended (λ f. f ≢ faults.Write → output.new ≡ output.old)
         × (S.has_failed input.new ≡ (if is_read_fault ended then true else S.has_failed input.old))
         × (K.has_failed output.new ≡ (if is_write_fault ended then true else K.has_failed output.old)) }
 {

@@ -2,7 +2,7 @@
 
 ghost use Rattle.std.specs.Prelude.{◌≡◌, IfSome, IsTrue};
 ghost use Rattle.offset_script.specs.Grammar.{has_valid_alignment, plain_command, number_command, pair_command, command_of, width_of, header_of, is_admitted, meaning_of};
-ghost use Rattle.offset_script.specs.Running.{Returns, view};
+ghost use Rattle.offset_script.specs.Running.{Returns};
 
 use crate::faults::ScriptFault;
 use crate::lines::Lines;
@@ -142,7 +142,7 @@ impl Header {
 #[tactic(auto, using(crate::proofs::Steps::is_too_long, crate::proofs::Steps::has_no_header, crate::proofs::Steps::has_bad_form, crate::proofs::Steps::has_bad_limit, crate::proofs::Steps::has_header, crate::proofs::Steps::has_bad_command, crate::proofs::Steps::goes_on, crate::proofs::Steps::is_read))]
 pub fn parse(alloc: Global, text: &[u8]) -> Result<Script, ScriptFault>
     // The result is the script that the text means, or the fault of its first faulty line, or `Memory`.
-    ensures { Returns view result (meaning_of text.now) }
+    ensures { Returns result (meaning_of text.now) }
 {
     if text.len() > MAX_TEXT {
         return Err(ScriptFault::TooLong);

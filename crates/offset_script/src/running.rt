@@ -1,8 +1,7 @@
 //! Runs a script from a source to a sink.
 
-ghost use Rattle.std.specs.Prelude.{◌≡◌, ◌≢◌, true, false, IfOk, IfErr, IfSome, OnOk, if◌then◌else◌};
-ghost use Rattle.offset_script.specs.Grammar.{RunOf};
-ghost use Rattle.offset_script.specs.Running.{ScriptOf, Untouched, HasText, is_read_fault, is_write_fault, IsReadingFault};
+ghost use Rattle.std.specs.Prelude.{◌≡◌, ◌≢◌, ◌⊎◌, true, false, IfOk, IfErr, IfSome, OnOk, if◌then◌else◌};
+ghost use Rattle.offset_script.specs.Running.{RunOf, ScriptOf, HasText, is_read_fault, is_write_fault};
 ghost use Rattle.offset_script.specs.declared.faults.RunFault.TheVariants as faults;
 ghost use Rattle.offset_script.specs.declared.faults.ScriptFault.TheVariants as scripts;
 
@@ -22,7 +21,7 @@ const PIECE: usize = 16384;
 fn read_text<S: Source>(alloc: Global, input: &mut S) -> Result<Vec<u8>, RunFault>
     ensures text { IfOk result (λ text. HasText text.items (S.left input.old) (S.left input.new)) }
     ensures failed { S.has_failed input.new ≡ (if is_read_fault result then true else S.has_failed input.old) }
-    ensures fault { IfErr result IsReadingFault }
+    ensures fault { IfErr result (λ f. (f ≡ faults.Memory) ⊎ (f ≡ faults.Read)) }
 {
     let mut text = Vec::new(alloc);
     let mut piece = [0u8; PIECE];
@@ -71,7 +70,7 @@ pub fn run<S: Source, K: Sink>(alloc: Global, input: &mut S, output: &mut K) -> 
     // After `Ok` the sink is flushed.
     ensures flushed { OnOk result (K.is_flushed output.new ≡ true) }
     // After `Script`, `Memory` and `Read` the sink is as it was.
-    ensures untouched { Untouched result output.old output.new }
+    ensures untouched { IfErr result (λ f. f ≢ faults.Write → output.new ≡ output.old) }
     // Out of memory is `Memory`, and never `Script(Memory)`.
     ensures memory { result ≢ Err (faults.Script scripts.Memory) }
     // The fault is `Read` exactly where the source failed in this call.

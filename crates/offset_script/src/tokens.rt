@@ -1,9 +1,9 @@
 //! Words and numbers of a line.
 
-ghost use Rattle.std.specs.Prelude.{◌≡◌, ◌<◌, ◌∷◌, ◌==◌, length, position, IfSome};
+ghost use Rattle.std.specs.Prelude.{◌≡◌, ◌<◌, ◌∷◌, ◌==◌, [], length, position, IfSome};
 ghost use Rattle.std.specs.Fmt.{decimal};
-ghost use Rattle.std.specs.Option.{option_copied};
-ghost use Rattle.offset_script.specs.Grammar.{parts, parts_after, number_of};
+ghost use Rattle.std.specs.Option.{option_copied, option_map_or};
+ghost use Rattle.offset_script.specs.Grammar.{parts, number_of};
 
 /// The most digits that a number has.
 pub const MOST_DIGITS: usize = 10;
@@ -17,7 +17,7 @@ fn place_of(text: &[u8], at: u8) -> Option<usize>
 
 /// The part before the first byte `at`, and what comes after that byte. All of the text and `None` where there is none.
 pub fn split_once(text: &[u8], at: u8) -> (&[u8], Option<&[u8]>)
-    ensures parts { parts at text.now ≡ result.0.now ∷ parts_after at (option_copied result.1) }
+    ensures parts { parts at text.now ≡ result.0.now ∷ option_map_or (parts at) (option_copied result.1) [] }
     ensures shorter { IfSome result.1 (λ rest. length rest.now < length text.now) }
 {
     match place_of(text, at) {

@@ -1,7 +1,7 @@
-use Rattle.std.proofs.Common.{◌≡◌, ◌+◌, ◌-◌, length, get_or, if◌then◌else◌, All, AllPairs, List, sym, ap, ◌∙◌, arith}
+use Rattle.std.proofs.Common.{◌≡◌, ◌+◌, ◌-◌, length, map, get_or, if◌then◌else◌, All, AllPairs, List, sym, ap, ◌∙◌, arith}
 use Rattle.std.proofs.lemmas.List.{length-map}
 use Rattle.offset_script.specs.declared.scripts.Command.{Command}
-use Rattle.offset_script.specs.Machine.{answer_view, answer_views, Answer, State, answers, start, IsPlayed}
+use Rattle.offset_script.specs.Machine.{answer_view, Answer, State, answers, start, IsPlayed}
 use Rattle.offset_script.proofs.Well.{well_start}
 use Rattle.offset_lives.specs.Ends.{end_in}
 use Rattle.offset_lives.specs.Lives.{leaves, AreApart, IsWithin}
@@ -15,8 +15,8 @@ unfolding IsPlayed
 index-requires c =
     let script = c.args.script.now in
     let found = c.in_ok-answers.answers.items in
-    let played : answer_views found ≡ answers script.commands.items (start script.size script.max_allocs) = c.in_ok-answers.ensures in
-    let n : length (answer_views found) ≡ length found = length-map found answer_view in
+    let played : map answer_view found ≡ answers script.commands.items (start script.size script.max_allocs) = c.in_ok-answers.ensures in
+    let n : length (map answer_view found) ≡ length found = length-map found answer_view in
     omega (arith, ap length played, answers_count script.commands.items (start script.size script.max_allocs), n)
 
 pub life_of_answer-requires : goal.life_of_answer-requires
@@ -35,7 +35,7 @@ loop-i-preserved c =
     let script = c.args.script.now in
     let s : State = start script.size script.max_allocs in
     let cs : List Command = script.commands.items in
-    let given : List Answer = answer_views c.in_ok-answers.answers.items in
+    let given : List Answer = map answer_view c.in_ok-answers.answers.items in
     let i = c.loop-i.i in
     let command = c.index-command.result.now in
     let answer = answer_view c.index.result.now in
@@ -63,8 +63,8 @@ returns c =
     let script = c.args.script.now in
     let cs : List Command = script.commands.items in
     let start_is : c.loop-i.i ≡ 0 = omega arith in
-    let played : answer_views c.in_ok-answers.answers.items ≡ answers cs (start script.size script.max_allocs) = c.in_ok-answers.ensures in
-    let all = all_lives cs c.loop-i.i c.loop-i.backward.items (answer_views c.in_ok-answers.answers.items) script.size script.max_allocs c.in_reverse.result start_is played c.loop-i.invariant.lives (rw c.deref.ensures.value at c.in_reverse.ensures) in
+    let played : map answer_view c.in_ok-answers.answers.items ≡ answers cs (start script.size script.max_allocs) = c.in_ok-answers.ensures in
+    let all = all_lives cs c.loop-i.i c.loop-i.backward.items (map answer_view c.in_ok-answers.answers.items) script.size script.max_allocs c.in_reverse.result start_is played c.loop-i.invariant.lives (rw c.deref.ensures.value at c.in_reverse.ensures) in
     record {
       lives = all;
       apart = each_result (AllPairs AreApart) c.in_reverse.result _ all (apart_law script.size script.max_allocs script.low cs);

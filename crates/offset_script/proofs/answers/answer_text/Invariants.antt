@@ -1,8 +1,8 @@
-use Rattle.std.proofs.Common.{◌≡◌, take}
+use Rattle.std.proofs.Common.{map, ◌≡◌, take}
 use Rattle.std.specs.String.{string_bytes}
-use Rattle.offset_script.specs.Machine.{answer_views}
+use Rattle.offset_script.specs.Machine.{answer_view}
 use Rattle.offset_script.specs.Grammar.{text_of}
 use Rattle.offset_script.proofs.answers.answer_text.Given as goal
 
 abbrev pub invariant-loop-answer : goal.invariant-loop-answer
-invariant-loop-answer l = string_bytes l.out ≡ text_of (answer_views (take l.answer-index l.answers))
+invariant-loop-answer l = string_bytes l.out ≡ text_of (map answer_view (take l.answer-index l.answers))

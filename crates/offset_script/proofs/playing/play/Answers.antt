@@ -6,7 +6,7 @@ use Rattle.offset_script.specs.Grammar.{has_valid_alignment}
 use Rattle.offset_script.specs.Machine.{answers, start, after, State, Answer, step, answer_view}
 use Rattle.offset_script.specs.Simulation.{Represents}
 use Rattle.offset_script.specs.declared.scripts.Command.{Command}
-use Rattle.offset_script.specs.Histories.{RestartsFresh, NestsLeaveNoTrace, RowsCommute, answers_as_before, releases, without_offset}
+use Rattle.offset_script.specs.Histories.{RestartsFresh, NestsLeaveNoTrace, RowsCommute, answers_renumbered, releases, without_offset}
 use Rattle.offset_script.specs.declared.answers.Answer as program
 use Rattle.offset_script.proofs.Fresh.{fresh_law}
 use Rattle.offset_script.proofs.Nests.{after-append, nest_law}
@@ -54,7 +54,7 @@ nests size limit cs found h e before nest rest parts n =
     let s = start size limit in
     ap (drop (length (before ++ nest))) (e ∙ ap (λ c. answers c s) parts)
     ∙ answers_past (before ++ nest) rest s
-    ∙ subst (λ t. answers rest t ≡ answers_as_before (after before s) t rest) (sym (after-append before nest s)) (nest_law size limit h before nest n rest)
+    ∙ subst (λ t. answers rest t ≡ answers_renumbered (after before s) t rest) (sym (after-append before nest s)) (nest_law size limit h before nest n rest)
 
 rows : (size limit : ℕ) (cs : List Command) (found : List Answer) → 2 ≤ limit → found ≡ answers cs (start size limit) → RowsCommute size limit cs found
 rows size limit cs found h e before ks c rest parts t is =
