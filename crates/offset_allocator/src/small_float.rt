@@ -13,6 +13,7 @@ pub const MANTISSA_MASK: u32 = 7;
 
 /// The smallest class whose value is at least `size` units. It is at most 240, which no block is of: a
 /// size above 4026531840 fits no class that a 32-bit size reaches.
+#[inline]
 pub fn uint_to_float_round_up(size: u32) -> u32
     ensures is { result ≡ up size }
     ensures smallest { (c : ℕ) → ((result ≤ c) ↔ (size ≤ value c)) }
@@ -22,26 +23,27 @@ pub fn uint_to_float_round_up(size: u32) -> u32
         return size;
     }
     // the class after the last one whose value is too small
-    let below = size - 1;
-    class_of(below, 31 - below.leading_zeros()) + 1
+    class_of(size - 1, size.ilog2()) + 1
 }
 
 /// The largest class whose value is at most `size` units: the class of a free block of this size. It is at most 239.
+#[inline]
 pub fn uint_to_float_round_down(size: u32) -> u32
     ensures is { result ≡ down size }
     ensures largest { (c : ℕ) → ((c ≤ result) ↔ (value c ≤ size)) }
 {
     // with the exponent of 8 a smaller size is its own class, so no branch is needed
-    class_of(size, 31 - (size | MANTISSA_VALUE).leading_zeros())
+    class_of(size, (size | MANTISSA_VALUE).ilog2())
 }
 
-/// The class of a block of `size` units, from the exponent of the size.
+/// The class of a block of `size` units. `exponent` is the leading bit of the size, or of one unit more, or 3 for a size
+/// below 8.
 fn class_of(size: u32, exponent: u32) -> u32
     requires { IsExponent size exponent }
     ensures is { result ≡ down size }
 {
     let start = exponent - MANTISSA_BITS;
-    // the leading one of a size from 8 on carries into the exponent
+    // the leading one of the size carries into the exponent; with the exponent of one unit more nothing carries
     (start << MANTISSA_BITS) + (size >> start)
 }
 
