@@ -1,12 +1,16 @@
-"""Measures the workloads of the program $1, and writes RESULTS.md and plot.svg into the folder $2."""
+"""Measures the workloads of the program $1, and writes RESULTS.md and plot.svg into the folder $2.
+With $3 it measures only the workloads with this text in their names, and writes no file."""
 import math, os, re, signal, subprocess, sys, tempfile
 from concurrent.futures import ThreadPoolExecutor
+from typing import NamedTuple
 
 MEASURE, HERE = sys.argv[1:3]
 # the sides, and the prefix of their measured functions
 SIDES = {"original": "original", "ours": "offset", "erased": "erased", "c": "tuned"}
 # callgrind counts each byte that a `rep stosb` of memset writes as an instruction, so memset must use vectors
 COUNTED = {**os.environ, "GLIBC_TUNABLES": "glibc.cpu.x86_rep_stosb_threshold=4000000000"}
+# the first-level data cache that is simulated: its bytes, its ways, and the bytes of a line
+CACHE = "32768,8,64"
 # larger ratios are bold: ours to the original's time, to its instructions, to C's; erased to the original's time, to
 # its instructions
 REACH = (0.75, 0.60, 1.05, 0.85, 0.75)
@@ -17,25 +21,33 @@ def lines(*words):
     return [line.split("\t") for line in out.splitlines()]
 
 
-def instructions(name, side, function, what):
-    """The instructions of one run: inside the measured function, and of the whole program."""
+def counted(name, side, function, what):
+    """The instructions and the cache misses of one run: inside the measured function, and of the whole program."""
     with tempfile.NamedTemporaryFile() as file:
-        command = ["valgrind", "--tool=callgrind", "--callgrind-out-file=" + file.name, MEASURE, "play", name, side, what]
+        command = ["valgrind", "--tool=callgrind", "--cache-sim=yes", "--D1=" + CACHE, "--callgrind-out-file=" + file.name,
+                   MEASURE, "play", name, side, what]
         subprocess.run(command, check=True, capture_output=True, env=COUNTED)
-        report = subprocess.run(["callgrind_annotate", "--inclusive=yes", "--threshold=100", file.name],
+        report = subprocess.run(["callgrind_annotate", "--inclusive=yes", "--threshold=100", "--show=Ir,D1mr,D1mw", file.name],
                                 check=True, capture_output=True, text=True).stdout
-    rows = re.findall(r"^ *([\d,]+) \([ \d.]+%\) +(?:\S*:(\w+)(?: \[.*)?|(PROGRAM TOTALS))$", report, re.M)
-    found = {function or total: int(count.replace(",", "")) for count, function, total in reversed(rows)}
+    count = r" *([\d,]+)(?: \([ \d.]+%\))? +"
+    rows = re.findall(rf"^{count * 3}(?:\S*:(\w+)(?: \[.*)?|(PROGRAM TOTALS))$", report, re.M)
+    found = {}
+    for *counts, called, total in reversed(rows):
+        instructions, read, written = (int(count.replace(",", "")) for count in counts)
+        found[called or total] = instructions, read + written
     # a run without constructions calls nothing
-    return found.get(f"{SIDES[side]}_{function}", 0), found["PROGRAM TOTALS"]
+    return found.get(f"{SIDES[side]}_{function}", (0, 0)), found["PROGRAM TOTALS"]
 
 
 def a_step(name, side, function, steps):
-    """The instructions of a step, without the construction of the tables, computed in two ways, which have to agree."""
-    inside, whole = (a - b for a, b in zip(instructions(name, side, function, "all"), instructions(name, side, function, "none")))
+    """The instructions and the cache misses of a step, without the construction of the tables, each computed in two ways,
+    which have to agree."""
+    runs = zip(counted(name, side, function, "all"), counted(name, side, function, "none"))
+    inside, whole = ([a - b for a, b in zip(*both)] for both in runs)
     # they differ by what is loaded at a first call, and by the loop that constructs tables
-    assert abs(whole - inside) < 50_000 + whole / 500, f"{name}, {side}: {inside} inside the calls, {whole} in all"
-    return inside / steps
+    for one, other, most in zip(inside, whole, (50_000, 500)):
+        assert abs(other - one) < most + other / 500, f"{name}, {side}: {inside} inside the calls, {whole} in all"
+    return [count / steps for count in inside]
 
 
 def refusals(name, sides, seconds=0):
@@ -49,25 +61,39 @@ def refusals(name, sides, seconds=0):
     return int(ended.stdout)
 
 
-def measurements():
-    """For each workload its name and nodes, and for each side nanoseconds and instructions a step."""
-    work = lines("list")
+class Row(NamedTuple):
+    """The measurements of a workload. Of a step on each side: the nanoseconds of the fastest run, the instructions, the
+    cache misses, and in each round the nanoseconds."""
+    name: str
+    nodes: int
+    ns: list
+    instructions: list
+    misses: list
+    rounds: list
+
+
+def measurements(part=""):
+    """A row for each workload with this text in its name."""
+    work = [row for row in lines("list") if part in row[0]]
     with ThreadPoolExecutor(os.cpu_count()) as pool:
         list(pool.map(lambda row: refusals(row[0], SIDES), work))
-    times = {name: [float(row[0]) for row in lines("time", name, *SIDES)] for name, *_ in work}
+    times = {name: [[float(x) for x in row] for row in lines("time", name, *SIDES)] for name, *_ in work}
     jobs = [(name, side, function, int(count)) for name, _nodes, _space, count, function in work for side in SIDES]
     with ThreadPoolExecutor(os.cpu_count()) as pool:
         counts = dict(zip([job[:2] for job in jobs], pool.map(lambda job: a_step(*job), jobs)))
     for name, nodes, *_ in work:
-        yield name, int(nodes), times[name], [counts[name, side] for side in SIDES]
+        ns, _processor, *rounds = map(list, zip(*times[name]))
+        instructions, misses = map(list, zip(*(counts[name, side] for side in SIDES)))
+        yield Row(name, int(nodes), ns, instructions, misses, rounds)
 
 
 def number(x):
     return f"{x:,.0f}" if x >= 1000 else f"{x:.1f}"
 
 
-def ratios(ns, count):
+def ratios(row):
     """The ratios of ours and of the erased side, in the order of REACH."""
+    ns, count = row.ns, row.instructions
     return ns[1] / ns[0], count[1] / count[0], count[1] / count[3], ns[2] / ns[0], count[2] / count[0]
 
 
@@ -79,9 +105,28 @@ def table(rows):
     yield ("| workload | ns: original | ours | erased | C | instructions: original | ours | erased | C "
            "| ours: time/original | instructions/original | instructions/C | erased: time/original | instructions/original |")
     yield "|---|" + "---:|" * 13
-    for name, _nodes, ns, count in rows:
-        cells = [number(x) for x in ns + count] + [cell(r, m) for r, m in zip(ratios(ns, count), REACH)]
-        yield f"| {name} | " + " | ".join(cells) + " |"
+    for row in rows:
+        cells = [number(x) for x in row.ns + row.instructions] + [cell(r, m) for r, m in zip(ratios(row), REACH)]
+        yield f"| {row.name} | " + " | ".join(cells) + " |"
+
+
+def misses_table(rows):
+    yield "| workload | original | ours | erased | C | ours/original | ours/C |"
+    yield "|---|" + "---:|" * 6
+    for row in rows:
+        original, ours, _erased, c = row.misses
+        cells = [f"{x:,.2f}" for x in row.misses + [ours / original, ours / c]]
+        yield f"| {row.name} | " + " | ".join(cells) + " |"
+
+
+def rounds_table(rows):
+    """The best and the worst ratio to the original's time in the same round."""
+    yield "| workload | rounds | ours: best | worst | erased: best | worst | C: best | worst |"
+    yield "|---|" + "---:|" * 7
+    for row in rows:
+        sides = zip(*([ns / original for ns in others] for original, *others in row.rounds))
+        cells = [f"{x:.2f}" for side in sides for x in (min(side), max(side))]
+        yield f"| {row.name} | {len(row.rounds)} | " + " | ".join(cells) + " |"
 
 
 COLOURS = {"original": "#c0392b", "ours": "#2471a3", "erased": "#1e8449", "c": "#7d8a8f"}
@@ -100,10 +145,10 @@ def bars(rows, top):
     for at in (0, 0.25, 0.5, 0.75, 1, 1.25):
         x = left + width * at / 1.25
         yield f'<line x1="{x}" y1="{top}" x2="{x}" y2="{bottom}" stroke="#ddd"/>' + text(x, top - 6, at, "middle", 10)
-    for i, (name, _nodes, ns, count) in enumerate(rows):
+    for i, row in enumerate(rows):
         y = top + i * height
-        yield text(left - 8, y + 15, name, "end")
-        for value, colour, offset in zip(ratios(ns, count), ("#2471a3", "#a9cce3"), (3, 11)):
+        yield text(left - 8, y + 15, row.name, "end")
+        for value, colour, offset in zip(ratios(row), ("#2471a3", "#a9cce3"), (3, 11)):
             yield f'<rect x="{left}" y="{y + offset}" width="{width * min(value, 1.25) / 1.25:.1f}" height="7" fill="{colour}"/>'
 
 
@@ -127,12 +172,12 @@ def curves(rows, top, title, values):
     for i in range(5):
         y = top + height * (1 - i / 4)
         yield f'<line x1="{left}" y1="{y}" x2="{left + width}" y2="{y}" stroke="#ddd"/>' + text(left - 6, y + 4, f"{most * i / 4:.0f}", "end", 10)
-    first, last = rows[0][1], rows[-1][1]
-    xs = [left + width * math.log(row[1] / first) / math.log(last / first) for row in rows]
+    first, last = rows[0].nodes, rows[-1].nodes
+    xs = [left + width * math.log(row.nodes / first) / math.log(last / first) for row in rows]
     for x, row in zip(xs, rows):
         # powers of 4 only, since there is no room for all numbers
-        if row[1].bit_length() % 2 == 1:
-            yield text(x, top + height + 16, f"{row[1]:,}", "middle", 10)
+        if row.nodes.bit_length() % 2 == 1:
+            yield text(x, top + height + 16, f"{row.nodes:,}", "middle", 10)
     ends = []
     for s, side in enumerate(SIDES):
         ys = [top + height * (1 - values(row)[s] / most) for row in rows]
@@ -145,32 +190,39 @@ def curves(rows, top, title, values):
 
 def plot(work, growth):
     first = 60 + 22 * len(work) + 60
-    parts = [*bars(work, 60), *curves(growth, first, "nanoseconds a step, over the nodes of the table", lambda r: r[2]),
-             *curves(growth, first + 270, "instructions a step, over the nodes of the table", lambda r: r[3])]
+    parts = [*bars(work, 60), *curves(growth, first, "nanoseconds a step, over the nodes of the table", lambda row: row.ns),
+             *curves(growth, first + 270, "instructions a step, over the nodes of the table", lambda row: row.instructions)]
     size = first + 270 + 240
     return (f'<svg xmlns="http://www.w3.org/2000/svg" width="760" height="{size}" font-family="sans-serif">'
             f'<rect width="760" height="{size}" fill="white"/>\n' + "\n".join(parts) + "\n</svg>\n")
 
 
 def main():
-    rows = list(measurements())
-    growth = [row for row in rows if row[0].startswith("growth")]
+    rows = list(measurements(*sys.argv[3:]))
+    growth = [row for row in rows if row.name.startswith("growth")]
     work = [row for row in rows if row not in growth]
-    missed = sum(r > m for row in rows for r, m in zip(ratios(*row[2:]), REACH))
+    large = [row for row in rows if row.nodes >= 262_144 or row.name == "random, 60k live"]
+    missed = sum(r > m for row in rows for r, m in zip(ratios(row), REACH))
     head = [
         "# Results", "",
-        "Times are the fastest of nine runs, in nanoseconds; instructions are counted by callgrind. Both are per step, without the "
-        "construction of the tables.",
+        "Times are the fastest of nine runs, or of three where a run takes a fifth of a second, in nanoseconds; instructions are "
+        "counted by callgrind. Both are per step, without the construction of the tables.",
         "All sides returned the same offsets and refusals, and no live ranges overlap or leave the space. In bold: more than "
         f"{REACH[0]:.2f} of the original's time, {REACH[1]:.2f} of its instructions, or {REACH[2]:.2f} of C's; "
         f"for the erased side more than {REACH[3]:.2f} of the original's time, or {REACH[4]:.2f} of its instructions.", "",
     ]
     shown = [*head, *table(work), "", "## Over the size of the tables", "",
-             "Random steps with a quarter of the nodes live.", "", *table(growth)]
-    with open(f"{HERE}/RESULTS.md", "w") as file:
-        file.write("\n".join(shown) + "\n")
-    with open(f"{HERE}/plot.svg", "w") as file:
-        file.write(plot(work, growth))
+             "Random steps with a quarter of the nodes live.", "", *table(growth), "",
+             "## Cache misses", "",
+             "Reads and writes of a step that miss a first-level data cache of 32 KiB, as callgrind simulates it.", "",
+             *misses_table(rows), "",
+             "## The best and the worst run", "",
+             "With large tables: the time of each run in parts of the original's in the same round.", "", *rounds_table(large)]
+    if len(sys.argv) == 3:
+        with open(f"{HERE}/RESULTS.md", "w") as file:
+            file.write("\n".join(shown) + "\n")
+        with open(f"{HERE}/plot.svg", "w") as file:
+            file.write(plot(work, growth))
     print("\n".join(shown))
     print(f"{len(rows)} workloads, equal answers; {missed} of {len(REACH) * len(rows)} figures miss their reach")
 

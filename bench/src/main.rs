@@ -1,7 +1,8 @@
 //! Runs the workloads on the linked sides, and prints its measurements, separated by tabs.
 //!
 //! - `measure list`: each workload's name, nodes, space, steps, and measured function without the prefix of its side.
-//! - `measure time NAME SIDE...`: for each side nanoseconds a step, by the clock and of the processor, and the runs.
+//! - `measure time NAME SIDE...`: for each side nanoseconds a step, by the clock and of the processor, and then those of
+//!   each run by the clock.
 //! - `measure play NAME SIDE all|none`: one run with all of its steps or with none, for a counter of instructions.
 //! - `measure check SECONDS NAME SIDE...`: the number of refusals, after a check that the sides have equal answers and
 //!   that no live ranges overlap; it ends by a signal where a run of the first side takes more processor time.
@@ -61,24 +62,24 @@ fn time_run(w: &Workload, side: &Side, none: bool) -> [f64; 2] {
     [start.elapsed().as_nanos() as f64, processor() - spent]
 }
 
-/// The time of the fastest run, in nanoseconds a step, and the number of runs; the sides take turns.
-fn times(w: &Workload, sides: &[Side]) -> Vec<([f64; 2], usize)> {
+/// Nanoseconds a step: of the fastest run by the clock and of the processor, and of each run by the clock. The sides take
+/// turns.
+fn times(w: &Workload, sides: &[Side]) -> Vec<([f64; 2], Vec<f64>)> {
     let mut fastest = vec![[[f64::MAX; 2]; 2]; sides.len()];
-    let mut runs = vec![0; sides.len()];
+    let mut runs = vec![Vec::new(); sides.len()];
+    let a_step = |[all, none]: [[f64; 2]; 2], by: usize| (all[by] - none[by]) / w.count() as f64;
     for _ in 0..RUNS {
         for (s, side) in sides.iter().enumerate() {
-            if runs[s] >= LONG_RUNS && fastest[s][0][0] >= LONG {
+            if runs[s].len() >= LONG_RUNS && fastest[s][0][0] >= LONG {
                 continue;
             }
-            runs[s] += 1;
-            for none in [false, true] {
-                let taken = time_run(w, side, none);
-                let best = &mut fastest[s][none as usize];
+            let taken = [false, true].map(|none| time_run(w, side, none));
+            runs[s].push(a_step(taken, 0));
+            for (best, taken) in fastest[s].iter_mut().zip(taken) {
                 *best = [best[0].min(taken[0]), best[1].min(taken[1])];
             }
         }
     }
-    let a_step = |[all, none]: [[f64; 2]; 2], by: usize| (all[by] - none[by]) / w.count() as f64;
     fastest.into_iter().map(|l| [a_step(l, 0), a_step(l, 1)]).zip(runs).collect()
 }
 
@@ -195,7 +196,8 @@ fn main() {
         }
         ["time", name, ref names @ ..] => {
             for ([clock, processor], runs) in times(&workload(name), &sides(names)) {
-                println!("{clock}\t{processor}\t{runs}");
+                let runs: String = runs.iter().map(|run| format!("\t{run}")).collect();
+                println!("{clock}\t{processor}{runs}");
             }
         }
         ["play", name, of, what @ ("all" | "none")] => println!("{}", run(&workload(name), &side(of), what == "none")),

@@ -81,11 +81,12 @@ pub const GAME_NODES: u32 = 16_384;
 /// The smallest space in which ours refuses nothing of the trace; `measure least` finds it.
 pub const GAME_LEAST: u32 = 62_205_308;
 
-/// Fills all slots, and then empties and fills a random one, again and again.
+/// Fills all slots, and then empties and fills a random one, again and again, and each at least once on average.
 fn random(slots: u32, bits: u32) -> Work {
     let mut random = Random(0x9e3779b97f4a7c15);
     let mut steps: Vec<Step> = (0..slots).map(|slot| Step { slot, size: random.size(bits) }).collect();
-    while steps.len() < STEPS + slots as usize {
+    let more = STEPS.max(2 * slots as usize);
+    while steps.len() < slots as usize + more {
         let slot = random.below(slots);
         steps.push(Step { slot, size: random.size(bits) });
         steps.push(Step { slot, size: random.size(bits) });
@@ -175,6 +176,8 @@ pub fn all(only: Option<&str>) -> Vec<Workload> {
     use Width::{Bits16, Bits32};
     const NODES: u32 = 131_072;
     const SPACE: u32 = 1 << 28;
+    // the largest space that all sides admit
+    const LARGEST: u32 = i32::MAX as u32;
     let mut found = Vec::new();
     let mut add = |name: &str, width, space, nodes, work: &dyn Fn() -> Work| {
         if only.map_or(true, |only| only == name) {
@@ -184,6 +187,8 @@ pub fn all(only: Option<&str>) -> Vec<Workload> {
     add("random, 1k live", Bits32, SPACE, NODES, &|| random(1_000, 12));
     add("random, 16k live", Bits32, SPACE, NODES, &|| random(16_000, 12));
     add("random, 60k live", Bits32, SPACE, NODES, &|| random(60_000, 12));
+    add("random, a million live", Bits32, LARGEST, 4_194_304, &|| random(1_000_000, 12));
+    add("random, 10,000,000 nodes", Bits32, LARGEST, 10_000_000, &|| random(2_500_000, 12));
     add("random, 300 of 1,024", Bits32, SPACE, 1_024, &|| random(300, 12));
     add("tight, with refusals", Bits32, 300_000, NODES, &|| random(2_000, 12));
     add("bump, then free in order", Bits32, SPACE, NODES, &|| waves(60_000, 12, |_| (0..60_000).collect()));
@@ -205,8 +210,7 @@ pub fn all(only: Option<&str>) -> Vec<Workload> {
     add("u16: make 65,000 nodes", Bits16, 65_535, 65_000, &|| Work::Make { times: 100 });
     for bits in [6, 8].into_iter().chain(10..=20) {
         let nodes = 1 << bits;
-        // the largest space that all sides admit
-        add(&format!("growth, {nodes} nodes"), Bits32, i32::MAX as u32, nodes, &|| random(nodes / 4, 12));
+        add(&format!("growth, {nodes} nodes"), Bits32, LARGEST, nodes, &|| random(nodes / 4, 12));
     }
     found
 }
