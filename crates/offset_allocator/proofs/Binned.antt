@@ -202,6 +202,3 @@ binned {none} {t} {top} {ls} k m = let e = shown k in (record { linked = subst (
 -- the clauses of a change
 pub clauses : {H L R A B : Type 0} → H × L → R → A → B → record { held : H; lists : L; room : R; accesses_min : A; accesses_max : B }
 clauses p r a b = record { held = p.0; lists = p.1; room = r; accesses_min = a; accesses_max = b }
-
-pub popped : {F H L R A B : Type 0} → F → H × L → R → A → B → record { first : F; held : H; lists : L; room : R; accesses_min : A; accesses_max : B }
-popped f p r a b = record { first = f; held = p.0; lists = p.1; room = r; accesses_min = a; accesses_max = b }

@@ -1,5 +1,5 @@
 //! A bin for each size class: the names of its free blocks, in a list of links between the nodes, with a two-level mask.
-ghost use Rattle.std.specs.Prelude.{◌≡◌, ◌+◌, ◌<◌, ◌≤◌, ◌≢◌, ℕ, List, [], ◌∷◌, slice_set, length, MatchOption};
+ghost use Rattle.std.specs.Prelude.{◌≡◌, ◌+◌, ◌<◌, ◌≤◌, ◌≢◌, ℕ, List, [], ◌∷◌, slice_index, slice_set, length, MatchOption};
 ghost use Rattle.offset_allocator.specs.Classes.{down};
 ghost use Rattle.offset_allocator.specs.Named.{names_at, without, push, remove};
 ghost use Rattle.offset_allocator.specs.Promises.{IsLargestClass};
@@ -138,6 +138,69 @@ fn link_newer<NI: NodeIndex>(tables: &mut Tables<NI>, at: NI, to: NI, count: &mu
     }
 }
 
+// Removes the newest name of a class from its bin. `after` is the link to the next older one.
+#[inline(always)]
+fn behead<NI: NodeIndex>(
+    tables: &mut Tables<NI>,
+    top_mask: &mut u32,
+    class: u32,
+    after: NI,
+    count: &mut Accesses,
+)
+    requires held { Binned NI.MAX tables.old.links top_mask.old }
+    requires classed { class < 256 }
+    requires full { names_at (class_lists NI.MAX tables.old.links) class ≢ [] }
+    requires after { NI.number after ≡ slice_index tables.old.links.older (slice_index tables.old.links.heads class) }
+    ensures held { Binned NI.MAX tables.new.links top_mask.new }
+    ensures lists { class_lists NI.MAX tables.new.links ≡ remove class (slice_index tables.old.links.heads class) (class_lists NI.MAX tables.old.links) }
+    ensures room { tables.new.room ≡ tables.old.room }
+    ensures accesses_min { count.old + 1 ≤ count.new }
+    ensures accesses_max { count.new ≤ count.old + 3 }
+{
+    tables.set_head(class, after, count);
+    if number(after) == NI::MAX {
+        clear_class(tables, top_mask, class, count);
+    } else {
+        tables.set_newer(number(after), no_link(), count);
+    }
+}
+
+// Removes a name, whose links are `before` and `after`, from the bin of this size.
+#[inline(always)]
+fn leave<NI: NodeIndex>(
+    tables: &mut Tables<NI>,
+    top_mask: &mut u32,
+    name: u32,
+    before: NI,
+    after: NI,
+    size: u32,
+    count: &mut Accesses,
+)
+    requires held { Binned NI.MAX tables.old.links top_mask.old }
+    requires listed { Among name (names_at (class_lists NI.MAX tables.old.links) (down size)) }
+    requires before { NI.number before ≡ slice_index tables.old.links.newer name }
+    requires after { NI.number after ≡ slice_index tables.old.links.older name }
+    ensures held { Binned NI.MAX tables.new.links top_mask.new }
+    ensures lists { class_lists NI.MAX tables.new.links ≡ remove (down size) name (class_lists NI.MAX tables.old.links) }
+    ensures room { tables.new.room ≡ tables.old.room }
+    ensures accesses_min { count.old + 1 ≤ count.new }
+    ensures accesses_max { count.new ≤ count.old + 3 }
+{
+    if number(before) == NI::MAX {
+        // only the newest name has to find its class
+        behead(
+            tables,
+            top_mask,
+            uint_to_float_round_down(size),
+            after,
+            count,
+        );
+    } else {
+        link_newer(tables, after, before, count);
+        tables.set_older(number(before), after, count);
+    }
+}
+
 /// Removes a name from the bin of this size.
 #[inline(always)]
 pub(crate) fn remove<NI: NodeIndex>(
@@ -152,22 +215,12 @@ pub(crate) fn remove<NI: NodeIndex>(
     ensures held { Binned NI.MAX tables.new.links top_mask.new }
     ensures lists { class_lists NI.MAX tables.new.links ≡ remove (down size) name (class_lists NI.MAX tables.old.links) }
     ensures room { tables.new.room ≡ tables.old.room }
-    ensures accesses_min { count.old + 2 ≤ count.new }
-    ensures accesses_max { count.new ≤ count.old + 7 }
+    ensures accesses_min { count.old + 3 ≤ count.new }
+    ensures accesses_max { count.new ≤ count.old + 5 }
 {
     let before = tables.newer(name, count);
     let after = tables.older(name, count);
-    link_newer(tables, after, before, count);
-    if number(before) != NI::MAX {
-        tables.set_older(number(before), after, count);
-        return;
-    }
-    // only the first name has to find its class
-    let class = uint_to_float_round_down(size);
-    tables.set_head(class, after, count);
-    if number(after) == NI::MAX {
-        clear_class(tables, top_mask, class, count);
-    }
+    leave(tables, top_mask, name, before, after, size, count);
 }
 
 /// Removes the name `gone` from the bin of this size, and pushes another one onto the bin of a class. Where `gone` is the
@@ -191,19 +244,19 @@ pub(crate) fn exchange<NI: NodeIndex>(
     ensures lists { class_lists NI.MAX tables.new.links ≡ push class name (remove (down size) gone (class_lists NI.MAX tables.old.links)) }
     ensures room { tables.new.room ≡ tables.old.room }
     ensures accesses_min { count.old + 5 ≤ count.new }
-    ensures accesses_max { count.new ≤ count.old + 14 }
+    ensures accesses_max { count.new ≤ count.old + 11 }
 {
     tables.shape();
     let before = tables.newer(gone, count);
+    let after = tables.older(gone, count);
     if number(before) == NI::MAX && class == uint_to_float_round_down(size) {
         // the bin is empty neither before nor after, so the masks stay
-        let after = tables.older(gone, count);
         let newest = link_to(name);
         tables.set_head(class, newest, count);
         tables.set_links(name, no_link(), after, count);
         link_newer(tables, after, newest, count);
     } else {
-        remove(tables, top_mask, gone, size, count);
+        leave(tables, top_mask, gone, before, after, size, count);
         push(tables, top_mask, name, class, count);
     }
 }
@@ -227,11 +280,6 @@ pub(crate) fn pop<NI: NodeIndex>(
 {
     let name = number(tables.head(class, count));
     let after = tables.older(name, count);
-    tables.set_head(class, after, count);
-    if number(after) == NI::MAX {
-        clear_class(tables, top_mask, class, count);
-    } else {
-        tables.set_newer(number(after), no_link(), count);
-    }
+    behead(tables, top_mask, class, after, count);
     name
 }

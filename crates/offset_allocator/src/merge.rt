@@ -1,4 +1,4 @@
-//! Coalesces a free block with the free blocks beside it, and puts the whole block on its bin.
+//! Coalesces a block with the free blocks beside it, and puts the whole block on its bin.
 ghost use Rattle.std.specs.Prelude.{ℕ, ◌≡◌, ◌+◌, ◌≤◌, ◌++◌, [], Some, false, length, MatchOption};
 ghost use Rattle.offset_allocator.specs.Classes.{down};
 ghost use Rattle.offset_allocator.specs.Cells.{node};
@@ -59,7 +59,7 @@ fn with_before<NI: NodeIndex>(store: &mut Store<NI>, name: u32, size: u32) -> u3
     ensures limit { length store.new.tables.room.nodes ≡ length store.old.tables.room.nodes }
     ensures size { result ≡ (node store.new.tables.room name).size }
     ensures accesses_min { store.old.accesses + 1 ≤ store.new.accesses }
-    ensures accesses_max { store.new.accesses ≤ store.old.accesses + 17 }
+    ensures accesses_max { store.new.accesses ≤ store.old.accesses + 15 }
 {
     if let Some(previous) = free_before(&store.tables, name, &mut store.accesses) {
         let more = chain::size(&store.tables, previous, &mut store.accesses);
@@ -95,7 +95,7 @@ pub(crate) fn coalesce<NI: NodeIndex>(store: &mut Store<NI>, name: u32, size: u3
     ensures held { Binned NI.MAX store.new.tables.links store.new.top_mask }
     ensures lists { (m : ℕ) (p : Place) → HasPlace store.old.tables.room m store.old.last store.old.spare_count name p → class_lists NI.MAX store.new.tables.links ≡ push (down (node store.new.tables.room name).size) name (remove_all (free_start p.after) (remove_all (free_end p.before) (class_lists NI.MAX store.old.tables.links))) }
     ensures accesses_min { store.old.accesses + 7 ≤ store.new.accesses }
-    ensures accesses_max { store.new.accesses ≤ store.old.accesses + 39 }
+    ensures accesses_max { store.new.accesses ≤ store.old.accesses + 34 }
 {
     if let Some(following) = free_after(&store.tables, name, &mut store.accesses) {
         let size = with_before(store, name, size);

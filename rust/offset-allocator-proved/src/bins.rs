@@ -98,6 +98,49 @@ fn link_newer<NI: NodeIndex>(tables: &mut Tables<NI>, at: NI, to: NI, count: &mu
     }
 }
 
+// Removes the newest name of a class from its bin. `after` is the link to the next older one.
+#[inline(always)]
+fn behead<NI: NodeIndex>(
+    tables: &mut Tables<NI>,
+    top_mask: &mut u32,
+    class: u32,
+    after: NI,
+    count: &mut Accesses,
+) {
+    tables.set_head(class, after, count);
+    if number(after) == NI::MAX {
+        clear_class(tables, top_mask, class, count);
+    } else {
+        tables.set_newer(number(after), no_link(), count);
+    }
+}
+
+// Removes a name, whose links are `before` and `after`, from the bin of this size.
+#[inline(always)]
+fn leave<NI: NodeIndex>(
+    tables: &mut Tables<NI>,
+    top_mask: &mut u32,
+    name: u32,
+    before: NI,
+    after: NI,
+    size: u32,
+    count: &mut Accesses,
+) {
+    if number(before) == NI::MAX {
+        // only the newest name has to find its class
+        behead(
+            tables,
+            top_mask,
+            uint_to_float_round_down(size),
+            after,
+            count,
+        );
+    } else {
+        link_newer(tables, after, before, count);
+        tables.set_older(number(before), after, count);
+    }
+}
+
 /// Removes a name from the bin of this size.
 #[inline(always)]
 pub(crate) fn remove<NI: NodeIndex>(
@@ -109,17 +152,7 @@ pub(crate) fn remove<NI: NodeIndex>(
 ) {
     let before = tables.newer(name, count);
     let after = tables.older(name, count);
-    link_newer(tables, after, before, count);
-    if number(before) != NI::MAX {
-        tables.set_older(number(before), after, count);
-        return;
-    }
-    // only the first name has to find its class
-    let class = uint_to_float_round_down(size);
-    tables.set_head(class, after, count);
-    if number(after) == NI::MAX {
-        clear_class(tables, top_mask, class, count);
-    }
+    leave(tables, top_mask, name, before, after, size, count);
 }
 
 /// Removes the name `gone` from the bin of this size, and pushes another one onto the bin of a class. Where `gone` is the
@@ -136,15 +169,15 @@ pub(crate) fn exchange<NI: NodeIndex>(
 ) {
     tables.shape();
     let before = tables.newer(gone, count);
+    let after = tables.older(gone, count);
     if number(before) == NI::MAX && class == uint_to_float_round_down(size) {
         // the bin is empty neither before nor after, so the masks stay
-        let after = tables.older(gone, count);
         let newest = link_to(name);
         tables.set_head(class, newest, count);
         tables.set_links(name, no_link(), after, count);
         link_newer(tables, after, newest, count);
     } else {
-        remove(tables, top_mask, gone, size, count);
+        leave(tables, top_mask, gone, before, after, size, count);
         push(tables, top_mask, name, class, count);
     }
 }
@@ -158,11 +191,6 @@ pub(crate) fn pop<NI: NodeIndex>(
 ) -> u32 {
     let name = number(tables.head(class, count));
     let after = tables.older(name, count);
-    tables.set_head(class, after, count);
-    if number(after) == NI::MAX {
-        clear_class(tables, top_mask, class, count);
-    } else {
-        tables.set_newer(number(after), no_link(), count);
-    }
+    behead(tables, top_mask, class, after, count);
     name
 }

@@ -1,6 +1,6 @@
 // Printed by rust/erase from crates/offset_allocator/src/merge.rt: change it there.
 
-//! Coalesces a free block with the free blocks beside it, and puts the whole block on its bin.
+//! Coalesces a block with the free blocks beside it, and puts the whole block on its bin.
 
 use crate::accesses::Accesses;
 use crate::index::NodeIndex;

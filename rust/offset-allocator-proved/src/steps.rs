@@ -121,13 +121,13 @@ impl<NI: NodeIndex> Allocator<NI> {
     pub(crate) fn release(&mut self, name: u32) {
         let size = chain::size(&self.store.tables, name, &mut self.store.accesses);
         self.free_total += size;
+        merge::coalesce(&mut self.store, name, size);
         chain::mark(
             &mut self.store.tables,
             name,
             false,
             &mut self.store.accesses,
         );
-        merge::coalesce(&mut self.store, name, size);
     }
 
     /// Whether a name is that of a used block.

@@ -9,13 +9,16 @@ use Rattle.offset_allocator.proofs.bins.exchange.Goals as goal
 pub newer-before-requires : goal.newer-before-requires
 newer-before-requires g c = below c.requires.held.linked _ (down_small c.args.size) _ c.requires.listed
 
+pub older-after-requires : goal.older-after-requires
+older-after-requires g c = omega (arith, below c.requires.held.linked _ (down_small c.args.size) _ c.requires.listed, c.requires.held.linked.older_len)
+
 pub link_newer-requires-clause-named : goal.link_newer-requires-clause-named
 link_newer-requires-clause-named g c n =
     rw (c.set_links.ensures.cells, c.set_head.ensures.cells, length-set, c.older-after.ensures.cell) (older_in c.requires.held.linked _ (down_small c.args.size) _ c.requires.listed (λ e. n (c.older-after.ensures.cell ∙ e)))
 
 pub push-requires-clause-fresh : goal.push-requires-clause-fresh
 push-requires-clause-fresh g c =
-    rw c.remove.ensures.lists (unlisted_removed c.args.name c.args.gone _ _ c.requires.held.linked.lists_len (down_small c.args.size) c.requires.fresh)
+    rw c.leave.ensures.lists (unlisted_removed c.args.name c.args.gone _ _ c.requires.held.linked.lists_len (down_small c.args.size) c.requires.fresh)
 
 pub returns-then-class-uint_to_float_round_down : goal.returns-then-class-uint_to_float_round_down
 returns-then-class-uint_to_float_round_down g c =

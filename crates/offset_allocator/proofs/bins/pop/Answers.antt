@@ -1,31 +1,14 @@
-use Rattle.std.proofs.Common.{◌∙◌, ap, sym, arith}
-use Rattle.std.proofs.lemmas.List.{set_past}
-use Rattle.offset_allocator.specs.Orders.{first_of}
-use Rattle.offset_allocator.proofs.Binned.{head, without_head, none_left, beheaded, binned, popped}
-use Rattle.offset_allocator.proofs.Masks.{flag_full, masked_same}
+use Rattle.std.proofs.Common.{◌∙◌}
+use Rattle.offset_allocator.proofs.Binned.{head, without_head}
 use Rattle.offset_allocator.proofs.bins.pop.Goals as goal
 
-pub returns-then-number-MAX : goal.returns-then-number-MAX
-returns-then-number-MAX g c =
-    let k = c.requires.held.linked in
-    let h = head k c.args.class c.requires.classed c.requires.full in
-    let w = without_head k c.args.class c.requires.classed c.requires.full in
-    let is = c.number-name.ensures.number ∙ c.head.ensures.cell in
-    let next = rw is at c.older-after.ensures.cell in
-    let none = none_left k c.args.class c.requires.classed _ _ h.1.3 (sym (next ∙ h.1.2) ∙ omega arith) in
-    let e = rw c.set_head.ensures.cells at c.clear_class.ensures.rest in
-    popped (rw (is, w) h.0) (rw (is, w) (binned (beheaded k c.args.class c.requires.classed c.clear_class.new.tables.links _ c.requires.full next
-    (rw e (sym (set_past _ _ _ (omega (arith, k.names_small))))) (rw e) (rw e))
-    (rw none (c.clear_class.ensures.masked _ k.lists_len (rw c.set_head.ensures.cells c.requires.held.masked))))) (rw e) (omega arith) (omega arith)
+pub behead-requires-clause-after : goal.behead-requires-clause-after
+behead-requires-clause-after g c = rw (← (c.number-name.ensures.number ∙ c.head.ensures.cell)) c.older-after.ensures.cell
 
-pub returns-else-number-MAX : goal.returns-else-number-MAX
-returns-else-number-MAX g c =
+pub returns-clause-first : goal.returns-clause-first
+returns-clause-first g c =
     let k = c.requires.held.linked in
-    let h = head k c.args.class c.requires.classed c.requires.full in
-    let w = without_head k c.args.class c.requires.classed c.requires.full in
-    let is = c.number-name.ensures.number ∙ c.head.ensures.cell in
-    let next = rw is at c.older-after.ensures.cell in
-    let e = rw c.set_head.ensures.cells at c.set_newer.ensures.cells in
-    popped (rw (is, w) h.0) (rw (is, w) (binned (beheaded k c.args.class c.requires.classed c.set_newer.new.self.links _ c.requires.full next
-    (rw (e, c.number-else-number-MAX.ensures.number, c.no_link.ensures.number)) (rw e) (rw e))
-    (rw e (masked_same c.requires.held.masked k.lists_len c.args.class c.requires.classed _ (flag_full _ (λ z. let q = next ∙ h.1.2 ∙ ap (first_of g.NI.NodeIndex.MAX) z in absurd (omega arith)) ∙ sym (flag_full _ c.requires.full)))))) (rw e) (omega arith) (omega arith)
+    rw (c.number-name.ensures.number ∙ c.head.ensures.cell, without_head k c.args.class c.requires.classed c.requires.full) ((head k c.args.class c.requires.classed c.requires.full).0)
+
+pub returns-clause-lists : goal.returns-clause-lists
+returns-clause-lists g c = rw (c.number-name.ensures.number ∙ c.head.ensures.cell) c.behead.ensures.lists

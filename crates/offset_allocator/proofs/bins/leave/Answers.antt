@@ -1,0 +1,41 @@
+use Rattle.std.proofs.Common.{◌≡◌, ◌≢◌, ◌∙◌, arith, refl, slice_index}
+use Rattle.offset_allocator.proofs.Binned.{newer_in, older_in, is_first, is_later, later_masked, left, binned, clauses}
+use Rattle.offset_allocator.proofs.Classes.{down_small}
+use Rattle.offset_allocator.proofs.bins.leave.Goals as goal
+
+-- the newest name
+pub behead-requires-clause-classed : goal.behead-requires-clause-classed
+behead-requires-clause-classed g c = omega (arith, down_small c.args.size, c.uint_to_float_round_down.ensures.is)
+
+pub behead-requires-clause-full : goal.behead-requires-clause-full
+behead-requires-clause-full g c =
+    let z : slice_index c.args.tables.now.links.newer c.args.name ≡ g.NI.NodeIndex.MAX = omega (arith, c.requires.before) in
+    rw c.uint_to_float_round_down.ensures.is ((is_first c.requires.held.linked _ (down_small c.args.size) _ c.requires.listed z).0)
+
+pub behead-requires-clause-after : goal.behead-requires-clause-after
+behead-requires-clause-after g c =
+    let z : slice_index c.args.tables.now.links.newer c.args.name ≡ g.NI.NodeIndex.MAX = omega (arith, c.requires.before) in
+    rw (c.uint_to_float_round_down.ensures.is, (is_first c.requires.held.linked _ (down_small c.args.size) _ c.requires.listed z).1) c.requires.after
+
+pub returns-then-number-MAX-clause-lists : goal.returns-then-number-MAX-clause-lists
+returns-then-number-MAX-clause-lists g c =
+    let z : slice_index c.args.tables.now.links.newer c.args.name ≡ g.NI.NodeIndex.MAX = omega (arith, c.requires.before) in
+    rw (c.behead.ensures.lists, c.uint_to_float_round_down.ensures.is, (is_first c.requires.held.linked _ (down_small c.args.size) _ c.requires.listed z).1) refl
+
+-- a later name
+pub link_newer-requires-clause-named : goal.link_newer-requires-clause-named
+link_newer-requires-clause-named g c n = rw c.requires.after (older_in c.requires.held.linked _ (down_small c.args.size) _ c.requires.listed (λ e. n (c.requires.after ∙ e)))
+
+pub set_older-requires : goal.set_older-requires
+set_older-requires g c =
+    let l = newer_in c.requires.held.linked _ (down_small c.args.size) _ c.requires.listed (λ e. absurd (omega (arith, c.requires.before))) in
+    rw c.link_newer.ensures.cells (omega (arith, l, c.requires.before, c.requires.held.linked.older_len))
+
+pub returns-else-number-MAX : goal.returns-else-number-MAX
+returns-else-number-MAX g c =
+    let k = c.requires.held.linked in
+    let n : slice_index c.args.tables.now.links.newer c.args.name ≢ g.NI.NodeIndex.MAX = λ e. absurd (omega (arith, c.requires.before)) in
+    let e = rw c.link_newer.ensures.cells at c.set_older.ensures.cells in
+    clauses (binned (left k _ (down_small c.args.size) c.set_older.new.self.links _ _ _ (is_later k _ (down_small c.args.size) _ c.requires.listed n) c.requires.before c.requires.after
+    (rw e) (rw (e, c.number-else-number-MAX.ensures.number)) (rw e))
+    (rw e (later_masked k _ (down_small c.args.size) _ c.requires.listed n c.requires.held.masked))) (rw e) (omega arith) (omega arith)
