@@ -165,27 +165,26 @@ fn behead<NI: NodeIndex>(
     }
 }
 
-// Removes a name, whose links are `before` and `after`, from the bin of this size.
+// Removes a name from the bin of this size. `before` is the link to the next newer one.
 #[inline(always)]
 fn leave<NI: NodeIndex>(
     tables: &mut Tables<NI>,
     top_mask: &mut u32,
     name: u32,
     before: NI,
-    after: NI,
     size: u32,
     count: &mut Accesses,
 )
     requires held { Binned NI.MAX tables.old.links top_mask.old }
     requires listed { Among name (names_at (class_lists NI.MAX tables.old.links) (down size)) }
     requires before { NI.number before ≡ slice_index tables.old.links.newer name }
-    requires after { NI.number after ≡ slice_index tables.old.links.older name }
     ensures held { Binned NI.MAX tables.new.links top_mask.new }
     ensures lists { class_lists NI.MAX tables.new.links ≡ remove (down size) name (class_lists NI.MAX tables.old.links) }
     ensures room { tables.new.room ≡ tables.old.room }
-    ensures accesses_min { count.old + 1 ≤ count.new }
-    ensures accesses_max { count.new ≤ count.old + 3 }
+    ensures accesses_min { count.old + 2 ≤ count.new }
+    ensures accesses_max { count.new ≤ count.old + 4 }
 {
+    let after = tables.older(name, count);
     if number(before) == NI::MAX {
         // only the newest name has to find its class
         behead(
@@ -219,8 +218,7 @@ pub(crate) fn remove<NI: NodeIndex>(
     ensures accesses_max { count.new ≤ count.old + 5 }
 {
     let before = tables.newer(name, count);
-    let after = tables.older(name, count);
-    leave(tables, top_mask, name, before, after, size, count);
+    leave(tables, top_mask, name, before, size, count);
 }
 
 /// Removes the name `gone` from the bin of this size, and pushes another one onto the bin of a class. Where `gone` is the
@@ -248,15 +246,15 @@ pub(crate) fn exchange<NI: NodeIndex>(
 {
     tables.shape();
     let before = tables.newer(gone, count);
-    let after = tables.older(gone, count);
     if number(before) == NI::MAX && class == uint_to_float_round_down(size) {
         // the bin is empty neither before nor after, so the masks stay
+        let after = tables.older(gone, count);
         let newest = link_to(name);
         tables.set_head(class, newest, count);
         tables.set_links(name, no_link(), after, count);
         link_newer(tables, after, newest, count);
     } else {
-        leave(tables, top_mask, gone, before, after, size, count);
+        leave(tables, top_mask, gone, before, size, count);
         push(tables, top_mask, name, class, count);
     }
 }

@@ -115,17 +115,17 @@ fn behead<NI: NodeIndex>(
     }
 }
 
-// Removes a name, whose links are `before` and `after`, from the bin of this size.
+// Removes a name from the bin of this size. `before` is the link to the next newer one.
 #[inline(always)]
 fn leave<NI: NodeIndex>(
     tables: &mut Tables<NI>,
     top_mask: &mut u32,
     name: u32,
     before: NI,
-    after: NI,
     size: u32,
     count: &mut Accesses,
 ) {
+    let after = tables.older(name, count);
     if number(before) == NI::MAX {
         // only the newest name has to find its class
         behead(
@@ -151,8 +151,7 @@ pub(crate) fn remove<NI: NodeIndex>(
     count: &mut Accesses,
 ) {
     let before = tables.newer(name, count);
-    let after = tables.older(name, count);
-    leave(tables, top_mask, name, before, after, size, count);
+    leave(tables, top_mask, name, before, size, count);
 }
 
 /// Removes the name `gone` from the bin of this size, and pushes another one onto the bin of a class. Where `gone` is the
@@ -169,15 +168,15 @@ pub(crate) fn exchange<NI: NodeIndex>(
 ) {
     tables.shape();
     let before = tables.newer(gone, count);
-    let after = tables.older(gone, count);
     if number(before) == NI::MAX && class == uint_to_float_round_down(size) {
         // the bin is empty neither before nor after, so the masks stay
+        let after = tables.older(gone, count);
         let newest = link_to(name);
         tables.set_head(class, newest, count);
         tables.set_links(name, no_link(), after, count);
         link_newer(tables, after, newest, count);
     } else {
-        leave(tables, top_mask, gone, before, after, size, count);
+        leave(tables, top_mask, gone, before, size, count);
         push(tables, top_mask, name, class, count);
     }
 }

@@ -1,7 +1,10 @@
 use Rattle.std.proofs.Common.{◌≡◌, ◌≢◌, ◌∙◌, arith, refl, slice_index}
-use Rattle.offset_allocator.proofs.Binned.{newer_in, older_in, is_first, is_later, later_masked, left, binned, clauses}
+use Rattle.offset_allocator.proofs.Binned.{below, newer_in, older_in, is_first, is_later, later_masked, left, binned, clauses}
 use Rattle.offset_allocator.proofs.Classes.{down_small}
 use Rattle.offset_allocator.proofs.bins.leave.Goals as goal
+
+pub older-after-requires : goal.older-after-requires
+older-after-requires g c = omega (arith, below c.requires.held.linked _ (down_small c.args.size) _ c.requires.listed, c.requires.held.linked.older_len)
 
 -- the newest name
 pub behead-requires-clause-classed : goal.behead-requires-clause-classed
@@ -15,7 +18,7 @@ behead-requires-clause-full g c =
 pub behead-requires-clause-after : goal.behead-requires-clause-after
 behead-requires-clause-after g c =
     let z : slice_index c.args.tables.now.links.newer c.args.name ≡ g.NI.NodeIndex.MAX = omega (arith, c.requires.before) in
-    rw (c.uint_to_float_round_down.ensures.is, (is_first c.requires.held.linked _ (down_small c.args.size) _ c.requires.listed z).1) c.requires.after
+    rw (c.uint_to_float_round_down.ensures.is, (is_first c.requires.held.linked _ (down_small c.args.size) _ c.requires.listed z).1) c.older-after.ensures.cell
 
 pub returns-then-number-MAX-clause-lists : goal.returns-then-number-MAX-clause-lists
 returns-then-number-MAX-clause-lists g c =
@@ -24,7 +27,7 @@ returns-then-number-MAX-clause-lists g c =
 
 -- a later name
 pub link_newer-requires-clause-named : goal.link_newer-requires-clause-named
-link_newer-requires-clause-named g c n = rw c.requires.after (older_in c.requires.held.linked _ (down_small c.args.size) _ c.requires.listed (λ e. n (c.requires.after ∙ e)))
+link_newer-requires-clause-named g c n = rw c.older-after.ensures.cell (older_in c.requires.held.linked _ (down_small c.args.size) _ c.requires.listed (λ e. n (c.older-after.ensures.cell ∙ e)))
 
 pub set_older-requires : goal.set_older-requires
 set_older-requires g c =
@@ -36,6 +39,6 @@ returns-else-number-MAX g c =
     let k = c.requires.held.linked in
     let n : slice_index c.args.tables.now.links.newer c.args.name ≢ g.NI.NodeIndex.MAX = λ e. absurd (omega (arith, c.requires.before)) in
     let e = rw c.link_newer.ensures.cells at c.set_older.ensures.cells in
-    clauses (binned (left k _ (down_small c.args.size) c.set_older.new.self.links _ _ _ (is_later k _ (down_small c.args.size) _ c.requires.listed n) c.requires.before c.requires.after
+    clauses (binned (left k _ (down_small c.args.size) c.set_older.new.self.links _ _ _ (is_later k _ (down_small c.args.size) _ c.requires.listed n) c.requires.before c.older-after.ensures.cell
     (rw e) (rw (e, c.number-else-number-MAX.ensures.number)) (rw e))
     (rw e (later_masked k _ (down_small c.args.size) _ c.requires.listed n c.requires.held.masked))) (rw e) (omega arith) (omega arith)
