@@ -1,6 +1,6 @@
 -- What each call leaves of the ranges of live handles.
 use Rattle.std.proofs.Common.{◌≡◌, ◌≢◌, ℕ, IfSome, zero, suc, ◌+◌, ◌≤◌, Bool, true, false, ◌&&◌, List, [], ◌∷◌, ◌++◌, Option, Some, None, nat_eq, if◌then◌else◌, refl, sym, ap, subst, ◌∙◌, inl, inr, arith, append_assoc, add-zero, add_assoc, eq-eqb, ne_eqb}
-use Rattle.std.proofs.lemmas.Bool.{false≢true}
+use Rattle.std.proofs.lemmas.Bool.{false≢true, and_right}
 use Rattle.offset_allocator.specs.Named.{Block, View, Place, Grant, one, units, count_named, used_block, free_block, free_part, IsWellFormed, place_of}
 use Rattle.offset_allocator.specs.Ranges.{Range, range_of, AreDisjoint, Grants, KeepsAll, KeepsOthers, KeepsRanges}
 use Rattle.offset_allocator.specs.Relations.{SameSpace, Splits, Frees, Adds}
@@ -39,12 +39,8 @@ unfolding HasNone
 none_named x [] e = tt
 none_named x (b ∷ bs) e = elim (hit_cases x b.name) [
   | inl h ↦ absurd (let k = h.1 in omega arith)
-  | inr n ↦ (ap (λ t. b.used && t) (ne_eqb x b.name n.0) ∙ and_false b.used, none_named x bs (let k = n.1 in omega arith))
+  | inr n ↦ (ap (λ t. b.used && t) (ne_eqb x b.name n.0) ∙ and_right b.used false refl, none_named x bs (let k = n.1 in omega arith))
 ]
-  where
-    and_false : (u : Bool) → (u && false) ≡ false
-    and_false true = refl
-    and_false false = refl
 
 none_free : (x y n : ℕ) → HasNone x (free_part y n)
 unfolding HasNone
@@ -229,11 +225,7 @@ module _ {needed n : ℕ} {padding_at : ℕ → ℕ} {v w : View} {g : Grant} (s
 -- a release
 none_beside : (x y : ℕ) → y ≢ x → (b : Block) → x ≡ b.name → HasNone y (b ∷ [])
 unfolding HasNone
-none_beside x y d b e = (ap (λ t. b.used && t) (ne_eqb y b.name (λ k. d (k ∙ sym e))) ∙ right b.used, tt)
-  where
-    right : (u : Bool) → (u && false) ≡ false
-    right true = refl
-    right false = refl
+none_beside x y d b e = (ap (λ t. b.used && t) (ne_eqb y b.name (λ k. d (k ∙ sym e))) ∙ and_right b.used false refl, tt)
 
 none_idle_all : (x : ℕ) (bs : List Block) → AllByRecursion (λ b. b.used ≡ false) bs → HasNone x bs
 unfolding HasNone

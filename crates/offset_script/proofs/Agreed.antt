@@ -282,12 +282,8 @@ module _ (v : View) (kept_name : ℕ → Option ℕ) (s : State) (w : IsWellForm
       large : Bool → machine.Outcome
       large b = if b then returns_only s machine.Refused else machine.request s 2 (n + align - 1) n (padding_to align)
 
-      short : (b : Bool) → returns_only s machine.Refused ≡ (if b then returns_only s machine.Refused else returns_only s machine.Refused)
-      short true = refl
-      short false = refl
-
       go : (b : Bool) → nat_lt max_size (n + align - 1) ≡ b → large b ≡ machine.request s 2 (n + align - 1) n (padding_to align)
-      go true e = short (machine.is_short_of 2 s) ∙ ap (λ (o : Option machine.Place). if machine.is_short_of 2 s then returns_only s machine.Refused else machine.grant_or_refuse s n (padding_to align) o) (sym (too_large (n + align - 1) (ltb-true max_size (n + align - 1) e) (chosen_place (n + align - 1) s.blocks) refl))
+      go true e = elim (machine.is_short_of 2 s) as (λ b. returns_only s machine.Refused ≡ (if b then returns_only s machine.Refused else returns_only s machine.Refused)) [ true ↦ refl | false ↦ refl ] ∙ ap (λ (o : Option machine.Place). if machine.is_short_of 2 s then returns_only s machine.Refused else machine.grant_or_refuse s n (padding_to align) o) (sym (too_large (n + align - 1) (ltb-true max_size (n + align - 1) e) (chosen_place (n + align - 1) s.blocks) refl))
       go false e = refl
 
   pub aligned_agrees : (n align : ℕ) → 1 ≤ align → (u : View) → IsWellFormed u → (r : Option Grant) → Serves (blocks_needed align) (units_needed n align) n (padding_to align) v u r → Matches u kept_name s.grants r (step (command.Align n align) s)
@@ -461,11 +457,8 @@ module _ (v : View) (kept_name : ℕ → Option ℕ) (s : State) (w : IsWellForm
   same_sizes = ap machine.free_sizes g.state ∙ free_sizes_labels g.labels ∙ sym (ap named.free_sizes g.view)
 
   pub report_agrees : (step command.Report s).answer ≡ machine.Report (named.total_free v) (named.largest_free v)
-  report_agrees = ap₂ (λ (b : Bool) ns. if b then machine.Report 0 0 else machine.Report (sum ns) (largest ns)) (ap₂ (λ m n. nat_le m (n + 1)) g.limit (sym same_length)) same_sizes ∙ both_ways (named.is_full v)
-    where
-      both_ways : (b : Bool) → (if b then machine.Report 0 0 else machine.Report (sum (named.free_sizes v.blocks)) (largest (named.free_sizes v.blocks))) ≡ machine.Report (if b then 0 else sum (named.free_sizes v.blocks)) (if b then 0 else largest (named.free_sizes v.blocks))
-      both_ways true = refl
-      both_ways false = refl
+  report_agrees = ap₂ (λ (b : Bool) ns. if b then machine.Report 0 0 else machine.Report (sum ns) (largest ns)) (ap₂ (λ m n. nat_le m (n + 1)) g.limit (sym same_length)) same_sizes
+      ∙ elim (named.is_full v) as (λ b. (if b then machine.Report 0 0 else machine.Report (sum (named.free_sizes v.blocks)) (largest (named.free_sizes v.blocks))) ≡ machine.Report (if b then 0 else sum (named.free_sizes v.blocks)) (if b then 0 else largest (named.free_sizes v.blocks))) [ true ↦ refl | false ↦ refl ]
 
   pub full_agrees : (step command.Full s).answer ≡ machine.Full (rows_below 256 (named.free_sizes v.blocks))
   full_agrees = ap (λ ns. machine.Full (rows_below 256 ns)) same_sizes

@@ -1,7 +1,7 @@
 -- Releases in a row leave the same space in any order.
 use Rattle.std.proofs.Common.{◌≡◌, ℕ, zero, suc, ◌+◌, ◌-◌, Bool, true, false, ◌&&◌, ◌||◌, ◌≤◌, List, [], ◌∷◌, ◌++◌, sum, Option, Some, None, is_some, nat_eq, nat_lt, nat_le, if◌then◌else◌, refl, sym, ap, ap₂, subst, subst₂, ◌∙◌, arith, eq-eqb, eqb-true, append_assoc}
 use Rattle.std.proofs.lemmas.List.{map-append}
-use Rattle.std.proofs.lemmas.Bool.{true≢false, false≢true}
+use Rattle.std.proofs.lemmas.Bool.{true≢false, false≢true, false_from_ne_true}
 use Rattle.offset_script.specs.declared.scripts.Command.{Command}
 use Rattle.offset_script.specs.declared.scripts.Command.TheVariants as command
 use Rattle.offset_allocator.specs.Classes.{up, down}
@@ -84,22 +84,14 @@ stays ks n (Live j) bs h a = ap (λ b. if b then widen n (outline bs) else (n, S
 stays ks n (Free s) bs h a = widen_apart n bs a
 
 not_among : (ks : List ℕ) (b : Block) (bs : List Block) → ((j : ℕ) → list_any (nat_eq j) ks ≡ true → count (Live j) (b ∷ bs) ≡ 0) → (j : ℕ) → b.tag ≡ Live j → list_any (nat_eq j) ks ≡ false
-not_among ks b bs h j e = go (list_any (nat_eq j) ks) refl
-  where
-    go : (x : Bool) → list_any (nat_eq j) ks ≡ x → x ≡ false
-    go true f = absurd (no_hit b.tag j e (count (Live j) bs) (h j f))
-    go false f = refl
+not_among ks b bs h j e = false_from_ne_true (list_any (nat_eq j) ks) (λ f. no_hit b.tag j e (count (Live j) bs) (h j f))
 
 unchanged : (ks : List ℕ) (bs : List Block) → Apart bs → ((j : ℕ) → list_any (nat_eq j) ks ≡ true → count (Live j) bs ≡ 0) → collapse ks (outline bs) ≡ outline bs
 unchanged ks [] a h = refl
 unchanged ks (b ∷ bs) a h = ap (collapse_block ks b.size (holder b.tag)) (unchanged ks bs a.1 (λ j e. let z = h j e in omega arith)) ∙ stays ks b.size b.tag bs (not_among ks b bs h) a.0
 
--- a release
-only_k : (k j : ℕ) → list_any (nat_eq j) (k ∷ []) ≡ true → j ≡ k
-only_k k j e = eqb-true j k (sym (or_nothing (nat_eq j k)) ∙ e)
-
 none_of : (k : ℕ) (bs : List Block) → count (Live k) bs ≡ 0 → (j : ℕ) → list_any (nat_eq j) (k ∷ []) ≡ true → count (Live j) bs ≡ 0
-none_of k bs z j e = subst (λ x. count (Live x) bs ≡ 0) (sym (only_k k j e)) z
+none_of k bs z j e = subst (λ x. count (Live x) bs ≡ 0) (sym (eqb-true j k (sym (or_nothing (nat_eq j k)) ∙ e))) z
 
 free_holder : (t : Tag) → is_free t ≡ true → holder t ≡ None
 free_holder (Live j) e = absurd (false≢true e)

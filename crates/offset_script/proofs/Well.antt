@@ -316,10 +316,6 @@ ChosenAt : ℕ → List Block → Option Place → Type 0
 ChosenAt n bs None = (c : Block) → In c bs → fits n c ≡ false
 ChosenAt n bs (Some p) = (bs ≡ whole p) × (fits n p.block ≡ true) × IsBest n bs p.block
 
--- the order in which blocks are chosen
-taken_irreflexive : (b : Block) → is_taken_before b b ≡ false
-taken_irreflexive b = grind (arith, nat_tests)
-
 order_transitive : (x y z s t u : ℕ) → (nat_lt x y || (nat_eq x y && nat_lt t s)) ≡ false → (nat_lt z y || (nat_eq z y && nat_lt t u)) ≡ true → (nat_lt x z || (nat_eq x z && nat_lt u s)) ≡ false
 order_transitive x y z s t u f g = grind (arith, nat_tests)
 
@@ -327,7 +323,7 @@ taken_transitive : (a b c : Block) → is_taken_before a b ≡ false → is_take
 taken_transitive a b c f g = order_transitive (down a.size) (down b.size) (down c.size) (stamp a.tag) (stamp b.tag) (stamp c.tag) f g
 
 chosen_here : (n : ℕ) (b : Block) (bs : List Block) → fits n b ≡ true → ((c : Block) → In c bs → fits n c ≡ true → is_taken_before c b ≡ false) → IsBest n (b ∷ bs) b
-chosen_here n b bs f best c (inl e) g = subst (λ (x : Block). is_taken_before x b ≡ false) (sym e) (taken_irreflexive b)
+chosen_here n b bs f best c (inl e) g = subst (λ (x : Block). is_taken_before x b ≡ false) (sym e) (grind (arith, nat_tests))
 chosen_here n b bs f best c (inr i) g = best c i g
 
 chosen_prepend : (n : ℕ) (b : Block) (bs : List Block) (d : Block) → (fits n b && is_taken_before b d) ≡ false → IsBest n bs d → IsBest n (b ∷ bs) d

@@ -1,7 +1,5 @@
-use Rattle.std.proofs.Common.{◌≡◌, arith, take, length, sym, ◌∙◌}
-use Rattle.std.proofs.lemmas.List.{take_all}
+use Rattle.std.proofs.Common.{◌≡◌, arith, take, length, sym, ◌∙◌, take_all, eqb-true}
 use Rattle.offset_script.proofs.Numbers.{is_empty, is_long, has_other, is_read, goes_on_digits, goes_on_value, goes_on_small, above_zero}
-use Rattle.std.proofs.lemmas.Bool.{eqb-true}
 use Rattle.offset_script.proofs.tokens.number.Goals as goal
 use Rattle.offset_script.proofs.tokens.number.Goals.{then-is_empty-via-then-is_empty, then-is_empty-via-else-is_empty+then-word-gt-MOST_DIGITS}
 
