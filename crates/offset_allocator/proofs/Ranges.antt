@@ -17,7 +17,7 @@ range_from x offset [] = None
 range_from x offset (b ∷ bs) = if b.used && nat_eq x b.name then Some (record { offset = offset; size = b.size }) else range_from x (offset + b.size) bs
 
 -- no used block of these is named x
-HasNone : ℕ → List Block → Type 0
+abbrev HasNone : ℕ → List Block → Type 0
 HasNone x [] = Unit {0}
 HasNone x (b ∷ bs) = ((b.used && nat_eq x b.name) ≡ false) × HasNone x bs
 
@@ -25,7 +25,6 @@ pass : (x offset : ℕ) (b : Block) (bs : List Block) → (b.used && nat_eq x b.
 pass x offset b bs e = ap (λ (t : Bool). if t then Some (record { offset = offset; size = b.size }) else range_from x (offset + b.size) bs) e
 
 past : (x offset : ℕ) (bs cs : List Block) → HasNone x bs → range_from x offset (bs ++ cs) ≡ range_from x (offset + units bs) cs
-unfolding HasNone
 past x offset [] cs h = rw (add-zero offset)
 past x offset (b ∷ bs) cs h = pass x offset b (bs ++ cs) h.0 ∙ past x (offset + b.size) bs cs h.1 ∙ rw (add_assoc offset b.size (units bs)) refl
 
@@ -35,7 +34,6 @@ swapped x offset [] old new cs e h k = past x offset new cs k ∙ ap (λ n. rang
 swapped x offset (f ∷ fs) old new cs e h k = ap (λ r. if f.used && nat_eq x f.name then Some (record { offset = offset; size = f.size }) else r) (swapped x (offset + f.size) fs old new cs e h k)
 
 none_named : (x : ℕ) (bs : List Block) → count_named x bs ≡ 0 → HasNone x bs
-unfolding HasNone
 none_named x [] e = tt
 none_named x (b ∷ bs) e = elim (hit_cases x b.name) [
   | inl h ↦ absurd (let k = h.1 in omega arith)
@@ -43,16 +41,13 @@ none_named x (b ∷ bs) e = elim (hit_cases x b.name) [
 ]
 
 none_free : (x y n : ℕ) → HasNone x (free_part y n)
-unfolding HasNone
 none_free x y zero = tt
 none_free x y (suc n) = (refl, tt)
 
 none_other : (x y n : ℕ) → x ≢ y → HasNone x (used_block y n ∷ [])
-unfolding HasNone
 none_other x y n d = (ne_eqb x y d, tt)
 
 none_append : (x : ℕ) (bs cs : List Block) → HasNone x bs → HasNone x cs → HasNone x (bs ++ cs)
-unfolding HasNone
 none_append x [] cs h k = k
 none_append x (b ∷ bs) cs h k = (h.0, none_append x bs cs h.1 k)
 
@@ -65,12 +60,10 @@ beside x before b after e most = elim (hit_cases x b.name) [
 
 -- a name that no used block of these has
 nothing : (x offset : ℕ) (bs : List Block) → HasNone x bs → range_from x offset bs ≡ None
-unfolding HasNone
 nothing x offset [] h = refl
 nothing x offset (b ∷ bs) h = pass x offset b bs h.0 ∙ nothing x (offset + b.size) bs h.1
 
 none_idle : (x : ℕ) (b : Block) → b.used ≡ false → HasNone x (b ∷ [])
-unfolding HasNone
 none_idle x b e = (ap (λ (u : Bool). u && nat_eq x b.name) e, tt)
 
 -- a used block, found
@@ -224,11 +217,9 @@ module _ {needed n : ℕ} {padding_at : ℕ → ℕ} {v w : View} {g : Grant} (s
 
 -- a release
 none_beside : (x y : ℕ) → y ≢ x → (b : Block) → x ≡ b.name → HasNone y (b ∷ [])
-unfolding HasNone
 none_beside x y d b e = (ap (λ t. b.used && t) (ne_eqb y b.name (λ k. d (k ∙ sym e))) ∙ and_right b.used false refl, tt)
 
 none_idle_all : (x : ℕ) (bs : List Block) → AllByRecursion (λ b. b.used ≡ false) bs → HasNone x bs
-unfolding HasNone
 none_idle_all x [] i = tt
 none_idle_all x (b ∷ bs) i = (ap (λ (u : Bool). u && nat_eq x b.name) i.0, none_idle_all x bs i.1)
 

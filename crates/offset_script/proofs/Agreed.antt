@@ -53,22 +53,19 @@ pub agrees_quiet : (v : View) (kept_name : ℕ → Option ℕ) (s : State) → A
 agrees_quiet v kept_name s g a = record { labels = g.labels; view = g.view; state = g.state; limit = g.limit; newest = g.newest; handles = g.handles }
 
 -- the labels of a grant
-free_labels : ℕ → ℕ → ℕ → List Label
+abbrev free_labels : ℕ → ℕ → ℕ → List Label
 free_labels x zero s = []
 free_labels x (suc n) s = record { name = x; size = suc n; tag = Free s } ∷ []
 
 names_free_labels : (x n s : ℕ) → names (free_labels x n s) ≡ free_part x n
-unfolding free_labels
 names_free_labels x zero s = refl
 names_free_labels x (suc n) s = refl
 
 tags_free_labels : (x n s : ℕ) → tags (free_labels x n s) ≡ machine.free_block n s
-unfolding free_labels
 tags_free_labels x zero s = refl
 tags_free_labels x (suc n) s = refl
 
 name_free_labels : (k x n s : ℕ) → name_of k (free_labels x n s) ≡ None
-unfolding free_labels
 name_free_labels k x zero s = refl
 name_free_labels k x (suc n) s = refl
 
@@ -93,12 +90,10 @@ name_new j front padding x n k rest left t =
     ∙ ap (λ o. if nat_eq j k then Some x else o) (name_free_labels j rest left (t + 1))
 
 rises_remainder : (x n t u : ℕ) → t ≤ u → Rises t (free_labels x n u)
-unfolding free_labels
 rises_remainder x zero t u l = tt
 rises_remainder x (suc n) t u l = (λ e. absurd (true≢false e), λ e. (l, tt))
 
 rises_new : (front padding x n k rest left t : ℕ) → Rises t (new_labels front padding x n k rest left t)
-unfolding free_labels
 rises_new front zero x n k rest left t = (λ e. rises_remainder rest left t (t + 1) (omega arith), λ e. absurd (false≢true e))
 rises_new front (suc padding) x n k rest left t = (λ e. absurd (true≢false e), λ e. (omega arith, (λ e. rises_remainder rest left (t + 1) (t + 1) (omega arith), λ e. absurd (false≢true e))))
 

@@ -273,7 +273,7 @@ well_leaves s w bs a some room apart counts = well_next s (leaves s bs a).state 
     fresh (Free x) = elim (hit_cases x (stamp_of_call s)) [ inl e ↦ inr (e.1, λ o. absurd (omega arith), omega arith) | inr e ↦ inl e.1 ]
 
 -- what is found
-FoundAt : ℕ → List Block → Option Place → Type 0
+abbrev FoundAt : ℕ → List Block → Option Place → Type 0
 FoundAt k bs None = count (Live k) bs ≡ 0
 FoundAt k bs (Some p) = (bs ≡ whole p) × (has_number k p.block.tag ≡ true) × (count (Live k) p.before ≡ 0)
 
@@ -282,19 +282,16 @@ number_hit k (Live j) = refl
 number_hit k (Free s) = refl
 
 found_step : (k : ℕ) (b : Block) (bs : List Block) (o : Option Place) → FoundAt k bs o → (x : Bool) → has_number k b.tag ≡ x → FoundAt k (b ∷ bs) (if x then Some (here b bs) else option_map (prepend b) o)
-unfolding FoundAt
 found_step k b bs o f true e = (refl, e, refl)
 found_step k b bs None f false e = let h : hit (Live k) b.tag ≡ 0 = number_hit k b.tag ∙ ap one e in omega arith
 found_step k b bs (Some p) f false e = let h : hit (Live k) b.tag ≡ 0 = number_hit k b.tag ∙ ap one e in (ap (λ l. b ∷ l) f.0, f.1, omega arith)
 
 found_all : (k : ℕ) (bs : List Block) → FoundAt k bs (place_of k bs)
-unfolding FoundAt
 found_all k [] = refl
 found_all k (b ∷ bs) = found_step k b bs (place_of k bs) (found_all k bs) (has_number k b.tag) refl
 
 -- where a grant is found, its block is in the list
 pub found_at : (k : ℕ) (bs : List Block) (p : Place) → place_of k bs ≡ Some p → (bs ≡ whole p) × (has_number k p.block.tag ≡ true) × (count (Live k) p.before ≡ 0)
-unfolding FoundAt
 found_at k bs p e = subst (FoundAt k bs) e (found_all k bs)
 
 -- a grant is found where its number does not occur before
@@ -304,7 +301,6 @@ place_at k (x ∷ xs) b ys c e = ap (λ t. if t then Some (here x (xs ++ b ∷ y
 
 -- where a grant is not found, no block has its number
 pub not_found : (k : ℕ) (bs : List Block) → place_of k bs ≡ None → count (Live k) bs ≡ 0
-unfolding FoundAt
 not_found k bs e = subst (FoundAt k bs) e (found_all k bs)
 
 -- no block that fits is chosen over this one
@@ -312,7 +308,7 @@ abbrev pub IsBest : ℕ → List Block → Block → Type 0
 IsBest n bs b = (c : Block) → In c bs → fits n c ≡ true → is_taken_before c b ≡ false
 
 -- what was chosen is the best that fits, and where nothing was, nothing fits
-ChosenAt : ℕ → List Block → Option Place → Type 0
+abbrev ChosenAt : ℕ → List Block → Option Place → Type 0
 ChosenAt n bs None = (c : Block) → In c bs → fits n c ≡ false
 ChosenAt n bs (Some p) = (bs ≡ whole p) × (fits n p.block ≡ true) × IsBest n bs p.block
 
@@ -331,7 +327,6 @@ chosen_prepend n b bs d f best c (inl e) g = subst (λ (x : Block). is_taken_bef
 chosen_prepend n b bs d f best c (inr i) g = best c i g
 
 choose_none : (n : ℕ) (b : Block) (bs : List Block) → ((c : Block) → In c bs → fits n c ≡ false) → (x : Bool) → fits n b ≡ x → ChosenAt n (b ∷ bs) (if x then Some (here b bs) else None)
-unfolding ChosenAt
 choose_none n b bs h true e = (refl, e, chosen_here n b bs e (λ c i g. absurd (true≢false (sym g ∙ h c i))))
 choose_none n b bs h false e = λ c i. none c i
   where
@@ -340,27 +335,23 @@ choose_none n b bs h false e = λ c i. none c i
     none c (inr i) = h c i
 
 choose_some : (n : ℕ) (b : Block) (bs : List Block) (p : Place) → ChosenAt n bs (Some p) → (x : Bool) → (fits n b && is_taken_before b p.block) ≡ x → ChosenAt n (b ∷ bs) (if x then Some (here b bs) else Some (prepend b p))
-unfolding ChosenAt
 choose_some n b bs p h true e = (refl, (and_parts _ _ e).0, chosen_here n b bs (and_parts _ _ e).0 (λ c i g. taken_transitive c p.block b (h.2 c i g) (and_parts _ _ e).1))
 choose_some n b bs p h false e = (ap (λ l. b ∷ l) h.0, h.1, chosen_prepend n b bs p.block e h.2)
 
 choose_step : (n : ℕ) (b : Block) (bs : List Block) (o : Option Place) → ChosenAt n bs o → ChosenAt n (b ∷ bs) (choose n b bs o)
-choose_step n b bs None h = choose_none n b bs (unfold ChosenAt in h) (fits n b) refl
+choose_step n b bs None h = choose_none n b bs h (fits n b) refl
 choose_step n b bs (Some p) h = choose_some n b bs p h _ refl
 
 chosen_all : (n : ℕ) (bs : List Block) → ChosenAt n bs (chosen_place n bs)
-unfolding ChosenAt
 chosen_all n [] = λ c i. absurd i
 chosen_all n (b ∷ bs) = choose_step n b bs (chosen_place n bs) (chosen_all n bs)
 
 -- a chosen place is one of the list, fits, and is the newest of the smallest class that fits
 pub chosen_at : (n : ℕ) (bs : List Block) (p : Place) → chosen_place n bs ≡ Some p → (bs ≡ whole p) × (fits n p.block ≡ true) × IsBest n bs p.block
-unfolding ChosenAt
 chosen_at n bs p e = subst (ChosenAt n bs) e (chosen_all n bs)
 
 -- where nothing is chosen, nothing fits
 pub not_chosen : (n : ℕ) (bs : List Block) → chosen_place n bs ≡ None → (c : Block) → In c bs → fits n c ≡ false
-unfolding ChosenAt
 not_chosen n bs e = subst (ChosenAt n bs) e (chosen_all n bs)
 
 -- a grant
