@@ -44,9 +44,6 @@ none_free : (x y n : ℕ) → HasNone x (free_part y n)
 none_free x y zero = tt
 none_free x y (suc n) = (refl, tt)
 
-none_other : (x y n : ℕ) → x ≢ y → HasNone x (used_block y n ∷ [])
-none_other x y n d = (ne_eqb x y d, tt)
-
 none_append : (x : ℕ) (bs cs : List Block) → HasNone x bs → HasNone x cs → HasNone x (bs ++ cs)
 none_append x [] cs h k = k
 none_append x (b ∷ bs) cs h k = (h.0, none_append x bs cs h.1 k)
@@ -148,14 +145,10 @@ given_back x v w z fresh kept others y r e = elim (hit_cases y x) [
   | inr h ↦ others y h.0 ∙ kept y r e
 ]
 
--- a grant leaves every live range where it was
-pub grants_keep : (n : ℕ) (v w : View) (g : Grant) → Grants n v w g → KeepsRanges v w
-grants_keep n v w g h = given_back g.name v v w h.not_live (λ x r e. e) h.others
-
 -- and a refusal too
 pub call_keeps : (n : ℕ) (v w : View) (o : Option Grant) → IfSome o (Grants n v w) → (o ≡ None → SameSpace v w) → KeepsRanges v w
 call_keeps n v w None h same = λ x r e. ap (range_of x) (same refl) ∙ e
-call_keeps n v w (Some g) h same = grants_keep n v w g h
+call_keeps n v w (Some g) h same = given_back g.name v v w h.not_live (λ x r e. e) h.others
 
 -- a grant has its units, in the space, where no live range is
 module _ {needed n : ℕ} {padding_at : ℕ → ℕ} {v w : View} {g : Grant} (s : Splits needed n padding_at v w g) (f : IsWellFormed v) (after : IsWellFormed w) where
@@ -200,7 +193,7 @@ module _ {needed n : ℕ} {padding_at : ℕ → ℕ} {v w : View} {g : Grant} (s
   others y d =
       ranged y
       ∙ swapped y 0 s.before (s.block ∷ []) new s.after same_units (none_idle y s.block s.free)
-      (none_append y padding _ (none_free y s.padding_name s.padding) (none_append y (used_block x n ∷ []) remainder (none_other y x n d) (none_free y s.remainder_name s.remainder)))
+      (none_append y padding _ (none_free y s.padding_name s.padding) (none_append y (used_block x n ∷ []) remainder ((ne_eqb y x d, tt)) (none_free y s.remainder_name s.remainder)))
       ∙ sym (ap (range_from y 0) s.blocks) ∙ sym (range_is y v f)
 
   pub split_grants : Grants n v w g
@@ -214,10 +207,6 @@ module _ {needed n : ℕ} {padding_at : ℕ → ℕ} {v w : View} {g : Grant} (s
     ];
     others = others;
   })
-
--- a release
-none_beside : (x y : ℕ) → y ≢ x → (b : Block) → x ≡ b.name → HasNone y (b ∷ [])
-none_beside x y d b e = (ap (λ t. b.used && t) (ne_eqb y b.name (λ k. d (k ∙ sym e))) ∙ and_right b.used false refl, tt)
 
 none_idle_all : (x : ℕ) (bs : List Block) → AllByRecursion (λ b. b.used ≡ false) bs → HasNone x bs
 none_idle_all x [] i = tt
@@ -246,7 +235,7 @@ module _ (x : ℕ) (v w : View) (k : IsWellFormed v) (after : IsWellFormed w) (f
       let idle = idle_parts f.left f.right f.free in
       remade y
       ∙ swapped y 0 f.before old (freed ∷ []) f.after (omega arith)
-      (none_append y f.left (f.block ∷ f.right) (none_idle_all y f.left idle.0) (none_append y (f.block ∷ []) f.right (none_beside x y d f.block (sym f.named)) (none_idle_all y f.right idle.1)))
+      (none_append y f.left (f.block ∷ f.right) (none_idle_all y f.left idle.0) (none_append y (f.block ∷ []) f.right ((ap (λ t. f.block.used && t) (ne_eqb y f.block.name (λ k. d (k ∙ sym (sym f.named)))) ∙ and_right f.block.used false refl, tt)) (none_idle_all y f.right idle.1)))
       (none_idle y freed refl)
       ∙ sym (ap (range_from y 0) f.blocks) ∙ sym (range_is y v k)
 

@@ -44,9 +44,6 @@ orders_back : (x n : ℕ) (order : List (List ℕ)) → length order ≡ 256 →
 orders_back x zero order h e = refl
 orders_back x (suc n) order h e = remove_put (down (suc n)) x order h (down_small (suc n)) (e (omega arith))
 
-free_is : (b : Block) → b.used ≡ false → b ≡ free_block b.name b.size
-free_is b f = ap (λ (u : Bool). record { name = b.name; size = b.size; used = u }) f
-
 -- a name of a well-formed space is at one place
 one_place : (v : View) → IsWellFormed v → (x : ℕ) (fs gs cs ds : List Block) (b d : Block) → v.blocks ≡ fs ++ (b ∷ cs) → v.blocks ≡ gs ++ (d ∷ ds) → b.name ≡ x → d.name ≡ x → (fs ≡ gs) × (b ≡ d) × (cs ≡ ds)
 one_place v w x fs gs cs ds b d e f p q =
@@ -73,7 +70,7 @@ module _ (n : ℕ) (v w u : View) (g : Grant) (known : IsWellFormed v) (left : I
   named = ap (λ (h : Grant). h.name) s.grant
 
   old : s.block ≡ free_block x size
-  old = free_is s.block s.free
+  old = ap (λ (u : Bool). record { name = s.block.name; size = s.block.size; used = u }) s.free
 
   -- what the grant leaves
   split : w ≡ record v { blocks = s.before ++ (used_block x n ∷ (remainder ++ s.after)); order = push_all remainder order; accesses = w.accesses }
