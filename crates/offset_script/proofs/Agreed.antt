@@ -1,5 +1,6 @@
 -- What each call of the allocator leaves agrees with what the plain machine leaves, and the answers are the same.
 use Rattle.std.proofs.Common.{◌≡◌, ℕ, zero, suc, ◌+◌, ◌-◌, ◌<◌, ◌≤◌, Bool, true, false, not, ◌&&◌, ◌||◌, ◌⊎◌, List, [], ◌∷◌, ◌++◌, replicate, length, sum, Option, Some, None, nat_eq, nat_lt, nat_le, if◌then◌else◌, refl, sym, ap, ap₂, subst, subst₂, ◌∙◌, inl, inr, arith, eq-eqb, ne_eqb, le-leb, le-ltb, leb-false, append_assoc, append-nil}
+use Rattle.offset_script.proofs.Tests.{same_some}
 use Rattle.std.specs.Option.{option_or}
 use Rattle.offset_allocator.proofs.ViewApart.{and_true}
 use Rattle.std.proofs.lemmas.Bool.{cases_eq, cases_lt, true≢false, false≢true, lt-leb, ltb-true, ltb-false, and_parts, and_right, or_parts, not-false}
@@ -22,8 +23,8 @@ use Rattle.offset_allocator.proofs.ViewOrders.{tally_append, names_same, names_o
 use Rattle.offset_allocator.proofs.Classes.{down_small, fits_size}
 use Rattle.offset_script.proofs.Members.{map_parts, map_first}
 use Rattle.offset_script.proofs.Labels.{names, tags, map_three, stamps_below, Rises, newest_replaced}
-use Rattle.offset_script.proofs.Chosen.{Spot, whole, place_at, named_spot, plain_spot, named_place, plain_place, some_same, IsLabelled, none_chosen, chosen, place_of_spot}
-use Rattle.offset_script.proofs.Ends.{AllFree, free_named, free_tagged, apart_tagged, ends_live_last, last_free, total_units, length_labels, free_sizes_labels, or_none, name_append, name_skip, name_free, name_none}
+use Rattle.offset_script.proofs.Chosen.{Spot, whole, place_at, named_spot, plain_spot, named_place, plain_place, IsLabelled, none_chosen, chosen, place_of_spot}
+use Rattle.offset_script.proofs.Ends.{AllFree, free_named, free_tagged, apart_tagged, ends_live_last, last_free, total_units, free_sizes_labels, or_none, name_append, name_skip, name_free, name_none}
 
 -- the answer to a request, when g grants were made before it
 abbrev pub answer_of : ℕ → Option Grant → Answer
@@ -203,7 +204,7 @@ module _ (v : View) (kept_name : ℕ → Option ℕ) (s : State) (w : IsWellForm
             ∙ sym (map-append by_tag before (l ∷ after))
 
   same_length : length v.blocks ≡ length s.blocks
-  same_length = ap length g.view ∙ sym (length_labels g.labels) ∙ sym (ap length g.state)
+  same_length = ap length g.view ∙ (length-map g.labels by_name ∙ sym (length-map g.labels by_tag)) ∙ sym (ap length g.state)
 
   pub same_units : units v.blocks ≡ total s.blocks
   same_units = ap units g.view ∙ sym (total_units g.labels) ∙ sym (ap total g.state)
@@ -350,7 +351,7 @@ module _ (v : View) (kept_name : ℕ → Option ℕ) (s : State) (w : IsWellForm
       place : named_place sp ≡ place_at (f.before ++ f.left) f.block (f.right ++ f.after)
       place =
           let r = named_spot g.labels (place_at (f.before ++ f.left) f.block (f.right ++ f.after)) (sym g.view ∙ whole_is) in
-          some_same (named_place sp) (named_place r.0) (sym l.named ∙ ap (λ y. place_of y v.blocks) (sym f.named ∙ sym (ap (λ (p : Place). p.block.name) r.2)) ∙ place_of_spot v w r.0 (g.view ∙ ap names r.1)) ∙ r.2
+          same_some (named_place sp) (named_place r.0) (sym l.named ∙ ap (λ y. place_of y v.blocks) (sym f.named ∙ sym (ap (λ (p : Place). p.block.name) r.2)) ∙ place_of_spot v w r.0 (g.view ∙ ap names r.1)) ∙ r.2
 
       front : (xs : List Label) × (ys : List Label) × (sp.before ≡ xs ++ ys) × (names xs ≡ f.before) × (names ys ≡ f.left)
       front = map_parts by_name sp.before f.before f.left (ap (λ (p : Place). p.before) place)
@@ -427,7 +428,7 @@ module _ (v : View) (kept_name : ℕ → Option ℕ) (s : State) (w : IsWellForm
       go : (b : Bool) → machine.ends_live s.blocks ≡ b → (b && machine.is_short_of 1 s) ≡ false → HasRoomFor 1 v ⊎ ((before : List Block) × (last : Block) × (v.blocks ≡ before ++ last ∷ []) × (last.used ≡ false))
       go true f h = inl (room_for 1 h)
       go false f h =
-          let r = last_free g.labels (let a = w.some in let b = ap length g.view in let c = length_labels g.labels in let d = length-map g.labels by_name in omega arith) (sym (ap machine.ends_live g.state) ∙ f) in
+          let r = last_free g.labels (let a = w.some in let b = ap length g.view in let d = length-map g.labels by_name in omega arith) (sym (ap machine.ends_live g.state) ∙ f) in
           inr (names r.0, by_name r.1, g.view ∙ ap names r.2 ∙ map-append by_name r.0 (r.1 ∷ []), ap not r.3)
 
   abbrev outcome : ℕ → Bool → machine.Outcome

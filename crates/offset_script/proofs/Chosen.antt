@@ -1,5 +1,7 @@
 -- The plain machine chooses the block that a grant splits: the newest of the smallest class that fits.
 use Rattle.std.proofs.Common.{◌≡◌, ◌≢◌, ℕ, ◌<◌, ◌≤◌, Bool, true, false, not, ◌&&◌, ◌||◌, List, [], ◌∷◌, ◌++◌, Option, Some, None, nat_eq, nat_lt, nat_le, refl, sym, ap, ap₂, subst, ◌∙◌, inl, inr, arith, eq-eqb, le-leb, lt-ltb, leb-true}
+use Rattle.offset_script.proofs.Tests.{same_some}
+use Rattle.offset_allocator.proofs.Rows.{one-same}
 use Rattle.std.proofs.lemmas.List.{map-append}
 use Rattle.std.proofs.lemmas.Bool.{cases_eq, cases_lt, true≢false, and_parts, not-false, or_right}
 use Rattle.offset_allocator.specs.Classes.{up, down}
@@ -66,10 +68,7 @@ pub record IsLabelled (v : View) (ls : List Label) : Type 0 where
 
 -- no block before a spot has its name
 pub alone_before : (v : View) → IsWellFormed v → (s : Spot) → v.blocks ≡ names (whole s) → count_named s.label.name (names s.before) ≡ 0
-alone_before v w s e = elim (hit_cases s.label.name s.label.name) [
-  | inl i ↦ omega (arith, i.1, w.distinct s.label.name, ap (count_named s.label.name) (e ∙ names_whole s), tally_append (λ (b : Block). one (nat_eq s.label.name b.name)) (names s.before) (by_name s.label ∷ names s.after))
-  | inr i ↦ absurd (i.0 refl)
-]
+alone_before v w s e = omega (arith, one-same s.label.name, w.distinct s.label.name, ap (count_named s.label.name) (e ∙ names_whole s), tally_append (λ (b : Block). one (nat_eq s.label.name b.name)) (names s.before) (by_name s.label ∷ names s.after))
 
 -- a spot is the place of its name
 pub place_of_spot : (v : View) → IsWellFormed v → (s : Spot) → v.blocks ≡ names (whole s) → place_of s.label.name v.blocks ≡ Some (named_place s)
@@ -90,9 +89,6 @@ spot_stamp v w s e = (gives_parts (λ x. stamp_of x (whole s)) s.before (s.label
 -- of two blocks of a class the newer is chosen
 newer_before : (a b : Label) → down a.size ≡ down b.size → stamp b.tag < stamp a.tag → is_taken_before (by_tag a) (by_tag b) ≡ true
 newer_before a b e l = rw (eq-eqb (down a.size) (down b.size) e, lt-ltb (stamp b.tag) (stamp a.tag) l) (or_right (nat_lt (down a.size) (down b.size)) true refl)
-
-pub some_same : (p q : Place) → ◌≡◌ {A = Option Place} (Some p) (Some q) → p ≡ q
-some_same p q e = cc
 
 module _ (v : View) (w : IsWellFormed v) (ls : List Label) (a : IsLabelled v ls) (n : ℕ) where
   -- the place that the machine chooses
@@ -183,7 +179,7 @@ module _ (v : View) (w : IsWellFormed v) (ls : List Label) (a : IsLabelled v ls)
             let l = chosen_spot p e in
             let best = (chosen_at n (tags ls) p e).2 (by_tag s.0.label) there fit in
             let name = same_name s.0 l.0 s.1 s.2 l.1 l.3 l.4 (ap (λ (q : plain.Place). is_taken_before (by_tag s.0.label) q.block) l.2 ∙ best) in
-            let same = some_same (named_place l.0) (named_place s.0) (sym (place_of_spot v w l.0 (a.view ∙ ap names l.1)) ∙ ap (λ x. place_of x v.blocks) (sym name) ∙ place_of_spot v w s.0 (a.view ∙ ap names s.1)) in
+            let same = same_some (named_place l.0) (named_place s.0) (sym (place_of_spot v w l.0 (a.view ∙ ap names l.1)) ∙ ap (λ x. place_of x v.blocks) (sym name) ∙ place_of_spot v w s.0 (a.view ∙ ap names s.1)) in
             record { spot = l.0; split = l.1; place = same ∙ s.2; free = l.3; is = e ∙ ap Some (sym l.2) }
 
     pub chosen : Choice

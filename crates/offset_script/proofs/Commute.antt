@@ -168,12 +168,8 @@ some_if true true p q = refl
 some_if true false p q = refl
 some_if false c p q = refl
 
-some_or_none : (b : Bool) (p : Place) → is_some (if b then Some p else None) ≡ (b || false)
-some_or_none true p = refl
-some_or_none false p = refl
-
 some_chosen : (n : ℕ) (b : Block) (bs : List Block) (o : Option Place) → is_some (choose n b bs o) ≡ (fits n b || is_some o)
-some_chosen n b bs None = some_or_none (fits n b) (here b bs)
+some_chosen n b bs None = elim (fits n b) as (λ x. is_some (if x then Some (here b bs) else None) ≡ (x || false)) [ true ↦ refl | false ↦ refl ]
 some_chosen n b bs (Some p) = some_if (fits n b) (is_taken_before b p.block) (here b bs) (prepend b p)
 
 some_same : (n : ℕ) (p : List Pair) → is_some (chosen_place n (lefts p)) ≡ is_some (chosen_place n (rights p))

@@ -51,11 +51,6 @@ pub total_units : (ls : List Label) → total (tags ls) ≡ units (names ls)
 total_units [] = refl
 total_units (l ∷ ls) = ap (λ n. l.size + n) (total_units ls)
 
--- the number of blocks
-pub length_labels : (ls : List Label) → length (tags ls) ≡ length (names ls)
-length_labels [] = refl
-length_labels (l ∷ ls) = ap suc (length_labels ls)
-
 -- the sizes of the free blocks
 pub free_sizes_labels : (ls : List Label) → plain.free_sizes (tags ls) ≡ named.free_sizes (names ls)
 free_sizes_labels [] = refl

@@ -1,5 +1,6 @@
 -- What holds of lists of blocks, and of every state that the machine reaches.
 use Rattle.std.proofs.Common.{◌≡◌, ◌≢◌, ℕ, zero, suc, ◌+◌, ◌-◌, ◌<◌, ◌≤◌, Bool, true, false, ◌&&◌, ◌||◌, ◌⊎◌, List, [], ◌∷◌, ◌++◌, length, Option, Some, None, option_map, nat_eq, nat_lt, nat_le, if◌then◌else◌, refl, sym, ap, ap₂, subst, ◌∙◌, inl, inr, arith, eq-eqb, ne_eqb, leb-false, length-append, append-nil}
+use Rattle.offset_allocator.proofs.Rows.{one-same}
 use Rattle.offset_allocator.proofs.ViewOrders.{hit_cases}
 use Rattle.offset_allocator.proofs.ViewApart.{left_false, right_false}
 use Rattle.std.proofs.lemmas.Bool.{cases_eq, cases_lt, true≢false, false≢true, and_parts, and_left, and_right, or_parts, and_cases, not-false}
@@ -74,8 +75,8 @@ count-append t [] ys = omega arith
 count-append t (b ∷ xs) ys = let ih = count-append t xs ys in omega (arith, ih)
 
 pub hit_self : (t : Tag) → hit t t ≡ 1
-hit_self (Live k) = elim (hit_cases k k) [ inl h ↦ h.1 | inr h ↦ absurd (h.0 refl) ]
-hit_self (Free s) = elim (hit_cases s s) [ inl h ↦ h.1 | inr h ↦ absurd (h.0 refl) ]
+hit_self (Live k) = one-same k
+hit_self (Free s) = one-same s
 
 -- the tag of a block that is in a list occurs there
 pub in_count : (c : Block) (bs : List Block) → In c bs → 1 ≤ count c.tag bs
@@ -355,13 +356,9 @@ pub not_chosen : (n : ℕ) (bs : List Block) → chosen_place n bs ≡ None → 
 not_chosen n bs e = subst (ChosenAt n bs) e (chosen_all n bs)
 
 -- a grant
-free_block_short : (n s : ℕ) → length (free_block n s) ≤ 1
-free_block_short zero s = omega arith
-free_block_short (suc n) s = omega arith
-
-pub free_part : (n s : ℕ) → AllFree (free_block n s) × Apart (free_block n s) × (total (free_block n s) ≡ n)
-free_part zero s = (tt, tt, refl)
-free_part (suc n) s = ((refl, tt), (refl, tt), omega arith)
+pub free_part : (n s : ℕ) → AllFree (free_block n s) × Apart (free_block n s) × (total (free_block n s) ≡ n) × (length (free_block n s) ≤ 1)
+free_part zero s = (tt, tt, refl, omega arith)
+free_part (suc n) s = ((refl, tt), (refl, tt), omega arith, omega arith)
 
 apart_free_block : (n s : ℕ) (ys : List Block) → Apart ys → starts_free ys ≡ false → Apart (free_block n s ++ ys)
 apart_free_block zero s ys a e = a
@@ -386,7 +383,7 @@ well_grant : (s : State) → Well s → (n padding : ℕ) (p : Place) → s.bloc
     → length (free_block padding (stamp_of_padding s)) + 1 ≤ spare → Well (grant s n padding p).state
 well_grant s w n padding p e f spare room enough = well_next s (grant s n padding p).state w (λ t. hit t (Free (stamp_of_padding s)) + (hit t (Live (s.grants + 1)) + hit t (Free (stamp_of_call s))))
     (λ t. omega (arith, count_granted t p n padding (stamp_of_padding s) (s.grants + 1) (stamp_of_call s), ap (count t) e)) fresh (omega arith) (omega arith)
-    (omega (arith, sizes)) (omega (arith, sizes, ap length e, length-append p.before (p.block ∷ p.after), free_block_short (p.block.size - (padding + n)) (stamp_of_call s))) (apart_granted p n padding _ _ _ f (subst Apart e w.apart))
+    (omega (arith, sizes)) (omega (arith, sizes, ap length e, length-append p.before (p.block ∷ p.after), (free_part (p.block.size - (padding + n)) (stamp_of_call s)).3)) (apart_granted p n padding _ _ _ f (subst Apart e w.apart))
   where
     sizes : length (granted_blocks p n padding (stamp_of_padding s) (s.grants + 1) (stamp_of_call s)) ≡ length p.before + (length (free_block padding (stamp_of_padding s)) + suc (length (free_block (p.block.size - (padding + n)) (stamp_of_call s)) + length p.after))
     sizes = simp length-append
@@ -475,7 +472,7 @@ well_step command.Report s w = well_quiet s w (report s)
 well_step command.Full s w = well_quiet s w (machine.Full (rows_below 256 (machine.free_sizes s.blocks)))
 well_step command.Reset s w = well_reset s w
 well_step (command.Align n align) s w = if_both (λ (o : Outcome). Well o.state) (nat_le align 1) _ _ (λ e. well_request s w 1 n n (λ offset. 0) no_padding)
-    (λ e. if_both (λ (o : Outcome). Well o.state) (nat_lt max_size (n + align - 1)) _ _ (λ e. well_quiet s w machine.Refused) (λ e. well_request s w 2 (n + align - 1) n (padding_to align) (λ o x. let h = free_block_short (padding_to align o) x in omega arith)))
+    (λ e. if_both (λ (o : Outcome). Well o.state) (nat_lt max_size (n + align - 1)) _ _ (λ e. well_quiet s w machine.Refused) (λ e. well_request s w 2 (n + align - 1) n (padding_to align) (λ o x. let h = (free_part (padding_to align o) x).3 in omega arith)))
 well_step (command.Extend more) s w = well_extend s w more
 
 -- so do all commands in order
