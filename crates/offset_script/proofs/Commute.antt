@@ -9,7 +9,7 @@ use Rattle.offset_allocator.specs.Reports.{largest, rows_below}
 use Rattle.offset_allocator.specs.Named.{max_size, padding_to}
 use Rattle.offset_script.specs.Machine.{Tag, Live, Free, Block, block, is_free, has_number, total, free_sizes, Place, here, prepend, fits, is_taken_before, choose, chosen_place, place_of, free_start, without_start, ends_live, coalesce, State, Outcome, start, step, after, request, grant_or_refuse, is_short_of, returns_only, leaves, release, size_at, stamp_of_call}
 use Rattle.offset_script.specs.Machine as machine
-use Rattle.offset_script.specs.Histories.{holder, outline, widen, collapse, without_offset, releases, Commutes}
+use Rattle.offset_script.specs.Histories.{holder, outline, widen, collapse, without_offset, releases, IsCollapse}
 use Rattle.std.specs.List.{list_any}
 use Rattle.std.specs.Option.{option_map_or}
 use Rattle.offset_script.proofs.Pairs.{Kind, Lives, Frees, Pair, left_tag, right_tag, left, right, lefts, rights, same_free, same_short, same_free_sizes, same_refusal, SamePlace, neither, both, same_place_of}
@@ -217,13 +217,11 @@ same_next s t a (command.Align n align) = if_same (λ (o p : Outcome). without_o
     (if_same (λ (o p : Outcome). without_offset o.answer ≡ without_offset p.answer) (nat_lt max_size (n + align - 1)) (nat_lt max_size (n + align - 1)) (returns_only s machine.Refused) (returns_only t machine.Refused) (request s 2 (n + align - 1) n (padding_to align)) (request t 2 (n + align - 1) n (padding_to align)) refl (λ e. refl) (same_request s t a 2 (n + align - 1) n (padding_to align)))
 same_next s t a (command.Extend more) = same_extend s t a more
 
-pub commute_law : (size limit : ℕ) → 2 ≤ limit → (cs : List Command) (ks : List ℕ) → Commutes ks (after cs (start size limit))
-commute_law size limit h cs ks =
+pub commute_space : (size limit : ℕ) → 2 ≤ limit → (cs : List Command) (ks : List ℕ) → let s = after cs (start size limit) in outline (after (releases ks) s).blocks ≡ collapse ks (outline s.blocks)
+commute_space size limit h cs ks = releases_outline ks (after cs (start size limit)) (well_after cs (start size limit) (well_start size limit h))
+
+pub commute_next : (size limit : ℕ) → 2 ≤ limit → (cs : List Command) (ks : List ℕ) (t : State) → let s = after cs (start size limit) in IsCollapse ks s t → (c : Command) → without_offset (step c (after (releases ks) s)).answer ≡ without_offset (step c t).answer
+commute_next size limit h cs ks t is =
     let s = after cs (start size limit) in
-    let w : Well s = well_after cs (start size limit) (well_start size limit h) in
-    let space = releases_outline ks s w in
     let scalars = releases_scalars ks s in
-    record {
-      space = space;
-      next = λ t is. same_next (after (releases ks) s) t (record { limit = scalars.0 ∙ sym is.limit; grants = scalars.1 ∙ sym is.grants; blocks = paired _ _ (space ∙ sym is.blocks) });
-    }
+    same_next (after (releases ks) s) t (record { limit = scalars.0 ∙ sym is.limit; grants = scalars.1 ∙ sym is.grants; blocks = paired _ _ (commute_space size limit h cs ks ∙ sym is.blocks) })

@@ -79,12 +79,6 @@ without_offset other = other
 abbrev pub releases : List ℕ → List Command
 releases ks = map command.Free ks
 
--- releases in a row leave the sizes and grants of the collapse, and a next command has the same answer as there, except
--- for the offset of a grant
-pub record Commutes (ks : List ℕ) (s : State) : Type 0 where
-  pub space : outline (after (releases ks) s).blocks ≡ collapse ks (outline s.blocks)
-  pub next : (t : State) → IsCollapse ks s t → (c : Command) → without_offset (step c (after (releases ks) s)).answer ≡ without_offset (step c t).answer
-
 -- wherever releases in a row occur in the commands, the answer found after them is that of the collapse
 abbrev pub RowsCommute : ℕ → ℕ → List Command → List Answer → Type 0
 RowsCommute size limit cs found = (before : List Command) (ks : List ℕ) (c : Command) (rest : List Command) → cs ≡ before ++ releases ks ++ (c ∷ rest) → (t : State) → IsCollapse ks (after before (start size limit)) t
