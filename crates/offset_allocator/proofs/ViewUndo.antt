@@ -1,5 +1,5 @@
 -- A request that is granted, and released at once, leaves no trace.
-use Rattle.std.proofs.Common.{◌≡◌, ℕ, zero, suc, ◌<◌, ◌≤◌, Bool, true, false, not, ◌&&◌, List, [], ◌∷◌, ◌++◌, length, Some, slice_set, refl, sym, ap, ap₂, subst, ◌∙◌, inl, inr, arith, eq-eqb, ne_eqb, append_assoc}
+use Rattle.std.proofs.Common.{◌≡◌, ℕ, zero, suc, ◌<◌, ◌≤◌, Bool, true, false, not, ◌&&◌, List, [], ◌∷◌, ◌++◌, length, Some, slice_set, refl, sym, ap, ap₂, subst, ◌∙◌, arith, append_assoc}
 use Rattle.offset_allocator.proofs.Served.{split_as, well_served}
 use Rattle.offset_allocator.proofs.Walks.{without_first}
 use Rattle.std.proofs.lemmas.List.{set-get_or}
@@ -13,7 +13,7 @@ use Rattle.offset_allocator.proofs.Rows.{one-same}
 use Rattle.offset_allocator.proofs.Classes.{down_small}
 use Rattle.offset_allocator.proofs.Split.{part_sums}
 use Rattle.offset_allocator.proofs.ViewApart.{ends_free, apart_parts, left_false, right_false, no_end, no_start}
-use Rattle.offset_allocator.proofs.ViewOrders.{hit_cases, names_same, length_remove, times_remove}
+use Rattle.offset_allocator.proofs.ViewOrders.{names_same, length_remove, times_remove}
 use Rattle.offset_allocator.proofs.ViewReplaced.{listed_named}
 use Rattle.offset_allocator.proofs.ViewSteps.{place_here}
 

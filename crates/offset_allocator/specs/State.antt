@@ -4,7 +4,7 @@ use Rattle.offset_allocator.specs.Classes.{down}
 use Rattle.offset_allocator.specs.Cells.{Cells, Room, node}
 use Rattle.offset_allocator.specs.Orders.{Binned, class_lists, Among, IsUnlisted}
 use Rattle.offset_allocator.specs.Space.{IsSpace, HasPlace, blocks}
-use Rattle.offset_allocator.specs.Named.{View, Block, IsWellFormed, Place, tally, times, names_at, count_named, count_listed}
+use Rattle.offset_allocator.specs.Named.{View, Block, IsWellFormed, Place, tally, names_at, count_named}
 
 -- the units of the free blocks
 abbrev pub free_units : List Block → ℕ

@@ -1,5 +1,5 @@
 -- Two states that differ only in numbers, and in stamps of the same order in each class, return the same answers.
-use Rattle.std.proofs.Common.{◌≡◌, ℕ, zero, suc, ◌+◌, ◌-◌, ◌*◌, ◌<◌, ◌≤◌, Bool, true, false, ◌⊎◌, List, [], ◌∷◌, ◌++◌, map, Option, None, nat_eq, nat_lt, if◌then◌else◌, refl, sym, ap, ap₂, subst, subst₂, ⊎_elim, ◌∙◌, inl, inr, arith, lt-ltb, le-ltb, sum}
+use Rattle.std.proofs.Common.{◌≡◌, ℕ, zero, suc, ◌+◌, ◌-◌, ◌*◌, ◌<◌, ◌≤◌, true, false, ◌⊎◌, List, [], ◌∷◌, ◌++◌, map, Option, None, nat_eq, nat_lt, if◌then◌else◌, refl, sym, ap, ap₂, subst, subst₂, ⊎_elim, ◌∙◌, inl, inr, arith, lt-ltb, le-ltb, sum}
 use Rattle.offset_script.specs.declared.scripts.Command.{Command}
 use Rattle.offset_script.specs.declared.scripts.Command.TheVariants as command
 use Rattle.offset_script.specs.Machine.{Free, Block, block, has_number, total, Place, fits, chosen_place, place_of, ends_live, coalesce, State, Answer, Outcome, step, answers, after, request, grant, grant_or_refuse, is_short_of, returns_only, leaves, release, size_at, report, reset, extend, stamp_of_call, free_sizes}

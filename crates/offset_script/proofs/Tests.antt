@@ -1,5 +1,5 @@
 -- Tests: a conjunction, a double negation, and choices by a test.
-use Rattle.std.proofs.Common.{◌≡◌, Bool, true, false, not, ◌&&◌, ◌||◌, if◌then◌else◌, refl, sym, ◌∙◌, Some}
+use Rattle.std.proofs.Common.{◌≡◌, Bool, true, false, not, ◌&&◌, if◌then◌else◌, refl, Some}
 use Rattle.std.proofs.lemmas.Bool.{true≢false, false≢true}
 
 -- a second test counts only where the first holds
