@@ -1,7 +1,6 @@
 -- Sums and bounds of a well formed view.
-use Rattle.std.proofs.Common.{◌≡◌, ℕ, ◌+◌, ◌<◌, ◌≤◌, Bool, true, false, not, ◌&&◌, ◌↔◌, List, [], ◌∷◌, ◌++◌, length, sum, if◌then◌else◌, refl, sym, ap, ap₂, subst, ◌∙◌, arith, le-leb}
+use Rattle.std.proofs.Common.{◌≡◌, ℕ, ◌+◌, ◌<◌, ◌≤◌, Bool, true, false, not, ◌&&◌, ◌↔◌, List, [], ◌∷◌, ◌++◌, length, sum, if◌then◌else◌, refl, sym, ap, ap₂, subst, ◌∙◌, arith, le-leb, true≢false}
 use Rattle.std.specs.List.{AllByRecursion}
-use Rattle.std.proofs.lemmas.Bool.{true≢false}
 use Rattle.std.proofs.lemmas.List.Sums.{sum_by-cons}
 use Rattle.offset_allocator.specs.Classes.{value, up, down}
 use Rattle.offset_allocator.specs.Reports.{largest}
@@ -15,17 +14,10 @@ use Rattle.offset_allocator.proofs.ViewTaken.{well_alone}
 -- used and free units
 parted : (bs : List Block) → used_units bs + sum (free_sizes bs) ≡ units bs
 parted [] = refl
-parted (b ∷ bs) = let ih = parted bs in either b.used ih
-  where
-    either : (u : Bool) → used_units bs + sum (free_sizes bs) ≡ units bs → ((if u then b.size else 0) + used_units bs) + sum (if u then free_sizes bs else b.size ∷ free_sizes bs) ≡ b.size + units bs
-    either true ih = one_more ih
-      where
-        one_more : used_units bs + sum (free_sizes bs) ≡ units bs → (b.size + used_units bs) + sum (free_sizes bs) ≡ b.size + units bs
-        one_more ih = omega arith
-    either false ih = one_more ih
-      where
-        one_more : used_units bs + sum (free_sizes bs) ≡ units bs → (0 + used_units bs) + sum (b.size ∷ free_sizes bs) ≡ b.size + units bs
-        one_more ih = let e : sum (b.size ∷ free_sizes bs) ≡ b.size + sum (free_sizes bs) = sum_by-cons (λ n. n) b.size (free_sizes bs) in omega (arith, e, ih)
+parted (b ∷ bs) =
+    let ih = parted bs in
+    let e : sum (b.size ∷ free_sizes bs) ≡ b.size + sum (free_sizes bs) = sum_by-cons (λ n. n) b.size (free_sizes bs) in
+    elim b.used as (λ u. ((if u then b.size else 0) + used_units bs) + sum (if u then free_sizes bs else b.size ∷ free_sizes bs) ≡ b.size + units bs) [ true ↦ omega (arith, ih) | false ↦ omega (arith, e, ih) ]
 
 pub adds_up : (v : View) → IsWellFormed v → used_units v.blocks + sum (free_sizes v.blocks) ≡ v.size
 adds_up v w = parted v.blocks ∙ w.whole

@@ -92,17 +92,15 @@ names_below zero order = 0
 names_below (suc c) order = names_below c order + length (names_at order c)
 
 -- how many sizes are of the classes below c
-sizes_below : ℕ → List ℕ → ℕ
+abbrev sizes_below : ℕ → List ℕ → ℕ
 sizes_below c [] = 0
 sizes_below c (n ∷ ns) = cond (nat_lt (down n) c) 1 0 + sizes_below c ns
 
 sizes_none : (ns : List ℕ) → sizes_below 0 ns ≡ 0
-unfolding sizes_below
 sizes_none [] = refl
 sizes_none (n ∷ ns) = let ih = sizes_none ns in grind (arith, nat_tests)
 
 sizes_more : (c : ℕ) (ns : List ℕ) → (sizes_below (suc c) ns ≡ sizes_below c ns + count_of c ns) × (sizes_below c ns ≤ length ns)
-unfolding sizes_below
 sizes_more c [] = (refl, omega arith)
 sizes_more c (n ∷ ns) =
     let (e, l) = sizes_more c ns in

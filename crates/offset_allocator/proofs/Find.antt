@@ -1,15 +1,42 @@
 -- The first and the last class that has a name, by the masks.
-use Rattle.std.proofs.Common.{◌≡◌, ◌≢◌, ◌<◌, ◌≤◌, ℕ, suc, ◌+◌, ◌-◌, ◌*◌, ◌/◌, ◌%◌, ◌^◌, List, [], ◌∷◌, bit_and, refl, sym, ap, ◌∙◌, inl, inr, arith, slice_index, w32, w64, ne_eqb}
-use Rattle.std.specs.Int.{bit_at}
+use Rattle.std.proofs.Common.{◌≡◌, ◌≢◌, ◌<◌, ◌≤◌, ℕ, suc, ◌+◌, ◌-◌, ◌*◌, ◌/◌, ◌%◌, ◌^◌, List, [], ◌∷◌, bit_and, refl, sym, ap, ◌∙◌, inl, inr, arith, slice_index, w32, w64, ne_eqb, pow-suc, ⊎_elim}
+use mir.Val.{bits}
+use Rattle.std.specs.Int.{bit_at, Width, trailing_zeros}
 use Rattle.std.specs.Int.Count.{count_trailing_zeros, count_leading_zeros}
-use Rattle.std.proofs.lemmas.Nat.{pow_pos, leading_top, le-div, div_below, div-mul-add, mod-mul-add}
-use Rattle.std.proofs.lemmas.Nat.Bits.{bit_at_above, bit_at-zero, bit_at-trailing_zeros}
+use Rattle.std.proofs.lemmas.Nat.{pow_pos, leading_top, le-div, div_below, div-mul-add, mod-mul-add, and_le_l}
+use Rattle.std.proofs.lemmas.Nat.Bits.{bit_at_above, bit_at-zero, bit_at-trailing_zeros, bit_at_and, bit_at_mask_inside, bit_at_mask_below, bit_at-lt, ones_shl}
 use Rattle.std.proofs.lemmas.Bool.{cases_lt, cases_eq}
-use Rattle.std.proofs.Math.Nat.{pow-suc}
 use Rattle.offset_allocator.specs.Named.{names_at}
 use Rattle.offset_allocator.specs.Orders.{flag, mark, IsSmallestFrom, Masked}
 use Rattle.offset_allocator.specs.Promises.{IsLargestClass}
-use Rattle.offset_allocator.proofs.Bits.{none_from, least_from}
+
+-- the lowest bit of a word at or above a place, as code finds it: `(n & (MAX << k)).trailing_zeros()`
+module _ (w : Width) (n k : ℕ) (small : n < 2 ^ bits w) (within : k ≤ bits w) where
+  masked : ℕ
+  masked = bit_and n ((2 ^ bits w - 1) * 2 ^ k % 2 ^ bits w)
+
+  masked_from : (i : ℕ) → k ≤ i → i < bits w → bit_at (bit_and n ((2 ^ bits w - 1) * 2 ^ k % 2 ^ bits w)) i ≡ bit_at n i
+  masked_from i l h =
+      let s : bit_at n i < 2 = bit_at-lt n i in
+      rw (ones_shl (bits w) k within, bit_at_and n (2 ^ bits w - 2 ^ k) i, bit_at_mask_inside k (bits w) i l h) (omega arith)
+
+  masked_below : (i : ℕ) → i < k → bit_at (bit_and n ((2 ^ bits w - 1) * 2 ^ k % 2 ^ bits w)) i ≡ 0
+  masked_below i l =
+      rw (ones_shl (bits w) k within, bit_at_and n (2 ^ bits w - 2 ^ k) i, bit_at_mask_below k (bits w) i l) (omega arith)
+
+  pub none_from : bit_and n ((2 ^ bits w - 1) * 2 ^ k % 2 ^ bits w) ≡ 0 → (i : ℕ) → k ≤ i → i < bits w → bit_at n i ≡ 0
+  none_from z i l h = sym (masked_from i l h) ∙ ap (λ x. bit_at x i) z ∙ bit_at-zero i
+
+  pub least_from : bit_and n ((2 ^ bits w - 1) * 2 ^ k % 2 ^ bits w) ≢ 0 → (t : ℕ) → t ≡ trailing_zeros w (bit_and n ((2 ^ bits w - 1) * 2 ^ k % 2 ^ bits w)) → (k ≤ t) × (t < bits w) × (bit_at n t ≡ 1) × ((i : ℕ) → k ≤ i → i < t → bit_at n i ≡ 0)
+  least_from z t e =
+      let m : ℕ = bit_and n ((2 ^ bits w - 1) * 2 ^ k % 2 ^ bits w) in
+      let p : 0 < m = omega arith in
+      let s : m < 2 ^ bits w = omega (arith, and_le_l n ((2 ^ bits w - 1) * 2 ^ k % 2 ^ bits w)) in
+      let (h, one, zeros) = rw (← e) at (bit_at-trailing_zeros w m p s) in
+      ⊎_elim
+      (λ (l : t < k). let b = masked_below t l in absurd (omega arith))
+      (λ (l : k ≤ t). (l, h, sym (masked_from t l h) ∙ one, λ i a b. sym (masked_from i a (omega arith)) ∙ zeros i b))
+      (cases_lt t k)
 
 -- the highest bit of a word
 highest_bit : (k n : ℕ) → n ≢ 0 → n < 2 ^ k → (j : ℕ) × (count_leading_zeros k n + suc j ≡ k) × (bit_at n j ≡ 1) × ((i : ℕ) → j < i → bit_at n i ≡ 0)

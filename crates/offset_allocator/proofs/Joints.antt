@@ -42,10 +42,6 @@ stepped f s v d free k {last} {count} {top} {bs} well limit chain eb bins eo tot
     )
 
 -- small parts of steps
-pub free_part-none : (x r : ℕ) → r ≡ 0 → free_part x r ≡ []
-free_part-none x zero e = refl
-free_part-none x (suc r) e = absurd (omega arith)
-
 pub remove_free : (b : Block) (order : List (List ℕ)) → b.used ≡ false → remove_all (b ∷ []) order ≡ remove (down b.size) b.name order
 remove_free b order e = ap (λ (u : Bool). if u then order else remove (down b.size) b.name order) e
 

@@ -1,7 +1,6 @@
 pub mod Split
 pub mod Always
 pub mod Binned
-pub mod Bits
 pub mod Classes
 pub mod Counting
 pub mod Emptied
@@ -29,7 +28,6 @@ pub mod Rows
 pub mod Served
 pub mod Sound
 pub mod Reading
-pub mod Undone
 pub mod ViewApart
 pub mod ViewFits
 pub mod ViewOrders

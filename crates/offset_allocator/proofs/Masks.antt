@@ -1,10 +1,9 @@
 -- The masks after a change of one bin.
-use Rattle.std.proofs.Common.{◌≡◌, ◌≢◌, ◌<◌, ℕ, ◌*◌, ◌/◌, ◌%◌, ◌^◌, List, [], ◌∷◌, refl, sym, ap, ◌∙◌, inl, inr, arith, length, slice_index, slice_set, bit_and, bit_or, w32, w64, ne_eqb}
+use Rattle.std.proofs.Common.{◌≡◌, ◌≢◌, ◌<◌, ℕ, ◌*◌, ◌/◌, ◌%◌, ◌^◌, List, [], ◌∷◌, refl, sym, ap, ◌∙◌, inl, inr, arith, length, slice_index, slice_set, bit_and, bit_or, w32, w64, ne_eqb, length-set, get_or-set_same, get_or-set_other}
 use Rattle.std.specs.Int.{bit_at, bit_not}
 use Rattle.std.proofs.lemmas.Nat.{or_lt, one_shl, and_le_l, pow_below}
 use Rattle.std.proofs.lemmas.Nat.Bits.{bit_at_set_same, bit_at_set_other, bit_at_clear_same, bit_at_clear_other, bit_at-zero}
 use Rattle.std.proofs.lemmas.Bool.{cases_eq}
-use Rattle.std.proofs.lemmas.List.{length-set, get_or-set_same, get_or-set_other}
 use Rattle.offset_allocator.specs.Named.{names_at}
 use Rattle.offset_allocator.specs.Orders.{flag, mark, Masked}
 use Rattle.offset_allocator.proofs.ViewOrders.{names_same, names_other}

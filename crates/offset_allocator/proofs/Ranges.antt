@@ -1,6 +1,6 @@
 -- What each call leaves of the ranges of live handles.
 use Rattle.std.proofs.Common.{◌≡◌, ◌≢◌, ℕ, IfSome, zero, suc, ◌+◌, ◌≤◌, Bool, true, false, ◌&&◌, List, [], ◌∷◌, ◌++◌, Option, Some, None, nat_eq, if◌then◌else◌, refl, sym, ap, subst, ◌∙◌, inl, inr, arith, append_assoc, add-zero, add_assoc, eq-eqb, ne_eqb}
-use Rattle.std.proofs.lemmas.Bool.{false≢true}
+use Rattle.std.proofs.lemmas.Bool.{false≢true, and_right}
 use Rattle.offset_allocator.specs.Named.{Block, View, Place, Grant, one, units, count_named, used_block, free_block, free_part, IsWellFormed, place_of}
 use Rattle.offset_allocator.specs.Ranges.{Range, range_of, AreDisjoint, Grants, KeepsAll, KeepsOthers, KeepsRanges}
 use Rattle.offset_allocator.specs.Relations.{SameSpace, Splits, Frees, Adds}
@@ -17,7 +17,7 @@ range_from x offset [] = None
 range_from x offset (b ∷ bs) = if b.used && nat_eq x b.name then Some (record { offset = offset; size = b.size }) else range_from x (offset + b.size) bs
 
 -- no used block of these is named x
-HasNone : ℕ → List Block → Type 0
+abbrev HasNone : ℕ → List Block → Type 0
 HasNone x [] = Unit {0}
 HasNone x (b ∷ bs) = ((b.used && nat_eq x b.name) ≡ false) × HasNone x bs
 
@@ -25,7 +25,6 @@ pass : (x offset : ℕ) (b : Block) (bs : List Block) → (b.used && nat_eq x b.
 pass x offset b bs e = ap (λ (t : Bool). if t then Some (record { offset = offset; size = b.size }) else range_from x (offset + b.size) bs) e
 
 past : (x offset : ℕ) (bs cs : List Block) → HasNone x bs → range_from x offset (bs ++ cs) ≡ range_from x (offset + units bs) cs
-unfolding HasNone
 past x offset [] cs h = rw (add-zero offset)
 past x offset (b ∷ bs) cs h = pass x offset b (bs ++ cs) h.0 ∙ past x (offset + b.size) bs cs h.1 ∙ rw (add_assoc offset b.size (units bs)) refl
 
@@ -35,28 +34,17 @@ swapped x offset [] old new cs e h k = past x offset new cs k ∙ ap (λ n. rang
 swapped x offset (f ∷ fs) old new cs e h k = ap (λ r. if f.used && nat_eq x f.name then Some (record { offset = offset; size = f.size }) else r) (swapped x (offset + f.size) fs old new cs e h k)
 
 none_named : (x : ℕ) (bs : List Block) → count_named x bs ≡ 0 → HasNone x bs
-unfolding HasNone
 none_named x [] e = tt
 none_named x (b ∷ bs) e = elim (hit_cases x b.name) [
   | inl h ↦ absurd (let k = h.1 in omega arith)
-  | inr n ↦ (ap (λ t. b.used && t) (ne_eqb x b.name n.0) ∙ and_false b.used, none_named x bs (let k = n.1 in omega arith))
+  | inr n ↦ (ap (λ t. b.used && t) (ne_eqb x b.name n.0) ∙ and_right b.used false refl, none_named x bs (let k = n.1 in omega arith))
 ]
-  where
-    and_false : (u : Bool) → (u && false) ≡ false
-    and_false true = refl
-    and_false false = refl
 
 none_free : (x y n : ℕ) → HasNone x (free_part y n)
-unfolding HasNone
 none_free x y zero = tt
 none_free x y (suc n) = (refl, tt)
 
-none_other : (x y n : ℕ) → x ≢ y → HasNone x (used_block y n ∷ [])
-unfolding HasNone
-none_other x y n d = (ne_eqb x y d, tt)
-
 none_append : (x : ℕ) (bs cs : List Block) → HasNone x bs → HasNone x cs → HasNone x (bs ++ cs)
-unfolding HasNone
 none_append x [] cs h k = k
 none_append x (b ∷ bs) cs h k = (h.0, none_append x bs cs h.1 k)
 
@@ -69,12 +57,10 @@ beside x before b after e most = elim (hit_cases x b.name) [
 
 -- a name that no used block of these has
 nothing : (x offset : ℕ) (bs : List Block) → HasNone x bs → range_from x offset bs ≡ None
-unfolding HasNone
 nothing x offset [] h = refl
 nothing x offset (b ∷ bs) h = pass x offset b bs h.0 ∙ nothing x (offset + b.size) bs h.1
 
 none_idle : (x : ℕ) (b : Block) → b.used ≡ false → HasNone x (b ∷ [])
-unfolding HasNone
 none_idle x b e = (ap (λ (u : Bool). u && nat_eq x b.name) e, tt)
 
 -- a used block, found
@@ -159,14 +145,10 @@ given_back x v w z fresh kept others y r e = elim (hit_cases y x) [
   | inr h ↦ others y h.0 ∙ kept y r e
 ]
 
--- a grant leaves every live range where it was
-pub grants_keep : (n : ℕ) (v w : View) (g : Grant) → Grants n v w g → KeepsRanges v w
-grants_keep n v w g h = given_back g.name v v w h.not_live (λ x r e. e) h.others
-
 -- and a refusal too
 pub call_keeps : (n : ℕ) (v w : View) (o : Option Grant) → IfSome o (Grants n v w) → (o ≡ None → SameSpace v w) → KeepsRanges v w
 call_keeps n v w None h same = λ x r e. ap (range_of x) (same refl) ∙ e
-call_keeps n v w (Some g) h same = grants_keep n v w g h
+call_keeps n v w (Some g) h same = given_back g.name v v w h.not_live (λ x r e. e) h.others
 
 -- a grant has its units, in the space, where no live range is
 module _ {needed n : ℕ} {padding_at : ℕ → ℕ} {v w : View} {g : Grant} (s : Splits needed n padding_at v w g) (f : IsWellFormed v) (after : IsWellFormed w) where
@@ -211,7 +193,7 @@ module _ {needed n : ℕ} {padding_at : ℕ → ℕ} {v w : View} {g : Grant} (s
   others y d =
       ranged y
       ∙ swapped y 0 s.before (s.block ∷ []) new s.after same_units (none_idle y s.block s.free)
-      (none_append y padding _ (none_free y s.padding_name s.padding) (none_append y (used_block x n ∷ []) remainder (none_other y x n d) (none_free y s.remainder_name s.remainder)))
+      (none_append y padding _ (none_free y s.padding_name s.padding) (none_append y (used_block x n ∷ []) remainder ((ne_eqb y x d, tt)) (none_free y s.remainder_name s.remainder)))
       ∙ sym (ap (range_from y 0) s.blocks) ∙ sym (range_is y v f)
 
   pub split_grants : Grants n v w g
@@ -226,17 +208,7 @@ module _ {needed n : ℕ} {padding_at : ℕ → ℕ} {v w : View} {g : Grant} (s
     others = others;
   })
 
--- a release
-none_beside : (x y : ℕ) → y ≢ x → (b : Block) → x ≡ b.name → HasNone y (b ∷ [])
-unfolding HasNone
-none_beside x y d b e = (ap (λ t. b.used && t) (ne_eqb y b.name (λ k. d (k ∙ sym e))) ∙ right b.used, tt)
-  where
-    right : (u : Bool) → (u && false) ≡ false
-    right true = refl
-    right false = refl
-
 none_idle_all : (x : ℕ) (bs : List Block) → AllByRecursion (λ b. b.used ≡ false) bs → HasNone x bs
-unfolding HasNone
 none_idle_all x [] i = tt
 none_idle_all x (b ∷ bs) i = (ap (λ (u : Bool). u && nat_eq x b.name) i.0, none_idle_all x bs i.1)
 
@@ -263,7 +235,7 @@ module _ (x : ℕ) (v w : View) (k : IsWellFormed v) (after : IsWellFormed w) (f
       let idle = idle_parts f.left f.right f.free in
       remade y
       ∙ swapped y 0 f.before old (freed ∷ []) f.after (omega arith)
-      (none_append y f.left (f.block ∷ f.right) (none_idle_all y f.left idle.0) (none_append y (f.block ∷ []) f.right (none_beside x y d f.block (sym f.named)) (none_idle_all y f.right idle.1)))
+      (none_append y f.left (f.block ∷ f.right) (none_idle_all y f.left idle.0) (none_append y (f.block ∷ []) f.right ((ap (λ t. f.block.used && t) (ne_eqb y f.block.name (λ k. d (k ∙ sym (sym f.named)))) ∙ and_right f.block.used false refl, tt)) (none_idle_all y f.right idle.1)))
       (none_idle y freed refl)
       ∙ sym (ap (range_from y 0) f.blocks) ∙ sym (range_is y v k)
 

@@ -1,5 +1,5 @@
 -- What a read of cells says of the view.
-use Rattle.std.proofs.Common.{◌≡◌, ℕ, ◌<◌, ◌≤◌, inl, inr, length, arith, is_some, Bool, true, false, Option, None, Some, option_and_then, option_map, unwrap_or, if◌then◌else◌, refl, sym, ap, subst, ◌∙◌}
+use Rattle.std.proofs.Common.{◌≡◌, ℕ, ◌<◌, ◌≤◌, inl, inr, length, arith, is_some, true, false, Option, None, Some, option_and_then, option_map, unwrap_or, if◌then◌else◌, refl, sym, ap, subst, ◌∙◌}
 use Rattle.std.proofs.lemmas.Bool.{cases_lt}
 use Rattle.offset_allocator.specs.Cells.{Room, Node, node}
 use Rattle.offset_allocator.specs.Named.{View, Place, units, place_of, is_used_at}
@@ -25,19 +25,11 @@ size_at (Some p) = if p.block.used then p.block.size else 0
 -- a name is live where its block is used
 range_some : (o : Option Place) → is_some {T = Range} (range_at o) ≡ is_used_at o
 range_some None = refl
-range_some (Some p) = either p.block.used
-  where
-    either : (u : Bool) → is_some {T = Range} (if u then Some (record { offset = units p.before; size = p.block.size }) else None) ≡ u
-    either true = refl
-    either false = refl
+range_some (Some p) = elim p.block.used as (λ u. is_some {T = Range} (if u then Some (record { offset = units p.before; size = p.block.size }) else None) ≡ u) [ true ↦ refl | false ↦ refl ]
 
 range_units : (o : Option Place) → units_in (range_at o) ≡ size_at o
 range_units None = refl
-range_units (Some p) = either p.block.used
-  where
-    either : (u : Bool) → units_in (if u then Some (record { offset = units p.before; size = p.block.size }) else None) ≡ (if u then p.block.size else 0)
-    either true = refl
-    either false = refl
+range_units (Some p) = elim p.block.used as (λ u. units_in (if u then Some (record { offset = units p.before; size = p.block.size }) else None) ≡ (if u then p.block.size else 0)) [ true ↦ refl | false ↦ refl ]
 
 module _ (x : ℕ) (v : View) where
   pub live_is : is_some {T = Range} (range_of x v) ≡ is_used_at (place_of x v.blocks)

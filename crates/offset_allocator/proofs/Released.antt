@@ -1,8 +1,8 @@
 -- Free blocks at the ends of lists.
-use Rattle.std.proofs.Common.{◌≡◌, Bool, true, false, not, ◌&&◌, List, [], ◌∷◌, ◌++◌, if◌then◌else◌, refl, sym, ap, ap₂, ◌∙◌, append-nil}
-use Rattle.std.proofs.lemmas.Bool.{true≢false}
+use Rattle.std.proofs.Common.{◌≡◌, Bool, true, false, not, ◌&&◌, List, [], ◌∷◌, ◌++◌, if◌then◌else◌, refl, sym, ap, ap₂, ◌∙◌, append-nil, true≢false}
 use Rattle.std.specs.List.{AllByRecursion}
 use Rattle.offset_allocator.specs.Named.{Block, IsApart, free_start, without_start, free_end, without_end, starts_free}
+use Rattle.offset_allocator.proofs.Ends.{end_free}
 use Rattle.offset_allocator.proofs.ViewApart.{ends_free, apart_parts, no_end, no_start}
 
 pub idle_append : (bs cs : List Block) → AllByRecursion (λ b. b.used ≡ false) bs → AllByRecursion (λ b. b.used ≡ false) cs → AllByRecursion (λ b. b.used ≡ false) (bs ++ cs)
@@ -26,19 +26,13 @@ pub idle_start : (bs : List Block) → AllByRecursion (λ b. b.used ≡ false) (
 idle_start [] = tt
 idle_start (b ∷ bs) = idle_if b b.used refl
 
--- a free block at an end
-end_one : (fs : List Block) (b : Block) → b.used ≡ false → (free_end (fs ++ b ∷ []) ≡ b ∷ []) × (without_end (fs ++ b ∷ []) ≡ fs)
-end_one [] b e = (ap (λ (u : Bool). if not u then b ∷ [] else []) e, ap (λ (u : Bool). if not u then [] else b ∷ []) e)
-end_one (f ∷ []) b e = let r = end_one [] b e in (r.0, ap (λ l. f ∷ l) r.1)
-end_one (f ∷ g ∷ fs) b e = let r = end_one (g ∷ fs) b e in (r.0, ap (λ l. f ∷ l) r.1)
-
 two_free : (b c : Block) (bs : List Block) → b.used ≡ false → c.used ≡ false → IsApart (b ∷ c ∷ bs) → ⊥
 two_free b c bs e f a = true≢false (ap₂ (λ (x y : Bool). not x && not y) (sym e) (sym f) ∙ a.0)
 
 -- free blocks after a list that ends in none are its free end
 pub end_is : (before left : List Block) → AllByRecursion (λ b. b.used ≡ false) left → IsApart (before ++ left) → ends_free before ≡ false → (free_end (before ++ left) ≡ left) × (without_end (before ++ left) ≡ before)
 end_is before [] i a e = let n = no_end before e in (ap free_end (append-nil before) ∙ n.0, ap without_end (append-nil before) ∙ n.1)
-end_is before (b ∷ []) i a e = end_one before b i.0
+end_is before (b ∷ []) i a e = end_free before b i.0
 end_is before (b ∷ c ∷ left) i a e = absurd (two_free b c left i.0 i.1.0 (apart_parts before (b ∷ c ∷ left) a).1)
 
 pub start_is : (right after : List Block) → AllByRecursion (λ b. b.used ≡ false) right → IsApart (right ++ after) → starts_free after ≡ false → (free_start (right ++ after) ≡ right) × (without_start (right ++ after) ≡ after)

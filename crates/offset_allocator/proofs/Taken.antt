@@ -1,6 +1,7 @@
 -- The block that a request takes, and when there is one.
-use Rattle.std.proofs.Common.{◌≡◌, ◌≢◌, ℕ, ◌≤◌, Bool, true, false, not, ◌&&◌, List, [], ◌∷◌, ◌++◌, Option, Some, None, nat_eq, refl, sym, ap, inl, inr, arith}
-use Rattle.std.proofs.lemmas.Bool.{false≢true, not-true}
+use Rattle.std.proofs.Common.{◌≡◌, ◌≢◌, ℕ, ◌≤◌, Bool, true, false, ◌&&◌, List, [], ◌∷◌, ◌++◌, Option, Some, None, nat_eq, refl, sym, ap, inl, inr, arith}
+use Rattle.offset_allocator.proofs.Rows.{one-same}
+use Rattle.std.proofs.lemmas.Bool.{not-true}
 use Rattle.offset_allocator.specs.Classes.{up, down}
 use Rattle.offset_allocator.specs.Named.{Block, View, Place, one, is_free, times, count_named, count_listed, names_at, place_of, IsWellFormed}
 use Rattle.offset_allocator.proofs.ViewOrders.{tally_append, hit_cases}
@@ -16,11 +17,7 @@ pub record Taken (v : View) (c x : ℕ) : Type 0 where
   pub class : down place.block.size ≡ c
 
 hit_parts : (f : Bool) (c d : ℕ) (r : Bool) → 1 ≤ one (f && (nat_eq c d && r)) → (f ≡ true) × (c ≡ d)
-hit_parts true c d r l = (refl, elim (hit_cases c d) [ inl e ↦ e.0 | inr m ↦ absurd (go (nat_eq c d) m.1 l) ])
-  where
-    go : (b : Bool) → one b ≡ 0 → 1 ≤ one (b && r) → ⊥
-    go true e l = absurd (omega arith)
-    go false e l = absurd (omega arith)
+hit_parts true c d r l = (refl, elim (hit_cases c d) [ inl e ↦ e.0 | inr m ↦ absurd (elim (nat_eq c d) as (λ b. one b ≡ 0 → 1 ≤ one (b && r) → ⊥) [ true ↦ λ e k. absurd (omega arith) | false ↦ λ e k. absurd (omega arith) ] m.1 l) ])
 hit_parts false c d r l = absurd (omega arith)
 
 -- the block of a name that is listed is free, and of that class
@@ -31,15 +28,12 @@ listed_block c x before b after e most l = hit_parts (is_free b) c (down b.size)
       | inr h ↦ absurd (h.0 e)
     ])
 
-head_times : (x : ℕ) (xs ys : List ℕ) → ys ≡ x ∷ xs → 1 ≤ times x ys
-head_times x xs ys e = elim (hit_cases x x) [ inl h ↦ omega (arith, ap (times x) e, h.1) | inr h ↦ absurd (h.0 refl) ]
-
 -- a name in a bin is that of a free block of its class
 pub taken : (v : View) → IsWellFormed v → (c x : ℕ) (xs : List ℕ) → names_at v.order c ≡ x ∷ xs → Taken v c x
 taken v w c x xs e = go (place_of x v.blocks) refl
   where
     listed : 1 ≤ count_listed c x v.blocks
-    listed = omega (arith, w.orders c x, head_times x xs (names_at v.order c) e)
+    listed = omega (arith, w.orders c x, ap (times x) e, one-same x)
 
     go : (o : Option Place) → place_of x v.blocks ≡ o → Taken v c x
     go None f = absurd (omega (arith, no_place x v.blocks f, listed_named c x v.blocks, listed))

@@ -1,18 +1,19 @@
 -- A request that is granted, and released at once, leaves no trace.
-use Rattle.std.proofs.Common.{◌≡◌, ℕ, zero, suc, ◌<◌, ◌≤◌, Bool, true, false, not, ◌&&◌, List, [], ◌∷◌, ◌++◌, length, Some, slice_set, refl, sym, ap, ap₂, subst, ◌∙◌, inl, inr, arith, eq-eqb, ne_eqb, append_assoc}
+use Rattle.std.proofs.Common.{◌≡◌, ℕ, zero, suc, ◌<◌, ◌≤◌, Bool, true, false, not, ◌&&◌, List, [], ◌∷◌, ◌++◌, length, Some, slice_set, refl, sym, ap, ap₂, subst, ◌∙◌, arith, append_assoc}
+use Rattle.offset_allocator.proofs.Served.{split_as, well_served}
 use Rattle.offset_allocator.proofs.Walks.{without_first}
 use Rattle.std.proofs.lemmas.List.{set-get_or}
 use Rattle.offset_allocator.specs.Classes.{down}
 use Rattle.std.specs.List.{AllByRecursion}
 use Rattle.offset_allocator.specs.Named.{Block, View, Place, Grant, used_block, free_block, units, times, count_named, starts_free, IsApart, names_at, push, without, remove, push_all, remove_all, replace, free_start, without_start, free_end, without_end, free_part, IsWellFormed, place_of}
-use Rattle.offset_allocator.specs.Relations.{SameSpace, Splits, Frees}
+use Rattle.offset_allocator.specs.Relations.{SameSpace, Splits, Frees, Allocates}
 use Rattle.offset_allocator.proofs.Ranges.{beside}
 use Rattle.offset_allocator.proofs.Released.{idle_parts, end_is, start_is}
 use Rattle.offset_allocator.proofs.Rows.{one-same}
 use Rattle.offset_allocator.proofs.Classes.{down_small}
 use Rattle.offset_allocator.proofs.Split.{part_sums}
 use Rattle.offset_allocator.proofs.ViewApart.{ends_free, apart_parts, left_false, right_false, no_end, no_start}
-use Rattle.offset_allocator.proofs.ViewOrders.{hit_cases, names_same, length_remove, times_remove}
+use Rattle.offset_allocator.proofs.ViewOrders.{names_same, length_remove, times_remove}
 use Rattle.offset_allocator.proofs.ViewReplaced.{listed_named}
 use Rattle.offset_allocator.proofs.ViewSteps.{place_here}
 
@@ -44,9 +45,6 @@ orders_back : (x n : ℕ) (order : List (List ℕ)) → length order ≡ 256 →
 orders_back x zero order h e = refl
 orders_back x (suc n) order h e = remove_put (down (suc n)) x order h (down_small (suc n)) (e (omega arith))
 
-free_is : (b : Block) → b.used ≡ false → b ≡ free_block b.name b.size
-free_is b f = ap (λ (u : Bool). record { name = b.name; size = b.size; used = u }) f
-
 -- a name of a well-formed space is at one place
 one_place : (v : View) → IsWellFormed v → (x : ℕ) (fs gs cs ds : List Block) (b d : Block) → v.blocks ≡ fs ++ (b ∷ cs) → v.blocks ≡ gs ++ (d ∷ ds) → b.name ≡ x → d.name ≡ x → (fs ≡ gs) × (b ≡ d) × (cs ≡ ds)
 one_place v w x fs gs cs ds b d e f p q =
@@ -73,7 +71,7 @@ module _ (n : ℕ) (v w u : View) (g : Grant) (known : IsWellFormed v) (left : I
   named = ap (λ (h : Grant). h.name) s.grant
 
   old : s.block ≡ free_block x size
-  old = free_is s.block s.free
+  old = ap (λ (u : Bool). record { name = s.block.name; size = s.block.size; used = u }) s.free
 
   -- what the grant leaves
   split : w ≡ record v { blocks = s.before ++ (used_block x n ∷ (remainder ++ s.after)); order = push_all remainder order; accesses = w.accesses }
@@ -133,3 +131,12 @@ module _ (n : ℕ) (v w u : View) (g : Grant) (known : IsWellFormed v) (left : I
       ∙ ap (λ m. record v { blocks = s.before ++ (free_block x m ∷ s.after); order = push (down m) x (remove_all remainder (push_all remainder order)); accesses = u.accesses }) sized
       ∙ ap₂ (λ bs o. record v { blocks = bs; order = o; accesses = u.accesses }) (ap (λ b. s.before ++ (b ∷ s.after)) (sym old) ∙ sym s.blocks)
       (ap (push (down size) x) (orders_back s.remainder_name s.remainder order (length_remove (down size) x v.order ∙ known.classes) rest_absent) ∙ put_remove (down size) x s.older v.order known.classes (down_small size) s.newest older_absent)
+
+-- the same, for contracts
+pub is_undone : (n : ℕ) (v : View) → IsWellFormed v → (w u : View) (g : Grant) → Allocates n v w (Some g) → Frees g.name w u → SameSpace v u
+is_undone n v known w u g a f = undone n v w u g known (well_served 1 n n (λ offset. 0) v w known (omega arith) (λ o l. absurd (omega arith)) g a) a.1 f
+
+-- a grant leaves no trace where it is released, though other requests were refused between
+pub taken_back : (n : ℕ) (v w u z : View) (g : Grant) → IsWellFormed v → Allocates n v w (Some g) → SameSpace w u → Frees g.name u z → SameSpace v z
+taken_back n v w u z g known a same f =
+    is_undone n v known (record w { accesses = u.accesses }) z g (a.0, split_as a.1 v.accesses u.accesses (λ offset. 0) (λ o. refl)) (subst (λ x. Frees g.name x z) same f)

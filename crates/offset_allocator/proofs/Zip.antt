@@ -1,10 +1,9 @@
 -- Entries and use flags as one list of nodes.
-use Rattle.std.proofs.Common.{◌≡◌, ℕ, zero, suc, replicate, [], ◌∷◌, ◌<◌, ◌≤◌, Bool, false, List, length, map, set, get_or, refl, sym, ◌∙◌, ap, arith, inl, inr}
+use Rattle.std.proofs.Common.{◌≡◌, ℕ, zero, suc, replicate, [], ◌∷◌, ◌<◌, ◌≤◌, Bool, false, List, length, map, set, get_or, refl, sym, ◌∙◌, ap, arith, inl, inr, zip}
 use Rattle.std.proofs.lemmas.List.{get_or_past, get_or_read, get_or-replicate, length-replicate, length-map, map-set, set-get_or}
 use Rattle.std.proofs.lemmas.Slice.Zip.{length-zip}
 use Rattle.std.proofs.Math.Seq.{map-set_same}
 use Rattle.std.proofs.lemmas.Bool.{cases_lt}
-use Rattle.std.specs.List.{zip}
 use Rattle.offset_allocator.specs.Cells.{Cells, Node, Room, blank, node, put, AreShaped}
 use Rattle.offset_allocator.specs.View.{node_of, nodes_of, cells_of, AreEven}
 use Rattle.offset_allocator.specs.declared.entry.Node.{Node as Entry}

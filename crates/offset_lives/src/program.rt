@@ -5,7 +5,7 @@ ghost use Rattle.offset_lives.specs.Drawing.{DrawOf};
 ghost use Rattle.offset_script.specs.declared.faults.RunFault.{RunFault};
 ghost use Rattle.offset_script.specs.declared.faults.RunFault.TheVariants as faults;
 ghost use Rattle.offset_script.specs.declared.faults.ScriptFault.TheVariants as scripts;
-ghost use Rattle.offset_script.specs.Faults.{status_of};
+ghost use Rattle.offset_script.specs.Faults.{fault_status};
 ghost use Rattle.offset_script.specs.Running.{WritesFault, is_read_fault, is_write_fault};
 
 use crate::drawing::picture;
@@ -46,9 +46,8 @@ pub fn draw_program<S: Source, K: Sink, E: Sink>(
 ) -> u8
     // There is a result of drawing, named `ended`, with these properties, in this order:
     // - it is never `Script(Memory)`;
-    // - the status returned is its status: 0 of `Ok`, and else that of the fault;
-    // - after `Ok`, `errors` is as it was; else the line of the fault was appended to it and flushed, or a beginning of
-    //   that line was, and `errors` failed;
+    // - after `Ok` the status returned is 0, and `errors` is as it was; else it is that of the fault, and the line of the
+    //   fault was appended to `errors` and flushed, or a beginning of that line was, and `errors` failed;
     // - where the text of the source is known: on `Ok` it means a script, and a whole picture is appended; on `Write` a
     //   beginning of a picture is; on `Script` the fault is that of the text;
     // - after `Ok` the output is flushed;
@@ -57,8 +56,8 @@ pub fn draw_program<S: Source, K: Sink, E: Sink>(
     // - it is `Write` exactly where the output failed in this call.
     ensures { (ended : Result (Unit {0}) RunFault)
         × (ended ≢ Err (faults.Script scripts.Memory))
-        × (result ≡ status_of ended)
-        × MatchResult ended (λ _. errors.new ≡ errors.old) (λ fault. WritesFault fault
+        × MatchResult ended (λ _. (result ≡ 0) × (errors.new ≡ errors.old))
+        (λ fault. (result ≡ fault_status fault) × WritesFault fault
         (E.held errors.old) (E.held errors.new) (E.has_failed errors.old) (E.has_failed errors.new)
         (E.is_flushed errors.new))
         × IfSome (S.left input.old)

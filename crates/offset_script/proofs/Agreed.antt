@@ -1,5 +1,6 @@
 -- What each call of the allocator leaves agrees with what the plain machine leaves, and the answers are the same.
 use Rattle.std.proofs.Common.{◌≡◌, ℕ, zero, suc, ◌+◌, ◌-◌, ◌<◌, ◌≤◌, Bool, true, false, not, ◌&&◌, ◌||◌, ◌⊎◌, List, [], ◌∷◌, ◌++◌, replicate, length, sum, Option, Some, None, nat_eq, nat_lt, nat_le, if◌then◌else◌, refl, sym, ap, ap₂, subst, subst₂, ◌∙◌, inl, inr, arith, eq-eqb, ne_eqb, le-leb, le-ltb, leb-false, append_assoc, append-nil}
+use Rattle.offset_script.proofs.Tests.{same_some}
 use Rattle.std.specs.Option.{option_or}
 use Rattle.offset_allocator.proofs.ViewApart.{and_true}
 use Rattle.std.proofs.lemmas.Bool.{cases_eq, cases_lt, true≢false, false≢true, lt-leb, ltb-true, ltb-false, and_parts, and_right, or_parts, not-false}
@@ -22,8 +23,8 @@ use Rattle.offset_allocator.proofs.ViewOrders.{tally_append, names_same, names_o
 use Rattle.offset_allocator.proofs.Classes.{down_small, fits_size}
 use Rattle.offset_script.proofs.Members.{map_parts, map_first}
 use Rattle.offset_script.proofs.Labels.{names, tags, map_three, stamps_below, Rises, newest_replaced}
-use Rattle.offset_script.proofs.Chosen.{Spot, whole, place_at, named_spot, plain_spot, named_place, plain_place, some_same, IsLabelled, none_chosen, chosen, place_of_spot}
-use Rattle.offset_script.proofs.Ends.{AllFree, free_named, free_tagged, apart_tagged, ends_live_last, last_free, total_units, length_labels, free_sizes_labels, or_none, name_append, name_skip, name_free, name_none}
+use Rattle.offset_script.proofs.Chosen.{Spot, whole, place_at, named_spot, plain_spot, named_place, plain_place, IsLabelled, none_chosen, chosen, place_of_spot}
+use Rattle.offset_script.proofs.Ends.{AllFree, free_named, free_tagged, apart_tagged, ends_live_last, last_free, total_units, free_sizes_labels, or_none, name_append, name_skip, name_free, name_none}
 
 -- the answer to a request, when g grants were made before it
 abbrev pub answer_of : ℕ → Option Grant → Answer
@@ -53,22 +54,19 @@ pub agrees_quiet : (v : View) (kept_name : ℕ → Option ℕ) (s : State) → A
 agrees_quiet v kept_name s g a = record { labels = g.labels; view = g.view; state = g.state; limit = g.limit; newest = g.newest; handles = g.handles }
 
 -- the labels of a grant
-free_labels : ℕ → ℕ → ℕ → List Label
+abbrev free_labels : ℕ → ℕ → ℕ → List Label
 free_labels x zero s = []
 free_labels x (suc n) s = record { name = x; size = suc n; tag = Free s } ∷ []
 
 names_free_labels : (x n s : ℕ) → names (free_labels x n s) ≡ free_part x n
-unfolding free_labels
 names_free_labels x zero s = refl
 names_free_labels x (suc n) s = refl
 
 tags_free_labels : (x n s : ℕ) → tags (free_labels x n s) ≡ machine.free_block n s
-unfolding free_labels
 tags_free_labels x zero s = refl
 tags_free_labels x (suc n) s = refl
 
 name_free_labels : (k x n s : ℕ) → name_of k (free_labels x n s) ≡ None
-unfolding free_labels
 name_free_labels k x zero s = refl
 name_free_labels k x (suc n) s = refl
 
@@ -93,12 +91,10 @@ name_new j front padding x n k rest left t =
     ∙ ap (λ o. if nat_eq j k then Some x else o) (name_free_labels j rest left (t + 1))
 
 rises_remainder : (x n t u : ℕ) → t ≤ u → Rises t (free_labels x n u)
-unfolding free_labels
 rises_remainder x zero t u l = tt
 rises_remainder x (suc n) t u l = (λ e. absurd (true≢false e), λ e. (l, tt))
 
 rises_new : (front padding x n k rest left t : ℕ) → Rises t (new_labels front padding x n k rest left t)
-unfolding free_labels
 rises_new front zero x n k rest left t = (λ e. rises_remainder rest left t (t + 1) (omega arith), λ e. absurd (false≢true e))
 rises_new front (suc padding) x n k rest left t = (λ e. absurd (true≢false e), λ e. (omega arith, (λ e. rises_remainder rest left (t + 1) (t + 1) (omega arith), λ e. absurd (false≢true e))))
 
@@ -208,7 +204,7 @@ module _ (v : View) (kept_name : ℕ → Option ℕ) (s : State) (w : IsWellForm
             ∙ sym (map-append by_tag before (l ∷ after))
 
   same_length : length v.blocks ≡ length s.blocks
-  same_length = ap length g.view ∙ sym (length_labels g.labels) ∙ sym (ap length g.state)
+  same_length = ap length g.view ∙ (length-map g.labels by_name ∙ sym (length-map g.labels by_tag)) ∙ sym (ap length g.state)
 
   pub same_units : units v.blocks ≡ total s.blocks
   same_units = ap units g.view ∙ sym (total_units g.labels) ∙ sym (ap total g.state)
@@ -282,12 +278,8 @@ module _ (v : View) (kept_name : ℕ → Option ℕ) (s : State) (w : IsWellForm
       large : Bool → machine.Outcome
       large b = if b then returns_only s machine.Refused else machine.request s 2 (n + align - 1) n (padding_to align)
 
-      short : (b : Bool) → returns_only s machine.Refused ≡ (if b then returns_only s machine.Refused else returns_only s machine.Refused)
-      short true = refl
-      short false = refl
-
       go : (b : Bool) → nat_lt max_size (n + align - 1) ≡ b → large b ≡ machine.request s 2 (n + align - 1) n (padding_to align)
-      go true e = short (machine.is_short_of 2 s) ∙ ap (λ (o : Option machine.Place). if machine.is_short_of 2 s then returns_only s machine.Refused else machine.grant_or_refuse s n (padding_to align) o) (sym (too_large (n + align - 1) (ltb-true max_size (n + align - 1) e) (chosen_place (n + align - 1) s.blocks) refl))
+      go true e = elim (machine.is_short_of 2 s) as (λ b. returns_only s machine.Refused ≡ (if b then returns_only s machine.Refused else returns_only s machine.Refused)) [ true ↦ refl | false ↦ refl ] ∙ ap (λ (o : Option machine.Place). if machine.is_short_of 2 s then returns_only s machine.Refused else machine.grant_or_refuse s n (padding_to align) o) (sym (too_large (n + align - 1) (ltb-true max_size (n + align - 1) e) (chosen_place (n + align - 1) s.blocks) refl))
       go false e = refl
 
   pub aligned_agrees : (n align : ℕ) → 1 ≤ align → (u : View) → IsWellFormed u → (r : Option Grant) → Serves (blocks_needed align) (units_needed n align) n (padding_to align) v u r → Matches u kept_name s.grants r (step (command.Align n align) s)
@@ -359,7 +351,7 @@ module _ (v : View) (kept_name : ℕ → Option ℕ) (s : State) (w : IsWellForm
       place : named_place sp ≡ place_at (f.before ++ f.left) f.block (f.right ++ f.after)
       place =
           let r = named_spot g.labels (place_at (f.before ++ f.left) f.block (f.right ++ f.after)) (sym g.view ∙ whole_is) in
-          some_same (named_place sp) (named_place r.0) (sym l.named ∙ ap (λ y. place_of y v.blocks) (sym f.named ∙ sym (ap (λ (p : Place). p.block.name) r.2)) ∙ place_of_spot v w r.0 (g.view ∙ ap names r.1)) ∙ r.2
+          same_some (named_place sp) (named_place r.0) (sym l.named ∙ ap (λ y. place_of y v.blocks) (sym f.named ∙ sym (ap (λ (p : Place). p.block.name) r.2)) ∙ place_of_spot v w r.0 (g.view ∙ ap names r.1)) ∙ r.2
 
       front : (xs : List Label) × (ys : List Label) × (sp.before ≡ xs ++ ys) × (names xs ≡ f.before) × (names ys ≡ f.left)
       front = map_parts by_name sp.before f.before f.left (ap (λ (p : Place). p.before) place)
@@ -436,7 +428,7 @@ module _ (v : View) (kept_name : ℕ → Option ℕ) (s : State) (w : IsWellForm
       go : (b : Bool) → machine.ends_live s.blocks ≡ b → (b && machine.is_short_of 1 s) ≡ false → HasRoomFor 1 v ⊎ ((before : List Block) × (last : Block) × (v.blocks ≡ before ++ last ∷ []) × (last.used ≡ false))
       go true f h = inl (room_for 1 h)
       go false f h =
-          let r = last_free g.labels (let a = w.some in let b = ap length g.view in let c = length_labels g.labels in let d = length-map g.labels by_name in omega arith) (sym (ap machine.ends_live g.state) ∙ f) in
+          let r = last_free g.labels (let a = w.some in let b = ap length g.view in let d = length-map g.labels by_name in omega arith) (sym (ap machine.ends_live g.state) ∙ f) in
           inr (names r.0, by_name r.1, g.view ∙ ap names r.2 ∙ map-append by_name r.0 (r.1 ∷ []), ap not r.3)
 
   abbrev outcome : ℕ → Bool → machine.Outcome
@@ -461,11 +453,8 @@ module _ (v : View) (kept_name : ℕ → Option ℕ) (s : State) (w : IsWellForm
   same_sizes = ap machine.free_sizes g.state ∙ free_sizes_labels g.labels ∙ sym (ap named.free_sizes g.view)
 
   pub report_agrees : (step command.Report s).answer ≡ machine.Report (named.total_free v) (named.largest_free v)
-  report_agrees = ap₂ (λ (b : Bool) ns. if b then machine.Report 0 0 else machine.Report (sum ns) (largest ns)) (ap₂ (λ m n. nat_le m (n + 1)) g.limit (sym same_length)) same_sizes ∙ both_ways (named.is_full v)
-    where
-      both_ways : (b : Bool) → (if b then machine.Report 0 0 else machine.Report (sum (named.free_sizes v.blocks)) (largest (named.free_sizes v.blocks))) ≡ machine.Report (if b then 0 else sum (named.free_sizes v.blocks)) (if b then 0 else largest (named.free_sizes v.blocks))
-      both_ways true = refl
-      both_ways false = refl
+  report_agrees = ap₂ (λ (b : Bool) ns. if b then machine.Report 0 0 else machine.Report (sum ns) (largest ns)) (ap₂ (λ m n. nat_le m (n + 1)) g.limit (sym same_length)) same_sizes
+      ∙ elim (named.is_full v) as (λ b. (if b then machine.Report 0 0 else machine.Report (sum (named.free_sizes v.blocks)) (largest (named.free_sizes v.blocks))) ≡ machine.Report (if b then 0 else sum (named.free_sizes v.blocks)) (if b then 0 else largest (named.free_sizes v.blocks))) [ true ↦ refl | false ↦ refl ]
 
   pub full_agrees : (step command.Full s).answer ≡ machine.Full (rows_below 256 (named.free_sizes v.blocks))
   full_agrees = ap (λ ns. machine.Full (rows_below 256 ns)) same_sizes

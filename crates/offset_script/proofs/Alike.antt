@@ -1,8 +1,8 @@
 -- Two states that differ only in numbers, and in stamps of the same order in each class, return the same answers.
-use Rattle.std.proofs.Common.{◌≡◌, ℕ, zero, suc, ◌+◌, ◌-◌, ◌*◌, ◌<◌, ◌≤◌, Bool, true, false, ◌⊎◌, List, [], ◌∷◌, ◌++◌, map, Option, None, nat_eq, nat_lt, if◌then◌else◌, refl, sym, ap, ap₂, subst, subst₂, ⊎_elim, ◌∙◌, inl, inr, arith, lt-ltb, le-ltb, sum}
+use Rattle.std.proofs.Common.{◌≡◌, ℕ, zero, suc, ◌+◌, ◌-◌, ◌*◌, ◌<◌, ◌≤◌, true, false, ◌⊎◌, List, [], ◌∷◌, ◌++◌, map, Option, None, nat_eq, nat_lt, if◌then◌else◌, refl, sym, ap, ap₂, subst, subst₂, ⊎_elim, ◌∙◌, inl, inr, arith, lt-ltb, le-ltb, sum}
 use Rattle.offset_script.specs.declared.scripts.Command.{Command}
 use Rattle.offset_script.specs.declared.scripts.Command.TheVariants as command
-use Rattle.offset_script.specs.Machine.{Free, Block, block, has_number, total, Place, fits, chosen_place, place_of, ends_live, coalesce, State, Answer, Outcome, step, answers, after, request, grant, grant_or_refuse, is_short_of, returns_only, leaves, release, size_at, report, reset, extend, stamp_of_call}
+use Rattle.offset_script.specs.Machine.{Free, Block, block, has_number, total, Place, fits, chosen_place, place_of, ends_live, coalesce, State, Answer, Outcome, step, answers, after, request, grant, grant_or_refuse, is_short_of, returns_only, leaves, release, size_at, report, reset, extend, stamp_of_call, free_sizes}
 use Rattle.offset_allocator.specs.Named.{padding_to}
 use Rattle.offset_script.specs.Machine as machine
 use Rattle.offset_allocator.specs.Reports.{largest, rows_below}
@@ -184,12 +184,9 @@ same_size : (r : ℕ → ℕ) (d : ℕ) (s t : State) (a : Alike r d s t) (o o' 
 same_size r d s t a None None neither = refl
 same_size r d s t a o o' (both xs q ys e f) = refl
 
-same_report_if : (d : ℕ) (b : Bool) (x y : ℕ) → (if b then machine.Report 0 0 else machine.Report x y) ≡ raise_number d (if b then machine.Report 0 0 else machine.Report x y)
-same_report_if d true x y = refl
-same_report_if d false x y = refl
-
 same_report : (r : ℕ → ℕ) (d : ℕ) (s t : State) (a : Alike r d s t) → report s ≡ raise_number d (report t)
-same_report r d s t a = same_report_if d (is_short_of 1 s) _ _ ∙ ap₂ (λ b l. raise_number d (if b then machine.Report 0 0 else machine.Report (sum l) (largest l))) (same_short s t a.pairs a.limit a.left_blocks a.right_blocks 1) (same_free_sizes s t a.pairs a.limit a.left_blocks a.right_blocks)
+same_report r d s t a = elim (is_short_of 1 s) as (λ b. (if b then machine.Report 0 0 else machine.Report (sum (free_sizes s.blocks)) (largest (free_sizes s.blocks))) ≡ raise_number d (if b then machine.Report 0 0 else machine.Report (sum (free_sizes s.blocks)) (largest (free_sizes s.blocks)))) [ true ↦ refl | false ↦ refl ]
+    ∙ ap₂ (λ b l. raise_number d (if b then machine.Report 0 0 else machine.Report (sum l) (largest l))) (same_short s t a.pairs a.limit a.left_blocks a.right_blocks 1) (same_free_sizes s t a.pairs a.limit a.left_blocks a.right_blocks)
 
 same_reset : (r : ℕ → ℕ) (d : ℕ) (s t : State) (a : Alike r d s t) → SameOutcome r d (reset s) (reset t)
 same_reset r d s t a =

@@ -1,7 +1,9 @@
 -- The plain machine chooses the block that a grant splits: the newest of the smallest class that fits.
-use Rattle.std.proofs.Common.{◌≡◌, ◌≢◌, ℕ, ◌<◌, ◌≤◌, Bool, true, false, not, ◌&&◌, ◌||◌, List, [], ◌∷◌, ◌++◌, Option, Some, None, nat_eq, nat_lt, nat_le, refl, sym, ap, ap₂, subst, ◌∙◌, inl, inr, arith, eq-eqb, le-leb, lt-ltb, leb-true}
+use Rattle.std.proofs.Common.{◌≡◌, ◌≢◌, ℕ, ◌<◌, ◌≤◌, true, false, not, ◌&&◌, List, [], ◌∷◌, ◌++◌, Option, Some, None, nat_eq, nat_lt, nat_le, refl, sym, ap, ap₂, subst, ◌∙◌, inl, inr, arith, eq-eqb, le-leb, lt-ltb, leb-true}
+use Rattle.offset_script.proofs.Tests.{same_some}
+use Rattle.offset_allocator.proofs.Rows.{one-same}
 use Rattle.std.proofs.lemmas.List.{map-append}
-use Rattle.std.proofs.lemmas.Bool.{cases_eq, cases_lt, true≢false, and_parts, not-false}
+use Rattle.std.proofs.lemmas.Bool.{cases_eq, cases_lt, true≢false, and_parts, not-false, or_right}
 use Rattle.offset_allocator.specs.Classes.{up, down}
 use Rattle.offset_script.specs.Machine.{Tag, Live, Free, is_free, has_number, stamp, fits, is_taken_before, chosen_place}
 use Rattle.offset_script.specs.Machine as plain
@@ -66,10 +68,7 @@ pub record IsLabelled (v : View) (ls : List Label) : Type 0 where
 
 -- no block before a spot has its name
 pub alone_before : (v : View) → IsWellFormed v → (s : Spot) → v.blocks ≡ names (whole s) → count_named s.label.name (names s.before) ≡ 0
-alone_before v w s e = elim (hit_cases s.label.name s.label.name) [
-  | inl i ↦ omega (arith, i.1, w.distinct s.label.name, ap (count_named s.label.name) (e ∙ names_whole s), tally_append (λ (b : Block). one (nat_eq s.label.name b.name)) (names s.before) (by_name s.label ∷ names s.after))
-  | inr i ↦ absurd (i.0 refl)
-]
+alone_before v w s e = omega (arith, one-same s.label.name, w.distinct s.label.name, ap (count_named s.label.name) (e ∙ names_whole s), tally_append (λ (b : Block). one (nat_eq s.label.name b.name)) (names s.before) (by_name s.label ∷ names s.after))
 
 -- a spot is the place of its name
 pub place_of_spot : (v : View) → IsWellFormed v → (s : Spot) → v.blocks ≡ names (whole s) → place_of s.label.name v.blocks ≡ Some (named_place s)
@@ -87,24 +86,9 @@ listed_spot v w s e f =
 spot_stamp : (v : View) → IsWellFormed v → (s : Spot) → v.blocks ≡ names (whole s) → stamp_of s.label.name (whole s) ≡ stamp s.label.tag
 spot_stamp v w s e = (gives_parts (λ x. stamp_of x (whole s)) s.before (s.label ∷ s.after) (gives_all (whole s) (λ x. let d = w.distinct x in let n = ap (count_named x) e in omega arith))).1.0
 
--- of two spots, the one of the smaller class is chosen over the other, or the newer one of the same class
-smaller_before : (a b : Label) → down a.size < down b.size → is_taken_before (by_tag a) (by_tag b) ≡ true
-smaller_before a b l = rw (lt-ltb (down a.size) (down b.size) l) refl
-
 -- of two blocks of a class the newer is chosen
 newer_before : (a b : Label) → down a.size ≡ down b.size → stamp b.tag < stamp a.tag → is_taken_before (by_tag a) (by_tag b) ≡ true
-newer_before a b e l = rw (eq-eqb (down a.size) (down b.size) e, lt-ltb (stamp b.tag) (stamp a.tag) l) (go (nat_lt (down a.size) (down b.size)))
-  where
-    go : (x : Bool) → (x || (true && true)) ≡ true
-    go true = refl
-    go false = refl
-
--- a free block of a class that is large enough fits
-spot_fits : (n : ℕ) (l : Label) → is_free l.tag ≡ true → up n ≤ down l.size → fits n (by_tag l) ≡ true
-spot_fits n l f c = rw (f, le-leb (up n) (down l.size) c) refl
-
-pub some_same : (p q : Place) → ◌≡◌ {A = Option Place} (Some p) (Some q) → p ≡ q
-some_same p q e = cc
+newer_before a b e l = rw (eq-eqb (down a.size) (down b.size) e, lt-ltb (stamp b.tag) (stamp a.tag) l) (or_right (nat_lt (down a.size) (down b.size)) true refl)
 
 module _ (v : View) (w : IsWellFormed v) (ls : List Label) (a : IsLabelled v ls) (n : ℕ) where
   -- the place that the machine chooses
@@ -138,7 +122,7 @@ module _ (v : View) (w : IsWellFormed v) (ls : List Label) (a : IsLabelled v ls)
     same_name s l es place el fl cl best = elim (cases_eq s.label.name l.label.name) [
       | inl e ↦ e
       | inr d ↦ absurd (elim (cases_lt (down s.label.size) (down l.label.size)) [
-        | inl less ↦ true≢false (sym (smaller_before s.label l.label less) ∙ best)
+        | inl less ↦ true≢false (sym (rw (lt-ltb (down s.label.size) (down l.label.size) less) refl) ∙ best)
         | inr more ↦ elim (cases_lt (down l.label.size) (down s.label.size)) [
           | inl less ↦ let none = t.smallest (down l.label.size) cl (let k = class in omega arith) in let one_there = listed in omega (arith, ap (times l.label.name) none)
           | inr same ↦ true≢false (sym (newer_before s.label l.label (omega arith) (newer d (omega arith))) ∙ best)
@@ -187,7 +171,7 @@ module _ (v : View) (w : IsWellFormed v) (ls : List Label) (a : IsLabelled v ls)
         there = subst (λ xs. In (by_tag s.0.label) (tags xs)) (sym s.1) (occurs_spot s.0)
 
         fit : fits n (by_tag s.0.label) ≡ true
-        fit = spot_fits n s.0.label s.3 (let e = ap (λ (p : Place). down p.block.size) s.2 in let c = t.fits in omega arith)
+        fit = rw (s.3, le-leb (up n) (down s.0.label.size) (let e = ap (λ (p : Place). down p.block.size) s.2 in let c = t.fits in omega arith)) refl
 
         go : (o : Option plain.Place) → chosen_place n (tags ls) ≡ o → Choice
         go None e = absurd (true≢false (sym fit ∙ not_chosen n (tags ls) e (by_tag s.0.label) there))
@@ -195,7 +179,7 @@ module _ (v : View) (w : IsWellFormed v) (ls : List Label) (a : IsLabelled v ls)
             let l = chosen_spot p e in
             let best = (chosen_at n (tags ls) p e).2 (by_tag s.0.label) there fit in
             let name = same_name s.0 l.0 s.1 s.2 l.1 l.3 l.4 (ap (λ (q : plain.Place). is_taken_before (by_tag s.0.label) q.block) l.2 ∙ best) in
-            let same = some_same (named_place l.0) (named_place s.0) (sym (place_of_spot v w l.0 (a.view ∙ ap names l.1)) ∙ ap (λ x. place_of x v.blocks) (sym name) ∙ place_of_spot v w s.0 (a.view ∙ ap names s.1)) in
+            let same = same_some (named_place l.0) (named_place s.0) (sym (place_of_spot v w l.0 (a.view ∙ ap names l.1)) ∙ ap (λ x. place_of x v.blocks) (sym name) ∙ place_of_spot v w s.0 (a.view ∙ ap names s.1)) in
             record { spot = l.0; split = l.1; place = same ∙ s.2; free = l.3; is = e ∙ ap Some (sym l.2) }
 
     pub chosen : Choice

@@ -1,7 +1,7 @@
 -- Releases in a row leave the same space in any order.
 use Rattle.std.proofs.Common.{◌≡◌, ℕ, zero, suc, ◌+◌, ◌-◌, Bool, true, false, ◌&&◌, ◌||◌, ◌≤◌, List, [], ◌∷◌, ◌++◌, sum, Option, Some, None, is_some, nat_eq, nat_lt, nat_le, if◌then◌else◌, refl, sym, ap, ap₂, subst, subst₂, ◌∙◌, arith, eq-eqb, eqb-true, append_assoc}
 use Rattle.std.proofs.lemmas.List.{map-append}
-use Rattle.std.proofs.lemmas.Bool.{true≢false, false≢true}
+use Rattle.std.proofs.lemmas.Bool.{true≢false, false≢true, false_from_ne_true}
 use Rattle.offset_script.specs.declared.scripts.Command.{Command}
 use Rattle.offset_script.specs.declared.scripts.Command.TheVariants as command
 use Rattle.offset_allocator.specs.Classes.{up, down}
@@ -9,7 +9,7 @@ use Rattle.offset_allocator.specs.Reports.{largest, rows_below}
 use Rattle.offset_allocator.specs.Named.{max_size, padding_to}
 use Rattle.offset_script.specs.Machine.{Tag, Live, Free, Block, block, is_free, has_number, total, free_sizes, Place, here, prepend, fits, is_taken_before, choose, chosen_place, place_of, free_start, without_start, ends_live, coalesce, State, Outcome, start, step, after, request, grant_or_refuse, is_short_of, returns_only, leaves, release, size_at, stamp_of_call}
 use Rattle.offset_script.specs.Machine as machine
-use Rattle.offset_script.specs.Histories.{holder, outline, widen, collapse, without_offset, releases, Commutes}
+use Rattle.offset_script.specs.Histories.{holder, outline, widen, collapse, without_offset, releases, IsCollapse}
 use Rattle.std.specs.List.{list_any}
 use Rattle.std.specs.Option.{option_map_or}
 use Rattle.offset_script.proofs.Pairs.{Kind, Lives, Frees, Pair, left_tag, right_tag, left, right, lefts, rights, same_free, same_short, same_free_sizes, same_refusal, SamePlace, neither, both, same_place_of}
@@ -84,22 +84,14 @@ stays ks n (Live j) bs h a = ap (λ b. if b then widen n (outline bs) else (n, S
 stays ks n (Free s) bs h a = widen_apart n bs a
 
 not_among : (ks : List ℕ) (b : Block) (bs : List Block) → ((j : ℕ) → list_any (nat_eq j) ks ≡ true → count (Live j) (b ∷ bs) ≡ 0) → (j : ℕ) → b.tag ≡ Live j → list_any (nat_eq j) ks ≡ false
-not_among ks b bs h j e = go (list_any (nat_eq j) ks) refl
-  where
-    go : (x : Bool) → list_any (nat_eq j) ks ≡ x → x ≡ false
-    go true f = absurd (no_hit b.tag j e (count (Live j) bs) (h j f))
-    go false f = refl
+not_among ks b bs h j e = false_from_ne_true (list_any (nat_eq j) ks) (λ f. no_hit b.tag j e (count (Live j) bs) (h j f))
 
 unchanged : (ks : List ℕ) (bs : List Block) → Apart bs → ((j : ℕ) → list_any (nat_eq j) ks ≡ true → count (Live j) bs ≡ 0) → collapse ks (outline bs) ≡ outline bs
 unchanged ks [] a h = refl
 unchanged ks (b ∷ bs) a h = ap (collapse_block ks b.size (holder b.tag)) (unchanged ks bs a.1 (λ j e. let z = h j e in omega arith)) ∙ stays ks b.size b.tag bs (not_among ks b bs h) a.0
 
--- a release
-only_k : (k j : ℕ) → list_any (nat_eq j) (k ∷ []) ≡ true → j ≡ k
-only_k k j e = eqb-true j k (sym (or_nothing (nat_eq j k)) ∙ e)
-
 none_of : (k : ℕ) (bs : List Block) → count (Live k) bs ≡ 0 → (j : ℕ) → list_any (nat_eq j) (k ∷ []) ≡ true → count (Live j) bs ≡ 0
-none_of k bs z j e = subst (λ x. count (Live x) bs ≡ 0) (sym (only_k k j e)) z
+none_of k bs z j e = subst (λ x. count (Live x) bs ≡ 0) (sym (eqb-true j k (sym (or_nothing (nat_eq j k)) ∙ e))) z
 
 free_holder : (t : Tag) → is_free t ≡ true → holder t ≡ None
 free_holder (Live j) e = absurd (false≢true e)
@@ -176,12 +168,8 @@ some_if true true p q = refl
 some_if true false p q = refl
 some_if false c p q = refl
 
-some_or_none : (b : Bool) (p : Place) → is_some (if b then Some p else None) ≡ (b || false)
-some_or_none true p = refl
-some_or_none false p = refl
-
 some_chosen : (n : ℕ) (b : Block) (bs : List Block) (o : Option Place) → is_some (choose n b bs o) ≡ (fits n b || is_some o)
-some_chosen n b bs None = some_or_none (fits n b) (here b bs)
+some_chosen n b bs None = elim (fits n b) as (λ x. is_some (if x then Some (here b bs) else None) ≡ (x || false)) [ true ↦ refl | false ↦ refl ]
 some_chosen n b bs (Some p) = some_if (fits n b) (is_taken_before b p.block) (here b bs) (prepend b p)
 
 some_same : (n : ℕ) (p : List Pair) → is_some (chosen_place n (lefts p)) ≡ is_some (chosen_place n (rights p))
@@ -229,13 +217,11 @@ same_next s t a (command.Align n align) = if_same (λ (o p : Outcome). without_o
     (if_same (λ (o p : Outcome). without_offset o.answer ≡ without_offset p.answer) (nat_lt max_size (n + align - 1)) (nat_lt max_size (n + align - 1)) (returns_only s machine.Refused) (returns_only t machine.Refused) (request s 2 (n + align - 1) n (padding_to align)) (request t 2 (n + align - 1) n (padding_to align)) refl (λ e. refl) (same_request s t a 2 (n + align - 1) n (padding_to align)))
 same_next s t a (command.Extend more) = same_extend s t a more
 
-pub commute_law : (size limit : ℕ) → 2 ≤ limit → (cs : List Command) (ks : List ℕ) → Commutes ks (after cs (start size limit))
-commute_law size limit h cs ks =
+pub commute_space : (size limit : ℕ) → 2 ≤ limit → (cs : List Command) (ks : List ℕ) → let s = after cs (start size limit) in outline (after (releases ks) s).blocks ≡ collapse ks (outline s.blocks)
+commute_space size limit h cs ks = releases_outline ks (after cs (start size limit)) (well_after cs (start size limit) (well_start size limit h))
+
+pub commute_next : (size limit : ℕ) → 2 ≤ limit → (cs : List Command) (ks : List ℕ) (t : State) → let s = after cs (start size limit) in IsCollapse ks s t → (c : Command) → without_offset (step c (after (releases ks) s)).answer ≡ without_offset (step c t).answer
+commute_next size limit h cs ks t is =
     let s = after cs (start size limit) in
-    let w : Well s = well_after cs (start size limit) (well_start size limit h) in
-    let space = releases_outline ks s w in
     let scalars = releases_scalars ks s in
-    record {
-      space = space;
-      next = λ t is. same_next (after (releases ks) s) t (record { limit = scalars.0 ∙ sym is.limit; grants = scalars.1 ∙ sym is.grants; blocks = paired _ _ (space ∙ sym is.blocks) });
-    }
+    same_next (after (releases ks) s) t (record { limit = scalars.0 ∙ sym is.limit; grants = scalars.1 ∙ sym is.grants; blocks = paired _ _ (commute_space size limit h cs ks ∙ sym is.blocks) })

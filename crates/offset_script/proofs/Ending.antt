@@ -1,20 +1,15 @@
 -- How a run ends.
-use Rattle.std.proofs.Common.{◌≡◌, ℕ, zero, suc, ◌-◌, ◌<◌, ◌⊎◌, inl, inr, false, List, [], ◌∷◌, ◌++◌, length, take, drop, get_or, refl, Option, Some, None, Ok, Err, sym, ap, ◌∙◌, append_assoc, arith, take-append-drop}
-use Rattle.std.specs.Prelude.{IfSome}
+use Rattle.std.proofs.Common.{◌≡◌, ℕ, zero, suc, ◌-◌, ◌<◌, ◌⊎◌, inl, inr, false, List, [], ◌∷◌, ◌++◌, length, take, drop, get_or, refl, Option, Some, None, Ok, Err, sym, ap, ◌∙◌, append_assoc, arith, take-append-drop, IfSome, flat_map}
 use Rattle.std.specs.Io.KnownBytes.{Appends}
-use Rattle.std.specs.List.{flat_map}
 use Rattle.std.proofs.KnownBytes.{Appends-trans}
-use Rattle.std.proofs.lemmas.Bool.{cases_lt, true≢false}
+use Rattle.std.proofs.lemmas.Bool.{cases_lt}
 use Rattle.std.proofs.lemmas.List.{append-nil, take_rest, length-append, drop_at, drop_all}
 use Rattle.offset_script.specs.declared.faults.ScriptFault.{ScriptFault}
 use Rattle.offset_script.specs.declared.faults.ScriptFault.TheVariants as scripts
-use Rattle.offset_script.specs.declared.faults.RunFault.{RunFault}
-use Rattle.offset_script.specs.declared.faults.RunFault.TheVariants as faults
 use Rattle.offset_script.specs.declared.scripts.Script.{Script}
 use Rattle.offset_script.specs.Faults.{as_run_fault}
 use Rattle.offset_script.specs.Grammar.{meaning_of}
 use Rattle.offset_script.specs.Running.{view, Returns, ScriptOf, HasText, Sends}
-use Rattle.offset_script.specs.Machine.{Answer, IsPlayed}
 use Rattle.offset_script.proofs.Steps.{is_too_long}
 
 -- a longer beginning

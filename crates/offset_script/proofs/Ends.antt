@@ -1,7 +1,7 @@
 -- Labels by names and by tags: what is free, sums, and the names of grants.
-use Rattle.std.proofs.Common.{◌≡◌, ℕ, suc, ◌+◌, ◌≤◌, Bool, true, false, not, ◌&&◌, List, [], ◌∷◌, ◌++◌, length, Option, Some, None, if◌then◌else◌, refl, ap, subst, subst₂, ◌∙◌, arith}
+use Rattle.std.proofs.Common.{◌≡◌, ℕ, ◌+◌, ◌≤◌, true, false, not, ◌&&◌, List, [], ◌∷◌, ◌++◌, length, Option, Some, None, if◌then◌else◌, refl, ap, subst, subst₂, ◌∙◌, arith}
 use Rattle.std.specs.Option.{option_or}
-use Rattle.std.proofs.lemmas.Bool.{true≢false, false≢true, not-false}
+use Rattle.std.proofs.lemmas.Bool.{false≢true, not-false}
 use Rattle.offset_script.specs.Machine.{Tag, Live, Free, is_free, has_number, stamp, total}
 use Rattle.offset_script.specs.Machine as plain
 use Rattle.offset_allocator.specs.Named as named
@@ -50,11 +50,6 @@ last_free (l ∷ m ∷ ls) some e = let r = last_free (m ∷ ls) (omega arith) e
 pub total_units : (ls : List Label) → total (tags ls) ≡ units (names ls)
 total_units [] = refl
 total_units (l ∷ ls) = ap (λ n. l.size + n) (total_units ls)
-
--- the number of blocks
-pub length_labels : (ls : List Label) → length (tags ls) ≡ length (names ls)
-length_labels [] = refl
-length_labels (l ∷ ls) = ap suc (length_labels ls)
 
 -- the sizes of the free blocks
 pub free_sizes_labels : (ls : List Label) → plain.free_sizes (tags ls) ≡ named.free_sizes (names ls)

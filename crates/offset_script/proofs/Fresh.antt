@@ -1,6 +1,6 @@
 -- A state without live blocks continues as a fresh one, and a fresh one that is extended as a larger one.
-use Rattle.std.proofs.Common.{◌≡◌, ℕ, zero, suc, ◌+◌, ◌-◌, ◌*◌, ◌<◌, ◌≤◌, true, false, ◌&&◌, ◌||◌, List, [], ◌∷◌, length, IsTrue, nat_lt, if◌then◌else◌, refl, sym, ap, ap₂, subst, subst₂, le-ltb, ◌∙◌, inl, inr, arith, le-leb}
-use Rattle.std.proofs.lemmas.Bool.{cases_lt, lt-leb, true≢false}
+use Rattle.std.proofs.Common.{◌≡◌, ℕ, zero, suc, ◌+◌, ◌-◌, ◌*◌, ◌<◌, ◌≤◌, true, false, ◌&&◌, ◌||◌, List, [], ◌∷◌, length, IsTrue, nat_lt, if◌then◌else◌, refl, sym, ap, ap₂, subst, subst₂, le-ltb, ◌∙◌, inl, inr, arith}
+use Rattle.std.proofs.lemmas.Bool.{true≢false}
 use Rattle.std.specs.List.{AllByRecursion}
 use Rattle.offset_allocator.specs.Named.{max_size}
 use Rattle.offset_script.specs.Machine.{Tag, Live, Free, Block, block, is_free, total, State, Answer, start, step, answers, after, returns_only, leaves}

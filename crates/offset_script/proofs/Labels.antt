@@ -1,5 +1,6 @@
 -- Blocks with both their names and their tags.
 use Rattle.std.proofs.Common.{◌≡◌, ℕ, ◌+◌, ◌<◌, ◌≤◌, true, false, not, ◌&&◌, ◌⊎◌, List, [], ◌∷◌, ◌++◌, map, nat_eq, if◌then◌else◌, refl, sym, ap, subst, ◌∙◌, inl, inr, arith, eq-eqb, ne_eqb, append_assoc}
+use Rattle.offset_allocator.proofs.Rows.{one-same}
 use Rattle.std.proofs.lemmas.List.{map-append}
 use Rattle.std.proofs.lemmas.Bool.{cases_lt, not-true, not-false}
 use Rattle.offset_allocator.specs.Classes.{down}
@@ -45,20 +46,13 @@ gives_parts f (x ∷ xs) ys g = let r = gives_parts f xs ys g.1 in ((g.0, r.0), 
 stamp_append : (x : ℕ) (xs ys : List Label) → stamp_of x (xs ++ ys) ≡ stamp_of x xs + stamp_of x ys
 stamp_append x xs ys = tally_append (λ (l : Label). if nat_eq x l.name then stamp l.tag else 0) xs ys
 
-named_append : (x : ℕ) (xs ys : List Label) → count_named x (names (xs ++ ys)) ≡ count_named x (names xs) + count_named x (names ys)
-named_append x xs ys = ap (count_named x) (map-append by_name xs ys) ∙ tally_append (λ (b : Block). one (nat_eq x b.name)) (names xs) (names ys)
-
 stamp_at : (before : List Label) (l : Label) (after : List Label) → count_named l.name (names (before ++ l ∷ after)) ≤ 1 → stamp_of l.name (before ++ l ∷ after) ≡ stamp l.tag
-stamp_at before l after most = elim (hit_cases l.name l.name) [
-  | inl i ↦
-      let k = i.1 in
-      let n = named_append l.name before (l ∷ after) in
-      let a = stamp_none l.name before (omega arith) in
-      let b = stamp_none l.name after (omega arith) in
-      let s = stamp_append l.name before (l ∷ after) in
-      s ∙ rw (eq-eqb l.name l.name refl) (omega arith)
-  | inr i ↦ absurd (i.0 refl)
-]
+stamp_at before l after most =
+    let k = one-same l.name in
+    let n = ap (count_named l.name) (map-append by_name before (l ∷ after)) ∙ tally_append (λ (b : Block). one (nat_eq l.name b.name)) (names before) (names (l ∷ after)) in
+    let a = stamp_none l.name before (omega arith) in
+    let b = stamp_none l.name after (omega arith) in
+    stamp_append l.name before (l ∷ after) ∙ rw (eq-eqb l.name l.name refl) (omega arith)
 
 gives_from : (before ls : List Label) → ((x : ℕ) → count_named x (names (before ++ ls)) ≤ 1) → GivesStamps (λ x. stamp_of x (before ++ ls)) ls
 gives_from before [] most = tt

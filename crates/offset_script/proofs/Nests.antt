@@ -115,24 +115,17 @@ pub after-append : (xs ys : List Command) (s : State) → after (xs ++ ys) s ≡
 after-append [] ys s = refl
 after-append (c ∷ xs) ys s = after-append xs ys (step c s).state
 
-traceless_only : (s : State) (o : Outcome) → Only s o → Traceless s o.state
-traceless_only s o q = subst (λ (x : Outcome). Traceless s x.state) (sym q.is) (record { limit = refl; blocks = similar_refl s.blocks; grants = omega arith })
-
 -- a call that neither grants nor releases
 traceless_quiet : (c : Command) (s : State) → KeepsSpace c → ((k : ℕ) → IsGrant (step c s).answer k → ⊥) → (step c s).answer ≢ machine.Freed → Traceless s (step c s).state
 traceless_quiet c s k g f = elim (does c s k) [
-  | inl q ↦ traceless_only s _ q
+  | inl q ↦ subst (λ (x : Outcome). Traceless s x.state) (sym q.is) (record { limit = refl; blocks = similar_refl s.blocks; grants = omega arith })
   | inr (inl d) ↦ absurd (g (s.grants + 1) (_, ap (λ (x : Outcome). x.answer) d.is))
   | inr (inr d) ↦ absurd (f (ap (λ (x : Outcome). x.answer) d.is))
 ]
 
--- a call that grants
-not_quiet : (a : Answer) (k offset : ℕ) → IsQuiet a → a ≡ machine.Grant k offset → ⊥
-not_quiet a k offset q e = subst IsQuiet e q
-
 granted_is : (c : Command) (s : State) (k : ℕ) → KeepsSpace c → IsGrant (step c s).answer k → Granted (requested_units c) s (step c s) × (k ≡ s.grants + 1)
 granted_is c s k h g = elim (does c s h) [
-  | inl q ↦ absurd (not_quiet q.answer k g.0 q.quiet (ap (λ (x : Outcome). x.answer) (sym q.is) ∙ g.1))
+  | inl q ↦ absurd (subst IsQuiet (ap (λ (x : Outcome). x.answer) (sym q.is) ∙ g.1) q.quiet)
   | inr (inl d) ↦ (d, number _ _ _ _ (sym g.1 ∙ ap (λ (x : Outcome). x.answer) d.is))
   | inr (inr d) ↦ absurd (freed k g.0 (ap (λ (x : Outcome). x.answer) (sym d.is) ∙ g.1))
 ]

@@ -1,6 +1,6 @@
 -- Two lists of blocks of the same sizes, both live or both free at each place, seen as one list of pairs.
-use Rattle.std.proofs.Common.{◌≡◌, ℕ, zero, suc, ◌+◌, ◌-◌, true, false, not, ◌&&◌, ◌||◌, ◌⊎◌, List, [], ◌∷◌, ◌++◌, map, length, Option, Some, None, option_map, nat_eq, nat_lt, nat_le, if◌then◌else◌, refl, sym, ap, ap₂, subst, subst₂, ◌∙◌, inl, inr, arith, eq-eqb, eqb-true}
-use Rattle.std.proofs.lemmas.List.{map-append}
+use Rattle.std.proofs.Common.{◌≡◌, ℕ, zero, suc, ◌+◌, ◌-◌, true, not, ◌&&◌, ◌||◌, ◌⊎◌, List, [], ◌∷◌, ◌++◌, map, length, Option, Some, None, option_map, nat_eq, nat_lt, nat_le, if◌then◌else◌, refl, sym, ap, ap₂, subst, subst₂, ◌∙◌, inl, inr, arith, eq-eqb, eqb-true}
+use Rattle.std.proofs.lemmas.List.{map-append, length-map}
 use Rattle.std.proofs.lemmas.Bool.{false≢true, and_parts}
 use Rattle.offset_allocator.specs.Classes.{up, down}
 use Rattle.offset_allocator.specs.Named.{max_size}
@@ -55,8 +55,7 @@ same_free (Lives j k) = refl
 same_free (Frees s u) = refl
 
 pub same_length : (p : List Pair) → length (lefts p) ≡ length (rights p)
-same_length [] = refl
-same_length (q ∷ p) = ap suc (same_length p)
+same_length p = length-map p left ∙ sym (length-map p right)
 
 pub same_total : (p : List Pair) → total (lefts p) ≡ total (rights p)
 same_total [] = refl

@@ -1,5 +1,6 @@
 -- Lists of blocks that differ only in stamps of the same order in each class.
 use Rattle.std.proofs.Common.{◌≡◌, ℕ, zero, suc, true, List, [], ◌∷◌, Option, Some, is_none, nat_eq, nat_lt, get_or, refl, sym, ap, ap₂, subst, subst₂, ◌∙◌, inl, inr, arith}
+use Rattle.offset_script.proofs.Tests.{same_some}
 use Rattle.std.proofs.lemmas.Bool.{false≢true}
 use Rattle.std.proofs.Math.ListN.{get_or-map}
 use Rattle.offset_allocator.specs.Classes.{down}
@@ -21,10 +22,7 @@ pub record Paired (bs cs : List Block) : Type 0 where
   pub numbers : (q : Pair) → In q pairs → SameNumber q.kind
 
 paired_tag : (t u : Tag) → holder t ≡ holder u → (k : Kind) × (t ≡ left_tag k) × (u ≡ right_tag k) × SameNumber k
-paired_tag (Live i) (Live j) e = (Lives i j, refl, refl, number i j e)
-  where
-    number : (i j : ℕ) → ◌≡◌ {A = Option ℕ} (Some i) (Some j) → i ≡ j
-    number i j e = cc
+paired_tag (Live i) (Live j) e = (Lives i j, refl, refl, same_some i j e)
 paired_tag (Live i) (Free s) e = absurd (grind (arith, e))
 paired_tag (Free s) (Live i) e = absurd (grind (arith, e))
 paired_tag (Free s) (Free u) e = (Frees s u, refl, refl, tt)

@@ -12,7 +12,7 @@ use Rattle.offset_script.specs.declared.scripts.Command.{Command}
 use Rattle.offset_script.specs.declared.scripts.Command.TheVariants as command
 use Rattle.offset_script.specs.Machine.{State, step, start, after, answer_view, row_view}
 use Rattle.offset_script.specs.Machine as machine
-use Rattle.offset_allocator.specs.Named.{View, Grant, total_free, largest_free, free_sizes, IsWellFormed, max_size}
+use Rattle.offset_allocator.specs.Named.{View, Grant, total_free, largest_free, free_sizes, IsWellFormed}
 use Rattle.offset_script.specs.Agreement.{Agrees, IsReached, kept_name}
 use Rattle.offset_allocator.specs.Relations.{IsFresh, Allocates, Aligns, Frees, Extends, Resets}
 use Rattle.offset_script.proofs.Well.{Well, well_start, well_after}

@@ -1,5 +1,5 @@
 -- Tests: a conjunction, a double negation, and choices by a test.
-use Rattle.std.proofs.Common.{◌≡◌, Bool, true, false, not, ◌&&◌, ◌||◌, if◌then◌else◌, refl, sym, ◌∙◌}
+use Rattle.std.proofs.Common.{◌≡◌, Bool, true, false, not, ◌&&◌, if◌then◌else◌, refl, Some}
 use Rattle.std.proofs.lemmas.Bool.{true≢false, false≢true}
 
 -- a second test counts only where the first holds
@@ -23,3 +23,7 @@ if_same R true true x x' y y' e f g = f refl
 if_same R false false x x' y y' e f g = g
 if_same R true false x x' y y' e f g = absurd (true≢false e)
 if_same R false true x x' y y' e f g = absurd (false≢true e)
+
+-- what is the same in two options
+pub same_some : {A : Type 0} (x y : A) → Some x ≡ Some y → x ≡ y
+same_some x y e = cc

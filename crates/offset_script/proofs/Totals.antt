@@ -61,14 +61,13 @@ total_kept c s k = elim (does c s k) [
 ]
 
 -- what a command leaves has as many units more as it adds
-pub Adds : Command → State → Outcome → Type 0
+abbrev pub Adds : Command → State → Outcome → Type 0
 Adds c s o = total o.state.blocks ≡ total s.blocks + added_units c o.answer
 
 adds_none : (n m : ℕ) → n ≡ m → n ≡ m + 0
 adds_none n m e = omega arith
 
 pub adds_step : (c : Command) (s : State) → Adds c s (step c s)
-unfolding Adds
 adds_step (command.Alloc n) s = adds_none _ _ (total_kept (command.Alloc n) s tt)
 adds_step (command.Free k) s = adds_none _ _ (total_kept (command.Free k) s tt)
 adds_step (command.Size k) s = adds_none _ _ refl
@@ -81,7 +80,6 @@ adds_step (command.Extend (suc more)) s = if_both (Adds (command.Extend (suc mor
     (λ e. adds_none _ _ refl) (λ e. let j = total_coalesce s.blocks (suc more) (stamp_of_call s) [] in omega arith)
 
 adds_all : (cs : List Command) (s : State) → total (after cs s).blocks ≡ total s.blocks + added_by cs s
-unfolding Adds
 adds_all [] s = omega arith
 adds_all (c ∷ cs) s = let a = adds_step c s in let ih = adds_all cs (step c s).state in omega arith
 
@@ -97,11 +95,10 @@ pub sums_law : (size limit : ℕ) (cs : List Command) → let bs = (after cs (st
 sums_law size limit cs = let p = parted (after cs (start size limit)).blocks in let a = adds_all cs (start size limit) in omega arith
 
 -- an outcome where no more than limit - 2 blocks are live
-Few : State → Outcome → Type 0
+abbrev Few : State → Outcome → Type 0
 Few s o = (live_blocks o.state.blocks + 2 ≤ s.limit) × (o.state.limit ≡ s.limit)
 
 few_kept : (c : Command) (s : State) → KeepsSpace c → live_blocks s.blocks + 2 ≤ s.limit → Few s (step c s)
-unfolding Few
 few_kept c s k h = elim (does c s k) [
   | inl q ↦ subst (Few s) (sym q.is) (h, refl)
   | inr (inl d) ↦ subst (Few s) (sym d.is) (let r = d.room in
@@ -111,7 +108,6 @@ few_kept c s k h = elim (does c s k) [
 ]
 
 few_step : (c : Command) (s : State) → live_blocks s.blocks + 2 ≤ s.limit → Few s (step c s)
-unfolding Few
 few_step (command.Alloc n) s h = few_kept (command.Alloc n) s tt h
 few_step (command.Free k) s h = few_kept (command.Free k) s tt h
 few_step (command.Size k) s h = (h, refl)
@@ -124,7 +120,6 @@ few_step (command.Extend (suc more)) s h = if_both (Few s) (nat_lt max_size (tot
     (λ e. (h, refl)) (λ e. (let j = live_coalesce s.blocks (suc more) (stamp_of_call s) [] in omega arith, refl))
 
 few_all : (cs : List Command) (s : State) (limit : ℕ) → s.limit ≡ limit → live_blocks s.blocks + 2 ≤ limit → live_blocks (after cs s).blocks + 2 ≤ limit
-unfolding Few
 few_all [] s limit e h = h
 few_all (c ∷ cs) s limit e h = let f = few_step c s (omega arith) in few_all cs (step c s).state limit (f.1 ∙ e) (omega (arith, f.0))
 

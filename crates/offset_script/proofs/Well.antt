@@ -1,5 +1,6 @@
 -- What holds of lists of blocks, and of every state that the machine reaches.
-use Rattle.std.proofs.Common.{◌≡◌, ◌≢◌, ℕ, zero, suc, ◌+◌, ◌-◌, ◌<◌, ◌≤◌, Bool, true, false, ◌&&◌, ◌||◌, ◌⊎◌, List, [], ◌∷◌, ◌++◌, length, Option, Some, None, option_map, nat_eq, nat_lt, nat_le, if◌then◌else◌, refl, sym, ap, ap₂, subst, ◌∙◌, inl, inr, arith, eq-eqb, ne_eqb, leb-false, length-append, append-nil}
+use Rattle.std.proofs.Common.{◌≡◌, ℕ, zero, suc, ◌+◌, ◌-◌, ◌<◌, ◌≤◌, Bool, true, false, ◌&&◌, ◌||◌, ◌⊎◌, List, [], ◌∷◌, ◌++◌, length, Option, Some, None, option_map, nat_eq, nat_lt, nat_le, if◌then◌else◌, refl, sym, ap, ap₂, subst, ◌∙◌, inl, inr, arith, ne_eqb, leb-false, length-append, append-nil}
+use Rattle.offset_allocator.proofs.Rows.{one-same}
 use Rattle.offset_allocator.proofs.ViewOrders.{hit_cases}
 use Rattle.offset_allocator.proofs.ViewApart.{left_false, right_false}
 use Rattle.std.proofs.lemmas.Bool.{cases_eq, cases_lt, true≢false, false≢true, and_parts, and_left, and_right, or_parts, and_cases, not-false}
@@ -74,8 +75,8 @@ count-append t [] ys = omega arith
 count-append t (b ∷ xs) ys = let ih = count-append t xs ys in omega (arith, ih)
 
 pub hit_self : (t : Tag) → hit t t ≡ 1
-hit_self (Live k) = elim (hit_cases k k) [ inl h ↦ h.1 | inr h ↦ absurd (h.0 refl) ]
-hit_self (Free s) = elim (hit_cases s s) [ inl h ↦ h.1 | inr h ↦ absurd (h.0 refl) ]
+hit_self (Live k) = one-same k
+hit_self (Free s) = one-same s
 
 -- the tag of a block that is in a list occurs there
 pub in_count : (c : Block) (bs : List Block) → In c bs → 1 ≤ count c.tag bs
@@ -273,7 +274,7 @@ well_leaves s w bs a some room apart counts = well_next s (leaves s bs a).state 
     fresh (Free x) = elim (hit_cases x (stamp_of_call s)) [ inl e ↦ inr (e.1, λ o. absurd (omega arith), omega arith) | inr e ↦ inl e.1 ]
 
 -- what is found
-FoundAt : ℕ → List Block → Option Place → Type 0
+abbrev FoundAt : ℕ → List Block → Option Place → Type 0
 FoundAt k bs None = count (Live k) bs ≡ 0
 FoundAt k bs (Some p) = (bs ≡ whole p) × (has_number k p.block.tag ≡ true) × (count (Live k) p.before ≡ 0)
 
@@ -282,19 +283,16 @@ number_hit k (Live j) = refl
 number_hit k (Free s) = refl
 
 found_step : (k : ℕ) (b : Block) (bs : List Block) (o : Option Place) → FoundAt k bs o → (x : Bool) → has_number k b.tag ≡ x → FoundAt k (b ∷ bs) (if x then Some (here b bs) else option_map (prepend b) o)
-unfolding FoundAt
 found_step k b bs o f true e = (refl, e, refl)
 found_step k b bs None f false e = let h : hit (Live k) b.tag ≡ 0 = number_hit k b.tag ∙ ap one e in omega arith
 found_step k b bs (Some p) f false e = let h : hit (Live k) b.tag ≡ 0 = number_hit k b.tag ∙ ap one e in (ap (λ l. b ∷ l) f.0, f.1, omega arith)
 
 found_all : (k : ℕ) (bs : List Block) → FoundAt k bs (place_of k bs)
-unfolding FoundAt
 found_all k [] = refl
 found_all k (b ∷ bs) = found_step k b bs (place_of k bs) (found_all k bs) (has_number k b.tag) refl
 
 -- where a grant is found, its block is in the list
 pub found_at : (k : ℕ) (bs : List Block) (p : Place) → place_of k bs ≡ Some p → (bs ≡ whole p) × (has_number k p.block.tag ≡ true) × (count (Live k) p.before ≡ 0)
-unfolding FoundAt
 found_at k bs p e = subst (FoundAt k bs) e (found_all k bs)
 
 -- a grant is found where its number does not occur before
@@ -304,7 +302,6 @@ place_at k (x ∷ xs) b ys c e = ap (λ t. if t then Some (here x (xs ++ b ∷ y
 
 -- where a grant is not found, no block has its number
 pub not_found : (k : ℕ) (bs : List Block) → place_of k bs ≡ None → count (Live k) bs ≡ 0
-unfolding FoundAt
 not_found k bs e = subst (FoundAt k bs) e (found_all k bs)
 
 -- no block that fits is chosen over this one
@@ -312,13 +309,9 @@ abbrev pub IsBest : ℕ → List Block → Block → Type 0
 IsBest n bs b = (c : Block) → In c bs → fits n c ≡ true → is_taken_before c b ≡ false
 
 -- what was chosen is the best that fits, and where nothing was, nothing fits
-ChosenAt : ℕ → List Block → Option Place → Type 0
+abbrev ChosenAt : ℕ → List Block → Option Place → Type 0
 ChosenAt n bs None = (c : Block) → In c bs → fits n c ≡ false
 ChosenAt n bs (Some p) = (bs ≡ whole p) × (fits n p.block ≡ true) × IsBest n bs p.block
-
--- the order in which blocks are chosen
-taken_irreflexive : (b : Block) → is_taken_before b b ≡ false
-taken_irreflexive b = grind (arith, nat_tests)
 
 order_transitive : (x y z s t u : ℕ) → (nat_lt x y || (nat_eq x y && nat_lt t s)) ≡ false → (nat_lt z y || (nat_eq z y && nat_lt t u)) ≡ true → (nat_lt x z || (nat_eq x z && nat_lt u s)) ≡ false
 order_transitive x y z s t u f g = grind (arith, nat_tests)
@@ -327,7 +320,7 @@ taken_transitive : (a b c : Block) → is_taken_before a b ≡ false → is_take
 taken_transitive a b c f g = order_transitive (down a.size) (down b.size) (down c.size) (stamp a.tag) (stamp b.tag) (stamp c.tag) f g
 
 chosen_here : (n : ℕ) (b : Block) (bs : List Block) → fits n b ≡ true → ((c : Block) → In c bs → fits n c ≡ true → is_taken_before c b ≡ false) → IsBest n (b ∷ bs) b
-chosen_here n b bs f best c (inl e) g = subst (λ (x : Block). is_taken_before x b ≡ false) (sym e) (taken_irreflexive b)
+chosen_here n b bs f best c (inl e) g = subst (λ (x : Block). is_taken_before x b ≡ false) (sym e) (grind (arith, nat_tests))
 chosen_here n b bs f best c (inr i) g = best c i g
 
 chosen_prepend : (n : ℕ) (b : Block) (bs : List Block) (d : Block) → (fits n b && is_taken_before b d) ≡ false → IsBest n bs d → IsBest n (b ∷ bs) d
@@ -335,7 +328,6 @@ chosen_prepend n b bs d f best c (inl e) g = subst (λ (x : Block). is_taken_bef
 chosen_prepend n b bs d f best c (inr i) g = best c i g
 
 choose_none : (n : ℕ) (b : Block) (bs : List Block) → ((c : Block) → In c bs → fits n c ≡ false) → (x : Bool) → fits n b ≡ x → ChosenAt n (b ∷ bs) (if x then Some (here b bs) else None)
-unfolding ChosenAt
 choose_none n b bs h true e = (refl, e, chosen_here n b bs e (λ c i g. absurd (true≢false (sym g ∙ h c i))))
 choose_none n b bs h false e = λ c i. none c i
   where
@@ -344,37 +336,29 @@ choose_none n b bs h false e = λ c i. none c i
     none c (inr i) = h c i
 
 choose_some : (n : ℕ) (b : Block) (bs : List Block) (p : Place) → ChosenAt n bs (Some p) → (x : Bool) → (fits n b && is_taken_before b p.block) ≡ x → ChosenAt n (b ∷ bs) (if x then Some (here b bs) else Some (prepend b p))
-unfolding ChosenAt
 choose_some n b bs p h true e = (refl, (and_parts _ _ e).0, chosen_here n b bs (and_parts _ _ e).0 (λ c i g. taken_transitive c p.block b (h.2 c i g) (and_parts _ _ e).1))
 choose_some n b bs p h false e = (ap (λ l. b ∷ l) h.0, h.1, chosen_prepend n b bs p.block e h.2)
 
 choose_step : (n : ℕ) (b : Block) (bs : List Block) (o : Option Place) → ChosenAt n bs o → ChosenAt n (b ∷ bs) (choose n b bs o)
-choose_step n b bs None h = choose_none n b bs (unfold ChosenAt in h) (fits n b) refl
+choose_step n b bs None h = choose_none n b bs h (fits n b) refl
 choose_step n b bs (Some p) h = choose_some n b bs p h _ refl
 
 chosen_all : (n : ℕ) (bs : List Block) → ChosenAt n bs (chosen_place n bs)
-unfolding ChosenAt
 chosen_all n [] = λ c i. absurd i
 chosen_all n (b ∷ bs) = choose_step n b bs (chosen_place n bs) (chosen_all n bs)
 
 -- a chosen place is one of the list, fits, and is the newest of the smallest class that fits
 pub chosen_at : (n : ℕ) (bs : List Block) (p : Place) → chosen_place n bs ≡ Some p → (bs ≡ whole p) × (fits n p.block ≡ true) × IsBest n bs p.block
-unfolding ChosenAt
 chosen_at n bs p e = subst (ChosenAt n bs) e (chosen_all n bs)
 
 -- where nothing is chosen, nothing fits
 pub not_chosen : (n : ℕ) (bs : List Block) → chosen_place n bs ≡ None → (c : Block) → In c bs → fits n c ≡ false
-unfolding ChosenAt
 not_chosen n bs e = subst (ChosenAt n bs) e (chosen_all n bs)
 
 -- a grant
-free_block_short : (n s : ℕ) → length (free_block n s) ≤ 1
-free_block_short zero s = omega arith
-free_block_short (suc n) s = omega arith
-
-pub free_part : (n s : ℕ) → AllFree (free_block n s) × Apart (free_block n s) × (total (free_block n s) ≡ n)
-free_part zero s = (tt, tt, refl)
-free_part (suc n) s = ((refl, tt), (refl, tt), omega arith)
+pub free_part : (n s : ℕ) → AllFree (free_block n s) × Apart (free_block n s) × (total (free_block n s) ≡ n) × (length (free_block n s) ≤ 1)
+free_part zero s = (tt, tt, refl, omega arith)
+free_part (suc n) s = ((refl, tt), (refl, tt), omega arith, omega arith)
 
 apart_free_block : (n s : ℕ) (ys : List Block) → Apart ys → starts_free ys ≡ false → Apart (free_block n s ++ ys)
 apart_free_block zero s ys a e = a
@@ -399,7 +383,7 @@ well_grant : (s : State) → Well s → (n padding : ℕ) (p : Place) → s.bloc
     → length (free_block padding (stamp_of_padding s)) + 1 ≤ spare → Well (grant s n padding p).state
 well_grant s w n padding p e f spare room enough = well_next s (grant s n padding p).state w (λ t. hit t (Free (stamp_of_padding s)) + (hit t (Live (s.grants + 1)) + hit t (Free (stamp_of_call s))))
     (λ t. omega (arith, count_granted t p n padding (stamp_of_padding s) (s.grants + 1) (stamp_of_call s), ap (count t) e)) fresh (omega arith) (omega arith)
-    (omega (arith, sizes)) (omega (arith, sizes, ap length e, length-append p.before (p.block ∷ p.after), free_block_short (p.block.size - (padding + n)) (stamp_of_call s))) (apart_granted p n padding _ _ _ f (subst Apart e w.apart))
+    (omega (arith, sizes)) (omega (arith, sizes, ap length e, length-append p.before (p.block ∷ p.after), (free_part (p.block.size - (padding + n)) (stamp_of_call s)).3)) (apart_granted p n padding _ _ _ f (subst Apart e w.apart))
   where
     sizes : length (granted_blocks p n padding (stamp_of_padding s) (s.grants + 1) (stamp_of_call s)) ≡ length p.before + (length (free_block padding (stamp_of_padding s)) + suc (length (free_block (p.block.size - (padding + n)) (stamp_of_call s)) + length p.after))
     sizes = simp length-append
@@ -488,7 +472,7 @@ well_step command.Report s w = well_quiet s w (report s)
 well_step command.Full s w = well_quiet s w (machine.Full (rows_below 256 (machine.free_sizes s.blocks)))
 well_step command.Reset s w = well_reset s w
 well_step (command.Align n align) s w = if_both (λ (o : Outcome). Well o.state) (nat_le align 1) _ _ (λ e. well_request s w 1 n n (λ offset. 0) no_padding)
-    (λ e. if_both (λ (o : Outcome). Well o.state) (nat_lt max_size (n + align - 1)) _ _ (λ e. well_quiet s w machine.Refused) (λ e. well_request s w 2 (n + align - 1) n (padding_to align) (λ o x. let h = free_block_short (padding_to align o) x in omega arith)))
+    (λ e. if_both (λ (o : Outcome). Well o.state) (nat_lt max_size (n + align - 1)) _ _ (λ e. well_quiet s w machine.Refused) (λ e. well_request s w 2 (n + align - 1) n (padding_to align) (λ o x. let h = (free_part (padding_to align o) x).3 in omega arith)))
 well_step (command.Extend more) s w = well_extend s w more
 
 -- so do all commands in order

@@ -1,8 +1,7 @@
 -- What a text means, a script or the fault of its first faulty line, and the text of answers to a script.
-use Rattle.std.specs.Prelude.{◌≡◌, ℕ, ◌+◌, ◌^◌, Bool, true, not, ◌&&◌, List, [], ◌∷◌, ◌++◌, length, drop, filter, count_by, Option, Some, None, option_and_then, Result, Ok, Err, ok_or, nat_lt, nat_le, ◌==◌, if◌then◌else◌, codes}
+use Rattle.std.specs.Prelude.{ℕ, ◌+◌, ◌^◌, Bool, true, not, ◌&&◌, List, [], ◌∷◌, ◌++◌, length, filter, count_by, Option, Some, None, option_and_then, Result, Ok, Err, ok_or, nat_lt, nat_le, ◌==◌, if◌then◌else◌, codes}
 use Rattle.std.specs.List.{slice_split, flat_map}
 use Rattle.std.specs.Fmt.{decimal}
-use Rattle.std.specs.Io.KnownBytes.{Appends}
 use Rattle.std.specs.Str.{bytes_eq, all_ascii_digits}
 use Rattle.std.specs.Str.Parse.{digits_value}
 use Rattle.std.specs.Int.{is_power_of_two}
@@ -13,9 +12,6 @@ use Rattle.offset_script.specs.declared.scripts.IndexWidth.TheVariants.{Bits16, 
 use Rattle.offset_script.specs.declared.scripts.Header.{Header}
 use Rattle.offset_script.specs.declared.faults.ScriptFault.{ScriptFault}
 use Rattle.offset_script.specs.declared.faults.ScriptFault.TheVariants.{TooLong, BadHeader, BadLimit, BadCommand}
-use Rattle.offset_script.specs.declared.faults.ScriptFault.TheVariants as scripts
-use Rattle.offset_script.specs.declared.faults.RunFault.{RunFault}
-use Rattle.offset_script.specs.declared.faults.RunFault.TheVariants.{Script, Memory, Read, Write}
 use Rattle.offset_allocator.specs.Reports.{Row}
 use Rattle.offset_script.specs.Machine.{Answer, IsPlayed}
 use Rattle.offset_script.specs.Machine as machine

@@ -1,5 +1,5 @@
 -- Laws over whole histories of the plain machine.
-use Rattle.std.specs.Prelude.{take, drop, ◌≡◌, ◌≢◌, ℕ, ◌+◌, ◌-◌, ◌≤◌, true, List, [], ◌∷◌, ◌++◌, length, map, Option, Some, None, IsTrue, nat_eq, nat_le, if◌then◌else◌}
+use Rattle.std.specs.Prelude.{take, drop, ◌≡◌, ◌≢◌, ℕ, ◌+◌, ◌-◌, true, List, [], ◌∷◌, ◌++◌, length, map, Option, Some, None, IsTrue, nat_eq, nat_le, if◌then◌else◌}
 use Rattle.std.specs.List.{AllByRecursion, list_any}
 use Rattle.std.specs.Option.{option_map_or}
 use Rattle.offset_script.specs.declared.scripts.Command.{Command}
@@ -78,12 +78,6 @@ without_offset other = other
 -- releases of the grants of these numbers, in this order
 abbrev pub releases : List ℕ → List Command
 releases ks = map command.Free ks
-
--- releases in a row leave the sizes and grants of the collapse, and a next command has the same answer as there, except
--- for the offset of a grant
-pub record Commutes (ks : List ℕ) (s : State) : Type 0 where
-  pub space : outline (after (releases ks) s).blocks ≡ collapse ks (outline s.blocks)
-  pub next : (t : State) → IsCollapse ks s t → (c : Command) → without_offset (step c (after (releases ks) s)).answer ≡ without_offset (step c t).answer
 
 -- wherever releases in a row occur in the commands, the answer found after them is that of the collapse
 abbrev pub RowsCommute : ℕ → ℕ → List Command → List Answer → Type 0

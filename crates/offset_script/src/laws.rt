@@ -6,7 +6,7 @@ ghost use Rattle.offset_script.specs.declared.scripts.Command.TheVariants as com
 ghost use Rattle.offset_script.specs.declared.scripts.Header.{Header};
 ghost use Rattle.offset_allocator.specs.Named.{max_size};
 ghost use Rattle.offset_script.specs.Grammar.{command_of, header_of};
-ghost use Rattle.offset_script.specs.Histories.{HasNoLive, answers_renumbered, Commutes, Nest, IsQuestion};
+ghost use Rattle.offset_script.specs.Histories.{HasNoLive, answers_renumbered, outline, collapse, IsCollapse, without_offset, releases, Nest, IsQuestion};
 ghost use Rattle.offset_script.specs.Machine.{State, start, step, after, answers, total, free_sizes};
 ghost use Rattle.offset_script.specs.Machine as machine;
 ghost use Rattle.offset_script.specs.Spelling.{IsSpelling, IsHeaderSpelling};
@@ -36,7 +36,15 @@ pub fn an_extended_space_is_larger()
 
 /// Releases in a row leave the same space in any order.
 pub fn releases_commute()
-    ensures { (size limit : ℕ) → 2 ≤ limit → (cs : List Command) (ks : List ℕ) → Commutes ks (after cs (start size limit)) }
+    // The sizes and the live grants are those of the collapse, which does not depend on the order.
+    ensures space { (size limit : ℕ) → 2 ≤ limit → (cs : List Command) (ks : List ℕ)
+        → let s = after cs (start size limit) in
+        outline (after (releases ks) s).blocks ≡ collapse ks (outline s.blocks) }
+    // A next command has the same answer as there, except for the offset of a grant.
+    ensures next { (size limit : ℕ) → 2 ≤ limit → (cs : List Command) (ks : List ℕ) (t : State)
+        → let s = after cs (start size limit) in
+        IsCollapse ks s t → (c : Command)
+        → without_offset (step c (after (releases ks) s)).answer ≡ without_offset (step c t).answer }
 {}
 
 /// A nest leaves no trace: each of its grants is released in it, the last first, what lies between a grant and its

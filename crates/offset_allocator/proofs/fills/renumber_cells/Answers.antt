@@ -1,5 +1,4 @@
-use Rattle.std.proofs.Common.{◌≡◌, ◌∙◌, ap, sym, arith, length, map}
-use Rattle.std.proofs.lemmas.List.{length-set, take_all}
+use Rattle.std.proofs.Common.{◌≡◌, ◌∙◌, ap, sym, arith, length, map, length-set, take_all}
 use Rattle.std.specs.List.{range_with_len}
 use Rattle.offset_allocator.proofs.Overwritten.{rising_more}
 use Rattle.offset_allocator.proofs.fills.renumber_cells.Goals as goal

@@ -1,5 +1,4 @@
-use Rattle.std.proofs.Common.{map, ◌≡◌, take}
-use Rattle.std.specs.String.{string_bytes}
+use Rattle.std.proofs.Common.{map, ◌≡◌, take, string_bytes}
 use Rattle.offset_script.specs.Machine.{answer_view}
 use Rattle.offset_script.specs.Grammar.{text_of}
 use Rattle.offset_script.proofs.answers.answer_text.Given as goal

@@ -1,8 +1,5 @@
-use Rattle.std.proofs.Common.{◌≡◌, ◌++◌, take}
-use Rattle.std.specs.Prelude.{map}
-use Rattle.std.specs.String.{string_bytes}
+use Rattle.std.proofs.Common.{◌≡◌, ◌++◌, take, map, string_bytes, flat_map}
 use Rattle.offset_script.specs.Machine.{row_view}
-use Rattle.std.specs.List.{flat_map}
 use Rattle.offset_script.specs.Grammar.{row_line}
 use Rattle.offset_script.proofs.answers.put_rows.Given as goal
 

@@ -10,7 +10,7 @@ use Rattle.offset_script.specs.Histories.{RestartsFresh, NestsLeaveNoTrace, Rows
 use Rattle.offset_script.specs.declared.answers.Answer as program
 use Rattle.offset_script.proofs.Fresh.{fresh_law}
 use Rattle.offset_script.proofs.Nests.{after-append, nest_law}
-use Rattle.offset_script.proofs.Commute.{commute_law}
+use Rattle.offset_script.proofs.Commute.{commute_next}
 use Rattle.offset_script.proofs.playing.play.Goals as goal
 
 -- A loop over commands: one more command, and one more answer.
@@ -61,7 +61,7 @@ rows size limit cs found h e before ks c rest parts t is =
     let s = start size limit in
     ap (λ l. map without_offset (take 1 l)) (ap (drop (length (before ++ releases ks))) (e ∙ ap (λ c. answers c s) parts) ∙ answers_past (before ++ releases ks) (c ∷ rest) s)
     ∙ ap (λ (u : State). without_offset (step c u).answer ∷ []) (after-append before (releases ks) s)
-    ∙ ap (λ a. a ∷ []) ((commute_law size limit h before ks).next t is c)
+    ∙ ap (λ a. a ∷ []) (commute_next size limit h before ks t is c)
 
 pub call-requires : goal.call-requires
 call-requires g c = record {

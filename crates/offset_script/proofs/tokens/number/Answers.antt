@@ -1,7 +1,6 @@
-use Rattle.std.proofs.Common.{◌≡◌, arith, take, length, sym, ◌∙◌}
-use Rattle.std.proofs.lemmas.List.{take_all}
-use Rattle.offset_script.proofs.Numbers.{is_empty, is_long, has_other, is_read, goes_on_digits, goes_on_value, goes_on_small, above_zero}
-use Rattle.std.proofs.lemmas.Bool.{eqb-true}
+use Rattle.std.proofs.Common.{◌≡◌, arith, take, length, sym, ◌∙◌, take_all, eqb-true, pos_of_ne-zero}
+use Rattle.std.proofs.lemmas.Bool.{eqb-false}
+use Rattle.offset_script.proofs.Numbers.{is_empty, is_long, has_other, is_read, goes_on_digits, goes_on_value, goes_on_small}
 use Rattle.offset_script.proofs.tokens.number.Goals as goal
 use Rattle.offset_script.proofs.tokens.number.Goals.{then-is_empty-via-then-is_empty, then-is_empty-via-else-is_empty+then-word-gt-MOST_DIGITS}
 
@@ -26,4 +25,4 @@ pub returns : goal.returns
 returns c =
     let w = c.args.word.now in
     let all : take c.loop-b.b-index w ≡ w = take_all c.loop-b.b-index w (omega arith) in
-    c.ok.ensures.value ∙ is_read w c.loop-b.n c.try_from.result (above_zero (length w) (sym c.if-is_empty.ensures)) (omega arith) (rw all at c.loop-b.invariant.digits) (rw all at c.loop-b.invariant.value) c.try_from.ensures
+    c.ok.ensures.value ∙ is_read w c.loop-b.n c.try_from.result (pos_of_ne-zero (eqb-false (length w) 0 (sym c.if-is_empty.ensures))) (omega arith) (rw all at c.loop-b.invariant.digits) (rw all at c.loop-b.invariant.value) c.try_from.ensures
