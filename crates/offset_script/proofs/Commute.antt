@@ -42,14 +42,6 @@ collapse-widen ks n (b ∷ o) = go b.0 b.1
     go x None = sym (widen-widen n x (collapse ks o))
     go x (Some k) = refl
 
-collapse_if : (ks : List ℕ) (b : Bool) (x y : Outline) → collapse ks (if b then x else y) ≡ (if b then collapse ks x else collapse ks y)
-collapse_if ks true x y = refl
-collapse_if ks false x y = refl
-
-either_then : (b c : Bool) (x y : Outline) → (if b then x else (if c then x else y)) ≡ (if b || c then x else y)
-either_then true c x y = refl
-either_then false c x y = refl
-
 or_nothing : (b : Bool) → (b || false) ≡ b
 or_nothing true = refl
 or_nothing false = refl
@@ -57,10 +49,10 @@ or_nothing false = refl
 collapse_block_more : (k : ℕ) (ks : List ℕ) (n : ℕ) (h : Option ℕ) (o p : Outline) → collapse ks o ≡ p → collapse ks (collapse_block (k ∷ []) n h o) ≡ collapse_block (k ∷ ks) n h p
 collapse_block_more k ks n None o p ih = collapse-widen ks n o ∙ ap (widen n) ih
 collapse_block_more k ks n (Some j) o p ih =
-    collapse_if ks (nat_eq j k || false) (widen n o) ((n, Some j) ∷ o)
+    elim (nat_eq j k || false) as (λ x. collapse ks (if x then widen n o else (n, Some j) ∷ o) ≡ (if x then collapse ks (widen n o) else collapse ks ((n, Some j) ∷ o))) [ true ↦ refl | false ↦ refl ]
     ∙ ap (λ x. if nat_eq j k || false then x else collapse_block ks n (Some j) (collapse ks o)) (collapse-widen ks n o)
     ∙ ap₂ (λ x q. if x then widen n q else (if list_any (nat_eq j) ks then widen n q else (n, Some j) ∷ q)) (or_nothing (nat_eq j k)) ih
-    ∙ either_then (nat_eq j k) (list_any (nat_eq j) ks) (widen n p) ((n, Some j) ∷ p)
+    ∙ elim (nat_eq j k) as (λ x. (if x then widen n p else (if list_any (nat_eq j) ks then widen n p else (n, Some j) ∷ p)) ≡ (if x || list_any (nat_eq j) ks then widen n p else (n, Some j) ∷ p)) [ true ↦ refl | false ↦ refl ]
 
 collapse_one_more : (k : ℕ) (ks : List ℕ) (o : Outline) → collapse ks (collapse (k ∷ []) o) ≡ collapse (k ∷ ks) o
 collapse_one_more k ks [] = refl
@@ -163,14 +155,12 @@ record SameSpace (s t : State) : Type 0 where
   blocks : Paired s.blocks t.blocks
 
 -- whether a request is granted goes by the sizes
-some_if : (b c : Bool) (p q : Place) → is_some (if b && c then Some p else Some q) ≡ (b || true)
-some_if true true p q = refl
-some_if true false p q = refl
-some_if false c p q = refl
-
 some_chosen : (n : ℕ) (b : Block) (bs : List Block) (o : Option Place) → is_some (choose n b bs o) ≡ (fits n b || is_some o)
 some_chosen n b bs None = elim (fits n b) as (λ x. is_some (if x then Some (here b bs) else None) ≡ (x || false)) [ true ↦ refl | false ↦ refl ]
-some_chosen n b bs (Some p) = some_if (fits n b) (is_taken_before b p.block) (here b bs) (prepend b p)
+some_chosen n b bs (Some p) = elim (fits n b) as (λ x. is_some (if x && is_taken_before b p.block then Some (here b bs) else Some (prepend b p)) ≡ (x || true)) [
+  | true ↦ elim (is_taken_before b p.block) as (λ y. is_some (if y then Some (here b bs) else Some (prepend b p)) ≡ true) [ true ↦ refl | false ↦ refl ]
+  | false ↦ refl
+]
 
 some_same : (n : ℕ) (p : List Pair) → is_some (chosen_place n (lefts p)) ≡ is_some (chosen_place n (rights p))
 some_same n [] = refl

@@ -43,16 +43,13 @@ pub gives_parts : (f : ℕ → ℕ) (xs ys : List Label) → GivesStamps f (xs +
 gives_parts f [] ys g = (tt, g)
 gives_parts f (x ∷ xs) ys g = let r = gives_parts f xs ys g.1 in ((g.0, r.0), r.1)
 
-stamp_append : (x : ℕ) (xs ys : List Label) → stamp_of x (xs ++ ys) ≡ stamp_of x xs + stamp_of x ys
-stamp_append x xs ys = tally_append (λ (l : Label). if nat_eq x l.name then stamp l.tag else 0) xs ys
-
 stamp_at : (before : List Label) (l : Label) (after : List Label) → count_named l.name (names (before ++ l ∷ after)) ≤ 1 → stamp_of l.name (before ++ l ∷ after) ≡ stamp l.tag
 stamp_at before l after most =
     let k = one-same l.name in
     let n = ap (count_named l.name) (map-append by_name before (l ∷ after)) ∙ tally_append (λ (b : Block). one (nat_eq l.name b.name)) (names before) (names (l ∷ after)) in
     let a = stamp_none l.name before (omega arith) in
     let b = stamp_none l.name after (omega arith) in
-    stamp_append l.name before (l ∷ after) ∙ rw (eq-eqb l.name l.name refl) (omega arith)
+    tally_append (λ (m : Label). if nat_eq l.name m.name then stamp m.tag else 0) before (l ∷ after) ∙ rw (eq-eqb l.name l.name refl) (omega arith)
 
 gives_from : (before ls : List Label) → ((x : ℕ) → count_named x (names (before ++ ls)) ≤ 1) → GivesStamps (λ x. stamp_of x (before ++ ls)) ls
 gives_from before [] most = tt

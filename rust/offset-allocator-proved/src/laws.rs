@@ -28,7 +28,7 @@ pub fn undo<NI: NodeIndex>(allocator: &mut Allocator<NI>, n: u32) -> bool {
 
 /// The blocks fill the space, no two free ones side by side, and each bin holds the free blocks of its class.
 ///
-/// Lemmas over the definitions ask for this, such as `taken_back` of `proofs/Undone.antt`.
+/// Lemmas over the definitions ask for this, such as `taken_back` of `proofs/ViewUndo.antt`.
 pub fn is_well_formed<NI: NodeIndex>(allocator: &Allocator<NI>) {
     allocator.formed();
 }
