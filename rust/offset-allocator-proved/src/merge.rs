@@ -62,7 +62,11 @@ fn with_before<NI: NodeIndex>(store: &mut Store<NI>, name: u32, size: u32) -> u3
 /// bin. There it takes the place of the block that is coalesced last, where that is the newest one.
 #[inline(always)]
 pub(crate) fn coalesce<NI: NodeIndex>(store: &mut Store<NI>, name: u32, size: u32) {
-    if let Some(following) = free_after(&store.tables, name, &mut store.accesses) {
+    let (gone, more, whole) = if let Some(following) = free_after(
+        &store.tables,
+        name,
+        &mut store.accesses,
+    ) {
         let size = with_before(store, name, size);
         let more = chain::size(&store.tables, following, &mut store.accesses);
         let whole = size + more;
@@ -75,15 +79,7 @@ pub(crate) fn coalesce<NI: NodeIndex>(store: &mut Store<NI>, name: u32, size: u3
             whole,
             &mut store.accesses,
         );
-        bins::exchange(
-            &mut store.tables,
-            &mut store.top_mask,
-            following,
-            more,
-            name,
-            uint_to_float_round_down(whole),
-            &mut store.accesses,
-        );
+        (following, more, whole)
     } else if let Some(previous) = free_before(&store.tables, name, &mut store.accesses) {
         let more = chain::size(&store.tables, previous, &mut store.accesses);
         let whole = more + size;
@@ -95,15 +91,7 @@ pub(crate) fn coalesce<NI: NodeIndex>(store: &mut Store<NI>, name: u32, size: u3
             whole,
             &mut store.accesses,
         );
-        bins::exchange(
-            &mut store.tables,
-            &mut store.top_mask,
-            previous,
-            more,
-            name,
-            uint_to_float_round_down(whole),
-            &mut store.accesses,
-        );
+        (previous, more, whole)
     } else {
         bins::push(
             &mut store.tables,
@@ -112,5 +100,15 @@ pub(crate) fn coalesce<NI: NodeIndex>(store: &mut Store<NI>, name: u32, size: u3
             uint_to_float_round_down(size),
             &mut store.accesses,
         );
-    }
+        return;
+    };
+    bins::exchange(
+        &mut store.tables,
+        &mut store.top_mask,
+        gone,
+        more,
+        name,
+        uint_to_float_round_down(whole),
+        &mut store.accesses,
+    );
 }

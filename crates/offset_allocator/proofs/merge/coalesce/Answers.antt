@@ -5,6 +5,7 @@ use Rattle.offset_allocator.proofs.Classes.{down_small}
 use Rattle.offset_allocator.proofs.Places.{at_place, next_place, previous_place, kept_before, kept_after, free_before, free_after, before_fits, after_fits}
 use Rattle.offset_allocator.proofs.Filed.{unlisted, previous_filed, next_filed, filed_before, next_same}
 use Rattle.offset_allocator.proofs.merge.coalesce.Goals as goal
+use Rattle.offset_allocator.proofs.merge.coalesce.Goals.{in-Some, in_default+in-Some-free_before}
 
 -- a free block after it
 pub size-more-requires : goal.size-more-requires
@@ -30,34 +31,6 @@ pub coalesce_after-requires-clause-free : goal.coalesce_after-requires-clause-fr
 coalesce_after-requires-clause-free g c =
     let h = c.requires.place.2 in (next_same h (c.with_before-size.ensures.place _ _ h) refl c.in-Some.ensures.free.0).1 ∙ c.in-Some.ensures.free.1
 
-pub exchange-requires-clause-listed : goal.exchange-requires-clause-listed
-exchange-requires-clause-listed g c =
-    let h = c.requires.place.2 in
-    let merged = c.with_before-size.ensures.place _ _ h in
-    let same = next_same h merged refl c.in-Some.ensures.free.0 in
-    rw (c.coalesce_after.ensures.links, c.with_before-size.ensures.lists _ _ h, c.size-more.ensures.size) (next_filed merged _ (filed_before h _ c.requires.place.3 c.requires.held.linked.lists_len) same.0 (same.1 ∙ c.in-Some.ensures.free.1))
-
-pub exchange-requires-clause-classed : goal.exchange-requires-clause-classed
-exchange-requires-clause-classed g c =
-    let s = down_small (c.with_before-size.result + c.size-more.result) in omega (arith, s, c.uint_to_float_round_down.ensures.is)
-
-pub exchange-requires-clause-fresh : goal.exchange-requires-clause-fresh
-exchange-requires-clause-fresh g c =
-    let h = c.requires.place.2 in
-    rw (c.coalesce_after.ensures.links, c.with_before-size.ensures.lists _ _ h) (unlisted (c.with_before-size.ensures.place _ _ h) _ (filed_before h _ c.requires.place.3 c.requires.held.linked.lists_len))
-
-pub returns-in-Some-clause-place : goal.returns-in-Some-clause-place
-returns-in-Some-clause-place g c m p h = rw c.exchange.ensures.room (c.coalesce_after.ensures.place _ _ (c.with_before-size.ensures.place _ _ h))
-
-pub returns-in-Some-clause-lists : goal.returns-in-Some-clause-lists
-returns-in-Some-clause-lists g c m p h =
-    let merged = c.with_before-size.ensures.place _ _ h in
-    let same = next_same h merged refl c.in-Some.ensures.free.0 in
-    let gone = free_after merged same.0 (same.1 ∙ c.in-Some.ensures.free.1) in
-    let left = c.coalesce_after.ensures.place _ _ merged in
-    let whole : c.with_before-size.result + c.size-more.result ≡ (node c.coalesce_after.new.tables.room c.args.name).size = omega (arith, c.size-more.ensures.size, c.with_before-size.ensures.size, gone.0, ap (λ (v : Node). v.size) (at_place left), ap (λ (v : Node). v.size) (at_place merged)) in
-    rw (c.exchange.ensures.room, c.exchange.ensures.lists, c.uint_to_float_round_down.ensures.is, whole, c.coalesce_after.ensures.links, c.with_before-size.ensures.lists _ _ h, c.size-more.ensures.size) (ap (push _ c.args.name) (sym (gone.1 _)))
-
 -- a free block before it alone
 pub size-more-requires-in-Some-free_before : goal.size-more-requires-in-Some-free_before
 size-more-requires-in-Some-free_before g c = (previous_place c.requires.place.2 c.in-Some-free_before.ensures.free.0).place.below
@@ -65,33 +38,9 @@ size-more-requires-in-Some-free_before g c = (previous_place c.requires.place.2 
 pub overflow_add-whole-in-Some-free_before : goal.overflow_add-whole-in-Some-free_before
 overflow_add-whole-in-Some-free_before g c = omega (arith, c.size-more-in-Some-free_before.ensures.size, c.requires.size, before_fits c.requires.place.2 c.in-Some-free_before.ensures.free.0)
 
-pub exchange-requires-in-Some-free_before-clause-listed : goal.exchange-requires-in-Some-free_before-clause-listed
-exchange-requires-in-Some-free_before-clause-listed g c =
-    let before = c.in-Some-free_before.ensures.free in
-    rw (c.coalesce_before.ensures.links, c.size-more-in-Some-free_before.ensures.size) (previous_filed c.requires.place.2 _ c.requires.place.3 before.0 before.1)
-
-pub exchange-requires-in-Some-free_before-clause-classed : goal.exchange-requires-in-Some-free_before-clause-classed
-exchange-requires-in-Some-free_before-clause-classed g c =
-    let s = down_small (c.size-more-in-Some-free_before.result + c.args.size) in omega (arith, s, c.uint_to_float_round_down-in-Some-free_before.ensures.is)
-
-pub exchange-requires-in-Some-free_before-clause-fresh : goal.exchange-requires-in-Some-free_before-clause-fresh
-exchange-requires-in-Some-free_before-clause-fresh g c = rw c.coalesce_before.ensures.links (unlisted c.requires.place.2 _ c.requires.place.3)
-
-pub returns-in-Some-free_before-clause-place : goal.returns-in-Some-free_before-clause-place
-returns-in-Some-free_before-clause-place g c m p h =
-    rw c.exchange-in-Some-free_before.ensures.room (kept_after (c.coalesce_before.ensures.place _ _ _ h) (c.in_default.ensures.free _ _ _ _ h))
-
-pub returns-in-Some-free_before-clause-lists : goal.returns-in-Some-free_before-clause-lists
-returns-in-Some-free_before-clause-lists g c m p h =
-    let before = c.in-Some-free_before.ensures.free in
-    let gone = free_before h before.0 before.1 in
-    let left = c.coalesce_before.ensures.place _ _ _ h in
-    let whole : c.size-more-in-Some-free_before.result + c.args.size ≡ (node c.coalesce_before.new.tables.room c.args.name).size = omega (arith, c.size-more-in-Some-free_before.ensures.size, c.requires.size, gone.0, ap (λ (v : Node). v.size) (at_place left), ap (λ (v : Node). v.size) (at_place h)) in
-    rw (c.exchange-in-Some-free_before.ensures.room, c.exchange-in-Some-free_before.ensures.lists, c.uint_to_float_round_down-in-Some-free_before.ensures.is, whole, c.coalesce_before.ensures.links, c.size-more-in-Some-free_before.ensures.size, c.in_default.ensures.free _ _ _ _ h) (ap (push _ c.args.name) (sym (gone.1 _)))
-
 -- no free block beside it
 pub push-requires-clause-classed : goal.push-requires-clause-classed
-push-requires-clause-classed g c = let s = down_small c.args.size in omega (arith, s, c.uint_to_float_round_down-in_default-free_before.ensures.is)
+push-requires-clause-classed g c = let s = down_small c.args.size in omega (arith, s, c.uint_to_float_round_down.ensures.is)
 
 pub push-requires-clause-fresh : goal.push-requires-clause-fresh
 push-requires-clause-fresh g c = unlisted c.requires.place.2 _ c.requires.place.3
@@ -102,4 +51,52 @@ returns-in_default-free_before-clause-place g c m p h =
 
 pub returns-in_default-free_before-clause-lists : goal.returns-in_default-free_before-clause-lists
 returns-in_default-free_before-clause-lists g c m p h =
-    rw (c.push.ensures.room, c.push.ensures.lists, c.uint_to_float_round_down-in_default-free_before.ensures.is, ← c.requires.size, c.in_default-free_before.ensures.free _ _ _ _ h, c.in_default.ensures.free _ _ _ _ h) refl
+    rw (c.push.ensures.room, c.push.ensures.lists, c.uint_to_float_round_down.ensures.is, ← c.requires.size, c.in_default-free_before.ensures.free _ _ _ _ h, c.in_default.ensures.free _ _ _ _ h) refl
+
+-- a free block beside it
+pub exchange-requires-clause-listed : goal.exchange-requires-clause-listed
+exchange-requires-clause-listed g c =
+    let h = c.requires.place.2 in
+    elim c.match-free_after.branch [
+      | in-Some w ↦
+          let merged = w.with_before-size.ensures.place _ _ h in
+          let same = next_same h merged refl w.in-Some.ensures.free.0 in
+          rw (w.store-is, w.gone-is, w.coalesce_after.ensures.links, w.with_before-size.ensures.lists _ _ h, w.size-more.ensures.size) (next_filed merged _ (filed_before h _ c.requires.place.3 c.requires.held.linked.lists_len) same.0 (same.1 ∙ w.in-Some.ensures.free.1))
+      | in_default+in-Some-free_before w ↦
+          let before = w.in-Some-free_before.ensures.free in
+          rw (w.store-is, w.gone-is, w.coalesce_before.ensures.links, w.size-more-in-Some-free_before.ensures.size) (previous_filed h _ c.requires.place.3 before.0 before.1)
+    ]
+
+pub exchange-requires-clause-classed : goal.exchange-requires-clause-classed
+exchange-requires-clause-classed g c = let s = down_small c.match-free_after.gone.2 in omega (arith, s, c.uint_to_float_round_down-2.ensures.is)
+
+pub exchange-requires-clause-fresh : goal.exchange-requires-clause-fresh
+exchange-requires-clause-fresh g c =
+    let h = c.requires.place.2 in
+    elim c.match-free_after.branch [
+      | in-Some w ↦ rw (w.store-is, w.coalesce_after.ensures.links, w.with_before-size.ensures.lists _ _ h) (unlisted (w.with_before-size.ensures.place _ _ h) _ (filed_before h _ c.requires.place.3 c.requires.held.linked.lists_len))
+      | in_default+in-Some-free_before w ↦ rw (w.store-is, w.coalesce_before.ensures.links) (unlisted h _ c.requires.place.3)
+    ]
+
+pub returns-clause-place : goal.returns-clause-place
+returns-clause-place g c m p h = elim c.match-free_after.branch [
+  | in-Some w ↦ rw (c.exchange.ensures.room, w.store-is) (w.coalesce_after.ensures.place _ _ (w.with_before-size.ensures.place _ _ h))
+  | in_default+in-Some-free_before w ↦ rw (c.exchange.ensures.room, w.store-is) (kept_after (w.coalesce_before.ensures.place _ _ _ h) (w.in_default.ensures.free _ _ _ _ h))
+]
+
+pub returns-clause-lists : goal.returns-clause-lists
+returns-clause-lists g c m p h = elim c.match-free_after.branch [
+  | in-Some w ↦
+      let merged = w.with_before-size.ensures.place _ _ h in
+      let same = next_same h merged refl w.in-Some.ensures.free.0 in
+      let gone = free_after merged same.0 (same.1 ∙ w.in-Some.ensures.free.1) in
+      let left = w.coalesce_after.ensures.place _ _ merged in
+      let whole : w.with_before-size.result + w.size-more.result ≡ (node w.coalesce_after.new.tables.room c.args.name).size = omega (arith, w.size-more.ensures.size, w.with_before-size.ensures.size, gone.0, ap (λ (v : Node). v.size) (at_place left), ap (λ (v : Node). v.size) (at_place merged)) in
+      rw (c.exchange.ensures.room, c.exchange.ensures.lists, c.uint_to_float_round_down-2.ensures.is, w.store-is, w.gone-is, whole, w.coalesce_after.ensures.links, w.with_before-size.ensures.lists _ _ h, w.size-more.ensures.size) (ap (push _ c.args.name) (sym (gone.1 _)))
+  | in_default+in-Some-free_before w ↦
+      let before = w.in-Some-free_before.ensures.free in
+      let gone = free_before h before.0 before.1 in
+      let left = w.coalesce_before.ensures.place _ _ _ h in
+      let whole : w.size-more-in-Some-free_before.result + c.args.size ≡ (node w.coalesce_before.new.tables.room c.args.name).size = omega (arith, w.size-more-in-Some-free_before.ensures.size, c.requires.size, gone.0, ap (λ (v : Node). v.size) (at_place left), ap (λ (v : Node). v.size) (at_place h)) in
+      rw (c.exchange.ensures.room, c.exchange.ensures.lists, c.uint_to_float_round_down-2.ensures.is, w.store-is, w.gone-is, whole, w.coalesce_before.ensures.links, w.size-more-in-Some-free_before.ensures.size, w.in_default.ensures.free _ _ _ _ h) (ap (push _ c.args.name) (sym (gone.1 _)))
+]
