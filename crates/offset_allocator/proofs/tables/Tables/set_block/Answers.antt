@@ -1,5 +1,5 @@
 use Rattle.std.proofs.Common.{◌∙◌, Bool, ap, refl}
-use Rattle.offset_allocator.specs.Cells.{Cells, Node, put, link_of}
+use Rattle.offset_allocator.specs.Cells.{Node, put, link_of}
 use Rattle.offset_allocator.proofs.Zip.{wrote-room}
 use Rattle.offset_allocator.proofs.tables.Tables.set_block.Goals as goal
 
