@@ -53,43 +53,43 @@ kept_set hs k l (suc j) = elim (cases_eq j k) [
 ]
 
 -- a call returns the answer of the plain machine, and what it leaves agrees with the state that the machine leaves
-simulates : (c : Command) (v w : View) (hs left : List (Option Grant)) (a : program.Answer) → ((s : State) → Represents v hs s → IsWellFormed w)
-    → ((s : State) → IsWellFormed v → Well s → Agrees v (kept_name hs) s → length hs ≡ s.grants → (answer_view a ≡ (step c s).answer) × Agrees w (kept_name left) (step c s).state × (length left ≡ (step c s).state.grants))
+simulates : (c : Command) (v w : View) (hs left : List (Option Grant)) (a : program.Answer)
+    → (IsWellFormed w → (s : State) → IsWellFormed v → Well s → Agrees v (kept_name hs) s → length hs ≡ s.grants → (answer_view a ≡ (step c s).answer) × Agrees w (kept_name left) (step c s).state × (length left ≡ (step c s).state.grants))
     → Simulates v hs w left c a
-simulates c v w hs left a formed f = record {
-  answer = λ s reached st. (f s st.formed (well_of s reached) st.agrees st.grants).0;
-  state = λ s reached st. let r = f s st.formed (well_of s reached) st.agrees st.grants in record { formed = formed s st; agrees = r.1; grants = r.2 };
+simulates c v w hs left a f = record {
+  answer = λ formed s reached st. (f formed s st.formed (well_of s reached) st.agrees st.grants).0;
+  state = λ formed s reached st. let r = f formed s st.formed (well_of s reached) st.agrees st.grants in record { formed = formed; agrees = r.1; grants = r.2 };
 }
 
 -- a request, whose grant is kept
-request_simulates : (c : Command) (v w : View) → IsWellFormed w → (hs left : List (Option Grant)) (r : Option Grant) (a : program.Answer)
-    → ((s : State) → IsWellFormed v → Well s → Agrees v (kept_name hs) s → Matches w (kept_name hs) s.grants r (step c s)) → IsKept r hs left a → Simulates v hs w left c a
-request_simulates c v w formed hs left None a alike k = simulates c v w hs left a (λ s st. formed) (λ s f ws g len.
-    let m = alike s f ws g in
+request_simulates : (c : Command) (v w : View) (hs left : List (Option Grant)) (r : Option Grant) (a : program.Answer)
+    → (IsWellFormed w → (s : State) → IsWellFormed v → Well s → Agrees v (kept_name hs) s → Matches w (kept_name hs) s.grants r (step c s)) → IsKept r hs left a → Simulates v hs w left c a
+request_simulates c v w hs left None a alike k = simulates c v w hs left a (λ formed s f ws g len.
+    let m = alike formed s f ws g in
     (ap answer_view k.1 ∙ sym m.answer, agrees_kept _ (kept_name hs) _ _ (λ j. ap (λ l. kept_name l j) k.0) m.agrees, ap length k.0 ∙ len ∙ sym m.grants_after))
-request_simulates c v w formed hs left (Some h) a alike k = simulates c v w hs left a (λ s st. formed) (λ s f ws g len.
-    let m = alike s f ws g in
+request_simulates c v w hs left (Some h) a alike k = simulates c v w hs left a (λ formed s f ws g len.
+    let m = alike formed s f ws g in
     let count = ap length k.0 ∙ length-append hs (Some h ∷ []) ∙ ap (λ n. n + 1) len in (
       ap answer_view k.1 ∙ ap (λ n. machine.Grant n h.offset) count ∙ sym m.answer,
       agrees_kept _ (with_name (s.grants + 1) h.name (kept_name hs)) _ _ (λ j. ap (λ l. kept_name l j) k.0 ∙ kept_push hs h j ∙ ap (λ n. with_name (n + 1) h.name (kept_name hs) j) len) m.agrees,
       count ∙ sym m.grants_after,
     ))
 
-pub allocate_simulates : (n : ℕ) (v w : View) → IsWellFormed w → (hs left : List (Option Grant)) (r : Option Grant) (a : program.Answer) → Allocates n v w r → IsKept r hs left a → Simulates v hs w left (command.Alloc n) a
-allocate_simulates n v w formed hs left r a al k = request_simulates (command.Alloc n) v w formed hs left r a (λ s f ws g. serve_agrees v (kept_name hs) s f ws g 1 n n (λ offset. 0) w formed r al) k
+pub allocate_simulates : (n : ℕ) (v w : View) (hs left : List (Option Grant)) (r : Option Grant) (a : program.Answer) → Allocates n v w r → IsKept r hs left a → Simulates v hs w left (command.Alloc n) a
+allocate_simulates n v w hs left r a al k = request_simulates (command.Alloc n) v w hs left r a (λ formed s f ws g. serve_agrees v (kept_name hs) s f ws g 1 n n (λ offset. 0) w formed r al) k
 
-pub aligned_simulates : (n align : ℕ) (v w : View) → IsWellFormed w → (hs left : List (Option Grant)) (r : Option Grant) (a : program.Answer) → 1 ≤ align → Aligns n align v w r → IsKept r hs left a → Simulates v hs w left (command.Align n align) a
-aligned_simulates n align v w formed hs left r a some al k = request_simulates (command.Align n align) v w formed hs left r a (λ s f ws g. aligned_agrees v (kept_name hs) s f ws g n align some w formed r al) k
+pub aligned_simulates : (n align : ℕ) (v w : View) (hs left : List (Option Grant)) (r : Option Grant) (a : program.Answer) → 1 ≤ align → Aligns n align v w r → IsKept r hs left a → Simulates v hs w left (command.Align n align) a
+aligned_simulates n align v w hs left r a some al k = request_simulates (command.Align n align) v w hs left r a (λ formed s f ws g. aligned_agrees v (kept_name hs) s f ws g n align some w formed r al) k
 
 -- more units, or a refusal
-pub extended_simulates : (more : ℕ) (v w : View) → IsWellFormed w → (hs : List (Option Grant)) (done : Bool) (a : program.Answer) → Extends more v w done → answer_view a ≡ (if done then machine.Extended else machine.Refused) → Simulates v hs w hs (command.Extend more) a
-extended_simulates more v w formed hs done a e same = simulates (command.Extend more) v w hs hs a (λ s st. formed) (λ s f ws g len.
+pub extended_simulates : (more : ℕ) (v w : View) (hs : List (Option Grant)) (done : Bool) (a : program.Answer) → Extends more v w done → answer_view a ≡ (if done then machine.Extended else machine.Refused) → Simulates v hs w hs (command.Extend more) a
+extended_simulates more v w hs done a e same = simulates (command.Extend more) v w hs hs a (λ formed s f ws g len.
     let r = extend_agrees v (kept_name hs) s f ws g more w done formed e in
     (same ∙ sym r.0, r.1, len ∙ sym r.2))
 
 -- a release of a grant that is not live
 pub gone_simulates : (v : View) (hs : List (Option Grant)) (k : ℕ) → kept_name hs k ≡ None → Simulates v hs v hs (command.Free k) program_answer.Gone
-gone_simulates v hs k e = simulates (command.Free k) v v hs hs program_answer.Gone (λ s st. st.formed) (λ s f ws g len.
+gone_simulates v hs k e = simulates (command.Free k) v v hs hs program_answer.Gone (λ formed s f ws g len.
     let r = gone_agrees v (kept_name hs) s f ws g k e in
     (sym r.0, r.1, len ∙ sym r.2))
 
@@ -98,20 +98,20 @@ pub live_kept : (v : View) (hs : List (Option Grant)) (k x : ℕ) → Represents
 live_kept v hs k x i e = used_live x v (live_agrees v (kept_name hs) i.state i.represents.formed (well_of i.state i.reached) i.represents.agrees k x e)
 
 -- a release of a live grant, whose handle is removed
-freed_simulates : (v w : View) → IsWellFormed w → (hs : List (Option Grant)) (k x : ℕ) → kept_name hs (suc k) ≡ Some x → k < length hs → Frees x v w → Simulates v hs w (slice_set hs k None) (command.Free (suc k)) program_answer.Freed
-freed_simulates v w formed hs k x e l freed = simulates (command.Free (suc k)) v w hs (slice_set hs k None) program_answer.Freed (λ s st. formed) (λ s f ws g len.
+freed_simulates : (v w : View) (hs : List (Option Grant)) (k x : ℕ) → kept_name hs (suc k) ≡ Some x → k < length hs → Frees x v w → Simulates v hs w (slice_set hs k None) (command.Free (suc k)) program_answer.Freed
+freed_simulates v w hs k x e l freed = simulates (command.Free (suc k)) v w hs (slice_set hs k None) program_answer.Freed (λ formed s f ws g len.
     let r = free_agrees v (kept_name hs) s f ws g (suc k) x e w formed freed in
     (sym r.0, agrees_kept _ (without_name (suc k) (kept_name hs)) _ _ (kept_set hs k l) r.1, length-set _ _ _ ∙ len ∙ sym r.2))
 
 -- the same, by the number of the grant
-pub released_simulates : (v w : View) → IsWellFormed w → (hs left : List (Option Grant)) (number x : ℕ) → kept_name hs number ≡ Some x → (1 ≤ number) × (number ≤ length hs) → Frees x v w → left ≡ slice_set hs (number - 1) None → Simulates v hs w left (command.Free number) program_answer.Freed
-released_simulates v w formed hs left zero x e l but f = absurd (omega arith)
-released_simulates v w formed hs left (suc k) x e l but f = let same : suc k - 1 ≡ k = omega arith in subst (λ z. Simulates v hs w z (command.Free (suc k)) program_answer.Freed) (sym (f ∙ ap (λ i. slice_set hs i None) same)) (freed_simulates v w formed hs k x e (omega arith) but)
+pub released_simulates : (v w : View) (hs left : List (Option Grant)) (number x : ℕ) → kept_name hs number ≡ Some x → (1 ≤ number) × (number ≤ length hs) → Frees x v w → left ≡ slice_set hs (number - 1) None → Simulates v hs w left (command.Free number) program_answer.Freed
+released_simulates v w hs left zero x e l but f = absurd (omega arith)
+released_simulates v w hs left (suc k) x e l but f = let same : suc k - 1 ≡ k = omega arith in subst (λ z. Simulates v hs w z (command.Free (suc k)) program_answer.Freed) (sym (f ∙ ap (λ i. slice_set hs i None) same)) (freed_simulates v w hs k x e (omega arith) but)
 
 -- a question leaves all as it is
 asks : (c : Command) (v : View) (hs : List (Option Grant)) (a : program.Answer) → ((s : State) → (step c s).state ≡ record s { calls = s.calls + 1 })
     → ((s : State) → IsWellFormed v → Well s → Agrees v (kept_name hs) s → answer_view a ≡ (step c s).answer) → Simulates v hs v hs c a
-asks c v hs a same f = simulates c v v hs hs a (λ s st. st.formed) (λ s w ws g len.
+asks c v hs a same f = simulates c v v hs hs a (λ formed s w ws g len.
     (f s w ws g, subst (Agrees v (kept_name hs)) (sym (same s)) (agrees_quiet v (kept_name hs) s g machine.Gone), len ∙ ap (λ (t : State). t.grants) (sym (same s))))
 
 -- the size of a grant that is not live
@@ -141,8 +141,8 @@ none_kept hs none zero = refl
 none_kept hs none (suc k) = elim (cases_lt k (length hs)) [ inl l ↦ ap (option_map handle_name) (none k l) | inr m ↦ ap (option_map handle_name) (get_or_past hs k None m) ]
 
 -- a reset, where no handle is left
-pub reset_simulates : (v w : View) → IsWellFormed w → (hs left : List (Option Grant)) → Resets v w → length left ≡ length hs → ((i : ℕ) → i < length left → slice_index_or left i None ≡ None) → Simulates v hs w left command.Reset program_answer.Reset
-reset_simulates v w formed hs left r len none = simulates command.Reset v w hs left program_answer.Reset (λ s st. formed) (λ s f ws g count. (
+pub reset_simulates : (v w : View) (hs left : List (Option Grant)) → Resets v w → length left ≡ length hs → ((i : ℕ) → i < length left → slice_index_or left i None ≡ None) → Simulates v hs w left command.Reset program_answer.Reset
+reset_simulates v w hs left r len none = simulates command.Reset v w hs left program_answer.Reset (λ formed s f ws g count. (
   refl,
   alone_agrees w r.name v.size (machine.stamp_of_call s) (kept_name left) _ (ap (λ (u : View). u.blocks) r.view) (ap (λ (u : View). u.order) r.view) (g.limit ∙ sym (ap (λ (u : View). u.max_allocs) r.view))
       (ap (λ n. machine.block n (machine.Free (machine.stamp_of_call s)) ∷ []) (sym (same_units v (kept_name hs) s f ws g) ∙ f.whole)) (none_kept left none),

@@ -13,10 +13,11 @@ pub record Represents (v : View) (handles : List (Option Grant)) (s : State) : T
   pub agrees : Agrees v (kept_name handles) s
   pub grants : length handles ≡ s.grants
 
--- a call returns the answer of the plain machine, and leaves what represents the state that the machine leaves
+-- a call that leaves a well-formed view returns the answer of the plain machine, and leaves what represents the state
+-- that the machine leaves
 pub record Simulates (v : View) (handles : List (Option Grant)) (w : View) (left : List (Option Grant)) (c : Command) (a : program.Answer) : Type 0 where
-  pub answer : (s : State) → IsReached s → Represents v handles s → answer_view a ≡ (step c s).answer
-  pub state : (s : State) → IsReached s → Represents v handles s → Represents w left (step c s).state
+  pub answer : IsWellFormed w → (s : State) → IsReached s → Represents v handles s → answer_view a ≡ (step c s).answer
+  pub state : IsWellFormed w → (s : State) → IsReached s → Represents v handles s → Represents w left (step c s).state
 
 -- a view and handles that represent some state that the plain machine reaches
 pub record RepresentsReached (v : View) (handles : List (Option Grant)) : Type 0 where

@@ -1,7 +1,6 @@
 //! Plays the commands of a script on an allocator.
 
 ghost use Rattle.std.specs.Prelude.{◌≡◌, ◌+◌, ◌<◌, ◌≤◌, All, IfOk, IfSome, IsTrue, None, ℕ, length, map, option_map, slice_index_or, vec_len};
-ghost use Rattle.offset_allocator.specs.Named.{IsWellFormed};
 ghost use Rattle.offset_script.specs.Agreement.{kept_name};
 ghost use Rattle.offset_script.specs.Machine.{answer_view, answers, start, IsPlayed};
 ghost use Rattle.offset_script.specs.Histories.{RestartsFresh, RowsCommute, NestsLeaveNoTrace};
@@ -63,9 +62,7 @@ impl<NI: NodeIndex> Player<NI> {
         ensures handle { IfOk result (λ a. IsKept granted self.old.handles.items
             self.new.handles.items a) }
         ensures space { self.new.space ≡ self.old.space }
-        ensures formed { IsWellFormed self.old.space }
     {
-        is_well_formed(&self.space);
         match granted {
             None => Ok(Answer::Refused),
             Some(handle) => {
@@ -97,7 +94,6 @@ impl<NI: NodeIndex> Player<NI> {
             None => Answer::Gone,
             Some(handle) => {
                 self.space.free(handle);
-                is_well_formed(&self.space);
                 self.handles[number as usize - 1] = None;
                 Answer::Freed
             }
@@ -149,7 +145,6 @@ impl<NI: NodeIndex> Player<NI> {
             self.new.space self.new.handles.items Command.Reset result }
     {
         self.space.reset();
-        is_well_formed(&self.space);
         for i in self.swept..self.handles.len() {
             self.handles[i] = None;
         }
@@ -172,9 +167,7 @@ impl<NI: NodeIndex> Player<NI> {
         ensures { Simulates self.old.space self.old.handles.items
             self.new.space self.new.handles.items (Command.Extend more) result }
     {
-        let done = self.space.extend(more);
-        is_well_formed(&self.space);
-        if done {
+        if self.space.extend(more) {
             Answer::Extended
         } else {
             Answer::Refused
@@ -233,7 +226,9 @@ pub fn play<NI: NodeIndex>(
     let mut player: Player<NI> = Player::start(alloc, size, max_allocs)?;
     let mut found = Vec::new(alloc);
     for command in commands {
-        found.push(player.call(alloc, *command)?)?;
+        let answer = player.call(alloc, *command)?;
+        is_well_formed(&player.space);
+        found.push(answer)?;
     }
     Ok(found)
 }

@@ -44,7 +44,6 @@ impl<NI: NodeIndex> Player<NI> {
 
     // The answer to a request with this result. The handle of a grant is kept under the next number.
     fn keep(&mut self, granted: Option<Allocation<NI>>) -> Result<Answer, AllocError> {
-        is_well_formed(&self.space);
         match granted {
             None => Ok(Answer::Refused),
             Some(handle) => {
@@ -69,7 +68,6 @@ impl<NI: NodeIndex> Player<NI> {
             None => Answer::Gone,
             Some(handle) => {
                 self.space.free(handle);
-                is_well_formed(&self.space);
                 self.handles[number as usize - 1] = None;
                 Answer::Freed
             }
@@ -109,7 +107,6 @@ impl<NI: NodeIndex> Player<NI> {
     // The answer to `reset`. All handles are removed, and numbers go on.
     fn reset(&mut self) -> Answer {
         self.space.reset();
-        is_well_formed(&self.space);
         for i in self.swept..self.handles.len() {
             self.handles[i] = None;
         }
@@ -125,9 +122,7 @@ impl<NI: NodeIndex> Player<NI> {
 
     // The answer to `extend`.
     fn extend(&mut self, more: u32) -> Answer {
-        let done = self.space.extend(more);
-        is_well_formed(&self.space);
-        if done {
+        if self.space.extend(more) {
             Answer::Extended
         } else {
             Answer::Refused
@@ -165,7 +160,9 @@ pub fn play<NI: NodeIndex>(
     let mut player: Player<NI> = Player::start(alloc, size, max_allocs)?;
     let mut found = Vec::new(alloc);
     for command in commands {
-        found.push(player.call(alloc, *command)?)?;
+        let answer = player.call(alloc, *command)?;
+        is_well_formed(&player.space);
+        found.push(answer)?;
     }
     Ok(found)
 }

@@ -81,10 +81,10 @@ loop-command-preserved g c =
     let state = after (take i cs) s in
     let within : i < length cs = omega arith in
     let reached : IsReached state = record { size = c.args.size; limit = c.args.max_allocs; commands = take i cs; admitted = c.requires.low; reached = refl } in
-    let same_choice = c.in_ok-call.ensures in
+    let same_choice = c.in_ok-answer.ensures in
     record {
-      represents = subst (Represents c.call.new.self.space c.call.new.self.handles.items) (sym (after_more cs s i _ within)) (same_choice.state state reached c.loop-command.invariant.represents);
-      so_far = answers_more cs s i _ c.loop-command.found.items _ c.in_ok-call.field-0 (answers cs s) within c.in_ok-push.ensures.items (same_choice.answer state reached c.loop-command.invariant.represents) c.loop-command.invariant.so_far;
+      represents = subst (Represents c.call.new.self.space c.call.new.self.handles.items) (sym (after_more cs s i _ within)) (same_choice.state c.is_well_formed.ensures state reached c.loop-command.invariant.represents);
+      so_far = answers_more cs s i _ c.loop-command.found.items _ c.in_ok-answer.answer (answers cs s) within c.in_ok-push.ensures.items (same_choice.answer c.is_well_formed.ensures state reached c.loop-command.invariant.represents) c.loop-command.invariant.so_far;
     }
 
 pub returns : goal.returns

@@ -3,8 +3,8 @@ use Rattle.offset_script.specs.Machine as machine
 use Rattle.offset_script.proofs.Simulation.{extended_simulates}
 use Rattle.offset_script.proofs.playing.Player.extend.Goals as goal
 
-pub returns-then-done : goal.returns-then-done
-returns-then-done g c = extended_simulates _ _ _ c.is_well_formed.ensures _ c.extend-done.result _ c.extend-done.ensures.step (ap (λ (b : Bool). if b then machine.Extended else machine.Refused) (sym c.if-done.true))
+pub returns-then-extend : goal.returns-then-extend
+returns-then-extend g c = extended_simulates _ _ _ _ c.extend.result _ c.extend.ensures.step (ap (λ (b : Bool). if b then machine.Extended else machine.Refused) (sym c.if-extend.true))
 
-pub returns-else-done : goal.returns-else-done
-returns-else-done g c = extended_simulates _ _ _ c.is_well_formed.ensures _ c.extend-done.result _ c.extend-done.ensures.step (ap (λ (b : Bool). if b then machine.Extended else machine.Refused) (sym c.if-done.false))
+pub returns-else-extend : goal.returns-else-extend
+returns-else-extend g c = extended_simulates _ _ _ _ c.extend.result _ c.extend.ensures.step (ap (λ (b : Bool). if b then machine.Extended else machine.Refused) (sym c.if-extend.false))

@@ -10,4 +10,4 @@ pub returns-in-None : goal.returns-in-None
 returns-in-None g c = gone_simulates _ _ _ (sym c.handle.ensures.name ∙ ap (option_map (λ (h : Grant). h.name)) c.in-None.is)
 
 pub returns-in-Some : goal.returns-in-Some
-returns-in-Some g c = released_simulates _ _ c.is_well_formed.ensures _ _ _ _ (sym c.handle.ensures.name ∙ ap (option_map (λ (h : Grant). h.name)) c.in-Some.is) c.in-Some.ensures.within c.free.ensures.step refl
+returns-in-Some g c = released_simulates _ _ _ _ _ _ (sym c.handle.ensures.name ∙ ap (option_map (λ (h : Grant). h.name)) c.in-Some.is) c.in-Some.ensures.within c.free.ensures.step refl
