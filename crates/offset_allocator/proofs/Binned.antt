@@ -6,8 +6,8 @@ use Rattle.offset_allocator.specs.Cells.{Links}
 use Rattle.offset_allocator.specs.Named.{names_at, times, without, push, remove}
 use Rattle.offset_allocator.specs.Orders.{Chain, Among, flag, first_of, walk, Linked, Masked, IsUnlisted, Binned, class_lists}
 use Rattle.offset_allocator.proofs.Masks.{masked_same, flag_full}
-use Rattle.offset_allocator.proofs.Rows.{one-same, times-join}
-use Rattle.offset_allocator.proofs.ViewOrders.{hit_cases, names_same, names_other, times_without_le, unlisted_removed}
+use Rattle.offset_allocator.proofs.Tallies.{hit_cases, one-same, times-join}
+use Rattle.offset_allocator.proofs.ViewOrders.{names_same, names_other, times_without_le, unlisted_removed}
 use Rattle.offset_allocator.proofs.Walks.{name_below, older_below, chain_fits, walk_is, IsLater, found, kept, led, not_first, first_same, newer_kept, older_kept, unlinked, without_first, without_later}
 
 module _ {none : ℕ} {t : Links} {ls : List (List ℕ)} (k : Linked none t ls) where

@@ -9,8 +9,8 @@ use Rattle.offset_allocator.specs.Reports.{count_of, largest}
 use Rattle.offset_allocator.specs.Named.{Block, View, one, times, count_listed, names_at, free_sizes, IsWellFormed}
 use Rattle.offset_allocator.specs.Promises.{IsLargestClass}
 use Rattle.offset_allocator.proofs.Classes.{down_small, value_down, value_grows, up_reached}
-use Rattle.offset_allocator.proofs.Rows.{one-same}
 use Rattle.offset_allocator.proofs.Walks.{drop_one}
+use Rattle.offset_allocator.proofs.Tallies.{one-same}
 
 -- ---- sizes by their classes
 -- a class of which a size is

@@ -11,9 +11,9 @@ use Rattle.offset_allocator.proofs.Ends.{Ended, ended, last_none}
 use Rattle.offset_allocator.proofs.Classes.{down_small}
 use Rattle.offset_allocator.specs.Ranges.{IsLive}
 use Rattle.offset_allocator.proofs.Reading.{used_live}
-use Rattle.offset_allocator.proofs.Rows.{one-same, one-eq}
 use Rattle.offset_allocator.proofs.ViewApart.{apart_parts, left_false}
-use Rattle.offset_allocator.proofs.ViewOrders.{hit_cases, hit_at, hit_other, names_same, names_other, length_put, tally_append}
+use Rattle.offset_allocator.proofs.Tallies.{hit_cases, tally_append, one-same, one-eq}
+use Rattle.offset_allocator.proofs.ViewOrders.{hit_at, hit_other, names_same, names_other, length_put}
 use Rattle.offset_allocator.proofs.ViewSteps.{place_here}
 use Rattle.offset_allocator.proofs.ViewTaken.{replicate_none}
 

@@ -7,7 +7,8 @@ use Rattle.offset_allocator.specs.Cells.{Room, Node, node, put}
 use Rattle.offset_allocator.specs.Space.{first_or, last_or, IsRow, IsChain, spares}
 use Rattle.offset_allocator.specs.Named.{Block, units, count_named, times, one}
 use Rattle.offset_allocator.proofs.Nodes.{node-put, node-put_other, length-put, spare-put}
-use Rattle.offset_allocator.proofs.Rows.{one-same, times-join, times-append, times-first, times-end, units-append, first_or-append, last_or-append, IsRow-front, IsRow-back, IsRow-append, IsRow-kept, IsRow-moved, IsRow-aimed}
+use Rattle.offset_allocator.proofs.Tallies.{one-same, times-join, times-append, units-append}
+use Rattle.offset_allocator.proofs.Rows.{times-first, times-end, first_or-append, last_or-append, IsRow-front, IsRow-back, IsRow-append, IsRow-kept, IsRow-moved, IsRow-aimed}
 
 -- names
 pub each-le : (c : Room) (m last count : ℕ) (bs : List Block) → IsChain c m last count bs → (k : ℕ) → count_named k bs + times k (spares c count) ≤ 1

@@ -11,18 +11,16 @@ use Rattle.offset_allocator.specs.Relations.{Adds, CanExtend, Extends}
 use Rattle.offset_allocator.specs.Space.{IsChain, HasPlace, blocks}
 use Rattle.offset_allocator.specs.Orders.{Among, IsUnlisted, class_lists, Binned}
 use Rattle.offset_allocator.specs.State.{free_units}
-use Rattle.offset_allocator.proofs.Sound.{Fields, AreSound, shown}
-use Rattle.offset_allocator.proofs.Rows.{units-append, times-append, one-eq}
+use Rattle.offset_allocator.proofs.Sound.{Fields, AreSound, shown, well_counted, well_same}
 use Rattle.offset_allocator.proofs.Ends.{Ended, ended}
 use Rattle.offset_allocator.proofs.Places.{at_place, end_place}
 use Rattle.offset_allocator.proofs.Filed.{share, counts_once}
 use Rattle.offset_allocator.proofs.ViewApart.{ends_free, apart_parts, left_false}
-use Rattle.offset_allocator.proofs.ViewOrders.{tally_append, times_remove_all}
-use Rattle.offset_allocator.proofs.ViewReplaced.{listed_named}
+use Rattle.offset_allocator.proofs.Tallies.{listed_named, tally_append, units-append, times-append, one-eq}
+use Rattle.offset_allocator.proofs.ViewOrders.{times_remove_all}
 use Rattle.offset_allocator.proofs.ViewTaken.{well_added}
 use Rattle.offset_allocator.proofs.Ranges.{adds_keep}
 use Rattle.offset_allocator.proofs.Joints.{stepped, free_most, unused_unlisted, remove_free, free_units-append, free_units-free}
-use Rattle.offset_allocator.proofs.Split.{well_counted, well_same}
 
 pub ends_last : (fs : List Block) (b : Block) → ends_used (fs ++ b ∷ []) ≡ b.used
 ends_last [] b = refl

@@ -8,9 +8,8 @@ use Rattle.offset_allocator.specs.Orders.{Among, IsUnlisted}
 use Rattle.offset_allocator.specs.State.{AreFiled}
 use Rattle.offset_allocator.proofs.Exchange.{each-le}
 use Rattle.offset_allocator.proofs.Places.{at_place, next_place, previous_place}
-use Rattle.offset_allocator.proofs.Rows.{one-eq, times-append}
-use Rattle.offset_allocator.proofs.ViewOrders.{tally_append, hit_cases, times_remove_all}
-use Rattle.offset_allocator.proofs.ViewReplaced.{listed_named}
+use Rattle.offset_allocator.proofs.Tallies.{listed_named, tally_append, hit_cases, one-eq, times-append}
+use Rattle.offset_allocator.proofs.ViewOrders.{times_remove_all}
 use Rattle.offset_allocator.proofs.ViewTaken.{tally_end}
 
 -- the sum that `count_listed` takes, of one block

@@ -8,16 +8,15 @@ use Rattle.offset_allocator.specs.Space.{IsChain, HasPlace, blocks}
 use Rattle.offset_allocator.specs.Orders.{class_lists, Binned}
 use Rattle.offset_allocator.specs.State.{IsSound, view_of, free_units, AreFiled}
 use Rattle.offset_allocator.proofs.Filed.{share}
-use Rattle.offset_allocator.proofs.Sound.{Fields, AreSound, shown}
-use Rattle.offset_allocator.proofs.Split.{well_counted}
+use Rattle.offset_allocator.proofs.Sound.{Fields, AreSound, shown, well_counted}
 use Rattle.offset_allocator.proofs.Places.{located}
 use Rattle.offset_allocator.proofs.ViewSteps.{place_at}
-use Rattle.offset_allocator.proofs.ViewOrders.{tally_append}
 use Rattle.offset_allocator.proofs.ViewTaken.{well_frees, tally_end, tally_start}
 use Rattle.offset_allocator.proofs.ViewApart.{apart_parts, apart_coalesced, coalesced_parts}
 use Rattle.offset_allocator.proofs.Released.{idle_append, idle_end, idle_start}
 use Rattle.offset_allocator.specs.Relations.{SameSpace, Frees}
 use Rattle.offset_allocator.proofs.Joints.{stepped, free_most, free_units-append, free_units-free, free_units-used}
+use Rattle.offset_allocator.proofs.Tallies.{tally_append}
 
 share_used : (k y : ℕ) (b : Block) → b.used ≡ true → share k y b ≡ 0
 share_used k y b e = ap (λ (u : Bool). one (not u && (nat_eq k (down b.size) && nat_eq y b.name))) e

@@ -13,9 +13,9 @@ use Rattle.offset_allocator.specs.Space.{IsChain, IsSpace, blocks, spares}
 use Rattle.offset_allocator.specs.Orders.{Linked, Masked, Binned, class_lists, Among, IsUnlisted}
 use Rattle.offset_allocator.specs.State.{IsSound, view_of, free_units}
 use Rattle.offset_allocator.proofs.Nodes.{node-put, node-put_other, length-put, spare-put}
-use Rattle.offset_allocator.proofs.Rows.{one-eq, one-other, times-join}
 use Rattle.offset_allocator.proofs.Binned.{binned}
 use Rattle.offset_allocator.proofs.ViewTaken.{well_alone}
+use Rattle.offset_allocator.proofs.Tallies.{one-eq, one-other, times-join}
 
 -- one free block of the whole size
 abbrev pub fresh : ℕ → ℕ → View

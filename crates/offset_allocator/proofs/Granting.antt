@@ -6,16 +6,16 @@ use Rattle.offset_allocator.specs.Named.{Block, View, Place, Grant, one, count_n
 use Rattle.offset_allocator.specs.Space.{HasPlace}
 use Rattle.offset_allocator.specs.Orders.{IsSmallestFrom, class_lists, Binned}
 use Rattle.offset_allocator.specs.State.{AreUnlisted, free_units}
-use Rattle.offset_allocator.proofs.Sound.{Fields, AreSound, shown}
+use Rattle.offset_allocator.proofs.Sound.{Fields, AreSound, shown, well_counted}
 use Rattle.offset_allocator.specs.Relations.{SameSpace, Splits}
-use Rattle.offset_allocator.proofs.Rows.{one-same, one-eq, times-append}
 use Rattle.offset_allocator.proofs.Exchange.{each-le, there-below}
 use Rattle.offset_allocator.proofs.Places.{placed, end_fits}
 use Rattle.offset_allocator.proofs.Classes.{fits_size}
-use Rattle.offset_allocator.proofs.Split.{well_counted, well_split, part_room}
+use Rattle.offset_allocator.proofs.Split.{well_split, part_room}
 use Rattle.offset_allocator.proofs.Taken.{Taken, taken}
 use Rattle.offset_allocator.proofs.ViewOrders.{unlisted_removed}
 use Rattle.offset_allocator.proofs.Joints.{stepped, unused_unlisted, free_part_units, remove_free, free_units-append, free_units-free, free_units-used}
+use Rattle.offset_allocator.proofs.Tallies.{one-same, one-eq, times-append}
 
 -- a grant: sound fields, the smallest class large enough that has a block, and the first name there
 pub record Call (f : Fields) (needed class x : ℕ) : Type 0 where

@@ -7,10 +7,8 @@ use Rattle.offset_allocator.specs.Space.{IsChain}
 use Rattle.offset_allocator.specs.Orders.{Binned, class_lists, IsUnlisted}
 use Rattle.offset_allocator.proofs.Views.{blocks-chain, space-chain}
 use Rattle.offset_allocator.specs.State.{view_of, free_units}
-use Rattle.offset_allocator.proofs.Sound.{Fields, AreSound}
-use Rattle.offset_allocator.proofs.ViewOrders.{tally_append}
-use Rattle.offset_allocator.proofs.ViewReplaced.{listed_named}
-use Rattle.offset_allocator.proofs.Split.{well_counted}
+use Rattle.offset_allocator.proofs.Sound.{Fields, AreSound, well_counted}
+use Rattle.offset_allocator.proofs.Tallies.{listed_named, tally_append}
 
 -- a name that no free block has is in no list
 pub unlisted : (v : View) → IsWellFormed v → (x : ℕ) → ((c : ℕ) → count_listed c x v.blocks ≡ 0) → IsUnlisted x v.order

@@ -23,6 +23,7 @@ pub mod Powers
 pub mod Ranges
 pub mod Refusals
 pub mod Taken
+pub mod Tallies
 pub mod Released
 pub mod Rows
 pub mod Served

@@ -7,8 +7,8 @@ use Rattle.offset_allocator.specs.Named.{Block, Place, count_named, names_at, fr
 use Rattle.offset_allocator.specs.Orders.{Among, IsUnlisted}
 use Rattle.offset_allocator.specs.Space.{HasPlace}
 use Rattle.offset_allocator.specs.State.{AreUnlisted}
-use Rattle.offset_allocator.proofs.Rows.{one-eq, one-other, times-append}
 use Rattle.offset_allocator.proofs.Classes.{down_small}
+use Rattle.offset_allocator.proofs.Tallies.{one-eq, one-other, times-append}
 
 unlisted_put : (y x c : ℕ) (ls : List (List ℕ)) → length ls ≡ 256 → c < 256 → y ≢ x → IsUnlisted y ls → IsUnlisted y (push c x ls)
 unlisted_put y x c ls n ch ne u d dh a =

@@ -4,7 +4,8 @@ use Rattle.offset_allocator.specs.Classes.{down}
 use Rattle.offset_allocator.specs.Cells.{Room, Node, node}
 use Rattle.offset_allocator.specs.Space.{first_or, last_or, IsChain, IsSpace, HasPlace, blocks, coalesced_before, coalesced_after}
 use Rattle.offset_allocator.specs.Named.{Block, Place, place_of, units, free_end, free_start, remove, remove_all}
-use Rattle.offset_allocator.proofs.Rows.{last_or-append, node_at, one-eq, times-append, units-append}
+use Rattle.offset_allocator.proofs.Tallies.{one-eq, times-append, units-append}
+use Rattle.offset_allocator.proofs.Rows.{last_or-append, node_at}
 use Rattle.offset_allocator.proofs.Ends.{ended, last_none, end_free, end_used, end_kept, start_kept}
 use Rattle.offset_allocator.proofs.Exchange.{there-below}
 use Rattle.offset_allocator.proofs.ViewSteps.{place_at}

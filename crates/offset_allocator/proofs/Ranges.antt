@@ -5,11 +5,10 @@ use Rattle.offset_allocator.specs.Named.{Block, View, Place, Grant, one, units, 
 use Rattle.offset_allocator.specs.Ranges.{Range, range_of, AreDisjoint, Grants, KeepsAll, KeepsOthers, KeepsRanges}
 use Rattle.offset_allocator.specs.Relations.{SameSpace, Splits, Frees, Adds}
 use Rattle.std.specs.List.{AllByRecursion}
-use Rattle.offset_allocator.proofs.ViewOrders.{tally_append, hit_cases}
 use Rattle.offset_allocator.proofs.ViewSteps.{place_at, no_place}
 use Rattle.offset_allocator.proofs.Released.{idle_parts}
 use Rattle.offset_allocator.proofs.Reading.{range_at}
-use Rattle.offset_allocator.proofs.Split.{part_sums}
+use Rattle.offset_allocator.proofs.Tallies.{part_sums, tally_append, hit_cases}
 
 -- the range of the used block named x, where the first of the blocks has this offset
 abbrev range_from : ℕ → ℕ → List Block → Option Range

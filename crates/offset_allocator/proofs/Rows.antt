@@ -1,22 +1,10 @@
 -- Rows of linked nodes: split, appended, and left alone by writes elsewhere.
-use Rattle.std.proofs.Common.{◌≡◌, ◌≢◌, ℕ, zero, suc, ◌+◌, ◌≤◌, Option, None, Some, List, [], ◌∷◌, ◌++◌, length, refl, sym, ◌∙◌, ap, arith, add_assoc, zero-add, add-zero, nat_eq, inl, inr}
-use Rattle.std.proofs.lemmas.Bool.{cases_eq, eq-eqb, ne_eqb}
+use Rattle.std.proofs.Common.{◌≡◌, ◌≢◌, ℕ, zero, suc, ◌+◌, ◌≤◌, Option, None, Some, List, [], ◌∷◌, ◌++◌, length, refl, sym, ◌∙◌, ap, arith, add_assoc, zero-add, add-zero, inl, inr}
+use Rattle.std.proofs.lemmas.Bool.{cases_eq}
 use Rattle.offset_allocator.specs.Cells.{Room, node}
 use Rattle.offset_allocator.specs.Space.{first_or, last_or, IsRow, walk}
-use Rattle.offset_allocator.specs.Named.{Block, units, count_named, times, one}
-
-pub one-same : (k : ℕ) → one (nat_eq k k) ≡ 1
-one-same k = rw (eq-eqb k k refl)
-
-pub one-eq : (k x : ℕ) → x ≡ k → one (nat_eq k x) ≡ 1
-one-eq k x e = rw e (one-same k)
-
-pub one-other : (k x : ℕ) → k ≢ x → one (nat_eq k x) ≡ 0
-one-other k x h = rw (ne_eqb k x h)
-
-pub times-join : (k : ℕ) (xs ys : List ℕ) → times k (xs ++ ys) ≡ times k xs + times k ys
-times-join k [] ys = sym (zero-add _)
-times-join k (x ∷ xs) ys = omega (arith, times-join k xs ys)
+use Rattle.offset_allocator.specs.Named.{Block, units, count_named}
+use Rattle.offset_allocator.proofs.Tallies.{one-same, one-eq}
 
 -- the first of a list is in it
 pub times-first : (k : ℕ) (bs : List Block) → first_or None bs ≡ Some k → 1 ≤ count_named k bs
@@ -36,14 +24,6 @@ times-end k (b ∷ bs) e = elim (cases_eq (count_named k bs) 0) [
   | inl gone ↦ omega (arith, one-eq k b.name (times-last k b.name bs e gone))
   | inr there ↦ omega arith
 ]
-
-pub times-append : (k : ℕ) (fs bs : List Block) → count_named k (fs ++ bs) ≡ count_named k fs + count_named k bs
-times-append k [] bs = sym (zero-add _)
-times-append k (a ∷ fs) bs = omega (arith, times-append k fs bs)
-
-pub units-append : (fs bs : List Block) → units (fs ++ bs) ≡ units fs + units bs
-units-append [] bs = sym (zero-add _)
-units-append (a ∷ fs) bs = omega (arith, units-append fs bs)
 
 pub first_or-append : (q : Option ℕ) (fs bs : List Block) → first_or q (fs ++ bs) ≡ first_or (first_or q bs) fs
 first_or-append q [] bs = refl

@@ -1,10 +1,10 @@
 -- The fields of an allocator, and what their invariant says of the view.
-use Rattle.std.proofs.Common.{◌≡◌, ℕ, ◌≤◌, ap, subst, arith}
+use Rattle.std.proofs.Common.{◌≡◌, ℕ, ◌≤◌, sym, ap, subst, arith}
 use Rattle.offset_allocator.specs.Named.{View, IsWellFormed}
 use Rattle.offset_allocator.specs.Cells.{Cells}
 use Rattle.offset_allocator.specs.State.{view_of, IsSound}
 use Rattle.offset_allocator.specs.declared.Allocator.TheInside.{Inside}
-use Rattle.offset_allocator.proofs.Split.{well_counted}
+use Rattle.offset_allocator.specs.Relations.{SameSpace}
 
 -- the fields, with the largest number of the index type
 pub record Fields : Type 0 where
@@ -29,6 +29,13 @@ AreSound it = IsSound it.max it.size it.limit it.cells it.last it.count it.top i
 -- the fields of an allocator
 abbrev pub fields_of : {A B : Type 0} → ℕ → Inside A B → Fields
 fields_of max a = record { max = max; size = a.size; limit = a.max_allocs; cells = a.store.tables; last = a.store.last; count = a.store.spare_count; top = a.store.top_mask; free = a.free_total; accesses = a.store.accesses }
+
+-- whatever was counted
+pub well_counted : (v : View) (k : ℕ) → IsWellFormed v → IsWellFormed (record v { accesses = k })
+well_counted v k w = record { some = w.some; distinct = w.distinct; below = w.below; whole = w.whole; fits = w.fits; apart = w.apart; classes = w.classes; orders = w.orders; room = w.room; spare = w.spare }
+
+pub well_same : (v w : View) → SameSpace v w → IsWellFormed v → IsWellFormed w
+well_same v w e k = subst IsWellFormed (sym e) (well_counted v w.accesses k)
 
 -- the view of sound fields is well formed, and of a size that a word holds
 pub known_sound : (f : Fields) → AreSound f → (v : View) → shown f ≡ v → IsWellFormed v × (v.size ≤ 4294967295)

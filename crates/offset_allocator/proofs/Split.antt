@@ -1,22 +1,11 @@
 -- What a split leaves is well formed.
 use Rattle.std.proofs.Common.{◌≡◌, ℕ, zero, suc, ◌+◌, ◌<◌, ◌≤◌, true, false, not, ◌⊎◌, List, [], ◌∷◌, ◌++◌, length, nat_eq, refl, sym, ap, subst, ◌∙◌, inl, inr, arith, length-append, append_assoc}
-use Rattle.offset_allocator.specs.Named.{Block, View, Grant, one, used_block, units, count_named, used_of, IsApart, IsWellFormed, IsNew, free_part, replace}
-use Rattle.offset_allocator.specs.Relations.{SameSpace, Splits}
-use Rattle.offset_allocator.proofs.ViewOrders.{tally_append, hit_cases}
-use Rattle.offset_allocator.proofs.ViewReplaced.{tally_three, well_replaced}
+use Rattle.offset_allocator.specs.Named.{Block, View, Grant, one, used_block, count_named, used_of, IsApart, IsWellFormed, IsNew, free_part, replace}
+use Rattle.offset_allocator.specs.Relations.{Splits}
+use Rattle.offset_allocator.proofs.Sound.{well_same}
+use Rattle.offset_allocator.proofs.ViewReplaced.{well_replaced}
 use Rattle.offset_allocator.proofs.ViewApart.{apart_granted}
-
--- whatever was counted
-pub well_counted : (v : View) (k : ℕ) → IsWellFormed v → IsWellFormed (record v { accesses = k })
-well_counted v k w = record { some = w.some; distinct = w.distinct; below = w.below; whole = w.whole; fits = w.fits; apart = w.apart; classes = w.classes; orders = w.orders; room = w.room; spare = w.spare }
-
-pub well_same : (v w : View) → SameSpace v w → IsWellFormed v → IsWellFormed w
-well_same v w e k = subst IsWellFormed (sym e) (well_counted v w.accesses k)
-
--- padding or a remainder is at most one block
-pub part_sums : (y n : ℕ) → (length (free_part y n) ≤ 1) × (units (free_part y n) ≡ n) × (used_of (free_part y n) ≡ 0)
-part_sums y zero = (omega arith, omega arith, omega arith)
-part_sums y (suc n) = (omega arith, omega arith, omega arith)
+use Rattle.offset_allocator.proofs.Tallies.{tally_three, part_sums, tally_append, hit_cases}
 
 -- the room that padding asks for, beside that for a remainder
 pub part_room : (y n k : ℕ) → 1 ≤ k → (1 ≤ n → 2 ≤ k) → length (free_part y n) + 1 ≤ k

@@ -1,12 +1,10 @@
 -- The block that a request takes, and when there is one.
 use Rattle.std.proofs.Common.{◌≡◌, ◌≢◌, ℕ, ◌≤◌, Bool, true, false, ◌&&◌, List, [], ◌∷◌, ◌++◌, Option, Some, None, nat_eq, refl, sym, ap, inl, inr, arith}
-use Rattle.offset_allocator.proofs.Rows.{one-same}
 use Rattle.std.proofs.lemmas.Bool.{not-true}
 use Rattle.offset_allocator.specs.Classes.{up, down}
 use Rattle.offset_allocator.specs.Named.{Block, View, Place, one, is_free, times, count_named, count_listed, names_at, place_of, IsWellFormed}
-use Rattle.offset_allocator.proofs.ViewOrders.{tally_append, hit_cases}
-use Rattle.offset_allocator.proofs.ViewReplaced.{listed_named}
 use Rattle.offset_allocator.proofs.ViewSteps.{place_at, no_place}
+use Rattle.offset_allocator.proofs.Tallies.{listed_named, tally_append, hit_cases, one-same}
 
 -- the free block of class c that is named x
 pub record Taken (v : View) (c x : ℕ) : Type 0 where

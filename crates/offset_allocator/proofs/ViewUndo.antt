@@ -9,13 +9,11 @@ use Rattle.offset_allocator.specs.Named.{Block, View, Place, Grant, used_block, 
 use Rattle.offset_allocator.specs.Relations.{SameSpace, Splits, Frees, Allocates}
 use Rattle.offset_allocator.proofs.Ranges.{beside}
 use Rattle.offset_allocator.proofs.Released.{idle_parts, end_is, start_is}
-use Rattle.offset_allocator.proofs.Rows.{one-same}
 use Rattle.offset_allocator.proofs.Classes.{down_small}
-use Rattle.offset_allocator.proofs.Split.{part_sums}
 use Rattle.offset_allocator.proofs.ViewApart.{ends_free, apart_parts, left_false, right_false, no_end, no_start}
 use Rattle.offset_allocator.proofs.ViewOrders.{names_same, length_remove, times_remove}
-use Rattle.offset_allocator.proofs.ViewReplaced.{listed_named}
 use Rattle.offset_allocator.proofs.ViewSteps.{place_here}
+use Rattle.offset_allocator.proofs.Tallies.{listed_named, part_sums, one-same}
 
 set_again : (order : List (List ℕ)) (c : ℕ) (l m : List ℕ) → slice_set (slice_set order c l) c m ≡ slice_set order c m
 set_again [] c l m = refl

@@ -4,8 +4,7 @@ use Rattle.std.proofs.lemmas.Bool.{cases_eq}
 use Rattle.offset_allocator.specs.Cells.{Links}
 use Rattle.offset_allocator.specs.Named.{one, times, without}
 use Rattle.offset_allocator.specs.Orders.{Chain, Among, first_of, walk}
-use Rattle.offset_allocator.proofs.Rows.{one-same, times-join}
-use Rattle.offset_allocator.proofs.ViewOrders.{hit_cases}
+use Rattle.offset_allocator.proofs.Tallies.{hit_cases, one-same, times-join}
 
 -- ---- lists of names
 -- a list with one name fewer

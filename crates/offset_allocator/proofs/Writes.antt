@@ -4,11 +4,11 @@ use Rattle.std.proofs.lemmas.Bool.{cases_eq}
 use Rattle.offset_allocator.specs.Cells.{Room, Node, node, put, with_spare}
 use Rattle.offset_allocator.specs.Space.{first_or, last_or, IsRow, IsChain, HasPlace, coalesced_before, coalesced_after}
 use Rattle.offset_allocator.specs.Named.{Block, Place, free_block, units, count_named, one}
-use Rattle.offset_allocator.proofs.Rows.{one-eq, one-other, times-append, units-append}
 use Rattle.offset_allocator.proofs.Nodes.{nodes-with_spare}
 use Rattle.offset_allocator.proofs.Ends.{end_free}
 use Rattle.offset_allocator.proofs.Exchange.{IsTop, IsExchange, IsRelinked, back_to, on_to, wrote, top, kept_names, pushed_names, link_back, link_on, link_none, back, relinked_spare}
 use Rattle.offset_allocator.proofs.Places.{placed, at_place, next_place, previous_place}
+use Rattle.offset_allocator.proofs.Tallies.{one-eq, one-other, times-append, units-append}
 
 spare-with_spare : (c : Room) (i v : ℕ) → (with_spare c i v).spare ≡ set c.spare i v
 unfolding with_spare

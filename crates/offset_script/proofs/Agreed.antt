@@ -19,7 +19,8 @@ use Rattle.offset_script.proofs.Well.{Well, found_at, not_found, number_of, not_
 use Rattle.offset_script.proofs.Well as well
 use Rattle.std.specs.List.{AllByRecursion}
 use Rattle.std.proofs.lemmas.List.{map-append, length-map, get_or-replicate, get_or_past, length-replicate}
-use Rattle.offset_allocator.proofs.ViewOrders.{tally_append, names_same, names_other}
+use Rattle.offset_allocator.proofs.Tallies.{tally_append}
+use Rattle.offset_allocator.proofs.ViewOrders.{names_same, names_other}
 use Rattle.offset_allocator.proofs.Classes.{down_small, fits_size}
 use Rattle.offset_script.proofs.Members.{map_parts, map_first}
 use Rattle.offset_script.proofs.Labels.{names, tags, map_three, stamps_below, Rises, newest_replaced}

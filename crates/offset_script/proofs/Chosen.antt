@@ -1,7 +1,6 @@
 -- The plain machine chooses the block that a grant splits: the newest of the smallest class that fits.
 use Rattle.std.proofs.Common.{◌≡◌, ◌≢◌, ℕ, ◌<◌, ◌≤◌, true, false, not, ◌&&◌, List, [], ◌∷◌, ◌++◌, Option, Some, None, nat_eq, nat_lt, nat_le, refl, sym, ap, ap₂, subst, ◌∙◌, inl, inr, arith, eq-eqb, le-leb, lt-ltb, leb-true}
 use Rattle.offset_script.proofs.Tests.{same_some}
-use Rattle.offset_allocator.proofs.Rows.{one-same}
 use Rattle.std.proofs.lemmas.List.{map-append}
 use Rattle.std.proofs.lemmas.Bool.{cases_eq, cases_lt, true≢false, and_parts, not-false, or_right}
 use Rattle.offset_allocator.specs.Classes.{up, down}
@@ -11,10 +10,10 @@ use Rattle.offset_allocator.specs.Named.{Block, View, Place, Grant, place_of, on
 use Rattle.offset_allocator.specs.Relations.{Splits}
 use Rattle.offset_script.specs.Agreement.{Label, by_name, by_tag, stamp_of, IsFalling}
 use Rattle.offset_script.proofs.Well.{chosen_at, not_chosen}
-use Rattle.offset_allocator.proofs.ViewOrders.{tally_append, hit_cases}
 use Rattle.offset_allocator.proofs.ViewSteps.{place_here}
 use Rattle.offset_script.proofs.Members.{In, in_right, map_split}
 use Rattle.offset_script.proofs.Labels.{names, tags, gives_parts, gives_all}
+use Rattle.offset_allocator.proofs.Tallies.{tally_append, hit_cases, one-same}
 
 -- a list of labels, split at one
 pub record Spot : Type 0 where

@@ -4,7 +4,8 @@ use Rattle.std.proofs.lemmas.Bool.{cases_eq, cond_both}
 use Rattle.offset_allocator.specs.Classes.{down}
 use Rattle.offset_allocator.specs.Named.{Block, one, times, names_at, push, without, remove, push_all, remove_all}
 use Rattle.offset_allocator.proofs.Classes.{down_small}
-use Rattle.offset_allocator.proofs.ViewOrders.{hit_cases, names_same, names_other, length_put, length_remove, times_without_le, hit, times_put}
+use Rattle.offset_allocator.proofs.Tallies.{hit_cases}
+use Rattle.offset_allocator.proofs.ViewOrders.{names_same, names_other, length_put, length_remove, times_without_le, hit, times_put}
 use Rattle.offset_script.specs.Agreement.{IsFalling}
 
 -- a list without a name

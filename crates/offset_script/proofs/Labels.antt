@@ -1,6 +1,5 @@
 -- Blocks with both their names and their tags.
 use Rattle.std.proofs.Common.{◌≡◌, ℕ, ◌+◌, ◌<◌, ◌≤◌, true, false, not, ◌&&◌, ◌⊎◌, List, [], ◌∷◌, ◌++◌, map, nat_eq, if◌then◌else◌, refl, sym, ap, subst, ◌∙◌, inl, inr, arith, eq-eqb, ne_eqb, append_assoc}
-use Rattle.offset_allocator.proofs.Rows.{one-same}
 use Rattle.std.proofs.lemmas.List.{map-append}
 use Rattle.std.proofs.lemmas.Bool.{cases_lt, not-true, not-false}
 use Rattle.offset_allocator.specs.Classes.{down}
@@ -9,9 +8,10 @@ use Rattle.offset_script.specs.Machine as plain
 use Rattle.offset_allocator.specs.Named.{Block, View, one, times, count_named, count_listed, names_at, push_all, remove_all, IsWellFormed}
 use Rattle.offset_script.specs.Agreement.{Label, by_name, by_tag, stamp_of, IsFalling}
 use Rattle.offset_script.proofs.Well.{count, hit, hit_self}
-use Rattle.offset_allocator.proofs.ViewOrders.{tally_append, hit_cases, length_remove_all}
+use Rattle.offset_allocator.proofs.Tallies.{tally_three, listed_named, tally_append, hit_cases, one-same}
+use Rattle.offset_allocator.proofs.ViewOrders.{length_remove_all}
 use Rattle.offset_script.proofs.Falling.{falling_remove_all, falling_same, falling_put_all, IsRising}
-use Rattle.offset_allocator.proofs.ViewReplaced.{tally_three, listed_named, orders_replaced}
+use Rattle.offset_allocator.proofs.ViewReplaced.{orders_replaced}
 
 -- the blocks by name
 abbrev pub names : List Label → List Block

@@ -1,7 +1,5 @@
 -- What holds of lists of blocks, and of every state that the machine reaches.
 use Rattle.std.proofs.Common.{◌≡◌, ℕ, zero, suc, ◌+◌, ◌-◌, ◌<◌, ◌≤◌, Bool, true, false, ◌&&◌, ◌||◌, ◌⊎◌, List, [], ◌∷◌, ◌++◌, length, Option, Some, None, option_map, nat_eq, nat_lt, nat_le, if◌then◌else◌, refl, sym, ap, ap₂, subst, ◌∙◌, inl, inr, arith, ne_eqb, leb-false, length-append, append-nil}
-use Rattle.offset_allocator.proofs.Rows.{one-same}
-use Rattle.offset_allocator.proofs.ViewOrders.{hit_cases}
 use Rattle.offset_allocator.proofs.ViewApart.{left_false, right_false}
 use Rattle.std.proofs.lemmas.Bool.{cases_eq, cases_lt, true≢false, false≢true, and_parts, and_left, and_right, or_parts, and_cases, not-false}
 use Rattle.std.proofs.lemmas.Bool.Decides.{nat_tests}
@@ -15,6 +13,7 @@ use Rattle.offset_script.specs.Machine as machine
 use Rattle.offset_allocator.specs.Reports.{rows_below}
 use Rattle.offset_script.proofs.Members.{In}
 use Rattle.offset_script.proofs.Tests.{if_both}
+use Rattle.offset_allocator.proofs.Tallies.{hit_cases, one-same}
 
 -- whether the first block of a list is free
 abbrev pub starts_free : List Block → Bool

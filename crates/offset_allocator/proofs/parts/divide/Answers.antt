@@ -2,10 +2,9 @@ use Rattle.std.proofs.Common.{refl, ap, arith}
 use Rattle.offset_allocator.specs.Cells.{Node}
 use Rattle.offset_allocator.proofs.Pieces.{unlisted_part}
 use Rattle.offset_allocator.proofs.Places.{at_place}
-use Rattle.offset_allocator.proofs.Rows.{units-append}
-use Rattle.offset_allocator.proofs.Split.{part_sums}
 use Rattle.offset_allocator.specs.Named.{free_part}
 use Rattle.offset_allocator.proofs.parts.divide.Goals as goal
+use Rattle.offset_allocator.proofs.Tallies.{part_sums, units-append}
 
 pub split_padding-front-requires-clause-place : goal.split_padding-front-requires-clause-place
 split_padding-front-requires-clause-place g c = (_, _, c.requires.place.2, c.requires.place.3)

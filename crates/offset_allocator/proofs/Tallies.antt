@@ -1,0 +1,49 @@
+-- Sums over lists, and a test of names as a number.
+use Rattle.std.proofs.Common.{◌≡◌, ◌≢◌, ℕ, zero, suc, ◌+◌, ◌≤◌, length, ◌⊎◌, true, false, ◌&&◌, List, [], ◌∷◌, ◌++◌, nat_eq, refl, ap, ◌∙◌, inl, inr, arith, eq-eqb, ne_eqb}
+use Rattle.std.proofs.lemmas.Bool.{cases_eq}
+use Rattle.offset_allocator.specs.Classes.{down}
+use Rattle.offset_allocator.specs.Named.{Block, tally, one, is_free, units, times, count_named, count_listed, used_of, free_part}
+
+pub tally_append : {A : Type 0} (f : A → ℕ) (xs ys : List A) → tally f (xs ++ ys) ≡ tally f xs + tally f ys
+tally_append f [] ys = omega arith
+tally_append f (x ∷ xs) ys = let ih = tally_append f xs ys in omega arith
+
+pub tally_three : {A : Type 0} (f : A → ℕ) (xs ys zs : List A) → tally f (xs ++ (ys ++ zs)) ≡ tally f xs + (tally f ys + tally f zs)
+tally_three f xs ys zs = tally_append f xs (ys ++ zs) ∙ ap (λ n. tally f xs + n) (tally_append f ys zs)
+
+pub times-join : (k : ℕ) (xs ys : List ℕ) → times k (xs ++ ys) ≡ times k xs + times k ys
+times-join k xs ys = tally_append (λ y. one (nat_eq k y)) xs ys
+
+pub times-append : (k : ℕ) (fs bs : List Block) → count_named k (fs ++ bs) ≡ count_named k fs + count_named k bs
+times-append k fs bs = tally_append (λ (b : Block). one (nat_eq k b.name)) fs bs
+
+pub units-append : (fs bs : List Block) → units (fs ++ bs) ≡ units fs + units bs
+units-append fs bs = tally_append (λ (b : Block). b.size) fs bs
+
+pub hit_cases : (x y : ℕ) → ((x ≡ y) × (one (nat_eq x y) ≡ 1)) ⊎ ((x ≢ y) × (one (nat_eq x y) ≡ 0))
+hit_cases x y = elim (cases_eq x y) [
+  | inl e ↦ inl (e, ap one (eq-eqb x y e))
+  | inr n ↦ inr (n, ap one (ne_eqb x y n))
+]
+
+pub one-same : (k : ℕ) → one (nat_eq k k) ≡ 1
+one-same k = ap one (eq-eqb k k refl)
+
+pub one-eq : (k x : ℕ) → x ≡ k → one (nat_eq k x) ≡ 1
+one-eq k x e = rw e (one-same k)
+
+pub one-other : (k x : ℕ) → k ≢ x → one (nat_eq k x) ≡ 0
+one-other k x n = ap one (ne_eqb k x n)
+
+-- padding or a remainder is at most one block
+pub part_sums : (y n : ℕ) → (length (free_part y n) ≤ 1) × (units (free_part y n) ≡ n) × (used_of (free_part y n) ≡ 0)
+part_sums y zero = (omega arith, omega arith, omega arith)
+part_sums y (suc n) = (omega arith, omega arith, omega arith)
+
+-- a free block of a name is a block of that name
+pub listed_named : (c x : ℕ) (bs : List Block) → count_listed c x bs ≤ count_named x bs
+listed_named c x [] = omega arith
+listed_named c x (b ∷ bs) = let ih = listed_named c x bs in elim (is_free b) as (λ p. one (p && (nat_eq c (down b.size) && nat_eq x b.name)) + count_listed c x bs ≤ one (nat_eq x b.name) + count_named x bs) [
+  | true ↦ elim (nat_eq c (down b.size)) as (λ q. one (q && nat_eq x b.name) + count_listed c x bs ≤ one (nat_eq x b.name) + count_named x bs) [ true ↦ omega arith | false ↦ omega arith ]
+  | false ↦ omega arith
+]
