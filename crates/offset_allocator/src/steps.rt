@@ -78,7 +78,7 @@ impl<NI: NodeIndex> Allocator<NI> {
         }
     }
 
-    /// Rewrites all tables in place.
+    /// Empties all tables in place, except the nodes, and starts the space anew.
     pub(crate) fn clear(&mut self)
         ensures step { Resets self.old self.new }
         ensures accesses_kept { self.old.accesses ≤ self.new.accesses }

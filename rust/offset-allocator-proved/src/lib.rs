@@ -108,8 +108,8 @@ impl<NI: NodeIndex> Allocator<NI> {
     /// Makes the whole space one free block again, in place. The block of every earlier handle is gone.
     ///
     /// It takes no memory and always succeeds, and the space keeps what `extend` added. If fewer than
-    /// `max_allocs / 128` blocks exist, it frees each live range; otherwise it clears the use flags and the names of all
-    /// nodes.
+    /// `max_allocs / 128` blocks exist, it frees each live range; otherwise it clears all use flags and
+    /// empties the bins.
     pub fn reset(&mut self) {
         // freeing a range takes about as long as going over 128 nodes
         if self.block_count() < self.max_allocs / 128 {

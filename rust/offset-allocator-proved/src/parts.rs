@@ -31,8 +31,8 @@ fn split_padding<NI: NodeIndex>(store: &mut Store<NI>, name: u32, units: u32) ->
     front
 }
 
-// Splits a block, of this offset, after `size` units. The units that are left become a free block in its bin, under the name that is
-// returned. Where none are left, nothing changes, and the name returned is that of the block.
+// Splits a block, of this offset, after `size` units. The units that are left become a free block in its bin, under the
+// name that is returned. Where none are left, nothing changes, and the name returned is that of the block.
 #[inline(always)]
 fn split_remainder<NI: NodeIndex>(
     store: &mut Store<NI>,

@@ -54,7 +54,7 @@ impl<NI: NodeIndex> Allocator<NI> {
         }
     }
 
-    /// Rewrites all tables in place.
+    /// Empties all tables in place, except the nodes, and starts the space anew.
     pub(crate) fn clear(&mut self) {
         self.store.tables.clear();
         self.store.top_mask = start(
