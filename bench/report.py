@@ -9,8 +9,8 @@ MEASURE, HERE = sys.argv[1:3]
 SIDES = {"original": "original", "ours": "offset", "erased": "erased", "c": "tuned"}
 # callgrind counts each byte that a `rep stosb` of memset writes as an instruction, so memset must use vectors
 COUNTED = {**os.environ, "GLIBC_TUNABLES": "glibc.cpu.x86_rep_stosb_threshold=4000000000"}
-# the first-level data cache that is simulated: its bytes, its ways, and the bytes of a line
-CACHE = "32768,8,64"
+# the data cache that is simulated: its level, its bytes, its ways, and the bytes of a line
+LEVEL, CACHE = 1, "32768,8,64"
 # larger ratios are bold: ours to the original's time, to its instructions, to C's; erased to the original's time, to
 # its instructions
 REACH = (0.75, 0.60, 1.05, 0.85, 0.75)
@@ -24,7 +24,7 @@ def lines(*words):
 def counted(name, side, function, what):
     """The instructions and the cache misses of one run: inside the measured function, and of the whole program."""
     with tempfile.NamedTemporaryFile() as file:
-        command = ["valgrind", "--tool=callgrind", "--cache-sim=yes", "--D1=" + CACHE, "--callgrind-out-file=" + file.name,
+        command = ["valgrind", "--tool=callgrind", "--cache-sim=yes", f"--D{LEVEL}={CACHE}", "--callgrind-out-file=" + file.name,
                    MEASURE, "play", name, side, what]
         subprocess.run(command, check=True, capture_output=True, env=COUNTED)
         report = subprocess.run(["callgrind_annotate", "--inclusive=yes", "--threshold=100", "--show=Ir,D1mr,D1mw", file.name],

@@ -46,8 +46,8 @@ fn free_after<NI: NodeIndex>(tables: &Tables<NI>, name: u32, count: &mut Accesse
     None
 }
 
-// Coalesces a free block directly before a block of this size into it, and returns its size then. The free block leaves
-// its bin.
+// If a free block is directly before a block of this size, it leaves its bin and is coalesced into the block. The size of
+// the whole is returned.
 #[inline(always)]
 fn with_before<NI: NodeIndex>(store: &mut Store<NI>, name: u32, size: u32) -> u32
     requires place { (m : ℕ) × (p : Place) × HasPlace store.old.tables.room m store.old.last store.old.spare_count name p × AreFiled (p.before ++ p.after) (class_lists NI.MAX store.old.tables.links) }
@@ -85,7 +85,7 @@ fn with_before<NI: NodeIndex>(store: &mut Store<NI>, name: u32, size: u32) -> u3
 }
 
 /// Coalesces a block of this size, which is in no bin, with the free blocks beside it, and pushes the whole block onto its
-/// bin. There it takes the place of the block that is coalesced last, where that is the newest one.
+/// bin. There it takes the place of the neighbour that is coalesced last, where that is the newest of this same bin.
 #[inline(always)]
 pub(crate) fn coalesce<NI: NodeIndex>(store: &mut Store<NI>, name: u32, size: u32)
     requires place { (m : ℕ) × (p : Place) × HasPlace store.old.tables.room m store.old.last store.old.spare_count name p × AreFiled (p.before ++ p.after) (class_lists NI.MAX store.old.tables.links) }

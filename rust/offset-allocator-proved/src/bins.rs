@@ -154,8 +154,8 @@ pub(crate) fn remove<NI: NodeIndex>(
     leave(tables, top_mask, name, before, size, count);
 }
 
-/// Removes the name `gone` from the bin of this size, and pushes another one onto the bin of a class. Where `gone` is the
-/// newest of that same bin, the other one takes its place.
+/// Removes `gone`, the name of a block of `size` units, from its bin, and pushes `name` onto the bin of `class`. Where both
+/// are one bin and `gone` is its newest, `name` takes its place.
 #[inline(always)]
 pub(crate) fn exchange<NI: NodeIndex>(
     tables: &mut Tables<NI>,

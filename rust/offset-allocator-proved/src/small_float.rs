@@ -28,8 +28,8 @@ pub fn uint_to_float_round_down(size: u32) -> u32 {
     class_of(size, (size | MANTISSA_VALUE).ilog2())
 }
 
-/// The class of a block of `size` units. `exponent` is the leading bit of the size, or of one unit more, or 3 for a size
-/// below 8.
+/// The class of a block of `size` units. `exponent` is the place of the leading bit of the size, or of one unit more, or 3
+/// for a size below 8.
 fn class_of(size: u32, exponent: u32) -> u32 {
     let start = exponent - MANTISSA_BITS;
     // the leading one of the size carries into the exponent; with the exponent of one unit more nothing carries
