@@ -1,3 +1,4 @@
+pub mod Sliding
 pub mod Split
 pub mod Always
 pub mod Binned
