@@ -3,6 +3,7 @@ pub mod Split
 pub mod Always
 pub mod Binned
 pub mod Classes
+pub mod Compacting
 pub mod Counting
 pub mod Emptied
 pub mod Ends

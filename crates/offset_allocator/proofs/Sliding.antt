@@ -90,16 +90,16 @@ pub record IsSliding {F : Type 0} (max : ℕ) (R : F → Move → F → Type 0) 
   pub calls : (h : F) → FoldsTo R g (moves (units place.before + place.block.size) (units place.before) place.after) h → FoldsTo R f (moves (units p.before + p.block.size) (units p.before) p.after) h
   pub bounded : used + 20 * length place.after ≤ accesses + 20 * length p.after
 
-live_used : (b : Block) (bs : List Block) → b.used ≡ true → live (b ∷ bs) ≡ b ∷ live bs
+pub live_used : (b : Block) (bs : List Block) → b.used ≡ true → live (b ∷ bs) ≡ b ∷ live bs
 live_used b bs e = ap (λ (u : Bool). if u then b ∷ live bs else live bs) e
 
-live_idle : (b : Block) (bs : List Block) → b.used ≡ false → live (b ∷ bs) ≡ live bs
+pub live_idle : (b : Block) (bs : List Block) → b.used ≡ false → live (b ∷ bs) ≡ live bs
 live_idle b bs e = ap (λ (u : Bool). if u then b ∷ live bs else live bs) e
 
-moves_used : (i j : ℕ) (b : Block) (bs : List Block) → b.used ≡ true → moves i j (b ∷ bs) ≡ move_of i j b ++ moves (i + b.size) (j + b.size) bs
+pub moves_used : (i j : ℕ) (b : Block) (bs : List Block) → b.used ≡ true → moves i j (b ∷ bs) ≡ move_of i j b ++ moves (i + b.size) (j + b.size) bs
 moves_used i j b bs e = ap (λ (u : Bool). if u then move_of i j b ++ moves (i + b.size) (j + b.size) bs else moves (i + b.size) j bs) e
 
-moves_idle : (i j : ℕ) (b : Block) (bs : List Block) → b.used ≡ false → moves i j (b ∷ bs) ≡ moves (i + b.size) j bs
+pub moves_idle : (i j : ℕ) (b : Block) (bs : List Block) → b.used ≡ false → moves i j (b ∷ bs) ≡ moves (i + b.size) j bs
 moves_idle i j b bs e = ap (λ (u : Bool). if u then move_of i j b ++ moves (i + b.size) (j + b.size) bs else moves (i + b.size) j bs) e
 
 folds_append : {P A : Type 0} (R : P → A → P → Type 0) (xs ys : List A) (p q r : P) → FoldsTo R p xs q → FoldsTo R q ys r → FoldsTo R p (xs ++ ys) r
