@@ -6,9 +6,11 @@ ghost use Rattle.offset_allocator.specs.Space.{HasPlace, IsFreeAfter, coalesced_
 ghost use Rattle.offset_allocator.specs.Orders.{Binned, class_lists};
 ghost use Rattle.offset_allocator.specs.State.{AreFiled, AreUnlisted};
 
+use crate::accesses::Accesses;
 use crate::index::NodeIndex;
 use crate::small_float::uint_to_float_round_down;
 use crate::store::Store;
+use crate::tables::Tables;
 use crate::{bins, chain};
 
 // Splits the first units off a block: they become a free block in its bin, under the name that is returned. Where they
@@ -119,6 +121,26 @@ pub(crate) fn divide<NI: NodeIndex>(
     chain::mark(&mut store.tables, name, true, &mut store.accesses);
     let rest = split_remainder(store, name, start, size, left);
     (front, rest)
+}
+
+/// The units of the free block `next`, if any, directly after a block.
+#[inline(always)]
+pub(crate) fn units_after<NI: NodeIndex>(
+    tables: &Tables<NI>,
+    name: u32,
+    next: Option<u32>,
+    count: &mut Accesses,
+) -> u32
+    requires place { (m last spare : ℕ) × (p : Place) × HasPlace tables.now.room m last spare name p }
+    requires next { IsFreeAfter tables.now.room name next }
+    ensures units { (m last spare : ℕ) (p : Place) → HasPlace tables.now.room m last spare name p → result ≡ units (free_start p.after) }
+    ensures accesses_kept { count.old ≤ count.new }
+    ensures accesses_max { count.new ≤ count.old + 1 }
+{
+    match next {
+        None => 0,
+        Some(following) => chain::size(tables, following, count),
+    }
 }
 
 // If a free block, of the name `next`, is directly after a block of this size, it leaves its bin and is coalesced into the
