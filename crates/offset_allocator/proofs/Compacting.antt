@@ -32,7 +32,7 @@ used_append : (bs cs : List Block) → AreUsed bs → AreUsed cs → AreUsed (bs
 used_append [] cs h k = k
 used_append (b ∷ bs) cs h k = (h.0, used_append bs cs h.1 k)
 
-live_are_used : (bs : List Block) → AreUsed (live bs)
+pub live_are_used : (bs : List Block) → AreUsed (live bs)
 live_are_used [] = tt
 live_are_used (b ∷ bs) = go b.used refl (live_are_used bs)
   where

@@ -19,6 +19,7 @@ pub mod Listing
 pub mod Masks
 pub mod Nodes
 pub mod Overwritten
+pub mod Packed
 pub mod Padding
 pub mod Pieces
 pub mod Places

@@ -1,8 +1,9 @@
 -- What `compact` leaves: the live ranges at the front of the space, and all free units in one block after them.
-use Rattle.std.specs.Prelude.{◌≡◌, ℕ, ◌+◌, ◌<◌, List, [], ◌∷◌, ◌++◌, Option, Some, None, sum, replicate, nat_eq, if◌then◌else◌}
-use Rattle.std.specs.List.{filter}
+use Rattle.std.specs.Prelude.{◌≡◌, ℕ, ◌+◌, ◌<◌, ◌≤◌, List, [], ◌∷◌, ◌++◌, Option, Some, None, option_map, sum, replicate, nat_eq, if◌then◌else◌}
+use Rattle.std.specs.List.{AllByRecursion, filter}
 use Rattle.offset_allocator.specs.declared.compact.Move.{Move as Moved}
 use Rattle.offset_allocator.specs.Named.{View, Block, count_named, free_sizes, free_block, push_all}
+use Rattle.offset_allocator.specs.Ranges.{Range, range_of}
 use Rattle.offset_allocator.specs.Relations.{SameSpace}
 
 -- a range that goes to another offset
@@ -24,6 +25,16 @@ move_of from to b = if nat_eq from to then [] else record { name = b.name; from 
 abbrev pub moves : ℕ → ℕ → List Block → List Move
 moves from to [] = []
 moves from to (b ∷ bs) = if b.used then move_of from to b ++ moves (from + b.size) (to + b.size) bs else moves (from + b.size) to bs
+
+-- each of these goes to a smaller offset, and ends before all that the later ones have yet to read: so they can be copied
+-- one after the other
+abbrev pub AreSafe : List Move → Type 0
+AreSafe [] = Unit {0}
+AreSafe (m ∷ ms) = (m.to < m.from) × AllByRecursion (λ k. m.to + m.size ≤ k.from) ms × AreSafe ms
+
+-- each live range keeps its size, and no other name comes to life
+abbrev pub KeepsSizes : View → View → Type 0
+KeepsSizes v w = (x : ℕ) → option_map (λ (r : Range). r.size) (range_of x w) ≡ option_map (λ (r : Range). r.size) (range_of x v)
 
 -- the name of the first free block
 abbrev pub first_free : List Block → Option ℕ

@@ -6,7 +6,7 @@ ghost use Rattle.offset_allocator.specs.Named.{Place, Block, free_block, units};
 ghost use Rattle.offset_allocator.specs.Space.{IsSpace, HasPlace, blocks};
 ghost use Rattle.offset_allocator.specs.Orders.{Binned, class_lists};
 ghost use Rattle.offset_allocator.specs.State.{AreFiled, free_units};
-ghost use Rattle.offset_allocator.specs.Compacting.{live, moves, move_of, Compacts, IsCalledWith, first_free};
+ghost use Rattle.offset_allocator.specs.Compacting.{live, moves, move_of, Compacts, KeepsSizes, IsCalledWith, first_free};
 
 use crate::accesses::Accesses;
 use crate::handle::Allocation;
@@ -203,8 +203,9 @@ impl<NI: NodeIndex> Allocator<NI> {
     /// no memory.
     pub fn compact<F: FnMut(Move<NI>)>(&mut self, moved: &mut F)
         requires callable { F.IsAlwaysCallable moved.old }
-        // The live blocks keep their names, their sizes and their order.
+        // The live blocks keep their names, their sizes and their order: so every handle stays live, with its size.
         ensures live { live self.new.blocks ≡ live self.old.blocks }
+        ensures sizes { KeepsSizes self.old self.new }
         // The closure is called with the moves, in space order.
         ensures moved { FoldsTo (IsCalledWith NI.NonMax.number (λ f range g. F.step f range tt g)) moved.old (moves 0 0 self.old.blocks) moved.new }
         // It makes at most 24 accesses to table cells for each block, and 512.

@@ -3,11 +3,12 @@
 ghost use Rattle.std.specs.Prelude.{◌≡◌, ◌≢◌, ◌<◌, ◌≤◌, ◌+◌, ◌%◌, ◌↔◌, ℕ, List, ◌++◌, false, IsTrue, Some, length, sum, if◌then◌else◌};
 ghost use Rattle.std.specs.Int.{IsPowerOfTwo};
 ghost use Rattle.std.specs.List.{AllByRecursion};
-ghost use Rattle.offset_allocator.specs.Classes.{value, up};
+ghost use Rattle.offset_allocator.specs.Classes.{value, up, down};
 ghost use Rattle.offset_allocator.specs.Named.{View, Block, Grant, IsWellFormed, free_sizes, tally, one, total_free, largest_free, padding_to};
 ghost use Rattle.offset_allocator.specs.Ranges.{Range, range_of, AreDisjoint};
 ghost use Rattle.offset_allocator.specs.Relations.{IsAlignment, SameSpace, Allocates, Frees, IsFresh};
-ghost use Rattle.offset_allocator.specs.Promises.{CanGrant};
+ghost use Rattle.offset_allocator.specs.Promises.{CanGrant, HasRoomFor};
+ghost use Rattle.offset_allocator.specs.Compacting.{moves, AreSafe, Compacts};
 
 use crate::Allocator;
 pub use crate::counted::{
@@ -106,4 +107,18 @@ pub fn padding_is_least()
 /// The alignments that `allocate_aligned` admits are the powers of two.
 pub fn alignments_are_powers()
     ensures { (n : ℕ) → IsAlignment n ↔ IsPowerOfTwo n }
+{}
+
+/// After `compact`, with room for one more block, a request is granted exactly when it is at most the value of the class of
+/// all free units together.
+pub fn a_compacted_space_grants<NI: NodeIndex>(allocator: &Allocator<NI>)
+    ensures { (v : View) (n : ℕ) → 1 ≤ n → Compacts v allocator.now
+        → CanGrant 1 n allocator.now ↔ (HasRoomFor 1 allocator.now × (n ≤ value (down (sum (free_sizes v.blocks))))) }
+{
+    allocator.formed();
+}
+
+/// Each move of `compact` goes to a smaller offset, and ends before all units that later moves have yet to read.
+pub fn moves_are_safe()
+    ensures { (bs : List Block) → AreSafe (moves 0 0 bs) }
 {}

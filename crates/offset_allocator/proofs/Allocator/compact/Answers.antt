@@ -2,8 +2,9 @@ use Rattle.std.proofs.Common.{◌≡◌, ℕ, suc, ◌+◌, ◌*◌, ◌<◌, �
 use Rattle.std.specs.List.{FoldsTo}
 use Rattle.offset_allocator.specs.Named.{Block, Place, View, units}
 use Rattle.offset_allocator.specs.Space.{blocks}
-use Rattle.offset_allocator.specs.Compacting.{Move, live, moves, IsCalledWith, Compacts}
-use Rattle.offset_allocator.proofs.Sound.{AreSound, Fields, shown, fields_of}
+use Rattle.offset_allocator.specs.Compacting.{live, moves, KeepsSizes, Compacts}
+use Rattle.offset_allocator.proofs.Sound.{AreSound, Fields, shown, fields_of, known_sound}
+use Rattle.offset_allocator.proofs.Packed.{compacts_sizes}
 use Rattle.offset_allocator.proofs.Classes.{down_small}
 use Rattle.offset_allocator.proofs.Compacting.{IsFirst, first_is, packed, compacts_live, first_held, first_listed, first_filed, end_unlisted, packs, stays_packed}
 use Rattle.offset_allocator.proofs.Allocator.compact.Goals as goal
@@ -101,3 +102,17 @@ pub returns-clause-step : goal.returns-clause-step
 returns-clause-step g c =
     let P : View → Type 0 = λ u. Compacts u (shown (record (fields_of g.NI.NodeIndex.MAX c.self.inside) { cells = c.push.new.tables; last = c.slide-hole.new.store.last; count = c.slide-hole.new.store.spare_count; top = c.push.new.top_mask; accesses = c.push.new.count })) in
     subst P c.self.view_is (done g (goal.at.returns-clause-step g c).After-push c.push.new.count _ refl).1
+
+pub returns-in_default-clause-sizes : goal.returns-in_default-clause-sizes
+returns-in_default-clause-sizes g c =
+    let f : Fields = fields_of g.NI.NodeIndex.MAX c.self.inside in
+    let left : View = shown (record f { accesses = c.first_free.new.count }) in
+    let P : View → Type 0 = λ u. KeepsSizes u left in
+    subst P c.self.view_is (compacts_sizes (shown f) left (known_sound f c.self.invariant (shown f) refl).0 (stays_packed f c.self.invariant c.first_free.new.count (sym c.first_free.ensures.first ∙ c.in_default.is)))
+
+pub returns-clause-sizes : goal.returns-clause-sizes
+returns-clause-sizes g c =
+    let f : Fields = fields_of g.NI.NodeIndex.MAX c.self.inside in
+    let left : View = shown (record f { cells = c.push.new.tables; last = c.slide-hole.new.store.last; count = c.slide-hole.new.store.spare_count; top = c.push.new.top_mask; accesses = c.push.new.count }) in
+    let P : View → Type 0 = λ u. KeepsSizes u left in
+    subst P c.self.view_is (compacts_sizes (shown f) left (known_sound f c.self.invariant (shown f) refl).0 (done g (goal.at.returns-clause-sizes g c).After-push c.push.new.count _ refl).1)
