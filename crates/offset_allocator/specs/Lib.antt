@@ -1,5 +1,6 @@
 pub mod Cells
 pub mod Classes
+pub mod Compacting
 pub mod Count
 pub mod Named
 pub mod Orders

@@ -140,6 +140,7 @@ pub(crate) fn coalesce_after<NI: NodeIndex>(
     ensures place { (m : ℕ) (p : Place) → HasPlace tables.old.room m last.old spare_count.old name p → HasPlace tables.new.room m last.new spare_count.new name (coalesced_after p) }
     ensures links { tables.new.links ≡ tables.old.links }
     ensures limit { length tables.new.room.nodes ≡ length tables.old.room.nodes }
+    ensures spares { spare_count.new ≡ spare_count.old + 1 }
     ensures accesses_kept { count.old ≤ count.new }
     ensures accesses_max { count.new ≤ count.old + 5 }
 {
@@ -169,6 +170,7 @@ pub(crate) fn coalesce_before<NI: NodeIndex>(
     ensures place { (m last : ℕ) (p : Place) → HasPlace tables.old.room m last spare_count.old name p → HasPlace tables.new.room m last spare_count.new name (coalesced_before p) }
     ensures links { tables.new.links ≡ tables.old.links }
     ensures limit { length tables.new.room.nodes ≡ length tables.old.room.nodes }
+    ensures spares { spare_count.new ≡ spare_count.old + 1 }
     ensures accesses_kept { count.old ≤ count.new }
     ensures accesses_max { count.new ≤ count.old + 7 }
 {

@@ -24,6 +24,7 @@ ghost use Rattle.offset_allocator.specs.Promises.{IsReport, IsFullReport, CanGra
 mod accesses;
 mod bins;
 mod chain;
+mod compact;
 mod counted;
 mod entry;
 pub mod ext;
@@ -44,6 +45,7 @@ mod tables;
 mod tests;
 
 pub use accesses::Accesses;
+pub use compact::Move;
 pub use handle::Allocation;
 pub use index::{NodeIndex, NodeIndexNonMax};
 pub use nonmax::{NonMaxU16, NonMaxU32};

@@ -1,0 +1,54 @@
+-- What `compact` leaves: the live ranges at the front of the space, and all free units in one block after them.
+use Rattle.std.specs.Prelude.{◌≡◌, ℕ, ◌+◌, ◌<◌, List, [], ◌∷◌, ◌++◌, Option, Some, None, sum, replicate, nat_eq, if◌then◌else◌}
+use Rattle.std.specs.List.{filter, FoldsTo}
+use Rattle.offset_allocator.specs.declared.compact.Move.{Move as Moved}
+use Rattle.offset_allocator.specs.Named.{View, Block, count_named, free_sizes, free_block, push_all}
+use Rattle.offset_allocator.specs.Relations.{SameSpace}
+
+-- a range that goes to another offset
+pub record Move : Type 0 where
+  pub name : ℕ
+  pub from : ℕ
+  pub to : ℕ
+  pub size : ℕ
+
+-- the used blocks
+abbrev pub live : List Block → List Block
+live bs = filter (λ b. b.used) bs
+
+-- the move of a block, where it goes to another offset
+abbrev pub move_of : ℕ → ℕ → Block → List Move
+move_of from to b = if nat_eq from to then [] else record { name = b.name; from = from; to = to; size = b.size } ∷ []
+
+-- the moves of the used ones of blocks that begin at an offset, if they are packed from another offset on
+abbrev pub moves : ℕ → ℕ → List Block → List Move
+moves from to [] = []
+moves from to (b ∷ bs) = if b.used then move_of from to b ++ moves (from + b.size) (to + b.size) bs else moves (from + b.size) to bs
+
+-- the name of the first free block
+abbrev pub first_free : List Block → Option ℕ
+first_free [] = None
+first_free (b ∷ bs) = if b.used then first_free bs else Some b.name
+
+-- one free block of all these sizes, or nothing where there are none
+abbrev pub gathered : ℕ → List ℕ → List Block
+gathered x [] = []
+gathered x (n ∷ ns) = free_block x (n + sum ns) ∷ []
+
+-- a value that a closure is called with is this move
+pub record IsMove {A B : Type 0} (number : B → ℕ) (m : Moved A B) (x : Move) : Type 0 where
+  pub name : number m.name ≡ x.name
+  pub from : m.from ≡ x.from
+  pub to : m.to ≡ x.to
+  pub size : m.size ≡ x.size
+
+-- a closure, by whose steps p became q, was called with these moves, in order
+abbrev pub IsCalledWith : {A B F : Type 0} → (B → ℕ) → (F → Moved A B → F → Type 0) → F → List Move → F → Type 0
+IsCalledWith {A} {B} number step p xs q = FoldsTo (λ p x q. (m : Moved A B) × IsMove number m x × step p m q) p xs q
+
+-- the used blocks are packed at the front, and the free units are one block at the end, alone in its bin
+pub record Compacts (v w : View) : Type 0 where
+  pub name : ℕ
+  pub below : name < v.max_allocs
+  pub absent : count_named name (live v.blocks) ≡ 0
+  pub view : SameSpace (record v { blocks = live v.blocks ++ gathered name (free_sizes v.blocks); order = push_all (gathered name (free_sizes v.blocks)) (replicate 256 []) }) w

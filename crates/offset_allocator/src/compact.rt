@@ -1,0 +1,235 @@
+//! Slides every live range to the front of the space, so that all free units are one block at its end.
+ghost use Rattle.std.specs.Prelude.{ℕ, ◌≡◌, ◌+◌, ◌*◌, ◌<◌, ◌≤◌, [], ◌∷◌, ◌++◌, Some, true, false, List, length, sum};
+ghost use Rattle.offset_allocator.specs.Cells.{node};
+ghost use Rattle.offset_allocator.specs.Named.{Place, Block, free_block, free_sizes, units};
+ghost use Rattle.offset_allocator.specs.Space.{IsSpace, HasPlace, blocks};
+ghost use Rattle.offset_allocator.specs.Orders.{Binned, class_lists};
+ghost use Rattle.offset_allocator.specs.State.{AreFiled};
+ghost use Rattle.offset_allocator.specs.Compacting.{live, moves, Compacts, IsCalledWith, first_free};
+
+use crate::accesses::Accesses;
+use crate::handle::Allocation;
+use crate::index::{NodeIndex, NodeIndexNonMax};
+use crate::small_float::uint_to_float_round_down;
+use crate::store::Store;
+use crate::tables::Tables;
+use crate::{Allocator, bins, chain};
+use std::marker::PhantomData;
+
+/// A range that `compact` moves: `size` units from the offset `from` to the offset `to`, which is smaller.
+#[derive(Clone, Copy, Debug, PartialEq)]
+pub struct Move<NI: NodeIndex = u32, N: NodeIndexNonMax = <NI as NodeIndex>::NonMax> {
+    name: N,
+    /// The offset that the range had.
+    pub from: u32,
+    /// The offset that it has now.
+    pub to: u32,
+    /// Its units.
+    pub size: u32,
+    index: PhantomData<NI>,
+}
+
+impl<NI: NodeIndex, N: NodeIndexNonMax> Move<NI, N> {
+    /// The handle of the range as it is after the move. Every older handle of the range is live too; only its `offset` is
+    /// that of before.
+    pub fn allocation(&self) -> Allocation<NI, N>
+        ensures { result ≡ record { name = N.number self.now.name; offset = self.now.to } }
+    {
+        Allocation::make(self.to, self.name)
+    }
+}
+
+// The name of the first free block, if one is free. It is found from the end on, since only the last block is known.
+fn first_free<NI: NodeIndex>(tables: &Tables<NI>, last: u32, count: &mut Accesses) -> Option<u32>
+    requires space { (spare : ℕ) × IsSpace tables.now.room last spare }
+    ensures first { result ≡ first_free (blocks tables.now.room last) }
+    ensures accesses_kept { count.old ≤ count.new }
+    ensures accesses_max { count.new ≤ count.old + 2 * length (blocks tables.now.room last) }
+{
+    let mut first = None;
+    let mut at = Some(last);
+    while let Some(name) = at {
+        if !chain::is_used(tables, name, count) {
+            first = Some(name);
+        }
+        at = chain::before(tables, name, count);
+    }
+    first
+}
+
+// Exchanges a free block, which is in no bin, with the used block directly after it. The name of the free block is
+// returned, which may be another one then.
+fn pass<NI: NodeIndex>(
+    store: &mut Store<NI>,
+    hole: u32,
+    offset: u32,
+    size: u32,
+    next: u32,
+    more: u32,
+) -> u32
+    requires place { (m : ℕ) × (p : Place) × HasPlace store.old.tables.room m store.old.last store.old.spare_count hole p × (p.block.used ≡ false) }
+    requires offset { offset ≡ (node store.old.tables.room hole).offset }
+    requires size { size ≡ (node store.old.tables.room hole).size }
+    requires next { Some next ≡ (node store.old.tables.room hole).after }
+    requires more { more ≡ (node store.old.tables.room next).size }
+    ensures place { (m : ℕ) (p : Place) (b : Block) (bs : List Block) → HasPlace store.old.tables.room m store.old.last store.old.spare_count hole p → p.block.used ≡ false → p.after ≡ b ∷ bs → HasPlace store.new.tables.room m store.new.last store.new.spare_count result (record { before = p.before ++ b ∷ []; block = free_block result p.block.size; after = bs }) }
+    ensures links { store.new.tables.links ≡ store.old.tables.links }
+    ensures mask { store.new.top_mask ≡ store.old.top_mask }
+    ensures accesses_kept { store.old.accesses ≤ store.new.accesses }
+    ensures accesses_max { store.new.accesses ≤ store.old.accesses + 16 }
+{
+    let whole = size + more;
+    chain::coalesce_before(
+        &mut store.tables,
+        &mut store.spare_count,
+        hole,
+        next,
+        whole,
+        &mut store.accesses,
+    );
+    chain::split(
+        &mut store.tables,
+        &mut store.last,
+        &mut store.spare_count,
+        next,
+        offset,
+        whole,
+        more,
+        &mut store.accesses,
+    )
+}
+
+// Coalesces a free block, which is in no bin, with the free block directly after it.
+fn absorb<NI: NodeIndex>(store: &mut Store<NI>, hole: u32, size: u32, next: u32, more: u32)
+    requires place { (m : ℕ) × (p : Place) × HasPlace store.old.tables.room m store.old.last store.old.spare_count hole p × AreFiled (p.before ++ p.after) (class_lists NI.MAX store.old.tables.links) }
+    requires held { Binned NI.MAX store.old.tables.links store.old.top_mask }
+    requires size { size ≡ (node store.old.tables.room hole).size }
+    requires next { Some next ≡ (node store.old.tables.room hole).after }
+    requires free { (node store.old.tables.room next).used ≡ false }
+    requires more { more ≡ (node store.old.tables.room next).size }
+    ensures place { (m : ℕ) (p : Place) (b : Block) (bs : List Block) → HasPlace store.old.tables.room m store.old.last store.old.spare_count hole p → p.after ≡ b ∷ bs → HasPlace store.new.tables.room m store.new.last store.new.spare_count hole (record { before = p.before; block = record p.block { size = p.block.size + b.size }; after = bs }) }
+    ensures held { Binned NI.MAX store.new.tables.links store.new.top_mask }
+    ensures filed { (m : ℕ) (p : Place) (b : Block) (bs : List Block) → HasPlace store.old.tables.room m store.old.last store.old.spare_count hole p → AreFiled (p.before ++ p.after) (class_lists NI.MAX store.old.tables.links) → p.after ≡ b ∷ bs → AreFiled (p.before ++ bs) (class_lists NI.MAX store.new.tables.links) }
+    ensures accesses_kept { store.old.accesses ≤ store.new.accesses }
+    ensures accesses_max { store.new.accesses ≤ store.old.accesses + 10 }
+{
+    bins::remove(
+        &mut store.tables,
+        &mut store.top_mask,
+        next,
+        more,
+        &mut store.accesses,
+    );
+    chain::coalesce_after(
+        &mut store.tables,
+        &mut store.last,
+        &mut store.spare_count,
+        hole,
+        next,
+        size + more,
+        &mut store.accesses,
+    );
+}
+
+// Calls the closure.
+fn call<NI: NodeIndex, F: FnMut(Move<NI>)>(moved: &mut F, range: Move<NI>)
+    requires callable { F.IsAlwaysCallable moved.old }
+    ensures called { F.step moved.old range tt moved.new }
+    ensures callable { F.IsAlwaysCallable moved.new }
+{
+    moved(range);
+}
+
+// Slides the used blocks after a free block, which is in no bin, to the front, and coalesces it with the free ones, until
+// it is the last block. Its name and its size are returned.
+fn slide<NI: NodeIndex, F: FnMut(Move<NI>)>(
+    store: &mut Store<NI>,
+    first: u32,
+    units: u32,
+    moved: &mut F,
+) -> (u32, u32)
+    requires place { (m : ℕ) × (p : Place) × HasPlace store.old.tables.room m store.old.last store.old.spare_count first p × (p.block.used ≡ false) × AreFiled (p.before ++ p.after) (class_lists NI.MAX store.old.tables.links) }
+    requires held { Binned NI.MAX store.old.tables.links store.old.top_mask }
+    requires units { units ≡ (node store.old.tables.room first).size }
+    requires callable { F.IsAlwaysCallable moved.old }
+    ensures place { (m : ℕ) (p : Place) → HasPlace store.old.tables.room m store.old.last store.old.spare_count first p → p.block.used ≡ false → AreFiled (p.before ++ p.after) (class_lists NI.MAX store.old.tables.links)
+        → HasPlace store.new.tables.room m store.new.last store.new.spare_count result.0 (record { before = p.before ++ live p.after; block = free_block result.0 result.1; after = [] })
+            × (result.1 ≡ p.block.size + sum (free_sizes p.after))
+            × AreFiled (p.before ++ live p.after) (class_lists NI.MAX store.new.tables.links)
+            × IsCalledWith NI.NonMax.number (λ f range g. F.step f range tt g) moved.old (moves (units p.before + p.block.size) (units p.before) p.after) moved.new
+            × (store.new.accesses ≤ store.old.accesses + 20 * length p.after + 1) }
+    ensures held { Binned NI.MAX store.new.tables.links store.new.top_mask }
+    ensures accesses_kept { store.old.accesses ≤ store.new.accesses }
+{
+    let mut hole = first;
+    let mut size = units;
+    while let Some(next) = chain::after(&store.tables, hole, &mut store.accesses) {
+        let more = chain::size(&store.tables, next, &mut store.accesses);
+        if chain::is_used(&store.tables, next, &mut store.accesses) {
+            let to = chain::offset(&store.tables, hole, &mut store.accesses);
+            hole = pass(store, hole, to, size, next, more);
+            if size > 0 {
+                call(
+                    moved,
+                    Move {
+                        name: NI::from_u32(next).to_name(),
+                        from: to + size,
+                        to,
+                        size: more,
+                        index: PhantomData,
+                    },
+                );
+            }
+        } else {
+            absorb(store, hole, size, next, more);
+            size += more;
+        }
+    }
+    (hole, size)
+}
+
+impl<NI: NodeIndex> Allocator<NI> {
+    /// Slides every live range to the front of the space, in space order, so that all free units are one block at its end.
+    /// `moved` is called for each range that gets another offset, in space order: the units from `from` on are to be copied
+    /// to `to`, as `copy_within` does. In this order no copy writes on a unit that a later one reads.
+    ///
+    /// Every handle stays live, with its size; only the public `offset` of a moved one is that of before, and
+    /// `allocation_offset` returns the new one. It makes at most 24 accesses to the tables for each block, and 512, and takes
+    /// no memory.
+    pub fn compact<F: FnMut(Move<NI>)>(&mut self, moved: &mut F)
+        requires callable { F.IsAlwaysCallable moved.old }
+        // The live blocks keep their names, their sizes and their order.
+        ensures live { live self.new.blocks ≡ live self.old.blocks }
+        // The closure is called with the moves, in space order.
+        ensures moved { IsCalledWith NI.NonMax.number (λ f range g. F.step f range tt g) moved.old (moves 0 0 self.old.blocks) moved.new }
+        // It makes at most 24 accesses to table cells for each block, and 512.
+        ensures accesses_kept { self.old.accesses ≤ self.new.accesses }
+        ensures accesses_max { self.new.accesses ≤ self.old.accesses + 24 * length self.old.blocks + 512 }
+        // The step as a whole: the live blocks, and after them one free block of all free units, alone in its bin.
+        ensures step { Compacts self.old self.new }
+    {
+        let Some(first) = first_free(
+            &self.store.tables,
+            self.store.last,
+            &mut self.store.accesses,
+        ) else {
+            return;
+        };
+        let units = chain::size(&self.store.tables, first, &mut self.store.accesses);
+        bins::remove(
+            &mut self.store.tables,
+            &mut self.store.top_mask,
+            first,
+            units,
+            &mut self.store.accesses,
+        );
+        let (hole, size) = slide(&mut self.store, first, units, moved);
+        bins::push(
+            &mut self.store.tables,
+            &mut self.store.top_mask,
+            hole,
+            uint_to_float_round_down(size),
+            &mut self.store.accesses,
+        );
+    }
+}
