@@ -98,6 +98,11 @@ REQUIRES = [
     ),
 ]
 
+# What a public function requires, and always holds in plain Rust, each with the reason. It needs no assertion.
+ALWAYS = {
+    "F.IsAlwaysCallable moved.old": "a closure of Rust may be called at any time; if it panics, that is its own panic",
+}
+
 # Hidden lines around each example in the documentation, so that `cargo test` runs it.
 EXAMPLES = {
     "offset_allocator": (

@@ -35,6 +35,7 @@ pub use memory::{AllocError, Global};
 mod accesses;
 mod bins;
 mod chain;
+mod compact;
 mod counted;
 mod entry;
 pub mod ext;
@@ -53,6 +54,7 @@ mod store;
 mod tables;
 
 pub use accesses::Accesses;
+pub use compact::Move;
 pub use handle::Allocation;
 pub use index::{NodeIndex, NodeIndexNonMax};
 pub use nonmax::{NonMaxU16, NonMaxU32};
