@@ -1,6 +1,7 @@
 pub mod Cells
 pub mod Classes
 pub mod Count
+pub mod Listing
 pub mod Named
 pub mod Orders
 pub mod Ranges
