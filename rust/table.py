@@ -54,6 +54,7 @@ IMPORTS = {
     "std::fmt": "core::fmt",                                # the library has no std
     "std::io::Read": "std::io::Read",                       # the same
     "std::io::Write": "std::io::Write",                     # the same
+    "std::iter::FusedIterator": "core::iter::FusedIterator",  # the library has no std
     "std::marker::Model": None,                             # the model of a type, for contracts, which are erased
     "std::marker::PhantomData": "core::marker::PhantomData",  # the library has no std
 }
@@ -67,6 +68,11 @@ PAIRS = [
         "fn clone(&self) -> Result<Self, AllocError> { Ok(*self) }",
         "fn clone(&self) -> Self {\n        *self\n    }",
         "in Rattle a clone may take memory; Rust's does not return a Result",
+    ),
+    (
+        "fn clone(&self) -> Result<Self, AllocError> { Ok(Blocks { allocator: self.allocator, next: self.next, left: self.left, }) }",
+        "fn clone(&self) -> Self {\n        Blocks {\n            allocator: self.allocator,\n            next: self.next,\n            left: self.left,\n        }\n    }",
+        "the same",
     ),
     (
         "fn fmt<W: fmt::Write>(&self, f: &mut fmt::Formatter<W>) -> fmt::Result",

@@ -13,6 +13,7 @@ pub mod Freeing
 pub mod Fresh
 pub mod Granting
 pub mod Joints
+pub mod Listing
 pub mod Masks
 pub mod Nodes
 pub mod Overwritten

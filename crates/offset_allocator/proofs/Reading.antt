@@ -1,5 +1,5 @@
 -- What a read of cells says of the view.
-use Rattle.std.proofs.Common.{◌≡◌, ℕ, ◌<◌, ◌≤◌, inl, inr, length, arith, is_some, true, false, Option, None, Some, option_and_then, option_map, unwrap_or, if◌then◌else◌, refl, sym, ap, subst, ◌∙◌}
+use Rattle.std.proofs.Common.{◌≡◌, ℕ, ◌<◌, ◌≤◌, inl, inr, length, arith, Bool, is_some, true, false, Option, None, Some, option_and_then, option_map, unwrap_or, if◌then◌else◌, refl, sym, ap, subst, ◌∙◌}
 use Rattle.std.proofs.lemmas.Bool.{cases_lt}
 use Rattle.offset_allocator.specs.Cells.{Room, Node, node}
 use Rattle.offset_allocator.specs.Named.{View, Place, units, place_of, is_used_at}
@@ -16,6 +16,10 @@ range_at o = option_and_then (λ (p : Place). if p.block.used then Some (record 
 -- the units of a range, or 0 where there is none
 abbrev units_in : Option Range → ℕ
 units_in o = unwrap_or (option_map (λ (r : Range). r.size) o) 0
+
+-- where a range begins
+abbrev offset_in : Option Range → Option ℕ
+offset_in o = option_map (λ (r : Range). r.offset) o
 
 -- the size of the used block at a place, or 0
 abbrev pub size_at : Option Place → ℕ
@@ -45,11 +49,11 @@ module _ (x : ℕ) (v : View) where
   used_live h = live_is ∙ h
 
 module _ (c : Room) (last count x : ℕ) (h : IsSpace c last count) where
-  place_read : (p : Place) → place_of x (blocks c last) ≡ Some p → ((node c x).used ≡ p.block.used) × ((node c x).size ≡ p.block.size)
+  place_read : (p : Place) → place_of x (blocks c last) ≡ Some p → ((node c x).used ≡ p.block.used) × ((node c x).size ≡ p.block.size) × ((node c x).offset ≡ units p.before)
   place_read p e =
       let a = place_at x (blocks c last) p e in
       let n = node_at c p.before p.block p.after x (subst (λ l. IsRow c None 0 l None) a.0 h.row) (sym a.1) in
-      (ap (λ (n : Node). n.used) n, ap (λ (n : Node). n.size) n)
+      (ap (λ (n : Node). n.used) n, ap (λ (n : Node). n.size) n, ap (λ (n : Node). n.offset) n)
 
   pub used_read : (node c x).used ≡ is_used_at (place_of x (blocks c last))
   used_read = go (place_of x (blocks c last)) refl
@@ -65,6 +69,15 @@ module _ (c : Room) (last count x : ℕ) (h : IsSpace c last count) where
       go None e = let f = sym (h.idle x (no_place x (blocks c last) e)) ∙ u in absurd (cc)
       go (Some p) e = let r = place_read p e in rw (sym r.0 ∙ u) r.1
 
+  offset_read : (node c x).used ≡ true → offset_in (range_at (place_of x (blocks c last))) ≡ Some (node c x).offset
+  offset_read u = go (place_of x (blocks c last)) refl
+    where
+      go : (o : Option Place) → place_of x (blocks c last) ≡ o → offset_in (range_at o) ≡ Some (node c x).offset
+      go None e = let f = sym (h.idle x (no_place x (blocks c last) e)) ∙ u in absurd (cc)
+      go (Some p) e =
+          let r = place_read p e in
+          ap (λ (b : Bool). offset_in (if b then Some (record { offset = units p.before; size = p.block.size }) else None)) (sym r.0 ∙ u) ∙ ap (λ (i : ℕ). Some i) (sym r.2)
+
 module _ (it : Fields) (x : ℕ) (s : AreSound it) where
   pub none_past : it.limit ≤ x → is_used_at (place_of x (blocks it.cells.room it.last)) ≡ false
   none_past l = sym (used_read it.cells.room it.last it.count x s.space) ∙ s.space.idle x (s.well.below x l)
@@ -78,3 +91,6 @@ module _ (it : Fields) (x : ℕ) (s : AreSound it) where
 
     pub live_size : (node it.cells.room x).size ≡ size_of x v
     live_size = size_read it.cells.room it.last it.count x s.space (used_read it.cells.room it.last it.count x s.space ∙ used) ∙ ap (λ (u : View). size_at (place_of x u.blocks)) e ∙ sym (size_is x v)
+
+    pub live_offset : Some (node it.cells.room x).offset ≡ option_map (λ (r : Range). r.offset) (range_of x v)
+    live_offset = sym (offset_read it.cells.room it.last it.count x s.space (used_read it.cells.room it.last it.count x s.space ∙ used)) ∙ ap (λ (u : View). option_map (λ (r : Range). r.offset) (range_of x u)) e

@@ -2,6 +2,7 @@ pub mod Cells
 pub mod Classes
 pub mod Compacting
 pub mod Count
+pub mod Listing
 pub mod Named
 pub mod Orders
 pub mod Ranges

@@ -1,16 +1,20 @@
 //! The calls that leave an allocator as it is, with a count of their accesses. The plain calls are these with a count of
 //! their own, and `laws` shows them to callers.
-ghost use Rattle.std.specs.Prelude.{◌≡◌, ◌<◌, ◌≤◌, ◌+◌, ◌*◌, ◌↔◌, IsTrue, IfSome, None, length};
+ghost use Rattle.std.specs.Prelude.{◌≡◌, ◌<◌, ◌≤◌, ◌+◌, ◌*◌, ◌↔◌, IsTrue, IsSome, IfSome, None, length, option_map};
+ghost use Rattle.std.specs.Iterator.{YieldsFirstBy};
 ghost use Rattle.offset_allocator.specs.Named.{free_sizes, largest_free};
-ghost use Rattle.offset_allocator.specs.Ranges.{size_of, IsLive};
+ghost use Rattle.offset_allocator.specs.Ranges.{Range, range_of, size_of, IsLive};
+ghost use Rattle.offset_allocator.specs.Listing.{as_placed};
 ghost use Rattle.offset_allocator.specs.Relations.{IsAlignment};
 ghost use Rattle.offset_allocator.specs.Promises.{IsReport, IsFullReport, CanGrant, IsWhy, blocks_needed, units_needed};
 
 use crate::accesses::Accesses;
+use crate::blocks::{Block, Blocks};
 use crate::handle::Allocation;
 use crate::index::{self, NodeIndex};
 use crate::reports::{Refusal, StorageReport, StorageReportFull, StorageReportFullRegion};
 use crate::small_float::{float_to_uint, uint_to_float_round_up};
+use crate::steps::handle_of;
 use crate::{Allocator, bins, chain};
 
 /// As `Allocator::is_live`. The count grows by at most 8.
@@ -44,6 +48,54 @@ pub fn allocation_size_counted<NI: NodeIndex>(
     } else {
         0
     }
+}
+
+/// As `Allocator::allocation_offset`. The count grows by at most 8.
+pub fn allocation_offset_counted<NI: NodeIndex>(
+    allocator: &Allocator<NI>,
+    allocation: Allocation<NI>,
+    count: &mut Accesses,
+) -> Option<u32>
+    ensures offset { result ≡ option_map (λ (r : Range). r.offset) (range_of allocation.name allocator.now) }
+    ensures accesses_kept { count.old ≤ count.new }
+    ensures accesses_min { IsLive allocation.name allocator.now → count.old + 2 ≤ count.new }
+    ensures accesses_max { count.new ≤ count.old + 8 }
+{
+    let name = index::number::<NI>(NI::of_nonmax(allocation.name()));
+    if allocator.uses(name, count) {
+        Some(chain::offset(&allocator.store.tables, name, count))
+    } else {
+        None
+    }
+}
+
+/// As `next` of `Blocks`. The count grows by at most 5.
+pub fn next_block_counted<NI: NodeIndex>(
+    blocks: &mut Blocks<NI>,
+    count: &mut Accesses,
+) -> Option<Block<NI>>
+    ensures yields { YieldsFirstBy as_placed (λ rest. rest) blocks.old result blocks.new }
+    ensures accesses_kept { count.old ≤ count.new }
+    ensures accesses_min { IsSome result → count.old + 4 ≤ count.new }
+    ensures accesses_max { count.new ≤ count.old + 5 }
+{
+    let name = blocks.next?;
+    let allocator = blocks.allocator;
+    let tables = &allocator.store.tables;
+    let offset = chain::offset(tables, name, count);
+    let size = chain::size(tables, name, count);
+    let allocation = if chain::is_used(tables, name, count) {
+        Some(handle_of(offset, name))
+    } else {
+        None
+    };
+    blocks.next = chain::before(tables, name, count);
+    blocks.left -= 1;
+    Some(Block {
+        offset,
+        size,
+        allocation,
+    })
 }
 
 /// As `Allocator::storage_report`. The count grows by at most 8.

@@ -14,15 +14,17 @@
 //! ```
 #![tactic(auto)]
 
-ghost use Rattle.std.specs.Prelude.{ℕ, ◌≡◌, ◌↔◌, ◌+◌, ◌-◌, ◌%◌, ◌<◌, ◌≤◌, min, None, false, true, IsTrue, IsSome, IfSome, IfOk, length};
-ghost use Rattle.offset_allocator.specs.Ranges.{range_of, size_of, Grants, IsLive, KeepsAll, KeepsOthers};
+ghost use Rattle.std.specs.Prelude.{ℕ, ◌≡◌, ◌↔◌, ◌+◌, ◌-◌, ◌%◌, ◌<◌, ◌≤◌, min, None, false, true, IsTrue, IsSome, IfSome, IfOk, length, option_map};
+ghost use Rattle.offset_allocator.specs.Ranges.{Range, range_of, size_of, Grants, IsLive, KeepsAll, KeepsOthers};
 ghost use Rattle.offset_allocator.specs.Reports.{IsGoodRefusal};
 ghost use Rattle.offset_allocator.specs.Named.{is_full, free_sizes, largest_free};
 ghost use Rattle.offset_allocator.specs.Relations.{Allocates, Aligns, Frees, Extends, CanExtend, IsAlignment, SameSpace, IsSplitNearBest, IsFresh, Resets};
 ghost use Rattle.offset_allocator.specs.Promises.{IsReport, IsFullReport, CanGrant, IsWhy, HasRoomFor, blocks_needed, units_needed};
+ghost use Rattle.offset_allocator.specs.Listing.{listing};
 
 mod accesses;
 mod bins;
+mod blocks;
 mod chain;
 mod compact;
 mod counted;
@@ -45,6 +47,7 @@ mod tables;
 mod tests;
 
 pub use accesses::Accesses;
+pub use blocks::{Block, Blocks};
 pub use compact::Move;
 pub use handle::Allocation;
 pub use index::{NodeIndex, NodeIndexNonMax};
@@ -237,6 +240,29 @@ impl<NI: NodeIndex> Allocator<NI> {
         ensures { result ≡ size_of allocation.name self.now }
     {
         counted::allocation_size_counted(self, allocation, &mut Accesses::new())
+    }
+
+    /// Where the range of a live handle begins, in units from the start of the space, or `None` where the handle is not
+    /// live.
+    ///
+    /// The public `offset` of a handle is a copy, which a caller may have changed, and which a stale handle keeps. It makes
+    /// at most 8 accesses to the tables.
+    pub fn allocation_offset(&self, allocation: Allocation<NI>) -> Option<u32>
+        ensures { result ≡ option_map (λ (r : Range). r.offset) (range_of allocation.name self.now) }
+    {
+        counted::allocation_offset_counted(self, allocation, &mut Accesses::new())
+    }
+
+    /// The blocks of the space, used and free, from its end to its start. It takes no memory, and each block costs at
+    /// most 5 accesses to the tables.
+    pub fn blocks(&self) -> Blocks<'_, NI>
+        ensures { result ≡ listing self.now }
+    {
+        Blocks {
+            allocator: self,
+            next: Some(self.store.last),
+            left: self.block_count(),
+        }
     }
 
     /// The free space in short: the units of all free blocks, and the largest request that would be granted. Both are

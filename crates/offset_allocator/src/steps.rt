@@ -17,7 +17,7 @@ use crate::tables::Tables;
 use crate::{Allocator, bins, chain, merge, parts};
 
 /// The handle of a name.
-fn handle_of<NI: NodeIndex>(offset: u32, name: u32) -> Allocation<NI>
+pub(crate) fn handle_of<NI: NodeIndex>(offset: u32, name: u32) -> Allocation<NI>
     requires { name < NI.MAX }
     ensures { result ≡ record { name = name; offset = offset } }
 {

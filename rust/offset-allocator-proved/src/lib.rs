@@ -34,6 +34,7 @@ pub use memory::{AllocError, Global};
 
 mod accesses;
 mod bins;
+mod blocks;
 mod chain;
 mod compact;
 mod counted;
@@ -54,6 +55,7 @@ mod store;
 mod tables;
 
 pub use accesses::Accesses;
+pub use blocks::{Block, Blocks};
 pub use compact::Move;
 pub use handle::Allocation;
 pub use index::{NodeIndex, NodeIndexNonMax};
@@ -176,6 +178,25 @@ impl<NI: NodeIndex> Allocator<NI> {
     /// and for a live range of no units too.
     pub fn allocation_size(&self, allocation: Allocation<NI>) -> u32 {
         counted::allocation_size_counted(self, allocation, &mut Accesses::new())
+    }
+
+    /// Where the range of a live handle begins, in units from the start of the space, or `None` where the handle is not
+    /// live.
+    ///
+    /// The public `offset` of a handle is a copy, which a caller may have changed, and which a stale handle keeps. It makes
+    /// at most 8 accesses to the tables.
+    pub fn allocation_offset(&self, allocation: Allocation<NI>) -> Option<u32> {
+        counted::allocation_offset_counted(self, allocation, &mut Accesses::new())
+    }
+
+    /// The blocks of the space, used and free, from its end to its start. It takes no memory, and each block costs at
+    /// most 5 accesses to the tables.
+    pub fn blocks(&self) -> Blocks<'_, NI> {
+        Blocks {
+            allocator: self,
+            next: Some(self.store.last),
+            left: self.block_count(),
+        }
     }
 
     /// The free space in short: the units of all free blocks, and the largest request that would be granted. Both are
