@@ -46,19 +46,14 @@ impl Pool {
     /// Moves all meshes to the front of the buffer, and returns how many vertices were copied.
     fn defragment(&mut self) -> u32 {
         let mut copied = 0;
-        let Pool { buffer, space, meshes } = self;
-        let mut moved = Vec::new();
-        space.compact(&mut |range| {
-            let from = range.from as usize;
-            buffer.copy_within(from..from + range.size as usize, range.to as usize);
-            copied += range.size;
-            moved.push((range.from, range.allocation()));
+        self.space.compact(&mut |moved| {
+            let from = moved.from as usize;
+            self.buffer.copy_within(from..from + moved.size as usize, moved.to as usize);
+            copied += moved.size;
         });
         // the handles are live as they were; only their offsets are those of before
-        for mesh in meshes {
-            if let Ok(place) = moved.binary_search_by_key(&mesh.range.offset, |(from, _)| *from) {
-                mesh.range = moved[place].1;
-            }
+        for mesh in &mut self.meshes {
+            mesh.range.offset = self.space.allocation_offset(mesh.range).expect("the handle of each mesh is live");
         }
         copied
     }

@@ -295,12 +295,22 @@ impl<NI: NodeIndex> Pair<NI> {
         assert_eq!(self.space.block_count() as usize, self.model.blocks.len());
         let report = self.space.storage_report();
         assert_eq!((report.total_free_space, report.largest_free_region), self.model.report());
-        for block in &self.model.blocks {
+        let mut blocks = self.space.blocks();
+        assert_eq!(blocks.len(), self.model.blocks.len());
+        let mut end = self.model.size();
+        for block in self.model.blocks.iter().rev() {
+            end -= block.size;
+            let found = blocks.next().unwrap();
+            assert_eq!((found.offset, found.size), (end, block.size));
+            assert_eq!(found.allocation, block.live.map(|range| at(range.handle, end)));
             if let Some(range) = block.live {
+                // its public offset is perhaps that of before a move
                 assert!(self.space.is_live(range.handle));
                 assert_eq!(self.space.allocation_size(range.handle), block.size);
+                assert_eq!(self.space.allocation_offset(range.handle), Some(end));
             }
         }
+        assert!(blocks.next().is_none());
     }
 
     fn call(&mut self, random: &mut Random, met: &mut Met) {
@@ -314,9 +324,10 @@ impl<NI: NodeIndex> Pair<NI> {
             }
             16..=26 if !live.is_empty() => {
                 let place = live[random.below(live.len() as u32) as usize];
-                // its public offset is perhaps that of before a move
-                self.space.free(self.model.blocks[place].live.unwrap().handle);
+                let handle = self.model.blocks[place].live.unwrap().handle;
+                self.space.free(handle);
                 self.model.free(place);
+                assert_eq!(self.space.allocation_offset(handle), None);
             }
             27..=28 => self.extend(if random.below(16) == 0 { random.next() as u32 } else { random.below(40) }),
             29 if random.below(4) == 0 => {
