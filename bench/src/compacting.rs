@@ -87,7 +87,7 @@ pub fn run(live: u32, way: fn(&mut Pool)) -> f64 {
 /// Nanoseconds a live range, of the fastest run of each way. The ways take turns.
 pub fn times(live: u32) -> [f64; 3] {
     let mut fastest = [f64::MAX; 3];
-    for _ in 0..(200_000 / live).max(9) {
+    for _ in 0..(200_000 / live).max(25) {
         for (best, (_, way)) in fastest.iter_mut().zip(WAYS) {
             *best = best.min(run(live, way) / f64::from(live));
         }
