@@ -6,6 +6,8 @@ mod alignment;
 #[cfg(test)]
 mod classes;
 #[cfg(test)]
+mod compacting;
+#[cfg(test)]
 mod extension;
 #[cfg(test)]
 mod grants;
