@@ -2,15 +2,15 @@
 use Rattle.std.proofs.Common.{◌≡◌, ℕ, ◌+◌, ◌≤◌, Bool, true, false, ◌&&◌, Some, None, List, [], ◌∷◌, ◌++◌, length, nat_eq, refl, sym, ap, ◌∙◌, arith, inl, inr}
 use Rattle.offset_allocator.specs.Classes.{down}
 use Rattle.offset_allocator.specs.Cells.{Room, Node, node}
-use Rattle.offset_allocator.specs.Named.{Block, Place, one, is_free, count_named, count_listed, names_at, free_end, without_end, remove_all}
+use Rattle.offset_allocator.specs.Named.{Block, Place, one, is_free, count_named, count_listed, names_at, free_end, without_end, free_start, without_start, remove_all}
 use Rattle.offset_allocator.specs.Space.{HasPlace, first_or}
 use Rattle.offset_allocator.specs.Orders.{Among, IsUnlisted}
-use Rattle.offset_allocator.specs.State.{AreFiled}
+use Rattle.offset_allocator.specs.State.{AreFiled, AreUnlisted}
 use Rattle.offset_allocator.proofs.Exchange.{each-le}
 use Rattle.offset_allocator.proofs.Places.{at_place, next_place, previous_place}
 use Rattle.offset_allocator.proofs.Tallies.{listed_named, tally_append, hit_cases, one-eq, times-append}
 use Rattle.offset_allocator.proofs.ViewOrders.{times_remove_all}
-use Rattle.offset_allocator.proofs.ViewTaken.{tally_end}
+use Rattle.offset_allocator.proofs.ViewTaken.{tally_end, tally_start}
 
 -- the sum that `count_listed` takes, of one block
 abbrev pub share : ℕ → ℕ → Block → ℕ
@@ -52,6 +52,18 @@ module _ {c : Room} {m last count x : ℕ} {p : Place} (h : HasPlace c m last co
       let parts : (k y : ℕ) → count_listed k y (p.before ++ p.after) ≡ (count_listed k y (without_end p.before) + count_listed k y (free_end p.before)) + count_listed k y p.after = λ k y. omega (arith, tally_append (share k y) p.before p.after, tally_end (share k y) p.before) in
       let left = times_remove_all (free_end p.before) ls long (λ k y. omega (arith, f k y, listed_named k y (p.before ++ p.after), few h y)) (λ k y. omega (arith, f k y, parts k y)) in
       omega (arith, f k y, parts k y, left k y, tally_append (share k y) (without_end p.before) p.after)
+
+-- and so does one after it
+module _ {c : Room} {m last count x : ℕ} {p : Place} (h : HasPlace c m last count x p) (ls : List (List ℕ)) (f : AreFiled (p.before ++ p.after) ls) (long : length ls ≡ 256) where
+  pub filed_after : AreFiled (p.before ++ without_start p.after) (remove_all (free_start p.after) ls)
+  filed_after k y =
+      let parts : (k y : ℕ) → count_listed k y (p.before ++ p.after) ≡ count_listed k y p.before + (count_listed k y (free_start p.after) + count_listed k y (without_start p.after)) = λ k y. omega (arith, tally_append (share k y) p.before p.after, tally_start (share k y) p.after) in
+      let left = times_remove_all (free_start p.after) ls long (λ k y. omega (arith, f k y, listed_named k y (p.before ++ p.after), few h y)) (λ k y. omega (arith, f k y, parts k y)) in
+      omega (arith, f k y, parts k y, left k y, tally_append (share k y) p.before (without_start p.after))
+
+  -- then a name that no block has is in no bin
+  pub unlisted_after : (n : ℕ) → AreUnlisted (p.before ++ record p.block { size = n } ∷ without_start p.after) (remove_all (free_start p.after) ls)
+  unlisted_after n y e k b a = omega (arith, e, a, filed_after k y, listed_named k y (p.before ++ without_start p.after), times-append y p.before (without_start p.after), times-append y p.before (record p.block { size = n } ∷ without_start p.after))
 
 -- the block after a block is the same, whatever became of those before it
 pub next_same : {c d : Room} {m last count last' count' x y : ℕ} {p q : Place} → HasPlace c m last count x p → HasPlace d m last' count' x q → p.after ≡ q.after → Some y ≡ (node c x).after → (Some y ≡ (node d x).after) × ((node d y).used ≡ (node c y).used)

@@ -25,7 +25,7 @@ remove_all-append : (ys zs : List Block) (o : List (List ℕ)) → remove_all (y
 remove_all-append [] zs o = refl
 remove_all-append (a ∷ ys) zs o = remove_all-append ys zs (if a.used then o else remove (down a.size) a.name o)
 
-remove_used : (b : Block) (zs : List Block) (o : List (List ℕ)) → b.used ≡ true → remove_all (b ∷ zs) o ≡ remove_all zs o
+pub remove_used : (b : Block) (zs : List Block) (o : List (List ℕ)) → b.used ≡ true → remove_all (b ∷ zs) o ≡ remove_all zs o
 remove_used b zs o e = ap (λ (u : Bool). remove_all zs (if u then o else remove (down b.size) b.name o)) e
 
 -- free blocks alone
@@ -34,7 +34,7 @@ units_end [] = refl
 units_end (b ∷ []) = elim b.used as (λ u. b.used ≡ u → free_units (if not u then b ∷ [] else []) ≡ units (if not u then b ∷ [] else [])) [ true ↦ λ e. refl | false ↦ λ e. free_units-free b [] e ] refl
 units_end (b ∷ d ∷ l) = units_end (d ∷ l)
 
-units_start : (l : List Block) → free_units (free_start l) ≡ units (free_start l)
+pub units_start : (l : List Block) → free_units (free_start l) ≡ units (free_start l)
 units_start [] = refl
 units_start (b ∷ l) = elim b.used as (λ u. b.used ≡ u → free_units (if not u then b ∷ [] else []) ≡ units (if not u then b ∷ [] else [])) [ true ↦ λ e. refl | false ↦ λ e. free_units-free b [] e ] refl
 
@@ -80,7 +80,7 @@ module _ {f : Fields} {x : ℕ} (r : Release f x) where
   abbrev ls : List (List ℕ)
   ls = class_lists max c.links
 
-  w : IsWellFormed v
+  pub w : IsWellFormed (shown f)
   w = well_counted (shown (record f { accesses = 0 })) f.accesses s.well
 
   pub at : IsAt f x
@@ -99,7 +99,7 @@ module _ {f : Fields} {x : ℕ} (r : Release f x) where
   abbrev cs : List Block
   cs = at.place.after
 
-  used : b.used ≡ true
+  pub used : at.place.block.used ≡ true
   used = sym (ap is_used_at at.is) ∙ r.live
 
   pub room_for : f.free + at.place.block.size < 2 ^ 32

@@ -29,7 +29,7 @@ abbrev pub popped : Fields → ℕ → ℕ → List (List ℕ)
 popped f class x = slice_set (class_lists f.max f.cells.links) class (without x (names_at (class_lists f.max f.cells.links) class))
 
 -- padding or a remainder has a name where it has units
-part_names : (y k n : ℕ) → 1 ≤ n → count_named y (free_part k n) ≡ one (nat_eq y k)
+pub part_names : (y k n : ℕ) → 1 ≤ n → count_named y (free_part k n) ≡ one (nat_eq y k)
 part_names y k zero l = absurd (omega arith)
 part_names y k (suc n) l = omega arith
 

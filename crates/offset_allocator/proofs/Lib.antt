@@ -26,6 +26,7 @@ pub mod Refusals
 pub mod Taken
 pub mod Tallies
 pub mod Released
+pub mod Resizing
 pub mod Rows
 pub mod Served
 pub mod Sound

@@ -3,6 +3,7 @@ use Rattle.std.proofs.Common.{◌≡◌, ◌≢◌, ℕ, IfSome, zero, suc, ◌+
 use Rattle.std.proofs.lemmas.Bool.{false≢true, and_right}
 use Rattle.offset_allocator.specs.Named.{Block, View, Place, Grant, one, units, count_named, used_block, free_block, free_part, IsWellFormed, place_of}
 use Rattle.offset_allocator.specs.Ranges.{Range, range_of, AreDisjoint, Grants, KeepsAll, KeepsOthers, KeepsRanges}
+use Rattle.offset_allocator.specs.Resizing.{Resizes, HasUnits}
 use Rattle.offset_allocator.specs.Relations.{SameSpace, Splits, Frees, Adds}
 use Rattle.std.specs.List.{AllByRecursion}
 use Rattle.offset_allocator.proofs.ViewSteps.{place_at, no_place}
@@ -251,3 +252,29 @@ adds_keep v w f after more s x =
     ∙ sym (shut x 0 s.before s.last (none_idle_all x s.last s.free))
     ∙ sym (ap (range_from x 0) s.blocks)
     ∙ sym (range_is x v f)
+
+-- fewer units, or more
+module _ (x n : ℕ) (v w : View) (k : IsWellFormed v) (after : IsWellFormed w) (s : Resizes x n v w) where
+  abbrev gone : List Block
+  gone = s.block ∷ s.next
+
+  abbrev made : List Block
+  made = used_block x n ∷ free_part s.name s.left
+
+  refitted : (y : ℕ) → range_of y w ≡ range_from y 0 (s.before ++ (made ++ s.after))
+  refitted y = range_is y w after ∙ ap (λ (u : View). range_from y 0 u.blocks) s.view
+
+  pub resizes_units : HasUnits x n v w
+  resizes_units r e =
+      let was = range_is x v k ∙ ap (range_from x 0) s.blocks ∙ placed x s.before s.block (s.next ++ s.after) (sym s.named) (omega (arith, k.distinct x, ap (count_named x) s.blocks)) ∙ ap (λ (u : Bool). if u then Some (record { offset = units s.before; size = s.block.size }) else None) s.used in
+      let now = refitted x ∙ placed x s.before (used_block x n) (free_part s.name s.left ++ s.after) refl (omega (arith, after.distinct x, ap (λ (u : View). count_named x u.blocks) s.view)) in
+      let same : (let q : Range = record { offset = units s.before; size = s.block.size } in q) ≡ r = cc in
+      now ∙ ap (λ (q : Range). Some (record { offset = q.offset; size = n })) same
+
+  pub resizes_others : KeepsOthers x v w
+  resizes_others y d =
+      refitted y
+      ∙ swapped y 0 s.before gone made s.after (omega (arith, s.whole, (part_sums s.name s.left).1))
+      (none_append y (s.block ∷ []) s.next ((ap (λ t. s.block.used && t) (ne_eqb y s.block.name (λ e. d (e ∙ s.named))) ∙ and_right s.block.used false refl, tt)) (none_idle_all y s.next s.free))
+      (none_append y (used_block x n ∷ []) (free_part s.name s.left) ((ne_eqb y x d, tt)) (none_free y s.name s.left))
+      ∙ sym (ap (range_from y 0) s.blocks) ∙ sym (range_is y v k)

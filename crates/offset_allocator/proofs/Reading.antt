@@ -14,7 +14,7 @@ abbrev pub range_at : Option Place → Option Range
 range_at o = option_and_then (λ (p : Place). if p.block.used then Some (record { offset = units p.before; size = p.block.size }) else None) o
 
 -- the units of a range, or 0 where there is none
-abbrev units_in : Option Range → ℕ
+abbrev pub units_in : Option Range → ℕ
 units_in o = unwrap_or (option_map (λ (r : Range). r.size) o) 0
 
 -- where a range begins

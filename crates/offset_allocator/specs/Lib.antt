@@ -8,6 +8,7 @@ pub mod Orders
 pub mod Ranges
 pub mod Relations
 pub mod Reports
+pub mod Resizing
 pub mod Space
 pub mod Start
 pub mod State

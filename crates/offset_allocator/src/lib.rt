@@ -39,6 +39,7 @@ mod merge;
 mod nonmax;
 mod parts;
 mod reports;
+mod resize;
 pub mod small_float;
 mod steps;
 mod store;

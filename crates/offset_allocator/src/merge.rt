@@ -3,7 +3,7 @@ ghost use Rattle.std.specs.Prelude.{ℕ, ◌≡◌, ◌+◌, ◌≤◌, ◌++◌
 ghost use Rattle.offset_allocator.specs.Classes.{down};
 ghost use Rattle.offset_allocator.specs.Cells.{node};
 ghost use Rattle.offset_allocator.specs.Named.{Place, free_end, free_start, push, remove_all};
-ghost use Rattle.offset_allocator.specs.Space.{HasPlace, coalesced_before, coalesced_after};
+ghost use Rattle.offset_allocator.specs.Space.{HasPlace, IsFreeAfter, coalesced_before, coalesced_after};
 ghost use Rattle.offset_allocator.specs.Orders.{Binned, class_lists};
 ghost use Rattle.offset_allocator.specs.State.{AreFiled};
 
@@ -30,11 +30,11 @@ fn free_before<NI: NodeIndex>(tables: &Tables<NI>, name: u32, count: &mut Access
     None
 }
 
-// The name of a free block directly after a block, if one is.
+/// The name of a free block directly after a block, if one is.
 #[inline(always)]
-fn free_after<NI: NodeIndex>(tables: &Tables<NI>, name: u32, count: &mut Accesses) -> Option<u32>
+pub(crate) fn free_after<NI: NodeIndex>(tables: &Tables<NI>, name: u32, count: &mut Accesses) -> Option<u32>
     requires place { (m last spare : ℕ) × (p : Place) × HasPlace tables.now.room m last spare name p }
-    ensures free { MatchOption result ((m last spare : ℕ) (p : Place) → HasPlace tables.now.room m last spare name p → free_start p.after ≡ []) (λ x. (Some x ≡ (node tables.now.room name).after) × ((node tables.now.room x).used ≡ false)) }
+    ensures free { IsFreeAfter tables.now.room name result }
     ensures accesses_min { count.old + 1 ≤ count.new }
     ensures accesses_max { count.new ≤ count.old + 2 }
 {

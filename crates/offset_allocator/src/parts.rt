@@ -1,14 +1,16 @@
-//! Splits a block: padding, a used middle, and a remainder.
+//! Splits a block: padding, a used middle, and a remainder. And resizes one, with the free block after it.
 ghost use Rattle.std.specs.Prelude.{ℕ, ◌≡◌, ◌+◌, ◌-◌, ◌<◌, ◌≤◌, length, ◌∷◌, ◌++◌};
 ghost use Rattle.offset_allocator.specs.Cells.{node};
-ghost use Rattle.offset_allocator.specs.Named.{Place, free_part, used_block, push_all};
-ghost use Rattle.offset_allocator.specs.Space.{HasPlace};
+ghost use Rattle.offset_allocator.specs.Named.{Place, free_part, free_start, without_start, used_block, units, push_all, remove_all};
+ghost use Rattle.offset_allocator.specs.Space.{HasPlace, IsFreeAfter, coalesced_after};
 ghost use Rattle.offset_allocator.specs.Orders.{Binned, class_lists};
-ghost use Rattle.offset_allocator.specs.State.{AreUnlisted};
+ghost use Rattle.offset_allocator.specs.State.{AreFiled, AreUnlisted};
 
+use crate::accesses::Accesses;
 use crate::index::NodeIndex;
 use crate::small_float::uint_to_float_round_down;
 use crate::store::Store;
+use crate::tables::Tables;
 use crate::{bins, chain};
 
 // Splits the first units off a block: they become a free block in its bin, under the name that is returned. Where they
@@ -119,4 +121,97 @@ pub(crate) fn divide<NI: NodeIndex>(
     chain::mark(&mut store.tables, name, true, &mut store.accesses);
     let rest = split_remainder(store, name, start, size, left);
     (front, rest)
+}
+
+/// The units of the free block `next`, if any, directly after a block.
+#[inline(always)]
+pub(crate) fn units_after<NI: NodeIndex>(
+    tables: &Tables<NI>,
+    name: u32,
+    next: Option<u32>,
+    count: &mut Accesses,
+) -> u32
+    requires place { (m last spare : ℕ) × (p : Place) × HasPlace tables.now.room m last spare name p }
+    requires next { IsFreeAfter tables.now.room name next }
+    ensures units { (m last spare : ℕ) (p : Place) → HasPlace tables.now.room m last spare name p → result ≡ units (free_start p.after) }
+    ensures accesses_kept { count.old ≤ count.new }
+    ensures accesses_max { count.new ≤ count.old + 1 }
+{
+    match next {
+        None => 0,
+        Some(following) => chain::size(tables, following, count),
+    }
+}
+
+// If a free block, of the name `next`, is directly after a block of this size, it leaves its bin and is coalesced into the
+// block. The size of the whole is returned.
+#[inline(always)]
+fn with_after<NI: NodeIndex>(
+    store: &mut Store<NI>,
+    name: u32,
+    size: u32,
+    next: Option<u32>,
+) -> u32
+    requires place { (m : ℕ) × (p : Place) × HasPlace store.old.tables.room m store.old.last store.old.spare_count name p × AreFiled (p.before ++ p.after) (class_lists NI.MAX store.old.tables.links) }
+    requires held { Binned NI.MAX store.old.tables.links store.old.top_mask }
+    requires size { size ≡ (node store.old.tables.room name).size }
+    requires next { IsFreeAfter store.old.tables.room name next }
+    ensures place { (m : ℕ) (p : Place) → HasPlace store.old.tables.room m store.old.last store.old.spare_count name p → HasPlace store.new.tables.room m store.new.last store.new.spare_count name (coalesced_after p) }
+    ensures held { Binned NI.MAX store.new.tables.links store.new.top_mask }
+    ensures lists { (m : ℕ) (p : Place) → HasPlace store.old.tables.room m store.old.last store.old.spare_count name p → class_lists NI.MAX store.new.tables.links ≡ remove_all (free_start p.after) (class_lists NI.MAX store.old.tables.links) }
+    ensures spares { store.old.spare_count ≤ store.new.spare_count }
+    ensures size { result ≡ (node store.new.tables.room name).size }
+    ensures accesses_kept { store.old.accesses ≤ store.new.accesses }
+    ensures accesses_max { store.new.accesses ≤ store.old.accesses + 11 }
+{
+    match next {
+        None => size,
+        Some(following) => {
+            let more = chain::size(&store.tables, following, &mut store.accesses);
+            let whole = size + more;
+            bins::remove(
+                &mut store.tables,
+                &mut store.top_mask,
+                following,
+                more,
+                &mut store.accesses,
+            );
+            chain::coalesce_after(
+                &mut store.tables,
+                &mut store.last,
+                &mut store.spare_count,
+                name,
+                following,
+                whole,
+                &mut store.accesses,
+            );
+            whole
+        }
+    }
+}
+
+/// Makes a block of `held` units one of `size` units, from the same offset on. What remains of it and of the free block
+/// directly after it, whose name is `next`, becomes one free block in its bin, under the name that is returned.
+#[inline(always)]
+pub(crate) fn resize<NI: NodeIndex>(
+    store: &mut Store<NI>,
+    name: u32,
+    held: u32,
+    next: Option<u32>,
+    size: u32,
+) -> u32
+    requires place { (m : ℕ) × (p : Place) × HasPlace store.old.tables.room m store.old.last store.old.spare_count name p × AreFiled (p.before ++ p.after) (class_lists NI.MAX store.old.tables.links) × (size ≤ p.block.size + units (free_start p.after)) }
+    requires held { Binned NI.MAX store.old.tables.links store.old.top_mask }
+    requires spare { 0 < store.old.spare_count }
+    requires size { held ≡ (node store.old.tables.room name).size }
+    requires next { IsFreeAfter store.old.tables.room name next }
+    ensures place { (m : ℕ) (p : Place) → HasPlace store.old.tables.room m store.old.last store.old.spare_count name p → HasPlace store.new.tables.room m store.new.last store.new.spare_count name (record { before = p.before; block = record p.block { size = size }; after = free_part result (p.block.size + units (free_start p.after) - size) ++ without_start p.after }) }
+    ensures held { Binned NI.MAX store.new.tables.links store.new.top_mask }
+    ensures lists { (m : ℕ) (p : Place) → HasPlace store.old.tables.room m store.old.last store.old.spare_count name p → class_lists NI.MAX store.new.tables.links ≡ push_all (free_part result (p.block.size + units (free_start p.after) - size)) (remove_all (free_start p.after) (class_lists NI.MAX store.old.tables.links)) }
+    ensures accesses_kept { store.old.accesses ≤ store.new.accesses }
+    ensures accesses_max { store.new.accesses ≤ store.old.accesses + 28 }
+{
+    let whole = with_after(store, name, held, next);
+    let offset = chain::offset(&store.tables, name, &mut store.accesses);
+    split_remainder(store, name, offset, size, whole - size)
 }

@@ -1,0 +1,263 @@
+-- A block that is resized with the free block after it: what that leaves of a view, and of the whole allocator.
+use Rattle.std.proofs.Common.{◌≡◌, ◌↔◌, ℕ, zero, suc, ◌+◌, ◌-◌, ◌<◌, ◌≤◌, Bool, true, false, ◌⊎◌, List, [], ◌∷◌, ◌++◌, length, Option, Some, None, is_some, nat_eq, refl, sym, ap, ap₂, subst, ◌∙◌, inl, inr, arith, length-append, eq-zero-or-pos, eq-eqb, ne_eqb, if◌then◌else◌}
+use Rattle.std.proofs.lemmas.Bool.{false≢true, true≢false, and_right, cases_eq}
+use Rattle.offset_allocator.specs.Cells.{Cells, Node}
+use Rattle.offset_allocator.specs.Named.{Block, View, Place, one, units, count_named, used_of, used_block, IsApart, IsWellFormed, IsNew, free_start, without_start, free_part, remove_all, push_all, replace}
+use Rattle.offset_allocator.specs.Promises.{HasRoomFor}
+use Rattle.offset_allocator.specs.Ranges.{range_of, size_of, KeepsOthers}
+use Rattle.offset_allocator.specs.Relations.{SameSpace}
+use Rattle.offset_allocator.specs.Resizing.{Resizes, Shrinks, Grows, CanShrink, CanGrow, HasUnits, free_after, free_beyond}
+use Rattle.offset_allocator.specs.Space.{HasPlace, IsFreeAfter}
+use Rattle.offset_allocator.specs.Orders.{class_lists, Binned}
+use Rattle.offset_allocator.specs.State.{free_units}
+use Rattle.offset_allocator.proofs.Exchange.{each-le, there-below}
+use Rattle.offset_allocator.proofs.Freeing.{Release, at, used, w, remove_used, units_start}
+use Rattle.offset_allocator.proofs.Granting.{part_names}
+use Rattle.offset_allocator.proofs.Joints.{stepped, free_part_units, free_units-append, free_units-used}
+use Rattle.offset_allocator.proofs.Places.{at_place, next_place}
+use Rattle.offset_allocator.proofs.Ranges.{resizes_units, resizes_others}
+use Rattle.offset_allocator.proofs.Reading.{size_is, size_at, units_in}
+use Rattle.offset_allocator.proofs.Released.{idle_start}
+use Rattle.offset_allocator.proofs.Sound.{Fields, AreSound, shown, well_same}
+use Rattle.offset_allocator.proofs.Tallies.{tally_three, part_sums, hit_cases, one-same}
+use Rattle.offset_allocator.proofs.ViewApart.{ends_free, apart_parts, apart_append, apart_without_start, apart_free_part, start_parts}
+use Rattle.offset_allocator.proofs.ViewReplaced.{well_replaced}
+
+-- the name of a free part, where it has units
+part_named : (z m y : ℕ) → (count_named y (free_part z m) ≡ 0) ⊎ ((y ≡ z) × (1 ≤ m) × (count_named y (free_part z m) ≡ 1))
+part_named z zero y = inl refl
+part_named z (suc m) y = elim (hit_cases y z) [ inl h ↦ inr (h.0, omega arith, omega (arith, h.1)) | inr h ↦ inl (omega (arith, h.1)) ]
+
+-- a view that is left is well formed, in a space with room for the free block
+module _ {x n : ℕ} {v u : View} (r : Resizes x n v u) (k : IsWellFormed v) where
+  abbrev old : List Block
+  old = r.block ∷ r.next
+
+  abbrev rest : List Block
+  rest = free_part r.name r.left
+
+  abbrev parts : List Block
+  parts = used_block x n ∷ rest
+
+  count_of : (y : ℕ) → count_named y v.blocks ≡ count_named y r.before + ((one (nat_eq y x) + count_named y r.next) + count_named y r.after)
+  count_of y = ap (count_named y) r.blocks ∙ tally_three (λ (b : Block). one (nat_eq y b.name)) r.before old r.after ∙ ap (λ i. count_named y r.before + ((one (nat_eq y i) + count_named y r.next) + count_named y r.after)) r.named
+
+  distinct_parts : (y : ℕ) → count_named y parts ≤ 1
+  distinct_parts y = elim (part_named r.name r.left y) [
+    | inl z ↦ omega (arith, z, count_of y, k.distinct y)
+    | inr p ↦ elim (r.new p.1) [
+      | inl a ↦ omega (arith, p.2, count_of y, k.distinct y, subst (λ i. 1 ≤ count_named i r.next) (sym p.0) a)
+      | inr a ↦ omega (arith, p.2, count_of y, subst (λ i. count_named i v.blocks ≡ 0) (sym p.0) a.absent)
+    ]
+  ]
+
+  named_parts : (y : ℕ) → 1 ≤ count_named y parts → (1 ≤ count_named y old) ⊎ IsNew y v
+  named_parts y l = elim (part_named r.name r.left y) [
+    | inl z ↦ inl (omega (arith, l, z, ap (λ i. one (nat_eq y i)) r.named))
+    | inr p ↦ elim (r.new p.1) [
+      | inl a ↦ inl (omega (arith, subst (λ i. 1 ≤ count_named i r.next) (sym p.0) a))
+      | inr a ↦ inr (subst (λ i. IsNew i v) (sym p.0) a)
+    ]
+  ]
+
+  pub well_resized : (1 ≤ length r.next) ⊎ HasRoomFor 1 v → IsWellFormed u
+  well_resized room = well_same (replace v r.before old parts r.after) u r.view (well_replaced v r.before old parts r.after v.size k
+      (record {
+        stood = r.blocks;
+        some = omega arith;
+        distinct = distinct_parts;
+        names = named_parts;
+        apart = subst IsApart (ap (λ (z : View). z.blocks) r.view) r.apart;
+        room = elim room [
+          | inl l ↦ omega (arith, l, k.room, old_length, new_length, (part_sums r.name r.left).0)
+          | inr l ↦ omega (arith, l, old_length, new_length, (part_sums r.name r.left).0)
+        ];
+        spare = omega (arith, k.spare, ap used_of r.blocks, tally_three (λ (b : Block). one b.used) r.before old r.after, tally_three (λ (b : Block). one b.used) r.before parts r.after, ap one r.used, (part_sums r.name r.left).2);
+      })
+      (omega (arith, r.whole, (part_sums r.name r.left).1)) k.fits)
+    where
+      old_length : length v.blocks ≡ length r.before + (suc (length r.next) + length r.after)
+      old_length = ap length r.blocks ∙ length-append r.before (old ++ r.after) ∙ ap (λ m. length r.before + m) (length-append old r.after)
+
+      new_length : length (r.before ++ (parts ++ r.after)) ≡ length r.before + (suc (length rest) + length r.after)
+      new_length = length-append r.before (parts ++ r.after) ∙ ap (λ m. length r.before + m) (length-append parts r.after)
+
+-- the fields that are left
+module _ {f : Fields} {x : ℕ} (call : Release f x) where
+  abbrev v : View
+  v = shown f
+
+  abbrev p : Place
+  p = (at call).place
+
+  abbrev ls : List (List ℕ)
+  ls = class_lists f.max f.cells.links
+
+  abbrev next : List Block
+  next = free_start p.after
+
+  abbrev after : List Block
+  after = without_start p.after
+
+  -- the units of the block and of the free block after it
+  abbrev pub both : ℕ
+  both = (at call).place.block.size + units (free_start (at call).place.after)
+
+  split : v.blocks ≡ p.before ++ ((p.block ∷ next) ++ after)
+  split = (at call).stood ∙ ap (λ l. p.before ++ p.block ∷ l) (start_parts p.after)
+
+  had_free : f.free ≡ free_units p.before + (units next + free_units after)
+  had_free = sym call.sound.total ∙ ap free_units split ∙ free_units-append p.before (p.block ∷ (next ++ after)) ∙ ap (λ k. free_units p.before + k) (free_units-used p.block (next ++ after) (used call) ∙ free_units-append next after ∙ ap (λ k. k + free_units after) (units_start p.after))
+
+  pub free_beside : units (free_start (at call).place.after) ≤ f.free
+  free_beside = omega (arith, had_free)
+
+  module _ (n : ℕ) (enough : n ≤ both) (room : (1 ≤ length (free_start (at call).place.after)) ⊎ HasRoomFor 1 (shown f))
+      (d : Cells) (last count name : ℕ) (there : HasPlace d.room (length f.cells.room.nodes) last count x (record { before = (at call).place.before; block = record (at call).place.block { size = n }; after = free_part name (both - n) ++ without_start (at call).place.after })) where
+    abbrev left : ℕ
+    left = both - n
+
+    abbrev new : List Block
+    new = used_block x n ∷ free_part name left
+
+    abbrev left_view : View
+    left_view = replace v p.before (p.block ∷ next) new after
+
+    same_block : record p.block { size = n } ≡ used_block x n
+    same_block = ap₂ (λ (i : ℕ) (u : Bool). record { name = i; size = n; used = u }) (at call).held.name (used call)
+
+    -- the name of the free block
+    counted : (y : ℕ) → count_named y v.blocks ≡ count_named y p.before + (one (nat_eq y p.block.name) + (count_named y next + count_named y after))
+    counted y = ap (count_named y) split ∙ tally_three (λ (b : Block). one (nat_eq y b.name)) p.before (p.block ∷ next) after ∙ omega arith
+
+    now : (y : ℕ) → count_named y (p.before ++ record p.block { size = n } ∷ (free_part name left ++ after)) ≡ count_named y p.before + (one (nat_eq y p.block.name) + (count_named y (free_part name left) + count_named y after))
+    now y = tally_three (λ (b : Block). one (nat_eq y b.name)) p.before (record p.block { size = n } ∷ free_part name left) after ∙ omega arith
+
+    named : 1 ≤ left → (1 ≤ count_named name next) ⊎ IsNew name v
+    named l =
+        let here : count_named name (free_part name left) ≡ 1 = part_names name name left l ∙ one-same name in
+        elim (eq-zero-or-pos (count_named name next)) [
+          | inl z ↦ inr (record {
+              below = omega (arith, there-below d.room _ last count name _ there.chain (omega (arith, now name, here)), call.sound.nodes);
+              absent = omega (arith, z, counted name, now name, here, each-le d.room _ last count _ there.chain name);
+            })
+          | inr s ↦ inl s
+        ]
+
+    apart : IsApart (p.before ++ (new ++ after))
+    apart =
+        let parts = apart_parts p.before (p.block ∷ p.after) (subst IsApart (at call).stood (w call).apart) in
+        let tail = apart_without_start p.after parts.1.1 in
+        apart_append p.before (new ++ after) parts.0 (refl, apart_free_part name left after tail.0 tail.1) (and_right (ends_free p.before) false refl)
+
+    resizes : (u : View) → SameSpace left_view u → Resizes x n v u
+    resizes u same = record {
+      before = p.before;
+      block = p.block;
+      next = next;
+      after = after;
+      blocks = split;
+      named = (at call).held.name;
+      used = used call;
+      free = idle_start p.after;
+      left = left;
+      whole = omega (arith, enough);
+      name = name;
+      new = named;
+      view = same;
+      apart = subst IsApart (sym (ap (λ (z : View). z.blocks) same)) apart;
+    }
+
+    pub resized : {top : ℕ} (accesses free : ℕ) → Binned f.max d.links top
+        → class_lists f.max d.links ≡ push_all (free_part name (both - n)) (remove_all (free_start (at call).place.after) (class_lists f.max f.cells.links))
+        → free + n ≡ f.free + (at call).place.block.size
+        → AreSound (record f { cells = d; last = last; count = count; top = top; free = free; accesses = accesses })
+        × Resizes x n (shown f) (shown (record f { cells = d; last = last; count = count; top = top; free = free; accesses = accesses }))
+    unfolding resizes
+    resized {top} accesses free bins lists total =
+        let well = well_resized (resizes left_view refl) (w call) room in
+        let flat : p.before ++ record p.block { size = n } ∷ (free_part name left ++ after) ≡ p.before ++ (new ++ after) = ap (λ b. p.before ++ b ∷ (free_part name left ++ after)) same_block in
+        let order : class_lists f.max d.links ≡ push_all new (remove_all (p.block ∷ next) ls) = lists ∙ ap (push_all (free_part name left)) (sym (remove_used p.block next ls (used call))) in
+        let units_are = free_units-append p.before (new ++ after) in
+        let done = stepped f call.sound left_view d free accesses well refl there.chain flat bins order
+        (ap free_units flat ∙ units_are ∙ omega (arith, free_units-used (used_block x n) (free_part name left ++ after) refl, free_part_units name left after, had_free, total, enough)) in
+        (done.0, resizes _ done.1)
+
+  -- whether a free block is after it
+  pub next_some : (o : Option ℕ) → IsFreeAfter f.cells.room x o → (is_some o ≡ true → 1 ≤ length (free_start (at call).place.after)) × (is_some o ≡ false → free_start (at call).place.after ≡ [])
+  next_some None h = (λ e. absurd (false≢true e), λ _. h _ _ _ _ (at call).held)
+  next_some (Some y) h =
+      let n = next_place (at call).held h.0 in
+      let idle : n.block.used ≡ false = sym (ap (λ (v : Node). v.used) (at_place n.place)) ∙ h.1 in
+      let is : free_start (n.block ∷ n.rest) ≡ n.block ∷ [] = rw idle refl in
+      (λ _. omega (arith, ap (λ l. length (free_start l)) n.is, ap length is), λ e. absurd (true≢false e))
+
+  -- what the calls do
+  size_there : size_of x v ≡ p.block.size
+  size_there = size_is x v ∙ ap size_at (at call).is ∙ ap (λ (u : Bool). if u then p.block.size else 0) (used call)
+
+  next_there : free_after x v ≡ next
+  next_there = ap free_beyond (at call).is
+
+  -- where nothing changes, as the units are as many, or too many to shrink to
+  pub shrinks_early : (n held accesses : ℕ) → held ≡ (at call).place.block.size → held ≤ n → Shrinks x n (shown f) (shown (record f { accesses = accesses })) (nat_eq n held)
+  shrinks_early n held accesses e l = elim (cases_eq n held) [
+    | inl q ↦ rw (eq-eqb n held q) (inl (omega (arith, q, e, size_there), refl))
+    | inr q ↦ rw (ne_eqb n held q) (λ c. q (omega (arith, c.0, l, e, size_there)), refl)
+  ]
+
+  pub shrinks_full : (n accesses : ℕ) → n < (at call).place.block.size → free_start (at call).place.after ≡ [] → f.count ≤ 1 → Shrinks x n (shown f) (shown (record f { accesses = accesses })) false
+  shrinks_full n accesses l e full = (λ c. elim (c.1 (omega (arith, l, size_there))) [ inl some ↦ some (next_there ∙ e) | inr room ↦ omega (arith, room, full, call.sound.nodes, call.sound.space.full) ], refl)
+
+  pub shrinks_done : (n : ℕ) (u : View) → n < (at call).place.block.size → (1 ≤ length (free_start (at call).place.after)) ⊎ HasRoomFor 1 (shown f) → Resizes x n (shown f) u → Shrinks x n (shown f) u true
+  shrinks_done n u l room r =
+      let less : n < size_of x v = omega (arith, l, size_there) in
+      inr (less, (omega (arith, less), λ _. elim room [ inl some ↦ inl (λ e. omega (arith, some, ap length (sym next_there ∙ e))) | inr o ↦ inr o ]), r)
+
+  pub grows_early : (n held accesses : ℕ) → held ≡ (at call).place.block.size → n ≤ held → Grows x n (shown f) (shown (record f { accesses = accesses })) (nat_eq n held)
+  grows_early n held accesses e l = elim (cases_eq n held) [
+    | inl q ↦ rw (eq-eqb n held q) (inl (omega (arith, q, e, size_there), refl))
+    | inr q ↦ rw (ne_eqb n held q) (λ c. q (omega (arith, c.0, l, e, size_there)), refl)
+  ]
+
+  pub grows_refused : (n accesses : ℕ) → both < n → Grows x n (shown f) (shown (record f { accesses = accesses })) false
+  grows_refused n accesses l = (λ c. omega (arith, c.1, l, size_there, ap units next_there), refl)
+
+  pub grows_done : (n : ℕ) (u : View) → (at call).place.block.size < n → n ≤ both → Resizes x n (shown f) u → Grows x n (shown f) u true
+  grows_done n u l m r = let more : size_of x v < n = omega (arith, l, size_there) in inr (more, (omega (arith, more), omega (arith, m, size_there, ap units next_there)), r)
+
+-- blocks of some units are some
+pub some_units : (bs : List Block) → 1 ≤ units bs → 1 ≤ length bs
+some_units [] l = absurd (omega arith)
+some_units (b ∷ bs) l = omega arith
+
+-- when it is done
+pub shrinks_can : (x n : ℕ) (v w : View) (done : Bool) → Shrinks x n v w done → (done ≡ true) ↔ CanShrink x n v
+shrinks_can x n v w true s = (λ h. elim s [ inl z ↦ (omega (arith, z.0), λ l. absurd (omega (arith, z.0, l))) | inr r ↦ r.1 ], λ h. refl)
+shrinks_can x n v w false s = (λ h. absurd (false≢true h), λ h. absurd (s.0 h))
+
+pub grows_can : (x n : ℕ) (v w : View) (done : Bool) → Grows x n v w done → (done ≡ true) ↔ CanGrow x n v
+grows_can x n v w true s = (λ h. elim s [ inl z ↦ (omega (arith, z.0), omega (arith, z.0)) | inr r ↦ r.1 ], λ h. refl)
+grows_can x n v w false s = (λ h. absurd (false≢true h), λ h. absurd (s.0 h))
+
+-- a range of n units has them already
+pub has_units : (x n : ℕ) (v w : View) → n ≡ size_of x v → SameSpace v w → HasUnits x n v w
+has_units x n v w e same r is =
+    let sized : size_of x v ≡ r.size = ap units_in is in
+    ap (range_of x) same ∙ is ∙ ap (λ i. Some (record { offset = r.offset; size = i })) (sym (e ∙ sized))
+
+-- what the calls leave of ranges
+module _ (x n : ℕ) (v w : View) (k : IsWellFormed v) (left : IsWellFormed w) where
+  pub shrinks_units : (done : Bool) → Shrinks x n v w done → done ≡ true → HasUnits x n v w
+  shrinks_units true s e = elim s [ inl z ↦ has_units x n v w z.0 z.1 | inr r ↦ resizes_units x n v w k left r.2 ]
+  shrinks_units false s e = absurd (false≢true e)
+
+  pub shrinks_others : Shrinks x n v w true → KeepsOthers x v w
+  shrinks_others s = elim s [ inl z ↦ λ y d. ap (range_of y) z.1 | inr r ↦ resizes_others x n v w k left r.2 ]
+
+  pub grows_units : (done : Bool) → Grows x n v w done → done ≡ true → HasUnits x n v w
+  grows_units true s e = elim s [ inl z ↦ has_units x n v w z.0 z.1 | inr r ↦ resizes_units x n v w k left r.2 ]
+  grows_units false s e = absurd (false≢true e)
+
+  pub grows_others : Grows x n v w true → KeepsOthers x v w
+  grows_others s = elim s [ inl z ↦ λ y d. ap (range_of y) z.1 | inr r ↦ resizes_others x n v w k left r.2 ]

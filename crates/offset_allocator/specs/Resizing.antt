@@ -1,0 +1,59 @@
+-- Ranges that become smaller or larger in place.
+use Rattle.std.specs.Prelude.{◌≡◌, ◌≢◌, ℕ, ◌+◌, ◌<◌, ◌≤◌, ◌⊎◌, Bool, true, false, List, [], ◌∷◌, ◌++◌, Option, None, Some}
+use Rattle.std.specs.List.{AllByRecursion}
+use Rattle.offset_allocator.specs.Named.{View, Block, Place, units, count_named, place_of, free_start, free_part, used_block, replace, IsApart, IsNew}
+use Rattle.offset_allocator.specs.Promises.{HasRoomFor}
+use Rattle.offset_allocator.specs.Ranges.{Range, range_of, size_of}
+use Rattle.offset_allocator.specs.Relations.{SameSpace}
+
+-- the free block directly after a place, if there is one
+abbrev pub free_beyond : Option Place → List Block
+free_beyond None = []
+free_beyond (Some p) = free_start p.after
+
+-- the free block directly after the block of a name, if there is one
+abbrev pub free_after : ℕ → View → List Block
+free_after x v = free_beyond (place_of x v.blocks)
+
+-- a range can shrink to n units: it has at least as many, and if it has more, there is a free block directly after it or
+-- room for one more block
+abbrev pub CanShrink : ℕ → ℕ → View → Type 0
+CanShrink x n v = (n ≤ size_of x v) × (n < size_of x v → (free_after x v ≢ []) ⊎ HasRoomFor 1 v)
+
+-- a range can grow to n units: it has at most as many, and the free block directly after it has those that it lacks
+abbrev pub CanGrow : ℕ → ℕ → View → Type 0
+CanGrow x n v = (size_of x v ≤ n) × (n ≤ size_of x v + units (free_after x v))
+
+-- a range has n units after the call, from the same offset on
+abbrev pub HasUnits : ℕ → ℕ → View → View → Type 0
+HasUnits x n v w = (r : Range) → range_of x v ≡ Some r → range_of x w ≡ Some (record r { size = n })
+
+-- the used block named x and the free block directly after it, if there is one, become a used block of n units, named x,
+-- and a free block of the units that are left, if any are
+pub record Resizes (x n : ℕ) (v w : View) : Type 0 where
+  pub before : List Block
+  pub block : Block
+  pub next : List Block
+  pub after : List Block
+  pub blocks : v.blocks ≡ before ++ ((block ∷ next) ++ after)
+  pub named : block.name ≡ x
+  pub used : block.used ≡ true
+  pub free : AllByRecursion (λ b. b.used ≡ false) next
+  pub left : ℕ
+  pub whole : n + left ≡ units (block ∷ next)
+  -- the free block has a name that no block has, or that of the free block that was there
+  pub name : ℕ
+  pub new : 1 ≤ left → (1 ≤ count_named name next) ⊎ IsNew name v
+  pub view : SameSpace (replace v before (block ∷ next) (used_block x n ∷ free_part name left) after) w
+  -- afterwards no two free blocks are neighbours: so where units are left, next is the free block after it if there was one
+  pub apart : IsApart w.blocks
+
+-- a call that takes a range to fewer units, and one to more: it is refused exactly where that cannot be, and then nothing
+-- changes, as where the range has these units already
+abbrev pub Shrinks : ℕ → ℕ → View → View → Bool → Type 0
+Shrinks x n v w true = ((n ≡ size_of x v) × SameSpace v w) ⊎ ((n < size_of x v) × CanShrink x n v × Resizes x n v w)
+Shrinks x n v w false = (CanShrink x n v → ⊥) × SameSpace v w
+
+abbrev pub Grows : ℕ → ℕ → View → View → Bool → Type 0
+Grows x n v w true = ((n ≡ size_of x v) × SameSpace v w) ⊎ ((size_of x v < n) × CanGrow x n v × Resizes x n v w)
+Grows x n v w false = (CanGrow x n v → ⊥) × SameSpace v w

@@ -1,0 +1,91 @@
+//! Ranges that become smaller or larger in place.
+ghost use Rattle.std.specs.Prelude.{◌≡◌, ◌↔◌, ◌+◌, ◌≤◌, false, IsTrue};
+ghost use Rattle.offset_allocator.specs.Ranges.{IsLive, KeepsOthers};
+ghost use Rattle.offset_allocator.specs.Relations.{SameSpace};
+ghost use Rattle.offset_allocator.specs.Resizing.{CanShrink, CanGrow, HasUnits, Shrinks, Grows};
+
+use crate::handle::Allocation;
+use crate::index::{self, NodeIndex};
+use crate::{Allocator, chain, merge, parts};
+
+impl<NI: NodeIndex> Allocator<NI> {
+    /// Frees the units of a live range after its first `size`. They are free at once, in one block with the free block
+    /// directly after the range, and that block is the newest of its bin. The handle stays live, with its offset.
+    ///
+    /// `false` is returned where `size` is above the units of the range, and where no further block may exist and no free
+    /// block is directly after the range; then nothing changes. With exactly the units of the range it is `true`, and
+    /// nothing changes either. The handle has to be live, and only its name counts, as in `free`. It makes at most 128
+    /// accesses to the tables, and takes no memory.
+    pub fn shrink(&mut self, allocation: Allocation<NI>, size: u32) -> bool
+        requires live { IsLive allocation.name self.old }
+        // It is done exactly when the range has at least `size` units, and, if it has more, a free block is directly after it
+        // or there is room for one more block.
+        ensures done { IsTrue result ↔ CanShrink allocation.name size self.old }
+        // Then the range has `size` units, from its first one on. All other ranges stay.
+        ensures range { IsTrue result → HasUnits allocation.name size self.old self.new }
+        ensures others { KeepsOthers allocation.name self.old self.new }
+        // A refusal leaves the space as it was.
+        ensures same { result ≡ false → SameSpace self.old self.new }
+        // It makes at most 128 accesses to table cells, and at least 1.
+        ensures accesses_min { self.old.accesses + 1 ≤ self.new.accesses }
+        ensures accesses_max { self.new.accesses ≤ self.old.accesses + 128 }
+        // The step as a whole: what becomes of the range and of the free block after it.
+        ensures step { Shrinks allocation.name size self.old self.new result }
+    {
+        let name = index::number::<NI>(NI::of_nonmax(allocation.name()));
+        let held = chain::size(&self.store.tables, name, &mut self.store.accesses);
+        if size >= held {
+            return size == held;
+        }
+        let next = merge::free_after(&self.store.tables, name, &mut self.store.accesses);
+        if next.is_none() && self.store.spare_count < 2 {
+            return false;
+        }
+        parts::resize(&mut self.store, name, held, next, size);
+        self.free_total += held - size;
+        true
+    }
+
+    /// Adds units to a live range at its end, so that it has `size`: those of the free block directly after it. What
+    /// remains of that block stays free, and is the newest of its bin. The handle stays live, with its offset.
+    ///
+    /// `false` is returned where `size` is below the units of the range, and where no free block directly after the range
+    /// has the units that it lacks; then nothing changes. With exactly the units of the range it is `true`, and nothing
+    /// changes either. The handle has to be live, and only its name counts, as in `free`. It makes at most 128 accesses
+    /// to the tables, and takes no memory.
+    pub fn grow_in_place(&mut self, allocation: Allocation<NI>, size: u32) -> bool
+        requires live { IsLive allocation.name self.old }
+        // It is done exactly when the range has at most `size` units, and at least `size` with those of the free block
+        // directly after it.
+        ensures done { IsTrue result ↔ CanGrow allocation.name size self.old }
+        // Then the range has `size` units, from its first one on. All other ranges stay.
+        ensures range { IsTrue result → HasUnits allocation.name size self.old self.new }
+        ensures others { KeepsOthers allocation.name self.old self.new }
+        // A refusal leaves the space as it was.
+        ensures same { result ≡ false → SameSpace self.old self.new }
+        // It makes at most 128 accesses to table cells, and at least 1.
+        ensures accesses_min { self.old.accesses + 1 ≤ self.new.accesses }
+        ensures accesses_max { self.new.accesses ≤ self.old.accesses + 128 }
+        // The step as a whole: what becomes of the range and of the free block after it.
+        ensures step { Grows allocation.name size self.old self.new result }
+    {
+        let name = index::number::<NI>(NI::of_nonmax(allocation.name()));
+        let held = chain::size(&self.store.tables, name, &mut self.store.accesses);
+        if size <= held {
+            return size == held;
+        }
+        let next = merge::free_after(&self.store.tables, name, &mut self.store.accesses);
+        let more = parts::units_after(
+            &self.store.tables,
+            name,
+            next,
+            &mut self.store.accesses,
+        );
+        if size - held > more {
+            return false;
+        }
+        parts::resize(&mut self.store, name, held, next, size);
+        self.free_total -= size - held;
+        true
+    }
+}
