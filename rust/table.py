@@ -42,6 +42,7 @@ LINTS = {
         "clippy::manual_map": "a `match` needs no closure, whose calls would need a proof",
         "clippy::needless_range_loop": "so is a loop over places proved in few words",
         "clippy::too_many_arguments": "functions over the tables take the numbers that they change one by one",
+        "unused_variables": "a parameter may be there for a contract only",
     },
     "offset_script": {},
 }

@@ -25,6 +25,7 @@
 #![expect(clippy::manual_map)] // a `match` needs no closure, whose calls would need a proof
 #![expect(clippy::needless_range_loop)] // so is a loop over places proved in few words
 #![expect(clippy::too_many_arguments)] // functions over the tables take the numbers that they change one by one
+#![expect(unused_variables)] // a parameter may be there for a contract only
 
 extern crate alloc;
 
@@ -49,6 +50,7 @@ mod merge;
 mod nonmax;
 mod parts;
 mod reports;
+mod resize;
 pub mod small_float;
 mod steps;
 mod store;

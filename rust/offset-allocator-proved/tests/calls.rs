@@ -112,6 +112,18 @@ fn compacts() {
 }
 
 #[test]
+fn resizes_in_place() {
+    let mut a = space(100, 16);
+    let first = a.allocate(10).unwrap();
+    let second = a.allocate(20).unwrap();
+    assert!(a.shrink(first, 4) && !a.shrink(first, 5));
+    assert_eq!((a.allocation_size(first), a.allocation_offset(first)), (4, Some(0)));
+    assert!(!a.grow_in_place(first, 11) && a.grow_in_place(first, 10));
+    assert!(!a.grow_in_place(second, 91) && a.grow_in_place(second, 90));
+    assert_eq!((a.allocation_size(second), a.storage_report().total_free_space), (90, 0));
+}
+
+#[test]
 fn node_limits() {
     // a limit of 4 admits 3 blocks: two ranges and the remainder
     let mut a = space(100, 4);

@@ -5,7 +5,7 @@
 use offset_allocator_proved::{Allocation, Allocator, Global, NodeIndex};
 
 const HISTORIES: u64 = 100_000;
-const MOST_CALLS: u32 = 80;
+const MOST_CALLS: u32 = 60;
 const THREADS: u64 = 4;
 /// A space of more units has no buffer.
 const LARGEST_BUFFER: u32 = 4096;
@@ -142,6 +142,29 @@ impl<NI: NodeIndex> Model<NI> {
         self.coalesce(place);
     }
 
+    /// Makes a live block one of `size` units, with those of the free block after it. Whether that can be done.
+    fn resize(&mut self, place: usize, size: u32) -> bool {
+        let next = self.blocks.get(place + 1).filter(|next| next.live.is_none()).copied();
+        let left = u64::from(self.blocks[place].size) + u64::from(next.map_or(0, |next| next.size));
+        let needs_block = next.is_none() && size < self.blocks[place].size;
+        if u64::from(size) > left || needs_block && !self.has_room_for(1) {
+            return false;
+        }
+        if size == self.blocks[place].size {
+            return true;
+        }
+        if next.is_some() {
+            self.blocks.remove(place + 1);
+        }
+        let rest = left as u32 - size;
+        self.blocks[place].size = size;
+        if rest > 0 {
+            let rest = self.free_block(rest);
+            self.blocks.insert(place + 1, rest);
+        }
+        true
+    }
+
     fn extend(&mut self, more: u32) -> bool {
         if more == 0 {
             return true;
@@ -207,6 +230,8 @@ struct Met {
     moves: u64,
     overlapping_moves: u64,
     compacted_at_the_limit: u64,
+    shrunk: u64,
+    grown: u64,
 }
 
 struct Pair<NI: NodeIndex> {
@@ -247,6 +272,24 @@ impl<NI: NodeIndex> Pair<NI> {
         let Some(buffer) = &mut self.buffer else { return };
         for i in start..end {
             buffer[(offset + i) as usize] = byte(range.number, i);
+        }
+    }
+
+    fn resize(&mut self, place: usize, size: u32, met: &mut Met) {
+        let (range, offset, held) = (self.model.blocks[place].live.unwrap(), self.model.offset(place), self.model.blocks[place].size);
+        let (shrunk, grown) = if size < held {
+            // to fewer units nothing grows, and to more units nothing shrinks
+            assert!(!self.space.grow_in_place(range.handle, size));
+            (self.space.shrink(range.handle, size), false)
+        } else {
+            assert_eq!(self.space.shrink(range.handle, size), size == held);
+            (false, self.space.grow_in_place(range.handle, size))
+        };
+        assert_eq!(shrunk || grown, self.model.resize(place, size));
+        met.shrunk += u64::from(shrunk);
+        met.grown += u64::from(grown && size > held);
+        if grown {
+            self.write(range, offset, held, size);
         }
     }
 
@@ -316,7 +359,7 @@ impl<NI: NodeIndex> Pair<NI> {
     fn call(&mut self, random: &mut Random, met: &mut Met) {
         let live = self.model.live();
         let size = random.units(self.model.size());
-        match random.below(32) {
+        match random.below(36) {
             0..=11 => self.allocate(size, 1, met),
             12..=15 => {
                 let align = if random.below(8) == 0 { 1 << random.below(32) } else { 1 << random.below(5) };
@@ -335,6 +378,12 @@ impl<NI: NodeIndex> Pair<NI> {
                 self.model.reset();
             }
             30..=31 => self.compact(met),
+            32..=35 if !live.is_empty() => {
+                let place = live[random.below(live.len() as u32) as usize];
+                let held = self.model.blocks[place].size;
+                let size = if random.below(2) == 0 { size } else { held.saturating_add(random.below(9)).saturating_sub(random.below(9)) };
+                self.resize(place, size, met);
+            }
             _ => self.check_bytes(),
         }
         self.check();
@@ -377,8 +426,9 @@ fn an_allocator_and_a_list_of_blocks_agree() {
         }
         let count = HISTORIES / THREADS;
         assert!(met.grants > 10 * count && met.refusals > count, "{met:?}");
-        assert!(met.moves > 4 * count && met.overlapping_moves > count, "{met:?}");
+        assert!(met.moves > 3 * count && met.overlapping_moves > count, "{met:?}");
         assert!(met.compacted_at_the_limit > count / 50, "{met:?}");
+        assert!(met.shrunk > count / 2 && met.grown > count / 4, "{met:?}");
     };
     std::thread::scope(|scope| {
         for first in 0..THREADS {

@@ -125,6 +125,15 @@ impl<NI: NodeIndex> Pair<NI> {
                 let offset = result(|| self.space.allocation_offset(handle)).unwrap();
                 assert_eq!(laws::allocation_offset_counted(&self.space, handle, &mut count), offset);
                 assert_eq!(offset.is_some(), is_live);
+                let other = if random.below(2) == 0 { random.any() } else { size.saturating_add(random.below(9)).saturating_sub(random.below(9)) };
+                for grows in [false, true] {
+                    let resize = || if grows { self.space.grow_in_place(handle, other) } else { self.space.shrink(handle, other) };
+                    if expect(result(resize), is_live, "the handle must be live") == Some(true) {
+                        let live = &self.space;
+                        self.live.iter_mut().for_each(|(handle, size)| *size = live.allocation_size(*handle));
+                    }
+                }
+                let size = self.space.allocation_size(handle);
                 let before = self.space.storage_report_full().free_regions.map(|region| region.count);
                 let found = result(|| self.space.free(handle));
                 if expect(found, is_live, "the handle must be live").is_some() {
