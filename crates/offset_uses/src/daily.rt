@@ -7,8 +7,9 @@ ghost use Rattle.offset_allocator.specs.Named.{used_units, largest_free};
 ghost use Rattle.offset_allocator.specs.Ranges.{range_of, KeepsAll, KeepsOthers, IsLive};
 ghost use Rattle.offset_allocator.specs.Relations.{Allocates, Frees, SameSpace, Resets};
 ghost use Rattle.offset_allocator.specs.Promises.{CanGrant, IsWhy};
+ghost use Rattle.offset_allocator.specs.Compacting.{live};
 
-use offset_allocator::{Allocation, Allocator, Refusal, laws};
+use offset_allocator::{Allocation, Allocator, Move, Refusal, laws};
 
 /// Allocates a mesh: a range of vertices and a range of indices, in two buffers, both or neither.
 ///
@@ -87,6 +88,23 @@ pub fn place(space: &mut Allocator, size: u32, more: u32) -> Result<Allocation, 
         None => Ok(space.allocate(size).unwrap()),
         Some(why) => Err(why),
     }
+}
+
+/// Moves all live ranges of a buffer to its front, each with its data.
+///
+/// Every handle stays live, with its size; `allocation_offset` returns where its range begins then. A request that was
+/// refused as fragmented can be granted afterwards.
+pub fn defragment(space: &mut Allocator, buffer: &mut [u32])
+    ensures live { live space.new.blocks ≡ live space.old.blocks }
+{
+    space.compact(&mut |range: Move| {
+        let from = range.from as usize;
+        let end = from + range.size as usize;
+        // so it is in a buffer as long as the space
+        if range.to < range.from && end <= buffer.len() {
+            buffer.copy_within(from..end, range.to as usize);
+        }
+    });
 }
 
 /// The number of units in live ranges, or `None` where the node limit is reached (`is_full`), since the report is 0, 0

@@ -1,4 +1,4 @@
-use super::daily::{Ring, give_back, granted_units, insert, place, upload};
+use super::daily::{Ring, defragment, give_back, granted_units, insert, place, upload};
 use super::*;
 use offset_allocator::Refusal;
 use offset_test_base::tiny::Tiny;
@@ -159,6 +159,32 @@ fn a_refusal_says_what_to_do(rt: HostRuntime) -> Result<(), Fail> {
     let mut small = Allocator::with_max_allocs(rt.alloc(), 100, 3)?;
     assert!(rt; small.allocate(10).is_some());
     assert_eq!(rt; place(&mut small, 10, 8).err(), Some(Refusal::Nodes));
+    Ok(())
+}
+
+#[test]
+fn data_is_moved_with_its_range(rt: HostRuntime) -> Result<(), Fail> {
+    let mut space = Allocator::new(rt.alloc(), 96)?;
+    let mut buffer = [0u32; 96];
+    for unit in 0..96u32 {
+        buffer[unit as usize] = unit;
+    }
+    let first = space.allocate(24).expect(&rt, "room");
+    let second = space.allocate(24).expect(&rt, "room");
+    let third = space.allocate(24).expect(&rt, "room");
+    let fourth = space.allocate(24).expect(&rt, "room");
+    assert!(rt; give_back(&mut space, first));
+    assert!(rt; give_back(&mut space, third));
+    assert_eq!(rt; space.refusal(40), Some(Refusal::Fragmented));
+    defragment(&mut space, &mut buffer);
+    assert_eq!(rt; space.allocation_offset(second), Some(0));
+    assert_eq!(rt; space.allocation_offset(fourth), Some(24));
+    assert_eq!(rt;
+        (buffer[0], buffer[23], buffer[24], buffer[47]),
+        (24, 47, 72, 95)
+    );
+    let range = space.allocate(40).expect(&rt, "room");
+    assert_eq!(rt; range.offset, 48);
     Ok(())
 }
 
