@@ -2,8 +2,8 @@
 
 use crate::steps::Limit::{Few, Limited};
 use crate::steps::Step::{
-    Aligns, Begins, Compacts, Counts, Extends, Frees, Gone, Grants, Is, Lacks, Lives, Refuses,
-    Reports, Resets, Undoes,
+    Aligns, Begins, Compacts, Counts, Extends, Frees, Gone, Grants, Grows, Is, Lacks, Lives,
+    Refuses, Reports, Resets, Shrinks, Undoes,
 };
 use crate::steps::expect;
 use offset_allocator::Refusal::{Fragmented, Nodes};
@@ -322,6 +322,33 @@ fn other_calls_after_the_moves(rt: HostRuntime) -> Result<(), Fail> {
             Gone(1),
             Reports(110, 104),
             Compacts(&[]),
+        ],
+    )
+}
+
+// The range after the other one can grow into all units that are free.
+#[test]
+fn moved_ranges_are_resized(rt: HostRuntime) -> Result<(), Fail> {
+    expect(
+        &rt,
+        rt.alloc(),
+        60,
+        Limited(8),
+        &[
+            Grants(10, 0),
+            Grants(20, 10),
+            Grants(15, 30),
+            Frees(0),
+            Compacts(&[(1, 10, 0, 20), (2, 30, 20, 15)]),
+            Grows(2, 40, true),
+            Counts(&[]),
+            Shrinks(1, 12, true),
+            Counts(&[(8, 8, 1)]),
+            Compacts(&[(2, 20, 12, 40)]),
+            Lives(1, 12),
+            Lives(2, 40),
+            Begins(2, 12),
+            Counts(&[(8, 8, 1)]),
         ],
     )
 }

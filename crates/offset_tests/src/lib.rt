@@ -20,6 +20,8 @@ mod refusals;
 #[cfg(test)]
 mod reports;
 #[cfg(test)]
+mod resizing;
+#[cfg(test)]
 mod steps;
 #[cfg(test)]
 mod texts;

@@ -28,6 +28,10 @@ pub enum Step {
     Gone(usize),
     /// The space grows by this number of units, or refuses to.
     Extends(u32, bool),
+    /// The grant of this number shrinks to this size, or is refused.
+    Shrinks(usize, u32, bool),
+    /// The grant of this number grows in place to this size, or is refused.
+    Grows(usize, u32, bool),
     /// A request of this size is granted and freed at once, or refused.
     Undoes(u32, bool),
     /// The whole space is free.
@@ -67,6 +71,24 @@ fn expect_live<NI: NodeIndex>(
 ) {
     assert!(rt; allocator.is_live(handle));
     assert_eq!(rt; allocator.allocation_size(handle), size);
+}
+
+// Checks the result of a shrink or a growth, and the size that the handle has then.
+fn expect_resized<NI: NodeIndex>(
+    rt: &impl Abort,
+    allocator: &mut Allocator<NI>,
+    handle: Allocation<NI>,
+    step: &Step,
+) {
+    assert!(rt; allocator.is_live(handle));
+    let before = allocator.allocation_size(handle);
+    let (found, size, done) = match step {
+        Step::Shrinks(_, size, done) => (allocator.shrink(handle, *size), *size, *done),
+        Step::Grows(_, size, done) => (allocator.grow_in_place(handle, *size), *size, *done),
+        _ => return,
+    };
+    assert_eq!(rt; found, done, "from {before} to {size}");
+    expect_live(rt, allocator, handle, if done { size } else { before });
 }
 
 fn expect_report<NI: NodeIndex>(
@@ -207,6 +229,9 @@ fn step_on_grant<NI: NodeIndex>(
         Step::Begins(_, offset) => {
             assert_eq!(rt; allocator.allocation_offset(handle), Some(*offset));
         }
+        Step::Shrinks(_, _, _) | Step::Grows(_, _, _) => {
+            expect_resized(rt, allocator, handle, step);
+        }
         _ => release(rt, allocator, handle),
     }
 }
@@ -262,6 +287,8 @@ fn take<NI: NodeIndex>(
         Step::Counts(wanted) => expect_counts(rt, alloc, allocator, wanted)?,
         Step::Frees(number)
         | Step::FreesAltered(number, _)
+        | Step::Shrinks(number, _, _)
+        | Step::Grows(number, _, _)
         | Step::Lives(number, _)
         | Step::Begins(number, _)
         | Step::Gone(number) => step_on_grant(rt, allocator, grant_of(rt, handles, *number), step),
