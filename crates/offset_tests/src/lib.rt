@@ -21,3 +21,5 @@ mod reports;
 mod steps;
 #[cfg(test)]
 mod texts;
+#[cfg(test)]
+mod walking;
