@@ -25,3 +25,5 @@ mod resizing;
 mod steps;
 #[cfg(test)]
 mod texts;
+#[cfg(test)]
+mod walking;

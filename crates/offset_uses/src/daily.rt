@@ -1,10 +1,10 @@
 //! The daily use of an allocator, as `CALLING.md` of `offset_allocator` shows it. Each function proves with no proof
 //! file.
 
-ghost use Rattle.std.specs.Prelude.{◌≡◌, ◌↔◌, ◌+◌, ◌-◌, ◌≤◌, ◌%◌, Some, None, false, not, min, IfSome, IfOk, IfErr, IsSome, IsTrue, length};
+ghost use Rattle.std.specs.Prelude.{◌≡◌, ◌↔◌, ◌+◌, ◌-◌, ◌*◌, ◌≤◌, ◌%◌, Some, None, false, not, min, IfSome, IfOk, IfErr, IsSome, IsTrue, length};
 ghost use Rattle.std.specs.Int.{is_power_of_two};
 ghost use Rattle.offset_allocator.specs.Named.{used_units, largest_free};
-ghost use Rattle.offset_allocator.specs.Ranges.{range_of, KeepsAll, KeepsOthers, IsLive};
+ghost use Rattle.offset_allocator.specs.Ranges.{Range, range_of, KeepsAll, KeepsOthers, IsLive};
 ghost use Rattle.offset_allocator.specs.Relations.{Allocates, Frees, SameSpace, Resets};
 ghost use Rattle.offset_allocator.specs.Promises.{CanGrant, IsWhy};
 ghost use Rattle.offset_allocator.specs.Compacting.{live};
@@ -105,6 +105,16 @@ pub fn defragment(space: &mut Allocator, buffer: &mut [u32])
             buffer.copy_within(from..end, range.to as usize);
         }
     });
+}
+
+/// The byte at which the vertices of a mesh begin, with `stride` bytes each, as a draw call needs it, or `None` where the
+/// mesh's handle is not live.
+pub fn first_byte(vertices: &Allocator, mesh: Allocation, stride: u32) -> Option<u64>
+    ensures live { IsSome result ↔ IsLive mesh.name vertices.now }
+    ensures byte { (r : Range) → range_of mesh.name vertices.now ≡ Some r → result ≡ Some (r.offset * stride) }
+{
+    let first = vertices.allocation_offset(mesh)?;
+    Some(u64::from(first) * u64::from(stride))
 }
 
 /// The number of units in live ranges, or `None` where the node limit is reached (`is_full`), since the report is 0, 0

@@ -1,4 +1,5 @@
-use super::daily::{Ring, defragment, give_back, granted_units, insert, place, upload};
+use super::daily::{Ring, defragment, first_byte, give_back, granted_units, insert, place, upload};
+use super::walking::{count_holes, dump};
 use super::*;
 use offset_allocator::Refusal;
 use offset_test_base::tiny::Tiny;
@@ -233,5 +234,48 @@ fn ten_lines(rt: HostRuntime) -> Result<(), Fail> {
     assert!(rt; vertices.is_live(mesh));
     vertices.free(mesh);
     assert!(rt; !vertices.is_live(mesh));
+    Ok(())
+}
+
+#[test]
+fn a_draw_begins_at_a_byte(rt: HostRuntime) -> Result<(), Fail> {
+    let mut vertices = Allocator::new(rt.alloc(), 100)?;
+    assert!(rt; vertices.allocate(30).is_some());
+    let mesh = vertices.allocate(20).expect(&rt, "room");
+    assert_eq!(rt; first_byte(&vertices, mesh, 12), Some(360));
+    vertices.free(mesh);
+    assert_eq!(rt; first_byte(&vertices, mesh, 12), None);
+    Ok(())
+}
+
+// Three holes, two of one class: of 16 and of 17 units, and of 5 units.
+#[test]
+fn holes_are_counted_by_class(rt: HostRuntime) -> Result<(), Fail> {
+    let mut space = Allocator::new(rt.alloc(), 41)?;
+    let low = space.allocate(16).expect(&rt, "room");
+    assert!(rt; space.allocate(1).is_some());
+    let middle = space.allocate(5).expect(&rt, "room");
+    assert!(rt; space.allocate(2).is_some());
+    assert!(rt; space.is_live(low));
+    space.free(low);
+    assert!(rt; space.is_live(middle));
+    space.free(middle);
+    let holes = count_holes(&space);
+    assert_eq!(rt; (holes[5], holes[16], holes[17]), (1, 2, 0));
+    Ok(())
+}
+
+#[test]
+fn a_dump_has_a_line_for_each_block(rt: HostRuntime) -> Result<(), Fail> {
+    let mut heap = Allocator::new(rt.alloc(), 100)?;
+    let first = heap.allocate(16).expect(&rt, "room");
+    assert!(rt; heap.allocate(8).is_some());
+    assert!(rt; heap.is_live(first));
+    heap.free(first);
+    let text = dump(&heap, rt.alloc())?;
+    assert_eq!(rt;
+        text.as_str(),
+        "at 24 size 76 free\nat 16 size 8 used\nat 0 size 16 free\n"
+    );
     Ok(())
 }
