@@ -1,12 +1,13 @@
 //! The daily use of an allocator, as `CALLING.md` of `offset_allocator` shows it. Each function proves with no proof
 //! file.
 
-ghost use Rattle.std.specs.Prelude.{◌≡◌, ◌↔◌, ◌+◌, ◌-◌, ◌≤◌, ◌%◌, Some, None, false, not, min, IfSome, IfOk, IfErr, IsSome, IsTrue, length};
+ghost use Rattle.std.specs.Prelude.{◌≡◌, ◌↔◌, ◌+◌, ◌-◌, ◌<◌, ◌≤◌, ◌%◌, Some, None, false, not, min, IfSome, IfOk, IfErr, IsSome, IsTrue, length};
 ghost use Rattle.std.specs.Int.{is_power_of_two};
 ghost use Rattle.offset_allocator.specs.Named.{used_units, largest_free};
-ghost use Rattle.offset_allocator.specs.Ranges.{range_of, KeepsAll, KeepsOthers, IsLive};
+ghost use Rattle.offset_allocator.specs.Ranges.{range_of, size_of, KeepsAll, KeepsOthers, IsLive};
 ghost use Rattle.offset_allocator.specs.Relations.{Allocates, Frees, SameSpace, Resets};
 ghost use Rattle.offset_allocator.specs.Promises.{CanGrant, IsWhy};
+ghost use Rattle.offset_allocator.specs.Resizing.{CanShrink, CanGrow, HasUnits};
 
 use offset_allocator::{Allocation, Allocator, Refusal, laws};
 
@@ -86,6 +87,23 @@ pub fn place(space: &mut Allocator, size: u32, more: u32) -> Result<Allocation, 
     match space.refusal(size) {
         None => Ok(space.allocate(size).unwrap()),
         Some(why) => Err(why),
+    }
+}
+
+/// Changes the number of vertices of a mesh in place: it gives the last ones back, or takes those that are free directly
+/// after it. It returns whether the mesh has `size` vertices then; if not, nothing has changed.
+pub fn resize(vertices: &mut Allocator, mesh: Allocation, size: u32) -> bool
+    requires live { IsLive mesh.name vertices.old }
+    ensures shrunk { size < size_of mesh.name vertices.old → (IsTrue result ↔ CanShrink mesh.name size vertices.old) }
+    ensures grown { size_of mesh.name vertices.old ≤ size → (IsTrue result ↔ CanGrow mesh.name size vertices.old) }
+    ensures range { IsTrue result → HasUnits mesh.name size vertices.old vertices.new }
+    ensures others { KeepsOthers mesh.name vertices.old vertices.new }
+    ensures same { result ≡ false → SameSpace vertices.old vertices.new }
+{
+    if size < vertices.allocation_size(mesh) {
+        vertices.shrink(mesh, size)
+    } else {
+        vertices.grow_in_place(mesh, size)
     }
 }
 

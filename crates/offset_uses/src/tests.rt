@@ -1,4 +1,4 @@
-use super::daily::{Ring, give_back, granted_units, insert, place, upload};
+use super::daily::{Ring, give_back, granted_units, insert, place, resize, upload};
 use super::*;
 use offset_allocator::Refusal;
 use offset_test_base::tiny::Tiny;
@@ -207,5 +207,20 @@ fn ten_lines(rt: HostRuntime) -> Result<(), Fail> {
     assert!(rt; vertices.is_live(mesh));
     vertices.free(mesh);
     assert!(rt; !vertices.is_live(mesh));
+    Ok(())
+}
+
+#[test]
+fn a_mesh_is_resized_in_place(rt: HostRuntime) -> Result<(), Fail> {
+    let mut vertices = Allocator::new(rt.alloc(), 100)?;
+    let mesh = vertices.allocate(60).expect(&rt, "room");
+    assert!(rt; resize(&mut vertices, mesh, 20));
+    assert!(rt; resize(&mut vertices, mesh, 20));
+    assert_eq!(rt; vertices.storage_report().total_free_space, 80);
+    assert!(rt; vertices.is_live(mesh));
+    assert!(rt; !resize(&mut vertices, mesh, 101));
+    assert!(rt; vertices.is_live(mesh));
+    assert!(rt; resize(&mut vertices, mesh, 100));
+    assert_eq!(rt; vertices.allocation_size(mesh), 100);
     Ok(())
 }
