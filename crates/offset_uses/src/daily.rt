@@ -1,12 +1,13 @@
 //! The daily use of an allocator, as `CALLING.md` of `offset_allocator` shows it. Each function proves with no proof
 //! file.
 
-ghost use Rattle.std.specs.Prelude.{◌≡◌, ◌↔◌, ◌+◌, ◌-◌, ◌*◌, ◌≤◌, ◌%◌, Some, None, false, not, min, IfSome, IfOk, IfErr, IsSome, IsTrue, length};
+ghost use Rattle.std.specs.Prelude.{◌≡◌, ◌↔◌, ◌+◌, ◌-◌, ◌*◌, ◌<◌, ◌≤◌, ◌%◌, Some, None, false, not, min, IfSome, IfOk, IfErr, IsSome, IsTrue, length};
 ghost use Rattle.std.specs.Int.{is_power_of_two};
 ghost use Rattle.offset_allocator.specs.Named.{used_units, largest_free};
-ghost use Rattle.offset_allocator.specs.Ranges.{Range, range_of, KeepsAll, KeepsOthers, IsLive};
+ghost use Rattle.offset_allocator.specs.Ranges.{Range, range_of, size_of, KeepsAll, KeepsOthers, IsLive};
 ghost use Rattle.offset_allocator.specs.Relations.{Allocates, Frees, SameSpace, Resets};
 ghost use Rattle.offset_allocator.specs.Promises.{CanGrant, IsWhy};
+ghost use Rattle.offset_allocator.specs.Resizing.{CanShrink, CanGrow, HasUnits};
 ghost use Rattle.offset_allocator.specs.Compacting.{live};
 
 use offset_allocator::{Allocation, Allocator, Move, Refusal, laws};
@@ -115,6 +116,23 @@ pub fn first_byte(vertices: &Allocator, mesh: Allocation, stride: u32) -> Option
 {
     let first = vertices.allocation_offset(mesh)?;
     Some(u64::from(first) * u64::from(stride))
+}
+
+/// Changes the number of vertices of a mesh in place: it gives the last ones back, or takes those that are free directly
+/// after it. It returns whether the mesh has `size` vertices then; if not, nothing has changed.
+pub fn resize(vertices: &mut Allocator, mesh: Allocation, size: u32) -> bool
+    requires live { IsLive mesh.name vertices.old }
+    ensures shrunk { size < size_of mesh.name vertices.old → (IsTrue result ↔ CanShrink mesh.name size vertices.old) }
+    ensures grown { size_of mesh.name vertices.old ≤ size → (IsTrue result ↔ CanGrow mesh.name size vertices.old) }
+    ensures range { IsTrue result → HasUnits mesh.name size vertices.old vertices.new }
+    ensures others { KeepsOthers mesh.name vertices.old vertices.new }
+    ensures same { result ≡ false → SameSpace vertices.old vertices.new }
+{
+    if size < vertices.allocation_size(mesh) {
+        vertices.shrink(mesh, size)
+    } else {
+        vertices.grow_in_place(mesh, size)
+    }
 }
 
 /// The number of units in live ranges, or `None` where the node limit is reached (`is_full`), since the report is 0, 0

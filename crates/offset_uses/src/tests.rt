@@ -1,4 +1,6 @@
-use super::daily::{Ring, defragment, first_byte, give_back, granted_units, insert, place, upload};
+use super::daily::{
+    Ring, defragment, first_byte, give_back, granted_units, insert, place, resize, upload,
+};
 use super::walking::{count_holes, dump};
 use super::*;
 use offset_allocator::Refusal;
@@ -277,5 +279,20 @@ fn a_dump_has_a_line_for_each_block(rt: HostRuntime) -> Result<(), Fail> {
         text.as_str(),
         "at 24 size 76 free\nat 16 size 8 used\nat 0 size 16 free\n"
     );
+    Ok(())
+}
+
+#[test]
+fn a_mesh_is_resized_in_place(rt: HostRuntime) -> Result<(), Fail> {
+    let mut vertices = Allocator::new(rt.alloc(), 100)?;
+    let mesh = vertices.allocate(60).expect(&rt, "room");
+    assert!(rt; resize(&mut vertices, mesh, 20));
+    assert!(rt; resize(&mut vertices, mesh, 20));
+    assert_eq!(rt; vertices.storage_report().total_free_space, 80);
+    assert!(rt; vertices.is_live(mesh));
+    assert!(rt; !resize(&mut vertices, mesh, 101));
+    assert!(rt; vertices.is_live(mesh));
+    assert!(rt; resize(&mut vertices, mesh, 100));
+    assert_eq!(rt; vertices.allocation_size(mesh), 100);
     Ok(())
 }
