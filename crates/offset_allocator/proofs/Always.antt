@@ -12,7 +12,7 @@ use Rattle.offset_allocator.proofs.Classes.{down_law}
 use Rattle.offset_allocator.proofs.ViewTaken.{well_alone}
 
 -- used and free units
-parted : (bs : List Block) → used_units bs + sum (free_sizes bs) ≡ units bs
+pub parted : (bs : List Block) → used_units bs + sum (free_sizes bs) ≡ units bs
 parted [] = refl
 parted (b ∷ bs) =
     let ih = parted bs in

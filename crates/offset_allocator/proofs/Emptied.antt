@@ -18,7 +18,7 @@ use Rattle.offset_allocator.proofs.ViewSteps.{place_here}
 use Rattle.offset_allocator.proofs.ViewTaken.{replicate_none}
 
 -- lists of names
-no_name : (l : List ℕ) → ((y : ℕ) → times y l ≡ 0) → l ≡ []
+pub no_name : (l : List ℕ) → ((y : ℕ) → times y l ≡ 0) → l ≡ []
 no_name [] h = refl
 no_name (y ∷ l) h = absurd (omega (arith, h y, one-same y))
 
@@ -29,7 +29,7 @@ one_name x (z ∷ l) h = elim (hit_cases z x) [
   | inr f ↦ absurd (omega (arith, h z, one-same z, f.1))
 ]
 
-none_at : (c : ℕ) → names_at (replicate 256 []) c ≡ []
+pub none_at : (c : ℕ) → names_at (replicate 256 []) c ≡ []
 none_at c = no_name (names_at (replicate 256 []) c) (λ y. replicate_none y c)
 
 -- no block is used

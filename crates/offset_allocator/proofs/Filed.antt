@@ -26,7 +26,7 @@ counts_once {c} {y = y} {p = p} h u =
     both true b e f = f
     both false b e f = absurd (omega arith)
 
-few : {c : Room} {m last count x : ℕ} {p : Place} → HasPlace c m last count x p → (y : ℕ) → count_named y (p.before ++ p.after) + one (nat_eq y p.block.name) ≤ 1
+pub few : {c : Room} {m last count x : ℕ} {p : Place} → HasPlace c m last count x p → (y : ℕ) → count_named y (p.before ++ p.after) + one (nat_eq y p.block.name) ≤ 1
 few {c} {m} {last} {count} {p = p} h y = omega (arith, each-le c m last count _ h.chain y, times-append y p.before p.after, times-append y p.before (p.block ∷ p.after))
 
 module _ {c : Room} {m last count x : ℕ} {p : Place} (h : HasPlace c m last count x p) (ls : List (List ℕ)) (f : AreFiled (p.before ++ p.after) ls) where

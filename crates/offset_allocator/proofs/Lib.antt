@@ -1,7 +1,9 @@
+pub mod Sliding
 pub mod Split
 pub mod Always
 pub mod Binned
 pub mod Classes
+pub mod Compacting
 pub mod Counting
 pub mod Emptied
 pub mod Ends

@@ -1,6 +1,6 @@
 -- What `compact` leaves: the live ranges at the front of the space, and all free units in one block after them.
 use Rattle.std.specs.Prelude.{◌≡◌, ℕ, ◌+◌, ◌<◌, List, [], ◌∷◌, ◌++◌, Option, Some, None, sum, replicate, nat_eq, if◌then◌else◌}
-use Rattle.std.specs.List.{filter, FoldsTo}
+use Rattle.std.specs.List.{filter}
 use Rattle.offset_allocator.specs.declared.compact.Move.{Move as Moved}
 use Rattle.offset_allocator.specs.Named.{View, Block, count_named, free_sizes, free_block, push_all}
 use Rattle.offset_allocator.specs.Relations.{SameSpace}
@@ -36,15 +36,15 @@ gathered x [] = []
 gathered x (n ∷ ns) = free_block x (n + sum ns) ∷ []
 
 -- a value that a closure is called with is this move
-pub record IsMove {A B : Type 0} (number : B → ℕ) (m : Moved A B) (x : Move) : Type 0 where
+pub record IsMove {A N M : Type 0} (number : N → ℕ) (m : Moved A N M) (x : Move) : Type 0 where
   pub name : number m.name ≡ x.name
   pub from : m.from ≡ x.from
   pub to : m.to ≡ x.to
   pub size : m.size ≡ x.size
 
--- a closure, by whose steps p became q, was called with these moves, in order
-abbrev pub IsCalledWith : {A B F : Type 0} → (B → ℕ) → (F → Moved A B → F → Type 0) → F → List Move → F → Type 0
-IsCalledWith {A} {B} number step p xs q = FoldsTo (λ p x q. (m : Moved A B) × IsMove number m x × step p m q) p xs q
+-- a step of a closure is a call with this move
+abbrev pub IsCalledWith : {A N M F : Type 0} → (N → ℕ) → (F → Moved A N M → F → Type 0) → F → Move → F → Type 0
+IsCalledWith {A} {N} {M} number step f x g = (m : Moved A N M) × IsMove number m x × step f m g
 
 -- the used blocks are packed at the front, and the free units are one block at the end, alone in its bin
 pub record Compacts (v w : View) : Type 0 where

@@ -1,11 +1,12 @@
 //! Slides every live range to the front of the space, so that all free units are one block at its end.
-ghost use Rattle.std.specs.Prelude.{ℕ, ◌≡◌, ◌+◌, ◌*◌, ◌<◌, ◌≤◌, [], ◌∷◌, ◌++◌, Some, true, false, List, length, sum};
+ghost use Rattle.std.specs.Prelude.{ℕ, ◌≡◌, ◌+◌, ◌*◌, ◌<◌, ◌≤◌, [], ◌∷◌, ◌++◌, Some, false, Bool, List, length};
+ghost use Rattle.std.specs.List.{FoldsTo};
 ghost use Rattle.offset_allocator.specs.Cells.{node};
-ghost use Rattle.offset_allocator.specs.Named.{Place, Block, free_block, free_sizes, units};
+ghost use Rattle.offset_allocator.specs.Named.{Place, Block, free_block, units};
 ghost use Rattle.offset_allocator.specs.Space.{IsSpace, HasPlace, blocks};
 ghost use Rattle.offset_allocator.specs.Orders.{Binned, class_lists};
-ghost use Rattle.offset_allocator.specs.State.{AreFiled};
-ghost use Rattle.offset_allocator.specs.Compacting.{live, moves, Compacts, IsCalledWith, first_free};
+ghost use Rattle.offset_allocator.specs.State.{AreFiled, free_units};
+ghost use Rattle.offset_allocator.specs.Compacting.{live, moves, move_of, Compacts, IsCalledWith, first_free};
 
 use crate::accesses::Accesses;
 use crate::handle::Allocation;
@@ -131,55 +132,59 @@ fn absorb<NI: NodeIndex>(store: &mut Store<NI>, hole: u32, size: u32, next: u32,
     );
 }
 
-// Calls the closure.
-fn call<NI: NodeIndex, F: FnMut(Move<NI>)>(moved: &mut F, range: Move<NI>)
+// Calls the closure with the move of a block, where it gets another offset.
+fn report<NI: NodeIndex, F: FnMut(Move<NI>)>(
+    moved: &mut F,
+    name: u32,
+    from: u32,
+    to: u32,
+    size: u32,
+)
+    requires named { name < NI.MAX }
     requires callable { F.IsAlwaysCallable moved.old }
-    ensures called { F.step moved.old range tt moved.new }
+    ensures called { (used : Bool) → FoldsTo (IsCalledWith NI.NonMax.number (λ f range g. F.step f range tt g)) moved.old (move_of from to (record { name = name; size = size; used = used })) moved.new }
     ensures callable { F.IsAlwaysCallable moved.new }
 {
-    moved(range);
+    if from == to {
+        return;
+    }
+    moved(Move {
+        name: NI::from_u32(name).to_name(),
+        from,
+        to,
+        size,
+        index: PhantomData,
+    });
 }
 
 // Slides the used blocks after a free block, which is in no bin, to the front, and coalesces it with the free ones, until
 // it is the last block. Its name and its size are returned.
 fn slide<NI: NodeIndex, F: FnMut(Move<NI>)>(
     store: &mut Store<NI>,
-    first: u32,
-    units: u32,
+    mut hole: u32,
+    mut size: u32,
     moved: &mut F,
 ) -> (u32, u32)
-    requires place { (m : ℕ) × (p : Place) × HasPlace store.old.tables.room m store.old.last store.old.spare_count first p × (p.block.used ≡ false) × AreFiled (p.before ++ p.after) (class_lists NI.MAX store.old.tables.links) }
+    requires place { (m : ℕ) × (p : Place) × HasPlace store.old.tables.room m store.old.last store.old.spare_count hole p × (p.block.used ≡ false) × AreFiled (p.before ++ p.after) (class_lists NI.MAX store.old.tables.links) }
     requires held { Binned NI.MAX store.old.tables.links store.old.top_mask }
-    requires units { units ≡ (node store.old.tables.room first).size }
+    requires size { size ≡ (node store.old.tables.room hole).size }
     requires callable { F.IsAlwaysCallable moved.old }
-    ensures place { (m : ℕ) (p : Place) → HasPlace store.old.tables.room m store.old.last store.old.spare_count first p → p.block.used ≡ false → AreFiled (p.before ++ p.after) (class_lists NI.MAX store.old.tables.links)
+    ensures place { (m : ℕ) (p : Place) → HasPlace store.old.tables.room m store.old.last store.old.spare_count hole p → p.block.used ≡ false → AreFiled (p.before ++ p.after) (class_lists NI.MAX store.old.tables.links)
         → HasPlace store.new.tables.room m store.new.last store.new.spare_count result.0 (record { before = p.before ++ live p.after; block = free_block result.0 result.1; after = [] })
-            × (result.1 ≡ p.block.size + sum (free_sizes p.after))
+            × (result.1 ≡ p.block.size + free_units p.after)
             × AreFiled (p.before ++ live p.after) (class_lists NI.MAX store.new.tables.links)
-            × IsCalledWith NI.NonMax.number (λ f range g. F.step f range tt g) moved.old (moves (units p.before + p.block.size) (units p.before) p.after) moved.new
+            × FoldsTo (IsCalledWith NI.NonMax.number (λ f range g. F.step f range tt g)) moved.old (moves (units p.before + p.block.size) (units p.before) p.after) moved.new
             × (store.new.accesses ≤ store.old.accesses + 20 * length p.after + 1) }
     ensures held { Binned NI.MAX store.new.tables.links store.new.top_mask }
     ensures accesses_kept { store.old.accesses ≤ store.new.accesses }
 {
-    let mut hole = first;
-    let mut size = units;
+    store.tables.shape();
     while let Some(next) = chain::after(&store.tables, hole, &mut store.accesses) {
         let more = chain::size(&store.tables, next, &mut store.accesses);
         if chain::is_used(&store.tables, next, &mut store.accesses) {
             let to = chain::offset(&store.tables, hole, &mut store.accesses);
             hole = pass(store, hole, to, size, next, more);
-            if size > 0 {
-                call(
-                    moved,
-                    Move {
-                        name: NI::from_u32(next).to_name(),
-                        from: to + size,
-                        to,
-                        size: more,
-                        index: PhantomData,
-                    },
-                );
-            }
+            report(moved, next, to + size, to, more);
         } else {
             absorb(store, hole, size, next, more);
             size += more;
@@ -201,7 +206,7 @@ impl<NI: NodeIndex> Allocator<NI> {
         // The live blocks keep their names, their sizes and their order.
         ensures live { live self.new.blocks ≡ live self.old.blocks }
         // The closure is called with the moves, in space order.
-        ensures moved { IsCalledWith NI.NonMax.number (λ f range g. F.step f range tt g) moved.old (moves 0 0 self.old.blocks) moved.new }
+        ensures moved { FoldsTo (IsCalledWith NI.NonMax.number (λ f range g. F.step f range tt g)) moved.old (moves 0 0 self.old.blocks) moved.new }
         // It makes at most 24 accesses to table cells for each block, and 512.
         ensures accesses_kept { self.old.accesses ≤ self.new.accesses }
         ensures accesses_max { self.new.accesses ≤ self.old.accesses + 24 * length self.old.blocks + 512 }

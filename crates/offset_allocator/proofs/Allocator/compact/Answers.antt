@@ -1,0 +1,103 @@
+use Rattle.std.proofs.Common.{◌≡◌, ℕ, suc, ◌+◌, ◌*◌, ◌<◌, ◌≤◌, Some, List, [], ◌∷◌, ◌++◌, length, refl, sym, ap, ap₂, subst, ◌∙◌, arith, length-append}
+use Rattle.std.specs.List.{FoldsTo}
+use Rattle.offset_allocator.specs.Named.{Block, Place, View, units}
+use Rattle.offset_allocator.specs.Space.{blocks}
+use Rattle.offset_allocator.specs.Compacting.{Move, live, moves, IsCalledWith, Compacts}
+use Rattle.offset_allocator.proofs.Sound.{AreSound, Fields, shown, fields_of}
+use Rattle.offset_allocator.proofs.Classes.{down_small}
+use Rattle.offset_allocator.proofs.Compacting.{IsFirst, first_is, packed, compacts_live, first_held, first_listed, first_filed, end_unlisted, packs, stays_packed}
+use Rattle.offset_allocator.proofs.Allocator.compact.Goals as goal
+use Rattle.offset_allocator.proofs.Allocator.compact.Goals.{After-slide-hole, After-push}
+use Rattle.offset_allocator.proofs.Allocator.compact.Given.{Over}
+
+pub returns-in_default-clause-moved : goal.returns-in_default-clause-moved
+returns-in_default-clause-moved g c =
+    let r = packed (blocks c.self.inside.store.tables.room c.self.inside.store.last) (sym c.first_free.ensures.first ∙ c.in_default.is) in
+    let none : moves 0 0 c.args.self.now.blocks ≡ [] = ap (λ (u : View). moves 0 0 u.blocks) (sym c.self.view_is) ∙ r.moves 0 in
+    rw none refl
+
+pub returns-in_default-clause-step : goal.returns-in_default-clause-step
+returns-in_default-clause-step g c =
+    let f : Fields = fields_of g.NI.NodeIndex.MAX c.self.inside in
+    let P : View → Type 0 = λ u. Compacts u (shown (record f { accesses = c.first_free.new.count })) in
+    subst P c.self.view_is (stays_packed f c.self.invariant c.first_free.new.count (sym c.first_free.ensures.first ∙ c.in_default.is))
+
+pub size-units-requires : goal.size-units-requires
+size-units-requires g c =
+    let o = first_is _ _ (sym c.first_free.ensures.first ∙ c.in-Some.is) in
+    (first_held (fields_of g.NI.NodeIndex.MAX c.self.inside) c.self.invariant o refl).below
+
+pub remove-requires-clause-listed : goal.remove-requires-clause-listed
+remove-requires-clause-listed g c =
+    let o = first_is _ _ (sym c.first_free.ensures.first ∙ c.in-Some.is) in
+    rw c.size-units.ensures.size (first_listed (fields_of g.NI.NodeIndex.MAX c.self.inside) c.self.invariant o)
+
+pub slide-hole-requires-clause-place : goal.slide-hole-requires-clause-place
+slide-hole-requires-clause-place g c =
+    let f : Fields = fields_of g.NI.NodeIndex.MAX c.self.inside in
+    let o = first_is _ _ (sym c.first_free.ensures.first ∙ c.in-Some.is) in
+    (_, _, first_held f c.self.invariant o c.remove.ensures.room, o.idle, first_filed f c.self.invariant o _ c.size-units.result c.size-units.ensures.size c.remove.ensures.lists)
+
+first : (g : Over) (c : After-slide-hole g) → IsFirst (blocks c.self.inside.store.tables.room c.self.inside.store.last) c.in-Some.first
+first g c = first_is _ _ (sym c.first_free.ensures.first ∙ c.in-Some.is)
+
+pub push-requires-clause-named : goal.push-requires-clause-named
+push-requires-clause-named g c =
+    let f : Fields = fields_of g.NI.NodeIndex.MAX c.self.inside in
+    let o = first g (goal.at.push-requires-clause-named g c).After-slide-hole in
+    let e = c.slide-hole.ensures.place _ _ (first_held f c.self.invariant o c.remove.ensures.room) o.idle (first_filed f c.self.invariant o _ c.size-units.result c.size-units.ensures.size c.remove.ensures.lists) in
+    e.0.below
+
+pub push-requires-clause-classed : goal.push-requires-clause-classed
+push-requires-clause-classed g c = omega (arith, down_small c.slide-hole.result.1, c.uint_to_float_round_down.ensures.is)
+
+pub push-requires-clause-fresh : goal.push-requires-clause-fresh
+push-requires-clause-fresh g c =
+    let f : Fields = fields_of g.NI.NodeIndex.MAX c.self.inside in
+    let o = first g (goal.at.push-requires-clause-fresh g c).After-slide-hole in
+    let e = c.slide-hole.ensures.place _ _ (first_held f c.self.invariant o c.remove.ensures.room) o.idle (first_filed f c.self.invariant o _ c.size-units.result c.size-units.ensures.size c.remove.ensures.lists) in
+    end_unlisted f c.self.invariant o c.slide-hole.new.store.tables _ _ _ _ e.0 _ e.2
+
+-- the fields that are left, and what they show
+done : (g : Over) (c : After-push g) (k : ℕ) (f : Fields) → f ≡ record (fields_of g.NI.NodeIndex.MAX c.self.inside) { cells = c.push.new.tables; last = c.slide-hole.new.store.last; count = c.slide-hole.new.store.spare_count; top = c.push.new.top_mask; accesses = k }
+    → AreSound f × Compacts (shown (fields_of g.NI.NodeIndex.MAX c.self.inside)) (shown f)
+done g c k f is =
+    let old : Fields = fields_of g.NI.NodeIndex.MAX c.self.inside in
+    let o : IsFirst (blocks c.self.inside.store.tables.room c.self.inside.store.last) c.in-Some.first = first_is _ _ (sym c.first_free.ensures.first ∙ c.in-Some.is) in
+    let e = c.slide-hole.ensures.place _ _ (first_held old c.self.invariant o c.remove.ensures.room) o.idle (first_filed old c.self.invariant o _ c.size-units.result c.size-units.ensures.size c.remove.ensures.lists) in
+    rw is (packs old c.self.invariant o c.push.new.tables _ _ c.slide-hole.result.0 c.slide-hole.result.1 (rw c.push.ensures.room e.0) e.1 {accesses = k} _ c.slide-hole.ensures.held.linked.lists_len e.2 c.push.ensures.held (rw c.uint_to_float_round_down.ensures.is at c.push.ensures.lists))
+
+pub invariant_of-self-2 : goal.invariant_of-self-2
+invariant_of-self-2 g c = (done g (goal.at.invariant_of-self-2 g c).After-push 0 _ refl).0
+
+pub returns-clause-live : goal.returns-clause-live
+returns-clause-live g c =
+    let P : View → Type 0 = λ u. live (blocks c.push.new.tables.room c.slide-hole.new.store.last) ≡ live u.blocks in
+    subst P c.self.view_is (compacts_live _ _ (done g (goal.at.returns-clause-live g c).After-push 0 _ refl).1)
+
+pub returns-clause-moved : goal.returns-clause-moved
+returns-clause-moved g c =
+    let f : Fields = fields_of g.NI.NodeIndex.MAX c.self.inside in
+    let o : IsFirst (blocks c.self.inside.store.tables.room c.self.inside.store.last) c.in-Some.first = first_is _ _ (sym c.first_free.ensures.first ∙ c.in-Some.is) in
+    let p : Place = o.place in
+    let e = c.slide-hole.ensures.place _ _ (first_held f c.self.invariant o c.remove.ensures.room) o.idle (first_filed f c.self.invariant o _ c.size-units.result c.size-units.ensures.size c.remove.ensures.lists) in
+    let from : 0 + (units p.before + p.block.size) ≡ units p.before + p.block.size = omega arith in
+    let to : 0 + units p.before ≡ units p.before = omega arith in
+    let same : moves 0 0 c.args.self.now.blocks ≡ moves (units p.before + p.block.size) (units p.before) p.after = ap (λ (u : View). moves 0 0 u.blocks) (sym c.self.view_is) ∙ o.moves 0 ∙ ap₂ (λ j k. moves j k p.after) from to in
+    rw same e.3
+
+pub returns-clause-accesses_max : goal.returns-clause-accesses_max
+returns-clause-accesses_max g c =
+    let f : Fields = fields_of g.NI.NodeIndex.MAX c.self.inside in
+    let o : IsFirst (blocks c.self.inside.store.tables.room c.self.inside.store.last) c.in-Some.first = first_is _ _ (sym c.first_free.ensures.first ∙ c.in-Some.is) in
+    let p : Place = o.place in
+    let e = c.slide-hole.ensures.place _ _ (first_held f c.self.invariant o c.remove.ensures.room) o.idle (first_filed f c.self.invariant o _ c.size-units.result c.size-units.ensures.size c.remove.ensures.lists) in
+    let long : length (blocks c.self.inside.store.tables.room c.self.inside.store.last) ≡ length p.before + suc (length p.after) = ap (λ (l : List Block). length l) o.is ∙ length-append p.before (p.block ∷ p.after) in
+    let same : length (blocks c.self.inside.store.tables.room c.self.inside.store.last) ≡ length c.args.self.now.blocks = ap (λ (u : View). length u.blocks) c.self.view_is in
+    let counted : c.self.inside.store.accesses ≡ c.args.self.now.accesses = ap (λ (u : View). u.accesses) c.self.view_is in
+    omega (arith, e.4, long, same, counted, c.first_free.ensures.accesses_max, c.size-units.ensures.accesses, c.remove.ensures.accesses_max, c.push.ensures.accesses_max)
+
+pub returns-clause-step : goal.returns-clause-step
+returns-clause-step g c =
+    let P : View → Type 0 = λ u. Compacts u (shown (record (fields_of g.NI.NodeIndex.MAX c.self.inside) { cells = c.push.new.tables; last = c.slide-hole.new.store.last; count = c.slide-hole.new.store.spare_count; top = c.push.new.top_mask; accesses = c.push.new.count })) in
+    subst P c.self.view_is (done g (goal.at.returns-clause-step g c).After-push c.push.new.count _ refl).1

@@ -1,0 +1,262 @@
+-- What it leaves of the whole allocator to slide the live ranges to the front.
+use Rattle.std.proofs.Common.{◌≡◌, ℕ, suc, ◌+◌, ◌-◌, ◌*◌, ◌<◌, ◌≤◌, Bool, true, false, not, ◌&&◌, Option, Some, None, List, [], ◌∷◌, ◌++◌, length, replicate, sum, if◌then◌else◌, nat_eq, get_or, refl, sym, ap, ap₂, subst, ◌∙◌, inl, inr, arith, append_assoc, append-nil, length-append, eq-zero-or-pos}
+use Rattle.std.specs.List.{AllByRecursion, FoldsTo}
+use Rattle.std.proofs.lemmas.Bool.{true≢false}
+use Rattle.std.proofs.lemmas.Bool.Decides.{nat_tests}
+use Rattle.std.proofs.lemmas.List.{length-replicate, ext_get_or}
+use Rattle.offset_allocator.specs.Classes.{down}
+use Rattle.offset_allocator.specs.Cells.{Cells, Room, Node, node}
+use Rattle.offset_allocator.specs.Named.{Block, View, Place, one, is_free, free_block, units, free_sizes, used_units, used_of, count_named, count_listed, times, names_at, push, push_all, remove, remove_all, IsApart, IsWellFormed, starts_free}
+use Rattle.offset_allocator.specs.Compacting.{Move, live, moves, move_of, first_free, gathered, Compacts}
+use Rattle.offset_allocator.specs.Relations.{SameSpace}
+use Rattle.offset_allocator.specs.Space.{HasPlace, IsChain, blocks}
+use Rattle.offset_allocator.specs.Orders.{Among, Binned, IsUnlisted, class_lists}
+use Rattle.offset_allocator.specs.State.{AreFiled, free_units}
+use Rattle.offset_allocator.proofs.Always.{parted}
+use Rattle.offset_allocator.proofs.Emptied.{no_name, none_at}
+use Rattle.offset_allocator.proofs.Exchange.{each-le, there-below, top}
+use Rattle.offset_allocator.proofs.Filed.{share, counts_once, unlisted}
+use Rattle.offset_allocator.proofs.Joints.{stepped, remove_free, free_units-append, free_units-free, free_units-used}
+use Rattle.offset_allocator.proofs.Places.{placed, at_place}
+use Rattle.offset_allocator.proofs.Sliding.{first_used, first_idle, live_used, live_idle, moves_used, moves_idle}
+use Rattle.offset_allocator.proofs.Sound.{Fields, AreSound, shown, well_counted}
+use Rattle.offset_allocator.proofs.Tallies.{one-same, listed_named, tally_append, units-append}
+use Rattle.offset_allocator.proofs.ViewOrders.{times_remove_all, times_put_all, length_put}
+use Rattle.offset_allocator.proofs.ViewTaken.{replicate_none}
+
+abbrev pub AreUsed : List Block → Type 0
+AreUsed bs = AllByRecursion (λ b. b.used ≡ true) bs
+
+-- used blocks
+used_append : (bs cs : List Block) → AreUsed bs → AreUsed cs → AreUsed (bs ++ cs)
+used_append [] cs h k = k
+used_append (b ∷ bs) cs h k = (h.0, used_append bs cs h.1 k)
+
+live_are_used : (bs : List Block) → AreUsed (live bs)
+live_are_used [] = tt
+live_are_used (b ∷ bs) = go b.used refl (live_are_used bs)
+  where
+    go : (u : Bool) → b.used ≡ u → AreUsed (live bs) → AreUsed (live (b ∷ bs))
+    go true e h = subst AreUsed (sym (live_used b bs e)) (e, h)
+    go false e h = subst AreUsed (sym (live_idle b bs e)) h
+
+live_whole : (bs : List Block) → AreUsed bs → live bs ≡ bs
+live_whole [] h = refl
+live_whole (b ∷ bs) h = live_used b bs h.0 ∙ ap (λ l. b ∷ l) (live_whole bs h.1)
+
+live_append : (bs cs : List Block) → live (bs ++ cs) ≡ live bs ++ live cs
+live_append [] cs = refl
+live_append (b ∷ bs) cs = let ih = live_append bs cs in elim b.used as (λ u. (if u then b ∷ live (bs ++ cs) else live (bs ++ cs)) ≡ (if u then b ∷ live bs else live bs) ++ live cs) [ true ↦ ap (λ l. b ∷ l) ih | false ↦ ih ]
+
+none_listed : (bs : List Block) → AreUsed bs → (c x : ℕ) → count_listed c x bs ≡ 0
+none_listed [] h c x = refl
+none_listed (b ∷ bs) h c x = let ih = none_listed bs h.1 c x in omega (arith, ih, ap (λ (u : Bool). one (not u && (nat_eq c (down b.size) && nat_eq x b.name))) h.0)
+
+no_free_units : (bs : List Block) → AreUsed bs → free_units bs ≡ 0
+no_free_units [] h = refl
+no_free_units (b ∷ bs) h = free_units-used b bs h.0 ∙ no_free_units bs h.1
+
+-- of all blocks, the live ones have the units that are not free, and are fewer where one is free
+live_units : (bs : List Block) → units bs ≡ units (live bs) + free_units bs
+live_units [] = refl
+live_units (b ∷ bs) = let ih = live_units bs in elim b.used as (λ u. b.size + units bs ≡ units (if u then b ∷ live bs else live bs) + ((if u then 0 else b.size) + free_units bs)) [ true ↦ omega arith | false ↦ omega arith ]
+
+live_fewer : (bs : List Block) → length (live bs) ≤ length bs
+live_fewer [] = omega arith
+live_fewer (b ∷ bs) = let ih = live_fewer bs in elim b.used as (λ u. length (if u then b ∷ live bs else live bs) ≤ suc (length bs)) [ true ↦ omega arith | false ↦ omega arith ]
+
+used_at_most : (bs : List Block) → used_of bs ≤ length bs
+used_at_most [] = omega arith
+used_at_most (b ∷ bs) = let ih = used_at_most bs in elim b.used as (λ u. one u + used_of bs ≤ suc (length bs)) [ true ↦ omega arith | false ↦ omega arith ]
+
+-- a free block at the end is beside no other
+apart_end : (bs : List Block) (d : Block) → AreUsed bs → IsApart (bs ++ d ∷ [])
+apart_end [] d h = (elim d.used as (λ u. (not u && false) ≡ false) [ true ↦ refl | false ↦ refl ], tt)
+apart_end (b ∷ bs) d h = (ap (λ (u : Bool). not u && starts_free (bs ++ d ∷ [])) h.0, apart_end bs d h.1)
+
+-- bins with no block
+none_filed : (ls : List (List ℕ)) (bs : List Block) → length ls ≡ 256 → AreUsed bs → AreFiled bs ls → ls ≡ replicate 256 []
+none_filed ls bs long used f = ext_get_or [] ls _ (long ∙ sym (length-replicate {A = List ℕ} 256 [])) (λ c _. no_name (names_at ls c) (λ y. f c y ∙ none_listed bs used c y) ∙ sym (none_at c))
+
+-- the first free block
+pub record IsFirst (bs : List Block) (x : ℕ) : Type 0 where
+  pub place : Place
+  pub is : bs ≡ place.before ++ place.block ∷ place.after
+  pub name : place.block.name ≡ x
+  pub idle : place.block.used ≡ false
+  pub used : AreUsed place.before
+  pub live : live bs ≡ place.before ++ live place.after
+  pub sizes : free_sizes bs ≡ place.block.size ∷ free_sizes place.after
+  pub moves : (i : ℕ) → moves i i bs ≡ moves (i + (units place.before + place.block.size)) (i + units place.before) place.after
+
+stays : (i : ℕ) (b : Block) → move_of i i b ≡ []
+stays i b = grind (arith, nat_tests)
+
+pub first_is : (bs : List Block) (x : ℕ) → first_free bs ≡ Some x → IsFirst bs x
+first_is [] x e = absurd (cc)
+first_is (b ∷ bs) x e = go b.used refl (λ h. first_is bs x h)
+  where
+    go : (u : Bool) → b.used ≡ u → (first_free bs ≡ Some x → IsFirst bs x) → IsFirst (b ∷ bs) x
+    go true u rest =
+        let f : IsFirst bs x = rest (sym (first_used b bs u) ∙ e) in
+        let p : Place = f.place in
+        let from : (i : ℕ) → (i + b.size) + (units p.before + p.block.size) ≡ i + ((b.size + units p.before) + p.block.size) = λ i. omega arith in
+        let to : (i : ℕ) → (i + b.size) + units p.before ≡ i + (b.size + units p.before) = λ i. omega arith in
+        record {
+          place = record { before = b ∷ p.before; block = p.block; after = p.after };
+          is = ap (λ l. b ∷ l) f.is;
+          name = f.name;
+          idle = f.idle;
+          used = (u, f.used);
+          live = live_used b bs u ∙ ap (λ l. b ∷ l) f.live;
+          sizes = ap (λ (v : Bool). if v then free_sizes bs else b.size ∷ free_sizes bs) u ∙ f.sizes;
+          moves = λ i. moves_used i i b bs u ∙ ap (λ l. l ++ moves (i + b.size) (i + b.size) bs) (stays i b) ∙ f.moves (i + b.size) ∙ ap₂ (λ j k. moves j k p.after) (from i) (to i);
+        }
+    go false u rest =
+        let n : Some b.name ≡ Some x = sym (first_idle b bs u) ∙ e in
+        let from : (i : ℕ) → i + b.size ≡ i + (0 + b.size) = λ i. omega arith in
+        let to : (i : ℕ) → i ≡ i + 0 = λ i. omega arith in
+        record {
+          place = record { before = []; block = b; after = bs };
+          is = refl;
+          name = cc;
+          idle = u;
+          used = tt;
+          live = live_idle b bs u;
+          sizes = ap (λ (v : Bool). if v then free_sizes bs else b.size ∷ free_sizes bs) u;
+          moves = λ i. moves_idle i i b bs u ∙ ap₂ (λ j k. moves j k bs) (from i) (to i);
+        }
+
+-- no free block
+pub record IsPacked (bs : List Block) : Type 0 where
+  pub used : AreUsed bs
+  pub sizes : free_sizes bs ≡ []
+  pub moves : (i : ℕ) → moves i i bs ≡ []
+
+pub packed : (bs : List Block) → first_free bs ≡ None → IsPacked bs
+packed [] e = record { used = tt; sizes = refl; moves = λ i. refl }
+packed (b ∷ bs) e = go b.used refl (λ h. packed bs h)
+  where
+    go : (u : Bool) → b.used ≡ u → (first_free bs ≡ None → IsPacked bs) → IsPacked (b ∷ bs)
+    go true u rest =
+        let r : IsPacked bs = rest (sym (first_used b bs u) ∙ e) in
+        record {
+          used = (u, r.used);
+          sizes = ap (λ (v : Bool). if v then free_sizes bs else b.size ∷ free_sizes bs) u ∙ r.sizes;
+          moves = λ i. moves_used i i b bs u ∙ ap (λ l. l ++ moves (i + b.size) (i + b.size) bs) (stays i b) ∙ r.moves (i + b.size);
+        }
+    go false u rest = let n : Some b.name ≡ None = sym (first_idle b bs u) ∙ e in absurd (cc)
+
+sum_sizes : (bs : List Block) → sum (free_sizes bs) ≡ free_units bs
+sum_sizes bs = omega (arith, parted bs, all bs)
+  where
+    all : (bs : List Block) → used_units bs + free_units bs ≡ units bs
+    all [] = refl
+    all (b ∷ bs) = let ih = all bs in elim b.used as (λ u. ((if u then b.size else 0) + used_units bs) + ((if u then 0 else b.size) + free_units bs) ≡ b.size + units bs) [ true ↦ omega arith | false ↦ omega arith ]
+
+-- the live blocks stay
+pub compacts_live : (v w : View) → Compacts v w → live w.blocks ≡ live v.blocks
+compacts_live v w c =
+    let none : (ns : List ℕ) → live (gathered c.name ns) ≡ [] = λ ns. elim ns as (λ l. live (gathered c.name l) ≡ []) [ [] ↦ refl | n ∷ ms ↦ refl ] in
+    ap (λ (u : View). live u.blocks) c.view ∙ live_append (live v.blocks) (gathered c.name (free_sizes v.blocks))
+    ∙ ap₂ (λ (k l : List Block). k ++ l) (live_whole (live v.blocks) (live_are_used v.blocks)) (none (free_sizes v.blocks)) ∙ append-nil (live v.blocks)
+
+-- a space with a free block
+module _ (f : Fields) (s : AreSound f) where
+  abbrev v : View
+  v = shown f
+
+  abbrev ls : List (List ℕ)
+  ls = class_lists f.max f.cells.links
+
+  w : IsWellFormed v
+  w = well_counted (shown (record f { accesses = 0 })) f.accesses s.well
+
+  module _ {x : ℕ} (o : IsFirst (blocks f.cells.room f.last) x) where
+    abbrev p : Place
+    p = o.place
+
+    pub first_held : {d : Room} → d ≡ f.cells.room → HasPlace d (length f.cells.room.nodes) f.last f.count x o.place
+    first_held e = rw e (placed (rw o.is at s.space) o.name)
+
+    -- the bins hold it and the others
+    parts : (k y : ℕ) → count_listed k y v.blocks ≡ (count_listed k y p.before + count_listed k y p.after) + count_listed k y (p.block ∷ [])
+    parts k y = omega (arith, ap (count_listed k y) o.is, tally_append (share k y) p.before (p.block ∷ p.after))
+
+    pub first_listed : Among x (names_at (class_lists f.max f.cells.links) (down (node f.cells.room x).size))
+    first_listed =
+        let k : ℕ = down (node f.cells.room x).size in
+        let there = counts_once (first_held refl) (ap (λ (n : Node). n.used) (at_place (first_held refl)) ∙ o.idle) in
+        omega (arith, there, w.orders k x, parts k x)
+
+    pub first_filed : (os : List (List ℕ)) (n : ℕ) → n ≡ (node f.cells.room x).size → os ≡ remove (down n) x (class_lists f.max f.cells.links) → AreFiled (o.place.before ++ o.place.after) os
+    first_filed os n sized is k y =
+        let left = times_remove_all (p.block ∷ []) ls w.classes (λ k y. omega (arith, w.orders k y, w.distinct y, listed_named k y v.blocks)) (λ k y. omega (arith, w.orders k y, parts k y)) in
+        let size : n ≡ p.block.size = sized ∙ ap (λ (n : Node). n.size) (at_place (first_held refl)) in
+        let same : os ≡ remove_all (p.block ∷ []) ls = is ∙ ap₂ (λ (i j : ℕ). remove (down i) j ls) size (sym o.name) ∙ sym (remove_free p.block ls o.idle) in
+        omega (arith, w.orders k y, parts k y, left k y, tally_append (share k y) p.before p.after, ap (λ (l : List (List ℕ)). times y (names_at l k)) same)
+
+    abbrev packed_blocks : List Block
+    packed_blocks = p.before ++ live p.after
+
+    are_used : AreUsed packed_blocks
+    are_used = used_append p.before (live p.after) o.used (live_are_used p.after)
+
+    -- what is left
+    module _ (d : Cells) (last count hole size : ℕ) (there : HasPlace d.room (length f.cells.room.nodes) last count hole (record { before = o.place.before ++ live o.place.after; block = free_block hole size; after = [] })) where
+      pub end_unlisted : (os : List (List ℕ)) → AreFiled (o.place.before ++ live o.place.after) os → IsUnlisted hole os
+      end_unlisted os filed = unlisted there os (rw append-nil filed)
+
+      module _ (sized : size ≡ o.place.block.size + free_units o.place.after) where
+        abbrev left_view : View
+        left_view = record v { blocks = packed_blocks ++ free_block hole size ∷ []; order = push (down size) hole (replicate 256 []) }
+
+        fewer : length packed_blocks + 1 ≤ length v.blocks
+        fewer = omega (arith, ap (λ (l : List Block). length l) o.is, length-append p.before (p.block ∷ p.after), length-append p.before (live p.after), live_fewer p.after)
+
+        left_well : IsWellFormed left_view
+        left_well = record {
+          some = omega (arith, length-append packed_blocks (free_block hole size ∷ []));
+          distinct = λ y. omega (arith, each-le d.room _ last count _ there.chain y);
+          below = λ y l. elim (eq-zero-or-pos (count_named y (packed_blocks ++ free_block hole size ∷ []))) [
+            | inl z ↦ z
+            | inr some ↦ absurd (omega (arith, there-below d.room _ last count y _ there.chain some, s.nodes))
+          ];
+          whole = omega (arith, w.whole, ap units o.is, units-append p.before (p.block ∷ p.after), units-append packed_blocks (free_block hole size ∷ []), units-append p.before (live p.after), live_units p.after, sized);
+          fits = w.fits;
+          apart = apart_end packed_blocks (free_block hole size) are_used;
+          classes = length_put (down size) hole (replicate 256 []) ∙ length-replicate {A = List ℕ} 256 [];
+          orders = λ k y. omega (arith, times_put_all (free_block hole size ∷ []) (replicate 256 []) (length-replicate {A = List ℕ} 256 []) k y, replicate_none y k, tally_append (share k y) packed_blocks (free_block hole size ∷ []), none_listed packed_blocks are_used k y);
+          room = omega (arith, w.room, fewer, length-append packed_blocks (free_block hole size ∷ []));
+          spare = omega (arith, w.room, fewer, used_at_most packed_blocks, tally_append (λ (b : Block). one b.used) packed_blocks (free_block hole size ∷ []));
+        }
+
+        compacted : (u : View) → SameSpace left_view u → Compacts v u
+        compacted u same =
+            let gathers : gathered hole (free_sizes v.blocks) ≡ free_block hole size ∷ [] = ap (gathered hole) o.sizes ∙ ap (λ n. free_block hole n ∷ []) (omega (arith, sized, sum_sizes p.after)) in
+            record {
+              name = hole;
+              below = omega (arith, there.below, there.chain.cells, s.nodes);
+              absent = ap (count_named hole) o.live ∙ omega (arith, each-le d.room _ last count _ there.chain hole, tally_append (λ (b : Block). one (nat_eq hole b.name)) packed_blocks (free_block hole size ∷ []), one-same hole);
+              view = same ∙ ap₂ (λ (bs g : List Block). record v { blocks = bs ++ g; order = push_all g (replicate 256 []); accesses = u.accesses }) (sym o.live) (sym gathers);
+            }
+
+        pub packs : {top accesses : ℕ} (os : List (List ℕ)) → length os ≡ 256 → AreFiled (o.place.before ++ live o.place.after) os → Binned f.max d.links top → class_lists f.max d.links ≡ push (down size) hole os
+            → AreSound (record f { cells = d; last = last; count = count; top = top; accesses = accesses }) × Compacts (shown f) (shown (record f { cells = d; last = last; count = count; top = top; accesses = accesses }))
+        packs {top} {accesses} os long filed bins lists =
+            let done = stepped f s left_view d f.free accesses left_well refl there.chain refl bins (lists ∙ ap (push (down size) hole) (none_filed os packed_blocks long are_used filed))
+            (omega (arith, s.total, ap free_units o.is, free_units-append p.before (p.block ∷ p.after), no_free_units p.before o.used, free_units-free p.block p.after o.idle, free_units-append packed_blocks (free_block hole size ∷ []), no_free_units packed_blocks are_used, free_units-free (free_block hole size) [] refl, sized)) in
+            (done.0, compacted _ done.1)
+
+  -- a space with none
+  pub stays_packed : (accesses : ℕ) → first_free (blocks f.cells.room f.last) ≡ None → Compacts (shown f) (shown (record f { accesses = accesses }))
+  stays_packed accesses e =
+      let r = packed v.blocks e in
+      let t = top (get_or f.cells.room.spare (f.count - 1) 0) s.space (omega (arith, s.space.full, w.room, s.nodes)) refl in
+      let whole = live_whole v.blocks r.used in
+      record {
+        name = get_or f.cells.room.spare (f.count - 1) 0;
+        below = omega (arith, t.below, s.nodes);
+        absent = ap (count_named (get_or f.cells.room.spare (f.count - 1) 0)) whole ∙ t.absent;
+        view = ap₂ (λ (bs : List Block) (o : List (List ℕ)). record v { blocks = bs; order = o; accesses = accesses }) (sym (append-nil v.blocks) ∙ ap₂ (λ (k l : List Block). k ++ l) (sym whole) (sym (ap (gathered _) r.sizes))) (none_filed ls v.blocks w.classes r.used (λ k y. w.orders k y) ∙ sym (ap (λ ns. push_all (gathered (get_or f.cells.room.spare (f.count - 1) 0) ns) (replicate 256 [])) r.sizes));
+      }

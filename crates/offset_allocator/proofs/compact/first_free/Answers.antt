@@ -1,0 +1,53 @@
+use Rattle.std.proofs.Common.{◌≡◌, ℕ, ◌+◌, ◌*◌, ◌≤◌, Bool, true, false, List, [], ◌∷◌, ◌++◌, Some, None, length, refl, sym, ap, ◌∙◌, arith, append-nil, append_assoc, length-append}
+use Rattle.offset_allocator.specs.Cells.{Node, node}
+use Rattle.offset_allocator.specs.Named.{Block}
+use Rattle.offset_allocator.specs.Space.{blocks, last_or}
+use Rattle.offset_allocator.specs.Compacting.{first_free}
+use Rattle.offset_allocator.proofs.Ends.{Ended, ended, last_none}
+use Rattle.offset_allocator.proofs.Places.{at_place}
+use Rattle.offset_allocator.proofs.Sliding.{walked, first_used, first_idle}
+use Rattle.offset_allocator.proofs.compact.first_free.Goals as goal
+use Rattle.offset_allocator.proofs.compact.first_free.Goals.{then-not-is_used, else-not-is_used}
+
+pub loop-at-init : goal.loop-at-init
+loop-at-init g c = record {
+  front = blocks c.args.tables.now.room c.args.last;
+  rest = [];
+  is = sym (append-nil _);
+  ends = c.requires.space.1.ends;
+  first = refl;
+  grows = omega arith;
+  bounded = omega arith;
+}
+
+pub is_used-requires : goal.is_used-requires
+is_used-requires g c = (walked c.requires.space.1 c.loop-at.invariant.front c.loop-at.invariant.rest c.loop-at.invariant.is (c.loop-at.invariant.ends ∙ c.in-Some.is)).below
+
+pub before-at-requires : goal.before-at-requires
+before-at-requires g c = (walked c.requires.space.1 c.loop-at.invariant.front c.loop-at.invariant.rest c.loop-at.invariant.is (c.loop-at.invariant.ends ∙ c.in-Some.is)).below
+
+pub loop-at-preserved : goal.loop-at-preserved
+loop-at-preserved g c =
+    let i = c.loop-at.invariant in
+    let e : last_or None i.front ≡ Some c.in-Some.name = i.ends ∙ c.in-Some.is in
+    let f : Ended c.in-Some.name i.front = ended i.front c.in-Some.name e in
+    let h = walked c.requires.space.1 i.front i.rest i.is e in
+    let used : c.is_used.result ≡ f.last.used = c.is_used.ensures.cell ∙ ap (λ (n : Node). n.used) (at_place h) in
+    let long : length i.front ≡ length f.front + 1 = ap (λ (l : List Block). length l) f.is ∙ length-append f.front (f.last ∷ []) in
+    record {
+      front = f.front;
+      rest = f.last ∷ i.rest;
+      is = i.is ∙ ap (λ (l : List Block). l ++ i.rest) f.is ∙ append_assoc f.front (f.last ∷ []) i.rest;
+      ends = sym (c.before-at.ensures.before ∙ ap (λ (n : Node). n.before) (at_place h));
+      first = elim c.if-not-is_used.branch [
+        | then-not-is_used w ↦ w.first-is ∙ ap (λ k. Some k) (sym f.name) ∙ sym (first_idle f.last i.rest (sym used ∙ w.if-not-is_used.true))
+        | else-not-is_used w ↦ w.first-is ∙ i.first ∙ sym (first_used f.last i.rest (sym used ∙ w.if-not-is_used.false))
+      ];
+      grows = omega (arith, i.grows);
+      bounded = omega (arith, i.bounded, long);
+    }
+
+pub returns-clause-first : goal.returns-clause-first
+returns-clause-first g c =
+    let i = c.loop-at.invariant in
+    i.first ∙ sym (ap first_free (i.is ∙ ap (λ (l : List Block). l ++ i.rest) (last_none i.front (i.ends ∙ c.in_default.is))))

@@ -1,0 +1,19 @@
+use Rattle.std.proofs.Common.{◌≡◌, ℕ, ◌+◌, ◌-◌, ◌*◌, ◌≤◌, List, ◌++◌, None, length}
+use Rattle.offset_allocator.specs.Named.{Block}
+use Rattle.offset_allocator.specs.Space.{blocks, last_or}
+use Rattle.offset_allocator.specs.Compacting.{first_free}
+use Rattle.offset_allocator.proofs.compact.first_free.Given as goal
+
+abbrev pub invariant-loop-at : goal.invariant-loop-at
+invariant-loop-at g l = record {
+  front : List Block;
+  rest : List Block;
+  is : blocks l.tables.room l.last ≡ front ++ rest;
+  ends : last_or None front ≡ l.at;
+  first : l.first ≡ first_free rest;
+  grows : l.initial.count ≤ l.count;
+  bounded : l.count + 2 * length front ≤ l.initial.count + 2 * length (blocks l.tables.room l.last);
+}
+
+abbrev pub decreases-loop-at : goal.decreases-loop-at
+decreases-loop-at g l = l.initial.count + 2 * length (blocks l.tables.room l.last) - l.count
