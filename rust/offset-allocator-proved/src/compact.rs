@@ -96,38 +96,41 @@ fn absorb<NI: NodeIndex>(store: &mut Store<NI>, hole: u32, size: u32, next: u32,
     );
 }
 
-// Calls the closure.
-fn call<NI: NodeIndex, F: FnMut(Move<NI>)>(moved: &mut F, range: Move<NI>) {
-    moved(range);
+// Calls the closure with the move of a block, where it gets another offset.
+fn report<NI: NodeIndex, F: FnMut(Move<NI>)>(
+    moved: &mut F,
+    name: u32,
+    from: u32,
+    to: u32,
+    size: u32,
+) {
+    if from == to {
+        return;
+    }
+    moved(Move {
+        name: NI::from_u32(name).to_name(),
+        from,
+        to,
+        size,
+        index: PhantomData,
+    });
 }
 
 // Slides the used blocks after a free block, which is in no bin, to the front, and coalesces it with the free ones, until
 // it is the last block. Its name and its size are returned.
 fn slide<NI: NodeIndex, F: FnMut(Move<NI>)>(
     store: &mut Store<NI>,
-    first: u32,
-    units: u32,
+    mut hole: u32,
+    mut size: u32,
     moved: &mut F,
 ) -> (u32, u32) {
-    let mut hole = first;
-    let mut size = units;
+    store.tables.shape();
     while let Some(next) = chain::after(&store.tables, hole, &mut store.accesses) {
         let more = chain::size(&store.tables, next, &mut store.accesses);
         if chain::is_used(&store.tables, next, &mut store.accesses) {
             let to = chain::offset(&store.tables, hole, &mut store.accesses);
             hole = pass(store, hole, to, size, next, more);
-            if size > 0 {
-                call(
-                    moved,
-                    Move {
-                        name: NI::from_u32(next).to_name(),
-                        from: to + size,
-                        to,
-                        size: more,
-                        index: PhantomData,
-                    },
-                );
-            }
+            report(moved, next, to + size, to, more);
         } else {
             absorb(store, hole, size, next, more);
             size += more;
