@@ -7,6 +7,8 @@ from typing import NamedTuple
 MEASURE, HERE = sys.argv[1:3]
 # the sides, and the prefix of their measured functions
 SIDES = {"original": "original", "ours": "offset", "erased": "erased", "c": "tuned"}
+# the ways to compact a space, with the prefix `compacting` of their measured functions
+WAYS = ("compact", "reset", "free")
 # callgrind counts each byte that a `rep stosb` of memset writes as an instruction, so memset must use vectors
 COUNTED = {**os.environ, "GLIBC_TUNABLES": "glibc.cpu.x86_rep_stosb_threshold=4000000000"}
 # the data cache that is simulated: its level, its bytes, its ways, and the bytes of a line
@@ -21,11 +23,11 @@ def lines(*words):
     return [line.split("\t") for line in out.splitlines()]
 
 
-def counted(name, side, function, what):
-    """The instructions and the cache misses of one run: inside the measured function, and of the whole program."""
+def counted(function, *words):
+    """The instructions and the cache misses of the program with these words: inside the measured function, and in all."""
     with tempfile.NamedTemporaryFile() as file:
         command = ["valgrind", "--tool=callgrind", "--cache-sim=yes", f"--D{LEVEL}={CACHE}", "--callgrind-out-file=" + file.name,
-                   MEASURE, "play", name, side, what]
+                   MEASURE, *words]
         subprocess.run(command, check=True, capture_output=True, env=COUNTED)
         report = subprocess.run(["callgrind_annotate", "--inclusive=yes", "--threshold=100", "--show=Ir,D1mr,D1mw", file.name],
                                 check=True, capture_output=True, text=True).stdout
@@ -36,13 +38,13 @@ def counted(name, side, function, what):
         instructions, read, written = (int(count.replace(",", "")) for count in counts)
         found[called or total] = instructions, read + written
     # a run without constructions calls nothing
-    return found.get(f"{SIDES[side]}_{function}", (0, 0)), found["PROGRAM TOTALS"]
+    return found.get(function, (0, 0)), found["PROGRAM TOTALS"]
 
 
 def a_step(name, side, function, steps):
     """The instructions and the cache misses of a step, without the construction of the tables, each computed in two ways,
     which have to agree."""
-    runs = zip(counted(name, side, function, "all"), counted(name, side, function, "none"))
+    runs = zip(*(counted(f"{SIDES[side]}_{function}", "play", name, side, what) for what in ("all", "none")))
     inside, whole = ([a - b for a, b in zip(*both)] for both in runs)
     # they differ by what is loaded at a first call, and by the loop that constructs tables
     for one, other, most in zip(inside, whole, (50_000, 500)):
@@ -87,6 +89,13 @@ def measurements(part=""):
         yield Row(name, int(nodes), ns, instructions, misses, rounds)
 
 
+def compacting():
+    """Of the ways to compact a space, for a number of live ranges: nanoseconds and instructions a range."""
+    for live in (1_000, 60_000):
+        ns = [float(row[0]) for row in lines("compacting", str(live))]
+        yield live, ns, [counted(f"compacting_{way}", "compacting", str(live), way)[0][0] / live for way in WAYS]
+
+
 def number(x):
     return f"{x:,.0f}" if x >= 1000 else f"{x:.1f}"
 
@@ -127,6 +136,15 @@ def rounds_table(rows):
         sides = zip(*([ns / original for ns in others] for original, *others in row.rounds))
         cells = [f"{x:.2f}" for side in sides for x in (min(side), max(side))]
         yield f"| {row.name} | {len(row.rounds)} | " + " | ".join(cells) + " |"
+
+
+def compacting_table(rows):
+    yield ("| live ranges | ns: compact | reset, allocate | free, allocate | instructions: compact | reset, allocate | free, allocate "
+           "| compact/reset: time | instructions | compact/free: time | instructions |")
+    yield "|---|" + "---:|" * 10
+    for live, ns, count in rows:
+        ratios = [f"{x[0] / x[k]:.2f}" for k in (1, 2) for x in (ns, count)]
+        yield f"| {live:,} | " + " | ".join([*map(number, ns + count), *ratios]) + " |"
 
 
 COLOURS = {"original": "#c0392b", "ours": "#2471a3", "erased": "#1e8449", "c": "#7d8a8f"}
@@ -218,6 +236,11 @@ def main():
              *misses_table(rows), "",
              "## The best and the worst run", "",
              "With large tables: the time of each run in parts of the original's in the same round.", "", *rounds_table(large)]
+    if not sys.argv[3:] or sys.argv[3] in "compact":
+        shown += ["", "## Compact", "",
+                  "The erased side: `compact`, and what leaves the same ranges without it: a reset of the space, or a release of "
+                  "each range, and then a request for each in space order. Per live range.", "",
+                  *compacting_table(compacting())]
     if len(sys.argv) == 3:
         with open(f"{HERE}/RESULTS.md", "w") as file:
             file.write("\n".join(shown) + "\n")

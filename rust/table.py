@@ -42,6 +42,7 @@ LINTS = {
         "clippy::manual_map": "a `match` needs no closure, whose calls would need a proof",
         "clippy::needless_range_loop": "so is a loop over places proved in few words",
         "clippy::too_many_arguments": "functions over the tables take the numbers that they change one by one",
+        "unused_variables": "a parameter may be there for a contract only",
     },
     "offset_script": {},
 }
@@ -54,6 +55,7 @@ IMPORTS = {
     "std::fmt": "core::fmt",                                # the library has no std
     "std::io::Read": "std::io::Read",                       # the same
     "std::io::Write": "std::io::Write",                     # the same
+    "std::iter::FusedIterator": "core::iter::FusedIterator",  # the library has no std
     "std::marker::Model": None,                             # the model of a type, for contracts, which are erased
     "std::marker::PhantomData": "core::marker::PhantomData",  # the library has no std
 }
@@ -67,6 +69,11 @@ PAIRS = [
         "fn clone(&self) -> Result<Self, AllocError> { Ok(*self) }",
         "fn clone(&self) -> Self {\n        *self\n    }",
         "in Rattle a clone may take memory; Rust's does not return a Result",
+    ),
+    (
+        "fn clone(&self) -> Result<Self, AllocError> { Ok(Blocks { allocator: self.allocator, next: self.next, left: self.left, }) }",
+        "fn clone(&self) -> Self {\n        Blocks {\n            allocator: self.allocator,\n            next: self.next,\n            left: self.left,\n        }\n    }",
+        "the same",
     ),
     (
         "fn fmt<W: fmt::Write>(&self, f: &mut fmt::Formatter<W>) -> fmt::Result",
@@ -97,6 +104,11 @@ REQUIRES = [
         "each alignment must be a power of two",
     ),
 ]
+
+# What a public function requires, and always holds in plain Rust, each with the reason. It needs no assertion.
+ALWAYS = {
+    "F.IsAlwaysCallable moved.old": "a closure of Rust may be called at any time; if it panics, that is its own panic",
+}
 
 # Hidden lines around each example in the documentation, so that `cargo test` runs it.
 EXAMPLES = {

@@ -11,7 +11,10 @@
 //! - `measure nodes NAME`: the smallest node limit with which nothing is refused.
 //! - `measure least SIDE`: the most bytes of the trace that are live at once, and the smallest space that refuses none
 //!   of it.
+//! - `measure compacting LIVE`: for each way to compact a space with this many live ranges nanoseconds a range; with the
+//!   name of a WAY one run of it, for a counter of instructions.
 mod check;
+mod compacting;
 mod erased;
 mod original;
 mod sides;
@@ -224,6 +227,15 @@ fn main() {
             let (peak, space) = smallest_space(&side(of));
             println!("{peak}\t{space}");
         }
-        _ => panic!("measure list | time | play | check | heap | nodes | least"),
+        ["compacting", live] => {
+            for ns in compacting::times(live.parse().unwrap()) {
+                println!("{ns}");
+            }
+        }
+        ["compacting", live, name] => {
+            let (_, way) = *compacting::WAYS.iter().find(|way| way.0 == name).unwrap_or_else(|| panic!("no way {name}"));
+            compacting::run(live.parse().unwrap(), way);
+        }
+        _ => panic!("measure list | time | play | check | heap | nodes | least | compacting"),
     }
 }

@@ -50,10 +50,10 @@ impl Workload {
 }
 
 /// Random numbers, the same in each run (xorshift).
-struct Random(u64);
+pub struct Random(pub u64);
 
 impl Random {
-    fn below(&mut self, n: u32) -> u32 {
+    pub fn below(&mut self, n: u32) -> u32 {
         self.0 ^= self.0 << 13;
         self.0 ^= self.0 >> 7;
         self.0 ^= self.0 << 17;
@@ -61,12 +61,12 @@ impl Random {
     }
 
     /// From 1 to 2^bits, small numbers more often.
-    fn size(&mut self, bits: u32) -> u32 {
+    pub fn size(&mut self, bits: u32) -> u32 {
         let most = 1 << (1 + self.below(bits));
         1 + self.below(most)
     }
 
-    fn shuffled(&mut self, count: u32) -> Vec<u32> {
+    pub fn shuffled(&mut self, count: u32) -> Vec<u32> {
         let mut order: Vec<u32> = (0..count).collect();
         for i in (1..count).rev() {
             order.swap(i as usize, self.below(i + 1) as usize);

@@ -6,6 +6,8 @@ mod alignment;
 #[cfg(test)]
 mod classes;
 #[cfg(test)]
+mod compacting;
+#[cfg(test)]
 mod extension;
 #[cfg(test)]
 mod grants;
@@ -18,6 +20,10 @@ mod refusals;
 #[cfg(test)]
 mod reports;
 #[cfg(test)]
+mod resizing;
+#[cfg(test)]
 mod steps;
 #[cfg(test)]
 mod texts;
+#[cfg(test)]
+mod walking;

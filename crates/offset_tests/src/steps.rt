@@ -1,7 +1,7 @@
 //! Calls on one allocator, as rows of a table.
 
 use offset_allocator::laws::{refusal_aligned_counted, refusal_counted, undo};
-use offset_allocator::{Accesses, Allocation, Allocator, NodeIndex, Refusal};
+use offset_allocator::{Accesses, Allocation, Allocator, Move, NodeIndex, Refusal};
 use offset_test_base::tiny::Tiny;
 use std::alloc::{AllocError, Global};
 use std::process::Abort;
@@ -28,10 +28,18 @@ pub enum Step {
     Gone(usize),
     /// The space grows by this number of units, or refuses to.
     Extends(u32, bool),
+    /// The grant of this number shrinks to this size, or is refused.
+    Shrinks(usize, u32, bool),
+    /// The grant of this number grows in place to this size, or is refused.
+    Grows(usize, u32, bool),
     /// A request of this size is granted and freed at once, or refused.
     Undoes(u32, bool),
     /// The whole space is free.
     Resets,
+    /// The grants of these numbers move, in this order and no others: each from an offset to another one, with this size.
+    Compacts(&'static [(usize, u32, u32, u32)]),
+    /// The range of the grant of this number begins at this offset.
+    Begins(usize, u32),
     /// A request of this size is refused for this reason.
     Lacks(u32, Refusal),
     /// A request of this size at a multiple of the second number is refused for this reason.
@@ -63,6 +71,24 @@ fn expect_live<NI: NodeIndex>(
 ) {
     assert!(rt; allocator.is_live(handle));
     assert_eq!(rt; allocator.allocation_size(handle), size);
+}
+
+// Checks the result of a shrink or a growth, and the size that the handle has then.
+fn expect_resized<NI: NodeIndex>(
+    rt: &impl Abort,
+    allocator: &mut Allocator<NI>,
+    handle: Allocation<NI>,
+    step: &Step,
+) {
+    assert!(rt; allocator.is_live(handle));
+    let before = allocator.allocation_size(handle);
+    let (found, size, done) = match step {
+        Step::Shrinks(_, size, done) => (allocator.shrink(handle, *size), *size, *done),
+        Step::Grows(_, size, done) => (allocator.grow_in_place(handle, *size), *size, *done),
+        _ => return,
+    };
+    assert_eq!(rt; found, done, "from {before} to {size}");
+    expect_live(rt, allocator, handle, if done { size } else { before });
 }
 
 fn expect_report<NI: NodeIndex>(
@@ -123,6 +149,41 @@ fn refusal<NI: NodeIndex>(allocator: &Allocator<NI>, size: u32, align: u32) -> O
     why
 }
 
+// Whether a move is the wanted one: that of a grant, from an offset to another one, with this size.
+fn is_wanted<NI: NodeIndex>(
+    range: &Move<NI>,
+    handles: &[Allocation<NI>],
+    wanted: Option<&(usize, u32, u32, u32)>,
+) -> bool {
+    let Some((number, from, to, size)) = wanted else {
+        return false;
+    };
+    let Some(handle) = handles.get(*number) else {
+        return false;
+    };
+    let mut after = *handle;
+    after.offset = *to;
+    range.allocation() == after && (range.from, range.to, range.size) == (*from, *to, *size)
+}
+
+fn expect_moves<NI: NodeIndex>(
+    rt: &impl Abort,
+    allocator: &mut Allocator<NI>,
+    handles: &[Allocation<NI>],
+    wanted: &[(usize, u32, u32, u32)],
+) {
+    let mut count = 0usize;
+    let mut first_wrong = None;
+    allocator.compact(&mut |range: Move<NI>| {
+        if first_wrong.is_none() && !is_wanted(&range, handles, wanted.get(count)) {
+            first_wrong = Some((count, range.from, range.to, range.size));
+        }
+        count = count.saturating_add(1);
+    });
+    assert_eq!(rt; first_wrong, None);
+    assert_eq!(rt; count, wanted.len());
+}
+
 fn keep<NI: NodeIndex>(
     rt: &impl Abort,
     allocator: &Allocator<NI>,
@@ -165,6 +226,12 @@ fn step_on_grant<NI: NodeIndex>(
         }
         Step::Lives(_, size) => expect_live(rt, allocator, handle, *size),
         Step::Gone(_) => expect_gone(rt, allocator, handle),
+        Step::Begins(_, offset) => {
+            assert_eq!(rt; allocator.allocation_offset(handle), Some(*offset));
+        }
+        Step::Shrinks(_, _, _) | Step::Grows(_, _, _) => {
+            expect_resized(rt, allocator, handle, step);
+        }
         _ => release(rt, allocator, handle),
     }
 }
@@ -201,6 +268,7 @@ fn take<NI: NodeIndex>(
             assert_eq!(rt; undo(allocator, *size), *granted, "a request of {size}");
         }
         Step::Resets => allocator.reset(),
+        Step::Compacts(wanted) => expect_moves(rt, allocator, handles.as_slice(), wanted),
         Step::Lacks(size, why) => assert_eq!(rt; refusal(allocator, *size, 1), Some(*why)),
         Step::LacksAligned(size, align, why) => {
             assert_eq!(rt; refusal(allocator, *size, *align), Some(*why));
@@ -219,7 +287,10 @@ fn take<NI: NodeIndex>(
         Step::Counts(wanted) => expect_counts(rt, alloc, allocator, wanted)?,
         Step::Frees(number)
         | Step::FreesAltered(number, _)
+        | Step::Shrinks(number, _, _)
+        | Step::Grows(number, _, _)
         | Step::Lives(number, _)
+        | Step::Begins(number, _)
         | Step::Gone(number) => step_on_grant(rt, allocator, grant_of(rt, handles, *number), step),
     }
     Ok(())

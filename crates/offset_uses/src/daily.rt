@@ -1,14 +1,16 @@
 //! The daily use of an allocator, as `CALLING.md` of `offset_allocator` shows it. Each function proves with no proof
 //! file.
 
-ghost use Rattle.std.specs.Prelude.{◌≡◌, ◌↔◌, ◌+◌, ◌-◌, ◌≤◌, ◌%◌, Some, None, false, not, min, IfSome, IfOk, IfErr, IsSome, IsTrue, length};
+ghost use Rattle.std.specs.Prelude.{◌≡◌, ◌↔◌, ◌+◌, ◌-◌, ◌*◌, ◌<◌, ◌≤◌, ◌%◌, Some, None, false, not, min, IfSome, IfOk, IfErr, IsSome, IsTrue, length};
 ghost use Rattle.std.specs.Int.{is_power_of_two};
 ghost use Rattle.offset_allocator.specs.Named.{used_units, largest_free};
-ghost use Rattle.offset_allocator.specs.Ranges.{range_of, KeepsAll, KeepsOthers, IsLive};
+ghost use Rattle.offset_allocator.specs.Ranges.{Range, range_of, size_of, KeepsAll, KeepsOthers, IsLive};
 ghost use Rattle.offset_allocator.specs.Relations.{Allocates, Frees, SameSpace, Resets};
 ghost use Rattle.offset_allocator.specs.Promises.{CanGrant, IsWhy};
+ghost use Rattle.offset_allocator.specs.Resizing.{CanShrink, CanGrow, HasUnits};
+ghost use Rattle.offset_allocator.specs.Compacting.{live};
 
-use offset_allocator::{Allocation, Allocator, Refusal, laws};
+use offset_allocator::{Allocation, Allocator, Move, Refusal, laws};
 
 /// Allocates a mesh: a range of vertices and a range of indices, in two buffers, both or neither.
 ///
@@ -86,6 +88,50 @@ pub fn place(space: &mut Allocator, size: u32, more: u32) -> Result<Allocation, 
     match space.refusal(size) {
         None => Ok(space.allocate(size).unwrap()),
         Some(why) => Err(why),
+    }
+}
+
+/// Moves all live ranges of a buffer to its front, each with its data.
+///
+/// Every handle stays live, with its size; `allocation_offset` returns where its range begins then. A request that was
+/// refused as fragmented can be granted afterwards.
+pub fn defragment(space: &mut Allocator, buffer: &mut [u32])
+    ensures live { live space.new.blocks ≡ live space.old.blocks }
+{
+    space.compact(&mut |range: Move| {
+        let from = range.from as usize;
+        let end = from + range.size as usize;
+        // so it is in a buffer as long as the space
+        if range.to < range.from && end <= buffer.len() {
+            buffer.copy_within(from..end, range.to as usize);
+        }
+    });
+}
+
+/// The byte at which the vertices of a mesh begin, with `stride` bytes each, as a draw call needs it, or `None` where the
+/// mesh's handle is not live.
+pub fn first_byte(vertices: &Allocator, mesh: Allocation, stride: u32) -> Option<u64>
+    ensures live { IsSome result ↔ IsLive mesh.name vertices.now }
+    ensures byte { (r : Range) → range_of mesh.name vertices.now ≡ Some r → result ≡ Some (r.offset * stride) }
+{
+    let first = vertices.allocation_offset(mesh)?;
+    Some(u64::from(first) * u64::from(stride))
+}
+
+/// Changes the number of vertices of a mesh in place: it gives the last ones back, or takes those that are free directly
+/// after it. It returns whether the mesh has `size` vertices then; if not, nothing has changed.
+pub fn resize(vertices: &mut Allocator, mesh: Allocation, size: u32) -> bool
+    requires live { IsLive mesh.name vertices.old }
+    ensures shrunk { size < size_of mesh.name vertices.old → (IsTrue result ↔ CanShrink mesh.name size vertices.old) }
+    ensures grown { size_of mesh.name vertices.old ≤ size → (IsTrue result ↔ CanGrow mesh.name size vertices.old) }
+    ensures range { IsTrue result → HasUnits mesh.name size vertices.old vertices.new }
+    ensures others { KeepsOthers mesh.name vertices.old vertices.new }
+    ensures same { result ≡ false → SameSpace vertices.old vertices.new }
+{
+    if size < vertices.allocation_size(mesh) {
+        vertices.shrink(mesh, size)
+    } else {
+        vertices.grow_in_place(mesh, size)
     }
 }
 

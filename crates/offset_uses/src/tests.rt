@@ -1,4 +1,7 @@
-use super::daily::{Ring, give_back, granted_units, insert, place, upload};
+use super::daily::{
+    Ring, defragment, first_byte, give_back, granted_units, insert, place, resize, upload,
+};
+use super::walking::{count_holes, dump};
 use super::*;
 use offset_allocator::Refusal;
 use offset_test_base::tiny::Tiny;
@@ -163,6 +166,32 @@ fn a_refusal_says_what_to_do(rt: HostRuntime) -> Result<(), Fail> {
 }
 
 #[test]
+fn data_is_moved_with_its_range(rt: HostRuntime) -> Result<(), Fail> {
+    let mut space = Allocator::new(rt.alloc(), 96)?;
+    let mut buffer = [0u32; 96];
+    for unit in 0..96u32 {
+        buffer[unit as usize] = unit;
+    }
+    let first = space.allocate(24).expect(&rt, "room");
+    let second = space.allocate(24).expect(&rt, "room");
+    let third = space.allocate(24).expect(&rt, "room");
+    let fourth = space.allocate(24).expect(&rt, "room");
+    assert!(rt; give_back(&mut space, first));
+    assert!(rt; give_back(&mut space, third));
+    assert_eq!(rt; space.refusal(40), Some(Refusal::Fragmented));
+    defragment(&mut space, &mut buffer);
+    assert_eq!(rt; space.allocation_offset(second), Some(0));
+    assert_eq!(rt; space.allocation_offset(fourth), Some(24));
+    assert_eq!(rt;
+        (buffer[0], buffer[23], buffer[24], buffer[47]),
+        (24, 47, 72, 95)
+    );
+    let range = space.allocate(40).expect(&rt, "room");
+    assert_eq!(rt; range.offset, 48);
+    Ok(())
+}
+
+#[test]
 fn granted_units_are_the_size_less_the_free_units(rt: HostRuntime) -> Result<(), Fail> {
     let mut space = Allocator::with_max_allocs(rt.alloc(), 100, 4)?;
     assert!(rt; space.allocate(30).is_some());
@@ -207,5 +236,63 @@ fn ten_lines(rt: HostRuntime) -> Result<(), Fail> {
     assert!(rt; vertices.is_live(mesh));
     vertices.free(mesh);
     assert!(rt; !vertices.is_live(mesh));
+    Ok(())
+}
+
+#[test]
+fn a_draw_begins_at_a_byte(rt: HostRuntime) -> Result<(), Fail> {
+    let mut vertices = Allocator::new(rt.alloc(), 100)?;
+    assert!(rt; vertices.allocate(30).is_some());
+    let mesh = vertices.allocate(20).expect(&rt, "room");
+    assert_eq!(rt; first_byte(&vertices, mesh, 12), Some(360));
+    vertices.free(mesh);
+    assert_eq!(rt; first_byte(&vertices, mesh, 12), None);
+    Ok(())
+}
+
+// Three holes, two of one class: of 16 and of 17 units, and of 5 units.
+#[test]
+fn holes_are_counted_by_class(rt: HostRuntime) -> Result<(), Fail> {
+    let mut space = Allocator::new(rt.alloc(), 41)?;
+    let low = space.allocate(16).expect(&rt, "room");
+    assert!(rt; space.allocate(1).is_some());
+    let middle = space.allocate(5).expect(&rt, "room");
+    assert!(rt; space.allocate(2).is_some());
+    assert!(rt; space.is_live(low));
+    space.free(low);
+    assert!(rt; space.is_live(middle));
+    space.free(middle);
+    let holes = count_holes(&space);
+    assert_eq!(rt; (holes[5], holes[16], holes[17]), (1, 2, 0));
+    Ok(())
+}
+
+#[test]
+fn a_dump_has_a_line_for_each_block(rt: HostRuntime) -> Result<(), Fail> {
+    let mut heap = Allocator::new(rt.alloc(), 100)?;
+    let first = heap.allocate(16).expect(&rt, "room");
+    assert!(rt; heap.allocate(8).is_some());
+    assert!(rt; heap.is_live(first));
+    heap.free(first);
+    let text = dump(&heap, rt.alloc())?;
+    assert_eq!(rt;
+        text.as_str(),
+        "at 24 size 76 free\nat 16 size 8 used\nat 0 size 16 free\n"
+    );
+    Ok(())
+}
+
+#[test]
+fn a_mesh_is_resized_in_place(rt: HostRuntime) -> Result<(), Fail> {
+    let mut vertices = Allocator::new(rt.alloc(), 100)?;
+    let mesh = vertices.allocate(60).expect(&rt, "room");
+    assert!(rt; resize(&mut vertices, mesh, 20));
+    assert!(rt; resize(&mut vertices, mesh, 20));
+    assert_eq!(rt; vertices.storage_report().total_free_space, 80);
+    assert!(rt; vertices.is_live(mesh));
+    assert!(rt; !resize(&mut vertices, mesh, 101));
+    assert!(rt; vertices.is_live(mesh));
+    assert!(rt; resize(&mut vertices, mesh, 100));
+    assert_eq!(rt; vertices.allocation_size(mesh), 100);
     Ok(())
 }

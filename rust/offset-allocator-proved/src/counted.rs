@@ -4,10 +4,12 @@
 //! their own, and `laws` shows them to callers.
 
 use crate::accesses::Accesses;
+use crate::blocks::{Block, Blocks};
 use crate::handle::Allocation;
 use crate::index::{self, NodeIndex};
 use crate::reports::{Refusal, StorageReport, StorageReportFull, StorageReportFullRegion};
 use crate::small_float::{float_to_uint, uint_to_float_round_up};
+use crate::steps::handle_of;
 use crate::{Allocator, bins, chain};
 
 /// As `Allocator::is_live`. The count grows by at most 8.
@@ -31,6 +33,44 @@ pub fn allocation_size_counted<NI: NodeIndex>(
     } else {
         0
     }
+}
+
+/// As `Allocator::allocation_offset`. The count grows by at most 8.
+pub fn allocation_offset_counted<NI: NodeIndex>(
+    allocator: &Allocator<NI>,
+    allocation: Allocation<NI>,
+    count: &mut Accesses,
+) -> Option<u32> {
+    let name = index::number::<NI>(NI::of_nonmax(allocation.name()));
+    if allocator.uses(name, count) {
+        Some(chain::offset(&allocator.store.tables, name, count))
+    } else {
+        None
+    }
+}
+
+/// As `next` of `Blocks`. The count grows by at most 5.
+pub fn next_block_counted<NI: NodeIndex>(
+    blocks: &mut Blocks<NI>,
+    count: &mut Accesses,
+) -> Option<Block<NI>> {
+    let name = blocks.next?;
+    let allocator = blocks.allocator;
+    let tables = &allocator.store.tables;
+    let offset = chain::offset(tables, name, count);
+    let size = chain::size(tables, name, count);
+    let allocation = if chain::is_used(tables, name, count) {
+        Some(handle_of(offset, name))
+    } else {
+        None
+    };
+    blocks.next = chain::before(tables, name, count);
+    blocks.left -= 1;
+    Some(Block {
+        offset,
+        size,
+        allocation,
+    })
 }
 
 /// As `Allocator::storage_report`. The count grows by at most 8.

@@ -25,6 +25,7 @@
 #![expect(clippy::manual_map)] // a `match` needs no closure, whose calls would need a proof
 #![expect(clippy::needless_range_loop)] // so is a loop over places proved in few words
 #![expect(clippy::too_many_arguments)] // functions over the tables take the numbers that they change one by one
+#![expect(unused_variables)] // a parameter may be there for a contract only
 
 extern crate alloc;
 
@@ -34,7 +35,9 @@ pub use memory::{AllocError, Global};
 
 mod accesses;
 mod bins;
+mod blocks;
 mod chain;
+mod compact;
 mod counted;
 mod entry;
 pub mod ext;
@@ -47,12 +50,15 @@ mod merge;
 mod nonmax;
 mod parts;
 mod reports;
+mod resize;
 pub mod small_float;
 mod steps;
 mod store;
 mod tables;
 
 pub use accesses::Accesses;
+pub use blocks::{Block, Blocks};
+pub use compact::Move;
 pub use handle::Allocation;
 pub use index::{NodeIndex, NodeIndexNonMax};
 pub use nonmax::{NonMaxU16, NonMaxU32};
@@ -174,6 +180,25 @@ impl<NI: NodeIndex> Allocator<NI> {
     /// and for a live range of no units too.
     pub fn allocation_size(&self, allocation: Allocation<NI>) -> u32 {
         counted::allocation_size_counted(self, allocation, &mut Accesses::new())
+    }
+
+    /// Where the range of a live handle begins, in units from the start of the space, or `None` where the handle is not
+    /// live.
+    ///
+    /// The public `offset` of a handle is a copy, which a caller may have changed, and which a stale handle keeps. It makes
+    /// at most 8 accesses to the tables.
+    pub fn allocation_offset(&self, allocation: Allocation<NI>) -> Option<u32> {
+        counted::allocation_offset_counted(self, allocation, &mut Accesses::new())
+    }
+
+    /// The blocks of the space, used and free, from its end to its start. It takes no memory, and each block costs at
+    /// most 5 accesses to the tables.
+    pub fn blocks(&self) -> Blocks<'_, NI> {
+        Blocks {
+            allocator: self,
+            next: Some(self.store.last),
+            left: self.block_count(),
+        }
     }
 
     /// The free space in short: the units of all free blocks, and the largest request that would be granted. Both are

@@ -10,7 +10,7 @@ use crate::tables::Tables;
 use crate::{Allocator, bins, chain, merge, parts};
 
 /// The handle of a name.
-fn handle_of<NI: NodeIndex>(offset: u32, name: u32) -> Allocation<NI> {
+pub(crate) fn handle_of<NI: NodeIndex>(offset: u32, name: u32) -> Allocation<NI> {
     Allocation::make(offset, NI::from_u32(name).to_name())
 }
 

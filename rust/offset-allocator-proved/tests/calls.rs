@@ -79,6 +79,51 @@ fn grows_and_resets() {
 }
 
 #[test]
+fn blocks_from_the_end() {
+    let mut a = space(100, 16);
+    let first = a.allocate(10).unwrap();
+    let second = a.allocate(20).unwrap();
+    a.free(first);
+    let found: Vec<_> = a.blocks().map(|block| (block.offset, block.size, block.allocation)).collect();
+    assert_eq!(found, [(30, 70, None), (10, 20, Some(second)), (0, 10, None)]);
+    let mut left = a.blocks();
+    left.next();
+    assert_eq!((left.len(), left.clone().count(), left.size_hint()), (2, 2, (2, Some(2))));
+    assert_eq!(format!("{left:?}"), "Blocks { remaining: 2 }");
+    assert_eq!((a.allocation_offset(first), a.allocation_offset(second)), (None, Some(10)));
+}
+
+#[test]
+fn compacts() {
+    let mut a = space(100, 16);
+    let first = a.allocate(10).unwrap();
+    let second = a.allocate(20).unwrap();
+    let third = a.allocate(30).unwrap();
+    a.free(first);
+    let mut moves = Vec::new();
+    a.compact(&mut |range| moves.push((range.from, range.to, range.size, range.allocation())));
+    let [mut second_now, mut third_now] = [second, third];
+    (second_now.offset, third_now.offset) = (0, 20);
+    assert_eq!(moves, [(10, 0, 20, second_now), (30, 20, 30, third_now)]);
+    assert_eq!((a.allocation_offset(second), a.allocation_offset(third)), (Some(0), Some(20)));
+    // 50 units are of the class of 48
+    assert_eq!((a.storage_report().total_free_space, a.storage_report().largest_free_region), (50, 48));
+    assert_eq!(a.allocate(48).unwrap().offset, 50);
+}
+
+#[test]
+fn resizes_in_place() {
+    let mut a = space(100, 16);
+    let first = a.allocate(10).unwrap();
+    let second = a.allocate(20).unwrap();
+    assert!(a.shrink(first, 4) && !a.shrink(first, 5));
+    assert_eq!((a.allocation_size(first), a.allocation_offset(first)), (4, Some(0)));
+    assert!(!a.grow_in_place(first, 11) && a.grow_in_place(first, 10));
+    assert!(!a.grow_in_place(second, 91) && a.grow_in_place(second, 90));
+    assert_eq!((a.allocation_size(second), a.storage_report().total_free_space), (90, 0));
+}
+
+#[test]
 fn node_limits() {
     // a limit of 4 admits 3 blocks: two ranges and the remainder
     let mut a = space(100, 4);
@@ -127,6 +172,8 @@ fn the_calls_of_laws_change_nothing() {
     let mut count = Accesses::new();
     assert!(laws::is_live_counted(&a, h, &mut count));
     assert_eq!(laws::allocation_size_counted(&a, h, &mut count), 10);
+    assert_eq!(laws::allocation_offset_counted(&a, h, &mut count), Some(0));
+    assert_eq!(laws::next_block_counted(&mut a.blocks(), &mut count).unwrap().offset, 10);
     assert_eq!(laws::storage_report_counted(&a, &mut count).total_free_space, 90);
     assert_eq!(laws::storage_report_full_counted(&a, &mut count).free_regions[35].count, 1);
     assert!(laws::undo(&mut a, 88));

@@ -58,6 +58,24 @@ fn freed_after_reset() {
 }
 
 #[test]
+#[should_panic(expected = "the handle must be live")]
+fn shrunk_after_it_was_freed() {
+    let mut a = space();
+    let h = a.allocate(2).unwrap();
+    a.free(h);
+    a.shrink(h, 1);
+}
+
+#[test]
+#[should_panic(expected = "the handle must be live")]
+fn grown_after_it_was_freed() {
+    let mut a = space();
+    let h = a.allocate(2).unwrap();
+    a.free(h);
+    a.grow_in_place(h, 3);
+}
+
+#[test]
 #[should_panic(expected = "align must be a power of two")]
 fn aligned_to_nothing() {
     space().allocate_aligned(1, 0);

@@ -122,6 +122,18 @@ impl<NI: NodeIndex> Pair<NI> {
                 assert_eq!(laws::is_live_counted(&self.space, handle, &mut count), is_live);
                 let size = result(|| self.space.allocation_size(handle)).unwrap();
                 assert_eq!(laws::allocation_size_counted(&self.space, handle, &mut count), size);
+                let offset = result(|| self.space.allocation_offset(handle)).unwrap();
+                assert_eq!(laws::allocation_offset_counted(&self.space, handle, &mut count), offset);
+                assert_eq!(offset.is_some(), is_live);
+                let other = if random.below(2) == 0 { random.any() } else { size.saturating_add(random.below(9)).saturating_sub(random.below(9)) };
+                for grows in [false, true] {
+                    let resize = || if grows { self.space.grow_in_place(handle, other) } else { self.space.shrink(handle, other) };
+                    if expect(result(resize), is_live, "the handle must be live") == Some(true) {
+                        let live = &self.space;
+                        self.live.iter_mut().for_each(|(handle, size)| *size = live.allocation_size(*handle));
+                    }
+                }
+                let size = self.space.allocation_size(handle);
                 let before = self.space.storage_report_full().free_regions.map(|region| region.count);
                 let found = result(|| self.space.free(handle));
                 if expect(found, is_live, "the handle must be live").is_some() {
@@ -142,6 +154,18 @@ impl<NI: NodeIndex> Pair<NI> {
                 }
             }
             12 => {
+                let blocks: Vec<_> = result(|| self.space.blocks().collect()).unwrap();
+                assert_eq!(blocks.iter().filter_map(|block| block.allocation).count(), self.live.len());
+                if random.below(4) == 0 {
+                    let live = &mut self.live;
+                    let compact = || {
+                        self.space.compact(&mut |range| {
+                            let moved = live.iter_mut().find(|(handle, size)| (handle.offset, *size) == (range.from, range.size));
+                            moved.unwrap().0 = range.allocation();
+                        })
+                    };
+                    result(compact).unwrap();
+                }
                 let most = self.space.storage_report().largest_free_region;
                 let size = random.any();
                 let granted = result(|| laws::undo(&mut self.space, size)).unwrap();

@@ -1,0 +1,9 @@
+use Rattle.std.proofs.Common.{◌≡◌, ℕ, ◌+◌, ◌<◌, length, slice_index}
+use Rattle.offset_allocator.specs.Named.{free_sizes}
+use Rattle.offset_allocator.specs.Reports.{count_of}
+use Rattle.offset_uses.proofs.Holes.{holes}
+use Rattle.offset_uses.proofs.walking.count_holes.Given as goal
+
+-- the holes so far and those that are left are all holes
+abbrev pub invariant-loop-block : goal.invariant-loop-block
+invariant-loop-block l = (length l.holes ≡ 256) × ((c : ℕ) → c < 256 → slice_index l.holes c + holes c l.block-iterator ≡ count_of c (free_sizes l.space.blocks))
