@@ -10,6 +10,7 @@ ghost use Rattle.offset_script.specs.Grammar.{has_valid_alignment};
 ghost use Rattle.offset_script.specs.Machine.{answers, start};
 
 pub mod daily;
+pub mod pool;
 pub mod walking;
 
 use offset_allocator::{Accesses, Allocation, Allocator, NodeIndex, laws};

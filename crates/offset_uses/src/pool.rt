@@ -1,0 +1,30 @@
+//! A buffer of bytes that is defragmented with the allocator of its ranges.
+
+ghost use Rattle.std.specs.Prelude.{ℕ, ◌≡◌, ◌≤◌, ◌+◌, length};
+ghost use Rattle.offset_allocator.specs.Ranges.{range_of};
+ghost use Rattle.offset_allocator.specs.Compacting.{Compacts};
+ghost use Rattle.offset_uses.specs.Pool.{HoldsSame, IsCopied};
+
+use offset_allocator::{Allocator, Move, laws};
+
+/// Copies `size` bytes from one place to a smaller one. Nothing changes where they are not within the buffer.
+fn copy_down(bytes: &mut [u8], from: u32, to: u32, size: u32)
+    ensures copied { IsCopied from to size bytes.old bytes.new }
+{
+    let (from, to, size) = (from as usize, to as usize, size as usize);
+    if to <= from && from + size <= bytes.len() {
+        bytes.copy_within(from..from + size, to);
+    }
+}
+
+/// Slides all live ranges of a heap to its front, with their bytes. Every handle stays live, and its range holds the same
+/// bytes; where that begins now, `allocation_offset` returns.
+pub fn defragment(heap: &mut Allocator, bytes: &mut [u8])
+    requires whole { heap.old.size ≤ length bytes.old }
+    ensures same { (x : ℕ) → HoldsSame bytes.old bytes.new (range_of x heap.old) (range_of x heap.new) }
+    ensures len { length bytes.new ≡ length bytes.old }
+    ensures step { Compacts heap.old heap.new }
+{
+    laws::is_well_formed(heap);
+    heap.compact(&mut |range: Move| copy_down(bytes, range.from, range.to, range.size));
+}
