@@ -1,4 +1,4 @@
-use Rattle.std.proofs.Common.{◌≡◌, ℕ, ◌+◌, ◌<◌, ◌∷◌, Bool, not, slice_index, ap, refl, sym, ◌∙◌, arith, length-set}
+use Rattle.std.proofs.Common.{◌≡◌, ℕ, ◌+◌, ◌<◌, ◌∷◌, not, slice_index, ap, ◌∙◌, arith, length-set}
 use Rattle.std.proofs.lemmas.List.{length-replicate, get_or-replicate}
 use Rattle.offset_allocator.proofs.Classes.{down_small}
 use Rattle.offset_allocator.specs.Named.{free_sizes}
@@ -22,12 +22,12 @@ overflow_add-holes c =
     let k = c.uint_to_float_round_down.result in
     let total : ℕ → ℕ = λ k. count_of k (free_sizes c.args.space.now.blocks) in
     let left : (k : ℕ) → k < 256 → slice_index c.loop-block.holes k + holes k (as_placed c.in-Some.block ∷ c.next.new.self) ≡ total k =
-      λ k l. omega (arith, c.loop-block.invariant.1 k l, ap (holes k) c.in-Some.ensures.steps) in
+    λ k l. omega (arith, c.loop-block.invariant.1 k l, ap (holes k) c.in-Some.ensures.steps) in
     omega (arith, hole_fits c.loop-block.holes (as_placed c.in-Some.block) c.next.new.self k total c.loop-block.invariant.0 c.uint_to_float_round_down.ensures.is (c.is_none.ensures ∙ ap not c.if-is_none.true) left, count_most k c.args.space.now.blocks, c.block_count.ensures, c.block_count.type_inv)
 
 pub loop-block-preserved-then-is_none : goal.loop-block-preserved-then-is_none
 loop-block-preserved-then-is_none c =
     let total : ℕ → ℕ = λ k. count_of k (free_sizes c.args.space.now.blocks) in
     let left : (k : ℕ) → k < 256 → slice_index c.loop-block.holes k + holes k (as_placed c.in-Some.block ∷ c.next.new.self) ≡ total k =
-      λ k l. omega (arith, c.loop-block.invariant.1 k l, ap (holes k) c.in-Some.ensures.steps) in
+    λ k l. omega (arith, c.loop-block.invariant.1 k l, ap (holes k) c.in-Some.ensures.steps) in
     (length-set _ _ _ ∙ c.loop-block.invariant.0, counted_hole c.loop-block.holes (as_placed c.in-Some.block) c.next.new.self c.uint_to_float_round_down.result total c.loop-block.invariant.0 c.uint_to_float_round_down.ensures.is (c.is_none.ensures ∙ ap not c.if-is_none.true) left)
