@@ -36,7 +36,7 @@ ends_in bs k x l e =
       named = d.name;
       taken = d.is;
       before =
-        ap (λ (i : ℕ). take i bs) m ∙ sym (take-take (length d.front) k bs fewer) ∙ ap (take (length d.front)) d.is
+          ap (λ (i : ℕ). take i bs) m ∙ sym (take-take (length d.front) k bs fewer) ∙ ap (take (length d.front)) d.is
           ∙ take-append-le (length d.front) d.front (d.last ∷ []) (omega arith) ∙ take_all (length d.front) d.front (omega arith);
       some = omega (arith, n);
     }
@@ -90,7 +90,7 @@ module _ (it : Fields) (s : AreSound it) (k x : ℕ) where
       let n = node_at c d.front d.block d.after x (subst (λ l. IsRow c None 0 l None) d.is s.space.row) d.named in
       let there : 1 ≤ count_named x bs = omega (arith, ap (count_named x) d.is, times-append x d.front (d.block ∷ d.after), one-eq x d.block.name d.named) in
       let at : placed_node x (node c x) ≡ placed_at (units d.front) d.block =
-        ap (placed_node x) n ∙ ap (λ (i : ℕ). record { offset = units d.front; size = d.block.size; grant = if d.block.used then Some (record { name = i; offset = units d.front }) else None }) (sym d.named) in
+      ap (placed_node x) n ∙ ap (λ (i : ℕ). record { offset = units d.front; size = d.block.size; grant = if d.block.used then Some (record { name = i; offset = units d.front }) else None }) (sym d.named) in
       record {
         below = elim (cases_lt x it.limit) [ inl m ↦ omega (arith, s.nodes) | inr m ↦ absurd (omega (arith, there, s.well.below x m)) ];
         some = d.some;

@@ -138,9 +138,9 @@ module _ {f : Fields} {x : ℕ} (call : Release f x) where
         let here : count_named name (free_part name left) ≡ 1 = part_names name name left l ∙ one-same name in
         elim (eq-zero-or-pos (count_named name next)) [
           | inl z ↦ inr (record {
-              below = omega (arith, there-below d.room _ last count name _ there.chain (omega (arith, now name, here)), call.sound.nodes);
-              absent = omega (arith, z, counted name, now name, here, each-le d.room _ last count _ there.chain name);
-            })
+            below = omega (arith, there-below d.room _ last count name _ there.chain (omega (arith, now name, here)), call.sound.nodes);
+            absent = omega (arith, z, counted name, now name, here, each-le d.room _ last count _ there.chain name);
+          })
           | inr s ↦ inl s
         ]
 

@@ -48,12 +48,13 @@ pub record Resizes (x n : ℕ) (v w : View) : Type 0 where
   -- afterwards no two free blocks are neighbours: so where units are left, next is the free block after it if there was one
   pub apart : IsApart w.blocks
 
--- a call that takes a range to fewer units, and one to more: it is refused exactly where that cannot be, and then nothing
--- changes, as where the range has these units already
+-- a call for fewer units: it is refused exactly where the range cannot shrink to them, and then nothing changes, nor does
+-- it where the range has just as many
 abbrev pub Shrinks : ℕ → ℕ → View → View → Bool → Type 0
 Shrinks x n v w true = ((n ≡ size_of x v) × SameSpace v w) ⊎ ((n < size_of x v) × CanShrink x n v × Resizes x n v w)
 Shrinks x n v w false = (CanShrink x n v → ⊥) × SameSpace v w
 
+-- a call for more units
 abbrev pub Grows : ℕ → ℕ → View → View → Bool → Type 0
 Grows x n v w true = ((n ≡ size_of x v) × SameSpace v w) ⊎ ((size_of x v < n) × CanGrow x n v × Resizes x n v w)
 Grows x n v w false = (CanGrow x n v → ⊥) × SameSpace v w

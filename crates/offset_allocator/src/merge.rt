@@ -32,7 +32,11 @@ fn free_before<NI: NodeIndex>(tables: &Tables<NI>, name: u32, count: &mut Access
 
 /// The name of a free block directly after a block, if one is.
 #[inline(always)]
-pub(crate) fn free_after<NI: NodeIndex>(tables: &Tables<NI>, name: u32, count: &mut Accesses) -> Option<u32>
+pub(crate) fn free_after<NI: NodeIndex>(
+    tables: &Tables<NI>,
+    name: u32,
+    count: &mut Accesses,
+) -> Option<u32>
     requires place { (m last spare : ℕ) × (p : Place) × HasPlace tables.now.room m last spare name p }
     ensures free { IsFreeAfter tables.now.room name result }
     ensures accesses_min { count.old + 1 ≤ count.new }

@@ -75,12 +75,7 @@ impl<NI: NodeIndex> Allocator<NI> {
             return size == held;
         }
         let next = merge::free_after(&self.store.tables, name, &mut self.store.accesses);
-        let more = parts::units_after(
-            &self.store.tables,
-            name,
-            next,
-            &mut self.store.accesses,
-        );
+        let more = parts::units_after(&self.store.tables, name, next, &mut self.store.accesses);
         if size - held > more {
             return false;
         }

@@ -8,7 +8,7 @@ ghost use Rattle.offset_allocator.specs.Ranges.{Range, range_of, size_of, KeepsA
 ghost use Rattle.offset_allocator.specs.Relations.{Allocates, Frees, SameSpace, Resets};
 ghost use Rattle.offset_allocator.specs.Promises.{CanGrant, IsWhy};
 ghost use Rattle.offset_allocator.specs.Resizing.{CanShrink, CanGrow, HasUnits};
-ghost use Rattle.offset_allocator.specs.Compacting.{live};
+ghost use Rattle.offset_allocator.specs.Compacting.{KeepsSizes};
 
 use offset_allocator::{Allocation, Allocator, Move, Refusal, laws};
 
@@ -96,7 +96,7 @@ pub fn place(space: &mut Allocator, size: u32, more: u32) -> Result<Allocation, 
 /// Every handle stays live, with its size; `allocation_offset` returns where its range begins then. A request that was
 /// refused as fragmented can be granted afterwards.
 pub fn defragment(space: &mut Allocator, buffer: &mut [u32])
-    ensures live { live space.new.blocks ≡ live space.old.blocks }
+    ensures sizes { KeepsSizes space.old space.new }
 {
     space.compact(&mut |range: Move| {
         let from = range.from as usize;

@@ -67,3 +67,12 @@ pub fn padding_is_least() {}
 
 /// The alignments that `allocate_aligned` admits are the powers of two.
 pub fn alignments_are_powers() {}
+
+/// After `compact`, with room for one more block, a request is granted exactly when it is at most the value of the class of
+/// all free units together.
+pub fn a_compacted_space_grants<NI: NodeIndex>(allocator: &Allocator<NI>) {
+    allocator.formed();
+}
+
+/// Each move of `compact` goes to a smaller offset, and ends before all units that later moves have yet to read.
+pub fn moves_are_safe() {}

@@ -22,7 +22,11 @@ fn free_before<NI: NodeIndex>(tables: &Tables<NI>, name: u32, count: &mut Access
 
 /// The name of a free block directly after a block, if one is.
 #[inline(always)]
-pub(crate) fn free_after<NI: NodeIndex>(tables: &Tables<NI>, name: u32, count: &mut Accesses) -> Option<u32> {
+pub(crate) fn free_after<NI: NodeIndex>(
+    tables: &Tables<NI>,
+    name: u32,
+    count: &mut Accesses,
+) -> Option<u32> {
     if let Some(following) = chain::after(tables, name, count) {
         if !chain::is_used(tables, following, count) {
             return Some(following);

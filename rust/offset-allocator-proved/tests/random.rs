@@ -189,6 +189,8 @@ impl<NI: NodeIndex> Pair<NI> {
                 laws::no_free_neighbours(&self.space);
                 laws::few_are_live(&self.space);
                 laws::a_full_space_refuses(&self.space);
+                laws::a_compacted_space_grants(&self.space);
+                laws::moves_are_safe();
             }
         }
         self.check();

@@ -1,4 +1,4 @@
-use Rattle.std.proofs.Common.{◌≡◌, ℕ, Bool, Option, None, Some, List, ◌∷◌, ◌-◌, if◌then◌else◌, sym, ap, subst, ◌∙◌, arith}
+use Rattle.std.proofs.Common.{◌≡◌, Bool, Option, None, Some, ◌∷◌, ◌-◌, if◌then◌else◌, sym, ap, subst, ◌∙◌, arith}
 use Rattle.std.specs.Iterator.{YieldsFirstBy}
 use Rattle.offset_allocator.specs.declared.blocks.Block.{Block}
 use Rattle.offset_allocator.specs.Cells.{node}

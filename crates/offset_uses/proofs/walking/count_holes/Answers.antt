@@ -1,4 +1,4 @@
-use Rattle.std.proofs.Common.{◌≡◌, ℕ, ◌+◌, ◌<◌, ◌∷◌, Bool, not, slice_index, ap, refl, sym, ◌∙◌, arith, length-set}
+use Rattle.std.proofs.Common.{◌≡◌, ℕ, ◌+◌, ◌<◌, ◌∷◌, not, slice_index, ap, ◌∙◌, arith, length-set}
 use Rattle.std.proofs.lemmas.List.{length-replicate, get_or-replicate}
 use Rattle.offset_allocator.proofs.Classes.{down_small}
 use Rattle.offset_allocator.specs.Named.{free_sizes}
