@@ -1,15 +1,14 @@
 -- What it leaves of the whole allocator to slide the live ranges to the front.
-use Rattle.std.proofs.Common.{◌≡◌, ℕ, suc, ◌+◌, ◌-◌, ◌*◌, ◌<◌, ◌≤◌, Bool, true, false, not, ◌&&◌, Option, Some, None, List, [], ◌∷◌, ◌++◌, length, replicate, sum, if◌then◌else◌, nat_eq, get_or, refl, sym, ap, ap₂, subst, ◌∙◌, inl, inr, arith, append_assoc, append-nil, length-append, eq-zero-or-pos}
-use Rattle.std.specs.List.{AllByRecursion, FoldsTo}
-use Rattle.std.proofs.lemmas.Bool.{true≢false}
+use Rattle.std.proofs.Common.{◌≡◌, ℕ, suc, ◌+◌, ◌-◌, ◌≤◌, Bool, true, false, not, ◌&&◌, Some, None, List, [], ◌∷◌, ◌++◌, length, replicate, sum, if◌then◌else◌, nat_eq, get_or, refl, sym, ap, ap₂, subst, ◌∙◌, inl, inr, arith, append-nil, length-append, eq-zero-or-pos}
+use Rattle.std.specs.List.{AllByRecursion}
 use Rattle.std.proofs.lemmas.Bool.Decides.{nat_tests}
 use Rattle.std.proofs.lemmas.List.{length-replicate, ext_get_or}
 use Rattle.offset_allocator.specs.Classes.{down}
 use Rattle.offset_allocator.specs.Cells.{Cells, Room, Node, node}
-use Rattle.offset_allocator.specs.Named.{Block, View, Place, one, is_free, free_block, units, free_sizes, used_units, used_of, count_named, count_listed, times, names_at, push, push_all, remove, remove_all, IsApart, IsWellFormed, starts_free}
-use Rattle.offset_allocator.specs.Compacting.{Move, live, moves, move_of, first_free, gathered, Compacts}
+use Rattle.offset_allocator.specs.Named.{Block, View, Place, one, free_block, units, free_sizes, used_units, used_of, count_named, count_listed, times, names_at, push, push_all, remove, remove_all, IsApart, IsWellFormed, starts_free}
+use Rattle.offset_allocator.specs.Compacting.{live, moves, move_of, first_free, gathered, Compacts}
 use Rattle.offset_allocator.specs.Relations.{SameSpace}
-use Rattle.offset_allocator.specs.Space.{HasPlace, IsChain, blocks}
+use Rattle.offset_allocator.specs.Space.{HasPlace, blocks}
 use Rattle.offset_allocator.specs.Orders.{Among, Binned, IsUnlisted, class_lists}
 use Rattle.offset_allocator.specs.State.{AreFiled, free_units}
 use Rattle.offset_allocator.proofs.Always.{parted}

@@ -1,20 +1,20 @@
 -- What holds after the live ranges are packed, and of the moves that pack them.
-use Rattle.std.proofs.Common.{◌≡◌, ◌↔◌, ℕ, ◌+◌, ◌<◌, ◌≤◌, Bool, true, false, Option, Some, None, List, [], ◌∷◌, ◌++◌, sum, if◌then◌else◌, nat_eq, option_map, option_and_then, refl, sym, ap, ap₂, subst, ◌∙◌, inl, inr, arith, le_trans}
+use Rattle.std.proofs.Common.{◌≡◌, ◌↔◌, ℕ, ◌+◌, ◌≤◌, Bool, true, false, Option, Some, None, List, [], ◌∷◌, ◌++◌, sum, if◌then◌else◌, nat_eq, option_map, option_and_then, refl, sym, ap, subst, ◌∙◌, inl, inr, arith}
 use Rattle.std.specs.List.{AllByRecursion}
-use Rattle.std.proofs.lemmas.Bool.{cases_eq, cases_lt}
+use Rattle.std.proofs.lemmas.Bool.{cases_eq}
 use Rattle.std.proofs.lemmas.Bool.Decides.{nat_tests}
 use Rattle.std.proofs.lemmas.List.Sums.{sum_by-cons}
 use Rattle.offset_allocator.specs.Classes.{value, down}
 use Rattle.offset_allocator.specs.Reports.{largest}
 use Rattle.offset_allocator.specs.Named.{Block, View, Place, one, place_of, count_named, free_sizes, units, IsWellFormed}
 use Rattle.offset_allocator.specs.Promises.{CanGrant, HasRoomFor}
-use Rattle.offset_allocator.specs.Ranges.{Range, range_of}
+use Rattle.offset_allocator.specs.Ranges.{Range}
 use Rattle.offset_allocator.specs.Compacting.{Move, live, moves, move_of, gathered, AreSafe, KeepsSizes, Compacts}
 use Rattle.offset_allocator.proofs.Classes.{down_law}
 use Rattle.offset_allocator.proofs.Compacting.{live_are_used, AreUsed}
 use Rattle.offset_allocator.proofs.Refusals.{fit_small}
 use Rattle.offset_allocator.proofs.Sliding.{live_used, live_idle}
-use Rattle.offset_allocator.proofs.Tallies.{hit_cases, one-eq}
+use Rattle.offset_allocator.proofs.Tallies.{hit_cases}
 use Rattle.offset_allocator.proofs.ViewFits.{fits_exactly, largest_small}
 
 -- the units that a name holds, if it is live
@@ -97,8 +97,7 @@ largest_gathered x (n ∷ ns) = let e : sum (n ∷ ns) ≡ n + sum ns = sum_by-c
 
 pub compacted_grants : (v w : View) (n : ℕ) → IsWellFormed w → 1 ≤ n → Compacts v w → CanGrant 1 n w ↔ (HasRoomFor 1 w × (n ≤ value (down (sum (free_sizes v.blocks)))))
 compacted_grants v w n well some c =
-    let is : largest (free_sizes w.blocks) ≡ value (down (sum (free_sizes v.blocks))) = ap (λ (u : View). largest (free_sizes u.blocks)) c.view ∙ ap largest (sizes_live (live v.blocks) (live_are_used v.blocks) (gathered c.name (free_sizes v.blocks))) ∙ largest_gathered c.name (free_sizes v.blocks) in
-    (
+    let is : largest (free_sizes w.blocks) ≡ value (down (sum (free_sizes v.blocks))) = ap (λ (u : View). largest (free_sizes u.blocks)) c.view ∙ ap largest (sizes_live (live v.blocks) (live_are_used v.blocks) (gathered c.name (free_sizes v.blocks))) ∙ largest_gathered c.name (free_sizes v.blocks) in (
       λ h. (h.0, let small : n ≤ 4294967295 = omega (arith, fit_small n w well h.1, well.fits) in omega (arith, (fits_exactly w well n small well.fits some).0 h.1, is)),
       λ h. (h.0, (fits_exactly w well n (largest_small w well well.fits n some (omega (arith, h.1, is))) well.fits some).1 (omega (arith, h.1, is))),
     )

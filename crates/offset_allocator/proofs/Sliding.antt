@@ -1,5 +1,5 @@
 -- A free block that moves to the end of the space: used blocks pass it, and free ones are coalesced with it.
-use Rattle.std.proofs.Common.{◌≡◌, ◌≢◌, ℕ, inl, inr, ◌+◌, ◌-◌, ◌<◌, ◌≤◌, ◌^◌, Bool, true, false, Some, None, List, [], ◌∷◌, ◌++◌, length, if◌then◌else◌, refl, sym, ap, ap₂, subst, ◌*◌, ◌∙◌, arith, append_assoc, append-nil}
+use Rattle.std.proofs.Common.{◌≡◌, ◌≢◌, ℕ, inl, inr, ◌+◌, ◌-◌, ◌≤◌, Bool, true, false, Some, None, List, [], ◌∷◌, ◌++◌, length, if◌then◌else◌, refl, sym, ap, ap₂, subst, ◌*◌, ◌∙◌, arith, append_assoc, append-nil}
 use Rattle.std.specs.List.{FoldsTo}
 use Rattle.std.proofs.lemmas.Bool.{cases_eq}
 use Rattle.std.proofs.lemmas.Bool.Decides.{nat_tests}
@@ -13,7 +13,7 @@ use Rattle.offset_allocator.specs.State.{AreFiled, free_units}
 use Rattle.offset_allocator.proofs.Ends.{end_free, ended}
 use Rattle.offset_allocator.proofs.Filed.{share, few}
 use Rattle.offset_allocator.proofs.Joints.{remove_free, free_units-free, free_units-used}
-use Rattle.offset_allocator.proofs.Places.{placed, at_place, next_place, IsNext}
+use Rattle.offset_allocator.proofs.Places.{placed, at_place, next_place}
 use Rattle.offset_allocator.proofs.Rows.{last_or-append}
 use Rattle.offset_allocator.proofs.Tallies.{tally_append, listed_named, units-append}
 use Rattle.offset_allocator.proofs.ViewOrders.{times_remove_all}
@@ -124,8 +124,8 @@ module _ {F : Type 0} {max : ℕ} {R : F → Move → F → Type 0} {m : ℕ} {p
     kept = append_assoc q.before (b ∷ []) (live bs) ∙ ap (λ l. q.before ++ l) (sym (ap live e ∙ live_used b bs live_b)) ∙ s.kept;
     free = omega (arith, s.free, ap free_units e, free_units-used b bs live_b);
     calls = λ h k. s.calls h (subst (λ l. FoldsTo R g l h) (sym (ap (moves (units q.before + q.block.size) (units q.before)) e ∙ moves_used (units q.before + q.block.size) (units q.before) b bs live_b))
-    (folds_append R (move_of (units q.before + q.block.size) (units q.before) b) (moves ((units q.before + q.block.size) + b.size) (units q.before + b.size) bs) g g' h (subst (λ n. FoldsTo R g (move_of (units q.before + n) (units q.before) b) g') s.sized call)
-    (subst (λ l. FoldsTo R g' l h) (ap₂ (λ i j. moves i j bs) from to) k)));
+        (folds_append R (move_of (units q.before + q.block.size) (units q.before) b) (moves ((units q.before + q.block.size) + b.size) (units q.before + b.size) bs) g g' h (subst (λ n. FoldsTo R g (move_of (units q.before + n) (units q.before) b) g') s.sized call)
+        (subst (λ l. FoldsTo R g' l h) (ap₂ (λ i j. moves i j bs) from to) k)));
     bounded = omega (arith, s.bounded, more, ap (λ (l : List Block). length l) e);
   }
     where
@@ -149,7 +149,7 @@ module _ {F : Type 0} {max : ℕ} {R : F → Move → F → Type 0} {m : ℕ} {p
     kept = ap (λ l. q.before ++ l) (sym (ap live e ∙ live_idle b bs idle_b)) ∙ s.kept;
     free = omega (arith, s.free, ap free_units e, free_units-free b bs idle_b);
     calls = λ h k. s.calls h (subst (λ l. FoldsTo R g l h) (sym (ap (moves (units q.before + q.block.size) (units q.before)) e ∙ moves_idle (units q.before + q.block.size) (units q.before) b bs idle_b))
-    (subst (λ i. FoldsTo R g (moves i (units q.before) bs) h) from k));
+        (subst (λ i. FoldsTo R g (moves i (units q.before) bs) h) from k));
     bounded = omega (arith, s.bounded, more, ap (λ (l : List Block). length l) e);
   }
     where
@@ -164,8 +164,7 @@ module _ {F : Type 0} {max : ℕ} {R : F → Move → F → Type 0} {m : ℕ} {p
       let front : q.before ≡ p.before ++ live p.after = sym (append-nil q.before) ∙ ap (λ l. q.before ++ live l) (sym e) ∙ s.kept in
       let block : q.block ≡ free_block hole size = λ i. record { name = s.there.name i; size = (sym s.sized) i; used = s.idle i } in
       let place : q ≡ record { before = p.before ++ live p.after; block = free_block hole size; after = [] } = λ i. record { before = front i; block = block i; after = e i } in
-      let none : q.before ++ q.after ≡ p.before ++ live p.after = ap (λ l. q.before ++ l) e ∙ append-nil q.before ∙ front in
-      (
+      let none : q.before ++ q.after ≡ p.before ++ live p.after = ap (λ l. q.before ++ l) e ∙ append-nil q.before ∙ front in (
         subst (λ (z : Place). HasPlace t.room m last count hole z) place s.there,
         omega (arith, s.free, s.sized, ap free_units e),
         subst (λ (l : List Block). AreFiled l (class_lists max t.links)) none s.filed,

@@ -171,10 +171,10 @@ fn slide<NI: NodeIndex, F: FnMut(Move<NI>)>(
     requires callable { F.IsAlwaysCallable moved.old }
     ensures place { (m : ℕ) (p : Place) → HasPlace store.old.tables.room m store.old.last store.old.spare_count hole p → p.block.used ≡ false → AreFiled (p.before ++ p.after) (class_lists NI.MAX store.old.tables.links)
         → HasPlace store.new.tables.room m store.new.last store.new.spare_count result.0 (record { before = p.before ++ live p.after; block = free_block result.0 result.1; after = [] })
-            × (result.1 ≡ p.block.size + free_units p.after)
-            × AreFiled (p.before ++ live p.after) (class_lists NI.MAX store.new.tables.links)
-            × FoldsTo (IsCalledWith NI.NonMax.number (λ f range g. F.step f range tt g)) moved.old (moves (units p.before + p.block.size) (units p.before) p.after) moved.new
-            × (store.new.accesses ≤ store.old.accesses + 20 * length p.after + 1) }
+        × (result.1 ≡ p.block.size + free_units p.after)
+        × AreFiled (p.before ++ live p.after) (class_lists NI.MAX store.new.tables.links)
+        × FoldsTo (IsCalledWith NI.NonMax.number (λ f range g. F.step f range tt g)) moved.old (moves (units p.before + p.block.size) (units p.before) p.after) moved.new
+        × (store.new.accesses ≤ store.old.accesses + 20 * length p.after + 1) }
     ensures held { Binned NI.MAX store.new.tables.links store.new.top_mask }
     ensures accesses_kept { store.old.accesses ≤ store.new.accesses }
 {

@@ -1,5 +1,5 @@
-use Rattle.std.proofs.Common.{◌≡◌, ℕ, ◌+◌, ◌*◌, ◌≤◌, Bool, true, false, List, [], ◌∷◌, ◌++◌, Some, None, length, refl, sym, ap, ◌∙◌, arith, append-nil, append_assoc, length-append}
-use Rattle.offset_allocator.specs.Cells.{Node, node}
+use Rattle.std.proofs.Common.{◌≡◌, ◌+◌, List, [], ◌∷◌, ◌++◌, Some, None, length, refl, sym, ap, ◌∙◌, arith, append-nil, append_assoc, length-append}
+use Rattle.offset_allocator.specs.Cells.{Node}
 use Rattle.offset_allocator.specs.Named.{Block}
 use Rattle.offset_allocator.specs.Space.{blocks, last_or}
 use Rattle.offset_allocator.specs.Compacting.{first_free}

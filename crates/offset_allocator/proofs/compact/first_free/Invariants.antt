@@ -1,4 +1,4 @@
-use Rattle.std.proofs.Common.{◌≡◌, ℕ, ◌+◌, ◌-◌, ◌*◌, ◌≤◌, List, ◌++◌, None, length}
+use Rattle.std.proofs.Common.{◌≡◌, ◌+◌, ◌-◌, ◌*◌, ◌≤◌, List, ◌++◌, None, length}
 use Rattle.offset_allocator.specs.Named.{Block}
 use Rattle.offset_allocator.specs.Space.{blocks, last_or}
 use Rattle.offset_allocator.specs.Compacting.{first_free}

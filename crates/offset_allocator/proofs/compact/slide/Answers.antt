@@ -1,10 +1,10 @@
-use Rattle.std.proofs.Common.{◌≡◌, ℕ, ◌+◌, ◌-◌, ◌*◌, ◌<◌, ◌≤◌, true, false, Some, List, [], ◌∷◌, ◌++◌, length, refl, sym, ap, subst, ◌∙◌, arith, length-append}
+use Rattle.std.proofs.Common.{◌≡◌, ◌≤◌, true, false, List, ◌∷◌, length, refl, sym, ap, subst, ◌∙◌, arith, length-append}
 use Rattle.std.specs.List.{FoldsTo}
-use Rattle.offset_allocator.specs.Cells.{Node, node}
+use Rattle.offset_allocator.specs.Cells.{Node}
 use Rattle.offset_allocator.specs.Named.{Block, Place, units}
-use Rattle.offset_allocator.specs.Compacting.{Move, IsCalledWith, move_of}
+use Rattle.offset_allocator.specs.Compacting.{Move, IsCalledWith}
 use Rattle.offset_allocator.proofs.Places.{at_place, next_place, end_fits, after_fits}
-use Rattle.offset_allocator.proofs.Sliding.{IsSliding, slid_past, slid_into, slid_end, at_end, same_move}
+use Rattle.offset_allocator.proofs.Sliding.{slid_past, slid_into, slid_end, at_end, same_move}
 use Rattle.offset_allocator.proofs.compact.slide.Goals as goal
 
 pub loop-next-init : goal.loop-next-init
