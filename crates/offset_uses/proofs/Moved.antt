@@ -1,5 +1,5 @@
 -- What the copies of the moves leave under each handle.
-use Rattle.std.proofs.Common.{◌≡◌, ℕ, ◌+◌, ◌-◌, ◌<◌, ◌≤◌, Bool, true, false, Option, Some, None, List, [], ◌∷◌, ◌++◌, length, slice_index_or, if◌then◌else◌, nat_eq, option_map, option_and_then, refl, sym, ap, ap₂, subst, ◌∙◌, inl, inr, arith}
+use Rattle.std.proofs.Common.{◌≡◌, ℕ, ◌+◌, ◌-◌, ◌<◌, ◌≤◌, Bool, true, false, Option, Some, None, List, [], ◌∷◌, ◌++◌, length, slice_index_or, if◌then◌else◌, nat_eq, option_map, option_and_then, refl, sym, ap, subst, ◌∙◌, inl, inr, arith}
 use Rattle.std.specs.Bool.{⊤}
 use Rattle.std.specs.List.{FoldsTo}
 use Rattle.std.proofs.lemmas.Bool.{cases_eq}
@@ -100,7 +100,7 @@ holds_from n ws xs ys (Some q) (Some s) e l h = (h.0, λ i d m. h.1 i d m ∙ e 
 step : (from to : ℕ) (b : Block) (ws ys : List ℕ) (ms : List Move) → FoldsTo (λ xs (m : Move) zs. IsCopied m.from m.to m.size xs zs) ws (move_of from to b ++ ms) ys
     → to ≤ from → from + b.size ≤ length ws
     → (xs : List ℕ) × (length xs ≡ length ws) × ((i d : ℕ) → i < to → slice_index_or xs i d ≡ slice_index_or ws i d) × ((i d : ℕ) → to + b.size ≤ i → slice_index_or xs i d ≡ slice_index_or ws i d)
-      × ((i d : ℕ) → i < b.size → slice_index_or xs (to + i) d ≡ slice_index_or ws (from + i) d) × FoldsTo (λ xs (m : Move) zs. IsCopied m.from m.to m.size xs zs) xs ms ys
+    × ((i d : ℕ) → i < b.size → slice_index_or xs (to + i) d ≡ slice_index_or ws (from + i) d) × FoldsTo (λ xs (m : Move) zs. IsCopied m.from m.to m.size xs zs) xs ms ys
 step from to b ws ys ms f l fits = elim (cases_eq from to) [
   | inl e ↦
       let t : nat_eq from to ≡ true = grind (arith, nat_tests) in
@@ -116,20 +116,19 @@ step from to b ws ys ms f l fits = elim (cases_eq from to) [
 -- the moves of blocks that begin at an offset, packed from another one on
 pub moved : (from to : ℕ) (bs : List Block) (ws ys : List ℕ) → FoldsTo (λ xs (m : Move) zs. IsCopied m.from m.to m.size xs zs) ws (moves from to bs) ys → to ≤ from → from + units bs ≤ length ws
     → (length ys ≡ length ws) × ((i d : ℕ) → i < to → slice_index_or ys i d ≡ slice_index_or ws i d)
-      × ((x y : ℕ) (ns : List ℕ) → count_named x bs ≤ 1 → HoldsSame ws ys (found x from bs) (found x to (live bs ++ gathered y ns)))
+    × ((x y : ℕ) (ns : List ℕ) → count_named x bs ≤ 1 → HoldsSame ws ys (found x from bs) (found x to (live bs ++ gathered y ns)))
 moved from to [] ws ys f l fits = (sym (ap (λ (k : List ℕ). length k) f), (λ i d m. ap (λ k. slice_index_or k i d) (sym f)), λ x y ns m. subst (λ q. HoldsSame ws ys None q) (sym (found_gathered x to y ns)) tt)
 moved from to (b ∷ bs) ws ys f l fits = go b.used refl (λ t xs. moved (from + b.size) t bs xs ys)
   where
     go : (u : Bool) → b.used ≡ u
         → ((t : ℕ) (xs : List ℕ) → FoldsTo (λ xs (m : Move) zs. IsCopied m.from m.to m.size xs zs) xs (moves (from + b.size) t bs) ys → t ≤ from + b.size → (from + b.size) + units bs ≤ length xs
-            → (length ys ≡ length xs) × ((i d : ℕ) → i < t → slice_index_or ys i d ≡ slice_index_or xs i d)
-              × ((x y : ℕ) (ns : List ℕ) → count_named x bs ≤ 1 → HoldsSame xs ys (found x (from + b.size) bs) (found x t (live bs ++ gathered y ns))))
+        → (length ys ≡ length xs) × ((i d : ℕ) → i < t → slice_index_or ys i d ≡ slice_index_or xs i d)
+        × ((x y : ℕ) (ns : List ℕ) → count_named x bs ≤ 1 → HoldsSame xs ys (found x (from + b.size) bs) (found x t (live bs ++ gathered y ns))))
         → (length ys ≡ length ws) × ((i d : ℕ) → i < to → slice_index_or ys i d ≡ slice_index_or ws i d)
-          × ((x y : ℕ) (ns : List ℕ) → count_named x (b ∷ bs) ≤ 1 → HoldsSame ws ys (found x from (b ∷ bs)) (found x to (live (b ∷ bs) ++ gathered y ns)))
+        × ((x y : ℕ) (ns : List ℕ) → count_named x (b ∷ bs) ≤ 1 → HoldsSame ws ys (found x from (b ∷ bs)) (found x to (live (b ∷ bs) ++ gathered y ns)))
     go true u rest =
         let s = step from to b ws ys (moves (from + b.size) (to + b.size) bs) (subst (λ (ms : List Move). FoldsTo (λ xs (m : Move) zs. IsCopied m.from m.to m.size xs zs) ws ms ys) (moves_used from to b bs u) f) l (omega (arith, fits)) in
-        let r = rest (to + b.size) s.0 s.5 (omega (arith, l)) (omega (arith, fits, s.1)) in
-        (
+        let r = rest (to + b.size) s.0 s.5 (omega (arith, l)) (omega (arith, fits, s.1)) in (
           r.0 ∙ s.1,
           (λ i d m. r.1 i d (omega (arith, m)) ∙ s.2 i d m),
           λ x y ns m. subst (λ (k : List Block). HoldsSame ws ys (found x from (b ∷ bs)) (found x to (k ++ gathered y ns))) (sym (live_used b bs u)) (elim (hit_cases x b.name) [
@@ -144,8 +143,7 @@ moved from to (b ∷ bs) ws ys f l fits = go b.used refl (λ t xs. moved (from +
           ]),
         )
     go false u rest =
-        let r = rest to ws (subst (λ (ms : List Move). FoldsTo (λ xs (m : Move) zs. IsCopied m.from m.to m.size xs zs) ws ms ys) (moves_idle from to b bs u) f) (omega (arith, l)) (omega (arith, fits)) in
-        (
+        let r = rest to ws (subst (λ (ms : List Move). FoldsTo (λ xs (m : Move) zs. IsCopied m.from m.to m.size xs zs) ws ms ys) (moves_idle from to b bs u) f) (omega (arith, l)) (omega (arith, fits)) in (
           r.0,
           r.1,
           λ x y ns m. subst (λ (k : List Block). HoldsSame ws ys (found x from (b ∷ bs)) (found x to (k ++ gathered y ns))) (sym (live_idle b bs u)) (elim (hit_cases x b.name) [

@@ -1,7 +1,5 @@
-use Rattle.std.proofs.Common.{◌≡◌, ℕ, List, refl, sym, ap, subst, ◌∙◌, rules, of_calls}
-use Rattle.std.specs.List.{FoldsTo}
-use Rattle.offset_allocator.specs.Ranges.{range_of}
-use Rattle.offset_allocator.specs.Compacting.{Move, moves}
+use Rattle.std.proofs.Common.{◌≡◌, rules}
+use Rattle.offset_allocator.specs.Compacting.{Move}
 use Rattle.offset_uses.specs.Pool.{IsCopied}
 use Rattle.offset_uses.specs.contracts.pool.fn.defragment.compact as closure
 use Rattle.offset_uses.proofs.Moved.{calls_seen, compacted_holds}
@@ -11,9 +9,9 @@ pub returns-clause-same : goal.returns-clause-same
 returns-clause-same c =
     let ran = calls_seen _ (λ ws (m : Move) ys. IsCopied m.from m.to m.size ws ys) (λ q. (closure.captures q).bytes.now) (λ q. (closure.captures q).bytes.ghost_name)
     (λ p x q k.
-        let s : IsCopied k.0.from k.0.to k.0.size (closure.captures p).bytes.now (closure.captures q).bytes.now = search rules in
-        let g : (closure.captures q).bytes.ghost_name ≡ (closure.captures p).bytes.ghost_name = search rules in
-        (rw (← k.1.from, ← k.1.to, ← k.1.size) s, g))
+    let s : IsCopied k.0.from k.0.to k.0.size (closure.captures p).bytes.now (closure.captures q).bytes.now = search rules in
+    let g : (closure.captures q).bytes.ghost_name ≡ (closure.captures p).bytes.ghost_name = search rules in
+    (rw (← k.1.from, ← k.1.to, ← k.1.size) s, g))
     _ _ _ c.compact.ensures.moved in
     let held = compacted_holds c.args.heap.now c.compact.new.self c.args.bytes.now _ c.is_well_formed.ensures c.compact.ensures.step c.requires.whole ran.0 in
     λ x. search (rules, ran.1, held.1 x)
