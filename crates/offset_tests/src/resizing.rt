@@ -5,7 +5,7 @@ use crate::steps::Step::{Counts, Frees, Grants, Grows, Is, Lives, Reports, Shrin
 use crate::steps::expect;
 use std::test::Fail;
 
-// Between two used blocks, what is given back is a block of its own.
+// Between two used blocks, what is given back becomes a new block.
 #[test]
 fn a_shrink_leaves_a_free_block_after_it(rt: HostRuntime) -> Result<(), Fail> {
     expect(
