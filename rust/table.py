@@ -40,7 +40,7 @@ LINTS = {
     "offset_allocator": {
         "clippy::derivable_impls": "an `impl Default` is where a contract says what the value is",
         "clippy::manual_map": "a `match` needs no closure, whose calls would need a proof",
-        "clippy::needless_range_loop": "so is a loop over places proved in few words",
+        "clippy::needless_range_loop": "a loop over places is proved in few words",
         "clippy::too_many_arguments": "functions over the tables take the numbers that they change one by one",
         "unused_variables": "a parameter may be there for a contract only",
     },
@@ -110,18 +110,14 @@ ALWAYS = {
     "F.IsAlwaysCallable moved.old": "a closure of Rust may be called at any time; if it panics, that is its own panic",
 }
 
-# Hidden lines around each example in the documentation, so that `cargo test` runs it.
+# Lines around each example in the documentation, so that `cargo test` runs it. Those after a `#` are hidden.
 EXAMPLES = {
     "offset_allocator": (
-        ["# use offset_allocator_proved::*;", "# let alloc = Global;"],
-        ["# Ok::<(), AllocError>(())"],
-    ),
-    "offset_script": (
-        ["# use offset_script::*;", "# let alloc = Global;"],
+        ["use offset_allocator_proved::*;", "let alloc = Global;"],
         ["# Ok::<(), AllocError>(())"],
     ),
 }
 
 # Attributes and macros that are printed as they are. Any other stops `erase`.
-ATTRIBUTES = {"inline", "must_use", "repr", "cold"}
-MACROS = {"write", "writeln", "matches"}
+ATTRIBUTES = {"inline"}
+MACROS = {"write", "writeln"}

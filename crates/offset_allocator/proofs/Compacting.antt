@@ -4,23 +4,23 @@ use Rattle.std.specs.List.{AllByRecursion}
 use Rattle.std.proofs.lemmas.Bool.Decides.{nat_tests}
 use Rattle.std.proofs.lemmas.List.{length-replicate, ext_get_or}
 use Rattle.offset_allocator.specs.Classes.{down}
-use Rattle.offset_allocator.specs.Cells.{Cells, Room, Node, node}
-use Rattle.offset_allocator.specs.Named.{Block, View, Place, one, free_block, units, free_sizes, used_units, used_of, count_named, count_listed, times, names_at, push, push_all, remove, remove_all, IsApart, IsWellFormed, starts_free}
+use Rattle.offset_allocator.specs.Cells.{Cells, Room}
+use Rattle.offset_allocator.specs.Named.{Block, View, Place, one, free_block, units, free_sizes, used_units, used_of, count_named, count_listed, names_at, push, push_all, IsApart, IsWellFormed, starts_free}
 use Rattle.offset_allocator.specs.Compacting.{live, moves, move_of, first_free, gathered, Compacts}
 use Rattle.offset_allocator.specs.Relations.{SameSpace}
 use Rattle.offset_allocator.specs.Space.{HasPlace, blocks}
-use Rattle.offset_allocator.specs.Orders.{Among, Binned, IsUnlisted, class_lists}
+use Rattle.offset_allocator.specs.Orders.{Binned, class_lists}
 use Rattle.offset_allocator.specs.State.{AreFiled, free_units}
 use Rattle.offset_allocator.proofs.Always.{parted}
 use Rattle.offset_allocator.proofs.Emptied.{no_name, none_at}
 use Rattle.offset_allocator.proofs.Exchange.{each-le, there-below, top}
-use Rattle.offset_allocator.proofs.Filed.{share, counts_once, unlisted}
-use Rattle.offset_allocator.proofs.Joints.{stepped, remove_free, free_units-append, free_units-free, free_units-used}
-use Rattle.offset_allocator.proofs.Places.{placed, at_place}
+use Rattle.offset_allocator.proofs.Filed.{share}
+use Rattle.offset_allocator.proofs.Joints.{stepped, free_units-append, free_units-free, free_units-used}
+use Rattle.offset_allocator.proofs.Places.{placed}
 use Rattle.offset_allocator.proofs.Sliding.{first_used, first_idle, live_used, live_idle, moves_used, moves_idle}
 use Rattle.offset_allocator.proofs.Sound.{Fields, AreSound, shown, well_counted}
-use Rattle.offset_allocator.proofs.Tallies.{one-same, listed_named, tally_append, units-append}
-use Rattle.offset_allocator.proofs.ViewOrders.{times_remove_all, times_put_all, length_put}
+use Rattle.offset_allocator.proofs.Tallies.{one-same, tally_append, units-append}
+use Rattle.offset_allocator.proofs.ViewOrders.{times_put_all, length_put}
 use Rattle.offset_allocator.proofs.ViewTaken.{replicate_none}
 
 abbrev pub AreUsed : List Block → Type 0
@@ -178,23 +178,6 @@ module _ (f : Fields) (s : AreSound f) where
     pub first_held : {d : Room} → d ≡ f.cells.room → HasPlace d (length f.cells.room.nodes) f.last f.count x o.place
     first_held e = rw e (placed (rw o.is at s.space) o.name)
 
-    -- the bins hold it and the others
-    parts : (k y : ℕ) → count_listed k y v.blocks ≡ (count_listed k y p.before + count_listed k y p.after) + count_listed k y (p.block ∷ [])
-    parts k y = omega (arith, ap (count_listed k y) o.is, tally_append (share k y) p.before (p.block ∷ p.after))
-
-    pub first_listed : Among x (names_at (class_lists f.max f.cells.links) (down (node f.cells.room x).size))
-    first_listed =
-        let k : ℕ = down (node f.cells.room x).size in
-        let there = counts_once (first_held refl) (ap (λ (n : Node). n.used) (at_place (first_held refl)) ∙ o.idle) in
-        omega (arith, there, w.orders k x, parts k x)
-
-    pub first_filed : (os : List (List ℕ)) (n : ℕ) → n ≡ (node f.cells.room x).size → os ≡ remove (down n) x (class_lists f.max f.cells.links) → AreFiled (o.place.before ++ o.place.after) os
-    first_filed os n sized is k y =
-        let left = times_remove_all (p.block ∷ []) ls w.classes (λ k y. omega (arith, w.orders k y, w.distinct y, listed_named k y v.blocks)) (λ k y. omega (arith, w.orders k y, parts k y)) in
-        let size : n ≡ p.block.size = sized ∙ ap (λ (n : Node). n.size) (at_place (first_held refl)) in
-        let same : os ≡ remove_all (p.block ∷ []) ls = is ∙ ap₂ (λ (i j : ℕ). remove (down i) j ls) size (sym o.name) ∙ sym (remove_free p.block ls o.idle) in
-        omega (arith, w.orders k y, parts k y, left k y, tally_append (share k y) p.before p.after, ap (λ (l : List (List ℕ)). times y (names_at l k)) same)
-
     abbrev packed_blocks : List Block
     packed_blocks = p.before ++ live p.after
 
@@ -203,9 +186,6 @@ module _ (f : Fields) (s : AreSound f) where
 
     -- what is left
     module _ (d : Cells) (last count hole size : ℕ) (there : HasPlace d.room (length f.cells.room.nodes) last count hole (record { before = o.place.before ++ live o.place.after; block = free_block hole size; after = [] })) where
-      pub end_unlisted : (os : List (List ℕ)) → AreFiled (o.place.before ++ live o.place.after) os → IsUnlisted hole os
-      end_unlisted os filed = unlisted there os (rw append-nil filed)
-
       module _ (sized : size ≡ o.place.block.size + free_units o.place.after) where
         abbrev left_view : View
         left_view = record v { blocks = packed_blocks ++ free_block hole size ∷ []; order = push (down size) hole (replicate 256 []) }
@@ -240,10 +220,10 @@ module _ (f : Fields) (s : AreSound f) where
               view = same ∙ ap₂ (λ (bs g : List Block). record v { blocks = bs ++ g; order = push_all g (replicate 256 []); accesses = u.accesses }) (sym o.live) (sym gathers);
             }
 
-        pub packs : {top accesses : ℕ} (os : List (List ℕ)) → length os ≡ 256 → AreFiled (o.place.before ++ live o.place.after) os → Binned f.max d.links top → class_lists f.max d.links ≡ push (down size) hole os
+        pub packs : {top accesses : ℕ} → Binned f.max d.links top → class_lists f.max d.links ≡ push (down size) hole (replicate 256 [])
             → AreSound (record f { cells = d; last = last; count = count; top = top; accesses = accesses }) × Compacts (shown f) (shown (record f { cells = d; last = last; count = count; top = top; accesses = accesses }))
-        packs {top} {accesses} os long filed bins lists =
-            let done = stepped f s left_view d f.free accesses left_well refl there.chain refl bins (lists ∙ ap (push (down size) hole) (none_filed os packed_blocks long are_used filed))
+        packs {top} {accesses} bins lists =
+            let done = stepped f s left_view d f.free accesses left_well refl there.chain refl bins lists
             (omega (arith, s.total, ap free_units o.is, free_units-append p.before (p.block ∷ p.after), no_free_units p.before o.used, free_units-free p.block p.after o.idle, free_units-append packed_blocks (free_block hole size ∷ []), no_free_units packed_blocks are_used, free_units-free (free_block hole size) [] refl, sized)) in
             (done.0, compacted _ done.1)
 

@@ -7,7 +7,7 @@ use Rattle.std.proofs.lemmas.Nat.Bits.{bit_at-zero}
 use Rattle.std.proofs.lemmas.Bool.{cases_eq}
 use Rattle.std.proofs.lemmas.Bool.Decides.{nat_tests}
 use Rattle.offset_allocator.specs.Classes.{down}
-use Rattle.offset_allocator.specs.Cells.{Cells, Room, Node, node, put, AreEmpty, AreShaped}
+use Rattle.offset_allocator.specs.Cells.{Cells, Links, Room, Node, node, put, AreEmpty, AreShaped}
 use Rattle.offset_allocator.specs.Named.{Block, View, IsWellFormed, free_block, push, names_at, times}
 use Rattle.offset_allocator.specs.Space.{IsChain, IsSpace, blocks, spares}
 use Rattle.offset_allocator.specs.Orders.{Linked, Masked, Binned, class_lists, Among, IsUnlisted}
@@ -60,37 +60,42 @@ module _ {max m : ℕ} {t : Cells} (s : AreShaped max t) (e : AreEmpty max m t) 
         fits = omega arith;
       }
 
-  empty_at : (c : ℕ) → c < 256 → names_at (replicate 256 []) c ≡ []
-  empty_at c h = get_or-replicate 256 c [] [] h
+-- no bin has a name
+empty_at : (c : ℕ) → c < 256 → names_at (replicate 256 []) c ≡ []
+empty_at c h = get_or-replicate 256 c [] [] h
 
-  mask_at : (w : ℕ) → w < 4 → slice_index t.links.masks w ≡ 0
-  mask_at w h = rw e.masks (get_or-replicate 4 w 0 0 h)
+pub empty_unlisted : (x : ℕ) {ls : List (List ℕ)} → ls ≡ replicate 256 [] → IsUnlisted x ls
+empty_unlisted x e c h a = absurd (omega (arith, subst (λ l. Among x l) (ap (λ o. names_at o c) e ∙ empty_at c h) a))
 
-  empty_linked : Linked max t.links (replicate 256 [])
+module _ {max : ℕ} (k : Links) (older : length k.older ≡ length k.newer) (small : length k.newer ≤ max) (heads : k.heads ≡ replicate 256 max) (masks : k.masks ≡ replicate 4 0) where
+  mask_at : (w : ℕ) → w < 4 → slice_index k.masks w ≡ 0
+  mask_at w h = rw masks (get_or-replicate 4 w 0 0 h)
+
+  empty_linked : Linked max k (replicate 256 [])
   empty_linked = record {
-    older_len = s.older ∙ sym s.newer;
-    names_small = rw s.newer s.limit;
-    heads_len = s.heads;
+    older_len = older;
+    names_small = small;
+    heads_len = rw heads (length-replicate {A = ℕ} 256 max);
     lists_len = length-replicate {A = List ℕ} 256 [];
-    heads = λ c h. rw (empty_at c h, e.heads) (get_or-replicate 256 c max 0 h);
+    heads = λ c h. rw (empty_at c h, heads) (get_or-replicate 256 c max 0 h);
     chains = λ c h. rw (empty_at c h) tt;
     once = λ c d x h l _. rw (empty_at c h, empty_at d l) (omega arith);
   }
 
-  empty_masked : Masked (replicate 256 []) t.links.masks 0
+  empty_masked : Masked (replicate 256 []) k.masks 0
   empty_masked = record {
-    masks_len = s.masks;
+    masks_len = rw masks (length-replicate {A = ℕ} 4 0);
     bits = λ c h. rw (mask_at (c / 64) (omega arith), empty_at c h) (bit_at-zero (c % 64));
     tops = λ w h. rw (mask_at w h) (bit_at-zero w);
     top_small = omega arith;
     words_small = λ w h. rw (mask_at w h) (omega arith);
   }
 
-  pub empty_binned : Binned max t.links 0 × (class_lists max t.links ≡ replicate 256 [])
+  pub empty_binned : Binned max k 0 × (class_lists max k ≡ replicate 256 [])
   empty_binned = binned empty_linked empty_masked
 
-  pub empty_unlisted : IsUnlisted (m - 1) (class_lists max t.links)
-  empty_unlisted c h a = absurd (omega (arith, subst (λ l. Among (m - 1) l) (ap (λ o. names_at o c) empty_binned.1 ∙ empty_at c h) a))
+pub fresh_binned : {max m : ℕ} {t : Cells} → AreShaped max t → AreEmpty max m t → Binned max t.links 0 × (class_lists max t.links ≡ replicate 256 [])
+fresh_binned {t = t} s e = empty_binned t.links (s.older ∙ sym s.newer) (rw s.newer s.limit) e.heads e.masks
 
 -- the fields of a fresh allocator
 pub started : (max m size : ℕ) (d : Cells) (top : ℕ) → 2 ≤ m → m + 1 < max → size ≤ 4294967295 → length d.room.nodes ≡ m → IsSpace d.room (m - 1) (m - 1) → blocks d.room (m - 1) ≡ free_block (m - 1) size ∷ [] → Binned max d.links top

@@ -3,20 +3,16 @@ use Rattle.std.proofs.Common.{◌≡◌, ◌≢◌, ℕ, inl, inr, ◌+◌, ◌-
 use Rattle.std.specs.List.{FoldsTo}
 use Rattle.std.proofs.lemmas.Bool.{cases_eq}
 use Rattle.std.proofs.lemmas.Bool.Decides.{nat_tests}
-use Rattle.offset_allocator.specs.Classes.{down}
 use Rattle.offset_allocator.specs.Cells.{Cells, Room, Node, node}
-use Rattle.offset_allocator.specs.Named.{Block, Place, free_block, units, count_listed, names_at, times, remove, remove_all}
+use Rattle.offset_allocator.specs.Named.{Block, Place, free_block, units}
 use Rattle.offset_allocator.specs.Space.{HasPlace, IsSpace, blocks, first_or, last_or, coalesced_before, coalesced_after}
-use Rattle.offset_allocator.specs.Orders.{class_lists}
 use Rattle.offset_allocator.specs.Compacting.{Move, first_free, live, moves, move_of}
-use Rattle.offset_allocator.specs.State.{AreFiled, free_units}
+use Rattle.offset_allocator.specs.State.{free_units}
 use Rattle.offset_allocator.proofs.Ends.{end_free, ended}
-use Rattle.offset_allocator.proofs.Filed.{share, few}
-use Rattle.offset_allocator.proofs.Joints.{remove_free, free_units-free, free_units-used}
+use Rattle.offset_allocator.proofs.Joints.{free_units-free, free_units-used}
 use Rattle.offset_allocator.proofs.Places.{placed, at_place, next_place}
 use Rattle.offset_allocator.proofs.Rows.{last_or-append}
-use Rattle.offset_allocator.proofs.Tallies.{tally_append, listed_named, units-append}
-use Rattle.offset_allocator.proofs.ViewOrders.{times_remove_all}
+use Rattle.offset_allocator.proofs.Tallies.{units-append}
 
 -- the block after a block, where the list of those after it is known
 pub next_is : {c : Room} {m last count x y : ℕ} {p : Place} {b : Block} {bs : List Block} → HasPlace c m last count x p → p.after ≡ b ∷ bs → Some y ≡ (node c x).after
@@ -54,15 +50,6 @@ absorbed p b bs idle e h =
     let one : b.size + 0 ≡ b.size = omega arith in
     rw (idle, one) at (rw e at h)
 
--- and it leaves its bin
-pub filed_after : {c : Room} {m last count x : ℕ} {p : Place} (b : Block) (bs : List Block) (ls : List (List ℕ)) {os : List (List ℕ)} {y n : ℕ} → HasPlace c m last count x p → length ls ≡ 256 → b.used ≡ false → y ≡ b.name → n ≡ b.size → p.after ≡ b ∷ bs
-    → AreFiled (p.before ++ p.after) ls → os ≡ remove (down n) y ls → AreFiled (p.before ++ bs) os
-filed_after {p = p} b bs ls {os} h long idle named sized e f is k y =
-    let parts : (k y : ℕ) → count_listed k y (p.before ++ p.after) ≡ (count_listed k y p.before + count_listed k y bs) + count_listed k y (b ∷ []) = λ k y. omega (arith, tally_append (share k y) p.before p.after, ap (count_listed k y) e) in
-    let left = times_remove_all (b ∷ []) ls long (λ k y. omega (arith, f k y, listed_named k y (p.before ++ p.after), few h y)) (λ k y. omega (arith, f k y, parts k y)) in
-    let same : os ≡ remove_all (b ∷ []) ls = is ∙ ap₂ (λ (i j : ℕ). remove (down i) j ls) sized named ∙ sym (remove_free b ls idle) in
-    omega (arith, f k y, parts k y, left k y, tally_append (share k y) p.before bs, ap (λ (l : List (List ℕ)). times y (names_at l k)) same)
-
 -- a walk back from the last block
 pub walked : {c : Room} {last count x : ℕ} (h : IsSpace c last count) (front rest : List Block) → blocks c last ≡ front ++ rest → (e : last_or None front ≡ Some x) → HasPlace c (length c.nodes) last count x (record { before = (ended front x e).front; block = (ended front x e).last; after = rest })
 walked {x = x} h front rest is e = let f = ended front x e in placed (rw append_assoc at (rw f.is at (rw is at h))) f.name
@@ -78,12 +65,11 @@ pub moved_one : (from to : ℕ) (b : Block) → from ≢ to → move_of from to 
 moved_one from to b ne = elim (cases_eq from to) [ inl e ↦ absurd (ne e) | inr e ↦ grind (arith, nat_tests) ]
 
 -- how far the free block of p has come: it is at a place where the same live ranges and free units are around it
-pub record IsSliding {F : Type 0} (max : ℕ) (R : F → Move → F → Type 0) (m : ℕ) (p : Place) (f : F) (accesses : ℕ) (t : Cells) (last count hole size : ℕ) (g : F) (used : ℕ) : Type 0 where
+pub record IsSliding {F : Type 0} (R : F → Move → F → Type 0) (m : ℕ) (p : Place) (f : F) (accesses : ℕ) (t : Cells) (last count hole size : ℕ) (g : F) (used : ℕ) : Type 0 where
   pub place : Place
   pub there : HasPlace t.room m last count hole place
   pub idle : place.block.used ≡ false
   pub sized : size ≡ place.block.size
-  pub filed : AreFiled (place.before ++ place.after) (class_lists max t.links)
   pub kept : place.before ++ live place.after ≡ p.before ++ live p.after
   pub free : place.block.size + free_units place.after ≡ p.block.size + free_units p.after
   -- the calls that are still to come end what the calls of p are
@@ -106,21 +92,20 @@ folds_append : {P A : Type 0} (R : P → A → P → Type 0) (xs ys : List A) (p
 folds_append R [] ys p q r e f = subst (λ s. FoldsTo R s ys r) (sym e) f
 folds_append R (x ∷ xs) ys p q r e f = (e.0, e.1, folds_append R xs ys e.0 q r e.2 f)
 
-module _ {F : Type 0} {max : ℕ} {R : F → Move → F → Type 0} {m : ℕ} {p : Place} {f : F} {accesses : ℕ} {t : Cells} {last count hole size : ℕ} {g : F} {used : ℕ} (s : IsSliding max R m p f accesses t last count hole size g used) where
+module _ {F : Type 0} {R : F → Move → F → Type 0} {m : ℕ} {p : Place} {f : F} {accesses : ℕ} {t : Cells} {last count hole size : ℕ} {g : F} {used : ℕ} (s : IsSliding R m p f accesses t last count hole size g used) where
   abbrev q : Place
   q = s.place
 
   -- a used block passes it
-  pub slid_past : (b : Block) (bs : List Block) (t' : Cells) (last' count' hole' : ℕ) (g' : F) (used' : ℕ) → b.used ≡ true → q.after ≡ b ∷ bs → t'.links ≡ t.links
+  pub slid_past : (b : Block) (bs : List Block) (t' : Cells) (last' count' hole' : ℕ) (g' : F) (used' : ℕ) → b.used ≡ true → q.after ≡ b ∷ bs
       → HasPlace t'.room m last' count' hole' (record { before = q.before ++ b ∷ []; block = free_block hole' q.block.size; after = bs })
       → FoldsTo R g (move_of (units q.before + size) (units q.before) b) g' → used' ≤ used + 20
-      → IsSliding max R m p f accesses t' last' count' hole' size g' used'
-  slid_past b bs t' last' count' hole' g' used' live_b e links there call more = record {
+      → IsSliding R m p f accesses t' last' count' hole' size g' used'
+  slid_past b bs t' last' count' hole' g' used' live_b e there call more = record {
     place = record { before = q.before ++ b ∷ []; block = free_block hole' q.block.size; after = bs };
     there = there;
     idle = refl;
     sized = s.sized;
-    filed = rw (links, append_assoc) (rw e at s.filed);
     kept = append_assoc q.before (b ∷ []) (live bs) ∙ ap (λ l. q.before ++ l) (sym (ap live e ∙ live_used b bs live_b)) ∙ s.kept;
     free = omega (arith, s.free, ap free_units e, free_units-used b bs live_b);
     calls = λ h k. s.calls h (subst (λ l. FoldsTo R g l h) (sym (ap (moves (units q.before + q.block.size) (units q.before)) e ∙ moves_used (units q.before + q.block.size) (units q.before) b bs live_b))
@@ -138,14 +123,13 @@ module _ {F : Type 0} {max : ℕ} {R : F → Move → F → Type 0} {m : ℕ} {p
   -- a free block goes into it
   pub slid_into : (b : Block) (bs : List Block) (t' : Cells) (last' count' size' used' : ℕ) → b.used ≡ false → q.after ≡ b ∷ bs → size' ≡ size + b.size
       → HasPlace t'.room m last' count' hole (record { before = q.before; block = record q.block { size = q.block.size + b.size }; after = bs })
-      → AreFiled (q.before ++ bs) (class_lists max t'.links) → used' ≤ used + 20
-      → IsSliding max R m p f accesses t' last' count' hole size' g used'
-  slid_into b bs t' last' count' size' used' idle_b e size_is there filed more = record {
+      → used' ≤ used + 20
+      → IsSliding R m p f accesses t' last' count' hole size' g used'
+  slid_into b bs t' last' count' size' used' idle_b e size_is there more = record {
     place = record { before = q.before; block = record q.block { size = q.block.size + b.size }; after = bs };
     there = there;
     idle = s.idle;
     sized = omega (arith, size_is, s.sized);
-    filed = filed;
     kept = ap (λ l. q.before ++ l) (sym (ap live e ∙ live_idle b bs idle_b)) ∙ s.kept;
     free = omega (arith, s.free, ap free_units e, free_units-free b bs idle_b);
     calls = λ h k. s.calls h (subst (λ l. FoldsTo R g l h) (sym (ap (moves (units q.before + q.block.size) (units q.before)) e ∙ moves_idle (units q.before + q.block.size) (units q.before) b bs idle_b))
@@ -158,16 +142,14 @@ module _ {F : Type 0} {max : ℕ} {R : F → Move → F → Type 0} {m : ℕ} {p
 
   -- it is the last block
   pub slid_end : q.after ≡ [] → HasPlace t.room m last count hole (record { before = p.before ++ live p.after; block = free_block hole size; after = [] })
-      × (size ≡ p.block.size + free_units p.after) × AreFiled (p.before ++ live p.after) (class_lists max t.links)
+      × (size ≡ p.block.size + free_units p.after)
       × FoldsTo R f (moves (units p.before + p.block.size) (units p.before) p.after) g × (used ≤ accesses + 20 * length p.after)
   slid_end e =
       let front : q.before ≡ p.before ++ live p.after = sym (append-nil q.before) ∙ ap (λ l. q.before ++ live l) (sym e) ∙ s.kept in
       let block : q.block ≡ free_block hole size = λ i. record { name = s.there.name i; size = (sym s.sized) i; used = s.idle i } in
-      let place : q ≡ record { before = p.before ++ live p.after; block = free_block hole size; after = [] } = λ i. record { before = front i; block = block i; after = e i } in
-      let none : q.before ++ q.after ≡ p.before ++ live p.after = ap (λ l. q.before ++ l) e ∙ append-nil q.before ∙ front in (
+      let place : q ≡ record { before = p.before ++ live p.after; block = free_block hole size; after = [] } = λ i. record { before = front i; block = block i; after = e i } in (
         subst (λ (z : Place). HasPlace t.room m last count hole z) place s.there,
         omega (arith, s.free, s.sized, ap free_units e),
-        subst (λ (l : List Block). AreFiled l (class_lists max t.links)) none s.filed,
         s.calls g (subst (λ (l : List Block). FoldsTo R g (moves (units q.before + q.block.size) (units q.before) l) g) (sym e) refl),
         omega (arith, s.bounded),
       )

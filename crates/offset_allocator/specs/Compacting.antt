@@ -32,7 +32,7 @@ abbrev pub AreSafe : List Move → Type 0
 AreSafe [] = Unit {0}
 AreSafe (m ∷ ms) = (m.to < m.from) × AllByRecursion (λ k. m.to + m.size ≤ k.from) ms × AreSafe ms
 
--- each live range keeps its size, and no other name comes to life
+-- each live range keeps its size, and no other name becomes live
 abbrev pub KeepsSizes : View → View → Type 0
 KeepsSizes v w = (x : ℕ) → option_map (λ (r : Range). r.size) (range_of x w) ≡ option_map (λ (r : Range). r.size) (range_of x v)
 

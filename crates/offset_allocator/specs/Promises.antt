@@ -9,7 +9,7 @@ use Rattle.offset_allocator.specs.Classes.{value, up}
 use Rattle.offset_allocator.specs.Reports.{count_of}
 use Rattle.offset_allocator.specs.Named.{View, names_at, free_sizes, total_free, largest_free}
 
--- c is the largest class whose bin has a name
+-- c is the largest class whose bin is not empty
 abbrev pub IsLargestClass : List (List ℕ) → ℕ → Type 0
 IsLargestClass ls c = (c < 256) × (names_at ls c ≡ [] → ⊥) × ((d : ℕ) → c < d → d < 256 → names_at ls d ≡ [])
 
@@ -38,7 +38,7 @@ units_needed size align = size + align - 1
 abbrev pub CanGrant : ℕ → ℕ → View → Type 0
 CanGrant blocks units v = HasRoomFor blocks v × ((c : ℕ) × (up units ≤ c) × (names_at v.order c ≢ []))
 
--- why such a request is refused: too few nodes, too few free units, or enough of them in too small pieces
+-- why such a request is refused: too few nodes, too few free units, or enough of them, but in no block of a class that is large enough
 abbrev pub IsWhy : ℕ → ℕ → View → Refusal → Type 0
 IsWhy blocks units v Nodes = v.max_allocs ≤ length v.blocks + blocks
 IsWhy blocks units v Space = HasRoomFor blocks v × (sum (free_sizes v.blocks) < units)

@@ -41,7 +41,7 @@ pub record Grants (n : ℕ) (v w : View) (h : Grant) : Type 0 where
   pub within : h.offset + n ≤ w.size
   -- and share no unit with a range that is live
   pub disjoint : (x : ℕ) (r : Range) → range_of x v ≡ Some r → AreDisjoint r (record { offset = h.offset; size = n })
-  -- all other ranges stay, and no other name comes to life
+  -- all other ranges stay, and no other name becomes live
   pub others : KeepsOthers h.name v w
 
 -- all ranges are as they were

@@ -112,6 +112,6 @@ pub record IsSplitNearBest (n : ℕ) (v : View) (g : Grant) : Type 0 where
   -- if a free block has at least 9/8 of n units, the block taken is at most 9/8 as large as that block
   pub fit : AllByRecursion (λ size. 9 * n ≤ 8 * size → 8 * place.block.size ≤ 9 * size) (free_sizes v.blocks)
 
--- an alignment that a request may ask for, a power of two: a divisor of 2 ^ 32, or one by std's words
+-- an alignment that a request may ask for, a power of two: a divisor of 2 ^ 32, or a power of two as std defines it
 abbrev pub IsAlignment : ℕ → Type 0
 IsAlignment align = (2 ^ 32 % align ≡ 0) ⊎ IsTrue (is_power_of_two align) ⊎ IsPowerOfTwo align

@@ -1,5 +1,5 @@
 //! A bin for each size class: the names of its free blocks, in a list of links between the nodes, with a two-level mask.
-ghost use Rattle.std.specs.Prelude.{◌≡◌, ◌+◌, ◌<◌, ◌≤◌, ◌≢◌, ℕ, List, [], ◌∷◌, slice_index, slice_set, length, MatchOption};
+ghost use Rattle.std.specs.Prelude.{◌≡◌, ◌+◌, ◌<◌, ◌≤◌, ◌≢◌, ℕ, List, [], ◌∷◌, slice_index, slice_set, length, replicate, MatchOption};
 ghost use Rattle.offset_allocator.specs.Classes.{down};
 ghost use Rattle.offset_allocator.specs.Named.{names_at, without, push, remove};
 ghost use Rattle.offset_allocator.specs.Promises.{IsLargestClass};
@@ -104,7 +104,7 @@ pub(crate) fn push<NI: NodeIndex>(
     }
 }
 
-// Clears the bit of a class, which no longer has a name.
+// Clears the bit of a class, whose bin is empty now.
 fn clear_class<NI: NodeIndex>(
     tables: &mut Tables<NI>,
     top_mask: &mut u32,
@@ -280,4 +280,25 @@ pub(crate) fn pop<NI: NodeIndex>(
     let after = tables.older(name, count);
     behead(tables, top_mask, class, after, count);
     name
+}
+
+/// Removes all names from all bins, by one write for each.
+pub(crate) fn empty<NI: NodeIndex>(
+    tables: &mut Tables<NI>,
+    top_mask: &mut u32,
+    count: &mut Accesses,
+)
+    requires held { Binned NI.MAX tables.old.links top_mask.old }
+    ensures held { Binned NI.MAX tables.new.links top_mask.new }
+    ensures lists { class_lists NI.MAX tables.new.links ≡ replicate 256 [] }
+    ensures room { tables.new.room ≡ tables.old.room }
+    ensures accesses { count.new ≡ count.old + 260 }
+{
+    for class in 0..256 {
+        tables.set_head(class, no_link(), count);
+    }
+    for word in 0..4 {
+        tables.set_mask(word, 0, count);
+    }
+    *top_mask = 0;
 }

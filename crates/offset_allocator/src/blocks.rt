@@ -16,7 +16,7 @@ use std::marker::Model;
 /// A block of a space.
 #[derive(Clone, Copy, PartialEq, Debug)]
 pub struct Block<NI: NodeIndex = u32, N: NodeIndexNonMax = <NI as NodeIndex>::NonMax> {
-    /// The place of its first unit.
+    /// Where it begins, in units from the start of the space.
     pub offset: u32,
     /// The number of its units.
     pub size: u32,

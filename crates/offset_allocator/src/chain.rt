@@ -1,8 +1,8 @@
 //! The blocks of the space, linked in space order, and the stack of unused names.
 
-ghost use Rattle.std.specs.Prelude.{ℕ, ◌≡◌, ◌+◌, ◌-◌, ◌<◌, ◌≤◌, ◌^◌, List, [], ◌∷◌, ◌++◌, length, MatchOption, IfSome, false, Some};
+ghost use Rattle.std.specs.Prelude.{ℕ, ◌≡◌, ◌+◌, ◌-◌, ◌<◌, ◌≤◌, ◌^◌, List, [], ◌∷◌, ◌++◌, length, false, Some};
 ghost use Rattle.offset_allocator.specs.Named.{Block, Place, free_block, is_used_at, count_named, place_of, units};
-ghost use Rattle.offset_allocator.specs.Cells.{AreEmpty, node, put, link_of};
+ghost use Rattle.offset_allocator.specs.Cells.{AreEmpty, node};
 ghost use Rattle.offset_allocator.specs.Space.{IsSpace, HasPlace, blocks, coalesced_before, coalesced_after};
 
 use crate::accesses::Accesses;
@@ -57,7 +57,7 @@ pub(crate) fn is_used<NI: NodeIndex>(tables: &Tables<NI>, name: u32, count: &mut
     tables.used(name, count)
 }
 
-/// The name of the block directly before a block, if one is.
+/// The name of the block directly before a block, if there is one.
 pub(crate) fn before<NI: NodeIndex>(
     tables: &Tables<NI>,
     name: u32,
@@ -70,7 +70,7 @@ pub(crate) fn before<NI: NodeIndex>(
     linked(tables.before(name, count))
 }
 
-/// The name of the block directly after a block, if one is.
+/// The name of the block directly after a block, if there is one.
 pub(crate) fn after<NI: NodeIndex>(
     tables: &Tables<NI>,
     name: u32,

@@ -4,8 +4,7 @@ ghost use Rattle.std.specs.List.{FoldsTo};
 ghost use Rattle.offset_allocator.specs.Cells.{node};
 ghost use Rattle.offset_allocator.specs.Named.{Place, Block, free_block, units};
 ghost use Rattle.offset_allocator.specs.Space.{IsSpace, HasPlace, blocks};
-ghost use Rattle.offset_allocator.specs.Orders.{Binned, class_lists};
-ghost use Rattle.offset_allocator.specs.State.{AreFiled, free_units};
+ghost use Rattle.offset_allocator.specs.State.{free_units};
 ghost use Rattle.offset_allocator.specs.Compacting.{live, moves, move_of, Compacts, KeepsSizes, IsCalledWith, first_free};
 
 use crate::accesses::Accesses;
@@ -23,7 +22,7 @@ pub struct Move<NI: NodeIndex = u32, N: NodeIndexNonMax = <NI as NodeIndex>::Non
     name: N,
     /// The offset that the range had.
     pub from: u32,
-    /// The offset that it has now.
+    /// The offset that it has after the move.
     pub to: u32,
     /// Its units.
     pub size: u32,
@@ -40,12 +39,11 @@ impl<NI: NodeIndex, N: NodeIndexNonMax> Move<NI, N> {
     }
 }
 
-// The name of the first free block, if one is free. It is found from the end on, since only the last block is known.
+// The name of the first free block, if there is one. It is found from the end on, since only the last block is known.
 fn first_free<NI: NodeIndex>(tables: &Tables<NI>, last: u32, count: &mut Accesses) -> Option<u32>
     requires space { (spare : ℕ) × IsSpace tables.now.room last spare }
     ensures first { result ≡ first_free (blocks tables.now.room last) }
-    ensures accesses_kept { count.old ≤ count.new }
-    ensures accesses_max { count.new ≤ count.old + 2 * length (blocks tables.now.room last) }
+    ensures accesses { count.new ≡ count.old + 2 * length (blocks tables.now.room last) }
 {
     let mut first = None;
     let mut at = Some(last);
@@ -58,8 +56,7 @@ fn first_free<NI: NodeIndex>(tables: &Tables<NI>, last: u32, count: &mut Accesse
     first
 }
 
-// Exchanges a free block, which is in no bin, with the used block directly after it. The name of the free block is
-// returned, which may be another one then.
+// Exchanges a free block with the used block directly after it. The name that the free block has then is returned.
 fn pass<NI: NodeIndex>(
     store: &mut Store<NI>,
     hole: u32,
@@ -100,38 +97,6 @@ fn pass<NI: NodeIndex>(
     )
 }
 
-// Coalesces a free block, which is in no bin, with the free block directly after it.
-fn absorb<NI: NodeIndex>(store: &mut Store<NI>, hole: u32, size: u32, next: u32, more: u32)
-    requires place { (m : ℕ) × (p : Place) × HasPlace store.old.tables.room m store.old.last store.old.spare_count hole p × AreFiled (p.before ++ p.after) (class_lists NI.MAX store.old.tables.links) }
-    requires held { Binned NI.MAX store.old.tables.links store.old.top_mask }
-    requires size { size ≡ (node store.old.tables.room hole).size }
-    requires next { Some next ≡ (node store.old.tables.room hole).after }
-    requires free { (node store.old.tables.room next).used ≡ false }
-    requires more { more ≡ (node store.old.tables.room next).size }
-    ensures place { (m : ℕ) (p : Place) (b : Block) (bs : List Block) → HasPlace store.old.tables.room m store.old.last store.old.spare_count hole p → p.after ≡ b ∷ bs → HasPlace store.new.tables.room m store.new.last store.new.spare_count hole (record { before = p.before; block = record p.block { size = p.block.size + b.size }; after = bs }) }
-    ensures held { Binned NI.MAX store.new.tables.links store.new.top_mask }
-    ensures filed { (m : ℕ) (p : Place) (b : Block) (bs : List Block) → HasPlace store.old.tables.room m store.old.last store.old.spare_count hole p → AreFiled (p.before ++ p.after) (class_lists NI.MAX store.old.tables.links) → p.after ≡ b ∷ bs → AreFiled (p.before ++ bs) (class_lists NI.MAX store.new.tables.links) }
-    ensures accesses_kept { store.old.accesses ≤ store.new.accesses }
-    ensures accesses_max { store.new.accesses ≤ store.old.accesses + 10 }
-{
-    bins::remove(
-        &mut store.tables,
-        &mut store.top_mask,
-        next,
-        more,
-        &mut store.accesses,
-    );
-    chain::coalesce_after(
-        &mut store.tables,
-        &mut store.last,
-        &mut store.spare_count,
-        hole,
-        next,
-        size + more,
-        &mut store.accesses,
-    );
-}
-
 // Calls the closure with the move of a block, where it gets another offset.
 fn report<NI: NodeIndex, F: FnMut(Move<NI>)>(
     moved: &mut F,
@@ -157,25 +122,24 @@ fn report<NI: NodeIndex, F: FnMut(Move<NI>)>(
     });
 }
 
-// Slides the used blocks after a free block, which is in no bin, to the front, and coalesces it with the free ones, until
-// it is the last block. Its name and its size are returned.
+// Slides the used blocks after a free block to the front, and coalesces it with the free ones, until it is the last block.
+// Its name and its size are returned. The bins stay as they are.
 fn slide<NI: NodeIndex, F: FnMut(Move<NI>)>(
     store: &mut Store<NI>,
     mut hole: u32,
     mut size: u32,
     moved: &mut F,
 ) -> (u32, u32)
-    requires place { (m : ℕ) × (p : Place) × HasPlace store.old.tables.room m store.old.last store.old.spare_count hole p × (p.block.used ≡ false) × AreFiled (p.before ++ p.after) (class_lists NI.MAX store.old.tables.links) }
-    requires held { Binned NI.MAX store.old.tables.links store.old.top_mask }
+    requires place { (m : ℕ) × (p : Place) × HasPlace store.old.tables.room m store.old.last store.old.spare_count hole p × (p.block.used ≡ false) }
     requires size { size ≡ (node store.old.tables.room hole).size }
     requires callable { F.IsAlwaysCallable moved.old }
-    ensures place { (m : ℕ) (p : Place) → HasPlace store.old.tables.room m store.old.last store.old.spare_count hole p → p.block.used ≡ false → AreFiled (p.before ++ p.after) (class_lists NI.MAX store.old.tables.links)
+    ensures place { (m : ℕ) (p : Place) → HasPlace store.old.tables.room m store.old.last store.old.spare_count hole p → p.block.used ≡ false
         → HasPlace store.new.tables.room m store.new.last store.new.spare_count result.0 (record { before = p.before ++ live p.after; block = free_block result.0 result.1; after = [] })
         × (result.1 ≡ p.block.size + free_units p.after)
-        × AreFiled (p.before ++ live p.after) (class_lists NI.MAX store.new.tables.links)
         × FoldsTo (IsCalledWith NI.NonMax.number (λ f range g. F.step f range tt g)) moved.old (moves (units p.before + p.block.size) (units p.before) p.after) moved.new
         × (store.new.accesses ≤ store.old.accesses + 20 * length p.after + 1) }
-    ensures held { Binned NI.MAX store.new.tables.links store.new.top_mask }
+    ensures links { store.new.tables.links ≡ store.old.tables.links }
+    ensures mask { store.new.top_mask ≡ store.old.top_mask }
     ensures accesses_kept { store.old.accesses ≤ store.new.accesses }
 {
     store.tables.shape();
@@ -186,8 +150,16 @@ fn slide<NI: NodeIndex, F: FnMut(Move<NI>)>(
             hole = pass(store, hole, to, size, next, more);
             report(moved, next, to + size, to, more);
         } else {
-            absorb(store, hole, size, next, more);
             size += more;
+            chain::coalesce_after(
+                &mut store.tables,
+                &mut store.last,
+                &mut store.spare_count,
+                hole,
+                next,
+                size,
+                &mut store.accesses,
+            );
         }
     }
     (hole, size)
@@ -199,8 +171,8 @@ impl<NI: NodeIndex> Allocator<NI> {
     /// to `to`, as `copy_within` does. In this order no copy writes on a unit that a later one reads.
     ///
     /// Every handle stays live, with its size; only the public `offset` of a moved one is that of before, and
-    /// `allocation_offset` returns the new one. It makes at most 24 accesses to the tables for each block, and 512, and takes
-    /// no memory.
+    /// `allocation_offset` returns the new one. `moved` has to be callable with any move: its contract may require nothing of
+    /// it. It makes at most 24 accesses to the tables for each block, and 512, and takes no memory.
     pub fn compact<F: FnMut(Move<NI>)>(&mut self, moved: &mut F)
         requires callable { F.IsAlwaysCallable moved.old }
         // The live blocks keep their names, their sizes and their order: so every handle stays live, with its size.
@@ -208,8 +180,8 @@ impl<NI: NodeIndex> Allocator<NI> {
         ensures sizes { KeepsSizes self.old self.new }
         // The closure is called with the moves, in space order.
         ensures moved { FoldsTo (IsCalledWith NI.NonMax.number (λ f range g. F.step f range tt g)) moved.old (moves 0 0 self.old.blocks) moved.new }
-        // It makes at most 24 accesses to table cells for each block, and 512.
-        ensures accesses_kept { self.old.accesses ≤ self.new.accesses }
+        // It makes at least 2 accesses to table cells for each block, and at most 24 for each and 512.
+        ensures accesses_min { self.old.accesses + 2 * length self.old.blocks ≤ self.new.accesses }
         ensures accesses_max { self.new.accesses ≤ self.old.accesses + 24 * length self.old.blocks + 512 }
         // The step as a whole: the live blocks, and after them one free block of all free units, alone in its bin.
         ensures step { Compacts self.old self.new }
@@ -222,11 +194,9 @@ impl<NI: NodeIndex> Allocator<NI> {
             return;
         };
         let units = chain::size(&self.store.tables, first, &mut self.store.accesses);
-        bins::remove(
+        bins::empty(
             &mut self.store.tables,
             &mut self.store.top_mask,
-            first,
-            units,
             &mut self.store.accesses,
         );
         let (hole, size) = slide(&mut self.store, first, units, moved);

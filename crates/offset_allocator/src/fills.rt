@@ -5,7 +5,7 @@ ghost use Rattle.std.specs.List.{range_with_len};
 use crate::index::NodeIndex;
 use std::alloc::{AllocError, Global};
 
-/// Requests the bytes of all tables at once, and returns them. A system that promises more memory than it has would
+/// Requests the bytes of all tables at once, and gives them back at once. A system that promises more memory than it has would
 /// grant each table, and end the program when they are filled; this one request it refuses. A link is taken to have
 /// the bytes that its numbers need, as those of `u16` and `u32` have.
 pub(crate) fn probe<NI: NodeIndex>(alloc: Global, nodes: u32) -> Result<(), AllocError> {

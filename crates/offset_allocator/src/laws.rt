@@ -57,7 +57,7 @@ pub fn sizes_add_up<NI: NodeIndex>(allocator: &Allocator<NI>)
     allocator.formed();
 }
 
-/// The granted ranges lie in the space, and no two of them have a unit in common.
+/// The live ranges lie in the space, and no two of them have a unit in common.
 pub fn ranges_are_disjoint<NI: NodeIndex>(allocator: &Allocator<NI>)
     ensures within { (x : ℕ) (r : Range) → range_of x allocator.now ≡ Some r → r.offset + r.size ≤ allocator.now.size }
     ensures disjoint { (x y : ℕ) (r s : Range) → x ≢ y
@@ -66,7 +66,7 @@ pub fn ranges_are_disjoint<NI: NodeIndex>(allocator: &Allocator<NI>)
     allocator.formed();
 }
 
-/// Between two granted ranges, and at each end of the space, there is at most one free block.
+/// Between two live ranges, and at each end of the space, there is at most one free block.
 pub fn no_free_neighbours<NI: NodeIndex>(allocator: &Allocator<NI>)
     ensures { (before run after : List Block) → allocator.now.blocks ≡ before ++ (run ++ after)
         → AllByRecursion (λ b. b.used ≡ false) run → length run ≤ 1 }
@@ -74,7 +74,7 @@ pub fn no_free_neighbours<NI: NodeIndex>(allocator: &Allocator<NI>)
     allocator.formed();
 }
 
-/// At most `max_allocs - 2` ranges are granted.
+/// At most `max_allocs - 2` ranges are live.
 pub fn few_are_live<NI: NodeIndex>(allocator: &Allocator<NI>)
     ensures { tally (λ b. one b.used) allocator.now.blocks + 2 ≤ allocator.now.max_allocs }
 {
@@ -98,7 +98,7 @@ pub fn a_fresh_space_grants()
         → CanGrant 1 n v ↔ (value (up n) ≤ size) }
 {}
 
-/// The units before an aligned grant take its offset to a multiple of the alignment, and fewer would not.
+/// The padding of an aligned grant takes its offset to a multiple of the alignment, and fewer units would not.
 pub fn padding_is_least()
     ensures reaches { (align offset : ℕ) → 1 ≤ align → (offset + padding_to align offset) % align ≡ 0 }
     ensures smallest { (align offset k : ℕ) → 1 ≤ align → (offset + k) % align ≡ 0 → padding_to align offset ≤ k }

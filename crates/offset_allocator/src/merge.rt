@@ -1,4 +1,4 @@
-//! Coalesces a block with the free blocks beside it, and puts the whole block on its bin.
+//! Coalesces a block with the free blocks beside it, and pushes the whole block onto its bin.
 ghost use Rattle.std.specs.Prelude.{ℕ, ◌≡◌, ◌+◌, ◌≤◌, ◌++◌, [], Some, false, length, MatchOption};
 ghost use Rattle.offset_allocator.specs.Classes.{down};
 ghost use Rattle.offset_allocator.specs.Cells.{node};
@@ -14,7 +14,7 @@ use crate::store::Store;
 use crate::tables::Tables;
 use crate::{bins, chain};
 
-// The name of a free block directly before a block, if one is.
+// The name of a free block directly before a block, if there is one.
 #[inline(always)]
 fn free_before<NI: NodeIndex>(tables: &Tables<NI>, name: u32, count: &mut Accesses) -> Option<u32>
     requires place { (m last spare : ℕ) × (p : Place) × HasPlace tables.now.room m last spare name p }
@@ -30,7 +30,7 @@ fn free_before<NI: NodeIndex>(tables: &Tables<NI>, name: u32, count: &mut Access
     None
 }
 
-/// The name of a free block directly after a block, if one is.
+/// The name of a free block directly after a block, if there is one.
 #[inline(always)]
 pub(crate) fn free_after<NI: NodeIndex>(
     tables: &Tables<NI>,

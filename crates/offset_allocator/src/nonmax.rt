@@ -22,7 +22,7 @@ impl Model for NonMaxU32 {
 }
 
 impl NonMaxU32 {
-    /// The number, unless it is the largest.
+    /// The name of this number, or `None` for 4294967295.
     pub fn new(value: u32) -> Option<Self>
         ensures { MatchOption result (value ≡ 4294967295) (λ n. (value < 4294967295) × (n ≡ value)) }
     {
@@ -145,7 +145,7 @@ impl Model for NonMaxU16 {
 }
 
 impl NonMaxU16 {
-    /// The number, unless it is the largest.
+    /// The name of this number, or `None` for 65535.
     pub fn new(value: u16) -> Option<Self>
         ensures { MatchOption result (value ≡ 65535) (λ n. (value < 65535) × (n ≡ value)) }
     {

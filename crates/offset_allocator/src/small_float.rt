@@ -11,8 +11,8 @@ pub const MANTISSA_VALUE: u32 = 8;
 /// The bits of the mantissa.
 pub const MANTISSA_MASK: u32 = 7;
 
-/// The smallest class whose value is at least `size` units. It is at most 240, which no block is of: a
-/// size above 4026531840 fits no class that a 32-bit size reaches.
+/// The smallest class whose value is at least `size` units. For a size above 4026531840 it is 240, a class that no block
+/// has.
 #[inline]
 pub fn uint_to_float_round_up(size: u32) -> u32
     ensures is { result ≡ up size }

@@ -1,4 +1,5 @@
-//! The private methods that the public calls are made of. Each leaves an allocator whose blocks and bins agree.
+//! The private methods that the public calls are made of, and two functions that they share. Each method leaves an
+//! allocator whose blocks and bins agree.
 ghost use Rattle.std.specs.Prelude.{◌≡◌, ◌↔◌, ◌+◌, ◌<◌, ◌≤◌, None, false, true, IsTrue, IsSome, IfSome};
 ghost use Rattle.offset_allocator.specs.Classes.{up};
 ghost use Rattle.offset_allocator.specs.Cells.{AreEmpty};

@@ -1,4 +1,4 @@
-//! The tables, with the numbers that say where their lists begin.
+//! The tables, with the numbers that belong to them.
 
 use crate::accesses::Accesses;
 use crate::index::NodeIndex;

@@ -1,7 +1,7 @@
-//! The cells: the only place that reads or writes them. A function on cells touches those, and counts each;
+//! The tables: no other module reads or writes their cells. A function on single cells counts each that it touches;
 //! `with_len` and `clear` go over whole tables, and count none.
 
-ghost use Rattle.std.specs.Prelude.{◌≡◌, ◌+◌, ◌<◌, ◌≤◌, [], false, Some, length, map, replicate, slice_set, slice_index, vec_capacity, IfOk};
+ghost use Rattle.std.specs.Prelude.{◌≡◌, ◌+◌, ◌<◌, ◌≤◌, false, Some, length, slice_set, slice_index, IfOk};
 ghost use Rattle.offset_allocator.specs.Cells.{AreEmpty, AreShaped, link_of, node, put, with_spare};
 
 use crate::accesses::Accesses;
@@ -328,7 +328,7 @@ impl<NI: NodeIndex> Tables<NI> {
         self.heads[class as usize] = link;
     }
 
-    /// A word of the masks: bit `c % 64` of word `c / 64` says whether class c has a node.
+    /// A word of the masks: bit `c % 64` of word `c / 64` says whether the bin of class c is not empty.
     pub(crate) fn mask(&self, word: u32, count: &mut Accesses) -> u64
         requires { word < 4 }
         ensures cell { result ≡ slice_index self.now.links.masks word }

@@ -13,7 +13,8 @@ use std::fmt;
 pub enum ScriptFault {
     /// The text has more than 1,048,576 bytes.
     TooLong,
-    /// The first line that is neither empty nor a comment is no header, or there is no such line.
+    /// The first line that is neither empty nor a comment is no header; or there is no such line, and the number is one
+    /// more than that of line ends.
     BadHeader(u32),
     /// The header's node limit is below 2, or above what its index width admits.
     BadLimit(u32),
@@ -56,7 +57,6 @@ pub enum RunFault {
 impl RunFault {
     /// The status that a program ends with: 2 for a text that is no script, 3 for memory, and 4 for a device.
     pub fn status(&self) -> u8
-        // The status of this fault: 2, 3 or 4.
         ensures { result ≡ fault_status self.now }
     {
         match self {

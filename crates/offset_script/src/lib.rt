@@ -1,4 +1,4 @@
-//! Scripts of calls to an allocator: it reads them, plays them, and writes their answers.
+//! Reads scripts of calls to an allocator, plays them, and writes their answers.
 #![tactic(auto)]
 
 mod answers;

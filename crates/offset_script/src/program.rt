@@ -15,8 +15,8 @@ use std::alloc::Global;
 /// Runs a script by `run`, writes the line of a fault to `errors`, and returns the status to exit with.
 ///
 /// The status is 0 exactly where the run is `Ok`, 2 where the text is no script, 3 where an allocation failed, and 4
-/// where the source or the sink failed. A run that is `Ok` leaves `errors` as it was. A failure of `errors` changes no
-/// status, and its line needs no memory.
+/// where the source or the sink failed. A run that is `Ok` leaves `errors` as it was. A failure of `errors` does not
+/// change the status. To write the line takes no memory.
 pub fn run_program<S: Source, K: Sink, E: Sink>(
     alloc: Global,
     input: &mut S,

@@ -74,7 +74,7 @@ fn command(line: &[u8]) -> Option<Command>
         return number_command(name, number(first)?);
     };
     let (second, rest) = split_once(rest, b' ');
-    if let Some(_more) = rest {
+    if rest.is_some() {
         return None;
     }
     pair_command(name, number(first)?, number(second)?)
@@ -104,7 +104,7 @@ fn header(line: &[u8]) -> Option<Header>
     let (max_allocs, rest) = split_once(rest?, b' ');
     let (index, rest) = split_once(rest?, b' ');
     let (bits, rest) = split_once(rest?, b' ');
-    if let Some(_more) = rest {
+    if rest.is_some() {
         return None;
     }
     if space != b"space".as_slice()

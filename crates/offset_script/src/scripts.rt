@@ -8,7 +8,7 @@ ghost use Rattle.offset_script.specs.Grammar.{largest_limit, has_valid_alignment
 pub enum Command {
     /// Requests this number of units.
     Alloc(u32),
-    /// Releases the grant of this number.
+    /// Frees the range of the grant of this number.
     Free(u32),
     /// Asks for the size of the grant of this number.
     Size(u32),

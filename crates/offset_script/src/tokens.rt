@@ -8,7 +8,7 @@ ghost use Rattle.offset_script.specs.Grammar.{parts, number_of};
 /// The most digits that a number has.
 pub const MOST_DIGITS: usize = 10;
 
-// The place of the first such byte.
+// The index of the first byte `at`, if there is one.
 fn place_of(text: &[u8], at: u8) -> Option<usize>
     ensures { result ≡ position (λ b. b == at) text.now }
 {

@@ -8,7 +8,7 @@ ghost use Rattle.offset_allocator.specs.Ranges.{Range, range_of, size_of, KeepsA
 ghost use Rattle.offset_allocator.specs.Relations.{Allocates, Frees, SameSpace, Resets};
 ghost use Rattle.offset_allocator.specs.Promises.{CanGrant, IsWhy};
 ghost use Rattle.offset_allocator.specs.Resizing.{CanShrink, CanGrow, HasUnits};
-ghost use Rattle.offset_allocator.specs.Compacting.{KeepsSizes};
+ghost use Rattle.offset_allocator.specs.Compacting.{Compacts, KeepsSizes};
 
 use offset_allocator::{Allocation, Allocator, Move, Refusal, laws};
 
@@ -27,6 +27,7 @@ pub fn insert(
     ensures refused { result ≡ None → KeepsAll vertices.old vertices.new × KeepsAll indices.old indices.new }
     ensures granted { 1 ≤ vertex_count → 1 ≤ index_count
         → (IsSome result ↔ ((vertex_count ≤ largest_free vertices.old) × (index_count ≤ largest_free indices.old))) }
+    ensures sizes { (vertices.new.size ≡ vertices.old.size) × (indices.new.size ≡ indices.old.size) }
 {
     let first = vertices.allocate(vertex_count)?;
     match indices.allocate(index_count) {
@@ -63,6 +64,7 @@ pub fn upload(heap: &mut Allocator, size: u32, align: u32) -> Option<Allocation>
     ensures refused { result ≡ None → KeepsAll heap.old heap.new }
     ensures granted { IsTrue (is_power_of_two align)
         → (IsSome result ↔ CanGrant (min align 2) (size + align - 1) heap.old) }
+    ensures size { heap.new.size ≡ heap.old.size }
 {
     if !align.is_power_of_two() {
         return None;
@@ -72,14 +74,16 @@ pub fn upload(heap: &mut Allocator, size: u32, align: u32) -> Option<Allocation>
 
 /// Allocates `size` units, in a space that grows by `more` units where too few are free.
 ///
-/// The error says why the request is refused, and so what is left to do: where the space is fragmented, move ranges
-/// together; where no node is left, use another space. Then no live range has changed.
+/// The error says why the request is refused, and so what is left to do: where the space is fragmented, `compact` it, or
+/// extend it where all free units are one block; where no node is left, use another space. Then no live range has
+/// changed, but the space may have grown.
 pub fn place(space: &mut Allocator, size: u32, more: u32) -> Result<Allocation, Refusal>
     ensures range { IfOk result (λ h. range_of h.name space.new ≡ Some (record { offset = h.offset; size = size })) }
     ensures why { IfErr result (IsWhy 1 size space.new) }
     ensures grown { IfErr result (λ _. IsWhy 1 size space.old Refusal.Space → space.old.size + more ≤ 4294967295 → space.new.size ≡ space.old.size + more) }
     ensures others { IfOk result (λ h. KeepsOthers h.name space.old space.new) }
     ensures refused { IfErr result (λ _. KeepsAll space.old space.new) }
+    ensures kept { (IsWhy 1 size space.old Refusal.Space → ⊥) → space.new.size ≡ space.old.size }
 {
     if space.refusal(size) == Some(Refusal::Space) {
         // where it cannot grow, the next call of `refusal` says so
@@ -94,9 +98,10 @@ pub fn place(space: &mut Allocator, size: u32, more: u32) -> Result<Allocation, 
 /// Moves all live ranges of a buffer to its front, each with its data.
 ///
 /// Every handle stays live, with its size; `allocation_offset` returns where its range begins then. A request that was
-/// refused as fragmented can be granted afterwards.
+/// refused as fragmented can be granted afterwards. That each range holds the same data then is proved in `pool.rt`.
 pub fn defragment(space: &mut Allocator, buffer: &mut [u32])
     ensures sizes { KeepsSizes space.old space.new }
+    ensures step { Compacts space.old space.new }
 {
     space.compact(&mut |range: Move| {
         let from = range.from as usize;
@@ -119,7 +124,7 @@ pub fn first_byte(vertices: &Allocator, mesh: Allocation, stride: u32) -> Option
 }
 
 /// Changes the number of vertices of a mesh in place: it gives the last ones back, or takes those that are free directly
-/// after it. It returns whether the mesh has `size` vertices then; if not, nothing has changed.
+/// after it. The handle has to be live. It returns whether the mesh has `size` vertices then; if not, nothing has changed.
 pub fn resize(vertices: &mut Allocator, mesh: Allocation, size: u32) -> bool
     requires live { IsLive mesh.name vertices.old }
     ensures shrunk { size < size_of mesh.name vertices.old → (IsTrue result ↔ CanShrink mesh.name size vertices.old) }
@@ -127,6 +132,7 @@ pub fn resize(vertices: &mut Allocator, mesh: Allocation, size: u32) -> bool
     ensures range { IsTrue result → HasUnits mesh.name size vertices.old vertices.new }
     ensures others { KeepsOthers mesh.name vertices.old vertices.new }
     ensures same { result ≡ false → SameSpace vertices.old vertices.new }
+    ensures size { vertices.new.size ≡ vertices.old.size }
 {
     if size < vertices.allocation_size(mesh) {
         vertices.shrink(mesh, size)

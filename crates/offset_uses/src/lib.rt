@@ -49,7 +49,7 @@ pub fn place_mesh(
     }
 }
 
-/// States that the ranges of two live meshes share no vertex. It changes nothing.
+/// States that the ranges of two live meshes, whose handles have different names, share no vertex. It changes nothing.
 pub fn are_apart(vertices: &Allocator, one: Allocation, other: Allocation)
     requires distinct { one.name ≢ other.name }
     ensures { (r s : Range) → range_of one.name vertices.now ≡ Some r → range_of other.name vertices.now ≡ Some s → AreDisjoint r s }
@@ -73,7 +73,8 @@ pub fn place_promised(vertices: &mut Allocator, n: u32) -> Allocation
 
 /// Allocates `n` vertices, or as many as the report promises where these are fewer.
 ///
-/// It returns the handle and the number of vertices, or `None` where the report promises none.
+/// It returns the handle and the number of vertices, or `None` where the report promises none; then the space is as it
+/// was.
 pub fn place_what_fits(vertices: &mut Allocator, n: u32) -> Option<(Allocation, u32)>
     requires some { 1 ≤ n }
     ensures range { IfSome result (λ got. range_of got.0.name vertices.new ≡ Some (record { offset = got.0.offset; size = got.1 })) }
@@ -158,7 +159,8 @@ pub fn charge(space: &mut Allocator, tenant: &mut Tenant, n: u32) -> Option<Allo
     Some(allocation)
 }
 
-/// Frees a tenant's range, and subtracts its units from those that the tenant holds.
+/// Frees a tenant's range, and subtracts its units from those that the tenant holds. The handle has to be live, and the
+/// tenant has to hold at least the units of its range.
 pub fn refund(space: &mut Allocator, tenant: &mut Tenant, allocation: Allocation)
     requires live { IsLive allocation.name space.old }
     requires held { size_of allocation.name space.old ≤ tenant.old.held }
@@ -174,8 +176,9 @@ pub fn refund(space: &mut Allocator, tenant: &mut Tenant, allocation: Allocation
 
 /// Allocates `n` units for one frame, reads the report, and frees the units again.
 ///
-/// It returns the number of units that were free besides, or `None` where the request is refused. The space is then as
-/// it was, after at most 192 accesses to its tables, and at most 8 for the report, which `count` counts.
+/// It returns the free units that the report has while they are granted (0 at the node limit), or `None` where the
+/// request is refused. The space is then as it was, after at most 192 accesses to its tables, and at most 8 for the
+/// report, which `count` counts.
 pub fn frame<NI: NodeIndex>(space: &mut Allocator<NI>, n: u32, count: &mut Accesses) -> Option<u32>
     ensures granted { 1 ≤ n → (IsSome result ↔ (n ≤ largest_free space.old)) }
     ensures beside { IfSome result (λ left. (w : View) × (g : Grant) × Allocates n space.old w (Some g) × (left ≡ total_free w)) }

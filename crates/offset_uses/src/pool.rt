@@ -7,7 +7,7 @@ ghost use Rattle.offset_uses.specs.Pool.{HoldsSame, IsCopied};
 
 use offset_allocator::{Allocator, Move, laws};
 
-/// Copies `size` bytes from one place to a smaller one. Nothing changes where they are not within the buffer.
+/// Copies `size` bytes from one place to a smaller one, both in the buffer.
 fn copy_down(bytes: &mut [u8], from: u32, to: u32, size: u32)
     ensures copied { IsCopied from to size bytes.old bytes.new }
 {
@@ -17,8 +17,8 @@ fn copy_down(bytes: &mut [u8], from: u32, to: u32, size: u32)
     }
 }
 
-/// Slides all live ranges of a heap to its front, with their bytes. Every handle stays live, and its range holds the same
-/// bytes; where that begins now, `allocation_offset` returns.
+/// Slides all live ranges of a heap to its front, with their bytes. The buffer has to have a byte for each unit. Every
+/// handle stays live, and its range holds the same bytes; `allocation_offset` returns where it begins now.
 pub fn defragment(heap: &mut Allocator, bytes: &mut [u8])
     requires whole { heap.old.size ≤ length bytes.old }
     ensures same { (x : ℕ) → HoldsSame bytes.old bytes.new (range_of x heap.old) (range_of x heap.new) }

@@ -1,7 +1,8 @@
 //! Meshes in one vertex buffer. They are uploaded and removed until the free vertices are in pieces too small for the next
-//! mesh; then `compact` moves those that remain to the front of the buffer, while they stay in use.
+//! mesh; then `compact` moves those that remain to the front of the buffer, while they stay in use, and the mesh is
+//! uploaded after them.
 //!
-//! After each step every vertex of every mesh is checked.
+//! After each `compact`, and at the end, every vertex of every mesh is checked.
 
 use offset_allocator_proved::{AllocError, Allocation, Allocator, Global, Refusal};
 
@@ -82,6 +83,8 @@ fn main() -> Result<(), AllocError> {
                 let copied = pool.defragment();
                 let after = pool.space.storage_report();
                 assert_eq!(before.total_free_space, after.total_free_space);
+                // the report says whether the free units, now in one block, suffice
+                assert_eq!(pool.upload(step, vertices).is_ok(), vertices <= after.largest_free_region);
                 if times % 400 == 0 {
                     println!(
                         "step {step}: {} meshes, {} vertices free, the largest free region {} before and {} after, {copied} vertices copied",

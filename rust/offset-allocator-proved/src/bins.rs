@@ -76,7 +76,7 @@ pub(crate) fn push<NI: NodeIndex>(
     }
 }
 
-// Clears the bit of a class, which no longer has a name.
+// Clears the bit of a class, whose bin is empty now.
 fn clear_class<NI: NodeIndex>(
     tables: &mut Tables<NI>,
     top_mask: &mut u32,
@@ -192,4 +192,19 @@ pub(crate) fn pop<NI: NodeIndex>(
     let after = tables.older(name, count);
     behead(tables, top_mask, class, after, count);
     name
+}
+
+/// Removes all names from all bins, by one write for each.
+pub(crate) fn empty<NI: NodeIndex>(
+    tables: &mut Tables<NI>,
+    top_mask: &mut u32,
+    count: &mut Accesses,
+) {
+    for class in 0..256 {
+        tables.set_head(class, no_link(), count);
+    }
+    for word in 0..4 {
+        tables.set_mask(word, 0, count);
+    }
+    *top_mask = 0;
 }

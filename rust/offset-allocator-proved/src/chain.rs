@@ -33,7 +33,7 @@ pub(crate) fn is_used<NI: NodeIndex>(tables: &Tables<NI>, name: u32, count: &mut
     tables.used(name, count)
 }
 
-/// The name of the block directly before a block, if one is.
+/// The name of the block directly before a block, if there is one.
 pub(crate) fn before<NI: NodeIndex>(
     tables: &Tables<NI>,
     name: u32,
@@ -42,7 +42,7 @@ pub(crate) fn before<NI: NodeIndex>(
     linked(tables.before(name, count))
 }
 
-/// The name of the block directly after a block, if one is.
+/// The name of the block directly after a block, if there is one.
 pub(crate) fn after<NI: NodeIndex>(
     tables: &Tables<NI>,
     name: u32,

@@ -17,7 +17,7 @@ pub struct Move<NI: NodeIndex = u32, N: NodeIndexNonMax = <NI as NodeIndex>::Non
     name: N,
     /// The offset that the range had.
     pub from: u32,
-    /// The offset that it has now.
+    /// The offset that it has after the move.
     pub to: u32,
     /// Its units.
     pub size: u32,
@@ -32,7 +32,7 @@ impl<NI: NodeIndex, N: NodeIndexNonMax> Move<NI, N> {
     }
 }
 
-// The name of the first free block, if one is free. It is found from the end on, since only the last block is known.
+// The name of the first free block, if there is one. It is found from the end on, since only the last block is known.
 fn first_free<NI: NodeIndex>(tables: &Tables<NI>, last: u32, count: &mut Accesses) -> Option<u32> {
     let mut first = None;
     let mut at = Some(last);
@@ -45,8 +45,7 @@ fn first_free<NI: NodeIndex>(tables: &Tables<NI>, last: u32, count: &mut Accesse
     first
 }
 
-// Exchanges a free block, which is in no bin, with the used block directly after it. The name of the free block is
-// returned, which may be another one then.
+// Exchanges a free block with the used block directly after it. The name that the free block has then is returned.
 fn pass<NI: NodeIndex>(
     store: &mut Store<NI>,
     hole: u32,
@@ -76,26 +75,6 @@ fn pass<NI: NodeIndex>(
     )
 }
 
-// Coalesces a free block, which is in no bin, with the free block directly after it.
-fn absorb<NI: NodeIndex>(store: &mut Store<NI>, hole: u32, size: u32, next: u32, more: u32) {
-    bins::remove(
-        &mut store.tables,
-        &mut store.top_mask,
-        next,
-        more,
-        &mut store.accesses,
-    );
-    chain::coalesce_after(
-        &mut store.tables,
-        &mut store.last,
-        &mut store.spare_count,
-        hole,
-        next,
-        size + more,
-        &mut store.accesses,
-    );
-}
-
 // Calls the closure with the move of a block, where it gets another offset.
 fn report<NI: NodeIndex, F: FnMut(Move<NI>)>(
     moved: &mut F,
@@ -116,8 +95,8 @@ fn report<NI: NodeIndex, F: FnMut(Move<NI>)>(
     });
 }
 
-// Slides the used blocks after a free block, which is in no bin, to the front, and coalesces it with the free ones, until
-// it is the last block. Its name and its size are returned.
+// Slides the used blocks after a free block to the front, and coalesces it with the free ones, until it is the last block.
+// Its name and its size are returned. The bins stay as they are.
 fn slide<NI: NodeIndex, F: FnMut(Move<NI>)>(
     store: &mut Store<NI>,
     mut hole: u32,
@@ -132,8 +111,16 @@ fn slide<NI: NodeIndex, F: FnMut(Move<NI>)>(
             hole = pass(store, hole, to, size, next, more);
             report(moved, next, to + size, to, more);
         } else {
-            absorb(store, hole, size, next, more);
             size += more;
+            chain::coalesce_after(
+                &mut store.tables,
+                &mut store.last,
+                &mut store.spare_count,
+                hole,
+                next,
+                size,
+                &mut store.accesses,
+            );
         }
     }
     (hole, size)
@@ -145,8 +132,8 @@ impl<NI: NodeIndex> Allocator<NI> {
     /// to `to`, as `copy_within` does. In this order no copy writes on a unit that a later one reads.
     ///
     /// Every handle stays live, with its size; only the public `offset` of a moved one is that of before, and
-    /// `allocation_offset` returns the new one. It makes at most 24 accesses to the tables for each block, and 512, and takes
-    /// no memory.
+    /// `allocation_offset` returns the new one. `moved` has to be callable with any move: its contract may require nothing of
+    /// it. It makes at most 24 accesses to the tables for each block, and 512, and takes no memory.
     pub fn compact<F: FnMut(Move<NI>)>(&mut self, moved: &mut F) {
         let Some(first) = first_free(
             &self.store.tables,
@@ -156,11 +143,9 @@ impl<NI: NodeIndex> Allocator<NI> {
             return;
         };
         let units = chain::size(&self.store.tables, first, &mut self.store.accesses);
-        bins::remove(
+        bins::empty(
             &mut self.store.tables,
             &mut self.store.top_mask,
-            first,
-            units,
             &mut self.store.accesses,
         );
         let (hole, size) = slide(&mut self.store, first, units, moved);

@@ -1,7 +1,7 @@
 // Printed by rust/erase from crates/offset_allocator/src/counted.rt: change it there.
 
 //! The calls that leave an allocator as it is, with a count of their accesses. The plain calls are these with a count of
-//! their own, and `laws` shows them to callers.
+//! their own, and `laws` exports them.
 
 use crate::accesses::Accesses;
 use crate::blocks::{Block, Blocks};

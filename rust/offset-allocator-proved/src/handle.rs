@@ -9,7 +9,8 @@ use core::marker::PhantomData;
 /// A granted range. Its name distinguishes it from the other ranges of its space.
 #[derive(Copy)]
 pub struct Allocation<NI: NodeIndex = u32, N: NodeIndexNonMax = <NI as NodeIndex>::NonMax> {
-    /// The place of the range's first unit.
+    /// Where the range began when this handle was made, in units from the start of the space. `compact` does not change it:
+    /// `allocation_offset` returns where the range begins now.
     pub offset: u32,
     metadata: N,
     index: PhantomData<NI>,

@@ -38,17 +38,17 @@ pub fn sizes_add_up<NI: NodeIndex>(allocator: &Allocator<NI>) {
     allocator.formed();
 }
 
-/// The granted ranges lie in the space, and no two of them have a unit in common.
+/// The live ranges lie in the space, and no two of them have a unit in common.
 pub fn ranges_are_disjoint<NI: NodeIndex>(allocator: &Allocator<NI>) {
     allocator.formed();
 }
 
-/// Between two granted ranges, and at each end of the space, there is at most one free block.
+/// Between two live ranges, and at each end of the space, there is at most one free block.
 pub fn no_free_neighbours<NI: NodeIndex>(allocator: &Allocator<NI>) {
     allocator.formed();
 }
 
-/// At most `max_allocs - 2` ranges are granted.
+/// At most `max_allocs - 2` ranges are live.
 pub fn few_are_live<NI: NodeIndex>(allocator: &Allocator<NI>) {
     allocator.formed();
 }
@@ -62,7 +62,7 @@ pub fn a_full_space_refuses<NI: NodeIndex>(allocator: &Allocator<NI>) {
 /// of the class that the request is rounded up to: those that `min_allocator_size` returns.
 pub fn a_fresh_space_grants() {}
 
-/// The units before an aligned grant take its offset to a multiple of the alignment, and fewer would not.
+/// The padding of an aligned grant takes its offset to a multiple of the alignment, and fewer units would not.
 pub fn padding_is_least() {}
 
 /// The alignments that `allocate_aligned` admits are the powers of two.

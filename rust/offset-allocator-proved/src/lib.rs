@@ -8,8 +8,8 @@
 //! blocks, the one that became free last first.
 //!
 //! ```
-//! # use offset_allocator_proved::*;
-//! # let alloc = Global;
+//! use offset_allocator_proved::*;
+//! let alloc = Global;
 //! let mut vertices = Allocator::<u32>::new(alloc, 1 << 20)?;
 //! if let Some(mesh) = vertices.allocate(3000) {
 //!     // mesh.offset is the first vertex of the range
@@ -23,7 +23,7 @@
 #![warn(missing_docs)]
 #![expect(clippy::derivable_impls)] // an `impl Default` is where a contract says what the value is
 #![expect(clippy::manual_map)] // a `match` needs no closure, whose calls would need a proof
-#![expect(clippy::needless_range_loop)] // so is a loop over places proved in few words
+#![expect(clippy::needless_range_loop)] // a loop over places is proved in few words
 #![expect(clippy::too_many_arguments)] // functions over the tables take the numbers that they change one by one
 #![expect(unused_variables)] // a parameter may be there for a contract only
 
@@ -67,7 +67,7 @@ use core::fmt;
 use store::Store;
 use tables::Tables;
 
-/// One space, and what of it is granted.
+/// The allocator of one space.
 ///
 /// `NI` is the type of the links between nodes. It limits how many nodes there can be, and changes no result otherwise.
 pub struct Allocator<NI: NodeIndex = u32> {
@@ -79,7 +79,8 @@ pub struct Allocator<NI: NodeIndex = u32> {
 }
 
 impl<NI: NodeIndex> Allocator<NI> {
-    /// A space of `size` units, all free, with the smaller of 131072 and `NI::MAX - 2` as the node limit.
+    /// A space of `size` units, all free, with the smaller of 131072 and `NI::MAX - 2` as the node limit. A node costs as
+    /// much as in `with_max_allocs`.
     ///
     /// An error is returned only where an allocation failed; then nothing is made.
     pub fn new(alloc: Global, size: u32) -> Result<Self, AllocError> {
@@ -111,11 +112,11 @@ impl<NI: NodeIndex> Allocator<NI> {
         })
     }
 
-    /// Makes the whole space one free block again, in place. The block of every earlier handle is gone.
+    /// Makes the whole space one free block again, in place. No earlier handle is live then.
     ///
-    /// It takes no memory and always succeeds, and the space keeps what `extend` added. If fewer than
-    /// `max_allocs / 128` blocks exist, it frees each live range; otherwise it clears all use flags and
-    /// empties the bins.
+    /// It takes no memory and always succeeds, and the space keeps what `extend` added. If fewer than `max_allocs / 128`
+    /// blocks exist, it frees each live range; otherwise it clears all use flags, empties the bins and refills the stack of
+    /// unused names: 5 bytes a node with `u32`, 3 with `u16`.
     pub fn reset(&mut self) {
         // freeing a range takes about as long as going over 128 nodes
         if self.block_count() < self.max_allocs / 128 {
@@ -135,25 +136,25 @@ impl<NI: NodeIndex> Allocator<NI> {
         self.max_allocs
     }
 
-    /// The number of blocks, live and free.
+    /// The number of blocks, used and free.
     pub fn block_count(&self) -> u32 {
         self.max_allocs - self.store.spare_count
     }
 
-    /// Whether `max_allocs - 1` blocks exist. Then every request is refused, and the short report is 0, 0, until a
-    /// `free` coalesces or `reset` is called.
+    /// Whether `max_allocs - 1` blocks exist. Then every request is refused, and the short report is 0, 0, until blocks
+    /// coalesce (by `free`, `compact` or `reset`) or `grow_in_place` takes the whole of a free block.
     pub fn is_full(&self) -> bool {
         self.block_count() == self.max_allocs - 1
     }
 
-    /// Grants a range of `size` units: the first ones of a free block of the smallest size class that has one and whose
+    /// Grants a range of `size` units, and returns its handle. They are the first ones of a free block of the smallest size class that has one and whose
     /// blocks are all large enough, and of those blocks the one that became free last. What remains of the block stays
     /// free, directly after the range.
     ///
     /// `None` is returned where `max_allocs - 1` blocks exist, even for an exact fit, and where no free block is of such
     /// a class; then nothing changes. A request of at least one unit is granted exactly when it is at most the
-    /// `largest_free_region` that `storage_report` returns just before. It makes at most 64 accesses to the tables, and takes
-    /// no memory.
+    /// `largest_free_region` that `storage_report` returns just before. One of 0 units takes a node too, and needs a free
+    /// block of any size. It makes at most 64 accesses to the tables, and takes no memory.
     pub fn allocate(&mut self, size: u32) -> Option<Allocation<NI>> {
         self.serve(size, 1)
     }
@@ -161,9 +162,9 @@ impl<NI: NodeIndex> Allocator<NI> {
     /// Frees the range of a live handle. Its units are free at once, in one block with the free blocks directly before
     /// and after it, and that block is the newest of its bin.
     ///
-    /// The handle has to be live, which `is_live` says. Only its name counts, and not its public
-    /// `offset`: a stale handle whose name was granted again is live, and frees that range. It makes at
-    /// most 128 accesses to the tables, and takes no memory.
+    /// The handle has to be live, which `is_live` reports. Only its name counts, and not its public `offset`: a stale handle
+    /// whose name was granted again is live, and frees that range. It makes at most 128 accesses to the tables, and takes no
+    /// memory.
     pub fn free(&mut self, allocation: Allocation<NI>) {
         assert!(self.is_live(allocation), "the handle must be live");
         self.release(index::number(NI::of_nonmax(allocation.name())));
@@ -171,13 +172,15 @@ impl<NI: NodeIndex> Allocator<NI> {
 
     /// Whether the handle is live here: its name is the name of a used block. `free` asks for exactly this.
     ///
-    /// A handle whose block was freed is live again where a newer grant has its name.
+    /// A handle whose block was freed is live again where a newer grant has its name. It makes at most 8 accesses to the
+    /// tables.
     pub fn is_live(&self, allocation: Allocation<NI>) -> bool {
         counted::is_live_counted(self, allocation, &mut Accesses::new())
     }
 
-    /// The units of the range that a live handle has: exactly what was requested. It is 0 where the handle is not live,
-    /// and for a live range of no units too.
+    /// The units of the range that a live handle has: exactly those that `allocate`, `allocate_aligned`, `shrink` or
+    /// `grow_in_place` last gave it. It is 0 where the handle is not live, and for a live range of no units too. It makes at
+    /// most 8 accesses to the tables.
     pub fn allocation_size(&self, allocation: Allocation<NI>) -> u32 {
         counted::allocation_size_counted(self, allocation, &mut Accesses::new())
     }
@@ -185,8 +188,8 @@ impl<NI: NodeIndex> Allocator<NI> {
     /// Where the range of a live handle begins, in units from the start of the space, or `None` where the handle is not
     /// live.
     ///
-    /// The public `offset` of a handle is a copy, which a caller may have changed, and which a stale handle keeps. It makes
-    /// at most 8 accesses to the tables.
+    /// The public `offset` of a handle is a copy: a caller may have changed it, `compact` leaves it as it was, and a stale
+    /// handle keeps it. It makes at most 8 accesses to the tables.
     pub fn allocation_offset(&self, allocation: Allocation<NI>) -> Option<u32> {
         counted::allocation_offset_counted(self, allocation, &mut Accesses::new())
     }
@@ -202,12 +205,13 @@ impl<NI: NodeIndex> Allocator<NI> {
     }
 
     /// The free space in short: the units of all free blocks, and the largest request that would be granted. Both are
-    /// 0 where `max_allocs - 1` blocks exist.
+    /// 0 where `max_allocs - 1` blocks exist. It makes at most 8 accesses to the tables.
     pub fn storage_report(&self) -> StorageReport {
         counted::storage_report_counted(self, &mut Accesses::new())
     }
 
-    /// The free blocks, class by class, at the node limit too. It goes over all free blocks.
+    /// The free blocks, class by class, at the node limit too. It makes at most 512 accesses to the tables, and 2 for each
+    /// free block.
     pub fn storage_report_full(&self) -> StorageReportFull {
         counted::storage_report_full_counted(self, &mut Accesses::new())
     }
@@ -221,8 +225,8 @@ impl<NI: NodeIndex> Allocator<NI> {
 
     /// Why `allocate_aligned(size, align)` would be refused now, or `None` exactly where it would be granted.
     ///
-    /// If `align` is above 1, the request needs room for two more blocks, and a block for `size + align - 1` units. It makes
-    /// at most 8 accesses to the tables.
+    /// `align` has to be a power of two. If it is above 1, the request needs room for two more blocks, and a block for
+    /// `size + align - 1` units. It makes at most 8 accesses to the tables.
     pub fn refusal_aligned(&self, size: u32, align: u32) -> Option<Refusal> {
         assert!(align.is_power_of_two(), "align must be a power of two");
         counted::refusal_aligned_counted(self, size, align, &mut Accesses::new())
@@ -240,7 +244,8 @@ impl<NI: NodeIndex> Allocator<NI> {
         self.serve(size, align)
     }
 
-    /// Adds `more` units at the end of the space: to the last block where that is free, or else as a new free block.
+    /// Adds `more` units at the end of the space: to the last block where that is free, or else as a new free block. That
+    /// block is then the newest of its bin.
     ///
     /// `false` is returned where the space would have more than 4294967295 units, and where its last block is used and
     /// no further block may exist; then nothing changes. With 0 units it is `true`. It makes at most 128 accesses to the

@@ -1,6 +1,6 @@
 // Printed by rust/erase from crates/offset_allocator/src/merge.rt: change it there.
 
-//! Coalesces a block with the free blocks beside it, and puts the whole block on its bin.
+//! Coalesces a block with the free blocks beside it, and pushes the whole block onto its bin.
 
 use crate::accesses::Accesses;
 use crate::index::NodeIndex;
@@ -9,7 +9,7 @@ use crate::store::Store;
 use crate::tables::Tables;
 use crate::{bins, chain};
 
-// The name of a free block directly before a block, if one is.
+// The name of a free block directly before a block, if there is one.
 #[inline(always)]
 fn free_before<NI: NodeIndex>(tables: &Tables<NI>, name: u32, count: &mut Accesses) -> Option<u32> {
     if let Some(previous) = chain::before(tables, name, count) {
@@ -20,7 +20,7 @@ fn free_before<NI: NodeIndex>(tables: &Tables<NI>, name: u32, count: &mut Access
     None
 }
 
-/// The name of a free block directly after a block, if one is.
+/// The name of a free block directly after a block, if there is one.
 #[inline(always)]
 pub(crate) fn free_after<NI: NodeIndex>(
     tables: &Tables<NI>,

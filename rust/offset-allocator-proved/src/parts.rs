@@ -9,7 +9,7 @@ use crate::store::Store;
 use crate::tables::Tables;
 use crate::{bins, chain};
 
-// Splits the first units off a block: they become a free block in its bin, under the name that is returned. Where they
+// Splits the first units off a block: they become a free block in its bin, under the name that is returned. Where there
 // are none, nothing changes, and the name returned is that of the block.
 #[inline(always)]
 fn split_padding<NI: NodeIndex>(store: &mut Store<NI>, name: u32, units: u32) -> u32 {

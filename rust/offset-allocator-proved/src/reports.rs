@@ -14,15 +14,16 @@ pub struct StorageReport {
     pub largest_free_region: u32,
 }
 
-/// Why a request is refused.
+/// Why a request is refused: the first of these that applies.
 #[derive(Clone, Copy, Debug, PartialEq)]
 pub enum Refusal {
-    /// No further block may exist, or for an aligned request no two. Take another space, or free ranges first.
+    /// There is no room for one more block, or for two more where an aligned request needs them. Use another space, free
+    /// ranges that have free neighbours, or compact a space of several free blocks.
     Nodes,
-    /// The request needs more units than all free blocks have together. Extend the space, or free ranges first.
+    /// The request needs more units than all free blocks have together. Extend the space, or free ranges.
     Space,
-    /// The free units would do, but no free block is of a class whose blocks are all large enough. Free or move
-    /// ranges beside free blocks first.
+    /// Enough units are free, but no free block is of a class whose blocks are all large enough. Compact the space, or free
+    /// ranges beside free blocks; where all free units are one block already, extend the space.
     Fragmented,
 }
 

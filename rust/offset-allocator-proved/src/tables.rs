@@ -1,6 +1,6 @@
 // Printed by rust/erase from crates/offset_allocator/src/tables.rt: change it there.
 
-//! The cells: the only place that reads or writes them. A function on cells touches those, and counts each;
+//! The tables: no other module reads or writes their cells. A function on single cells counts each that it touches;
 //! `with_len` and `clear` go over whole tables, and count none.
 
 use crate::memory::Vec;
@@ -218,7 +218,7 @@ impl<NI: NodeIndex> Tables<NI> {
         self.heads[class as usize] = link;
     }
 
-    /// A word of the masks: bit `c % 64` of word `c / 64` says whether class c has a node.
+    /// A word of the masks: bit `c % 64` of word `c / 64` says whether the bin of class c is not empty.
     pub(crate) fn mask(&self, word: u32, count: &mut Accesses) -> u64 {
         count.tick();
         self.masks[word as usize]

@@ -1,7 +1,7 @@
-//! Each public call once, with values computed by hand.
+//! Each public call, with values computed by hand.
 use offset_allocator_proved::ext::min_allocator_size;
 use offset_allocator_proved::small_float::{float_to_uint, uint_to_float_round_down, uint_to_float_round_up};
-use offset_allocator_proved::{laws, Accesses, AllocError, Allocator, Global, NodeIndex, NonMaxU16, NonMaxU32};
+use offset_allocator_proved::{laws, Accesses, AllocError, Allocator, Global, NodeIndex, NonMaxU16, NonMaxU32, Refusal};
 
 fn space(size: u32, max_allocs: u32) -> Allocator {
     Allocator::with_max_allocs(Global, size, max_allocs).unwrap()
@@ -139,6 +139,21 @@ fn node_limits() {
 }
 
 #[test]
+fn refusals() {
+    // 4 blocks may exist; 100 units are of the class of 96
+    let mut a = space(100, 5);
+    assert_eq!((a.size(), a.max_allocs(), a.block_count(), a.is_full()), (100, 5, 1, false));
+    assert_eq!((a.refusal(96), a.refusal(97), a.refusal(101)), (None, Some(Refusal::Fragmented), Some(Refusal::Space)));
+    // with 31 units more for the alignment
+    assert_eq!((a.refusal_aligned(65, 32), a.refusal_aligned(66, 32)), (None, Some(Refusal::Fragmented)));
+    a.allocate(1).unwrap();
+    a.allocate(1).unwrap();
+    assert_eq!((a.refusal(1), a.refusal_aligned(1, 1), a.refusal_aligned(1, 2)), (None, None, Some(Refusal::Nodes)));
+    a.allocate(1).unwrap();
+    assert_eq!((a.block_count(), a.is_full(), a.refusal(0), a.refusal(1)), (4, true, Some(Refusal::Nodes), Some(Refusal::Nodes)));
+}
+
+#[test]
 fn offsets_have_32_bits_for_every_index_type() {
     let mut a = Allocator::<u16>::with_max_allocs(Global, u32::MAX, 16).unwrap();
     a.allocate(1 << 30).unwrap();
@@ -175,6 +190,9 @@ fn the_calls_of_laws_change_nothing() {
     assert_eq!(laws::allocation_offset_counted(&a, h, &mut count), Some(0));
     assert_eq!(laws::next_block_counted(&mut a.blocks(), &mut count).unwrap().offset, 10);
     assert_eq!(laws::storage_report_counted(&a, &mut count).total_free_space, 90);
+    // 90 units are of the class of 88
+    assert_eq!((laws::refusal_counted(&a, 88, &mut count), laws::refusal_counted(&a, 89, &mut count)), (None, Some(Refusal::Fragmented)));
+    assert_eq!(laws::refusal_aligned_counted(&a, 85, 8, &mut count), Some(Refusal::Space));
     assert_eq!(laws::storage_report_full_counted(&a, &mut count).free_regions[35].count, 1);
     assert!(laws::undo(&mut a, 88));
     assert!(!laws::undo(&mut a, 89));

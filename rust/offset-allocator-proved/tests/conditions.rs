@@ -1,7 +1,7 @@
 //! A call whose condition is not met panics, with the message in `table.py`.
 use offset_allocator_proved::ext::min_allocator_size;
 use offset_allocator_proved::small_float::float_to_uint;
-use offset_allocator_proved::{Allocator, Global, NodeIndex};
+use offset_allocator_proved::{laws, Accesses, Allocator, Global, NodeIndex};
 
 fn space() -> Allocator {
     Allocator::with_max_allocs(Global, 100, 16).unwrap()
@@ -73,6 +73,18 @@ fn grown_after_it_was_freed() {
     let h = a.allocate(2).unwrap();
     a.free(h);
     a.grow_in_place(h, 3);
+}
+
+#[test]
+#[should_panic(expected = "align must be a power of two")]
+fn asked_of_an_alignment_of_3() {
+    let _ = space().refusal_aligned(1, 3);
+}
+
+#[test]
+#[should_panic(expected = "align must be a power of two")]
+fn asked_of_no_alignment() {
+    let _ = laws::refusal_aligned_counted(&space(), 1, 0, &mut Accesses::new());
 }
 
 #[test]

@@ -1,5 +1,5 @@
-//! Every public call with random handles and numbers. A call panics exactly where its condition is not met, with the
-//! message in `table.py`, and has then changed nothing. Live ranges share no unit.
+//! The public calls with random handles and numbers. A call panics exactly where its condition is not met, with the
+//! message in `table.py`; a `free` that panics has changed no count of free blocks. Live ranges share no unit.
 //!
 //! Only with `debug_assertions`, as `cargo test` builds: a sum that wraps panics then.
 #![cfg(debug_assertions)]
@@ -92,6 +92,8 @@ impl<NI: NodeIndex> Pair<NI> {
         let report = self.space.storage_report();
         assert!([0, self.size - held].contains(&report.total_free_space));
         assert!(report.largest_free_region <= report.total_free_space);
+        assert_eq!(self.space.size(), self.size);
+        assert_eq!(self.space.is_full(), self.space.block_count() + 1 == self.space.max_allocs());
     }
 
     fn call(&mut self, random: &mut Random, handles: &mut Vec<Allocation<NI>>) {
@@ -100,7 +102,10 @@ impl<NI: NodeIndex> Pair<NI> {
             0..=3 => {
                 let size = if random.below(2) == 0 { random.any() } else { random.below(self.size / 8 + 2) };
                 let most = self.space.storage_report().largest_free_region;
+                let refusal = result(|| self.space.refusal(size)).unwrap();
+                assert_eq!(laws::refusal_counted(&self.space, size, &mut count), refusal);
                 let found = result(|| self.space.allocate(size)).unwrap();
+                assert_eq!(found.is_none(), refusal.is_some());
                 assert!(size == 0 || found.is_some() == (size <= most));
                 handles.extend(found);
                 self.grant(found, size, 1);
@@ -108,8 +113,13 @@ impl<NI: NodeIndex> Pair<NI> {
             4..=5 => {
                 let size = if random.below(2) == 0 { random.any() } else { random.below(self.size / 8 + 2) };
                 let align = if random.below(3) == 0 { random.any() } else { 1 << random.below(32) };
+                let (is_power, message) = (align.count_ones() == 1, "align must be a power of two");
+                let refusal = expect(result(|| self.space.refusal_aligned(size, align)), is_power, message);
+                let counted = result(|| laws::refusal_aligned_counted(&self.space, size, align, &mut count));
+                assert_eq!(expect(counted, is_power, message), refusal);
                 let found = result(|| self.space.allocate_aligned(size, align));
-                if let Some(found) = expect(found, align.count_ones() == 1, "align must be a power of two") {
+                if let Some(found) = expect(found, is_power, message) {
+                    assert_eq!(found.is_none(), refusal.unwrap().is_some());
                     handles.extend(found);
                     self.grant(found, size, align);
                 }
@@ -155,6 +165,9 @@ impl<NI: NodeIndex> Pair<NI> {
             }
             12 => {
                 let blocks: Vec<_> = result(|| self.space.blocks().collect()).unwrap();
+                assert_eq!(blocks.len(), self.space.block_count() as usize);
+                let last = laws::next_block_counted(&mut self.space.blocks(), &mut count).unwrap();
+                assert_eq!((last.offset, last.size), (blocks[0].offset, blocks[0].size));
                 assert_eq!(blocks.iter().filter_map(|block| block.allocation).count(), self.live.len());
                 if random.below(4) == 0 {
                     let live = &mut self.live;

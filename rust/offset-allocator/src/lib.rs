@@ -81,8 +81,8 @@ where
     ///
     /// # Panics
     ///
-    /// Where the allocation is not live here: it was freed, a reset freed it, or another allocator made it. One whose
-    /// node a newer allocation has cannot be distinguished from that one.
+    /// Where the node of the allocation is not in use here: it was freed, or a reset freed it. A stale allocation, or one
+    /// of another allocator, whose node is in use here cannot be distinguished from the live one, and frees that one.
     pub fn free(&mut self, allocation: Allocation<NI>) {
         self.proved.free(allocation.proved);
     }

@@ -10,7 +10,8 @@ use core::fmt;
 pub enum ScriptFault {
     /// The text has more than 1,048,576 bytes.
     TooLong,
-    /// The first line that is neither empty nor a comment is no header, or there is no such line.
+    /// The first line that is neither empty nor a comment is no header; or there is no such line, and the number is one
+    /// more than that of line ends.
     BadHeader(u32),
     /// The header's node limit is below 2, or above what its index width admits.
     BadLimit(u32),

@@ -1,6 +1,6 @@
 // Printed by rust/erase from crates/offset_script/src/lib.rt: change it there.
 
-//! Scripts of calls to an allocator: it reads them, plays them, and writes their answers.
+//! Reads scripts of calls to an allocator, plays them, and writes their answers.
 #![doc = include_str!("../README.md")]
 #![forbid(unsafe_code)]
 

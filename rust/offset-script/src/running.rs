@@ -39,7 +39,8 @@ pub fn read_script<S: Source>(alloc: Global, input: &mut S) -> Result<Script, Ru
     Ok(parse(alloc, &text)?)
 }
 
-/// Reads a script to its end, plays it, writes the text of its answers, and then flushes.
+/// Reads a script to its end, plays it, writes the text of its answers, and then flushes. The script, all answers and
+/// their text are in memory at once.
 ///
 /// Nothing is written unless the whole text is a script; of a text that is too long, 1,048,577 bytes are read. `Read`
 /// is returned exactly where the source failed in this call, and `Write` exactly where the sink did; then a beginning

@@ -9,7 +9,7 @@ use crate::memory::Vec;
 pub enum Command {
     /// Requests this number of units.
     Alloc(u32),
-    /// Releases the grant of this number.
+    /// Frees the range of the grant of this number.
     Free(u32),
     /// Asks for the size of the grant of this number.
     Size(u32),

@@ -5,7 +5,7 @@
 /// The most digits that a number has.
 pub const MOST_DIGITS: usize = 10;
 
-// The place of the first such byte.
+// The index of the first byte `at`, if there is one.
 fn place_of(text: &[u8], at: u8) -> Option<usize> {
     text.iter().position(|b| *b == at)
 }

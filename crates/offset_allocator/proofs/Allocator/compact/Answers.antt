@@ -1,11 +1,14 @@
-use Rattle.std.proofs.Common.{◌≡◌, ℕ, suc, ◌+◌, List, [], ◌∷◌, length, refl, sym, ap, ap₂, subst, ◌∙◌, arith, length-append}
+use Rattle.std.proofs.Common.{◌≡◌, ℕ, suc, ◌+◌, List, [], ◌∷◌, length, refl, sym, ap, ap₂, subst, ◌∙◌, arith, length-append, replicate}
 use Rattle.offset_allocator.specs.Named.{Block, Place, View, units}
+use Rattle.offset_allocator.specs.Cells.{Links}
+use Rattle.offset_allocator.specs.Orders.{class_lists}
 use Rattle.offset_allocator.specs.Space.{blocks}
 use Rattle.offset_allocator.specs.Compacting.{live, moves, KeepsSizes, Compacts}
 use Rattle.offset_allocator.proofs.Sound.{AreSound, Fields, shown, fields_of, known_sound}
 use Rattle.offset_allocator.proofs.Packed.{compacts_sizes}
 use Rattle.offset_allocator.proofs.Classes.{down_small}
-use Rattle.offset_allocator.proofs.Compacting.{IsFirst, first_is, packed, compacts_live, first_held, first_listed, first_filed, end_unlisted, packs, stays_packed}
+use Rattle.offset_allocator.proofs.Compacting.{IsFirst, first_is, packed, compacts_live, first_held, packs, stays_packed}
+use Rattle.offset_allocator.proofs.Fresh.{empty_unlisted}
 use Rattle.offset_allocator.proofs.Allocator.compact.Goals as goal
 use Rattle.offset_allocator.proofs.Allocator.compact.Goals.{After-slide-hole, After-push}
 use Rattle.offset_allocator.proofs.Allocator.compact.Given.{Over}
@@ -27,16 +30,11 @@ size-units-requires g c =
     let o = first_is _ _ (sym c.first_free.ensures.first ∙ c.in-Some.is) in
     (first_held (fields_of g.NI.NodeIndex.MAX c.self.inside) c.self.invariant o refl).below
 
-pub remove-requires-clause-listed : goal.remove-requires-clause-listed
-remove-requires-clause-listed g c =
-    let o = first_is _ _ (sym c.first_free.ensures.first ∙ c.in-Some.is) in
-    rw c.size-units.ensures.size (first_listed (fields_of g.NI.NodeIndex.MAX c.self.inside) c.self.invariant o)
-
 pub slide-hole-requires-clause-place : goal.slide-hole-requires-clause-place
 slide-hole-requires-clause-place g c =
     let f : Fields = fields_of g.NI.NodeIndex.MAX c.self.inside in
     let o = first_is _ _ (sym c.first_free.ensures.first ∙ c.in-Some.is) in
-    (_, _, first_held f c.self.invariant o c.remove.ensures.room, o.idle, first_filed f c.self.invariant o _ c.size-units.result c.size-units.ensures.size c.remove.ensures.lists)
+    (_, _, first_held f c.self.invariant o c.empty.ensures.room, o.idle)
 
 first : (g : Over) (c : After-slide-hole g) → IsFirst (blocks c.self.inside.store.tables.room c.self.inside.store.last) c.in-Some.first
 first g c = first_is _ _ (sym c.first_free.ensures.first ∙ c.in-Some.is)
@@ -45,18 +43,17 @@ pub push-requires-clause-named : goal.push-requires-clause-named
 push-requires-clause-named g c =
     let f : Fields = fields_of g.NI.NodeIndex.MAX c.self.inside in
     let o = first g (goal.at.push-requires-clause-named g c).After-slide-hole in
-    let e = c.slide-hole.ensures.place _ _ (first_held f c.self.invariant o c.remove.ensures.room) o.idle (first_filed f c.self.invariant o _ c.size-units.result c.size-units.ensures.size c.remove.ensures.lists) in
+    let e = c.slide-hole.ensures.place _ _ (first_held f c.self.invariant o c.empty.ensures.room) o.idle in
     e.0.below
 
 pub push-requires-clause-classed : goal.push-requires-clause-classed
 push-requires-clause-classed g c = omega (arith, down_small c.slide-hole.result.1, c.uint_to_float_round_down.ensures.is)
 
+pub push-requires-clause-held : goal.push-requires-clause-held
+push-requires-clause-held g c = rw (c.slide-hole.ensures.links, c.slide-hole.ensures.mask) c.empty.ensures.held
+
 pub push-requires-clause-fresh : goal.push-requires-clause-fresh
-push-requires-clause-fresh g c =
-    let f : Fields = fields_of g.NI.NodeIndex.MAX c.self.inside in
-    let o = first g (goal.at.push-requires-clause-fresh g c).After-slide-hole in
-    let e = c.slide-hole.ensures.place _ _ (first_held f c.self.invariant o c.remove.ensures.room) o.idle (first_filed f c.self.invariant o _ c.size-units.result c.size-units.ensures.size c.remove.ensures.lists) in
-    end_unlisted f c.self.invariant o c.slide-hole.new.store.tables _ _ _ _ e.0 _ e.2
+push-requires-clause-fresh g c = empty_unlisted c.slide-hole.result.0 (ap (λ (k : Links). class_lists g.NI.NodeIndex.MAX k) c.slide-hole.ensures.links ∙ c.empty.ensures.lists)
 
 -- the fields that are left, and what they show
 done : (g : Over) (c : After-push g) (k : ℕ) (f : Fields) → f ≡ record (fields_of g.NI.NodeIndex.MAX c.self.inside) { cells = c.push.new.tables; last = c.slide-hole.new.store.last; count = c.slide-hole.new.store.spare_count; top = c.push.new.top_mask; accesses = k }
@@ -64,8 +61,9 @@ done : (g : Over) (c : After-push g) (k : ℕ) (f : Fields) → f ≡ record (fi
 done g c k f is =
     let old : Fields = fields_of g.NI.NodeIndex.MAX c.self.inside in
     let o : IsFirst (blocks c.self.inside.store.tables.room c.self.inside.store.last) c.in-Some.first = first_is _ _ (sym c.first_free.ensures.first ∙ c.in-Some.is) in
-    let e = c.slide-hole.ensures.place _ _ (first_held old c.self.invariant o c.remove.ensures.room) o.idle (first_filed old c.self.invariant o _ c.size-units.result c.size-units.ensures.size c.remove.ensures.lists) in
-    rw is (packs old c.self.invariant o c.push.new.tables _ _ c.slide-hole.result.0 c.slide-hole.result.1 (rw c.push.ensures.room e.0) e.1 {accesses = k} _ c.slide-hole.ensures.held.linked.lists_len e.2 c.push.ensures.held (rw c.uint_to_float_round_down.ensures.is at c.push.ensures.lists))
+    let e = c.slide-hole.ensures.place _ _ (first_held old c.self.invariant o c.empty.ensures.room) o.idle in
+    let empty : class_lists g.NI.NodeIndex.MAX c.slide-hole.new.store.tables.links ≡ replicate 256 [] = ap (λ (k : Links). class_lists g.NI.NodeIndex.MAX k) c.slide-hole.ensures.links ∙ c.empty.ensures.lists in
+    rw is (packs old c.self.invariant o c.push.new.tables _ _ c.slide-hole.result.0 c.slide-hole.result.1 (rw c.push.ensures.room e.0) e.1 {accesses = k} c.push.ensures.held (rw (c.uint_to_float_round_down.ensures.is, empty) at c.push.ensures.lists))
 
 pub invariant_of-self-2 : goal.invariant_of-self-2
 invariant_of-self-2 g c = (done g (goal.at.invariant_of-self-2 g c).After-push 0 _ refl).0
@@ -80,22 +78,34 @@ returns-clause-moved g c =
     let f : Fields = fields_of g.NI.NodeIndex.MAX c.self.inside in
     let o : IsFirst (blocks c.self.inside.store.tables.room c.self.inside.store.last) c.in-Some.first = first_is _ _ (sym c.first_free.ensures.first ∙ c.in-Some.is) in
     let p : Place = o.place in
-    let e = c.slide-hole.ensures.place _ _ (first_held f c.self.invariant o c.remove.ensures.room) o.idle (first_filed f c.self.invariant o _ c.size-units.result c.size-units.ensures.size c.remove.ensures.lists) in
+    let e = c.slide-hole.ensures.place _ _ (first_held f c.self.invariant o c.empty.ensures.room) o.idle in
     let from : 0 + (units p.before + p.block.size) ≡ units p.before + p.block.size = omega arith in
     let to : 0 + units p.before ≡ units p.before = omega arith in
     let same : moves 0 0 c.args.self.now.blocks ≡ moves (units p.before + p.block.size) (units p.before) p.after = ap (λ (u : View). moves 0 0 u.blocks) (sym c.self.view_is) ∙ o.moves 0 ∙ ap₂ (λ j k. moves j k p.after) from to in
-    rw same e.3
+    rw same e.2
 
 pub returns-clause-accesses_max : goal.returns-clause-accesses_max
 returns-clause-accesses_max g c =
     let f : Fields = fields_of g.NI.NodeIndex.MAX c.self.inside in
     let o : IsFirst (blocks c.self.inside.store.tables.room c.self.inside.store.last) c.in-Some.first = first_is _ _ (sym c.first_free.ensures.first ∙ c.in-Some.is) in
     let p : Place = o.place in
-    let e = c.slide-hole.ensures.place _ _ (first_held f c.self.invariant o c.remove.ensures.room) o.idle (first_filed f c.self.invariant o _ c.size-units.result c.size-units.ensures.size c.remove.ensures.lists) in
+    let e = c.slide-hole.ensures.place _ _ (first_held f c.self.invariant o c.empty.ensures.room) o.idle in
     let long : length (blocks c.self.inside.store.tables.room c.self.inside.store.last) ≡ length p.before + suc (length p.after) = ap (λ (l : List Block). length l) o.is ∙ length-append p.before (p.block ∷ p.after) in
     let same : length (blocks c.self.inside.store.tables.room c.self.inside.store.last) ≡ length c.args.self.now.blocks = ap (λ (u : View). length u.blocks) c.self.view_is in
     let counted : c.self.inside.store.accesses ≡ c.args.self.now.accesses = ap (λ (u : View). u.accesses) c.self.view_is in
-    omega (arith, e.4, long, same, counted, c.first_free.ensures.accesses_max, c.size-units.ensures.accesses, c.remove.ensures.accesses_max, c.push.ensures.accesses_max)
+    omega (arith, e.3, long, same, counted, c.first_free.ensures.accesses, c.size-units.ensures.accesses, c.empty.ensures.accesses, c.push.ensures.accesses_max)
+
+pub returns-clause-accesses_min : goal.returns-clause-accesses_min
+returns-clause-accesses_min g c =
+    let same : length (blocks c.self.inside.store.tables.room c.self.inside.store.last) ≡ length c.args.self.now.blocks = ap (λ (u : View). length u.blocks) c.self.view_is in
+    let counted : c.self.inside.store.accesses ≡ c.args.self.now.accesses = ap (λ (u : View). u.accesses) c.self.view_is in
+    omega (arith, same, counted, c.first_free.ensures.accesses, c.size-units.ensures.accesses, c.empty.ensures.accesses, c.slide-hole.ensures.accesses_kept, c.push.ensures.accesses_min)
+
+pub returns-in_default-clause-accesses_min : goal.returns-in_default-clause-accesses_min
+returns-in_default-clause-accesses_min g c =
+    let same : length (blocks c.self.inside.store.tables.room c.self.inside.store.last) ≡ length c.args.self.now.blocks = ap (λ (u : View). length u.blocks) c.self.view_is in
+    let counted : c.self.inside.store.accesses ≡ c.args.self.now.accesses = ap (λ (u : View). u.accesses) c.self.view_is in
+    omega (arith, same, counted, c.first_free.ensures.accesses)
 
 pub returns-clause-step : goal.returns-clause-step
 returns-clause-step g c =

@@ -16,8 +16,7 @@ loop-at-init g c = record {
   is = sym (append-nil _);
   ends = c.requires.space.1.ends;
   first = refl;
-  grows = omega arith;
-  bounded = omega arith;
+  accesses = omega arith;
 }
 
 pub is_used-requires : goal.is_used-requires
@@ -43,11 +42,15 @@ loop-at-preserved g c =
         | then-not-is_used w ↦ w.first-is ∙ ap (λ k. Some k) (sym f.name) ∙ sym (first_idle f.last i.rest (sym used ∙ w.if-not-is_used.true))
         | else-not-is_used w ↦ w.first-is ∙ i.first ∙ sym (first_used f.last i.rest (sym used ∙ w.if-not-is_used.false))
       ];
-      grows = omega (arith, i.grows);
-      bounded = omega (arith, i.bounded, long);
+      accesses = omega (arith, i.accesses, long);
     }
 
 pub returns-clause-first : goal.returns-clause-first
 returns-clause-first g c =
     let i = c.loop-at.invariant in
     i.first ∙ sym (ap first_free (i.is ∙ ap (λ (l : List Block). l ++ i.rest) (last_none i.front (i.ends ∙ c.in_default.is))))
+
+pub returns-clause-accesses : goal.returns-clause-accesses
+returns-clause-accesses g c =
+    let i = c.loop-at.invariant in
+    omega (arith, i.accesses, ap (λ (l : List Block). length l) (last_none i.front (i.ends ∙ c.in_default.is)))

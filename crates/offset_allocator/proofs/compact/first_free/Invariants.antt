@@ -1,4 +1,4 @@
-use Rattle.std.proofs.Common.{◌≡◌, ◌+◌, ◌-◌, ◌*◌, ◌≤◌, List, ◌++◌, None, length}
+use Rattle.std.proofs.Common.{◌≡◌, ◌+◌, ◌-◌, ◌*◌, List, ◌++◌, None, length}
 use Rattle.offset_allocator.specs.Named.{Block}
 use Rattle.offset_allocator.specs.Space.{blocks, last_or}
 use Rattle.offset_allocator.specs.Compacting.{first_free}
@@ -11,8 +11,7 @@ invariant-loop-at g l = record {
   is : blocks l.tables.room l.last ≡ front ++ rest;
   ends : last_or None front ≡ l.at;
   first : l.first ≡ first_free rest;
-  grows : l.initial.count ≤ l.count;
-  bounded : l.count + 2 * length front ≤ l.initial.count + 2 * length (blocks l.tables.room l.last);
+  accesses : l.count + 2 * length front ≡ l.initial.count + 2 * length (blocks l.tables.room l.last);
 }
 
 abbrev pub decreases-loop-at : goal.decreases-loop-at
