@@ -5,6 +5,7 @@ use crate::ladder::{FINE, refusals};
 use offset_allocator::laws::undo;
 use offset_allocator::{Allocation, Allocator, NodeIndex};
 use offset_script::play;
+use offset_test_base::living::living_calls;
 use offset_test_base::tiny::Tiny;
 use std::alloc::{AllocError, Global};
 use std::process::Abort;
@@ -86,7 +87,8 @@ fn call<NI: NodeIndex>(
     number: u32,
 ) -> u32 {
     match kind {
-        0..=10 => grant_or_free(allocator, kept, kind, number % 100),
+        0..=9 => grant_or_free(allocator, kept, kind, number % 100),
+        10 => living_calls(allocator, *kept, number % 100),
         11 | 12 => report(allocator, number as usize),
         13 => u32::from(undo(allocator, number % 500)),
         14 => u32::from(allocator.extend(number % 10)),

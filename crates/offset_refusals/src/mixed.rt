@@ -7,6 +7,7 @@ use offset_allocator::laws::{
 use offset_allocator::{
     Accesses, Allocation, Allocator, NodeIndex, StorageReport, StorageReportFull,
 };
+use offset_test_base::living::living_calls;
 
 fn request_aligned<NI: NodeIndex>(
     allocator: &mut Allocator<NI>,
@@ -105,7 +106,8 @@ fn call<NI: NodeIndex>(
 ) -> u32 {
     match kind {
         0..=9 => grant_or_release(allocator, kept, kind, number % 100),
-        10 | 11 => report(allocator, number as usize),
+        10 => living_calls(allocator, *kept, number % 100),
+        11 => report(allocator, number as usize),
         12 => report_counted(allocator, *kept, number as usize),
         13 => u32::from(undo(allocator, number % 500)),
         14 => u32::from(allocator.extend(number % 10)),

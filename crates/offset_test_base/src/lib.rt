@@ -3,5 +3,6 @@
 
 pub mod devices;
 pub mod groups;
+pub mod living;
 pub mod runs;
 pub mod tiny;
