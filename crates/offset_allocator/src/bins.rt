@@ -1,4 +1,5 @@
-//! A bin for each size class: the names of its free blocks, in a list of links between the nodes, with a two-level mask.
+//! A bin for each size class: the names of its free blocks, in a list of links between the nodes, with a two-level
+//! mask.
 ghost use Rattle.std.specs.Prelude.{◌≡◌, ◌+◌, ◌<◌, ◌≤◌, ◌≢◌, ℕ, List, [], ◌∷◌, slice_index, slice_set, length, replicate, MatchOption};
 ghost use Rattle.offset_allocator.specs.Classes.{down};
 ghost use Rattle.offset_allocator.specs.Named.{names_at, without, push, remove};
@@ -221,8 +222,8 @@ pub(crate) fn remove<NI: NodeIndex>(
     leave(tables, top_mask, name, before, size, count);
 }
 
-/// Removes `gone`, the name of a block of `size` units, from its bin, and pushes `name` onto the bin of `class`. Where both
-/// are one bin and `gone` is its newest, `name` takes its place.
+/// Removes `gone`, the name of a block of `size` units, from its bin, and pushes `name` onto the bin of `class`. Where
+/// both are one bin and `gone` is its newest, `name` takes its place.
 #[inline(always)]
 pub(crate) fn exchange<NI: NodeIndex>(
     tables: &mut Tables<NI>,

@@ -30,8 +30,8 @@ pub struct Move<NI: NodeIndex = u32, N: NodeIndexNonMax = <NI as NodeIndex>::Non
 }
 
 impl<NI: NodeIndex, N: NodeIndexNonMax> Move<NI, N> {
-    /// The handle of the range as it is after the move. Every older handle of the range is live too; only its `offset` is
-    /// that of before.
+    /// The handle of the range as it is after the move. Every older handle of the range is live too; only its `offset`
+    /// is that of before.
     pub fn allocation(&self) -> Allocation<NI, N>
         ensures { result ≡ record { name = N.number self.now.name; offset = self.now.to } }
     {
@@ -122,8 +122,8 @@ fn report<NI: NodeIndex, F: FnMut(Move<NI>)>(
     });
 }
 
-// Slides the used blocks after a free block to the front, and coalesces it with the free ones, until it is the last block.
-// Its name and its size are returned. The bins stay as they are.
+// Slides the used blocks after a free block to the front, and coalesces it with the free ones, until it is the last
+// block. Its name and its size are returned. The bins stay as they are.
 fn slide<NI: NodeIndex, F: FnMut(Move<NI>)>(
     store: &mut Store<NI>,
     mut hole: u32,
@@ -166,13 +166,13 @@ fn slide<NI: NodeIndex, F: FnMut(Move<NI>)>(
 }
 
 impl<NI: NodeIndex> Allocator<NI> {
-    /// Slides every live range to the front of the space, in space order, so that all free units are one block at its end.
-    /// `moved` is called for each range that gets another offset, in space order: the units from `from` on are to be copied
-    /// to `to`, as `copy_within` does. In this order no copy writes on a unit that a later one reads.
+    /// Slides every live range to the front of the space, in space order, so that all free units are one block at its
+    /// end. `moved` is called for each range that gets another offset, in space order: the units from `from` on are to
+    /// be copied to `to`, as `copy_within` does. In this order no copy writes on a unit that a later one reads.
     ///
     /// Every handle stays live, with its size; only the public `offset` of a moved one is that of before, and
-    /// `allocation_offset` returns the new one. `moved` has to be callable with any move: its contract may require nothing of
-    /// it. It makes at most 24 accesses to the tables for each block, and 512, and takes no memory.
+    /// `allocation_offset` returns the new one. `moved` has to be callable with any move: its contract may require
+    /// nothing of it. It makes at most 24 accesses to the tables for each block, and 512, and takes no memory.
     pub fn compact<F: FnMut(Move<NI>)>(&mut self, moved: &mut F)
         requires callable { F.IsAlwaysCallable moved.old }
         // The live blocks keep their names, their sizes and their order: so every handle stays live, with its size.

@@ -5,9 +5,9 @@ ghost use Rattle.std.specs.List.{range_with_len};
 use crate::index::NodeIndex;
 use std::alloc::{AllocError, Global};
 
-/// Requests the bytes of all tables at once, and gives them back at once. A system that promises more memory than it has would
-/// grant each table, and end the program when they are filled; this one request it refuses. A link is taken to have
-/// the bytes that its numbers need, as those of `u16` and `u32` have.
+/// Requests the bytes of all tables at once, and gives them back at once. A system that promises more memory than it
+/// has would grant each table, and end the program when they are filled; this one request it refuses. A link is taken
+/// to have the bytes that its numbers need, as those of `u16` and `u32` have.
 pub(crate) fn probe<NI: NodeIndex>(alloc: Global, nodes: u32) -> Result<(), AllocError> {
     let link: usize = if NI::MAX < 256 {
         1
@@ -52,8 +52,8 @@ fn fill_cells<T: Copy>(cells: &mut [T], value: T)
     }
 }
 
-/// Writes one value over a whole table. It goes through a slice, where no write can move the table, so that the compiler
-/// uses wide stores.
+/// Writes one value over a whole table. It goes through a slice, where no write can move the table, so that the
+/// compiler uses wide stores.
 pub(crate) fn fill<T: Copy>(values: &mut Vec<T>, value: T)
     ensures { values.new.items ≡ replicate (length values.old.items) value }
 {

@@ -20,8 +20,8 @@ use crate::index::NodeIndex;
 /// Grants a request for `n` units and frees the grant at once. The blocks, their names and the bins are then as they
 /// were. It is `false` where the request was refused.
 ///
-/// The contract says this of each grant that a request for `n` can have here, whichever unused name its remainder takes.
-/// The count of accesses grows by at most 192.
+/// The contract says this of each grant that a request for `n` can have here, whichever unused name its remainder
+/// takes. The count of accesses grows by at most 192.
 pub fn undo<NI: NodeIndex>(allocator: &mut Allocator<NI>, n: u32) -> bool
     ensures undone { (w u : View) (g : Grant) → Allocates n allocator.old w (Some g) → Frees g.name w u → SameSpace allocator.old u }
     ensures same { SameSpace allocator.old allocator.new }
@@ -109,8 +109,8 @@ pub fn alignments_are_powers()
     ensures { (n : ℕ) → IsAlignment n ↔ IsPowerOfTwo n }
 {}
 
-/// After `compact`, with room for one more block, a request is granted exactly when it is at most the value of the class of
-/// all free units together.
+/// After `compact`, with room for one more block, a request is granted exactly when it is at most the value of the
+/// class of all free units together.
 pub fn a_compacted_space_grants<NI: NodeIndex>(allocator: &Allocator<NI>)
     ensures { (v : View) (n : ℕ) → 1 ≤ n → Compacts v allocator.now
         → CanGrant 1 n allocator.now ↔ (HasRoomFor 1 allocator.now × (n ≤ value (down (sum (free_sizes v.blocks))))) }

@@ -1,9 +1,9 @@
 //! Ranges of one contiguous space of `size` units, handed out and taken back with a bounded number of accesses to table
 //! cells. The space itself is never touched.
 //!
-//! A *block* is a run of units, used (granted; its name is then live) or free; no two free blocks are neighbours. Each block has a *node* of the
-//! tables, whose index is the block's *name*. A *size class* is a range of sizes, and its *bin* the list of its free
-//! blocks, the one that became free last first.
+//! A *block* is a run of units, used (granted; its name is then live) or free; no two free blocks are neighbours. Each
+//! block has a *node* of the tables, whose index is the block's *name*. A *size class* is a range of sizes, and its
+//! *bin* the list of its free blocks, the one that became free last first.
 //!
 //! ```
 //! let mut vertices = Allocator::<u32>::new(alloc, 1 << 20)?;
@@ -84,8 +84,8 @@ impl<NI: NodeIndex> Model for Allocator<NI> {
 }
 
 impl<NI: NodeIndex> Allocator<NI> {
-    /// A space of `size` units, all free, with the smaller of 131072 and `NI::MAX - 2` as the node limit. A node costs as
-    /// much as in `with_max_allocs`.
+    /// A space of `size` units, all free, with the smaller of 131072 and `NI::MAX - 2` as the node limit. A node costs
+    /// as much as in `with_max_allocs`.
     ///
     /// An error is returned only where an allocation failed; then nothing is made.
     pub fn new(alloc: Global, size: u32) -> Result<Self, AllocError>
@@ -94,10 +94,10 @@ impl<NI: NodeIndex> Allocator<NI> {
         Self::with_max_allocs(alloc, size, 131072u32.min(NI::MAX - 2))
     }
 
-    /// A space of `size` units, all free, with `max_allocs` as the node limit: at most `max_allocs - 1` blocks exist at a
-    /// time, free ones included. A request is granted only while at most `max_allocs - 2` exist, and makes one of them
-    /// live: so at most `max_allocs - 2` grants are live. The limit is 2 to `NI::MAX - 2`: 65533 for `u16`, 4294967293
-    /// for `u32`. It costs 29 bytes a node with `u32`, 19 with `u16`, and this call writes them all.
+    /// A space of `size` units, all free, with `max_allocs` as the node limit: at most `max_allocs - 1` blocks exist at
+    /// a time, free ones included. A request is granted only while at most `max_allocs - 2` exist, and makes one of
+    /// them live: so at most `max_allocs - 2` grants are live. The limit is 2 to `NI::MAX - 2`: 65533 for `u16`,
+    /// 4294967293 for `u32`. It costs 29 bytes a node with `u32`, 19 with `u16`, and this call writes them all.
     ///
     /// An error is returned only where an allocation failed; then nothing is made.
     pub fn with_max_allocs(alloc: Global, size: u32, max_allocs: u32) -> Result<Self, AllocError>
@@ -123,9 +123,9 @@ impl<NI: NodeIndex> Allocator<NI> {
 
     /// Makes the whole space one free block again, in place. No earlier handle is live then.
     ///
-    /// It takes no memory and always succeeds, and the space keeps what `extend` added. If fewer than `max_allocs / 128`
-    /// blocks exist, it frees each live range; otherwise it clears all use flags, empties the bins and refills the stack of
-    /// unused names: 5 bytes a node with `u32`, 3 with `u16`.
+    /// It takes no memory and always succeeds, and the space keeps what `extend` added. If fewer than `max_allocs /
+    /// 128` blocks exist, it frees each live range; otherwise it clears all use flags, empties the bins and refills the
+    /// stack of unused names: 5 bytes a node with `u32`, 3 with `u16`.
     pub fn reset(&mut self)
         // The space keeps its size, and no name is live.
         ensures size { self.new.size ≡ self.old.size }
@@ -172,32 +172,32 @@ impl<NI: NodeIndex> Allocator<NI> {
         self.block_count() == self.max_allocs - 1
     }
 
-    /// Grants a range of `size` units, and returns its handle. They are the first ones of a free block of the smallest size class that has one and whose
-    /// blocks are all large enough, and of those blocks the one that became free last. What remains of the block stays
-    /// free, directly after the range.
+    /// Grants a range of `size` units, and returns its handle. They are the first ones of a free block of the smallest
+    /// size class that has one and whose blocks are all large enough, and of those blocks the one that became free
+    /// last. What remains of the block stays free, directly after the range.
     ///
-    /// `None` is returned where `max_allocs - 1` blocks exist, even for an exact fit, and where no free block is of such
-    /// a class; then nothing changes. A request of at least one unit is granted exactly when it is at most the
-    /// `largest_free_region` that `storage_report` returns just before. One of 0 units takes a node too, and needs a free
-    /// block of any size. It makes at most 64 accesses to the tables, and takes no memory.
+    /// `None` is returned where `max_allocs - 1` blocks exist, even for an exact fit, and where no free block is of
+    /// such a class; then nothing changes. A request of at least one unit is granted exactly when it is at most the
+    /// `largest_free_region` that `storage_report` returns just before. One of 0 units takes a node too, and needs a
+    /// free block of any size. It makes at most 64 accesses to the tables, and takes no memory.
     pub fn allocate(&mut self, size: u32) -> Option<Allocation<NI>>
-        // A request of at least one unit is granted exactly when `size` is at most the `largest_free_region` of the report,
-        // which is 0 at the node limit. Any request, of 0 units too, is granted exactly when there is room for one more
-        // block, and there is a free block in a size class whose blocks all have at least `size` units.
+        // A request of at least one unit is granted exactly when `size` is at most the `largest_free_region` of the
+        // report, which is 0 at the node limit. Any request, of 0 units too, is granted exactly when there is room for
+        // one more block, and there is a free block in a size class whose blocks all have at least `size` units.
         ensures granted { 1 ≤ size → (IsSome result ↔ (size ≤ largest_free self.old)) }
         ensures can_grant { IsSome result ↔ CanGrant 1 size self.old }
-        // A grant gives a name that was not live. Its range has exactly `size` units, lies in the space, and overlaps no
-        // live range. All live ranges stay as they are.
+        // A grant gives a name that was not live. Its range has exactly `size` units, lies in the space, and overlaps
+        // no live range. All live ranges stay as they are.
         ensures grants { IfSome result (Grants size self.old self.new) }
         // A refusal leaves the space as it was.
         ensures same { result ≡ None → SameSpace self.old self.new }
-        // Near-best fit: if a free block has at least 9/8 of the requested units, the block taken is at most 9/8 as large
-        // as that block.
+        // Near-best fit: if a free block has at least 9/8 of the requested units, the block taken is at most 9/8 as
+        // large as that block.
         ensures nearly { IfSome result (IsSplitNearBest size self.old) }
         // A refusal with room for one more block means that every free block is smaller than 9/8 of the request.
         ensures refused { result ≡ None → HasRoomFor 1 self.old → IsGoodRefusal size (free_sizes self.old.blocks) }
-        // It makes at most 64 accesses to table cells. A grant makes at least 7, so a count that stays as it is cannot meet
-        // the contract.
+        // It makes at most 64 accesses to table cells. A grant makes at least 7, so a count that stays as it is cannot
+        // meet the contract.
         ensures accesses_kept { self.old.accesses ≤ self.new.accesses }
         ensures accesses_min { IsSome result → self.old.accesses + 7 ≤ self.new.accesses }
         ensures accesses_max { self.new.accesses ≤ self.old.accesses + 64 }
@@ -210,9 +210,9 @@ impl<NI: NodeIndex> Allocator<NI> {
     /// Frees the range of a live handle. Its units are free at once, in one block with the free blocks directly before
     /// and after it, and that block is the newest of its bin.
     ///
-    /// The handle has to be live, which `is_live` reports. Only its name counts, and not its public `offset`: a stale handle
-    /// whose name was granted again is live, and frees that range. It makes at most 128 accesses to the tables, and takes no
-    /// memory.
+    /// The handle has to be live, which `is_live` reports. Only its name counts, and not its public `offset`: a stale
+    /// handle whose name was granted again is live, and frees that range. It makes at most 128 accesses to the tables,
+    /// and takes no memory.
     pub fn free(&mut self, allocation: Allocation<NI>)
         requires live { IsLive allocation.name self.old }
         // The name holds no range any more, and all other ranges stay.
@@ -229,8 +229,8 @@ impl<NI: NodeIndex> Allocator<NI> {
 
     /// Whether the handle is live here: its name is the name of a used block. `free` asks for exactly this.
     ///
-    /// A handle whose block was freed is live again where a newer grant has its name. It makes at most 8 accesses to the
-    /// tables.
+    /// A handle whose block was freed is live again where a newer grant has its name. It makes at most 8 accesses to
+    /// the tables.
     pub fn is_live(&self, allocation: Allocation<NI>) -> bool
         ensures { IsTrue result ↔ IsLive allocation.name self.now }
     {
@@ -238,8 +238,8 @@ impl<NI: NodeIndex> Allocator<NI> {
     }
 
     /// The units of the range that a live handle has: exactly those that `allocate`, `allocate_aligned`, `shrink` or
-    /// `grow_in_place` last gave it. It is 0 where the handle is not live, and for a live range of no units too. It makes at
-    /// most 8 accesses to the tables.
+    /// `grow_in_place` last gave it. It is 0 where the handle is not live, and for a live range of no units too. It
+    /// makes at most 8 accesses to the tables.
     pub fn allocation_size(&self, allocation: Allocation<NI>) -> u32
         ensures { result ≡ size_of allocation.name self.now }
     {
@@ -249,8 +249,8 @@ impl<NI: NodeIndex> Allocator<NI> {
     /// Where the range of a live handle begins, in units from the start of the space, or `None` where the handle is not
     /// live.
     ///
-    /// The public `offset` of a handle is a copy: a caller may have changed it, `compact` leaves it as it was, and a stale
-    /// handle keeps it. It makes at most 8 accesses to the tables.
+    /// The public `offset` of a handle is a copy: a caller may have changed it, `compact` leaves it as it was, and a
+    /// stale handle keeps it. It makes at most 8 accesses to the tables.
     pub fn allocation_offset(&self, allocation: Allocation<NI>) -> Option<u32>
         ensures { result ≡ option_map (λ (r : Range). r.offset) (range_of allocation.name self.now) }
     {
@@ -277,8 +277,8 @@ impl<NI: NodeIndex> Allocator<NI> {
         counted::storage_report_counted(self, &mut Accesses::new())
     }
 
-    /// The free blocks, class by class, at the node limit too. It makes at most 512 accesses to the tables, and 2 for each
-    /// free block.
+    /// The free blocks, class by class, at the node limit too. It makes at most 512 accesses to the tables, and 2 for
+    /// each free block.
     pub fn storage_report_full(&self) -> StorageReportFull
         ensures { IsFullReport result self.now }
     {
@@ -310,29 +310,29 @@ impl<NI: NodeIndex> Allocator<NI> {
     /// Grants `size` units that begin at a multiple of `align`, a power of two.
     ///
     /// The block is the one that a request for `size + align - 1` units would take. Its units before the range (the
-    /// padding) and after it (the remainder) stay free. `None` is returned if that request finds no block, if
-    /// `size + align - 1` is above 4294967295, or if `align` is above 1 and there is no room for two more blocks, even if
-    /// fewer would be added. Then nothing changes. With `align` 1 the call is `allocate(size)`. It makes at most 128
-    /// accesses to the tables, and takes no memory.
+    /// padding) and after it (the remainder) stay free. `None` is returned if that request finds no block, if `size +
+    /// align - 1` is above 4294967295, or if `align` is above 1 and there is no room for two more blocks, even if fewer
+    /// would be added. Then nothing changes. With `align` 1 the call is `allocate(size)`. It makes at most 128 accesses
+    /// to the tables, and takes no memory.
     pub fn allocate_aligned(&mut self, size: u32, align: u32) -> Option<Allocation<NI>>
         requires power { IsAlignment align }
-        // The units needed are `size + align - 1`; the blocks needed are 1 with `align` 1, and 2 above. If at least one unit
-        // is needed, the request is granted exactly when there is room for the blocks needed and the units needed are at
-        // most the reported `largest_free_region`. Any request is granted exactly when there is room for the blocks
-        // needed, and there is a free block in a size class whose blocks all have at least the units needed.
+        // The units needed are `size + align - 1`; the blocks needed are 1 with `align` 1, and 2 above. If at least one
+        // unit is needed, the request is granted exactly when there is room for the blocks needed and the units needed
+        // are at most the reported `largest_free_region`. Any request is granted exactly when there is room for the
+        // blocks needed, and there is a free block in a size class whose blocks all have at least the units needed.
         ensures granted { 1 ≤ units_needed size align → (IsSome result
             ↔ (HasRoomFor (blocks_needed align) self.old × (units_needed size align ≤ largest_free self.old))) }
         ensures can_grant { IsSome result ↔ CanGrant (blocks_needed align) (units_needed size align) self.old }
-        // A grant gives a name that was not live. Its range has exactly `size` units, lies in the space, and overlaps no
-        // live range. All live ranges stay as they are.
+        // A grant gives a name that was not live. Its range has exactly `size` units, lies in the space, and overlaps
+        // no live range. All live ranges stay as they are.
         ensures grants { IfSome result (Grants size self.old self.new) }
         // The range begins at a multiple of the alignment.
         ensures aligned { IfSome result (λ h. h.offset % align ≡ 0) }
         // A refusal leaves the space as it was.
         ensures same { result ≡ None → SameSpace self.old self.new }
-        // Near-best fit: if a free block has at least 9/8 of the units needed, the block taken is at most 9/8 as large as
-        // that block. A refusal with room for the blocks needed means that every free block is smaller than 9/8 of these
-        // units.
+        // Near-best fit: if a free block has at least 9/8 of the units needed, the block taken is at most 9/8 as large
+        // as that block. A refusal with room for the blocks needed means that every free block is smaller than 9/8 of
+        // these units.
         ensures nearly { IfSome result (IsSplitNearBest (units_needed size align) self.old) }
         ensures refused { result ≡ None → HasRoomFor (blocks_needed align) self.old
             → IsGoodRefusal (units_needed size align) (free_sizes self.old.blocks) }
@@ -346,12 +346,12 @@ impl<NI: NodeIndex> Allocator<NI> {
         self.serve(size, align)
     }
 
-    /// Adds `more` units at the end of the space: to the last block where that is free, or else as a new free block. That
-    /// block is then the newest of its bin.
+    /// Adds `more` units at the end of the space: to the last block where that is free, or else as a new free block.
+    /// That block is then the newest of its bin.
     ///
     /// `false` is returned where the space would have more than 4294967295 units, and where its last block is used and
-    /// no further block may exist; then nothing changes. With 0 units it is `true`. It makes at most 128 accesses to the
-    /// tables, and takes no memory.
+    /// no further block may exist; then nothing changes. With 0 units it is `true`. It makes at most 128 accesses to
+    /// the tables, and takes no memory.
     pub fn extend(&mut self, more: u32) -> bool
         // It is done exactly when the space can have that many more units.
         ensures done { IsTrue result ↔ (1 ≤ more → CanExtend more self.old) }

@@ -33,7 +33,7 @@ pub(crate) fn point_back<NI: NodeIndex>(
     }
 }
 
-/// Makes a node the one after the node that a link names.
+/// Makes a node the one after the node that a link names. Where it names none, nothing changes.
 #[tactic(auto, using(crate::proofs::Nodes::lengths))]
 pub(crate) fn point_on<NI: NodeIndex>(
     tables: &mut Tables<NI>,

@@ -50,8 +50,8 @@ pub(crate) fn free_after<NI: NodeIndex>(
     None
 }
 
-// If a free block is directly before a block of this size, it leaves its bin and is coalesced into the block. The size of
-// the whole is returned.
+// If a free block is directly before a block of this size, it leaves its bin and is coalesced into the block. The size
+// of the whole is returned.
 #[inline(always)]
 fn with_before<NI: NodeIndex>(store: &mut Store<NI>, name: u32, size: u32) -> u32
     requires place { (m : ℕ) × (p : Place) × HasPlace store.old.tables.room m store.old.last store.old.spare_count name p × AreFiled (p.before ++ p.after) (class_lists NI.MAX store.old.tables.links) }
@@ -88,8 +88,9 @@ fn with_before<NI: NodeIndex>(store: &mut Store<NI>, name: u32, size: u32) -> u3
     size
 }
 
-/// Coalesces a block of this size, which is in no bin, with the free blocks beside it, and pushes the whole block onto its
-/// bin. There it takes the place of the neighbour that is coalesced last, where that is the newest of this same bin.
+/// Coalesces a block of this size, which is in no bin, with the free blocks beside it, and pushes the whole block onto
+/// its bin. There it takes the place of the neighbour that is coalesced last, where that is the newest of this same
+/// bin.
 #[inline(always)]
 pub(crate) fn coalesce<NI: NodeIndex>(store: &mut Store<NI>, name: u32, size: u32)
     requires place { (m : ℕ) × (p : Place) × HasPlace store.old.tables.room m store.old.last store.old.spare_count name p × AreFiled (p.before ++ p.after) (class_lists NI.MAX store.old.tables.links) }

@@ -143,8 +143,8 @@ pub(crate) fn units_after<NI: NodeIndex>(
     }
 }
 
-// If a free block, of the name `next`, is directly after a block of this size, it leaves its bin and is coalesced into the
-// block. The size of the whole is returned.
+// If a free block, of the name `next`, is directly after a block of this size, it leaves its bin and is coalesced into
+// the block. The size of the whole is returned.
 #[inline(always)]
 fn with_after<NI: NodeIndex>(store: &mut Store<NI>, name: u32, size: u32, next: Option<u32>) -> u32
     requires place { (m : ℕ) × (p : Place) × HasPlace store.old.tables.room m store.old.last store.old.spare_count name p × AreFiled (p.before ++ p.after) (class_lists NI.MAX store.old.tables.links) }

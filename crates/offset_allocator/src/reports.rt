@@ -16,21 +16,21 @@ pub struct StorageReport {
 /// Why a request is refused: the first of these that applies.
 #[derive(Clone, Copy, Debug, PartialEq)]
 pub enum Refusal {
-    /// There is no room for one more block, or for two more where an aligned request needs them. Use another space, free
-    /// ranges that have free neighbours, or compact a space of several free blocks.
+    /// There is no room for one more block, or for two more where an aligned request needs them. Use another space,
+    /// free ranges that have free neighbours, or compact a space of several free blocks.
     Nodes,
     /// The request needs more units than all free blocks have together. Extend the space, or free ranges.
     Space,
-    /// Enough units are free, but no free block is of a class whose blocks are all large enough. Compact the space, or free
-    /// ranges beside free blocks; where all free units are one block already, extend the space.
+    /// Enough units are free, but no free block is of a class whose blocks are all large enough. Compact the space, or
+    /// free ranges beside free blocks; where all free units are one block already, extend the space.
     Fragmented,
 }
 
 /// One size class in the full report.
 #[derive(Clone, Copy, Debug)]
 pub struct StorageReportFullRegion {
-    /// The value of the class: each of its blocks has at least that many units. The values of the classes 240 to 255 are
-    /// reported modulo 2 to the power of 32; no block is of these classes.
+    /// The value of the class: each of its blocks has at least that many units. The values of the classes 240 to 255
+    /// are reported modulo 2 to the power of 32; no block is of these classes.
     pub size: u32,
     /// The number of free blocks of the class.
     pub count: u32,

@@ -12,14 +12,14 @@ impl<NI: NodeIndex> Allocator<NI> {
     /// Frees the units of a live range after its first `size`. They are free at once, in one block with the free block
     /// directly after the range, and that block is the newest of its bin. The handle stays live, with its offset.
     ///
-    /// `false` is returned where `size` is above the units of the range, and where no further block may exist and no free
-    /// block is directly after the range; then nothing changes. With exactly the units of the range it is `true`, and
-    /// nothing changes either. The handle has to be live, and only its name counts, as in `free`. It makes at most 128
-    /// accesses to the tables, and takes no memory.
+    /// `false` is returned where `size` is above the units of the range, and where no further block may exist and no
+    /// free block is directly after the range; then nothing changes. With exactly the units of the range it is `true`,
+    /// and nothing changes either. The handle has to be live, and only its name counts, as in `free`. It makes at most
+    /// 128 accesses to the tables, and takes no memory.
     pub fn shrink(&mut self, allocation: Allocation<NI>, size: u32) -> bool
         requires live { IsLive allocation.name self.old }
-        // It is done exactly when the range has at least `size` units, and, if it has more, a free block is directly after it
-        // or there is room for one more block.
+        // It is done exactly when the range has at least `size` units, and, if it has more, a free block is directly
+        // after it or there is room for one more block.
         ensures done { IsTrue result ↔ CanShrink allocation.name size self.old }
         // Then the range has `size` units, from its first one on. All other ranges stay.
         ensures range { IsTrue result → HasUnits allocation.name size self.old self.new }
@@ -49,10 +49,10 @@ impl<NI: NodeIndex> Allocator<NI> {
     /// Adds units to a live range at its end, so that it has `size`: those of the free block directly after it. What
     /// remains of that block stays free, and is the newest of its bin. The handle stays live, with its offset.
     ///
-    /// `false` is returned where `size` is below the units of the range, and where no free block directly after the range
-    /// has the units that it lacks; then nothing changes. With exactly the units of the range it is `true`, and nothing
-    /// changes either. The handle has to be live, and only its name counts, as in `free`. It makes at most 128 accesses
-    /// to the tables, and takes no memory.
+    /// `false` is returned where `size` is below the units of the range, and where no free block directly after the
+    /// range has the units that it lacks; then nothing changes. With exactly the units of the range it is `true`, and
+    /// nothing changes either. The handle has to be live, and only its name counts, as in `free`. It makes at most 128
+    /// accesses to the tables, and takes no memory.
     pub fn grow_in_place(&mut self, allocation: Allocation<NI>, size: u32) -> bool
         requires live { IsLive allocation.name self.old }
         // It is done exactly when the range has at most `size` units, and at least `size` with those of the free block

@@ -56,8 +56,8 @@ impl<NI: NodeIndex> Tables<NI> {
         })
     }
 
-    /// Makes all nodes unused and all classes empty, and puts all names on the stack of unused ones. The other fields of a node
-    /// stay: they are written before they are read.
+    /// Makes all nodes unused and all classes empty, and puts all names on the stack of unused ones. The other fields
+    /// of a node stay: they are written before they are read.
     pub(crate) fn clear(&mut self)
         ensures { AreEmpty NI.MAX (length self.old.room.nodes) self.new }
     {

@@ -197,8 +197,8 @@ impl<NI: NodeIndex> Player<NI> {
 /// Plays commands on an allocator of `size` units with the node limit `max_allocs`, and returns their answers in order,
 /// one for each.
 ///
-/// The limit has to be 2 to `NI::MAX - 2`, and each alignment a power of two. All answers are kept in memory. It fails only
-/// where an allocation fails: of the allocator's tables, of the list of handles, or of the answers.
+/// The limit has to be 2 to `NI::MAX - 2`, and each alignment a power of two. All answers are kept in memory. It fails
+/// only where an allocation fails: of the allocator's tables, of the list of handles, or of the answers.
 pub fn play<NI: NodeIndex>(
     alloc: Global,
     size: u32,

@@ -74,8 +74,8 @@ pub fn upload(heap: &mut Allocator, size: u32, align: u32) -> Option<Allocation>
 
 /// Allocates `size` units, in a space that grows by `more` units where too few are free.
 ///
-/// The error says why the request is refused, and so what is left to do: where the space is fragmented, `compact` it, or
-/// extend it where all free units are one block; where no node is left, use another space. Then no live range has
+/// The error says why the request is refused, and so what is left to do: where the space is fragmented, `compact` it,
+/// or extend it where all free units are one block; where no node is left, use another space. Then no live range has
 /// changed, but the space may have grown.
 pub fn place(space: &mut Allocator, size: u32, more: u32) -> Result<Allocation, Refusal>
     ensures range { IfOk result (λ h. range_of h.name space.new ≡ Some (record { offset = h.offset; size = size })) }
@@ -113,8 +113,8 @@ pub fn defragment(space: &mut Allocator, buffer: &mut [u32])
     });
 }
 
-/// The byte at which the vertices of a mesh begin, with `stride` bytes each, as a draw call needs it, or `None` where the
-/// mesh's handle is not live.
+/// The byte at which the vertices of a mesh begin, with `stride` bytes each, as a draw call needs it, or `None` where
+/// the mesh's handle is not live.
 pub fn first_byte(vertices: &Allocator, mesh: Allocation, stride: u32) -> Option<u64>
     ensures live { IsSome result ↔ IsLive mesh.name vertices.now }
     ensures byte { (r : Range) → range_of mesh.name vertices.now ≡ Some r → result ≡ Some (r.offset * stride) }
@@ -123,8 +123,9 @@ pub fn first_byte(vertices: &Allocator, mesh: Allocation, stride: u32) -> Option
     Some(u64::from(first) * u64::from(stride))
 }
 
-/// Changes the number of vertices of a mesh in place: it gives the last ones back, or takes those that are free directly
-/// after it. The handle has to be live. It returns whether the mesh has `size` vertices then; if not, nothing has changed.
+/// Changes the number of vertices of a mesh in place: it gives the last ones back, or takes those that are free
+/// directly after it. The handle has to be live. It returns whether the mesh has `size` vertices then; if not, nothing
+/// has changed.
 pub fn resize(vertices: &mut Allocator, mesh: Allocation, size: u32) -> bool
     requires live { IsLive mesh.name vertices.old }
     ensures shrunk { size < size_of mesh.name vertices.old → (IsTrue result ↔ CanShrink mesh.name size vertices.old) }

@@ -85,7 +85,7 @@ fn main() -> Result<(), AllocError> {
         pool.check();
     }
     let report = pool.space.storage_report();
-    println!("{STEPS} steps, {} meshes, {} of {} bytes free: no byte was touched", pool.meshes.len(), report.total_free_space, pool.buffer.len());
+    println!("{STEPS} steps, {} meshes, {} of {} bytes free: no byte of a mesh was overwritten", pool.meshes.len(), report.total_free_space, pool.buffer.len());
     while !pool.meshes.is_empty() {
         pool.remove(0);
     }

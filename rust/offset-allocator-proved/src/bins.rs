@@ -1,6 +1,7 @@
 // Printed by rust/erase from crates/offset_allocator/src/bins.rt: change it there.
 
-//! A bin for each size class: the names of its free blocks, in a list of links between the nodes, with a two-level mask.
+//! A bin for each size class: the names of its free blocks, in a list of links between the nodes, with a two-level
+//! mask.
 
 use crate::accesses::Accesses;
 use crate::index::{NodeIndex, link_to, no_link, number};
@@ -154,8 +155,8 @@ pub(crate) fn remove<NI: NodeIndex>(
     leave(tables, top_mask, name, before, size, count);
 }
 
-/// Removes `gone`, the name of a block of `size` units, from its bin, and pushes `name` onto the bin of `class`. Where both
-/// are one bin and `gone` is its newest, `name` takes its place.
+/// Removes `gone`, the name of a block of `size` units, from its bin, and pushes `name` onto the bin of `class`. Where
+/// both are one bin and `gone` is its newest, `name` takes its place.
 #[inline(always)]
 pub(crate) fn exchange<NI: NodeIndex>(
     tables: &mut Tables<NI>,

@@ -3,9 +3,9 @@
 //! Ranges of one contiguous space of `size` units, handed out and taken back with a bounded number of accesses to table
 //! cells. The space itself is never touched.
 //!
-//! A *block* is a run of units, used (granted; its name is then live) or free; no two free blocks are neighbours. Each block has a *node* of the
-//! tables, whose index is the block's *name*. A *size class* is a range of sizes, and its *bin* the list of its free
-//! blocks, the one that became free last first.
+//! A *block* is a run of units, used (granted; its name is then live) or free; no two free blocks are neighbours. Each
+//! block has a *node* of the tables, whose index is the block's *name*. A *size class* is a range of sizes, and its
+//! *bin* the list of its free blocks, the one that became free last first.
 //!
 //! ```
 //! use offset_allocator_proved::*;
@@ -79,18 +79,18 @@ pub struct Allocator<NI: NodeIndex = u32> {
 }
 
 impl<NI: NodeIndex> Allocator<NI> {
-    /// A space of `size` units, all free, with the smaller of 131072 and `NI::MAX - 2` as the node limit. A node costs as
-    /// much as in `with_max_allocs`.
+    /// A space of `size` units, all free, with the smaller of 131072 and `NI::MAX - 2` as the node limit. A node costs
+    /// as much as in `with_max_allocs`.
     ///
     /// An error is returned only where an allocation failed; then nothing is made.
     pub fn new(alloc: Global, size: u32) -> Result<Self, AllocError> {
         Self::with_max_allocs(alloc, size, 131072u32.min(NI::MAX - 2))
     }
 
-    /// A space of `size` units, all free, with `max_allocs` as the node limit: at most `max_allocs - 1` blocks exist at a
-    /// time, free ones included. A request is granted only while at most `max_allocs - 2` exist, and makes one of them
-    /// live: so at most `max_allocs - 2` grants are live. The limit is 2 to `NI::MAX - 2`: 65533 for `u16`, 4294967293
-    /// for `u32`. It costs 29 bytes a node with `u32`, 19 with `u16`, and this call writes them all.
+    /// A space of `size` units, all free, with `max_allocs` as the node limit: at most `max_allocs - 1` blocks exist at
+    /// a time, free ones included. A request is granted only while at most `max_allocs - 2` exist, and makes one of
+    /// them live: so at most `max_allocs - 2` grants are live. The limit is 2 to `NI::MAX - 2`: 65533 for `u16`,
+    /// 4294967293 for `u32`. It costs 29 bytes a node with `u32`, 19 with `u16`, and this call writes them all.
     ///
     /// An error is returned only where an allocation failed; then nothing is made.
     pub fn with_max_allocs(alloc: Global, size: u32, max_allocs: u32) -> Result<Self, AllocError> {
@@ -114,9 +114,9 @@ impl<NI: NodeIndex> Allocator<NI> {
 
     /// Makes the whole space one free block again, in place. No earlier handle is live then.
     ///
-    /// It takes no memory and always succeeds, and the space keeps what `extend` added. If fewer than `max_allocs / 128`
-    /// blocks exist, it frees each live range; otherwise it clears all use flags, empties the bins and refills the stack of
-    /// unused names: 5 bytes a node with `u32`, 3 with `u16`.
+    /// It takes no memory and always succeeds, and the space keeps what `extend` added. If fewer than `max_allocs /
+    /// 128` blocks exist, it frees each live range; otherwise it clears all use flags, empties the bins and refills the
+    /// stack of unused names: 5 bytes a node with `u32`, 3 with `u16`.
     pub fn reset(&mut self) {
         // freeing a range takes about as long as going over 128 nodes
         if self.block_count() < self.max_allocs / 128 {
@@ -147,14 +147,14 @@ impl<NI: NodeIndex> Allocator<NI> {
         self.block_count() == self.max_allocs - 1
     }
 
-    /// Grants a range of `size` units, and returns its handle. They are the first ones of a free block of the smallest size class that has one and whose
-    /// blocks are all large enough, and of those blocks the one that became free last. What remains of the block stays
-    /// free, directly after the range.
+    /// Grants a range of `size` units, and returns its handle. They are the first ones of a free block of the smallest
+    /// size class that has one and whose blocks are all large enough, and of those blocks the one that became free
+    /// last. What remains of the block stays free, directly after the range.
     ///
-    /// `None` is returned where `max_allocs - 1` blocks exist, even for an exact fit, and where no free block is of such
-    /// a class; then nothing changes. A request of at least one unit is granted exactly when it is at most the
-    /// `largest_free_region` that `storage_report` returns just before. One of 0 units takes a node too, and needs a free
-    /// block of any size. It makes at most 64 accesses to the tables, and takes no memory.
+    /// `None` is returned where `max_allocs - 1` blocks exist, even for an exact fit, and where no free block is of
+    /// such a class; then nothing changes. A request of at least one unit is granted exactly when it is at most the
+    /// `largest_free_region` that `storage_report` returns just before. One of 0 units takes a node too, and needs a
+    /// free block of any size. It makes at most 64 accesses to the tables, and takes no memory.
     pub fn allocate(&mut self, size: u32) -> Option<Allocation<NI>> {
         self.serve(size, 1)
     }
@@ -162,9 +162,9 @@ impl<NI: NodeIndex> Allocator<NI> {
     /// Frees the range of a live handle. Its units are free at once, in one block with the free blocks directly before
     /// and after it, and that block is the newest of its bin.
     ///
-    /// The handle has to be live, which `is_live` reports. Only its name counts, and not its public `offset`: a stale handle
-    /// whose name was granted again is live, and frees that range. It makes at most 128 accesses to the tables, and takes no
-    /// memory.
+    /// The handle has to be live, which `is_live` reports. Only its name counts, and not its public `offset`: a stale
+    /// handle whose name was granted again is live, and frees that range. It makes at most 128 accesses to the tables,
+    /// and takes no memory.
     pub fn free(&mut self, allocation: Allocation<NI>) {
         assert!(self.is_live(allocation), "the handle must be live");
         self.release(index::number(NI::of_nonmax(allocation.name())));
@@ -172,15 +172,15 @@ impl<NI: NodeIndex> Allocator<NI> {
 
     /// Whether the handle is live here: its name is the name of a used block. `free` asks for exactly this.
     ///
-    /// A handle whose block was freed is live again where a newer grant has its name. It makes at most 8 accesses to the
-    /// tables.
+    /// A handle whose block was freed is live again where a newer grant has its name. It makes at most 8 accesses to
+    /// the tables.
     pub fn is_live(&self, allocation: Allocation<NI>) -> bool {
         counted::is_live_counted(self, allocation, &mut Accesses::new())
     }
 
     /// The units of the range that a live handle has: exactly those that `allocate`, `allocate_aligned`, `shrink` or
-    /// `grow_in_place` last gave it. It is 0 where the handle is not live, and for a live range of no units too. It makes at
-    /// most 8 accesses to the tables.
+    /// `grow_in_place` last gave it. It is 0 where the handle is not live, and for a live range of no units too. It
+    /// makes at most 8 accesses to the tables.
     pub fn allocation_size(&self, allocation: Allocation<NI>) -> u32 {
         counted::allocation_size_counted(self, allocation, &mut Accesses::new())
     }
@@ -188,8 +188,8 @@ impl<NI: NodeIndex> Allocator<NI> {
     /// Where the range of a live handle begins, in units from the start of the space, or `None` where the handle is not
     /// live.
     ///
-    /// The public `offset` of a handle is a copy: a caller may have changed it, `compact` leaves it as it was, and a stale
-    /// handle keeps it. It makes at most 8 accesses to the tables.
+    /// The public `offset` of a handle is a copy: a caller may have changed it, `compact` leaves it as it was, and a
+    /// stale handle keeps it. It makes at most 8 accesses to the tables.
     pub fn allocation_offset(&self, allocation: Allocation<NI>) -> Option<u32> {
         counted::allocation_offset_counted(self, allocation, &mut Accesses::new())
     }
@@ -210,8 +210,8 @@ impl<NI: NodeIndex> Allocator<NI> {
         counted::storage_report_counted(self, &mut Accesses::new())
     }
 
-    /// The free blocks, class by class, at the node limit too. It makes at most 512 accesses to the tables, and 2 for each
-    /// free block.
+    /// The free blocks, class by class, at the node limit too. It makes at most 512 accesses to the tables, and 2 for
+    /// each free block.
     pub fn storage_report_full(&self) -> StorageReportFull {
         counted::storage_report_full_counted(self, &mut Accesses::new())
     }
@@ -235,21 +235,21 @@ impl<NI: NodeIndex> Allocator<NI> {
     /// Grants `size` units that begin at a multiple of `align`, a power of two.
     ///
     /// The block is the one that a request for `size + align - 1` units would take. Its units before the range (the
-    /// padding) and after it (the remainder) stay free. `None` is returned if that request finds no block, if
-    /// `size + align - 1` is above 4294967295, or if `align` is above 1 and there is no room for two more blocks, even if
-    /// fewer would be added. Then nothing changes. With `align` 1 the call is `allocate(size)`. It makes at most 128
-    /// accesses to the tables, and takes no memory.
+    /// padding) and after it (the remainder) stay free. `None` is returned if that request finds no block, if `size +
+    /// align - 1` is above 4294967295, or if `align` is above 1 and there is no room for two more blocks, even if fewer
+    /// would be added. Then nothing changes. With `align` 1 the call is `allocate(size)`. It makes at most 128 accesses
+    /// to the tables, and takes no memory.
     pub fn allocate_aligned(&mut self, size: u32, align: u32) -> Option<Allocation<NI>> {
         assert!(align.is_power_of_two(), "align must be a power of two");
         self.serve(size, align)
     }
 
-    /// Adds `more` units at the end of the space: to the last block where that is free, or else as a new free block. That
-    /// block is then the newest of its bin.
+    /// Adds `more` units at the end of the space: to the last block where that is free, or else as a new free block.
+    /// That block is then the newest of its bin.
     ///
     /// `false` is returned where the space would have more than 4294967295 units, and where its last block is used and
-    /// no further block may exist; then nothing changes. With 0 units it is `true`. It makes at most 128 accesses to the
-    /// tables, and takes no memory.
+    /// no further block may exist; then nothing changes. With 0 units it is `true`. It makes at most 128 accesses to
+    /// the tables, and takes no memory.
     pub fn extend(&mut self, more: u32) -> bool {
         if more == 0 {
             return true;

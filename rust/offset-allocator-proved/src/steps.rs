@@ -94,8 +94,8 @@ impl<NI: NodeIndex> Allocator<NI> {
         handle_of(start, name)
     }
 
-    /// A request for units from a multiple of `align` on. With `align` 1, which is a constant where this is inlined into
-    /// `allocate`, there is no padding.
+    /// A request for units from a multiple of `align` on. With `align` 1, which is a constant where this is inlined
+    /// into `allocate`, there is no padding.
     #[inline(always)]
     pub(crate) fn serve(&mut self, size: u32, align: u32) -> Option<Allocation<NI>> {
         if self.store.spare_count <= align.min(2) {
@@ -116,8 +116,8 @@ impl<NI: NodeIndex> Allocator<NI> {
         }
     }
 
-    /// Frees the block of a name. It is inlined into `free` and into `free_all`: so `free` shares no code with `reset`, and
-    /// a caller's only call of `free` can be inlined.
+    /// Frees the block of a name. It is inlined into `free` and into `free_all`: so `free` shares no code with `reset`,
+    /// and a caller's only call of `free` can be inlined.
     #[inline(always)]
     pub(crate) fn release(&mut self, name: u32) {
         let size = chain::size(&self.store.tables, name, &mut self.store.accesses);

@@ -52,6 +52,6 @@ fn main() -> Result<(), Box<dyn Error>> {
         }
     }
     println!("{} commands: {grants} grants, {refused} refusals, {} live at the end", answers.len(), starts.len());
-    println!("at most {most} units were held, and none from {reach} on was: {:.2} of what was held", reach as f64 / most as f64);
+    println!("at most {most} units were held, all below offset {reach}: {:.2} times as many", reach as f64 / most as f64);
     Ok(())
 }
