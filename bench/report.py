@@ -129,13 +129,15 @@ def misses_table(rows):
 
 
 def rounds_table(rows):
-    """The best and the worst ratio to the original's time in the same round."""
+    """The best and the worst ratio to the original's time in the same round. A round is left out in which a run without
+    steps took longer than the one with them."""
     yield "| workload | rounds | ours: best | worst | erased: best | worst | C: best | worst |"
     yield "|---|" + "---:|" * 7
     for row in rows:
-        sides = zip(*([ns / original for ns in others] for original, *others in row.rounds))
+        rounds = [ns for ns in row.rounds if min(ns) > 0]
+        sides = zip(*([ns / original for ns in others] for original, *others in rounds))
         cells = [f"{x:.2f}" for side in sides for x in (min(side), max(side))]
-        yield f"| {row.name} | {len(row.rounds)} | " + " | ".join(cells) + " |"
+        yield f"| {row.name} | {len(rounds)} | " + " | ".join(cells) + " |"
 
 
 def compacting_table(rows):
@@ -235,7 +237,8 @@ def main():
              "Reads and writes of a step that miss a first-level data cache of 32 KiB, as callgrind simulates it.", "",
              *misses_table(rows), "",
              "## The best and the worst run", "",
-             "With large tables: the time of each run in parts of the original's in the same round.", "", *rounds_table(large)]
+             "With large tables: the time of each run in parts of the original's in the same round. A round is left out in which "
+             "a run without steps took longer than the one with them.", "", *rounds_table(large)]
     if not sys.argv[3:] or sys.argv[3] in "compact":
         shown += ["", "## Compact", "",
                   "The erased side: `compact`, and what leaves the same ranges without it: a reset of the space, or a release of "

@@ -104,7 +104,7 @@ started max m size d top two least sized nodes space eb bins lists =
     let ev : view_of max size m d (m - 1) 0 ≡ fresh size m = ap₂ (λ (b : List Block) (o : List (List ℕ)). let u : View = record { size = size; max_allocs = m; blocks = b; order = o; accesses = 0 } in u) eb lists in (
       record {
         nodes = nodes;
-        least = least;
+        admitted = least;
         space = space;
         bins = bins;
         well = subst IsWellFormed (sym ev) (well_alone (fresh size m) (m - 1) size 0 two (omega arith) sized);

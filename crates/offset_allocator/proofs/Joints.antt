@@ -30,7 +30,7 @@ stepped f s v d free k {last} {count} {top} {bs} well limit chain eb bins eo tot
     let left : (j : ℕ) → view_of f.max v.size f.limit d last j ≡ with_accesses j v = λ j. rw (is, eb, eo, limit) refl in (
       record {
         nodes = chain.cells ∙ s.nodes;
-        least = s.least;
+        admitted = s.admitted;
         space = space-chain d.room _ last count bs chain;
         bins = bins;
         well = subst IsWellFormed (sym (left 0)) (well_counted v 0 well);

@@ -22,7 +22,7 @@ view_of max size limit c last accesses = record {
 -- what is true of the fields between two calls
 pub record IsSound (max size limit : ℕ) (c : Cells) (last count top free : ℕ) : Type 0 where
   pub nodes : length c.room.nodes ≡ limit
-  pub least : limit + 1 < max
+  pub admitted : limit + 1 < max
   pub space : IsSpace c.room last count
   pub bins : Binned max c.links top
   pub well : IsWellFormed (view_of max size limit c last 0)

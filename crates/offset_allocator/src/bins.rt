@@ -82,7 +82,7 @@ pub(crate) fn push<NI: NodeIndex>(
     requires held { Binned NI.MAX tables.old.links top_mask.old }
     requires named { name < length tables.old.room.nodes }
     requires classed { class < 256 }
-    requires fresh { IsUnlisted name (class_lists NI.MAX tables.old.links) }
+    requires unlisted { IsUnlisted name (class_lists NI.MAX tables.old.links) }
     ensures held { Binned NI.MAX tables.new.links top_mask.new }
     ensures lists { class_lists NI.MAX tables.new.links ≡ push class name (class_lists NI.MAX tables.old.links) }
     ensures room { tables.new.room ≡ tables.old.room }
@@ -150,7 +150,7 @@ fn behead<NI: NodeIndex>(
 )
     requires held { Binned NI.MAX tables.old.links top_mask.old }
     requires classed { class < 256 }
-    requires full { names_at (class_lists NI.MAX tables.old.links) class ≢ [] }
+    requires some { names_at (class_lists NI.MAX tables.old.links) class ≢ [] }
     requires after { NI.number after ≡ slice_index tables.old.links.older (slice_index tables.old.links.heads class) }
     ensures held { Binned NI.MAX tables.new.links top_mask.new }
     ensures lists { class_lists NI.MAX tables.new.links ≡ remove class (slice_index tables.old.links.heads class) (class_lists NI.MAX tables.old.links) }
@@ -238,7 +238,7 @@ pub(crate) fn exchange<NI: NodeIndex>(
     requires listed { Among gone (names_at (class_lists NI.MAX tables.old.links) (down size)) }
     requires named { name < length tables.old.room.nodes }
     requires classed { class < 256 }
-    requires fresh { IsUnlisted name (class_lists NI.MAX tables.old.links) }
+    requires unlisted { IsUnlisted name (class_lists NI.MAX tables.old.links) }
     ensures held { Binned NI.MAX tables.new.links top_mask.new }
     ensures lists { class_lists NI.MAX tables.new.links ≡ push class name (remove (down size) gone (class_lists NI.MAX tables.old.links)) }
     ensures room { tables.new.room ≡ tables.old.room }
@@ -269,7 +269,7 @@ pub(crate) fn pop<NI: NodeIndex>(
 ) -> u32
     requires held { Binned NI.MAX tables.old.links top_mask.old }
     requires classed { class < 256 }
-    requires full { names_at (class_lists NI.MAX tables.old.links) class ≢ [] }
+    requires some { names_at (class_lists NI.MAX tables.old.links) class ≢ [] }
     ensures first { names_at (class_lists NI.MAX tables.old.links) class ≡ result ∷ without result (names_at (class_lists NI.MAX tables.old.links) class) }
     ensures held { Binned NI.MAX tables.new.links top_mask.new }
     ensures lists { class_lists NI.MAX tables.new.links ≡ remove class result (class_lists NI.MAX tables.old.links) }

@@ -22,7 +22,7 @@ pub(crate) fn start<NI: NodeIndex>(
     ensures space { IsSpace tables.new.room (max_allocs - 1) (max_allocs - 1) }
     ensures blocks { blocks tables.new.room (max_allocs - 1) ≡ free_block (max_allocs - 1) size ∷ [] }
     ensures links { tables.new.links ≡ tables.old.links }
-    ensures limit { length tables.new.room.nodes ≡ length tables.old.room.nodes }
+    ensures nodes { length tables.new.room.nodes ≡ length tables.old.room.nodes }
     ensures accesses { count.new ≡ count.old + 4 }
 {
     tables.shape();
@@ -103,7 +103,7 @@ pub(crate) fn split<NI: NodeIndex>(
     requires within { kept ≤ size }
     ensures place { (m : ℕ) (p : Place) → HasPlace tables.old.room m last.old spare_count.old name p → HasPlace tables.new.room m last.new spare_count.new name (record p { block = record p.block { size = kept }; after = free_block result (p.block.size - kept) ∷ p.after }) }
     ensures links { tables.new.links ≡ tables.old.links }
-    ensures limit { length tables.new.room.nodes ≡ length tables.old.room.nodes }
+    ensures nodes { length tables.new.room.nodes ≡ length tables.old.room.nodes }
     ensures spares { spare_count.new + 1 ≡ spare_count.old }
     ensures fresh { (m : ℕ) (p : Place) → HasPlace tables.old.room m last.old spare_count.old name p → count_named result (p.before ++ p.block ∷ p.after) ≡ 0 }
     ensures below { result < length tables.old.room.nodes }
@@ -139,7 +139,7 @@ pub(crate) fn coalesce_after<NI: NodeIndex>(
     requires total { total ≡ (node tables.old.room name).size + (node tables.old.room following).size }
     ensures place { (m : ℕ) (p : Place) → HasPlace tables.old.room m last.old spare_count.old name p → HasPlace tables.new.room m last.new spare_count.new name (coalesced_after p) }
     ensures links { tables.new.links ≡ tables.old.links }
-    ensures limit { length tables.new.room.nodes ≡ length tables.old.room.nodes }
+    ensures nodes { length tables.new.room.nodes ≡ length tables.old.room.nodes }
     ensures spares { spare_count.new ≡ spare_count.old + 1 }
     ensures accesses_kept { count.old ≤ count.new }
     ensures accesses_max { count.new ≤ count.old + 5 }
@@ -169,7 +169,7 @@ pub(crate) fn coalesce_before<NI: NodeIndex>(
     requires total { total ≡ (node tables.old.room previous).size + (node tables.old.room name).size }
     ensures place { (m last : ℕ) (p : Place) → HasPlace tables.old.room m last spare_count.old name p → HasPlace tables.new.room m last spare_count.new name (coalesced_before p) }
     ensures links { tables.new.links ≡ tables.old.links }
-    ensures limit { length tables.new.room.nodes ≡ length tables.old.room.nodes }
+    ensures nodes { length tables.new.room.nodes ≡ length tables.old.room.nodes }
     ensures spares { spare_count.new ≡ spare_count.old + 1 }
     ensures accesses_kept { count.old ≤ count.new }
     ensures accesses_max { count.new ≤ count.old + 7 }
@@ -194,7 +194,7 @@ pub(crate) fn mark<NI: NodeIndex>(
     requires { name < length tables.old.room.nodes }
     ensures place { (m last spare : ℕ) (p : Place) → HasPlace tables.old.room m last spare name p → HasPlace tables.new.room m last spare name (record p { block = record p.block { used = used } }) }
     ensures links { tables.new.links ≡ tables.old.links }
-    ensures limit { length tables.new.room.nodes ≡ length tables.old.room.nodes }
+    ensures nodes { length tables.new.room.nodes ≡ length tables.old.room.nodes }
     ensures accesses { count.new ≡ count.old + 1 }
 {
     tables.set_used(name, used, count);
@@ -215,7 +215,7 @@ pub(crate) fn split_before<NI: NodeIndex>(
     requires within { cut ≤ (node tables.old.room name).size }
     ensures place { (m last : ℕ) (p : Place) → HasPlace tables.old.room m last spare_count.old name p → HasPlace tables.new.room m last spare_count.new name (record { before = p.before ++ free_block result cut ∷ []; block = record p.block { size = p.block.size - cut }; after = p.after }) }
     ensures links { tables.new.links ≡ tables.old.links }
-    ensures limit { length tables.new.room.nodes ≡ length tables.old.room.nodes }
+    ensures nodes { length tables.new.room.nodes ≡ length tables.old.room.nodes }
     ensures spares { spare_count.new + 1 ≡ spare_count.old }
     ensures fresh { (m last : ℕ) (p : Place) → HasPlace tables.old.room m last spare_count.old name p → count_named result (p.before ++ p.block ∷ p.after) ≡ 0 }
     ensures below { result < length tables.old.room.nodes }
@@ -247,7 +247,7 @@ pub(crate) fn grow<NI: NodeIndex>(
     requires fits { units (blocks tables.old.room last) + more < 2 ^ 32 }
     ensures place { (m spare : ℕ) (before : List Block) (b : Block) → HasPlace tables.old.room m last spare last (record { before = before; block = b; after = [] }) → HasPlace tables.new.room m last spare last (record { before = before; block = record b { size = b.size + more }; after = [] }) }
     ensures links { tables.new.links ≡ tables.old.links }
-    ensures limit { length tables.new.room.nodes ≡ length tables.old.room.nodes }
+    ensures nodes { length tables.new.room.nodes ≡ length tables.old.room.nodes }
     ensures accesses { count.new ≡ count.old + 2 }
 {
     let size = tables.size(last, count);

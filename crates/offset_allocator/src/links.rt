@@ -17,7 +17,7 @@ pub(crate) fn point_back<NI: NodeIndex>(
 )
     requires link { IfSome (link_of NI.MAX (NI.number link)) (λ after. after < length tables.old.room.nodes) }
     requires name { name < length tables.old.room.nodes }
-    ensures limit { length tables.new.room.nodes ≡ length tables.old.room.nodes }
+    ensures nodes { length tables.new.room.nodes ≡ length tables.old.room.nodes }
     ensures cells { MatchOption (link_of NI.MAX (NI.number link)) (tables.new.room ≡ tables.old.room) (λ after. tables.new.room ≡ put tables.old.room after (record (node tables.old.room after) { before = Some name })) }
     ensures links { tables.new.links ≡ tables.old.links }
     ensures accesses_kept { count.old ≤ count.new }
@@ -43,7 +43,7 @@ pub(crate) fn point_on<NI: NodeIndex>(
 )
     requires link { IfSome (link_of NI.MAX (NI.number link)) (λ before. before < length tables.old.room.nodes) }
     requires name { name < length tables.old.room.nodes }
-    ensures limit { length tables.new.room.nodes ≡ length tables.old.room.nodes }
+    ensures nodes { length tables.new.room.nodes ≡ length tables.old.room.nodes }
     ensures cells { MatchOption (link_of NI.MAX (NI.number link)) (tables.new.room ≡ tables.old.room) (λ before. tables.new.room ≡ put tables.old.room before (record (node tables.old.room before) { after = Some name })) }
     ensures links { tables.new.links ≡ tables.old.links }
     ensures accesses_kept { count.old ≤ count.new }

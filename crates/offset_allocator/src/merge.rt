@@ -60,7 +60,7 @@ fn with_before<NI: NodeIndex>(store: &mut Store<NI>, name: u32, size: u32) -> u3
     ensures place { (m : ℕ) (p : Place) → HasPlace store.old.tables.room m store.old.last store.old.spare_count name p → HasPlace store.new.tables.room m store.new.last store.new.spare_count name (coalesced_before p) }
     ensures held { Binned NI.MAX store.new.tables.links store.new.top_mask }
     ensures lists { (m : ℕ) (p : Place) → HasPlace store.old.tables.room m store.old.last store.old.spare_count name p → class_lists NI.MAX store.new.tables.links ≡ remove_all (free_end p.before) (class_lists NI.MAX store.old.tables.links) }
-    ensures limit { length store.new.tables.room.nodes ≡ length store.old.tables.room.nodes }
+    ensures nodes { length store.new.tables.room.nodes ≡ length store.old.tables.room.nodes }
     ensures size { result ≡ (node store.new.tables.room name).size }
     ensures accesses_min { store.old.accesses + 1 ≤ store.new.accesses }
     ensures accesses_max { store.new.accesses ≤ store.old.accesses + 15 }

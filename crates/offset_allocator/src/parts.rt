@@ -24,7 +24,7 @@ fn split_padding<NI: NodeIndex>(store: &mut Store<NI>, name: u32, units: u32) ->
     ensures place { (m : ℕ) (p : Place) → HasPlace store.old.tables.room m store.old.last store.old.spare_count name p → HasPlace store.new.tables.room m store.new.last store.new.spare_count name (record { before = p.before ++ free_part result units; block = record p.block { size = p.block.size - units }; after = p.after }) }
     ensures held { Binned NI.MAX store.new.tables.links store.new.top_mask }
     ensures lists { class_lists NI.MAX store.new.tables.links ≡ push_all (free_part result units) (class_lists NI.MAX store.old.tables.links) }
-    ensures limit { length store.new.tables.room.nodes ≡ length store.old.tables.room.nodes }
+    ensures nodes { length store.new.tables.room.nodes ≡ length store.old.tables.room.nodes }
     ensures spares { store.old.spare_count ≤ store.new.spare_count + 1 }
     ensures accesses_kept { store.old.accesses ≤ store.new.accesses }
     ensures accesses_max { store.new.accesses ≤ store.old.accesses + 18 }
@@ -67,7 +67,7 @@ fn split_remainder<NI: NodeIndex>(
     ensures place { (m : ℕ) (p : Place) → HasPlace store.old.tables.room m store.old.last store.old.spare_count name p → HasPlace store.new.tables.room m store.new.last store.new.spare_count name (record p { block = record p.block { size = size }; after = free_part result left ++ p.after }) }
     ensures held { Binned NI.MAX store.new.tables.links store.new.top_mask }
     ensures lists { class_lists NI.MAX store.new.tables.links ≡ push_all (free_part result left) (class_lists NI.MAX store.old.tables.links) }
-    ensures limit { length store.new.tables.room.nodes ≡ length store.old.tables.room.nodes }
+    ensures nodes { length store.new.tables.room.nodes ≡ length store.old.tables.room.nodes }
     ensures accesses_kept { store.old.accesses ≤ store.new.accesses }
     ensures accesses_max { store.new.accesses ≤ store.old.accesses + 16 }
 {
@@ -113,7 +113,7 @@ pub(crate) fn divide<NI: NodeIndex>(
     ensures place { (m : ℕ) (p : Place) → HasPlace store.old.tables.room m store.old.last store.old.spare_count name p → HasPlace store.new.tables.room m store.new.last store.new.spare_count name (record { before = p.before ++ free_part result.0 padding; block = used_block p.block.name size; after = free_part result.1 left ++ p.after }) }
     ensures held { Binned NI.MAX store.new.tables.links store.new.top_mask }
     ensures lists { class_lists NI.MAX store.new.tables.links ≡ push_all (free_part result.0 padding ++ used_block name size ∷ free_part result.1 left) (class_lists NI.MAX store.old.tables.links) }
-    ensures limit { length store.new.tables.room.nodes ≡ length store.old.tables.room.nodes }
+    ensures nodes { length store.new.tables.room.nodes ≡ length store.old.tables.room.nodes }
     ensures accesses_min { store.old.accesses + 1 ≤ store.new.accesses }
     ensures accesses_max { store.new.accesses ≤ store.old.accesses + 35 }
 {
@@ -185,20 +185,20 @@ fn with_after<NI: NodeIndex>(store: &mut Store<NI>, name: u32, size: u32, next: 
     }
 }
 
-/// Makes a block of `held` units one of `size` units, from the same offset on. What remains of it and of the free block
-/// directly after it, whose name is `next`, becomes one free block in its bin, under the name that is returned.
+/// Makes a block of `old_size` units one of `size` units, from the same offset on. What remains of it and of the free
+/// block directly after it, whose name is `next`, becomes one free block in its bin, under the name that is returned.
 #[inline(always)]
 pub(crate) fn resize<NI: NodeIndex>(
     store: &mut Store<NI>,
     name: u32,
-    held: u32,
+    old_size: u32,
     next: Option<u32>,
     size: u32,
 ) -> u32
     requires place { (m : ℕ) × (p : Place) × HasPlace store.old.tables.room m store.old.last store.old.spare_count name p × AreFiled (p.before ++ p.after) (class_lists NI.MAX store.old.tables.links) × (size ≤ p.block.size + units (free_start p.after)) }
     requires held { Binned NI.MAX store.old.tables.links store.old.top_mask }
     requires spare { 0 < store.old.spare_count }
-    requires size { held ≡ (node store.old.tables.room name).size }
+    requires old_size { old_size ≡ (node store.old.tables.room name).size }
     requires next { IsFreeAfter store.old.tables.room name next }
     ensures place { (m : ℕ) (p : Place) → HasPlace store.old.tables.room m store.old.last store.old.spare_count name p → HasPlace store.new.tables.room m store.new.last store.new.spare_count name (record { before = p.before; block = record p.block { size = size }; after = free_part result (p.block.size + units (free_start p.after) - size) ++ without_start p.after }) }
     ensures held { Binned NI.MAX store.new.tables.links store.new.top_mask }
@@ -206,7 +206,7 @@ pub(crate) fn resize<NI: NodeIndex>(
     ensures accesses_kept { store.old.accesses ≤ store.new.accesses }
     ensures accesses_max { store.new.accesses ≤ store.old.accesses + 28 }
 {
-    let whole = with_after(store, name, held, next);
+    let whole = with_after(store, name, old_size, next);
     let offset = chain::offset(&store.tables, name, &mut store.accesses);
     split_remainder(store, name, offset, size, whole - size)
 }

@@ -183,8 +183,8 @@ pub fn frame<NI: NodeIndex>(space: &mut Allocator<NI>, n: u32, count: &mut Acces
     ensures granted { 1 ≤ n → (IsSome result ↔ (n ≤ largest_free space.old)) }
     ensures beside { IfSome result (λ left. (w : View) × (g : Grant) × Allocates n space.old w (Some g) × (left ≡ total_free w)) }
     ensures same { SameSpace space.old space.new }
-    ensures few { space.new.accesses ≤ space.old.accesses + 192 }
-    ensures read { count.new ≤ count.old + 8 }
+    ensures accesses_max { space.new.accesses ≤ space.old.accesses + 192 }
+    ensures count_max { count.new ≤ count.old + 8 }
 {
     laws::is_well_formed(space);
     let scratch = space.allocate(n)?;

@@ -33,9 +33,9 @@ grow-requires-clause-fits g c =
 pub push-requires-clause-classed : goal.push-requires-clause-classed
 push-requires-clause-classed g c = omega (arith, down_small c.args.more, c.uint_to_float_round_down.ensures.is)
 
-pub push-requires-clause-fresh : goal.push-requires-clause-fresh
-push-requires-clause-fresh g c =
-    let r = pre g (goal.at.push-requires-clause-fresh g c).After-self in
+pub push-requires-clause-unlisted : goal.push-requires-clause-unlisted
+push-requires-clause-unlisted g c =
+    let r = pre g (goal.at.push-requires-clause-unlisted g c).After-self in
     rw (c.grow.ensures.links, c.split-name.ensures.links) (append_unlisted r c.split-name.result (c.split-name.ensures.fresh _ _ (end_held r refl)))
 
 pub overflow_add-self-2 : goal.overflow_add-self-2

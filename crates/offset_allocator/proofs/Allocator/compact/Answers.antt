@@ -52,8 +52,8 @@ push-requires-clause-classed g c = omega (arith, down_small c.slide-hole.result.
 pub push-requires-clause-held : goal.push-requires-clause-held
 push-requires-clause-held g c = rw (c.slide-hole.ensures.links, c.slide-hole.ensures.mask) c.empty.ensures.held
 
-pub push-requires-clause-fresh : goal.push-requires-clause-fresh
-push-requires-clause-fresh g c = empty_unlisted c.slide-hole.result.0 (ap (λ (k : Links). class_lists g.NI.NodeIndex.MAX k) c.slide-hole.ensures.links ∙ c.empty.ensures.lists)
+pub push-requires-clause-unlisted : goal.push-requires-clause-unlisted
+push-requires-clause-unlisted g c = empty_unlisted c.slide-hole.result.0 (ap (λ (k : Links). class_lists g.NI.NodeIndex.MAX k) c.slide-hole.ensures.links ∙ c.empty.ensures.lists)
 
 -- the fields that are left, and what they show
 done : (g : Over) (c : After-push g) (k : ℕ) (f : Fields) → f ≡ record (fields_of g.NI.NodeIndex.MAX c.self.inside) { cells = c.push.new.tables; last = c.slide-hole.new.store.last; count = c.slide-hole.new.store.spare_count; top = c.push.new.top_mask; accesses = k }

@@ -25,14 +25,14 @@ pub grow-requires-clause-place : goal.grow-requires-clause-place
 grow-requires-clause-place g c = (_, _, _, _, end_held (pre g (goal.at.grow-requires-clause-place g c).After-self) c.remove.ensures.room)
 
 pub push-requires-clause-named : goal.push-requires-clause-named
-push-requires-clause-named g c = omega (arith, (end_place c.self.invariant.space).below, c.grow.ensures.limit, ap (λ (r : Room). length r.nodes) c.remove.ensures.room)
+push-requires-clause-named g c = omega (arith, (end_place c.self.invariant.space).below, c.grow.ensures.nodes, ap (λ (r : Room). length r.nodes) c.remove.ensures.room)
 
 pub push-requires-clause-classed : goal.push-requires-clause-classed
 push-requires-clause-classed g c = omega (arith, down_small (c.size-whole.result + c.args.more), c.uint_to_float_round_down.ensures.is)
 
-pub push-requires-clause-fresh : goal.push-requires-clause-fresh
-push-requires-clause-fresh g c =
-    rw (c.grow.ensures.links, c.remove.ensures.lists, c.size-whole.ensures.size) (widen_unlisted (pre g (goal.at.push-requires-clause-fresh g c).After-self))
+pub push-requires-clause-unlisted : goal.push-requires-clause-unlisted
+push-requires-clause-unlisted g c =
+    rw (c.grow.ensures.links, c.remove.ensures.lists, c.size-whole.ensures.size) (widen_unlisted (pre g (goal.at.push-requires-clause-unlisted g c).After-self))
 
 pub overflow_add-self-2 : goal.overflow_add-self-2
 overflow_add-self-2 g c = omega (arith, free_fits (pre g (goal.at.overflow_add-self-2 g c).After-self))

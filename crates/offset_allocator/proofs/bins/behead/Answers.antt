@@ -8,20 +8,20 @@ use Rattle.offset_allocator.proofs.bins.behead.Goals as goal
 pub returns-then-number-MAX : goal.returns-then-number-MAX
 returns-then-number-MAX g c =
     let k = c.requires.held.linked in
-    let h = head k c.args.class c.requires.classed c.requires.full in
-    let w = without_head k c.args.class c.requires.classed c.requires.full in
+    let h = head k c.args.class c.requires.classed c.requires.some in
+    let w = without_head k c.args.class c.requires.classed c.requires.some in
     let none = none_left k c.args.class c.requires.classed _ _ h.1.3 (sym (c.requires.after ∙ h.1.2) ∙ omega arith) in
     let e = rw c.set_head.ensures.cells at c.clear_class.ensures.rest in
-    clauses (rw w (binned (beheaded k c.args.class c.requires.classed c.clear_class.new.tables.links _ c.requires.full c.requires.after
+    clauses (rw w (binned (beheaded k c.args.class c.requires.classed c.clear_class.new.tables.links _ c.requires.some c.requires.after
     (rw e (sym (set_past _ _ _ (omega (arith, k.names_small))))) (rw e) (rw e))
     (rw none (c.clear_class.ensures.masked _ k.lists_len (rw c.set_head.ensures.cells c.requires.held.masked))))) (rw e) (omega arith) (omega arith)
 
 pub returns-else-number-MAX : goal.returns-else-number-MAX
 returns-else-number-MAX g c =
     let k = c.requires.held.linked in
-    let h = head k c.args.class c.requires.classed c.requires.full in
-    let w = without_head k c.args.class c.requires.classed c.requires.full in
+    let h = head k c.args.class c.requires.classed c.requires.some in
+    let w = without_head k c.args.class c.requires.classed c.requires.some in
     let e = rw c.set_head.ensures.cells at c.set_newer.ensures.cells in
-    clauses (rw w (binned (beheaded k c.args.class c.requires.classed c.set_newer.new.self.links _ c.requires.full c.requires.after
+    clauses (rw w (binned (beheaded k c.args.class c.requires.classed c.set_newer.new.self.links _ c.requires.some c.requires.after
     (rw (e, c.number-else-number-MAX.ensures.number, c.no_link.ensures.number)) (rw e) (rw e))
-    (rw e (masked_same c.requires.held.masked k.lists_len c.args.class c.requires.classed _ (flag_full _ (λ z. let q = c.requires.after ∙ h.1.2 ∙ ap (first_of g.NI.NodeIndex.MAX) z in absurd (omega arith)) ∙ sym (flag_full _ c.requires.full)))))) (rw e) (omega arith) (omega arith)
+    (rw e (masked_same c.requires.held.masked k.lists_len c.args.class c.requires.classed _ (flag_full _ (λ z. let q = c.requires.after ∙ h.1.2 ∙ ap (first_of g.NI.NodeIndex.MAX) z in absurd (omega arith)) ∙ sym (flag_full _ c.requires.some)))))) (rw e) (omega arith) (omega arith)

@@ -16,9 +16,9 @@ pub link_newer-requires-clause-named : goal.link_newer-requires-clause-named
 link_newer-requires-clause-named g c n =
     rw (c.set_links.ensures.cells, c.set_head.ensures.cells, length-set, c.older-after.ensures.cell) (older_in c.requires.held.linked _ (down_small c.args.size) _ c.requires.listed (λ e. n (c.older-after.ensures.cell ∙ e)))
 
-pub push-requires-clause-fresh : goal.push-requires-clause-fresh
-push-requires-clause-fresh g c =
-    rw c.leave.ensures.lists (unlisted_removed c.args.name c.args.gone _ _ c.requires.held.linked.lists_len (down_small c.args.size) c.requires.fresh)
+pub push-requires-clause-unlisted : goal.push-requires-clause-unlisted
+push-requires-clause-unlisted g c =
+    rw c.leave.ensures.lists (unlisted_removed c.args.name c.args.gone _ _ c.requires.held.linked.lists_len (down_small c.args.size) c.requires.unlisted)
 
 pub returns-then-class-uint_to_float_round_down : goal.returns-then-class-uint_to_float_round_down
 returns-then-class-uint_to_float_round_down g c =
@@ -28,7 +28,7 @@ returns-then-class-uint_to_float_round_down g c =
     let f = is_first k _ (down_small c.args.size) _ c.requires.listed (sym c.newer-before.ensures.cell ∙ z) in
     let e = rw (c.set_links.ensures.cells, c.set_head.ensures.cells) at c.link_newer.ensures.cells in
     let next = rw (← f.1) at (c.older-after.ensures.cell) in
-    rw same (clauses (binned (rw f.1 at (exchanged k _ (down_small c.args.size) c.link_newer.new.tables.links c.args.name _ (omega (arith, c.requires.named, c.shape.ensures.newer)) c.requires.fresh f.0 next
+    rw same (clauses (binned (rw f.1 at (exchanged k _ (down_small c.args.size) c.link_newer.new.tables.links c.args.name _ (omega (arith, c.requires.named, c.shape.ensures.newer)) c.requires.unlisted f.0 next
     (rw (e, c.no_link.ensures.number, c.link_to-newest.ensures.number))
     (rw e)
     (rw (e, c.link_to-newest.ensures.number, same))))

@@ -10,8 +10,8 @@ older-after-requires g c = omega (arith, below c.requires.held.linked _ (down_sm
 pub behead-requires-clause-classed : goal.behead-requires-clause-classed
 behead-requires-clause-classed g c = omega (arith, down_small c.args.size, c.uint_to_float_round_down.ensures.is)
 
-pub behead-requires-clause-full : goal.behead-requires-clause-full
-behead-requires-clause-full g c =
+pub behead-requires-clause-some : goal.behead-requires-clause-some
+behead-requires-clause-some g c =
     let z : slice_index c.args.tables.now.links.newer c.args.name ≡ g.NI.NodeIndex.MAX = omega (arith, c.requires.before) in
     rw c.uint_to_float_round_down.ensures.is ((is_first c.requires.held.linked _ (down_small c.args.size) _ c.requires.listed z).0)
 

@@ -8,7 +8,7 @@ behead-requires-clause-after g c = rw (← (c.number-name.ensures.number ∙ c.h
 pub returns-clause-first : goal.returns-clause-first
 returns-clause-first g c =
     let k = c.requires.held.linked in
-    rw (c.number-name.ensures.number ∙ c.head.ensures.cell, without_head k c.args.class c.requires.classed c.requires.full) ((head k c.args.class c.requires.classed c.requires.full).0)
+    rw (c.number-name.ensures.number ∙ c.head.ensures.cell, without_head k c.args.class c.requires.classed c.requires.some) ((head k c.args.class c.requires.classed c.requires.some).0)
 
 pub returns-clause-lists : goal.returns-clause-lists
 returns-clause-lists g c = rw (c.number-name.ensures.number ∙ c.head.ensures.cell) c.behead.ensures.lists

@@ -15,7 +15,7 @@ returns-then-newest-MAX g c =
     let k = c.requires.held.linked in
     let h = c.head-first.ensures.cell in
     let e = rw (c.set_links.ensures.cells, c.set_head.ensures.cells) at c.set_mask.ensures.cells in
-    clauses (binned (pushed k c.args.class c.requires.classed c.set_mask.new.self.links c.args.name (omega (arith, c.requires.named, c.shape.ensures.newer)) c.requires.fresh
+    clauses (binned (pushed k c.args.class c.requires.classed c.set_mask.new.self.links c.args.name (omega (arith, c.requires.named, c.shape.ensures.newer)) c.requires.unlisted
     (rw (e, c.no_link.ensures.number) (sym (set_past _ _ _ (omega (arith, k.names_small, length-set c.args.tables.now.links.newer c.args.name g.NI.NodeIndex.MAX)))))
     (rw (e, h))
     (rw (e, c.link_to-link.ensures.number)))
@@ -26,7 +26,7 @@ returns-else-newest-MAX g c =
     let k = c.requires.held.linked in
     let h = c.head-first.ensures.cell in
     let e = rw (c.set_links.ensures.cells, c.set_head.ensures.cells) at c.set_newer.ensures.cells in
-    clauses (binned (pushed k c.args.class c.requires.classed c.set_newer.new.self.links c.args.name (omega (arith, c.requires.named, c.shape.ensures.newer)) c.requires.fresh
+    clauses (binned (pushed k c.args.class c.requires.classed c.set_newer.new.self.links c.args.name (omega (arith, c.requires.named, c.shape.ensures.newer)) c.requires.unlisted
     (rw (e, c.no_link.ensures.number, c.number-newest.ensures.number, h, c.link_to-link.ensures.number))
     (rw (e, h))
     (rw (e, c.link_to-link.ensures.number)))

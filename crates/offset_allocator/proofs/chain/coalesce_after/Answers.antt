@@ -34,8 +34,8 @@ point_back-requires-clause-name g c = rw (c.set_end.ensures.cells, length-put) c
 pub returns-clause-links : goal.returns-clause-links
 returns-clause-links g c = rw (c.set_spare.ensures.cells, c.point_back.ensures.links, c.set_end.ensures.cells) refl
 
-pub returns-clause-limit : goal.returns-clause-limit
-returns-clause-limit g c = rw (c.set_spare.ensures.cells, nodes-with_spare, c.point_back.ensures.limit, c.set_end.ensures.cells, length-put) refl
+pub returns-clause-nodes : goal.returns-clause-nodes
+returns-clause-nodes g c = rw (c.set_spare.ensures.cells, nodes-with_spare, c.point_back.ensures.nodes, c.set_end.ensures.cells, length-put) refl
 
 pub returns-clause-accesses_max : goal.returns-clause-accesses_max
 returns-clause-accesses_max g c = omega arith

@@ -37,8 +37,8 @@ point_on-requires-clause-name g c = rw (c.set_start.ensures.cells, length-put) c
 pub returns-clause-links : goal.returns-clause-links
 returns-clause-links g c = rw (c.set_spare.ensures.cells, c.point_on.ensures.links, c.set_start.ensures.cells) refl
 
-pub returns-clause-limit : goal.returns-clause-limit
-returns-clause-limit g c = rw (c.set_spare.ensures.cells, nodes-with_spare, c.point_on.ensures.limit, c.set_start.ensures.cells, length-put) refl
+pub returns-clause-nodes : goal.returns-clause-nodes
+returns-clause-nodes g c = rw (c.set_spare.ensures.cells, nodes-with_spare, c.point_on.ensures.nodes, c.set_start.ensures.cells, length-put) refl
 
 pub returns-clause-accesses_max : goal.returns-clause-accesses_max
 returns-clause-accesses_max g c = omega arith

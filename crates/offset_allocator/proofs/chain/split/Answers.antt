@@ -47,8 +47,8 @@ set_end-requires g c = rw (c.set_block.ensures.cells, length-put) c.requires.pla
 pub returns-clause-links : goal.returns-clause-links
 returns-clause-links g c = rw (c.point_back.ensures.links, c.set_end.ensures.cells, c.set_block.ensures.cells) refl
 
-pub returns-clause-limit : goal.returns-clause-limit
-returns-clause-limit g c = rw (c.point_back.ensures.limit, c.set_end.ensures.cells, length-put, c.set_block.ensures.cells, length-put) refl
+pub returns-clause-nodes : goal.returns-clause-nodes
+returns-clause-nodes g c = rw (c.point_back.ensures.nodes, c.set_end.ensures.cells, length-put, c.set_block.ensures.cells, length-put) refl
 
 pub returns-clause-accesses_max : goal.returns-clause-accesses_max
 returns-clause-accesses_max g c = omega arith

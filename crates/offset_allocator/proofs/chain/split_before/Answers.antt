@@ -47,8 +47,8 @@ set_start-requires g c = rw (c.set_block.ensures.cells, length-put) c.requires.p
 pub returns-clause-links : goal.returns-clause-links
 returns-clause-links g c = rw (c.point_on.ensures.links, c.set_start.ensures.cells, c.set_block.ensures.cells) refl
 
-pub returns-clause-limit : goal.returns-clause-limit
-returns-clause-limit g c = rw (c.point_on.ensures.limit, c.set_start.ensures.cells, length-put, c.set_block.ensures.cells, length-put) refl
+pub returns-clause-nodes : goal.returns-clause-nodes
+returns-clause-nodes g c = rw (c.point_on.ensures.nodes, c.set_start.ensures.cells, length-put, c.set_block.ensures.cells, length-put) refl
 
 pub returns-clause-accesses_max : goal.returns-clause-accesses_max
 returns-clause-accesses_max g c = omega arith

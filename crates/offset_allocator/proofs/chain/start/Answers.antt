@@ -25,5 +25,5 @@ returns-clause-space g c = space-chain _ _ _ _ _ (done g c)
 pub returns-clause-blocks : goal.returns-clause-blocks
 returns-clause-blocks g c = blocks-chain _ _ _ _ _ (done g c)
 
-pub returns-clause-limit : goal.returns-clause-limit
-returns-clause-limit g c = (done g c).cells ∙ sym c.requires.empty.nodes
+pub returns-clause-nodes : goal.returns-clause-nodes
+returns-clause-nodes g c = (done g c).cells ∙ sym c.requires.empty.nodes

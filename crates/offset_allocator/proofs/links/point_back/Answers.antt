@@ -2,5 +2,5 @@ use Rattle.std.proofs.Common.{refl}
 use Rattle.offset_allocator.proofs.Nodes.{length-put}
 use Rattle.offset_allocator.proofs.links.point_back.Goals as goal
 
-pub returns-in-Some-clause-limit : goal.returns-in-Some-clause-limit
-returns-in-Some-clause-limit g c = rw (c.set_before.ensures.cells, length-put) refl
+pub returns-in-Some-clause-nodes : goal.returns-in-Some-clause-nodes
+returns-in-Some-clause-nodes g c = rw (c.set_before.ensures.cells, length-put) refl

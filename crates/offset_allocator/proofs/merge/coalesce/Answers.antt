@@ -42,8 +42,8 @@ overflow_add-whole-in-Some-free_before g c = omega (arith, c.size-more-in-Some-f
 pub push-requires-clause-classed : goal.push-requires-clause-classed
 push-requires-clause-classed g c = let s = down_small c.args.size in omega (arith, s, c.uint_to_float_round_down.ensures.is)
 
-pub push-requires-clause-fresh : goal.push-requires-clause-fresh
-push-requires-clause-fresh g c = unlisted c.requires.place.2 _ c.requires.place.3
+pub push-requires-clause-unlisted : goal.push-requires-clause-unlisted
+push-requires-clause-unlisted g c = unlisted c.requires.place.2 _ c.requires.place.3
 
 pub returns-in_default-free_before-clause-place : goal.returns-in_default-free_before-clause-place
 returns-in_default-free_before-clause-place g c m p h =
@@ -70,8 +70,8 @@ exchange-requires-clause-listed g c =
 pub exchange-requires-clause-classed : goal.exchange-requires-clause-classed
 exchange-requires-clause-classed g c = let s = down_small c.match-free_after.gone.2 in omega (arith, s, c.uint_to_float_round_down-2.ensures.is)
 
-pub exchange-requires-clause-fresh : goal.exchange-requires-clause-fresh
-exchange-requires-clause-fresh g c =
+pub exchange-requires-clause-unlisted : goal.exchange-requires-clause-unlisted
+exchange-requires-clause-unlisted g c =
     let h = c.requires.place.2 in
     elim c.match-free_after.branch [
       | in-Some w ↦ rw (w.store-is, w.coalesce_after.ensures.links, w.with_before-size.ensures.lists _ _ h) (unlisted (w.with_before-size.ensures.place _ _ h) _ (filed_before h _ c.requires.place.3 c.requires.held.linked.lists_len))

@@ -12,8 +12,8 @@ split_before-front-requires-clause-place g c = (_, _, _, c.requires.place.2)
 pub push-requires-clause-classed : goal.push-requires-clause-classed
 push-requires-clause-classed g c = omega (arith, down_small c.args.units, c.uint_to_float_round_down.ensures.is)
 
-pub push-requires-clause-fresh : goal.push-requires-clause-fresh
-push-requires-clause-fresh g c =
+pub push-requires-clause-unlisted : goal.push-requires-clause-unlisted
+push-requires-clause-unlisted g c =
     rw c.split_before-front.ensures.links (c.requires.place.3 _ (c.split_before-front.ensures.fresh _ _ _ c.requires.place.2))
 
 pub returns-clause-place : goal.returns-clause-place

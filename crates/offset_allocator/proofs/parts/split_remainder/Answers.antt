@@ -17,8 +17,8 @@ split-rest-requires-clause-place g c = (_, _, c.requires.place.2)
 pub push-requires-clause-classed : goal.push-requires-clause-classed
 push-requires-clause-classed g c = omega (arith, down_small c.args.left, c.uint_to_float_round_down.ensures.is)
 
-pub push-requires-clause-fresh : goal.push-requires-clause-fresh
-push-requires-clause-fresh g c = rw c.split-rest.ensures.links (c.requires.place.3 _ (c.split-rest.ensures.fresh _ _ c.requires.place.2))
+pub push-requires-clause-unlisted : goal.push-requires-clause-unlisted
+push-requires-clause-unlisted g c = rw c.split-rest.ensures.links (c.requires.place.3 _ (c.split-rest.ensures.fresh _ _ c.requires.place.2))
 
 pub returns-clause-place : goal.returns-clause-place
 returns-clause-place g c m p h =

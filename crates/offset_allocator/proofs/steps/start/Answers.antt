@@ -20,8 +20,8 @@ pub push-requires-clause-classed : goal.push-requires-clause-classed
 push-requires-clause-classed g c =
     let s = down_small c.args.size in omega (arith, s, c.uint_to_float_round_down.ensures.is)
 
-pub push-requires-clause-fresh : goal.push-requires-clause-fresh
-push-requires-clause-fresh g c =
+pub push-requires-clause-unlisted : goal.push-requires-clause-unlisted
+push-requires-clause-unlisted g c =
     let lk = c.start.ensures.links in
     empty_unlisted (c.args.max_allocs - 1) (ap (λ (k : Links). class_lists g.NI.NodeIndex.MAX k) lk ∙ (fresh_binned c.shape.ensures c.requires.empty).1)
 
@@ -30,5 +30,5 @@ returns-clause-started g c =
     let lk = c.start.ensures.links in
     let ls = ap (λ (k : Links). class_lists g.NI.NodeIndex.MAX k) lk ∙ (fresh_binned c.shape.ensures c.requires.empty).1 in
     let order = c.push.ensures.lists ∙ ap (λ (o : List (List ℕ)). push c.uint_to_float_round_down.result (c.args.max_allocs - 1) o) ls ∙ ap (λ (k : ℕ). push k (c.args.max_allocs - 1) (replicate 256 [])) c.uint_to_float_round_down.ensures.is in
-    let done = started g.NI.NodeIndex.MAX c.args.max_allocs c.args.size c.push.new.tables c.push.new.top_mask (omega arith) (omega arith) (omega arith) (rw c.push.ensures.room (c.start.ensures.limit ∙ c.requires.empty.nodes)) (rw c.push.ensures.room c.start.ensures.space) (rw c.push.ensures.room c.start.ensures.blocks) c.push.ensures.held order in
+    let done = started g.NI.NodeIndex.MAX c.args.max_allocs c.args.size c.push.new.tables c.push.new.top_mask (omega arith) (omega arith) (omega arith) (rw c.push.ensures.room (c.start.ensures.nodes ∙ c.requires.empty.nodes)) (rw c.push.ensures.room c.start.ensures.space) (rw c.push.ensures.room c.start.ensures.blocks) c.push.ensures.held order in
     record { sound = done.0; view = done.1 }
