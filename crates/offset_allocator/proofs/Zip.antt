@@ -1,6 +1,7 @@
 -- Entries and use flags as one list of nodes.
 use Rattle.std.proofs.Common.{◌≡◌, ℕ, zero, suc, replicate, [], ◌∷◌, ◌<◌, ◌≤◌, Bool, false, List, length, map, set, get_or, refl, sym, ◌∙◌, ap, arith, inl, inr, zip}
-use Rattle.std.proofs.lemmas.List.{get_or_past, get_or_read, get_or-replicate, length-replicate, length-map, map-set, set-get_or}
+use Rattle.std.proofs.lemmas.List.{get_or_past, get_or_read, get_or-replicate, length-replicate, length-map, length-set, map-set, set-get_or}
+use Rattle.std.specs.Vec.{with_item}
 use Rattle.std.proofs.lemmas.Slice.Zip.{length-zip}
 use Rattle.std.proofs.Math.Seq.{map-set_same}
 use Rattle.std.proofs.lemmas.Bool.{cases_lt}
@@ -139,3 +140,13 @@ shaped max number t h w =
 
 -- a name below the number of nodes is below each table's length
 pub ruleset cells = (length-nodes_of, within)
+
+-- an entry written keeps the lengths
+pub even_set : {A B : Type 0} (max : ℕ) (t : Inside A B) → AreEven max t → (x : ℕ) (m : Entry A) → AreEven max (record t { nodes = with_item t.nodes x m })
+even_set max t h x m = let l = length-set t.nodes.items x m in record {
+  used = h.used ∙ sym l;
+  spare = h.spare ∙ sym l;
+  heads = h.heads;
+  masks = h.masks;
+  limit = rw l h.limit;
+}

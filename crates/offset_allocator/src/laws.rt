@@ -11,11 +11,14 @@ ghost use Rattle.offset_allocator.specs.Promises.{CanGrant, HasRoomFor};
 ghost use Rattle.offset_allocator.specs.Compacting.{moves, AreSafe, Compacts};
 
 use crate::Allocator;
+use crate::accesses::Accesses;
 pub use crate::counted::{
     allocation_offset_counted, allocation_size_counted, is_live_counted, next_block_counted,
     refusal_aligned_counted, refusal_counted, storage_report_counted, storage_report_full_counted,
 };
 use crate::index::NodeIndex;
+use crate::store::Store;
+use crate::tables::Tables;
 
 /// Grants a request for `n` units and frees the grant at once. The blocks, their names and the bins are then as they
 /// were. It is `false` where the request was refused.
@@ -47,6 +50,36 @@ pub fn is_well_formed<NI: NodeIndex>(allocator: &Allocator<NI>)
     ensures { IsWellFormed allocator.now }
 {
     allocator.formed();
+}
+
+/// The number of names that no block has: one more than the number of blocks that may still be added.
+///
+/// An allocator has no other fields than these: one set of tables, and numbers. The patterns name each with its type, so
+/// a second list of blocks would not compile.
+pub fn unused_names<NI: NodeIndex>(allocator: &Allocator<NI>) -> u32
+    ensures { result + length allocator.now.blocks ≡ allocator.now.max_allocs }
+{
+    let Allocator {
+        size,
+        max_allocs,
+        free_total,
+        store,
+    } = allocator;
+    let Store {
+        tables,
+        top_mask,
+        last,
+        spare_count,
+        accesses,
+    } = store;
+    let _size: &u32 = size;
+    let _max_allocs: &u32 = max_allocs;
+    let _free_total: &u32 = free_total;
+    let _top_mask: &u32 = top_mask;
+    let _last: &u32 = last;
+    let _tables: &Tables<NI> = tables;
+    let _accesses: &Accesses = accesses;
+    *spare_count
 }
 
 /// The units of the used and of the free blocks add up to the size of the space.

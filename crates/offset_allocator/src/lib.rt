@@ -44,8 +44,6 @@ pub mod small_float;
 mod steps;
 mod store;
 mod tables;
-#[cfg(test)]
-mod tests;
 
 pub use accesses::Accesses;
 pub use blocks::{Block, Blocks};

@@ -60,3 +60,12 @@ returns-then-self-lt2-clause-done g c = extends_done c.args.more c.args.self.now
 
 pub returns-clause-done : goal.returns-clause-done
 returns-clause-done g c = extends_done c.args.more c.args.self.now c.append.new.self true (returns-clause-step g c)
+
+pub invariant_of-self : goal.invariant_of-self
+invariant_of-self g c = c.self.invariant
+
+pub invariant_of-self-then-self-lt2 : goal.invariant_of-self-then-self-lt2
+invariant_of-self-then-self-lt2 g c = c.self.invariant
+
+pub invariant_of-self-2 : goal.invariant_of-self-2
+invariant_of-self-2 g c = c.self.invariant

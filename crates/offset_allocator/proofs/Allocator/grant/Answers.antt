@@ -77,3 +77,15 @@ pub returns-clause-step : goal.returns-clause-step
 returns-clause-step g c =
     let at = goal.at.returns-clause-step g c in
     rw (c.handle_of.ensures, ← c.self.view_is) (done g at.After-divide (call g at.After-pop-name) c.divide.new.store.accesses _ refl).1
+
+pub overflow_add-padding : goal.overflow_add-padding
+overflow_add-padding g c = let l = within c.args.size c.args.align c.offset-offset.result c.requires.some in omega (arith, l, c.requires.fits)
+
+pub divide-requires-clause-start : goal.divide-requires-clause-start
+divide-requires-clause-start g c = ap (λ o. o + padding_to c.args.align c.offset-offset.result) c.offset-offset.ensures.offset
+
+pub handle_of-requires : goal.handle_of-requires
+handle_of-requires g c =
+    let h = held (call g (goal.at.handle_of-requires g c).After-pop-name) refl in
+    let k = c.self.invariant in
+    omega (arith, h.below, k.nodes, k.admitted)

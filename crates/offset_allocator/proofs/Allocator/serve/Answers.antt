@@ -30,3 +30,9 @@ returns-in-Some-clause-step g c =
     let P : View → Type 0 = λ u. Aligns c.args.size c.args.align u c.grant.new.self (Some c.grant.result) in
     subst P c.self.view_is (serves_counted (blocks_needed c.args.align) (units_needed c.args.size c.args.align) c.args.size (padding_to c.args.align) (shown f) c.grant.new.self c.find_at_or_above.new.count (Some c.grant.result)
     (is_open f c.self.invariant (blocks_needed c.args.align) c.args.size (omega (arith, c.min.ensures)), c.grant.ensures.step))
+
+pub invariant_of-self : goal.invariant_of-self
+invariant_of-self g c = c.self.invariant
+
+pub invariant_of-self-in-Some : goal.invariant_of-self-in-Some
+invariant_of-self-in-Some g c = c.self.invariant
