@@ -1,15 +1,7 @@
-//! Tests of large inputs: their results are as those of small ones, and not out of memory.
+//! Tests of large inputs, and of allocations that fail.
 #![tactic(auto)]
 
 #[cfg(test)]
-mod allocators;
+mod large;
 #[cfg(test)]
-mod classes;
-#[cfg(test)]
-mod lines;
-#[cfg(test)]
-mod replays;
-#[cfg(test)]
-mod scripts;
-#[cfg(test)]
-mod texts;
+mod memory;

@@ -1,29 +1,7 @@
-//! Tests of `offset_allocator`, over its public calls.
+//! Tests of `offset_allocator`, and of functions that use it.
 #![tactic(auto)]
 
 #[cfg(test)]
-mod alignment;
+mod calls;
 #[cfg(test)]
-mod classes;
-#[cfg(test)]
-mod compacting;
-#[cfg(test)]
-mod extension;
-#[cfg(test)]
-mod grants;
-#[cfg(test)]
-mod handles;
-#[cfg(test)]
-mod original;
-#[cfg(test)]
-mod refusals;
-#[cfg(test)]
-mod reports;
-#[cfg(test)]
-mod resizing;
-#[cfg(test)]
-mod steps;
-#[cfg(test)]
-mod texts;
-#[cfg(test)]
-mod walking;
+mod uses;

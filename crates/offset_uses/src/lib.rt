@@ -10,6 +10,7 @@ ghost use Rattle.offset_script.specs.Grammar.{has_valid_alignment};
 ghost use Rattle.offset_script.specs.Machine.{answers, start};
 
 pub mod daily;
+pub mod in_memory;
 pub mod pool;
 pub mod walking;
 
@@ -212,6 +213,3 @@ pub fn replay(
     let wide = play::<u32>(alloc, size, max_allocs, commands)?;
     Ok((narrow, wide))
 }
-
-#[cfg(test)]
-mod tests;

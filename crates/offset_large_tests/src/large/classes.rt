@@ -1,0 +1,69 @@
+//! A report of many classes.
+
+use super::texts::{expect_answers, put_lines};
+use offset_test_base::groups::value_of;
+use std::alloc::{AllocError, Global};
+use std::test::Fail;
+
+// The classes of the blocks that are freed.
+const FIRST: usize = 1;
+
+const LAST: usize = 200;
+
+// The size of all these blocks, each followed by one unit that stays used.
+fn size() -> u64 {
+    let mut size = 0u64;
+    for class in FIRST..LAST + 1 {
+        size = size.saturating_add(value_of(class)).saturating_add(1);
+    }
+    size
+}
+
+// Before the last request 399 blocks are used and one is free: a limit of 402 admits one more.
+fn put_script(text: &mut String, bits: u32) -> Result<(), AllocError> {
+    let size = size();
+    writeln!(text, "space {size} nodes 402 index {bits}")?;
+    for class in FIRST..LAST + 1 {
+        let value = value_of(class);
+        writeln!(text, "alloc {value}")?;
+        writeln!(text, "alloc 1")?;
+    }
+    writeln!(text, "full")?;
+    for class in FIRST..LAST + 1 {
+        let number = class * 2 - 1;
+        writeln!(text, "free {number}")?;
+    }
+    writeln!(text, "full")
+}
+
+fn answers(alloc: Global) -> Result<String, AllocError> {
+    let mut wanted = String::new(alloc);
+    let mut offset = 0u64;
+    for class in FIRST..LAST + 1 {
+        let number = class * 2 - 1;
+        writeln!(wanted, "grant {number} at {offset}")?;
+        offset = offset.saturating_add(value_of(class));
+        let number = class * 2;
+        writeln!(wanted, "grant {number} at {offset}")?;
+        offset = offset.saturating_add(1);
+    }
+    writeln!(wanted, "full 0")?;
+    put_lines(&mut wanted, "freed\n", 200)?;
+    writeln!(wanted, "full 200")?;
+    for class in FIRST..LAST + 1 {
+        let value = value_of(class);
+        writeln!(wanted, "class {class} size {value} count 1")?;
+    }
+    Ok(wanted)
+}
+
+#[test]
+fn reports_two_hundred_classes(rt: HostRuntime) -> Result<(), Fail> {
+    let wanted = answers(rt.alloc())?;
+    for bits in [16u32, 32] {
+        let mut text = String::new(rt.alloc());
+        put_script(&mut text, bits)?;
+        expect_answers(&rt, rt.alloc(), &text, &wanted);
+    }
+    Ok(())
+}

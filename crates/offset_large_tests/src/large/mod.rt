@@ -1,0 +1,8 @@
+//! Large inputs: their results are as those of small ones, and not out of memory.
+
+mod allocators;
+mod classes;
+mod lines;
+mod replays;
+mod scripts;
+mod texts;

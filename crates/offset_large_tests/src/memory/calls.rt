@@ -1,0 +1,215 @@
+//! After construction, the calls of an allocator request no memory.
+
+use super::attempts::{Attempt, Outcome, all_memory, all_memory_but, refused_if, right_if};
+use super::ladder::{FINE, refusals};
+use offset_allocator::laws::undo;
+use offset_allocator::{Allocation, Allocator, NodeIndex};
+use offset_script::play;
+use offset_test_base::living::living_calls;
+use offset_test_base::tiny::Tiny;
+use std::alloc::{AllocError, Global};
+use std::process::Abort;
+use std::test::Fail;
+
+// Larger than any offset of the space.
+const REFUSED: u32 = 100_000;
+
+const DEAD: u32 = 200_000;
+
+fn request<NI: NodeIndex>(
+    allocator: &mut Allocator<NI>,
+    kind: u32,
+    size: u32,
+) -> Option<Allocation<NI>> {
+    if kind % 2 == 0 {
+        allocator.allocate(size)
+    } else {
+        request_aligned(allocator, size, 8)
+    }
+}
+
+fn request_aligned<NI: NodeIndex>(
+    allocator: &mut Allocator<NI>,
+    size: u32,
+    align: u32,
+) -> Option<Allocation<NI>> {
+    if align.is_power_of_two() {
+        allocator.allocate_aligned(size, align)
+    } else {
+        None
+    }
+}
+
+// Frees the kept handle, or makes a request where none is kept. It returns the size, the offset, or another number.
+fn grant_or_free<NI: NodeIndex>(
+    allocator: &mut Allocator<NI>,
+    kept: &mut Option<Allocation<NI>>,
+    kind: u32,
+    size: u32,
+) -> u32 {
+    match *kept {
+        None => {
+            *kept = request(allocator, kind, size);
+            match kept {
+                None => REFUSED,
+                Some(handle) => handle.offset,
+            }
+        }
+        Some(handle) => {
+            *kept = None;
+            if allocator.is_live(handle) {
+                let size = allocator.allocation_size(handle);
+                allocator.free(handle);
+                size
+            } else {
+                DEAD
+            }
+        }
+    }
+}
+
+fn report<NI: NodeIndex>(allocator: &Allocator<NI>, class: usize) -> u32 {
+    let short = allocator.storage_report();
+    let full = allocator.storage_report_full();
+    short
+        .total_free_space
+        .wrapping_mul(3)
+        .wrapping_add(short.largest_free_region)
+        .wrapping_mul(3)
+        .wrapping_add(full.free_regions[class % 256].count)
+}
+
+// Makes one call. It returns the result as a number.
+fn call<NI: NodeIndex>(
+    allocator: &mut Allocator<NI>,
+    kept: &mut Option<Allocation<NI>>,
+    kind: u32,
+    number: u32,
+) -> u32 {
+    match kind {
+        0..=9 => grant_or_free(allocator, kept, kind, number % 100),
+        10 => living_calls(allocator, *kept, number % 100),
+        11 | 12 => report(allocator, number as usize),
+        13 => u32::from(undo(allocator, number % 500)),
+        14 => u32::from(allocator.extend(number % 10)),
+        _ => {
+            if number % 8 == 0 {
+                allocator.reset();
+            }
+            0
+        }
+    }
+}
+
+// Makes 1,000 calls of every kind, and returns a checksum of their results. It keeps the handles in `kept`.
+fn checksum<NI: NodeIndex>(
+    allocator: &mut Allocator<NI>,
+    kept: &mut [Option<Allocation<NI>>],
+) -> u64 {
+    let mut state = 1u64;
+    let mut sum = 0u64;
+    for _ in 0..1_000u32 {
+        state = state.wrapping_mul(1_103_515_245).wrapping_add(12_345) % 2_147_483_648;
+        let number = state / 65_536;
+        if let Some(kept) = kept.get_mut((number / 16 % 16) as usize) {
+            let answer = call(allocator, kept, (number % 16) as u32, (number / 256) as u32);
+            sum = sum.wrapping_mul(31).wrapping_add(u64::from(answer));
+        }
+    }
+    sum
+}
+
+// The C library keeps a freed block of up to 1,032 bytes for requests of its size. With this many nodes the use flags,
+// a byte each, take more. With fewer, two kept blocks, the flags and the heads of the free lists, would split the
+// memory in which the next allocator is made.
+const NODES: u32 = 2_000;
+
+fn construct(alloc: Global) -> Result<Allocator<u32>, AllocError> {
+    Allocator::with_max_allocs(alloc, 1_000, NODES)
+}
+
+fn construct_and_call(alloc: Global) -> Result<u64, AllocError> {
+    let mut kept: [Option<Allocation<u32>>; 16] = [None; 16];
+    let mut allocator = construct(alloc)?;
+    Ok(checksum(&mut allocator, &mut kept))
+}
+
+// The calls return the same as before where not one byte is left.
+fn expect_results<NI: NodeIndex>(rt: &impl Abort, alloc: Global) -> Result<(), Fail> {
+    let mut kept = vec![in alloc; None; 16]?;
+    let wanted = checksum(&mut Allocator::<NI>::new(alloc, 1_000)?, &mut kept);
+    kept.fill(None);
+    let mut allocator = Allocator::<NI>::new(alloc, 1_000)?;
+    let _rest = all_memory(alloc)?;
+    assert!(rt; Vec::<u8>::with_capacity(alloc, 1).is_err());
+    assert_eq!(rt; checksum(&mut allocator, &mut kept), wanted);
+    Ok(())
+}
+
+#[test]
+fn calls_need_no_memory(rt: HostRuntime) -> Result<(), Fail> {
+    expect_results::<u32>(&rt, rt.alloc())?;
+    expect_results::<u16>(&rt, rt.alloc())?;
+    expect_results::<Tiny>(&rt, rt.alloc())
+}
+
+const ROOM: usize = 1 << 30;
+
+// All free memory is in one piece. A request that took any of it, or a small one that was freed at once, would have
+// split that piece.
+#[test]
+fn calls_leave_all_memory_as_it_was(rt: HostRuntime) -> Result<(), Fail> {
+    let wanted = construct_and_call(rt.alloc())?;
+    let mut kept: [Option<Allocation<u32>>; 16] = [None; 16];
+    let mut allocator = construct(rt.alloc())?;
+    let _rest = all_memory_but(rt.alloc(), ROOM)?;
+    assert_eq!(rt; checksum(&mut allocator, &mut kept), wanted);
+    assert!(rt; Vec::<u8>::with_capacity(rt.alloc(), ROOM).is_ok());
+    assert!(rt; Vec::<u8>::with_capacity(rt.alloc(), 16).is_ok());
+    assert!(rt; Vec::<u8>::with_capacity(rt.alloc(), ROOM).is_err());
+    Ok(())
+}
+
+// Makes an allocator and the calls. They fail exactly where the construction alone fails, and else return the same as
+// with ample memory.
+#[derive(Drop)]
+struct WithCalls {
+    wanted: u64,
+}
+
+impl Attempt for WithCalls {
+    fn outcome(&mut self, alloc: Global) -> Outcome {
+        let is_made = construct(alloc).is_ok();
+        match construct_and_call(alloc) {
+            Err(_) => refused_if(!is_made),
+            Ok(sum) => right_if(is_made && sum == self.wanted),
+        }
+    }
+}
+
+#[test]
+fn calls_fail_only_in_construction(rt: HostRuntime) -> Result<(), Fail> {
+    let wanted = construct_and_call(rt.alloc())?;
+    assert!(rt; refusals(&rt, rt.alloc(), FINE, &mut WithCalls { wanted })? >= 1);
+    Ok(())
+}
+
+// Plays a script without commands. It fails wherever a construction fails.
+#[derive(Drop)]
+struct WithoutCommands;
+
+impl Attempt for WithoutCommands {
+    fn outcome(&mut self, alloc: Global) -> Outcome {
+        let is_made = construct(alloc).is_ok();
+        match play::<u32>(alloc, 1_000, NODES, &[]) {
+            Err(_) => Outcome::Refused,
+            Ok(answers) => right_if(is_made && answers.is_empty()),
+        }
+    }
+}
+
+#[test]
+fn playing_makes_an_allocator(rt: HostRuntime) -> Result<(), Fail> {
+    assert!(rt; refusals(&rt, rt.alloc(), FINE, &mut WithoutCommands)? >= 1);
+    Ok(())
+}

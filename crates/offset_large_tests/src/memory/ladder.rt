@@ -1,0 +1,136 @@
+//! All memory is taken, and freed step by step, so that each request of an attempt in turn is the first one that fails.
+//!
+//! A step is no larger than the smallest block, and the freed memory is one piece. So a step is hardly ever enough for
+//! two further requests. Only small requests after a large one may be missed, where memory that the attempt itself
+//! freed is enough for them.
+
+use super::attempts::{Attempt, Outcome, all_memory};
+use std::alloc::{AllocError, Global};
+use std::process::Abort;
+use std::test::Fail;
+
+// The C library keeps this many free blocks of one size for requests of that size alone.
+const APART: usize = 7;
+
+/// The size of the steps, and the largest number of them.
+#[derive(Clone, Copy)]
+pub struct Steps {
+    size: usize,
+    count: usize,
+}
+
+/// Steps of the smallest block.
+pub const FINE: Steps = Steps {
+    size: 24,
+    count: 8_192,
+};
+
+/// Larger steps, for attempts that take much memory.
+pub const COARSE: Steps = Steps {
+    size: 1_000,
+    count: 8_192,
+};
+
+#[derive(Drop)]
+struct Ladder {
+    size: usize,
+    // Neighbours.
+    rungs: Vec<Vec<u8>>,
+    // Blocks of the same size, so that the C library keeps none of the rungs.
+    fillers: Vec<Vec<u8>>,
+}
+
+impl Ladder {
+    fn new(alloc: Global, steps: Steps) -> Result<Self, AllocError> {
+        let mut rungs = Vec::with_capacity(alloc, steps.count)?;
+        for _ in 0..steps.count {
+            rungs.push(Vec::with_capacity(alloc, steps.size)?)?;
+        }
+        // The lowest is freed first. Blocks are taken from the low end too, so each keeps its place from step to step.
+        rungs.reverse();
+        let mut ladder = Ladder {
+            size: steps.size,
+            rungs,
+            fillers: Vec::with_capacity(alloc, APART)?,
+        };
+        ladder.fill(alloc)?;
+        Ok(ladder)
+    }
+
+    fn fill(&mut self, alloc: Global) -> Result<(), AllocError> {
+        for _ in 0..APART {
+            self.fillers.push(Vec::with_capacity(alloc, self.size)?)?;
+        }
+        Ok(())
+    }
+
+    // Frees all fillers and then one rung, and takes the fillers again.
+    fn release(&mut self, alloc: Global) -> Result<(), AllocError> {
+        self.fillers.clear();
+        let _rung = self.rungs.pop();
+        self.fill(alloc)
+    }
+}
+
+/// Makes an attempt again and again, each time with one more step free. It returns how often the attempt failed.
+pub fn refusals<A: Attempt>(
+    rt: &impl Abort,
+    alloc: Global,
+    steps: Steps,
+    attempt: &mut A,
+) -> Result<u32, Fail> {
+    let mut ladder = Ladder::new(alloc, steps)?;
+    let _rest = all_memory(alloc)?;
+    let mut refusals = 0u32;
+    for _ in 0..steps.count {
+        match attempt.outcome(alloc) {
+            Outcome::Right => return Ok(refusals),
+            Outcome::Refused => refusals = refusals.saturating_add(1),
+            Outcome::Wrong => assert!(rt; false, "wrong after {refusals} refusals"),
+        }
+        ladder.release(alloc)?;
+    }
+    assert!(rt; false, "refused {refusals} times");
+    Ok(refusals)
+}
+
+const SIZES: [usize; 8] = [4, 16, 16, 48, 100, 400, 1_024, 2_000];
+
+// Requests of these sizes, one after another, whose blocks are all kept to the end.
+#[derive(Drop)]
+struct Blocks {
+    held: Vec<Vec<u8>>,
+    // Which of them failed.
+    refused: [bool; 8],
+}
+
+impl Attempt for Blocks {
+    fn outcome(&mut self, alloc: Global) -> Outcome {
+        for place in 0..8usize {
+            match Vec::with_capacity(alloc, SIZES[place]) {
+                Ok(block) => {
+                    if self.held.push(block).is_err() {
+                        return Outcome::Wrong;
+                    }
+                }
+                Err(_) => {
+                    self.refused[place] = true;
+                    self.held.clear();
+                    return Outcome::Refused;
+                }
+            }
+        }
+        Outcome::Right
+    }
+}
+
+#[test]
+fn refuses_each_request(rt: HostRuntime) -> Result<(), Fail> {
+    let mut blocks = Blocks {
+        held: Vec::with_capacity(rt.alloc(), 8)?,
+        refused: [false; 8],
+    };
+    assert!(rt; refusals(&rt, rt.alloc(), FINE, &mut blocks)? >= 8);
+    assert_eq!(rt; blocks.refused, [true; 8]);
+    Ok(())
+}

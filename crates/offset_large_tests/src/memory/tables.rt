@@ -1,0 +1,30 @@
+//! A constructor takes no more memory than its tables need.
+
+use super::attempts::all_memory_but;
+use offset_allocator::Allocator;
+use std::test::Fail;
+
+const NODES: u32 = 4_000_000;
+
+// A node takes 24 bytes, its entry in the stack of unused indices 4, and its use flag 1. Each of the 256 classes takes
+// 4.
+const BYTES: usize = 29 * 4_000_000 + 1_024;
+
+// Half of the smallest table of the nodes, and more than the gaps between the tables.
+const SLACK: usize = 2_000_000;
+
+#[test]
+fn takes_no_more_than_its_tables_need(rt: HostRuntime) -> Result<(), Fail> {
+    let _rest = all_memory_but(rt.alloc(), BYTES + SLACK)?;
+    let made = Allocator::<u32>::with_max_allocs(rt.alloc(), 100, NODES);
+    assert!(rt; made.is_ok());
+    Ok(())
+}
+
+#[test]
+fn needs_memory_for_each_table(rt: HostRuntime) -> Result<(), Fail> {
+    let _rest = all_memory_but(rt.alloc(), BYTES - SLACK)?;
+    let made = Allocator::<u32>::with_max_allocs(rt.alloc(), 100, NODES);
+    assert!(rt; made.is_err());
+    Ok(())
+}

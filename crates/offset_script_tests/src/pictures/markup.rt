@@ -1,0 +1,122 @@
+//! Pictures are well-formed XML.
+
+use super::support::picture_of;
+use std::alloc::{AllocError, Global};
+use std::test::Fail;
+
+// Whether a text is the name of an element or of an attribute.
+fn is_name(word: &str) -> bool {
+    !word.is_empty() && word.bytes().all(|b| b.is_ascii_alphanumeric() || b == b'-')
+}
+
+// Whether a text is attributes alone, each after a space, with its value in single quotes, and none twice.
+fn are_attributes(alloc: Global, text: &str) -> Result<bool, AllocError> {
+    let mut names: Vec<&str> = Vec::new(alloc);
+    let mut rest = text;
+    for _ in 0..text.len() {
+        if rest.is_empty() {
+            break;
+        }
+        let Some((before, after)) = rest.split_once("='") else {
+            return Ok(false);
+        };
+        let Some(name) = before.strip_prefix(" ") else {
+            return Ok(false);
+        };
+        let Some((_, others)) = after.split_once("'") else {
+            return Ok(false);
+        };
+        if !is_name(name) || names.iter().any(|known| *known == name) {
+            return Ok(false);
+        }
+        names.push(name)?;
+        rest = others;
+    }
+    Ok(rest.is_empty())
+}
+
+// Whether a text is one element, with its elements closed in turn, and no bare `&`, `<` or `>` in text or attributes. It
+// knows no comments, declarations or escapes, which pictures do not have.
+fn is_well_formed(alloc: Global, text: &str) -> Result<bool, AllocError> {
+    let mut open: Vec<&str> = Vec::new(alloc);
+    let mut roots = 0u32;
+    if !text.starts_with("<") || text.contains("&") {
+        return Ok(false);
+    }
+    for piece in text.split("<").skip(1) {
+        let Some((tag, data)) = piece.split_once(">") else {
+            return Ok(false);
+        };
+        if data.contains(">") {
+            return Ok(false);
+        }
+        if let Some(name) = tag.strip_prefix("/") {
+            if open.pop() != Some(name) {
+                return Ok(false);
+            }
+        } else {
+            let (inner, is_closed) = match tag.strip_suffix("/") {
+                Some(inner) => (inner, true),
+                None => (tag, false),
+            };
+            let length = inner.find(" ").unwrap_or(inner.len());
+            let (name, attributes) = inner.split_at_checked(length).unwrap_or((inner, ""));
+            if !is_name(name) || !are_attributes(alloc, attributes)? {
+                return Ok(false);
+            }
+            if open.is_empty() {
+                roots = roots.saturating_add(1);
+            }
+            if !is_closed {
+                open.push(name)?;
+            }
+        }
+        if open.is_empty() && !data.trim().is_empty() {
+            return Ok(false);
+        }
+    }
+    Ok(open.is_empty() && roots == 1)
+}
+
+// The other tests of this file rely on this check.
+#[test]
+fn the_check_of_markup_works(rt: HostRuntime) -> Result<(), Fail> {
+    for (text, want) in [
+        ("<a/>", true),
+        ("<a b='c' d='e'>f<g/>h</a>\n", true),
+        ("<a>", false),
+        ("<a></b>", false),
+        ("<a><b></a></b>", false),
+        ("<a/><a/>", false),
+        ("<a/>b", false),
+        ("b<a/>", false),
+        ("<a>&</a>", false),
+        ("<a>></a>", false),
+        ("<a b=c/>", false),
+        ("<a b='c/>", false),
+        ("<a b='c'd='e'/>", false),
+        ("<a b='c' b='d'/>", false),
+        ("<a b='c''/>", false),
+        ("<a", false),
+        ("", false),
+    ] {
+        assert_eq!(rt; is_well_formed(rt.alloc(), text)?, want, "{text}");
+    }
+    Ok(())
+}
+
+#[test]
+fn draws_well_formed_pictures(rt: HostRuntime) -> Result<(), Fail> {
+    for text in [
+        "space 0 nodes 2 index 16\n",
+        "space 100 nodes 16 index 32\n",
+        "space 100 nodes 16 index 32\nalloc 101\nalloc 102\n",
+        "space 100 nodes 3 index 32\nalloc 10\nalloc 10\nfree 1\n",
+        "space 100 nodes 16 index 32\nalloc 10\nalign 8 16\nfree 1\nalloc 90\nextend 50\nalloc 0\nsize 3\nfull\nreport\nreset\nalloc 7\n",
+        "space 4294967295 nodes 16 index 32\nalloc 4026531840\nextend 1\nfree 9\n",
+    ] {
+        let picture = picture_of(rt.alloc(), text)?;
+        assert!(rt; is_well_formed(rt.alloc(), &picture)?, "{text}{picture}");
+    }
+    Ok(())
+}

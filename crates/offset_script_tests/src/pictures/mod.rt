@@ -1,0 +1,8 @@
+//! Tests of `offset_lives`.
+
+mod examples;
+mod extremes;
+mod faults;
+mod many;
+mod markup;
+mod support;

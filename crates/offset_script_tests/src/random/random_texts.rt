@@ -1,0 +1,269 @@
+//! Random texts, many of them faulty, against the slow model.
+
+use super::numbers::Numbers;
+use super::slow_reading::{Reading, read_slowly, run_slowly};
+use offset_script::{Script, ScriptFault, parse};
+use offset_test_base::runs::outcome;
+use std::alloc::{AllocError, Global};
+use std::process::Abort;
+use std::test::Fail;
+
+const TEXTS: u64 = 200_000;
+
+// Words for one place of a line.
+#[derive(Clone, Copy)]
+struct Words {
+    right: &'static [&'static [u8]],
+    wrong: &'static [&'static [u8]],
+}
+
+const SIZES: Words = Words {
+    right: &[
+        b"0",
+        b"1",
+        b"7",
+        b"9",
+        b"16",
+        b"17",
+        b"40",
+        b"48",
+        b"100",
+        b"0000000032",
+        b"4294967295",
+    ],
+    wrong: &[
+        b"00000000032",
+        b"4294967296",
+        b"-1",
+        b"+1",
+        b"",
+        b"1 1",
+        b"x",
+    ],
+};
+
+const NUMBERS: Words = Words {
+    right: &[b"1", b"2", b"3", b"4", b"5", b"0", b"0000000001"],
+    wrong: &[b"00000000001", b"99999999999", b"1\r", b"", b" 1", b"1 "],
+};
+
+const ALIGNS: Words = Words {
+    right: &[b" 1", b" 2", b" 8", b" 016", b" 2147483648"],
+    wrong: &[b" 0", b" 3", b" 4294967295", b"", b"  2", b" 2 2"],
+};
+
+const LIMITS: Words = Words {
+    right: &[b"3", b"4", b"5", b"8", b"16", b"0032", b"2", b"65533"],
+    wrong: &[
+        b"65534",
+        b"1",
+        b"0",
+        b"4294967293",
+        b"4294967294",
+        b"",
+        b"n",
+    ],
+};
+
+const ENDS: Words = Words {
+    right: &[b" index 16", b" index 32"],
+    wrong: &[
+        b" index 8",
+        b" index",
+        b"",
+        b" index 32 ",
+        b" index  16",
+        b" index 016",
+    ],
+};
+
+const REQUESTS: Words = Words {
+    right: &[b"alloc ", b"extend ", b"align "],
+    wrong: &[b"Alloc ", b"alloc", b"extend\t", b"allocate "],
+};
+
+const RELEASES: Words = Words {
+    right: &[b"free ", b"free ", b"size "],
+    wrong: &[b"Free ", b"full ", b"sized "],
+};
+
+const REPORTS: Words = Words {
+    right: &[
+        b"report",
+        b"full",
+        b"reset",
+        b"",
+        b"# c",
+        b"#",
+        b"# report 1",
+    ],
+    wrong: &[
+        b"report ",
+        b" full",
+        b"resets",
+        b" ",
+        b"\xff",
+        b"\x00",
+        b"space 9 nodes 4 index 32",
+    ],
+};
+
+// The bytes that a change puts into a text.
+const BYTES: &[u8] = b" \n\r#0123456789acefilnoprstuxzAF-+\x00\xff";
+
+// Appends one of the right words, or in 1 of 32 cases a wrong one.
+fn put(text: &mut Vec<u8>, numbers: &mut Numbers, words: Words) -> Result<(), AllocError> {
+    let from = if numbers.place(32) == 0 {
+        words.wrong
+    } else {
+        words.right
+    };
+    match from.get(numbers.place(from.len())) {
+        None => Ok(()),
+        Some(word) => text.extend_from_slice(word),
+    }
+}
+
+fn put_header(text: &mut Vec<u8>, numbers: &mut Numbers) -> Result<(), AllocError> {
+    text.extend_from_slice(b"space ")?;
+    put(text, numbers, SIZES)?;
+    text.extend_from_slice(b" nodes ")?;
+    put(text, numbers, LIMITS)?;
+    put(text, numbers, ENDS)
+}
+
+fn put_request(text: &mut Vec<u8>, numbers: &mut Numbers) -> Result<(), AllocError> {
+    put(text, numbers, REQUESTS)?;
+    let is_aligned = text.ends_with(b"align ");
+    put(text, numbers, SIZES)?;
+    if is_aligned {
+        put(text, numbers, ALIGNS)
+    } else {
+        Ok(())
+    }
+}
+
+fn put_line(text: &mut Vec<u8>, numbers: &mut Numbers) -> Result<(), AllocError> {
+    match numbers.place(8) {
+        0..=3 => put_request(text, numbers),
+        4 | 5 => {
+            put(text, numbers, RELEASES)?;
+            put(text, numbers, NUMBERS)
+        }
+        _ => put(text, numbers, REPORTS),
+    }
+}
+
+// The text with one byte removed, replaced or inserted.
+fn change(alloc: Global, text: &[u8], numbers: &mut Numbers) -> Result<Vec<u8>, AllocError> {
+    let (before, after) = text.split_at(numbers.place(text.len()).min(text.len()));
+    let kind = numbers.place(3);
+    let mut changed = before.to_vec(alloc)?;
+    if kind > 0
+        && let Some(byte) = BYTES.get(numbers.place(BYTES.len()))
+    {
+        changed.push(*byte)?;
+    }
+    match after.split_first() {
+        Some((_byte, others)) if kind < 2 => changed.extend_from_slice(others)?,
+        _ => changed.extend_from_slice(after)?,
+    }
+    Ok(changed)
+}
+
+// The random text of this number.
+fn random_text(alloc: Global, number: u64) -> Result<Vec<u8>, AllocError> {
+    let mut numbers = Numbers::new(number);
+    let mut text = Vec::new(alloc);
+    for _ in 0..numbers.place(3) {
+        text.extend_from_slice(b"# c\n\n")?;
+    }
+    put_header(&mut text, &mut numbers)?;
+    for _ in 0..numbers.place(16) {
+        text.push(b'\n')?;
+        put_line(&mut text, &mut numbers)?;
+    }
+    if numbers.place(4) > 0 {
+        text.push(b'\n')?;
+    }
+    for _ in 0..numbers.place(3) {
+        text = change(alloc, &text, &mut numbers)?;
+    }
+    Ok(text)
+}
+
+fn is_same(script: &Script, reading: &Reading) -> bool {
+    script.size == reading.size
+        && script.max_allocs == reading.limit
+        && script.index == reading.index
+        && script.commands.as_slice() == reading.commands.as_slice()
+}
+
+// The number of texts of each meaning.
+#[derive(Clone, Copy, PartialEq, Debug)]
+struct Tally {
+    scripts: u32,
+    bad_headers: u32,
+    bad_limits: u32,
+    bad_commands: u32,
+}
+
+impl Tally {
+    fn count(&mut self, meaning: &Result<Reading, ScriptFault>) {
+        let counted = match meaning {
+            Ok(_) => &mut self.scripts,
+            Err(ScriptFault::BadLimit(_)) => &mut self.bad_limits,
+            Err(ScriptFault::BadCommand(_)) => &mut self.bad_commands,
+            Err(_) => &mut self.bad_headers,
+        };
+        *counted = counted.saturating_add(1);
+    }
+}
+
+// `parse` returns the script, or the fault, that the slow model finds, and a run writes what the model writes.
+fn expect_meaning(
+    rt: &impl Abort,
+    alloc: Global,
+    number: u64,
+    tally: &mut Tally,
+) -> Result<(), Fail> {
+    let text = random_text(alloc, number)?;
+    let meaning = read_slowly(alloc, &text);
+    tally.count(&meaning);
+    match (parse(alloc, &text), meaning) {
+        (Err(found), Err(wanted)) => assert_eq!(rt; found, wanted, "text {number}"),
+        (Ok(script), Ok(reading)) => {
+            assert!(rt; is_same(&script, &reading), "text {number}");
+            // Tables of more nodes would take gigabytes.
+            if reading.limit > 65_533 {
+                return Ok(());
+            }
+        }
+        _ => assert!(rt; false, "text {number} has a fault, or none"),
+    }
+    let wanted = run_slowly(alloc, &text)?;
+    assert_eq!(rt;
+        outcome(alloc, &text)?.as_str(),
+        wanted.as_str(),
+        "text {number}"
+    );
+    Ok(())
+}
+
+#[test]
+fn reads_random_texts(rt: HostRuntime) -> Result<(), Fail> {
+    let mut tally = Tally {
+        scripts: 0,
+        bad_headers: 0,
+        bad_limits: 0,
+        bad_commands: 0,
+    };
+    for number in 1..TEXTS + 1 {
+        expect_meaning(&rt, rt.alloc(), number, &mut tally)?;
+    }
+    assert!(rt; tally.scripts > 1_000, "{tally:?}");
+    assert!(rt; tally.bad_headers > 1_000, "{tally:?}");
+    assert!(rt; tally.bad_limits > 1_000, "{tally:?}");
+    assert!(rt; tally.bad_commands > 1_000, "{tally:?}");
+    Ok(())
+}

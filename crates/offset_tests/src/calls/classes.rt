@@ -1,0 +1,121 @@
+//! Size classes, against tables of their values.
+
+use super::steps::Limit::{Few, Limited};
+use super::steps::Step::Grants;
+use super::steps::expect;
+use offset_allocator::ext::min_allocator_size;
+use offset_allocator::small_float::{
+    float_to_uint, uint_to_float_round_down, uint_to_float_round_up,
+};
+use offset_test_base::groups::value_of;
+use std::alloc::Global;
+use std::process::Abort;
+use std::test::Fail;
+
+// Sizes, each with the smallest size of a fresh space that grants it.
+const SMALLEST_SIZES: [(u32, u32); 43] = [
+    (0, 0),
+    (1, 1),
+    (2, 2),
+    (3, 3),
+    (4, 4),
+    (5, 5),
+    (8, 8),
+    (17, 18),
+    (23, 24),
+    (36, 36),
+    (51, 52),
+    (68, 72),
+    (87, 88),
+    (151, 160),
+    (165, 176),
+    (167, 176),
+    (201, 208),
+    (223, 224),
+    (306, 320),
+    (346, 352),
+    (394, 416),
+    (411, 416),
+    (806, 832),
+    (969, 1_024),
+    (1_404, 1_408),
+    (1_798, 1_920),
+    (2_236, 2_304),
+    (4_281, 4_608),
+    (4_745, 5_120),
+    (13_989, 14_336),
+    (21_095, 22_528),
+    (26_594, 26_624),
+    (27_146, 28_672),
+    (29_679, 30_720),
+    (144_685, 147_456),
+    (153_878, 163_840),
+    (495_127, 524_288),
+    (727_999, 786_432),
+    (1_377_073, 1_441_792),
+    (9_440_387, 10_485_760),
+    (41_994_490, 46_137_344),
+    (68_520_116, 75_497_472),
+    (4_026_531_840, 4_026_531_840),
+];
+
+#[test]
+fn small_float_uint_to_float(rt: HostRuntime) {
+    for i in 0..17u32 {
+        assert_eq!(rt; uint_to_float_round_up(i), i);
+        assert_eq!(rt; uint_to_float_round_down(i), i);
+    }
+    for (size, up, down) in [
+        (17, 17, 16),
+        (118, 39, 38),
+        (1_024, 64, 64),
+        (65_536, 112, 112),
+        (529_445, 137, 136),
+        (1_048_575, 144, 143),
+        (4_026_531_840, 239, 239),
+        (4_026_531_841, 240, 239),
+        (4_294_967_295, 240, 239),
+    ] {
+        assert_eq!(rt; uint_to_float_round_up(size), up, "{size}");
+        assert_eq!(rt; uint_to_float_round_down(size), down, "{size}");
+    }
+}
+
+#[test]
+fn small_float_float_to_uint(rt: HostRuntime) {
+    for i in 0..17u32 {
+        assert_eq!(rt; float_to_uint(i), i);
+    }
+    for class in 0..240u32 {
+        let value = float_to_uint(class);
+        assert_eq!(rt; uint_to_float_round_up(value), class);
+        assert_eq!(rt; uint_to_float_round_down(value), class);
+    }
+}
+
+#[test]
+fn the_values_of_all_groups(rt: HostRuntime) {
+    for class in 0..256u32 {
+        assert_eq!(rt;
+            u64::from(float_to_uint(class)),
+            value_of(class as usize) % 4_294_967_296,
+            "class {class}"
+        );
+    }
+}
+
+// A space of this size grants the request, also with a limit of three nodes.
+fn expect_smallest(rt: &impl Abort, alloc: Global, size: u32, smallest: u32) -> Result<(), Fail> {
+    assert!(rt; size <= 4_026_531_840);
+    assert_eq!(rt; min_allocator_size(size), smallest, "{size}");
+    expect(rt, alloc, smallest, Few, &[Grants(size, 0)])?;
+    expect(rt, alloc, smallest, Limited(3), &[Grants(size, 0)])
+}
+
+#[test]
+fn ext_min_allocator_size(rt: HostRuntime) -> Result<(), Fail> {
+    for (size, smallest) in SMALLEST_SIZES {
+        expect_smallest(&rt, rt.alloc(), size, smallest)?;
+    }
+    Ok(())
+}

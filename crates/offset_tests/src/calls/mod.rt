@@ -1,0 +1,15 @@
+//! Tests of `offset_allocator`.
+
+mod alignment;
+mod classes;
+mod compacting;
+mod extension;
+mod grants;
+mod handles;
+mod original;
+mod refusals;
+mod reports;
+mod resizing;
+mod steps;
+mod texts;
+mod walking;
