@@ -33,7 +33,7 @@ class Edit:
     def texts(self):
         """The texts of the files that the edit changes, by their paths in the crate."""
         file, old, texts, pairs = None, None, {}, 0
-        for line in self.lines[1:]:
+        for line in self.lines:
             key, _, text = line.partition(":")
             text = text[1:] if text.startswith(" ") else text
             if key == "file":
