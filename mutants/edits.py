@@ -125,7 +125,7 @@ def stop_on_problems(edits):
     for it in found:
         print(it)
     if found:
-        sys.exit(f"mutants: {len(found)} things to put right, and nothing was tried; `mutants/table --write` writes the tables")
+        sys.exit(f"mutants: {len(found)} faults; nothing was tried, and `mutants/table --write` writes the tables")
 
 
 def tracked():
