@@ -1,0 +1,135 @@
+"""The mutants: edits of a crate's sources that the prover has to refuse.
+
+An edit is a file `NAME.edit`. Its first line is a sentence that says what the wrong body does. After it are lines
+`file: PATH`, `old: TEXT` and `new: TEXT`: the one occurrence of the old text in that file becomes the new one, and
+further pairs change what the earlier ones made.
+"""
+import difflib
+import re
+import subprocess
+import sys
+from pathlib import Path
+
+TOP = Path(__file__).resolve().parent.parent
+DOCUMENT = TOP / "docs" / "PROOFS.md"
+BEGIN = "<!-- The tables down to the end mark are written by `mutants/table --write`. -->"
+END = "<!-- The end of the written tables. -->"
+LONGEST = 100
+
+
+class Wrong(Exception):
+    """Why an edit cannot be applied."""
+
+
+class Edit:
+    def __init__(self, crate, path, is_in_gate):
+        self.crate, self.path, self.is_in_gate = crate, path, is_in_gate
+        self.name = path.stem
+        self.label = f"{crate}/{self.name}"
+        self.lines = path.read_text(encoding="utf-8").split("\n")
+        self.sentence = self.lines[0]
+        self.where = "gate" if is_in_gate else "`mutants/run`"
+
+    def texts(self):
+        """The texts of the files that the edit changes, by their paths in the crate."""
+        file, old, texts, pairs = None, None, {}, 0
+        for line in self.lines:
+            key, _, text = line.partition(":")
+            text = text[1:] if text.startswith(" ") else text
+            if key == "file":
+                file, old = text.strip(), None
+            elif key == "old":
+                old = text
+            elif key == "new":
+                if not file or not old:
+                    raise Wrong("a line 'new:' is before any line 'file:' or 'old:'")
+                if file not in texts:
+                    source = TOP / "crates" / self.crate / file
+                    if not source.is_file():
+                        raise Wrong(f"there is no file {file}")
+                    texts[file] = source.read_text(encoding="utf-8")
+                found = texts[file].count(old)
+                if found != 1:
+                    raise Wrong(f"an 'old:' text is in {file} {found} times, and not once")
+                texts[file] = texts[file].replace(old, text)
+                old, pairs = None, pairs + 1
+        if not pairs:
+            raise Wrong("it has no pair of lines 'old:' and 'new:'")
+        return texts
+
+    def problems(self):
+        said = self.sentence
+        if not said.endswith(".") or said.startswith(("file:", "old:", "new:")):
+            yield f"{self.label}: its first line is no sentence that says what the wrong body does"
+        elif "`" not in said or "|" in said or len(said) > LONGEST:
+            yield f"{self.label}: its sentence names no function in backticks, has a `|`, or is longer than {LONGEST}"
+        try:
+            self.texts()
+        except Wrong as why:
+            yield f"{self.label}: {why}"
+
+
+def folders():
+    """The folders that may have edits, each with its crate and whether the gate tries them."""
+    for crate in sorted(it for it in (TOP / "crates").iterdir() if it.is_dir()):
+        yield crate.name, crate / "must-fail", True
+        yield crate.name, TOP / "mutants" / crate.name, False
+
+
+def every():
+    """All edits: crate by crate, each crate's by their names."""
+    found = [Edit(crate, it, gate) for crate, folder, gate in folders() for it in folder.glob("*.edit")]
+    return sorted(found, key=lambda it: (it.crate, it.name, it.is_in_gate))
+
+
+def table(edits):
+    """The tables of the document: one for each crate."""
+    lines = []
+    for crate in dict.fromkeys(it.crate for it in edits):
+        rows = [it for it in edits if it.crate == crate]
+        gate = sum(it.is_in_gate for it in rows)
+        lines += [f"### `{crate}`: {len(rows)}, of which the gate tries {gate}", "", "| Wrong body | Edit | Tried by |"]
+        lines += ["|---|---|---|", *(f"| {it.sentence} | `{it.name}` | {it.where} |" for it in rows), ""]
+    return lines
+
+
+def halves():
+    """The lines of the document up to the tables, those of the tables, and those after them."""
+    lines = DOCUMENT.read_text(encoding="utf-8").split("\n")
+    if [lines.count(BEGIN), lines.count(END)] != [1, 1] or lines.index(BEGIN) > lines.index(END):
+        sys.exit(f"mutants: {DOCUMENT.name} has not once each of the two marks of the tables")
+    begin, end = lines.index(BEGIN) + 1, lines.index(END)
+    return lines[:begin], lines[begin:end], lines[end:]
+
+
+def problems(edits):
+    """What is wrong with the edits, or with the tables of the document."""
+    found = [problem for it in edits for problem in it.problems()]
+    known = {folder for _, folder, _ in folders()}
+    for folder in [*known, *(it for it in (TOP / "mutants").iterdir() if it.is_dir() and it.name != "__pycache__")]:
+        if folder not in known:
+            found.append(f"{folder.relative_to(TOP)}: there is no crate of this name")
+        for it in folder.iterdir() if folder.is_dir() else []:
+            if not re.fullmatch(r"\w+\.edit|README\.md", it.name):
+                found.append(f"{it.relative_to(TOP)}: the name of an edit has letters, digits and _, and ends in .edit")
+    labels = [it.label for it in edits]
+    found += [f"{it}: two edits have this name" for it in sorted({it for it in labels if labels.count(it) > 1})]
+    for line in difflib.ndiff(halves()[1], ["", *table(edits)]):
+        if line[:1] in "+-" and line[2:].strip():
+            found.append(f"{DOCUMENT.name}: {'missing' if line[0] == '+' else 'not of an edit'}: {line[2:]}")
+    return found
+
+
+def stop_on_problems(edits):
+    found = problems(edits)
+    for it in found:
+        print(it)
+    if found:
+        sys.exit(f"mutants: {len(found)} faults; nothing was tried, and `mutants/table --write` writes the tables")
+
+
+def tracked():
+    """The files of the work tree that git tracks or would track, by their paths from the top."""
+    words = ["git", "-C", str(TOP), "ls-files", "-co", "--exclude-standard", "-z"]
+    found = subprocess.run(words, check=True, stdout=subprocess.PIPE).stdout.decode().split("\0")
+    return [it for it in found if it and (TOP / it).is_file()]
