@@ -1,7 +1,7 @@
 -- What a program that draws returns and leaves, and how a picture writes numbers.
-use Rattle.std.specs.Prelude.{◌≡◌, ℕ, ◌/◌, ◌%◌, List, [], ◌++◌, codes, Option, Some, Result, Ok, Err, nat_eq, drop, if◌then◌else◌}
+use Rattle.std.specs.Prelude.{◌≡◌, ℕ, ◌/◌, ◌%◌, Bool, true, not, List, [], ◌++◌, codes, Option, Some, Result, Ok, Err, nat_eq, drop, if◌then◌else◌}
 use Rattle.std.specs.Fmt.{decimal}
-use Rattle.std.specs.Io.KnownBytes.{Appends}
+use Rattle.offset_script.specs.Running.{Sends}
 use Rattle.offset_script.specs.declared.faults.ScriptFault.TheVariants as scripts
 use Rattle.offset_script.specs.declared.faults.RunFault.{RunFault}
 use Rattle.offset_script.specs.declared.faults.RunFault.TheVariants.{Script, Memory, Read, Write}
@@ -19,29 +19,20 @@ pixels_text n = decimal (n / 100) ++ (if nat_eq (n % 100) 0 then [] else codes "
 abbrev pub IsPicture : List ℕ → Type 0
 IsPicture text = (body : List ℕ) × (text ≡ codes "<svg " ++ body ++ codes "</svg>\n")
 
--- the text means a script, and a whole picture was appended
-pub record WritesPicture (text : List ℕ) (old new : Option (List ℕ)) : Type 0 where
+-- the text means a script, and a picture was sent: all of it was appended, or a beginning
+pub record SendsPicture (text : List ℕ) (whole : Bool) (old new : Option (List ℕ)) : Type 0 where
   pub plan : Plan
   pub picture : List ℕ
   pub means : meaning_of text ≡ Ok plan
-  pub whole : IsPicture picture
-  pub writes : Appends old new picture
-
--- the text means a script, and a beginning of a picture was appended
-pub record BeginsPicture (text : List ℕ) (old new : Option (List ℕ)) : Type 0 where
-  pub plan : Plan
-  pub front : List ℕ
-  pub back : List ℕ
-  pub means : meaning_of text ≡ Ok plan
-  pub whole : IsPicture (front ++ back)
-  pub writes : Appends old new front
+  pub drawn : IsPicture picture
+  pub sends : Sends whole picture old new
 
 -- What drawing returned, left of a source with this text, and wrote: on `Ok` a whole picture, on `Write` a beginning of
--- one, and else the fault of the text. On `Memory` and `Read` nothing is said.
-abbrev pub DrawOf : Result (Unit {0}) RunFault → List ℕ → Option (List ℕ) → Option (List ℕ) → Option (List ℕ) → Type 0
-DrawOf (Ok u) text left old new = (left ≡ Some []) × WritesPicture text old new
-DrawOf (Err (Script scripts.TooLong)) text left old new = (left ≡ Some (drop 1048577 text)) × (meaning_of text ≡ Err scripts.TooLong)
-DrawOf (Err (Script f)) text left old new = (left ≡ Some []) × (meaning_of text ≡ Err f)
-DrawOf (Err Memory) text left old new = Unit {0}
-DrawOf (Err Read) text left old new = Unit {0}
-DrawOf (Err Write) text left old new = (left ≡ Some []) × BeginsPicture text old new
+-- one (all of it, where no push has failed), and else the fault of the text. On `Memory` and `Read` nothing is said.
+abbrev pub DrawOf : Result (Unit {0}) RunFault → List ℕ → Option (List ℕ) → Option (List ℕ) → Option (List ℕ) → Bool → Type 0
+DrawOf (Ok u) text left old new push_has_failed = (left ≡ Some []) × SendsPicture text true old new
+DrawOf (Err (Script scripts.TooLong)) text left old new push_has_failed = (left ≡ Some (drop 1048577 text)) × (meaning_of text ≡ Err scripts.TooLong)
+DrawOf (Err (Script f)) text left old new push_has_failed = (left ≡ Some []) × (meaning_of text ≡ Err f)
+DrawOf (Err Memory) text left old new push_has_failed = Unit {0}
+DrawOf (Err Read) text left old new push_has_failed = Unit {0}
+DrawOf (Err Write) text left old new push_has_failed = (left ≡ Some []) × SendsPicture text (not push_has_failed) old new

@@ -16,7 +16,8 @@ use std::alloc::Global;
 // picture in place of answers.
 fn draw<S: Source, K: Sink>(alloc: Global, input: &mut S, output: &mut K) -> Result<(), RunFault>
     ensures of_text { IfSome (S.left input.old)
-        (λ text. DrawOf result text (S.left input.new) (K.held output.old) (K.held output.new)) }
+        (λ text. DrawOf result text (S.left input.new)
+        (K.held output.old) (K.held output.new) (K.push_has_failed output.new)) }
     ensures flushed { OnOk result (K.is_flushed output.new ≡ true) }
     ensures untouched { IfErr result (λ f. f ≢ faults.Write → output.new ≡ output.old) }
     ensures memory { result ≢ Err (faults.Script scripts.Memory) }
@@ -47,9 +48,10 @@ pub fn draw_program<S: Source, K: Sink, E: Sink>(
     // There is a result of drawing, named `ended`, with these properties, in this order:
     // - it is never `Script(Memory)`;
     // - after `Ok` the status returned is 0, and `errors` is as it was; else it is that of the fault, and the line of the
-    //   fault was appended to `errors` and flushed, or a beginning of that line was, and `errors` failed;
+    //   fault was appended to `errors` and flushed, or `errors` failed, and a beginning of that line was: all of it,
+    //   where no push has failed;
     // - where the text of the source is known: on `Ok` it means a script, and a whole picture is appended; on `Write` a
-    //   beginning of a picture is; on `Script` the fault is that of the text;
+    //   beginning of a picture is: all of it, where no push has failed; on `Script` the fault is that of the text;
     // - after `Ok` the output is flushed;
     // - after `Script`, `Memory` and `Read` the output is as it was;
     // - it is `Read` exactly where the source failed in this call;
@@ -59,9 +61,10 @@ pub fn draw_program<S: Source, K: Sink, E: Sink>(
         × MatchResult ended (λ _. (result ≡ 0) × (errors.new ≡ errors.old))
         (λ fault. (result ≡ fault_status fault) × WritesFault fault
         (E.held errors.old) (E.held errors.new) (E.has_failed errors.old) (E.has_failed errors.new)
-        (E.is_flushed errors.new))
+        (E.push_has_failed errors.new) (E.is_flushed errors.new))
         × IfSome (S.left input.old)
-        (λ text. DrawOf ended text (S.left input.new) (K.held output.old) (K.held output.new))
+        (λ text. DrawOf ended text (S.left input.new)
+        (K.held output.old) (K.held output.new) (K.push_has_failed output.new))
         × OnOk ended (K.is_flushed output.new ≡ true)
         × IfErr ended (λ f. f ≢ faults.Write → output.new ≡ output.old)
         × (S.has_failed input.new ≡ (if is_read_fault ended then true else S.has_failed input.old))

@@ -6,9 +6,9 @@ pub record Reading (R : Type 0) : Type 0 where
   pub inner : R
   pub has_failed : Bool
 
--- a writer, whether a write or a flush of it has failed, and whether a flush has succeeded since the last write that
--- did
+-- a writer, whether a write and whether a flush of it has failed, and whether the last call was a flush that succeeded
 pub record Writing (W : Type 0) : Type 0 where
   pub inner : W
-  pub has_failed : Bool
+  pub push_has_failed : Bool
+  pub flush_has_failed : Bool
   pub is_flushed : Bool

@@ -1,5 +1,5 @@
 -- What `parse` and reading return, which faults a run returns, and what reading and writing leave.
-use Rattle.std.specs.Prelude.{◌≡◌, ℕ, ◌<◌, ◌≤◌, Bool, true, false, List, [], ◌++◌, length, drop, Option, Some, Result, Ok, Err, IsTrue, if◌then◌else◌}
+use Rattle.std.specs.Prelude.{◌≡◌, ℕ, ◌<◌, ◌≤◌, Bool, true, false, not, ◌||◌, List, [], ◌++◌, length, drop, Option, Some, Result, Ok, Err, IsTrue, if◌then◌else◌}
 use Rattle.std.specs.Io.KnownBytes.{Consumes, Appends, IsAtEnd}
 use Rattle.offset_script.specs.declared.faults.ScriptFault.{ScriptFault}
 use Rattle.offset_script.specs.declared.faults.ScriptFault.TheVariants as scripts
@@ -58,13 +58,13 @@ abbrev pub Sends : Bool → List ℕ → Option (List ℕ) → Option (List ℕ)
 Sends true text old new = Appends old new text
 Sends false text old new = (front : List ℕ) × (back : List ℕ) × (text ≡ front ++ back) × Appends old new front
 
--- the line of a fault was appended to a sink with its line end, and flushed; or a beginning of them was appended, and
--- the sink failed
-pub record WritesFault (fault : RunFault) (old new : Option (List ℕ)) (had_failed has_failed is_flushed : Bool) : Type 0 where
-  pub whole : Bool
-  pub sends : Sends whole (fault_line fault ++ line_end) old new
-  pub failed : has_failed ≡ (if whole then had_failed else true)
-  pub flushed : IsTrue whole → is_flushed ≡ true
+-- the line of a fault was appended to a sink with its line end, and flushed; or the sink failed, and a beginning of them
+-- was appended: all of them, where no push has failed
+pub record WritesFault (fault : RunFault) (old new : Option (List ℕ)) (had_failed has_failed push_has_failed is_flushed : Bool) : Type 0 where
+  pub is_sent : Bool
+  pub sends : Sends (is_sent || not push_has_failed) (fault_line fault ++ line_end) old new
+  pub failed : has_failed ≡ (if is_sent then had_failed else true)
+  pub flushed : IsTrue is_sent → is_flushed ≡ true
 
 -- the text means a script, and the text of its answers was sent: all of it was appended, or a beginning
 pub record SendsAnswers (text : List ℕ) (whole : Bool) (old new : Option (List ℕ)) : Type 0 where
@@ -75,11 +75,12 @@ pub record SendsAnswers (text : List ℕ) (whole : Bool) (old new : Option (List
   pub sends : Sends whole (text_of answers) old new
 
 -- What a run returned, left of a source with this text, and wrote: on `Ok` all answers of the script that the text
--- means, on `Write` a beginning of them, and else the fault of the text. On `Memory` and `Read` nothing is said.
-abbrev pub RunOf : Result (Unit {0}) RunFault → List ℕ → Option (List ℕ) → Option (List ℕ) → Option (List ℕ) → Type 0
-RunOf (Ok u) text left old new = (left ≡ Some []) × SendsAnswers text true old new
-RunOf (Err (Script scripts.TooLong)) text left old new = (left ≡ Some (drop 1048577 text)) × (meaning_of text ≡ Err scripts.TooLong)
-RunOf (Err (Script f)) text left old new = (left ≡ Some []) × (meaning_of text ≡ Err f)
-RunOf (Err Memory) text left old new = Unit {0}
-RunOf (Err Read) text left old new = Unit {0}
-RunOf (Err Write) text left old new = (left ≡ Some []) × SendsAnswers text false old new
+-- means, on `Write` a beginning of them (all of them, where no push has failed), and else the fault of the text. On
+-- `Memory` and `Read` nothing is said.
+abbrev pub RunOf : Result (Unit {0}) RunFault → List ℕ → Option (List ℕ) → Option (List ℕ) → Option (List ℕ) → Bool → Type 0
+RunOf (Ok u) text left old new push_has_failed = (left ≡ Some []) × SendsAnswers text true old new
+RunOf (Err (Script scripts.TooLong)) text left old new push_has_failed = (left ≡ Some (drop 1048577 text)) × (meaning_of text ≡ Err scripts.TooLong)
+RunOf (Err (Script f)) text left old new push_has_failed = (left ≡ Some []) × (meaning_of text ≡ Err f)
+RunOf (Err Memory) text left old new push_has_failed = Unit {0}
+RunOf (Err Read) text left old new push_has_failed = Unit {0}
+RunOf (Err Write) text left old new push_has_failed = (left ≡ Some []) × SendsAnswers text (not push_has_failed) old new

@@ -1,6 +1,6 @@
 //! Where a script comes from, and where its answers go.
 
-ghost use Rattle.std.specs.Prelude.{◌≡◌, ℕ, ◌<◌, ◌≤◌, Bool, true, false, List, Option, length, take, IfSome, MatchOption, is_some, if◌then◌else◌};
+ghost use Rattle.std.specs.Prelude.{◌≡◌, ℕ, ◌<◌, ◌≤◌, Bool, true, false, ◌||◌, IsTrue, List, Option, length, take, IfSome, MatchOption, is_some, if◌then◌else◌};
 ghost use Rattle.offset_script.specs.Devices.{Reading, Writing};
 ghost use Rattle.std.specs.Io.KnownBytes.{Consumes, Appends, Keeps, IsAtEnd};
 
@@ -33,8 +33,11 @@ pub trait Sink {
     // Whether a push or a flush has failed.
     ghost has_failed: { Self → Bool };
 
-    // Whether a flush has succeeded since bytes were last appended.
-    ghost is_flushed: { Self → Bool };
+    // Whether a push has failed. A sink need not know: then this is always true, and the clauses on it say nothing.
+    ghost push_has_failed: { Self → Bool } = { λ _. true };
+
+    // Whether all bytes held are flushed. A sink need not know: then this is always true, and says nothing.
+    ghost is_flushed: { Self → Bool } = { λ _. true };
 
     /// Appends the first bytes of `bytes`, at least one, and returns their number. `None` is a failure, which appends
     /// nothing.
@@ -45,13 +48,14 @@ pub trait Sink {
         ensures bytes { MatchOption result (Keeps (held self.old) (held self.new))
             (λ n. Appends (held self.old) (held self.new) (take n bytes.now)) }
         ensures failed { has_failed self.new ≡ (if is_some result then has_failed self.old else true) }
-        ensures flushed { is_flushed self.new ≡ (if is_some result then false else is_flushed self.old) };
+        ensures failed_push { push_has_failed self.new ≡ (if is_some result then push_has_failed self.old else true) };
 
     /// Passes on what was appended, and appends nothing itself. `false` is a failure.
     fn flush(&mut self) -> bool
         ensures bytes { Keeps (held self.old) (held self.new) }
         ensures failed { has_failed self.new ≡ (if result then has_failed self.old else true) }
-        ensures flushed { is_flushed self.new ≡ (if result then true else is_flushed self.old) };
+        ensures failed_push { push_has_failed self.new ≡ push_has_failed self.old }
+        ensures flushed { IsTrue result → is_flushed self.new ≡ true };
 }
 
 /// A reader as a source. Each call makes one read, and fails exactly where that read does.
@@ -104,28 +108,30 @@ impl<R: Read> Source for FromRead<R> {
 }
 
 /// A writer as a sink. Each call makes one write or one flush, and fails exactly where that does. A write that takes 0
-/// bytes is a failure too.
+/// bytes is a failure too. It is flushed from a flush that succeeds to the next call.
 #[derive(Drop)]
 pub struct IntoWrite<W: Write> {
     inner: W,
-    failed: bool,
+    failed_push: bool,
+    failed_flush: bool,
     flushed: bool,
 }
 
 impl<W: Write> Model for IntoWrite<W> {
     ghost Value = { Writing W };
 
-    ghost view = { λ s. record { inner = s.inner; has_failed = s.failed; is_flushed = s.flushed } };
+    ghost view = { λ s. record { inner = s.inner; push_has_failed = s.failed_push; flush_has_failed = s.failed_flush; is_flushed = s.flushed } };
 }
 
 impl<W: Write> IntoWrite<W> {
     /// A sink over a writer. It has not failed, and is not flushed.
     pub fn new(inner: W) -> Self
-        ensures { result ≡ record { inner = inner; has_failed = false; is_flushed = false } }
+        ensures { result ≡ record { inner = inner; push_has_failed = false; flush_has_failed = false; is_flushed = false } }
     {
         IntoWrite {
             inner,
-            failed: false,
+            failed_push: false,
+            failed_flush: false,
             flushed: false,
         }
     }
@@ -136,7 +142,8 @@ impl<W: Write> IntoWrite<W> {
     {
         let IntoWrite {
             inner,
-            failed: _,
+            failed_push: _,
+            failed_flush: _,
             flushed: _,
         } = self;
         inner
@@ -146,33 +153,40 @@ impl<W: Write> IntoWrite<W> {
 impl<W: Write> Sink for IntoWrite<W> {
     ghost held = { λ s. W.contents s.inner };
 
-    ghost has_failed = { λ s. s.has_failed };
+    ghost has_failed = { λ s. s.push_has_failed || s.flush_has_failed };
+
+    ghost push_has_failed = { λ s. s.push_has_failed };
 
     ghost is_flushed = { λ s. s.is_flushed };
 
-    fn push(&mut self, bytes: &[u8]) -> Option<usize> {
+    fn push(&mut self, bytes: &[u8]) -> Option<usize>
+        ensures least { IfSome result (λ n. 0 < n) }
+        ensures count { IfSome result (λ n. n ≤ length bytes.now) }
+        ensures bytes { MatchOption result (Keeps (W.contents self.old.inner) (W.contents self.new.inner))
+            (λ n. Appends (W.contents self.old.inner) (W.contents self.new.inner) (take n bytes.now)) }
+        ensures failed { self.new.flush_has_failed ≡ self.old.flush_has_failed }
+        ensures failed_push { self.new.push_has_failed ≡ (if is_some result then self.old.push_has_failed else true) }
+        // What comes after a flush is not flushed, nor is what a write that failed may have left.
+        ensures flushed { self.new.is_flushed ≡ false }
+    {
+        self.flushed = false;
         match self.inner.write(bytes) {
             Ok(0) | Err(_) => {
-                self.failed = true;
+                self.failed_push = true;
                 None
             }
-            Ok(n) => {
-                self.flushed = false;
-                Some(n)
-            }
+            Ok(n) => Some(n),
         }
     }
 
-    fn flush(&mut self) -> bool {
-        match self.inner.flush() {
-            Ok(()) => {
-                self.flushed = true;
-                true
-            }
-            Err(_) => {
-                self.failed = true;
-                false
-            }
-        }
+    fn flush(&mut self) -> bool
+        ensures bytes { Keeps (W.contents self.old.inner) (W.contents self.new.inner) }
+        ensures failed { self.new.flush_has_failed ≡ (if result then self.old.flush_has_failed else true) }
+        ensures failed_push { self.new.push_has_failed ≡ self.old.push_has_failed }
+        ensures flushed { self.new.is_flushed ≡ result }
+    {
+        self.flushed = self.inner.flush().is_ok();
+        self.failed_flush = self.failed_flush || !self.flushed;
+        self.flushed
     }
 }

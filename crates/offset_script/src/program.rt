@@ -26,7 +26,8 @@ pub fn run_program<S: Source, K: Sink, E: Sink>(
     // There is a result of `run`, named `ended`, with each clause of `run`, in this order:
     // - it is never `Script(Memory)`;
     // - after `Ok` the status returned is 0, and `errors` is as it was; else it is that of the fault, and the line of the
-    //   fault was appended to `errors` and flushed, or a beginning of that line was, and `errors` failed;
+    //   fault was appended to `errors` and flushed, or `errors` failed, and a beginning of that line was: all of it,
+    //   where no push has failed;
     // - where the text of the source is known: what was read, what it means, and what was written, as `of_text` of
     //   `run` says;
     // - after `Ok` the output is flushed;
@@ -38,9 +39,9 @@ pub fn run_program<S: Source, K: Sink, E: Sink>(
         × MatchResult ended (λ _. (result ≡ 0) × (errors.new ≡ errors.old))
         (λ fault. (result ≡ fault_status fault) × WritesFault fault
         (E.held errors.old) (E.held errors.new) (E.has_failed errors.old) (E.has_failed errors.new)
-        (E.is_flushed errors.new))
-        × IfSome (S.left input.old)
-        (λ text. RunOf ended text (S.left input.new) (K.held output.old) (K.held output.new))
+        (E.push_has_failed errors.new) (E.is_flushed errors.new))
+        × IfSome (S.left input.old) (λ text. RunOf ended text (S.left input.new)
+        (K.held output.old) (K.held output.new) (K.push_has_failed output.new))
         × OnOk ended (K.is_flushed output.new ≡ true)
         × IfErr ended (λ f. f ≢ faults.Write → output.new ≡ output.old)
         × (S.has_failed input.new ≡ (if is_read_fault ended then true else S.has_failed input.old))

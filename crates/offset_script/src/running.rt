@@ -61,14 +61,15 @@ pub fn read_script<S: Source>(alloc: Global, input: &mut S) -> Result<Script, Ru
 ///
 /// Nothing is written unless the whole text is a script; of a text that is too long, 1,048,577 bytes are read. `Read`
 /// is returned exactly where the source failed in this call, and `Write` exactly where the sink did; then a beginning
-/// of the answers is written. No failed call is tried again. Where an allocation fails, the fault is `Memory`.
+/// of the answers is written, and all of them where only the flush failed. No failed call is tried again. Where an allocation fails, the fault is `Memory`.
 pub fn run<S: Source, K: Sink>(alloc: Global, input: &mut S, output: &mut K) -> Result<(), RunFault>
     // Where the text of the source is known: on `Ok` it means a script, and the text of all its answers is appended; on
-    // `Write` a beginning of that text is; on `Script` the fault is that of the text. Nothing of the text is left,
-    // except what follows the first 1,048,577 bytes of one that is too long. On `Memory` and `Read` nothing is said.
-    ensures of_text { IfSome (S.left input.old)
-        (λ text. RunOf result text (S.left input.new) (K.held output.old) (K.held output.new)) }
-    // After `Ok` the sink is flushed.
+    // `Write` a beginning of that text is, and all of it where no push has failed; on `Script` the fault is that of the
+    // text. Nothing of the text is left, except what follows the first 1,048,577 bytes of one that is too long. On
+    // `Memory` and `Read` nothing is said.
+    ensures of_text { IfSome (S.left input.old) (λ text. RunOf result text (S.left input.new)
+        (K.held output.old) (K.held output.new) (K.push_has_failed output.new)) }
+    // After `Ok` the sink is flushed, if it says so.
     ensures flushed { OnOk result (K.is_flushed output.new ≡ true) }
     // After `Script`, `Memory` and `Read` the sink is as it was.
     ensures untouched { IfErr result (λ f. f ≢ faults.Write → output.new ≡ output.old) }

@@ -1,6 +1,6 @@
 //! Sends texts to sinks.
 
-ghost use Rattle.std.specs.Prelude.{◌≡◌, ◌++◌, true, IsTrue, if◌then◌else◌};
+ghost use Rattle.std.specs.Prelude.{◌≡◌, ◌++◌, true, ◌||◌, not, IsTrue, if◌then◌else◌};
 ghost use Rattle.std.specs.List.{flat_map};
 ghost use Rattle.offset_script.specs.Grammar.{line_end};
 ghost use Rattle.offset_script.specs.Running.{Sends};
@@ -14,6 +14,7 @@ use crate::tokens::{MOST_DIGITS, digits};
 fn push_all<K: Sink>(output: &mut K, text: &[u8]) -> bool
     ensures sent { Sends result text.now (K.held output.old) (K.held output.new) }
     ensures failed { K.has_failed output.new ≡ (if result then K.has_failed output.old else true) }
+    ensures failed_push { K.push_has_failed output.new ≡ (if result then K.push_has_failed output.old else true) }
 {
     let mut rest = text;
     while !rest.is_empty() {
@@ -28,8 +29,8 @@ fn push_all<K: Sink>(output: &mut K, text: &[u8]) -> bool
 /// Appends all bytes, and then flushes, also where there are none. Returns whether both succeeded. It stops at the
 /// first failure, and tries nothing again.
 pub fn send<K: Sink>(output: &mut K, text: &[u8]) -> bool
-    // On `true` the whole text is appended, on `false` a beginning of it.
-    ensures sent { Sends result text.now (K.held output.old) (K.held output.new) }
+    // On `true` the whole text is appended, on `false` a beginning of it: the whole, where no push has failed.
+    ensures sent { Sends (result || not (K.push_has_failed output.new)) text.now (K.held output.old) (K.held output.new) }
     // The result is `false` exactly where the sink failed in this call.
     ensures failed { K.has_failed output.new ≡ (if result then K.has_failed output.old else true) }
     // On `true` the sink is flushed.
@@ -41,7 +42,8 @@ pub fn send<K: Sink>(output: &mut K, text: &[u8]) -> bool
 // Appends the pieces of a text in turn, and then flushes. Returns whether all succeeded. It stops at the first failure,
 // and tries nothing again.
 fn send_pieces<K: Sink>(output: &mut K, pieces: &[&[u8]]) -> bool
-    ensures sent { Sends result (flat_map (λ piece. piece.now) pieces.now) (K.held output.old) (K.held output.new) }
+    ensures sent { Sends (result || not (K.push_has_failed output.new)) (flat_map (λ piece. piece.now) pieces.now)
+        (K.held output.old) (K.held output.new) }
     ensures failed { K.has_failed output.new ≡ (if result then K.has_failed output.old else true) }
     ensures flushed { IsTrue result → K.is_flushed output.new ≡ true }
 {
@@ -56,8 +58,10 @@ fn send_pieces<K: Sink>(output: &mut K, pieces: &[&[u8]]) -> bool
 /// Appends the line of a fault with its line end, and then flushes. Returns whether both succeeded. It stops at the
 /// first failure, tries nothing again, and allocates nothing.
 pub fn send_fault<K: Sink>(output: &mut K, fault: RunFault) -> bool
-    // On `true` the line of the fault with its line end is appended, on `false` a beginning of it.
-    ensures sent { Sends result (fault_line fault ++ line_end) (K.held output.old) (K.held output.new) }
+    // On `true` the line of the fault with its line end is appended, on `false` a beginning of it: the whole, where no
+    // push has failed.
+    ensures sent { Sends (result || not (K.push_has_failed output.new)) (fault_line fault ++ line_end)
+        (K.held output.old) (K.held output.new) }
     // The result is `false` exactly where the sink failed in this call.
     ensures failed { K.has_failed output.new ≡ (if result then K.has_failed output.old else true) }
     // On `true` the sink is flushed.

@@ -1,7 +1,7 @@
-use Rattle.std.specs.Prelude.{string_bytes}
-use Rattle.offset_lives.proofs.Drawn.{prefix_drawn}
+use Rattle.std.specs.Prelude.{string_bytes, false}
+use Rattle.offset_lives.proofs.Drawn.{is_drawn}
 use Rattle.offset_lives.proofs.program.draw.Goals as goal
 
 pub returns-clause-of_text : goal.returns-clause-of_text
 returns-clause-of_text g c =
-    prefix_drawn (string_bytes c.in_ok-text.text) c.in_ok-script.script (g.S.Source.left c.args.input.now) (g.S.Source.left c.read_script.new.input) (g.K.Sink.held c.args.output.now) (g.K.Sink.held c.send.new.output) c.in_ok-script.ensures.of_text c.in_ok-text.ensures (rw c.as_bytes.ensures.value at c.if-send.ensures.sent)
+    is_drawn (string_bytes c.in_ok-text.text) c.in_ok-script.script (g.S.Source.left c.args.input.now) (g.S.Source.left c.read_script.new.input) (g.K.Sink.held c.args.output.now) (g.K.Sink.held c.send.new.output) false (g.K.Sink.push_has_failed c.send.new.output) c.in_ok-script.ensures.of_text c.in_ok-text.ensures (rw c.as_bytes.ensures.value at c.if-send.ensures.sent)
