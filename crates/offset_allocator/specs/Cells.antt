@@ -57,10 +57,13 @@ pub record AreShaped (max : ℕ) (c : Cells) : Type 0 where
   pub limit : length c.room.nodes ≤ max
   pub word : length c.room.nodes ≤ 4294967295
 
--- tables for m nodes: none is used, no class has a name, and all names are on the stack, in order
-pub record AreEmpty (max m : ℕ) (c : Cells) : Type 0 where
-  pub nodes : length c.room.nodes ≡ m
-  pub idle : (x : ℕ) → (node c.room x).used ≡ false
-  pub spare : c.room.spare ≡ range_with_len 0 m
-  pub heads : c.links.heads ≡ replicate 256 max
-  pub masks : c.links.masks ≡ replicate 4 0
+-- m nodes, none of them used, and all their names on the stack, in order
+pub record AreUnused (m : ℕ) (c : Room) : Type 0 where
+  pub nodes : length c.nodes ≡ m
+  pub idle : (x : ℕ) → (node c x).used ≡ false
+  pub spare : c.spare ≡ range_with_len 0 m
+
+-- no class has a name
+pub record AreEmpty (max : ℕ) (k : Links) : Type 0 where
+  pub heads : k.heads ≡ replicate 256 max
+  pub masks : k.masks ≡ replicate 4 0
