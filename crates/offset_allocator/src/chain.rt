@@ -126,7 +126,7 @@ pub(crate) fn split<NI: NodeIndex>(
     ensures spares { spare_count.new + 1 ≡ spare_count.old }
     ensures fresh { (m : ℕ) (p : Place) → HasPlace tables.old.room m last.old spare_count.old name p → count_named result (p.before ++ p.block ∷ p.after) ≡ 0 }
     ensures below { result < length tables.old.room.nodes }
-    ensures accesses_kept { count.old ≤ count.new }
+    ensures accesses_min { count.old + 8 ≤ count.new }
     ensures accesses_max { count.new ≤ count.old + 9 }
 {
     *spare_count -= 1;
@@ -160,7 +160,7 @@ pub(crate) fn coalesce_after<NI: NodeIndex>(
     ensures links { tables.new.links ≡ tables.old.links }
     ensures nodes { length tables.new.room.nodes ≡ length tables.old.room.nodes }
     ensures spares { spare_count.new ≡ spare_count.old + 1 }
-    ensures accesses_kept { count.old ≤ count.new }
+    ensures accesses_min { count.old + 4 ≤ count.new }
     ensures accesses_max { count.new ≤ count.old + 5 }
 {
     tables.shape();
@@ -190,7 +190,7 @@ pub(crate) fn coalesce_before<NI: NodeIndex>(
     ensures links { tables.new.links ≡ tables.old.links }
     ensures nodes { length tables.new.room.nodes ≡ length tables.old.room.nodes }
     ensures spares { spare_count.new ≡ spare_count.old + 1 }
-    ensures accesses_kept { count.old ≤ count.new }
+    ensures accesses_min { count.old + 6 ≤ count.new }
     ensures accesses_max { count.new ≤ count.old + 7 }
 {
     tables.shape();
@@ -238,7 +238,7 @@ pub(crate) fn split_before<NI: NodeIndex>(
     ensures spares { spare_count.new + 1 ≡ spare_count.old }
     ensures fresh { (m last : ℕ) (p : Place) → HasPlace tables.old.room m last spare_count.old name p → count_named result (p.before ++ p.block ∷ p.after) ≡ 0 }
     ensures below { result < length tables.old.room.nodes }
-    ensures accesses_kept { count.old ≤ count.new }
+    ensures accesses_min { count.old + 11 ≤ count.new }
     ensures accesses_max { count.new ≤ count.old + 12 }
 {
     *spare_count -= 1;
