@@ -1,5 +1,5 @@
 -- What the tables hold, without an index type: nodes and unused names, and the links of the bins.
-use Rattle.std.specs.Prelude.{ℕ, Bool, false, List, Option, Some, None, length, ◌≡◌, ◌≤◌, replicate, slice_set, slice_index_or, eqb, if◌then◌else◌}
+use Rattle.std.specs.Prelude.{ℕ, nat_lt, Bool, false, List, Option, Some, None, length, ◌≡◌, ◌≤◌, replicate, slice_set, slice_index_or, eqb, if◌then◌else◌}
 use Rattle.std.specs.List.{range_with_len}
 
 -- a node, whichever tables its fields are in
@@ -26,6 +26,10 @@ pub record Links : Type 0 where
 pub record Cells : Type 0 where
   pub room : Room
   pub links : Links
+
+-- the bytes of a link whose numbers are at most this: 1, 2 or 4
+abbrev pub link_bytes : ℕ → ℕ
+link_bytes max = if nat_lt max 256 then 1 else if nat_lt max 65536 then 2 else 4
 
 -- the node of a name past the tables
 abbrev pub blank : Node

@@ -149,4 +149,5 @@ returns-clause-accesses_done g c done l =
     let here = goal.at.returns-clause-accesses_done g c in
     let r = block g here.After-self in
     let some = some_after r _ c.free_after-next.ensures.free (omega (arith, more g here.After-units_after-more r, c.if-size-held.false, c.if-size-held-2.false)) in
-    omega (arith, c.size-held.ensures.accesses, c.free_after-next.ensures.accesses_min, c.units_after-more.ensures.accesses_kept, c.resize.ensures.accesses_more some)
+    let counted : c.self.inside.store.accesses ≡ c.args.self.now.accesses = ap (λ (u : View). u.accesses) c.self.view_is in
+    omega (arith, counted, c.size-held.ensures.accesses, c.free_after-next.ensures.accesses_min, c.units_after-more.ensures.accesses_kept, c.resize.ensures.accesses_more some)
