@@ -7,7 +7,7 @@ use Rattle.std.proofs.lemmas.Nat.Bits.{bit_at-zero}
 use Rattle.std.proofs.lemmas.Bool.{cases_eq}
 use Rattle.std.proofs.lemmas.Bool.Decides.{nat_tests}
 use Rattle.offset_allocator.specs.Classes.{down}
-use Rattle.offset_allocator.specs.Cells.{Cells, Links, Room, Node, node, put, AreEmpty, AreShaped}
+use Rattle.offset_allocator.specs.Cells.{Cells, Links, Room, Node, node, put, AreEmpty, AreUnused, AreShaped}
 use Rattle.offset_allocator.specs.Named.{Block, View, IsWellFormed, free_block, push, names_at, times}
 use Rattle.offset_allocator.specs.Space.{IsChain, IsSpace, blocks, spares}
 use Rattle.offset_allocator.specs.Orders.{Linked, Masked, Binned, class_lists, Among, IsUnlisted}
@@ -36,17 +36,17 @@ times-rising k (suc j) s l h =
 abbrev pub whole_node : ℕ → Node
 whole_node size = record { offset = 0; size = size; used = false; before = None; after = None }
 
-module _ {max m : ℕ} {t : Cells} (s : AreShaped max t) (e : AreEmpty max m t) where
-  pub start-chain : (size : ℕ) → 0 < m → size < 2 ^ 32 → (d : Room) → d ≡ put t.room (m - 1) (whole_node size) → IsChain d m (m - 1) (m - 1) (free_block (m - 1) size ∷ [])
+module _ {m : ℕ} {t : Room} (e : AreUnused m t) where
+  pub start-chain : (size : ℕ) → 0 < m → size < 2 ^ 32 → m ≤ 2 ^ 32 → (d : Room) → d ≡ put t (m - 1) (whole_node size) → IsChain d m (m - 1) (m - 1) (free_block (m - 1) size ∷ [])
   unfolding spares
-  start-chain size some small d q =
-      let l : m - 1 < length t.room.nodes = rw e.nodes (omega arith) in
-      let stack_is : d.spare ≡ range_with_len 0 m = rw q (spare-put t.room (m - 1) _ ∙ e.spare) in
+  start-chain size some small word d q =
+      let l : m - 1 < length t.nodes = rw e.nodes (omega arith) in
+      let stack_is : d.spare ≡ range_with_len 0 m = rw q (spare-put t (m - 1) _ ∙ e.spare) in
       let long = length-range_with_len 0 m in
       record {
-        cells = rw q (length-put t.room (m - 1) _ ∙ e.nodes);
+        cells = rw q (length-put t (m - 1) _ ∙ e.nodes);
         stack = rw stack_is long;
-        row = (rw q (node-put t.room (m - 1) _ l), tt);
+        row = (rw q (node-put t (m - 1) _ l), tt);
         ends = refl;
         each = λ k. let r = times-rising k (m - 1) (range_with_len 0 m) (omega arith) (λ i b. get_or-range_with_len 0 m i 0 (omega arith) ∙ omega arith) in
             rw stack_is (elim (cases_eq k (m - 1)) [
@@ -55,7 +55,7 @@ module _ {max m : ℕ} {t : Cells} (s : AreShaped max t) (e : AreEmpty max m t) 
             ]);
         idle = λ k gone.
             let ne : k ≢ m - 1 = λ i. omega (arith, gone, one-eq k (m - 1) (sym i)) in
-            let at_k : node d k ≡ node t.room k = rw q (node-put_other t.room (m - 1) _ k ne) in ap (λ (n : Node). n.used) at_k ∙ e.idle k;
+            let at_k : node d k ≡ node t k = rw q (node-put_other t (m - 1) _ k ne) in ap (λ (n : Node). n.used) at_k ∙ e.idle k;
         full = omega arith;
         fits = omega arith;
       }
@@ -94,7 +94,7 @@ module _ {max : ℕ} (k : Links) (older : length k.older ≡ length k.newer) (sm
   pub empty_binned : Binned max k 0 × (class_lists max k ≡ replicate 256 [])
   empty_binned = binned empty_linked empty_masked
 
-pub fresh_binned : {max m : ℕ} {t : Cells} → AreShaped max t → AreEmpty max m t → Binned max t.links 0 × (class_lists max t.links ≡ replicate 256 [])
+pub fresh_binned : {max : ℕ} {t : Cells} → AreShaped max t → AreEmpty max t.links → Binned max t.links 0 × (class_lists max t.links ≡ replicate 256 [])
 fresh_binned {t = t} s e = empty_binned t.links (s.older ∙ sym s.newer) (rw s.newer s.limit) e.heads e.masks
 
 -- the fields of a fresh allocator

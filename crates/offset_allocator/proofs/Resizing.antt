@@ -1,4 +1,5 @@
 -- A block that is resized with the free block after it: what that leaves of a view, and of the whole allocator.
+use Rattle.std.specs.Prelude.{IsSome}
 use Rattle.std.proofs.Common.{◌≡◌, ◌↔◌, ℕ, zero, suc, ◌+◌, ◌-◌, ◌<◌, ◌≤◌, Bool, true, false, ◌⊎◌, List, [], ◌∷◌, ◌++◌, length, Option, Some, None, is_some, nat_eq, refl, sym, ap, ap₂, subst, ◌∙◌, inl, inr, arith, length-append, eq-zero-or-pos, eq-eqb, ne_eqb, if◌then◌else◌}
 use Rattle.std.proofs.lemmas.Bool.{false≢true, true≢false, and_right, cases_eq}
 use Rattle.offset_allocator.specs.Cells.{Cells, Node}
@@ -192,8 +193,12 @@ module _ {f : Fields} {x : ℕ} (call : Release f x) where
       let is : free_start (n.block ∷ n.rest) ≡ n.block ∷ [] = rw idle refl in
       (λ _. omega (arith, ap (λ l. length (free_start l)) n.is, ap length is), λ e. absurd (true≢false e))
 
+  pub some_after : (o : Option ℕ) → IsFreeAfter f.cells.room x o → 1 ≤ units (free_start (at call).place.after) → IsSome o
+  some_after None h l = absurd (omega (arith, l, ap units (h _ _ _ _ (at call).held)))
+  some_after (Some y) h l = refl
+
   -- what the calls do
-  size_there : size_of x v ≡ p.block.size
+  pub size_there : size_of x v ≡ p.block.size
   size_there = size_is x v ∙ ap size_at (at call).is ∙ ap (λ (u : Bool). if u then p.block.size else 0) (used call)
 
   next_there : free_after x v ≡ next

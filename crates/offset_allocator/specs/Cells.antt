@@ -1,5 +1,5 @@
 -- What the tables hold, without an index type: nodes and unused names, and the links of the bins.
-use Rattle.std.specs.Prelude.{ℕ, Bool, false, List, Option, Some, None, length, ◌≡◌, ◌≤◌, replicate, slice_set, slice_index_or, eqb, if◌then◌else◌}
+use Rattle.std.specs.Prelude.{ℕ, nat_lt, Bool, false, List, Option, Some, None, length, ◌≡◌, ◌≤◌, replicate, slice_set, slice_index_or, eqb, if◌then◌else◌}
 use Rattle.std.specs.List.{range_with_len}
 
 -- a node, whichever tables its fields are in
@@ -26,6 +26,10 @@ pub record Links : Type 0 where
 pub record Cells : Type 0 where
   pub room : Room
   pub links : Links
+
+-- the bytes of a link whose numbers are at most this: 1, 2 or 4
+abbrev pub link_bytes : ℕ → ℕ
+link_bytes max = if nat_lt max 256 then 1 else if nat_lt max 65536 then 2 else 4
 
 -- the node of a name past the tables
 abbrev pub blank : Node
@@ -57,10 +61,13 @@ pub record AreShaped (max : ℕ) (c : Cells) : Type 0 where
   pub limit : length c.room.nodes ≤ max
   pub word : length c.room.nodes ≤ 4294967295
 
--- tables for m nodes: none is used, no class has a name, and all names are on the stack, in order
-pub record AreEmpty (max m : ℕ) (c : Cells) : Type 0 where
-  pub nodes : length c.room.nodes ≡ m
-  pub idle : (x : ℕ) → (node c.room x).used ≡ false
-  pub spare : c.room.spare ≡ range_with_len 0 m
-  pub heads : c.links.heads ≡ replicate 256 max
-  pub masks : c.links.masks ≡ replicate 4 0
+-- m nodes, none of them used, and all their names on the stack, in order
+pub record AreUnused (m : ℕ) (c : Room) : Type 0 where
+  pub nodes : length c.nodes ≡ m
+  pub idle : (x : ℕ) → (node c x).used ≡ false
+  pub spare : c.spare ≡ range_with_len 0 m
+
+-- no class has a name
+pub record AreEmpty (max : ℕ) (k : Links) : Type 0 where
+  pub heads : k.heads ≡ replicate 256 max
+  pub masks : k.masks ≡ replicate 4 0

@@ -1,6 +1,7 @@
 //! A bin for each size class: the names of its free blocks, in a list of links between the nodes, with a two-level
 //! mask.
 ghost use Rattle.std.specs.Prelude.{◌≡◌, ◌+◌, ◌<◌, ◌≤◌, ◌≢◌, ℕ, List, [], ◌∷◌, slice_index, slice_set, length, replicate, MatchOption};
+ghost use Rattle.offset_allocator.specs.Cells.{AreEmpty};
 ghost use Rattle.offset_allocator.specs.Classes.{down};
 ghost use Rattle.offset_allocator.specs.Named.{names_at, without, push, remove};
 ghost use Rattle.offset_allocator.specs.Promises.{IsLargestClass};
@@ -281,6 +282,16 @@ pub(crate) fn pop<NI: NodeIndex>(
     let after = tables.older(name, count);
     behead(tables, top_mask, class, after, count);
     name
+}
+
+/// The top mask of bins that are all empty, as those of new tables are.
+pub(crate) fn start<NI: NodeIndex>(tables: &Tables<NI>) -> u32
+    requires empty { AreEmpty NI.MAX tables.now.links }
+    ensures held { Binned NI.MAX tables.now.links result }
+    ensures lists { class_lists NI.MAX tables.now.links ≡ replicate 256 [] }
+{
+    tables.shape();
+    0
 }
 
 /// Removes all names from all bins, by one write for each.

@@ -2,7 +2,7 @@
 
 ghost use Rattle.std.specs.Prelude.{ℕ, ◌≡◌, ◌+◌, ◌-◌, ◌<◌, ◌≤◌, ◌^◌, List, [], ◌∷◌, ◌++◌, length, false, Some};
 ghost use Rattle.offset_allocator.specs.Named.{Block, Place, free_block, is_used_at, count_named, place_of, units};
-ghost use Rattle.offset_allocator.specs.Cells.{AreEmpty, node};
+ghost use Rattle.offset_allocator.specs.Cells.{AreUnused, node};
 ghost use Rattle.offset_allocator.specs.Space.{IsSpace, HasPlace, blocks, coalesced_before, coalesced_after};
 
 use crate::accesses::Accesses;
@@ -17,7 +17,7 @@ pub(crate) fn start<NI: NodeIndex>(
     max_allocs: u32,
     count: &mut Accesses,
 )
-    requires empty { AreEmpty NI.MAX max_allocs tables.old }
+    requires unused { AreUnused max_allocs tables.old.room }
     requires some { 0 < max_allocs }
     ensures space { IsSpace tables.new.room (max_allocs - 1) (max_allocs - 1) }
     ensures blocks { blocks tables.new.room (max_allocs - 1) ≡ free_block (max_allocs - 1) size ∷ [] }
@@ -27,6 +27,25 @@ pub(crate) fn start<NI: NodeIndex>(
 {
     tables.shape();
     tables.set_block(max_allocs - 1, 0, size, no_link(), no_link(), count);
+}
+
+/// Makes the whole space one free block, under the last name, in tables with any blocks.
+pub(crate) fn restart<NI: NodeIndex>(
+    tables: &mut Tables<NI>,
+    size: u32,
+    max_allocs: u32,
+    count: &mut Accesses,
+)
+    requires limit { length tables.old.room.nodes ≡ max_allocs }
+    requires some { 0 < max_allocs }
+    ensures space { IsSpace tables.new.room (max_allocs - 1) (max_allocs - 1) }
+    ensures blocks { blocks tables.new.room (max_allocs - 1) ≡ free_block (max_allocs - 1) size ∷ [] }
+    ensures links { tables.new.links ≡ tables.old.links }
+    ensures nodes { length tables.new.room.nodes ≡ length tables.old.room.nodes }
+    ensures accesses { count.new ≡ count.old + 4 }
+{
+    tables.clear();
+    start(tables, size, max_allocs, count);
 }
 
 /// The offset of a block.
@@ -107,7 +126,7 @@ pub(crate) fn split<NI: NodeIndex>(
     ensures spares { spare_count.new + 1 ≡ spare_count.old }
     ensures fresh { (m : ℕ) (p : Place) → HasPlace tables.old.room m last.old spare_count.old name p → count_named result (p.before ++ p.block ∷ p.after) ≡ 0 }
     ensures below { result < length tables.old.room.nodes }
-    ensures accesses_kept { count.old ≤ count.new }
+    ensures accesses_min { count.old + 8 ≤ count.new }
     ensures accesses_max { count.new ≤ count.old + 9 }
 {
     *spare_count -= 1;
@@ -141,7 +160,7 @@ pub(crate) fn coalesce_after<NI: NodeIndex>(
     ensures links { tables.new.links ≡ tables.old.links }
     ensures nodes { length tables.new.room.nodes ≡ length tables.old.room.nodes }
     ensures spares { spare_count.new ≡ spare_count.old + 1 }
-    ensures accesses_kept { count.old ≤ count.new }
+    ensures accesses_min { count.old + 4 ≤ count.new }
     ensures accesses_max { count.new ≤ count.old + 5 }
 {
     tables.shape();
@@ -171,7 +190,7 @@ pub(crate) fn coalesce_before<NI: NodeIndex>(
     ensures links { tables.new.links ≡ tables.old.links }
     ensures nodes { length tables.new.room.nodes ≡ length tables.old.room.nodes }
     ensures spares { spare_count.new ≡ spare_count.old + 1 }
-    ensures accesses_kept { count.old ≤ count.new }
+    ensures accesses_min { count.old + 6 ≤ count.new }
     ensures accesses_max { count.new ≤ count.old + 7 }
 {
     tables.shape();
@@ -219,7 +238,7 @@ pub(crate) fn split_before<NI: NodeIndex>(
     ensures spares { spare_count.new + 1 ≡ spare_count.old }
     ensures fresh { (m last : ℕ) (p : Place) → HasPlace tables.old.room m last spare_count.old name p → count_named result (p.before ++ p.block ∷ p.after) ≡ 0 }
     ensures below { result < length tables.old.room.nodes }
-    ensures accesses_kept { count.old ≤ count.new }
+    ensures accesses_min { count.old + 11 ≤ count.new }
     ensures accesses_max { count.new ≤ count.old + 12 }
 {
     *spare_count -= 1;

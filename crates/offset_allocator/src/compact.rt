@@ -1,8 +1,8 @@
 //! Slides every live range to the front of the space, so that all free units are one block at its end.
-ghost use Rattle.std.specs.Prelude.{ℕ, ◌≡◌, ◌+◌, ◌*◌, ◌<◌, ◌≤◌, [], ◌∷◌, ◌++◌, Some, false, Bool, List, length};
+ghost use Rattle.std.specs.Prelude.{ℕ, ◌≡◌, ◌≢◌, ◌+◌, ◌*◌, ◌<◌, ◌≤◌, [], ◌∷◌, ◌++◌, Some, false, Bool, List, length};
 ghost use Rattle.std.specs.List.{FoldsTo};
 ghost use Rattle.offset_allocator.specs.Cells.{node};
-ghost use Rattle.offset_allocator.specs.Named.{Place, Block, free_block, units};
+ghost use Rattle.offset_allocator.specs.Named.{Place, Block, free_block, free_sizes, units};
 ghost use Rattle.offset_allocator.specs.Space.{IsSpace, HasPlace, blocks};
 ghost use Rattle.offset_allocator.specs.State.{free_units};
 ghost use Rattle.offset_allocator.specs.Compacting.{live, moves, move_of, Compacts, KeepsSizes, IsCalledWith, first_free};
@@ -73,7 +73,7 @@ fn pass<NI: NodeIndex>(
     ensures place { (m : ℕ) (p : Place) (b : Block) (bs : List Block) → HasPlace store.old.tables.room m store.old.last store.old.spare_count hole p → p.block.used ≡ false → p.after ≡ b ∷ bs → HasPlace store.new.tables.room m store.new.last store.new.spare_count result (record { before = p.before ++ b ∷ []; block = free_block result p.block.size; after = bs }) }
     ensures links { store.new.tables.links ≡ store.old.tables.links }
     ensures mask { store.new.top_mask ≡ store.old.top_mask }
-    ensures accesses_kept { store.old.accesses ≤ store.new.accesses }
+    ensures accesses_min { store.old.accesses + 14 ≤ store.new.accesses }
     ensures accesses_max { store.new.accesses ≤ store.old.accesses + 16 }
 {
     let whole = size + more;
@@ -140,7 +140,7 @@ fn slide<NI: NodeIndex, F: FnMut(Move<NI>)>(
         × (store.new.accesses ≤ store.old.accesses + 20 * length p.after + 1) }
     ensures links { store.new.tables.links ≡ store.old.tables.links }
     ensures mask { store.new.top_mask ≡ store.old.top_mask }
-    ensures accesses_kept { store.old.accesses ≤ store.new.accesses }
+    ensures accesses_min { store.old.accesses + 1 ≤ store.new.accesses }
 {
     store.tables.shape();
     while let Some(next) = chain::after(&store.tables, hole, &mut store.accesses) {
@@ -180,8 +180,11 @@ impl<NI: NodeIndex> Allocator<NI> {
         ensures sizes { KeepsSizes self.old self.new }
         // The closure is called with the moves, in space order.
         ensures moved { FoldsTo (IsCalledWith NI.NonMax.number (λ f range g. F.step f range tt g)) moved.old (moves 0 0 self.old.blocks) moved.new }
-        // It makes at least 2 accesses to table cells for each block, and at most 24 for each and 512.
+        // It makes at least 2 accesses to table cells for each block, and 267 more where a block is free; at most 24 for
+        // each, and 512.
         ensures accesses_min { self.old.accesses + 2 * length self.old.blocks ≤ self.new.accesses }
+        ensures accesses_some { free_sizes self.old.blocks ≢ []
+            → self.old.accesses + 2 * length self.old.blocks + 267 ≤ self.new.accesses }
         ensures accesses_max { self.new.accesses ≤ self.old.accesses + 24 * length self.old.blocks + 512 }
         // The step as a whole: the live blocks, and after them one free block of all free units, alone in its bin.
         ensures step { Compacts self.old self.new }

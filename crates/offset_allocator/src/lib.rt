@@ -14,10 +14,10 @@
 //! ```
 #![tactic(auto)]
 
-ghost use Rattle.std.specs.Prelude.{ℕ, ◌≡◌, ◌↔◌, ◌+◌, ◌-◌, ◌%◌, ◌<◌, ◌≤◌, min, None, false, true, IsTrue, IsSome, IfSome, IfOk, length, option_map};
+ghost use Rattle.std.specs.Prelude.{ℕ, ◌≡◌, ◌↔◌, ◌+◌, ◌-◌, ◌*◌, ◌/◌, ◌%◌, ◌<◌, ◌≤◌, nat_lt, if◌then◌else◌, min, None, false, true, IsTrue, IsSome, IfSome, IfOk, length, option_map};
 ghost use Rattle.offset_allocator.specs.Ranges.{Range, range_of, size_of, Grants, IsLive, KeepsAll, KeepsOthers};
 ghost use Rattle.offset_allocator.specs.Reports.{IsGoodRefusal};
-ghost use Rattle.offset_allocator.specs.Named.{is_full, free_sizes, largest_free};
+ghost use Rattle.offset_allocator.specs.Named.{is_full, free_sizes, largest_free, used_of};
 ghost use Rattle.offset_allocator.specs.Relations.{Allocates, Aligns, Frees, Extends, CanExtend, IsAlignment, SameSpace, IsSplitNearBest, IsFresh, Resets};
 ghost use Rattle.offset_allocator.specs.Promises.{IsReport, IsFullReport, CanGrant, IsWhy, HasRoomFor, blocks_needed, units_needed};
 ghost use Rattle.offset_allocator.specs.Listing.{listing};
@@ -104,7 +104,10 @@ impl<NI: NodeIndex> Allocator<NI> {
         ensures { IfOk result (IsFresh size max_allocs) }
     {
         let mut tables = Tables::with_len(alloc, max_allocs)?;
-        let top_mask = steps::start(&mut tables, size, max_allocs, &mut Accesses::new());
+        let mut top_mask = bins::start(&tables);
+        let mut count = Accesses::new();
+        chain::start(&mut tables, size, max_allocs, &mut count);
+        steps::start(&mut tables, &mut top_mask, size, max_allocs, &mut count);
         Ok(Allocator {
             size,
             max_allocs,
@@ -130,7 +133,10 @@ impl<NI: NodeIndex> Allocator<NI> {
         ensures gone { (x : ℕ) → range_of x self.new ≡ None }
         // The step as a whole: one free block, alone in its bin.
         ensures step { Resets self.old self.new }
-        ensures accesses_kept { self.old.accesses ≤ self.new.accesses }
+        // It makes at most 130 accesses to table cells for each live range, and 2, where it frees these, else at most 270.
+        ensures accesses_min { self.old.accesses + 1 ≤ self.new.accesses }
+        ensures accesses_max { self.new.accesses ≤ self.old.accesses
+            + (if nat_lt (length self.old.blocks) (self.old.max_allocs / 128) then 130 * used_of self.old.blocks + 2 else 270) }
     {
         // freeing a range takes about as long as going over 128 nodes
         if self.block_count() < self.max_allocs / 128 {

@@ -1,5 +1,5 @@
 //! Splits a block: padding, a used middle, and a remainder. And resizes one, with the free block after it.
-ghost use Rattle.std.specs.Prelude.{ℕ, ◌≡◌, ◌+◌, ◌-◌, ◌<◌, ◌≤◌, length, ◌∷◌, ◌++◌};
+ghost use Rattle.std.specs.Prelude.{ℕ, ◌≡◌, ◌+◌, ◌-◌, ◌<◌, ◌≤◌, IsSome, length, ◌∷◌, ◌++◌};
 ghost use Rattle.offset_allocator.specs.Cells.{node};
 ghost use Rattle.offset_allocator.specs.Named.{Place, free_part, free_start, without_start, used_block, units, push_all, remove_all};
 ghost use Rattle.offset_allocator.specs.Space.{HasPlace, IsFreeAfter, coalesced_after};
@@ -69,6 +69,7 @@ fn split_remainder<NI: NodeIndex>(
     ensures lists { class_lists NI.MAX store.new.tables.links ≡ push_all (free_part result left) (class_lists NI.MAX store.old.tables.links) }
     ensures nodes { length store.new.tables.room.nodes ≡ length store.old.tables.room.nodes }
     ensures accesses_kept { store.old.accesses ≤ store.new.accesses }
+    ensures accesses_min { 0 < left → store.old.accesses + 13 ≤ store.new.accesses }
     ensures accesses_max { store.new.accesses ≤ store.old.accesses + 16 }
 {
     if left == 0 {
@@ -157,6 +158,7 @@ fn with_after<NI: NodeIndex>(store: &mut Store<NI>, name: u32, size: u32, next: 
     ensures spares { store.old.spare_count ≤ store.new.spare_count }
     ensures size { result ≡ (node store.new.tables.room name).size }
     ensures accesses_kept { store.old.accesses ≤ store.new.accesses }
+    ensures accesses_min { IsSome next → store.old.accesses + 8 ≤ store.new.accesses }
     ensures accesses_max { store.new.accesses ≤ store.old.accesses + 11 }
 {
     match next {
@@ -203,7 +205,9 @@ pub(crate) fn resize<NI: NodeIndex>(
     ensures place { (m : ℕ) (p : Place) → HasPlace store.old.tables.room m store.old.last store.old.spare_count name p → HasPlace store.new.tables.room m store.new.last store.new.spare_count name (record { before = p.before; block = record p.block { size = size }; after = free_part result (p.block.size + units (free_start p.after) - size) ++ without_start p.after }) }
     ensures held { Binned NI.MAX store.new.tables.links store.new.top_mask }
     ensures lists { (m : ℕ) (p : Place) → HasPlace store.old.tables.room m store.old.last store.old.spare_count name p → class_lists NI.MAX store.new.tables.links ≡ push_all (free_part result (p.block.size + units (free_start p.after) - size)) (remove_all (free_start p.after) (class_lists NI.MAX store.old.tables.links)) }
-    ensures accesses_kept { store.old.accesses ≤ store.new.accesses }
+    ensures accesses_kept { store.old.accesses + 1 ≤ store.new.accesses }
+    ensures accesses_less { size < old_size → store.old.accesses + 14 ≤ store.new.accesses }
+    ensures accesses_more { IsSome next → store.old.accesses + 9 ≤ store.new.accesses }
     ensures accesses_max { store.new.accesses ≤ store.old.accesses + 28 }
 {
     let whole = with_after(store, name, old_size, next);

@@ -1,11 +1,11 @@
 //! The private methods that the public calls are made of, and two functions that they share. Each method leaves an
 //! allocator whose blocks and bins agree.
-ghost use Rattle.std.specs.Prelude.{◌≡◌, ◌↔◌, ◌+◌, ◌<◌, ◌≤◌, None, false, true, IsTrue, IsSome, IfSome};
+ghost use Rattle.std.specs.Prelude.{◌≡◌, ◌↔◌, ◌+◌, ◌-◌, ◌*◌, ◌<◌, ◌≤◌, [], ◌∷◌, length, replicate, None, false, true, IsTrue, IsSome, IfSome};
 ghost use Rattle.offset_allocator.specs.Classes.{up};
-ghost use Rattle.offset_allocator.specs.Cells.{AreEmpty};
-ghost use Rattle.offset_allocator.specs.Orders.{IsSmallestFrom};
+ghost use Rattle.offset_allocator.specs.Orders.{IsSmallestFrom, Binned, class_lists};
+ghost use Rattle.offset_allocator.specs.Space.{IsSpace, blocks};
 ghost use Rattle.offset_allocator.specs.Ranges.{range_of, IsLive, KeepsAll, KeepsOthers};
-ghost use Rattle.offset_allocator.specs.Named.{IsWellFormed, ends_used, padding_to};
+ghost use Rattle.offset_allocator.specs.Named.{IsWellFormed, ends_used, padding_to, free_block, used_of};
 ghost use Rattle.offset_allocator.specs.Relations.{Splits, Aligns, Frees, Adds, SameSpace, Resets};
 ghost use Rattle.offset_allocator.specs.Start.{IsStarted};
 ghost use Rattle.offset_allocator.specs.Promises.{HasRoomFor, blocks_needed, units_needed};
@@ -25,31 +25,32 @@ pub(crate) fn handle_of<NI: NodeIndex>(offset: u32, name: u32) -> Allocation<NI>
     Allocation::make(offset, NI::from_u32(name).to_name())
 }
 
-/// Makes the whole space one free block, under the name `max_allocs - 1`, in tables with no used node, and returns the
-/// top mask.
+/// Pushes the only block, which is free, on its bin, where all bins are empty.
 pub(crate) fn start<NI: NodeIndex>(
     tables: &mut Tables<NI>,
+    top_mask: &mut u32,
     size: u32,
     max_allocs: u32,
     count: &mut Accesses,
-) -> u32
-    requires empty { AreEmpty NI.MAX max_allocs tables.old }
+)
+    requires nodes { length tables.old.room.nodes ≡ max_allocs }
+    requires space { IsSpace tables.old.room (max_allocs - 1) (max_allocs - 1) }
+    requires blocks { blocks tables.old.room (max_allocs - 1) ≡ free_block (max_allocs - 1) size ∷ [] }
+    requires held { Binned NI.MAX tables.old.links top_mask.old }
+    requires empty { class_lists NI.MAX tables.old.links ≡ replicate 256 [] }
     requires limit_min { 2 ≤ max_allocs }
     requires limit_max { max_allocs + 1 < NI.MAX }
-    ensures started { IsStarted NI.MAX size max_allocs tables.new result }
-    ensures accesses_kept { count.old ≤ count.new }
+    ensures started { IsStarted NI.MAX size max_allocs tables.new top_mask.new }
+    ensures accesses_min { count.old + 5 ≤ count.new }
+    ensures accesses_max { count.new ≤ count.old + 6 }
 {
-    let mut top_mask = 0;
-    tables.shape();
-    chain::start(tables, size, max_allocs, count);
     bins::push(
         tables,
-        &mut top_mask,
+        top_mask,
         max_allocs - 1,
         uint_to_float_round_down(size),
         count,
     );
-    top_mask
 }
 
 impl<NI: NodeIndex> Allocator<NI> {
@@ -59,7 +60,8 @@ impl<NI: NodeIndex> Allocator<NI> {
         ensures same { SameSpace self.old self.new }
         ensures used { IfSome result (λ x. IsLive x self.new) }
         ensures none { result ≡ None → Resets self.old self.new }
-        ensures accesses_kept { self.old.accesses ≤ self.new.accesses }
+        ensures accesses_min { self.old.accesses + 1 ≤ self.new.accesses }
+        ensures accesses_max { self.new.accesses ≤ self.old.accesses + 2 }
     {
         let last = self.store.last;
         if chain::is_used(&self.store.tables, last, &mut self.store.accesses) {
@@ -72,21 +74,34 @@ impl<NI: NodeIndex> Allocator<NI> {
     #[inline(never)]
     pub(crate) fn free_all(&mut self)
         ensures step { Resets self.old self.new }
-        ensures accesses_kept { self.old.accesses ≤ self.new.accesses }
+        ensures accesses_min { self.old.accesses + 1 ≤ self.new.accesses }
+        ensures accesses_max { self.new.accesses ≤ self.old.accesses + 130 * used_of self.old.blocks + 2 }
     {
         while let Some(name) = self.last_used() {
             self.release(name);
         }
     }
 
-    /// Empties all tables in place, except the nodes, and starts the space anew.
+    /// Starts the blocks and the bins anew, each in place.
     pub(crate) fn clear(&mut self)
         ensures step { Resets self.old self.new }
-        ensures accesses_kept { self.old.accesses ≤ self.new.accesses }
+        ensures accesses_min { self.old.accesses + 269 ≤ self.new.accesses }
+        ensures accesses_max { self.new.accesses ≤ self.old.accesses + 270 }
     {
-        self.store.tables.clear();
-        self.store.top_mask = start(
+        chain::restart(
             &mut self.store.tables,
+            self.size,
+            self.max_allocs,
+            &mut self.store.accesses,
+        );
+        bins::empty(
+            &mut self.store.tables,
+            &mut self.store.top_mask,
+            &mut self.store.accesses,
+        );
+        start(
+            &mut self.store.tables,
+            &mut self.store.top_mask,
             self.size,
             self.max_allocs,
             &mut self.store.accesses,

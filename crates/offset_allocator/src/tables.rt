@@ -2,7 +2,7 @@
 //! `with_len` and `clear` go over whole tables, and count none.
 
 ghost use Rattle.std.specs.Prelude.{◌≡◌, ◌+◌, ◌<◌, ◌≤◌, false, Some, length, slice_set, slice_index, IfOk};
-ghost use Rattle.offset_allocator.specs.Cells.{AreEmpty, AreShaped, link_of, node, put, with_spare};
+ghost use Rattle.offset_allocator.specs.Cells.{AreEmpty, AreUnused, AreShaped, link_of, node, put, with_spare};
 
 use crate::accesses::Accesses;
 use crate::entry::{Node, blank_nodes};
@@ -39,7 +39,8 @@ impl<NI: NodeIndex> Tables<NI> {
     /// Tables for `len` nodes, none of them used. Every table has its room before any is filled.
     pub(crate) fn with_len(alloc: Global, len: u32) -> Result<Self, AllocError>
         requires { len ≤ NI.MAX }
-        ensures { IfOk result (AreEmpty NI.MAX len) }
+        ensures room { IfOk result (λ t. AreUnused len t.room) }
+        ensures links { IfOk result (λ t. AreEmpty NI.MAX t.links) }
     {
         let count = len as usize;
         probe::<NI>(alloc, len)?;
@@ -56,14 +57,13 @@ impl<NI: NodeIndex> Tables<NI> {
         })
     }
 
-    /// Makes all nodes unused and all classes empty, and puts all names on the stack of unused ones. The other fields
-    /// of a node stay: they are written before they are read.
+    /// Makes all nodes unused, and puts all names on the stack of unused ones. The other fields of a node stay: they are
+    /// written before they are read.
     pub(crate) fn clear(&mut self)
-        ensures { AreEmpty NI.MAX (length self.old.room.nodes) self.new }
+        ensures room { AreUnused (length self.old.room.nodes) self.new.room }
+        ensures links { self.new.links ≡ self.old.links }
     {
         fill(&mut self.used, false);
-        fill(&mut self.heads, no_link::<NI>());
-        self.masks = [0; 4];
         renumber(&mut self.spare);
     }
 

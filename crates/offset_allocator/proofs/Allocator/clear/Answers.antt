@@ -6,9 +6,9 @@ use Rattle.offset_allocator.proofs.Allocator.clear.Goals as goal
 
 pub returns-clause-step : goal.returns-clause-step
 returns-clause-step g c =
-    let left : View = view_of g.NI.NodeIndex.MAX c.self.inside.size c.self.inside.max_allocs c.start-self-inside.new.tables (c.self.inside.max_allocs - 1) c.start-self-inside.new.count in
+    let left : View = view_of g.NI.NodeIndex.MAX c.self.inside.size c.self.inside.max_allocs c.start.new.tables (c.self.inside.max_allocs - 1) c.start.new.count in
     subst (λ (v : View). Resets v left) c.self.view_is (record {
       name = c.self.inside.max_allocs - 1;
       below = omega (arith, c.self.invariant.admitted);
-      view = ap (λ (v : View). record v { accesses = c.start-self-inside.new.count }) c.start-self-inside.ensures.started.view;
+      view = ap (λ (v : View). record v { accesses = c.start.new.count }) c.start.ensures.started.view;
     })

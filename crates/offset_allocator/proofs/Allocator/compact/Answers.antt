@@ -1,5 +1,5 @@
 use Rattle.std.proofs.Common.{◌≡◌, ℕ, suc, ◌+◌, List, [], ◌∷◌, length, refl, sym, ap, ap₂, subst, ◌∙◌, arith, length-append, replicate}
-use Rattle.offset_allocator.specs.Named.{Block, Place, View, units}
+use Rattle.offset_allocator.specs.Named.{Block, Place, View, units, free_sizes}
 use Rattle.offset_allocator.specs.Cells.{Links}
 use Rattle.offset_allocator.specs.Orders.{class_lists}
 use Rattle.offset_allocator.specs.Space.{blocks}
@@ -99,7 +99,7 @@ pub returns-clause-accesses_min : goal.returns-clause-accesses_min
 returns-clause-accesses_min g c =
     let same : length (blocks c.self.inside.store.tables.room c.self.inside.store.last) ≡ length c.args.self.now.blocks = ap (λ (u : View). length u.blocks) c.self.view_is in
     let counted : c.self.inside.store.accesses ≡ c.args.self.now.accesses = ap (λ (u : View). u.accesses) c.self.view_is in
-    omega (arith, same, counted, c.first_free.ensures.accesses, c.size-units.ensures.accesses, c.empty.ensures.accesses, c.slide-hole.ensures.accesses_kept, c.push.ensures.accesses_min)
+    omega (arith, same, counted, c.first_free.ensures.accesses, c.size-units.ensures.accesses, c.empty.ensures.accesses, c.slide-hole.ensures.accesses_min, c.push.ensures.accesses_min)
 
 pub returns-in_default-clause-accesses_min : goal.returns-in_default-clause-accesses_min
 returns-in_default-clause-accesses_min g c =
@@ -125,3 +125,8 @@ returns-clause-sizes g c =
     let left : View = shown (record f { cells = c.push.new.tables; last = c.slide-hole.new.store.last; count = c.slide-hole.new.store.spare_count; top = c.push.new.top_mask; accesses = c.push.new.count }) in
     let P : View → Type 0 = λ u. KeepsSizes u left in
     subst P c.self.view_is (compacts_sizes (shown f) left (known_sound f c.self.invariant (shown f) refl).0 (done g (goal.at.returns-clause-sizes g c).After-push c.push.new.count _ refl).1)
+
+pub returns-in_default-clause-accesses_some : goal.returns-in_default-clause-accesses_some
+returns-in_default-clause-accesses_some g c some =
+    let r = packed (blocks c.self.inside.store.tables.room c.self.inside.store.last) (sym c.first_free.ensures.first ∙ c.in_default.is) in
+    absurd (some (ap (λ (u : View). free_sizes u.blocks) (sym c.self.view_is) ∙ r.sizes))

@@ -1,4 +1,4 @@
-use Rattle.std.proofs.Common.{◌≡◌, ◌≤◌}
+use Rattle.std.proofs.Common.{◌≡◌, ◌≤◌, ◌+◌, ◌*◌}
 use Rattle.offset_allocator.specs.Named.{used_of}
 use Rattle.offset_allocator.proofs.Allocator.free_all.Given as goal
 
@@ -6,7 +6,8 @@ abbrev pub invariant-loop-name : goal.invariant-loop-name
 invariant-loop-name g l = record {
   size : l.self.size ≡ l.initial.self.size;
   limit : l.self.max_allocs ≡ l.initial.self.max_allocs;
-  grows : l.initial.self.accesses ≤ l.self.accesses;
+  least : l.initial.self.accesses ≤ l.self.accesses;
+  most : l.self.accesses + 130 * used_of l.self.blocks ≤ l.initial.self.accesses + 130 * used_of l.initial.self.blocks;
 }
 
 abbrev pub decreases-loop-name : goal.decreases-loop-name

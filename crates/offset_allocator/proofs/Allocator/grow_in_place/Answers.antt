@@ -5,7 +5,8 @@ use Rattle.offset_allocator.specs.Resizing.{Grows, Resizes}
 use Rattle.offset_allocator.proofs.Freeing.{Release, at, filed, named_live}
 use Rattle.offset_allocator.proofs.Places.{at_place}
 use Rattle.offset_allocator.proofs.Reading.{live_used}
-use Rattle.offset_allocator.proofs.Resizing.{resized, free_beside, some_units, grows_early, grows_refused, grows_done, grows_can, grows_units, grows_others}
+use Rattle.offset_allocator.specs.Ranges.{size_of}
+use Rattle.offset_allocator.proofs.Resizing.{resized, free_beside, some_units, grows_early, grows_refused, grows_done, grows_can, grows_units, grows_others, size_there, some_after}
 use Rattle.offset_allocator.proofs.Sound.{Fields, AreSound, shown, fields_of, known_sound}
 use Rattle.offset_allocator.proofs.Allocator.grow_in_place.Goals as goal
 use Rattle.offset_allocator.proofs.Allocator.grow_in_place.Goals.{After-self, After-size-held, After-units_after-more, After-resize}
@@ -132,3 +133,21 @@ returns-clause-others g c =
     let r = block g here.After-self in
     let known = well g here.After-resize r (held g here.After-size-held r) (more g here.After-units_after-more r) in
     grows_others c.args.allocation.name c.args.size c.args.self.now (shown (now g here.After-resize c.resize.new.store.accesses)) known.0 known.1 (returns-clause-step g c)
+
+-- the range has just as many units
+pub returns-then-size-held-clause-accesses_done : goal.returns-then-size-held-clause-accesses_done
+returns-then-size-held-clause-accesses_done g c done l =
+    let here = goal.at.returns-then-size-held-clause-accesses_done g c in
+    let e : c.number-name.result ≡ c.args.allocation.name = cc in
+    let P : ℕ → View → Type 0 = λ i u. size_of i u ≡ c.size-held.result in
+    let r = block g here.After-self in
+    let same = subst (λ i. P i c.args.self.now) e (subst (P c.number-name.result) c.self.view_is (size_there r ∙ sym (held g here.After-size-held r))) in
+    absurd (omega (arith, same, l, c.if-size-held.true))
+
+pub returns-clause-accesses_done : goal.returns-clause-accesses_done
+returns-clause-accesses_done g c done l =
+    let here = goal.at.returns-clause-accesses_done g c in
+    let r = block g here.After-self in
+    let some = some_after r _ c.free_after-next.ensures.free (omega (arith, more g here.After-units_after-more r, c.if-size-held.false, c.if-size-held-2.false)) in
+    let counted : c.self.inside.store.accesses ≡ c.args.self.now.accesses = ap (λ (u : View). u.accesses) c.self.view_is in
+    omega (arith, counted, c.size-held.ensures.accesses, c.free_after-next.ensures.accesses_min, c.units_after-more.ensures.accesses_kept, c.resize.ensures.accesses_more some)

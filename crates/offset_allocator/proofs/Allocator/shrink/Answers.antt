@@ -7,7 +7,8 @@ use Rattle.offset_allocator.proofs.Freeing.{Release, at, filed, room_for, named_
 use Rattle.offset_allocator.proofs.Places.{at_place}
 use Rattle.offset_allocator.proofs.Reading.{live_used}
 use Rattle.offset_allocator.proofs.Refusals.{is_open}
-use Rattle.offset_allocator.proofs.Resizing.{resized, next_some, shrinks_early, shrinks_full, shrinks_done, shrinks_can, shrinks_units, shrinks_others}
+use Rattle.offset_allocator.specs.Ranges.{size_of}
+use Rattle.offset_allocator.proofs.Resizing.{resized, next_some, shrinks_early, shrinks_full, shrinks_done, shrinks_can, shrinks_units, shrinks_others, size_there}
 use Rattle.offset_allocator.proofs.Sound.{Fields, AreSound, shown, fields_of, known_sound}
 use Rattle.offset_allocator.proofs.Allocator.shrink.Goals as goal
 use Rattle.offset_allocator.proofs.Allocator.shrink.Goals.{After-self, After-size-held, After-resize, else-is_none-via-then-is_none+else-self-lt2, else-is_none-via-else-is_none}
@@ -132,3 +133,13 @@ returns-clause-others g c =
     let r = block g here.After-self in
     let known = well g here.After-resize r (held g here.After-size-held r) in
     shrinks_others c.args.allocation.name c.args.size c.args.self.now (shown (after g here.After-resize c.resize.new.store.accesses)) known.0 known.1 (returns-clause-step g c)
+
+-- the range has just as many units
+pub returns-then-size-held-clause-accesses_done : goal.returns-then-size-held-clause-accesses_done
+returns-then-size-held-clause-accesses_done g c done l =
+    let here = goal.at.returns-then-size-held-clause-accesses_done g c in
+    let e : c.number-name.result ≡ c.args.allocation.name = cc in
+    let P : ℕ → View → Type 0 = λ i u. size_of i u ≡ c.size-held.result in
+    let r = block g here.After-self in
+    let same = subst (λ i. P i c.args.self.now) e (subst (P c.number-name.result) c.self.view_is (size_there r ∙ sym (held g here.After-size-held r))) in
+    absurd (omega (arith, same, l, c.if-size-held.true))

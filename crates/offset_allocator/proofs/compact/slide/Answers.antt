@@ -58,14 +58,14 @@ loop-next-smaller-then-is_used g c =
     let n = next_place s.there (sym c.in-Some.is ∙ c.after.ensures.after) in
     let p : Place = c.requires.place.1 in
     let all : length p.after ≤ length c.args.store.now.tables.room.nodes = omega (arith, c.requires.place.2.chain.cells, c.requires.place.2.chain.full, length-append p.before (p.block ∷ p.after)) in
-    omega (arith, s.bounded, ap (λ (l : List Block). length l) n.is, all, c.after.ensures.accesses, c.size-more.ensures.accesses, c.is_used.ensures.accesses, c.offset-to.ensures.accesses, c.pass-hole.ensures.accesses_kept)
+    omega (arith, s.bounded, ap (λ (l : List Block). length l) n.is, all, c.after.ensures.accesses, c.size-more.ensures.accesses, c.is_used.ensures.accesses, c.offset-to.ensures.accesses, c.pass-hole.ensures.accesses_min)
 
 pub loop-next-preserved-then-is_used : goal.loop-next-preserved-then-is_used
 loop-next-preserved-then-is_used g c = record {
   callable = c.report.ensures.callable;
   links = c.pass-hole.ensures.links ∙ c.loop-next.invariant.links;
   mask = c.pass-hole.ensures.mask ∙ c.loop-next.invariant.mask;
-  grows = omega (arith, c.loop-next.invariant.grows, c.after.ensures.accesses, c.size-more.ensures.accesses, c.is_used.ensures.accesses, c.offset-to.ensures.accesses, c.pass-hole.ensures.accesses_kept);
+  grows = omega (arith, c.loop-next.invariant.grows, c.after.ensures.accesses, c.size-more.ensures.accesses, c.is_used.ensures.accesses, c.offset-to.ensures.accesses, c.pass-hole.ensures.accesses_min);
   at = λ m p h idle.
       let s = c.loop-next.invariant.at m p h idle in
       let n = next_place s.there (sym c.in-Some.is ∙ c.after.ensures.after) in
@@ -96,14 +96,14 @@ loop-next-smaller g c =
     let n = next_place s.there (sym c.in-Some.is ∙ c.after.ensures.after) in
     let p : Place = c.requires.place.1 in
     let all : length p.after ≤ length c.args.store.now.tables.room.nodes = omega (arith, c.requires.place.2.chain.cells, c.requires.place.2.chain.full, length-append p.before (p.block ∷ p.after)) in
-    omega (arith, s.bounded, ap (λ (l : List Block). length l) n.is, all, c.after.ensures.accesses, c.size-more.ensures.accesses, c.is_used.ensures.accesses, c.coalesce_after.ensures.accesses_kept)
+    omega (arith, s.bounded, ap (λ (l : List Block). length l) n.is, all, c.after.ensures.accesses, c.size-more.ensures.accesses, c.is_used.ensures.accesses, c.coalesce_after.ensures.accesses_min)
 
 pub loop-next-preserved : goal.loop-next-preserved
 loop-next-preserved g c = record {
   callable = c.loop-next.invariant.callable;
   links = c.coalesce_after.ensures.links ∙ c.loop-next.invariant.links;
   mask = c.loop-next.invariant.mask;
-  grows = omega (arith, c.loop-next.invariant.grows, c.after.ensures.accesses, c.size-more.ensures.accesses, c.is_used.ensures.accesses, c.coalesce_after.ensures.accesses_kept);
+  grows = omega (arith, c.loop-next.invariant.grows, c.after.ensures.accesses, c.size-more.ensures.accesses, c.is_used.ensures.accesses, c.coalesce_after.ensures.accesses_min);
   at = λ m p h idle.
       let s = c.loop-next.invariant.at m p h idle in
       let n = next_place s.there (sym c.in-Some.is ∙ c.after.ensures.after) in

@@ -1,4 +1,4 @@
-use Rattle.std.proofs.Common.{◌≡◌, ◌∙◌, ℕ, ◌+◌, ap, arith}
+use Rattle.std.proofs.Common.{◌≡◌, ◌∙◌, ℕ, ◌+◌, ◌-◌, ◌<◌, ap, arith}
 use Rattle.offset_allocator.specs.Cells.{Node}
 use Rattle.offset_allocator.specs.Named.{Place, units, free_start}
 use Rattle.offset_allocator.proofs.Filed.{unlisted_after}
@@ -33,3 +33,10 @@ returns-clause-place g c m p h =
 pub returns-clause-lists : goal.returns-clause-lists
 returns-clause-lists g c m p h =
     rw (← whole g (goal.at.returns-clause-lists g c).After-with_after-whole p h, ← c.with_after-whole.ensures.lists _ _ h) c.split_remainder.ensures.lists
+
+pub returns-clause-accesses_less : goal.returns-clause-accesses_less
+returns-clause-accesses_less g c l =
+    let h = c.requires.place.2 in
+    let w = whole g (goal.at.returns-clause-accesses_less g c).After-with_after-whole _ h in
+    let some : 0 < c.with_after-whole.result - c.args.size = omega (arith, l, w, c.requires.old_size, ap (λ (v : Node). v.size) (at_place h)) in
+    omega (arith, c.split_remainder.ensures.accesses_min some, c.offset-offset.ensures.accesses, c.with_after-whole.ensures.accesses_kept)

@@ -35,3 +35,6 @@ returns-in-Some-clause-size g c =
     let next = rw c.in-Some.is at c.requires.next in
     let left = c.coalesce_after.ensures.place _ _ (rw (← c.remove.ensures.room) at h) in
     omega (arith, c.size-more.ensures.size, c.requires.size, (free_after h next.0 next.1).0, ap (λ (v : Node). v.size) (at_place left), ap (λ (v : Node). v.size) (at_place h))
+
+pub returns-in-Some-clause-accesses_min : goal.returns-in-Some-clause-accesses_min
+returns-in-Some-clause-accesses_min g c some = omega (arith, c.size-more.ensures.accesses, c.remove.ensures.accesses_min, c.coalesce_after.ensures.accesses_min)

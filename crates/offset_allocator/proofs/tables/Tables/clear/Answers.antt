@@ -15,13 +15,13 @@ invariant_of-self g c =
     record {
       used = simp (c.fill.ensures, length-replicate) h.used;
       spare = length_renumbered g.NI.NodeIndex.number c.renumber.new.values.items (length c.self.inside.spare.items) c.renumber.ensures ∙ h.spare;
-      heads = simp (c.fill-2.ensures, length-replicate) h.heads;
-      masks = refl;
+      heads = h.heads;
+      masks = h.masks;
       limit = h.limit;
     }
 
-pub returns : goal.returns
-returns g c =
+pub returns-clause-room : goal.returns-clause-room
+returns-clause-room g c =
     let h = c.self.invariant in
     let nodes : length c.args.self.now.room.nodes ≡ length c.self.inside.nodes.items = ap (λ (v : Cells). length v.room.nodes) (sym c.self.view_is) ∙ length-nodes_of _ _ _ _ h.used in
     let even : length c.fill.new.values.items ≡ length c.self.inside.nodes.items = simp (c.fill.ensures, length-replicate) h.used in
@@ -29,6 +29,7 @@ returns g c =
       nodes = length-nodes_of _ _ _ _ even ∙ sym nodes;
       idle = idle_where _ _ _ _ _ even c.fill.ensures _ refl;
       spare = simp (nodes, c.renumber.ensures, h.spare);
-      heads = simp (c.fill-2.ensures, h.heads, c.no_link.ensures.number);
-      masks = refl;
     }
+
+pub returns-clause-links : goal.returns-clause-links
+returns-clause-links g c = ap (λ (v : Cells). v.links) c.self.view_is
