@@ -195,6 +195,12 @@ pub(crate) fn pop<NI: NodeIndex>(
     name
 }
 
+/// The top mask of bins that are all empty, as those of new tables are.
+pub(crate) fn start<NI: NodeIndex>(tables: &Tables<NI>) -> u32 {
+    tables.shape();
+    0
+}
+
 /// Removes all names from all bins, by one write for each.
 pub(crate) fn empty<NI: NodeIndex>(
     tables: &mut Tables<NI>,

@@ -18,6 +18,17 @@ pub(crate) fn start<NI: NodeIndex>(
     tables.set_block(max_allocs - 1, 0, size, no_link(), no_link(), count);
 }
 
+/// Makes the whole space one free block, under the last name, in tables with any blocks.
+pub(crate) fn restart<NI: NodeIndex>(
+    tables: &mut Tables<NI>,
+    size: u32,
+    max_allocs: u32,
+    count: &mut Accesses,
+) {
+    tables.clear();
+    start(tables, size, max_allocs, count);
+}
+
 /// The offset of a block.
 pub(crate) fn offset<NI: NodeIndex>(tables: &Tables<NI>, name: u32, count: &mut Accesses) -> u32 {
     tables.offset(name, count)

@@ -6,10 +6,10 @@ use crate::memory::Vec;
 use crate::index::NodeIndex;
 use crate::memory::{AllocError, Global};
 
-/// Requests the bytes of all tables at once, and gives them back at once. A system that promises more memory than it
-/// has would grant each table, and end the program when they are filled; this one request it refuses. A link is taken
-/// to have the bytes that its numbers need, as those of `u16` and `u32` have.
-pub(crate) fn probe<NI: NodeIndex>(alloc: Global, nodes: u32) -> Result<(), AllocError> {
+// The bytes of all tables for this many nodes: of each node its offset, its size, its use flag, four links and an entry
+// of the stack, and of each class a link. A link is taken to have the bytes that its numbers need, as those of `u16` and
+// `u32` have.
+fn table_bytes<NI: NodeIndex>(nodes: u32) -> usize {
     let link: usize = if NI::MAX < 256 {
         1
     } else if NI::MAX < 65536 {
@@ -17,8 +17,13 @@ pub(crate) fn probe<NI: NodeIndex>(alloc: Global, nodes: u32) -> Result<(), Allo
     } else {
         4
     };
-    let node = 4 + 4 + 1 + 5 * link;
-    let _all: Vec<u8> = Vec::with_capacity(alloc, node * nodes as usize + 256 * link)?;
+    (9 + 5 * link) * nodes as usize + 256 * link
+}
+
+/// Requests the bytes of all tables at once, and gives them back at once. A system that promises more memory than it
+/// has would grant each table, and end the program when they are filled; this one request it refuses.
+pub(crate) fn probe<NI: NodeIndex>(alloc: Global, nodes: u32) -> Result<(), AllocError> {
+    let _all: Vec<u8> = reserved(alloc, table_bytes::<NI>(nodes))?;
     Ok(())
 }
 

@@ -97,7 +97,10 @@ impl<NI: NodeIndex> Allocator<NI> {
         assert!(2 <= max_allocs, "max_allocs must be at least 2");
         assert!(max_allocs < NI::MAX - 1, "max_allocs must be at most NI::MAX - 2");
         let mut tables = Tables::with_len(alloc, max_allocs)?;
-        let top_mask = steps::start(&mut tables, size, max_allocs, &mut Accesses::new());
+        let mut top_mask = bins::start(&tables);
+        let mut count = Accesses::new();
+        chain::start(&mut tables, size, max_allocs, &mut count);
+        steps::start(&mut tables, &mut top_mask, size, max_allocs, &mut count);
         Ok(Allocator {
             size,
             max_allocs,

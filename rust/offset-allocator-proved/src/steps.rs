@@ -15,25 +15,21 @@ pub(crate) fn handle_of<NI: NodeIndex>(offset: u32, name: u32) -> Allocation<NI>
     Allocation::make(offset, NI::from_u32(name).to_name())
 }
 
-/// Makes the whole space one free block, under the name `max_allocs - 1`, in tables with no used node, and returns the
-/// top mask.
+/// Pushes the only block, which is free, on its bin, where all bins are empty.
 pub(crate) fn start<NI: NodeIndex>(
     tables: &mut Tables<NI>,
+    top_mask: &mut u32,
     size: u32,
     max_allocs: u32,
     count: &mut Accesses,
-) -> u32 {
-    let mut top_mask = 0;
-    tables.shape();
-    chain::start(tables, size, max_allocs, count);
+) {
     bins::push(
         tables,
-        &mut top_mask,
+        top_mask,
         max_allocs - 1,
         uint_to_float_round_down(size),
         count,
     );
-    top_mask
 }
 
 impl<NI: NodeIndex> Allocator<NI> {
@@ -55,11 +51,22 @@ impl<NI: NodeIndex> Allocator<NI> {
         }
     }
 
-    /// Empties all tables in place, except the nodes, and starts the space anew.
+    /// Starts the blocks and the bins anew, each in place.
     pub(crate) fn clear(&mut self) {
-        self.store.tables.clear();
-        self.store.top_mask = start(
+        chain::restart(
             &mut self.store.tables,
+            self.size,
+            self.max_allocs,
+            &mut self.store.accesses,
+        );
+        bins::empty(
+            &mut self.store.tables,
+            &mut self.store.top_mask,
+            &mut self.store.accesses,
+        );
+        start(
+            &mut self.store.tables,
+            &mut self.store.top_mask,
             self.size,
             self.max_allocs,
             &mut self.store.accesses,

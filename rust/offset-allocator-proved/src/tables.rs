@@ -38,12 +38,10 @@ impl<NI: NodeIndex> Tables<NI> {
         })
     }
 
-    /// Makes all nodes unused and all classes empty, and puts all names on the stack of unused ones. The other fields
-    /// of a node stay: they are written before they are read.
+    /// Makes all nodes unused, and puts all names on the stack of unused ones. The other fields of a node stay: they are
+    /// written before they are read.
     pub(crate) fn clear(&mut self) {
         fill(&mut self.used, false);
-        fill(&mut self.heads, no_link::<NI>());
-        self.masks = [0; 4];
         renumber(&mut self.spare);
     }
 

@@ -56,10 +56,11 @@ impl<R: Read> Source for FromRead<R> {
 }
 
 /// A writer as a sink. Each call makes one write or one flush, and fails exactly where that does. A write that takes 0
-/// bytes is a failure too.
+/// bytes is a failure too. It is flushed from a flush that succeeds to the next call.
 pub struct IntoWrite<W: Write> {
     inner: W,
-    failed: bool,
+    failed_push: bool,
+    failed_flush: bool,
     flushed: bool,
 }
 
@@ -68,7 +69,8 @@ impl<W: Write> IntoWrite<W> {
     pub fn new(inner: W) -> Self {
         IntoWrite {
             inner,
-            failed: false,
+            failed_push: false,
+            failed_flush: false,
             flushed: false,
         }
     }
@@ -77,7 +79,8 @@ impl<W: Write> IntoWrite<W> {
     pub fn into_inner(self) -> W {
         let IntoWrite {
             inner,
-            failed: _,
+            failed_push: _,
+            failed_flush: _,
             flushed: _,
         } = self;
         inner
@@ -88,28 +91,19 @@ impl<W: Write> Sink for IntoWrite<W> {
     #[inline]
     fn push(&mut self, bytes: &[u8]) -> Option<usize> {
         assert!(!bytes.is_empty(), "at least one byte must be pushed");
+        self.flushed = false;
         match self.inner.write(bytes) {
             Ok(0) | Err(_) => {
-                self.failed = true;
+                self.failed_push = true;
                 None
             }
-            Ok(n) => {
-                self.flushed = false;
-                Some(n)
-            }
+            Ok(n) => Some(n),
         }
     }
 
     fn flush(&mut self) -> bool {
-        match self.inner.flush() {
-            Ok(()) => {
-                self.flushed = true;
-                true
-            }
-            Err(_) => {
-                self.failed = true;
-                false
-            }
-        }
+        self.flushed = self.inner.flush().is_ok();
+        self.failed_flush = self.failed_flush || !self.flushed;
+        self.flushed
     }
 }

@@ -4,6 +4,7 @@ mod alignment;
 mod classes;
 mod compacting;
 mod extension;
+mod fields;
 mod grants;
 mod handles;
 mod original;
