@@ -1,0 +1,1 @@
+//! Laws on the replies of `play_calls`. The functions do nothing.
