@@ -1,6 +1,5 @@
 -- The named step of each call.
-use Rattle.std.specs.Prelude.{◌≡◌, ℕ, ◌≤◌, Bool, true, List, [], ◌∷◌, Option, Some, None, IfSome, option_map, if◌then◌else◌}
-use Rattle.std.specs.Bool.{◌↔◌}
+use Rattle.std.specs.Prelude.{◌≡◌, ◌↔◌, ℕ, Bool, true, List, [], ◌∷◌, Option, Some, None, IfSome, option_map, if◌then◌else◌}
 use Rattle.std.specs.List.{AllByRecursion}
 use Rattle.offset_allocator.specs.declared.reports.Refusal.{Refusal}
 use Rattle.offset_allocator.specs.Named.{View, Block, Grant}
@@ -15,7 +14,19 @@ use Rattle.offset_script.specs.Simulation.{IfNamed, Stays}
 use Rattle.offset_script.specs.Simulation as script
 use Rattle.offset_calls.specs.declared.calls.Call.{Call}
 use Rattle.offset_calls.specs.declared.calls.Call.TheVariants as call
+use Rattle.offset_calls.specs.declared.calls.Moved.{Moved}
 use Rattle.offset_calls.specs.Calls.{Move, Reply, Answer, Resized, Compacted, Offset, Refused_for}
+
+-- these are the moves of a compaction, in order, whatever their numbers
+abbrev pub AreMoves : List Moved → List named.Move → Type 0
+AreMoves [] [] = Unit {0}
+AreMoves (m ∷ ms) (x ∷ xs) = (m.from ≡ x.from) × (m.to ≡ x.to) × (m.size ≡ x.size) × AreMoves ms xs
+AreMoves ms xs = ⊥
+
+-- moves with other numbers, as far as there are some
+abbrev pub joined : List ℕ → List Moved → List Move
+joined (k ∷ ks) (m ∷ ms) = record { number = k; from = m.from; to = m.to; size = m.size } ∷ joined ks ms
+joined ks ms = []
 
 -- the moves of a compaction, each with the number of the grant whose handle has its name
 abbrev pub AreNumbered : List (Option Grant) → List named.Move → List Move → Type 0

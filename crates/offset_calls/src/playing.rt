@@ -1,23 +1,24 @@
 //! Plays calls on an allocator.
 
-ghost use Rattle.std.specs.Prelude.{◌≡◌, ◌+◌, ◌<◌, ◌≤◌, ◌++◌, ◌∷◌, [], All, Bool, IfOk, IsTrue, ℕ, Some, false, map, if◌then◌else◌};
-ghost use Rattle.offset_allocator.specs.Promises.{blocks_needed};
+ghost use Rattle.std.specs.Prelude.{◌≡◌, ◌+◌, ◌-◌, ◌<◌, ◌≤◌, ◌++◌, ◌∷◌, [], All, Bool, IfOk, IsTrue, ℕ, Some, drop, false, if◌then◌else◌, length, map};
+ghost use Rattle.offset_allocator.specs.Compacting.{Compacts, live, moves};
 ghost use Rattle.offset_script.specs.Agreement.{kept_name};
 ghost use Rattle.offset_script.specs.Machine as machine;
 ghost use Rattle.offset_script.specs.Machine.{start};
 ghost use Rattle.offset_script.specs.Simulation.{AreLive, AreOfARun};
-ghost use Rattle.offset_calls.specs.Calls.{Answer, Resized, is_valid, replies, reply_view};
-ghost use Rattle.offset_calls.specs.Steps.{AreKept, Takes};
+ghost use Rattle.offset_calls.specs.Calls.{is_valid, move_view, replies, reply_view};
+ghost use Rattle.offset_calls.specs.Calls as plain;
+ghost use Rattle.offset_calls.specs.Steps.{AreKept, AreMoves, Takes, joined};
 
 use crate::calls::{Call, Moved, Reply};
 use offset_allocator::laws::is_well_formed;
-use offset_allocator::{Allocation, Move, NodeIndex};
+use offset_allocator::{Allocation, Allocator, Move, NodeIndex};
 use offset_script::{Answer, Player};
 use std::alloc::{AllocError, Global};
 
 // The reply to a call that was to resize a range.
 fn resized(done: bool) -> Reply
-    ensures { reply_view result ≡ (if done then Resized else Answer machine.Refused) }
+    ensures { reply_view result ≡ (if done then plain.Resized else plain.Answer machine.Refused) }
 {
     if done {
         Reply::Resized
@@ -67,32 +68,93 @@ fn number_of<NI: NodeIndex>(handles: &[Option<Allocation<NI>>], handle: Allocati
     0
 }
 
-// The reply to `Compact`.
-fn compact<NI: NodeIndex>(alloc: Global, player: &mut Player<NI>) -> Result<Reply, AllocError>
-    requires { AreKept player.old.space player.old.handles.items }
-    ensures { IfOk result (λ r. Takes Call.Compact player.old.space player.old.handles.items
-        player.new.space player.new.handles.items (reply_view r)) }
+// The numbers of the live ranges, in space order.
+fn numbers_of_live<NI: NodeIndex>(
+    alloc: Global,
+    player: &Player<NI>,
+) -> Result<Vec<u64>, AllocError>
+    requires { AreKept player.now.space player.now.handles.items }
+    ensures { IfOk result (λ ks. map (kept_name player.now.handles.items) ks.items ≡ map (λ b. Some b.name) (live player.now.space.blocks)) }
 {
-    let mut moves: Vec<Move<NI>> = Vec::new(alloc);
-    let mut full = false;
-    player.space.compact(&mut |range: Move<NI>| {
-        if moves.push(range).is_err() {
-            full = true;
+    let mut numbers = Vec::new(alloc);
+    for block in player.space.blocks() {
+        if let Some(handle) = block.allocation {
+            numbers.push(number_of(&player.handles, handle))?;
         }
-    });
-    if full {
-        return Err(AllocError);
     }
-    let mut numbered = Vec::new(alloc);
-    for range in &moves {
-        numbered.push(Moved {
-            number: number_of(&player.handles, range.allocation()),
+    numbers.reverse();
+    Ok(numbers)
+}
+
+// The moves of a compaction so far, without numbers, unless memory for one was refused.
+#[derive(Drop)]
+struct Moves {
+    found: Vec<Moved>,
+    is_refused: bool,
+}
+
+impl Moves {
+    // One more move.
+    fn add(&mut self, from: u32, to: u32, size: u32)
+        ensures { self.new.is_refused ≡ false → (self.old.is_refused ≡ false)
+            × (self.new.found.items ≡ self.old.found.items ++ record { number = 0; from = from; to = to; size = size } ∷ []) }
+    {
+        let moved = Moved {
+            number: 0,
+            from,
+            to,
+            size,
+        };
+        if self.found.push(moved).is_err() {
+            self.is_refused = true;
+        }
+    }
+}
+
+// Compacts a space, and collects the moves.
+fn collect<NI: NodeIndex>(space: &mut Allocator<NI>, seen: &mut Moves)
+    requires { seen.old.found.items ≡ [] }
+    ensures moves { seen.new.is_refused ≡ false → AreMoves seen.new.found.items (moves 0 0 space.old.blocks) }
+    ensures step { Compacts space.old space.new }
+{
+    space.compact(&mut |range: Move<NI>| seen.add(range.from, range.to, range.size));
+}
+
+// The moves with these numbers, the last of which are those of the ranges that are moved.
+fn numbered(alloc: Global, numbers: &[u64], moves: &[Moved]) -> Result<Vec<Moved>, AllocError>
+    requires { length moves.now ≤ length numbers.now }
+    ensures { IfOk result (λ ms. map move_view ms.items ≡ joined (drop (length numbers.now - length moves.now) numbers.now) moves.now) }
+{
+    let first = numbers.len() - moves.len();
+    let mut found = Vec::new(alloc);
+    for i in 0..moves.len() {
+        let range = moves[i];
+        found.push(Moved {
+            number: numbers[first + i],
             from: range.from,
             to: range.to,
             size: range.size,
         })?;
     }
-    Ok(Reply::Compacted(numbered))
+    Ok(found)
+}
+
+// The reply to `Compact`. All ranges after the first one that moves are moved too.
+fn compact<NI: NodeIndex>(alloc: Global, player: &mut Player<NI>) -> Result<Reply, AllocError>
+    requires { AreKept player.old.space player.old.handles.items }
+    ensures { IfOk result (λ r. Takes Call.Compact player.old.space player.old.handles.items
+        player.new.space player.new.handles.items (reply_view r)) }
+{
+    let numbers = numbers_of_live(alloc, player)?;
+    let mut moves = Moves {
+        found: Vec::new(alloc),
+        is_refused: false,
+    };
+    collect(&mut player.space, &mut moves);
+    if moves.is_refused {
+        return Err(AllocError);
+    }
+    Ok(Reply::Compacted(numbered(alloc, &numbers, &moves.found)?))
 }
 
 // The reply to `Offset`.
@@ -101,18 +163,19 @@ fn offset<NI: NodeIndex>(player: &Player<NI>, number: u32) -> Reply
     ensures { Takes (Call.Offset number) player.now.space player.now.handles.items
         player.now.space player.now.handles.items (reply_view result) }
 {
-    let Some(handle) = player.handle(number) else {
-        return Reply::Answer(Answer::Gone);
-    };
-    match player.space.allocation_offset(handle) {
-        // it is live, so this does not happen
+    match player.handle(number) {
         None => Reply::Answer(Answer::Gone),
-        Some(offset) => Reply::Offset(offset),
+        // it is live, so it has an offset
+        Some(handle) => Reply::Offset(player.space.allocation_offset(handle).unwrap_or(0)),
     }
 }
 
 // The reply to one call.
-fn reply<NI: NodeIndex>(alloc: Global, player: &mut Player<NI>, call: Call) -> Result<Reply, AllocError>
+fn reply<NI: NodeIndex>(
+    alloc: Global,
+    player: &mut Player<NI>,
+    call: Call,
+) -> Result<Reply, AllocError>
     requires live { AreLive player.old.space player.old.handles.items }
     requires kept { AreKept player.old.space player.old.handles.items }
     requires valid { IsTrue (is_valid call) }
@@ -126,7 +189,9 @@ fn reply<NI: NodeIndex>(alloc: Global, player: &mut Player<NI>, call: Call) -> R
         Call::Compact => compact(alloc, player),
         Call::Offset(number) => Ok(offset(player, number)),
         Call::Refusal(size) => Ok(Reply::Refusal(player.space.refusal(size))),
-        Call::RefusalAligned(size, align) => Ok(Reply::Refusal(player.space.refusal_aligned(size, align))),
+        Call::RefusalAligned(size, align) => Ok(Reply::Refusal(
+            player.space.refusal_aligned(size, align),
+        )),
     }
 }
 
