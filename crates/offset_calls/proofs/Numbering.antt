@@ -194,15 +194,14 @@ walk_ends handles ks left v e f =
     ap (map (kept_name handles)) f ∙ map-reverse (kept_name handles) ks ∙ ap reverse (sym (append-nil (map (kept_name handles) ks)) ∙ e) ∙ walked_names v.blocks
 
 -- the moves that a closure has seen
-pub collected : {P S N : Type 0} (R : P → Move → P → Type 0) (see : P → S) (place : P → N) (is_refused : S → Bool) (found : S → List Moved)
+pub collected : {P S N : Type 0} (R : P → Move → P → Type 0) (xs : List Move) (p q : P) → FoldsTo R p xs q → (see : P → S) (place : P → N) (is_refused : S → Bool) (found : S → List Moved)
     → ((p : P) (x : Move) (q : P) → R p x q
-    → (is_refused (see q) ≡ false → (is_refused (see p) ≡ false) × (m : Moved) × (m.from ≡ x.from) × (m.to ≡ x.to) × (m.size ≡ x.size) × (found (see q) ≡ found (see p) ++ m ∷ [])) × (place q ≡ place p))
-    → (xs : List Move) (p q : P) → FoldsTo R p xs q
+      → (is_refused (see q) ≡ false → (is_refused (see p) ≡ false) × (m : Moved) × (m.from ≡ x.from) × (m.to ≡ x.to) × (m.size ≡ x.size) × (found (see q) ≡ found (see p) ++ m ∷ [])) × (place q ≡ place p))
     → (is_refused (see q) ≡ false → (is_refused (see p) ≡ false) × ((ys : List Move) → AreMoves (found (see p)) ys → AreMoves (found (see q)) (ys ++ xs))) × (place q ≡ place p)
-collected R see place is_refused found each [] p q e = (λ h. (ap (λ x. is_refused (see x)) e ∙ h, λ ys a. subst₂ AreMoves (ap (λ x. found (see x)) e) (sym (append-nil ys)) a), ap place (sym e))
-collected R see place is_refused found each (x ∷ xs) p q f =
+collected R [] p q e see place is_refused found each = (λ h. (ap (λ x. is_refused (see x)) e ∙ h, λ ys a. subst₂ AreMoves (ap (λ x. found (see x)) e) (sym (append-nil ys)) a), ap place (sym e))
+collected R (x ∷ xs) p q f see place is_refused found each =
     let one = each p x f.0 f.1 in
-    let rest = collected R see place is_refused found each xs f.0 q f.2 in (
+    let rest = collected R xs f.0 q f.2 see place is_refused found each in (
       (λ h.
           let r = rest.0 h in
           let o = one.0 r.0 in
