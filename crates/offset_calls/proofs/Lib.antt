@@ -1,1 +1,3 @@
 mod Numbering
+pub mod Compacted
+pub mod Resized
