@@ -1,7 +1,7 @@
 -- A compaction: what is left agrees with the plain machine, and the moves are the same.
-use Rattle.std.proofs.Common.{◌≡◌, ℕ, zero, suc, ◌+◌, ◌<◌, ◌≤◌, Bool, true, false, not, ◌&&◌, List, [], ◌∷◌, ◌++◌, length, replicate, sum, Option, Some, None, nat_eq, if◌then◌else◌, refl, sym, ap, ap₂, subst, subst₂, ◌∙◌, inl, inr, arith, eq-eqb, ne_eqb, append_assoc, append-nil, length-append, get_or-replicate}
-use Rattle.std.proofs.lemmas.Bool.{cases_eq, cases_lt, true≢false, false≢true, not-false}
-use Rattle.std.proofs.lemmas.List.{map-append, get_or_past, length-replicate}
+use Rattle.std.proofs.Common.{◌≡◌, ℕ, suc, ◌+◌, ◌≤◌, Bool, true, false, not, ◌&&◌, List, [], ◌∷◌, ◌++◌, length, replicate, sum, Option, Some, None, nat_eq, if◌then◌else◌, refl, sym, ap, ap₂, subst, subst₂, ◌∙◌, inl, inr, arith, eq-eqb, ne_eqb, length-append}
+use Rattle.std.proofs.lemmas.Bool.{cases_eq, cases_lt, true≢false, false≢true}
+use Rattle.std.proofs.lemmas.List.{map-append, get_or_past, get_or-replicate, length-replicate}
 use Rattle.std.specs.List.{AllByRecursion}
 use Rattle.offset_allocator.specs.Classes.{down}
 use Rattle.offset_allocator.specs.Named.{Block, View, Grant, one, count_named, names_at, push_all, IsWellFormed}
@@ -19,8 +19,8 @@ use Rattle.offset_script.specs.Totals.{live}
 use Rattle.offset_script.proofs.Ends.{free_sizes_labels, name_append, or_none}
 use Rattle.offset_script.proofs.Labels.{names, tags}
 use Rattle.offset_script.proofs.Members.{In}
-use Rattle.offset_script.proofs.Well.{Well, Apart, apart_append, count, hit, count-append, ends_free, starts_free, well_leaves, hit_number}
-use Rattle.offset_calls.specs.Calls.{Move, move_of, moves, gathered, compact, number}
+use Rattle.offset_script.proofs.Well.{Well, Apart, apart_append, count, hit, count-append, ends_free, starts_free, well_leaves}
+use Rattle.offset_calls.specs.Calls.{Move, moves, gathered, compact, number}
 use Rattle.offset_calls.specs.Steps.{AreNumbered}
 
 -- lists of live blocks
@@ -58,20 +58,14 @@ ends_of_live (b ∷ bs) = go (is_free b.tag) refl (ends_of_live bs)
     go false e ih = ap (λ x. ends_free (if not x then b ∷ live bs else live bs)) e ∙ ends_cons b (live bs) e ih
 
 -- what a compaction leaves is well-formed
-pub well_compact : (s : State) → Well s → Well (compact s).state
-well_compact s w = go (free_sizes s.blocks) refl
-  where
-    blocks : List ℕ → List machine.Block
-    blocks ns = live s.blocks ++ gathered (stamp_of_call s) ns
+well_gathered : (s : State) → Well s → (ns : List ℕ) → free_sizes s.blocks ≡ ns → Well (machine.leaves s (live s.blocks ++ gathered (stamp_of_call s) ns) machine.Freed).state
+well_gathered s w [] e = well_leaves s w _ machine.Freed (let l = length_live s.blocks in let o = w.some in let h = ap length e in omega (arith, l, o, h, length-append (live s.blocks) [])) (let l = length_live s.blocks in let r = w.room in omega (arith, l, r, length-append (live s.blocks) []))
+    (apart_append (live s.blocks) [] (apart_live s.blocks) tt (ap (λ x. x && false) (ends_of_live s.blocks))) (λ t. let l = count_live t s.blocks in omega (arith, l, count-append t (live s.blocks) []))
+well_gathered s w (n ∷ ns) e = well_leaves s w _ machine.Freed (omega (arith, length-append (live s.blocks) (gathered (stamp_of_call s) (n ∷ ns)))) (let l = length_live s.blocks in let r = w.room in let h = ap length e in omega (arith, l, r, h, length-append (live s.blocks) (gathered (stamp_of_call s) (n ∷ ns))))
+    (apart_append (live s.blocks) (gathered (stamp_of_call s) (n ∷ ns)) (apart_live s.blocks) (refl, tt) (ap (λ x. x && true) (ends_of_live s.blocks))) (λ t. let l = count_live t s.blocks in omega (arith, l, count-append t (live s.blocks) (gathered (stamp_of_call s) (n ∷ ns))))
 
-    go : (ns : List ℕ) → free_sizes s.blocks ≡ ns → Well (compact s).state
-    unfolding blocks
-    go [] e = subst (λ ns. Well (machine.leaves s (blocks ns) machine.Freed).state) (sym e) (well_leaves s w (blocks []) machine.Freed
-        (let l = length_live s.blocks in let o = w.some in let h = ap length e in omega (arith, l, o, h, length-append (live s.blocks) [])) (let l = length_live s.blocks in let r = w.room in omega (arith, l, r, length-append (live s.blocks) []))
-        (apart_append (live s.blocks) [] (apart_live s.blocks) tt (ap (λ x. x && false) (ends_of_live s.blocks))) (λ t. let l = count_live t s.blocks in omega (arith, l, count-append t (live s.blocks) [])))
-    go (n ∷ ns) e = subst (λ ns. Well (machine.leaves s (blocks ns) machine.Freed).state) (sym e) (well_leaves s w (blocks (n ∷ ns)) machine.Freed
-        (omega (arith, length-append (live s.blocks) (gathered (stamp_of_call s) (n ∷ ns)))) (let l = length_live s.blocks in let r = w.room in let h = ap length e in omega (arith, l, r, h, length-append (live s.blocks) (gathered (stamp_of_call s) (n ∷ ns))))
-        (apart_append (live s.blocks) (gathered (stamp_of_call s) (n ∷ ns)) (apart_live s.blocks) (refl, tt) (ap (λ x. x && true) (ends_of_live s.blocks))) (λ t. let l = count_live t s.blocks in omega (arith, l, count-append t (live s.blocks) (gathered (stamp_of_call s) (n ∷ ns)))))
+pub well_compact : (s : State) → Well s → Well (compact s).state
+well_compact s w = well_gathered s w (free_sizes s.blocks) refl
 
 -- labels of live blocks
 abbrev live_labels : List Label → List Label
@@ -192,7 +186,7 @@ only_number j k (m ∷ ls) l few e i t = go (has_number j m.tag) refl i (λ f e 
 pub name_found : (k : ℕ) (ls : List Label) (l : Label) → count (Live k) (tags ls) ≤ 1 → In l ls → l.tag ≡ Live k → name_of k ls ≡ Some l.name
 name_found k [] l few i t = absurd i
 name_found k (m ∷ ls) l few (inl f) t = ap (λ b. if b then Some m.name else name_of k ls) (ap (has_number k) (sym (ap (λ (l : Label). l.tag) f) ∙ t) ∙ eq-eqb k k refl) ∙ ap Some (sym (ap (λ (l : Label). l.name) f))
-name_found k (m ∷ ls) l few (inr f) t = go (has_number k m.tag) refl
+name_found k (m ∷ ls) l few (inr f) t = go (has_number k m.tag) refl (λ few. name_found k ls l few f t)
   where
     there : (l : Label) (ls : List Label) → In l ls → l.tag ≡ Live k → 1 ≤ count (Live k) (tags ls)
     there l [] i t = absurd i
@@ -203,9 +197,20 @@ name_found k (m ∷ ls) l few (inr f) t = go (has_number k m.tag) refl
     hits (Live j) h = ap one h
     hits (Free s) h = absurd (false≢true h)
 
-    go : (b : Bool) → has_number k m.tag ≡ b → name_of k (m ∷ ls) ≡ Some l.name
-    go true h = absurd (let x = hits m.tag h in let y = there l ls f t in omega (arith, few))
-    go false h = ap (λ b. if b then Some m.name else name_of k ls) h ∙ name_found k ls l (omega (arith, few)) f t
+    go : (b : Bool) → has_number k m.tag ≡ b → (count (Live k) (tags ls) ≤ 1 → name_of k ls ≡ Some l.name) → name_of k (m ∷ ls) ≡ Some l.name
+    go true h ih = absurd (let x = hits m.tag h in let y = there l ls f t in omega (arith, few))
+    go false h ih = ap (λ b. if b then Some m.name else name_of k ls) h ∙ ih (omega (arith, few))
+
+same_move : (m : Move) (k from to size : ℕ) → m.number ≡ k → m.from ≡ from → m.to ≡ to → m.size ≡ size → m ≡ record { number = k; from = from; to = to; size = size }
+same_move m k from to size e f g h =
+    ap₂ (λ (a b : ℕ). record { number = a; from = b; to = m.to; size = m.size }) e f ∙ ap₂ (λ (a b : ℕ). record { number = k; from = from; to = a; size = b }) g h
+
+-- the moves of a block and those after it
+abbrev named_step : ℕ → ℕ → Label → List Label → Bool → Bool → List named_moves.Move
+named_step from to l ls u b = if u then (if b then [] else record { name = l.name; from = from; to = to; size = l.size } ∷ []) ++ named_moves.moves (from + l.size) (to + l.size) (names ls) else named_moves.moves (from + l.size) to (names ls)
+
+abbrev plain_step : ℕ → ℕ → Label → List Label → Tag → Bool → List Move
+plain_step from to l ls t b = if is_free t then moves (from + l.size) to (tags ls) else (if b then [] else record { number = number t; from = from; to = to; size = l.size } ∷ []) ++ moves (from + l.size) (to + l.size) (tags ls)
 
 -- the moves are those of the plain machine, where the name of each label has one number
 pub moves_agree : (handles : List (Option Grant)) (from to : ℕ) (ls : List Label) (ms : List Move) → ((l : Label) → In l ls → (k : ℕ) → l.tag ≡ Live k → (j : ℕ) → kept_name handles j ≡ Some l.name → j ≡ k)
@@ -214,23 +219,17 @@ moves_agree handles from to [] [] h a = refl
 moves_agree handles from to [] (m ∷ ms) h a = absurd a
 moves_agree handles from to (l ∷ ls) ms h a = go l.tag refl (nat_eq from to) refl ms a (λ t r. moves_agree handles (from + l.size) t ls r (λ x i. h x (inr i)))
   where
-    abbrev named_step : Bool → Bool → List named_moves.Move
-    named_step u b = if u then (if b then [] else record { name = l.name; from = from; to = to; size = l.size } ∷ []) ++ named_moves.moves (from + l.size) (to + l.size) (names ls) else named_moves.moves (from + l.size) to (names ls)
-
-    abbrev plain_step : Tag → Bool → List Move
-    plain_step t b = if is_free t then moves (from + l.size) to (tags ls) else (if b then [] else record { number = number t; from = from; to = to; size = l.size } ∷ []) ++ moves (from + l.size) (to + l.size) (tags ls)
-
     first : (k : ℕ) → l.tag ≡ Live k → (ms : List Move) → ((r : List Move) → AreNumbered handles (named_moves.moves (from + l.size) (to + l.size) (names ls)) r → r ≡ moves (from + l.size) (to + l.size) (tags ls))
         → AreNumbered handles (record { name = l.name; from = from; to = to; size = l.size } ∷ named_moves.moves (from + l.size) (to + l.size) (names ls)) ms
         → ms ≡ record { number = k; from = from; to = to; size = l.size } ∷ moves (from + l.size) (to + l.size) (tags ls)
     first k t [] ih a = absurd a
-    first k t (m ∷ ms) ih a = ap₂ (λ (x : Move) y. x ∷ y) (let n : m.number ≡ k = h l (inl refl) k t m.number a.0 in let f = a.1 in let g = a.2 in let i = a.3 in cc) (ih ms a.4)
+    first k t (m ∷ ms) ih a = ap₂ (λ (x : Move) y. x ∷ y) (same_move m k from to l.size (h l (inl refl) k t m.number a.0) a.1 a.2 a.3) (ih ms a.4)
 
-    go : (t : Tag) → l.tag ≡ t → (b : Bool) → nat_eq from to ≡ b → (ms : List Move) → AreNumbered handles (named_step (not (is_free l.tag)) (nat_eq from to)) ms
-        → ((t : ℕ) (r : List Move) → AreNumbered handles (named_moves.moves (from + l.size) t (names ls)) r → r ≡ moves (from + l.size) t (tags ls)) → ms ≡ plain_step l.tag (nat_eq from to)
-    go (Free s) t b e ms a ih = ih to ms (subst (λ y. AreNumbered handles (named_step (not (is_free y)) (nat_eq from to)) ms) t a) ∙ sym (ap (λ y. plain_step y (nat_eq from to)) t)
-    go (Live k) t true e ms a ih = ih (to + l.size) ms (subst₂ (λ y b. AreNumbered handles (named_step (not (is_free y)) b) ms) t e a) ∙ sym (ap₂ plain_step t e)
-    go (Live k) t false e ms a ih = first k t ms (ih (to + l.size)) (subst₂ (λ y b. AreNumbered handles (named_step (not (is_free y)) b) ms) t e a) ∙ sym (ap₂ plain_step t e)
+    go : (t : Tag) → l.tag ≡ t → (b : Bool) → nat_eq from to ≡ b → (ms : List Move) → AreNumbered handles (named_step from to l ls (not (is_free l.tag)) (nat_eq from to)) ms
+        → ((t : ℕ) (r : List Move) → AreNumbered handles (named_moves.moves (from + l.size) t (names ls)) r → r ≡ moves (from + l.size) t (tags ls)) → ms ≡ plain_step from to l ls l.tag (nat_eq from to)
+    go (Free s) t b e ms a ih = ih to ms (subst (λ y. AreNumbered handles (named_step from to l ls (not (is_free y)) (nat_eq from to)) ms) t a) ∙ sym (ap (λ y. plain_step from to l ls y (nat_eq from to)) t)
+    go (Live k) t true e ms a ih = ih (to + l.size) ms (subst₂ (λ y b. AreNumbered handles (named_step from to l ls (not (is_free y)) b) ms) t e a) ∙ sym (ap₂ (plain_step from to l ls) t e)
+    go (Live k) t false e ms a ih = first k t ms (ih (to + l.size)) (subst₂ (λ y b. AreNumbered handles (named_step from to l ls (not (is_free y)) b) ms) t e a) ∙ sym (ap₂ (plain_step from to l ls) t e)
 
 module _ (v : View) (handles : List (Option Grant)) (s : State) (w : IsWellFormed v) (ws : Well s) (g : Agrees v (kept_name handles) s) where
   one_number : (l : Label) → In l g.labels → (k : ℕ) → l.tag ≡ Live k → (j : ℕ) → kept_name handles j ≡ Some l.name → j ≡ k

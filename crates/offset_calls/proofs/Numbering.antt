@@ -1,12 +1,12 @@
 -- The moves of a compaction, and the numbers of the ranges that move.
-use Rattle.std.proofs.Common.{◌≡◌, ℕ, zero, suc, ◌+◌, ◌-◌, ◌<◌, ◌≤◌, Bool, true, false, List, [], ◌∷◌, ◌++◌, map, drop, length, reverse, get_or, slice_index_or, drop-cons, Option, Some, None, IsSome, option_map, unwrap_or, nat_eq, if◌then◌else◌, refl, sym, ap, ap₂, subst, subst₂, ◌∙◌, inl, inr, arith, append_assoc, append-nil, length-append, eq-eqb, ne_eqb}
+use Rattle.std.proofs.Common.{◌≡◌, ℕ, zero, suc, ◌+◌, ◌-◌, ◌<◌, ◌≤◌, Bool, true, false, List, [], ◌∷◌, ◌++◌, map, drop, length, reverse, get_or, slice_index_or, drop-cons, Option, Some, None, IsSome, option_map, unwrap_or, if◌then◌else◌, refl, sym, ap, ap₂, subst, subst₂, ◌∙◌, inl, inr, arith, append_assoc, append-nil, length-append, eq-eqb, ne_eqb}
 use Rattle.std.proofs.lemmas.Bool.{cases_eq, cases_lt, false≢true}
 use Rattle.std.proofs.lemmas.List.{map-append, length-map, reverse-append, drop_all, get_or_past}
 use Rattle.std.specs.List.{AllByRecursion, FoldsTo}
 use Rattle.offset_allocator.specs.Named.{Block, Grant, View}
 use Rattle.offset_allocator.specs.Ranges.{IsLive, Range, range_of}
-use Rattle.offset_allocator.specs.Compacting.{Move, live, moves, move_of}
-use Rattle.offset_allocator.specs.Listing.{Placed, placed, placed_at, listing}
+use Rattle.offset_allocator.specs.Compacting.{Move, live, moves}
+use Rattle.offset_allocator.specs.Listing.{Placed, placed, listing}
 use Rattle.offset_allocator.proofs.Sliding.{live_used, live_idle, moves_used, moves_idle}
 use Rattle.offset_script.specs.Agreement.{kept_name}
 use Rattle.offset_calls.specs.declared.calls.Moved.{Moved}
@@ -196,7 +196,7 @@ walk_ends handles ks left v e f =
 -- the moves that a closure has seen
 pub collected : {P S N : Type 0} (R : P → Move → P → Type 0) (xs : List Move) (p q : P) → FoldsTo R p xs q → (see : P → S) (place : P → N) (is_refused : S → Bool) (found : S → List Moved)
     → ((p : P) (x : Move) (q : P) → R p x q
-      → (is_refused (see q) ≡ false → (is_refused (see p) ≡ false) × (m : Moved) × (m.from ≡ x.from) × (m.to ≡ x.to) × (m.size ≡ x.size) × (found (see q) ≡ found (see p) ++ m ∷ [])) × (place q ≡ place p))
+    → (is_refused (see q) ≡ false → (is_refused (see p) ≡ false) × (m : Moved) × (m.from ≡ x.from) × (m.to ≡ x.to) × (m.size ≡ x.size) × (found (see q) ≡ found (see p) ++ m ∷ [])) × (place q ≡ place p))
     → (is_refused (see q) ≡ false → (is_refused (see p) ≡ false) × ((ys : List Move) → AreMoves (found (see p)) ys → AreMoves (found (see q)) (ys ++ xs))) × (place q ≡ place p)
 collected R [] p q e see place is_refused found each = (λ h. (ap (λ x. is_refused (see x)) e ∙ h, λ ys a. subst₂ AreMoves (ap (λ x. found (see x)) e) (sym (append-nil ys)) a), ap place (sym e))
 collected R (x ∷ xs) p q f see place is_refused found each =

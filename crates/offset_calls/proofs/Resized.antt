@@ -1,6 +1,6 @@
 -- A range that shrinks or grows: what is left agrees with the plain machine.
-use Rattle.std.proofs.Common.{◌≡◌, ◌≢◌, ℕ, zero, suc, ◌+◌, ◌-◌, ◌<◌, ◌≤◌, Bool, true, false, not, ◌&&◌, ◌||◌, ◌⊎◌, List, [], ◌∷◌, ◌++◌, length, Option, Some, None, nat_eq, nat_lt, nat_le, if◌then◌else◌, refl, sym, ap, ap₂, subst, subst₂, ◌∙◌, inl, inr, arith, eq-eqb, ne_eqb, le-leb, leb-true, leb-false, append_assoc, append-nil, length-append}
-use Rattle.std.proofs.lemmas.Bool.{cases_eq, cases_lt, true≢false, false≢true, and_parts, and_left, and_right, or_parts, not-false}
+use Rattle.std.proofs.Common.{◌≡◌, ◌≢◌, ℕ, zero, suc, ◌+◌, ◌-◌, ◌<◌, ◌≤◌, Bool, true, false, not, ◌&&◌, ◌||◌, ◌⊎◌, List, [], ◌∷◌, ◌++◌, length, Option, Some, None, nat_eq, nat_le, if◌then◌else◌, refl, sym, ap, ap₂, subst, subst₂, ◌∙◌, inl, inr, arith, le-leb, leb-true, leb-false, append-nil, length-append}
+use Rattle.std.proofs.lemmas.Bool.{false≢true, and_parts, and_right}
 use Rattle.std.proofs.lemmas.List.{map-append}
 use Rattle.std.specs.List.{AllByRecursion}
 use Rattle.offset_allocator.proofs.ViewApart.{right_false}
@@ -15,14 +15,14 @@ use Rattle.offset_script.specs.Agreement.{Label, by_name, by_tag, name_of, Agree
 use Rattle.offset_script.specs.Machine.{Tag, Live, Free, State, is_free, has_number, total, is_short_of, stamp_of_call, stamp_of_padding, without_start, free_start}
 use Rattle.offset_script.specs.Machine as machine
 use Rattle.offset_script.proofs.Agreed.{live_at, LiveAt, room_for, has_room, agrees_replaced, new_labels, names_new, tags_new, name_new, rises_new, name_replaced}
-use Rattle.offset_script.proofs.Chosen.{Spot, whole, place_at, named_spot, named_place, plain_place, place_of_spot}
+use Rattle.offset_script.proofs.Chosen.{Spot, place_at, named_spot, named_place, plain_place, place_of_spot}
 use Rattle.offset_script.proofs.Ends.{AllFree, free_named, free_tagged, apart_tagged, total_units, name_free}
 use Rattle.offset_script.proofs.Labels.{names, tags, map_three}
 use Rattle.offset_script.proofs.Members.{map_parts}
 use Rattle.offset_script.proofs.Tests.{same_some}
 use Rattle.offset_script.proofs.Well.{Well, Apart, IsStart, apart_parts, apart_append, apart_free_block, count, hit, count-append, count_free_block, ends_free, few_free, free_part as plain_part, found_at, number_of, start_is, start_of, well_leaves}
 use Rattle.offset_script.proofs.Well as well
-use Rattle.offset_calls.specs.Calls.{starts_free, can_shrink, can_grow, resized, remakes}
+use Rattle.offset_calls.specs.Calls.{starts_free, can_shrink, can_grow, resized}
 
 -- lists without a free block at their start
 

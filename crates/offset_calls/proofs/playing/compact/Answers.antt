@@ -1,4 +1,4 @@
-use Rattle.std.proofs.Common.{◌≡◌, ◌≤◌, ◌-◌, refl, sym, ap, ap₂, subst₂, ◌∙◌, length, drop}
+use Rattle.std.proofs.Common.{◌≤◌, ◌-◌, refl, sym, ap, ap₂, subst₂, ◌∙◌, length, drop}
 use Rattle.offset_calls.specs.Calls as plain
 use Rattle.offset_calls.specs.Steps.{joined}
 use Rattle.offset_calls.proofs.Numbering.{numbers_suffice, numbers_are}

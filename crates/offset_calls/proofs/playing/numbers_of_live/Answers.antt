@@ -1,7 +1,7 @@
-use Rattle.std.proofs.Common.{◌≡◌, refl, sym, ap, ap₂, subst, map, ◌∙◌, ◌++◌}
+use Rattle.std.proofs.Common.{sym, ap, ap₂, subst, map, ◌∙◌, ◌++◌}
 use Rattle.offset_allocator.specs.Listing.{as_placed}
 use Rattle.offset_script.specs.Agreement.{kept_name}
-use Rattle.offset_calls.proofs.Numbering.{AllKept, placed_names, kept-listing, walk_used, walk_free, walk_ends}
+use Rattle.offset_calls.proofs.Numbering.{AllKept, placed_names, kept-listing, walk_used, walk_ends}
 use Rattle.offset_calls.proofs.playing.numbers_of_live.Goals as goal
 
 pub loop-block-init : goal.loop-block-init
