@@ -1,5 +1,8 @@
 //! Calls, and the replies to them.
 
+ghost use Rattle.std.specs.Prelude.{◌≡◌, ◌↔◌, All, IsTrue};
+ghost use Rattle.offset_calls.specs.Calls.{is_valid};
+
 use offset_allocator::Refusal;
 use offset_script::{Answer, Command};
 
@@ -21,6 +24,26 @@ pub enum Call {
     Refusal(u32),
     /// Asks the same of a request for this many units from a multiple of the second number on, which is a power of two.
     RefusalAligned(u32, u32),
+}
+
+impl Call {
+    /// Whether its alignment is a power of two, where it has one.
+    pub fn is_valid(&self) -> bool
+        ensures { result ≡ is_valid self.now }
+    {
+        match self {
+            Call::Command(Command::Align(_, align)) => align.is_power_of_two(),
+            Call::RefusalAligned(_, align) => align.is_power_of_two(),
+            _ => true,
+        }
+    }
+}
+
+/// Whether each alignment in these calls is a power of two.
+pub fn are_valid(calls: &[Call]) -> bool
+    ensures { IsTrue result ↔ All (λ c. IsTrue (is_valid c)) calls.now }
+{
+    calls.iter().all(|call| call.is_valid())
 }
 
 /// A range that `Call::Compact` moves to another offset.

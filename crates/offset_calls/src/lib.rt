@@ -9,5 +9,5 @@ mod calls;
 pub mod laws;
 mod playing;
 
-pub use calls::{Call, Moved, Reply};
+pub use calls::{Call, Moved, Reply, are_valid};
 pub use playing::play_calls;

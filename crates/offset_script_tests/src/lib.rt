@@ -8,6 +8,8 @@ mod beginnings;
 #[cfg(test)]
 mod beginnings_with_answers;
 #[cfg(test)]
+mod calls;
+#[cfg(test)]
 mod debug_texts;
 #[cfg(test)]
 mod faults;
