@@ -103,10 +103,16 @@ REQUIRES = [
         "commands.iter().all(|c| !matches!(c, Command::Align(_, align) if !align.is_power_of_two()))",
         "each alignment must be a power of two",
     ),
+    (
+        "IsTrue (has_valid_alignment command)",
+        "!matches!(command, Command::Align(_, align) if !align.is_power_of_two())",
+        "an alignment must be a power of two",
+    ),
 ]
 
 # What a public function requires, and always holds in plain Rust, each with the reason. It needs no assertion.
 ALWAYS = {
+    "AreLive self.old.space self.old.handles.items": "each call of a player keeps it, and `free` itself panics at a handle that is not live",
     "F.IsAlwaysCallable moved.old": "a closure of Rust may be called at any time; if it panics, that is its own panic",
 }
 

@@ -55,7 +55,7 @@ pub agrees_quiet : (v : View) (kept_name : ℕ → Option ℕ) (s : State) → A
 agrees_quiet v kept_name s g a = record { labels = g.labels; view = g.view; state = g.state; limit = g.limit; newest = g.newest; handles = g.handles }
 
 -- the labels of a grant
-abbrev free_labels : ℕ → ℕ → ℕ → List Label
+abbrev pub free_labels : ℕ → ℕ → ℕ → List Label
 free_labels x zero s = []
 free_labels x (suc n) s = record { name = x; size = suc n; tag = Free s } ∷ []
 
@@ -72,20 +72,20 @@ name_free_labels k x zero s = refl
 name_free_labels k x (suc n) s = refl
 
 -- the label of grant k
-abbrev live_label : ℕ → ℕ → ℕ → Label
+abbrev pub live_label : ℕ → ℕ → ℕ → Label
 live_label x n k = record { name = x; size = n; tag = Live k }
 
 -- the labels that a grant adds: padding, the grant and a remainder
-abbrev new_labels : (front padding x n k rest left t : ℕ) → List Label
+abbrev pub new_labels : (front padding x n k rest left t : ℕ) → List Label
 new_labels front padding x n k rest left t = free_labels front padding t ++ live_label x n k ∷ free_labels rest left (t + 1)
 
-names_new : (front padding x n k rest left t : ℕ) → names (new_labels front padding x n k rest left t) ≡ free_part front padding ++ used_block x n ∷ free_part rest left
+pub names_new : (front padding x n k rest left t : ℕ) → names (new_labels front padding x n k rest left t) ≡ free_part front padding ++ used_block x n ∷ free_part rest left
 names_new front padding x n k rest left t = map-append by_name (free_labels front padding t) _ ∙ ap₂ (λ a b. a ++ used_block x n ∷ b) (names_free_labels front padding t) (names_free_labels rest left (t + 1))
 
-tags_new : (front padding x n k rest left t : ℕ) → tags (new_labels front padding x n k rest left t) ≡ machine.free_block padding t ++ machine.block n (Live k) ∷ machine.free_block left (t + 1)
+pub tags_new : (front padding x n k rest left t : ℕ) → tags (new_labels front padding x n k rest left t) ≡ machine.free_block padding t ++ machine.block n (Live k) ∷ machine.free_block left (t + 1)
 tags_new front padding x n k rest left t = map-append by_tag (free_labels front padding t) _ ∙ ap₂ (λ a b. a ++ machine.block n (Live k) ∷ b) (tags_free_labels front padding t) (tags_free_labels rest left (t + 1))
 
-name_new : (j front padding x n k rest left t : ℕ) → name_of j (new_labels front padding x n k rest left t) ≡ (if nat_eq j k then Some x else None)
+pub name_new : (j front padding x n k rest left t : ℕ) → name_of j (new_labels front padding x n k rest left t) ≡ (if nat_eq j k then Some x else None)
 name_new j front padding x n k rest left t =
     name_append j (free_labels front padding t) (live_label x n k ∷ free_labels rest left (t + 1))
     ∙ ap (λ o. option_or o (name_of j (live_label x n k ∷ free_labels rest left (t + 1)))) (name_free_labels j front padding t)
@@ -95,12 +95,12 @@ rises_remainder : (x n t u : ℕ) → t ≤ u → Rises t (free_labels x n u)
 rises_remainder x zero t u l = tt
 rises_remainder x (suc n) t u l = (λ e. absurd (true≢false e), λ e. (l, tt))
 
-rises_new : (front padding x n k rest left t : ℕ) → Rises t (new_labels front padding x n k rest left t)
+pub rises_new : (front padding x n k rest left t : ℕ) → Rises t (new_labels front padding x n k rest left t)
 rises_new front zero x n k rest left t = (λ e. rises_remainder rest left t (t + 1) (omega arith), λ e. absurd (false≢true e))
 rises_new front (suc padding) x n k rest left t = (λ e. absurd (true≢false e), λ e. (omega arith, (λ e. rises_remainder rest left (t + 1) (t + 1) (omega arith), λ e. absurd (false≢true e))))
 
 -- other names of grants stay
-name_replaced : (j : ℕ) (before old new after : List Label) → name_of j old ≡ name_of j new → name_of j (before ++ (old ++ after)) ≡ name_of j (before ++ (new ++ after))
+pub name_replaced : (j : ℕ) (before old new after : List Label) → name_of j old ≡ name_of j new → name_of j (before ++ (old ++ after)) ≡ name_of j (before ++ (new ++ after))
 name_replaced j before old new after e =
     name_append j before (old ++ after) ∙ ap (option_or (name_of j before)) (name_append j old after ∙ ap (λ o. option_or o (name_of j after)) e ∙ sym (name_append j new after)) ∙ sym (name_append j before (new ++ after))
 
@@ -115,7 +115,7 @@ pub agrees_but : (v w : View) (kept_name : ℕ → Option ℕ) (s : State) → S
 agrees_but v w kept_name s e g = subst (λ x. Agrees x kept_name s) (sym e) (record { labels = g.labels; view = g.view; state = g.state; limit = g.limit; newest = g.newest; handles = g.handles })
 
 module _ (v : View) (kept_name : ℕ → Option ℕ) (s : State) (w : IsWellFormed v) (ws : Well s) (g : Agrees v kept_name s) where
-  labelled : IsLabelled v g.labels
+  pub labelled : IsLabelled v g.labels
   labelled = record { view = g.view; newest = g.newest }
 
   low : (ls : List Label) → g.labels ≡ ls → (x : ℕ) → stamp_of x ls < stamp_of_padding s
@@ -126,7 +126,7 @@ module _ (v : View) (kept_name : ℕ → Option ℕ) (s : State) (w : IsWellForm
 
   -- new blocks in place of old ones
   module _ (u : View) (w' : IsWellFormed u) where
-    agrees_replaced : (size : ℕ) (before old new after : List Label) → g.labels ≡ before ++ (old ++ after) → SameSpace (record (replace v (names before) (names old) (names new) (names after)) { size = size }) u
+    pub agrees_replaced : (size : ℕ) (before old new after : List Label) → g.labels ≡ before ++ (old ++ after) → SameSpace (record (replace v (names before) (names old) (names new) (names after)) { size = size }) u
         → (t : State) → t.limit ≡ s.limit → t.blocks ≡ tags (before ++ (new ++ after)) → Rises (stamp_of_padding s) new
         → (kept_name' : ℕ → Option ℕ) → ((j : ℕ) → kept_name' j ≡ name_of j (before ++ (new ++ after))) → Agrees u kept_name' t
     agrees_replaced size before old new after e same t limit state rises kept_name' handles = record {
@@ -204,17 +204,17 @@ module _ (v : View) (kept_name : ℕ → Option ℕ) (s : State) (w : IsWellForm
             ∙ coalesce_parts (tags before) (tags left) n (stamp_of_call s) (tags right) (tags after) (end_of _ _ (free_tagged left fl) (parts left (old ++ right) apart).0 (and_true _ apart'.2)) (start_of _ _ (free_tagged right fr) (parts old right (parts left (old ++ right) apart).1).1 apart'.1.0)
             ∙ sym (map-append by_tag before (l ∷ after))
 
-  same_length : length v.blocks ≡ length s.blocks
+  pub same_length : length v.blocks ≡ length s.blocks
   same_length = ap length g.view ∙ (length-map g.labels by_name ∙ sym (length-map g.labels by_tag)) ∙ sym (ap length g.state)
 
   pub same_units : units v.blocks ≡ total s.blocks
   same_units = ap units g.view ∙ sym (total_units g.labels) ∙ sym (ap total g.state)
 
   -- room for more blocks
-  has_room : (k : ℕ) → HasRoomFor k v → machine.is_short_of k s ≡ false
+  pub has_room : (k : ℕ) → HasRoomFor k v → machine.is_short_of k s ≡ false
   has_room k room = lt-leb s.limit (length s.blocks + k) (let e = g.limit in let f = same_length in omega arith)
 
-  room_for : (k : ℕ) → machine.is_short_of k s ≡ false → HasRoomFor k v
+  pub room_for : (k : ℕ) → machine.is_short_of k s ≡ false → HasRoomFor k v
   room_for k e = let h = leb-false s.limit (length s.blocks + k) e in let e = g.limit in let f = same_length in omega arith
 
   module _ (blocks needed n : ℕ) (padding_at : ℕ → ℕ) (u : View) (w' : IsWellFormed u) where
@@ -287,13 +287,13 @@ module _ (v : View) (kept_name : ℕ → Option ℕ) (s : State) (w : IsWellForm
   aligned_agrees n align some u w' r e = subst (Matches u kept_name s.grants r) (sym (aligned_is n align some)) (serve_agrees (blocks_needed align) (units_needed n align) n (padding_to align) u w' r e)
 
   -- a live grant, whose block has the name x
-  record LiveAt (k x : ℕ) : Type 0 where
-    spot : Spot
-    split : g.labels ≡ whole spot
-    tag : spot.label.tag ≡ Live k
-    named : place_of x v.blocks ≡ Some (named_place spot)
-    placed : machine.place_of k s.blocks ≡ Some (plain_place spot)
-    first : name_of k spot.before ≡ None
+  pub record LiveAt (k x : ℕ) : Type 0 where
+    pub spot : Spot
+    pub split : g.labels ≡ whole spot
+    pub tag : spot.label.tag ≡ Live k
+    pub named : place_of x v.blocks ≡ Some (named_place spot)
+    pub placed : machine.place_of k s.blocks ≡ Some (plain_place spot)
+    pub first : name_of k spot.before ≡ None
 
   live_spot : (k : ℕ) (p : machine.Place) → machine.place_of k s.blocks ≡ Some p → (x : ℕ) × (kept_name k ≡ Some x) × LiveAt k x
   live_spot k p e =
@@ -307,7 +307,7 @@ module _ (v : View) (kept_name : ℕ → Option ℕ) (s : State) (w : IsWellForm
         record { spot = r.0; split = r.1; tag = tag; named = place_of_spot v w r.0 (g.view ∙ ap names r.1); placed = e ∙ ap Some (sym r.2); first = first },
       )
 
-  live_at : (k x : ℕ) → kept_name k ≡ Some x → LiveAt k x
+  pub live_at : (k x : ℕ) → kept_name k ≡ Some x → LiveAt k x
   live_at k x e = go (machine.place_of k s.blocks) refl
     where
       go : (o : Option machine.Place) → machine.place_of k s.blocks ≡ o → LiveAt k x
@@ -315,7 +315,7 @@ module _ (v : View) (kept_name : ℕ → Option ℕ) (s : State) (w : IsWellForm
       go (Some p) f = let r = live_spot k p f in let n = sym r.1 ∙ e in subst (LiveAt k) (cc) r.2
 
   -- a grant that is not live
-  none_there : (k : ℕ) → kept_name k ≡ None → machine.place_of k s.blocks ≡ None
+  pub none_there : (k : ℕ) → kept_name k ≡ None → machine.place_of k s.blocks ≡ None
   none_there k e = go (machine.place_of k s.blocks) refl
     where
       go : (o : Option machine.Place) → machine.place_of k s.blocks ≡ o → machine.place_of k s.blocks ≡ None

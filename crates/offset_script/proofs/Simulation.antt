@@ -1,5 +1,5 @@
--- A player simulates the plain machine, call by call.
-use Rattle.std.proofs.Common.{◌≡◌, ℕ, zero, suc, ◌+◌, ◌-◌, ◌%◌, ◌^◌, ◌<◌, ◌≤◌, Bool, List, [], ◌∷◌, ◌++◌, map, length, Option, Some, None, option_map, Result, Ok, Err, IfOk, slice_index_or, slice_set, get_or, if◌then◌else◌, refl, sym, ap, ap₂, subst, ◌∙◌, inl, inr, arith, eq-eqb, ne_eqb, add-one, length-append, append-nil}
+-- The steps of a player are those of the plain machine, call by call.
+use Rattle.std.proofs.Common.{◌≡◌, ℕ, zero, suc, ◌+◌, ◌-◌, ◌%◌, ◌^◌, ◌<◌, ◌≤◌, Bool, List, [], ◌∷◌, ◌++◌, map, length, Option, Some, None, option_map, Result, Ok, Err, IfOk, slice_index_or, slice_set, get_or, if◌then◌else◌, IsTrue, refl, sym, ap, ap₂, subst, subst₂, ◌∙◌, inl, inr, arith, eq-eqb, ne_eqb, add-one, length-append, append_assoc, append-nil}
 use Rattle.std.proofs.lemmas.List.{map-append, get_or-set_same, get_or-set_other, get_or_past, length-set}
 use Rattle.std.proofs.Math.ListN.{get_or-append}
 use Rattle.std.proofs.Math.Seq.{get_or-append_seam}
@@ -10,28 +10,24 @@ use Rattle.offset_allocator.specs.declared.reports.StorageReportFull.{StorageRep
 use Rattle.offset_allocator.specs.declared.reports.StorageReportFullRegion.{StorageReportFullRegion}
 use Rattle.offset_script.specs.declared.scripts.Command.{Command}
 use Rattle.offset_script.specs.declared.scripts.Command.TheVariants as command
-use Rattle.offset_script.specs.Machine.{State, step, start, after, answer_view, row_view}
+use Rattle.offset_script.specs.Grammar.{has_valid_alignment}
+use Rattle.offset_script.specs.Machine.{State, Answer, step, start, row_view}
 use Rattle.offset_script.specs.Machine as machine
-use Rattle.offset_allocator.specs.Named.{View, Grant, total_free, largest_free, free_sizes, IsWellFormed}
-use Rattle.offset_script.specs.Agreement.{Agrees, IsReached, kept_name}
-use Rattle.offset_allocator.specs.Relations.{IsFresh, Allocates, Aligns, Frees, Extends, Resets}
-use Rattle.offset_script.proofs.Well.{Well, well_start, well_after}
+use Rattle.offset_allocator.specs.Named.{View, Grant, free_sizes, IsWellFormed}
+use Rattle.offset_script.specs.Agreement.{Agrees, kept_name}
+use Rattle.offset_allocator.specs.Relations.{IsFresh, Frees, Extends, Resets}
+use Rattle.offset_script.proofs.Well.{Well}
 use Rattle.offset_script.proofs.Agreed.{with_name, without_name, Matches, serve_agrees, aligned_agrees, extend_agrees, free_agrees, live_agrees, gone_agrees, size_gone_agrees, size_agrees, report_agrees, full_agrees, agrees_quiet, agrees_kept, alone_agrees, same_units}
-use Rattle.offset_script.specs.declared.answers.Answer as program
-use Rattle.offset_script.specs.declared.answers.Answer.TheVariants as program_answer
 use Rattle.offset_script.specs.declared.answers.FullRow.{FullRow}
 use Rattle.offset_allocator.specs.Promises.{IsFullReport}
-use Rattle.offset_allocator.specs.Ranges.{IsLive, size_of}
+use Rattle.offset_allocator.specs.Ranges.{size_of}
 use Rattle.offset_allocator.proofs.Reading.{used_live, size_is}
-use Rattle.offset_script.specs.Simulation.{Represents, Simulates, RepresentsReached, IsKept}
+use Rattle.offset_script.specs.Simulation.{Represents, Takes, IsRun, AreOfARun, IsKept, IfNamed, Stays, AreLive}
+use Rattle.offset_allocator.proofs.Powers.{not_zero}
 
 -- the name in a handle
 abbrev handle_name : Grant → ℕ
 handle_name h = h.name
-
--- what holds of every state holds of a reached one
-pub well_of : (s : State) → IsReached s → Well s
-well_of s r = subst Well (sym r.reached) (well_after r.commands (start r.size r.limit) (well_start r.size r.limit r.admitted))
 
 -- the handles kept
 pub kept_push : (hs : List (Option Grant)) (h : Grant) (k : ℕ) → kept_name (hs ++ Some h ∷ []) k ≡ with_name (length hs + 1) h.name (kept_name hs) k
@@ -52,102 +48,132 @@ kept_set hs k l (suc j) = elim (cases_eq j k) [
   | inr n ↦ ap (option_map handle_name) (get_or-set_other hs k j None None n) ∙ sym (ap (λ (b : Bool). if b then None else kept_name hs (suc j)) (ne_eqb (suc j) (suc k) (omega arith)))
 ]
 
--- a call returns the answer of the plain machine, and what it leaves agrees with the state that the machine leaves
-simulates : (c : Command) (v w : View) (hs left : List (Option Grant)) (a : program.Answer)
-    → (IsWellFormed w → (s : State) → IsWellFormed v → Well s → Agrees v (kept_name hs) s → length hs ≡ s.grants → (answer_view a ≡ (step c s).answer) × Agrees w (kept_name left) (step c s).state × (length left ≡ (step c s).state.grants))
-    → Simulates v hs w left c a
-simulates c v w hs left a f = record {
-  answer = λ formed s reached st. (f formed s st.formed (well_of s reached) st.agrees st.grants).0;
-  state = λ formed s reached st. let r = f formed s st.formed (well_of s reached) st.agrees st.grants in record { formed = formed; agrees = r.1; grants = r.2 };
-}
-
--- a request, whose grant is kept
-request_simulates : (c : Command) (v w : View) (hs left : List (Option Grant)) (r : Option Grant) (a : program.Answer)
-    → (IsWellFormed w → (s : State) → IsWellFormed v → Well s → Agrees v (kept_name hs) s → Matches w (kept_name hs) s.grants r (step c s)) → IsKept r hs left a → Simulates v hs w left c a
-request_simulates c v w hs left None a alike k = simulates c v w hs left a (λ formed s f ws g len.
-    let m = alike formed s f ws g in
-    (ap answer_view k.1 ∙ sym m.answer, agrees_kept _ (kept_name hs) _ _ (λ j. ap (λ l. kept_name l j) k.0) m.agrees, ap length k.0 ∙ len ∙ sym m.grants_after))
-request_simulates c v w hs left (Some h) a alike k = simulates c v w hs left a (λ formed s f ws g len.
-    let m = alike formed s f ws g in
-    let count = ap length k.0 ∙ length-append hs (Some h ∷ []) ∙ ap (λ n. n + 1) len in (
-      ap answer_view k.1 ∙ ap (λ n. machine.Grant n h.offset) count ∙ sym m.answer,
-      agrees_kept _ (with_name (s.grants + 1) h.name (kept_name hs)) _ _ (λ j. ap (λ l. kept_name l j) k.0 ∙ kept_push hs h j ∙ ap (λ n. with_name (n + 1) h.name (kept_name hs) j) len) m.agrees,
-      count ∙ sym m.grants_after,
-    ))
-
-pub allocate_simulates : (n : ℕ) (v w : View) (hs left : List (Option Grant)) (r : Option Grant) (a : program.Answer) → Allocates n v w r → IsKept r hs left a → Simulates v hs w left (command.Alloc n) a
-allocate_simulates n v w hs left r a al k = request_simulates (command.Alloc n) v w hs left r a (λ formed s f ws g. serve_agrees v (kept_name hs) s f ws g 1 n n (λ offset. 0) w formed r al) k
-
-pub aligned_simulates : (n align : ℕ) (v w : View) (hs left : List (Option Grant)) (r : Option Grant) (a : program.Answer) → 1 ≤ align → Aligns n align v w r → IsKept r hs left a → Simulates v hs w left (command.Align n align) a
-aligned_simulates n align v w hs left r a some al k = request_simulates (command.Align n align) v w hs left r a (λ formed s f ws g. aligned_agrees v (kept_name hs) s f ws g n align some w formed r al) k
-
--- more units, or a refusal
-pub extended_simulates : (more : ℕ) (v w : View) (hs : List (Option Grant)) (done : Bool) (a : program.Answer) → Extends more v w done → answer_view a ≡ (if done then machine.Extended else machine.Refused) → Simulates v hs w hs (command.Extend more) a
-extended_simulates more v w hs done a e same = simulates (command.Extend more) v w hs hs a (λ formed s f ws g len.
-    let r = extend_agrees v (kept_name hs) s f ws g more w done formed e in
-    (same ∙ sym r.0, r.1, len ∙ sym r.2))
-
--- a release of a grant that is not live
-pub gone_simulates : (v : View) (hs : List (Option Grant)) (k : ℕ) → kept_name hs k ≡ None → Simulates v hs v hs (command.Free k) program_answer.Gone
-gone_simulates v hs k e = simulates (command.Free k) v v hs hs program_answer.Gone (λ formed s f ws g len.
-    let r = gone_agrees v (kept_name hs) s f ws g k e in
-    (sym r.0, r.1, len ∙ sym r.2))
-
--- a kept handle is live
-pub live_kept : (v : View) (hs : List (Option Grant)) (k x : ℕ) → RepresentsReached v hs → kept_name hs k ≡ Some x → IsLive x v
-live_kept v hs k x i e = used_live x v (live_agrees v (kept_name hs) i.state i.represents.formed (well_of i.state i.reached) i.represents.agrees k x e)
-
--- a release of a live grant, whose handle is removed
-freed_simulates : (v w : View) (hs : List (Option Grant)) (k x : ℕ) → kept_name hs (suc k) ≡ Some x → k < length hs → Frees x v w → Simulates v hs w (slice_set hs k None) (command.Free (suc k)) program_answer.Freed
-freed_simulates v w hs k x e l freed = simulates (command.Free (suc k)) v w hs (slice_set hs k None) program_answer.Freed (λ formed s f ws g len.
-    let r = free_agrees v (kept_name hs) s f ws g (suc k) x e w formed freed in
-    (sym r.0, agrees_kept _ (without_name (suc k) (kept_name hs)) _ _ (kept_set hs k l) r.1, length-set _ _ _ ∙ len ∙ sym r.2))
-
--- the same, by the number of the grant
-pub released_simulates : (v w : View) (hs left : List (Option Grant)) (number x : ℕ) → kept_name hs number ≡ Some x → (1 ≤ number) × (number ≤ length hs) → Frees x v w → left ≡ slice_set hs (number - 1) None → Simulates v hs w left (command.Free number) program_answer.Freed
-released_simulates v w hs left zero x e l but f = absurd (omega arith)
-released_simulates v w hs left (suc k) x e l but f = let same : suc k - 1 ≡ k = omega arith in subst (λ z. Simulates v hs w z (command.Free (suc k)) program_answer.Freed) (sym (f ∙ ap (λ i. slice_set hs i None) same)) (freed_simulates v w hs k x e (omega arith) but)
-
--- a question leaves all as it is
-asks : (c : Command) (v : View) (hs : List (Option Grant)) (a : program.Answer) → ((s : State) → (step c s).state ≡ record s { calls = s.calls + 1 })
-    → ((s : State) → IsWellFormed v → Well s → Agrees v (kept_name hs) s → answer_view a ≡ (step c s).answer) → Simulates v hs v hs c a
-asks c v hs a same f = simulates c v v hs hs a (λ formed s w ws g len.
-    (f s w ws g, subst (Agrees v (kept_name hs)) (sym (same s)) (agrees_quiet v (kept_name hs) s g machine.Gone), len ∙ ap (λ (t : State). t.grants) (sym (same s))))
-
--- the size of a grant that is not live
-pub size_gone_simulates : (v : View) (hs : List (Option Grant)) (k : ℕ) → kept_name hs k ≡ None → Simulates v hs v hs (command.Size k) program_answer.Gone
-size_gone_simulates v hs k e = asks (command.Size k) v hs program_answer.Gone (λ s. refl) (λ s w ws g. sym (size_gone_agrees v (kept_name hs) s w ws g k e))
-
--- the size of a live grant
-pub size_simulates : (v : View) (hs : List (Option Grant)) (k x n : ℕ) → kept_name hs k ≡ Some x → n ≡ size_of x v → Simulates v hs v hs (command.Size k) (program_answer.Size n)
-size_simulates v hs k x n e f = asks (command.Size k) v hs (program_answer.Size n) (λ s. refl) (λ s w ws g. ap machine.Size (f ∙ size_is x v) ∙ sym (size_agrees v (kept_name hs) s w ws g k x e))
-
--- the report
-pub report_simulates : (v : View) (hs : List (Option Grant)) (total largest : ℕ) → total ≡ total_free v → largest ≡ largest_free v → Simulates v hs v hs command.Report (program_answer.Report (record { total_free_space = total; largest_free_region = largest }))
-report_simulates v hs total largest e f = asks command.Report v hs _ (λ s. refl) (λ s w ws g. ap₂ machine.Report e f ∙ sym (report_agrees v (kept_name hs) s w ws g))
-
--- the full report, once all classes are seen
-pub full_simulates : (v : View) (hs : List (Option Grant)) (rows : List FullRow) (c : ℕ) (a : program.Answer) → answer_view a ≡ machine.Full (map row_view rows) → map row_view rows ≡ rows_below c (free_sizes v.blocks) → c ≡ 256 → Simulates v hs v hs command.Full a
-full_simulates v hs rows c a e f all = asks command.Full v hs a (λ s. refl) (λ s w ws g. e ∙ ap machine.Full (f ∙ ap (λ n. rows_below n (free_sizes v.blocks)) all) ∙ sym (full_agrees v (kept_name hs) s w ws g))
-
 -- a clause of what a call returned, from another
 pub if_ok : {A E : Type 0} {P Q : A → Type 0} (r : Result A E) → ((a : A) → P a → Q a) → IfOk r P → IfOk r Q
 if_ok (Ok a) f p = f a p
 if_ok (Err e) f p = tt
 
--- a reset removes all handles
+-- only numbers from 1 to that of the last handle have one
+kept_within : (hs : List (Option Grant)) (k x : ℕ) → kept_name hs k ≡ Some x → (1 ≤ k) × (k - 1 < length hs)
+kept_within hs zero x e = absurd (cc)
+kept_within hs (suc k) x e = elim (cases_lt k (length hs)) [
+  | inl l ↦ (omega arith, omega arith)
+  | inr m ↦ absurd (let n = sym e ∙ ap (option_map handle_name) (get_or_past hs k None m) in cc)
+]
+
+-- where no handle is left, no name is kept
 none_kept : (hs : List (Option Grant)) → ((i : ℕ) → i < length hs → slice_index_or hs i None ≡ None) → (k : ℕ) → kept_name hs k ≡ None
 none_kept hs none zero = refl
 none_kept hs none (suc k) = elim (cases_lt k (length hs)) [ inl l ↦ ap (option_map handle_name) (none k l) | inr m ↦ ap (option_map handle_name) (get_or_past hs k None m) ]
 
--- a reset, where no handle is left
-pub reset_simulates : (v w : View) (hs left : List (Option Grant)) → Resets v w → length left ≡ length hs → ((i : ℕ) → i < length left → slice_index_or left i None ≡ None) → Simulates v hs w left command.Reset program_answer.Reset
-reset_simulates v w hs left r len none = simulates command.Reset v w hs left program_answer.Reset (λ formed s f ws g count. (
-  refl,
-  alone_agrees w r.name v.size (machine.stamp_of_call s) (kept_name left) _ (ap (λ (u : View). u.blocks) r.view) (ap (λ (u : View). u.order) r.view) (g.limit ∙ sym (ap (λ (u : View). u.max_allocs) r.view))
-      (ap (λ n. machine.block n (machine.Free (machine.stamp_of_call s)) ∷ []) (sym (same_units v (kept_name hs) s f ws g) ∙ f.whole)) (none_kept left none),
-  len ∙ count,
-))
+-- what is so of a name that is kept, or where none is
+pub if_none : (o : Option ℕ) (P : ℕ → Type 0) (Q : Type 0) → o ≡ None → Q → IfNamed o P Q
+if_none None P Q e q = q
+if_none (Some x) P Q e q = absurd (cc)
+
+pub if_some : (o : Option ℕ) (x : ℕ) (P : ℕ → Type 0) (Q : Type 0) → o ≡ Some x → P x → IfNamed o P Q
+if_some None x P Q e q = absurd (cc)
+if_some (Some y) x P Q e q = subst P (let f : x ≡ y = cc in f) q
+
+-- a reset that leaves no handle
+pub reset_takes : (v w : View) (hs left : List (Option Grant)) → Resets v w → length left ≡ length hs → ((i : ℕ) → i < length left → slice_index_or left i None ≡ None) → Takes command.Reset v hs w left machine.Reset
+reset_takes v w hs left r len none = (r, len, none_kept left none, refl)
+
+-- the handles that represent a state are live
+pub all_live : (v : View) (hs : List (Option Grant)) (s : State) → Well s → Represents v hs s → AreLive v hs
+all_live v hs s ws p k x e = used_live x v (live_agrees v (kept_name hs) s p.formed ws p.agrees k x e)
+
+-- the plain machine has this answer, and a view and handles represent the state that it leaves
+abbrev pub Follows : Command → State → View → List (Option Grant) → Answer → Type 0
+Follows c s w left a = (a ≡ (step c s).answer) × Represents w left (step c s).state
+
+module _ (v w : View) (hs left : List (Option Grant)) (a : Answer) (s : State) (formed : IsWellFormed w) (ws : Well s) (p : Represents v hs s) where
+  -- a request, whose grant is kept
+  requested : (c : Command) (r : Option Grant) → Matches w (kept_name hs) s.grants r (step c s) → IsKept r hs left a → Follows c s w left a
+  requested c None m k = (
+    k.1 ∙ sym m.answer,
+    record {
+      formed = formed;
+      agrees = agrees_kept w (kept_name hs) (kept_name left) (step c s).state (λ j. ap (λ l. kept_name l j) k.0) m.agrees;
+      grants = ap length k.0 ∙ p.grants ∙ sym m.grants_after;
+    },
+  )
+  requested c (Some h) m k =
+      let count : length left ≡ s.grants + 1 = ap length k.0 ∙ length-append hs (Some h ∷ []) ∙ ap (λ n. n + 1) p.grants in (
+        k.1 ∙ ap (λ n. machine.Grant n h.offset) count ∙ sym m.answer,
+        record {
+          formed = formed;
+          agrees = agrees_kept w (with_name (s.grants + 1) h.name (kept_name hs)) (kept_name left) (step c s).state (λ j. ap (λ l. kept_name l j) k.0 ∙ kept_push hs h j ∙ ap (λ n. with_name (n + 1) h.name (kept_name hs) j) p.grants) m.agrees;
+          grants = count ∙ sym m.grants_after;
+        },
+      )
+
+  -- a question leaves all as it is
+  asked : (c : Command) → (step c s).state ≡ record s { calls = s.calls + 1 } → Stays v hs w left → a ≡ (step c s).answer → Follows c s w left a
+  asked c same e found = (
+    found,
+    subst₂ (λ u l. Represents u l (step c s).state) (sym e.0) (sym e.1) (record {
+      formed = p.formed;
+      agrees = subst (Agrees v (kept_name hs)) (sym same) (agrees_quiet v (kept_name hs) s p.agrees machine.Gone);
+      grants = p.grants ∙ ap (λ (t : State). t.grants) (sym same);
+    }),
+  )
+
+  -- a release of a live grant, whose handle is removed
+  freed : (k x : ℕ) → kept_name hs (suc k) ≡ Some x → k < length hs → Frees x v w → left ≡ slice_set hs k None → a ≡ machine.Freed → Follows (command.Free (suc k)) s w left a
+  freed k x e l f but is =
+      let r = free_agrees v (kept_name hs) s p.formed ws p.agrees (suc k) x e w formed f in (
+        is ∙ sym r.0,
+        record {
+          formed = formed;
+          agrees = agrees_kept w (without_name (suc k) (kept_name hs)) (kept_name left) _ (λ j. ap (λ z. kept_name z j) but ∙ kept_set hs k l j) r.1;
+          grants = ap length but ∙ length-set hs k None ∙ p.grants ∙ sym r.2;
+        },
+      )
+
+  -- the same, by the number of the grant
+  released : (k x : ℕ) → kept_name hs k ≡ Some x → Frees x v w → left ≡ slice_set hs (k - 1) None → a ≡ machine.Freed → Follows (command.Free k) s w left a
+  released zero x e f but is = absurd (cc)
+  released (suc k) x e f but is =
+      let same : suc k - 1 ≡ k = omega arith in
+      freed k x e (let l = (kept_within hs (suc k) x e).1 in omega arith) f (but ∙ ap (λ i. slice_set hs i None) same) is
+
+  -- a release by any number
+  release_step : (k : ℕ) (o : Option ℕ) → kept_name hs k ≡ o → IfNamed o (λ x. Frees x v w × (left ≡ slice_set hs (k - 1) None) × (a ≡ machine.Freed)) (Stays v hs w left × (a ≡ machine.Gone)) → Follows (command.Free k) s w left a
+  release_step k None e t =
+      let r = gone_agrees v (kept_name hs) s p.formed ws p.agrees k e in
+      (t.1 ∙ sym r.0, subst₂ (λ u l. Represents u l (step (command.Free k) s).state) (sym t.0.0) (sym t.0.1) (record { formed = p.formed; agrees = r.1; grants = p.grants ∙ sym r.2 }))
+  release_step k (Some x) e t = released k x e t.0 t.1 t.2
+
+  -- a question for a size
+  size_found : (k : ℕ) (o : Option ℕ) → kept_name hs k ≡ o → IfNamed o (λ x. a ≡ machine.Size (size_of x v)) (a ≡ machine.Gone) → a ≡ (step (command.Size k) s).answer
+  size_found k None e t = t ∙ sym (size_gone_agrees v (kept_name hs) s p.formed ws p.agrees k e)
+  size_found k (Some x) e t = t ∙ ap machine.Size (size_is x v) ∙ sym (size_agrees v (kept_name hs) s p.formed ws p.agrees k x e)
+
+  -- more units, or a refusal
+  extended : (more : ℕ) (done : Bool) → Extends more v w done → left ≡ hs → a ≡ (if done then machine.Extended else machine.Refused) → Follows (command.Extend more) s w left a
+  extended more done e same is =
+      let r = extend_agrees v (kept_name hs) s p.formed ws p.agrees more w done formed e in
+      (is ∙ sym r.0, subst (λ l. Represents w l (step (command.Extend more) s).state) (sym same) (record { formed = formed; agrees = r.1; grants = p.grants ∙ sym r.2 }))
+
+  -- the plain machine follows each command
+  pub follows : (c : Command) → IsTrue (has_valid_alignment c) → Takes c v hs w left a → Follows c s w left a
+  follows (command.Alloc n) power t = requested (command.Alloc n) t.0 (serve_agrees v (kept_name hs) s p.formed ws p.agrees 1 n n (λ offset. 0) w formed t.0 t.1) t.2
+  follows (command.Free k) power t = release_step k (kept_name hs k) refl t
+  follows (command.Size k) power t = asked (command.Size k) refl t.0 (size_found k (kept_name hs k) refl t.1)
+  follows command.Report power t = asked command.Report refl t.0 (t.1 ∙ sym (report_agrees v (kept_name hs) s p.formed ws p.agrees))
+  follows command.Full power t = asked command.Full refl t.0 (t.1 ∙ sym (full_agrees v (kept_name hs) s p.formed ws p.agrees))
+  follows command.Reset power t = (
+    t.3,
+    record {
+      formed = formed;
+      agrees = alone_agrees w t.0.name v.size (machine.stamp_of_call s) (kept_name left) (step command.Reset s).state (ap (λ (u : View). u.blocks) t.0.view) (ap (λ (u : View). u.order) t.0.view) (p.agrees.limit ∙ sym (ap (λ (u : View). u.max_allocs) t.0.view))
+          (ap (λ n. machine.block n (machine.Free (machine.stamp_of_call s)) ∷ []) (sym (same_units v (kept_name hs) s p.formed ws p.agrees) ∙ p.formed.whole)) t.2;
+      grants = t.1 ∙ p.grants;
+    },
+  )
+  follows (command.Align n align) power t = requested (command.Align n align) t.0 (aligned_agrees v (kept_name hs) s p.formed ws p.agrees n align (not_zero align (inr (inl power))) w formed t.0 t.1) t.2
+  follows (command.Extend more) power t = extended more t.0 t.1 t.2 t.3
 
 -- a fresh space represents the first state
 pub fresh_represents : (w : View) → IsWellFormed w → (size limit : ℕ) (hs : List (Option Grant)) → IsFresh size limit w → hs ≡ [] → Represents w hs (start size limit)
@@ -156,6 +182,35 @@ fresh_represents w formed size limit hs f e = subst (λ l. Represents w l (start
   agrees = alone_agrees w f.name size 0 (kept_name []) (start size limit) (ap (λ (v : View). v.blocks) f.view) (ap (λ (v : View). v.order) f.view) (sym (ap (λ (v : View). v.max_allocs) f.view)) refl (none_kept [] (λ i l. refl));
   grants = refl;
 })
+
+-- Runs, with one more step at their end.
+
+-- the steps of a run on a fresh space that lead to this view and these handles
+abbrev pub IsBegun : {C A : Type 0} → (C → View → List (Option Grant) → View → List (Option Grant) → A → Type 0) → (size limit : ℕ) → View → List (Option Grant) → List C → List A → Type 0
+IsBegun {C} {A} take size limit v handles before found = (u : View) × IsFresh size limit u × ((cs : List C) (others : List A) → IsRun take v handles cs others → IsRun take u [] (before ++ cs) (found ++ others))
+
+module _ {C A : Type 0} (take : C → View → List (Option Grant) → View → List (Option Grant) → A → Type 0) (size limit : ℕ) where
+  pub run_begins : (v : View) (handles : List (Option Grant)) (found : List A) → IsFresh size limit v → handles ≡ [] → found ≡ [] → IsBegun take size limit v handles [] found
+  run_begins v handles found f e none = (v, f, λ cs others r. subst₂ (λ hs l. IsRun take v hs cs (l ++ others)) e (sym none) r)
+
+  pub run_goes_on : (v w : View) (handles left : List (Option Grant)) (before before' : List C) (found found' : List A) (c : C) (a : A)
+      → IsBegun take size limit v handles before found → take c v handles w left a → IsWellFormed w → before' ≡ before ++ c ∷ [] → found' ≡ found ++ a ∷ [] → IsBegun take size limit w left before' found'
+  run_goes_on v w handles left before before' found found' c a r t formed e f = (
+    r.0,
+    r.1,
+    λ cs others rest.
+        subst₂ (IsRun take r.0 []) (sym (ap (λ l. l ++ cs) e ∙ append_assoc before (c ∷ []) cs)) (sym (ap (λ l. l ++ others) f ∙ append_assoc found (a ∷ []) others))
+        (r.2 (c ∷ cs) (a ∷ others) (w, left, t, formed, rest)),
+  )
+
+  pub run_ends : (v : View) (handles : List (Option Grant)) (before cs : List C) (found : List A) → IsBegun take size limit v handles before found → before ≡ cs → AreOfARun take size limit cs found
+  run_ends v handles before cs found r e = (r.0, r.1, subst₂ (IsRun take r.0 []) (append-nil before ∙ e) (append-nil found) (r.2 [] [] tt))
+
+-- The rows of a full report.
+
+-- the full report, once all classes are seen
+pub rows_all : (c : ℕ) (v : View) (rows : List FullRow) → map row_view rows ≡ rows_below c (free_sizes v.blocks) → c ≡ 256 → machine.Full (map row_view rows) ≡ machine.Full (rows_below 256 (free_sizes v.blocks))
+rows_all c v rows e all = ap machine.Full (e ∙ ap (λ n. rows_below n (free_sizes v.blocks)) all)
 
 -- the row of a class with free blocks
 row_of : (c n : ℕ) → 0 < n → row c n ≡ record { class = c; size = value c % 2 ^ 32; count = n } ∷ []

@@ -162,7 +162,7 @@ end_is (x ∷ []) [] e = (ap (λ y. if y then [] else x ∷ []) (e.live refl), a
 end_is (x ∷ []) (b ∷ fs) e = let r = end_is [] (b ∷ fs) (record { few = e.few; free = e.free; live = e.live }) in (ap (λ z. x ∷ z) r.0, r.1)
 end_is (x ∷ y ∷ xs) fs e = let r = end_is (y ∷ xs) fs (record { few = e.few; free = e.free; live = e.live }) in (ap (λ z. x ∷ z) r.0, r.1)
 
-start_is : (gs ys : List Block) → IsStart gs ys → (without_start (gs ++ ys) ≡ ys) × (free_start (gs ++ ys) ≡ total gs)
+pub start_is : (gs ys : List Block) → IsStart gs ys → (without_start (gs ++ ys) ≡ ys) × (free_start (gs ++ ys) ≡ total gs)
 start_is [] [] e = (refl, refl)
 start_is [] (y ∷ ys) e = (ap (λ x. if x then ys else y ∷ ys) (e.live refl), ap (λ x. if x then y.size else 0) (e.live refl))
 start_is (b ∷ []) ys e = (ap (λ x. if x then ys else b ∷ ys) e.free.0, ap (λ x. if x then b.size else 0) e.free.0 ∙ omega arith)
@@ -260,11 +260,11 @@ module _ (s s' : State) (w : Well s) (news : Tag → ℕ) (counts : (t : Tag) �
   }
 
 -- a call that leaves the blocks as they are
-well_quiet : (s : State) → Well s → (a : Answer) → Well (returns_only s a).state
+pub well_quiet : (s : State) → Well s → (a : Answer) → Well (returns_only s a).state
 well_quiet s w a = well_next s (returns_only s a).state w (λ t. 0) (λ t. omega arith) (λ t. inl refl) (omega arith) (omega arith) w.some w.room w.apart
 
 -- blocks that a call leaves, where each tag occurs no more often than before, except for the stamp of the call
-well_leaves : (s : State) → Well s → (bs : List Block) (a : Answer) → 1 ≤ length bs → length bs + 1 ≤ s.limit → Apart bs
+pub well_leaves : (s : State) → Well s → (bs : List Block) (a : Answer) → 1 ≤ length bs → length bs + 1 ≤ s.limit → Apart bs
     → ((t : Tag) → count t bs ≤ count t s.blocks + hit t (Free (stamp_of_call s))) → Well (leaves s bs a).state
 well_leaves s w bs a some room apart counts = well_next s (leaves s bs a).state w (λ t. hit t (Free (stamp_of_call s))) counts fresh (omega arith) (omega arith) some room apart
   where
@@ -359,7 +359,7 @@ pub free_part : (n s : ℕ) → AllFree (free_block n s) × Apart (free_block n 
 free_part zero s = (tt, tt, refl, omega arith)
 free_part (suc n) s = ((refl, tt), (refl, tt), omega arith, omega arith)
 
-apart_free_block : (n s : ℕ) (ys : List Block) → Apart ys → starts_free ys ≡ false → Apart (free_block n s ++ ys)
+pub apart_free_block : (n s : ℕ) (ys : List Block) → Apart ys → starts_free ys ≡ false → Apart (free_block n s ++ ys)
 apart_free_block zero s ys a e = a
 apart_free_block (suc n) s ys a e = (e, a)
 

@@ -1,8 +1,7 @@
 -- When the named view of an allocator, with the handles kept for its grants, shows the blocks of a plain state.
 use Rattle.std.specs.Prelude.{◌≡◌, ℕ, zero, suc, ◌<◌, ◌≤◌, not, List, [], ◌∷◌, map, Option, Some, None, slice_index_or, option_map, nat_eq, if◌then◌else◌}
 use Rattle.offset_allocator.specs.Named.{Block, View, Grant, tally, times, names_at}
-use Rattle.offset_script.specs.declared.scripts.Command.{Command}
-use Rattle.offset_script.specs.Machine.{Tag, is_free, has_number, stamp, State, start, after}
+use Rattle.offset_script.specs.Machine.{Tag, is_free, has_number, stamp, State}
 use Rattle.offset_script.specs.Machine as machine
 
 -- a block with both its name and its tag
@@ -42,14 +41,6 @@ pub record Agrees (v : View) (kept_name : ℕ → Option ℕ) (s : State) : Type
   pub limit : s.limit ≡ v.max_allocs
   pub newest : (c : ℕ) → IsFalling (λ x. stamp_of x labels) (names_at v.order c)
   pub handles : (k : ℕ) → kept_name k ≡ name_of k labels
-
--- a state that the plain machine reaches
-pub record IsReached (s : State) : Type 0 where
-  pub size : ℕ
-  pub limit : ℕ
-  pub commands : List Command
-  pub admitted : 2 ≤ limit
-  pub reached : s ≡ after commands (start size limit)
 
 -- the name of the handle kept for grant k, where handle k - 1 is that of grant k
 abbrev pub kept_name : List (Option Grant) → ℕ → Option ℕ

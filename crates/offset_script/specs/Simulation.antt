@@ -1,11 +1,56 @@
--- When a player, an allocator with the handles of its grants, simulates the plain machine.
-use Rattle.std.specs.Prelude.{◌≡◌, List, [], ◌∷◌, ◌++◌, length, Option, Some, None}
-use Rattle.offset_allocator.specs.Named.{View, Grant, IsWellFormed}
+-- The named step of each command, runs of such steps, and when an allocator represents a state of the plain machine.
+use Rattle.std.specs.Prelude.{◌≡◌, ◌-◌, ℕ, Bool, List, [], ◌∷◌, ◌++◌, length, Option, Some, None, slice_set, if◌then◌else◌}
+use Rattle.offset_allocator.specs.Named.{View, Grant, IsWellFormed, free_sizes, total_free, largest_free}
+use Rattle.offset_allocator.specs.Ranges.{IsLive, size_of}
+use Rattle.offset_allocator.specs.Relations.{IsFresh, Allocates, Aligns, Frees, Resets, Extends}
+use Rattle.offset_allocator.specs.Reports.{rows_below}
 use Rattle.offset_script.specs.declared.scripts.Command.{Command}
-use Rattle.offset_script.specs.declared.answers.Answer as program
-use Rattle.offset_script.specs.declared.answers.Answer.TheVariants as program_answer
-use Rattle.offset_script.specs.Agreement.{Agrees, IsReached, kept_name}
-use Rattle.offset_script.specs.Machine.{answer_view, State, step}
+use Rattle.offset_script.specs.declared.scripts.Command.TheVariants as command
+use Rattle.offset_script.specs.Agreement.{Agrees, kept_name}
+use Rattle.offset_script.specs.Machine.{State, Answer}
+use Rattle.offset_script.specs.Machine as machine
+
+-- ---- named steps
+
+-- the answer to a request with this result; the handle of a grant is kept, under the number in the answer
+abbrev pub IsKept : Option Grant → List (Option Grant) → List (Option Grant) → Answer → Type 0
+IsKept None handles left a = (left ≡ handles) × (a ≡ machine.Refused)
+IsKept (Some h) handles left a = (left ≡ handles ++ Some h ∷ []) × (a ≡ machine.Grant (length left) h.offset)
+
+-- P holds of a name, or Q where there is none
+abbrev pub IfNamed : Option ℕ → (ℕ → Type 0) → Type 0 → Type 0
+IfNamed None P Q = Q
+IfNamed (Some x) P Q = P x
+
+-- the same view and the same handles
+abbrev pub Stays : View → List (Option Grant) → View → List (Option Grant) → Type 0
+Stays v handles w left = (w ≡ v) × (left ≡ handles)
+
+-- the step of a command from the view v to the view w, with this answer: the handles of the grants so far are those in
+-- `handles` before it, and in `left` after it, that of grant k at k - 1 while the grant is live
+abbrev pub Takes : Command → View → List (Option Grant) → View → List (Option Grant) → Answer → Type 0
+Takes (command.Alloc n) v handles w left a = (r : Option Grant) × Allocates n v w r × IsKept r handles left a
+Takes (command.Free k) v handles w left a = IfNamed (kept_name handles k) (λ x. Frees x v w × (left ≡ slice_set handles (k - 1) None) × (a ≡ machine.Freed)) (Stays v handles w left × (a ≡ machine.Gone))
+Takes (command.Size k) v handles w left a = Stays v handles w left × IfNamed (kept_name handles k) (λ x. a ≡ machine.Size (size_of x v)) (a ≡ machine.Gone)
+Takes command.Report v handles w left a = Stays v handles w left × (a ≡ machine.Report (total_free v) (largest_free v))
+Takes command.Full v handles w left a = Stays v handles w left × (a ≡ machine.Full (rows_below 256 (free_sizes v.blocks)))
+Takes command.Reset v handles w left a = Resets v w × (length left ≡ length handles) × ((k : ℕ) → kept_name left k ≡ None) × (a ≡ machine.Reset)
+Takes (command.Align n align) v handles w left a = (r : Option Grant) × Aligns n align v w r × IsKept r handles left a
+Takes (command.Extend more) v handles w left a = (done : Bool) × Extends more v w done × (left ≡ handles) × (a ≡ (if done then machine.Extended else machine.Refused))
+
+-- ---- runs
+
+-- calls with these answers, one step after the other, from a view and the handles of its grants on
+abbrev pub IsRun : {C A : Type 0} → (C → View → List (Option Grant) → View → List (Option Grant) → A → Type 0) → View → List (Option Grant) → List C → List A → Type 0
+IsRun step v handles [] [] = Unit {0}
+IsRun step v handles (c ∷ cs) (a ∷ others) = (w : View) × (left : List (Option Grant)) × step c v handles w left a × IsWellFormed w × IsRun step w left cs others
+IsRun step v handles cs found = ⊥
+
+-- the answers are those of a run on a fresh space, where a grant's number means the name that its grant gave
+abbrev pub AreOfARun : {C A : Type 0} → (C → View → List (Option Grant) → View → List (Option Grant) → A → Type 0) → ℕ → ℕ → List C → List A → Type 0
+AreOfARun step size max_allocs cs found = (v : View) × IsFresh size max_allocs v × IsRun step v [] cs found
+
+-- ---- states
 
 -- an allocator with the view v, and the handles of its grants so far, represent a state of the plain machine
 pub record Represents (v : View) (handles : List (Option Grant)) (s : State) : Type 0 where
@@ -13,19 +58,6 @@ pub record Represents (v : View) (handles : List (Option Grant)) (s : State) : T
   pub agrees : Agrees v (kept_name handles) s
   pub grants : length handles ≡ s.grants
 
--- a call that leaves a well-formed view returns the answer of the plain machine, and leaves what represents the state
--- that the machine leaves
-pub record Simulates (v : View) (handles : List (Option Grant)) (w : View) (left : List (Option Grant)) (c : Command) (a : program.Answer) : Type 0 where
-  pub answer : IsWellFormed w → (s : State) → IsReached s → Represents v handles s → answer_view a ≡ (step c s).answer
-  pub state : IsWellFormed w → (s : State) → IsReached s → Represents v handles s → Represents w left (step c s).state
-
--- a view and handles that represent some state that the plain machine reaches
-pub record RepresentsReached (v : View) (handles : List (Option Grant)) : Type 0 where
-  pub state : State
-  pub reached : IsReached state
-  pub represents : Represents v handles state
-
--- the answer is that to a request with this result, and the handle of a grant is kept under the number in the answer
-abbrev pub IsKept : Option Grant → List (Option Grant) → List (Option Grant) → program.Answer → Type 0
-IsKept None handles left a = (left ≡ handles) × (a ≡ program_answer.Refused)
-IsKept (Some h) handles left a = (left ≡ handles ++ Some h ∷ []) × (a ≡ program_answer.Grant (length left) h.offset)
+-- each handle that is kept is live
+abbrev pub AreLive : View → List (Option Grant) → Type 0
+AreLive v handles = (k x : ℕ) → kept_name handles k ≡ Some x → IsLive x v

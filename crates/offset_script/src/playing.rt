@@ -1,11 +1,12 @@
 //! Plays the commands of a script on an allocator.
 
-ghost use Rattle.std.specs.Prelude.{◌≡◌, ◌+◌, ◌<◌, ◌≤◌, All, IfOk, IfSome, IsTrue, None, ℕ, length, map, option_map, slice_index_or, vec_len};
+ghost use Rattle.std.specs.Prelude.{◌≡◌, ◌+◌, ◌<◌, ◌≤◌, [], All, IfOk, IfSome, IsTrue, None, ℕ, length, map, option_map, slice_index_or, vec_len};
 ghost use Rattle.offset_script.specs.Agreement.{kept_name};
 ghost use Rattle.offset_script.specs.Machine.{answer_view, answers, start, IsPlayed};
 ghost use Rattle.offset_script.specs.Histories.{RestartsFresh, RowsCommute, NestsLeaveNoTrace};
 ghost use Rattle.offset_script.specs.Grammar.{has_valid_alignment};
-ghost use Rattle.offset_script.specs.Simulation.{IsKept, RepresentsReached, Simulates, Represents};
+ghost use Rattle.offset_script.specs.Simulation.{IsKept, Takes, AreLive, AreOfARun};
+ghost use Rattle.offset_allocator.specs.Relations.{IsFresh};
 
 use crate::answers::{Answer, FullRow};
 use crate::scripts::{Command, IndexWidth, Script};
@@ -13,12 +14,13 @@ use offset_allocator::laws::is_well_formed;
 use offset_allocator::{Allocation, Allocator, NodeIndex};
 use std::alloc::{AllocError, Global};
 
-/// An allocator, with the handles of its live grants.
+/// An allocator, with the handles of its live grants: it takes commands one by one.
 #[derive(Drop)]
-struct Player<NI: NodeIndex> {
-    space: Allocator<NI>,
-    // The handle of grant k is at k - 1 while the grant is live.
-    handles: Vec<Option<Allocation<NI>>>,
+pub struct Player<NI: NodeIndex> {
+    /// The allocator.
+    pub space: Allocator<NI>,
+    /// The handle of grant k is at k - 1 while the grant is live.
+    pub handles: Vec<Option<Allocation<NI>>>,
     // Resets have removed the first handles, up to this number.
     swept: usize,
     ghost within: { swept ≤ vec_len handles },
@@ -26,15 +28,13 @@ struct Player<NI: NodeIndex> {
 }
 
 impl<NI: NodeIndex> Player<NI> {
-    // A fresh space, and no grants.
-    fn start(alloc: Global, size: u32, max_allocs: u32) -> Result<Self, AllocError>
+    /// A fresh space, and no grants. The limit has to be 2 to `NI::MAX - 2`. It fails only where an allocation fails.
+    pub fn start(alloc: Global, size: u32, max_allocs: u32) -> Result<Self, AllocError>
         requires low { 2 ≤ max_allocs }
         requires high { max_allocs + 1 < NI.MAX }
-        ensures { IfOk result (λ p. Represents p.space p.handles.items (start size max_allocs)) }
+        ensures { IfOk result (λ p. IsFresh size max_allocs p.space × (p.handles.items ≡ [])) }
     {
         let space = Allocator::with_max_allocs(alloc, size, max_allocs)?;
-        // A step of the proof, which does nothing, here and below.
-        is_well_formed(&space);
         Ok(Player {
             space,
             handles: Vec::new(alloc),
@@ -42,8 +42,8 @@ impl<NI: NodeIndex> Player<NI> {
         })
     }
 
-    // The handle of the grant of this number, if it is live.
-    fn handle(&self, number: u32) -> Option<Allocation<NI>>
+    /// The handle of the grant of this number, if it is live.
+    pub fn handle(&self, number: u32) -> Option<Allocation<NI>>
         ensures name { option_map (λ h. h.name) result ≡ kept_name self.now.handles.items number }
         ensures within { IfSome result (λ h. (1 ≤ number)
             × (number ≤ length self.now.handles.items)) }
@@ -60,7 +60,7 @@ impl<NI: NodeIndex> Player<NI> {
     // The answer to a request with this result. The handle of a grant is kept under the next number.
     fn keep(&mut self, granted: Option<Allocation<NI>>) -> Result<Answer, AllocError>
         ensures handle { IfOk result (λ a. IsKept granted self.old.handles.items
-            self.new.handles.items a) }
+            self.new.handles.items (answer_view a)) }
         ensures space { self.new.space ≡ self.old.space }
     {
         match granted {
@@ -77,8 +77,8 @@ impl<NI: NodeIndex> Player<NI> {
 
     // The answer to `alloc`.
     fn allocate(&mut self, size: u32) -> Result<Answer, AllocError>
-        ensures { IfOk result (λ a. Simulates self.old.space self.old.handles.items
-            self.new.space self.new.handles.items (Command.Alloc size) a) }
+        ensures { IfOk result (λ a. Takes (Command.Alloc size) self.old.space self.old.handles.items
+            self.new.space self.new.handles.items (answer_view a)) }
     {
         let granted = self.space.allocate(size);
         self.keep(granted)
@@ -86,9 +86,9 @@ impl<NI: NodeIndex> Player<NI> {
 
     // The answer to `free`. The grant's handle is removed.
     fn release(&mut self, number: u32) -> Answer
-        requires { RepresentsReached self.old.space self.old.handles.items }
-        ensures { Simulates self.old.space self.old.handles.items
-            self.new.space self.new.handles.items (Command.Free number) result }
+        requires { AreLive self.old.space self.old.handles.items }
+        ensures { Takes (Command.Free number) self.old.space self.old.handles.items
+            self.new.space self.new.handles.items (answer_view result) }
     {
         match self.handle(number) {
             None => Answer::Gone,
@@ -102,8 +102,8 @@ impl<NI: NodeIndex> Player<NI> {
 
     // The answer to `size`.
     fn size(&self, number: u32) -> Answer
-        ensures { Simulates self.now.space self.now.handles.items
-            self.now.space self.now.handles.items (Command.Size number) result }
+        ensures { Takes (Command.Size number) self.now.space self.now.handles.items
+            self.now.space self.now.handles.items (answer_view result) }
     {
         match self.handle(number) {
             None => Answer::Gone,
@@ -113,16 +113,16 @@ impl<NI: NodeIndex> Player<NI> {
 
     // The answer to `report`.
     fn report(&self) -> Answer
-        ensures { Simulates self.now.space self.now.handles.items
-            self.now.space self.now.handles.items Command.Report result }
+        ensures { Takes Command.Report self.now.space self.now.handles.items
+            self.now.space self.now.handles.items (answer_view result) }
     {
         Answer::Report(self.space.storage_report())
     }
 
     // The answer to `full`: a row for each class that has a free block.
     fn full(&self, alloc: Global) -> Result<Answer, AllocError>
-        ensures { IfOk result (λ a. Simulates self.now.space self.now.handles.items
-            self.now.space self.now.handles.items Command.Full a) }
+        ensures { IfOk result (λ a. Takes Command.Full self.now.space self.now.handles.items
+            self.now.space self.now.handles.items (answer_view a)) }
     {
         let report = self.space.storage_report_full();
         let mut rows = Vec::new(alloc);
@@ -141,8 +141,8 @@ impl<NI: NodeIndex> Player<NI> {
 
     // The answer to `reset`. All handles are removed, and numbers go on.
     fn reset(&mut self) -> Answer
-        ensures { Simulates self.old.space self.old.handles.items
-            self.new.space self.new.handles.items Command.Reset result }
+        ensures { Takes Command.Reset self.old.space self.old.handles.items
+            self.new.space self.new.handles.items (answer_view result) }
     {
         self.space.reset();
         for i in self.swept..self.handles.len() {
@@ -155,8 +155,8 @@ impl<NI: NodeIndex> Player<NI> {
     // The answer to `align`.
     fn allocate_aligned(&mut self, size: u32, align: u32) -> Result<Answer, AllocError>
         requires { IsTrue (has_valid_alignment (Command.Align size align)) }
-        ensures { IfOk result (λ a. Simulates self.old.space self.old.handles.items
-            self.new.space self.new.handles.items (Command.Align size align) a) }
+        ensures { IfOk result (λ a. Takes (Command.Align size align) self.old.space self.old.handles.items
+            self.new.space self.new.handles.items (answer_view a)) }
     {
         let granted = self.space.allocate_aligned(size, align);
         self.keep(granted)
@@ -164,8 +164,8 @@ impl<NI: NodeIndex> Player<NI> {
 
     // The answer to `extend`.
     fn extend(&mut self, more: u32) -> Answer
-        ensures { Simulates self.old.space self.old.handles.items
-            self.new.space self.new.handles.items (Command.Extend more) result }
+        ensures { Takes (Command.Extend more) self.old.space self.old.handles.items
+            self.new.space self.new.handles.items (answer_view result) }
     {
         if self.space.extend(more) {
             Answer::Extended
@@ -174,12 +174,13 @@ impl<NI: NodeIndex> Player<NI> {
         }
     }
 
-    // The answer to one command.
-    fn call(&mut self, alloc: Global, command: Command) -> Result<Answer, AllocError>
-        requires reached { RepresentsReached self.old.space self.old.handles.items }
+    /// The answer to one command. The alignment of a request has to be a power of two. It fails only where an
+    /// allocation fails.
+    pub fn call(&mut self, alloc: Global, command: Command) -> Result<Answer, AllocError>
+        requires live { AreLive self.old.space self.old.handles.items }
         requires power { IsTrue (has_valid_alignment command) }
-        ensures { IfOk result (λ a. Simulates self.old.space self.old.handles.items
-            self.new.space self.new.handles.items command a) }
+        ensures { IfOk result (λ a. Takes command self.old.space self.old.handles.items
+            self.new.space self.new.handles.items (answer_view a)) }
     {
         match command {
             Command::Alloc(size) => self.allocate(size),
@@ -214,6 +215,8 @@ pub fn play<NI: NodeIndex>(
     // The answers are those of the plain machine to these commands, from one free block of `size` units.
     ensures answers { IfOk result (λ found. map answer_view found.items
         ≡ answers commands.now (start size max_allocs)) }
+    // They are those of a run of the allocator's named steps on a fresh space.
+    ensures run { IfOk result (λ found. AreOfARun Takes size max_allocs commands.now (map answer_view found.items)) }
     // Wherever no grant is live, the answers from there on are those of a fresh machine over as many units, with the
     // number of the grants so far added to its grant numbers.
     ensures fresh { IfOk result (λ found. RestartsFresh size max_allocs commands.now (map answer_view found.items)) }
@@ -225,6 +228,8 @@ pub fn play<NI: NodeIndex>(
     ensures nests { IfOk result (λ found. NestsLeaveNoTrace size max_allocs commands.now (map answer_view found.items)) }
 {
     let mut player: Player<NI> = Player::start(alloc, size, max_allocs)?;
+    // A step of the proof, which does nothing, here and below.
+    is_well_formed(&player.space);
     let mut found = Vec::new(alloc);
     for command in commands {
         let answer = player.call(alloc, *command)?;

@@ -1,6 +1,8 @@
-//! Tests of `offset_script` and of `offset_lives`.
+//! Tests of `offset_script`, of `offset_calls` and of `offset_lives`.
 #![tactic(auto)]
 
+#[cfg(test)]
+mod calls;
 #[cfg(test)]
 mod pictures;
 #[cfg(test)]

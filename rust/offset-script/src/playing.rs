@@ -9,21 +9,22 @@ use offset_allocator::laws::is_well_formed;
 use offset_allocator::{Allocation, Allocator, NodeIndex};
 use crate::memory::{AllocError, Global};
 
-/// An allocator, with the handles of its live grants.
-struct Player<NI: NodeIndex> {
-    space: Allocator<NI>,
-    // The handle of grant k is at k - 1 while the grant is live.
-    handles: Vec<Option<Allocation<NI>>>,
+/// An allocator, with the handles of its live grants: it takes commands one by one.
+pub struct Player<NI: NodeIndex> {
+    /// The allocator.
+    pub space: Allocator<NI>,
+    /// The handle of grant k is at k - 1 while the grant is live.
+    pub handles: Vec<Option<Allocation<NI>>>,
     // Resets have removed the first handles, up to this number.
     swept: usize,
 }
 
 impl<NI: NodeIndex> Player<NI> {
-    // A fresh space, and no grants.
-    fn start(alloc: Global, size: u32, max_allocs: u32) -> Result<Self, AllocError> {
+    /// A fresh space, and no grants. The limit has to be 2 to `NI::MAX - 2`. It fails only where an allocation fails.
+    pub fn start(alloc: Global, size: u32, max_allocs: u32) -> Result<Self, AllocError> {
+        assert!(2 <= max_allocs, "max_allocs must be at least 2");
+        assert!(max_allocs < NI::MAX - 1, "max_allocs must be at most NI::MAX - 2");
         let space = Allocator::with_max_allocs(alloc, size, max_allocs)?;
-        // A step of the proof, which does nothing, here and below.
-        is_well_formed(&space);
         Ok(Player {
             space,
             handles: Vec::new(alloc),
@@ -31,8 +32,8 @@ impl<NI: NodeIndex> Player<NI> {
         })
     }
 
-    // The handle of the grant of this number, if it is live.
-    fn handle(&self, number: u32) -> Option<Allocation<NI>> {
+    /// The handle of the grant of this number, if it is live.
+    pub fn handle(&self, number: u32) -> Option<Allocation<NI>> {
         if number == 0 {
             return None;
         }
@@ -129,8 +130,10 @@ impl<NI: NodeIndex> Player<NI> {
         }
     }
 
-    // The answer to one command.
-    fn call(&mut self, alloc: Global, command: Command) -> Result<Answer, AllocError> {
+    /// The answer to one command. The alignment of a request has to be a power of two. It fails only where an
+    /// allocation fails.
+    pub fn call(&mut self, alloc: Global, command: Command) -> Result<Answer, AllocError> {
+        assert!(!matches!(command, Command::Align(_, align) if !align.is_power_of_two()), "an alignment must be a power of two");
         match command {
             Command::Alloc(size) => self.allocate(size),
             Command::Free(number) => Ok(self.release(number)),
@@ -159,6 +162,8 @@ pub fn play<NI: NodeIndex>(
     assert!(max_allocs < NI::MAX - 1, "max_allocs must be at most NI::MAX - 2");
     assert!(commands.iter().all(|c| !matches!(c, Command::Align(_, align) if !align.is_power_of_two())), "each alignment must be a power of two");
     let mut player: Player<NI> = Player::start(alloc, size, max_allocs)?;
+    // A step of the proof, which does nothing, here and below.
+    is_well_formed(&player.space);
     let mut found = Vec::new(alloc);
     for command in commands {
         let answer = player.call(alloc, *command)?;

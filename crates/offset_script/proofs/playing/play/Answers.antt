@@ -1,10 +1,11 @@
 use Rattle.std.proofs.Common.{◌<◌, map, take, length, refl, sym, subst, arith, IsTrue, ◌≡◌, ℕ, zero, suc, ◌+◌, ◌≤◌, List, [], ◌∷◌, ◌++◌, drop, get_or, ap, ap₂, ◌∙◌, add-one, append-nil, append_assoc, drop-cons}
-use Rattle.std.proofs.lemmas.List.{map-append, take_more, drop_all}
+use Rattle.std.proofs.lemmas.List.{map-append, take_more, take_all, drop_all}
 use Rattle.std.proofs.lemmas.List.Elements.{All-get_or}
-use Rattle.offset_script.specs.Agreement.{IsReached}
 use Rattle.offset_script.specs.Grammar.{has_valid_alignment}
 use Rattle.offset_script.specs.Machine.{answers, start, after, State, Answer, step, answer_view}
-use Rattle.offset_script.specs.Simulation.{Represents}
+use Rattle.offset_script.specs.Simulation.{Represents, Takes}
+use Rattle.offset_script.proofs.Simulation.{all_live, follows, fresh_represents, run_begins, run_goes_on, run_ends}
+use Rattle.offset_script.proofs.Well.{well_start, well_after}
 use Rattle.offset_script.specs.declared.scripts.Command.{Command}
 use Rattle.offset_script.specs.Histories.{RestartsFresh, NestsLeaveNoTrace, RowsCommute, answers_renumbered, releases, without_offset}
 use Rattle.offset_script.specs.declared.answers.Answer as program
@@ -65,12 +66,15 @@ rows size limit cs found h e before ks c rest parts t is =
 
 pub call-requires : goal.call-requires
 call-requires g c = record {
-  reached = record {
-    state = after (take c.loop-command.command-index c.args.commands.now) (start c.args.size c.args.max_allocs);
-    reached = record { size = c.args.size; limit = c.args.max_allocs; commands = take c.loop-command.command-index c.args.commands.now; admitted = c.requires.low; reached = refl };
-    represents = c.loop-command.invariant.represents;
-  };
+  live = all_live _ _ _ (well_after (take c.loop-command.command-index c.args.commands.now) _ (well_start c.args.size c.args.max_allocs c.requires.low)) c.loop-command.invariant.represents;
   power = All-get_or (λ c. IsTrue (has_valid_alignment c)) c.args.commands.now c.loop-command.command-index _ (omega arith) c.requires.powers;
+}
+
+pub loop-command-init : goal.loop-command-init
+loop-command-init g c = record {
+  represents = fresh_represents _ c.is_well_formed.ensures _ _ _ c.in_ok-player.ensures.0 c.in_ok-player.ensures.1;
+  run = run_begins Takes _ _ _ _ _ c.in_ok-player.ensures.0 c.in_ok-player.ensures.1 (ap (map answer_view) c.new-found.ensures.items);
+  so_far = ap (λ l. map answer_view l ++ answers c.args.commands.now (start c.args.size c.args.max_allocs)) c.new-found.ensures.items;
 }
 
 pub loop-command-preserved : goal.loop-command-preserved
@@ -80,11 +84,12 @@ loop-command-preserved g c =
     let i = c.loop-command.command-index in
     let state = after (take i cs) s in
     let within : i < length cs = omega arith in
-    let reached : IsReached state = record { size = c.args.size; limit = c.args.max_allocs; commands = take i cs; admitted = c.requires.low; reached = refl } in
-    let same_choice = c.in_ok-answer.ensures in
+    let power = All-get_or (λ c. IsTrue (has_valid_alignment c)) cs i _ within c.requires.powers in
+    let next = follows _ _ _ _ _ state c.is_well_formed-in-loop-command.ensures (well_after (take i cs) s (well_start c.args.size c.args.max_allocs c.requires.low)) c.loop-command.invariant.represents _ power c.in_ok-answer.ensures in
     record {
-      represents = subst (Represents c.call.new.self.space c.call.new.self.handles.items) (sym (after_more cs s i _ within)) (same_choice.state c.is_well_formed.ensures state reached c.loop-command.invariant.represents);
-      so_far = answers_more cs s i _ c.loop-command.found.items _ c.in_ok-answer.answer (answers cs s) within c.in_ok-push.ensures.items (same_choice.answer c.is_well_formed.ensures state reached c.loop-command.invariant.represents) c.loop-command.invariant.so_far;
+      represents = subst (Represents c.call.new.self.space c.call.new.self.handles.items) (sym (after_more cs s i _ within)) next.1;
+      run = run_goes_on Takes _ _ _ _ _ _ _ _ _ _ _ _ c.loop-command.invariant.run c.in_ok-answer.ensures c.is_well_formed-in-loop-command.ensures (take_more cs i _ within) (ap (map answer_view) c.in_ok-push.ensures.items ∙ map-append answer_view c.loop-command.found.items _);
+      so_far = answers_more cs s i _ c.loop-command.found.items _ c.in_ok-answer.answer (answers cs s) within c.in_ok-push.ensures.items next.0 c.loop-command.invariant.so_far;
     }
 
 pub returns : goal.returns
@@ -95,6 +100,7 @@ returns g c =
     let all : map answer_view found ≡ answers cs s = answers_all cs s c.loop-command.command-index found (answers cs s) (omega arith) c.loop-command.invariant.so_far in
     record {
       answers = all;
+      run = run_ends Takes _ _ _ _ _ _ _ c.loop-command.invariant.run (take_all c.loop-command.command-index cs (omega arith));
       fresh = fresh c.args.size c.args.max_allocs cs (map answer_view found) c.requires.low all;
       rows = rows c.args.size c.args.max_allocs cs (map answer_view found) c.requires.low all;
       nests = nests c.args.size c.args.max_allocs cs (map answer_view found) c.requires.low all;

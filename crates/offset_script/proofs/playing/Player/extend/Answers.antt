@@ -1,10 +1,9 @@
-use Rattle.std.proofs.Common.{Bool, sym, ap, if◌then◌else◌}
+use Rattle.std.proofs.Common.{Bool, refl, sym, ap, if◌then◌else◌}
 use Rattle.offset_script.specs.Machine as machine
-use Rattle.offset_script.proofs.Simulation.{extended_simulates}
 use Rattle.offset_script.proofs.playing.Player.extend.Goals as goal
 
 pub returns-then-extend : goal.returns-then-extend
-returns-then-extend g c = extended_simulates _ _ _ _ c.extend.result _ c.extend.ensures.step (ap (λ (b : Bool). if b then machine.Extended else machine.Refused) (sym c.if-extend.true))
+returns-then-extend g c = (c.extend.result, c.extend.ensures.step, refl, ap (λ (b : Bool). if b then machine.Extended else machine.Refused) (sym c.if-extend.true))
 
 pub returns-else-extend : goal.returns-else-extend
-returns-else-extend g c = extended_simulates _ _ _ _ c.extend.result _ c.extend.ensures.step (ap (λ (b : Bool). if b then machine.Extended else machine.Refused) (sym c.if-extend.false))
+returns-else-extend g c = (c.extend.result, c.extend.ensures.step, refl, ap (λ (b : Bool). if b then machine.Extended else machine.Refused) (sym c.if-extend.false))

@@ -1,11 +1,11 @@
 use Rattle.std.proofs.Common.{refl, ap, ◌∙◌, arith, map}
 use Rattle.offset_script.specs.Machine.{row_view}
-use Rattle.offset_script.proofs.Simulation.{full_simulates, rows_more, rows_same}
+use Rattle.offset_script.proofs.Simulation.{rows_all, rows_more, rows_same}
 use Rattle.offset_script.proofs.playing.Player.full.Goals as goal
 use Rattle.offset_script.proofs.playing.Player.full.Goals.{then-region-gt0+in_ok-push, else-region-gt0}
 
 pub returns : goal.returns
-returns g c = full_simulates _ _ _ c.loop-class.class _ refl c.loop-class.invariant (omega arith)
+returns g c = ((refl, refl), rows_all c.loop-class.class c.args.self.now.space c.loop-class.rows.items c.loop-class.invariant (omega arith))
 
 pub loop-class-preserved : goal.loop-class-preserved
 loop-class-preserved g c = elim c.if-region-gt0.branch [

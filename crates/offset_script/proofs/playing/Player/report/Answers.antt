@@ -1,5 +1,6 @@
-use Rattle.offset_script.proofs.Simulation.{report_simulates}
+use Rattle.std.proofs.Common.{refl, ap₂}
+use Rattle.offset_script.specs.Machine as machine
 use Rattle.offset_script.proofs.playing.Player.report.Goals as goal
 
 pub returns : goal.returns
-returns g c = report_simulates _ _ _ _ c.storage_report.ensures.0 c.storage_report.ensures.1
+returns g c = ((refl, refl), ap₂ machine.Report c.storage_report.ensures.0 c.storage_report.ensures.1)

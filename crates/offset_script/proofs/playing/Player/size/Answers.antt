@@ -1,10 +1,11 @@
-use Rattle.std.proofs.Common.{option_map, sym, ap, ◌∙◌}
+use Rattle.std.proofs.Common.{option_map, refl, sym, ap, ◌∙◌}
 use Rattle.offset_allocator.specs.Named.{Grant}
-use Rattle.offset_script.proofs.Simulation.{size_gone_simulates, size_simulates}
+use Rattle.offset_script.specs.Machine as machine
+use Rattle.offset_script.proofs.Simulation.{if_none, if_some}
 use Rattle.offset_script.proofs.playing.Player.size.Goals as goal
 
 pub returns-in-None : goal.returns-in-None
-returns-in-None g c = size_gone_simulates _ _ _ (sym c.handle.ensures.name ∙ ap (option_map (λ (h : Grant). h.name)) c.in-None.is)
+returns-in-None g c = ((refl, refl), if_none _ _ _ (sym c.handle.ensures.name ∙ ap (option_map (λ (h : Grant). h.name)) c.in-None.is) refl)
 
 pub returns-in-Some : goal.returns-in-Some
-returns-in-Some g c = size_simulates _ _ _ _ _ (sym c.handle.ensures.name ∙ ap (option_map (λ (h : Grant). h.name)) c.in-Some.is) c.allocation_size.ensures
+returns-in-Some g c = ((refl, refl), if_some _ _ _ _ (sym c.handle.ensures.name ∙ ap (option_map (λ (h : Grant). h.name)) c.in-Some.is) (ap machine.Size c.allocation_size.ensures))

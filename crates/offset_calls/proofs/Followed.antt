@@ -1,0 +1,273 @@
+-- The steps of calls are those of the plain machine.
+use Rattle.std.proofs.Common.{◌≡◌, ◌≢◌, ◌⊎◌, ◌||◌, ℕ, ◌+◌, ◌-◌, ◌≤◌, Bool, true, false, not, ◌&&◌, List, [], ◌∷◌, length, sum, Option, Some, None, is_some, IfSome, IsTrue, option_map, option_and_then, nat_eq, nat_lt, nat_le, if◌then◌else◌, refl, sym, ap, ap₂, subst, ◌∙◌, inl, inr, arith, eq-eqb, ne_eqb, le-leb, leb-true, lt-ltb, le-ltb}
+use Rattle.std.proofs.lemmas.Bool.{cases_eq, cases_lt, true≢false, false≢true, and_parts, lt-leb}
+use Rattle.offset_allocator.proofs.Powers.{not_zero}
+use Rattle.offset_allocator.proofs.Tallies.{hit_cases}
+use Rattle.offset_allocator.specs.declared.reports.Refusal.{Refusal}
+use Rattle.offset_allocator.specs.declared.reports.Refusal.TheVariants.{Nodes, Space, Fragmented}
+use Rattle.offset_allocator.specs.Classes.{up, down}
+use Rattle.offset_allocator.specs.Named.{Block, View, Grant, Place, one, times, count_listed, names_at, units, IsWellFormed}
+use Rattle.offset_allocator.specs.Named as named
+use Rattle.offset_allocator.specs.Promises.{HasRoomFor, IsWhy, blocks_needed, units_needed}
+use Rattle.offset_allocator.specs.Ranges.{Range, range_of, size_of}
+use Rattle.offset_allocator.specs.Relations.{SameSpace}
+use Rattle.offset_allocator.specs.Resizing.{Shrinks, Grows, Resizes}
+use Rattle.offset_script.specs.Agreement.{Label, by_tag, kept_name}
+use Rattle.offset_script.specs.Machine.{State, is_free, free_sizes, total, chosen_place, is_short_of, fits}
+use Rattle.offset_script.specs.Machine as machine
+use Rattle.offset_script.specs.Simulation.{Represents, IfNamed, Stays}
+use Rattle.offset_script.proofs.Agreed.{agrees_but, agrees_quiet, has_room, labelled, none_there, same_length}
+use Rattle.offset_script.proofs.Chosen.{none_chosen, plain_place}
+use Rattle.offset_script.proofs.Ends.{free_sizes_labels, total_units}
+use Rattle.offset_script.proofs.Labels.{names}
+use Rattle.offset_script.proofs.Members.{In, in_map}
+use Rattle.offset_script.proofs.Simulation as script
+use Rattle.offset_script.proofs.Well.{Well, well_quiet, well_step, not_chosen}
+use Rattle.offset_calls.specs.declared.calls.Call.{Call}
+use Rattle.offset_calls.specs.declared.calls.Call.TheVariants as call
+use Rattle.offset_calls.specs.Calls.{Reply, Answer, Resized, Compacted, Offset, Refused_for, Outcome, can_shrink, can_grow, resize, resized, replies_only, reason, offset_at, step, after, is_valid, compact, starts_free}
+use Rattle.offset_calls.specs.Steps.{Takes, IsReason}
+use Rattle.offset_calls.proofs.Compacted.{well_compact, compact_agrees, moves_are}
+use Rattle.offset_calls.proofs.Resized.{well_resized, found, spot, size_found, can_shrink_is, shrink_can, can_grow_is, grow_can, resized_agrees}
+
+-- the plain machine has this reply, and a view and handles represent the state that it leaves
+abbrev pub Follows : Outcome → View → List (Option Grant) → Reply → Type 0
+Follows o w left r = (r ≡ o.reply) × Represents w left o.state
+
+-- what resizing does, by cases
+resize_same : (can : machine.Place → Bool) (n : ℕ) (s : State) (p : machine.Place) → n ≡ p.block.size → resize can n s (Some p) ≡ replies_only s Resized
+resize_same can n s p e = ap (λ b. if b then replies_only s Resized else if can p then resized n s p else replies_only s (Answer machine.Refused)) (eq-eqb n p.block.size e)
+
+resize_done : (can : machine.Place → Bool) (n : ℕ) (s : State) (p : machine.Place) → n ≢ p.block.size → can p ≡ true → resize can n s (Some p) ≡ resized n s p
+resize_done can n s p d c = ap₂ (λ b x. if b then replies_only s Resized else if x then resized n s p else replies_only s (Answer machine.Refused)) (ne_eqb n p.block.size d) c
+
+resize_refused : (can : machine.Place → Bool) (n : ℕ) (s : State) (p : machine.Place) → n ≢ p.block.size → can p ≡ false → resize can n s (Some p) ≡ replies_only s (Answer machine.Refused)
+resize_refused can n s p d c = ap₂ (λ b x. if b then replies_only s Resized else if x then resized n s p else replies_only s (Answer machine.Refused)) (ne_eqb n p.block.size d) c
+
+abbrev reason_of : Bool → Bool → Bool → Option Refusal
+reason_of a b c = if a then Some Nodes else if b then None else if c then Some Space else Some Fragmented
+
+abbrev range_if : Bool → ℕ → ℕ → Option Range
+range_if b o n = if b then Some (record { offset = o; size = n }) else None
+
+not_true : (b : Bool) → (b ≡ true → ⊥) → b ≡ false
+not_true true f = absurd (f refl)
+not_true false f = refl
+
+-- every state stays well-formed
+
+well_resize : (s : State) → Well s → (k n : ℕ) (can : machine.Place → Bool) → ((p : machine.Place) → n ≢ p.block.size → can p ≡ true → (starts_free p.after ≡ true) ⊎ (is_short_of 1 s ≡ false)) → (o : Option machine.Place) → machine.place_of k s.blocks ≡ o → Well (resize can n s o).state
+well_resize s w k n can fit None e = well_quiet s w machine.Gone
+well_resize s w k n can fit (Some p) e = go (can p) refl
+  where
+    go : (b : Bool) → can p ≡ b → Well (resize can n s (Some p)).state
+    go b c = elim (cases_eq n p.block.size) [
+      | inl same ↦ subst (λ (o : Outcome). Well o.state) (sym (resize_same can n s p same)) (well_quiet s w machine.Gone)
+      | inr d ↦ other b c d
+    ]
+      where
+        other : (b : Bool) → can p ≡ b → n ≢ p.block.size → Well (resize can n s (Some p)).state
+        other true c d = subst (λ (o : Outcome). Well o.state) (sym (resize_done can n s p d c)) (well_resized s w k n p e (fit p d c))
+        other false c d = subst (λ (o : Outcome). Well o.state) (sym (resize_refused can n s p d c)) (well_quiet s w machine.Gone)
+
+shrink_fits : (s : State) (n : ℕ) (p : machine.Place) → n ≢ p.block.size → can_shrink n s p ≡ true → (starts_free p.after ≡ true) ⊎ (is_short_of 1 s ≡ false)
+shrink_fits s n p d c = go (nat_le n p.block.size) (starts_free p.after) (is_short_of 1 s) refl refl c
+  where
+    go : (a b x : Bool) → starts_free p.after ≡ b → is_short_of 1 s ≡ x → (a && (b || not x)) ≡ true → (starts_free p.after ≡ true) ⊎ (is_short_of 1 s ≡ false)
+    go a true x e f h = inl e
+    go a false false e f h = inr f
+    go true false true e f h = absurd (false≢true h)
+    go false false true e f h = absurd (false≢true h)
+
+grow_fits : (s : State) (n : ℕ) (p : machine.Place) → n ≢ p.block.size → can_grow n p ≡ true → (starts_free p.after ≡ true) ⊎ (is_short_of 1 s ≡ false)
+grow_fits s n p d c = inl (free p.after (bound p.after))
+  where
+    parts : (nat_le p.block.size n ≡ true) × (nat_le n (p.block.size + machine.free_start p.after) ≡ true)
+    parts = and_parts (nat_le p.block.size n) (nat_le n (p.block.size + machine.free_start p.after)) c
+
+    bound : (bs : List machine.Block) → 1 ≤ machine.free_start p.after
+    bound bs = let l = leb-true p.block.size n parts.0 in let m = leb-true n (p.block.size + machine.free_start p.after) parts.1 in omega arith
+
+    free : (bs : List machine.Block) → 1 ≤ machine.free_start bs → starts_free bs ≡ true
+    free [] h = absurd (omega arith)
+    free (b ∷ bs) h = elim (is_free b.tag) as (λ x. 1 ≤ (if x then b.size else 0) → x ≡ true) [ true ↦ λ h. refl | false ↦ λ h. absurd (omega arith) ] h
+
+pub well_call : (c : Call) (s : State) → Well s → Well (step c s).state
+well_call (call.Command c) s w = well_step c s w
+well_call (call.Shrink k n) s w = well_resize s w k n (can_shrink n s) (λ p d c. shrink_fits s n p d c) (machine.place_of k s.blocks) refl
+well_call (call.Grow k n) s w = well_resize s w k n (can_grow n) (λ p d c. grow_fits s n p d c) (machine.place_of k s.blocks) refl
+well_call call.Compact s w = well_compact s w
+well_call (call.Offset k) s w = well_quiet s w machine.Gone
+well_call (call.Refusal n) s w = well_quiet s w machine.Gone
+well_call (call.RefusalAligned n align) s w = well_quiet s w machine.Gone
+
+pub well_calls : (cs : List Call) (s : State) → Well s → Well (after cs s)
+well_calls [] s w = w
+well_calls (c ∷ cs) s w = well_calls cs _ (well_call c s w)
+
+module _ (v w : View) (hs left : List (Option Grant)) (r : Reply) (s : State) (formed : IsWellFormed w) (ws : Well s) (p : Represents v hs s) where
+  -- a call that leaves all as it is
+  stays : (o : Outcome) (x : Reply) → o ≡ replies_only s x → SameSpace v w → left ≡ hs → r ≡ x → Follows o w left r
+  stays o x e same f is = subst (λ (o : Outcome). Follows o w left r) (sym e) (
+    is,
+    subst (λ l. Represents w l (replies_only s x).state) (sym f) (record {
+      formed = formed;
+      agrees = agrees_but v w (kept_name hs) _ same (agrees_quiet v (kept_name hs) s p.agrees machine.Gone);
+      grants = p.grants;
+    }),
+  )
+
+  quiet : (o : Outcome) (x : Reply) → o ≡ replies_only s x → Stays v hs w left → r ≡ x → Follows o w left r
+  quiet o x e e' is = stays o x e (e'.0 ∙ ap (λ (z : View). record v { accesses = z.accesses }) (sym e'.0)) e'.1 is
+
+  -- a range that is resized, or is not
+  module _ (k x n : ℕ) (e : kept_name hs k ≡ Some x) where
+    at : machine.place_of k s.blocks ≡ Some (plain_place (spot v (kept_name hs) s p.formed ws p.agrees k x e))
+    at = (found v (kept_name hs) s p.formed ws p.agrees k x e).placed
+
+    sized : size_of x v ≡ (spot v (kept_name hs) s p.formed ws p.agrees k x e).label.size
+    sized = size_found v (kept_name hs) s p.formed ws p.agrees k x e
+
+    resize_same_size : (can : machine.Place → Bool) → n ≡ size_of x v → SameSpace v w → left ≡ hs → r ≡ Resized → Follows (resize can n s (machine.place_of k s.blocks)) w left r
+    resize_same_size can same space f is = stays _ Resized (ap (resize can n s) at ∙ resize_same can n s _ (same ∙ sized)) space f is
+
+    resize_refuses : (can : machine.Place → Bool) → n ≢ size_of x v → (can (plain_place (spot v (kept_name hs) s p.formed ws p.agrees k x e)) ≡ true → ⊥) → SameSpace v w → left ≡ hs → r ≡ Answer machine.Refused
+        → Follows (resize can n s (machine.place_of k s.blocks)) w left r
+    resize_refuses can d none space f is = stays _ (Answer machine.Refused) (ap (resize can n s) at ∙ resize_refused can n s _ (λ z. d (z ∙ sym sized)) (not_true _ none)) space f is
+
+    resize_changes : (can : machine.Place → Bool) → n ≢ size_of x v → can (plain_place (spot v (kept_name hs) s p.formed ws p.agrees k x e)) ≡ true → Resizes x n v w → left ≡ hs → r ≡ Resized → Follows (resize can n s (machine.place_of k s.blocks)) w left r
+    resize_changes can d c t f is =
+        subst (λ (o : Outcome). Follows o w left r) (sym (ap (resize can n s) at ∙ resize_done can n s _ (λ z. d (z ∙ sym sized)) c)) (
+          is,
+          subst (λ l. Represents w l (resized n s (plain_place (spot v (kept_name hs) s p.formed ws p.agrees k x e))).state) (sym f) (record {
+            formed = formed;
+            agrees = resized_agrees v (kept_name hs) s p.formed ws p.agrees k x e n w formed (λ z. d (z ∙ sym sized)) t;
+            grants = p.grants;
+          }),
+        )
+
+    shrinks : (done : Bool) → Shrinks x n v w done → left ≡ hs → r ≡ (if done then Resized else Answer machine.Refused) → Follows (step (call.Shrink k n) s) w left r
+    shrinks true (inl t) f is = resize_same_size (can_shrink n s) t.0 t.1 f is
+    shrinks true (inr t) f is = resize_changes (can_shrink n s) (λ z. let l = t.0 in omega arith) (can_shrink_is v (kept_name hs) s p.formed ws p.agrees k x e n t.0 t.1) t.2 f is
+    shrinks false t f is = resize_refuses (can_shrink n s) (λ z. t.0 (omega arith, λ l. absurd (omega arith))) (λ c. t.0 (shrink_can v (kept_name hs) s p.formed ws p.agrees k x e n c)) t.1 f is
+
+    grows : (done : Bool) → Grows x n v w done → left ≡ hs → r ≡ (if done then Resized else Answer machine.Refused) → Follows (step (call.Grow k n) s) w left r
+    grows true (inl t) f is = resize_same_size (can_grow n) t.0 t.1 f is
+    grows true (inr t) f is = resize_changes (can_grow n) (λ z. let l = t.0 in omega arith) (can_grow_is v (kept_name hs) s p.formed ws p.agrees k x e n t.1) t.2 f is
+    grows false t f is = resize_refuses (can_grow n) (λ z. t.0 (omega arith, omega arith)) (λ c. t.0 (grow_can v (kept_name hs) s p.formed ws p.agrees k x e n c)) t.1 f is
+
+    -- where the range begins
+    range_found : range_of x v ≡ Some (record { offset = units (names (spot v (kept_name hs) s p.formed ws p.agrees k x e).before); size = (spot v (kept_name hs) s p.formed ws p.agrees k x e).label.size })
+    range_found =
+        let sp = spot v (kept_name hs) s p.formed ws p.agrees k x e in
+        ap (option_and_then (λ (p : Place). if p.block.used then Some (record { offset = units p.before; size = p.block.size }) else None)) (found v (kept_name hs) s p.formed ws p.agrees k x e).named
+        ∙ ap (λ t. range_if (not (is_free t)) (units (names sp.before)) sp.label.size) (found v (kept_name hs) s p.formed ws p.agrees k x e).tag
+
+    offset_found : (o : ℕ) → option_map (λ (q : Range). q.offset) (range_of x v) ≡ Some o → Offset o ≡ offset_at (machine.place_of k s.blocks)
+    offset_found o h =
+        let f : Some (units (names (spot v (kept_name hs) s p.formed ws p.agrees k x e).before)) ≡ Some o = sym (ap (option_map (λ (q : Range). q.offset)) range_found) ∙ h in
+        let n : units (names (spot v (kept_name hs) s p.formed ws p.agrees k x e).before) ≡ o = cc in
+        ap Offset (sym n ∙ sym (total_units (spot v (kept_name hs) s p.formed ws p.agrees k x e).before)) ∙ sym (ap offset_at at)
+
+  -- by the number of a grant
+  gone_there : (k : ℕ) → kept_name hs k ≡ None → machine.place_of k s.blocks ≡ None
+  gone_there k e = none_there v (kept_name hs) s p.formed ws p.agrees k e
+
+  shrink_step : (k n : ℕ) (o : Option ℕ) → kept_name hs k ≡ o → IfNamed o (λ x. (done : Bool) × Shrinks x n v w done × (left ≡ hs) × (r ≡ (if done then Resized else Answer machine.Refused))) (Stays v hs w left × (r ≡ Answer machine.Gone)) → Follows (step (call.Shrink k n) s) w left r
+  shrink_step k n None e t = quiet _ (Answer machine.Gone) (ap (resize (can_shrink n s) n s) (gone_there k e)) t.0 t.1
+  shrink_step k n (Some x) e t = shrinks k x n e t.0 t.1 t.2 t.3
+
+  grow_step : (k n : ℕ) (o : Option ℕ) → kept_name hs k ≡ o → IfNamed o (λ x. (done : Bool) × Grows x n v w done × (left ≡ hs) × (r ≡ (if done then Resized else Answer machine.Refused))) (Stays v hs w left × (r ≡ Answer machine.Gone)) → Follows (step (call.Grow k n) s) w left r
+  grow_step k n None e t = quiet _ (Answer machine.Gone) (ap (resize (can_grow n) n s) (gone_there k e)) t.0 t.1
+  grow_step k n (Some x) e t = grows k x n e t.0 t.1 t.2 t.3
+
+  offset_step : (k : ℕ) (o : Option ℕ) → kept_name hs k ≡ o → IfNamed o (λ x. (o : ℕ) × (option_map (λ (q : Range). q.offset) (range_of x v) ≡ Some o) × (r ≡ Offset o)) (r ≡ Answer machine.Gone) → r ≡ offset_at (machine.place_of k s.blocks)
+  offset_step k None e t = t ∙ sym (ap offset_at (gone_there k e))
+  offset_step k (Some x) e t = t.2 ∙ offset_found k x 0 e t.0 t.1
+
+  -- why a request is refused
+
+  -- a name in a bin is that of a free block of its class
+  listed : (c x : ℕ) (ls : List Label) → 1 ≤ count_listed c x (names ls) → (l : Label) × In l ls × (is_free l.tag ≡ true) × (c ≡ down l.size)
+  listed c x [] h = absurd (omega arith)
+  listed c x (l ∷ ls) h = go (is_free l.tag) refl (listed c x ls)
+    where
+      later : ((m : Label) × In m ls × (is_free m.tag ≡ true) × (c ≡ down m.size)) → (m : Label) × In m (l ∷ ls) × (is_free m.tag ≡ true) × (c ≡ down m.size)
+      later q = (q.0, inr q.1, q.2, q.3)
+
+      go : (b : Bool) → is_free l.tag ≡ b → (1 ≤ count_listed c x (names ls) → (m : Label) × In m ls × (is_free m.tag ≡ true) × (c ≡ down m.size)) → (m : Label) × In m (l ∷ ls) × (is_free m.tag ≡ true) × (c ≡ down m.size)
+      go false f ih = later (ih (let z = ap (λ b. one (not (not b) && (nat_eq c (down l.size) && nat_eq x l.name))) f in omega arith))
+      go true f ih = elim (cases_eq c (down l.size)) [
+        | inl e ↦ (l, inl refl, f, e)
+        | inr d ↦ later (ih (let z = ap₂ (λ b y. one (not (not b) && (y && nat_eq x l.name))) f (ne_eqb c (down l.size) d) in omega arith))
+      ]
+
+  some_chosen : (n : ℕ) → (c : ℕ) × (up n ≤ c) × (names_at v.order c ≢ []) → is_some (chosen_place n s.blocks) ≡ true
+  some_chosen n h = go (chosen_place n s.blocks) refl
+    where
+      first : (xs : List ℕ) → xs ≢ [] → (x : ℕ) × (1 ≤ times x xs)
+      first [] d = absurd (d refl)
+      first (x ∷ xs) d = (x, elim (hit_cases x x) [ inl i ↦ omega (arith, i.1) | inr i ↦ absurd (i.0 refl) ])
+
+      x : (x : ℕ) × (1 ≤ times x (names_at v.order h.0))
+      x = first (names_at v.order h.0) h.2
+
+      l : (l : Label) × In l p.agrees.labels × (is_free l.tag ≡ true) × (h.0 ≡ down l.size)
+      l = listed h.0 x.0 p.agrees.labels (let o = p.formed.orders h.0 x.0 in let q = x.1 in let z = ap (count_listed h.0 x.0) p.agrees.view in omega arith)
+
+      fit : fits n (by_tag l.0) ≡ true
+      fit = ap₂ (λ a b. a && b) l.2 (le-leb (up n) (down l.0.size) (let a = h.1 in let b = l.3 in omega arith))
+
+      go : (o : Option machine.Place) → chosen_place n s.blocks ≡ o → is_some o ≡ true
+      go (Some q) e = refl
+      go None e = absurd (true≢false (sym fit ∙ not_chosen n s.blocks e (by_tag l.0) (subst (In (by_tag l.0)) (sym p.agrees.state) (in_map by_tag l.0 p.agrees.labels l.1))))
+
+  same_free : sum (free_sizes s.blocks) ≡ sum (named.free_sizes v.blocks)
+  same_free = ap sum (ap free_sizes p.agrees.state ∙ free_sizes_labels p.agrees.labels ∙ sym (ap named.free_sizes p.agrees.view))
+
+  short : (k : ℕ) → v.max_allocs ≤ length v.blocks + k → is_short_of k s ≡ true
+  short k h = le-leb s.limit (length s.blocks + k) (let e = p.agrees.limit in let f = same_length v (kept_name hs) s p.formed ws p.agrees in omega arith)
+
+  reason_is : (blocks n : ℕ) (why : Option Refusal) → IsReason blocks n v why → why ≡ reason blocks n s
+  reason_is blocks n why t = go why refl
+    where
+      none : HasRoomFor blocks v → why ≢ None → is_some (chosen_place n s.blocks) ≡ false
+      none room d = ap is_some (ap (chosen_place n) p.agrees.state ∙ none_chosen v p.formed p.agrees.labels (labelled v (kept_name hs) s p.formed ws p.agrees) n (λ h. d (t.0.1 (room, h))))
+
+      some : (x : Refusal) → why ≡ Some x → why ≢ None
+      some x e f = let z : Some x ≡ None = sym e ∙ f in cc
+
+      go : (o : Option Refusal) → why ≡ o → why ≡ reason blocks n s
+      go None e = let c = t.0.0 e in e ∙ sym (ap₂ (λ a b. reason_of a b (nat_lt (sum (free_sizes s.blocks)) n)) (has_room v (kept_name hs) s p.formed ws p.agrees blocks c.0) (some_chosen n c.1))
+      go (Some Nodes) e = e ∙ sym (ap (λ a. reason_of a (is_some (chosen_place n s.blocks)) (nat_lt (sum (free_sizes s.blocks)) n)) (short blocks (subst (λ o. IfSome o (IsWhy blocks n v)) e t.1)))
+      go (Some Space) e =
+          let h = subst (λ o. IfSome o (IsWhy blocks n v)) e t.1 in
+          e ∙ sym (ap (λ a. reason_of a (is_some (chosen_place n s.blocks)) (nat_lt (sum (free_sizes s.blocks)) n)) (has_room v (kept_name hs) s p.formed ws p.agrees blocks h.0)
+          ∙ ap₂ (reason_of false) (none h.0 (some Space e)) (lt-ltb (sum (free_sizes s.blocks)) n (let f = same_free in let l = h.1 in omega arith)))
+      go (Some Fragmented) e =
+          let h = subst (λ o. IfSome o (IsWhy blocks n v)) e t.1 in
+          e ∙ sym (ap (λ a. reason_of a (is_some (chosen_place n s.blocks)) (nat_lt (sum (free_sizes s.blocks)) n)) (has_room v (kept_name hs) s p.formed ws p.agrees blocks h.0)
+          ∙ ap₂ (reason_of false) (none h.0 (some Fragmented e)) (le-ltb (sum (free_sizes s.blocks)) n (let f = same_free in let l = h.1 in omega arith)))
+
+  aligned_reason : (n align : ℕ) → 1 ≤ align → reason (blocks_needed align) (units_needed n align) s ≡ (if nat_le align 1 then reason 1 n s else reason 2 (n + align - 1) s)
+  aligned_reason n align some = elim (cases_lt 1 align) [
+    | inl l ↦ ap (λ k. reason k (units_needed n align) s) (let e : blocks_needed align ≡ 2 = omega arith in e) ∙ sym (ap (λ b. if b then reason 1 n s else reason 2 (n + align - 1) s) (lt-leb align 1 l))
+    | inr l ↦ ap₂ (λ k m. reason k m s) (let e : blocks_needed align ≡ 1 = omega arith in e) (let e : units_needed n align ≡ n = omega arith in e) ∙ sym (ap (λ b. if b then reason 1 n s else reason 2 (n + align - 1) s) (le-leb align 1 l))
+  ]
+
+  -- the plain machine follows each call
+  pub follows : (c : Call) → IsTrue (is_valid c) → Takes c v hs w left r → Follows (step c s) w left r
+  follows (call.Command c) valid t = let f = script.follows v w hs left t.0 s formed ws p c valid t.1 in (t.2 ∙ ap Answer f.0, f.1)
+  follows (call.Shrink k n) valid t = shrink_step k n (kept_name hs k) refl t
+  follows (call.Grow k n) valid t = grow_step k n (kept_name hs k) refl t
+  follows call.Compact valid t = (
+    t.2.2 ∙ ap Compacted (moves_are v hs s p.formed ws p.agrees t.2.0 t.2.1),
+    subst (λ l. Represents w l (compact s).state) (sym t.1) (record {
+      formed = formed;
+      agrees = compact_agrees v (kept_name hs) s p.agrees w t.0;
+      grants = p.grants;
+    }),
+  )
+  follows (call.Offset k) valid t = quiet _ _ refl t.0 (offset_step k (kept_name hs k) refl t.1)
+  follows (call.Refusal n) valid t = quiet _ _ refl t.0 (t.1.2 ∙ ap Refused_for (reason_is 1 n t.1.0 t.1.1))
+  follows (call.RefusalAligned n align) valid t = quiet _ _ refl t.0 (t.1.2 ∙ ap Refused_for (reason_is (blocks_needed align) (units_needed n align) t.1.0 t.1.1 ∙ aligned_reason n align (not_zero align (inr (inl valid)))))

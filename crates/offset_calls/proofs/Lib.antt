@@ -1,0 +1,4 @@
+mod Numbering
+pub mod Compacted
+pub mod Followed
+pub mod Resized

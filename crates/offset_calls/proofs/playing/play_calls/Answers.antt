@@ -1,0 +1,78 @@
+use Rattle.std.proofs.Common.{◌≡◌, ◌+◌, ◌<◌, ◌≤◌, ℕ, List, [], ◌∷◌, ◌++◌, map, take, drop, length, get_or, refl, sym, ap, ap₂, subst, ◌∙◌, arith, IsTrue, add-one, append-nil, append_assoc, drop-cons}
+use Rattle.std.proofs.lemmas.List.{map-append, take_more, take_all, drop_all}
+use Rattle.std.proofs.lemmas.List.Elements.{All-get_or}
+use Rattle.offset_script.specs.Machine.{State, start}
+use Rattle.offset_script.specs.Simulation.{Represents}
+use Rattle.offset_script.proofs.Simulation.{all_live, fresh_represents, run_begins, run_goes_on, run_ends}
+use Rattle.offset_script.proofs.Well.{well_start}
+use Rattle.offset_calls.specs.declared.calls.Call.{Call}
+use Rattle.offset_calls.specs.declared.calls.Reply as program
+use Rattle.offset_calls.specs.Calls.{Reply, after, is_valid, replies, reply_view, step}
+use Rattle.offset_calls.specs.Steps.{Takes}
+use Rattle.offset_calls.proofs.Followed.{follows, well_calls}
+use Rattle.offset_calls.proofs.Compacted.{all_kept}
+use Rattle.offset_calls.proofs.playing.play_calls.Goals as goal
+
+-- A loop over calls: one more call, and one more reply.
+
+after-append : (xs ys : List Call) (s : State) → after (xs ++ ys) s ≡ after ys (after xs s)
+after-append [] ys s = refl
+after-append (c ∷ xs) ys s = after-append xs ys (step c s).state
+
+-- the state after one more call
+after_more : (cs : List Call) (s : State) (i : ℕ) (d : Call) → i < length cs → after (take (i + 1) cs) s ≡ (step (get_or cs i d) (after (take i cs) s)).state
+after_more cs s i d h = ap (λ l. after l s) (take_more cs i d h) ∙ after-append (take i cs) (get_or cs i d ∷ []) s
+
+-- the replies so far, one more, and those to what is left
+replies_more : (cs : List Call) (s : State) (i : ℕ) (d : Call) (found left : List program.Reply) (x : program.Reply) (all : List Reply) → i < length cs → left ≡ found ++ x ∷ []
+    → reply_view x ≡ (step (get_or cs i d) (after (take i cs) s)).reply → map reply_view found ++ replies (drop i cs) (after (take i cs) s) ≡ all
+    → map reply_view left ++ replies (drop (i + 1) cs) (after (take (i + 1) cs) s) ≡ all
+replies_more cs s i d found left x all h f e so_far =
+    ap (λ l. map reply_view l ++ replies (drop (i + 1) cs) (after (take (i + 1) cs) s)) f
+    ∙ ap (λ l. l ++ replies (drop (i + 1) cs) (after (take (i + 1) cs) s)) (map-append reply_view found (x ∷ [])) ∙ append_assoc (map reply_view found) _ _
+    ∙ ap (λ l. map reply_view found ++ l) (ap₂ (λ y t. y ∷ replies (drop (i + 1) cs) t) e (after_more cs s i d h) ∙ rw add-one (sym (ap (λ l. replies l (after (take i cs) s)) (drop-cons cs i d h))))
+    ∙ so_far
+
+-- where nothing is left, the replies so far are those to all
+replies_all : (cs : List Call) (s : State) (i : ℕ) (found : List program.Reply) (all : List Reply) → length cs ≤ i → map reply_view found ++ replies (drop i cs) (after (take i cs) s) ≡ all → map reply_view found ≡ all
+replies_all cs s i found all h so_far = sym (append-nil (map reply_view found)) ∙ ap (λ l. map reply_view found ++ l) (sym (ap (λ l. replies l (after (take i cs) s)) (drop_all i cs h))) ∙ so_far
+
+pub reply-requires-clause-live : goal.reply-requires-clause-live
+reply-requires-clause-live g c = all_live _ _ _ (well_calls (take c.loop-call.call-index c.args.calls.now) _ (well_start c.args.size c.args.max_allocs c.requires.low)) c.loop-call.invariant.represents
+
+pub reply-requires-clause-kept : goal.reply-requires-clause-kept
+reply-requires-clause-kept g c =
+    let r = c.loop-call.invariant.represents in
+    all_kept _ _ _ r.formed (well_calls (take c.loop-call.call-index c.args.calls.now) _ (well_start c.args.size c.args.max_allocs c.requires.low)) r.agrees
+
+pub loop-call-init : goal.loop-call-init
+loop-call-init g c = record {
+  represents = fresh_represents _ c.is_well_formed.ensures _ _ _ c.in_ok-player.ensures.0 c.in_ok-player.ensures.1;
+  run = run_begins Takes _ _ _ _ _ c.in_ok-player.ensures.0 c.in_ok-player.ensures.1 (ap (map reply_view) c.new-found.ensures.items);
+  so_far = ap (λ l. map reply_view l ++ replies c.args.calls.now (start c.args.size c.args.max_allocs)) c.new-found.ensures.items;
+}
+
+pub loop-call-preserved : goal.loop-call-preserved
+loop-call-preserved g c =
+    let cs = c.args.calls.now in
+    let s = start c.args.size c.args.max_allocs in
+    let i = c.loop-call.call-index in
+    let state = after (take i cs) s in
+    let within : i < length cs = omega arith in
+    let valid = All-get_or (λ c. IsTrue (is_valid c)) cs i _ within c.requires.valid in
+    let next = follows _ _ _ _ _ state c.is_well_formed-in-loop-call.ensures (well_calls (take i cs) s (well_start c.args.size c.args.max_allocs c.requires.low)) c.loop-call.invariant.represents _ valid c.in_ok-reply.ensures in
+    record {
+      represents = subst (Represents c.reply.new.player.space c.reply.new.player.handles.items) (sym (after_more cs s i _ within)) next.1;
+      run = run_goes_on Takes _ _ _ _ _ _ _ _ _ _ _ _ c.loop-call.invariant.run c.in_ok-reply.ensures c.is_well_formed-in-loop-call.ensures (take_more cs i _ within) (ap (map reply_view) c.in_ok-push.ensures.items ∙ map-append reply_view c.loop-call.found.items _);
+      so_far = replies_more cs s i _ c.loop-call.found.items _ c.in_ok-reply.reply (replies cs s) within c.in_ok-push.ensures.items next.0 c.loop-call.invariant.so_far;
+    }
+
+pub returns : goal.returns
+returns g c =
+    let cs = c.args.calls.now in
+    let s = start c.args.size c.args.max_allocs in
+    let found = c.loop-call.found.items in
+    record {
+      replies = replies_all cs s c.loop-call.call-index found (replies cs s) (omega arith) c.loop-call.invariant.so_far;
+      run = run_ends Takes _ _ _ _ _ _ _ c.loop-call.invariant.run (take_all c.loop-call.call-index cs (omega arith));
+    }

@@ -1,0 +1,153 @@
+-- The plain stamped machine over every call: beside the commands of a script, the calls that resize a range, compact the
+-- space, and ask for an offset or for the reason of a refusal. States and stamps are those of the script's machine.
+use Rattle.std.specs.Prelude.{ℕ, ◌+◌, ◌-◌, Bool, true, false, not, ◌&&◌, ◌||◌, List, [], ◌∷◌, ◌++◌, map, sum, Option, Some, None, is_some, nat_eq, nat_lt, nat_le, if◌then◌else◌}
+use Rattle.std.specs.Int.{is_power_of_two}
+use Rattle.offset_allocator.specs.declared.reports.Refusal.{Refusal}
+use Rattle.offset_allocator.specs.declared.reports.Refusal.TheVariants.{Nodes, Space, Fragmented}
+use Rattle.offset_script.specs.Grammar.{has_valid_alignment}
+use Rattle.offset_script.specs.Machine.{Tag, Live, Free, Block, block, is_free, total, free_sizes, Place, place_of, chosen_place, free_block, free_start, without_start, State, returns_only, leaves, is_short_of, stamp_of_call, answer_view}
+use Rattle.offset_script.specs.Machine as machine
+use Rattle.offset_script.specs.Totals.{live}
+use Rattle.offset_calls.specs.declared.calls.Call.{Call}
+use Rattle.offset_calls.specs.declared.calls.Call.TheVariants as call
+use Rattle.offset_calls.specs.declared.calls.Moved.{Moved}
+use Rattle.offset_calls.specs.declared.calls.Reply as program
+use Rattle.offset_calls.specs.declared.calls.Reply.TheVariants as program_reply
+
+-- ---- replies
+
+-- the move of the range of a grant
+pub record Move : Type 0 where
+  pub number : ℕ
+  pub from : ℕ
+  pub to : ℕ
+  pub size : ℕ
+
+-- the reply to a call
+pub data Reply : Type 0 where
+  -- the answer that a command has, or another call too
+  Answer : machine.Answer → Reply
+  Resized : Reply
+  Compacted : List Move → Reply
+  Offset : ℕ → Reply
+  Refused_for : Option Refusal → Reply
+
+-- the state that a call leaves, and the reply
+pub record Outcome : Type 0 where
+  pub state : State
+  pub reply : Reply
+
+-- what a command does
+abbrev pub answered : machine.Outcome → Outcome
+answered o = record { state = o.state; reply = Answer o.answer }
+
+-- a call that leaves the blocks as they are
+abbrev pub replies_only : State → Reply → Outcome
+replies_only s r = record { state = record s { calls = s.calls + 1 }; reply = r }
+
+-- a call that leaves these blocks
+abbrev pub remakes : State → List Block → Reply → Outcome
+remakes s bs r = record { state = record s { calls = s.calls + 1; blocks = bs }; reply = r }
+
+-- ---- resizing
+
+-- whether a list begins with a free block
+abbrev pub starts_free : List Block → Bool
+starts_free [] = false
+starts_free (b ∷ bs) = is_free b.tag
+
+-- a live block can shrink to n units: it has at least as many, and a free block is directly after it or one more block
+-- may exist
+abbrev pub can_shrink : ℕ → State → Place → Bool
+can_shrink n s p = nat_le n p.block.size && (starts_free p.after || not (is_short_of 1 s))
+
+-- a live block can grow to n units: it has at most as many, and with the free block directly after it at least as many
+abbrev pub can_grow : ℕ → Place → Bool
+can_grow n p = nat_le p.block.size n && nat_le n (p.block.size + free_start p.after)
+
+-- a live block and the free block directly after it become n live units and a free block of the rest
+abbrev pub resized : ℕ → State → Place → Outcome
+resized n s p = remakes s (p.before ++ (block n p.block.tag ∷ (free_block (p.block.size + free_start p.after - n) (stamp_of_call s) ++ without_start p.after))) Resized
+
+-- a live block gets n units, where it can; nothing changes where it has as many
+abbrev pub resize : (Place → Bool) → ℕ → State → Option Place → Outcome
+resize can n s None = replies_only s (Answer machine.Gone)
+resize can n s (Some p) = if nat_eq n p.block.size then replies_only s Resized else if can p then resized n s p else replies_only s (Answer machine.Refused)
+
+-- ---- compacting
+
+-- the number of the grant of a live block
+abbrev pub number : Tag → ℕ
+number (Live k) = k
+number (Free s) = 0
+
+-- the move of a live block, where it goes to another offset
+abbrev pub move_of : ℕ → ℕ → Block → List Move
+move_of from to b = if nat_eq from to then [] else record { number = number b.tag; from = from; to = to; size = b.size } ∷ []
+
+-- the moves of the live ones of blocks that begin at an offset, if they are packed from another offset on
+abbrev pub moves : ℕ → ℕ → List Block → List Move
+moves from to [] = []
+moves from to (b ∷ bs) = if is_free b.tag then moves (from + b.size) to bs else move_of from to b ++ moves (from + b.size) (to + b.size) bs
+
+-- one free block of all these sizes, or nothing where there are none
+abbrev pub gathered : ℕ → List ℕ → List Block
+gathered stamp [] = []
+gathered stamp (n ∷ ns) = block (n + sum ns) (Free stamp) ∷ []
+
+-- the live blocks come first, in their order, and all free units are one block after them
+abbrev pub compact : State → Outcome
+compact s = remakes s (live s.blocks ++ gathered (stamp_of_call s) (free_sizes s.blocks)) (Compacted (moves 0 0 s.blocks))
+
+-- ---- questions
+
+-- where the block at a place begins
+abbrev pub offset_at : Option Place → Reply
+offset_at None = Answer machine.Gone
+offset_at (Some p) = Offset (total p.before)
+
+-- why a request is refused that may add `spare` blocks and takes the block chosen for n units
+abbrev pub reason : ℕ → ℕ → State → Option Refusal
+reason spare n s = if is_short_of spare s then Some Nodes else if is_some (chosen_place n s.blocks) then None else if nat_lt (sum (free_sizes s.blocks)) n then Some Space else Some Fragmented
+
+-- ---- calls
+
+-- what one call leaves and replies
+abbrev pub step : Call → State → Outcome
+step (call.Command c) s = answered (machine.step c s)
+step (call.Shrink k n) s = resize (can_shrink n s) n s (place_of k s.blocks)
+step (call.Grow k n) s = resize (can_grow n) n s (place_of k s.blocks)
+step call.Compact s = compact s
+step (call.Offset k) s = replies_only s (offset_at (place_of k s.blocks))
+step (call.Refusal n) s = replies_only s (Refused_for (reason 1 n s))
+step (call.RefusalAligned n align) s = replies_only s (Refused_for (if nat_le align 1 then reason 1 n s else reason 2 (n + align - 1) s))
+
+-- the replies to calls in order
+abbrev pub replies : List Call → State → List Reply
+replies [] s = []
+replies (c ∷ cs) s = (step c s).reply ∷ replies cs (step c s).state
+
+-- the state that calls in order leave
+abbrev pub after : List Call → State → State
+after [] s = s
+after (c ∷ cs) s = after cs (step c s).state
+
+-- each alignment is a power of two
+abbrev pub is_valid : Call → Bool
+is_valid (call.Command c) = has_valid_alignment c
+is_valid (call.RefusalAligned n align) = is_power_of_two align
+is_valid other = true
+
+-- ---- the replies of the program
+
+-- a move, as the machine has it
+abbrev pub move_view : Moved → Move
+move_view m = record { number = m.number; from = m.from; to = m.to; size = m.size }
+
+-- a reply, as the machine has it
+abbrev pub reply_view : program.Reply → Reply
+reply_view (program_reply.Answer a) = Answer (answer_view a)
+reply_view program_reply.Resized = Resized
+reply_view (program_reply.Compacted ms) = Compacted (map move_view ms.items)
+reply_view (program_reply.Offset n) = Offset n
+reply_view (program_reply.Refusal r) = Refused_for r

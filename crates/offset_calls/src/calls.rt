@@ -1,0 +1,76 @@
+//! Calls, and the replies to them.
+
+ghost use Rattle.std.specs.Prelude.{◌≡◌, ◌↔◌, All, IsTrue};
+ghost use Rattle.offset_calls.specs.Calls.{is_valid};
+
+use offset_allocator::Refusal;
+use offset_script::{Answer, Command};
+
+/// A call to an allocator. Sizes are in units of the space. A range is named by the number of its grant: grants are
+/// numbered from 1 in their order, as in a script.
+#[derive(Clone, Copy, PartialEq, Debug)]
+pub enum Call {
+    /// A command of a script.
+    Command(Command),
+    /// Shrinks the range of this number to this many units.
+    Shrink(u32, u32),
+    /// Grows the range of this number in place, to this many units.
+    Grow(u32, u32),
+    /// Slides every live range to the front of the space.
+    Compact,
+    /// Asks where the range of this number begins.
+    Offset(u32),
+    /// Asks why a request for this many units would be refused now.
+    Refusal(u32),
+    /// Asks the same of a request for this many units from a multiple of the second number on, which is a power of two.
+    RefusalAligned(u32, u32),
+}
+
+impl Call {
+    /// Whether its alignment is a power of two, where it has one.
+    pub fn is_valid(&self) -> bool
+        ensures { result ≡ is_valid self.now }
+    {
+        match self {
+            Call::Command(Command::Align(_, align)) => align.is_power_of_two(),
+            Call::RefusalAligned(_, align) => align.is_power_of_two(),
+            _ => true,
+        }
+    }
+}
+
+/// Whether each alignment in these calls is a power of two.
+pub fn are_valid(calls: &[Call]) -> bool
+    ensures { IsTrue result ↔ All (λ c. IsTrue (is_valid c)) calls.now }
+{
+    calls.iter().all(|call| call.is_valid())
+}
+
+/// A range that `Call::Compact` moves to another offset.
+#[derive(Clone, Copy, PartialEq, Debug)]
+pub struct Moved {
+    /// The number of its grant.
+    pub number: u64,
+    /// The offset that it had.
+    pub from: u32,
+    /// The offset that it has after the move.
+    pub to: u32,
+    /// Its units.
+    pub size: u32,
+}
+
+/// The reply to one call.
+#[derive(Drop, Debug)]
+pub enum Reply {
+    /// The answer to a command. Of another call, `Gone`: no grant of that number is live; or `Refused`: the range cannot
+    /// shrink or grow to that size. Then the space is as it was.
+    Answer(Answer),
+    /// The range has the new size.
+    Resized,
+    /// The ranges that the compaction moved, in space order.
+    Compacted(Vec<Moved>),
+    /// Where the range begins.
+    Offset(u32),
+    /// Why the request would be refused, or `None` where it would be granted.
+    Refusal(Option<Refusal>),
+}

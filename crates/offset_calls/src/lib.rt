@@ -1,0 +1,13 @@
+//! Lists of calls to an allocator, played on it: every call that changes a space, and the questions beside them.
+//!
+//! `offset_script` plays the commands of a script. Here `shrink`, `grow_in_place` and `compact`, and the questions for
+//! an offset and for the reason of a refusal, are calls too. The answers are proved to be those of the plain stamped
+//! list of blocks, which `specs/Calls.antt` extends by these calls, for every lawful index type.
+#![tactic(auto)]
+
+mod calls;
+pub mod laws;
+mod playing;
+
+pub use calls::{Call, Moved, Reply, are_valid};
+pub use playing::play_calls;

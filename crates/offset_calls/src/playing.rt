@@ -1,0 +1,231 @@
+//! Plays calls on an allocator.
+
+ghost use Rattle.std.specs.Prelude.{◌≡◌, ◌+◌, ◌-◌, ◌<◌, ◌≤◌, ◌++◌, ◌∷◌, [], All, Bool, IfOk, IsTrue, ℕ, Some, drop, false, if◌then◌else◌, length, map};
+ghost use Rattle.offset_allocator.specs.Compacting.{Compacts, live, moves};
+ghost use Rattle.offset_script.specs.Agreement.{kept_name};
+ghost use Rattle.offset_script.specs.Machine as machine;
+ghost use Rattle.offset_script.specs.Machine.{start};
+ghost use Rattle.offset_script.specs.Simulation.{AreLive, AreOfARun};
+ghost use Rattle.offset_calls.specs.Calls.{is_valid, move_view, replies, reply_view};
+ghost use Rattle.offset_calls.specs.Calls as plain;
+ghost use Rattle.offset_calls.specs.Steps.{AreKept, AreMoves, Takes, joined};
+
+use crate::calls::{Call, Moved, Reply};
+use offset_allocator::laws::is_well_formed;
+use offset_allocator::{Allocation, Allocator, Move, NodeIndex};
+use offset_script::{Answer, Player};
+use std::alloc::{AllocError, Global};
+
+// The reply to a call that was to resize a range.
+fn resized(done: bool) -> Reply
+    ensures { reply_view result ≡ (if done then plain.Resized else plain.Answer machine.Refused) }
+{
+    if done {
+        Reply::Resized
+    } else {
+        Reply::Answer(Answer::Refused)
+    }
+}
+
+// The reply to `Shrink`.
+fn shrink<NI: NodeIndex>(player: &mut Player<NI>, number: u32, size: u32) -> Reply
+    requires { AreLive player.old.space player.old.handles.items }
+    ensures { Takes (Call.Shrink number size) player.old.space player.old.handles.items
+        player.new.space player.new.handles.items (reply_view result) }
+{
+    match player.handle(number) {
+        None => Reply::Answer(Answer::Gone),
+        Some(handle) => resized(player.space.shrink(handle, size)),
+    }
+}
+
+// The reply to `Grow`.
+fn grow<NI: NodeIndex>(player: &mut Player<NI>, number: u32, size: u32) -> Reply
+    requires { AreLive player.old.space player.old.handles.items }
+    ensures { Takes (Call.Grow number size) player.old.space player.old.handles.items
+        player.new.space player.new.handles.items (reply_view result) }
+{
+    match player.handle(number) {
+        None => Reply::Answer(Answer::Gone),
+        Some(handle) => resized(player.space.grow_in_place(handle, size)),
+    }
+}
+
+// The number of the grant whose handle has the name of this one, or 0.
+fn number_of<NI: NodeIndex>(handles: &[Option<Allocation<NI>>], handle: Allocation<NI>) -> u64
+    ensures { (k : ℕ) → kept_name handles.now k ≡ Some handle.name → kept_name handles.now result ≡ Some handle.name }
+{
+    for i in 0..handles.len() {
+        if let Some(kept) = handles[i] {
+            // handles with one offset are equal where their names are
+            let mut same = kept;
+            same.offset = handle.offset;
+            if same == handle {
+                return i as u64 + 1;
+            }
+        }
+    }
+    0
+}
+
+// The numbers of the live ranges, in space order.
+fn numbers_of_live<NI: NodeIndex>(
+    alloc: Global,
+    player: &Player<NI>,
+) -> Result<Vec<u64>, AllocError>
+    requires { AreKept player.now.space player.now.handles.items }
+    ensures { IfOk result (λ ks. map (kept_name player.now.handles.items) ks.items ≡ map (λ b. Some b.name) (live player.now.space.blocks)) }
+{
+    let mut numbers = Vec::new(alloc);
+    for block in player.space.blocks() {
+        if let Some(handle) = block.allocation {
+            numbers.push(number_of(&player.handles, handle))?;
+        }
+    }
+    numbers.reverse();
+    Ok(numbers)
+}
+
+// The moves of a compaction so far, without numbers, unless memory for one was refused.
+#[derive(Drop)]
+struct Moves {
+    found: Vec<Moved>,
+    is_refused: bool,
+}
+
+impl Moves {
+    // One more move.
+    fn add(&mut self, from: u32, to: u32, size: u32)
+        ensures { self.new.is_refused ≡ false → (self.old.is_refused ≡ false)
+            × (self.new.found.items ≡ self.old.found.items ++ record { number = 0; from = from; to = to; size = size } ∷ []) }
+    {
+        let moved = Moved {
+            number: 0,
+            from,
+            to,
+            size,
+        };
+        if self.found.push(moved).is_err() {
+            self.is_refused = true;
+        }
+    }
+}
+
+// Compacts a space, and collects the moves.
+fn collect<NI: NodeIndex>(space: &mut Allocator<NI>, seen: &mut Moves)
+    requires { seen.old.found.items ≡ [] }
+    ensures moves { seen.new.is_refused ≡ false → AreMoves seen.new.found.items (moves 0 0 space.old.blocks) }
+    ensures step { Compacts space.old space.new }
+{
+    space.compact(&mut |range: Move<NI>| seen.add(range.from, range.to, range.size));
+}
+
+// The moves with these numbers, the last of which are those of the ranges that are moved.
+fn numbered(alloc: Global, numbers: &[u64], moves: &[Moved]) -> Result<Vec<Moved>, AllocError>
+    requires { length moves.now ≤ length numbers.now }
+    ensures { IfOk result (λ ms. map move_view ms.items ≡ joined (drop (length numbers.now - length moves.now) numbers.now) moves.now) }
+{
+    let first = numbers.len() - moves.len();
+    let mut found = Vec::new(alloc);
+    for i in 0..moves.len() {
+        let range = moves[i];
+        found.push(Moved {
+            number: numbers[first + i],
+            from: range.from,
+            to: range.to,
+            size: range.size,
+        })?;
+    }
+    Ok(found)
+}
+
+// The reply to `Compact`. All ranges after the first one that moves are moved too.
+fn compact<NI: NodeIndex>(alloc: Global, player: &mut Player<NI>) -> Result<Reply, AllocError>
+    requires { AreKept player.old.space player.old.handles.items }
+    ensures { IfOk result (λ r. Takes Call.Compact player.old.space player.old.handles.items
+        player.new.space player.new.handles.items (reply_view r)) }
+{
+    let numbers = numbers_of_live(alloc, player)?;
+    let mut moves = Moves {
+        found: Vec::new(alloc),
+        is_refused: false,
+    };
+    collect(&mut player.space, &mut moves);
+    if moves.is_refused {
+        return Err(AllocError);
+    }
+    Ok(Reply::Compacted(numbered(alloc, &numbers, &moves.found)?))
+}
+
+// The reply to `Offset`.
+fn offset<NI: NodeIndex>(player: &Player<NI>, number: u32) -> Reply
+    requires { AreLive player.now.space player.now.handles.items }
+    ensures { Takes (Call.Offset number) player.now.space player.now.handles.items
+        player.now.space player.now.handles.items (reply_view result) }
+{
+    match player.handle(number) {
+        None => Reply::Answer(Answer::Gone),
+        // it is live, so it has an offset
+        Some(handle) => Reply::Offset(player.space.allocation_offset(handle).unwrap_or(0)),
+    }
+}
+
+// The reply to one call.
+fn reply<NI: NodeIndex>(
+    alloc: Global,
+    player: &mut Player<NI>,
+    call: Call,
+) -> Result<Reply, AllocError>
+    requires live { AreLive player.old.space player.old.handles.items }
+    requires kept { AreKept player.old.space player.old.handles.items }
+    requires valid { IsTrue (is_valid call) }
+    ensures { IfOk result (λ r. Takes call player.old.space player.old.handles.items
+        player.new.space player.new.handles.items (reply_view r)) }
+{
+    match call {
+        Call::Command(command) => Ok(Reply::Answer(player.call(alloc, command)?)),
+        Call::Shrink(number, size) => Ok(shrink(player, number, size)),
+        Call::Grow(number, size) => Ok(grow(player, number, size)),
+        Call::Compact => compact(alloc, player),
+        Call::Offset(number) => Ok(offset(player, number)),
+        Call::Refusal(size) => Ok(Reply::Refusal(player.space.refusal(size))),
+        Call::RefusalAligned(size, align) => Ok(Reply::Refusal(
+            player.space.refusal_aligned(size, align),
+        )),
+    }
+}
+
+/// Plays calls on an allocator of `size` units with the node limit `max_allocs`, and returns the replies in order, one
+/// for each.
+///
+/// The limit has to be 2 to `NI::MAX - 2`, and each alignment a power of two. All replies are kept in memory. It fails
+/// only where an allocation fails. A compaction looks for each moved range's number among all grants so far; every
+/// other call costs what the allocator's does.
+pub fn play_calls<NI: NodeIndex>(
+    alloc: Global,
+    size: u32,
+    max_allocs: u32,
+    calls: &[Call],
+) -> Result<Vec<Reply>, AllocError>
+    // The node limit is at least 2.
+    requires low { 2 ≤ max_allocs }
+    // The index type admits the node limit.
+    requires high { max_allocs + 1 < NI.MAX }
+    // Each alignment is a power of two.
+    requires valid { All (λ c. IsTrue (is_valid c)) calls.now }
+    // The replies are those of the plain machine to these calls, from one free block of `size` units.
+    ensures replies { IfOk result (λ found. map reply_view found.items ≡ replies calls.now (start size max_allocs)) }
+    // They are those of a run of the allocator's named steps on a fresh space.
+    ensures run { IfOk result (λ found. AreOfARun Takes size max_allocs calls.now (map reply_view found.items)) }
+{
+    let mut player: Player<NI> = Player::start(alloc, size, max_allocs)?;
+    // A step of the proof, which does nothing, here and below.
+    is_well_formed(&player.space);
+    let mut found = Vec::new(alloc);
+    for call in calls {
+        let reply = reply(alloc, &mut player, *call)?;
+        is_well_formed(&player.space);
+        found.push(reply)?;
+    }
+    Ok(found)
+}

@@ -1,0 +1,167 @@
+//! Lists of calls, with replies computed by hand, for each index type.
+
+use offset_allocator::NodeIndex;
+use offset_calls::{Call, are_valid, play_calls};
+use offset_script::Command;
+use offset_test_base::tiny::Tiny;
+use std::alloc::Global;
+use std::process::Abort;
+use std::test::Fail;
+
+fn expect_with<NI: NodeIndex>(
+    rt: &impl Abort,
+    alloc: Global,
+    size: u32,
+    limit: u32,
+    rows: &[(Call, &str)],
+) -> Result<(), Fail> {
+    assert!(rt; 2 <= limit && limit < NI::MAX - 1);
+    let mut calls = Vec::new(alloc);
+    for (call, _) in rows {
+        calls.push(*call)?;
+    }
+    assert!(rt; are_valid(&calls));
+    let replies = play_calls::<NI>(alloc, size, limit, &calls)?;
+    assert_eq!(rt; replies.len(), rows.len());
+    for (i, (call, wanted)) in rows.iter().enumerate() {
+        let reply = format!(in alloc; "{:?}", replies[i])?;
+        assert_eq!(rt; reply.as_str(), *wanted, "reply {i}, to {call:?}");
+    }
+    Ok(())
+}
+
+fn expect_replies(
+    rt: &impl Abort,
+    alloc: Global,
+    size: u32,
+    limit: u32,
+    rows: &[(Call, &str)],
+) -> Result<(), Fail> {
+    expect_with::<u32>(rt, alloc, size, limit, rows)?;
+    expect_with::<u16>(rt, alloc, size, limit, rows)?;
+    if limit <= 5 {
+        expect_with::<Tiny>(rt, alloc, size, limit, rows)?;
+    }
+    Ok(())
+}
+
+#[test]
+fn resizes_and_compacts(rt: HostRuntime) -> Result<(), Fail> {
+    let rows = [
+        (
+            Call::Command(Command::Alloc(10)),
+            "Answer(Grant { number: 1, offset: 0 })",
+        ),
+        (
+            Call::Command(Command::Alloc(20)),
+            "Answer(Grant { number: 2, offset: 10 })",
+        ),
+        (
+            Call::Command(Command::Alloc(30)),
+            "Answer(Grant { number: 3, offset: 30 })",
+        ),
+        (Call::Shrink(2, 5), "Resized"),
+        (Call::Offset(3), "Offset(30)"),
+        // 10 and 5 live, 15 free, 30 live, 40 free
+        (
+            Call::Compact,
+            "Compacted([Moved { number: 3, from: 30, to: 15, size: 30 }])",
+        ),
+        (Call::Offset(3), "Offset(15)"),
+        (Call::Grow(3, 50), "Resized"),
+        (Call::Grow(3, 86), "Answer(Refused)"),
+        (Call::Grow(3, 49), "Answer(Refused)"),
+        (Call::Grow(3, 50), "Resized"),
+        (Call::Grow(1, 11), "Answer(Refused)"),
+        (Call::Shrink(1, 11), "Answer(Refused)"),
+        (Call::Shrink(4, 1), "Answer(Gone)"),
+        (Call::Command(Command::Free(1)), "Answer(Freed)"),
+        (Call::Grow(1, 20), "Answer(Gone)"),
+        (Call::Offset(1), "Answer(Gone)"),
+        (Call::Offset(0), "Answer(Gone)"),
+        // 10 free, 5 and 50 live, 35 free
+        (Call::Refusal(36), "Refusal(Some(Fragmented))"),
+        (Call::Refusal(46), "Refusal(Some(Space))"),
+        (Call::Refusal(10), "Refusal(None)"),
+        (
+            Call::Compact,
+            "Compacted([Moved { number: 2, from: 10, to: 0, size: 5 }, Moved { number: 3, from: 15, to: 5, size: 50 }])",
+        ),
+        (Call::Compact, "Compacted([])"),
+        (Call::Command(Command::Size(3)), "Answer(Size(50))"),
+        // the class of a block of 45 units has the value 44
+        (
+            Call::Command(Command::Report),
+            "Answer(Report(StorageReport { total_free_space: 45, largest_free_region: 44 }))",
+        ),
+        (Call::Command(Command::Reset), "Answer(Reset)"),
+        (Call::Offset(3), "Answer(Gone)"),
+        (Call::RefusalAligned(97, 8), "Refusal(Some(Space))"),
+        (Call::RefusalAligned(8, 8), "Refusal(None)"),
+        (
+            Call::Command(Command::Align(8, 8)),
+            "Answer(Grant { number: 4, offset: 0 })",
+        ),
+    ];
+    expect_replies(&rt, rt.alloc(), 100, 16, &rows)
+}
+
+#[test]
+fn resizes_at_the_node_limit(rt: HostRuntime) -> Result<(), Fail> {
+    let rows = [
+        (
+            Call::Command(Command::Alloc(5)),
+            "Answer(Grant { number: 1, offset: 0 })",
+        ),
+        (
+            Call::Command(Command::Alloc(5)),
+            "Answer(Grant { number: 2, offset: 5 })",
+        ),
+        // three blocks, so no further one
+        (Call::Refusal(1), "Refusal(Some(Nodes))"),
+        (Call::Shrink(1, 4), "Answer(Refused)"),
+        (Call::Shrink(1, 5), "Resized"),
+        (Call::Shrink(2, 4), "Resized"),
+        (Call::Grow(2, 11), "Answer(Refused)"),
+        (Call::Grow(2, 10), "Resized"),
+        // two blocks
+        (Call::RefusalAligned(1, 2), "Refusal(Some(Nodes))"),
+        (Call::Refusal(1), "Refusal(Some(Space))"),
+        (Call::Shrink(1, 4), "Resized"),
+        (Call::Shrink(2, 9), "Answer(Refused)"),
+        (
+            Call::Compact,
+            "Compacted([Moved { number: 2, from: 5, to: 4, size: 10 }])",
+        ),
+    ];
+    expect_replies(&rt, rt.alloc(), 15, 4, &rows)
+}
+
+#[test]
+fn moves_ranges_of_no_units(rt: HostRuntime) -> Result<(), Fail> {
+    let rows = [
+        (
+            Call::Command(Command::Alloc(4)),
+            "Answer(Grant { number: 1, offset: 0 })",
+        ),
+        (
+            Call::Command(Command::Alloc(0)),
+            "Answer(Grant { number: 2, offset: 4 })",
+        ),
+        (
+            Call::Command(Command::Alloc(3)),
+            "Answer(Grant { number: 3, offset: 4 })",
+        ),
+        (Call::Command(Command::Free(1)), "Answer(Freed)"),
+        (
+            Call::Compact,
+            "Compacted([Moved { number: 2, from: 4, to: 0, size: 0 }, Moved { number: 3, from: 4, to: 0, size: 3 }])",
+        ),
+        (Call::Grow(2, 1), "Answer(Refused)"),
+        (Call::Shrink(3, 0), "Resized"),
+        (Call::Grow(2, 0), "Resized"),
+        (Call::Grow(3, 10), "Resized"),
+        (Call::Compact, "Compacted([])"),
+    ];
+    expect_replies(&rt, rt.alloc(), 10, 16, &rows)
+}
