@@ -1,7 +1,7 @@
-//! The daily use of an allocator, as `CALLING.md` of `offset_allocator` shows it. Each function proves with no proof
-//! file.
+//! The daily use of an allocator, as `CALLING.md` of `offset_allocator` shows it. Only `place` and `defragment` have a
+//! proof file.
 
-ghost use Rattle.std.specs.Prelude.{◌≡◌, ◌↔◌, ◌+◌, ◌-◌, ◌*◌, ◌<◌, ◌≤◌, ◌%◌, Some, None, false, not, min, IfSome, IfOk, IfErr, IsSome, IsTrue, length};
+ghost use Rattle.std.specs.Prelude.{ℕ, ◌≡◌, ◌↔◌, ◌⊎◌, ◌+◌, ◌-◌, ◌*◌, ◌<◌, ◌≤◌, ◌%◌, Some, None, false, not, min, IfSome, IfOk, IfErr, IsSome, IsTrue, length};
 ghost use Rattle.std.specs.Int.{is_power_of_two};
 ghost use Rattle.offset_allocator.specs.Named.{used_units, largest_free};
 ghost use Rattle.offset_allocator.specs.Ranges.{Range, range_of, size_of, KeepsAll, KeepsOthers, IsLive};
@@ -9,6 +9,7 @@ ghost use Rattle.offset_allocator.specs.Relations.{Allocates, Frees, SameSpace, 
 ghost use Rattle.offset_allocator.specs.Promises.{CanGrant, IsWhy};
 ghost use Rattle.offset_allocator.specs.Resizing.{CanShrink, CanGrow, HasUnits};
 ghost use Rattle.offset_allocator.specs.Compacting.{Compacts, KeepsSizes};
+ghost use Rattle.offset_uses.specs.Pool.{HoldsSame, IsCopied};
 
 use offset_allocator::{Allocation, Allocator, Move, Refusal, laws};
 
@@ -27,6 +28,7 @@ pub fn insert(
     ensures refused { result ≡ None → KeepsAll vertices.old vertices.new × KeepsAll indices.old indices.new }
     ensures granted { 1 ≤ vertex_count → 1 ≤ index_count
         → (IsSome result ↔ ((vertex_count ≤ largest_free vertices.old) × (index_count ≤ largest_free indices.old))) }
+    ensures can_grant { IsSome result ↔ (CanGrant 1 vertex_count vertices.old × CanGrant 1 index_count indices.old) }
     ensures sizes { (vertices.new.size ≡ vertices.old.size) × (indices.new.size ≡ indices.old.size) }
 {
     let first = vertices.allocate(vertex_count)?;
@@ -76,15 +78,16 @@ pub fn upload(heap: &mut Allocator, size: u32, align: u32) -> Option<Allocation>
 ///
 /// The error says why the request is refused, and so what is left to do: where the space is fragmented, `compact` it,
 /// or extend it where all free units are one block; where no node is left, use another space. Then no live range has
-/// changed, but the space may have grown.
+/// changed. Where too few units are free, the space has grown once, whatever is returned, if it can have that many more.
 pub fn place(space: &mut Allocator, size: u32, more: u32) -> Result<Allocation, Refusal>
     ensures range { IfOk result (λ h. range_of h.name space.new ≡ Some (record { offset = h.offset; size = size })) }
     ensures why { IfErr result (IsWhy 1 size space.new) }
-    ensures grown { IfErr result (λ _. IsWhy 1 size space.old Refusal.Space → space.old.size + more ≤ 4294967295 → space.new.size ≡ space.old.size + more) }
+    ensures grown { IsWhy 1 size space.old Refusal.Space → space.old.size + more ≤ 4294967295 → space.new.size ≡ space.old.size + more }
     ensures others { IfOk result (λ h. KeepsOthers h.name space.old space.new) }
     ensures refused { IfErr result (λ _. KeepsAll space.old space.new) }
-    ensures kept { (IsWhy 1 size space.old Refusal.Space → ⊥) → space.new.size ≡ space.old.size }
+    ensures kept { ((IsWhy 1 size space.old Refusal.Space → ⊥) ⊎ (4294967295 < space.old.size + more)) → space.new.size ≡ space.old.size }
 {
+    laws::is_well_formed(space);
     if space.refusal(size) == Some(Refusal::Space) {
         // where it cannot grow, the next call of `refusal` says so
         let _ = space.extend(more);
@@ -95,22 +98,29 @@ pub fn place(space: &mut Allocator, size: u32, more: u32) -> Result<Allocation, 
     }
 }
 
-/// Moves all live ranges of a buffer to its front, each with its data.
+// Copies `size` units from one place to a smaller one, where they are in the buffer.
+fn copy_down(buffer: &mut [u32], from: u32, to: u32, size: u32)
+    ensures { IsCopied from to size buffer.old buffer.new }
+{
+    let (from, to, size) = (from as usize, to as usize, size as usize);
+    if to <= from && from + size <= buffer.len() {
+        buffer.copy_within(from..from + size, to);
+    }
+}
+
+/// Moves all live ranges of a buffer to its front, each with its data. The buffer has to be as long as the space.
 ///
 /// Every handle stays live, with its size; `allocation_offset` returns where its range begins then. A request that was
-/// refused as fragmented can be granted afterwards. That each range holds the same data then is proved in `pool.rt`.
+/// refused as fragmented can be granted afterwards.
 pub fn defragment(space: &mut Allocator, buffer: &mut [u32])
     ensures sizes { KeepsSizes space.old space.new }
+    ensures data { space.old.size ≤ length buffer.old
+        → (x : ℕ) → HoldsSame buffer.old buffer.new (range_of x space.old) (range_of x space.new) }
+    ensures len { length buffer.new ≡ length buffer.old }
     ensures step { Compacts space.old space.new }
 {
-    space.compact(&mut |range: Move| {
-        let from = range.from as usize;
-        let end = from + range.size as usize;
-        // so it is in a buffer as long as the space
-        if range.to < range.from && end <= buffer.len() {
-            buffer.copy_within(from..end, range.to as usize);
-        }
-    });
+    laws::is_well_formed(space);
+    space.compact(&mut |range: Move| copy_down(buffer, range.from, range.to, range.size));
 }
 
 /// The byte at which the vertices of a mesh begin, with `stride` bytes each, as a draw call needs it, or `None` where

@@ -4,6 +4,7 @@
 ghost use Rattle.std.specs.Prelude.{◌≡◌, ◌≢◌, ◌↔◌, ◌⊎◌, true, false, ◌+◌, ◌<◌, ◌≤◌, ◌%◌, Some, None, IfSome, IsSome, IsTrue, IfOk, MatchOption, All, map, min, length};
 ghost use Rattle.offset_allocator.specs.Named.{View, Grant, largest_free, total_free};
 ghost use Rattle.offset_allocator.specs.Ranges.{Range, range_of, size_of, AreDisjoint, KeepsRanges, KeepsOthers, IsLive};
+ghost use Rattle.offset_allocator.specs.Promises.{CanGrant};
 ghost use Rattle.offset_allocator.specs.Relations.{Aligns, Allocates, Extends, Frees, SameSpace};
 ghost use Rattle.offset_script.specs.Machine.{answer_view};
 ghost use Rattle.offset_script.specs.Grammar.{has_valid_alignment};
@@ -149,6 +150,7 @@ pub fn charge(space: &mut Allocator, tenant: &mut Tenant, n: u32) -> Option<Allo
     ensures charged { IfSome result (λ _. tenant.new.held ≡ tenant.old.held + n) }
     ensures refused { result ≡ None → tenant.new ≡ tenant.old }
     ensures granted { 1 ≤ n → tenant.old.held + n ≤ tenant.old.quota → (IsSome result ↔ (n ≤ largest_free space.old)) }
+    ensures can_grant { IsSome result ↔ ((tenant.old.held + n ≤ tenant.old.quota) × CanGrant 1 n space.old) }
     ensures range { IfSome result (λ h. range_of h.name space.new ≡ Some (record { offset = h.offset; size = n })) }
     ensures kept { KeepsRanges space.old space.new }
 {
@@ -179,12 +181,17 @@ pub fn refund(space: &mut Allocator, tenant: &mut Tenant, allocation: Allocation
 ///
 /// It returns the free units that the report has while they are granted (0 at the node limit), or `None` where the
 /// request is refused. The space is then as it was, after at most 192 accesses to its tables, and at most 8 for the
-/// report, which `count` counts.
+/// report, which `count` counts; where it is granted at least 16, and at least 1 where units are left.
 pub fn frame<NI: NodeIndex>(space: &mut Allocator<NI>, n: u32, count: &mut Accesses) -> Option<u32>
     ensures granted { 1 ≤ n → (IsSome result ↔ (n ≤ largest_free space.old)) }
-    ensures beside { IfSome result (λ left. (w : View) × (g : Grant) × Allocates n space.old w (Some g) × (left ≡ total_free w)) }
+    ensures can_grant { IsSome result ↔ CanGrant 1 n space.old }
+    ensures beside { IfSome result (λ left. (w : View) × (g : Grant) × Allocates n space.old w (Some g) × (left ≡ total_free w)
+        × (1 ≤ largest_free w → count.old + 1 ≤ count.new)) }
     ensures same { SameSpace space.old space.new }
+    ensures accesses_kept { space.old.accesses ≤ space.new.accesses }
+    ensures accesses_min { IsSome result → space.old.accesses + 16 ≤ space.new.accesses }
     ensures accesses_max { space.new.accesses ≤ space.old.accesses + 192 }
+    ensures count_kept { count.old ≤ count.new }
     ensures count_max { count.new ≤ count.old + 8 }
 {
     laws::is_well_formed(space);
