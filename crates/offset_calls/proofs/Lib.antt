@@ -1,4 +1,6 @@
-mod Numbering
+pub mod Alike
 pub mod Compacted
 pub mod Followed
+pub mod Histories
+mod Numbering
 pub mod Resized

@@ -58,7 +58,7 @@ both_fresh g h x y (Frees s u) (Lives i j) m n = tt
 both_fresh g h x y (Frees s u) (Frees t v) m n = fresh_order x y s u t v m.0 n.0 m.2 m.3 n.2 n.3
 
 -- a pair that a call leaves is matched at the next call
-matched_in_new : (r : ℕ → ℕ) (d g h x y : ℕ) → g ≡ h + d → ((k : ℕ) → k ≤ g → r k ≤ h) → ((k : ℕ) → g < k → r k + d ≡ k)
+pub matched_in_new : (r : ℕ → ℕ) (d g h x y : ℕ) → g ≡ h + d → ((k : ℕ) → k ≤ g → r k ≤ h) → ((k : ℕ) → g < k → r k + d ≡ k)
     → (a : Kind) → Matched r (2 * (x + 1)) (2 * (y + 1)) a ⊎ Fresh g h x y a → Matched r (2 * (x + 1 + 1)) (2 * (y + 1 + 1)) a
 matched_in_new r d g h x y e past future (Lives j j') (inl m) = m
 matched_in_new r d g h x y e past future (Lives j j') (inr m) = λ k. elim (cases_lt g k) [
@@ -72,17 +72,17 @@ matched_in_new r d g h x y e past future (Frees s u) (inr m) = omega arith
 abbrev pub Left : (r : ℕ → ℕ) (d : ℕ) (s t : State) → Alike r d s t → List Pair → Type 0
 Left r d s t a p = (q : Pair) → In q p → In q a.pairs ⊎ Fresh s.grants t.grants s.calls t.calls q.kind
 
-agree_in_new : (r : ℕ → ℕ) (d : ℕ) (s t : State) (a : Alike r d s t) (x y : Pair) → In x a.pairs ⊎ Fresh s.grants t.grants s.calls t.calls x.kind → In y a.pairs ⊎ Fresh s.grants t.grants s.calls t.calls y.kind → Agree x y
+pub agree_in_new : (r : ℕ → ℕ) (d : ℕ) (s t : State) (a : Alike r d s t) (x y : Pair) → In x a.pairs ⊎ Fresh s.grants t.grants s.calls t.calls x.kind → In y a.pairs ⊎ Fresh s.grants t.grants s.calls t.calls y.kind → Agree x y
 agree_in_new r d s t a x y (inl i) (inl j) = a.agree x y i j
 agree_in_new r d s t a x y (inl i) (inr f) = λ same. old_before_fresh r s.grants t.grants s.calls t.calls x.kind y.kind (a.matched x i) f
 agree_in_new r d s t a x y (inr f) (inl j) = λ same. fresh_after_old r s.grants t.grants s.calls t.calls x.kind y.kind f (a.matched y j)
 agree_in_new r d s t a x y (inr f) (inr f') = λ same. both_fresh s.grants t.grants s.calls t.calls x.kind y.kind f f'
 
-either : (r : ℕ → ℕ) (d : ℕ) (s t : State) (a : Alike r d s t) (q : Pair) → In q a.pairs ⊎ Fresh s.grants t.grants s.calls t.calls q.kind → Matched r (2 * (s.calls + 1)) (2 * (t.calls + 1)) q.kind ⊎ Fresh s.grants t.grants s.calls t.calls q.kind
+pub either : (r : ℕ → ℕ) (d : ℕ) (s t : State) (a : Alike r d s t) (q : Pair) → In q a.pairs ⊎ Fresh s.grants t.grants s.calls t.calls q.kind → Matched r (2 * (s.calls + 1)) (2 * (t.calls + 1)) q.kind ⊎ Fresh s.grants t.grants s.calls t.calls q.kind
 either r d s t a q (inl i) = inl (a.matched q i)
 either r d s t a q (inr f) = inr f
 
-past_in_new : (r : ℕ → ℕ) (d x y g h k : ℕ) → ((k : ℕ) → k ≤ x → r k ≤ y) → ((k : ℕ) → x < k → r k + d ≡ k) → y ≤ h → g ≡ h + d → k ≤ g → r k ≤ h
+pub past_in_new : (r : ℕ → ℕ) (d x y g h k : ℕ) → ((k : ℕ) → k ≤ x → r k ≤ y) → ((k : ℕ) → x < k → r k + d ≡ k) → y ≤ h → g ≡ h + d → k ≤ g → r k ≤ h
 past_in_new r d x y g h k past future from e l = elim (cases_lt x k) [
   | inl m ↦ let f = future k m in omega arith
   | inr m ↦ let f = past k m in omega arith
@@ -109,15 +109,15 @@ pub record SameOutcome (r : ℕ → ℕ) (d : ℕ) (o p : Outcome) : Type 0 wher
   pub answer : o.answer ≡ raise_number d p.answer
   pub state : Alike r d o.state p.state
 
-same_quiet : (r : ℕ → ℕ) (d : ℕ) (s t : State) → Alike r d s t → (x y : Answer) → x ≡ raise_number d y → SameOutcome r d (returns_only s x) (returns_only t y)
+pub same_quiet : (r : ℕ → ℕ) (d : ℕ) (s t : State) → Alike r d s t → (x y : Answer) → x ≡ raise_number d y → SameOutcome r d (returns_only s x) (returns_only t y)
 same_quiet r d s t a x y e = record { answer = e; state = keeps_alike r d s t a a.pairs s.grants t.grants s.blocks t.blocks a.left_blocks a.right_blocks (λ q i. inl i) (omega arith) (omega arith) a.grants }
 
-same_leaves : (r : ℕ → ℕ) (d : ℕ) (s t : State) (a : Alike r d s t) (x y : Answer) (p : List Pair) (bs cs : List Block) → x ≡ raise_number d y → bs ≡ lefts p → cs ≡ rights p → Left r d s t a p
+pub same_leaves : (r : ℕ → ℕ) (d : ℕ) (s t : State) (a : Alike r d s t) (x y : Answer) (p : List Pair) (bs cs : List Block) → x ≡ raise_number d y → bs ≡ lefts p → cs ≡ rights p → Left r d s t a p
     → SameOutcome r d (leaves s bs x) (leaves t cs y)
 same_leaves r d s t a x y p bs cs e on_left on_right each = record { answer = e; state = keeps_alike r d s t a p s.grants t.grants bs cs on_left on_right each (omega arith) (omega arith) a.grants }
 
 -- a grant
-fresh_kinds : (g h x y : ℕ) (q : Pair) → (q.kind ≡ Frees (2 * (x + 1)) (2 * (y + 1))) ⊎ (q.kind ≡ Lives (g + 1) (h + 1)) ⊎ (q.kind ≡ Frees (2 * (x + 1) + 1) (2 * (y + 1) + 1)) → Fresh g h x y q.kind
+pub fresh_kinds : (g h x y : ℕ) (q : Pair) → (q.kind ≡ Frees (2 * (x + 1)) (2 * (y + 1))) ⊎ (q.kind ≡ Lives (g + 1) (h + 1)) ⊎ (q.kind ≡ Frees (2 * (x + 1) + 1) (2 * (y + 1) + 1)) → Fresh g h x y q.kind
 fresh_kinds g h x y q (inl e) = subst (Fresh g h x y) (sym e) (0, omega arith, omega arith, omega arith)
 fresh_kinds g h x y q (inr (inl e)) = subst (Fresh g h x y) (sym e) (refl, refl)
 fresh_kinds g h x y q (inr (inr e)) = subst (Fresh g h x y) (sym e) (1, omega arith, omega arith, omega arith)
@@ -159,10 +159,10 @@ same_number : (r : ℕ → ℕ) (x y k : ℕ) (q : Kind) → Matched r x y q →
 same_number r x y k (Lives i j) m = m k
 same_number r x y k (Frees s u) m = refl
 
-same_placed : (r : ℕ → ℕ) (d : ℕ) (s t : State) (a : Alike r d s t) (k : ℕ) → SamePlace (λ q. Unit {0}) a.pairs (place_of k s.blocks) (place_of (r k) t.blocks)
+pub same_placed : (r : ℕ → ℕ) (d : ℕ) (s t : State) (a : Alike r d s t) (k : ℕ) → SamePlace (λ q. Unit {0}) a.pairs (place_of k s.blocks) (place_of (r k) t.blocks)
 same_placed r d s t a k = subst₂ (λ x y. SamePlace (λ q. Unit {0}) a.pairs (place_of k x) (place_of (r k) y)) (sym a.left_blocks) (sym a.right_blocks) (same_place_of k (r k) a.pairs (λ q i. same_number r _ _ k q.kind (a.matched q i)))
 
-left_released : (r : ℕ → ℕ) (d : ℕ) (s t : State) (a : Alike r d s t) (q : Pair) → In q a.pairs ⊎ (q.kind ≡ Frees (2 * (s.calls + 1) + 1) (2 * (t.calls + 1) + 1)) → In q a.pairs ⊎ Fresh s.grants t.grants s.calls t.calls q.kind
+pub left_released : (r : ℕ → ℕ) (d : ℕ) (s t : State) (a : Alike r d s t) (q : Pair) → In q a.pairs ⊎ (q.kind ≡ Frees (2 * (s.calls + 1) + 1) (2 * (t.calls + 1) + 1)) → In q a.pairs ⊎ Fresh s.grants t.grants s.calls t.calls q.kind
 left_released r d s t a q (inl i) = inl i
 left_released r d s t a q (inr e) = inr (fresh_kinds s.grants t.grants s.calls t.calls q (inr (inr e)))
 

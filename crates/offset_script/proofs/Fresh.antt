@@ -15,14 +15,14 @@ use Rattle.offset_script.proofs.Nests.{number_without_none, number_without_past,
 use Rattle.offset_script.proofs.Well.{Well, Apart, count, hit_self, well_start, well_after}
 
 -- one free block
-abbrev IsOneFree : List Block → Type 0
+abbrev pub IsOneFree : List Block → Type 0
 IsOneFree bs = (n x : ℕ) × (bs ≡ block n (Free x) ∷ [])
 
 free_tag : (t : Tag) → IsTrue (is_free t) → (x : ℕ) × (t ≡ Free x)
 free_tag (Free x) h = (x, refl)
 free_tag (Live k) h = absurd (grind (arith, h))
 
-one_free : (bs : List Block) → 1 ≤ length bs → Apart bs → AllByRecursion (λ b. IsTrue (is_free b.tag)) bs → IsOneFree bs
+pub one_free : (bs : List Block) → 1 ≤ length bs → Apart bs → AllByRecursion (λ b. IsTrue (is_free b.tag)) bs → IsOneFree bs
 one_free [] some a f = absurd (omega arith)
 one_free (b ∷ []) some a f = let t = free_tag b.tag f.0 in (b.size, t.0, ap (λ t. block b.size t ∷ []) t.1)
 one_free (b ∷ c ∷ bs) some a f =
@@ -30,7 +30,7 @@ one_free (b ∷ c ∷ bs) some a f =
     let u = free_tag c.tag f.1.0 in
     absurd (true≢false (ap (λ t. is_free t && true) (sym t.1) ∙ ap (λ u. is_free b.tag && is_free u) (sym u.1) ∙ a.0))
 
-alike_fresh : (s : State) (n x g : ℕ) → g ≡ s.grants → s.blocks ≡ block n (Free x) ∷ [] → x < 2 * (s.calls + 1) → Alike (number_without 0 g) g s (start (total s.blocks) s.limit)
+pub alike_fresh : (s : State) (n x g : ℕ) → g ≡ s.grants → s.blocks ≡ block n (Free x) ∷ [] → x < 2 * (s.calls + 1) → Alike (number_without 0 g) g s (start (total s.blocks) s.limit)
 alike_fresh s n x g same e h = record {
   limit = refl;
   pairs = q ∷ [];

@@ -193,7 +193,7 @@ matched_kind : (s t : State) → Well s → Well t → (j : ℕ) (q : Kind) → 
 matched_kind s t w v j (Lives i i') e c d = λ k. let b = w.old (Live i') d in subst (λ x. nat_eq k x ≡ nat_eq (number_without s.grants j k) i') (sym e) (number_without_kept s.grants j i' k b.0 b.1)
 matched_kind s t w v j (Frees x y) e c d = (v.old (Free x) c, w.old (Free y) d)
 
-alike_after : (s t : State) → Well s → Well t → Traceless s t → Alike (number_without s.grants (t.grants - s.grants)) (t.grants - s.grants) t s
+pub alike_after : (s t : State) → Well s → Well t → Traceless s t → Alike (number_without s.grants (t.grants - s.grants)) (t.grants - s.grants) t s
 alike_after s t w v m = record {
   limit = m.limit;
   pairs = turned.pairs;

@@ -1,0 +1,87 @@
+-- The laws over whole histories of calls.
+use Rattle.std.proofs.Common.{◌≡◌, ℕ, ◌+◌, ◌-◌, ◌≤◌, List, [], ◌∷◌, ◌++◌, map, nat_le, if◌then◌else◌, refl, sym, ap, ap₂, ◌∙◌, inl, inr, arith, le-leb}
+use Rattle.std.proofs.lemmas.Bool.{cases_lt, lt-leb}
+use Rattle.offset_script.specs.declared.scripts.Command.{Command}
+use Rattle.offset_script.specs.declared.scripts.Command.TheVariants as command
+use Rattle.offset_script.specs.Histories.{HasNoLive, Nest, number_without}
+use Rattle.offset_script.specs.Histories as script
+use Rattle.offset_script.specs.Machine.{Free, State, start, total}
+use Rattle.offset_script.specs.Machine as machine
+use Rattle.offset_script.proofs.Fresh.{IsOneFree, one_free, alike_fresh, raise_none, renumber_same}
+use Rattle.offset_script.proofs.Members.{map_same}
+use Rattle.offset_script.proofs.Nests.{Traceless, traceless, alike_after, number_without_none}
+use Rattle.offset_script.proofs.Similar.{similar_refl}
+use Rattle.offset_script.proofs.Well.{Well, count, hit_self, well_start, well_after}
+use Rattle.offset_calls.specs.declared.calls.Call.{Call}
+use Rattle.offset_calls.specs.declared.calls.Call.TheVariants as call
+use Rattle.offset_calls.specs.Calls.{Move, Reply, Answer, Compacted, after, replies, step}
+use Rattle.offset_calls.specs.Histories.{IsQuestion, number_with, raise, raise_move, renumber, replies_renumbered}
+use Rattle.offset_calls.proofs.Alike.{same_replies, number_back_again}
+use Rattle.offset_calls.proofs.Followed.{well_call, well_calls}
+
+-- a space without live grants
+pub fresh_law : (size limit : ℕ) → 2 ≤ limit → (cs : List Call) → let s = after cs (start size limit) in HasNoLive s → (next : List Call) → replies next s ≡ replies_renumbered (start (total s.blocks) s.limit) s next
+fresh_law size limit h cs none =
+    let s = after cs (start size limit) in
+    let w : Well s = well_calls cs _ (well_start size limit h) in
+    let f : IsOneFree s.blocks = one_free s.blocks w.some w.apart none in
+    λ next. same_replies (number_without 0 (s.grants - 0)) 0 (s.grants - 0) (number_back_again 0 (s.grants - 0)) next s (start (total s.blocks) s.limit)
+    (alike_fresh s f.0 f.1 (s.grants - 0) (omega arith) f.2 (w.old (Free f.1) (let c = ap (count (Free f.1)) f.2 in let h = hit_self (Free f.1) in omega arith)))
+
+-- what leaves no trace
+traceless_replies : (s t : State) → Well s → Well t → Traceless s t → (next : List Call) → replies next t ≡ replies_renumbered s t next
+traceless_replies s t w v m next = same_replies (number_without s.grants (t.grants - s.grants)) s.grants (t.grants - s.grants) (number_back_again s.grants (t.grants - s.grants)) next t s (alike_after s t w v m)
+
+pub nest_law : (size limit : ℕ) → 2 ≤ limit → (cs : List Call) (nest : List Command) → let s = after cs (start size limit) in Nest s nest → (next : List Call) → replies next (machine.after nest s) ≡ replies_renumbered s (machine.after nest s) next
+nest_law size limit h cs nest n =
+    let s = after cs (start size limit) in
+    let w : Well s = well_calls cs (start size limit) (well_start size limit h) in
+    λ next. traceless_replies s (machine.after nest s) w (well_after nest s w) (traceless n w) next
+
+-- no grants are left out
+with_none : (g k : ℕ) → number_with g 0 k ≡ k
+with_none g k = elim (cases_lt g k) [
+  | inl l ↦ ap (λ b. if b then k else k + 0) (lt-leb k g l) ∙ (let e : k + 0 ≡ k = omega arith in e)
+  | inr l ↦ ap (λ b. if b then k else k + 0) (le-leb k g l)
+]
+
+raised_none : (g : ℕ) (r : Reply) → raise g 0 r ≡ r
+raised_none g (Answer a) = ap Answer (raise_none a)
+raised_none g (Compacted ms) = ap Compacted (map_same (raise_move g 0) (λ m. ap (λ (k : ℕ). record { number = k; from = m.from; to = m.to; size = m.size }) (with_none g m.number)) ms)
+raised_none g other = refl
+
+renumbered_none : (g : ℕ) (c : Call) → renumber (number_without g 0) c ≡ c
+renumbered_none g (call.Command c) = ap call.Command (renumber_same (number_without g 0) (number_without_none g) c)
+renumbered_none g (call.Shrink k n) = ap (λ k. call.Shrink k n) (number_without_none g k)
+renumbered_none g (call.Grow k n) = ap (λ k. call.Grow k n) (number_without_none g k)
+renumbered_none g (call.Offset k) = ap call.Offset (number_without_none g k)
+renumbered_none g other = refl
+
+as_before : (g j : ℕ) (cs : List Call) (s : State) → j ≡ 0 → map (raise g j) (replies (map (renumber (number_without g j)) cs) s) ≡ replies cs s
+as_before g j cs s e = rw e (map_same (raise g 0) (raised_none g) _ ∙ ap (λ l. replies l s) (map_same (renumber (number_without g 0)) (renumbered_none g) cs))
+
+-- a question only counts as a call
+counts_only : (q : Call) (s : State) → IsQuestion q → (step q s).state ≡ record s { calls = s.calls + 1 }
+counts_only (call.Command (command.Size k)) s h = refl
+counts_only (call.Command command.Report) s h = refl
+counts_only (call.Command command.Full) s h = refl
+counts_only (call.Command other) s h = absurd h
+counts_only (call.Offset k) s h = refl
+counts_only (call.Refusal n) s h = refl
+counts_only (call.RefusalAligned n align) s h = refl
+counts_only other s h = absurd h
+
+replies-append : (xs ys : List Call) (s : State) → replies (xs ++ ys) s ≡ replies xs s ++ replies ys (after xs s)
+replies-append [] ys s = refl
+replies-append (x ∷ xs) ys s = ap (λ l. (step x s).reply ∷ l) (replies-append xs ys (step x s).state)
+
+pub question_law : (size limit : ℕ) → 2 ≤ limit → (before : List Call) (q : Call) (rest : List Call) → IsQuestion q
+    → let s = after before (start size limit) in replies (before ++ q ∷ rest) (start size limit) ≡ replies before (start size limit) ++ ((step q s).reply ∷ replies rest s)
+question_law size limit h before q rest asks =
+    let s = after before (start size limit) in
+    let t : State = record s { calls = s.calls + 1 } in
+    let w : Well s = well_calls before (start size limit) (well_start size limit h) in
+    let v : Well t = well_call (call.Refusal 0) s w in
+    let m : Traceless s t = record { limit = refl; blocks = similar_refl s.blocks; grants = omega arith } in
+    replies-append before (q ∷ rest) (start size limit)
+    ∙ ap (λ l. replies before (start size limit) ++ ((step q s).reply ∷ l)) (ap (replies rest) (counts_only q s asks) ∙ traceless_replies s t w v m rest ∙ as_before s.grants (s.grants - s.grants) rest s (omega arith))

@@ -1,0 +1,49 @@
+-- Laws over whole histories of calls.
+use Rattle.std.specs.Prelude.{take, drop, ◌≡◌, ◌≢◌, ℕ, ◌+◌, ◌-◌, List, [], ◌∷◌, ◌++◌, length, map, nat_le, if◌then◌else◌}
+use Rattle.offset_script.specs.declared.scripts.Command.TheVariants as command
+use Rattle.offset_script.specs.Histories.{HasNoLive, number_without, raise_number, IsGrant, KeepsSpace}
+use Rattle.offset_script.specs.Histories as script
+use Rattle.offset_script.specs.Machine.{State, start, total}
+use Rattle.offset_script.specs.Machine as machine
+use Rattle.offset_calls.specs.declared.calls.Call.{Call}
+use Rattle.offset_calls.specs.declared.calls.Call.TheVariants as call
+use Rattle.offset_calls.specs.Calls.{Move, Reply, Answer, Compacted, step, after, replies}
+
+-- a call with the function r applied to its grant number, if it has one
+abbrev pub renumber : (ℕ → ℕ) → Call → Call
+renumber r (call.Command c) = call.Command (script.renumber r c)
+renumber r (call.Shrink k n) = call.Shrink (r k) n
+renumber r (call.Grow k n) = call.Grow (r k) n
+renumber r (call.Offset k) = call.Offset (r k)
+renumber r other = other
+
+-- a grant number as it is with j further grants after the first g
+abbrev pub number_with : ℕ → ℕ → ℕ → ℕ
+number_with g j k = if nat_le k g then k else k + j
+
+-- a move with the number that its grant has with j further grants after the first g
+abbrev pub raise_move : ℕ → ℕ → Move → Move
+raise_move g j m = record { number = number_with g j m.number; from = m.from; to = m.to; size = m.size }
+
+-- a reply to a call after j further grants after the first g: a new grant has a number larger by j
+abbrev pub raise : ℕ → ℕ → Reply → Reply
+raise g j (Answer a) = Answer (raise_number j a)
+raise g j (Compacted ms) = Compacted (map (raise_move g j) ms)
+raise g j other = other
+
+-- the replies from s on, numbered as those from t on, where t has made more grants
+abbrev pub replies_renumbered : State → State → List Call → List Reply
+replies_renumbered s t cs = map (raise s.grants (t.grants - s.grants)) (replies (map (renumber (number_without s.grants (t.grants - s.grants))) cs) s)
+
+-- wherever no block is live, the replies found from there on are those of a fresh machine of as many units, numbered as
+-- here
+abbrev pub RestartsFresh : ℕ → ℕ → List Call → List Reply → Type 0
+RestartsFresh size limit cs found = (i : ℕ) → let s = after (take i cs) (start size limit) in HasNoLive s → drop i found ≡ replies_renumbered (start (total s.blocks) s.limit) s (drop i cs)
+
+-- whether a call is a question: it changes nothing
+abbrev pub IsQuestion : Call → Type 0
+IsQuestion (call.Command c) = script.IsQuestion c
+IsQuestion (call.Offset k) = Unit {0}
+IsQuestion (call.Refusal n) = Unit {0}
+IsQuestion (call.RefusalAligned n align) = Unit {0}
+IsQuestion other = ⊥
