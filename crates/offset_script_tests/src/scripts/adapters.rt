@@ -99,6 +99,19 @@ fn flushes_by_one_flush(rt: HostRuntime) {
     }
 }
 
+// A flush right after a flush, and one after a write that came between, are flushes of the writer too.
+#[test]
+fn flushes_each_time(rt: HostRuntime) {
+    let mut output = IntoWrite::new(Writer::new(rt.alloc(), 3));
+    assert!(rt; output.flush());
+    assert!(rt; output.flush());
+    assert_eq!(rt; output.push(b"abc".as_slice()), Some(3));
+    assert!(rt; output.flush());
+    let writer = output.into_inner();
+    assert_eq!(rt; (writer.writes, writer.flushes), (1, 3));
+    assert_eq!(rt; writer.flushed, Some(3));
+}
+
 #[test]
 fn flushes_after_a_failure(rt: HostRuntime) {
     let mut writer = Writer::new(rt.alloc(), 3);

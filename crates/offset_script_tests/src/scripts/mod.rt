@@ -11,6 +11,7 @@ mod index_types;
 mod lengths;
 mod lines;
 mod parsing;
+mod plain_sinks;
 mod reads;
 mod releases;
 mod rows;
