@@ -42,11 +42,11 @@ in_without : (q : Pair) (ps : List Pair) → In q (without_pairs ps) → In q ps
 in_without q [] i = i
 in_without q (p ∷ ps) i = elim (is_free (left_tag p.kind)) as (λ x. In q (if x then ps else p ∷ ps) → In q (p ∷ ps)) [ true ↦ λ i. inr i | false ↦ λ i. i ] i
 
-same_starts : (ps : List Pair) → starts_free (lefts ps) ≡ starts_free (rights ps)
+pub same_starts : (ps : List Pair) → starts_free (lefts ps) ≡ starts_free (rights ps)
 same_starts [] = refl
 same_starts (q ∷ ps) = same_free q.kind
 
-same_free_start : (ps : List Pair) → free_start (lefts ps) ≡ free_start (rights ps)
+pub same_free_start : (ps : List Pair) → free_start (lefts ps) ≡ free_start (rights ps)
 same_free_start [] = refl
 same_free_start (q ∷ ps) = ap (λ x. if x then q.size else 0) (same_free q.kind)
 

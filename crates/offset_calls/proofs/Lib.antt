@@ -4,3 +4,4 @@ pub mod Followed
 pub mod Histories
 mod Numbering
 pub mod Resized
+pub mod Rows

@@ -47,3 +47,8 @@ IsQuestion (call.Offset k) = Unit {0}
 IsQuestion (call.Refusal n) = Unit {0}
 IsQuestion (call.RefusalAligned n align) = Unit {0}
 IsQuestion other = ⊥
+
+-- a reply without the offset of a new grant
+abbrev pub without_offset : Reply → Reply
+without_offset (Answer a) = Answer (script.without_offset a)
+without_offset other = other

@@ -2,14 +2,14 @@
 
 ghost use Rattle.std.specs.Prelude.{◌≡◌, ◌≤◌, ◌++◌, ◌∷◌, ℕ, List, map};
 ghost use Rattle.offset_script.specs.declared.scripts.Command.{Command};
-ghost use Rattle.offset_script.specs.Histories.{HasNoLive, Nest};
+ghost use Rattle.offset_script.specs.Histories.{HasNoLive, IsCollapse, Nest, collapse, outline, releases};
 ghost use Rattle.offset_script.specs.Machine as machine;
-ghost use Rattle.offset_script.specs.Machine.{start, total};
+ghost use Rattle.offset_script.specs.Machine.{State, start, total};
 ghost use Rattle.offset_calls.specs.declared.calls.Call.{Call};
 ghost use Rattle.offset_calls.specs.declared.calls.Call.TheVariants as call;
 ghost use Rattle.offset_calls.specs.Calls as plain;
 ghost use Rattle.offset_calls.specs.Calls.{after, replies, step};
-ghost use Rattle.offset_calls.specs.Histories.{IsQuestion, replies_renumbered};
+ghost use Rattle.offset_calls.specs.Histories.{IsQuestion, replies_renumbered, without_offset};
 
 /// The replies to calls that are commands of a script are the answers to the script.
 pub fn commands_have_their_answers()
@@ -29,6 +29,18 @@ pub fn a_nest_leaves_no_trace()
     ensures { (size limit : ℕ) → 2 ≤ limit → (cs : List Call) (nest : List Command) → let s = after cs (start size limit) in
         Nest s nest → (next : List Call)
         → replies next (machine.after nest s) ≡ replies_renumbered s (machine.after nest s) next }
+{}
+
+/// Releases in a row leave the same space in any order, after any calls.
+pub fn releases_commute()
+    // The sizes and the live grants are those of the collapse, which does not depend on the order.
+    ensures space { (size limit : ℕ) → 2 ≤ limit → (cs : List Call) (ks : List ℕ) → let s = after cs (start size limit) in
+        outline (machine.after (releases ks) s).blocks ≡ collapse ks (outline s.blocks) }
+    // A next call, also one that resizes or compacts, has the same reply as there, except for the offset of a new grant.
+    ensures next { (size limit : ℕ) → 2 ≤ limit → (cs : List Call) (ks : List ℕ) (t : State)
+        → let s = after cs (start size limit) in
+        IsCollapse ks s t → (c : Call)
+        → without_offset (step c (machine.after (releases ks) s)).reply ≡ without_offset (step c t).reply }
 {}
 
 /// A question, put anywhere into the calls, changes no other reply.

@@ -199,8 +199,8 @@ fn reply<NI: NodeIndex>(
 /// for each.
 ///
 /// The limit has to be 2 to `NI::MAX - 2`, and each alignment a power of two. All replies are kept in memory. It fails
-/// only where an allocation fails. A compaction looks for each moved range's number among all grants so far; every
-/// other call costs what the allocator's does.
+/// only where an allocation fails. A compaction looks for the number of each live range among all grants so far; every
+/// other call costs what it costs in the allocator.
 pub fn play_calls<NI: NodeIndex>(
     alloc: Global,
     size: u32,

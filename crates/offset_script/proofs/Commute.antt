@@ -133,7 +133,7 @@ released_outline s w k (Some p) e =
     ∙ ap (λ t. collapse (k ∷ []) (outline (p.before ++ block p.block.size t ∷ p.after))) (sym tag)
     ∙ ap (λ bs. collapse (k ∷ []) (outline bs)) (sym f.0)
 
-releases_outline : (ks : List ℕ) (s : State) → Well s → outline (after (releases ks) s).blocks ≡ collapse ks (outline s.blocks)
+pub releases_outline : (ks : List ℕ) (s : State) → Well s → outline (after (releases ks) s).blocks ≡ collapse ks (outline s.blocks)
 releases_outline [] s w = sym (unchanged [] s.blocks w.apart (λ j e. absurd (false≢true e)))
 releases_outline (k ∷ ks) s w =
     releases_outline ks (step (command.Free k) s).state (well_step (command.Free k) s w)
@@ -144,15 +144,15 @@ released_scalars : (s : State) (o : Option Place) → ((release s o).state.limit
 released_scalars s None = (refl, refl)
 released_scalars s (Some p) = (refl, refl)
 
-releases_scalars : (ks : List ℕ) (s : State) → ((after (releases ks) s).limit ≡ s.limit) × ((after (releases ks) s).grants ≡ s.grants)
+pub releases_scalars : (ks : List ℕ) (s : State) → ((after (releases ks) s).limit ≡ s.limit) × ((after (releases ks) s).grants ≡ s.grants)
 releases_scalars [] s = (refl, refl)
 releases_scalars (k ∷ ks) s = let r = released_scalars s (place_of k s.blocks) in let ih = releases_scalars ks (step (command.Free k) s).state in (ih.0 ∙ r.0, ih.1 ∙ r.1)
 
 -- one command at two states of one outline
-record SameSpace (s t : State) : Type 0 where
-  limit : s.limit ≡ t.limit
-  grants : s.grants ≡ t.grants
-  blocks : Paired s.blocks t.blocks
+pub record SameSpace (s t : State) : Type 0 where
+  pub limit : s.limit ≡ t.limit
+  pub grants : s.grants ≡ t.grants
+  pub blocks : Paired s.blocks t.blocks
 
 -- whether a request is granted goes by the sizes
 some_chosen : (n : ℕ) (b : Block) (bs : List Block) (o : Option Place) → is_some (choose n b bs o) ≡ (fits n b || is_some o)
@@ -162,7 +162,7 @@ some_chosen n b bs (Some p) = elim (fits n b) as (λ x. is_some (if x && is_take
   | false ↦ refl
 ]
 
-some_same : (n : ℕ) (p : List Pair) → is_some (chosen_place n (lefts p)) ≡ is_some (chosen_place n (rights p))
+pub some_same : (n : ℕ) (p : List Pair) → is_some (chosen_place n (lefts p)) ≡ is_some (chosen_place n (rights p))
 some_same n [] = refl
 some_same n (q ∷ p) = some_chosen n (left q) (lefts p) (chosen_place n (lefts p))
     ∙ ap₂ (λ x y. (x && nat_le (up n) (down q.size)) || y) (same_free q.kind) (some_same n p)
@@ -178,7 +178,7 @@ same_request : (s t : State) → SameSpace s t → (spare needed n : ℕ) (paddi
 same_request s t a spare needed n padding_at = if_same (λ (o p : Outcome). without_offset o.answer ≡ without_offset p.answer) (is_short_of spare s) (is_short_of spare t) (returns_only s machine.Refused) (returns_only t machine.Refused) (grant_or_refuse s n padding_at (chosen_place needed s.blocks)) (grant_or_refuse t n padding_at (chosen_place needed t.blocks))
     (same_short s t a.blocks.pairs a.limit a.blocks.left_blocks a.blocks.right_blocks spare) (λ e. refl) (same_granted s t a.grants n padding_at _ _ (ap (λ bs. is_some (chosen_place needed bs)) a.blocks.left_blocks ∙ some_same needed a.blocks.pairs ∙ ap (λ bs. is_some (chosen_place needed bs)) (sym a.blocks.right_blocks)))
 
-same_number : (k : ℕ) (q : Kind) → SameNumber q → has_number k (left_tag q) ≡ has_number k (right_tag q)
+pub same_number : (k : ℕ) (q : Kind) → SameNumber q → has_number k (left_tag q) ≡ has_number k (right_tag q)
 same_number k (Lives i j) e = ap (nat_eq k) e
 same_number k (Frees s u) e = refl
 
@@ -195,7 +195,7 @@ same_extend s t a zero = refl
 same_extend s t a (suc more) = if_same (λ (o p : Outcome). without_offset o.answer ≡ without_offset p.answer) (nat_lt max_size (total s.blocks + suc more) || (ends_live s.blocks && is_short_of 1 s)) (nat_lt max_size (total t.blocks + suc more) || (ends_live t.blocks && is_short_of 1 t)) (returns_only s machine.Refused) (returns_only t machine.Refused) (leaves s (coalesce s.blocks (suc more) (stamp_of_call s) []) machine.Extended) (leaves t (coalesce t.blocks (suc more) (stamp_of_call t) []) machine.Extended)
     (same_refusal s t a.blocks.pairs a.limit a.blocks.left_blocks a.blocks.right_blocks (suc more)) (λ e. refl) refl
 
-same_next : (s t : State) → SameSpace s t → (c : Command) → without_offset (step c s).answer ≡ without_offset (step c t).answer
+pub same_next : (s t : State) → SameSpace s t → (c : Command) → without_offset (step c s).answer ≡ without_offset (step c t).answer
 same_next s t a (command.Alloc n) = same_request s t a 1 n n (λ offset. 0)
 same_next s t a (command.Free k) = (same_place s t a k).0
 same_next s t a (command.Size k) = ap without_offset (same_place s t a k).1

@@ -1,0 +1,70 @@
+-- Releases in a row: the reply to the call after them.
+use Rattle.std.proofs.Common.{◌≡◌, ℕ, suc, ◌+◌, ◌-◌, ◌≤◌, Bool, true, false, not, ◌&&◌, ◌||◌, List, [], ◌∷◌, ◌++◌, sum, Option, Some, None, is_some, nat_eq, nat_lt, nat_le, if◌then◌else◌, refl, sym, ap, ap₂, subst₂, ◌∙◌, inl, inr, arith}
+use Rattle.offset_allocator.specs.declared.reports.Refusal.TheVariants.{Nodes, Space, Fragmented}
+use Rattle.offset_script.specs.Histories.{IsCollapse, collapse, outline, releases}
+use Rattle.offset_script.specs.Machine.{State, start, chosen_place, free_sizes, is_short_of, place_of, is_free}
+use Rattle.offset_script.specs.Machine as machine
+use Rattle.offset_script.proofs.Commute.{SameSpace, releases_outline, releases_scalars, same_next, same_number, some_same}
+use Rattle.offset_script.proofs.Members.{In}
+use Rattle.offset_script.proofs.Pairs.{Kind, Lives, Frees, Pair, left_tag, right_tag, left, right, lefts, rights, SamePlace, neither, both, same_free, same_total, same_short, same_free_sizes, same_place_of}
+use Rattle.offset_script.proofs.Similar.{SameNumber, paired}
+use Rattle.offset_script.proofs.Tests.{if_same}
+use Rattle.offset_script.proofs.Well.{Well, well_start}
+use Rattle.offset_calls.specs.declared.calls.Call.{Call}
+use Rattle.offset_calls.specs.declared.calls.Call.TheVariants as call
+use Rattle.offset_calls.specs.Calls.{Move, Reply, Answer, Resized, Compacted, Offset, Refused_for, Outcome, can_shrink, can_grow, resize, resized, replies_only, number, move_of, moves, offset_at, reason, step, after}
+use Rattle.offset_calls.specs.Histories.{without_offset}
+use Rattle.offset_calls.proofs.Alike.{same_starts, same_free_start}
+use Rattle.offset_calls.proofs.Followed.{well_calls}
+
+same_moved : (k : Kind) → SameNumber k → number (left_tag k) ≡ number (right_tag k)
+same_moved (Lives i j) e = e
+same_moved (Frees s u) e = refl
+
+same_moves : (from to : ℕ) (ps : List Pair) → ((q : Pair) → In q ps → SameNumber q.kind) → moves from to (lefts ps) ≡ moves from to (rights ps)
+same_moves from to [] h = refl
+same_moves from to (q ∷ ps) h =
+    ap₂ (λ x y. if is_free (left_tag q.kind) then x else move_of from to (left q) ++ y) (same_moves (from + q.size) to ps (λ x i. h x (inr i))) (same_moves (from + q.size) (to + q.size) ps (λ x i. h x (inr i)))
+    ∙ ap₂ (λ (f : Bool) (k : ℕ). if f then moves (from + q.size) to (rights ps) else (if nat_eq from to then [] else record { number = k; from = from; to = to; size = q.size } ∷ []) ++ moves (from + q.size) (to + q.size) (rights ps)) (same_free q.kind) (same_moved q.kind (h q (inl refl)))
+
+module _ (s t : State) (a : SameSpace s t) where
+  short : (k : ℕ) → is_short_of k s ≡ is_short_of k t
+  short k = same_short s t a.blocks.pairs a.limit a.blocks.left_blocks a.blocks.right_blocks k
+
+  placed : (k : ℕ) → SamePlace (λ q. Unit {0}) a.blocks.pairs (place_of k s.blocks) (place_of k t.blocks)
+  placed k = subst₂ (λ x y. SamePlace (λ q. Unit {0}) a.blocks.pairs (place_of k x) (place_of k y)) (sym a.blocks.left_blocks) (sym a.blocks.right_blocks) (same_place_of k k a.blocks.pairs (λ q i. same_number k q.kind (a.blocks.numbers q i)))
+
+  resize_reply : (n : ℕ) (can can' : machine.Place → Bool) (o o' : Option machine.Place) → SamePlace (λ q. Unit {0}) a.blocks.pairs o o'
+      → ((xs : List Pair) (q : Pair) (ys : List Pair) → can (record { before = lefts xs; block = left q; after = lefts ys }) ≡ can' (record { before = rights xs; block = right q; after = rights ys }))
+      → without_offset (resize can n s o).reply ≡ without_offset (resize can' n t o').reply
+  resize_reply n can can' None None neither same = refl
+  resize_reply n can can' o o' (both xs q ys e f) same = if_same (λ (x y : Outcome). without_offset x.reply ≡ without_offset y.reply) (nat_eq n q.size) (nat_eq n q.size) _ _ _ _ refl (λ z. refl)
+      (if_same (λ (x y : Outcome). without_offset x.reply ≡ without_offset y.reply) _ _ _ _ _ _ (same xs q ys) (λ z. refl) refl)
+
+  offset_reply : (o o' : Option machine.Place) → SamePlace (λ q. Unit {0}) a.blocks.pairs o o' → offset_at o ≡ offset_at o'
+  offset_reply None None neither = refl
+  offset_reply o o' (both xs q ys e f) = ap Offset (same_total xs)
+
+  reason_reply : (k n : ℕ) → reason k n s ≡ reason k n t
+  reason_reply k n =
+      ap (λ b. if b then Some Nodes else if is_some (chosen_place n s.blocks) then None else if nat_lt (sum (free_sizes s.blocks)) n then Some Space else Some Fragmented) (short k)
+      ∙ ap₂ (λ b ns. if is_short_of k t then Some Nodes else if b then None else if nat_lt (sum ns) n then Some Space else Some Fragmented)
+      (ap (λ bs. is_some (chosen_place n bs)) a.blocks.left_blocks ∙ some_same n a.blocks.pairs ∙ ap (λ bs. is_some (chosen_place n bs)) (sym a.blocks.right_blocks)) (same_free_sizes s t a.blocks.pairs a.limit a.blocks.left_blocks a.blocks.right_blocks)
+
+  next_reply : (c : Call) → without_offset (step c s).reply ≡ without_offset (step c t).reply
+  next_reply (call.Command c) = ap Answer (same_next s t a c)
+  next_reply (call.Shrink k n) = resize_reply n _ _ _ _ (placed k) (λ xs q ys. ap₂ (λ x y. nat_le n q.size && (x || not y)) (same_starts ys) (short 1))
+  next_reply (call.Grow k n) = resize_reply n _ _ _ _ (placed k) (λ xs q ys. ap (λ f. nat_le q.size n && nat_le n (q.size + f)) (same_free_start ys))
+  next_reply call.Compact = ap Compacted (ap (moves 0 0) a.blocks.left_blocks ∙ same_moves 0 0 a.blocks.pairs a.blocks.numbers ∙ ap (moves 0 0) (sym a.blocks.right_blocks))
+  next_reply (call.Offset k) = ap without_offset (offset_reply _ _ (placed k))
+  next_reply (call.Refusal n) = ap Refused_for (reason_reply 1 n)
+  next_reply (call.RefusalAligned n align) = ap₂ (λ x y. Refused_for (if nat_le align 1 then x else y)) (reason_reply 1 n) (reason_reply 2 (n + align - 1))
+
+pub rows_space : (size limit : ℕ) → 2 ≤ limit → (cs : List Call) (ks : List ℕ) → let s = after cs (start size limit) in outline (machine.after (releases ks) s).blocks ≡ collapse ks (outline s.blocks)
+rows_space size limit h cs ks = releases_outline ks (after cs (start size limit)) (well_calls cs (start size limit) (well_start size limit h))
+
+pub rows_next : (size limit : ℕ) → 2 ≤ limit → (cs : List Call) (ks : List ℕ) (t : State) → let s = after cs (start size limit) in IsCollapse ks s t → (c : Call) → without_offset (step c (machine.after (releases ks) s)).reply ≡ without_offset (step c t).reply
+rows_next size limit h cs ks t is =
+    let s = after cs (start size limit) in
+    let scalars = releases_scalars ks s in
+    next_reply (machine.after (releases ks) s) t (record { limit = scalars.0 ∙ sym is.limit; grants = scalars.1 ∙ sym is.grants; blocks = paired _ _ (rows_space size limit h cs ks ∙ sym is.blocks) })
