@@ -289,6 +289,20 @@ fn a_dump_has_a_line_for_each_block(rt: HostRuntime) -> Result<(), Fail> {
 }
 
 #[test]
+fn a_dump_has_a_line_for_each_of_many_blocks(rt: HostRuntime) -> Result<(), Fail> {
+    let mut heap = Allocator::with_max_allocs(rt.alloc(), 4_000, 5_000)?;
+    for _ in 0..4_000u32 {
+        assert!(rt; heap.allocate(1).is_some());
+    }
+    let mut wanted = String::new(rt.alloc());
+    for offset in (0..4_000u32).rev() {
+        writeln!(wanted, "at {offset} size 1 used")?;
+    }
+    assert!(rt; dump(&heap, rt.alloc())? == wanted);
+    Ok(())
+}
+
+#[test]
 fn a_mesh_is_resized_in_place(rt: HostRuntime) -> Result<(), Fail> {
     let mut vertices = Allocator::new(rt.alloc(), 100)?;
     let mesh = vertices.allocate(60).expect(&rt, "room");

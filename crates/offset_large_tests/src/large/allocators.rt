@@ -7,7 +7,8 @@ use std::process::Abort;
 use std::test::Fail;
 
 // Sizes of spaces, each with the largest class value that is no larger.
-const SIZES: [(u32, u32); 6] = [
+const SIZES: [(u32, u32); 7] = [
+    (600_000_000, 536_870_912),
     (1_073_741_823, 1_006_632_960),
     (1_073_741_824, 1_073_741_824),
     (1_073_741_825, 1_073_741_824),
@@ -124,5 +125,16 @@ fn grants_as_many_as_the_limit_of_new_admits(rt: HostRuntime) -> Result<(), Fail
     let _handles = expect_full(&rt, rt.alloc(), &mut wide, 131_072)?;
     let mut narrow = Allocator::<u16>::new(rt.alloc(), 4_294_967_295)?;
     let _handles = expect_full(&rt, rt.alloc(), &mut narrow, 65_533)?;
+    Ok(())
+}
+
+// The tables take 174 megabytes.
+#[test]
+fn makes_a_space_of_six_million_nodes(rt: HostRuntime) -> Result<(), Fail> {
+    let mut allocator = Allocator::<u32>::with_max_allocs(rt.alloc(), 1_000, 6_000_000)?;
+    assert_eq!(rt; allocator.max_allocs(), 6_000_000);
+    let first = allocator.allocate(10).expect(&rt, "room");
+    assert_eq!(rt; first.offset, 0);
+    assert_eq!(rt; allocator.storage_report().total_free_space, 990);
     Ok(())
 }

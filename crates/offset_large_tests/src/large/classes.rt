@@ -36,6 +36,16 @@ fn put_script(text: &mut String, bits: u32) -> Result<(), AllocError> {
     writeln!(text, "full")
 }
 
+// The report of all classes, each with one free block.
+fn put_report(wanted: &mut String) -> Result<(), AllocError> {
+    writeln!(wanted, "full 200")?;
+    for class in FIRST..LAST + 1 {
+        let value = value_of(class);
+        writeln!(wanted, "class {class} size {value} count 1")?;
+    }
+    Ok(())
+}
+
 fn answers(alloc: Global) -> Result<String, AllocError> {
     let mut wanted = String::new(alloc);
     let mut offset = 0u64;
@@ -49,11 +59,7 @@ fn answers(alloc: Global) -> Result<String, AllocError> {
     }
     writeln!(wanted, "full 0")?;
     put_lines(&mut wanted, "freed\n", 200)?;
-    writeln!(wanted, "full 200")?;
-    for class in FIRST..LAST + 1 {
-        let value = value_of(class);
-        writeln!(wanted, "class {class} size {value} count 1")?;
-    }
+    put_report(&mut wanted)?;
     Ok(wanted)
 }
 
@@ -65,5 +71,20 @@ fn reports_two_hundred_classes(rt: HostRuntime) -> Result<(), Fail> {
         put_script(&mut text, bits)?;
         expect_answers(&rt, rt.alloc(), &text, &wanted);
     }
+    Ok(())
+}
+
+// 3,001 of these reports are longer than 16 MiB.
+#[test]
+fn writes_long_answers(rt: HostRuntime) -> Result<(), Fail> {
+    let mut text = String::new(rt.alloc());
+    put_script(&mut text, 32)?;
+    put_lines(&mut text, "full\n", 3_000)?;
+    let mut report = String::new(rt.alloc());
+    put_report(&mut report)?;
+    let mut wanted = answers(rt.alloc())?;
+    put_lines(&mut wanted, &report, 3_000)?;
+    assert!(rt; wanted.len() > 16_777_216, "{}", wanted.len());
+    expect_answers(&rt, rt.alloc(), &text, &wanted);
     Ok(())
 }

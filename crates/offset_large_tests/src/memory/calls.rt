@@ -213,3 +213,33 @@ fn playing_makes_an_allocator(rt: HostRuntime) -> Result<(), Fail> {
     assert!(rt; refusals(&rt, rt.alloc(), FINE, &mut WithoutCommands)? >= 1);
     Ok(())
 }
+
+// With 2,000 live ranges more than one node in 128 is in use, and `reset` goes over whole tables.
+fn expect_reset<NI: NodeIndex>(rt: &impl Abort, alloc: Global, room: usize) -> Result<(), Fail> {
+    let mut allocator = Allocator::<NI>::new(alloc, 1_000_000)?;
+    for _ in 0..2_000u32 {
+        assert!(rt; allocator.allocate(1).is_some());
+    }
+    let _rest = all_memory_but(alloc, room)?;
+    allocator.reset();
+    if room > 0 {
+        assert!(rt; Vec::<u8>::with_capacity(alloc, room).is_ok());
+        assert!(rt; Vec::<u8>::with_capacity(alloc, 16).is_ok());
+        assert!(rt; Vec::<u8>::with_capacity(alloc, room).is_err());
+    }
+    let report = allocator.storage_report();
+    assert_eq!(rt;
+        (report.total_free_space, report.largest_free_region),
+        (1_000_000, 983_040)
+    );
+    Ok(())
+}
+
+#[test]
+fn a_reset_of_many_ranges_needs_no_memory(rt: HostRuntime) -> Result<(), Fail> {
+    for room in [0, ROOM] {
+        expect_reset::<u32>(&rt, rt.alloc(), room)?;
+        expect_reset::<u16>(&rt, rt.alloc(), room)?;
+    }
+    Ok(())
+}

@@ -66,3 +66,45 @@ fn merges_grants_that_touch(rt: HostRuntime) -> Result<(), Fail> {
     );
     Ok(())
 }
+
+// The first grant is live to the end, and ends the plot at unit 1,000,000. All others are one unit each, less than a
+// thousandth of a pixel high, and at the same height: from 156.7 to 156.8, drawn 0.3 pixels high. With 41,999 calls one
+// call takes 0.025 pixels.
+//
+// Grants 2 to 20,001 are live for one call each, in calls 2 to 40,001: from 120.05, and so from 120, to 1120.025, and so to
+// 1120.1. Grant 20,002 is live for 100 calls from call 40,002 on: from 1120.05, and so from 1120, to 1122.55, and so to
+// 1122.6. It touches those before, and is of another age. Grant 20,003 is inside it, for 40 calls from call 40,010 on.
+#[test]
+fn merges_grants_of_one_age(rt: HostRuntime) -> Result<(), Fail> {
+    let mut text = String::from_str(
+        rt.alloc(),
+        "space 1000000 nodes 16 index 32\nalloc 983040\n",
+    )?;
+    for k in 2..20_002u32 {
+        writeln!(text, "alloc 1\nfree {k}")?;
+    }
+    for (line, reports) in [
+        ("alloc 1\n", 7u32),
+        ("alloc 1\n", 39),
+        ("free 20003\n", 51),
+        ("free 20002\n", 1_897),
+    ] {
+        text.push_str(line)?;
+        for _ in 0..reports {
+            text.push_str("report\n")?;
+        }
+    }
+    let picture = picture_of(rt.alloc(), &text)?;
+    assert_eq!(rt; rectangles(&picture), 3);
+    expect_once(
+        &rt,
+        &picture,
+        &[
+            ">41,999 calls on a space of 1,000,000 units, with 16 nodes<",
+            "<g class='age1'>\n<rect x='120' y='156.5' width='1000.1' height='0.3'/>\n</g>",
+            "<g class='age3'>\n<rect x='1120' y='156.5' width='2.6' height='0.3'/>\n</g>",
+            ": 3 rectangles.",
+        ],
+    );
+    Ok(())
+}

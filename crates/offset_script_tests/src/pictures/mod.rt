@@ -1,5 +1,6 @@
 //! Tests of `offset_lives`.
 
+mod bounds;
 mod examples;
 mod extremes;
 mod faults;

@@ -3,11 +3,13 @@
 mod alignment;
 mod classes;
 mod compacting;
+mod equality;
 mod extension;
 mod fields;
 mod grants;
 mod handles;
 mod original;
+mod range_texts;
 mod refusals;
 mod reports;
 mod resizing;

@@ -40,6 +40,25 @@ fn expect_texts<NI: NodeIndex>(rt: &impl Abort, alloc: Global) -> Result<(), Fai
     )
 }
 
+// The largest space, and one of which a range is live.
+#[test]
+fn names_the_fields_of_a_large_report(rt: HostRuntime) -> Result<(), Fail> {
+    let mut allocator = Allocator::<u32>::new(rt.alloc(), 4_294_967_295)?;
+    expect_text(
+        &rt,
+        rt.alloc(),
+        &allocator,
+        "StorageReport { total_free_space: 4294967295, largest_free_region: 4026531840 }",
+    )?;
+    assert!(rt; allocator.allocate(4_025_564_544).is_some());
+    expect_text(
+        &rt,
+        rt.alloc(),
+        &allocator,
+        "StorageReport { total_free_space: 269402751, largest_free_region: 268435456 }",
+    )
+}
+
 #[test]
 fn names_the_fields_of_the_short_report(rt: HostRuntime) -> Result<(), Fail> {
     expect_texts::<u32>(&rt, rt.alloc())?;

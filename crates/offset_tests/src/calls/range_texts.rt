@@ -1,0 +1,101 @@
+//! The `Debug` texts of ranges: of handles, used blocks, moves, and walks over many blocks.
+
+use offset_allocator::{Allocation, Allocator, Move};
+use std::alloc::Global;
+use std::process::Abort;
+use std::test::Fail;
+
+// More ranges than a number of one, two or three digits can name.
+const COUNT: u32 = 1_200;
+
+// A space of `COUNT` ranges of one unit and one free unit, and the handles in space order.
+fn units(rt: &impl Abort, alloc: Global) -> Result<(Allocator<u32>, Vec<Allocation<u32>>), Fail> {
+    let mut space = Allocator::<u32>::with_max_allocs(alloc, COUNT + 1, 2_000)?;
+    let mut handles = Vec::new(alloc);
+    for _ in 0..COUNT {
+        handles.push(space.allocate(1).expect(rt, "room"))?;
+    }
+    Ok((space, handles))
+}
+
+// The name in the text of a handle, which has this offset.
+fn name_of(
+    rt: &impl Abort,
+    alloc: Global,
+    handle: Allocation<u32>,
+    offset: usize,
+) -> Result<u32, Fail> {
+    let text = format!(in alloc; "{handle:?}")?;
+    let start = format!(in alloc; "Allocation {{ offset: {offset}, metadata: ")?;
+    let name = text
+        .strip_prefix(start.as_str())
+        .and_then(|rest| rest.strip_suffix(" }"))
+        .expect(rt, "the text of a handle");
+    Ok(name.parse::<u32>()?)
+}
+
+// Handles of different ranges have different names, below the node limit.
+#[test]
+fn names_each_handle(rt: HostRuntime) -> Result<(), Fail> {
+    let (_space, handles) = units(&rt, rt.alloc())?;
+    let mut is_seen = vec![in rt.alloc(); false; 2_000]?;
+    for (offset, handle) in handles.iter().enumerate() {
+        let name = name_of(&rt, rt.alloc(), *handle, offset)? as usize;
+        assert!(rt; name < 2_000 && !is_seen[name], "{name} at {offset}");
+        is_seen[name] = true;
+    }
+    Ok(())
+}
+
+#[test]
+fn a_used_block_has_its_handle(rt: HostRuntime) -> Result<(), Fail> {
+    let mut space = Allocator::<u32>::with_max_allocs(rt.alloc(), 94, 8)?;
+    assert!(rt; space.allocate(30).is_some());
+    let handle = space.allocate(64).expect(&rt, "room");
+    let name = name_of(&rt, rt.alloc(), handle, 30)?;
+    let block = space.blocks().next().expect(&rt, "a block");
+    let wanted = format!(in rt.alloc();
+        "Block {{ offset: 30, size: 64, allocation: Some(Allocation {{ offset: 30, metadata: {name} }}) }}"
+    )?;
+    assert_eq!(rt;
+        format!(in rt.alloc(); "{block:?}")?.as_str(),
+        wanted.as_str()
+    );
+    Ok(())
+}
+
+// A walk over 1,201 blocks: what is left of it, as a number and as a text.
+#[test]
+fn counts_what_is_left_of_a_long_walk(rt: HostRuntime) -> Result<(), Fail> {
+    let (space, _handles) = units(&rt, rt.alloc())?;
+    let mut blocks = space.blocks();
+    for left in [1_201usize, 1_200, 1_199] {
+        assert_eq!(rt; blocks.len(), left);
+        assert_eq!(rt; blocks.size_hint(), (left, Some(left)));
+        let wanted = format!(in rt.alloc(); "Blocks {{ remaining: {left} }}")?;
+        assert_eq!(rt;
+            format!(in rt.alloc(); "{blocks:?}")?.as_str(),
+            wanted.as_str()
+        );
+        assert!(rt; blocks.next().is_some());
+    }
+    Ok(())
+}
+
+// The text of a move begins with the name of its range, its offsets and its size.
+#[test]
+fn a_move_has_a_text(rt: HostRuntime) -> Result<(), Fail> {
+    let mut space = Allocator::<u32>::with_max_allocs(rt.alloc(), 100, 8)?;
+    let first = space.allocate(10).expect(&rt, "room");
+    let second = space.allocate(20).expect(&rt, "room");
+    let name = name_of(&rt, rt.alloc(), second, 10)?;
+    assert!(rt; space.is_live(first));
+    space.free(first);
+    let mut last = None;
+    space.compact(&mut |range: Move| last = Some(range));
+    let range = last.expect(&rt, "a move");
+    let text = format!(in rt.alloc(); "{range:?}")?;
+    let wanted = format!(in rt.alloc(); "Move {{ name: {name}, from: 10, to: 0, size: 20")?;
+    assert!(rt; text.starts_with(wanted.as_str()), "{text}");
+    Ok(())
+}
