@@ -28,8 +28,7 @@ pub extern "C" fn offset_with_max_allocs(alloc: Global, text: &[u8], cells: &mut
     code(allocators::make_limited(alloc, text, &mut cells.iter_mut()))
 }
 
-/// Does the same, then fills and resets the tables, makes 1,000 calls of every kind, and puts a checksum of their results
-/// in place of the report.
+/// Does the same, then makes 1,000 calls of every kind, and puts a checksum of their results in place of the report.
 #[unsafe(no_mangle)]
 pub extern "C" fn offset_calls(alloc: Global, text: &[u8], cells: &mut [u64]) -> u32 {
     code(allocators::make_and_call(alloc, text, &mut cells.iter_mut()))

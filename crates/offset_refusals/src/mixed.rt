@@ -120,25 +120,13 @@ fn call<NI: NodeIndex>(
     }
 }
 
-// Grants ranges of no units, as many as the node limit admits, up to 2,000. These are more than one node in 128, so that
-// the reset goes over whole tables. It returns how many they are.
-fn fill_and_reset<NI: NodeIndex>(allocator: &mut Allocator<NI>) -> u64 {
-    let mut granted = 0u64;
-    for _ in 0..2_000u32 {
-        granted = granted.wrapping_add(u64::from(allocator.allocate(0).is_some()));
-    }
-    allocator.reset();
-    granted
-}
-
-/// Fills the tables and resets them, makes 1,000 calls of every kind, and returns a checksum of their results. It keeps
-/// the handles in `kept`.
+/// Makes 1,000 calls of every kind, and returns a checksum of their results. It keeps the handles in `kept`.
 pub fn mixed_calls<NI: NodeIndex>(
     allocator: &mut Allocator<NI>,
     kept: &mut [Option<Allocation<NI>>],
 ) -> u64 {
     let mut state = 1u64;
-    let mut sum = fill_and_reset(allocator);
+    let mut sum = 0u64;
     for _ in 0..1_000u32 {
         state = state.wrapping_mul(1_103_515_245).wrapping_add(12_345) % 2_147_483_648;
         let number = state / 65_536;

@@ -90,15 +90,3 @@ fn plays_many_commands_of_each_kind(rt: HostRuntime) -> Result<(), Fail> {
     expect_answers(&rt, rt.alloc(), &text, &wanted);
     Ok(())
 }
-
-// The one block has no units, and is of class 0. 25 bytes of header, and 205,000 lines of 5.
-#[test]
-fn plays_very_many_commands(rt: HostRuntime) -> Result<(), Fail> {
-    let mut text = String::from_str(rt.alloc(), "space 0 nodes 2 index 16\n")?;
-    put_lines(&mut text, "full\n", 205_000)?;
-    assert_eq!(rt; text.len(), 1_025_025);
-    let mut wanted = String::new(rt.alloc());
-    put_lines(&mut wanted, "full 1\nclass 0 size 0 count 1\n", 205_000)?;
-    expect_answers(&rt, rt.alloc(), &text, &wanted);
-    Ok(())
-}
