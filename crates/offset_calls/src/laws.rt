@@ -31,7 +31,7 @@ pub fn a_nest_leaves_no_trace()
         → replies next (machine.after nest s) ≡ replies_renumbered s (machine.after nest s) next }
 {}
 
-/// Releases in a row leave the same space in any order, after any calls.
+/// Releases in a row leave the same sizes and the same live grants in any order, after any calls.
 pub fn releases_commute()
     // The sizes and the live grants are those of the collapse, which does not depend on the order.
     ensures space { (size limit : ℕ) → 2 ≤ limit → (cs : List Call) (ks : List ℕ) → let s = after cs (start size limit) in

@@ -34,7 +34,7 @@ pub fn an_extended_space_is_larger()
         → answers cs (after (command.Extend more ∷ []) (start size limit)) ≡ answers cs (start (size + more) limit) }
 {}
 
-/// Releases in a row leave the same space in any order.
+/// Releases in a row leave the same sizes and the same live grants in any order.
 pub fn releases_commute()
     // The sizes and the live grants are those of the collapse, which does not depend on the order.
     ensures space { (size limit : ℕ) → 2 ≤ limit → (cs : List Command) (ks : List ℕ)

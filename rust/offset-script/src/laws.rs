@@ -14,7 +14,7 @@ pub fn an_empty_space_continues_as_fresh() {}
 /// A fresh space that is extended continues as a fresh one of the summed size.
 pub fn an_extended_space_is_larger() {}
 
-/// Releases in a row leave the same space in any order.
+/// Releases in a row leave the same sizes and the same live grants in any order.
 pub fn releases_commute() {}
 
 /// A nest leaves no trace: each of its grants is released in it, the last first, what lies between a grant and its

@@ -44,7 +44,8 @@ pub fn read_script<S: Source>(alloc: Global, input: &mut S) -> Result<Script, Ru
 ///
 /// Nothing is written unless the whole text is a script; of a text that is too long, 1,048,577 bytes are read. `Read`
 /// is returned exactly where the source failed in this call, and `Write` exactly where the sink did; then a beginning
-/// of the answers is written, and all of them where only the flush failed. No failed call is tried again. Where an allocation fails, the fault is `Memory`.
+/// of the answers is written, and all of them where only the flush failed. No failed call is tried again. Where an
+/// allocation fails, the fault is `Memory`.
 pub fn run<S: Source, K: Sink>(alloc: Global, input: &mut S, output: &mut K) -> Result<(), RunFault> {
     let script = read_script(alloc, input)?;
     let answers = play_script(alloc, &script)?;
