@@ -1,7 +1,7 @@
 -- Laws over whole histories of calls.
-use Rattle.std.specs.Prelude.{take, drop, ◌≡◌, ◌≢◌, ℕ, ◌+◌, ◌-◌, List, [], ◌∷◌, ◌++◌, length, map, nat_le, if◌then◌else◌}
+use Rattle.std.specs.Prelude.{◌≡◌, ◌≢◌, ℕ, ◌+◌, ◌-◌, List, [], ◌∷◌, ◌++◌, length, map, nat_le, if◌then◌else◌}
 use Rattle.offset_script.specs.declared.scripts.Command.TheVariants as command
-use Rattle.offset_script.specs.Histories.{HasNoLive, number_without, raise_number, IsGrant, KeepsSpace}
+use Rattle.offset_script.specs.Histories.{number_without, raise_number, IsGrant, KeepsSpace}
 use Rattle.offset_script.specs.Histories as script
 use Rattle.offset_script.specs.Machine.{State, start, total}
 use Rattle.offset_script.specs.Machine as machine
@@ -34,11 +34,6 @@ raise g j other = other
 -- the replies from s on, numbered as those from t on, where t has made more grants
 abbrev pub replies_renumbered : State → State → List Call → List Reply
 replies_renumbered s t cs = map (raise s.grants (t.grants - s.grants)) (replies (map (renumber (number_without s.grants (t.grants - s.grants))) cs) s)
-
--- wherever no block is live, the replies found from there on are those of a fresh machine of as many units, numbered as
--- here
-abbrev pub RestartsFresh : ℕ → ℕ → List Call → List Reply → Type 0
-RestartsFresh size limit cs found = (i : ℕ) → let s = after (take i cs) (start size limit) in HasNoLive s → drop i found ≡ replies_renumbered (start (total s.blocks) s.limit) s (drop i cs)
 
 -- whether a call is a question: it changes nothing
 abbrev pub IsQuestion : Call → Type 0
