@@ -1,5 +1,5 @@
--- A space whose used blocks are freed one after the other, from its end on: each is the last block or the one before it,
--- and where none is left the space is one free block.
+-- A space whose used blocks are freed one after the other, from its end on: each is the last block or the one before
+-- it, and where none is left the space is one free block.
 use Rattle.std.proofs.Common.{◌≡◌, ℕ, append_assoc, ◌<◌, ◌≤◌, Bool, true, false, not, List, [], ◌∷◌, ◌++◌, length, replicate, Option, Some, None, IfSome, nat_eq, refl, sym, ap, ap₂, subst, ◌∙◌, arith, inl, inr}
 use Rattle.std.proofs.lemmas.List.{length-replicate, ext_get_or}
 use Rattle.std.proofs.lemmas.Bool.{cases_lt, false≢true, not-false}

@@ -51,7 +51,8 @@ with_spare c i v = record c { spare = slice_set c.spare i v }
 abbrev pub link_of : ℕ → ℕ → Option ℕ
 link_of max n = if eqb n max then None else Some n
 
--- the tables have one length, of at most the largest number and of 32 bits, and there are a head for each class and 4 masks
+-- the tables have one length, of at most the largest number and of 32 bits, and there are a head for each class and 4
+-- masks
 pub record AreShaped (max : ℕ) (c : Cells) : Type 0 where
   pub spare : length c.room.spare ≡ length c.room.nodes
   pub newer : length c.links.newer ≡ length c.room.nodes

@@ -26,8 +26,8 @@ abbrev pub moves : ℕ → ℕ → List Block → List Move
 moves from to [] = []
 moves from to (b ∷ bs) = if b.used then move_of from to b ++ moves (from + b.size) (to + b.size) bs else moves (from + b.size) to bs
 
--- each of these goes to a smaller offset, and ends before all that the later ones have yet to read: so they can be copied
--- one after the other
+-- each of these goes to a smaller offset, and ends before all that the later ones have yet to read: so they can be
+-- copied one after the other
 abbrev pub AreSafe : List Move → Type 0
 AreSafe [] = Unit {0}
 AreSafe (m ∷ ms) = (m.to < m.from) × AllByRecursion (λ k. m.to + m.size ≤ k.from) ms × AreSafe ms

@@ -33,12 +33,13 @@ blocks_needed align = min align 2
 abbrev pub units_needed : ℕ → ℕ → ℕ
 units_needed size align = size + align - 1
 
--- when a request is granted: there is room for the blocks that it may add, and some bin is not empty whose class is large
--- enough, which means that all its blocks have at least the units needed
+-- when a request is granted: there is room for the blocks that it may add, and some bin is not empty whose class is
+-- large enough, which means that all its blocks have at least the units needed
 abbrev pub CanGrant : ℕ → ℕ → View → Type 0
 CanGrant blocks units v = HasRoomFor blocks v × ((c : ℕ) × (up units ≤ c) × (names_at v.order c ≢ []))
 
--- why such a request is refused: too few nodes, too few free units, or enough of them, but in no block of a class that is large enough
+-- why such a request is refused: too few nodes, too few free units, or enough of them, but in no block of a class that
+-- is large enough
 abbrev pub IsWhy : ℕ → ℕ → View → Refusal → Type 0
 IsWhy blocks units v Nodes = v.max_allocs ≤ length v.blocks + blocks
 IsWhy blocks units v Space = HasRoomFor blocks v × (sum (free_sizes v.blocks) < units)

@@ -58,8 +58,8 @@ Allocates n v w result = Serves 1 n n (λ offset. 0) v w result
 abbrev pub Aligns : ℕ → ℕ → View → View → Option Grant → Type 0
 Aligns n align v w result = Serves (blocks_needed align) (units_needed n align) n (padding_to align) v w result
 
--- the used block named x becomes free and coalesces with its free neighbours, left and right: the block keeps the name x
--- and is the newest of its bin
+-- the used block named x becomes free and coalesces with its free neighbours, left and right: the block keeps the name
+-- x and is the newest of its bin
 pub record Frees (x : ℕ) (v w : View) : Type 0 where
   pub before : List Block
   pub left : List Block
@@ -88,8 +88,8 @@ pub record Adds (more : ℕ) (v w : View) : Type 0 where
   -- afterwards no two free blocks are neighbours: so last is the last block if that is free
   pub apart : IsApart w.blocks
 
--- a space can have this many units more: the sum is at most the largest size, and there is room for one more block or the last
--- block is free
+-- a space can have this many units more: the sum is at most the largest size, and there is room for one more block or
+-- the last block is free
 abbrev pub CanExtend : ℕ → View → Type 0
 CanExtend more v = (v.size + more ≤ max_size) × (HasRoomFor 1 v ⊎ ((before : List Block) × (last : Block) × (v.blocks ≡ before ++ last ∷ []) × (last.used ≡ false)))
 

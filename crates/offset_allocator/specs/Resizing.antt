@@ -15,8 +15,8 @@ free_beyond (Some p) = free_start p.after
 abbrev pub free_after : ℕ → View → List Block
 free_after x v = free_beyond (place_of x v.blocks)
 
--- a range can shrink to n units: it has at least as many, and if it has more, there is a free block directly after it or
--- room for one more block
+-- a range can shrink to n units: it has at least as many, and if it has more, there is a free block directly after it
+-- or room for one more block
 abbrev pub CanShrink : ℕ → ℕ → View → Type 0
 CanShrink x n v = (n ≤ size_of x v) × (n < size_of x v → (free_after x v ≢ []) ⊎ HasRoomFor 1 v)
 
@@ -28,8 +28,8 @@ CanGrow x n v = (size_of x v ≤ n) × (n ≤ size_of x v + units (free_after x 
 abbrev pub HasUnits : ℕ → ℕ → View → View → Type 0
 HasUnits x n v w = (r : Range) → range_of x v ≡ Some r → range_of x w ≡ Some (record r { size = n })
 
--- the used block named x and the free block directly after it, if there is one, become a used block of n units, named x,
--- and a free block of the units that are left, if any are
+-- the used block named x and the free block directly after it, if there is one, become a used block of n units, named
+-- x, and a free block of the units that are left, if any are
 pub record Resizes (x n : ℕ) (v w : View) : Type 0 where
   pub before : List Block
   pub block : Block
@@ -45,11 +45,12 @@ pub record Resizes (x n : ℕ) (v w : View) : Type 0 where
   pub name : ℕ
   pub new : 1 ≤ left → (1 ≤ count_named name next) ⊎ IsNew name v
   pub view : SameSpace (replace v before (block ∷ next) (used_block x n ∷ free_part name left) after) w
-  -- afterwards no two free blocks are neighbours: so where units are left, next is the free block after it if there was one
+  -- afterwards no two free blocks are neighbours: so where units are left, next is the free block after it if there was
+  -- one
   pub apart : IsApart w.blocks
 
--- a call for fewer units: it is refused exactly where the range cannot shrink to them, and then nothing changes, nor does
--- it where the range has just as many
+-- a call for fewer units: it is refused exactly where the range cannot shrink to them, and then nothing changes, nor
+-- does it where the range has just as many
 abbrev pub Shrinks : ℕ → ℕ → View → View → Bool → Type 0
 Shrinks x n v w true = ((n ≡ size_of x v) × SameSpace v w) ⊎ ((n < size_of x v) × CanShrink x n v × Resizes x n v w)
 Shrinks x n v w false = (CanShrink x n v → ⊥) × SameSpace v w

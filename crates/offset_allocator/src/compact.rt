@@ -180,8 +180,8 @@ impl<NI: NodeIndex> Allocator<NI> {
         ensures sizes { KeepsSizes self.old self.new }
         // The closure is called with the moves, in space order.
         ensures moved { FoldsTo (IsCalledWith NI.NonMax.number (λ f range g. F.step f range tt g)) moved.old (moves 0 0 self.old.blocks) moved.new }
-        // It makes at least 2 accesses to table cells for each block, and 267 more where a block is free; at most 24 for
-        // each, and 512.
+        // It makes at least 2 accesses to table cells for each block, and 267 more where a block is free; at most 24
+        // for each, and 512.
         ensures accesses_min { self.old.accesses + 2 * length self.old.blocks ≤ self.new.accesses }
         ensures accesses_some { free_sizes self.old.blocks ≢ []
             → self.old.accesses + 2 * length self.old.blocks + 267 ≤ self.new.accesses }

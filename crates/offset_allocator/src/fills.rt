@@ -7,8 +7,8 @@ use crate::index::NodeIndex;
 use std::alloc::{AllocError, Global};
 
 // The bytes of all tables for this many nodes: of each node its offset, its size, its use flag, four links and an entry
-// of the stack, and of each class a link. A link is taken to have the bytes that its numbers need, as those of `u16` and
-// `u32` have.
+// of the stack, and of each class a link. A link is taken to have the bytes that its numbers need, as those of `u16`
+// and `u32` have.
 fn table_bytes<NI: NodeIndex>(nodes: u32) -> usize
     ensures { result ≡ (9 + 5 * link_bytes NI.MAX) * nodes + 256 * link_bytes NI.MAX }
 {

@@ -54,8 +54,8 @@ pub fn is_well_formed<NI: NodeIndex>(allocator: &Allocator<NI>)
 
 /// The number of names that no block has: one more than the number of blocks that may still be added.
 ///
-/// An allocator has no other fields than these: one set of tables, and numbers. The patterns name each with its type, so
-/// a second list of blocks would not compile.
+/// An allocator has no other fields than these: one set of tables, and numbers. The patterns name each with its type,
+/// so a second list of blocks would not compile.
 pub fn unused_names<NI: NodeIndex>(allocator: &Allocator<NI>) -> u32
     ensures { result + length allocator.now.blocks ≡ allocator.now.max_allocs }
 {

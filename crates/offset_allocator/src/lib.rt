@@ -133,7 +133,8 @@ impl<NI: NodeIndex> Allocator<NI> {
         ensures gone { (x : ℕ) → range_of x self.new ≡ None }
         // The step as a whole: one free block, alone in its bin.
         ensures step { Resets self.old self.new }
-        // It makes at most 130 accesses to table cells for each live range, and 2, where it frees these, else at most 270.
+        // It makes at most 130 accesses to table cells for each live range, and 2, where it frees these, else at most
+        // 270.
         ensures accesses_min { self.old.accesses + 1 ≤ self.new.accesses }
         ensures accesses_max { self.new.accesses ≤ self.old.accesses
             + (if nat_lt (length self.old.blocks) (self.old.max_allocs / 128) then 130 * used_of self.old.blocks + 2 else 270) }

@@ -1,5 +1,5 @@
--- The plain stamped machine over every call: beside the commands of a script, the calls that resize a range, compact the
--- space, and ask for an offset or for the reason of a refusal. States and stamps are those of the script's machine.
+-- The plain stamped machine over every call: beside the commands of a script, the calls that resize a range, compact
+-- the space, and ask for an offset or for the reason of a refusal. States and stamps are those of the script's machine.
 use Rattle.std.specs.Prelude.{ℕ, ◌+◌, ◌-◌, Bool, true, false, not, ◌&&◌, ◌||◌, List, [], ◌∷◌, ◌++◌, map, sum, Option, Some, None, is_some, nat_eq, nat_lt, nat_le, if◌then◌else◌}
 use Rattle.std.specs.Int.{is_power_of_two}
 use Rattle.offset_allocator.specs.declared.reports.Refusal.{Refusal}

@@ -62,8 +62,8 @@ pub struct Moved {
 /// The reply to one call.
 #[derive(Drop, Debug)]
 pub enum Reply {
-    /// The answer to a command. Of another call, `Gone`: no grant of that number is live; or `Refused`: the range cannot
-    /// shrink or grow to that size. Then the space is as it was.
+    /// The answer to a command. Of another call, `Gone`: no grant of that number is live; or `Refused`: the range
+    /// cannot shrink or grow to that size. Then the space is as it was.
     Answer(Answer),
     /// The range has the new size.
     Resized,

@@ -36,7 +36,8 @@ pub fn releases_commute()
     // The sizes and the live grants are those of the collapse, which does not depend on the order.
     ensures space { (size limit : ℕ) → 2 ≤ limit → (cs : List Call) (ks : List ℕ) → let s = after cs (start size limit) in
         outline (machine.after (releases ks) s).blocks ≡ collapse ks (outline s.blocks) }
-    // A next call, also one that resizes or compacts, has the same reply as there, except for the offset of a new grant.
+    // A next call, also one that resizes or compacts, has the same reply as there, except for the offset of a new
+    // grant.
     ensures next { (size limit : ℕ) → 2 ≤ limit → (cs : List Call) (ks : List ℕ) (t : State)
         → let s = after cs (start size limit) in
         IsCollapse ks s t → (c : Call)

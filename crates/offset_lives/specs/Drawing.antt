@@ -15,7 +15,7 @@ pixels_text n = decimal (n / 100) ++ (if nat_eq (n % 100) 0 then [] else codes "
 
 -- ---- the picture
 
--- the text is one element `svg`
+-- the text begins with `<svg ` and ends with `</svg>` and a line end
 abbrev pub IsPicture : List ℕ → Type 0
 IsPicture text = (body : List ℕ) × (text ≡ codes "<svg " ++ body ++ codes "</svg>\n")
 

@@ -77,7 +77,7 @@ pub fn picture_of(alloc: Global, course: &Course) -> Result<String, AllocError>
 ///
 /// It fails only where an allocation fails.
 pub fn picture(alloc: Global, script: &Script) -> Result<String, AllocError>
-    // The text is one element `svg`.
+    // The text begins with `<svg ` and ends with `</svg>` and a line end.
     ensures { IfOk result (λ text. IsPicture (string_bytes text)) }
 {
     picture_of(alloc, &course_of(alloc, script)?)

@@ -1,5 +1,6 @@
--- The plain stamped machine: the space as a list of blocks, commands in, answers out. The size classes, the rows of a full
--- report, the largest size of a space (`max_size`) and the padding of an aligned grant (`padding_to`) are the allocator's.
+-- The plain stamped machine: the space as a list of blocks, commands in, answers out. The size classes, the rows of a
+-- full report, the largest size of a space (`max_size`) and the padding of an aligned grant (`padding_to`) are the
+-- allocator's.
 use Rattle.std.specs.Prelude.{◌≡◌, ℕ, zero, suc, ◌+◌, ◌-◌, ◌*◌, Bool, true, false, ◌&&◌, ◌||◌, not, List, [], ◌∷◌, ◌++◌, length, map, sum, Option, Some, None, option_map, nat_eq, nat_lt, nat_le, if◌then◌else◌}
 use Rattle.offset_allocator.specs.Classes.{up, down}
 use Rattle.offset_allocator.specs.Named.{max_size, padding_to}

@@ -58,8 +58,8 @@ abbrev pub Sends : Bool → List ℕ → Option (List ℕ) → Option (List ℕ)
 Sends true text old new = Appends old new text
 Sends false text old new = (front : List ℕ) × (back : List ℕ) × (text ≡ front ++ back) × Appends old new front
 
--- the line of a fault was appended to a sink with its line end, and flushed; or the sink failed, and a beginning of them
--- was appended: all of them, where no push has failed
+-- the line of a fault was appended to a sink with its line end, and flushed; or the sink failed, and a beginning of
+-- them was appended: all of them, where no push has failed
 pub record WritesFault (fault : RunFault) (old new : Option (List ℕ)) (had_failed has_failed push_has_failed is_flushed : Bool) : Type 0 where
   pub is_sent : Bool
   pub sends : Sends (is_sent || not push_has_failed) (fault_line fault ++ line_end) old new

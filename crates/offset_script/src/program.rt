@@ -25,9 +25,9 @@ pub fn run_program<S: Source, K: Sink, E: Sink>(
 ) -> u8
     // There is a result of `run`, named `ended`, with each clause of `run`, in this order:
     // - it is never `Script(Memory)`;
-    // - after `Ok` the status returned is 0, and `errors` is as it was; else it is that of the fault, and the line of the
-    //   fault was appended to `errors` and flushed, or `errors` failed, and a beginning of that line was: all of it,
-    //   where no push has failed;
+    // - after `Ok` the status returned is 0, and `errors` is as it was; else it is that of the fault, and the line of
+    //   the fault was appended to `errors` and flushed, or `errors` failed, and a beginning of that line was: all of
+    //   it, where no push has failed;
     // - where the text of the source is known: what was read, what it means, and what was written, as `of_text` of
     //   `run` says;
     // - after `Ok` the output is flushed;

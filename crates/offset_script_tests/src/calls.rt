@@ -3,6 +3,7 @@
 use offset_allocator::NodeIndex;
 use offset_calls::{Call, are_valid, play_calls};
 use offset_script::Command;
+use offset_test_base::asserts::{assert_same, assert_same_at, assert_that, text_of};
 use offset_test_base::tiny::Tiny;
 use std::alloc::Global;
 use std::process::Abort;
@@ -15,17 +16,16 @@ fn expect_with<NI: NodeIndex>(
     limit: u32,
     rows: &[(Call, &str)],
 ) -> Result<(), Fail> {
-    assert!(rt; 2 <= limit && limit < NI::MAX - 1);
+    assert_that(rt, 2 <= limit && limit < NI::MAX - 1);
     let mut calls = Vec::new(alloc);
     for (call, _) in rows {
         calls.push(*call)?;
     }
-    assert!(rt; are_valid(&calls));
+    assert_that(rt, are_valid(&calls));
     let replies = play_calls::<NI>(alloc, size, limit, &calls)?;
-    assert_eq!(rt; replies.len(), rows.len());
-    for (i, (call, wanted)) in rows.iter().enumerate() {
-        let reply = format!(in alloc; "{:?}", replies[i])?;
-        assert_eq!(rt; reply.as_str(), *wanted, "reply {i}, to {call:?}");
+    assert_same(rt, &replies.len(), &rows.len());
+    for (reply, (call, wanted)) in replies.iter().zip(rows.iter()) {
+        assert_same_at(rt, call, &text_of(alloc, reply)?.as_str(), wanted);
     }
     Ok(())
 }

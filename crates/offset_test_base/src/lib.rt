@@ -1,6 +1,7 @@
 //! Code that the test crates share.
 #![tactic(auto)]
 
+pub mod asserts;
 pub mod devices;
 pub mod groups;
 pub mod living;

@@ -78,7 +78,8 @@ pub fn upload(heap: &mut Allocator, size: u32, align: u32) -> Option<Allocation>
 ///
 /// The error says why the request is refused, and so what is left to do: where the space is fragmented, `compact` it,
 /// or extend it where all free units are one block; where no node is left, use another space. Then no live range has
-/// changed. Where too few units are free, the space has grown once, whatever is returned, if it can have that many more.
+/// changed. Where too few units are free, the space has grown once, whatever is returned, if it can have that many
+/// more.
 pub fn place(space: &mut Allocator, size: u32, more: u32) -> Result<Allocation, Refusal>
     ensures range { IfOk result (λ h. range_of h.name space.new ≡ Some (record { offset = h.offset; size = size })) }
     ensures why { IfErr result (IsWhy 1 size space.new) }

@@ -7,8 +7,8 @@ use crate::index::NodeIndex;
 use crate::memory::{AllocError, Global};
 
 // The bytes of all tables for this many nodes: of each node its offset, its size, its use flag, four links and an entry
-// of the stack, and of each class a link. A link is taken to have the bytes that its numbers need, as those of `u16` and
-// `u32` have.
+// of the stack, and of each class a link. A link is taken to have the bytes that its numbers need, as those of `u16`
+// and `u32` have.
 fn table_bytes<NI: NodeIndex>(nodes: u32) -> usize {
     let link: usize = if NI::MAX < 256 {
         1

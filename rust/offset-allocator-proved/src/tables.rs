@@ -38,8 +38,8 @@ impl<NI: NodeIndex> Tables<NI> {
         })
     }
 
-    /// Makes all nodes unused, and puts all names on the stack of unused ones. The other fields of a node stay: they are
-    /// written before they are read.
+    /// Makes all nodes unused, and puts all names on the stack of unused ones. The other fields of a node stay: they
+    /// are written before they are read.
     pub(crate) fn clear(&mut self) {
         fill(&mut self.used, false);
         renumber(&mut self.spare);

@@ -1,6 +1,7 @@
 //! Large spaces, and large limits.
 
 use offset_allocator::{Allocation, Allocator, NodeIndex};
+use offset_test_base::asserts::{assert_same, assert_same_at, assert_that, assert_that_at};
 use offset_test_base::tiny::Tiny;
 use std::alloc::Global;
 use std::process::Abort;
@@ -24,11 +25,16 @@ fn expect_space<NI: NodeIndex>(
     largest: u32,
 ) {
     let report = allocator.storage_report();
-    assert_eq!(rt; report.total_free_space, size);
-    assert_eq!(rt; report.largest_free_region, largest, "a space of {size}");
+    assert_same(rt, &report.total_free_space, &size);
+    assert_same_at(
+        rt,
+        &("a space of", size),
+        &report.largest_free_region,
+        &largest,
+    );
     match allocator.allocate(largest) {
-        None => assert!(rt; false, "a request of {largest} is refused"),
-        Some(handle) => assert_eq!(rt; handle.offset, 0),
+        None => assert_that_at(rt, &("refused", largest), false),
+        Some(handle) => assert_same(rt, &handle.offset, &0),
     }
 }
 
@@ -57,9 +63,9 @@ fn take_units<NI: NodeIndex>(
     let mut handles = Vec::new(alloc);
     for offset in 0..count {
         match allocator.allocate(1) {
-            None => assert!(rt; false, "the request at {offset} is refused"),
+            None => assert_that_at(rt, &("refused at", offset), false),
             Some(handle) => {
-                assert_eq!(rt; handle.offset, offset);
+                assert_same(rt, &handle.offset, &offset);
                 handles.push(handle)?;
             }
         }
@@ -73,10 +79,10 @@ fn free_all<NI: NodeIndex>(
     handles: &[Allocation<NI>],
 ) {
     for handle in handles {
-        assert!(rt; allocator.is_live(*handle));
-        assert_eq!(rt; allocator.allocation_size(*handle), 1);
+        assert_that(rt, allocator.is_live(*handle));
+        assert_same(rt, &allocator.allocation_size(*handle), &1);
         allocator.free(*handle);
-        assert!(rt; !allocator.is_live(*handle));
+        assert_that(rt, !allocator.is_live(*handle));
     }
 }
 
@@ -88,23 +94,33 @@ fn expect_full<NI: NodeIndex>(
     limit: u32,
 ) -> Result<Vec<Allocation<NI>>, Fail> {
     let handles = take_units(rt, alloc, allocator, limit.saturating_sub(2))?;
-    assert!(rt; allocator.allocate(1).is_none(), "more than {limit} nodes");
+    assert_that_at(rt, &("limit", limit), allocator.allocate(1).is_none());
     Ok(handles)
 }
 
 fn expect_free<NI: NodeIndex>(rt: &impl Abort, allocator: &Allocator<NI>) {
     let report = allocator.storage_report();
-    assert_eq!(rt; report.total_free_space, 4_294_967_295);
-    assert_eq!(rt; report.largest_free_region, 4_026_531_840);
+    assert_same(rt, &report.total_free_space, &4_294_967_295);
+    assert_same(rt, &report.largest_free_region, &4_026_531_840);
+}
+
+fn fill_and_free<NI: NodeIndex>(
+    rt: &impl Abort,
+    alloc: Global,
+    allocator: &mut Allocator<NI>,
+    limit: u32,
+) -> Result<(), Fail> {
+    let handles = expect_full(rt, alloc, allocator, limit)?;
+    free_all(rt, allocator, &handles);
+    expect_free(rt, allocator);
+    Ok(())
 }
 
 // Fills a space up to its limit twice, and frees it one by one and by a reset.
 fn expect_limit<NI: NodeIndex>(rt: &impl Abort, alloc: Global, limit: u32) -> Result<(), Fail> {
-    assert!(rt; 2 <= limit && limit < NI::MAX - 1);
+    assert_that(rt, 2 <= limit && limit < NI::MAX - 1);
     let mut allocator = Allocator::<NI>::with_max_allocs(alloc, 4_294_967_295, limit)?;
-    let handles = expect_full(rt, alloc, &mut allocator, limit)?;
-    free_all(rt, &mut allocator, &handles);
-    expect_free(rt, &allocator);
+    fill_and_free(rt, alloc, &mut allocator, limit)?;
     let _handles = expect_full(rt, alloc, &mut allocator, limit)?;
     allocator.reset();
     expect_free(rt, &allocator);
@@ -118,23 +134,26 @@ fn grants_as_many_as_a_large_limit_admits(rt: HostRuntime) -> Result<(), Fail> {
     expect_limit::<u32>(&rt, rt.alloc(), 300_000)
 }
 
+fn expect_new<NI: NodeIndex>(rt: &impl Abort, alloc: Global, limit: u32) -> Result<(), Fail> {
+    let mut allocator = Allocator::<NI>::new(alloc, 4_294_967_295)?;
+    let _handles = expect_full(rt, alloc, &mut allocator, limit)?;
+    Ok(())
+}
+
 // By `new` a space has 131,072 nodes, or as many as the narrow index type admits.
 #[test]
 fn grants_as_many_as_the_limit_of_new_admits(rt: HostRuntime) -> Result<(), Fail> {
-    let mut wide = Allocator::<u32>::new(rt.alloc(), 4_294_967_295)?;
-    let _handles = expect_full(&rt, rt.alloc(), &mut wide, 131_072)?;
-    let mut narrow = Allocator::<u16>::new(rt.alloc(), 4_294_967_295)?;
-    let _handles = expect_full(&rt, rt.alloc(), &mut narrow, 65_533)?;
-    Ok(())
+    expect_new::<u32>(&rt, rt.alloc(), 131_072)?;
+    expect_new::<u16>(&rt, rt.alloc(), 65_533)
 }
 
 // The tables take 174 megabytes.
 #[test]
 fn makes_a_space_of_six_million_nodes(rt: HostRuntime) -> Result<(), Fail> {
     let mut allocator = Allocator::<u32>::with_max_allocs(rt.alloc(), 1_000, 6_000_000)?;
-    assert_eq!(rt; allocator.max_allocs(), 6_000_000);
+    assert_same(&rt, &allocator.max_allocs(), &6_000_000);
     let first = allocator.allocate(10).expect(&rt, "room");
-    assert_eq!(rt; first.offset, 0);
-    assert_eq!(rt; allocator.storage_report().total_free_space, 990);
+    assert_same(&rt, &first.offset, &0);
+    assert_same(&rt, &allocator.storage_report().total_free_space, &990);
     Ok(())
 }

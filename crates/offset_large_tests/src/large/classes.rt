@@ -1,6 +1,7 @@
 //! A report of many classes.
 
 use super::texts::{expect_answers, put_lines};
+use offset_test_base::asserts::assert_that_at;
 use offset_test_base::groups::value_of;
 use std::alloc::{AllocError, Global};
 use std::test::Fail;
@@ -84,7 +85,7 @@ fn writes_long_answers(rt: HostRuntime) -> Result<(), Fail> {
     put_report(&mut report)?;
     let mut wanted = answers(rt.alloc())?;
     put_lines(&mut wanted, &report, 3_000)?;
-    assert!(rt; wanted.len() > 16_777_216, "{}", wanted.len());
+    assert_that_at(&rt, &wanted.len(), wanted.len() > 16_777_216);
     expect_answers(&rt, rt.alloc(), &text, &wanted);
     Ok(())
 }

@@ -2,21 +2,22 @@
 
 use super::texts::put_lines;
 use offset_script::{Answer, parse};
+use offset_test_base::asserts::{assert_same, assert_that, assert_that_at};
 use offset_uses::replay;
 use std::process::Abort;
 use std::test::Fail;
 
 // Each request takes the next unit.
 fn expect_units(rt: &impl Abort, answers: &[Answer], count: usize) {
-    assert_eq!(rt; answers.len(), count);
+    assert_same(rt, &answers.len(), &count);
     let mut next = 0u32;
     for answer in answers {
         match answer {
             Answer::Grant { number, offset } => {
-                assert_eq!(rt; *offset, next);
-                assert_eq!(rt; *number, u64::from(next) + 1);
+                assert_same(rt, offset, &next);
+                assert_same(rt, number, &u64::from(next).saturating_add(1));
             }
-            _ => assert!(rt; false, "the request at {next} is refused"),
+            _ => assert_that_at(rt, &("refused at", next), false),
         }
         next = next.saturating_add(1);
     }
@@ -27,7 +28,7 @@ fn replays_many_commands(rt: HostRuntime) -> Result<(), Fail> {
     let mut text = String::from_str(rt.alloc(), "space 4294967295 nodes 65533 index 16\n")?;
     put_lines(&mut text, "alloc 1\n", 65_531)?;
     let script = parse(rt.alloc(), text.as_bytes())?;
-    assert!(rt; script.max_allocs <= 65_533);
+    assert_that(&rt, script.max_allocs <= 65_533);
     let (narrow, wide) = replay(rt.alloc(), script.size, script.max_allocs, &script.commands)?;
     for answers in [&narrow, &wide] {
         expect_units(&rt, answers, 65_531);

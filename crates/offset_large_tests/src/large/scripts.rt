@@ -2,6 +2,7 @@
 
 use super::texts::{Bytes, expect_answers, expect_answers_of, expect_fault, put_lines, put_units};
 use offset_script::{RunFault, ScriptFault};
+use offset_test_base::asserts::assert_same;
 use std::test::Fail;
 
 // 39 bytes, with its LF.
@@ -13,7 +14,7 @@ fn plays_the_longest_script(rt: HostRuntime) -> Result<(), Fail> {
     let mut text = String::from_str(rt.alloc(), HEADER)?;
     put_lines(&mut text, "alloc 1\n", 131_067)?;
     put_lines(&mut text, "\n", 1)?;
-    assert_eq!(rt; text.len(), 1_048_576);
+    assert_same(&rt, &text.len(), &1_048_576);
     let mut wanted = String::new(rt.alloc());
     put_units(&mut wanted, 131_067)?;
     expect_answers(&rt, rt.alloc(), &text, &wanted);
@@ -24,6 +25,17 @@ fn plays_the_longest_script(rt: HostRuntime) -> Result<(), Fail> {
     put_lines(&mut text, "\n", 1)?;
     let fault = RunFault::Script(ScriptFault::TooLong);
     expect_fault(&rt, rt.alloc(), &text, fault);
+    Ok(())
+}
+
+// 32 bytes before them, and 205,000 lines of 5 bytes, are 1,025,032 bytes. The one block is used, so no class has any.
+#[test]
+fn plays_the_most_commands(rt: HostRuntime) -> Result<(), Fail> {
+    let mut text = String::from_str(rt.alloc(), "space 8 nodes 4 index 32\nalloc 8\n")?;
+    put_lines(&mut text, "full\n", 205_000)?;
+    let mut wanted = String::from_str(rt.alloc(), "grant 1 at 0\n")?;
+    put_lines(&mut wanted, "full 0\n", 205_000)?;
+    expect_answers(&rt, rt.alloc(), &text, &wanted);
     Ok(())
 }
 

@@ -1,6 +1,7 @@
 //! Long texts, and what runs of them write.
 
 use offset_script::{FromRead, IntoWrite, RunFault, run};
+use offset_test_base::asserts::{assert_same, assert_that, assert_that_at};
 use std::alloc::{AllocError, Global};
 use std::io;
 use std::io::Read;
@@ -48,16 +49,20 @@ pub fn expect_answers(rt: &impl Abort, alloc: Global, text: &str, wanted: &str) 
 pub fn expect_answers_of<R: Read + Drop>(rt: &impl Abort, alloc: Global, text: R, wanted: &str) {
     let mut output = IntoWrite::new(Vec::new(alloc));
     let result = run(alloc, &mut FromRead::new(text), &mut output);
-    assert_eq!(rt; result, Ok(()));
+    assert_same(rt, &result, &Ok(()));
     let written = output.into_inner();
-    assert_eq!(rt; written.len(), wanted.len());
-    assert!(rt; written.as_slice() == wanted.as_bytes(), "other answers");
+    assert_same(rt, &written.len(), &wanted.len());
+    assert_that_at(
+        rt,
+        &"other answers",
+        written.as_slice() == wanted.as_bytes(),
+    );
 }
 
 /// A run of the text ends in this fault, and writes nothing.
 pub fn expect_fault(rt: &impl Abort, alloc: Global, text: &str, wanted: RunFault) {
     let mut output = IntoWrite::new(Vec::new(alloc));
     let result = run(alloc, &mut FromRead::new(text.as_bytes()), &mut output);
-    assert_eq!(rt; result, Err(wanted));
-    assert!(rt; output.into_inner().is_empty());
+    assert_same(rt, &result, &Err(wanted));
+    assert_that(rt, output.into_inner().is_empty());
 }

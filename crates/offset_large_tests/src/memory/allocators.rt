@@ -3,6 +3,7 @@
 use super::attempts::{Attempt, Outcome, right_if};
 use super::ladder::{COARSE, FINE, refusals};
 use offset_allocator::{Allocator, NodeIndex};
+use offset_test_base::asserts::assert_that;
 use offset_test_base::tiny::Tiny;
 use std::alloc::{AllocError, Global};
 use std::test::Fail;
@@ -54,7 +55,7 @@ fn small_allocators(rt: HostRuntime) -> Result<(), Fail> {
         Constructor::NewTiny,
         Constructor::LimitedTiny(4),
     ] {
-        assert!(rt; refusals(&rt, rt.alloc(), FINE, &mut constructor)? >= 1);
+        assert_that(&rt, refusals(&rt, rt.alloc(), FINE, &mut constructor)? >= 1);
     }
     Ok(())
 }
@@ -62,7 +63,10 @@ fn small_allocators(rt: HostRuntime) -> Result<(), Fail> {
 #[test]
 fn large_allocators(rt: HostRuntime) -> Result<(), Fail> {
     for mut constructor in [Constructor::New16, Constructor::New32] {
-        assert!(rt; refusals(&rt, rt.alloc(), COARSE, &mut constructor)? >= 1);
+        assert_that(
+            &rt,
+            refusals(&rt, rt.alloc(), COARSE, &mut constructor)? >= 1,
+        );
     }
     Ok(())
 }

@@ -5,6 +5,7 @@ use super::ladder::{FINE, refusals};
 use offset_allocator::laws::undo;
 use offset_allocator::{Allocation, Allocator, NodeIndex};
 use offset_script::play;
+use offset_test_base::asserts::{assert_same, assert_that};
 use offset_test_base::living::living_calls;
 use offset_test_base::tiny::Tiny;
 use std::alloc::{AllocError, Global};
@@ -141,8 +142,8 @@ fn expect_results<NI: NodeIndex>(rt: &impl Abort, alloc: Global) -> Result<(), F
     kept.fill(None);
     let mut allocator = Allocator::<NI>::new(alloc, 1_000)?;
     let _rest = all_memory(alloc)?;
-    assert!(rt; Vec::<u8>::with_capacity(alloc, 1).is_err());
-    assert_eq!(rt; checksum(&mut allocator, &mut kept), wanted);
+    assert_that(rt, Vec::<u8>::with_capacity(alloc, 1).is_err());
+    assert_same(rt, &checksum(&mut allocator, &mut kept), &wanted);
     Ok(())
 }
 
@@ -163,10 +164,10 @@ fn calls_leave_all_memory_as_it_was(rt: HostRuntime) -> Result<(), Fail> {
     let mut kept: [Option<Allocation<u32>>; 16] = [None; 16];
     let mut allocator = construct(rt.alloc())?;
     let _rest = all_memory_but(rt.alloc(), ROOM)?;
-    assert_eq!(rt; checksum(&mut allocator, &mut kept), wanted);
-    assert!(rt; Vec::<u8>::with_capacity(rt.alloc(), ROOM).is_ok());
-    assert!(rt; Vec::<u8>::with_capacity(rt.alloc(), 16).is_ok());
-    assert!(rt; Vec::<u8>::with_capacity(rt.alloc(), ROOM).is_err());
+    assert_same(&rt, &checksum(&mut allocator, &mut kept), &wanted);
+    assert_that(&rt, Vec::<u8>::with_capacity(rt.alloc(), ROOM).is_ok());
+    assert_that(&rt, Vec::<u8>::with_capacity(rt.alloc(), 16).is_ok());
+    assert_that(&rt, Vec::<u8>::with_capacity(rt.alloc(), ROOM).is_err());
     Ok(())
 }
 
@@ -190,7 +191,10 @@ impl Attempt for WithCalls {
 #[test]
 fn calls_fail_only_in_construction(rt: HostRuntime) -> Result<(), Fail> {
     let wanted = construct_and_call(rt.alloc())?;
-    assert!(rt; refusals(&rt, rt.alloc(), FINE, &mut WithCalls { wanted })? >= 1);
+    assert_that(
+        &rt,
+        refusals(&rt, rt.alloc(), FINE, &mut WithCalls { wanted })? >= 1,
+    );
     Ok(())
 }
 
@@ -210,7 +214,10 @@ impl Attempt for WithoutCommands {
 
 #[test]
 fn playing_makes_an_allocator(rt: HostRuntime) -> Result<(), Fail> {
-    assert!(rt; refusals(&rt, rt.alloc(), FINE, &mut WithoutCommands)? >= 1);
+    assert_that(
+        &rt,
+        refusals(&rt, rt.alloc(), FINE, &mut WithoutCommands)? >= 1,
+    );
     Ok(())
 }
 
@@ -218,19 +225,20 @@ fn playing_makes_an_allocator(rt: HostRuntime) -> Result<(), Fail> {
 fn expect_reset<NI: NodeIndex>(rt: &impl Abort, alloc: Global, room: usize) -> Result<(), Fail> {
     let mut allocator = Allocator::<NI>::new(alloc, 1_000_000)?;
     for _ in 0..2_000u32 {
-        assert!(rt; allocator.allocate(1).is_some());
+        assert_that(rt, allocator.allocate(1).is_some());
     }
     let _rest = all_memory_but(alloc, room)?;
     allocator.reset();
     if room > 0 {
-        assert!(rt; Vec::<u8>::with_capacity(alloc, room).is_ok());
-        assert!(rt; Vec::<u8>::with_capacity(alloc, 16).is_ok());
-        assert!(rt; Vec::<u8>::with_capacity(alloc, room).is_err());
+        assert_that(rt, Vec::<u8>::with_capacity(alloc, room).is_ok());
+        assert_that(rt, Vec::<u8>::with_capacity(alloc, 16).is_ok());
+        assert_that(rt, Vec::<u8>::with_capacity(alloc, room).is_err());
     }
     let report = allocator.storage_report();
-    assert_eq!(rt;
-        (report.total_free_space, report.largest_free_region),
-        (1_000_000, 983_040)
+    assert_same(
+        rt,
+        &(report.total_free_space, report.largest_free_region),
+        &(1_000_000, 983_040),
     );
     Ok(())
 }

@@ -5,6 +5,7 @@
 //! freed is enough for them.
 
 use super::attempts::{Attempt, Outcome, all_memory};
+use offset_test_base::asserts::{assert_same, assert_that, assert_that_at};
 use std::alloc::{AllocError, Global};
 use std::process::Abort;
 use std::test::Fail;
@@ -86,11 +87,11 @@ pub fn refusals<A: Attempt>(
         match attempt.outcome(alloc) {
             Outcome::Right => return Ok(refusals),
             Outcome::Refused => refusals = refusals.saturating_add(1),
-            Outcome::Wrong => assert!(rt; false, "wrong after {refusals} refusals"),
+            Outcome::Wrong => assert_that_at(rt, &("wrong after", refusals), false),
         }
         ladder.release(alloc)?;
     }
-    assert!(rt; false, "refused {refusals} times");
+    assert_that_at(rt, &("refused", refusals), false);
     Ok(refusals)
 }
 
@@ -130,7 +131,7 @@ fn refuses_each_request(rt: HostRuntime) -> Result<(), Fail> {
         held: Vec::with_capacity(rt.alloc(), 8)?,
         refused: [false; 8],
     };
-    assert!(rt; refusals(&rt, rt.alloc(), FINE, &mut blocks)? >= 8);
-    assert_eq!(rt; blocks.refused, [true; 8]);
+    assert_that(&rt, refusals(&rt, rt.alloc(), FINE, &mut blocks)? >= 8);
+    assert_same(&rt, &blocks.refused, &[true; 8]);
     Ok(())
 }

@@ -6,6 +6,7 @@ use offset_script::{
     Answer, Command, FromRead, IndexWidth, IntoWrite, RunFault, Script, ScriptFault, parse, play,
     run, run_program,
 };
+use offset_test_base::asserts::assert_that;
 use std::alloc::Global;
 use std::io;
 use std::io::Write;
@@ -64,8 +65,11 @@ impl Attempt for ParsesFaulty {
 
 #[test]
 fn parsing_reports_out_of_memory(rt: HostRuntime) -> Result<(), Fail> {
-    assert!(rt; refusals(&rt, rt.alloc(), FINE, &mut Parses)? >= 1);
-    assert!(rt; refusals(&rt, rt.alloc(), FINE, &mut ParsesFaulty)? >= 1);
+    assert_that(&rt, refusals(&rt, rt.alloc(), FINE, &mut Parses)? >= 1);
+    assert_that(
+        &rt,
+        refusals(&rt, rt.alloc(), FINE, &mut ParsesFaulty)? >= 1,
+    );
     Ok(())
 }
 
@@ -156,9 +160,9 @@ impl Attempt for RunsProgram {
 
 #[test]
 fn running_reports_out_of_memory(rt: HostRuntime) -> Result<(), Fail> {
-    assert!(rt; refusals(&rt, rt.alloc(), FINE, &mut Runs)? >= 1);
-    assert!(rt; refusals(&rt, rt.alloc(), FINE, &mut RunsFaulty)? >= 1);
-    assert!(rt; refusals(&rt, rt.alloc(), FINE, &mut RunsProgram)? >= 1);
+    assert_that(&rt, refusals(&rt, rt.alloc(), FINE, &mut Runs)? >= 1);
+    assert_that(&rt, refusals(&rt, rt.alloc(), FINE, &mut RunsFaulty)? >= 1);
+    assert_that(&rt, refusals(&rt, rt.alloc(), FINE, &mut RunsProgram)? >= 1);
     Ok(())
 }
 
@@ -213,9 +217,9 @@ impl Attempt for Plays {
 #[test]
 fn playing_reports_out_of_memory(rt: HostRuntime) -> Result<(), Fail> {
     let script = parse(rt.alloc(), TEXT)?;
-    assert!(rt; script.max_allocs < 100);
+    assert_that(&rt, script.max_allocs < 100);
     let wanted = play::<u32>(rt.alloc(), script.size, script.max_allocs, &script.commands)?;
     let mut plays = Plays { script, wanted };
-    assert!(rt; refusals(&rt, rt.alloc(), FINE, &mut plays)? >= 1);
+    assert_that(&rt, refusals(&rt, rt.alloc(), FINE, &mut plays)? >= 1);
     Ok(())
 }

@@ -2,6 +2,7 @@
 
 use super::attempts::all_memory_but;
 use offset_allocator::Allocator;
+use offset_test_base::asserts::assert_that;
 use std::test::Fail;
 
 const NODES: u32 = 4_000_000;
@@ -17,7 +18,21 @@ const SLACK: usize = 2_000_000;
 fn takes_no_more_than_its_tables_need(rt: HostRuntime) -> Result<(), Fail> {
     let _rest = all_memory_but(rt.alloc(), BYTES + SLACK)?;
     let made = Allocator::<u32>::with_max_allocs(rt.alloc(), 100, NODES);
-    assert!(rt; made.is_ok());
+    assert_that(&rt, made.is_ok());
+    Ok(())
+}
+
+// With 16 bits a node takes 16 bytes, its entry in the stack 2, and its use flag 1; each class takes 2. The C library
+// requests at least 1 MiB at a time for what is as small as these.
+const BYTES_16: usize = 19 * 65_533 + 512;
+
+const SLACK_16: usize = 1_100_000;
+
+#[test]
+fn takes_less_than_twice_what_its_tables_need_with_16_bits(rt: HostRuntime) -> Result<(), Fail> {
+    let _rest = all_memory_but(rt.alloc(), BYTES_16 + SLACK_16)?;
+    let made = Allocator::<u16>::with_max_allocs(rt.alloc(), 100, 65_533);
+    assert_that(&rt, made.is_ok());
     Ok(())
 }
 
@@ -25,6 +40,6 @@ fn takes_no_more_than_its_tables_need(rt: HostRuntime) -> Result<(), Fail> {
 fn needs_memory_for_each_table(rt: HostRuntime) -> Result<(), Fail> {
     let _rest = all_memory_but(rt.alloc(), BYTES - SLACK)?;
     let made = Allocator::<u32>::with_max_allocs(rt.alloc(), 100, NODES);
-    assert!(rt; made.is_err());
+    assert_that(&rt, made.is_err());
     Ok(())
 }

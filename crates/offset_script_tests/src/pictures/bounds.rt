@@ -1,6 +1,7 @@
 //! Lives, edges and shares at the bounds between two cases.
 
 use super::support::{count, expect_once, picture_of};
+use offset_test_base::asserts::{assert_same, assert_same_at};
 use std::alloc::{AllocError, Global};
 use std::process::Abort;
 use std::test::Fail;
@@ -19,9 +20,9 @@ fn expect_age(rt: &impl Abort, alloc: Global, calls: u32, class: &str) -> Result
     put_reports(&mut text, calls.saturating_sub(1))?;
     text.push_str("free 1\n")?;
     let picture = picture_of(alloc, &text)?;
-    assert_eq!(rt; count(&picture, "<title>"), 1);
+    assert_same(rt, &count(&picture, "<title>"), &1);
     let wanted = format!(in alloc; "<g class='{class}'>\n<rect ")?;
-    assert_eq!(rt; count(&picture, &wanted), 1, "a life of {calls} calls");
+    assert_same_at(rt, &("calls", calls), &count(&picture, &wanted), &1);
     Ok(())
 }
 
@@ -60,7 +61,8 @@ fn a_height_of_3_pixels_has_an_edge(rt: HostRuntime) -> Result<(), Fail> {
     Ok(())
 }
 
-// Of 349 calls each takes 3 pixels, of 350 calls 2.99. The plot ends at unit 100, and the range of 96 units is 384 high.
+// Of 349 calls each takes 3 pixels, of 350 calls 2.99. The plot ends at unit 100, and the range of 96 units is 384
+// high.
 #[test]
 fn a_width_of_3_pixels_has_an_edge(rt: HostRuntime) -> Result<(), Fail> {
     let mut text = String::from_str(
@@ -143,7 +145,7 @@ fn draws_a_space_that_is_all_in_use(rt: HostRuntime) -> Result<(), Fail> {
         ],
     );
     // it is not at the node limit
-    assert_eq!(rt; count(&picture, "At the node limit"), 0);
+    assert_same(&rt, &count(&picture, "At the node limit"), &0);
     Ok(())
 }
 

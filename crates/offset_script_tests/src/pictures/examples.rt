@@ -1,14 +1,15 @@
 //! Pictures whose coordinates were computed by hand.
 //!
-//! Call k of n, counted from 1, is at x = 120 + 1050 k / (n + 1), and the state before the first call begins at x = 120.
-//! Unit u of a plot that ends at the unit e is at y = 550 - 400 u / e in the plot of the ranges, and at
-//! y = 780 - 150 u / e in the plot of the reports.
+//! Call k of n, counted from 1, is at x = 120 + 1050 k / (n + 1), and the state before the first call begins at x =
+//! 120. Unit u of a plot that ends at the unit e is at y = 550 - 400 u / e in the plot of the ranges, and at y = 780 -
+//! 150 u / e in the plot of the reports.
 
 use super::support::{expect_once, picture_of, rectangles};
+use offset_test_base::asserts::{assert_same, assert_that, assert_that_at};
 use std::test::Fail;
 
-// The stored run of `offset_picture`. With 9 calls, each takes 105 pixels. The highest unit is 192, and a twentieth above
-// it the space has ended, at 200: a unit is 2 pixels high in the upper plot, and 0.75 in the lower one.
+// The stored run of `offset_picture`. With 9 calls, each takes 105 pixels. The highest unit is 192, and a twentieth
+// above it the space has ended, at 200: a unit is 2 pixels high in the upper plot, and 0.75 in the lower one.
 const STORED: &str = "space 100 nodes 16 index 32
 alloc 10
 alloc 20
@@ -24,7 +25,7 @@ alloc 192
 #[test]
 fn draws_a_rectangle_for_each_grant(rt: HostRuntime) -> Result<(), Fail> {
     let picture = picture_of(rt.alloc(), STORED)?;
-    assert_eq!(rt; rectangles(&picture), 5);
+    assert_same(&rt, &rectangles(&picture), &5);
     expect_once(
         &rt,
         &picture,
@@ -57,7 +58,8 @@ fn draws_the_space_and_the_reports(rt: HostRuntime) -> Result<(), Fail> {
             "<path class='out' d='M120 150H120V350H750V150H1170V150'/>",
             // free units: 100, 90, 70, 54, 64, 64, 164, 74, 200, 8
             "<path class='free' d='M120 780H120V705H225V712.5H330V727.5H435V739.5H540V732H750V657H855V724.5H960V630H1065V774H1170V780'/>",
-            // the classes of the largest blocks, 100, 90, 70, 52, 52, 52, 152, 62, 200, 8: 96, 88, 64, 52, 52, 52, 144, 60, 192, 8
+            // the classes of the largest blocks, 100, 90, 70, 52, 52, 52, 152, 62, 200, 8: 96, 88, 64, 52, 52, 52, 144,
+            // 60, 192, 8
             "<path class='most' d='M120 780H120V708H225V714H330V732H435V741H750V672H855V735H960V636H1065V774H1170V780'/>",
         ],
     );
@@ -104,16 +106,19 @@ fn groups_grants_by_age(rt: HostRuntime) -> Result<(), Fail> {
         "space 100 nodes 16 index 32\nalloc 1\nalloc 2\nfree 2\nalloc 3\nfree 3\nreport\nreport\nreport\nreport\nreport\nreport\nfree 1\n";
     let picture = picture_of(rt.alloc(), text)?;
     let Some((_, short)) = picture.split_once("<g class='age1'>") else {
-        assert!(rt; false, "{picture}");
+        assert_that_at(&rt, &picture, false);
         return Ok(());
     };
-    assert_eq!(rt; rectangles(short), 2);
+    assert_same(&rt, &rectangles(short), &2);
     let Some((_, long)) = picture.split_once("<g class='age2'>") else {
-        assert!(rt; false, "{picture}");
+        assert_that_at(&rt, &picture, false);
         return Ok(());
     };
-    assert_eq!(rt; rectangles(long), 3);
-    assert!(rt; long.contains("<title>grant 1, offset 0, size 1, calls 1-12</title>"));
+    assert_same(&rt, &rectangles(long), &3);
+    assert_that(
+        &rt,
+        long.contains("<title>grant 1, offset 0, size 1, calls 1-12</title>"),
+    );
     Ok(())
 }
 
@@ -128,7 +133,7 @@ fn draws_a_full_report_as_a_report(rt: HostRuntime) -> Result<(), Fail> {
         rt.alloc(),
         "space 100 nodes 16 index 32\nalloc 10\nreport\nfree 1\n",
     )?;
-    assert_eq!(rt; full, short);
-    assert_eq!(rt; rectangles(&full), 1);
+    assert_same(&rt, &full, &short);
+    assert_same(&rt, &rectangles(&full), &1);
     Ok(())
 }

@@ -1,13 +1,14 @@
 //! Pictures of scripts at the limits.
 
 use super::support::{expect_once, picture_of, rectangles};
+use offset_test_base::asserts::assert_same;
 use std::test::Fail;
 
 // There is one state, all along the axis. 100 free units are the whole height, and 96 of them are 144 pixels.
 #[test]
 fn draws_an_empty_script(rt: HostRuntime) -> Result<(), Fail> {
     let picture = picture_of(rt.alloc(), "space 100 nodes 16 index 32\n")?;
-    assert_eq!(rt; rectangles(&picture), 0);
+    assert_same(&rt, &rectangles(&picture), &0);
     expect_once(
         &rt,
         &picture,
@@ -31,7 +32,7 @@ fn draws_refusals_alone(rt: HostRuntime) -> Result<(), Fail> {
         rt.alloc(),
         "space 100 nodes 16 index 32\nalloc 101\nalign 90 64\nalloc 4294967295\n",
     )?;
-    assert_eq!(rt; rectangles(&picture), 0);
+    assert_same(&rt, &rectangles(&picture), &0);
     expect_once(
         &rt,
         &picture,
@@ -61,7 +62,7 @@ fn draws_a_space_of_no_units(rt: HostRuntime) -> Result<(), Fail> {
 #[test]
 fn draws_grants_of_no_units(rt: HostRuntime) -> Result<(), Fail> {
     let picture = picture_of(rt.alloc(), "space 100 nodes 16 index 32\nalloc 0\n")?;
-    assert_eq!(rt; rectangles(&picture), 1);
+    assert_same(&rt, &rectangles(&picture), &1);
     expect_once(
         &rt,
         &picture,
@@ -138,7 +139,7 @@ fn ends_lives_at_a_reset(rt: HostRuntime) -> Result<(), Fail> {
         rt.alloc(),
         "space 100 nodes 16 index 32\nalloc 52\nalloc 48\nfree 2\nreset\nalloc 96\nfree 1\n",
     )?;
-    assert_eq!(rt; rectangles(&picture), 3);
+    assert_same(&rt, &rectangles(&picture), &3);
     expect_once(
         &rt,
         &picture,

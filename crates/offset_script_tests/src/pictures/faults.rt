@@ -2,6 +2,7 @@
 
 use offset_lives::draw_program;
 use offset_script::{FromRead, IntoWrite};
+use offset_test_base::asserts::{assert_same, assert_that};
 use offset_test_base::devices::{Reader, Writer};
 use std::alloc::Global;
 use std::test::Fail;
@@ -26,14 +27,15 @@ fn run_over(
 fn a_picture_ends_with_0_and_no_line(rt: HostRuntime) -> Result<(), Fail> {
     let writer = || Writer::new(rt.alloc(), 1000);
     let (status, output, errors) = run_over(rt.alloc(), Reader::new(TEXT, 7), writer(), writer());
-    assert_eq!(rt; status, 0);
-    assert!(rt; output.taken.as_slice().starts_with(b"<svg "));
-    assert!(rt; output.taken.as_slice().ends_with(b"</svg>\n"));
-    assert_eq!(rt;
-        (output.flushes, output.flushed),
-        (1, Some(output.taken.len()))
+    assert_same(&rt, &status, &0);
+    assert_that(&rt, output.taken.as_slice().starts_with(b"<svg "));
+    assert_that(&rt, output.taken.as_slice().ends_with(b"</svg>\n"));
+    assert_same(
+        &rt,
+        &(output.flushes, output.flushed),
+        &(1, Some(output.taken.len())),
     );
-    assert_eq!(rt; (errors.writes, errors.flushes), (0, 0));
+    assert_same(&rt, &(errors.writes, errors.flushes), &(0, 0));
     Ok(())
 }
 
@@ -60,10 +62,14 @@ fn a_text_that_is_no_script_is_not_drawn(rt: HostRuntime) -> Result<(), Fail> {
             Writer::new(rt.alloc(), 4096),
             Writer::new(rt.alloc(), 4096),
         );
-        assert_eq!(rt; status, 2);
-        assert_eq!(rt; (output.writes, output.flushes), (0, 0));
-        assert_eq!(rt; errors.taken.as_slice(), line);
-        assert_eq!(rt; (errors.flushes, errors.flushed), (1, Some(line.len())));
+        assert_same(&rt, &status, &2);
+        assert_same(&rt, &(output.writes, output.flushes), &(0, 0));
+        assert_same(&rt, &errors.taken.as_slice(), &line);
+        assert_same(
+            &rt,
+            &(errors.flushes, errors.flushed),
+            &(1, Some(line.len())),
+        );
     }
     Ok(())
 }
@@ -77,8 +83,12 @@ fn a_space_that_does_not_fit_is_not_drawn(rt: HostRuntime) -> Result<(), Fail> {
         Writer::new(rt.alloc(), 4096),
         Writer::new(rt.alloc(), 4096),
     );
-    assert_eq!(rt; (status, output.writes, output.flushes), (3, 0, 0));
-    assert_eq!(rt; errors.taken.as_slice(), b"out of memory\n".as_slice());
+    assert_same(&rt, &(status, output.writes, output.flushes), &(3, 0, 0));
+    assert_same(
+        &rt,
+        &errors.taken.as_slice(),
+        &b"out of memory\n".as_slice(),
+    );
     Ok(())
 }
 
@@ -88,19 +98,19 @@ fn a_device_that_fails_ends_with_4_and_its_line(rt: HostRuntime) -> Result<(), F
     let mut reader = Reader::new(TEXT, 4096);
     reader.fails_at = 2;
     let (status, output, errors) = run_over(rt.alloc(), reader, writer(), writer());
-    assert_eq!(rt; (status, output.writes, output.flushes), (4, 0, 0));
-    assert_eq!(rt; errors.taken.as_slice(), b"read failed\n".as_slice());
+    assert_same(&rt, &(status, output.writes, output.flushes), &(4, 0, 0));
+    assert_same(&rt, &errors.taken.as_slice(), &b"read failed\n".as_slice());
     let mut full = Writer::new(rt.alloc(), 5);
     full.fails_at = 2;
     let (status, output, errors) = run_over(rt.alloc(), Reader::new(TEXT, 4096), full, writer());
-    assert_eq!(rt; (status, output.flushes), (4, 0));
-    assert_eq!(rt; output.taken.as_slice(), b"<svg ".as_slice());
-    assert_eq!(rt; errors.taken.as_slice(), b"write failed\n".as_slice());
+    assert_same(&rt, &(status, output.flushes), &(4, 0));
+    assert_same(&rt, &output.taken.as_slice(), &b"<svg ".as_slice());
+    assert_same(&rt, &errors.taken.as_slice(), &b"write failed\n".as_slice());
     let mut stuck = writer();
     stuck.fails_flush = true;
     let (status, output, errors) = run_over(rt.alloc(), Reader::new(TEXT, 4096), stuck, writer());
-    assert_eq!(rt; (status, output.flushes), (4, 1));
-    assert_eq!(rt; errors.taken.as_slice(), b"write failed\n".as_slice());
+    assert_same(&rt, &(status, output.flushes), &(4, 1));
+    assert_same(&rt, &errors.taken.as_slice(), &b"write failed\n".as_slice());
     Ok(())
 }
 
@@ -114,7 +124,7 @@ fn errors_that_fail_change_no_status(rt: HostRuntime) -> Result<(), Fail> {
         Writer::new(rt.alloc(), 4096),
         errors,
     );
-    assert_eq!(rt; (status, output.writes), (2, 0));
-    assert_eq!(rt; errors.taken.as_slice(), b"li".as_slice());
+    assert_same(&rt, &(status, output.writes), &(2, 0));
+    assert_same(&rt, &errors.taken.as_slice(), &b"li".as_slice());
     Ok(())
 }

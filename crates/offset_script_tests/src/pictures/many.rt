@@ -1,6 +1,7 @@
 //! Pictures of many grants.
 
 use super::support::{count, expect_once, picture_of, rectangles};
+use offset_test_base::asserts::{assert_same, assert_that, assert_that_at};
 use std::alloc::Global;
 use std::test::Fail;
 
@@ -17,9 +18,9 @@ fn units(alloc: Global, grants: u32) -> Result<String, Fail> {
 fn titles_20000_grants(rt: HostRuntime) -> Result<(), Fail> {
     let text = units(rt.alloc(), 20_000)?;
     let picture = picture_of(rt.alloc(), &text)?;
-    assert_eq!(rt; rectangles(&picture), 20_000);
-    assert_eq!(rt; count(&picture, "<title>"), 20_000);
-    assert!(rt; !picture.contains("merged"));
+    assert_same(&rt, &rectangles(&picture), &20_000);
+    assert_same(&rt, &count(&picture, "<title>"), &20_000);
+    assert_that(&rt, !picture.contains("merged"));
     Ok(())
 }
 
@@ -29,8 +30,8 @@ fn merges_20001_grants(rt: HostRuntime) -> Result<(), Fail> {
     let text = units(rt.alloc(), 20_001)?;
     let picture = picture_of(rt.alloc(), &text)?;
     let found = rectangles(&picture);
-    assert_eq!(rt; count(&picture, "<title>"), 0);
-    assert!(rt; found > 1000 && found < 10_000, "{found}");
+    assert_same(&rt, &count(&picture, "<title>"), &0);
+    assert_that_at(&rt, &found, found > 1000 && found < 10_000);
     let thousands = found / 1000;
     let ones = found % 1000;
     let note = format!(in rt.alloc();
@@ -44,9 +45,9 @@ fn merges_20001_grants(rt: HostRuntime) -> Result<(), Fail> {
     Ok(())
 }
 
-// A first grant of units 0 to 52 that is live to the end, and then grants of units 52 to 100 that are live for one call. With
-// 40,003 calls one call takes 0.026 pixels. The first grant is at 120.02, and is not merged. All others touch, within a
-// tenth of a pixel: from 120.05, and so from 120, to 1169.97, and so to 1170.
+// A first grant of units 0 to 52 that is live to the end, and then grants of units 52 to 100 that are live for one
+// call. With 40,003 calls one call takes 0.026 pixels. The first grant is at 120.02, and is not merged. All others
+// touch, within a tenth of a pixel: from 120.05, and so from 120, to 1169.97, and so to 1170.
 #[test]
 fn merges_grants_that_touch(rt: HostRuntime) -> Result<(), Fail> {
     let mut text = String::from_str(rt.alloc(), "space 100 nodes 16 index 32\nalloc 52\n")?;
@@ -54,7 +55,7 @@ fn merges_grants_that_touch(rt: HostRuntime) -> Result<(), Fail> {
         writeln!(text, "alloc 48\nfree {k}")?;
     }
     let picture = picture_of(rt.alloc(), &text)?;
-    assert_eq!(rt; rectangles(&picture), 2);
+    assert_same(&rt, &rectangles(&picture), &2);
     expect_once(
         &rt,
         &picture,
@@ -71,9 +72,10 @@ fn merges_grants_that_touch(rt: HostRuntime) -> Result<(), Fail> {
 // thousandth of a pixel high, and at the same height: from 156.7 to 156.8, drawn 0.3 pixels high. With 41,999 calls one
 // call takes 0.025 pixels.
 //
-// Grants 2 to 20,001 are live for one call each, in calls 2 to 40,001: from 120.05, and so from 120, to 1120.025, and so to
-// 1120.1. Grant 20,002 is live for 100 calls from call 40,002 on: from 1120.05, and so from 1120, to 1122.55, and so to
-// 1122.6. It touches those before, and is of another age. Grant 20,003 is inside it, for 40 calls from call 40,010 on.
+// Grants 2 to 20,001 are live for one call each, in calls 2 to 40,001: from 120.05, and so from 120, to 1120.025, and
+// so to 1120.1. Grant 20,002 is live for 100 calls from call 40,002 on: from 1120.05, and so from 1120, to 1122.55, and
+// so to 1122.6. It touches those before, and is of another age. Grant 20,003 is inside it, for 40 calls from call
+// 40,010 on.
 #[test]
 fn merges_grants_of_one_age(rt: HostRuntime) -> Result<(), Fail> {
     let mut text = String::from_str(
@@ -95,7 +97,7 @@ fn merges_grants_of_one_age(rt: HostRuntime) -> Result<(), Fail> {
         }
     }
     let picture = picture_of(rt.alloc(), &text)?;
-    assert_eq!(rt; rectangles(&picture), 3);
+    assert_same(&rt, &rectangles(&picture), &3);
     expect_once(
         &rt,
         &picture,

@@ -1,6 +1,7 @@
 //! Pictures are well-formed XML.
 
 use super::support::picture_of;
+use offset_test_base::asserts::{assert_same_at, assert_that_at};
 use std::alloc::{AllocError, Global};
 use std::test::Fail;
 
@@ -35,8 +36,8 @@ fn are_attributes(alloc: Global, text: &str) -> Result<bool, AllocError> {
     Ok(rest.is_empty())
 }
 
-// Whether a text is one element, with its elements closed in turn, and no bare `&`, `<` or `>` in text or attributes. It
-// knows no comments, declarations or escapes, which pictures do not have.
+// Whether a text is one element, with its elements closed in turn, and no bare `&`, `<` or `>` in text or attributes.
+// It knows no comments, declarations or escapes, which pictures do not have.
 fn is_well_formed(alloc: Global, text: &str) -> Result<bool, AllocError> {
     let mut open: Vec<&str> = Vec::new(alloc);
     let mut roots = 0u32;
@@ -100,7 +101,7 @@ fn the_check_of_markup_works(rt: HostRuntime) -> Result<(), Fail> {
         ("<a", false),
         ("", false),
     ] {
-        assert_eq!(rt; is_well_formed(rt.alloc(), text)?, want, "{text}");
+        assert_same_at(&rt, &text, &is_well_formed(rt.alloc(), text)?, &want);
     }
     Ok(())
 }
@@ -116,7 +117,7 @@ fn draws_well_formed_pictures(rt: HostRuntime) -> Result<(), Fail> {
         "space 4294967295 nodes 16 index 32\nalloc 4026531840\nextend 1\nfree 9\n",
     ] {
         let picture = picture_of(rt.alloc(), text)?;
-        assert!(rt; is_well_formed(rt.alloc(), &picture)?, "{text}{picture}");
+        assert_that_at(&rt, &text, is_well_formed(rt.alloc(), &picture)?);
     }
     Ok(())
 }

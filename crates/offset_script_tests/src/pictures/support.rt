@@ -2,6 +2,7 @@
 
 use offset_lives::picture;
 use offset_script::parse;
+use offset_test_base::asserts::assert_same_at;
 use std::alloc::Global;
 use std::process::Abort;
 use std::test::Fail;
@@ -26,6 +27,6 @@ pub fn rectangles(text: &str) -> usize {
 pub fn expect_once(rt: &impl Abort, text: &str, words: &[&str]) {
     for word in words {
         let found = count(text, word);
-        assert_eq!(rt; found, 1, "{word} in\n{text}");
+        assert_same_at(rt, &(word, text), &found, &1);
     }
 }

@@ -4,6 +4,7 @@ use super::numbers::Numbers;
 use super::slow::Space;
 use offset_allocator::NodeIndex;
 use offset_script::{Answer, Command, Script, parse, play};
+use offset_test_base::asserts::{assert_same, assert_same_at, assert_that, text_of};
 use offset_test_base::tiny::Tiny;
 use std::alloc::{AllocError, Global};
 use std::process::Abort;
@@ -120,9 +121,9 @@ fn expect_answer(
     found: &Answer,
     wanted: &Answer,
 ) -> Result<(), Fail> {
-    let found = format!(in alloc; "{found:?}")?;
-    let wanted = format!(in alloc; "{wanted:?}")?;
-    assert_eq!(rt; found.as_str(), wanted.as_str(), "command {number}");
+    let found = text_of(alloc, found)?;
+    let wanted = text_of(alloc, wanted)?;
+    assert_same_at(rt, &("command", number), &found.as_str(), &wanted.as_str());
     Ok(())
 }
 
@@ -132,9 +133,9 @@ fn expect_played<NI: NodeIndex>(
     script: &Script,
     wanted: &[Answer],
 ) -> Result<(), Fail> {
-    assert!(rt; script.max_allocs < NI::MAX - 1);
+    assert_that(rt, script.max_allocs < NI::MAX - 1);
     let answers = play::<NI>(alloc, script.size, script.max_allocs, &script.commands)?;
-    assert_eq!(rt; answers.len(), wanted.len());
+    assert_same(rt, &answers.len(), &wanted.len());
     for (number, (found, wanted)) in answers.iter().zip(wanted.iter()).enumerate() {
         expect_answer(rt, alloc, number, found, wanted)?;
     }

@@ -3,6 +3,7 @@
 use super::numbers::Numbers;
 use super::slow_reading::{Reading, read_slowly, run_slowly};
 use offset_script::{Script, ScriptFault, parse};
+use offset_test_base::asserts::{assert_same_at, assert_that_at};
 use offset_test_base::runs::outcome;
 use std::alloc::{AllocError, Global};
 use std::process::Abort;
@@ -231,21 +232,22 @@ fn expect_meaning(
     let meaning = read_slowly(alloc, &text);
     tally.count(&meaning);
     match (parse(alloc, &text), meaning) {
-        (Err(found), Err(wanted)) => assert_eq!(rt; found, wanted, "text {number}"),
+        (Err(found), Err(wanted)) => assert_same_at(rt, &("text", number), &found, &wanted),
         (Ok(script), Ok(reading)) => {
-            assert!(rt; is_same(&script, &reading), "text {number}");
+            assert_that_at(rt, &("text", number), is_same(&script, &reading));
             // Tables of more nodes would take gigabytes.
             if reading.limit > 65_533 {
                 return Ok(());
             }
         }
-        _ => assert!(rt; false, "text {number} has a fault, or none"),
+        _ => assert_that_at(rt, &("text", number), false),
     }
     let wanted = run_slowly(alloc, &text)?;
-    assert_eq!(rt;
-        outcome(alloc, &text)?.as_str(),
-        wanted.as_str(),
-        "text {number}"
+    assert_same_at(
+        rt,
+        &("text", number),
+        &outcome(alloc, &text)?.as_str(),
+        &wanted.as_str(),
     );
     Ok(())
 }
@@ -261,9 +263,9 @@ fn reads_random_texts(rt: HostRuntime) -> Result<(), Fail> {
     for number in 1..TEXTS + 1 {
         expect_meaning(&rt, rt.alloc(), number, &mut tally)?;
     }
-    assert!(rt; tally.scripts > 1_000, "{tally:?}");
-    assert!(rt; tally.bad_headers > 1_000, "{tally:?}");
-    assert!(rt; tally.bad_limits > 1_000, "{tally:?}");
-    assert!(rt; tally.bad_commands > 1_000, "{tally:?}");
+    assert_that_at(&rt, &tally, tally.scripts > 1_000);
+    assert_that_at(&rt, &tally, tally.bad_headers > 1_000);
+    assert_that_at(&rt, &tally, tally.bad_limits > 1_000);
+    assert_that_at(&rt, &tally, tally.bad_commands > 1_000);
     Ok(())
 }

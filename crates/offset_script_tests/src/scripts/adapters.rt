@@ -2,16 +2,17 @@
 
 use super::support::{Reader, Writer};
 use offset_script::{FromRead, IntoWrite, Sink, Source};
+use offset_test_base::asserts::{assert_same, assert_that};
 use std::test::Fail;
 
 #[test]
 fn pulls_by_one_read(rt: HostRuntime) {
     let mut input = FromRead::new(Reader::new(b"abcdefg".as_slice(), 3));
     let mut buf = [0u8; 5];
-    assert_eq!(rt; input.pull(&mut buf), Some(3));
-    assert_eq!(rt; buf, *b"abc\x00\x00");
+    assert_same(&rt, &input.pull(&mut buf), &Some(3));
+    assert_same(&rt, &buf, &*b"abc\x00\x00");
     let reader = input.into_inner();
-    assert_eq!(rt; (reader.reads, reader.text.len()), (1, 4));
+    assert_same(&rt, &(reader.reads, reader.text.len()), &(1, 4));
 }
 
 #[test]
@@ -20,9 +21,9 @@ fn pulls_again_after_a_failure(rt: HostRuntime) {
     reader.fails_at = 1;
     let mut input = FromRead::new(reader);
     let mut buf = [0u8; 5];
-    assert_eq!(rt; input.pull(&mut buf), None);
-    assert_eq!(rt; input.pull(&mut buf), Some(3));
-    assert_eq!(rt; input.into_inner().reads, 2);
+    assert_same(&rt, &input.pull(&mut buf), &None);
+    assert_same(&rt, &input.pull(&mut buf), &Some(3));
+    assert_same(&rt, &input.into_inner().reads, &2);
 }
 
 #[test]
@@ -31,8 +32,8 @@ fn pulls_nothing_by_one_read(rt: HostRuntime) {
     reader.empty_at = 1;
     let mut input = FromRead::new(reader);
     let mut buf = [0u8; 5];
-    assert_eq!(rt; input.pull(&mut buf), Some(0));
-    assert_eq!(rt; input.into_inner().reads, 1);
+    assert_same(&rt, &input.pull(&mut buf), &Some(0));
+    assert_same(&rt, &input.into_inner().reads, &1);
 }
 
 // An empty buffer, and a longer one than a run uses.
@@ -40,30 +41,30 @@ fn pulls_nothing_by_one_read(rt: HostRuntime) {
 fn pulls_into_any_buffer_by_one_read(rt: HostRuntime) -> Result<(), Fail> {
     let text = vec![in rt.alloc(); b'a'; 100_000]?;
     let mut input = FromRead::new(Reader::new(&text, 100_000));
-    assert_eq!(rt; input.pull(&mut []), Some(0));
+    assert_same(&rt, &input.pull(&mut []), &Some(0));
     let mut buf = vec![in rt.alloc(); 0u8; 90_000]?;
-    assert_eq!(rt; input.pull(&mut buf), Some(90_000));
+    assert_same(&rt, &input.pull(&mut buf), &Some(90_000));
     let reader = input.into_inner();
-    assert_eq!(rt; (reader.reads, reader.text.len()), (2, 10_000));
+    assert_same(&rt, &(reader.reads, reader.text.len()), &(2, 10_000));
     Ok(())
 }
 
 #[test]
 fn pushes_by_one_write(rt: HostRuntime) {
     let mut output = IntoWrite::new(Writer::new(rt.alloc(), 3));
-    assert_eq!(rt; output.push(b"abcdefg".as_slice()), Some(3));
+    assert_same(&rt, &output.push(b"abcdefg".as_slice()), &Some(3));
     let writer = output.into_inner();
-    assert_eq!(rt; writer.taken.as_slice(), b"abc".as_slice());
-    assert_eq!(rt; (writer.writes, writer.flushes), (1, 0));
+    assert_same(&rt, &writer.taken.as_slice(), &b"abc".as_slice());
+    assert_same(&rt, &(writer.writes, writer.flushes), &(1, 0));
 }
 
 #[test]
 fn pushes_much_by_one_write(rt: HostRuntime) -> Result<(), Fail> {
     let text = vec![in rt.alloc(); b'a'; 100_000]?;
     let mut output = IntoWrite::new(Writer::new(rt.alloc(), 100_000));
-    assert_eq!(rt; output.push(&text), Some(100_000));
+    assert_same(&rt, &output.push(&text), &Some(100_000));
     let writer = output.into_inner();
-    assert_eq!(rt; (writer.writes, writer.taken.len()), (1, 100_000));
+    assert_same(&rt, &(writer.writes, writer.taken.len()), &(1, 100_000));
     Ok(())
 }
 
@@ -72,9 +73,9 @@ fn pushes_again_after_a_failure(rt: HostRuntime) {
     let mut writer = Writer::new(rt.alloc(), 3);
     writer.fails_at = 1;
     let mut output = IntoWrite::new(writer);
-    assert_eq!(rt; output.push(b"abc".as_slice()), None);
-    assert_eq!(rt; output.push(b"abc".as_slice()), Some(3));
-    assert_eq!(rt; output.into_inner().writes, 2);
+    assert_same(&rt, &output.push(b"abc".as_slice()), &None);
+    assert_same(&rt, &output.push(b"abc".as_slice()), &Some(3));
+    assert_same(&rt, &output.into_inner().writes, &2);
 }
 
 // A write that takes nothing is a failure, and is not tried again.
@@ -83,8 +84,8 @@ fn fails_where_a_write_takes_nothing(rt: HostRuntime) {
     let mut writer = Writer::new(rt.alloc(), 3);
     writer.empty_at = 1;
     let mut output = IntoWrite::new(writer);
-    assert_eq!(rt; output.push(b"abc".as_slice()), None);
-    assert_eq!(rt; output.into_inner().writes, 1);
+    assert_same(&rt, &output.push(b"abc".as_slice()), &None);
+    assert_same(&rt, &output.into_inner().writes, &1);
 }
 
 #[test]
@@ -93,9 +94,9 @@ fn flushes_by_one_flush(rt: HostRuntime) {
         let mut writer = Writer::new(rt.alloc(), 3);
         writer.fails_flush = fails_flush;
         let mut output = IntoWrite::new(writer);
-        assert_eq!(rt; output.flush(), !fails_flush);
+        assert_same(&rt, &output.flush(), &!fails_flush);
         let writer = output.into_inner();
-        assert_eq!(rt; (writer.writes, writer.flushes), (0, 1));
+        assert_same(&rt, &(writer.writes, writer.flushes), &(0, 1));
     }
 }
 
@@ -103,13 +104,13 @@ fn flushes_by_one_flush(rt: HostRuntime) {
 #[test]
 fn flushes_each_time(rt: HostRuntime) {
     let mut output = IntoWrite::new(Writer::new(rt.alloc(), 3));
-    assert!(rt; output.flush());
-    assert!(rt; output.flush());
-    assert_eq!(rt; output.push(b"abc".as_slice()), Some(3));
-    assert!(rt; output.flush());
+    assert_that(&rt, output.flush());
+    assert_that(&rt, output.flush());
+    assert_same(&rt, &output.push(b"abc".as_slice()), &Some(3));
+    assert_that(&rt, output.flush());
     let writer = output.into_inner();
-    assert_eq!(rt; (writer.writes, writer.flushes), (1, 3));
-    assert_eq!(rt; writer.flushed, Some(3));
+    assert_same(&rt, &(writer.writes, writer.flushes), &(1, 3));
+    assert_same(&rt, &writer.flushed, &Some(3));
 }
 
 #[test]
@@ -117,7 +118,7 @@ fn flushes_after_a_failure(rt: HostRuntime) {
     let mut writer = Writer::new(rt.alloc(), 3);
     writer.fails_at = 1;
     let mut output = IntoWrite::new(writer);
-    assert_eq!(rt; output.push(b"abc".as_slice()), None);
-    assert!(rt; output.flush());
-    assert_eq!(rt; output.into_inner().flushes, 1);
+    assert_same(&rt, &output.push(b"abc".as_slice()), &None);
+    assert_that(&rt, output.flush());
+    assert_same(&rt, &output.into_inner().flushes, &1);
 }

@@ -1,6 +1,7 @@
 //! The beginnings of a text that have no answers.
 
 use super::support::outcome;
+use offset_test_base::asserts::assert_same_at;
 use std::test::Fail;
 
 const TEXT: &[u8] = b"space 10 nodes 4 index 32\nalloc 10\nfree 1\n";
@@ -15,7 +16,12 @@ fn plays_beginnings_without_answers(rt: HostRuntime) -> Result<(), Fail> {
     ] {
         for (i, _byte) in TEXT.iter().enumerate() {
             if fewest <= i && i <= most {
-                assert_eq!(rt; outcome(rt.alloc(), &TEXT[..i])?.as_str(), wanted, "at {i}");
+                assert_same_at(
+                    &rt,
+                    &("at", i),
+                    &outcome(rt.alloc(), &TEXT[..i])?.as_str(),
+                    &wanted,
+                );
             }
         }
     }

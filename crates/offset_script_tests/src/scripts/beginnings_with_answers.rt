@@ -1,6 +1,7 @@
 //! The beginnings of a text that have answers.
 
 use super::support::outcome;
+use offset_test_base::asserts::assert_same_at;
 use std::test::Fail;
 
 const TEXT: &[u8] = b"space 10 nodes 4 index 32\nalloc 10\nfree 1\n";
@@ -14,10 +15,11 @@ fn plays_beginnings_with_answers(rt: HostRuntime) -> Result<(), Fail> {
         (41, "grant 1 at 0\nfreed\n"),
         (42, "grant 1 at 0\nfreed\n"),
     ] {
-        assert_eq!(rt;
-            outcome(rt.alloc(), &TEXT[..length])?.as_str(),
-            wanted,
-            "at {length}"
+        assert_same_at(
+            &rt,
+            &("at", length),
+            &outcome(rt.alloc(), &TEXT[..length])?.as_str(),
+            &wanted,
         );
     }
     Ok(())

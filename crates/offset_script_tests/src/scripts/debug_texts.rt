@@ -2,20 +2,8 @@
 
 use offset_allocator::StorageReport;
 use offset_script::{Answer, Command, FullRow, IndexWidth, RunFault, ScriptFault};
-use std::alloc::Global;
-use std::fmt::Debug;
-use std::process::Abort;
+use offset_test_base::asserts::assert_text;
 use std::test::Fail;
-
-fn expect_text<T: Debug>(
-    rt: &impl Abort,
-    alloc: Global,
-    value: &T,
-    wanted: &str,
-) -> Result<(), Fail> {
-    assert_eq!(rt; format!(in alloc; "{value:?}")?.as_str(), wanted);
-    Ok(())
-}
 
 #[test]
 fn prints_answers(rt: HostRuntime) -> Result<(), Fail> {
@@ -43,7 +31,7 @@ fn prints_answers(rt: HostRuntime) -> Result<(), Fail> {
         (Answer::Reset, "Reset"),
         (Answer::Extended, "Extended"),
     ] {
-        expect_text(&rt, rt.alloc(), &answer, wanted)?;
+        assert_text(&rt, rt.alloc(), &answer, wanted)?;
     }
     Ok(())
 }
@@ -54,7 +42,7 @@ fn prints_the_rows_of_an_answer(rt: HostRuntime) -> Result<(), Fail> {
     for (class, size, count) in [(35u32, 88u32, 1u32), (239, 4_026_531_840, 2)] {
         rows.push(FullRow { class, size, count })?;
     }
-    expect_text(
+    assert_text(
         &rt,
         rt.alloc(),
         &Answer::Full(rows),
@@ -74,13 +62,13 @@ fn prints_commands(rt: HostRuntime) -> Result<(), Fail> {
         (Command::Align(5, 16), "Align(5, 16)"),
         (Command::Extend(4_294_967_295), "Extend(4294967295)"),
     ] {
-        expect_text(&rt, rt.alloc(), &command, wanted)?;
+        assert_text(&rt, rt.alloc(), &command, wanted)?;
     }
     for (width, wanted) in [
         (IndexWidth::Bits16, "Bits16"),
         (IndexWidth::Bits32, "Bits32"),
     ] {
-        expect_text(&rt, rt.alloc(), &width, wanted)?;
+        assert_text(&rt, rt.alloc(), &width, wanted)?;
     }
     Ok(())
 }
@@ -106,7 +94,7 @@ fn prints_faults(rt: HostRuntime) -> Result<(), Fail> {
         (RunFault::Read, "Read"),
         (RunFault::Write, "Write"),
     ] {
-        expect_text(&rt, rt.alloc(), &fault, wanted)?;
+        assert_text(&rt, rt.alloc(), &fault, wanted)?;
     }
     Ok(())
 }

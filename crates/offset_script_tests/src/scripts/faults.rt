@@ -2,6 +2,7 @@
 
 use super::support::{Reader, Writer};
 use offset_script::{FromRead, IntoWrite, RunFault, ScriptFault, run_program};
+use offset_test_base::asserts::assert_same;
 use std::alloc::Global;
 use std::test::Fail;
 
@@ -31,8 +32,8 @@ fn reports_faults(rt: HostRuntime) -> Result<(), Fail> {
         (RunFault::Read, "read failed", 4),
         (RunFault::Write, "write failed", 4),
     ] {
-        assert_eq!(rt; format!(in rt.alloc(); "{fault}")?.as_str(), line);
-        assert_eq!(rt; fault.status(), status);
+        assert_same(&rt, &format!(in rt.alloc(); "{fault}")?.as_str(), &line);
+        assert_same(&rt, &fault.status(), &status);
     }
     Ok(())
 }
@@ -60,12 +61,13 @@ fn a_good_run_ends_with_0_and_no_line(rt: HostRuntime) -> Result<(), Fail> {
         writer(),
         writer(),
     );
-    assert_eq!(rt; status, 0);
-    assert_eq!(rt;
-        output.taken.as_slice(),
-        b"grant 1 at 0\nfreed\n".as_slice()
+    assert_same(&rt, &status, &0);
+    assert_same(
+        &rt,
+        &output.taken.as_slice(),
+        &b"grant 1 at 0\nfreed\n".as_slice(),
     );
-    assert_eq!(rt; (errors.writes, errors.flushes), (0, 0));
+    assert_same(&rt, &(errors.writes, errors.flushes), &(0, 0));
     Ok(())
 }
 
@@ -92,10 +94,14 @@ fn a_text_that_is_no_script_ends_with_2_and_its_line(rt: HostRuntime) -> Result<
                 Writer::new(rt.alloc(), 4096),
                 Writer::new(rt.alloc(), piece),
             );
-            assert_eq!(rt; status, 2);
-            assert_eq!(rt; (output.writes, output.flushes), (0, 0));
-            assert_eq!(rt; errors.taken.as_slice(), line);
-            assert_eq!(rt; (errors.flushes, errors.flushed), (1, Some(line.len())));
+            assert_same(&rt, &status, &2);
+            assert_same(&rt, &(output.writes, output.flushes), &(0, 0));
+            assert_same(&rt, &errors.taken.as_slice(), &line);
+            assert_same(
+                &rt,
+                &(errors.flushes, errors.flushed),
+                &(1, Some(line.len())),
+            );
         }
     }
     Ok(())
@@ -107,14 +113,14 @@ fn a_device_that_fails_ends_with_4_and_its_line(rt: HostRuntime) -> Result<(), F
     let mut reader = Reader::new(TEXT, 4096);
     reader.fails_at = 2;
     let (status, output, errors) = run_over(rt.alloc(), reader, writer(), writer());
-    assert_eq!(rt; (status, output.writes), (4, 0));
-    assert_eq!(rt; errors.taken.as_slice(), b"read failed\n".as_slice());
+    assert_same(&rt, &(status, output.writes), &(4, 0));
+    assert_same(&rt, &errors.taken.as_slice(), &b"read failed\n".as_slice());
     let mut full = Writer::new(rt.alloc(), 8);
     full.fails_at = 2;
     let (status, output, errors) = run_over(rt.alloc(), Reader::new(TEXT, 4096), full, writer());
-    assert_eq!(rt; status, 4);
-    assert_eq!(rt; output.taken.as_slice(), b"grant 1 ".as_slice());
-    assert_eq!(rt; errors.taken.as_slice(), b"write failed\n".as_slice());
+    assert_same(&rt, &status, &4);
+    assert_same(&rt, &output.taken.as_slice(), &b"grant 1 ".as_slice());
+    assert_same(&rt, &errors.taken.as_slice(), &b"write failed\n".as_slice());
     Ok(())
 }
 
@@ -132,9 +138,13 @@ fn errors_that_fail_change_no_status(rt: HostRuntime) -> Result<(), Fail> {
             Writer::new(rt.alloc(), 4096),
             errors,
         );
-        assert_eq!(rt; (status, output.writes), (2, 0));
-        assert_eq!(rt; errors.taken.as_slice(), &LINE[..fails_at as usize - 1]);
-        assert_eq!(rt; errors.flushes, u32::from(fails_at == 21));
+        assert_same(&rt, &(status, output.writes), &(2, 0));
+        assert_same(
+            &rt,
+            &errors.taken.as_slice(),
+            &(&LINE[..fails_at as usize - 1]),
+        );
+        assert_same(&rt, &errors.flushes, &u32::from(fails_at == 21));
     }
     Ok(())
 }

@@ -1,6 +1,7 @@
 //! Texts with a faulty header, with none, and with a header alone.
 
 use super::support::outcome;
+use offset_test_base::asserts::assert_same;
 use std::test::Fail;
 
 #[test]
@@ -13,9 +14,10 @@ fn refuses_headers_out_of_form(rt: HostRuntime) -> Result<(), Fail> {
         b"space 10 nodes 4 index 8\n".as_slice(),
         b"space 10 nodes 4 index 32\r\n".as_slice(),
     ] {
-        assert_eq!(rt;
-            outcome(rt.alloc(), text)?.as_str(),
-            "line 1: bad header, status 2"
+        assert_same(
+            &rt,
+            &outcome(rt.alloc(), text)?.as_str(),
+            &"line 1: bad header, status 2",
         );
     }
     Ok(())
@@ -23,9 +25,10 @@ fn refuses_headers_out_of_form(rt: HostRuntime) -> Result<(), Fail> {
 
 #[test]
 fn counts_the_lines_of_a_text_without_header(rt: HostRuntime) -> Result<(), Fail> {
-    assert_eq!(rt;
-        outcome(rt.alloc(), b"# c\n\n".as_slice())?.as_str(),
-        "line 3: bad header, status 2"
+    assert_same(
+        &rt,
+        &outcome(rt.alloc(), b"# c\n\n".as_slice())?.as_str(),
+        &"line 3: bad header, status 2",
     );
     Ok(())
 }
@@ -37,9 +40,10 @@ fn refuses_limits(rt: HostRuntime) -> Result<(), Fail> {
         b"space 10 nodes 4294967294 index 32\n".as_slice(),
         b"space 10 nodes 65534 index 16\n".as_slice(),
     ] {
-        assert_eq!(rt;
-            outcome(rt.alloc(), text)?.as_str(),
-            "line 1: bad limit, status 2"
+        assert_same(
+            &rt,
+            &outcome(rt.alloc(), text)?.as_str(),
+            &"line 1: bad limit, status 2",
         );
     }
     Ok(())
@@ -47,9 +51,10 @@ fn refuses_limits(rt: HostRuntime) -> Result<(), Fail> {
 
 #[test]
 fn plays_a_header_alone(rt: HostRuntime) -> Result<(), Fail> {
-    assert_eq!(rt;
-        outcome(rt.alloc(), b"space 10 nodes 65533 index 16".as_slice())?.as_str(),
-        ""
+    assert_same(
+        &rt,
+        &outcome(rt.alloc(), b"space 10 nodes 65533 index 16".as_slice())?.as_str(),
+        &"",
     );
     Ok(())
 }

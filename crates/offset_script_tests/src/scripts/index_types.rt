@@ -3,6 +3,7 @@
 use super::rows::{ROWS, text_of};
 use offset_allocator::NodeIndex;
 use offset_script::{Script, parse, play};
+use offset_test_base::asserts::{assert_same, assert_that};
 use offset_test_base::tiny::Tiny;
 use std::alloc::Global;
 use std::process::Abort;
@@ -14,7 +15,7 @@ fn answers_with<NI: NodeIndex>(
     alloc: Global,
     script: &Script,
 ) -> Result<String, Fail> {
-    assert!(rt; script.max_allocs < NI::MAX - 1);
+    assert_that(rt, script.max_allocs < NI::MAX - 1);
     let answers = play::<NI>(alloc, script.size, script.max_allocs, &script.commands)?;
     Ok(format!(in alloc; "{answers:?}")?)
 }
@@ -24,11 +25,11 @@ fn expect_same_answers(rt: &impl Abort, alloc: Global, text: &[u8]) -> Result<()
     let wide = answers_with::<u32>(rt, alloc, &script)?;
     if script.max_allocs <= 65_533 {
         let narrow = answers_with::<u16>(rt, alloc, &script)?;
-        assert_eq!(rt; narrow.as_str(), wide.as_str());
+        assert_same(rt, &narrow.as_str(), &wide.as_str());
     }
     if script.max_allocs <= 5 {
         let tiny = answers_with::<Tiny>(rt, alloc, &script)?;
-        assert_eq!(rt; tiny.as_str(), wide.as_str());
+        assert_same(rt, &tiny.as_str(), &wide.as_str());
     }
     Ok(())
 }
@@ -46,9 +47,10 @@ fn all_index_types_return_the_same_answers(rt: HostRuntime) -> Result<(), Fail> 
 fn plays_with_a_third_index_type(rt: HostRuntime) -> Result<(), Fail> {
     let text = b"space 40 nodes 5 index 16\nalloc 10\nalloc 10\nalloc 10\nalloc 10\n".as_slice();
     let script = parse(rt.alloc(), text)?;
-    assert_eq!(rt;
-        answers_with::<Tiny>(&rt, rt.alloc(), &script)?.as_str(),
-        "[Grant { number: 1, offset: 0 }, Grant { number: 2, offset: 10 }, Grant { number: 3, offset: 20 }, Refused]"
+    assert_same(
+        &rt,
+        &answers_with::<Tiny>(&rt, rt.alloc(), &script)?.as_str(),
+        &"[Grant { number: 1, offset: 0 }, Grant { number: 2, offset: 10 }, Grant { number: 3, offset: 20 }, Refused]",
     );
     Ok(())
 }

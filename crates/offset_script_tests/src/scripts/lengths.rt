@@ -2,14 +2,16 @@
 
 use super::support::{Reader, outcome};
 use offset_script::{FromRead, IntoWrite, RunFault, ScriptFault, run};
+use offset_test_base::asserts::{assert_same, assert_same_at};
 use std::test::Fail;
 
 #[test]
 fn reads_a_text_of_the_largest_length(rt: HostRuntime) -> Result<(), Fail> {
     let text = vec![in rt.alloc(); b'#'; 1_048_576]?;
-    assert_eq!(rt;
-        outcome(rt.alloc(), &text)?.as_str(),
-        "line 1: bad header, status 2"
+    assert_same(
+        &rt,
+        &outcome(rt.alloc(), &text)?.as_str(),
+        &"line 1: bad header, status 2",
     );
     Ok(())
 }
@@ -17,7 +19,11 @@ fn reads_a_text_of_the_largest_length(rt: HostRuntime) -> Result<(), Fail> {
 #[test]
 fn refuses_one_byte_more(rt: HostRuntime) -> Result<(), Fail> {
     let text = vec![in rt.alloc(); b'#'; 1_048_577]?;
-    assert_eq!(rt; outcome(rt.alloc(), &text)?.as_str(), "too long, status 2");
+    assert_same(
+        &rt,
+        &outcome(rt.alloc(), &text)?.as_str(),
+        &"too long, status 2",
+    );
     Ok(())
 }
 
@@ -29,8 +35,8 @@ fn leaves_what_follows_unread(rt: HostRuntime) -> Result<(), Fail> {
         let mut input = FromRead::new(Reader::new(&text, piece));
         let mut output = IntoWrite::new(Vec::new(rt.alloc()));
         let result = run(rt.alloc(), &mut input, &mut output);
-        assert_eq!(rt; result, Err(RunFault::Script(ScriptFault::TooLong)));
-        assert_eq!(rt; input.into_inner().text.len(), 5, "piece {piece}");
+        assert_same(&rt, &result, &Err(RunFault::Script(ScriptFault::TooLong)));
+        assert_same_at(&rt, &("piece", piece), &input.into_inner().text.len(), &5);
     }
     Ok(())
 }

@@ -1,6 +1,7 @@
 //! Faulty lines after a header.
 
 use super::support::{outcome, with_line};
+use offset_test_base::asserts::assert_same;
 use std::test::Fail;
 
 const HEADER: &[u8] = b"space 10 nodes 4 index 32\n";
@@ -22,9 +23,10 @@ fn refuses_faulty_lines(rt: HostRuntime) -> Result<(), Fail> {
         b"space 10 nodes 4 index 32".as_slice(),
     ] {
         let text = with_line(rt.alloc(), HEADER, line)?;
-        assert_eq!(rt;
-            outcome(rt.alloc(), &text)?.as_str(),
-            "line 2: bad command, status 2"
+        assert_same(
+            &rt,
+            &outcome(rt.alloc(), &text)?.as_str(),
+            &"line 2: bad command, status 2",
         );
     }
     Ok(())
@@ -39,9 +41,10 @@ fn refuses_faulty_numbers(rt: HostRuntime) -> Result<(), Fail> {
         b"align 1".as_slice(),
     ] {
         let text = with_line(rt.alloc(), HEADER, line)?;
-        assert_eq!(rt;
-            outcome(rt.alloc(), &text)?.as_str(),
-            "line 2: bad command, status 2"
+        assert_same(
+            &rt,
+            &outcome(rt.alloc(), &text)?.as_str(),
+            &"line 2: bad command, status 2",
         );
     }
     Ok(())
@@ -51,9 +54,10 @@ fn refuses_faulty_numbers(rt: HostRuntime) -> Result<(), Fail> {
 #[test]
 fn reports_the_first_faulty_line(rt: HostRuntime) -> Result<(), Fail> {
     let text = b"# c\n\nspace 010 nodes 4 index 32\nalloc 0000000001\nalloc 00000000001\n";
-    assert_eq!(rt;
-        outcome(rt.alloc(), text.as_slice())?.as_str(),
-        "line 5: bad command, status 2"
+    assert_same(
+        &rt,
+        &outcome(rt.alloc(), text.as_slice())?.as_str(),
+        &"line 5: bad command, status 2",
     );
     Ok(())
 }

@@ -1,6 +1,7 @@
 //! A text with each command.
 
 use offset_script::{Command, IndexWidth, parse};
+use offset_test_base::asserts::assert_same;
 use std::test::Fail;
 
 const TEXT: &[u8] =
@@ -9,8 +10,8 @@ const TEXT: &[u8] =
 #[test]
 fn parses_each_command(rt: HostRuntime) -> Result<(), Fail> {
     let script = parse(rt.alloc(), TEXT)?;
-    assert_eq!(rt; (script.size, script.max_allocs), (10, 4));
-    assert_eq!(rt; script.index, IndexWidth::Bits16);
+    assert_same(&rt, &(script.size, script.max_allocs), &(10, 4));
+    assert_same(&rt, &script.index, &IndexWidth::Bits16);
     let wanted = [
         Command::Alloc(1),
         Command::Free(2),
@@ -21,6 +22,6 @@ fn parses_each_command(rt: HostRuntime) -> Result<(), Fail> {
         Command::Align(5, 16),
         Command::Extend(4_294_967_295),
     ];
-    assert_eq!(rt; script.commands.as_slice(), wanted.as_slice());
+    assert_same(&rt, &script.commands.as_slice(), &wanted.as_slice());
     Ok(())
 }

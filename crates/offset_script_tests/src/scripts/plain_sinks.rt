@@ -2,6 +2,7 @@
 ghost use Rattle.std.specs.Prelude.{Some};
 
 use offset_script::{FromRead, RunFault, Sink, run};
+use offset_test_base::asserts::assert_same;
 use std::alloc::Global;
 use std::test::Fail;
 
@@ -60,9 +61,9 @@ const ANSWERS: &[u8] = b"grant 1 at 0\nfreed\n";
 fn runs_to_a_plain_sink(rt: HostRuntime) -> Result<(), Fail> {
     let mut output = Plain::new(rt.alloc(), 100, false);
     let result = run(rt.alloc(), &mut FromRead::new(SCRIPT), &mut output);
-    assert_eq!(rt; result, Ok(()));
-    assert_eq!(rt; output.taken.as_slice(), ANSWERS);
-    assert_eq!(rt; output.flushes, 1);
+    assert_same(&rt, &result, &Ok(()));
+    assert_same(&rt, &output.taken.as_slice(), &ANSWERS);
+    assert_same(&rt, &output.flushes, &1);
     Ok(())
 }
 
@@ -70,9 +71,9 @@ fn runs_to_a_plain_sink(rt: HostRuntime) -> Result<(), Fail> {
 fn writes_a_beginning_to_a_plain_sink(rt: HostRuntime) -> Result<(), Fail> {
     let mut output = Plain::new(rt.alloc(), 7, false);
     let result = run(rt.alloc(), &mut FromRead::new(SCRIPT), &mut output);
-    assert_eq!(rt; result, Err(RunFault::Write));
-    assert_eq!(rt; output.taken.as_slice(), &ANSWERS[..7]);
-    assert_eq!(rt; output.flushes, 0);
+    assert_same(&rt, &result, &Err(RunFault::Write));
+    assert_same(&rt, &output.taken.as_slice(), &(&ANSWERS[..7]));
+    assert_same(&rt, &output.flushes, &0);
     Ok(())
 }
 
@@ -80,8 +81,8 @@ fn writes_a_beginning_to_a_plain_sink(rt: HostRuntime) -> Result<(), Fail> {
 fn writes_all_where_only_the_flush_fails(rt: HostRuntime) -> Result<(), Fail> {
     let mut output = Plain::new(rt.alloc(), 100, true);
     let result = run(rt.alloc(), &mut FromRead::new(SCRIPT), &mut output);
-    assert_eq!(rt; result, Err(RunFault::Write));
-    assert_eq!(rt; output.taken.as_slice(), ANSWERS);
-    assert_eq!(rt; output.flushes, 1);
+    assert_same(&rt, &result, &Err(RunFault::Write));
+    assert_same(&rt, &output.taken.as_slice(), &ANSWERS);
+    assert_same(&rt, &output.flushes, &1);
     Ok(())
 }

@@ -2,6 +2,7 @@
 
 use super::support::{Reader, Writer};
 use offset_script::{FromRead, IntoWrite, RunFault, ScriptFault, run};
+use offset_test_base::asserts::assert_same;
 use std::test::Fail;
 
 const TEXT: &[u8] = b"space 10 nodes 4 index 32\nalloc 10\nfree 1\n";
@@ -16,13 +17,14 @@ fn stops_at_a_failed_read(rt: HostRuntime) -> Result<(), Fail> {
         reader.fails_at = fails_at;
         let mut input = FromRead::new(reader);
         let mut output = IntoWrite::new(Writer::new(rt.alloc(), 1));
-        assert_eq!(rt;
-            run(rt.alloc(), &mut input, &mut output),
-            Err(RunFault::Read)
+        assert_same(
+            &rt,
+            &run(rt.alloc(), &mut input, &mut output),
+            &Err(RunFault::Read),
         );
-        assert_eq!(rt; input.into_inner().reads, fails_at);
+        assert_same(&rt, &input.into_inner().reads, &fails_at);
         let writer = output.into_inner();
-        assert_eq!(rt; (writer.writes, writer.flushes), (0, 0));
+        assert_same(&rt, &(writer.writes, writer.flushes), &(0, 0));
     }
     Ok(())
 }
@@ -36,9 +38,13 @@ fn stops_at_an_empty_read(rt: HostRuntime) -> Result<(), Fail> {
         let mut input = FromRead::new(reader);
         let mut output = IntoWrite::new(Writer::new(rt.alloc(), 1));
         let result = run(rt.alloc(), &mut input, &mut output);
-        assert_eq!(rt; result, Err(RunFault::Script(ScriptFault::BadHeader(1))));
-        assert_eq!(rt; input.into_inner().reads, empty_at);
-        assert_eq!(rt; output.into_inner().flushes, 0);
+        assert_same(
+            &rt,
+            &result,
+            &Err(RunFault::Script(ScriptFault::BadHeader(1))),
+        );
+        assert_same(&rt, &input.into_inner().reads, &empty_at);
+        assert_same(&rt, &output.into_inner().flushes, &0);
     }
     Ok(())
 }
@@ -49,8 +55,8 @@ fn reads_in_pieces(rt: HostRuntime) -> Result<(), Fail> {
     for (piece, reads) in [(1usize, 26u32), (2, 14), (4096, 2)] {
         let mut input = FromRead::new(Reader::new(HEADER, piece));
         let mut output = IntoWrite::new(Writer::new(rt.alloc(), 1));
-        assert_eq!(rt; run(rt.alloc(), &mut input, &mut output), Ok(()));
-        assert_eq!(rt; input.into_inner().reads, reads);
+        assert_same(&rt, &run(rt.alloc(), &mut input, &mut output), &Ok(()));
+        assert_same(&rt, &input.into_inner().reads, &reads);
     }
     Ok(())
 }

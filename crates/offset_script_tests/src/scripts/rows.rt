@@ -2,6 +2,7 @@
 
 use super::support::{Reader, Writer};
 use offset_script::{FromRead, IntoWrite, run};
+use offset_test_base::asserts::assert_same_at;
 use std::alloc::{AllocError, Global};
 use std::process::Abort;
 use std::test::Fail;
@@ -161,7 +162,7 @@ pub fn expect_written(
     let mut input = FromRead::new(Reader::new(text.as_bytes(), piece));
     run(alloc, &mut input, &mut output)?;
     let written = String::from_utf8(output.into_inner().taken)?;
-    assert_eq!(rt; written.as_str(), wanted, "{text} in pieces of {piece}");
+    assert_same_at(rt, &(text, piece), &written.as_str(), &wanted);
     Ok(())
 }
 

@@ -2,6 +2,7 @@
 
 use super::support::Writer;
 use offset_script::{FromRead, IntoWrite, RunFault, run};
+use offset_test_base::asserts::assert_same;
 use std::alloc::Global;
 use std::test::Fail;
 
@@ -23,9 +24,13 @@ fn stops_at_a_failed_write(rt: HostRuntime) -> Result<(), Fail> {
         let mut writer = Writer::new(rt.alloc(), 1);
         writer.fails_at = fails_at;
         let (result, writer) = run_to(rt.alloc(), writer);
-        assert_eq!(rt; result, Err(RunFault::Write));
-        assert_eq!(rt; writer.taken.as_slice(), &ANSWERS[..fails_at as usize - 1]);
-        assert_eq!(rt; (writer.writes, writer.flushes), (fails_at, 0));
+        assert_same(&rt, &result, &Err(RunFault::Write));
+        assert_same(
+            &rt,
+            &writer.taken.as_slice(),
+            &(&ANSWERS[..fails_at as usize - 1]),
+        );
+        assert_same(&rt, &(writer.writes, writer.flushes), &(fails_at, 0));
     }
     Ok(())
 }
@@ -37,9 +42,13 @@ fn stops_at_an_empty_write(rt: HostRuntime) -> Result<(), Fail> {
         let mut writer = Writer::new(rt.alloc(), 1);
         writer.empty_at = empty_at;
         let (result, writer) = run_to(rt.alloc(), writer);
-        assert_eq!(rt; result, Err(RunFault::Write));
-        assert_eq!(rt; writer.taken.as_slice(), &ANSWERS[..empty_at as usize - 1]);
-        assert_eq!(rt; (writer.writes, writer.flushes), (empty_at, 0));
+        assert_same(&rt, &result, &Err(RunFault::Write));
+        assert_same(
+            &rt,
+            &writer.taken.as_slice(),
+            &(&ANSWERS[..empty_at as usize - 1]),
+        );
+        assert_same(&rt, &(writer.writes, writer.flushes), &(empty_at, 0));
     }
     Ok(())
 }
@@ -49,11 +58,12 @@ fn stops_at_an_empty_write(rt: HostRuntime) -> Result<(), Fail> {
 fn flushes_last(rt: HostRuntime) -> Result<(), Fail> {
     for (piece, writes) in [(1usize, 19u32), (2, 10), (4096, 1)] {
         let (result, writer) = run_to(rt.alloc(), Writer::new(rt.alloc(), piece));
-        assert_eq!(rt; result, Ok(()));
-        assert_eq!(rt; writer.taken.as_slice(), ANSWERS);
-        assert_eq!(rt;
-            (writer.writes, writer.flushes, writer.flushed),
-            (writes, 1, Some(19))
+        assert_same(&rt, &result, &Ok(()));
+        assert_same(&rt, &writer.taken.as_slice(), &ANSWERS);
+        assert_same(
+            &rt,
+            &(writer.writes, writer.flushes, writer.flushed),
+            &(writes, 1, Some(19)),
         );
     }
     Ok(())
@@ -64,8 +74,8 @@ fn reports_a_failed_flush(rt: HostRuntime) -> Result<(), Fail> {
     let mut writer = Writer::new(rt.alloc(), 1);
     writer.fails_flush = true;
     let (result, writer) = run_to(rt.alloc(), writer);
-    assert_eq!(rt; result, Err(RunFault::Write));
-    assert_eq!(rt; writer.taken.as_slice(), ANSWERS);
-    assert_eq!(rt; (writer.flushes, writer.flushed), (1, Some(19)));
+    assert_same(&rt, &result, &Err(RunFault::Write));
+    assert_same(&rt, &writer.taken.as_slice(), &ANSWERS);
+    assert_same(&rt, &(writer.flushes, writer.flushed), &(1, Some(19)));
     Ok(())
 }

@@ -7,6 +7,7 @@ use offset_allocator::ext::min_allocator_size;
 use offset_allocator::small_float::{
     float_to_uint, uint_to_float_round_down, uint_to_float_round_up,
 };
+use offset_test_base::asserts::{assert_same, assert_same_at, assert_that};
 use offset_test_base::groups::value_of;
 use std::alloc::Global;
 use std::process::Abort;
@@ -62,8 +63,8 @@ const SMALLEST_SIZES: [(u32, u32); 43] = [
 #[test]
 fn small_float_uint_to_float(rt: HostRuntime) {
     for i in 0..17u32 {
-        assert_eq!(rt; uint_to_float_round_up(i), i);
-        assert_eq!(rt; uint_to_float_round_down(i), i);
+        assert_same(&rt, &uint_to_float_round_up(i), &i);
+        assert_same(&rt, &uint_to_float_round_down(i), &i);
     }
     for (size, up, down) in [
         (17, 17, 16),
@@ -76,38 +77,39 @@ fn small_float_uint_to_float(rt: HostRuntime) {
         (4_026_531_841, 240, 239),
         (4_294_967_295, 240, 239),
     ] {
-        assert_eq!(rt; uint_to_float_round_up(size), up, "{size}");
-        assert_eq!(rt; uint_to_float_round_down(size), down, "{size}");
+        assert_same_at(&rt, &size, &uint_to_float_round_up(size), &up);
+        assert_same_at(&rt, &size, &uint_to_float_round_down(size), &down);
     }
 }
 
 #[test]
 fn small_float_float_to_uint(rt: HostRuntime) {
     for i in 0..17u32 {
-        assert_eq!(rt; float_to_uint(i), i);
+        assert_same(&rt, &float_to_uint(i), &i);
     }
     for class in 0..240u32 {
         let value = float_to_uint(class);
-        assert_eq!(rt; uint_to_float_round_up(value), class);
-        assert_eq!(rt; uint_to_float_round_down(value), class);
+        assert_same(&rt, &uint_to_float_round_up(value), &class);
+        assert_same(&rt, &uint_to_float_round_down(value), &class);
     }
 }
 
 #[test]
 fn the_values_of_all_groups(rt: HostRuntime) {
     for class in 0..256u32 {
-        assert_eq!(rt;
-            u64::from(float_to_uint(class)),
-            value_of(class as usize) % 4_294_967_296,
-            "class {class}"
+        assert_same_at(
+            &rt,
+            &("class", class),
+            &u64::from(float_to_uint(class)),
+            &(value_of(class as usize) % 4_294_967_296),
         );
     }
 }
 
 // A space of this size grants the request, also with a limit of three nodes.
 fn expect_smallest(rt: &impl Abort, alloc: Global, size: u32, smallest: u32) -> Result<(), Fail> {
-    assert!(rt; size <= 4_026_531_840);
-    assert_eq!(rt; min_allocator_size(size), smallest, "{size}");
+    assert_that(rt, size <= 4_026_531_840);
+    assert_same_at(rt, &size, &min_allocator_size(size), &smallest);
     expect(rt, alloc, smallest, Few, &[Grants(size, 0)])?;
     expect(rt, alloc, smallest, Limited(3), &[Grants(size, 0)])
 }

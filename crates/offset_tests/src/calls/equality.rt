@@ -1,6 +1,7 @@
 //! Blocks and moves are equal only where all their fields are.
 
 use offset_allocator::{Allocator, Block, Move};
+use offset_test_base::asserts::{assert_same, assert_that, assert_that_at};
 use std::process::Abort;
 use std::test::Fail;
 
@@ -8,10 +9,10 @@ use std::test::Fail;
 fn blocks_differ_in_each_field(rt: HostRuntime) -> Result<(), Fail> {
     let mut space = Allocator::<u32>::with_max_allocs(rt.alloc(), 94, 8)?;
     let other = space.allocate(30).expect(&rt, "room");
-    assert!(rt; space.allocate(64).is_some());
+    assert_that(&rt, space.allocate(64).is_some());
     let block = space.blocks().next().expect(&rt, "a block");
     let same = block;
-    assert!(rt; block == same);
+    assert_that(&rt, block == same);
     for changed in [
         Block {
             offset: 31,
@@ -32,7 +33,7 @@ fn blocks_differ_in_each_field(rt: HostRuntime) -> Result<(), Fail> {
             ..block
         },
     ] {
-        assert!(rt; block != changed, "{block:?} and {changed:?}");
+        assert_that_at(&rt, &(block, changed), block != changed);
     }
     Ok(())
 }
@@ -54,24 +55,24 @@ fn moves_differ_in_each_field(rt: HostRuntime) -> Result<(), Fail> {
     let mut space = Allocator::<u32>::with_max_allocs(rt.alloc(), 5, 8)?;
     let first = space.allocate(1).expect(&rt, "room");
     let second = space.allocate(2).expect(&rt, "room");
-    assert!(rt; space.allocate(2).is_some());
-    assert!(rt; space.is_live(first));
+    assert_that(&rt, space.allocate(2).is_some());
+    assert_that(&rt, space.is_live(first));
     space.free(first);
     let range = first_move(&rt, &mut space);
-    assert!(rt; space.allocate(1).is_some());
-    assert!(rt; space.is_live(second));
+    assert_that(&rt, space.allocate(1).is_some());
+    assert_that(&rt, space.is_live(second));
     space.free(second);
     let first = space.allocate(1).expect(&rt, "room");
     let _ = first_move(&rt, &mut space);
-    assert!(rt; space.is_live(first));
+    assert_that(&rt, space.is_live(first));
     space.free(first);
     let of_another = first_move(&rt, &mut space);
     for found in [range, of_another] {
-        assert_eq!(rt; (found.from, found.to, found.size), (1, 0, 2));
+        assert_same(&rt, &(found.from, found.to, found.size), &(1, 0, 2));
     }
     let same = range;
-    assert!(rt; range == same);
-    assert!(rt; range != of_another);
+    assert_that(&rt, range == same);
+    assert_that(&rt, range != of_another);
     for (from, to, size) in [
         (2u32, 0u32, 2u32),
         (257, 0, 2),
@@ -84,7 +85,7 @@ fn moves_differ_in_each_field(rt: HostRuntime) -> Result<(), Fail> {
         changed.from = from;
         changed.to = to;
         changed.size = size;
-        assert!(rt; range != changed, "{range:?} and {changed:?}");
+        assert_that_at(&rt, &(range, changed), range != changed);
     }
     Ok(())
 }

@@ -4,6 +4,7 @@ use super::steps::Limit::{Few, Limited};
 use super::steps::Step::{Grants, Refuses};
 use super::steps::{expect, follow};
 use offset_allocator::{Allocator, NodeIndex, NonMaxU16, NonMaxU32};
+use offset_test_base::asserts::{assert_same, assert_that};
 use offset_test_base::tiny::Tiny;
 use std::test::Fail;
 
@@ -75,15 +76,16 @@ fn offsets_exceed_a_narrow_index(rt: HostRuntime) -> Result<(), Fail> {
 
 #[test]
 fn the_numbers_of_indices(rt: HostRuntime) {
-    assert!(rt; NonMaxU16::new(65_535).is_none());
-    assert!(rt; NonMaxU32::new(4_294_967_295).is_none());
-    assert_eq!(rt; NonMaxU16::new(65_534).map(|n| n.get()), Some(65_534));
-    assert_eq!(rt;
-        NonMaxU32::new(4_294_967_294).map(|n| n.get()),
-        Some(4_294_967_294)
+    assert_that(&rt, NonMaxU16::new(65_535).is_none());
+    assert_that(&rt, NonMaxU32::new(4_294_967_295).is_none());
+    assert_same(&rt, &NonMaxU16::new(65_534).map(|n| n.get()), &Some(65_534));
+    assert_same(
+        &rt,
+        &NonMaxU32::new(4_294_967_294).map(|n| n.get()),
+        &Some(4_294_967_294),
     );
-    assert_eq!(rt; <u16 as NodeIndex>::from_u32(65_536), 0);
-    assert_eq!(rt; Tiny::from_u32(12).to_usize(), 4);
+    assert_same(&rt, &(<u16 as NodeIndex>::from_u32(65_536)), &0);
+    assert_same(&rt, &Tiny::from_u32(12).to_usize(), &4);
 }
 
 // Without a limit, a space has the largest that its index type admits.

@@ -4,6 +4,7 @@ use super::steps::Limit::{Few, Limited};
 use super::steps::Step::{Frees, FreesAltered, Gone, Grants, Lives};
 use super::steps::{Step, expect, follow, make_allocator};
 use offset_allocator::{Allocation, Allocator, NodeIndex};
+use offset_test_base::asserts::{assert_same, assert_that, assert_that_at};
 use std::alloc::Global;
 use std::process::Abort;
 use std::test::Fail;
@@ -57,7 +58,7 @@ fn of_another_space<NI: NodeIndex>(
             }
         }
     }
-    assert_eq!(rt; handles.len(), 198);
+    assert_same(rt, &handles.len(), &198);
     Ok(handles)
 }
 
@@ -72,9 +73,9 @@ fn count_live<NI: NodeIndex>(
     for handle in handles {
         if allocator.is_live(*handle) {
             count = count.saturating_add(1);
-            assert_eq!(rt; allocator.allocation_size(*handle), size);
+            assert_same(rt, &allocator.allocation_size(*handle), &size);
         } else {
-            assert_eq!(rt; allocator.allocation_size(*handle), 0);
+            assert_same(rt, &allocator.allocation_size(*handle), &0);
         }
     }
     count
@@ -83,11 +84,11 @@ fn count_live<NI: NodeIndex>(
 fn expect_foreign<NI: NodeIndex>(rt: &impl Abort, alloc: Global) -> Result<(), Fail> {
     let handles = of_another_space::<NI>(rt, alloc)?;
     match make_allocator::<NI>(alloc, 64, Limited(4))? {
-        None => assert!(rt; false, "no allocator"),
+        None => assert_that_at(rt, &"no allocator", false),
         Some(mut allocator) => {
-            assert_eq!(rt; count_live(rt, &allocator, &handles, 0), 0);
+            assert_same(rt, &count_live(rt, &allocator, &handles, 0), &0);
             follow(rt, alloc, &mut allocator, &[Grants(5, 0)])?;
-            assert!(rt; count_live(rt, &allocator, &handles, 5) <= 1);
+            assert_that(rt, count_live(rt, &allocator, &handles, 5) <= 1);
         }
     }
     Ok(())

@@ -4,6 +4,7 @@ use super::steps::Limit::{Few, Limited};
 use super::steps::Step::{Counts, Grants, Refuses, Reports, Undoes};
 use super::steps::expect;
 use offset_allocator::{Allocator, StorageReportFull, StorageReportFullRegion};
+use offset_test_base::asserts::{assert_same, assert_same_at};
 use offset_test_base::groups::value_of;
 use std::test::Fail;
 
@@ -99,9 +100,9 @@ fn predicts_requests(rt: HostRuntime) -> Result<(), Fail> {
 #[test]
 fn has_defaults_of_zeros(rt: HostRuntime) {
     let region = StorageReportFullRegion::default();
-    assert_eq!(rt; (region.size, region.count), (0, 0));
+    assert_same(&rt, &(region.size, region.count), &(0, 0));
     for region in StorageReportFull::default().free_regions {
-        assert_eq!(rt; (region.size, region.count), (0, 0));
+        assert_same(&rt, &(region.size, region.count), &(0, 0));
     }
 }
 
@@ -111,10 +112,11 @@ fn reports_the_values_of_all_classes(rt: HostRuntime) -> Result<(), Fail> {
     let allocator = Allocator::<u32>::with_max_allocs(rt.alloc(), 100, 2)?;
     let report = allocator.storage_report_full();
     for class in 0..256usize {
-        assert_eq!(rt;
-            u64::from(report.free_regions[class].size),
-            value_of(class) % 4_294_967_296,
-            "class {class}"
+        assert_same_at(
+            &rt,
+            &("class", class),
+            &u64::from(report.free_regions[class].size),
+            &(value_of(class) % 4_294_967_296),
         );
     }
     Ok(())

@@ -2,6 +2,7 @@
 
 use offset_allocator::laws::{refusal_aligned_counted, refusal_counted, undo};
 use offset_allocator::{Accesses, Allocation, Allocator, Move, NodeIndex, Refusal};
+use offset_test_base::asserts::{assert_same, assert_same_at, assert_that, assert_that_at};
 use offset_test_base::tiny::Tiny;
 use std::alloc::{AllocError, Global};
 use std::process::Abort;
@@ -36,7 +37,8 @@ pub enum Step {
     Undoes(u32, bool),
     /// The whole space is free.
     Resets,
-    /// The grants of these numbers move, in this order and no others: each from an offset to another one, with this size.
+    /// The grants of these numbers move, in this order and no others: each from an offset to another one, with this
+    /// size.
     Compacts(&'static [(usize, u32, u32, u32)]),
     /// The range of the grant of this number begins at this offset.
     Begins(usize, u32),
@@ -53,14 +55,14 @@ pub enum Step {
 }
 
 fn release<NI: NodeIndex>(rt: &impl Abort, allocator: &mut Allocator<NI>, handle: Allocation<NI>) {
-    assert!(rt; allocator.is_live(handle));
+    assert_that(rt, allocator.is_live(handle));
     allocator.free(handle);
     expect_gone(rt, allocator, handle);
 }
 
 fn expect_gone<NI: NodeIndex>(rt: &impl Abort, allocator: &Allocator<NI>, handle: Allocation<NI>) {
-    assert!(rt; !allocator.is_live(handle));
-    assert_eq!(rt; allocator.allocation_size(handle), 0);
+    assert_that(rt, !allocator.is_live(handle));
+    assert_same(rt, &allocator.allocation_size(handle), &0);
 }
 
 fn expect_live<NI: NodeIndex>(
@@ -69,8 +71,8 @@ fn expect_live<NI: NodeIndex>(
     handle: Allocation<NI>,
     size: u32,
 ) {
-    assert!(rt; allocator.is_live(handle));
-    assert_eq!(rt; allocator.allocation_size(handle), size);
+    assert_that(rt, allocator.is_live(handle));
+    assert_same(rt, &allocator.allocation_size(handle), &size);
 }
 
 // Checks the result of a shrink or a growth, and the size that the handle has then.
@@ -80,14 +82,14 @@ fn expect_resized<NI: NodeIndex>(
     handle: Allocation<NI>,
     step: &Step,
 ) {
-    assert!(rt; allocator.is_live(handle));
+    assert_that(rt, allocator.is_live(handle));
     let before = allocator.allocation_size(handle);
     let (found, size, done) = match step {
         Step::Shrinks(_, size, done) => (allocator.shrink(handle, *size), *size, *done),
         Step::Grows(_, size, done) => (allocator.grow_in_place(handle, *size), *size, *done),
         _ => return,
     };
-    assert_eq!(rt; found, done, "from {before} to {size}");
+    assert_same_at(rt, &("resized", before, size), &found, &done);
     expect_live(rt, allocator, handle, if done { size } else { before });
 }
 
@@ -98,8 +100,8 @@ fn expect_report<NI: NodeIndex>(
     largest: u32,
 ) {
     let report = allocator.storage_report();
-    assert_eq!(rt; report.total_free_space, total);
-    assert_eq!(rt; report.largest_free_region, largest);
+    assert_same(rt, &report.total_free_space, &total);
+    assert_same(rt, &report.largest_free_region, &largest);
 }
 
 fn expect_counts<NI: NodeIndex>(
@@ -116,7 +118,7 @@ fn expect_counts<NI: NodeIndex>(
             found.push((class, region.size, region.count))?;
         }
     }
-    assert_eq!(rt; found.as_slice(), wanted);
+    assert_same(rt, &found.as_slice(), &wanted);
     Ok(())
 }
 
@@ -126,7 +128,7 @@ fn request<NI: NodeIndex>(
     size: u32,
     align: u32,
 ) -> Option<Allocation<NI>> {
-    assert!(rt; align.is_power_of_two());
+    assert_that(rt, align.is_power_of_two());
     allocator.allocate_aligned(size, align)
 }
 
@@ -180,8 +182,8 @@ fn expect_moves<NI: NodeIndex>(
         }
         count = count.saturating_add(1);
     });
-    assert_eq!(rt; first_wrong, None);
-    assert_eq!(rt; count, wanted.len());
+    assert_same(rt, &first_wrong, &None);
+    assert_same(rt, &count, &wanted.len());
 }
 
 fn keep<NI: NodeIndex>(
@@ -193,9 +195,9 @@ fn keep<NI: NodeIndex>(
     offset: u32,
 ) -> Result<(), Fail> {
     match granted {
-        None => assert!(rt; false, "a request of {size} is refused"),
+        None => assert_that_at(rt, &("refused", size), false),
         Some(handle) => {
-            assert_eq!(rt; handle.offset, offset, "a request of {size}");
+            assert_same_at(rt, &("a request of", size), &handle.offset, &offset);
             expect_live(rt, allocator, handle, size);
             handles.push(handle)?;
         }
@@ -227,7 +229,7 @@ fn step_on_grant<NI: NodeIndex>(
         Step::Lives(_, size) => expect_live(rt, allocator, handle, *size),
         Step::Gone(_) => expect_gone(rt, allocator, handle),
         Step::Begins(_, offset) => {
-            assert_eq!(rt; allocator.allocation_offset(handle), Some(*offset));
+            assert_same(rt, &allocator.allocation_offset(handle), &Some(*offset));
         }
         Step::Shrinks(_, _, _) | Step::Grows(_, _, _) => {
             expect_resized(rt, allocator, handle, step);
@@ -245,13 +247,17 @@ fn take<NI: NodeIndex>(
 ) -> Result<(), Fail> {
     match step {
         Step::Grants(size, offset) => {
-            assert_eq!(rt; refusal(allocator, *size, 1), None);
+            assert_same(rt, &refusal(allocator, *size, 1), &None);
             let granted = allocator.allocate(*size);
             keep(rt, allocator, handles, granted, *size, *offset)?;
         }
         Step::Refuses(size) => {
-            assert!(rt; allocator.refusal(*size).is_some());
-            assert!(rt; allocator.allocate(*size).is_none(), "a request of {size}");
+            assert_that(rt, allocator.refusal(*size).is_some());
+            assert_that_at(
+                rt,
+                &("a request of", size),
+                allocator.allocate(*size).is_none(),
+            );
         }
         Step::Aligns(size, align, offset) => {
             let granted = request(rt, allocator, *size, *align);
@@ -259,28 +265,34 @@ fn take<NI: NodeIndex>(
         }
         Step::RefusesAligned(size, align) => {
             let granted = request(rt, allocator, *size, *align);
-            assert!(rt; granted.is_none(), "a request of {size} at {align}");
+            assert_that_at(rt, &("a request", size, align), granted.is_none());
         }
         Step::Extends(more, grown) => {
-            assert_eq!(rt; allocator.extend(*more), *grown, "{more} more");
+            assert_same_at(rt, &("extended by", more), &allocator.extend(*more), grown);
         }
         Step::Undoes(size, granted) => {
-            assert_eq!(rt; undo(allocator, *size), *granted, "a request of {size}");
+            assert_same_at(
+                rt,
+                &("a request of", size),
+                &undo(allocator, *size),
+                granted,
+            );
         }
         Step::Resets => allocator.reset(),
         Step::Compacts(wanted) => expect_moves(rt, allocator, handles.as_slice(), wanted),
-        Step::Lacks(size, why) => assert_eq!(rt; refusal(allocator, *size, 1), Some(*why)),
+        Step::Lacks(size, why) => assert_same(rt, &refusal(allocator, *size, 1), &Some(*why)),
         Step::LacksAligned(size, align, why) => {
-            assert_eq!(rt; refusal(allocator, *size, *align), Some(*why));
+            assert_same(rt, &refusal(allocator, *size, *align), &Some(*why));
         }
         Step::Is(size, blocks, full) => {
-            assert_eq!(rt;
-                (
+            assert_same(
+                rt,
+                &(
                     allocator.size(),
                     allocator.block_count(),
-                    allocator.is_full()
+                    allocator.is_full(),
                 ),
-                (*size, *blocks, *full)
+                &(*size, *blocks, *full),
             );
         }
         Step::Reports(total, largest) => expect_report(rt, allocator, *total, *largest),
@@ -364,7 +376,7 @@ pub fn expect(
     steps: &[Step],
 ) -> Result<(), Fail> {
     let wide = follow_by::<u32>(rt, alloc, size, limit, steps)?;
-    assert!(rt; wide > 0, "no allocator, or no calls");
+    assert_that_at(rt, &"no allocator, or no calls", wide > 0);
     let _narrow = follow_by::<u16>(rt, alloc, size, limit, steps)?;
     if let Limit::Ample = limit {
         return Ok(());

@@ -1,57 +1,47 @@
 //! The `Debug` texts of the public types.
 
-use super::steps::Limit::Limited;
-use super::steps::make_allocator;
+use super::steps::Limit::{Few, Limited};
+use super::steps::{Limit, make_allocator};
 use offset_allocator::{
-    Allocator, NodeIndex, NonMaxU16, NonMaxU32, Refusal, StorageReport, StorageReportFull,
-    StorageReportFullRegion,
+    Allocation, Allocator, NodeIndex, NonMaxU16, NonMaxU32, Refusal, StorageReport,
+    StorageReportFull, StorageReportFullRegion,
 };
+use offset_test_base::asserts::{assert_text, assert_that, text_of};
 use offset_test_base::tiny::Tiny;
 use std::alloc::Global;
-use std::fmt::Debug;
 use std::process::Abort;
 use std::test::Fail;
 
-fn expect_text<T: Debug>(
+fn expect_report<NI: NodeIndex>(
     rt: &impl Abort,
     alloc: Global,
-    value: &T,
+    limit: Limit,
     wanted: &str,
 ) -> Result<(), Fail> {
-    assert_eq!(rt; format!(in alloc; "{value:?}")?.as_str(), wanted);
-    Ok(())
+    let allocator = make_allocator::<NI>(alloc, 17, limit)?.expect(rt, "an allocator");
+    assert_text(rt, alloc, &allocator, wanted)
 }
 
 // An allocator of 17 units, and one that is at its node limit.
-fn expect_texts<NI: NodeIndex>(rt: &impl Abort, alloc: Global) -> Result<(), Fail> {
-    let allocator = Allocator::<NI>::new(alloc, 17)?;
-    expect_text(
-        rt,
-        alloc,
-        &allocator,
-        "StorageReport { total_free_space: 17, largest_free_region: 16 }",
-    )?;
-    let full = Allocator::<NI>::with_max_allocs(alloc, 17, 2)?;
-    expect_text(
-        rt,
-        alloc,
-        &full,
-        "StorageReport { total_free_space: 0, largest_free_region: 0 }",
-    )
+fn expect_reports<NI: NodeIndex>(rt: &impl Abort, alloc: Global) -> Result<(), Fail> {
+    let whole = "StorageReport { total_free_space: 17, largest_free_region: 16 }";
+    expect_report::<NI>(rt, alloc, Few, whole)?;
+    let none = "StorageReport { total_free_space: 0, largest_free_region: 0 }";
+    expect_report::<NI>(rt, alloc, Limited(2), none)
 }
 
 // The largest space, and one of which a range is live.
 #[test]
 fn names_the_fields_of_a_large_report(rt: HostRuntime) -> Result<(), Fail> {
     let mut allocator = Allocator::<u32>::new(rt.alloc(), 4_294_967_295)?;
-    expect_text(
+    assert_text(
         &rt,
         rt.alloc(),
         &allocator,
         "StorageReport { total_free_space: 4294967295, largest_free_region: 4026531840 }",
     )?;
-    assert!(rt; allocator.allocate(4_025_564_544).is_some());
-    expect_text(
+    assert_that(&rt, allocator.allocate(4_025_564_544).is_some());
+    assert_text(
         &rt,
         rt.alloc(),
         &allocator,
@@ -61,9 +51,9 @@ fn names_the_fields_of_a_large_report(rt: HostRuntime) -> Result<(), Fail> {
 
 #[test]
 fn names_the_fields_of_the_short_report(rt: HostRuntime) -> Result<(), Fail> {
-    expect_texts::<u32>(&rt, rt.alloc())?;
-    expect_texts::<u16>(&rt, rt.alloc())?;
-    expect_texts::<Tiny>(&rt, rt.alloc())
+    expect_reports::<u32>(&rt, rt.alloc())?;
+    expect_reports::<u16>(&rt, rt.alloc())?;
+    expect_reports::<Tiny>(&rt, rt.alloc())
 }
 
 #[test]
@@ -72,7 +62,7 @@ fn names_the_fields_of_reports(rt: HostRuntime) -> Result<(), Fail> {
         total_free_space: 4_294_967_295,
         largest_free_region: 0,
     };
-    expect_text(
+    assert_text(
         &rt,
         rt.alloc(),
         &report,
@@ -82,7 +72,7 @@ fn names_the_fields_of_reports(rt: HostRuntime) -> Result<(), Fail> {
         size: 88,
         count: 4_294_967_295,
     };
-    expect_text(
+    assert_text(
         &rt,
         rt.alloc(),
         &region,
@@ -105,47 +95,53 @@ fn names_each_class_of_the_full_report(rt: HostRuntime) -> Result<(), Fail> {
             "StorageReportFullRegion {{ size: {size}, count: {count} }}{end}"
         )?;
     }
-    expect_text(&rt, rt.alloc(), &report, &wanted)
+    assert_text(&rt, rt.alloc(), &report, &wanted)
 }
 
 #[test]
 fn writes_names_as_numbers(rt: HostRuntime) -> Result<(), Fail> {
     for (value, wanted) in [(0u16, "Some(0)"), (65_534, "Some(65534)"), (65_535, "None")] {
-        expect_text(&rt, rt.alloc(), &NonMaxU16::new(value), wanted)?;
+        assert_text(&rt, rt.alloc(), &NonMaxU16::new(value), wanted)?;
     }
     for (value, wanted) in [
         (0u32, "Some(0)"),
         (4_294_967_294, "Some(4294967294)"),
         (4_294_967_295, "None"),
     ] {
-        expect_text(&rt, rt.alloc(), &NonMaxU32::new(value), wanted)?;
+        assert_text(&rt, rt.alloc(), &NonMaxU32::new(value), wanted)?;
     }
     Ok(())
 }
 
+// Two handles of ranges of one allocator.
+fn two_handles<NI: NodeIndex>(
+    rt: &impl Abort,
+    alloc: Global,
+) -> Result<(Allocation<NI>, Allocation<NI>), Fail> {
+    let mut allocator = make_allocator::<NI>(alloc, 17, Limited(4))?.expect(rt, "an allocator");
+    let first = allocator.allocate(5).expect(rt, "room");
+    let second = allocator.allocate(6).expect(rt, "room");
+    Ok((first, second))
+}
+
 // The text has the offset and the node index, which is one of three.
 fn expect_handles<NI: NodeIndex>(rt: &impl Abort, alloc: Global) -> Result<(), Fail> {
-    let Some(mut allocator) = make_allocator::<NI>(alloc, 17, Limited(4))? else {
-        assert!(rt; false);
-        return Ok(());
-    };
-    let (Some(first), Some(second)) = (allocator.allocate(5), allocator.allocate(6)) else {
-        assert!(rt; false);
-        return Ok(());
-    };
-    let text = format!(in alloc; "{second:?}")?;
+    let (first, second) = two_handles::<NI>(rt, alloc)?;
+    let text = text_of(alloc, &second)?;
     let mut found = false;
-    for name in 0..4u32 {
-        let wanted = format!(in alloc; "Allocation {{ offset: 5, metadata: {name} }}")?;
-        found = found || text.as_str() == wanted.as_str();
+    for wanted in [
+        "Allocation { offset: 5, metadata: 0 }",
+        "Allocation { offset: 5, metadata: 1 }",
+        "Allocation { offset: 5, metadata: 2 }",
+        "Allocation { offset: 5, metadata: 3 }",
+    ] {
+        found = found || text.as_str() == wanted;
     }
-    assert!(rt; found);
+    assert_that(rt, found);
     let mut moved = first;
-    assert!(rt; first == moved);
-    assert!(rt; first != second);
+    assert_that(rt, first == moved && first != second);
     moved.offset = 5;
-    assert!(rt; first != moved);
-    assert!(rt; second != moved);
+    assert_that(rt, first != moved && second != moved);
     Ok(())
 }
 
@@ -158,7 +154,7 @@ fn handles_have_a_text_and_are_compared(rt: HostRuntime) -> Result<(), Fail> {
 
 #[test]
 fn names_reasons(rt: HostRuntime) -> Result<(), Fail> {
-    expect_text(&rt, rt.alloc(), &Refusal::Nodes, "Nodes")?;
-    expect_text(&rt, rt.alloc(), &Refusal::Space, "Space")?;
-    expect_text(&rt, rt.alloc(), &Refusal::Fragmented, "Fragmented")
+    assert_text(&rt, rt.alloc(), &Refusal::Nodes, "Nodes")?;
+    assert_text(&rt, rt.alloc(), &Refusal::Space, "Space")?;
+    assert_text(&rt, rt.alloc(), &Refusal::Fragmented, "Fragmented")
 }

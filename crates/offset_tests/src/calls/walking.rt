@@ -3,6 +3,7 @@
 use super::steps::Limit::Limited;
 use super::steps::make_allocator;
 use offset_allocator::{Accesses, Allocation, Allocator, Block, NodeIndex, laws};
+use offset_test_base::asserts::{assert_same, assert_text, assert_that, assert_that_at};
 use offset_test_base::tiny::Tiny;
 use std::alloc::Global;
 use std::process::Abort;
@@ -17,10 +18,10 @@ fn expect_block<NI: NodeIndex>(
     allocation: Option<Allocation<NI>>,
 ) {
     match block {
-        None => assert!(rt; false, "no block at {offset}"),
+        None => assert_that_at(rt, &("no block at", offset), false),
         Some(block) => {
-            assert_eq!(rt; (block.offset, block.size), (offset, size));
-            assert!(rt; block.allocation == allocation);
+            assert_same(rt, &(block.offset, block.size), &(offset, size));
+            assert_that(rt, block.allocation == allocation);
         }
     }
 }
@@ -29,34 +30,34 @@ fn follow_three_grants<NI: NodeIndex>(rt: &impl Abort, alloc: Global) -> Result<
     let mut space = make_allocator::<NI>(alloc, 100, Limited(5))?.expect(rt, "a lawful limit");
     let mut blocks = space.blocks();
     expect_block(rt, blocks.next(), 0, 100, None);
-    assert!(rt; blocks.next().is_none());
+    assert_that(rt, blocks.next().is_none());
 
     let first = space.allocate(10).expect(rt, "room");
     let second = space.allocate(20).expect(rt, "room");
     let third = space.allocate(30).expect(rt, "room");
-    assert!(rt; space.is_live(second));
+    assert_that(rt, space.is_live(second));
     space.free(second);
     let mut blocks = space.blocks();
-    assert_eq!(rt; blocks.len(), 4);
+    assert_same(rt, &blocks.len(), &4);
     expect_block(rt, blocks.next(), 60, 40, None);
-    assert_eq!(rt; blocks.size_hint(), (3, Some(3)));
+    assert_same(rt, &blocks.size_hint(), &(3, Some(3)));
     expect_block(rt, blocks.next(), 30, 30, Some(third));
     let mut copy = blocks.clone()?;
     expect_block(rt, blocks.next(), 10, 20, None);
     expect_block(rt, blocks.next(), 0, 10, Some(first));
-    assert_eq!(rt; blocks.len(), 0);
-    assert!(rt; blocks.next().is_none());
-    assert!(rt; blocks.next().is_none());
+    assert_same(rt, &blocks.len(), &0);
+    assert_that(rt, blocks.next().is_none());
+    assert_that(rt, blocks.next().is_none());
     // the copy goes on from where it was made
-    assert_eq!(rt; copy.len(), 2);
+    assert_same(rt, &copy.len(), &2);
     expect_block(rt, copy.next(), 10, 20, None);
 
-    assert_eq!(rt; space.allocation_offset(first), Some(0));
-    assert_eq!(rt; space.allocation_offset(second), None);
-    assert_eq!(rt; space.allocation_offset(third), Some(30));
+    assert_same(rt, &space.allocation_offset(first), &Some(0));
+    assert_same(rt, &space.allocation_offset(second), &None);
+    assert_same(rt, &space.allocation_offset(third), &Some(30));
     space.reset();
     expect_block(rt, space.blocks().next(), 0, 100, None);
-    assert_eq!(rt; space.allocation_offset(third), None);
+    assert_same(rt, &space.allocation_offset(third), &None);
     Ok(())
 }
 
@@ -72,10 +73,10 @@ fn blocks_come_from_the_end(rt: HostRuntime) -> Result<(), Fail> {
 fn empty_ranges_are_blocks(rt: HostRuntime) -> Result<(), Fail> {
     let mut space = Allocator::<u32>::with_max_allocs(rt.alloc(), 0, 4)?;
     let empty = space.allocate(0).expect(&rt, "room");
-    assert_eq!(rt; space.allocation_offset(empty), Some(0));
+    assert_same(&rt, &space.allocation_offset(empty), &Some(0));
     let mut blocks = space.blocks();
     expect_block(&rt, blocks.next(), 0, 0, Some(empty));
-    assert!(rt; blocks.next().is_none());
+    assert_that(&rt, blocks.next().is_none());
     Ok(())
 }
 
@@ -85,13 +86,13 @@ fn padding_and_added_units_are_blocks(rt: HostRuntime) -> Result<(), Fail> {
     let mut space = Allocator::<u32>::with_max_allocs(rt.alloc(), 64, 8)?;
     let low = space.allocate(3).expect(&rt, "room");
     let high = space.allocate_aligned(16, 16).expect(&rt, "room");
-    assert!(rt; space.extend(36));
+    assert_that(&rt, space.extend(36));
     let mut blocks = space.blocks();
     expect_block(&rt, blocks.next(), 32, 68, None);
     expect_block(&rt, blocks.next(), 16, 16, Some(high));
     expect_block(&rt, blocks.next(), 3, 13, None);
     expect_block(&rt, blocks.next(), 0, 3, Some(low));
-    assert!(rt; blocks.next().is_none());
+    assert_that(&rt, blocks.next().is_none());
     Ok(())
 }
 
@@ -99,11 +100,11 @@ fn padding_and_added_units_are_blocks(rt: HostRuntime) -> Result<(), Fail> {
 #[test]
 fn a_changed_handle_has_its_true_offset(rt: HostRuntime) -> Result<(), Fail> {
     let mut space = Allocator::<u32>::with_max_allocs(rt.alloc(), 100, 8)?;
-    assert!(rt; space.allocate(7).is_some());
+    assert_that(&rt, space.allocate(7).is_some());
     let handle = space.allocate(8).expect(&rt, "room");
     let mut changed = handle;
     changed.offset = 90;
-    assert_eq!(rt; space.allocation_offset(changed), Some(7));
+    assert_same(&rt, &space.allocation_offset(changed), &Some(7));
     Ok(())
 }
 
@@ -127,10 +128,14 @@ fn a_walk_counts_its_accesses(rt: HostRuntime) -> Result<(), Fail> {
         7,
         Some(handle),
     );
-    assert!(rt; laws::next_block_counted(&mut blocks, &mut count).is_none());
-    assert_eq!(rt;
-        laws::allocation_offset_counted(&space, handle, &mut count),
-        Some(0)
+    assert_that(
+        &rt,
+        laws::next_block_counted(&mut blocks, &mut count).is_none(),
+    );
+    assert_same(
+        &rt,
+        &laws::allocation_offset_counted(&space, handle, &mut count),
+        &Some(0),
     );
     Ok(())
 }
@@ -139,12 +144,7 @@ fn a_walk_counts_its_accesses(rt: HostRuntime) -> Result<(), Fail> {
 fn blocks_have_a_text(rt: HostRuntime) -> Result<(), Fail> {
     let space = Allocator::<u32>::with_max_allocs(rt.alloc(), 100, 8)?;
     let mut blocks = space.blocks();
-    let left = format!(in rt.alloc(); "{blocks:?}")?;
-    assert_eq!(rt; left.as_str(), "Blocks { remaining: 1 }");
-    let block = format!(in rt.alloc(); "{:?}", blocks.next())?;
-    assert_eq!(rt;
-        block.as_str(),
-        "Some(Block { offset: 0, size: 100, allocation: None })"
-    );
-    Ok(())
+    assert_text(&rt, rt.alloc(), &blocks, "Blocks { remaining: 1 }")?;
+    let wanted = "Some(Block { offset: 0, size: 100, allocation: None })";
+    assert_text(&rt, rt.alloc(), &blocks.next(), wanted)
 }
