@@ -1,9 +1,10 @@
 //! Lists of calls, with replies computed by hand, for each index type.
 
+use crate::asserts::{assert_same, assert_same_at, assert_that};
 use offset_allocator::NodeIndex;
 use offset_calls::{Call, are_valid, play_calls};
 use offset_script::Command;
-use offset_test_base::asserts::{assert_same, assert_same_at, assert_that, text_of};
+use offset_test_base::texts::text_of;
 use offset_test_base::tiny::Tiny;
 use std::alloc::Global;
 use std::process::Abort;

@@ -1,9 +1,9 @@
 //! Code that the test crates share.
 #![tactic(auto)]
 
-pub mod asserts;
 pub mod devices;
 pub mod groups;
 pub mod living;
 pub mod runs;
+pub mod texts;
 pub mod tiny;

@@ -1,8 +1,8 @@
 //! Tests of `offset_uses`.
 
+use crate::asserts::{assert_same, assert_that};
 use offset_allocator::{Accesses, Allocator, NodeIndex, Refusal};
 use offset_script::{Answer, Command};
-use offset_test_base::asserts::{assert_same, assert_that};
 use offset_test_base::tiny::Tiny;
 use offset_uses::daily::{
     Ring, defragment, first_byte, give_back, granted_units, insert, place, resize, upload,

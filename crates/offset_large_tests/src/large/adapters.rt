@@ -1,7 +1,7 @@
 //! A large piece of a reader's bytes.
 
+use crate::asserts::{assert_same, assert_that};
 use offset_script::{FromRead, Source};
-use offset_test_base::asserts::{assert_same, assert_that};
 use offset_test_base::devices::Reader;
 use std::test::Fail;
 

@@ -1,7 +1,7 @@
 //! Large spaces, and large limits.
 
+use crate::asserts::{assert_same, assert_same_at, assert_that, assert_that_at};
 use offset_allocator::{Allocation, Allocator, NodeIndex};
-use offset_test_base::asserts::{assert_same, assert_same_at, assert_that, assert_that_at};
 use offset_test_base::tiny::Tiny;
 use std::alloc::Global;
 use std::process::Abort;

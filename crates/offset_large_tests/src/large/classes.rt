@@ -1,7 +1,7 @@
 //! A report of many classes.
 
 use super::texts::{expect_answers, put_lines};
-use offset_test_base::asserts::assert_that_at;
+use crate::asserts::assert_that_at;
 use offset_test_base::groups::value_of;
 use std::alloc::{AllocError, Global};
 use std::test::Fail;

@@ -1,8 +1,8 @@
 //! A use of `play` with many commands.
 
 use super::texts::put_lines;
+use crate::asserts::{assert_same, assert_that, assert_that_at};
 use offset_script::{Answer, parse};
-use offset_test_base::asserts::{assert_same, assert_that, assert_that_at};
 use offset_uses::replay;
 use std::process::Abort;
 use std::test::Fail;

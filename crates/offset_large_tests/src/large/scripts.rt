@@ -1,8 +1,8 @@
 //! Scripts of many commands.
 
 use super::texts::{Bytes, expect_answers, expect_answers_of, expect_fault, put_lines, put_units};
+use crate::asserts::assert_same;
 use offset_script::{RunFault, ScriptFault};
-use offset_test_base::asserts::assert_same;
 use std::test::Fail;
 
 // 39 bytes, with its LF.

@@ -1,7 +1,7 @@
 //! Long texts, and what runs of them write.
 
+use crate::asserts::{assert_same, assert_that, assert_that_at};
 use offset_script::{FromRead, IntoWrite, RunFault, run};
-use offset_test_base::asserts::{assert_same, assert_that, assert_that_at};
 use std::alloc::{AllocError, Global};
 use std::io;
 use std::io::Read;

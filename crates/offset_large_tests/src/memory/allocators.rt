@@ -2,8 +2,8 @@
 
 use super::attempts::{Attempt, Outcome, right_if};
 use super::ladder::{COARSE, FINE, refusals};
+use crate::asserts::assert_that;
 use offset_allocator::{Allocator, NodeIndex};
-use offset_test_base::asserts::assert_that;
 use offset_test_base::tiny::Tiny;
 use std::alloc::{AllocError, Global};
 use std::test::Fail;

@@ -2,10 +2,10 @@
 
 use super::attempts::{Attempt, Outcome, all_memory, all_memory_but, refused_if, right_if};
 use super::ladder::{FINE, refusals};
+use crate::asserts::{assert_same, assert_that};
 use offset_allocator::laws::undo;
 use offset_allocator::{Allocation, Allocator, NodeIndex};
 use offset_script::play;
-use offset_test_base::asserts::{assert_same, assert_that};
 use offset_test_base::living::living_calls;
 use offset_test_base::tiny::Tiny;
 use std::alloc::{AllocError, Global};

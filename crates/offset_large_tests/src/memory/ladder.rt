@@ -5,7 +5,7 @@
 //! freed is enough for them.
 
 use super::attempts::{Attempt, Outcome, all_memory};
-use offset_test_base::asserts::{assert_same, assert_that, assert_that_at};
+use crate::asserts::{assert_same, assert_that, assert_that_at};
 use std::alloc::{AllocError, Global};
 use std::process::Abort;
 use std::test::Fail;

@@ -2,11 +2,11 @@
 
 use super::attempts::{Attempt, Outcome, refused_if, right_if};
 use super::ladder::{FINE, refusals};
+use crate::asserts::assert_that;
 use offset_script::{
     Answer, Command, FromRead, IndexWidth, IntoWrite, RunFault, Script, ScriptFault, parse, play,
     run, run_program,
 };
-use offset_test_base::asserts::assert_that;
 use std::alloc::Global;
 use std::io;
 use std::io::Write;

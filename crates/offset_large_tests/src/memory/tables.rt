@@ -1,8 +1,8 @@
 //! A constructor takes no more memory than its tables need.
 
 use super::attempts::all_memory_but;
+use crate::asserts::assert_that;
 use offset_allocator::Allocator;
-use offset_test_base::asserts::assert_that;
 use std::test::Fail;
 
 const NODES: u32 = 4_000_000;

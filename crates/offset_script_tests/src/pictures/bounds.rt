@@ -1,7 +1,7 @@
 //! Lives, edges and shares at the bounds between two cases.
 
 use super::support::{count, expect_once, picture_of};
-use offset_test_base::asserts::{assert_same, assert_same_at};
+use crate::asserts::{assert_same, assert_same_at};
 use std::alloc::{AllocError, Global};
 use std::process::Abort;
 use std::test::Fail;

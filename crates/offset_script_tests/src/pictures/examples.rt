@@ -5,7 +5,7 @@
 //! 150 u / e in the plot of the reports.
 
 use super::support::{expect_once, picture_of, rectangles};
-use offset_test_base::asserts::{assert_same, assert_that, assert_that_at};
+use crate::asserts::{assert_same, assert_that, assert_that_at};
 use std::test::Fail;
 
 // The stored run of `offset_picture`. With 9 calls, each takes 105 pixels. The highest unit is 192, and a twentieth

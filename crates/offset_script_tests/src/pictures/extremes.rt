@@ -1,7 +1,7 @@
 //! Pictures of scripts at the limits.
 
 use super::support::{expect_once, picture_of, rectangles};
-use offset_test_base::asserts::assert_same;
+use crate::asserts::assert_same;
 use std::test::Fail;
 
 // There is one state, all along the axis. 100 free units are the whole height, and 96 of them are 144 pixels.

@@ -1,8 +1,8 @@
 //! The line and the status of each fault, with nothing drawn.
 
+use crate::asserts::{assert_same, assert_that};
 use offset_lives::draw_program;
 use offset_script::{FromRead, IntoWrite};
-use offset_test_base::asserts::{assert_same, assert_that};
 use offset_test_base::devices::{Reader, Writer};
 use std::alloc::Global;
 use std::test::Fail;

@@ -1,7 +1,7 @@
 //! Pictures of many grants.
 
 use super::support::{count, expect_once, picture_of, rectangles};
-use offset_test_base::asserts::{assert_same, assert_that, assert_that_at};
+use crate::asserts::{assert_same, assert_that, assert_that_at};
 use std::alloc::Global;
 use std::test::Fail;
 

@@ -1,7 +1,7 @@
 //! Pictures are well-formed XML.
 
 use super::support::picture_of;
-use offset_test_base::asserts::{assert_same_at, assert_that_at};
+use crate::asserts::{assert_same_at, assert_that_at};
 use std::alloc::{AllocError, Global};
 use std::test::Fail;
 

@@ -1,8 +1,8 @@
 //! What the tests of pictures share.
 
+use crate::asserts::assert_same_at;
 use offset_lives::picture;
 use offset_script::parse;
-use offset_test_base::asserts::assert_same_at;
 use std::alloc::Global;
 use std::process::Abort;
 use std::test::Fail;

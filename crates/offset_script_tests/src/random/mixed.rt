@@ -2,9 +2,10 @@
 
 use super::numbers::Numbers;
 use super::slow::Space;
+use crate::asserts::{assert_same, assert_same_at, assert_that};
 use offset_allocator::NodeIndex;
 use offset_script::{Answer, Command, Script, parse, play};
-use offset_test_base::asserts::{assert_same, assert_same_at, assert_that, text_of};
+use offset_test_base::texts::text_of;
 use offset_test_base::tiny::Tiny;
 use std::alloc::{AllocError, Global};
 use std::process::Abort;

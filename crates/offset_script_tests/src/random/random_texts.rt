@@ -2,8 +2,8 @@
 
 use super::numbers::Numbers;
 use super::slow_reading::{Reading, read_slowly, run_slowly};
+use crate::asserts::{assert_same_at, assert_that_at};
 use offset_script::{Script, ScriptFault, parse};
-use offset_test_base::asserts::{assert_same_at, assert_that_at};
 use offset_test_base::runs::outcome;
 use std::alloc::{AllocError, Global};
 use std::process::Abort;

@@ -1,8 +1,8 @@
 //! Each call of an adapter is one call of its reader or writer, also after a failure.
 
 use super::support::{Reader, Writer};
+use crate::asserts::{assert_same, assert_that};
 use offset_script::{FromRead, IntoWrite, Sink, Source};
-use offset_test_base::asserts::{assert_same, assert_that};
 use std::test::Fail;
 
 #[test]

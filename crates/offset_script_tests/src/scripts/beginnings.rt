@@ -1,7 +1,7 @@
 //! The beginnings of a text that have no answers.
 
 use super::support::outcome;
-use offset_test_base::asserts::assert_same_at;
+use crate::asserts::assert_same_at;
 use std::test::Fail;
 
 const TEXT: &[u8] = b"space 10 nodes 4 index 32\nalloc 10\nfree 1\n";

@@ -1,8 +1,8 @@
 //! The text of each type that has `Debug`.
 
+use crate::asserts::assert_text;
 use offset_allocator::StorageReport;
 use offset_script::{Answer, Command, FullRow, IndexWidth, RunFault, ScriptFault};
-use offset_test_base::asserts::assert_text;
 use std::test::Fail;
 
 #[test]

@@ -1,8 +1,8 @@
 //! The line and the status of each fault, and of a program that ends with it.
 
 use super::support::{Reader, Writer};
+use crate::asserts::assert_same;
 use offset_script::{FromRead, IntoWrite, RunFault, ScriptFault, run_program};
-use offset_test_base::asserts::assert_same;
 use std::alloc::Global;
 use std::test::Fail;
 

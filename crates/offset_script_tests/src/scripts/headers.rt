@@ -1,7 +1,7 @@
 //! Texts with a faulty header, with none, and with a header alone.
 
 use super::support::outcome;
-use offset_test_base::asserts::assert_same;
+use crate::asserts::assert_same;
 use std::test::Fail;
 
 #[test]

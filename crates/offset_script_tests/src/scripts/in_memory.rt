@@ -1,7 +1,7 @@
 //! A run on bytes in memory.
 
+use crate::asserts::assert_same;
 use offset_script::{RunFault, ScriptFault};
-use offset_test_base::asserts::assert_same;
 use offset_uses::in_memory::answers_in_memory;
 use std::test::Fail;
 

@@ -1,9 +1,9 @@
 //! Scripts played with each index type.
 
 use super::rows::{ROWS, text_of};
+use crate::asserts::{assert_same, assert_that};
 use offset_allocator::NodeIndex;
 use offset_script::{Script, parse, play};
-use offset_test_base::asserts::{assert_same, assert_that};
 use offset_test_base::tiny::Tiny;
 use std::alloc::Global;
 use std::process::Abort;

@@ -1,8 +1,8 @@
 //! Texts of the largest length, and longer ones.
 
 use super::support::{Reader, outcome};
+use crate::asserts::{assert_same, assert_same_at};
 use offset_script::{FromRead, IntoWrite, RunFault, ScriptFault, run};
-use offset_test_base::asserts::{assert_same, assert_same_at};
 use std::test::Fail;
 
 #[test]

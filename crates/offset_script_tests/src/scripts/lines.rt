@@ -1,7 +1,7 @@
 //! Faulty lines after a header.
 
 use super::support::{outcome, with_line};
-use offset_test_base::asserts::assert_same;
+use crate::asserts::assert_same;
 use std::test::Fail;
 
 const HEADER: &[u8] = b"space 10 nodes 4 index 32\n";

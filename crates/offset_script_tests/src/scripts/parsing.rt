@@ -1,7 +1,7 @@
 //! A text with each command.
 
+use crate::asserts::assert_same;
 use offset_script::{Command, IndexWidth, parse};
-use offset_test_base::asserts::assert_same;
 use std::test::Fail;
 
 const TEXT: &[u8] =

@@ -1,8 +1,8 @@
 //! A sink that says what it holds and whether it has failed, and nothing else.
 ghost use Rattle.std.specs.Prelude.{Some};
 
+use crate::asserts::assert_same;
 use offset_script::{FromRead, RunFault, Sink, run};
-use offset_test_base::asserts::assert_same;
 use std::alloc::Global;
 use std::test::Fail;
 

@@ -1,8 +1,8 @@
 //! Readers that fail, that stop, and that return small pieces.
 
 use super::support::{Reader, Writer};
+use crate::asserts::assert_same;
 use offset_script::{FromRead, IntoWrite, RunFault, ScriptFault, run};
-use offset_test_base::asserts::assert_same;
 use std::test::Fail;
 
 const TEXT: &[u8] = b"space 10 nodes 4 index 32\nalloc 10\nfree 1\n";

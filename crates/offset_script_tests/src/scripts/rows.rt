@@ -1,8 +1,8 @@
 //! Scripts with their answers, read and written in pieces of several lengths.
 
 use super::support::{Reader, Writer};
+use crate::asserts::assert_same_at;
 use offset_script::{FromRead, IntoWrite, run};
-use offset_test_base::asserts::assert_same_at;
 use std::alloc::{AllocError, Global};
 use std::process::Abort;
 use std::test::Fail;

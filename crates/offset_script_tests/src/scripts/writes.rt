@@ -1,8 +1,8 @@
 //! Writers where there are no answers to write.
 
 use super::support::Writer;
+use crate::asserts::assert_same;
 use offset_script::{FromRead, IntoWrite, RunFault, run};
-use offset_test_base::asserts::assert_same;
 use std::test::Fail;
 
 const HEADER: &[u8] = b"space 10 nodes 4 index 32";

@@ -1,8 +1,8 @@
 //! Writers that fail, that take nothing, and that take small pieces.
 
 use super::support::Writer;
+use crate::asserts::assert_same;
 use offset_script::{FromRead, IntoWrite, RunFault, run};
-use offset_test_base::asserts::assert_same;
 use std::alloc::Global;
 use std::test::Fail;
 

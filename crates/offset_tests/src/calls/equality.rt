@@ -1,7 +1,7 @@
 //! Blocks and moves are equal only where all their fields are.
 
+use crate::asserts::{assert_same, assert_that, assert_that_at};
 use offset_allocator::{Allocator, Block, Move};
-use offset_test_base::asserts::{assert_same, assert_that, assert_that_at};
 use std::process::Abort;
 use std::test::Fail;
 

@@ -1,7 +1,7 @@
 //! What an allocator is made of.
 
+use crate::asserts::{assert_same, assert_that};
 use offset_allocator::{Allocator, laws};
-use offset_test_base::asserts::{assert_same, assert_that};
 use std::test::Fail;
 
 // `unused_names` names every field of an allocator with its type, so that another one does not compile.

@@ -3,8 +3,8 @@
 use super::steps::Limit::{Few, Limited};
 use super::steps::Step::{Grants, Refuses};
 use super::steps::{expect, follow};
+use crate::asserts::{assert_same, assert_that};
 use offset_allocator::{Allocator, NodeIndex, NonMaxU16, NonMaxU32};
-use offset_test_base::asserts::{assert_same, assert_that};
 use offset_test_base::tiny::Tiny;
 use std::test::Fail;
 

@@ -3,8 +3,8 @@
 use super::steps::Limit::{Few, Limited};
 use super::steps::Step::{Frees, FreesAltered, Gone, Grants, Lives};
 use super::steps::{Step, expect, follow, make_allocator};
+use crate::asserts::{assert_same, assert_that, assert_that_at};
 use offset_allocator::{Allocation, Allocator, NodeIndex};
-use offset_test_base::asserts::{assert_same, assert_that, assert_that_at};
 use std::alloc::Global;
 use std::process::Abort;
 use std::test::Fail;

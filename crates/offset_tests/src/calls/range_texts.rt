@@ -1,7 +1,8 @@
 //! The `Debug` texts of ranges: of handles, used blocks, moves, and walks over many blocks.
 
+use crate::asserts::{assert_same, assert_text, assert_that, assert_that_at};
 use offset_allocator::{Allocation, Allocator, Blocks, Move};
-use offset_test_base::asserts::{assert_same, assert_text, assert_that, assert_that_at, text_of};
+use offset_test_base::texts::text_of;
 use std::alloc::Global;
 use std::process::Abort;
 use std::test::Fail;

@@ -3,8 +3,8 @@
 use super::steps::Limit::{Few, Limited};
 use super::steps::Step::{Counts, Grants, Refuses, Reports, Undoes};
 use super::steps::expect;
+use crate::asserts::{assert_same, assert_same_at};
 use offset_allocator::{Allocator, StorageReportFull, StorageReportFullRegion};
-use offset_test_base::asserts::{assert_same, assert_same_at};
 use offset_test_base::groups::value_of;
 use std::test::Fail;
 

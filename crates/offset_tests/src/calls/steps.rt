@@ -1,8 +1,8 @@
 //! Calls on one allocator, as rows of a table.
 
+use crate::asserts::{assert_same, assert_same_at, assert_that, assert_that_at};
 use offset_allocator::laws::{refusal_aligned_counted, refusal_counted, undo};
 use offset_allocator::{Accesses, Allocation, Allocator, Move, NodeIndex, Refusal};
-use offset_test_base::asserts::{assert_same, assert_same_at, assert_that, assert_that_at};
 use offset_test_base::tiny::Tiny;
 use std::alloc::{AllocError, Global};
 use std::process::Abort;

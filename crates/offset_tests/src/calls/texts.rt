@@ -2,11 +2,12 @@
 
 use super::steps::Limit::{Few, Limited};
 use super::steps::{Limit, make_allocator};
+use crate::asserts::{assert_text, assert_that};
 use offset_allocator::{
     Allocation, Allocator, NodeIndex, NonMaxU16, NonMaxU32, Refusal, StorageReport,
     StorageReportFull, StorageReportFullRegion,
 };
-use offset_test_base::asserts::{assert_text, assert_that, text_of};
+use offset_test_base::texts::text_of;
 use offset_test_base::tiny::Tiny;
 use std::alloc::Global;
 use std::process::Abort;

@@ -2,8 +2,8 @@
 
 use super::steps::Limit::Limited;
 use super::steps::make_allocator;
+use crate::asserts::{assert_same, assert_text, assert_that, assert_that_at};
 use offset_allocator::{Accesses, Allocation, Allocator, Block, NodeIndex, laws};
-use offset_test_base::asserts::{assert_same, assert_text, assert_that, assert_that_at};
 use offset_test_base::tiny::Tiny;
 use std::alloc::Global;
 use std::process::Abort;

@@ -36,3 +36,12 @@ invariant_of-self g c = c.self.invariant
 
 pub invariant_of-self-in-Some : goal.invariant_of-self-in-Some
 invariant_of-self-in-Some g c = c.self.invariant
+
+pub returns-then-self-min-clause-formed : goal.returns-then-self-min-clause-formed
+returns-then-self-min-clause-formed g c = (known_sound (fields_of g.NI.NodeIndex.MAX c.self.inside) c.self.invariant c.args.self.now c.self.view_is).0
+
+pub returns-then-size-align-clause-formed : goal.returns-then-size-align-clause-formed
+returns-then-size-align-clause-formed g c = (known_sound (fields_of g.NI.NodeIndex.MAX c.self.inside) c.self.invariant c.args.self.now c.self.view_is).0
+
+pub returns-in-None-clause-formed : goal.returns-in-None-clause-formed
+returns-in-None-clause-formed g c = (known_sound (fields_of g.NI.NodeIndex.MAX c.self.inside) c.self.invariant c.args.self.now c.self.view_is).0

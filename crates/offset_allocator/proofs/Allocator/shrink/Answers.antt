@@ -143,3 +143,9 @@ returns-then-size-held-clause-accesses_done g c done l =
     let r = block g here.After-self in
     let same = subst (λ i. P i c.args.self.now) e (subst (P c.number-name.result) c.self.view_is (size_there r ∙ sym (held g here.After-size-held r))) in
     absurd (omega (arith, same, l, c.if-size-held.true))
+
+pub invariant_of-self : goal.invariant_of-self
+invariant_of-self g c = c.self.invariant
+
+pub invariant_of-self-then-self-lt2 : goal.invariant_of-self-then-self-lt2
+invariant_of-self-then-self-lt2 g c = c.self.invariant

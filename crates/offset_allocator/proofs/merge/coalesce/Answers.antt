@@ -100,3 +100,36 @@ returns-clause-lists g c m p h = elim c.match-free_after.branch [
       let whole : w.size-more-in-Some-free_before.result + c.args.size ≡ (node w.coalesce_before.new.tables.room c.args.name).size = omega (arith, w.size-more-in-Some-free_before.ensures.size, c.requires.size, gone.0, ap (λ (v : Node). v.size) (at_place left), ap (λ (v : Node). v.size) (at_place h)) in
       rw (c.exchange.ensures.room, c.exchange.ensures.lists, c.uint_to_float_round_down-2.ensures.is, w.store-is, w.gone-is, whole, w.coalesce_before.ensures.links, w.size-more-in-Some-free_before.ensures.size, w.in_default.ensures.free _ _ _ _ h) (ap (push _ c.args.name) (sym (gone.1 _)))
 ]
+
+pub free_after-requires : goal.free_after-requires
+free_after-requires g c = record { place = (_, _, _, _, c.requires.place.2) }
+
+pub free_before-requires : goal.free_before-requires
+free_before-requires g c = record { place = (_, _, _, _, c.requires.place.2) }
+
+pub with_before-size-requires-clause-place : goal.with_before-size-requires-clause-place
+with_before-size-requires-clause-place g c = c.requires.place
+
+pub with_before-size-requires-clause-held : goal.with_before-size-requires-clause-held
+with_before-size-requires-clause-held g c = c.requires.held
+
+pub with_before-size-requires-clause-size : goal.with_before-size-requires-clause-size
+with_before-size-requires-clause-size g c = c.requires.size
+
+pub coalesce_before-requires-clause-place : goal.coalesce_before-requires-clause-place
+coalesce_before-requires-clause-place g c = (_, _, _, c.requires.place.2)
+
+pub coalesce_before-requires-clause-previous : goal.coalesce_before-requires-clause-previous
+coalesce_before-requires-clause-previous g c = c.in-Some-free_before.ensures.free.0
+
+pub coalesce_before-requires-clause-free : goal.coalesce_before-requires-clause-free
+coalesce_before-requires-clause-free g c = c.in-Some-free_before.ensures.free.1
+
+pub returns-clause-held : goal.returns-clause-held
+returns-clause-held g c = c.exchange.ensures.held
+
+pub exchange-requires-clause-held : goal.exchange-requires-clause-held
+exchange-requires-clause-held g c = elim c.match-free_after.branch [
+  | in-Some w ↦ rw (w.store-is, w.coalesce_after.ensures.links) w.with_before-size.ensures.held
+  | in_default+in-Some-free_before w ↦ rw (w.store-is, w.coalesce_before.ensures.links) c.requires.held
+]

@@ -1,12 +1,10 @@
 //! Assertions that are proved once: `assert!` and `assert_eq!` are proved anew wherever they are written, each for
-//! seconds.
+//! seconds. Only tests may end the process, so each crate of tests has its own.
 
 ghost use Rattle.std.specs.Prelude.{◌≡◌, true};
 
-use std::alloc::Global;
 use std::fmt::Debug;
 use std::process::Abort;
-use std::test::Fail;
 
 /// Ends the test where this is false.
 pub fn assert_that(rt: &impl Abort, is_so: bool)
@@ -35,20 +33,4 @@ pub fn assert_same_at<A: Debug, T: PartialEq + Debug>(
     wanted: &T,
 ) {
     assert_eq!(rt; found, wanted, "at {at:?}");
-}
-
-/// The text of a value, by its `Debug`.
-pub fn text_of<T: Debug>(alloc: Global, value: &T) -> Result<String, Fail> {
-    Ok(format!(in alloc; "{value:?}")?)
-}
-
-/// Ends the test where the text of a value, by its `Debug`, is not this one.
-pub fn assert_text<T: Debug>(
-    rt: &impl Abort,
-    alloc: Global,
-    value: &T,
-    wanted: &str,
-) -> Result<(), Fail> {
-    assert_same(rt, &text_of(alloc, value)?.as_str(), &wanted);
-    Ok(())
 }
