@@ -2,13 +2,34 @@
 
 use crate::asserts::{assert_same, assert_same_at, assert_that};
 use offset_allocator::NodeIndex;
-use offset_calls::{Call, are_valid, play_calls};
+use offset_calls::{Call, Reply, are_valid, play_calls};
 use offset_script::Command;
 use offset_test_base::texts::text_of;
 use offset_test_base::tiny::Tiny;
-use std::alloc::Global;
+use std::alloc::{AllocError, Global};
 use std::process::Abort;
 use std::test::Fail;
+
+fn calls_of(alloc: Global, rows: &[(Call, &str)]) -> Result<Vec<Call>, AllocError> {
+    let mut calls = Vec::new(alloc);
+    for (call, _) in rows {
+        calls.push(*call)?;
+    }
+    Ok(calls)
+}
+
+fn expect_texts(
+    rt: &impl Abort,
+    alloc: Global,
+    replies: &[Reply],
+    rows: &[(Call, &str)],
+) -> Result<(), Fail> {
+    assert_same(rt, &replies.len(), &rows.len());
+    for (reply, (call, wanted)) in replies.iter().zip(rows.iter()) {
+        assert_same_at(rt, call, &text_of(alloc, reply)?.as_str(), wanted);
+    }
+    Ok(())
+}
 
 fn expect_with<NI: NodeIndex>(
     rt: &impl Abort,
@@ -18,17 +39,10 @@ fn expect_with<NI: NodeIndex>(
     rows: &[(Call, &str)],
 ) -> Result<(), Fail> {
     assert_that(rt, 2 <= limit && limit < NI::MAX - 1);
-    let mut calls = Vec::new(alloc);
-    for (call, _) in rows {
-        calls.push(*call)?;
-    }
+    let calls = calls_of(alloc, rows)?;
     assert_that(rt, are_valid(&calls));
     let replies = play_calls::<NI>(alloc, size, limit, &calls)?;
-    assert_same(rt, &replies.len(), &rows.len());
-    for (reply, (call, wanted)) in replies.iter().zip(rows.iter()) {
-        assert_same_at(rt, call, &text_of(alloc, reply)?.as_str(), wanted);
-    }
-    Ok(())
+    expect_texts(rt, alloc, &replies, rows)
 }
 
 fn expect_replies(

@@ -12,7 +12,7 @@ use offset_uses::{
     Tenant, allocate_or_grow, charge, frame, place_mesh, place_promised, place_uniforms,
     place_what_fits, refund, replay,
 };
-use std::alloc::Global;
+use std::alloc::{AllocError, Global};
 use std::process::Abort;
 use std::test::Fail;
 
@@ -313,6 +313,13 @@ fn a_dump_has_a_line_for_each_block(rt: HostRuntime) -> Result<(), Fail> {
     Ok(())
 }
 
+fn put_used_units(text: &mut String, count: u32) -> Result<(), AllocError> {
+    for offset in (0..count).rev() {
+        writeln!(text, "at {offset} size 1 used")?;
+    }
+    Ok(())
+}
+
 #[test]
 fn a_dump_has_a_line_for_each_of_many_blocks(rt: HostRuntime) -> Result<(), Fail> {
     let mut heap = Allocator::with_max_allocs(rt.alloc(), 4_000, 5_000)?;
@@ -320,9 +327,7 @@ fn a_dump_has_a_line_for_each_of_many_blocks(rt: HostRuntime) -> Result<(), Fail
         assert_that(&rt, heap.allocate(1).is_some());
     }
     let mut wanted = String::new(rt.alloc());
-    for offset in (0..4_000u32).rev() {
-        writeln!(wanted, "at {offset} size 1 used")?;
-    }
+    put_used_units(&mut wanted, 4_000)?;
     assert_that(&rt, dump(&heap, rt.alloc())? == wanted);
     Ok(())
 }

@@ -116,15 +116,24 @@ fn fill_and_free<NI: NodeIndex>(
     Ok(())
 }
 
+fn fill_and_reset<NI: NodeIndex>(
+    rt: &impl Abort,
+    alloc: Global,
+    allocator: &mut Allocator<NI>,
+    limit: u32,
+) -> Result<(), Fail> {
+    let _handles = expect_full(rt, alloc, allocator, limit)?;
+    allocator.reset();
+    expect_free(rt, allocator);
+    Ok(())
+}
+
 // Fills a space up to its limit twice, and frees it one by one and by a reset.
 fn expect_limit<NI: NodeIndex>(rt: &impl Abort, alloc: Global, limit: u32) -> Result<(), Fail> {
     assert_that(rt, 2 <= limit && limit < NI::MAX - 1);
     let mut allocator = Allocator::<NI>::with_max_allocs(alloc, 4_294_967_295, limit)?;
     fill_and_free(rt, alloc, &mut allocator, limit)?;
-    let _handles = expect_full(rt, alloc, &mut allocator, limit)?;
-    allocator.reset();
-    expect_free(rt, &allocator);
-    Ok(())
+    fill_and_reset(rt, alloc, &mut allocator, limit)
 }
 
 #[test]

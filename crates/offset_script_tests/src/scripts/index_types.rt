@@ -36,7 +36,7 @@ fn expect_same_answers(rt: &impl Abort, alloc: Global, text: &[u8]) -> Result<()
 
 #[test]
 fn all_index_types_return_the_same_answers(rt: HostRuntime) -> Result<(), Fail> {
-    for (header, lines, _wanted) in ROWS {
+    for (header, lines, _wanted) in &ROWS {
         let text = text_of(rt.alloc(), header, 32, lines)?;
         expect_same_answers(&rt, rt.alloc(), text.as_bytes())?;
     }

@@ -185,7 +185,7 @@ pub fn expect_row(
 
 #[test]
 fn plays_scripts(rt: HostRuntime) -> Result<(), Fail> {
-    for (header, lines, wanted) in ROWS {
+    for (header, lines, wanted) in &ROWS {
         expect_row(&rt, rt.alloc(), header, lines, wanted)?;
     }
     Ok(())

@@ -83,14 +83,10 @@ fn count_live<NI: NodeIndex>(
 
 fn expect_foreign<NI: NodeIndex>(rt: &impl Abort, alloc: Global) -> Result<(), Fail> {
     let handles = of_another_space::<NI>(rt, alloc)?;
-    match make_allocator::<NI>(alloc, 64, Limited(4))? {
-        None => assert_that_at(rt, &"no allocator", false),
-        Some(mut allocator) => {
-            assert_same(rt, &count_live(rt, &allocator, &handles, 0), &0);
-            follow(rt, alloc, &mut allocator, &[Grants(5, 0)])?;
-            assert_that(rt, count_live(rt, &allocator, &handles, 5) <= 1);
-        }
-    }
+    let mut allocator = make_allocator::<NI>(alloc, 64, Limited(4))?.expect(rt, "an allocator");
+    assert_same(rt, &count_live(rt, &allocator, &handles, 0), &0);
+    follow(rt, alloc, &mut allocator, &[Grants(5, 0)])?;
+    assert_that(rt, count_live(rt, &allocator, &handles, 5) <= 1);
     Ok(())
 }
 

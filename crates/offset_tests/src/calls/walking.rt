@@ -3,7 +3,7 @@
 use super::steps::Limit::Limited;
 use super::steps::make_allocator;
 use crate::asserts::{assert_same, assert_text, assert_that, assert_that_at};
-use offset_allocator::{Accesses, Allocation, Allocator, Block, NodeIndex, laws};
+use offset_allocator::{Accesses, Allocation, Allocator, Block, Blocks, NodeIndex, laws};
 use offset_test_base::tiny::Tiny;
 use std::alloc::Global;
 use std::process::Abort;
@@ -26,46 +26,71 @@ fn expect_block<NI: NodeIndex>(
     }
 }
 
-fn follow_three_grants<NI: NodeIndex>(rt: &impl Abort, alloc: Global) -> Result<(), Fail> {
-    let mut space = make_allocator::<NI>(alloc, 100, Limited(5))?.expect(rt, "a lawful limit");
+fn expect_one_block<NI: NodeIndex>(rt: &impl Abort, space: &Allocator<NI>) {
     let mut blocks = space.blocks();
     expect_block(rt, blocks.next(), 0, 100, None);
     assert_that(rt, blocks.next().is_none());
+}
 
-    let first = space.allocate(10).expect(rt, "room");
-    let second = space.allocate(20).expect(rt, "room");
-    let third = space.allocate(30).expect(rt, "room");
-    assert_that(rt, space.is_live(second));
-    space.free(second);
+// A copy goes on from where it was made: with two blocks left, before a free block of 20 units.
+fn expect_copy<NI: NodeIndex>(rt: &impl Abort, blocks: &Blocks<NI>) -> Result<(), Fail> {
+    let mut copy = blocks.clone()?;
+    assert_same(rt, &copy.len(), &2);
+    expect_block(rt, copy.next(), 10, 20, None);
+    Ok(())
+}
+
+// Two ranges of 10 and of 30 units, with 20 free units between them and 40 after them.
+fn expect_four_blocks<NI: NodeIndex>(
+    rt: &impl Abort,
+    space: &Allocator<NI>,
+    first: Allocation<NI>,
+    third: Allocation<NI>,
+) -> Result<(), Fail> {
     let mut blocks = space.blocks();
     assert_same(rt, &blocks.len(), &4);
     expect_block(rt, blocks.next(), 60, 40, None);
     assert_same(rt, &blocks.size_hint(), &(3, Some(3)));
     expect_block(rt, blocks.next(), 30, 30, Some(third));
-    let mut copy = blocks.clone()?;
+    expect_copy(rt, &blocks)?;
     expect_block(rt, blocks.next(), 10, 20, None);
     expect_block(rt, blocks.next(), 0, 10, Some(first));
     assert_same(rt, &blocks.len(), &0);
     assert_that(rt, blocks.next().is_none());
     assert_that(rt, blocks.next().is_none());
-    // the copy goes on from where it was made
-    assert_same(rt, &copy.len(), &2);
-    expect_block(rt, copy.next(), 10, 20, None);
+    Ok(())
+}
 
+fn follow_three_grants<NI: NodeIndex>(
+    rt: &impl Abort,
+    space: &mut Allocator<NI>,
+) -> Result<(), Fail> {
+    expect_one_block(rt, space);
+    let first = space.allocate(10).expect(rt, "room");
+    let second = space.allocate(20).expect(rt, "room");
+    let third = space.allocate(30).expect(rt, "room");
+    assert_that(rt, space.is_live(second));
+    space.free(second);
+    expect_four_blocks(rt, space, first, third)?;
     assert_same(rt, &space.allocation_offset(first), &Some(0));
     assert_same(rt, &space.allocation_offset(second), &None);
     assert_same(rt, &space.allocation_offset(third), &Some(30));
     space.reset();
-    expect_block(rt, space.blocks().next(), 0, 100, None);
+    expect_one_block(rt, space);
     assert_same(rt, &space.allocation_offset(third), &None);
     Ok(())
 }
 
+fn expect_three_grants<NI: NodeIndex>(rt: &impl Abort, alloc: Global) -> Result<(), Fail> {
+    let mut space = make_allocator::<NI>(alloc, 100, Limited(5))?.expect(rt, "a lawful limit");
+    follow_three_grants(rt, &mut space)
+}
+
 #[test]
 fn blocks_come_from_the_end(rt: HostRuntime) -> Result<(), Fail> {
-    follow_three_grants::<u32>(&rt, rt.alloc())?;
-    follow_three_grants::<u16>(&rt, rt.alloc())?;
-    follow_three_grants::<Tiny>(&rt, rt.alloc())
+    expect_three_grants::<u32>(&rt, rt.alloc())?;
+    expect_three_grants::<u16>(&rt, rt.alloc())?;
+    expect_three_grants::<Tiny>(&rt, rt.alloc())
 }
 
 // Ranges of no units are blocks too.
