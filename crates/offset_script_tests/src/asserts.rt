@@ -3,11 +3,9 @@
 
 ghost use Rattle.std.specs.Prelude.{◌≡◌, true};
 
-use offset_test_base::texts::text_of;
 use std::alloc::Global;
 use std::fmt::Debug;
 use std::process::Abort;
-use std::test::Fail;
 
 /// Ends the test where this is false.
 pub fn assert_that(rt: &impl Abort, is_so: bool)
@@ -39,12 +37,7 @@ pub fn assert_same_at<A: Debug, T: PartialEq + Debug>(
 }
 
 /// Ends the test where the text of a value, by its `Debug`, is not this one.
-pub fn assert_text<T: Debug>(
-    rt: &impl Abort,
-    alloc: Global,
-    value: &T,
-    wanted: &str,
-) -> Result<(), Fail> {
-    assert_same(rt, &text_of(alloc, value)?.as_str(), &wanted);
-    Ok(())
+pub fn assert_text<T: Debug>(rt: &impl Abort, alloc: Global, value: &T, wanted: &str) {
+    let text = format!(in alloc; "{value:?}").expect(rt, "memory");
+    assert_same(rt, &text.as_str(), &wanted);
 }

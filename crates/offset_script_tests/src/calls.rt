@@ -2,67 +2,25 @@
 
 use crate::asserts::{assert_same, assert_same_at, assert_that};
 use offset_allocator::NodeIndex;
-use offset_calls::{Call, Reply, are_valid, play_calls};
+use offset_calls::{Call, are_valid, play_calls};
 use offset_script::Command;
-use offset_test_base::texts::text_of;
 use offset_test_base::tiny::Tiny;
-use std::alloc::{AllocError, Global};
+use std::alloc::Global;
 use std::process::Abort;
-use std::test::Fail;
 
-fn calls_of(alloc: Global, rows: &[(Call, &str)]) -> Result<Vec<Call>, AllocError> {
-    let mut calls = Vec::new(alloc);
-    for (call, _) in rows {
-        calls.push(*call)?;
-    }
-    Ok(calls)
-}
-
-fn expect_texts(
-    rt: &impl Abort,
-    alloc: Global,
-    replies: &[Reply],
-    rows: &[(Call, &str)],
-) -> Result<(), Fail> {
-    assert_same(rt, &replies.len(), &rows.len());
-    for (reply, (call, wanted)) in replies.iter().zip(rows.iter()) {
-        assert_same_at(rt, call, &text_of(alloc, reply)?.as_str(), wanted);
-    }
-    Ok(())
-}
-
-fn expect_with<NI: NodeIndex>(
-    rt: &impl Abort,
-    alloc: Global,
+// A space and its limit, and calls on it with the texts of their replies.
+#[derive(Clone, Copy)]
+struct List {
     size: u32,
     limit: u32,
-    rows: &[(Call, &str)],
-) -> Result<(), Fail> {
-    assert_that(rt, 2 <= limit && limit < NI::MAX - 1);
-    let calls = calls_of(alloc, rows)?;
-    assert_that(rt, are_valid(&calls));
-    let replies = play_calls::<NI>(alloc, size, limit, &calls)?;
-    expect_texts(rt, alloc, &replies, rows)
+    rows: &'static [(Call, &'static str)],
 }
 
-fn expect_replies(
-    rt: &impl Abort,
-    alloc: Global,
-    size: u32,
-    limit: u32,
-    rows: &[(Call, &str)],
-) -> Result<(), Fail> {
-    expect_with::<u32>(rt, alloc, size, limit, rows)?;
-    expect_with::<u16>(rt, alloc, size, limit, rows)?;
-    if limit <= 5 {
-        expect_with::<Tiny>(rt, alloc, size, limit, rows)?;
-    }
-    Ok(())
-}
-
-#[test]
-fn resizes_and_compacts(rt: HostRuntime) -> Result<(), Fail> {
-    let rows = [
+// Resizes and compactions.
+const RESIZES: List = List {
+    size: 100,
+    limit: 16,
+    rows: &[
         (
             Call::Command(Command::Alloc(10)),
             "Answer(Grant { number: 1, offset: 0 })",
@@ -117,13 +75,14 @@ fn resizes_and_compacts(rt: HostRuntime) -> Result<(), Fail> {
             Call::Command(Command::Align(8, 8)),
             "Answer(Grant { number: 4, offset: 0 })",
         ),
-    ];
-    expect_replies(&rt, rt.alloc(), 100, 16, &rows)
-}
+    ],
+};
 
-#[test]
-fn resizes_at_the_node_limit(rt: HostRuntime) -> Result<(), Fail> {
-    let rows = [
+// Resizes at the node limit.
+const AT_THE_LIMIT: List = List {
+    size: 15,
+    limit: 4,
+    rows: &[
         (
             Call::Command(Command::Alloc(5)),
             "Answer(Grant { number: 1, offset: 0 })",
@@ -148,13 +107,14 @@ fn resizes_at_the_node_limit(rt: HostRuntime) -> Result<(), Fail> {
             Call::Compact,
             "Compacted([Moved { number: 2, from: 5, to: 4, size: 10 }])",
         ),
-    ];
-    expect_replies(&rt, rt.alloc(), 15, 4, &rows)
-}
+    ],
+};
 
-#[test]
-fn moves_ranges_of_no_units(rt: HostRuntime) -> Result<(), Fail> {
-    let rows = [
+// Moves of ranges of no units.
+const OF_NO_UNITS: List = List {
+    size: 10,
+    limit: 16,
+    rows: &[
         (
             Call::Command(Command::Alloc(4)),
             "Answer(Grant { number: 1, offset: 0 })",
@@ -177,6 +137,31 @@ fn moves_ranges_of_no_units(rt: HostRuntime) -> Result<(), Fail> {
         (Call::Grow(2, 0), "Resized"),
         (Call::Grow(3, 10), "Resized"),
         (Call::Compact, "Compacted([])"),
-    ];
-    expect_replies(&rt, rt.alloc(), 10, 16, &rows)
+    ],
+};
+
+fn expect_replies<NI: NodeIndex>(rt: &impl Abort, alloc: Global, list: &List) {
+    assert_that(rt, 2 <= list.limit && list.limit < NI::MAX - 1);
+    let mut calls = Vec::new(alloc);
+    for (call, _) in list.rows {
+        calls.push(*call).expect(rt, "memory");
+    }
+    assert_that(rt, are_valid(&calls));
+    let replies = play_calls::<NI>(alloc, list.size, list.limit, &calls).expect(rt, "memory");
+    assert_same(rt, &replies.len(), &list.rows.len());
+    for (reply, (call, wanted)) in replies.iter().zip(list.rows.iter()) {
+        let found = format!(in alloc; "{reply:?}").expect(rt, "memory");
+        assert_same_at(rt, call, &found.as_str(), wanted);
+    }
+}
+
+#[test]
+fn resizes_and_compacts(rt: HostRuntime) {
+    for list in [RESIZES, AT_THE_LIMIT, OF_NO_UNITS] {
+        expect_replies::<u32>(&rt, rt.alloc(), &list);
+        expect_replies::<u16>(&rt, rt.alloc(), &list);
+        if list.limit <= 5 {
+            expect_replies::<Tiny>(&rt, rt.alloc(), &list);
+        }
+    }
 }

@@ -8,6 +8,10 @@ mod calls;
 #[cfg(test)]
 mod pictures;
 #[cfg(test)]
+mod playing;
+#[cfg(test)]
+mod programs;
+#[cfg(test)]
 mod random;
 #[cfg(test)]
 mod scripts;

@@ -4,13 +4,16 @@
 //! 120. Unit u of a plot that ends at the unit e is at y = 550 - 400 u / e in the plot of the ranges, and at y = 780 -
 //! 150 u / e in the plot of the reports.
 
-use super::support::{expect_once, picture_of, rectangles};
-use crate::asserts::{assert_same, assert_that, assert_that_at};
-use std::test::Fail;
+use super::support::Part::Lines;
+use super::support::{Picture, count, expect_picture, picture_of, rectangles};
+use crate::asserts::{assert_same, assert_same_at, assert_that};
 
 // The stored run of `offset_picture`. With 9 calls, each takes 105 pixels. The highest unit is 192, and a twentieth
 // above it the space has ended, at 200: a unit is 2 pixels high in the upper plot, and 0.75 in the lower one.
-const STORED: &str = "space 100 nodes 16 index 32
+const STORED: Picture = Picture {
+    script: &[Lines(
+        1,
+        "space 100 nodes 16 index 32
 alloc 10
 alloc 20
 align 16 32
@@ -20,120 +23,305 @@ extend 100
 alloc 90
 reset
 alloc 192
-";
+",
+    )],
+    once: &[
+        // units 0 to 10, from 120 + 105 on, for 3 calls
+        "<rect x='225' y='530' width='315' height='20' class='edge'><title>grant 1, offset 0, size 10, calls 1-4</title></rect>",
+        // units 10 to 30, to the reset
+        "<rect x='330' y='490' width='630' height='40' class='edge'><title>grant 2, offset 10, size 20, calls 2-8</title></rect>",
+        // units 32 to 48: the first multiple of 32 after unit 30
+        "<rect x='435' y='454' width='525' height='32' class='edge'><title>grant 3, offset 32, size 16, calls 3-8</title></rect>",
+        // units 48 to 138, in the space that was extended
+        "<rect x='855' y='274' width='105' height='180' class='edge'><title>grant 4, offset 48, size 90, calls 7-8</title></rect>",
+        // units 0 to 192, to the end of the axis
+        "<rect x='1065' y='166' width='105' height='384' class='edge'><title>grant 5, offset 0, size 192, calls 9-end</title></rect>",
+        // the refusal is call 5, at 120 + 525
+        "<path class='refusal' d='M645 550v12'/>",
+        // to call 6 the space ends at 100, where y is 350
+        "<path class='out' d='M120 150H120V350H750V150H1170V150'/>",
+        // free units: 100, 90, 70, 54, 64, 64, 164, 74, 200, 8
+        "<path class='free' d='M120 780H120V705H225V712.5H330V727.5H435V739.5H540V732H750V657H855V724.5H960V630H1065V774H1170V780'/>",
+        // the classes of the largest blocks, 100, 90, 70, 52, 52, 52, 152, 62, 200, 8: 96, 88, 64, 52, 52, 52, 144,
+        // 60, 192, 8
+        "<path class='most' d='M120 780H120V708H225V714H330V732H435V741H750V672H855V735H960V636H1065V774H1170V780'/>",
+        ">9 calls on a space of 100 units, extended to 200, with 16 nodes<",
+        // grants 1, 2 and 3 are live together, and grants 2, 3 and 4; 192 units of 200 are 96 percent
+        ">5 grants, 1 refusal; at most 3 live at once. Most in use: 192 of 200 units, 96.0 percent.<",
+        ">Largest free region at the worst moment: 8 units, of 8 free, after 9 calls.<",
+        ">the space ends at 200<",
+    ],
+    counts: &[("<rect x=", 5)],
+};
 
-#[test]
-fn draws_a_rectangle_for_each_grant(rt: HostRuntime) -> Result<(), Fail> {
-    let picture = picture_of(rt.alloc(), STORED)?;
-    assert_same(&rt, &rectangles(&picture), &5);
-    expect_once(
-        &rt,
-        &picture,
-        &[
-            // units 0 to 10, from 120 + 105 on, for 3 calls
-            "<rect x='225' y='530' width='315' height='20' class='edge'><title>grant 1, offset 0, size 10, calls 1-4</title></rect>",
-            // units 10 to 30, to the reset
-            "<rect x='330' y='490' width='630' height='40' class='edge'><title>grant 2, offset 10, size 20, calls 2-8</title></rect>",
-            // units 32 to 48: the first multiple of 32 after unit 30
-            "<rect x='435' y='454' width='525' height='32' class='edge'><title>grant 3, offset 32, size 16, calls 3-8</title></rect>",
-            // units 48 to 138, in the space that was extended
-            "<rect x='855' y='274' width='105' height='180' class='edge'><title>grant 4, offset 48, size 90, calls 7-8</title></rect>",
-            // units 0 to 192, to the end of the axis
-            "<rect x='1065' y='166' width='105' height='384' class='edge'><title>grant 5, offset 0, size 192, calls 9-end</title></rect>",
-        ],
-    );
-    Ok(())
-}
-
-#[test]
-fn draws_the_space_and_the_reports(rt: HostRuntime) -> Result<(), Fail> {
-    let picture = picture_of(rt.alloc(), STORED)?;
-    expect_once(
-        &rt,
-        &picture,
-        &[
-            // the refusal is call 5, at 120 + 525
-            "<path class='refusal' d='M645 550v12'/>",
-            // to call 6 the space ends at 100, where y is 350
-            "<path class='out' d='M120 150H120V350H750V150H1170V150'/>",
-            // free units: 100, 90, 70, 54, 64, 64, 164, 74, 200, 8
-            "<path class='free' d='M120 780H120V705H225V712.5H330V727.5H435V739.5H540V732H750V657H855V724.5H960V630H1065V774H1170V780'/>",
-            // the classes of the largest blocks, 100, 90, 70, 52, 52, 52, 152, 62, 200, 8: 96, 88, 64, 52, 52, 52, 144,
-            // 60, 192, 8
-            "<path class='most' d='M120 780H120V708H225V714H330V732H435V741H750V672H855V735H960V636H1065V774H1170V780'/>",
-        ],
-    );
-    Ok(())
-}
-
-#[test]
-fn writes_the_numbers_that_matter(rt: HostRuntime) -> Result<(), Fail> {
-    let picture = picture_of(rt.alloc(), STORED)?;
-    expect_once(
-        &rt,
-        &picture,
-        &[
-            ">9 calls on a space of 100 units, extended to 200, with 16 nodes<",
-            // grants 1, 2 and 3 are live together, and grants 2, 3 and 4; 192 units of 200 are 96 percent
-            ">5 grants, 1 refusal; at most 3 live at once. Most in use: 192 of 200 units, 96.0 percent.<",
-            ">Largest free region at the worst moment: 8 units, of 8 free, after 9 calls.<",
-            ">the space ends at 200<",
-        ],
-    );
-    Ok(())
-}
-
-// 1 call: it is at 645. The highest unit is 61, and the axis ends at 61 + 3 + 1. 40 is at 550 - 400 40 / 65.
-#[test]
-fn ends_the_axis_a_little_above_the_highest_unit(rt: HostRuntime) -> Result<(), Fail> {
-    let picture = picture_of(rt.alloc(), "space 1000 nodes 16 index 32\nalloc 61\n")?;
-    expect_once(
-        &rt,
-        &picture,
-        &[
+// Lives, edges, shares and numbers, also at the bounds between two cases.
+const EXAMPLES: [Picture; 9] = [
+    // 1 call: it is at 645. The highest unit is 61, and the axis ends at 61 + 3 + 1. 40 is at 550 - 400 40 / 65.
+    Picture {
+        script: &[Lines(1, "space 1000 nodes 16 index 32\nalloc 61\n")],
+        once: &[
             "<rect x='645' y='174.62' width='525' height='375.38' class='edge'>",
             "<path class='grid' d='M120 303.85H1170'/><text class='end' x='112' y='308.85'>40</text>",
             ">the space ends at 1,000<",
         ],
-    );
-    Ok(())
+        counts: &[],
+    },
+    // More grants than are live at once, and no more live units after most were.
+    Picture {
+        script: &[Lines(
+            1,
+            "space 100 nodes 16 index 32\nalloc 10\nalloc 20\nfree 1\nalloc 5\nfree 2\nfree 3\n",
+        )],
+        once: &[
+            "3 grants, 0 refusals; at most 2 live at once. ",
+            "Most in use: 30 of 100 units, 30.0 percent.",
+        ],
+        counts: &[],
+    },
+    // 6 calls, at 270, 420, 570, 720, 870 and 1020. A reset ends all lives, and numbers go on. 52, 48 and 96 are values
+    // of size classes, and so requests for all of a free block are granted.
+    Picture {
+        script: &[Lines(
+            1,
+            "space 100 nodes 16 index 32\nalloc 52\nalloc 48\nfree 2\nreset\nalloc 96\nfree 1\n",
+        )],
+        once: &[
+            "<rect x='270' y='342' width='450' height='208' class='edge'><title>grant 1, offset 0, size 52, calls 1-4</title></rect>",
+            "<rect x='420' y='150' width='150' height='192' class='edge'><title>grant 2, offset 52, size 48, calls 2-3</title></rect>",
+            "<rect x='870' y='166' width='300' height='384' class='edge'><title>grant 3, offset 0, size 96, calls 5-end</title></rect>",
+        ],
+        counts: &[("<rect x=", 3)],
+    },
+    // A height of 3 pixels has an edge. The plot ends at unit 400, so a unit is a pixel high.
+    Picture {
+        script: &[Lines(
+            1,
+            "space 400 nodes 16 index 32\nalloc 3\nalloc 2\nalloc 384\n",
+        )],
+        once: &[
+            "<rect x='382.5' y='547' width='787.5' height='3' class='edge'><title>grant 1, ",
+            "<rect x='645' y='545' width='525' height='2'><title>grant 2, ",
+        ],
+        counts: &[],
+    },
+    // A width of 3 pixels has an edge: of 349 calls each takes 3 pixels, of 350 calls 2.99. The plot ends at unit 100,
+    // and the range of 96 units is 384 high.
+    Picture {
+        script: &[
+            Lines(1, "space 100 nodes 16 index 32\nalloc 96\nfree 1\n"),
+            Lines(347, "report\n"),
+        ],
+        once: &["<rect x='123' y='166' width='3' height='384' class='edge'><title>"],
+        counts: &[],
+    },
+    Picture {
+        script: &[
+            Lines(1, "space 100 nodes 16 index 32\nalloc 96\nfree 1\n"),
+            Lines(348, "report\n"),
+        ],
+        once: &["<rect x='122.99' y='166' width='2.99' height='384'><title>"],
+        counts: &[],
+    },
+    // The space grows after most units were in use, and the peak has the size of its time.
+    Picture {
+        script: &[Lines(
+            1,
+            "space 100 nodes 16 index 32\nalloc 60\nfree 1\nextend 100\nalloc 20\n",
+        )],
+        once: &[
+            ">4 calls on a space of 100 units, extended to 200, with 16 nodes<",
+            "Most in use: 60 of 100 units, 60.0 percent.<",
+        ],
+        counts: &[],
+    },
+    // A space that is all in use, and not at the node limit.
+    Picture {
+        script: &[Lines(1, "space 96 nodes 16 index 32\nalloc 96\n")],
+        once: &[
+            "Most in use: 96 of 96 units, 100.0 percent.<",
+            ">Largest free region at the worst moment: 0 units, of 0 free, after 1 call.<",
+            "<path class='free' d='M120 780H120V630H645V780H1170V780'/>",
+        ],
+        counts: &[("At the node limit", 0)],
+    },
+    // Large numbers and tenths.
+    Picture {
+        script: &[Lines(1, "space 1000000 nodes 16 index 32\nalloc 957000\n")],
+        once: &[
+            ">1 call on a space of 1,000,000 units, with 16 nodes<",
+            "Most in use: 957,000 of 1,000,000 units, 95.7 percent.<",
+            ">the space ends at 1,000,000<",
+        ],
+        counts: &[],
+    },
+];
+
+// Scripts at the limits.
+const EXTREMES: [Picture; 7] = [
+    // There is one state, all along the axis. 100 free units are the whole height, and 96 of them are 144 pixels.
+    Picture {
+        script: &[Lines(1, "space 100 nodes 16 index 32\n")],
+        once: &[
+            ">0 calls on a space of 100 units, with 16 nodes<",
+            ">0 grants, 0 refusals; at most 0 live at once. Most in use: 0 of 100 units, 0.0 percent.<",
+            ">Largest free region at the worst moment: 96 units, of 100 free, after 0 calls.<",
+            "<path class='free' d='M120 780H120V630H1170V780'/>",
+            "<path class='most' d='M120 780H120V636H1170V780'/>",
+            // the legend has the only mark of a refusal
+            "class='refusal'",
+        ],
+        counts: &[("<rect x=", 0)],
+    },
+    // Refusals alone. 3 calls are at 382.5, 645 and 907.5; the marks are drawn to a tenth of a pixel.
+    Picture {
+        script: &[Lines(
+            1,
+            "space 100 nodes 16 index 32\nalloc 101\nalign 90 64\nalloc 4294967295\n",
+        )],
+        once: &[
+            ">0 grants, 3 refusals; at most 0 live at once. Most in use: 0 of 100 units, 0.0 percent.<",
+            "<path class='refusal' d='M382.5 550v12M645 550v12M907.5 550v12'/>",
+        ],
+        counts: &[("<rect x=", 0)],
+    },
+    // A space of no units.
+    Picture {
+        script: &[Lines(1, "space 0 nodes 16 index 32\nalloc 0\nalloc 1\n")],
+        once: &[
+            ">2 calls on a space of 0 units, with 16 nodes<",
+            "Most in use: 0 of 0 units, 0.0 percent.<",
+        ],
+        counts: &[],
+    },
+    // A grant of no units is 0.3 pixels high, so that it is seen.
+    Picture {
+        script: &[Lines(1, "space 100 nodes 16 index 32\nalloc 0\n")],
+        once: &[
+            "<rect x='645' y='549.7' width='525' height='0.3'><title>grant 1, offset 0, size 0, calls 1-end</title></rect>",
+        ],
+        counts: &[("<rect x=", 1)],
+    },
+    // The largest space. The highest unit is 4,026,531,840, and the axis ends a twentieth above: the grant is 20/21 of
+    // 400 pixels high.
+    Picture {
+        script: &[Lines(1, "space 4294967295 nodes 16 index 32\nalloc 4026531840\n")],
+        once: &[
+            ">1 call on a space of 4,294,967,295 units, with 16 nodes<",
+            "<rect x='645' y='169.05' width='525' height='380.95' class='edge'>",
+            "<path class='grid' d='M120 171.56H1170'/><text class='end' x='112' y='176.56'>4,000,000,000</text>",
+        ],
+        counts: &[],
+    },
+    // Two extensions to the largest space: 2^32 - 2 units and 1 more fit, and no other unit.
+    Picture {
+        script: &[Lines(
+            1,
+            "space 10 nodes 16 index 32\nextend 4294967284\nextend 1\nextend 1\n",
+        )],
+        once: &[
+            ">3 calls on a space of 10 units, extended to 4,294,967,295, with 16 nodes<",
+            ">0 grants, 1 refusal; ",
+            "<path class='refusal' d='M907.5 550v12'/>",
+        ],
+        counts: &[],
+    },
+    // With 3 nodes one grant leaves no node, and the report is 0, 0 though 90 units are free. 2 calls: 470 and 820.
+    Picture {
+        script: &[Lines(1, "space 100 nodes 3 index 32\nalloc 10\nalloc 10\n")],
+        once: &[
+            "<path class='free' d='M120 780H120V630H470V780H1170V780'/>",
+            "<path class='refusal' d='M820 550v12'/>",
+            "Largest free region at the worst moment: 0 units, of 0 free, after 1 call.<",
+            "At the node limit, after 2 calls, 0 units are reported as free.",
+        ],
+        counts: &[],
+    },
+];
+
+#[test]
+fn draws_examples_computed_by_hand(rt: HostRuntime) {
+    expect_picture(&rt, rt.alloc(), &STORED);
+    for row in &EXAMPLES {
+        expect_picture(&rt, rt.alloc(), row);
+    }
+    for row in &EXTREMES {
+        expect_picture(&rt, rt.alloc(), row);
+    }
+}
+
+// The last life of one age, and the first one of the next.
+const AGES: [(u32, &str); 14] = [
+    (10, "<g class='age1'>\n<rect "),
+    (11, "<g class='age2'>\n<rect "),
+    (30, "<g class='age2'>\n<rect "),
+    (31, "<g class='age3'>\n<rect "),
+    (100, "<g class='age3'>\n<rect "),
+    (101, "<g class='age4'>\n<rect "),
+    (300, "<g class='age4'>\n<rect "),
+    (301, "<g class='age5'>\n<rect "),
+    (1_000, "<g class='age5'>\n<rect "),
+    (1_001, "<g class='age6'>\n<rect "),
+    (3_000, "<g class='age6'>\n<rect "),
+    (3_001, "<g class='age7'>\n<rect "),
+    (10_000, "<g class='age7'>\n<rect "),
+    (10_001, "<g class='age8'>\n<rect "),
+];
+
+#[test]
+fn each_age_ends_at_its_bound(rt: HostRuntime) {
+    for (calls, group) in AGES {
+        let picture = picture_of(
+            &rt,
+            rt.alloc(),
+            &[
+                Lines(1, "space 100 nodes 16 index 32\nalloc 1\n"),
+                Lines(calls.saturating_sub(1), "report\n"),
+                Lines(1, "free 1\n"),
+            ],
+        );
+        assert_same_at(&rt, &calls, &count(&picture, "<title>"), &1);
+        assert_same_at(&rt, &calls, &count(&picture, group), &1);
+    }
 }
 
 // Each life has the colour of its bin, and the longest lives come first. Two grants of 1 call, and one of 11 calls.
 #[test]
-fn groups_grants_by_age(rt: HostRuntime) -> Result<(), Fail> {
-    let text =
-        "space 100 nodes 16 index 32\nalloc 1\nalloc 2\nfree 2\nalloc 3\nfree 3\nreport\nreport\nreport\nreport\nreport\nreport\nfree 1\n";
-    let picture = picture_of(rt.alloc(), text)?;
-    let Some((_, short)) = picture.split_once("<g class='age1'>") else {
-        assert_that_at(&rt, &picture, false);
-        return Ok(());
-    };
+fn groups_grants_by_age(rt: HostRuntime) {
+    let picture = picture_of(
+        &rt,
+        rt.alloc(),
+        &[Lines(
+            1,
+            "space 100 nodes 16 index 32\nalloc 1\nalloc 2\nfree 2\nalloc 3\nfree 3\nreport\nreport\nreport\nreport\nreport\nreport\nfree 1\n",
+        )],
+    );
+    let (_, short) = picture
+        .split_once("<g class='age1'>")
+        .expect(&rt, "a group");
     assert_same(&rt, &rectangles(short), &2);
-    let Some((_, long)) = picture.split_once("<g class='age2'>") else {
-        assert_that_at(&rt, &picture, false);
-        return Ok(());
-    };
+    let (_, long) = picture
+        .split_once("<g class='age2'>")
+        .expect(&rt, "a group");
     assert_same(&rt, &rectangles(long), &3);
     assert_that(
         &rt,
         long.contains("<title>grant 1, offset 0, size 1, calls 1-12</title>"),
     );
-    Ok(())
 }
 
 // Either is one more call, of which nothing else is drawn.
 #[test]
-fn draws_a_full_report_as_a_report(rt: HostRuntime) -> Result<(), Fail> {
+fn draws_a_full_report_as_a_report(rt: HostRuntime) {
     let full = picture_of(
+        &rt,
         rt.alloc(),
-        "space 100 nodes 16 index 32\nalloc 10\nfull\nfree 1\n",
-    )?;
+        &[Lines(1, "space 100 nodes 16 index 32\nalloc 10\nfull\nfree 1\n")],
+    );
     let short = picture_of(
+        &rt,
         rt.alloc(),
-        "space 100 nodes 16 index 32\nalloc 10\nreport\nfree 1\n",
-    )?;
+        &[Lines(1, "space 100 nodes 16 index 32\nalloc 10\nreport\nfree 1\n")],
+    );
     assert_same(&rt, &full, &short);
     assert_same(&rt, &rectangles(&full), &1);
-    Ok(())
 }

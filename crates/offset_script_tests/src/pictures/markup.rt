@@ -1,9 +1,9 @@
 //! Pictures are well-formed XML.
 
+use super::support::Part::Lines;
 use super::support::picture_of;
 use crate::asserts::{assert_same_at, assert_that_at};
 use std::alloc::{AllocError, Global};
-use std::test::Fail;
 
 // Whether a text is the name of an element or of an attribute.
 fn is_name(word: &str) -> bool {
@@ -81,7 +81,7 @@ fn is_well_formed(alloc: Global, text: &str) -> Result<bool, AllocError> {
 
 // The other tests of this file rely on this check.
 #[test]
-fn the_check_of_markup_works(rt: HostRuntime) -> Result<(), Fail> {
+fn the_check_of_markup_works(rt: HostRuntime) {
     for (text, want) in [
         ("<a/>", true),
         ("<a b='c' d='e'>f<g/>h</a>\n", true),
@@ -101,13 +101,17 @@ fn the_check_of_markup_works(rt: HostRuntime) -> Result<(), Fail> {
         ("<a", false),
         ("", false),
     ] {
-        assert_same_at(&rt, &text, &is_well_formed(rt.alloc(), text)?, &want);
+        assert_same_at(
+            &rt,
+            &text,
+            &is_well_formed(rt.alloc(), text).expect(&rt, "memory"),
+            &want,
+        );
     }
-    Ok(())
 }
 
 #[test]
-fn draws_well_formed_pictures(rt: HostRuntime) -> Result<(), Fail> {
+fn draws_well_formed_pictures(rt: HostRuntime) {
     for text in [
         "space 0 nodes 2 index 16\n",
         "space 100 nodes 16 index 32\n",
@@ -116,8 +120,8 @@ fn draws_well_formed_pictures(rt: HostRuntime) -> Result<(), Fail> {
         "space 100 nodes 16 index 32\nalloc 10\nalign 8 16\nfree 1\nalloc 90\nextend 50\nalloc 0\nsize 3\nfull\nreport\nreset\nalloc 7\n",
         "space 4294967295 nodes 16 index 32\nalloc 4026531840\nextend 1\nfree 9\n",
     ] {
-        let picture = picture_of(rt.alloc(), text)?;
-        assert_that_at(&rt, &text, is_well_formed(rt.alloc(), &picture)?);
+        let picture = picture_of(&rt, rt.alloc(), &[Lines(1, text)]);
+        let is_so = is_well_formed(rt.alloc(), &picture).expect(&rt, "memory");
+        assert_that_at(&rt, &text, is_so);
     }
-    Ok(())
 }

@@ -5,12 +5,42 @@ use offset_lives::picture;
 use offset_script::parse;
 use std::alloc::Global;
 use std::process::Abort;
-use std::test::Fail;
+
+/// A part of a script.
+#[derive(Clone, Copy)]
+pub enum Part {
+    /// The same lines so often.
+    Lines(u32, &'static str),
+    /// Grants of so many units, each with its release, with the numbers from one on and below another.
+    Lives(u32, u32, u32),
+}
+
+/// A script, texts that its picture has exactly once, and others that it has so often.
+pub struct Picture {
+    pub script: &'static [Part],
+    pub once: &'static [&'static str],
+    pub counts: &'static [(&'static str, usize)],
+}
 
 /// The picture of a script.
-pub fn picture_of(alloc: Global, text: &str) -> Result<String, Fail> {
-    let script = parse(alloc, text.as_bytes())?;
-    Ok(picture(alloc, &script)?)
+pub fn picture_of(rt: &impl Abort, alloc: Global, parts: &[Part]) -> String {
+    let mut text = String::new(alloc);
+    for part in parts {
+        match *part {
+            Part::Lines(times, lines) => {
+                for _ in 0..times {
+                    text.push_str(lines).expect(rt, "memory");
+                }
+            }
+            Part::Lives(units, first, below) => {
+                for number in first..below {
+                    writeln!(text, "alloc {units}\nfree {number}").expect(rt, "memory");
+                }
+            }
+        }
+    }
+    let script = parse(alloc, text.as_bytes()).expect(rt, "a script");
+    picture(alloc, &script).expect(rt, "memory")
 }
 
 /// How often a word is in a text.
@@ -23,10 +53,13 @@ pub fn rectangles(text: &str) -> usize {
     count(text, "<rect x=")
 }
 
-/// Expects each of these texts in the picture exactly once.
-pub fn expect_once(rt: &impl Abort, text: &str, words: &[&str]) {
-    for word in words {
-        let found = count(text, word);
-        assert_same_at(rt, &(word, text), &found, &1);
+/// Expects the texts of a picture.
+pub fn expect_picture(rt: &impl Abort, alloc: Global, row: &Picture) {
+    let picture = picture_of(rt, alloc, row.script);
+    for word in row.once {
+        assert_same_at(rt, &(word, &picture), &count(&picture, word), &1);
+    }
+    for (word, wanted) in row.counts {
+        assert_same_at(rt, &(word, &picture), &count(&picture, word), wanted);
     }
 }

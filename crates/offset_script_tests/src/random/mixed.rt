@@ -2,14 +2,10 @@
 
 use super::numbers::Numbers;
 use super::slow::Space;
-use crate::asserts::{assert_same, assert_same_at, assert_that};
-use offset_allocator::NodeIndex;
-use offset_script::{Answer, Command, Script, parse, play};
-use offset_test_base::texts::text_of;
-use offset_test_base::tiny::Tiny;
+use crate::playing::expect_answers;
+use offset_script::{Answer, Command, parse};
 use std::alloc::{AllocError, Global};
 use std::process::Abort;
-use std::test::Fail;
 
 // Sizes of spaces, each with a node limit.
 const SPACES: [(u32, u32); 5] = [
@@ -43,15 +39,6 @@ fn report_of(number: u32) -> Command {
         Command::Report
     } else {
         Command::Full
-    }
-}
-
-impl Mix {
-    fn command(self, number: u32, grants: u64) -> Command {
-        match self {
-            Mix::Plain => plain_command(number % 8, number / 8, grants),
-            Mix::Whole => whole_command(number % 16, number / 16, grants),
-        }
     }
 }
 
@@ -108,71 +95,29 @@ fn mixed_script(
     let mut numbers = Numbers::new(1);
     let mut answers = Vec::new(alloc);
     for _ in 0..LENGTH {
-        let command = mix.command(numbers.advance(), space.grants);
+        let number = numbers.advance();
+        let command = match mix {
+            Mix::Plain => plain_command(number % 8, number / 8, space.grants),
+            Mix::Whole => whole_command(number % 16, number / 16, space.grants),
+        };
         put_line(text, command)?;
         answers.push(space.answer(alloc, command)?)?;
     }
     Ok(answers)
 }
 
-fn expect_answer(
-    rt: &impl Abort,
-    alloc: Global,
-    number: usize,
-    found: &Answer,
-    wanted: &Answer,
-) -> Result<(), Fail> {
-    let found = text_of(alloc, found)?;
-    let wanted = text_of(alloc, wanted)?;
-    assert_same_at(rt, &("command", number), &found.as_str(), &wanted.as_str());
-    Ok(())
-}
-
-fn expect_played<NI: NodeIndex>(
-    rt: &impl Abort,
-    alloc: Global,
-    script: &Script,
-    wanted: &[Answer],
-) -> Result<(), Fail> {
-    assert_that(rt, script.max_allocs < NI::MAX - 1);
-    let answers = play::<NI>(alloc, script.size, script.max_allocs, &script.commands)?;
-    assert_same(rt, &answers.len(), &wanted.len());
-    for (number, (found, wanted)) in answers.iter().zip(wanted.iter()).enumerate() {
-        expect_answer(rt, alloc, number, found, wanted)?;
-    }
-    Ok(())
-}
-
-fn expect_mixed(
-    rt: &impl Abort,
-    alloc: Global,
-    size: u32,
-    limit: u32,
-    mix: Mix,
-) -> Result<(), Fail> {
+fn expect_mixed(rt: &impl Abort, alloc: Global, size: u32, limit: u32, mix: Mix) {
     let mut text = String::new(alloc);
-    let wanted = mixed_script(alloc, &mut text, size, limit, mix)?;
-    let script = parse(alloc, text.as_bytes())?;
-    expect_played::<u32>(rt, alloc, &script, &wanted)?;
-    expect_played::<u16>(rt, alloc, &script, &wanted)?;
-    if limit <= 5 {
-        expect_played::<Tiny>(rt, alloc, &script, &wanted)?;
-    }
-    Ok(())
+    let answers = mixed_script(alloc, &mut text, size, limit, mix).expect(rt, "memory");
+    let script = parse(alloc, text.as_bytes()).expect(rt, "a script");
+    let wanted = format!(in alloc; "{answers:?}").expect(rt, "memory");
+    expect_answers(rt, alloc, &script, &wanted);
 }
 
 #[test]
-fn plays_mixed_scripts(rt: HostRuntime) -> Result<(), Fail> {
+fn plays_mixed_scripts(rt: HostRuntime) {
     for (size, limit) in SPACES {
-        expect_mixed(&rt, rt.alloc(), size, limit, Mix::Plain)?;
+        expect_mixed(&rt, rt.alloc(), size, limit, Mix::Plain);
+        expect_mixed(&rt, rt.alloc(), size, limit, Mix::Whole);
     }
-    Ok(())
-}
-
-#[test]
-fn plays_mixed_scripts_of_all_commands(rt: HostRuntime) -> Result<(), Fail> {
-    for (size, limit) in SPACES {
-        expect_mixed(&rt, rt.alloc(), size, limit, Mix::Whole)?;
-    }
-    Ok(())
 }

@@ -3,11 +3,10 @@
 use super::numbers::Numbers;
 use super::slow_reading::{Reading, read_slowly, run_slowly};
 use crate::asserts::{assert_same_at, assert_that_at};
+use crate::playing::outcome;
 use offset_script::{Script, ScriptFault, parse};
-use offset_test_base::runs::outcome;
 use std::alloc::{AllocError, Global};
 use std::process::Abort;
-use std::test::Fail;
 
 const TEXTS: u64 = 200_000;
 
@@ -201,7 +200,7 @@ fn is_same(script: &Script, reading: &Reading) -> bool {
 }
 
 // The number of texts of each meaning.
-#[derive(Clone, Copy, PartialEq, Debug)]
+#[derive(Clone, Copy)]
 struct Tally {
     scripts: u32,
     bad_headers: u32,
@@ -222,38 +221,32 @@ impl Tally {
 }
 
 // `parse` returns the script, or the fault, that the slow model finds, and a run writes what the model writes.
-fn expect_meaning(
-    rt: &impl Abort,
-    alloc: Global,
-    number: u64,
-    tally: &mut Tally,
-) -> Result<(), Fail> {
-    let text = random_text(alloc, number)?;
+fn expect_meaning(rt: &impl Abort, alloc: Global, number: u64, tally: &mut Tally) {
+    let text = random_text(alloc, number).expect(rt, "memory");
     let meaning = read_slowly(alloc, &text);
     tally.count(&meaning);
     match (parse(alloc, &text), meaning) {
-        (Err(found), Err(wanted)) => assert_same_at(rt, &("text", number), &found, &wanted),
+        (Err(found), Err(wanted)) => assert_same_at(rt, &number, &found, &wanted),
         (Ok(script), Ok(reading)) => {
-            assert_that_at(rt, &("text", number), is_same(&script, &reading));
+            assert_that_at(rt, &number, is_same(&script, &reading));
             // Tables of more nodes would take gigabytes.
             if reading.limit > 65_533 {
-                return Ok(());
+                return;
             }
         }
-        _ => assert_that_at(rt, &("text", number), false),
+        _ => assert_that_at(rt, &number, false),
     }
-    let wanted = run_slowly(alloc, &text)?;
+    let wanted = run_slowly(alloc, &text).expect(rt, "memory");
     assert_same_at(
         rt,
-        &("text", number),
-        &outcome(alloc, &text)?.as_str(),
+        &number,
+        &outcome(rt, alloc, &text).as_str(),
         &wanted.as_str(),
     );
-    Ok(())
 }
 
 #[test]
-fn reads_random_texts(rt: HostRuntime) -> Result<(), Fail> {
+fn reads_random_texts(rt: HostRuntime) {
     let mut tally = Tally {
         scripts: 0,
         bad_headers: 0,
@@ -261,11 +254,14 @@ fn reads_random_texts(rt: HostRuntime) -> Result<(), Fail> {
         bad_commands: 0,
     };
     for number in 1..TEXTS + 1 {
-        expect_meaning(&rt, rt.alloc(), number, &mut tally)?;
+        expect_meaning(&rt, rt.alloc(), number, &mut tally);
     }
-    assert_that_at(&rt, &tally, tally.scripts > 1_000);
-    assert_that_at(&rt, &tally, tally.bad_headers > 1_000);
-    assert_that_at(&rt, &tally, tally.bad_limits > 1_000);
-    assert_that_at(&rt, &tally, tally.bad_commands > 1_000);
-    Ok(())
+    for count in [
+        tally.scripts,
+        tally.bad_headers,
+        tally.bad_limits,
+        tally.bad_commands,
+    ] {
+        assert_that_at(&rt, &count, count > 1_000);
+    }
 }

@@ -240,16 +240,18 @@ impl Space {
     fn full(&self, alloc: Global) -> Result<Answer, AllocError> {
         let mut rows = Vec::new(alloc);
         for class in 0..240u32 {
+            let from = value_of(class as usize);
+            let below = value_of(class as usize + 1);
             let mut count = 0u32;
             for block in &self.blocks {
-                if block.is_free() && class_below(block.size) == class as usize {
+                if block.is_free() && from <= block.size && block.size < below {
                     count = count.saturating_add(1);
                 }
             }
             if count > 0 {
                 rows.push(FullRow {
                     class,
-                    size: narrow(value_of(class as usize)),
+                    size: narrow(from),
                     count,
                 })?;
             }

@@ -1,124 +1,254 @@
 //! Each call of an adapter is one call of its reader or writer, also after a failure.
 
-use super::support::{Reader, Writer};
-use crate::asserts::{assert_same, assert_that};
+use crate::asserts::{assert_same_at, assert_that_at};
 use offset_script::{FromRead, IntoWrite, Sink, Source};
-use std::test::Fail;
+use offset_test_base::devices::{Reader, Writer};
 
-#[test]
-fn pulls_by_one_read(rt: HostRuntime) {
-    let mut input = FromRead::new(Reader::new(b"abcdefg".as_slice(), 3));
-    let mut buf = [0u8; 5];
-    assert_same(&rt, &input.pull(&mut buf), &Some(3));
-    assert_same(&rt, &buf, &*b"abc\x00\x00");
-    let reader = input.into_inner();
-    assert_same(&rt, &(reader.reads, reader.text.len()), &(1, 4));
+// Calls of `pull` on a reader whose text is the first `length` letters.
+struct Pulls {
+    name: &'static str,
+    length: usize,
+    piece: usize,
+    fails_at: u32,
+    empty_at: u32,
+    // The length of each buffer, what the call returns, and what the buffer begins with after it.
+    calls: &'static [(usize, Option<usize>, &'static [u8])],
+    reads: u32,
+    left: usize,
 }
 
-#[test]
-fn pulls_again_after_a_failure(rt: HostRuntime) {
-    let mut reader = Reader::new(b"abc".as_slice(), 3);
-    reader.fails_at = 1;
-    let mut input = FromRead::new(reader);
-    let mut buf = [0u8; 5];
-    assert_same(&rt, &input.pull(&mut buf), &None);
-    assert_same(&rt, &input.pull(&mut buf), &Some(3));
-    assert_same(&rt, &input.into_inner().reads, &2);
-}
+const PULLS: [Pulls; 4] = [
+    Pulls {
+        name: "one read",
+        length: 7,
+        piece: 3,
+        fails_at: 0,
+        empty_at: 0,
+        calls: &[(5, Some(3), b"abc\x00\x00")],
+        reads: 1,
+        left: 4,
+    },
+    Pulls {
+        name: "after a failure",
+        length: 3,
+        piece: 3,
+        fails_at: 1,
+        empty_at: 0,
+        calls: &[(5, None, b""), (5, Some(3), b"abc")],
+        reads: 2,
+        left: 0,
+    },
+    Pulls {
+        name: "nothing",
+        length: 3,
+        piece: 3,
+        fails_at: 0,
+        empty_at: 1,
+        calls: &[(5, Some(0), b"")],
+        reads: 1,
+        left: 3,
+    },
+    Pulls {
+        name: "into an empty buffer, and into a longer one than a run uses",
+        length: 100_000,
+        piece: 100_000,
+        fails_at: 0,
+        empty_at: 0,
+        calls: &[(0, Some(0), b""), (90_000, Some(90_000), b"abcdefgaaa")],
+        reads: 2,
+        left: 10_000,
+    },
+];
 
 #[test]
-fn pulls_nothing_by_one_read(rt: HostRuntime) {
-    let mut reader = Reader::new(b"abc".as_slice(), 3);
-    reader.empty_at = 1;
-    let mut input = FromRead::new(reader);
-    let mut buf = [0u8; 5];
-    assert_same(&rt, &input.pull(&mut buf), &Some(0));
-    assert_same(&rt, &input.into_inner().reads, &1);
-}
-
-// An empty buffer, and a longer one than a run uses.
-#[test]
-fn pulls_into_any_buffer_by_one_read(rt: HostRuntime) -> Result<(), Fail> {
-    let text = vec![in rt.alloc(); b'a'; 100_000]?;
-    let mut input = FromRead::new(Reader::new(&text, 100_000));
-    assert_same(&rt, &input.pull(&mut []), &Some(0));
-    let mut buf = vec![in rt.alloc(); 0u8; 90_000]?;
-    assert_same(&rt, &input.pull(&mut buf), &Some(90_000));
-    let reader = input.into_inner();
-    assert_same(&rt, &(reader.reads, reader.text.len()), &(2, 10_000));
-    Ok(())
-}
-
-#[test]
-fn pushes_by_one_write(rt: HostRuntime) {
-    let mut output = IntoWrite::new(Writer::new(rt.alloc(), 3));
-    assert_same(&rt, &output.push(b"abcdefg".as_slice()), &Some(3));
-    let writer = output.into_inner();
-    assert_same(&rt, &writer.taken.as_slice(), &b"abc".as_slice());
-    assert_same(&rt, &(writer.writes, writer.flushes), &(1, 0));
-}
-
-#[test]
-fn pushes_much_by_one_write(rt: HostRuntime) -> Result<(), Fail> {
-    let text = vec![in rt.alloc(); b'a'; 100_000]?;
-    let mut output = IntoWrite::new(Writer::new(rt.alloc(), 100_000));
-    assert_same(&rt, &output.push(&text), &Some(100_000));
-    let writer = output.into_inner();
-    assert_same(&rt, &(writer.writes, writer.taken.len()), &(1, 100_000));
-    Ok(())
-}
-
-#[test]
-fn pushes_again_after_a_failure(rt: HostRuntime) {
-    let mut writer = Writer::new(rt.alloc(), 3);
-    writer.fails_at = 1;
-    let mut output = IntoWrite::new(writer);
-    assert_same(&rt, &output.push(b"abc".as_slice()), &None);
-    assert_same(&rt, &output.push(b"abc".as_slice()), &Some(3));
-    assert_same(&rt, &output.into_inner().writes, &2);
-}
-
-// A write that takes nothing is a failure, and is not tried again.
-#[test]
-fn fails_where_a_write_takes_nothing(rt: HostRuntime) {
-    let mut writer = Writer::new(rt.alloc(), 3);
-    writer.empty_at = 1;
-    let mut output = IntoWrite::new(writer);
-    assert_same(&rt, &output.push(b"abc".as_slice()), &None);
-    assert_same(&rt, &output.into_inner().writes, &1);
-}
-
-#[test]
-fn flushes_by_one_flush(rt: HostRuntime) {
-    for fails_flush in [false, true] {
-        let mut writer = Writer::new(rt.alloc(), 3);
-        writer.fails_flush = fails_flush;
-        let mut output = IntoWrite::new(writer);
-        assert_same(&rt, &output.flush(), &!fails_flush);
-        let writer = output.into_inner();
-        assert_same(&rt, &(writer.writes, writer.flushes), &(0, 1));
+fn each_pull_is_one_read(rt: HostRuntime) {
+    let mut letters = vec![in rt.alloc(); b'a'; 100_000].expect(&rt, "memory");
+    letters[..7].copy_from_slice(b"abcdefg");
+    for row in &PULLS {
+        let (text, _) = letters.split_at_checked(row.length).expect(&rt, "letters");
+        let mut reader = Reader::new(text, row.piece);
+        reader.fails_at = row.fails_at;
+        reader.empty_at = row.empty_at;
+        let mut input = FromRead::new(reader);
+        for (length, wanted, start) in row.calls {
+            let mut buf = vec![in rt.alloc(); 0u8; *length].expect(&rt, "memory");
+            assert_same_at(&rt, &row.name, &input.pull(&mut buf), wanted);
+            assert_that_at(&rt, &row.name, buf.starts_with(start));
+        }
+        let reader = input.into_inner();
+        assert_same_at(
+            &rt,
+            &row.name,
+            &(reader.reads, reader.text.len()),
+            &(row.reads, row.left),
+        );
     }
 }
 
-// A flush right after a flush, and one after a write that came between, are flushes of the writer too.
-#[test]
-fn flushes_each_time(rt: HostRuntime) {
-    let mut output = IntoWrite::new(Writer::new(rt.alloc(), 3));
-    assert_that(&rt, output.flush());
-    assert_that(&rt, output.flush());
-    assert_same(&rt, &output.push(b"abc".as_slice()), &Some(3));
-    assert_that(&rt, output.flush());
-    let writer = output.into_inner();
-    assert_same(&rt, &(writer.writes, writer.flushes), &(1, 3));
-    assert_same(&rt, &writer.flushed, &Some(3));
+// A push of all letters of a row, or a flush, and what it returns.
+enum Call {
+    Push(Option<usize>),
+    Flush(bool),
 }
 
+// Calls on a writer. Each push is of the first `length` letters.
+struct Calls {
+    name: &'static str,
+    length: usize,
+    piece: usize,
+    fails_at: u32,
+    empty_at: u32,
+    fails_flush: bool,
+    calls: &'static [Call],
+    // How many letters were taken, and how many of them before the last flush.
+    taken: usize,
+    flushed: Option<usize>,
+    writes: u32,
+    flushes: u32,
+}
+
+const CALLS: [Calls; 8] = [
+    Calls {
+        name: "one push",
+        length: 7,
+        piece: 3,
+        fails_at: 0,
+        empty_at: 0,
+        fails_flush: false,
+        calls: &[Call::Push(Some(3))],
+        taken: 3,
+        flushed: None,
+        writes: 1,
+        flushes: 0,
+    },
+    Calls {
+        name: "a push of much",
+        length: 100_000,
+        piece: 100_000,
+        fails_at: 0,
+        empty_at: 0,
+        fails_flush: false,
+        calls: &[Call::Push(Some(100_000))],
+        taken: 100_000,
+        flushed: None,
+        writes: 1,
+        flushes: 0,
+    },
+    Calls {
+        name: "a push after a failure",
+        length: 3,
+        piece: 3,
+        fails_at: 1,
+        empty_at: 0,
+        fails_flush: false,
+        calls: &[Call::Push(None), Call::Push(Some(3))],
+        taken: 3,
+        flushed: None,
+        writes: 2,
+        flushes: 0,
+    },
+    Calls {
+        name: "a write that takes nothing is a failure, and is not tried again",
+        length: 3,
+        piece: 3,
+        fails_at: 0,
+        empty_at: 1,
+        fails_flush: false,
+        calls: &[Call::Push(None)],
+        taken: 0,
+        flushed: None,
+        writes: 1,
+        flushes: 0,
+    },
+    Calls {
+        name: "one flush",
+        length: 3,
+        piece: 3,
+        fails_at: 0,
+        empty_at: 0,
+        fails_flush: false,
+        calls: &[Call::Flush(true)],
+        taken: 0,
+        flushed: Some(0),
+        writes: 0,
+        flushes: 1,
+    },
+    Calls {
+        name: "one flush that fails",
+        length: 3,
+        piece: 3,
+        fails_at: 0,
+        empty_at: 0,
+        fails_flush: true,
+        calls: &[Call::Flush(false)],
+        taken: 0,
+        flushed: Some(0),
+        writes: 0,
+        flushes: 1,
+    },
+    Calls {
+        name: "a flush right after a flush, and one after a write that came between",
+        length: 3,
+        piece: 3,
+        fails_at: 0,
+        empty_at: 0,
+        fails_flush: false,
+        calls: &[
+            Call::Flush(true),
+            Call::Flush(true),
+            Call::Push(Some(3)),
+            Call::Flush(true),
+        ],
+        taken: 3,
+        flushed: Some(3),
+        writes: 1,
+        flushes: 3,
+    },
+    Calls {
+        name: "a flush after a failure",
+        length: 3,
+        piece: 3,
+        fails_at: 1,
+        empty_at: 0,
+        fails_flush: false,
+        calls: &[Call::Push(None), Call::Flush(true)],
+        taken: 0,
+        flushed: Some(0),
+        writes: 1,
+        flushes: 1,
+    },
+];
+
 #[test]
-fn flushes_after_a_failure(rt: HostRuntime) {
-    let mut writer = Writer::new(rt.alloc(), 3);
-    writer.fails_at = 1;
-    let mut output = IntoWrite::new(writer);
-    assert_same(&rt, &output.push(b"abc".as_slice()), &None);
-    assert_that(&rt, output.flush());
-    assert_same(&rt, &output.into_inner().flushes, &1);
+fn each_push_is_one_write_and_each_flush_one_flush(rt: HostRuntime) {
+    let mut letters = vec![in rt.alloc(); b'a'; 100_000].expect(&rt, "memory");
+    letters[..7].copy_from_slice(b"abcdefg");
+    for row in &CALLS {
+        let (text, _) = letters.split_at_checked(row.length).expect(&rt, "letters");
+        let mut writer = Writer::new(rt.alloc(), row.piece);
+        writer.fails_at = row.fails_at;
+        writer.empty_at = row.empty_at;
+        writer.fails_flush = row.fails_flush;
+        let mut output = IntoWrite::new(writer);
+        for call in row.calls {
+            match call {
+                Call::Push(wanted) => assert_same_at(&rt, &row.name, &output.push(text), wanted),
+                Call::Flush(wanted) => assert_same_at(&rt, &row.name, &output.flush(), wanted),
+            }
+        }
+        let writer = output.into_inner();
+        assert_that_at(&rt, &row.name, letters.starts_with(&writer.taken));
+        assert_same_at(
+            &rt,
+            &row.name,
+            &(writer.taken.len(), writer.flushed),
+            &(row.taken, row.flushed),
+        );
+        assert_same_at(
+            &rt,
+            &row.name,
+            &(writer.writes, writer.flushes),
+            &(row.writes, row.flushes),
+        );
+    }
 }

@@ -1,16 +1,40 @@
-//! The text of each type that has `Debug`.
+//! The text of each type that has `Debug`, and of faults the line and the status too.
 
-use crate::asserts::assert_text;
+use crate::asserts::{assert_same, assert_text};
 use offset_allocator::StorageReport;
 use offset_script::{Answer, Command, FullRow, IndexWidth, RunFault, ScriptFault};
-use std::test::Fail;
+
+const COMMANDS: [(Command, &str); 8] = [
+    (Command::Alloc(1), "Alloc(1)"),
+    (Command::Free(2), "Free(2)"),
+    (Command::Size(3), "Size(3)"),
+    (Command::Report, "Report"),
+    (Command::Full, "Full"),
+    (Command::Reset, "Reset"),
+    (Command::Align(5, 16), "Align(5, 16)"),
+    (Command::Extend(4_294_967_295), "Extend(4294967295)"),
+];
+
+const ROWS: [FullRow; 2] = [
+    FullRow {
+        class: 35,
+        size: 88,
+        count: 1,
+    },
+    FullRow {
+        class: 239,
+        size: 4_026_531_840,
+        count: 2,
+    },
+];
 
 #[test]
-fn prints_answers(rt: HostRuntime) -> Result<(), Fail> {
-    let report = StorageReport {
-        total_free_space: 90,
-        largest_free_region: 88,
-    };
+fn prints_commands_and_answers(rt: HostRuntime) {
+    for (command, wanted) in &COMMANDS {
+        assert_text(&rt, rt.alloc(), command, wanted);
+    }
+    assert_text(&rt, rt.alloc(), &IndexWidth::Bits16, "Bits16");
+    assert_text(&rt, rt.alloc(), &IndexWidth::Bits32, "Bits32");
     for (answer, wanted) in [
         (
             Answer::Grant {
@@ -24,77 +48,67 @@ fn prints_answers(rt: HostRuntime) -> Result<(), Fail> {
         (Answer::Gone, "Gone"),
         (Answer::Size(3), "Size(3)"),
         (
-            Answer::Report(report),
+            Answer::Report(StorageReport {
+                total_free_space: 90,
+                largest_free_region: 88,
+            }),
             "Report(StorageReport { total_free_space: 90, largest_free_region: 88 })",
         ),
         (Answer::Full(Vec::new(rt.alloc())), "Full([])"),
+        (
+            Answer::Full(ROWS.to_vec(rt.alloc()).expect(&rt, "memory")),
+            "Full([FullRow { class: 35, size: 88, count: 1 }, FullRow { class: 239, size: 4026531840, count: 2 }])",
+        ),
         (Answer::Reset, "Reset"),
         (Answer::Extended, "Extended"),
     ] {
-        assert_text(&rt, rt.alloc(), &answer, wanted)?;
+        assert_text(&rt, rt.alloc(), &answer, wanted);
     }
-    Ok(())
 }
 
-#[test]
-fn prints_the_rows_of_an_answer(rt: HostRuntime) -> Result<(), Fail> {
-    let mut rows = Vec::new(rt.alloc());
-    for (class, size, count) in [(35u32, 88u32, 1u32), (239, 4_026_531_840, 2)] {
-        rows.push(FullRow { class, size, count })?;
-    }
-    assert_text(
-        &rt,
-        rt.alloc(),
-        &Answer::Full(rows),
-        "Full([FullRow { class: 35, size: 88, count: 1 }, FullRow { class: 239, size: 4026531840, count: 2 }])",
-    )
-}
+// Each fault with its text, its line and its status.
+const FAULTS: [(RunFault, &str, &str, u8); 8] = [
+    (
+        RunFault::Script(ScriptFault::TooLong),
+        "Script(TooLong)",
+        "too long",
+        2,
+    ),
+    (
+        RunFault::Script(ScriptFault::BadHeader(1)),
+        "Script(BadHeader(1))",
+        "line 1: bad header",
+        2,
+    ),
+    (
+        RunFault::Script(ScriptFault::BadLimit(20)),
+        "Script(BadLimit(20))",
+        "line 20: bad limit",
+        2,
+    ),
+    (
+        RunFault::Script(ScriptFault::BadCommand(300)),
+        "Script(BadCommand(300))",
+        "line 300: bad command",
+        2,
+    ),
+    (
+        RunFault::Script(ScriptFault::Memory),
+        "Script(Memory)",
+        "out of memory",
+        3,
+    ),
+    (RunFault::Memory, "Memory", "out of memory", 3),
+    (RunFault::Read, "Read", "read failed", 4),
+    (RunFault::Write, "Write", "write failed", 4),
+];
 
 #[test]
-fn prints_commands(rt: HostRuntime) -> Result<(), Fail> {
-    for (command, wanted) in [
-        (Command::Alloc(1), "Alloc(1)"),
-        (Command::Free(2), "Free(2)"),
-        (Command::Size(3), "Size(3)"),
-        (Command::Report, "Report"),
-        (Command::Full, "Full"),
-        (Command::Reset, "Reset"),
-        (Command::Align(5, 16), "Align(5, 16)"),
-        (Command::Extend(4_294_967_295), "Extend(4294967295)"),
-    ] {
-        assert_text(&rt, rt.alloc(), &command, wanted)?;
+fn prints_faults(rt: HostRuntime) {
+    for (fault, text, line, status) in &FAULTS {
+        assert_text(&rt, rt.alloc(), fault, text);
+        let found = format!(in rt.alloc(); "{fault}").expect(&rt, "memory");
+        assert_same(&rt, &found.as_str(), line);
+        assert_same(&rt, &fault.status(), status);
     }
-    for (width, wanted) in [
-        (IndexWidth::Bits16, "Bits16"),
-        (IndexWidth::Bits32, "Bits32"),
-    ] {
-        assert_text(&rt, rt.alloc(), &width, wanted)?;
-    }
-    Ok(())
-}
-
-#[test]
-fn prints_faults(rt: HostRuntime) -> Result<(), Fail> {
-    for (fault, wanted) in [
-        (RunFault::Script(ScriptFault::TooLong), "Script(TooLong)"),
-        (
-            RunFault::Script(ScriptFault::BadHeader(1)),
-            "Script(BadHeader(1))",
-        ),
-        (
-            RunFault::Script(ScriptFault::BadLimit(20)),
-            "Script(BadLimit(20))",
-        ),
-        (
-            RunFault::Script(ScriptFault::BadCommand(300)),
-            "Script(BadCommand(300))",
-        ),
-        (RunFault::Script(ScriptFault::Memory), "Script(Memory)"),
-        (RunFault::Memory, "Memory"),
-        (RunFault::Read, "Read"),
-        (RunFault::Write, "Write"),
-    ] {
-        assert_text(&rt, rt.alloc(), &fault, wanted)?;
-    }
-    Ok(())
 }

@@ -1,10 +1,8 @@
 //! A sink that says what it holds and whether it has failed, and nothing else.
 ghost use Rattle.std.specs.Prelude.{Some};
 
-use crate::asserts::assert_same;
+use crate::asserts::assert_same_at;
 use offset_script::{FromRead, RunFault, Sink, run};
-use std::alloc::Global;
-use std::test::Fail;
 
 // Holds the bytes that it took, at most two of each push. It takes none where it has `room` for none.
 #[derive(Drop)]
@@ -14,18 +12,6 @@ struct Plain {
     flushes: u32,
     fails_flush: bool,
     failed: bool,
-}
-
-impl Plain {
-    fn new(alloc: Global, room: usize, fails_flush: bool) -> Self {
-        Plain {
-            taken: Vec::new(alloc),
-            room,
-            flushes: 0,
-            fails_flush,
-            failed: false,
-        }
-    }
 }
 
 impl Sink for Plain {
@@ -55,34 +41,30 @@ impl Sink for Plain {
 
 const SCRIPT: &[u8] = b"space 10 nodes 4 index 32\nalloc 10\nfree 1\n";
 
-const ANSWERS: &[u8] = b"grant 1 at 0\nfreed\n";
-
+// All of the answers, a beginning of them where there is no more room, and all where only the flush fails.
 #[test]
-fn runs_to_a_plain_sink(rt: HostRuntime) -> Result<(), Fail> {
-    let mut output = Plain::new(rt.alloc(), 100, false);
-    let result = run(rt.alloc(), &mut FromRead::new(SCRIPT), &mut output);
-    assert_same(&rt, &result, &Ok(()));
-    assert_same(&rt, &output.taken.as_slice(), &ANSWERS);
-    assert_same(&rt, &output.flushes, &1);
-    Ok(())
-}
-
-#[test]
-fn writes_a_beginning_to_a_plain_sink(rt: HostRuntime) -> Result<(), Fail> {
-    let mut output = Plain::new(rt.alloc(), 7, false);
-    let result = run(rt.alloc(), &mut FromRead::new(SCRIPT), &mut output);
-    assert_same(&rt, &result, &Err(RunFault::Write));
-    assert_same(&rt, &output.taken.as_slice(), &(&ANSWERS[..7]));
-    assert_same(&rt, &output.flushes, &0);
-    Ok(())
-}
-
-#[test]
-fn writes_all_where_only_the_flush_fails(rt: HostRuntime) -> Result<(), Fail> {
-    let mut output = Plain::new(rt.alloc(), 100, true);
-    let result = run(rt.alloc(), &mut FromRead::new(SCRIPT), &mut output);
-    assert_same(&rt, &result, &Err(RunFault::Write));
-    assert_same(&rt, &output.taken.as_slice(), &ANSWERS);
-    assert_same(&rt, &output.flushes, &1);
-    Ok(())
+fn runs_to_a_plain_sink(rt: HostRuntime) {
+    for (room, fails_flush, wanted, answers, flushes) in [
+        (
+            100usize,
+            false,
+            Ok(()),
+            b"grant 1 at 0\nfreed\n".as_slice(),
+            1u32,
+        ),
+        (7, false, Err(RunFault::Write), b"grant 1", 0),
+        (100, true, Err(RunFault::Write), b"grant 1 at 0\nfreed\n", 1),
+    ] {
+        let mut output = Plain {
+            taken: Vec::new(rt.alloc()),
+            room,
+            flushes: 0,
+            fails_flush,
+            failed: false,
+        };
+        let result = run(rt.alloc(), &mut FromRead::new(SCRIPT), &mut output);
+        assert_same_at(&rt, &room, &result, &wanted);
+        assert_same_at(&rt, &room, &output.taken.as_slice(), &answers);
+        assert_same_at(&rt, &room, &output.flushes, &flushes);
+    }
 }

@@ -1,14 +1,18 @@
-//! Scripts with their answers, read and written in pieces of several lengths.
+//! Scripts with their answers, read and written in pieces of several lengths, and played with each index type.
 
-use super::support::{Reader, Writer};
 use crate::asserts::assert_same_at;
-use offset_script::{FromRead, IntoWrite, run};
-use std::alloc::{AllocError, Global};
+use crate::playing::{answers_with, expect_answers};
+use offset_script::{FromRead, IntoWrite, parse, run};
+use offset_test_base::devices::{Reader, Writer};
+use std::alloc::Global;
 use std::process::Abort;
-use std::test::Fail;
 
-/// A header without its index width, the lines after it, and the answers.
-pub const ROWS: [(&str, &str, &str); 25] = [
+// Releases in any order leave the same space.
+const RELEASED: &str =
+    "grant 1 at 0\ngrant 2 at 10\ngrant 3 at 20\ngrant 4 at 30\nfreed\nfreed\nfreed\nfull 2\nclass 18 size 20 count 1\nclass 23 size 30 count 1\n";
+
+// A header without its index width, the lines after it, and the answers.
+const ROWS: [(&str, &str, &str); 31] = [
     (
         "space 100 nodes 16 index",
         "\nalloc 10\nalloc 20\n",
@@ -143,50 +147,79 @@ pub const ROWS: [(&str, &str, &str); 25] = [
         "grant 1 at 0\ngrant 2 at 16\nfreed\nfree 37 largest 36\n",
     ),
     ("space 10 nodes 65533 index", "", ""),
+    (
+        "space 60 nodes 8 index",
+        "\nalloc 10\nalloc 10\nalloc 10\nalloc 10\nfree 1\nfree 2\nfree 3\nfull\n",
+        RELEASED,
+    ),
+    (
+        "space 60 nodes 8 index",
+        "\nalloc 10\nalloc 10\nalloc 10\nalloc 10\nfree 1\nfree 3\nfree 2\nfull\n",
+        RELEASED,
+    ),
+    (
+        "space 60 nodes 8 index",
+        "\nalloc 10\nalloc 10\nalloc 10\nalloc 10\nfree 2\nfree 1\nfree 3\nfull\n",
+        RELEASED,
+    ),
+    (
+        "space 60 nodes 8 index",
+        "\nalloc 10\nalloc 10\nalloc 10\nalloc 10\nfree 2\nfree 3\nfree 1\nfull\n",
+        RELEASED,
+    ),
+    (
+        "space 60 nodes 8 index",
+        "\nalloc 10\nalloc 10\nalloc 10\nalloc 10\nfree 3\nfree 1\nfree 2\nfull\n",
+        RELEASED,
+    ),
+    (
+        "space 60 nodes 8 index",
+        "\nalloc 10\nalloc 10\nalloc 10\nalloc 10\nfree 3\nfree 2\nfree 1\nfull\n",
+        RELEASED,
+    ),
 ];
 
-/// The whole text of a row, with this index width.
-pub fn text_of(alloc: Global, header: &str, bits: u32, lines: &str) -> Result<String, AllocError> {
-    format!(in alloc; "{header} {bits}{lines}")
+// The whole text of a row, with this index width.
+fn text_of(rt: &impl Abort, alloc: Global, header: &str, bits: u32, lines: &str) -> String {
+    format!(in alloc; "{header} {bits}{lines}").expect(rt, "memory")
 }
 
-/// Expects these answers of a script, read and written in pieces of at most this many bytes.
-pub fn expect_written(
-    rt: &impl Abort,
-    alloc: Global,
-    text: &str,
-    piece: usize,
-    wanted: &str,
-) -> Result<(), Fail> {
-    let mut output = IntoWrite::new(Writer::new(alloc, piece));
+// Expects these answers of a script, read and written in pieces of at most this many bytes.
+fn expect_written(rt: &impl Abort, alloc: Global, text: &str, piece: usize, wanted: &str) {
     let mut input = FromRead::new(Reader::new(text.as_bytes(), piece));
-    run(alloc, &mut input, &mut output)?;
-    let written = String::from_utf8(output.into_inner().taken)?;
+    let mut output = IntoWrite::new(Writer::new(alloc, piece));
+    let result = run(alloc, &mut input, &mut output);
+    assert_same_at(rt, &(text, piece), &result, &Ok(()));
+    let written = String::from_utf8(output.into_inner().taken).expect(rt, "a text");
     assert_same_at(rt, &(text, piece), &written.as_str(), &wanted);
-    Ok(())
-}
-
-/// Expects these answers of a script of each index width, both of which admit its limit, in pieces of several lengths.
-pub fn expect_row(
-    rt: &impl Abort,
-    alloc: Global,
-    header: &str,
-    lines: &str,
-    wanted: &str,
-) -> Result<(), Fail> {
-    for bits in [16u32, 32] {
-        let text = text_of(alloc, header, bits, lines)?;
-        for piece in [1usize, 2, 4096] {
-            expect_written(rt, alloc, &text, piece, wanted)?;
-        }
-    }
-    Ok(())
 }
 
 #[test]
-fn plays_scripts(rt: HostRuntime) -> Result<(), Fail> {
+fn plays_scripts(rt: HostRuntime) {
     for (header, lines, wanted) in &ROWS {
-        expect_row(&rt, rt.alloc(), header, lines, wanted)?;
+        for bits in [16u32, 32] {
+            let text = text_of(&rt, rt.alloc(), header, bits, lines);
+            for piece in [1usize, 2, 4096] {
+                expect_written(&rt, rt.alloc(), &text, piece, wanted);
+            }
+        }
     }
-    Ok(())
+}
+
+#[test]
+fn all_index_types_return_the_same_answers(rt: HostRuntime) {
+    for (header, lines, _wanted) in &ROWS {
+        let text = text_of(&rt, rt.alloc(), header, 32, lines);
+        let script = parse(rt.alloc(), text.as_bytes()).expect(&rt, "a script");
+        let wanted = answers_with::<u32>(&rt, rt.alloc(), &script);
+        expect_answers(&rt, rt.alloc(), &script, &wanted);
+    }
+    let text = b"space 40 nodes 5 index 16\nalloc 10\nalloc 10\nalloc 10\nalloc 10\n".as_slice();
+    let script = parse(rt.alloc(), text).expect(&rt, "a script");
+    expect_answers(
+        &rt,
+        rt.alloc(),
+        &script,
+        "[Grant { number: 1, offset: 0 }, Grant { number: 2, offset: 10 }, Grant { number: 3, offset: 20 }, Refused]",
+    );
 }
