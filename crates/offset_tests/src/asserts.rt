@@ -3,11 +3,9 @@
 
 ghost use Rattle.std.specs.Prelude.{◌≡◌, true};
 
-use offset_test_base::texts::text_of;
 use std::alloc::Global;
 use std::fmt::Debug;
 use std::process::Abort;
-use std::test::Fail;
 
 /// Ends the test where this is false.
 pub fn assert_that(rt: &impl Abort, is_so: bool)
@@ -38,13 +36,12 @@ pub fn assert_same_at<A: Debug, T: PartialEq + Debug>(
     assert_eq!(rt; found, wanted, "at {at:?}");
 }
 
+/// The text of a value, by its `Debug`.
+pub fn text_of<T: Debug>(rt: &impl Abort, alloc: Global, value: &T) -> String {
+    format!(in alloc; "{value:?}").expect(rt, "memory")
+}
+
 /// Ends the test where the text of a value, by its `Debug`, is not this one.
-pub fn assert_text<T: Debug>(
-    rt: &impl Abort,
-    alloc: Global,
-    value: &T,
-    wanted: &str,
-) -> Result<(), Fail> {
-    assert_same(rt, &text_of(alloc, value)?.as_str(), &wanted);
-    Ok(())
+pub fn assert_text<T: Debug>(rt: &impl Abort, alloc: Global, value: &T, wanted: &str) {
+    assert_same(rt, &text_of(rt, alloc, value).as_str(), &wanted);
 }

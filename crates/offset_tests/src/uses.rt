@@ -1,7 +1,8 @@
 //! Tests of `offset_uses`.
 
-use crate::asserts::{assert_same, assert_that};
-use offset_allocator::{Accesses, Allocator, NodeIndex, Refusal};
+use crate::asserts::{assert_same, assert_same_at, assert_that, assert_that_at};
+use offset_allocator::Refusal::{Fragmented, Nodes, Space};
+use offset_allocator::{Accesses, Allocation, Allocator, NodeIndex, Refusal};
 use offset_script::{Answer, Command};
 use offset_test_base::tiny::Tiny;
 use offset_uses::daily::{
@@ -14,65 +15,371 @@ use offset_uses::{
 };
 use std::alloc::{AllocError, Global};
 use std::process::Abort;
-use std::test::Fail;
 
-#[test]
-fn both_hulls_are_placed_or_neither(rt: HostRuntime) -> Result<(), Fail> {
-    let mut vertices = Allocator::new(rt.alloc(), 100)?;
-    let (outer, inner) = place_mesh(&mut vertices, 60, 30).expect(&rt, "room for both");
-    assert_same(&rt, &(outer.offset, inner.offset), &(0, 60));
-    assert_that(&rt, place_mesh(&mut vertices, 5, 6).is_none());
-    assert_same(&rt, &vertices.storage_report().total_free_space, &10);
-    Ok(())
+// A request for a range. All begin with its size.
+#[derive(Clone, Copy)]
+enum Request {
+    Plain(u32),
+    Promised(u32),
+    WhatFits(u32),
+    // The space may grow by the second number.
+    OrGrow(u32, u32),
+    Place(u32, u32),
+    Uniforms(u32),
+    // At a multiple of the second number.
+    Upload(u32, u32),
 }
 
-#[test]
-fn a_promise_is_kept(rt: HostRuntime) -> Result<(), Fail> {
-    let mut vertices = Allocator::new(rt.alloc(), 100)?;
-    // the proof needs this value
-    assert_eq!(rt; vertices.storage_report().largest_free_region, 96);
-    assert_same(&rt, &place_promised(&mut vertices, 96).offset, &0);
-    match place_what_fits(&mut vertices, 9) {
-        None => assert_that(&rt, false),
-        Some((allocation, size)) => assert_same(&rt, &(allocation.offset, size), &(96, 4)),
+// A use of a space, and what it has to return. Ranges that are given are numbered from 0.
+#[derive(Clone, Copy)]
+enum Use {
+    // The range has this offset and this size, or the request is refused.
+    Gives(Request, Option<(u32, u32)>),
+    // `place` of this size, with this growth, is refused for this reason.
+    Lacks(u32, u32, Refusal),
+    // Both hulls of a mesh are placed, at these offsets, or neither.
+    GivesMesh(u32, u32, Option<(u32, u32)>),
+    GivesBack(usize, bool),
+    Resizes(usize, u32, bool),
+    // The range is live, and has this size.
+    Lives(usize, u32),
+    // The byte at which a range begins, with this stride.
+    BeginsAt(usize, u32, Option<u64>),
+    // The size of the space, and its short report.
+    Is(u32, u32, u32),
+    GrantedUnits(Option<u32>),
+    // The numbers of holes of some classes.
+    Holes(&'static [(usize, u32)]),
+    Dumps(&'static str),
+}
+
+use Request::{OrGrow, Place, Plain, Promised, Uniforms, Upload, WhatFits};
+use Use::{
+    BeginsAt, Dumps, Gives, GivesBack, GivesMesh, GrantedUnits, Holes, Is, Lacks, Lives, Resizes,
+};
+
+struct Case {
+    name: &'static str,
+    size: u32,
+    limit: u32,
+    uses: &'static [Use],
+}
+
+const CASES: [Case; 14] = [
+    Case {
+        name: "both hulls are placed or neither",
+        size: 100,
+        limit: 1_000,
+        uses: &[
+            GivesMesh(60, 30, Some((0, 60))),
+            GivesMesh(5, 6, None),
+            Is(100, 10, 10),
+        ],
+    },
+    Case {
+        name: "a promise is kept",
+        size: 100,
+        limit: 1_000,
+        uses: &[
+            Is(100, 100, 96),
+            Gives(Promised(96), Some((0, 96))),
+            Gives(WhatFits(9), Some((96, 4))),
+            Gives(WhatFits(9), None),
+        ],
+    },
+    Case {
+        name: "a space grows after a refusal",
+        size: 8,
+        limit: 1_000,
+        uses: &[
+            Gives(OrGrow(10, 8), Some((0, 10))),
+            Gives(OrGrow(10, 1), None),
+        ],
+    },
+    Case {
+        name: "uniforms begin at a multiple of 256",
+        size: 4096,
+        limit: 1_000,
+        uses: &[
+            Gives(Plain(3), Some((0, 3))),
+            Gives(Uniforms(100), Some((256, 100))),
+        ],
+    },
+    Case {
+        name: "a range is freed once",
+        size: 100,
+        limit: 1_000,
+        uses: &[
+            Gives(Plain(10), Some((0, 10))),
+            GivesBack(0, true),
+            GivesBack(0, false),
+            Is(100, 100, 96),
+        ],
+    },
+    Case {
+        name: "an upload is aligned",
+        size: 4096,
+        limit: 1_000,
+        uses: &[
+            Gives(Upload(3, 3), None),
+            Gives(Upload(3, 1), Some((0, 3))),
+            Gives(Upload(100, 64), Some((64, 100))),
+        ],
+    },
+    // 8 units and 8 more are enough for 10; then 6 of the 16 are free, and one more is too few for 9.
+    Case {
+        name: "a place extends its space",
+        size: 8,
+        limit: 1_000,
+        uses: &[
+            Gives(Place(10, 8), Some((0, 10))),
+            Is(16, 6, 6),
+            Lacks(9, 1, Space),
+        ],
+    },
+    // Two free pieces of 24 units are not enough for 40.
+    Case {
+        name: "a place says that its space is fragmented",
+        size: 96,
+        limit: 1_000,
+        uses: &[
+            Gives(Plain(24), Some((0, 24))),
+            Gives(Plain(24), Some((24, 24))),
+            Gives(Plain(24), Some((48, 24))),
+            Gives(Plain(24), Some((72, 24))),
+            GivesBack(0, true),
+            GivesBack(2, true),
+            Lacks(40, 8, Fragmented),
+        ],
+    },
+    // With a limit of 3 at most two blocks exist: one range and one free block.
+    Case {
+        name: "a place says that no node is left",
+        size: 100,
+        limit: 3,
+        uses: &[Gives(Plain(10), Some((0, 10))), Lacks(10, 8, Nodes)],
+    },
+    Case {
+        name: "granted units are the size less the free units",
+        size: 100,
+        limit: 4,
+        uses: &[
+            Gives(Plain(30), Some((0, 30))),
+            GrantedUnits(Some(30)),
+            Gives(Plain(20), Some((30, 20))),
+            GrantedUnits(None),
+        ],
+    },
+    Case {
+        name: "a draw begins at a byte",
+        size: 100,
+        limit: 1_000,
+        uses: &[
+            Gives(Plain(30), Some((0, 30))),
+            Gives(Plain(20), Some((30, 20))),
+            BeginsAt(1, 12, Some(360)),
+            GivesBack(1, true),
+            BeginsAt(1, 12, None),
+        ],
+    },
+    // Three holes, two of one class: of 16 and of 17 units, and of 5 units.
+    Case {
+        name: "holes are counted by class",
+        size: 41,
+        limit: 1_000,
+        uses: &[
+            Gives(Plain(16), Some((0, 16))),
+            Gives(Plain(1), Some((16, 1))),
+            Gives(Plain(5), Some((17, 5))),
+            Gives(Plain(2), Some((22, 2))),
+            GivesBack(0, true),
+            GivesBack(2, true),
+            Holes(&[(5, 1), (16, 2), (17, 0)]),
+        ],
+    },
+    Case {
+        name: "a dump has a line for each block",
+        size: 100,
+        limit: 1_000,
+        uses: &[
+            Gives(Plain(16), Some((0, 16))),
+            Gives(Plain(8), Some((16, 8))),
+            GivesBack(0, true),
+            Dumps("at 24 size 76 free\nat 16 size 8 used\nat 0 size 16 free\n"),
+        ],
+    },
+    Case {
+        name: "a mesh is resized in place",
+        size: 100,
+        limit: 1_000,
+        uses: &[
+            Gives(Plain(60), Some((0, 60))),
+            Resizes(0, 20, true),
+            Resizes(0, 20, true),
+            Is(100, 80, 80),
+            Lives(0, 20),
+            Resizes(0, 101, false),
+            Lives(0, 20),
+            Resizes(0, 100, true),
+            Lives(0, 100),
+        ],
+    },
+];
+
+// The range and its size, or `None` where the request is refused, or a promise is none.
+fn make_request(space: &mut Allocator, request: Request) -> Option<(Allocation, u32)> {
+    match request {
+        Plain(size) => Some((space.allocate(size)?, size)),
+        Promised(size) => {
+            if size < 1 || size > space.storage_report().largest_free_region {
+                return None;
+            }
+            Some((place_promised(space, size), size))
+        }
+        WhatFits(most) => {
+            if most < 1 {
+                return None;
+            }
+            place_what_fits(space, most)
+        }
+        OrGrow(size, more) => Some((allocate_or_grow(space, size, more)?, size)),
+        Place(size, more) => Some((place(space, size, more).ok()?, size)),
+        Uniforms(size) => Some((place_uniforms(space, size)?, size)),
+        Upload(size, align) => Some((upload(space, size, align)?, size)),
     }
-    assert_that(&rt, place_what_fits(&mut vertices, 9).is_none());
-    Ok(())
 }
 
-#[test]
-fn a_space_grows_after_a_refusal(rt: HostRuntime) -> Result<(), Fail> {
-    let mut space = Allocator::new(rt.alloc(), 8)?;
-    match allocate_or_grow(&mut space, 10, 8) {
-        None => assert_that(&rt, false),
-        Some(allocation) => assert_same(&rt, &allocation.offset, &0),
+// Makes a use of a range.
+fn use_range(
+    rt: &impl Abort,
+    at: &(&'static str, usize),
+    space: &mut Allocator,
+    range: Allocation,
+    step: Use,
+) {
+    match step {
+        GivesBack(_, is_live) => assert_same_at(rt, at, &give_back(space, range), &is_live),
+        Resizes(_, size, done) => {
+            assert_that_at(rt, at, space.is_live(range));
+            assert_same_at(rt, at, &resize(space, range, size), &done);
+        }
+        Lives(_, size) => {
+            assert_that_at(rt, at, space.is_live(range));
+            assert_same_at(rt, at, &space.allocation_size(range), &size);
+        }
+        BeginsAt(_, stride, byte) => {
+            assert_same_at(rt, at, &first_byte(space, range, stride), &byte);
+        }
+        _ => assert_that_at(rt, at, false),
     }
-    assert_that(&rt, allocate_or_grow(&mut space, 10, 1).is_none());
-    Ok(())
+}
+
+// Looks at a space.
+fn observe(
+    rt: &impl Abort,
+    alloc: Global,
+    at: &(&'static str, usize),
+    space: &Allocator,
+    step: Use,
+) {
+    match step {
+        Is(size, total, largest) => {
+            let report = space.storage_report();
+            assert_same_at(
+                rt,
+                at,
+                &(
+                    space.size(),
+                    report.total_free_space,
+                    report.largest_free_region,
+                ),
+                &(size, total, largest),
+            );
+        }
+        GrantedUnits(count) => assert_same_at(rt, at, &granted_units(space), &count),
+        Holes(wanted) => {
+            let holes = count_holes(space);
+            for (class, count) in wanted {
+                assert_same_at(rt, at, &holes.get(*class), &Some(count));
+            }
+        }
+        Dumps(wanted) => {
+            let text = dump(space, alloc).expect(rt, "memory");
+            assert_same_at(rt, at, &text.as_str(), &wanted);
+        }
+        _ => assert_that_at(rt, at, false),
+    }
+}
+
+// Makes a use of a space.
+fn use_space(
+    rt: &impl Abort,
+    alloc: Global,
+    at: &(&'static str, usize),
+    space: &mut Allocator,
+    ranges: &mut Vec<Allocation>,
+    step: Use,
+) {
+    match step {
+        Gives(request, wanted) => match make_request(space, request) {
+            None => assert_that_at(rt, at, wanted.is_none()),
+            Some((range, size)) => {
+                assert_same_at(rt, at, &Some((range.offset, size)), &wanted);
+                assert_same_at(rt, at, &space.allocation_size(range), &size);
+                ranges.push(range).expect(rt, "memory");
+            }
+        },
+        Lacks(size, more, why) => {
+            assert_same_at(rt, at, &place(space, size, more).err(), &Some(why));
+        }
+        GivesMesh(outer, inner, wanted) => {
+            let hulls = place_mesh(space, outer, inner);
+            let offsets = hulls.map(|(outer, inner)| (outer.offset, inner.offset));
+            assert_same_at(rt, at, &offsets, &wanted);
+        }
+        GivesBack(number, _) | Resizes(number, _, _) | Lives(number, _) | BeginsAt(number, _, _) =>
+            {
+                assert_that_at(rt, at, number < ranges.len());
+                use_range(rt, at, space, ranges[number], step);
+            }
+        _ => observe(rt, alloc, at, space, step),
+    }
 }
 
 #[test]
-fn a_tenant_stays_within_its_quota(rt: HostRuntime) -> Result<(), Fail> {
-    let mut space = Allocator::new(rt.alloc(), 100)?;
+fn one_space_is_used(rt: HostRuntime) {
+    for case in &CASES {
+        assert_that_at(&rt, &case.name, 2 <= case.limit && case.limit <= 1_000);
+        let made = Allocator::with_max_allocs(rt.alloc(), case.size, case.limit);
+        let mut space = made.expect(&rt, "memory");
+        let mut ranges = Vec::new(rt.alloc());
+        for (place, step) in case.uses.iter().enumerate() {
+            let at = (case.name, place);
+            use_space(&rt, rt.alloc(), &at, &mut space, &mut ranges, *step);
+        }
+    }
+}
+
+#[test]
+fn a_tenant_stays_within_its_quota(rt: HostRuntime) {
+    let mut space = Allocator::new(rt.alloc(), 100).expect(&rt, "memory");
     let mut near = Tenant { quota: 20, held: 0 };
     let mut far = Tenant { quota: 50, held: 0 };
     assert_that(&rt, charge(&mut space, &mut near, 15).is_some());
     assert_that(&rt, charge(&mut space, &mut far, 50).is_some());
     assert_that(&rt, charge(&mut space, &mut near, 6).is_none());
     assert_same(&rt, &(near.held, far.held), &(15, 50));
-    match charge(&mut space, &mut near, 5) {
-        None => assert_that(&rt, false),
-        Some(allocation) => refund(&mut space, &mut near, allocation),
-    }
+    let allocation = charge(&mut space, &mut near, 5).expect(&rt, "room");
+    refund(&mut space, &mut near, allocation);
     assert_same(
         &rt,
         &(near.held, space.storage_report().total_free_space),
         &(15, 35),
     );
-    Ok(())
 }
 
-fn expect_frame<NI: NodeIndex>(rt: &impl Abort, mut space: Allocator<NI>) {
+fn expect_frame<NI: NodeIndex>(rt: &impl Abort, alloc: Global) {
+    let mut space = Allocator::<NI>::new(alloc, 100).expect(rt, "memory");
     let mut count = Accesses::new();
     assert_same(rt, &frame(&mut space, 40, &mut count), &Some(60));
     assert_same(rt, &frame(&mut space, 97, &mut count), &None);
@@ -80,32 +387,21 @@ fn expect_frame<NI: NodeIndex>(rt: &impl Abort, mut space: Allocator<NI>) {
 }
 
 #[test]
-fn a_frame_leaves_the_space_as_it_was(rt: HostRuntime) -> Result<(), Fail> {
-    expect_frame(&rt, Allocator::<u32>::new(rt.alloc(), 100)?);
-    expect_frame(&rt, Allocator::<u16>::new(rt.alloc(), 100)?);
-    expect_frame(&rt, Allocator::<Tiny>::new(rt.alloc(), 100)?);
-    Ok(())
+fn a_frame_leaves_the_space_as_it_was(rt: HostRuntime) {
+    expect_frame::<u32>(&rt, rt.alloc());
+    expect_frame::<u16>(&rt, rt.alloc());
+    expect_frame::<Tiny>(&rt, rt.alloc());
 }
 
 #[test]
-fn uniforms_begin_at_a_multiple_of_256(rt: HostRuntime) -> Result<(), Fail> {
-    let mut heap = Allocator::new(rt.alloc(), 4096)?;
-    assert_that(&rt, heap.allocate(3).is_some());
-    match place_uniforms(&mut heap, 100) {
-        None => assert_that(&rt, false),
-        Some(allocation) => assert_same(&rt, &allocation.offset, &256),
-    }
-    Ok(())
-}
-
-#[test]
-fn both_widths_give_equal_answers(rt: HostRuntime) -> Result<(), Fail> {
-    let (narrow, wide) = replay(
+fn both_widths_give_equal_answers(rt: HostRuntime) {
+    let both = replay(
         rt.alloc(),
         100,
         16,
         &[Command::Alloc(10), Command::Free(1), Command::Alloc(7)],
-    )?;
+    );
+    let (narrow, wide) = both.expect(&rt, "memory");
     for answers in [&narrow, &wide] {
         assert_same(&rt, &answers.len(), &3);
         match &answers[2] {
@@ -113,85 +409,23 @@ fn both_widths_give_equal_answers(rt: HostRuntime) -> Result<(), Fail> {
             _ => assert_that(&rt, false),
         }
     }
-    Ok(())
 }
 
 #[test]
-fn a_mesh_is_in_both_buffers_or_in_none(rt: HostRuntime) -> Result<(), Fail> {
-    let mut vertices = Allocator::new(rt.alloc(), 100)?;
-    let mut indices = Allocator::new(rt.alloc(), 10)?;
+fn a_mesh_is_in_both_buffers_or_in_none(rt: HostRuntime) {
+    let mut vertices = Allocator::new(rt.alloc(), 100).expect(&rt, "memory");
+    let mut indices = Allocator::new(rt.alloc(), 10).expect(&rt, "memory");
     assert_that(&rt, insert(&mut vertices, &mut indices, 60, 20).is_none());
     assert_same(&rt, &vertices.storage_report().total_free_space, &100);
     let (first, second) = insert(&mut vertices, &mut indices, 60, 10).expect(&rt, "room");
     assert_same(&rt, &(first.offset, second.offset), &(0, 0));
     assert_that(&rt, insert(&mut vertices, &mut indices, 1, 1).is_none());
     assert_same(&rt, &vertices.storage_report().total_free_space, &40);
-    Ok(())
 }
 
 #[test]
-fn a_range_is_freed_once(rt: HostRuntime) -> Result<(), Fail> {
-    let mut space = Allocator::new(rt.alloc(), 100)?;
-    let range = space.allocate(10).expect(&rt, "room");
-    assert_that(&rt, give_back(&mut space, range));
-    assert_that(&rt, !give_back(&mut space, range));
-    assert_same(&rt, &space.storage_report().total_free_space, &100);
-    Ok(())
-}
-
-#[test]
-fn an_upload_is_aligned(rt: HostRuntime) -> Result<(), Fail> {
-    let mut heap = Allocator::new(rt.alloc(), 4096)?;
-    assert_that(&rt, upload(&mut heap, 3, 3).is_none());
-    assert_that(&rt, upload(&mut heap, 3, 1).is_some());
-    let range = upload(&mut heap, 100, 64).expect(&rt, "room");
-    assert_same(&rt, &range.offset, &64);
-    Ok(())
-}
-
-// 8 units and 8 more are enough for 10; then 6 of the 16 are free, and one more is too few for 9.
-#[test]
-fn a_place_extends_its_space(rt: HostRuntime) -> Result<(), Fail> {
-    let mut space = Allocator::new(rt.alloc(), 8)?;
-    let range = place(&mut space, 10, 8).expect(&rt, "room");
-    assert_same(&rt, &(range.offset, space.size()), &(0, 16));
-    assert_same(&rt, &place(&mut space, 9, 1).err(), &Some(Refusal::Space));
-    Ok(())
-}
-
-// A space of four ranges of 24 units, of which the first and the third are freed.
-fn two_pieces(rt: &impl Abort, alloc: Global) -> Result<Allocator, Fail> {
-    let mut pieces = Allocator::new(alloc, 96)?;
-    let first = pieces.allocate(24).expect(rt, "room");
-    let _second = pieces.allocate(24).expect(rt, "room");
-    let third = pieces.allocate(24).expect(rt, "room");
-    let _fourth = pieces.allocate(24).expect(rt, "room");
-    assert_that(rt, give_back(&mut pieces, first));
-    assert_that(rt, give_back(&mut pieces, third));
-    Ok(pieces)
-}
-
-// Two free pieces of 24 units are not enough for 40.
-#[test]
-fn a_place_says_that_its_space_is_fragmented(rt: HostRuntime) -> Result<(), Fail> {
-    let mut pieces = two_pieces(&rt, rt.alloc())?;
-    let why = place(&mut pieces, 40, 8).err();
-    assert_same(&rt, &why, &Some(Refusal::Fragmented));
-    Ok(())
-}
-
-// With a limit of 3 at most two blocks exist: one range and one free block.
-#[test]
-fn a_place_says_that_no_node_is_left(rt: HostRuntime) -> Result<(), Fail> {
-    let mut small = Allocator::with_max_allocs(rt.alloc(), 100, 3)?;
-    assert_that(&rt, small.allocate(10).is_some());
-    assert_same(&rt, &place(&mut small, 10, 8).err(), &Some(Refusal::Nodes));
-    Ok(())
-}
-
-#[test]
-fn data_is_moved_with_its_range(rt: HostRuntime) -> Result<(), Fail> {
-    let mut space = Allocator::new(rt.alloc(), 96)?;
+fn data_is_moved_with_its_range(rt: HostRuntime) {
+    let mut space = Allocator::new(rt.alloc(), 96).expect(&rt, "memory");
     let mut buffer = [0u32; 96];
     for unit in 0..96u32 {
         buffer[unit as usize] = unit;
@@ -213,24 +447,13 @@ fn data_is_moved_with_its_range(rt: HostRuntime) -> Result<(), Fail> {
     );
     let range = space.allocate(40).expect(&rt, "room");
     assert_same(&rt, &range.offset, &48);
-    Ok(())
 }
 
 #[test]
-fn granted_units_are_the_size_less_the_free_units(rt: HostRuntime) -> Result<(), Fail> {
-    let mut space = Allocator::with_max_allocs(rt.alloc(), 100, 4)?;
-    assert_that(&rt, space.allocate(30).is_some());
-    assert_same(&rt, &granted_units(&space), &Some(30));
-    assert_that(&rt, space.allocate(20).is_some());
-    assert_same(&rt, &granted_units(&space), &None);
-    Ok(())
-}
-
-#[test]
-fn a_ring_frees_the_frame_before_the_last(rt: HostRuntime) -> Result<(), Fail> {
+fn a_ring_frees_the_frame_before_the_last(rt: HostRuntime) {
     let mut ring = Ring {
-        even: Allocator::new(rt.alloc(), 100)?,
-        odd: Allocator::new(rt.alloc(), 100)?,
+        even: Allocator::new(rt.alloc(), 100).expect(&rt, "memory"),
+        odd: Allocator::new(rt.alloc(), 100).expect(&rt, "memory"),
         is_odd: false,
     };
     assert_that(&rt, ring.take(60).is_some());
@@ -240,14 +463,13 @@ fn a_ring_frees_the_frame_before_the_last(rt: HostRuntime) -> Result<(), Fail> {
     ring.begin();
     let range = ring.take(60).expect(&rt, "room");
     assert_same(&rt, &range.offset, &0);
-    Ok(())
 }
 
 // The example of the README.
 #[test]
-fn ten_lines(rt: HostRuntime) -> Result<(), Fail> {
+fn ten_lines(rt: HostRuntime) {
     let alloc = rt.alloc();
-    let mut vertices = Allocator::<u32>::new(alloc, 1 << 20)?;
+    let mut vertices = Allocator::<u32>::new(alloc, 1 << 20).expect(&rt, "memory");
     let report = vertices.storage_report();
     assert_same(
         &rt,
@@ -266,51 +488,6 @@ fn ten_lines(rt: HostRuntime) -> Result<(), Fail> {
     assert_that(&rt, vertices.is_live(mesh));
     vertices.free(mesh);
     assert_that(&rt, !vertices.is_live(mesh));
-    Ok(())
-}
-
-#[test]
-fn a_draw_begins_at_a_byte(rt: HostRuntime) -> Result<(), Fail> {
-    let mut vertices = Allocator::new(rt.alloc(), 100)?;
-    assert_that(&rt, vertices.allocate(30).is_some());
-    let mesh = vertices.allocate(20).expect(&rt, "room");
-    assert_same(&rt, &first_byte(&vertices, mesh, 12), &Some(360));
-    vertices.free(mesh);
-    assert_same(&rt, &first_byte(&vertices, mesh, 12), &None);
-    Ok(())
-}
-
-// Three holes, two of one class: of 16 and of 17 units, and of 5 units.
-#[test]
-fn holes_are_counted_by_class(rt: HostRuntime) -> Result<(), Fail> {
-    let mut space = Allocator::new(rt.alloc(), 41)?;
-    let low = space.allocate(16).expect(&rt, "room");
-    assert_that(&rt, space.allocate(1).is_some());
-    let middle = space.allocate(5).expect(&rt, "room");
-    assert_that(&rt, space.allocate(2).is_some());
-    assert_that(&rt, space.is_live(low));
-    space.free(low);
-    assert_that(&rt, space.is_live(middle));
-    space.free(middle);
-    let holes = count_holes(&space);
-    assert_same(&rt, &(holes[5], holes[16], holes[17]), &(1, 2, 0));
-    Ok(())
-}
-
-#[test]
-fn a_dump_has_a_line_for_each_block(rt: HostRuntime) -> Result<(), Fail> {
-    let mut heap = Allocator::new(rt.alloc(), 100)?;
-    let first = heap.allocate(16).expect(&rt, "room");
-    assert_that(&rt, heap.allocate(8).is_some());
-    assert_that(&rt, heap.is_live(first));
-    heap.free(first);
-    let text = dump(&heap, rt.alloc())?;
-    assert_same(
-        &rt,
-        &text.as_str(),
-        &"at 24 size 76 free\nat 16 size 8 used\nat 0 size 16 free\n",
-    );
-    Ok(())
 }
 
 fn put_used_units(text: &mut String, count: u32) -> Result<(), AllocError> {
@@ -321,28 +498,13 @@ fn put_used_units(text: &mut String, count: u32) -> Result<(), AllocError> {
 }
 
 #[test]
-fn a_dump_has_a_line_for_each_of_many_blocks(rt: HostRuntime) -> Result<(), Fail> {
-    let mut heap = Allocator::with_max_allocs(rt.alloc(), 4_000, 5_000)?;
+fn a_dump_has_a_line_for_each_of_many_blocks(rt: HostRuntime) {
+    let mut heap = Allocator::with_max_allocs(rt.alloc(), 4_000, 5_000).expect(&rt, "memory");
     for _ in 0..4_000u32 {
         assert_that(&rt, heap.allocate(1).is_some());
     }
     let mut wanted = String::new(rt.alloc());
-    put_used_units(&mut wanted, 4_000)?;
-    assert_that(&rt, dump(&heap, rt.alloc())? == wanted);
-    Ok(())
-}
-
-#[test]
-fn a_mesh_is_resized_in_place(rt: HostRuntime) -> Result<(), Fail> {
-    let mut vertices = Allocator::new(rt.alloc(), 100)?;
-    let mesh = vertices.allocate(60).expect(&rt, "room");
-    assert_that(&rt, resize(&mut vertices, mesh, 20));
-    assert_that(&rt, resize(&mut vertices, mesh, 20));
-    assert_same(&rt, &vertices.storage_report().total_free_space, &80);
-    assert_that(&rt, vertices.is_live(mesh));
-    assert_that(&rt, !resize(&mut vertices, mesh, 101));
-    assert_that(&rt, vertices.is_live(mesh));
-    assert_that(&rt, resize(&mut vertices, mesh, 100));
-    assert_same(&rt, &vertices.allocation_size(mesh), &100);
-    Ok(())
+    put_used_units(&mut wanted, 4_000).expect(&rt, "memory");
+    let text = dump(&heap, rt.alloc()).expect(&rt, "memory");
+    assert_that(&rt, text == wanted);
 }

@@ -8,10 +8,8 @@ use offset_allocator::ext::min_allocator_size;
 use offset_allocator::small_float::{
     float_to_uint, uint_to_float_round_down, uint_to_float_round_up,
 };
+use offset_allocator::{Allocator, StorageReportFull, StorageReportFullRegion};
 use offset_test_base::groups::value_of;
-use std::alloc::Global;
-use std::process::Abort;
-use std::test::Fail;
 
 // Sizes, each with the smallest size of a fresh space that grants it.
 const SMALLEST_SIZES: [(u32, u32); 43] = [
@@ -94,30 +92,39 @@ fn small_float_float_to_uint(rt: HostRuntime) {
     }
 }
 
+// The values of the largest classes lose their high bits.
 #[test]
-fn the_values_of_all_groups(rt: HostRuntime) {
+fn reports_have_the_values_of_all_classes(rt: HostRuntime) {
+    let space = Allocator::<u32>::with_max_allocs(rt.alloc(), 100, 2).expect(&rt, "memory");
+    let report = space.storage_report_full();
+    let default = StorageReportFull::default();
+    let region = StorageReportFullRegion::default();
+    assert_same(&rt, &(region.size, region.count), &(0, 0));
     for class in 0..256u32 {
-        assert_same_at(
+        let value = value_of(class as usize) % 4_294_967_296;
+        assert_same_at(&rt, &class, &u64::from(float_to_uint(class)), &value);
+        let region = report.free_regions[class as usize];
+        assert_same_at(&rt, &class, &u64::from(region.size), &value);
+        let region = default.free_regions[class as usize];
+        assert_same_at(&rt, &class, &(region.size, region.count), &(0, 0));
+    }
+}
+
+// A space of the smallest size grants the request, also with a limit of three nodes.
+#[test]
+fn ext_min_allocator_size(rt: HostRuntime) {
+    for (size, smallest) in SMALLEST_SIZES {
+        assert_that(&rt, size <= 4_026_531_840);
+        assert_same_at(&rt, &size, &min_allocator_size(size), &smallest);
+        let name = "the smallest space";
+        expect(&rt, rt.alloc(), name, smallest, Few, &[Grants(size, 0)]);
+        expect(
             &rt,
-            &("class", class),
-            &u64::from(float_to_uint(class)),
-            &(value_of(class as usize) % 4_294_967_296),
+            rt.alloc(),
+            name,
+            smallest,
+            Limited(3),
+            &[Grants(size, 0)],
         );
     }
-}
-
-// A space of this size grants the request, also with a limit of three nodes.
-fn expect_smallest(rt: &impl Abort, alloc: Global, size: u32, smallest: u32) -> Result<(), Fail> {
-    assert_that(rt, size <= 4_026_531_840);
-    assert_same_at(rt, &size, &min_allocator_size(size), &smallest);
-    expect(rt, alloc, smallest, Few, &[Grants(size, 0)])?;
-    expect(rt, alloc, smallest, Limited(3), &[Grants(size, 0)])
-}
-
-#[test]
-fn ext_min_allocator_size(rt: HostRuntime) -> Result<(), Fail> {
-    for (size, smallest) in SMALLEST_SIZES {
-        expect_smallest(&rt, rt.alloc(), size, smallest)?;
-    }
-    Ok(())
 }

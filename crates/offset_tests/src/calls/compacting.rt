@@ -5,19 +5,16 @@ use super::steps::Step::{
     Aligns, Begins, Compacts, Counts, Extends, Frees, Gone, Grants, Grows, Is, Lacks, Lives,
     Refuses, Reports, Resets, Shrinks, Undoes,
 };
-use super::steps::expect;
+use super::steps::{Case, expect_all};
 use offset_allocator::Refusal::{Fragmented, Nodes};
-use std::test::Fail;
 
-// The names stay: each handle is live after the moves, and frees its range.
-#[test]
-fn moves_ranges_in_space_order(rt: HostRuntime) -> Result<(), Fail> {
-    expect(
-        &rt,
-        rt.alloc(),
-        100,
-        Limited(8),
-        &[
+const COMPACTED: [Case; 16] = [
+    // The names stay: each handle is live after the moves, and frees its range.
+    Case {
+        name: "moves ranges in space order",
+        size: 100,
+        limit: Limited(8),
+        steps: &[
             Grants(10, 0),
             Grants(20, 10),
             Grants(30, 30),
@@ -35,18 +32,13 @@ fn moves_ranges_in_space_order(rt: HostRuntime) -> Result<(), Fail> {
             Grants(20, 0),
             Grants(48, 50),
         ],
-    )
-}
-
-// The range before the first hole does not move.
-#[test]
-fn gathers_the_units_of_several_holes(rt: HostRuntime) -> Result<(), Fail> {
-    expect(
-        &rt,
-        rt.alloc(),
-        40,
-        Limited(12),
-        &[
+    },
+    // The range before the first hole does not move.
+    Case {
+        name: "gathers the units of several holes",
+        size: 40,
+        limit: Limited(12),
+        steps: &[
             Grants(4, 0),
             Grants(5, 4),
             Grants(6, 9),
@@ -63,18 +55,13 @@ fn gathers_the_units_of_several_holes(rt: HostRuntime) -> Result<(), Fail> {
             Grants(22, 18),
             Refuses(1),
         ],
-    )
-}
-
-// The holes are in one bin, and the middle one is the newest.
-#[test]
-fn leaves_holes_of_one_class_no_trace(rt: HostRuntime) -> Result<(), Fail> {
-    expect(
-        &rt,
-        rt.alloc(),
-        32,
-        Limited(12),
-        &[
+    },
+    // The holes are in one bin, and the middle one is the newest.
+    Case {
+        name: "leaves holes of one class no trace",
+        size: 32,
+        limit: Limited(12),
+        steps: &[
             Grants(4, 0),
             Grants(1, 4),
             Grants(4, 5),
@@ -91,17 +78,12 @@ fn leaves_holes_of_one_class_no_trace(rt: HostRuntime) -> Result<(), Fail> {
             Grants(8, 24),
             Reports(0, 0),
         ],
-    )
-}
-
-#[test]
-fn moves_nothing_where_all_is_packed(rt: HostRuntime) -> Result<(), Fail> {
-    expect(
-        &rt,
-        rt.alloc(),
-        16,
-        Few,
-        &[
+    },
+    Case {
+        name: "moves nothing where all is packed",
+        size: 16,
+        limit: Few,
+        steps: &[
             Grants(4, 0),
             Grants(6, 4),
             Compacts(&[]),
@@ -109,17 +91,12 @@ fn moves_nothing_where_all_is_packed(rt: HostRuntime) -> Result<(), Fail> {
             Reports(6, 6),
             Grants(6, 10),
         ],
-    )
-}
-
-#[test]
-fn moves_nothing_in_a_full_space(rt: HostRuntime) -> Result<(), Fail> {
-    expect(
-        &rt,
-        rt.alloc(),
-        12,
-        Few,
-        &[
+    },
+    Case {
+        name: "moves nothing in a full space",
+        size: 12,
+        limit: Few,
+        steps: &[
             Grants(5, 0),
             Grants(7, 5),
             Compacts(&[]),
@@ -130,50 +107,35 @@ fn moves_nothing_in_a_full_space(rt: HostRuntime) -> Result<(), Fail> {
             Frees(0),
             Grants(5, 0),
         ],
-    )
-}
-
-#[test]
-fn moves_nothing_in_a_space_that_is_all_free(rt: HostRuntime) -> Result<(), Fail> {
-    expect(
-        &rt,
-        rt.alloc(),
-        10,
-        Few,
-        &[
+    },
+    Case {
+        name: "moves nothing in a space that is all free",
+        size: 10,
+        limit: Few,
+        steps: &[
             Compacts(&[]),
             Is(10, 1, false),
             Counts(&[(10, 10, 1)]),
             Grants(10, 0),
         ],
-    )
-}
-
-#[test]
-fn moves_nothing_in_an_empty_space(rt: HostRuntime) -> Result<(), Fail> {
-    expect(
-        &rt,
-        rt.alloc(),
-        0,
-        Few,
-        &[
+    },
+    Case {
+        name: "moves nothing in an empty space",
+        size: 0,
+        limit: Few,
+        steps: &[
             Compacts(&[]),
             Is(0, 1, false),
             Counts(&[(0, 0, 1)]),
             Extends(3, true),
             Grants(3, 0),
         ],
-    )
-}
-
-#[test]
-fn moves_ranges_of_no_units(rt: HostRuntime) -> Result<(), Fail> {
-    expect(
-        &rt,
-        rt.alloc(),
-        10,
-        Limited(8),
-        &[
+    },
+    Case {
+        name: "moves ranges of no units",
+        size: 10,
+        limit: Limited(8),
+        steps: &[
             Grants(3, 0),
             Grants(0, 3),
             Grants(2, 3),
@@ -186,17 +148,12 @@ fn moves_ranges_of_no_units(rt: HostRuntime) -> Result<(), Fail> {
             Frees(1),
             Lives(2, 2),
         ],
-    )
-}
-
-#[test]
-fn a_hole_of_no_units_moves_nothing(rt: HostRuntime) -> Result<(), Fail> {
-    expect(
-        &rt,
-        rt.alloc(),
-        10,
-        Few,
-        &[
+    },
+    Case {
+        name: "a hole of no units moves nothing",
+        size: 10,
+        limit: Few,
+        steps: &[
             Grants(0, 0),
             Grants(3, 0),
             Frees(0),
@@ -206,18 +163,13 @@ fn a_hole_of_no_units_moves_nothing(rt: HostRuntime) -> Result<(), Fail> {
             Is(10, 2, false),
             Counts(&[(7, 7, 1)]),
         ],
-    )
-}
-
-// It needs no further block. Then the last block is free, and may grow.
-#[test]
-fn moves_at_the_block_limit(rt: HostRuntime) -> Result<(), Fail> {
-    expect(
-        &rt,
-        rt.alloc(),
-        20,
-        Limited(4),
-        &[
+    },
+    // It needs no further block. Then the last block is free, and may grow.
+    Case {
+        name: "moves at the block limit",
+        size: 20,
+        limit: Limited(4),
+        steps: &[
             Grants(12, 0),
             Grants(8, 12),
             Frees(0),
@@ -230,18 +182,13 @@ fn moves_at_the_block_limit(rt: HostRuntime) -> Result<(), Fail> {
             Extends(3, true),
             Counts(&[(10, 10, 1)]),
         ],
-    )
-}
-
-// The request is refused since no node is left, and granted after the moves.
-#[test]
-fn two_holes_in_one_leave_a_node_unused(rt: HostRuntime) -> Result<(), Fail> {
-    expect(
-        &rt,
-        rt.alloc(),
-        25,
-        Limited(5),
-        &[
+    },
+    // The request is refused since no node is left, and granted after the moves.
+    Case {
+        name: "two holes in one leave a node unused",
+        size: 25,
+        limit: Limited(5),
+        steps: &[
             Grants(4, 0),
             Grants(6, 4),
             Frees(0),
@@ -253,18 +200,13 @@ fn two_holes_in_one_leave_a_node_unused(rt: HostRuntime) -> Result<(), Fail> {
             Reports(17, 16),
             Grants(16, 8),
         ],
-    )
-}
-
-// 20 units are free, in two pieces.
-#[test]
-fn a_request_fits_after_the_moves(rt: HostRuntime) -> Result<(), Fail> {
-    expect(
-        &rt,
-        rt.alloc(),
-        30,
-        Limited(8),
-        &[
+    },
+    // 20 units are free, in two pieces.
+    Case {
+        name: "a request fits after the moves",
+        size: 30,
+        limit: Limited(8),
+        steps: &[
             Grants(10, 0),
             Grants(10, 10),
             Frees(0),
@@ -272,17 +214,12 @@ fn a_request_fits_after_the_moves(rt: HostRuntime) -> Result<(), Fail> {
             Compacts(&[(1, 10, 0, 10)]),
             Grants(20, 10),
         ],
-    )
-}
-
-#[test]
-fn moves_once(rt: HostRuntime) -> Result<(), Fail> {
-    expect(
-        &rt,
-        rt.alloc(),
-        64,
-        Limited(8),
-        &[
+    },
+    Case {
+        name: "moves once",
+        size: 64,
+        limit: Limited(8),
+        steps: &[
             Grants(8, 0),
             Grants(8, 8),
             Frees(0),
@@ -295,17 +232,12 @@ fn moves_once(rt: HostRuntime) -> Result<(), Fail> {
             Begins(2, 0),
             Reports(56, 56),
         ],
-    )
-}
-
-#[test]
-fn other_calls_after_the_moves(rt: HostRuntime) -> Result<(), Fail> {
-    expect(
-        &rt,
-        rt.alloc(),
-        100,
-        Limited(8),
-        &[
+    },
+    Case {
+        name: "other calls after the moves",
+        size: 100,
+        limit: Limited(8),
+        steps: &[
             Grants(10, 0),
             Grants(20, 10),
             Grants(30, 30),
@@ -323,18 +255,13 @@ fn other_calls_after_the_moves(rt: HostRuntime) -> Result<(), Fail> {
             Reports(110, 104),
             Compacts(&[]),
         ],
-    )
-}
-
-// The range after the other one can grow into all units that are free.
-#[test]
-fn moved_ranges_are_resized(rt: HostRuntime) -> Result<(), Fail> {
-    expect(
-        &rt,
-        rt.alloc(),
-        60,
-        Limited(8),
-        &[
+    },
+    // The range after the other one can grow into all units that are free.
+    Case {
+        name: "moved ranges are resized",
+        size: 60,
+        limit: Limited(8),
+        steps: &[
             Grants(10, 0),
             Grants(20, 10),
             Grants(15, 30),
@@ -350,17 +277,12 @@ fn moved_ranges_are_resized(rt: HostRuntime) -> Result<(), Fail> {
             Begins(2, 12),
             Counts(&[(8, 8, 1)]),
         ],
-    )
-}
-
-#[test]
-fn moves_half_of_the_largest_space(rt: HostRuntime) -> Result<(), Fail> {
-    expect(
-        &rt,
-        rt.alloc(),
-        4_294_967_295,
-        Limited(5),
-        &[
+    },
+    Case {
+        name: "moves half of the largest space",
+        size: 4_294_967_295,
+        limit: Limited(5),
+        steps: &[
             Grants(1, 0),
             Grants(2_147_483_648, 1),
             Frees(0),
@@ -368,5 +290,10 @@ fn moves_half_of_the_largest_space(rt: HostRuntime) -> Result<(), Fail> {
             Reports(2_147_483_647, 2_013_265_920),
             Grants(2_013_265_920, 2_147_483_648),
         ],
-    )
+    },
+];
+
+#[test]
+fn live_ranges_are_moved_together(rt: HostRuntime) {
+    expect_all(&rt, rt.alloc(), &COMPACTED);
 }

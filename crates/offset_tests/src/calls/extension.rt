@@ -2,18 +2,15 @@
 
 use super::steps::Limit::Limited;
 use super::steps::Step::{Counts, Extends, Frees, Gone, Grants, Refuses, Reports, Resets};
-use super::steps::expect;
-use std::test::Fail;
+use super::steps::{Case, expect_all};
 
-// A free last block grows also where no further block may exist.
-#[test]
-fn widens_a_free_last_block_at_the_block_limit(rt: HostRuntime) -> Result<(), Fail> {
-    expect(
-        &rt,
-        rt.alloc(),
-        10,
-        Limited(4),
-        &[
+const EXTENDED: [Case; 6] = [
+    // A free last block grows also where no further block may exist.
+    Case {
+        name: "widens a free last block at the block limit",
+        size: 10,
+        limit: Limited(4),
+        steps: &[
             Grants(8, 0),
             Extends(20, true),
             Grants(20, 8),
@@ -21,17 +18,12 @@ fn widens_a_free_last_block_at_the_block_limit(rt: HostRuntime) -> Result<(), Fa
             Extends(5, true),
             Counts(&[(7, 7, 1)]),
         ],
-    )
-}
-
-#[test]
-fn refuses_after_a_used_last_block_at_the_block_limit(rt: HostRuntime) -> Result<(), Fail> {
-    expect(
-        &rt,
-        rt.alloc(),
-        20,
-        Limited(4),
-        &[
+    },
+    Case {
+        name: "refuses after a used last block at the block limit",
+        size: 20,
+        limit: Limited(4),
+        steps: &[
             Grants(12, 0),
             Grants(8, 12),
             Frees(0),
@@ -42,68 +34,53 @@ fn refuses_after_a_used_last_block_at_the_block_limit(rt: HostRuntime) -> Result
             Extends(1, true),
             Counts(&[(16, 16, 1)]),
         ],
-    )
-}
-
-// A block that grows within its class is pushed anew, and so is the newest.
-#[test]
-fn a_grown_block_is_the_newest(rt: HostRuntime) -> Result<(), Fail> {
-    expect(
-        &rt,
-        rt.alloc(),
-        66,
-        Limited(8),
-        &[
+    },
+    // A block that grows within its class is pushed anew, and so is the newest.
+    Case {
+        name: "a grown block is the newest",
+        size: 66,
+        limit: Limited(8),
+        steps: &[
             Grants(32, 0),
             Grants(1, 32),
             Frees(0),
             Extends(1, true),
             Grants(32, 33),
         ],
-    )
-}
-
-#[test]
-fn a_reset_keeps_the_present_size(rt: HostRuntime) -> Result<(), Fail> {
-    expect(
-        &rt,
-        rt.alloc(),
-        10,
-        Limited(4),
-        &[
+    },
+    Case {
+        name: "a reset keeps the present size",
+        size: 10,
+        limit: Limited(4),
+        steps: &[
             Grants(10, 0),
             Extends(6, true),
             Resets,
             Gone(0),
             Reports(16, 16),
         ],
-    )
-}
-
-#[test]
-fn the_largest_space_does_not_grow(rt: HostRuntime) -> Result<(), Fail> {
-    expect(
-        &rt,
-        rt.alloc(),
-        4_294_967_295,
-        Limited(4),
-        &[Extends(1, false), Extends(0, true)],
-    )
-}
-
-// A space may grow to 4294967295 units.
-#[test]
-fn an_empty_space_grows_to_the_largest(rt: HostRuntime) -> Result<(), Fail> {
-    expect(
-        &rt,
-        rt.alloc(),
-        0,
-        Limited(4),
-        &[
+    },
+    Case {
+        name: "the largest space does not grow",
+        size: 4_294_967_295,
+        limit: Limited(4),
+        steps: &[Extends(1, false), Extends(0, true)],
+    },
+    // A space may grow to 4294967295 units.
+    Case {
+        name: "an empty space grows to the largest",
+        size: 0,
+        limit: Limited(4),
+        steps: &[
             Refuses(1),
             Extends(4_294_967_295, true),
             Reports(4_294_967_295, 4_026_531_840),
             Grants(4_026_531_840, 0),
         ],
-    )
+    },
+];
+
+#[test]
+fn spaces_grow(rt: HostRuntime) {
+    expect_all(&rt, rt.alloc(), &EXTENDED);
 }

@@ -2,12 +2,11 @@
 
 use super::steps::Limit::{Few, Limited};
 use super::steps::Step::{Frees, FreesAltered, Gone, Grants, Lives};
-use super::steps::{Step, expect, follow, make_allocator};
-use crate::asserts::{assert_same, assert_that, assert_that_at};
+use super::steps::{Case, Step, expect_all, follow, make_allocator};
+use crate::asserts::{assert_same, assert_that};
 use offset_allocator::{Allocation, Allocator, NodeIndex};
 use std::alloc::Global;
 use std::process::Abort;
-use std::test::Fail;
 
 // A stale handle equals the live handle of a newer grant with the same node.
 const FREED_TWICE: [Step; 7] = [
@@ -20,21 +19,25 @@ const FREED_TWICE: [Step; 7] = [
     Gone(1),
 ];
 
-#[test]
-fn a_stale_handle(rt: HostRuntime) -> Result<(), Fail> {
-    expect(&rt, rt.alloc(), 64, Few, &FREED_TWICE)?;
-    expect(&rt, rt.alloc(), 64, Limited(8), &FREED_TWICE)
-}
-
-// `free` goes by the node index alone.
-#[test]
-fn a_handle_with_another_offset(rt: HostRuntime) -> Result<(), Fail> {
-    expect(
-        &rt,
-        rt.alloc(),
-        64,
-        Limited(8),
-        &[
+const FREED: [Case; 3] = [
+    Case {
+        name: "a stale handle",
+        size: 64,
+        limit: Few,
+        steps: &FREED_TWICE,
+    },
+    Case {
+        name: "a stale handle",
+        size: 64,
+        limit: Limited(8),
+        steps: &FREED_TWICE,
+    },
+    // `free` goes by the node index alone.
+    Case {
+        name: "a handle with another offset",
+        size: 64,
+        limit: Limited(8),
+        steps: &[
             Grants(8, 0),
             Grants(8, 8),
             FreesAltered(0, 8),
@@ -42,24 +45,27 @@ fn a_handle_with_another_offset(rt: HostRuntime) -> Result<(), Fail> {
             Lives(1, 8),
             Grants(8, 0),
         ],
-    )
+    },
+];
+
+#[test]
+fn handles_that_are_stale_or_altered(rt: HostRuntime) {
+    expect_all(&rt, rt.alloc(), &FREED);
 }
 
 // The handles of a space with many nodes.
-fn of_another_space<NI: NodeIndex>(
-    rt: &impl Abort,
-    alloc: Global,
-) -> Result<Vec<Allocation<NI>>, Fail> {
+fn of_another_space<NI: NodeIndex>(rt: &impl Abort, alloc: Global) -> Vec<Allocation<NI>> {
     let mut handles = Vec::new(alloc);
-    if let Some(mut allocator) = make_allocator::<NI>(alloc, 198, Limited(200))? {
+    let space = make_allocator::<NI>(alloc, 198, Limited(200)).expect(rt, "memory");
+    if let Some(mut space) = space {
         for _ in 0..198u32 {
-            if let Some(handle) = allocator.allocate(1) {
-                handles.push(handle)?;
+            if let Some(handle) = space.allocate(1) {
+                handles.push(handle).expect(rt, "memory");
             }
         }
     }
     assert_same(rt, &handles.len(), &198);
-    Ok(handles)
+    handles
 }
 
 // The number of live handles. Each of them has this size; all others have size 0.
@@ -81,17 +87,23 @@ fn count_live<NI: NodeIndex>(
     count
 }
 
-fn expect_foreign<NI: NodeIndex>(rt: &impl Abort, alloc: Global) -> Result<(), Fail> {
-    let handles = of_another_space::<NI>(rt, alloc)?;
-    let mut allocator = make_allocator::<NI>(alloc, 64, Limited(4))?.expect(rt, "an allocator");
-    assert_same(rt, &count_live(rt, &allocator, &handles, 0), &0);
-    follow(rt, alloc, &mut allocator, &[Grants(5, 0)])?;
-    assert_that(rt, count_live(rt, &allocator, &handles, 5) <= 1);
-    Ok(())
+fn expect_foreign<NI: NodeIndex>(rt: &impl Abort, alloc: Global) {
+    let handles = of_another_space::<NI>(rt, alloc);
+    let made = make_allocator::<NI>(alloc, 64, Limited(4)).expect(rt, "memory");
+    let mut space = made.expect(rt, "a lawful limit");
+    assert_same(rt, &count_live(rt, &space, &handles, 0), &0);
+    follow(
+        rt,
+        alloc,
+        "a space with foreign handles",
+        &mut space,
+        &[Grants(5, 0)],
+    );
+    assert_that(rt, count_live(rt, &space, &handles, 5) <= 1);
 }
 
 #[test]
-fn handles_of_another_space(rt: HostRuntime) -> Result<(), Fail> {
-    expect_foreign::<u32>(&rt, rt.alloc())?;
-    expect_foreign::<u16>(&rt, rt.alloc())
+fn handles_of_another_space(rt: HostRuntime) {
+    expect_foreign::<u32>(&rt, rt.alloc());
+    expect_foreign::<u16>(&rt, rt.alloc());
 }

@@ -3,13 +3,12 @@
 mod alignment;
 mod classes;
 mod compacting;
-mod equality;
 mod extension;
 mod fields;
 mod grants;
 mod handles;
 mod original;
-mod range_texts;
+mod ranges;
 mod refusals;
 mod reports;
 mod resizing;

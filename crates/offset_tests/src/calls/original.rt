@@ -2,18 +2,12 @@
 
 use super::steps::Limit::{Ample, Few, Limited};
 use super::steps::Step::{Counts, Frees, Grants, Reports};
-use super::steps::{Step, expect};
+use super::steps::{Case, Step, expect, expect_all};
 use std::alloc::{AllocError, Global};
-use std::test::Fail;
 
 const SPACE: u32 = 268_435_456;
 
 const PIECE: u32 = 1_048_576;
-
-#[test]
-fn basic_offset_allocator(rt: HostRuntime) -> Result<(), Fail> {
-    expect(&rt, rt.alloc(), SPACE, Few, &[Grants(1_337, 0), Frees(0)])
-}
 
 const SIMPLE: [Step; 10] = [
     Grants(0, 0),
@@ -28,20 +22,30 @@ const SIMPLE: [Step; 10] = [
     Frees(4),
 ];
 
-#[test]
-fn allocate_offset_allocator_simple(rt: HostRuntime) -> Result<(), Fail> {
-    expect(&rt, rt.alloc(), SPACE, Ample, &SIMPLE)?;
-    expect(&rt, rt.alloc(), SPACE, Limited(8), &SIMPLE)
-}
-
-#[test]
-fn allocate_offset_allocator_merge_trivial(rt: HostRuntime) -> Result<(), Fail> {
-    expect(
-        &rt,
-        rt.alloc(),
-        SPACE,
-        Few,
-        &[
+const TESTS: [Case; 6] = [
+    Case {
+        name: "basic_offset_allocator",
+        size: SPACE,
+        limit: Few,
+        steps: &[Grants(1_337, 0), Frees(0)],
+    },
+    Case {
+        name: "allocate_offset_allocator_simple",
+        size: SPACE,
+        limit: Ample,
+        steps: &SIMPLE,
+    },
+    Case {
+        name: "allocate_offset_allocator_simple",
+        size: SPACE,
+        limit: Limited(8),
+        steps: &SIMPLE,
+    },
+    Case {
+        name: "allocate_offset_allocator_merge_trivial",
+        size: SPACE,
+        limit: Few,
+        steps: &[
             Grants(1_337, 0),
             Frees(0),
             Grants(1_337, 0),
@@ -49,17 +53,12 @@ fn allocate_offset_allocator_merge_trivial(rt: HostRuntime) -> Result<(), Fail> 
             Grants(SPACE, 0),
             Frees(2),
         ],
-    )
-}
-
-#[test]
-fn allocate_offset_allocator_reuse_trivial(rt: HostRuntime) -> Result<(), Fail> {
-    expect(
-        &rt,
-        rt.alloc(),
-        SPACE,
-        Few,
-        &[
+    },
+    Case {
+        name: "allocate_offset_allocator_reuse_trivial",
+        size: SPACE,
+        limit: Few,
+        steps: &[
             Grants(1_024, 0),
             Grants(3_456, 1_024),
             Frees(0),
@@ -69,17 +68,12 @@ fn allocate_offset_allocator_reuse_trivial(rt: HostRuntime) -> Result<(), Fail> 
             Grants(SPACE, 0),
             Frees(3),
         ],
-    )
-}
-
-#[test]
-fn allocate_offset_allocator_reuse_complex(rt: HostRuntime) -> Result<(), Fail> {
-    expect(
-        &rt,
-        rt.alloc(),
-        SPACE,
-        Ample,
-        &[
+    },
+    Case {
+        name: "allocate_offset_allocator_reuse_complex",
+        size: SPACE,
+        limit: Ample,
+        steps: &[
             Grants(1_024, 0),
             Grants(3_456, 1_024),
             Frees(0),
@@ -95,8 +89,8 @@ fn allocate_offset_allocator_reuse_complex(rt: HostRuntime) -> Result<(), Fail> 
             Grants(SPACE, 0),
             Frees(5),
         ],
-    )
-}
+    },
+];
 
 // After the whole space is granted in equal pieces: four lone pieces and four neighbours are freed and granted again.
 const ANEW: [Step; 14] = [
@@ -147,7 +141,9 @@ fn zero_fragmentation_steps(alloc: Global) -> Result<Vec<Step>, AllocError> {
 }
 
 #[test]
-fn allocate_offset_allocator_zero_fragmentation(rt: HostRuntime) -> Result<(), Fail> {
-    let steps = zero_fragmentation_steps(rt.alloc())?;
-    expect(&rt, rt.alloc(), SPACE, Ample, &steps)
+fn tests_of_the_original(rt: HostRuntime) {
+    expect_all(&rt, rt.alloc(), &TESTS);
+    let name = "allocate_offset_allocator_zero_fragmentation";
+    let steps = zero_fragmentation_steps(rt.alloc()).expect(&rt, "memory");
+    expect(&rt, rt.alloc(), name, SPACE, Ample, &steps);
 }

@@ -4,19 +4,16 @@ use super::steps::Limit::{Few, Limited};
 use super::steps::Step::{
     Aligns, Extends, Frees, Grants, Is, Lacks, LacksAligned, Reports, Resets,
 };
-use super::steps::expect;
+use super::steps::{Case, expect_all};
 use offset_allocator::Refusal::{Fragmented, Nodes, Space};
-use std::test::Fail;
 
-// Fewer units are free than requested, or enough in a block of too small a class.
-#[test]
-fn too_few_units_or_too_small_a_class(rt: HostRuntime) -> Result<(), Fail> {
-    expect(
-        &rt,
-        rt.alloc(),
-        100,
-        Few,
-        &[
+const REFUSED: [Case; 4] = [
+    // Fewer units are free than requested, or enough in a block of too small a class.
+    Case {
+        name: "too few units or too small a class",
+        size: 100,
+        limit: Few,
+        steps: &[
             Is(100, 1, false),
             Lacks(101, Space),
             Lacks(100, Fragmented),
@@ -29,18 +26,13 @@ fn too_few_units_or_too_small_a_class(rt: HostRuntime) -> Result<(), Fail> {
             Lacks(1, Space),
             Lacks(0, Fragmented),
         ],
-    )
-}
-
-// Two free pieces of 24 units.
-#[test]
-fn enough_units_in_two_pieces(rt: HostRuntime) -> Result<(), Fail> {
-    expect(
-        &rt,
-        rt.alloc(),
-        72,
-        Limited(5),
-        &[
+    },
+    // Two free pieces of 24 units.
+    Case {
+        name: "enough units in two pieces",
+        size: 72,
+        limit: Limited(5),
+        steps: &[
             Grants(24, 0),
             Grants(24, 24),
             Frees(0),
@@ -50,17 +42,12 @@ fn enough_units_in_two_pieces(rt: HostRuntime) -> Result<(), Fail> {
             Lacks(49, Space),
             Grants(24, 0),
         ],
-    )
-}
-
-#[test]
-fn no_further_block(rt: HostRuntime) -> Result<(), Fail> {
-    expect(
-        &rt,
-        rt.alloc(),
-        100,
-        Limited(3),
-        &[
+    },
+    Case {
+        name: "no further block",
+        size: 100,
+        limit: Limited(3),
+        steps: &[
             Grants(10, 0),
             Is(100, 2, true),
             Lacks(10, Nodes),
@@ -70,18 +57,13 @@ fn no_further_block(rt: HostRuntime) -> Result<(), Fail> {
             Is(100, 1, false),
             Grants(96, 0),
         ],
-    )
-}
-
-// An aligned request needs two more blocks, and padding.
-#[test]
-fn aligned_requests(rt: HostRuntime) -> Result<(), Fail> {
-    expect(
-        &rt,
-        rt.alloc(),
-        70,
-        Limited(5),
-        &[
+    },
+    // An aligned request needs two more blocks, and padding.
+    Case {
+        name: "aligned requests",
+        size: 70,
+        limit: Limited(5),
+        steps: &[
             LacksAligned(64, 8, Space),
             LacksAligned(63, 8, Fragmented),
             LacksAligned(4294967295, 2, Space),
@@ -94,5 +76,10 @@ fn aligned_requests(rt: HostRuntime) -> Result<(), Fail> {
             Is(70, 4, true),
             LacksAligned(1, 1, Nodes),
         ],
-    )
+    },
+];
+
+#[test]
+fn requests_are_refused_for_a_reason(rt: HostRuntime) {
+    expect_all(&rt, rt.alloc(), &REFUSED);
 }

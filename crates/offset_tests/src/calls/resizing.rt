@@ -2,18 +2,15 @@
 
 use super::steps::Limit::Limited;
 use super::steps::Step::{Counts, Frees, Grants, Grows, Is, Lives, Reports, Shrinks};
-use super::steps::expect;
-use std::test::Fail;
+use super::steps::{Case, expect_all};
 
-// Between two used blocks, what is given back becomes a new block.
-#[test]
-fn a_shrink_leaves_a_free_block_after_it(rt: HostRuntime) -> Result<(), Fail> {
-    expect(
-        &rt,
-        rt.alloc(),
-        64,
-        Limited(8),
-        &[
+const RESIZED: [Case; 12] = [
+    // Between two used blocks, what is given back becomes a new block.
+    Case {
+        name: "a shrink leaves a free block after it",
+        size: 64,
+        limit: Limited(8),
+        steps: &[
             Grants(20, 0),
             Grants(10, 20),
             Shrinks(0, 12, true),
@@ -24,35 +21,25 @@ fn a_shrink_leaves_a_free_block_after_it(rt: HostRuntime) -> Result<(), Fail> {
             Grants(8, 12),
             Reports(34, 32),
         ],
-    )
-}
-
-#[test]
-fn a_shrink_coalesces_with_the_free_block_after_it(rt: HostRuntime) -> Result<(), Fail> {
-    expect(
-        &rt,
-        rt.alloc(),
-        20,
-        Limited(4),
-        &[
+    },
+    Case {
+        name: "a shrink coalesces with the free block after it",
+        size: 20,
+        limit: Limited(4),
+        steps: &[
             Grants(12, 0),
             Shrinks(0, 5, true),
             Is(20, 2, false),
             Counts(&[(15, 15, 1)]),
             Grants(15, 5),
         ],
-    )
-}
-
-// With at most two blocks, the free block is given the units, though no further block may exist.
-#[test]
-fn a_range_shrinks_at_the_block_limit_before_a_free_block(rt: HostRuntime) -> Result<(), Fail> {
-    expect(
-        &rt,
-        rt.alloc(),
-        20,
-        Limited(3),
-        &[
+    },
+    // With at most two blocks, the free block is given the units, though no further block may exist.
+    Case {
+        name: "a range shrinks at the block limit before a free block",
+        size: 20,
+        limit: Limited(3),
+        steps: &[
             Grants(12, 0),
             Is(20, 2, true),
             Shrinks(0, 5, true),
@@ -65,19 +52,12 @@ fn a_range_shrinks_at_the_block_limit_before_a_free_block(rt: HostRuntime) -> Re
             Is(20, 2, true),
             Counts(&[(1, 1, 1)]),
         ],
-    )
-}
-
-#[test]
-fn a_range_does_not_shrink_at_the_block_limit_before_a_used_block(
-    rt: HostRuntime,
-) -> Result<(), Fail> {
-    expect(
-        &rt,
-        rt.alloc(),
-        20,
-        Limited(4),
-        &[
+    },
+    Case {
+        name: "a range does not shrink at the block limit before a used block",
+        size: 20,
+        limit: Limited(4),
+        steps: &[
             Grants(12, 0),
             Grants(3, 12),
             Is(20, 3, true),
@@ -87,18 +67,13 @@ fn a_range_does_not_shrink_at_the_block_limit_before_a_used_block(
             Is(20, 3, true),
             Counts(&[(7, 7, 1)]),
         ],
-    )
-}
-
-// No block of 0 units is left.
-#[test]
-fn a_range_grows_by_an_exact_fit(rt: HostRuntime) -> Result<(), Fail> {
-    expect(
-        &rt,
-        rt.alloc(),
-        20,
-        Limited(4),
-        &[
+    },
+    // No block of 0 units is left.
+    Case {
+        name: "a range grows by an exact fit",
+        size: 20,
+        limit: Limited(4),
+        steps: &[
             Grants(12, 0),
             Grants(3, 12),
             Grows(1, 8, true),
@@ -111,17 +86,12 @@ fn a_range_grows_by_an_exact_fit(rt: HostRuntime) -> Result<(), Fail> {
             Frees(1),
             Counts(&[(8, 8, 1)]),
         ],
-    )
-}
-
-#[test]
-fn a_range_grows_only_by_the_free_block_after_it(rt: HostRuntime) -> Result<(), Fail> {
-    expect(
-        &rt,
-        rt.alloc(),
-        40,
-        Limited(8),
-        &[
+    },
+    Case {
+        name: "a range grows only by the free block after it",
+        size: 40,
+        limit: Limited(8),
+        steps: &[
             Grants(12, 0),
             Grants(3, 12),
             Grows(0, 13, false),
@@ -136,17 +106,12 @@ fn a_range_grows_only_by_the_free_block_after_it(rt: HostRuntime) -> Result<(), 
             Counts(&[(1, 1, 1), (17, 18, 1)]),
             Lives(0, 11),
         ],
-    )
-}
-
-#[test]
-fn sizes_on_the_wrong_side_are_refused(rt: HostRuntime) -> Result<(), Fail> {
-    expect(
-        &rt,
-        rt.alloc(),
-        20,
-        Limited(4),
-        &[
+    },
+    Case {
+        name: "sizes on the wrong side are refused",
+        size: 20,
+        limit: Limited(4),
+        steps: &[
             Grants(12, 0),
             Shrinks(0, 13, false),
             Grows(0, 11, false),
@@ -154,18 +119,13 @@ fn sizes_on_the_wrong_side_are_refused(rt: HostRuntime) -> Result<(), Fail> {
             Grows(0, 21, false),
             Is(20, 2, false),
         ],
-    )
-}
-
-// Both holes are of the class of 32 units; the second one is found first, and then the first.
-#[test]
-fn what_is_given_back_is_the_newest(rt: HostRuntime) -> Result<(), Fail> {
-    expect(
-        &rt,
-        rt.alloc(),
-        82,
-        Limited(8),
-        &[
+    },
+    // Both holes are of the class of 32 units; the second one is found first, and then the first.
+    Case {
+        name: "what is given back is the newest",
+        size: 82,
+        limit: Limited(8),
+        steps: &[
             Grants(40, 0),
             Grants(1, 40),
             Grants(40, 41),
@@ -176,18 +136,13 @@ fn what_is_given_back_is_the_newest(rt: HostRuntime) -> Result<(), Fail> {
             Grants(32, 8),
             Grants(32, 49),
         ],
-    )
-}
-
-// The first hole stays in its class when it loses a unit, and is pushed anew.
-#[test]
-fn what_remains_of_a_growth_is_the_newest(rt: HostRuntime) -> Result<(), Fail> {
-    expect(
-        &rt,
-        rt.alloc(),
-        82,
-        Limited(16),
-        &[
+    },
+    // The first hole stays in its class when it loses a unit, and is pushed anew.
+    Case {
+        name: "what remains of a growth is the newest",
+        size: 82,
+        limit: Limited(16),
+        steps: &[
             Grants(40, 0),
             Grants(1, 40),
             Grants(40, 41),
@@ -199,17 +154,12 @@ fn what_remains_of_a_growth_is_the_newest(rt: HostRuntime) -> Result<(), Fail> {
             Grants(32, 7),
             Grants(32, 48),
         ],
-    )
-}
-
-#[test]
-fn a_range_may_have_no_units(rt: HostRuntime) -> Result<(), Fail> {
-    expect(
-        &rt,
-        rt.alloc(),
-        10,
-        Limited(4),
-        &[
+    },
+    Case {
+        name: "a range may have no units",
+        size: 10,
+        limit: Limited(4),
+        steps: &[
             Grants(10, 0),
             Shrinks(0, 0, true),
             Is(10, 2, false),
@@ -218,18 +168,13 @@ fn a_range_may_have_no_units(rt: HostRuntime) -> Result<(), Fail> {
             Is(10, 1, false),
             Reports(0, 0),
         ],
-    )
-}
-
-// At the block limit, the free block of 0 units after the range is given the units.
-#[test]
-fn a_free_block_of_no_units_is_a_free_block(rt: HostRuntime) -> Result<(), Fail> {
-    expect(
-        &rt,
-        rt.alloc(),
-        12,
-        Limited(5),
-        &[
+    },
+    // At the block limit, the free block of 0 units after the range is given the units.
+    Case {
+        name: "a free block of no units is a free block",
+        size: 12,
+        limit: Limited(5),
+        steps: &[
             Grants(10, 0),
             Grants(0, 10),
             Grants(2, 10),
@@ -242,17 +187,12 @@ fn a_free_block_of_no_units_is_a_free_block(rt: HostRuntime) -> Result<(), Fail>
             Is(12, 4, true),
             Counts(&[(1, 1, 1), (6, 6, 1)]),
         ],
-    )
-}
-
-#[test]
-fn the_largest_range_shrinks_and_grows(rt: HostRuntime) -> Result<(), Fail> {
-    expect(
-        &rt,
-        rt.alloc(),
-        4_294_967_295,
-        Limited(4),
-        &[
+    },
+    Case {
+        name: "the largest range shrinks and grows",
+        size: 4_294_967_295,
+        limit: Limited(4),
+        steps: &[
             Grants(4_026_531_840, 0),
             Grows(0, 4_294_967_295, true),
             Is(4_294_967_295, 1, false),
@@ -260,5 +200,10 @@ fn the_largest_range_shrinks_and_grows(rt: HostRuntime) -> Result<(), Fail> {
             Shrinks(0, 0, true),
             Reports(4_294_967_295, 4_026_531_840),
         ],
-    )
+    },
+];
+
+#[test]
+fn ranges_shrink_and_grow_in_place(rt: HostRuntime) {
+    expect_all(&rt, rt.alloc(), &RESIZED);
 }

@@ -1,12 +1,13 @@
 //! Calls on one allocator, as rows of a table.
 
-use crate::asserts::{assert_same, assert_same_at, assert_that, assert_that_at};
-use offset_allocator::laws::{refusal_aligned_counted, refusal_counted, undo};
-use offset_allocator::{Accesses, Allocation, Allocator, Move, NodeIndex, Refusal};
+use crate::asserts::{assert_same_at, assert_that_at, text_of};
+use offset_allocator::laws::{
+    allocation_offset_counted, next_block_counted, refusal_aligned_counted, refusal_counted, undo,
+};
+use offset_allocator::{Accesses, Allocation, Allocator, Block, Move, NodeIndex, Refusal};
 use offset_test_base::tiny::Tiny;
 use std::alloc::{AllocError, Global};
 use std::process::Abort;
-use std::test::Fail;
 
 /// A call, and what it has to return. Grants are numbered from 0.
 #[derive(Clone, Copy)]
@@ -25,7 +26,7 @@ pub enum Step {
     FreesAltered(usize, u32),
     /// The grant of this number is live, and has this size.
     Lives(usize, u32),
-    /// The grant of this number is not live.
+    /// The grant of this number is not live, and its range begins nowhere.
     Gone(usize),
     /// The space grows by this number of units, or refuses to.
     Extends(u32, bool),
@@ -40,7 +41,7 @@ pub enum Step {
     /// The grants of these numbers move, in this order and no others: each from an offset to another one, with this
     /// size.
     Compacts(&'static [(usize, u32, u32, u32)]),
-    /// The range of the grant of this number begins at this offset.
+    /// The range of the grant of this number begins at this offset, whatever the offset of its handle is.
     Begins(usize, u32),
     /// A request of this size is refused for this reason.
     Lacks(u32, Refusal),
@@ -52,83 +53,112 @@ pub enum Step {
     Reports(u32, u32),
     /// The full report has these classes, with their sizes and counts, and no free block besides.
     Counts(&'static [(usize, u32, u32)]),
+    /// A walk yields these blocks and no others, each with its offset, its size, and the number of its grant.
+    Walks(&'static [(u32, u32, Option<usize>)]),
+    /// This is the text of the allocator.
+    Shows(&'static str),
 }
 
-fn release<NI: NodeIndex>(rt: &impl Abort, allocator: &mut Allocator<NI>, handle: Allocation<NI>) {
-    assert_that(rt, allocator.is_live(handle));
+/// A step of a table: the name of the table, and how many steps come before it.
+pub type Place = (&'static str, usize);
+
+fn release<NI: NodeIndex>(
+    rt: &impl Abort,
+    at: &Place,
+    allocator: &mut Allocator<NI>,
+    handle: Allocation<NI>,
+) {
+    assert_that_at(rt, at, allocator.is_live(handle));
     allocator.free(handle);
-    expect_gone(rt, allocator, handle);
+    expect_gone(rt, at, allocator, handle);
 }
 
-fn expect_gone<NI: NodeIndex>(rt: &impl Abort, allocator: &Allocator<NI>, handle: Allocation<NI>) {
-    assert_that(rt, !allocator.is_live(handle));
-    assert_same(rt, &allocator.allocation_size(handle), &0);
+fn expect_gone<NI: NodeIndex>(
+    rt: &impl Abort,
+    at: &Place,
+    allocator: &Allocator<NI>,
+    handle: Allocation<NI>,
+) {
+    assert_that_at(rt, at, !allocator.is_live(handle));
+    assert_same_at(rt, at, &allocator.allocation_size(handle), &0);
+    assert_same_at(rt, at, &allocator.allocation_offset(handle), &None);
 }
 
 fn expect_live<NI: NodeIndex>(
     rt: &impl Abort,
+    at: &Place,
     allocator: &Allocator<NI>,
     handle: Allocation<NI>,
     size: u32,
 ) {
-    assert_that(rt, allocator.is_live(handle));
-    assert_same(rt, &allocator.allocation_size(handle), &size);
+    assert_that_at(rt, at, allocator.is_live(handle));
+    assert_same_at(rt, at, &allocator.allocation_size(handle), &size);
+}
+
+// The public offset of a handle is a copy, and its name counts alone.
+fn expect_beginning<NI: NodeIndex>(
+    rt: &impl Abort,
+    at: &Place,
+    allocator: &Allocator<NI>,
+    handle: Allocation<NI>,
+    offset: u32,
+) {
+    let wanted = Some(offset);
+    assert_same_at(rt, at, &allocator.allocation_offset(handle), &wanted);
+    let mut changed = handle;
+    changed.offset = handle.offset.wrapping_add(83);
+    assert_same_at(rt, at, &allocator.allocation_offset(changed), &wanted);
+    let counted = allocation_offset_counted(allocator, handle, &mut Accesses::new());
+    assert_same_at(rt, at, &counted, &wanted);
 }
 
 // Checks the result of a shrink or a growth, and the size that the handle has then.
 fn expect_resized<NI: NodeIndex>(
     rt: &impl Abort,
+    at: &Place,
     allocator: &mut Allocator<NI>,
     handle: Allocation<NI>,
     step: &Step,
 ) {
-    assert_that(rt, allocator.is_live(handle));
+    assert_that_at(rt, at, allocator.is_live(handle));
     let before = allocator.allocation_size(handle);
     let (found, size, done) = match step {
         Step::Shrinks(_, size, done) => (allocator.shrink(handle, *size), *size, *done),
         Step::Grows(_, size, done) => (allocator.grow_in_place(handle, *size), *size, *done),
         _ => return,
     };
-    assert_same_at(rt, &("resized", before, size), &found, &done);
-    expect_live(rt, allocator, handle, if done { size } else { before });
-}
-
-fn expect_report<NI: NodeIndex>(
-    rt: &impl Abort,
-    allocator: &Allocator<NI>,
-    total: u32,
-    largest: u32,
-) {
-    let report = allocator.storage_report();
-    assert_same(rt, &report.total_free_space, &total);
-    assert_same(rt, &report.largest_free_region, &largest);
+    assert_same_at(rt, at, &found, &done);
+    expect_live(rt, at, allocator, handle, if done { size } else { before });
 }
 
 fn expect_counts<NI: NodeIndex>(
     rt: &impl Abort,
     alloc: Global,
+    at: &Place,
     allocator: &Allocator<NI>,
     wanted: &[(usize, u32, u32)],
-) -> Result<(), Fail> {
+) {
     let report = allocator.storage_report_full();
     let mut found = Vec::new(alloc);
     for class in 0..256usize {
         let region = report.free_regions[class];
         if region.count > 0 {
-            found.push((class, region.size, region.count))?;
+            found
+                .push((class, region.size, region.count))
+                .expect(rt, "memory");
         }
     }
-    assert_same(rt, &found.as_slice(), &wanted);
-    Ok(())
+    assert_same_at(rt, at, &found.as_slice(), &wanted);
 }
 
 fn request<NI: NodeIndex>(
     rt: &impl Abort,
+    at: &Place,
     allocator: &mut Allocator<NI>,
     size: u32,
     align: u32,
 ) -> Option<Allocation<NI>> {
-    assert_that(rt, align.is_power_of_two());
+    assert_that_at(rt, at, align.is_power_of_two());
     allocator.allocate_aligned(size, align)
 }
 
@@ -170,6 +200,7 @@ fn is_wanted<NI: NodeIndex>(
 
 fn expect_moves<NI: NodeIndex>(
     rt: &impl Abort,
+    at: &Place,
     allocator: &mut Allocator<NI>,
     handles: &[Allocation<NI>],
     wanted: &[(usize, u32, u32, u32)],
@@ -182,41 +213,103 @@ fn expect_moves<NI: NodeIndex>(
         }
         count = count.saturating_add(1);
     });
-    assert_same(rt, &first_wrong, &None);
-    assert_same(rt, &count, &wanted.len());
+    assert_same_at(rt, at, &first_wrong, &None);
+    assert_same_at(rt, at, &count, &wanted.len());
+}
+
+// Whether a block is the wanted one: with this offset, this size, and the handle of this grant.
+fn is_wanted_block<NI: NodeIndex>(
+    block: Option<Block<NI>>,
+    handles: &[Allocation<NI>],
+    wanted: &(u32, u32, Option<usize>),
+) -> bool {
+    let Some(block) = block else {
+        return false;
+    };
+    let (offset, size, number) = *wanted;
+    let has_handle = match number {
+        None => block.allocation.is_none(),
+        Some(number) => match handles.get(number) {
+            None => false,
+            Some(handle) => {
+                let mut now = *handle;
+                now.offset = offset;
+                block.allocation == Some(now)
+            }
+        },
+    };
+    has_handle && (block.offset, block.size) == (offset, size)
+}
+
+// Each block is yielded by the walk, by a copy, which goes on from where it was made, and by a counted copy.
+fn expect_walk<NI: NodeIndex>(
+    rt: &impl Abort,
+    at: &Place,
+    allocator: &Allocator<NI>,
+    handles: &[Allocation<NI>],
+    wanted: &[(u32, u32, Option<usize>)],
+) {
+    let mut count = Accesses::new();
+    let mut blocks = allocator.blocks();
+    let mut left = wanted.len();
+    for block in wanted {
+        assert_same_at(
+            rt,
+            at,
+            &(blocks.len(), blocks.size_hint()),
+            &(left, (left, Some(left))),
+        );
+        let mut copy = blocks.clone().expect(rt, "memory");
+        assert_same_at(rt, at, &copy.len(), &left);
+        assert_that_at(rt, at, is_wanted_block(copy.next(), handles, block));
+        let mut counted = blocks.clone().expect(rt, "memory");
+        let found = next_block_counted(&mut counted, &mut count);
+        assert_that_at(rt, at, is_wanted_block(found, handles, block));
+        assert_that_at(rt, at, is_wanted_block(blocks.next(), handles, block));
+        left = left.saturating_sub(1);
+    }
+    assert_same_at(rt, at, &blocks.len(), &0);
+    assert_that_at(rt, at, blocks.next().is_none() && blocks.next().is_none());
+    assert_that_at(
+        rt,
+        at,
+        next_block_counted(&mut blocks, &mut count).is_none(),
+    );
 }
 
 fn keep<NI: NodeIndex>(
     rt: &impl Abort,
+    at: &Place,
     allocator: &Allocator<NI>,
     handles: &mut Vec<Allocation<NI>>,
     granted: Option<Allocation<NI>>,
     size: u32,
     offset: u32,
-) -> Result<(), Fail> {
+) {
     match granted {
-        None => assert_that_at(rt, &("refused", size), false),
+        None => assert_that_at(rt, at, false),
         Some(handle) => {
-            assert_same_at(rt, &("a request of", size), &handle.offset, &offset);
-            expect_live(rt, allocator, handle, size);
-            handles.push(handle)?;
+            assert_same_at(rt, at, &handle.offset, &offset);
+            expect_live(rt, at, allocator, handle, size);
+            handles.push(handle).expect(rt, "memory");
         }
     }
-    Ok(())
 }
 
 fn grant_of<NI: NodeIndex>(
     rt: &impl Abort,
+    at: &Place,
     handles: &[Allocation<NI>],
     number: usize,
 ) -> Allocation<NI> {
-    assert!(rt; number < handles.len(), "no grant {number}");
+    assert_that_at(rt, at, number < handles.len());
     handles[number]
 }
 
 // Takes a step on the handle of a grant.
 fn step_on_grant<NI: NodeIndex>(
     rt: &impl Abort,
+    at: &Place,
     allocator: &mut Allocator<NI>,
     mut handle: Allocation<NI>,
     step: &Step,
@@ -224,69 +317,38 @@ fn step_on_grant<NI: NodeIndex>(
     match step {
         Step::FreesAltered(_, offset) => {
             handle.offset = *offset;
-            release(rt, allocator, handle);
+            release(rt, at, allocator, handle);
         }
-        Step::Lives(_, size) => expect_live(rt, allocator, handle, *size),
-        Step::Gone(_) => expect_gone(rt, allocator, handle),
-        Step::Begins(_, offset) => {
-            assert_same(rt, &allocator.allocation_offset(handle), &Some(*offset));
-        }
+        Step::Lives(_, size) => expect_live(rt, at, allocator, handle, *size),
+        Step::Gone(_) => expect_gone(rt, at, allocator, handle),
+        Step::Begins(_, offset) => expect_beginning(rt, at, allocator, handle, *offset),
         Step::Shrinks(_, _, _) | Step::Grows(_, _, _) => {
-            expect_resized(rt, allocator, handle, step);
+            expect_resized(rt, at, allocator, handle, step);
         }
-        _ => release(rt, allocator, handle),
+        _ => release(rt, at, allocator, handle),
     }
 }
 
-fn take<NI: NodeIndex>(
+// Takes a step that changes nothing, and is not on the handle of a grant.
+fn observe<NI: NodeIndex>(
     rt: &impl Abort,
     alloc: Global,
-    allocator: &mut Allocator<NI>,
-    handles: &mut Vec<Allocation<NI>>,
+    at: &Place,
+    allocator: &Allocator<NI>,
+    handles: &[Allocation<NI>],
     step: &Step,
-) -> Result<(), Fail> {
+) {
     match step {
-        Step::Grants(size, offset) => {
-            assert_same(rt, &refusal(allocator, *size, 1), &None);
-            let granted = allocator.allocate(*size);
-            keep(rt, allocator, handles, granted, *size, *offset)?;
+        Step::Lacks(size, why) => {
+            assert_same_at(rt, at, &refusal(allocator, *size, 1), &Some(*why));
         }
-        Step::Refuses(size) => {
-            assert_that(rt, allocator.refusal(*size).is_some());
-            assert_that_at(
-                rt,
-                &("a request of", size),
-                allocator.allocate(*size).is_none(),
-            );
-        }
-        Step::Aligns(size, align, offset) => {
-            let granted = request(rt, allocator, *size, *align);
-            keep(rt, allocator, handles, granted, *size, *offset)?;
-        }
-        Step::RefusesAligned(size, align) => {
-            let granted = request(rt, allocator, *size, *align);
-            assert_that_at(rt, &("a request", size, align), granted.is_none());
-        }
-        Step::Extends(more, grown) => {
-            assert_same_at(rt, &("extended by", more), &allocator.extend(*more), grown);
-        }
-        Step::Undoes(size, granted) => {
-            assert_same_at(
-                rt,
-                &("a request of", size),
-                &undo(allocator, *size),
-                granted,
-            );
-        }
-        Step::Resets => allocator.reset(),
-        Step::Compacts(wanted) => expect_moves(rt, allocator, handles.as_slice(), wanted),
-        Step::Lacks(size, why) => assert_same(rt, &refusal(allocator, *size, 1), &Some(*why)),
         Step::LacksAligned(size, align, why) => {
-            assert_same(rt, &refusal(allocator, *size, *align), &Some(*why));
+            assert_same_at(rt, at, &refusal(allocator, *size, *align), &Some(*why));
         }
         Step::Is(size, blocks, full) => {
-            assert_same(
+            assert_same_at(
                 rt,
+                at,
                 &(
                     allocator.size(),
                     allocator.block_count(),
@@ -295,31 +357,85 @@ fn take<NI: NodeIndex>(
                 &(*size, *blocks, *full),
             );
         }
-        Step::Reports(total, largest) => expect_report(rt, allocator, *total, *largest),
-        Step::Counts(wanted) => expect_counts(rt, alloc, allocator, wanted)?,
+        Step::Reports(total, largest) => {
+            let report = allocator.storage_report();
+            assert_same_at(
+                rt,
+                at,
+                &(report.total_free_space, report.largest_free_region),
+                &(*total, *largest),
+            );
+        }
+        Step::Counts(wanted) => expect_counts(rt, alloc, at, allocator, wanted),
+        Step::Walks(wanted) => expect_walk(rt, at, allocator, handles, wanted),
+        Step::Shows(wanted) => {
+            let text = text_of(rt, alloc, allocator);
+            assert_same_at(rt, at, &text.as_str(), wanted);
+        }
+        _ => assert_that_at(rt, at, false),
+    }
+}
+
+fn take<NI: NodeIndex>(
+    rt: &impl Abort,
+    alloc: Global,
+    at: &Place,
+    allocator: &mut Allocator<NI>,
+    handles: &mut Vec<Allocation<NI>>,
+    step: &Step,
+) {
+    match step {
+        Step::Grants(size, offset) => {
+            assert_same_at(rt, at, &refusal(allocator, *size, 1), &None);
+            let granted = allocator.allocate(*size);
+            keep(rt, at, allocator, handles, granted, *size, *offset);
+        }
+        Step::Refuses(size) => {
+            assert_that_at(rt, at, allocator.refusal(*size).is_some());
+            assert_that_at(rt, at, allocator.allocate(*size).is_none());
+        }
+        Step::Aligns(size, align, offset) => {
+            let granted = request(rt, at, allocator, *size, *align);
+            keep(rt, at, allocator, handles, granted, *size, *offset);
+        }
+        Step::RefusesAligned(size, align) => {
+            let granted = request(rt, at, allocator, *size, *align);
+            assert_that_at(rt, at, granted.is_none());
+        }
+        Step::Extends(more, grown) => {
+            assert_same_at(rt, at, &allocator.extend(*more), grown);
+        }
+        Step::Undoes(size, granted) => {
+            assert_same_at(rt, at, &undo(allocator, *size), granted);
+        }
+        Step::Resets => allocator.reset(),
+        Step::Compacts(wanted) => expect_moves(rt, at, allocator, handles.as_slice(), wanted),
         Step::Frees(number)
         | Step::FreesAltered(number, _)
         | Step::Shrinks(number, _, _)
         | Step::Grows(number, _, _)
         | Step::Lives(number, _)
         | Step::Begins(number, _)
-        | Step::Gone(number) => step_on_grant(rt, allocator, grant_of(rt, handles, *number), step),
+        | Step::Gone(number) => {
+            let handle = grant_of(rt, at, handles, *number);
+            step_on_grant(rt, at, allocator, handle, step);
+        }
+        _ => observe(rt, alloc, at, allocator, handles.as_slice(), step),
     }
-    Ok(())
 }
 
 /// Makes the calls in order.
 pub fn follow<NI: NodeIndex>(
     rt: &impl Abort,
     alloc: Global,
+    name: &'static str,
     allocator: &mut Allocator<NI>,
     steps: &[Step],
-) -> Result<(), Fail> {
+) {
     let mut handles = Vec::new(alloc);
-    for step in steps {
-        take(rt, alloc, allocator, &mut handles, step)?;
+    for (place, step) in steps.iter().enumerate() {
+        take(rt, alloc, &(name, place), allocator, &mut handles, step);
     }
-    Ok(())
 }
 
 /// How an allocator is constructed.
@@ -329,6 +445,8 @@ pub enum Limit {
     Ample,
     /// By `new`. Four blocks are enough for the calls.
     Few,
+    /// By `new`, of the third index type alone.
+    Least,
     /// By `with_max_allocs`, of each index type that admits this limit.
     Limited(u32),
 }
@@ -339,30 +457,38 @@ pub fn make_allocator<NI: NodeIndex>(
     size: u32,
     limit: Limit,
 ) -> Result<Option<Allocator<NI>>, AllocError> {
-    match limit {
-        Limit::Ample | Limit::Few => Ok(Some(Allocator::new(alloc, size)?)),
+    let is_admitted = match limit {
+        Limit::Ample => NI::MAX > 100,
+        Limit::Few => true,
+        Limit::Least => NI::MAX <= 100,
         Limit::Limited(limit) => {
             if limit < 2 || limit >= NI::MAX - 1 {
                 return Ok(None);
             }
-            Ok(Some(Allocator::with_max_allocs(alloc, size, limit)?))
+            return Ok(Some(Allocator::with_max_allocs(alloc, size, limit)?));
         }
+    };
+    if is_admitted {
+        Ok(Some(Allocator::new(alloc, size)?))
+    } else {
+        Ok(None)
     }
 }
 
-// Makes the calls on a new allocator, and returns how many there were.
+// Makes the calls on a new allocator, if its index type admits it. It returns whether there were any.
 fn follow_by<NI: NodeIndex>(
     rt: &impl Abort,
     alloc: Global,
+    name: &'static str,
     size: u32,
     limit: Limit,
     steps: &[Step],
-) -> Result<usize, Fail> {
-    match make_allocator::<NI>(alloc, size, limit)? {
-        None => Ok(0),
+) -> bool {
+    match make_allocator::<NI>(alloc, size, limit).expect(rt, "memory") {
+        None => false,
         Some(mut allocator) => {
-            follow(rt, alloc, &mut allocator, steps)?;
-            Ok(steps.len())
+            follow(rt, alloc, name, &mut allocator, steps);
+            !steps.is_empty()
         }
     }
 }
@@ -371,16 +497,32 @@ fn follow_by<NI: NodeIndex>(
 pub fn expect(
     rt: &impl Abort,
     alloc: Global,
+    name: &'static str,
     size: u32,
     limit: Limit,
     steps: &[Step],
-) -> Result<(), Fail> {
-    let wide = follow_by::<u32>(rt, alloc, size, limit, steps)?;
-    assert_that_at(rt, &"no allocator, or no calls", wide > 0);
-    let _narrow = follow_by::<u16>(rt, alloc, size, limit, steps)?;
-    if let Limit::Ample = limit {
-        return Ok(());
+) {
+    let wide = follow_by::<u32>(rt, alloc, name, size, limit, steps);
+    let narrow = follow_by::<u16>(rt, alloc, name, size, limit, steps);
+    let third = follow_by::<Tiny>(rt, alloc, name, size, limit, steps);
+    assert_that_at(
+        rt,
+        &("no allocator, or no calls", name),
+        wide || narrow || third,
+    );
+}
+
+/// A new space, and calls on it.
+pub struct Case {
+    pub name: &'static str,
+    pub size: u32,
+    pub limit: Limit,
+    pub steps: &'static [Step],
+}
+
+/// Makes the calls of each case.
+pub fn expect_all(rt: &impl Abort, alloc: Global, cases: &[Case]) {
+    for case in cases {
+        expect(rt, alloc, case.name, case.size, case.limit, case.steps);
     }
-    let _tiny = follow_by::<Tiny>(rt, alloc, size, limit, steps)?;
-    Ok(())
 }

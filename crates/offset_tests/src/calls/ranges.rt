@@ -1,0 +1,174 @@
+//! The `Debug` texts of handles, used blocks, moves and walks, and that blocks and moves are equal only where all their
+//! fields are.
+
+use crate::asserts::{assert_same, assert_text, assert_that, assert_that_at, text_of};
+use offset_allocator::{Allocation, Allocator, Block, Move};
+use std::alloc::{AllocError, Global};
+use std::process::Abort;
+
+// A text with a number in it.
+fn with_number(alloc: Global, start: &str, number: usize, end: &str) -> Result<String, AllocError> {
+    format!(in alloc; "{start}{number}{end}")
+}
+
+// The name in the text of a handle, which has this offset.
+fn name_of(rt: &impl Abort, alloc: Global, handle: Allocation<u32>, offset: usize) -> usize {
+    let text = text_of(rt, alloc, &handle);
+    let start = with_number(alloc, "Allocation { offset: ", offset, ", metadata: ");
+    let name = text
+        .strip_prefix(start.expect(rt, "memory").as_str())
+        .and_then(|rest| rest.strip_suffix(" }"))
+        .expect(rt, "the text of a handle");
+    name.parse::<u32>().expect(rt, "a number") as usize
+}
+
+// More ranges than a number of one, two or three digits can name.
+const COUNT: u32 = 1_200;
+
+// A space of `COUNT` ranges of one unit and one free unit. Its handles, in space order, have different names, below the
+// node limit.
+fn units(rt: &impl Abort, alloc: Global) -> Allocator<u32> {
+    let made = Allocator::<u32>::with_max_allocs(alloc, COUNT + 1, 2_000);
+    let mut space = made.expect(rt, "memory");
+    let mut is_seen = [false; 2_000];
+    for offset in 0..COUNT {
+        let handle = space.allocate(1).expect(rt, "room");
+        let name = name_of(rt, alloc, handle, offset as usize);
+        assert_that_at(rt, &(name, offset), name < 2_000);
+        assert_that_at(rt, &(name, offset), !is_seen[name]);
+        is_seen[name] = true;
+    }
+    space
+}
+
+// What is left of the walk: as a number, and as a text.
+#[test]
+fn many_ranges_have_names_and_are_counted(rt: HostRuntime) {
+    let space = units(&rt, rt.alloc());
+    let mut blocks = space.blocks();
+    for left in [1_201usize, 1_200, 1_199] {
+        assert_same(&rt, &blocks.len(), &left);
+        assert_same(&rt, &blocks.size_hint(), &(left, Some(left)));
+        let wanted = with_number(rt.alloc(), "Blocks { remaining: ", left, " }");
+        assert_text(&rt, rt.alloc(), &blocks, &wanted.expect(&rt, "memory"));
+        assert_that(&rt, blocks.next().is_some());
+    }
+}
+
+#[test]
+fn a_free_block_has_a_text(rt: HostRuntime) {
+    let space = Allocator::<u32>::with_max_allocs(rt.alloc(), 100, 8).expect(&rt, "memory");
+    let mut blocks = space.blocks();
+    assert_text(&rt, rt.alloc(), &blocks, "Blocks { remaining: 1 }");
+    let wanted = "Some(Block { offset: 0, size: 100, allocation: None })";
+    assert_text(&rt, rt.alloc(), &blocks.next(), wanted);
+}
+
+// The last block is one of 64 units from 30 on, used under a name.
+#[test]
+fn used_blocks_have_a_text_and_differ_in_each_field(rt: HostRuntime) {
+    let mut space = Allocator::<u32>::with_max_allocs(rt.alloc(), 94, 8).expect(&rt, "memory");
+    let other = space.allocate(30).expect(&rt, "room");
+    let handle = space.allocate(64).expect(&rt, "room");
+    let block = space.blocks().next().expect(&rt, "a block");
+    let start =
+        "Block { offset: 30, size: 64, allocation: Some(Allocation { offset: 30, metadata: ";
+    let name = name_of(&rt, rt.alloc(), handle, 30);
+    let wanted = with_number(rt.alloc(), start, name, " }) }").expect(&rt, "memory");
+    assert_text(&rt, rt.alloc(), &block, &wanted);
+    let same = Block {
+        offset: 30,
+        size: 64,
+        allocation: Some(handle),
+    };
+    assert_that(&rt, block == same);
+    for (offset, size, allocation) in [
+        (31, 64, Some(handle)),
+        (286, 64, Some(handle)),
+        (30, 65, Some(handle)),
+        (30, 320, Some(handle)),
+        (30, 64, None),
+        (30, 64, Some(other)),
+    ] {
+        let changed = Block {
+            offset,
+            size,
+            allocation,
+        };
+        assert_that_at(&rt, &(block, changed), block != changed);
+    }
+}
+
+// The last move of a compaction.
+fn last_move(rt: &impl Abort, space: &mut Allocator) -> Move {
+    let mut last = None;
+    space.compact(&mut |range: Move| last = Some(range));
+    last.expect(rt, "a move")
+}
+
+// Of a range of 20 units, which moves from 10 to 0. The text begins with its name, its offsets and its size.
+#[test]
+fn a_move_has_a_text(rt: HostRuntime) {
+    let mut space = Allocator::<u32>::with_max_allocs(rt.alloc(), 100, 8).expect(&rt, "memory");
+    let first = space.allocate(10).expect(&rt, "room");
+    let second = space.allocate(20).expect(&rt, "room");
+    assert_that(&rt, space.is_live(first));
+    space.free(first);
+    let range = last_move(&rt, &mut space);
+    let text = text_of(&rt, rt.alloc(), &range);
+    let name = name_of(&rt, rt.alloc(), second, 10);
+    let end = ", from: 10, to: 0, size: 20";
+    let wanted = with_number(rt.alloc(), "Move { name: ", name, end).expect(&rt, "memory");
+    assert_that_at(&rt, &text, text.starts_with(wanted.as_str()));
+}
+
+// The first move of a compaction.
+fn first_move(rt: &impl Abort, space: &mut Allocator) -> Move {
+    let mut first = None;
+    space.compact(&mut |range: Move| {
+        if first.is_none() {
+            first = Some(range);
+        }
+    });
+    first.expect(rt, "a move")
+}
+
+// Of units 1 and 2, once the second range is moved to unit 0, and later the third one.
+#[test]
+fn moves_differ_in_each_field(rt: HostRuntime) {
+    let mut space = Allocator::<u32>::with_max_allocs(rt.alloc(), 5, 8).expect(&rt, "memory");
+    let first = space.allocate(1).expect(&rt, "room");
+    let second = space.allocate(2).expect(&rt, "room");
+    assert_that(&rt, space.allocate(2).is_some());
+    assert_that(&rt, space.is_live(first));
+    space.free(first);
+    let range = first_move(&rt, &mut space);
+    assert_that(&rt, space.allocate(1).is_some());
+    assert_that(&rt, space.is_live(second));
+    space.free(second);
+    let first = space.allocate(1).expect(&rt, "room");
+    let _ = first_move(&rt, &mut space);
+    assert_that(&rt, space.is_live(first));
+    space.free(first);
+    let of_another = first_move(&rt, &mut space);
+    for found in [range, of_another] {
+        assert_same(&rt, &(found.from, found.to, found.size), &(1, 0, 2));
+    }
+    let same = range;
+    assert_that(&rt, range == same);
+    assert_that(&rt, range != of_another);
+    for (from, to, size) in [
+        (2u32, 0u32, 2u32),
+        (257, 0, 2),
+        (1, 1, 2),
+        (1, 256, 2),
+        (1, 0, 3),
+        (1, 0, 258),
+    ] {
+        let mut changed = range;
+        changed.from = from;
+        changed.to = to;
+        changed.size = size;
+        assert_that_at(&rt, &(range, changed), range != changed);
+    }
+}
