@@ -1,6 +1,10 @@
 mod Apart
 mod Backward
+mod Counted
 mod Drawn
+mod Merged
+mod Ordered
+mod Peaks
 mod Quieter
 mod Ranges
 mod Seen

@@ -13,6 +13,10 @@ use Rattle.offset_script.specs.Grammar.{Plan, meaning_of}
 abbrev pub pixels_text : ℕ → List ℕ
 pixels_text n = decimal (n / 100) ++ (if nat_eq (n % 100) 0 then [] else codes "." ++ decimal (n / 10 % 10) ++ (if nat_eq (n % 10) 0 then [] else decimal (n % 10)))
 
+-- tenths of a percent, written in percent with one decimal
+abbrev pub share_text : ℕ → List ℕ
+share_text n = decimal (n / 10) ++ codes "." ++ decimal (n % 10)
+
 -- ---- the picture
 
 -- the text begins with `<svg ` and ends with `</svg>` and a line end

@@ -1,5 +1,10 @@
+pub mod Axes
+pub mod Counting
 pub mod Drawing
 pub mod Ends
+pub mod Figures
 pub mod Lives
+pub mod Merging
+pub mod Places
 pub mod Quiet
 pub mod Reported

@@ -68,6 +68,10 @@ IsSeen size limit cs l = (i : ℕ) → i ≤ length cs → range_of l.number 0 (
 abbrev pub IsWithin : ℕ → ℕ → List Command → Life → Type 0
 IsWithin size limit cs l = l.offset + l.size ≤ total (blocks_after (l.first + 1) size limit cs)
 
+-- a life does not end before it begins
+abbrev pub IsOrdered : Life → Type 0
+IsOrdered l = l.first ≤ l.last
+
 -- two lives share no unit at any time
 abbrev pub AreApart : Life → Life → Type 0
 AreApart a b = (a.last ≤ b.first) ⊎ ((b.last ≤ a.first) ⊎ ((a.offset + a.size ≤ b.offset) ⊎ (b.offset + b.size ≤ a.offset)))

@@ -1,6 +1,7 @@
 //! Axes: where a value lies on the picture.
 
-ghost use Rattle.std.specs.Prelude.{◌≡◌, ◌+◌, ◌-◌, ◌*◌, ◌/◌, ◌<◌, ◌≤◌, min};
+ghost use Rattle.std.specs.Prelude.{◌≡◌, ◌+◌, ◌-◌, ◌*◌, ◌^◌, ◌<◌, ◌≤◌};
+ghost use Rattle.offset_lives.specs.Axes.{along};
 
 /// A tenth of a pixel. Lengths are in hundredths of a pixel.
 pub const TENTH: u32 = 10;
@@ -22,7 +23,7 @@ pub struct Axis {
 impl Axis {
     // The distance of a value from the value 0.
     fn length(&self, value: u64) -> u32
-        ensures exact { result ≡ min value self.now.most * self.now.span / self.now.most }
+        ensures exact { result ≡ along self.now.span self.now.most value }
         ensures within { result ≤ self.now.span }
     {
         let most = u64::from(self.most);
@@ -31,15 +32,16 @@ impl Axis {
 
     /// Where a value lies, if the axis runs to the right.
     pub fn right(&self, value: u64) -> u32
-        ensures exact { result ≡ self.now.start + min value self.now.most * self.now.span / self.now.most }
+        ensures exact { result ≡ self.now.start + along self.now.span self.now.most value }
         ensures within { result ≤ self.now.start + self.now.span }
+        ensures small { self.now.most < 2 ^ 32 }
     {
         self.start + self.length(value)
     }
 
     /// Where a value lies, if the axis runs upwards.
     pub fn up(&self, value: u64) -> u32
-        ensures exact { result ≡ self.now.start + self.now.span - min value self.now.most * self.now.span / self.now.most }
+        ensures exact { result ≡ self.now.start + self.now.span - along self.now.span self.now.most value }
         ensures within { self.now.start ≤ result }
         ensures below { result ≤ self.now.start + self.now.span }
     {

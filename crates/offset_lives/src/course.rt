@@ -1,5 +1,8 @@
 //! The course of a script: all that a picture shows of it.
 
+ghost use Rattle.std.specs.Prelude.{All, IfOk, map};
+ghost use Rattle.offset_lives.specs.Lives.{IsOrdered, life_view};
+
 use crate::living::{Life, lives};
 use crate::quiet::without_full;
 use crate::reporting::reports;
@@ -44,7 +47,9 @@ fn growth(alloc: Global, script: &Script) -> Result<(Vec<u32>, Vec<usize>), Allo
 }
 
 /// Plays a script, without its full reports, and returns its course.
-pub fn course_of(alloc: Global, script: &Script) -> Result<Course, AllocError> {
+pub fn course_of(alloc: Global, script: &Script) -> Result<Course, AllocError>
+    ensures { IfOk result (λ c. All IsOrdered (map life_view c.lives.items)) }
+{
     let script = without_full(alloc, script)?;
     let (sizes, refused) = growth(alloc, &script)?;
     Ok(Course {

@@ -1,7 +1,8 @@
 //! The picture of a script.
 
-ghost use Rattle.std.specs.Prelude.{IfOk, string_bytes};
+ghost use Rattle.std.specs.Prelude.{All, IfOk, map, string_bytes};
 ghost use Rattle.offset_lives.specs.Drawing.{IsPicture};
+ghost use Rattle.offset_lives.specs.Lives.{IsOrdered, life_view};
 
 use crate::course::{Course, course_of};
 use crate::figures::figures_of;
@@ -42,7 +43,9 @@ fn put_reports(
 }
 
 // What the element `svg` holds, from its attributes on.
-fn body(alloc: Global, course: &Course) -> Result<String, AllocError> {
+fn body(alloc: Global, course: &Course) -> Result<String, AllocError>
+    requires { All IsOrdered (map life_view course.now.lives.items) }
+{
     let figures = figures_of(alloc, course)?;
     let ranges = ranges_plot(&figures);
     let reports = reports_plot(&figures);
@@ -64,6 +67,7 @@ fn body(alloc: Global, course: &Course) -> Result<String, AllocError> {
 
 /// The picture of a course, as SVG.
 pub fn picture_of(alloc: Global, course: &Course) -> Result<String, AllocError>
+    requires { All IsOrdered (map life_view course.now.lives.items) }
     ensures { IfOk result (λ text. IsPicture (string_bytes text)) }
 {
     let body = body(alloc, course)?;

@@ -2,7 +2,7 @@
 
 use crate::ages::AGES;
 use crate::figures::{Figures, counted};
-use crate::numbers::{Grouped, Pixels};
+use crate::numbers::{Grouped, Pixels, share_of};
 use crate::plots::{LEFT, REPORTS_TOP, WIDTH};
 use std::alloc::AllocError;
 
@@ -41,12 +41,10 @@ fn put_use(out: &mut String, figures: &Figures) -> Result<(), AllocError> {
     )?;
     let used = Grouped(figures.most_used);
     let size = Grouped(figures.size_then);
-    let tenths = u64::from(figures.most_used) * 1000 / u64::from(figures.size_then.max(1));
-    let percent = tenths / 10;
-    let tenth = tenths % 10;
+    let share = share_of(figures.most_used, figures.size_then);
     writeln!(
         out,
-        "Most in use: {used} of {size} units, {percent}.{tenth} percent.</text>"
+        "Most in use: {used} of {size} units, {share} percent.</text>"
     )
 }
 

@@ -5,7 +5,7 @@ ghost use Rattle.offset_script.specs.Machine.{answer_view};
 ghost use Rattle.offset_script.specs.Machine as machine;
 ghost use Rattle.offset_script.specs.Totals.{requested_units};
 ghost use Rattle.offset_lives.specs.Ends.{grants_in, end_in};
-ghost use Rattle.offset_lives.specs.Lives.{AreApart, IsWithin, life_of_answer, leaves, lives_of, life_view};
+ghost use Rattle.offset_lives.specs.Lives.{AreApart, IsOrdered, IsWithin, life_of_answer, leaves, lives_of, life_view};
 
 use offset_script::{Answer, Command, Script, play_script};
 use std::alloc::{AllocError, Global};
@@ -132,6 +132,8 @@ pub fn lives(alloc: Global, script: &Script) -> Result<Vec<Life>, AllocError>
     // Each range lies within the space as the call of its grant left it.
     ensures within { IfOk result
         (λ v. All (IsWithin script.now.size script.now.max_allocs script.now.commands.items) (map life_view v.items)) }
+    // No life ends before it begins.
+    ensures ordered { IfOk result (λ v. All IsOrdered (map life_view v.items)) }
 {
     let answers = play_script(alloc, script)?;
     let calls = script.commands.len();

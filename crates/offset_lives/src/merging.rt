@@ -1,5 +1,10 @@
 //! Merges the rectangles of many grants.
 
+ghost use Rattle.std.specs.Prelude.{◌≡◌, ◌≤◌, IfOk, IsTrue, map};
+ghost use Rattle.std.specs.List.{list_any};
+ghost use Rattle.offset_lives.specs.Merging.{is_tiny, round_out, drawn, touch, join, Place, covers};
+ghost use Rattle.offset_lives.specs.Places.{shape_of};
+
 use crate::axes::TENTH;
 use crate::living::Life;
 use crate::plots::Plot;
@@ -7,32 +12,56 @@ use crate::shapes::{Shape, shape_of};
 use std::alloc::{AllocError, Global};
 
 // Whether a rectangle is thinner than a tenth of a pixel.
-fn is_tiny(shape: &Shape) -> bool {
+fn is_tiny(shape: &Shape) -> bool
+    ensures { result ≡ is_tiny shape.now }
+{
     shape.width() < TENTH || shape.height() < TENTH
 }
 
 // The rectangle with its edges at whole tenths of a pixel around it.
-fn round_out(shape: &Shape) -> Shape {
+fn round_out(shape: &Shape) -> Shape
+    requires right { shape.now.right ≤ 120000 }
+    requires bottom { shape.now.bottom ≤ 120000 }
+    ensures { result ≡ round_out shape.now }
+{
     Shape {
         top: shape.top / TENTH * TENTH,
-        bottom: shape.bottom.div_ceil(TENTH).saturating_mul(TENTH),
+        bottom: shape.bottom.div_ceil(TENTH) * TENTH,
         age: shape.age,
         left: shape.left / TENTH * TENTH,
-        right: shape.right.div_ceil(TENTH).saturating_mul(TENTH),
+        right: shape.right.div_ceil(TENTH) * TENTH,
     }
 }
 
-// Whether two rectangles have the same height and age, and the second begins at or before the end of the first.
-fn can_merge(before: &Shape, shape: &Shape) -> bool {
+// Whether two rectangles have the same height and age, and touch or overlap.
+fn touch(before: &Shape, shape: &Shape) -> bool
+    ensures { result ≡ touch before.now shape.now }
+{
     before.top == shape.top
         && before.bottom == shape.bottom
         && before.age == shape.age
         && shape.left <= before.right
+        && before.left <= shape.right
+}
+
+// Two rectangles that touch, as one.
+fn join(before: Shape, shape: &Shape) -> Shape
+    ensures { result ≡ join before shape.now }
+{
+    Shape {
+        left: shape.left.min(before.left),
+        right: shape.right.max(before.right),
+        ..before
+    }
 }
 
 /// The rectangles of lives. Those thinner than a tenth of a pixel are rounded to whole tenths, and then those of the
 /// same height and age that touch are merged.
-pub fn shapes_of(alloc: Global, plot: &Plot, lives: &[Life]) -> Result<Vec<Shape>, AllocError> {
+pub fn shapes_of(alloc: Global, plot: &Plot, lives: &[Life]) -> Result<Vec<Shape>, AllocError>
+    // Merging covers and uncovers no place: at each height and age they cover those that the rectangles of the lives do.
+    ensures { IfOk result (λ v. (p : Place) → list_any (covers p) v.items
+        ≡ list_any (covers p) (map (λ l. drawn (shape_of plot.now l)) lives.now)) }
+{
     let mut found = Vec::new(alloc);
     let mut tiny = Vec::new(alloc);
     for life in lives {
@@ -47,12 +76,7 @@ pub fn shapes_of(alloc: Global, plot: &Plot, lives: &[Life]) -> Result<Vec<Shape
     let mut last: Option<Shape> = None;
     for shape in &tiny {
         match last {
-            Some(before) if can_merge(&before, shape) => {
-                last = Some(Shape {
-                    right: shape.right.max(before.right),
-                    ..before
-                });
-            }
+            Some(before) if touch(&before, shape) => last = Some(join(before, shape)),
             Some(before) => {
                 found.push(before)?;
                 last = Some(*shape);

@@ -1,5 +1,8 @@
 //! Numbers as the picture writes them.
 
+ghost use Rattle.std.specs.Prelude.{◌≡◌};
+ghost use Rattle.offset_lives.specs.Figures.{share_of};
+
 use std::fmt;
 
 /// A length in hundredths of a pixel, written in pixels: 1250 is 12.5.
@@ -45,5 +48,29 @@ impl fmt::Display for Grouped {
         } else {
             write!(f, "{ones}")
         }
+    }
+}
+
+/// A share in tenths of a percent, written in percent with one decimal: 957 is 95.7.
+#[derive(Clone, Copy, PartialEq, Debug)]
+pub struct Share(pub u64);
+
+/// The share of a space that is used, rounded down. Of a space of no units it is that of a space of one.
+pub fn share_of(used: u32, size: u32) -> Share
+    ensures { result.0 ≡ share_of used size }
+{
+    Share(u64::from(used) * 1000 / u64::from(size.max(1)))
+}
+
+impl fmt::Display for Share {
+    ghost use Rattle.std.specs.Prelude.{Some};
+    ghost use Rattle.offset_lives.specs.Drawing.{share_text};
+
+    ghost output = { λ s. Some (share_text s.0) };
+
+    fn fmt<W: fmt::Write>(&self, f: &mut fmt::Formatter<W>) -> fmt::Result {
+        let percent = self.0 / 10;
+        let tenth = self.0 % 10;
+        write!(f, "{percent}.{tenth}")
     }
 }

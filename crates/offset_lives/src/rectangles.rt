@@ -1,5 +1,8 @@
 //! A rectangle for each grant.
 
+ghost use Rattle.std.specs.Prelude.{◌≡◌, ◌≤◌, ◌↔◌, IsTrue};
+ghost use Rattle.offset_lives.specs.Places.{frame_of};
+
 use crate::ages::AGES;
 use crate::living::Life;
 use crate::merging::shapes_of;
@@ -17,19 +20,49 @@ const SMALLEST: u32 = 30;
 // From this width and height on, a rectangle has an edge in the colour of the background: 3 pixels.
 const EDGED: u32 = 300;
 
-// The beginning of a rectangle's element. One that is too thin to be seen becomes 0.3 pixels thick.
+// A rectangle as it is drawn, in hundredths of a pixel, from its upper left corner.
+#[derive(Clone, Copy)]
+pub struct Frame {
+    x: u32,
+    y: u32,
+    width: u32,
+    height: u32,
+}
+
+// A rectangle that is too thin to be seen becomes 0.3 pixels thick, to the right and upwards.
+fn frame_of(shape: &Shape) -> Frame
+    ensures { result ≡ frame_of shape.now }
+{
+    let height = shape.height().max(SMALLEST);
+    Frame {
+        x: shape.left,
+        y: shape.bottom.saturating_sub(height),
+        width: shape.width().max(SMALLEST),
+        height,
+    }
+}
+
+impl Frame {
+    // Whether it has an edge: it is at least 3 pixels wide and high.
+    fn has_edge(&self) -> bool
+        ensures { IsTrue result ↔ (300 ≤ self.now.width × 300 ≤ self.now.height) }
+    {
+        self.width >= EDGED && self.height >= EDGED
+    }
+}
+
+// The beginning of a rectangle's element.
 fn put_shape(out: &mut String, shape: &Shape) -> Result<(), AllocError> {
-    let across = shape.width().max(SMALLEST);
-    let high = shape.height().max(SMALLEST);
-    let x = Pixels(shape.left);
-    let y = Pixels(shape.bottom.saturating_sub(high));
-    let width = Pixels(across);
-    let height = Pixels(high);
+    let frame = frame_of(shape);
+    let x = Pixels(frame.x);
+    let y = Pixels(frame.y);
+    let width = Pixels(frame.width);
+    let height = Pixels(frame.height);
     write!(
         out,
         "<rect x='{x}' y='{y}' width='{width}' height='{height}'"
     )?;
-    if across >= EDGED && high >= EDGED {
+    if frame.has_edge() {
         write!(out, " class='edge'")?;
     }
     Ok(())

@@ -1,5 +1,8 @@
 //! Where a grant is on the picture.
 
+ghost use Rattle.std.specs.Prelude.{◌≡◌, ◌-◌, ◌<◌, ◌≤◌};
+ghost use Rattle.offset_lives.specs.Places.{shape_of};
+
 use crate::ages::age_of;
 use crate::living::Life;
 use crate::plots::Plot;
@@ -17,18 +20,26 @@ pub struct Shape {
 
 impl Shape {
     /// How wide it is.
-    pub fn width(&self) -> u32 {
+    pub fn width(&self) -> u32
+        ensures { result ≡ self.now.right - self.now.left }
+    {
         self.right.saturating_sub(self.left)
     }
 
     /// How high it is.
-    pub fn height(&self) -> u32 {
+    pub fn height(&self) -> u32
+        ensures { result ≡ self.now.bottom - self.now.top }
+    {
         self.bottom.saturating_sub(self.top)
     }
 }
 
 /// The rectangle of a life: from the call that granted it to the one that ended it, as high as its range.
-pub fn shape_of(plot: &Plot, life: &Life) -> Shape {
+pub fn shape_of(plot: &Plot, life: &Life) -> Shape
+    ensures shape { result ≡ shape_of plot.now life.now }
+    ensures right { result.right ≤ 120000 }
+    ensures bottom { result.bottom ≤ 120000 }
+{
     Shape {
         top: plot.units.up(u64::from(life.offset) + u64::from(life.size)),
         bottom: plot.units.up(u64::from(life.offset)),

@@ -4,9 +4,10 @@ use Rattle.offset_script.specs.declared.scripts.Command.{Command}
 use Rattle.offset_script.specs.Machine.{answer_view, Answer, State, answers, start, IsPlayed}
 use Rattle.offset_script.proofs.Well.{well_start}
 use Rattle.offset_lives.specs.Ends.{end_in}
-use Rattle.offset_lives.specs.Lives.{leaves, AreApart, IsWithin}
+use Rattle.offset_lives.specs.Lives.{leaves, AreApart, IsOrdered, IsWithin}
 use Rattle.offset_lives.proofs.Backward.{answers_count, number_most, end_back, lives_back, seen_at, left_at, none_is, pushed, not_pushed, all_lives, each_result}
 use Rattle.offset_lives.proofs.Apart.{apart_law, within_law}
+use Rattle.offset_lives.proofs.Ordered.{lives_are_ordered}
 use Rattle.offset_lives.proofs.living.lives.Goals as goal
 use Rattle.offset_lives.proofs.living.lives.Goals.{in-Some+in_ok-push, in_default}
 
@@ -69,4 +70,5 @@ returns c =
       lives = all;
       apart = each_result (AllPairs AreApart) c.in_reverse.result _ all (apart_law script.size script.max_allocs script.low cs);
       within = each_result (All (IsWithin script.size script.max_allocs cs)) c.in_reverse.result _ all (within_law script.size script.max_allocs script.low cs);
+      ordered = each_result (All IsOrdered) c.in_reverse.result _ all (lives_are_ordered script.size script.max_allocs cs);
     }
