@@ -2,6 +2,7 @@ mod Apart
 mod Backward
 mod Counted
 mod Drawn
+mod Grown
 mod Merged
 mod Ordered
 mod Peaks

@@ -10,7 +10,7 @@ use Rattle.offset_lives.specs.Quiet.{replace_full, replace_all_full}
 use Rattle.offset_lives.specs.Reported.{reports_from, reports_of}
 use Rattle.offset_lives.proofs.Backward.{same_answer}
 
-quiet_state : (c : Command) (s : State) → (step (replace_full c) s).state ≡ (step c s).state
+pub quiet_state : (c : Command) (s : State) → (step (replace_full c) s).state ≡ (step c s).state
 quiet_state (command.Alloc n) s = refl
 quiet_state (command.Free k) s = refl
 quiet_state (command.Size k) s = refl

@@ -3,6 +3,7 @@ pub mod Counting
 pub mod Drawing
 pub mod Ends
 pub mod Figures
+pub mod Growth
 pub mod Lives
 pub mod Merging
 pub mod Places

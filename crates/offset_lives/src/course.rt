@@ -1,7 +1,11 @@
 //! The course of a script: all that a picture shows of it.
 
-ghost use Rattle.std.specs.Prelude.{All, IfOk, map};
-ghost use Rattle.offset_lives.specs.Lives.{IsOrdered, life_view};
+ghost use Rattle.std.specs.Prelude.{◌≡◌, All, IfOk, map};
+ghost use Rattle.offset_script.specs.Machine.{answer_view};
+ghost use Rattle.offset_script.specs.Totals.{added_units};
+ghost use Rattle.offset_lives.specs.Growth.{AreSizes, is_refusal, refusals_of};
+ghost use Rattle.offset_lives.specs.Lives.{IsOrdered, life_view, lives_of};
+ghost use Rattle.offset_lives.specs.Reported.{report_view, reports_of};
 
 use crate::living::{Life, lives};
 use crate::quiet::without_full;
@@ -28,27 +32,56 @@ pub struct Course {
     pub refused: Vec<usize>,
 }
 
+// The units that a command with this answer adds to the space.
+fn added_units(command: Command, answer: &Answer) -> u32
+    ensures { result ≡ added_units command (answer_view answer.now) }
+{
+    match (command, answer) {
+        (Command::Extend(more), Answer::Extended) => more,
+        _ => 0,
+    }
+}
+
+// Whether a call returned `none`.
+fn is_refusal(answer: &Answer) -> bool
+    ensures { result ≡ is_refusal (answer_view answer.now) }
+{
+    matches!(answer, Answer::Refused)
+}
+
 // The units of the space in each state, and the calls that returned `none`.
-fn growth(alloc: Global, script: &Script) -> Result<(Vec<u32>, Vec<usize>), AllocError> {
+fn growth(alloc: Global, script: &Script) -> Result<(Vec<u32>, Vec<usize>), AllocError>
+    ensures sizes { IfOk result (λ g. AreSizes g.0.items script.now.size script.now.max_allocs script.now.commands.items) }
+    ensures refused { IfOk result
+        (λ g. g.1.items ≡ refusals_of script.now.size script.now.max_allocs script.now.commands.items) }
+{
     let answers = play_script(alloc, script)?;
+    let calls = script.commands.len();
     let mut size = script.size;
-    let mut sizes = Vec::with_capacity(alloc, script.commands.len() + 1)?;
+    let mut sizes = Vec::new(alloc);
     let mut refused = Vec::new(alloc);
     sizes.push(size)?;
-    for (i, (command, answer)) in script.commands.iter().zip(answers.iter()).enumerate() {
-        match (command, answer) {
-            (Command::Extend(more), Answer::Extended) => size = size.saturating_add(*more),
-            (_, Answer::Refused) => refused.push(i)?,
-            _ => {}
-        }
+    for i in 0..calls {
+        let answer = &answers[i];
+        size = size.saturating_add(added_units(script.commands[i], answer));
         sizes.push(size)?;
+        if is_refusal(answer) {
+            refused.push(i)?;
+        }
     }
     Ok((sizes, refused))
 }
 
 /// Plays a script, without its full reports, and returns its course.
 pub fn course_of(alloc: Global, script: &Script) -> Result<Course, AllocError>
-    ensures { IfOk result (λ c. All IsOrdered (map life_view c.lives.items)) }
+    ensures lives { IfOk result
+        (λ c. map life_view c.lives.items ≡ lives_of script.now.size script.now.max_allocs script.now.commands.items) }
+    ensures ordered { IfOk result (λ c. All IsOrdered (map life_view c.lives.items)) }
+    ensures reports { IfOk result
+        (λ c. map report_view c.reports.items ≡ reports_of script.now.size script.now.max_allocs script.now.commands.items) }
+    ensures sizes { IfOk result (λ c. AreSizes c.sizes.items script.now.size script.now.max_allocs script.now.commands.items) }
+    ensures refused { IfOk result
+        (λ c. c.refused.items ≡ refusals_of script.now.size script.now.max_allocs script.now.commands.items) }
 {
     let script = without_full(alloc, script)?;
     let (sizes, refused) = growth(alloc, &script)?;
