@@ -5,7 +5,6 @@ use offset_allocator::{Allocation, Allocator, NodeIndex};
 use offset_test_base::tiny::Tiny;
 use std::alloc::Global;
 use std::process::Abort;
-use std::test::Fail;
 
 // Sizes of spaces, each with the largest class value that is no larger.
 const SIZES: [(u32, u32); 7] = [
@@ -18,19 +17,14 @@ const SIZES: [(u32, u32); 7] = [
     (4_294_967_295, 4_026_531_840),
 ];
 
-fn expect_space<NI: NodeIndex>(
-    rt: &impl Abort,
-    mut allocator: Allocator<NI>,
-    size: u32,
-    largest: u32,
-) {
+fn expect_space<NI: NodeIndex>(rt: &impl Abort, alloc: Global, size: u32, largest: u32) {
+    let mut allocator = Allocator::<NI>::new(alloc, size).expect(rt, "memory");
     let report = allocator.storage_report();
-    assert_same(rt, &report.total_free_space, &size);
     assert_same_at(
         rt,
         &("a space of", size),
-        &report.largest_free_region,
-        &largest,
+        &(report.total_free_space, report.largest_free_region),
+        &(size, largest),
     );
     match allocator.allocate(largest) {
         None => assert_that_at(rt, &("refused", largest), false),
@@ -39,18 +33,12 @@ fn expect_space<NI: NodeIndex>(
 }
 
 #[test]
-fn makes_large_spaces(rt: HostRuntime) -> Result<(), Fail> {
+fn makes_large_spaces(rt: HostRuntime) {
     for (size, largest) in SIZES {
-        expect_space(&rt, Allocator::<u32>::new(rt.alloc(), size)?, size, largest);
-        expect_space(&rt, Allocator::<u16>::new(rt.alloc(), size)?, size, largest);
-        expect_space(
-            &rt,
-            Allocator::<Tiny>::new(rt.alloc(), size)?,
-            size,
-            largest,
-        );
+        expect_space::<u32>(&rt, rt.alloc(), size, largest);
+        expect_space::<u16>(&rt, rt.alloc(), size, largest);
+        expect_space::<Tiny>(&rt, rt.alloc(), size, largest);
     }
-    Ok(())
 }
 
 // Each request takes the next unit.
@@ -59,18 +47,18 @@ fn take_units<NI: NodeIndex>(
     alloc: Global,
     allocator: &mut Allocator<NI>,
     count: u32,
-) -> Result<Vec<Allocation<NI>>, Fail> {
+) -> Vec<Allocation<NI>> {
     let mut handles = Vec::new(alloc);
     for offset in 0..count {
         match allocator.allocate(1) {
             None => assert_that_at(rt, &("refused at", offset), false),
             Some(handle) => {
                 assert_same(rt, &handle.offset, &offset);
-                handles.push(handle)?;
+                handles.push(handle).expect(rt, "memory");
             }
         }
     }
-    Ok(handles)
+    handles
 }
 
 fn free_all<NI: NodeIndex>(
@@ -92,10 +80,10 @@ fn expect_full<NI: NodeIndex>(
     alloc: Global,
     allocator: &mut Allocator<NI>,
     limit: u32,
-) -> Result<Vec<Allocation<NI>>, Fail> {
-    let handles = take_units(rt, alloc, allocator, limit.saturating_sub(2))?;
+) -> Vec<Allocation<NI>> {
+    let handles = take_units(rt, alloc, allocator, limit.saturating_sub(2));
     assert_that_at(rt, &("limit", limit), allocator.allocate(1).is_none());
-    Ok(handles)
+    handles
 }
 
 fn expect_free<NI: NodeIndex>(rt: &impl Abort, allocator: &Allocator<NI>) {
@@ -104,65 +92,45 @@ fn expect_free<NI: NodeIndex>(rt: &impl Abort, allocator: &Allocator<NI>) {
     assert_same(rt, &report.largest_free_region, &4_026_531_840);
 }
 
-fn fill_and_free<NI: NodeIndex>(
-    rt: &impl Abort,
-    alloc: Global,
-    allocator: &mut Allocator<NI>,
-    limit: u32,
-) -> Result<(), Fail> {
-    let handles = expect_full(rt, alloc, allocator, limit)?;
-    free_all(rt, allocator, &handles);
-    expect_free(rt, allocator);
-    Ok(())
-}
-
-fn fill_and_reset<NI: NodeIndex>(
-    rt: &impl Abort,
-    alloc: Global,
-    allocator: &mut Allocator<NI>,
-    limit: u32,
-) -> Result<(), Fail> {
-    let _handles = expect_full(rt, alloc, allocator, limit)?;
-    allocator.reset();
-    expect_free(rt, allocator);
-    Ok(())
-}
-
 // Fills a space up to its limit twice, and frees it one by one and by a reset.
-fn expect_limit<NI: NodeIndex>(rt: &impl Abort, alloc: Global, limit: u32) -> Result<(), Fail> {
+fn expect_limit<NI: NodeIndex>(rt: &impl Abort, alloc: Global, limit: u32) {
     assert_that(rt, 2 <= limit && limit < NI::MAX - 1);
-    let mut allocator = Allocator::<NI>::with_max_allocs(alloc, 4_294_967_295, limit)?;
-    fill_and_free(rt, alloc, &mut allocator, limit)?;
-    fill_and_reset(rt, alloc, &mut allocator, limit)
+    let made = Allocator::<NI>::with_max_allocs(alloc, 4_294_967_295, limit);
+    let mut space = made.expect(rt, "memory");
+    let handles = expect_full(rt, alloc, &mut space, limit);
+    free_all(rt, &mut space, &handles);
+    expect_free(rt, &space);
+    let _handles = expect_full(rt, alloc, &mut space, limit);
+    space.reset();
+    expect_free(rt, &space);
 }
 
 #[test]
-fn grants_as_many_as_a_large_limit_admits(rt: HostRuntime) -> Result<(), Fail> {
-    expect_limit::<u16>(&rt, rt.alloc(), 65_533)?;
-    expect_limit::<u32>(&rt, rt.alloc(), 131_073)?;
-    expect_limit::<u32>(&rt, rt.alloc(), 300_000)
+fn grants_as_many_as_a_large_limit_admits(rt: HostRuntime) {
+    expect_limit::<u16>(&rt, rt.alloc(), 65_533);
+    expect_limit::<u32>(&rt, rt.alloc(), 131_073);
+    expect_limit::<u32>(&rt, rt.alloc(), 300_000);
 }
 
-fn expect_new<NI: NodeIndex>(rt: &impl Abort, alloc: Global, limit: u32) -> Result<(), Fail> {
-    let mut allocator = Allocator::<NI>::new(alloc, 4_294_967_295)?;
-    let _handles = expect_full(rt, alloc, &mut allocator, limit)?;
-    Ok(())
+fn expect_new<NI: NodeIndex>(rt: &impl Abort, alloc: Global, limit: u32) {
+    let mut space = Allocator::<NI>::new(alloc, 4_294_967_295).expect(rt, "memory");
+    let _handles = expect_full(rt, alloc, &mut space, limit);
 }
 
 // By `new` a space has 131,072 nodes, or as many as the narrow index type admits.
 #[test]
-fn grants_as_many_as_the_limit_of_new_admits(rt: HostRuntime) -> Result<(), Fail> {
-    expect_new::<u32>(&rt, rt.alloc(), 131_072)?;
-    expect_new::<u16>(&rt, rt.alloc(), 65_533)
+fn grants_as_many_as_the_limit_of_new_admits(rt: HostRuntime) {
+    expect_new::<u32>(&rt, rt.alloc(), 131_072);
+    expect_new::<u16>(&rt, rt.alloc(), 65_533);
 }
 
 // The tables take 174 megabytes.
 #[test]
-fn makes_a_space_of_six_million_nodes(rt: HostRuntime) -> Result<(), Fail> {
-    let mut allocator = Allocator::<u32>::with_max_allocs(rt.alloc(), 1_000, 6_000_000)?;
+fn makes_a_space_of_six_million_nodes(rt: HostRuntime) {
+    let made = Allocator::<u32>::with_max_allocs(rt.alloc(), 1_000, 6_000_000);
+    let mut allocator = made.expect(&rt, "memory");
     assert_same(&rt, &allocator.max_allocs(), &6_000_000);
     let first = allocator.allocate(10).expect(&rt, "room");
     assert_same(&rt, &first.offset, &0);
     assert_same(&rt, &allocator.storage_report().total_free_space, &990);
-    Ok(())
 }

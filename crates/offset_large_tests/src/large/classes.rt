@@ -4,7 +4,6 @@ use super::texts::{expect_answers, put_lines};
 use crate::asserts::assert_that_at;
 use offset_test_base::groups::value_of;
 use std::alloc::{AllocError, Global};
-use std::test::Fail;
 
 // The classes of the blocks that are freed.
 const FIRST: usize = 1;
@@ -64,28 +63,28 @@ fn answers(alloc: Global) -> Result<String, AllocError> {
     Ok(wanted)
 }
 
-#[test]
-fn reports_two_hundred_classes(rt: HostRuntime) -> Result<(), Fail> {
-    let wanted = answers(rt.alloc())?;
-    for bits in [16u32, 32] {
-        let mut text = String::new(rt.alloc());
-        put_script(&mut text, bits)?;
-        expect_answers(&rt, rt.alloc(), &text, &wanted);
-    }
-    Ok(())
+// After the script, and its answers, come this many more reports.
+fn put_reports(
+    text: &mut String,
+    wanted: &mut String,
+    alloc: Global,
+    times: u32,
+) -> Result<(), AllocError> {
+    put_lines(text, "full\n", times)?;
+    let mut report = String::new(alloc);
+    put_report(&mut report)?;
+    put_lines(wanted, &report, times)
 }
 
 // 3,001 of these reports are longer than 16 MiB.
 #[test]
-fn writes_long_answers(rt: HostRuntime) -> Result<(), Fail> {
-    let mut text = String::new(rt.alloc());
-    put_script(&mut text, 32)?;
-    put_lines(&mut text, "full\n", 3_000)?;
-    let mut report = String::new(rt.alloc());
-    put_report(&mut report)?;
-    let mut wanted = answers(rt.alloc())?;
-    put_lines(&mut wanted, &report, 3_000)?;
-    assert_that_at(&rt, &wanted.len(), wanted.len() > 16_777_216);
-    expect_answers(&rt, rt.alloc(), &text, &wanted);
-    Ok(())
+fn reports_two_hundred_classes(rt: HostRuntime) {
+    for (bits, times, length) in [(16u32, 0u32, 0usize), (32, 0, 0), (32, 3_000, 16_777_216)] {
+        let mut text = String::new(rt.alloc());
+        put_script(&mut text, bits).expect(&rt, "memory");
+        let mut wanted = answers(rt.alloc()).expect(&rt, "memory");
+        put_reports(&mut text, &mut wanted, rt.alloc(), times).expect(&rt, "memory");
+        assert_that_at(&rt, &wanted.len(), wanted.len() > length);
+        expect_answers(&rt, rt.alloc(), &text, &wanted);
+    }
 }

@@ -1,11 +1,11 @@
 //! A use of `play` with many commands.
 
-use super::texts::put_lines;
+use super::texts::Part::Lines;
+use super::texts::text_of;
 use crate::asserts::{assert_same, assert_that, assert_that_at};
 use offset_script::{Answer, parse};
 use offset_uses::replay;
 use std::process::Abort;
-use std::test::Fail;
 
 // Each request takes the next unit.
 fn expect_units(rt: &impl Abort, answers: &[Answer], count: usize) {
@@ -24,14 +24,17 @@ fn expect_units(rt: &impl Abort, answers: &[Answer], count: usize) {
 }
 
 #[test]
-fn replays_many_commands(rt: HostRuntime) -> Result<(), Fail> {
-    let mut text = String::from_str(rt.alloc(), "space 4294967295 nodes 65533 index 16\n")?;
-    put_lines(&mut text, "alloc 1\n", 65_531)?;
-    let script = parse(rt.alloc(), text.as_bytes())?;
+fn replays_many_commands(rt: HostRuntime) {
+    let parts = [
+        Lines("space 4294967295 nodes 65533 index 16\n", 1),
+        Lines("alloc 1\n", 65_531),
+    ];
+    let text = text_of(rt.alloc(), &parts).expect(&rt, "memory");
+    let script = parse(rt.alloc(), text.as_bytes()).expect(&rt, "a script");
     assert_that(&rt, script.max_allocs <= 65_533);
-    let (narrow, wide) = replay(rt.alloc(), script.size, script.max_allocs, &script.commands)?;
+    let both = replay(rt.alloc(), script.size, script.max_allocs, &script.commands);
+    let (narrow, wide) = both.expect(&rt, "memory");
     for answers in [&narrow, &wide] {
         expect_units(&rt, answers, 65_531);
     }
-    Ok(())
 }

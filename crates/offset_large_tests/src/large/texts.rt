@@ -1,7 +1,7 @@
 //! Long texts, and what runs of them write.
 
 use crate::asserts::{assert_same, assert_that, assert_that_at};
-use offset_script::{FromRead, IntoWrite, RunFault, run};
+use offset_script::{FromRead, IntoWrite, RunFault, ScriptFault, run};
 use std::alloc::{AllocError, Global};
 use std::io;
 use std::io::Read;
@@ -23,6 +23,15 @@ impl<'a> Read for Bytes<'a> {
     }
 }
 
+/// A part of a long text.
+#[derive(Clone, Copy)]
+pub enum Part {
+    /// These lines, this many times.
+    Lines(&'static str, u32),
+    /// The answers to this many requests of one unit each in a fresh space: each takes the next unit.
+    Units(u32),
+}
+
 /// Appends a line this many times.
 pub fn put_lines(text: &mut String, line: &str, times: u32) -> Result<(), AllocError> {
     for _ in 0..times {
@@ -31,13 +40,25 @@ pub fn put_lines(text: &mut String, line: &str, times: u32) -> Result<(), AllocE
     Ok(())
 }
 
-/// Appends the answers to requests of one unit each in a fresh space: each takes the next unit.
-pub fn put_units(answers: &mut String, grants: u32) -> Result<(), AllocError> {
+// Appends the answers to this many requests of one unit each in a fresh space.
+fn put_units(answers: &mut String, grants: u32) -> Result<(), AllocError> {
     for offset in 0..grants {
         let number = u64::from(offset) + 1;
         writeln!(answers, "grant {number} at {offset}")?;
     }
     Ok(())
+}
+
+/// The text of these parts.
+pub fn text_of(alloc: Global, parts: &[Part]) -> Result<String, AllocError> {
+    let mut text = String::new(alloc);
+    for part in parts {
+        match part {
+            Part::Lines(lines, times) => put_lines(&mut text, lines, *times)?,
+            Part::Units(grants) => put_units(&mut text, *grants)?,
+        }
+    }
+    Ok(text)
 }
 
 /// A run of the text succeeds, and writes this.
@@ -60,9 +81,9 @@ pub fn expect_answers_of<R: Read + Drop>(rt: &impl Abort, alloc: Global, text: R
 }
 
 /// A run of the text ends in this fault, and writes nothing.
-pub fn expect_fault(rt: &impl Abort, alloc: Global, text: &str, wanted: RunFault) {
+pub fn expect_fault(rt: &impl Abort, alloc: Global, text: &str, wanted: ScriptFault) {
     let mut output = IntoWrite::new(Vec::new(alloc));
     let result = run(alloc, &mut FromRead::new(text.as_bytes()), &mut output);
-    assert_same(rt, &result, &Err(wanted));
+    assert_same(rt, &result, &Err(RunFault::Script(wanted)));
     assert_that(rt, output.into_inner().is_empty());
 }

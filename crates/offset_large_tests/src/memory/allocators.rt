@@ -1,12 +1,10 @@
 //! Constructors where allocations fail.
 
 use super::attempts::{Attempt, Outcome, right_if};
-use super::ladder::{COARSE, FINE, refusals};
-use crate::asserts::assert_that;
+use super::ladder::{COARSE, FINE, expect_refusals};
 use offset_allocator::{Allocator, NodeIndex};
 use offset_test_base::tiny::Tiny;
 use std::alloc::{AllocError, Global};
-use std::test::Fail;
 
 #[derive(Drop)]
 enum Constructor {
@@ -46,7 +44,7 @@ impl Attempt for Constructor {
 }
 
 #[test]
-fn small_allocators(rt: HostRuntime) -> Result<(), Fail> {
+fn small_allocators(rt: HostRuntime) {
     for mut constructor in [
         Constructor::Limited16(4),
         Constructor::Limited32(4),
@@ -55,18 +53,14 @@ fn small_allocators(rt: HostRuntime) -> Result<(), Fail> {
         Constructor::NewTiny,
         Constructor::LimitedTiny(4),
     ] {
-        assert_that(&rt, refusals(&rt, rt.alloc(), FINE, &mut constructor)? >= 1);
+        expect_refusals(&rt, rt.alloc(), FINE, &mut constructor, 1);
     }
-    Ok(())
 }
 
+// In a process of their own, since larger steps are no neighbours in the memory that smaller ones have left.
 #[test]
-fn large_allocators(rt: HostRuntime) -> Result<(), Fail> {
+fn large_allocators(rt: HostRuntime) {
     for mut constructor in [Constructor::New16, Constructor::New32] {
-        assert_that(
-            &rt,
-            refusals(&rt, rt.alloc(), COARSE, &mut constructor)? >= 1,
-        );
+        expect_refusals(&rt, rt.alloc(), COARSE, &mut constructor, 1);
     }
-    Ok(())
 }

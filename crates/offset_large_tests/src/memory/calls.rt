@@ -1,7 +1,7 @@
 //! After construction, the calls of an allocator request no memory.
 
 use super::attempts::{Attempt, Outcome, all_memory, all_memory_but, refused_if, right_if};
-use super::ladder::{FINE, refusals};
+use super::ladder::{FINE, expect_refusals};
 use crate::asserts::{assert_same, assert_that};
 use offset_allocator::laws::undo;
 use offset_allocator::{Allocation, Allocator, NodeIndex};
@@ -10,7 +10,6 @@ use offset_test_base::living::living_calls;
 use offset_test_base::tiny::Tiny;
 use std::alloc::{AllocError, Global};
 use std::process::Abort;
-use std::test::Fail;
 
 // Larger than any offset of the space.
 const REFUSED: u32 = 100_000;
@@ -136,22 +135,22 @@ fn construct_and_call(alloc: Global) -> Result<u64, AllocError> {
 }
 
 // The calls return the same as before where not one byte is left.
-fn expect_results<NI: NodeIndex>(rt: &impl Abort, alloc: Global) -> Result<(), Fail> {
-    let mut kept = vec![in alloc; None; 16]?;
-    let wanted = checksum(&mut Allocator::<NI>::new(alloc, 1_000)?, &mut kept);
+fn expect_results<NI: NodeIndex>(rt: &impl Abort, alloc: Global) {
+    let mut kept = vec![in alloc; None; 16].expect(rt, "memory");
+    let mut allocator = Allocator::<NI>::new(alloc, 1_000).expect(rt, "memory");
+    let wanted = checksum(&mut allocator, &mut kept);
     kept.fill(None);
-    let mut allocator = Allocator::<NI>::new(alloc, 1_000)?;
-    let _rest = all_memory(alloc)?;
+    let mut allocator = Allocator::<NI>::new(alloc, 1_000).expect(rt, "memory");
+    let _rest = all_memory(alloc).expect(rt, "memory");
     assert_that(rt, Vec::<u8>::with_capacity(alloc, 1).is_err());
     assert_same(rt, &checksum(&mut allocator, &mut kept), &wanted);
-    Ok(())
 }
 
 #[test]
-fn calls_need_no_memory(rt: HostRuntime) -> Result<(), Fail> {
-    expect_results::<u32>(&rt, rt.alloc())?;
-    expect_results::<u16>(&rt, rt.alloc())?;
-    expect_results::<Tiny>(&rt, rt.alloc())
+fn calls_need_no_memory(rt: HostRuntime) {
+    expect_results::<u32>(&rt, rt.alloc());
+    expect_results::<u16>(&rt, rt.alloc());
+    expect_results::<Tiny>(&rt, rt.alloc());
 }
 
 const ROOM: usize = 1 << 30;
@@ -159,16 +158,15 @@ const ROOM: usize = 1 << 30;
 // All free memory is in one piece. A request that took any of it, or a small one that was freed at once, would have
 // split that piece.
 #[test]
-fn calls_leave_all_memory_as_it_was(rt: HostRuntime) -> Result<(), Fail> {
-    let wanted = construct_and_call(rt.alloc())?;
+fn calls_leave_all_memory_as_it_was(rt: HostRuntime) {
+    let wanted = construct_and_call(rt.alloc()).expect(&rt, "memory");
     let mut kept: [Option<Allocation<u32>>; 16] = [None; 16];
-    let mut allocator = construct(rt.alloc())?;
-    let _rest = all_memory_but(rt.alloc(), ROOM)?;
+    let mut allocator = construct(rt.alloc()).expect(&rt, "memory");
+    let _rest = all_memory_but(rt.alloc(), ROOM).expect(&rt, "memory");
     assert_same(&rt, &checksum(&mut allocator, &mut kept), &wanted);
     assert_that(&rt, Vec::<u8>::with_capacity(rt.alloc(), ROOM).is_ok());
     assert_that(&rt, Vec::<u8>::with_capacity(rt.alloc(), 16).is_ok());
     assert_that(&rt, Vec::<u8>::with_capacity(rt.alloc(), ROOM).is_err());
-    Ok(())
 }
 
 // Makes an allocator and the calls. They fail exactly where the construction alone fails, and else return the same as
@@ -189,13 +187,9 @@ impl Attempt for WithCalls {
 }
 
 #[test]
-fn calls_fail_only_in_construction(rt: HostRuntime) -> Result<(), Fail> {
-    let wanted = construct_and_call(rt.alloc())?;
-    assert_that(
-        &rt,
-        refusals(&rt, rt.alloc(), FINE, &mut WithCalls { wanted })? >= 1,
-    );
-    Ok(())
+fn calls_fail_only_in_construction(rt: HostRuntime) {
+    let wanted = construct_and_call(rt.alloc()).expect(&rt, "memory");
+    expect_refusals(&rt, rt.alloc(), FINE, &mut WithCalls { wanted }, 1);
 }
 
 // Plays a script without commands. It fails wherever a construction fails.
@@ -213,21 +207,17 @@ impl Attempt for WithoutCommands {
 }
 
 #[test]
-fn playing_makes_an_allocator(rt: HostRuntime) -> Result<(), Fail> {
-    assert_that(
-        &rt,
-        refusals(&rt, rt.alloc(), FINE, &mut WithoutCommands)? >= 1,
-    );
-    Ok(())
+fn playing_makes_an_allocator(rt: HostRuntime) {
+    expect_refusals(&rt, rt.alloc(), FINE, &mut WithoutCommands, 1);
 }
 
 // With 2,000 live ranges more than one node in 128 is in use, and `reset` goes over whole tables.
-fn expect_reset<NI: NodeIndex>(rt: &impl Abort, alloc: Global, room: usize) -> Result<(), Fail> {
-    let mut allocator = Allocator::<NI>::new(alloc, 1_000_000)?;
+fn expect_reset<NI: NodeIndex>(rt: &impl Abort, alloc: Global, room: usize) {
+    let mut allocator = Allocator::<NI>::new(alloc, 1_000_000).expect(rt, "memory");
     for _ in 0..2_000u32 {
         assert_that(rt, allocator.allocate(1).is_some());
     }
-    let _rest = all_memory_but(alloc, room)?;
+    let _rest = all_memory_but(alloc, room).expect(rt, "memory");
     allocator.reset();
     if room > 0 {
         assert_that(rt, Vec::<u8>::with_capacity(alloc, room).is_ok());
@@ -240,14 +230,12 @@ fn expect_reset<NI: NodeIndex>(rt: &impl Abort, alloc: Global, room: usize) -> R
         &(report.total_free_space, report.largest_free_region),
         &(1_000_000, 983_040),
     );
-    Ok(())
 }
 
 #[test]
-fn a_reset_of_many_ranges_needs_no_memory(rt: HostRuntime) -> Result<(), Fail> {
+fn a_reset_of_many_ranges_needs_no_memory(rt: HostRuntime) {
     for room in [0, ROOM] {
-        expect_reset::<u32>(&rt, rt.alloc(), room)?;
-        expect_reset::<u16>(&rt, rt.alloc(), room)?;
+        expect_reset::<u32>(&rt, rt.alloc(), room);
+        expect_reset::<u16>(&rt, rt.alloc(), room);
     }
-    Ok(())
 }

@@ -5,10 +5,9 @@
 //! freed is enough for them.
 
 use super::attempts::{Attempt, Outcome, all_memory};
-use crate::asserts::{assert_same, assert_that, assert_that_at};
+use crate::asserts::{assert_same, assert_that_at};
 use std::alloc::{AllocError, Global};
 use std::process::Abort;
-use std::test::Fail;
 
 // The C library keeps this many free blocks of one size for requests of that size alone.
 const APART: usize = 7;
@@ -73,26 +72,30 @@ impl Ladder {
     }
 }
 
-/// Makes an attempt again and again, each time with one more step free. It returns how often the attempt failed.
-pub fn refusals<A: Attempt>(
+/// Makes an attempt again and again, each time with one more step free, until it does not fail. It has to fail this
+/// often at least.
+pub fn expect_refusals<A: Attempt>(
     rt: &impl Abort,
     alloc: Global,
     steps: Steps,
     attempt: &mut A,
-) -> Result<u32, Fail> {
-    let mut ladder = Ladder::new(alloc, steps)?;
-    let _rest = all_memory(alloc)?;
+    least: u32,
+) {
+    let mut ladder = Ladder::new(alloc, steps).expect(rt, "memory");
+    let _rest = all_memory(alloc).expect(rt, "memory");
     let mut refusals = 0u32;
     for _ in 0..steps.count {
         match attempt.outcome(alloc) {
-            Outcome::Right => return Ok(refusals),
+            Outcome::Right => {
+                assert_that_at(rt, &("refusals", refusals), refusals >= least);
+                return;
+            }
             Outcome::Refused => refusals = refusals.saturating_add(1),
             Outcome::Wrong => assert_that_at(rt, &("wrong after", refusals), false),
         }
-        ladder.release(alloc)?;
+        ladder.release(alloc).expect(rt, "memory");
     }
     assert_that_at(rt, &("refused", refusals), false);
-    Ok(refusals)
 }
 
 const SIZES: [usize; 8] = [4, 16, 16, 48, 100, 400, 1_024, 2_000];
@@ -126,12 +129,11 @@ impl Attempt for Blocks {
 }
 
 #[test]
-fn refuses_each_request(rt: HostRuntime) -> Result<(), Fail> {
+fn refuses_each_request(rt: HostRuntime) {
     let mut blocks = Blocks {
-        held: Vec::with_capacity(rt.alloc(), 8)?,
+        held: Vec::with_capacity(rt.alloc(), 8).expect(&rt, "memory"),
         refused: [false; 8],
     };
-    assert_that(&rt, refusals(&rt, rt.alloc(), FINE, &mut blocks)? >= 8);
+    expect_refusals(&rt, rt.alloc(), FINE, &mut blocks, 8);
     assert_same(&rt, &blocks.refused, &[true; 8]);
-    Ok(())
 }

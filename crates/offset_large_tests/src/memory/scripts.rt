@@ -1,7 +1,7 @@
 //! Scripts where allocations fail.
 
 use super::attempts::{Attempt, Outcome, refused_if, right_if};
-use super::ladder::{FINE, refusals};
+use super::ladder::{FINE, expect_refusals};
 use crate::asserts::assert_that;
 use offset_script::{
     Answer, Command, FromRead, IndexWidth, IntoWrite, RunFault, Script, ScriptFault, parse, play,
@@ -10,7 +10,6 @@ use offset_script::{
 use std::alloc::Global;
 use std::io;
 use std::io::Write;
-use std::test::Fail;
 
 const TEXT: &[u8] =
     b"space 100 nodes 4 index 32\nalloc 10\nalloc 10\nfree 1\nalloc 10\nreport\nfull\n";
@@ -61,16 +60,6 @@ impl Attempt for ParsesFaulty {
             Ok(_) => Outcome::Wrong,
         }
     }
-}
-
-#[test]
-fn parsing_reports_out_of_memory(rt: HostRuntime) -> Result<(), Fail> {
-    assert_that(&rt, refusals(&rt, rt.alloc(), FINE, &mut Parses)? >= 1);
-    assert_that(
-        &rt,
-        refusals(&rt, rt.alloc(), FINE, &mut ParsesFaulty)? >= 1,
-    );
-    Ok(())
 }
 
 // A writer that compares what it takes with the expected text, and takes no memory.
@@ -158,14 +147,6 @@ impl Attempt for RunsProgram {
     }
 }
 
-#[test]
-fn running_reports_out_of_memory(rt: HostRuntime) -> Result<(), Fail> {
-    assert_that(&rt, refusals(&rt, rt.alloc(), FINE, &mut Runs)? >= 1);
-    assert_that(&rt, refusals(&rt, rt.alloc(), FINE, &mut RunsFaulty)? >= 1);
-    assert_that(&rt, refusals(&rt, rt.alloc(), FINE, &mut RunsProgram)? >= 1);
-    Ok(())
-}
-
 // Plays a parsed script, and compares the answers with those of ample memory.
 #[derive(Drop)]
 struct Plays {
@@ -215,11 +196,24 @@ impl Attempt for Plays {
 }
 
 #[test]
-fn playing_reports_out_of_memory(rt: HostRuntime) -> Result<(), Fail> {
-    let script = parse(rt.alloc(), TEXT)?;
+fn parsing_reports_out_of_memory(rt: HostRuntime) {
+    expect_refusals(&rt, rt.alloc(), FINE, &mut Parses, 1);
+    expect_refusals(&rt, rt.alloc(), FINE, &mut ParsesFaulty, 1);
+}
+
+#[test]
+fn running_reports_out_of_memory(rt: HostRuntime) {
+    expect_refusals(&rt, rt.alloc(), FINE, &mut Runs, 1);
+    expect_refusals(&rt, rt.alloc(), FINE, &mut RunsFaulty, 1);
+    expect_refusals(&rt, rt.alloc(), FINE, &mut RunsProgram, 1);
+}
+
+#[test]
+fn playing_reports_out_of_memory(rt: HostRuntime) {
+    let alloc = rt.alloc();
+    let script = parse(alloc, TEXT).expect(&rt, "a script");
     assert_that(&rt, script.max_allocs < 100);
-    let wanted = play::<u32>(rt.alloc(), script.size, script.max_allocs, &script.commands)?;
-    let mut plays = Plays { script, wanted };
-    assert_that(&rt, refusals(&rt, rt.alloc(), FINE, &mut plays)? >= 1);
-    Ok(())
+    let played = play::<u32>(alloc, script.size, script.max_allocs, &script.commands);
+    let wanted = played.expect(&rt, "memory");
+    expect_refusals(&rt, alloc, FINE, &mut Plays { script, wanted }, 1);
 }

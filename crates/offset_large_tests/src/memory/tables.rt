@@ -3,7 +3,6 @@
 use super::attempts::all_memory_but;
 use crate::asserts::assert_that;
 use offset_allocator::Allocator;
-use std::test::Fail;
 
 const NODES: u32 = 4_000_000;
 
@@ -15,11 +14,10 @@ const BYTES: usize = 29 * 4_000_000 + 1_024;
 const SLACK: usize = 2_000_000;
 
 #[test]
-fn takes_no_more_than_its_tables_need(rt: HostRuntime) -> Result<(), Fail> {
-    let _rest = all_memory_but(rt.alloc(), BYTES + SLACK)?;
+fn takes_no_more_than_its_tables_need(rt: HostRuntime) {
+    let _rest = all_memory_but(rt.alloc(), BYTES + SLACK).expect(&rt, "memory");
     let made = Allocator::<u32>::with_max_allocs(rt.alloc(), 100, NODES);
     assert_that(&rt, made.is_ok());
-    Ok(())
 }
 
 // With 16 bits a node takes 16 bytes, its entry in the stack 2, and its use flag 1; each class takes 2. The C library
@@ -29,17 +27,15 @@ const BYTES_16: usize = 19 * 65_533 + 512;
 const SLACK_16: usize = 1_100_000;
 
 #[test]
-fn takes_less_than_twice_what_its_tables_need_with_16_bits(rt: HostRuntime) -> Result<(), Fail> {
-    let _rest = all_memory_but(rt.alloc(), BYTES_16 + SLACK_16)?;
+fn takes_less_than_twice_what_its_tables_need_with_16_bits(rt: HostRuntime) {
+    let _rest = all_memory_but(rt.alloc(), BYTES_16 + SLACK_16).expect(&rt, "memory");
     let made = Allocator::<u16>::with_max_allocs(rt.alloc(), 100, 65_533);
     assert_that(&rt, made.is_ok());
-    Ok(())
 }
 
 #[test]
-fn needs_memory_for_each_table(rt: HostRuntime) -> Result<(), Fail> {
-    let _rest = all_memory_but(rt.alloc(), BYTES - SLACK)?;
+fn needs_memory_for_each_table(rt: HostRuntime) {
+    let _rest = all_memory_but(rt.alloc(), BYTES - SLACK).expect(&rt, "memory");
     let made = Allocator::<u32>::with_max_allocs(rt.alloc(), 100, NODES);
     assert_that(&rt, made.is_err());
-    Ok(())
 }
