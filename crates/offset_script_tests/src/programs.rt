@@ -139,41 +139,94 @@ fn a_good_program_ends_with_0_and_no_line(rt: HostRuntime) {
     }
 }
 
-// A read, a write or a flush fails. A whole picture is taken before the flush.
+// A read, a write or a flush that fails, how the output begins, and the line that names the fault.
+struct Failure {
+    program: Program,
+    // The number of the read and of the write that fails, or 0.
+    read: u32,
+    write: u32,
+    fails_flush: bool,
+    // The largest number of bytes that one write takes.
+    piece: usize,
+    start: &'static [u8],
+    line: &'static [u8],
+}
+
+const FAILURES: [Failure; 5] = [
+    Failure {
+        program: Program::Run,
+        read: 2,
+        write: 0,
+        fails_flush: false,
+        piece: 4096,
+        start: b"",
+        line: b"read failed\n",
+    },
+    Failure {
+        program: Program::Run,
+        read: 0,
+        write: 2,
+        fails_flush: false,
+        piece: 8,
+        start: b"grant 1 ",
+        line: b"write failed\n",
+    },
+    Failure {
+        program: Program::Draw,
+        read: 2,
+        write: 0,
+        fails_flush: false,
+        piece: 4096,
+        start: b"",
+        line: b"read failed\n",
+    },
+    Failure {
+        program: Program::Draw,
+        read: 0,
+        write: 2,
+        fails_flush: false,
+        piece: 5,
+        start: b"<svg ",
+        line: b"write failed\n",
+    },
+    Failure {
+        program: Program::Draw,
+        read: 0,
+        write: 0,
+        fails_flush: true,
+        piece: 4096,
+        start: b"<svg ",
+        line: b"write failed\n",
+    },
+];
+
+// Nothing follows a failed read or write, and all of the picture comes before the flush.
 #[test]
 fn a_device_that_fails_ends_with_4_and_its_line(rt: HostRuntime) {
-    for (program, read, piece, written, fails_flush, start, line) in [
-        (
-            Program::Run,
-            2u32,
-            4096usize,
-            0u32,
-            false,
-            b"".as_slice(),
-            b"read failed\n".as_slice(),
-        ),
-        (Program::Run, 0, 8, 2, false, b"grant 1 ", b"write failed\n"),
-        (Program::Draw, 2, 4096, 0, false, b"", b"read failed\n"),
-        (Program::Draw, 0, 5, 2, false, b"<svg ", b"write failed\n"),
-        (Program::Draw, 0, 4096, 0, true, b"<svg ", b"write failed\n"),
-    ] {
+    for row in &FAILURES {
         let mut input = Reader::new(TEXT, 4096);
-        input.fails_at = read;
-        let mut output = Writer::new(rt.alloc(), piece);
-        output.fails_at = written;
-        output.fails_flush = fails_flush;
+        input.fails_at = row.read;
+        let mut output = Writer::new(rt.alloc(), row.piece);
+        output.fails_at = row.write;
+        output.fails_flush = row.fails_flush;
         let errors = Writer::new(rt.alloc(), 4096);
-        let (status, output, errors) = run_over(program, rt.alloc(), input, output, errors);
+        let (status, output, errors) = run_over(row.program, rt.alloc(), input, output, errors);
         assert_same_at(
             &rt,
-            &start,
+            &row.start,
             &(status, output.flushes),
-            &(4, u32::from(fails_flush)),
+            &(4, u32::from(row.fails_flush)),
         );
-        assert_same_at(&rt, &start, &errors.taken.as_slice(), &line);
-        assert_that(&rt, output.taken.starts_with(start));
-        assert_that(&rt, fails_flush || output.taken.len() == start.len());
-        assert_that(&rt, fails_flush || output.writes == written);
+        assert_same_at(&rt, &row.start, &errors.taken.as_slice(), &row.line);
+        assert_that(&rt, output.taken.starts_with(row.start));
+        if !row.fails_flush {
+            assert_same_at(
+                &rt,
+                &row.start,
+                &(output.taken.len(), output.writes),
+                &(row.start.len(), row.write),
+            );
+        }
     }
 }
 

@@ -5,7 +5,7 @@
 //! 150 u / e in the plot of the reports.
 
 use super::support::Part::Lines;
-use super::support::{Picture, count, expect_picture, picture_of, rectangles};
+use super::support::{Picture, RECTANGLE, count, expect_picture, picture_of};
 use crate::asserts::{assert_same, assert_same_at, assert_that};
 
 // The stored run of `offset_picture`. With 9 calls, each takes 105 pixels. The highest unit is 192, and a twentieth
@@ -51,7 +51,7 @@ alloc 192
         ">Largest free region at the worst moment: 8 units, of 8 free, after 9 calls.<",
         ">the space ends at 200<",
     ],
-    counts: &[("<rect x=", 5)],
+    counts: &[(RECTANGLE, 5)],
 };
 
 // Lives, edges, shares and numbers, also at the bounds between two cases.
@@ -90,7 +90,7 @@ const EXAMPLES: [Picture; 9] = [
             "<rect x='420' y='150' width='150' height='192' class='edge'><title>grant 2, offset 52, size 48, calls 2-3</title></rect>",
             "<rect x='870' y='166' width='300' height='384' class='edge'><title>grant 3, offset 0, size 96, calls 5-end</title></rect>",
         ],
-        counts: &[("<rect x=", 3)],
+        counts: &[(RECTANGLE, 3)],
     },
     // A height of 3 pixels has an edge. The plot ends at unit 400, so a unit is a pixel high.
     Picture {
@@ -170,7 +170,7 @@ const EXTREMES: [Picture; 7] = [
             // the legend has the only mark of a refusal
             "class='refusal'",
         ],
-        counts: &[("<rect x=", 0)],
+        counts: &[(RECTANGLE, 0)],
     },
     // Refusals alone. 3 calls are at 382.5, 645 and 907.5; the marks are drawn to a tenth of a pixel.
     Picture {
@@ -182,7 +182,7 @@ const EXTREMES: [Picture; 7] = [
             ">0 grants, 3 refusals; at most 0 live at once. Most in use: 0 of 100 units, 0.0 percent.<",
             "<path class='refusal' d='M382.5 550v12M645 550v12M907.5 550v12'/>",
         ],
-        counts: &[("<rect x=", 0)],
+        counts: &[(RECTANGLE, 0)],
     },
     // A space of no units.
     Picture {
@@ -199,7 +199,7 @@ const EXTREMES: [Picture; 7] = [
         once: &[
             "<rect x='645' y='549.7' width='525' height='0.3'><title>grant 1, offset 0, size 0, calls 1-end</title></rect>",
         ],
-        counts: &[("<rect x=", 1)],
+        counts: &[(RECTANGLE, 1)],
     },
     // The largest space. The highest unit is 4,026,531,840, and the axis ends a twentieth above: the grant is 20/21 of
     // 400 pixels high.
@@ -298,11 +298,11 @@ fn groups_grants_by_age(rt: HostRuntime) {
     let (_, short) = picture
         .split_once("<g class='age1'>")
         .expect(&rt, "a group");
-    assert_same(&rt, &rectangles(short), &2);
+    assert_same(&rt, &count(short, RECTANGLE), &2);
     let (_, long) = picture
         .split_once("<g class='age2'>")
         .expect(&rt, "a group");
-    assert_same(&rt, &rectangles(long), &3);
+    assert_same(&rt, &count(long, RECTANGLE), &3);
     assert_that(
         &rt,
         long.contains("<title>grant 1, offset 0, size 1, calls 1-12</title>"),
@@ -323,5 +323,5 @@ fn draws_a_full_report_as_a_report(rt: HostRuntime) {
         &[Lines(1, "space 100 nodes 16 index 32\nalloc 10\nreport\nfree 1\n")],
     );
     assert_same(&rt, &full, &short);
-    assert_same(&rt, &rectangles(&full), &1);
+    assert_same(&rt, &count(&full, RECTANGLE), &1);
 }

@@ -1,7 +1,7 @@
 //! Pictures of many grants, and of many calls.
 
 use super::support::Part::{Lines, Lives};
-use super::support::{Picture, count, expect_picture, picture_of, rectangles};
+use super::support::{Picture, RECTANGLE, count, expect_picture, picture_of};
 use crate::asserts::{assert_same, assert_that_at};
 
 const PICTURES: [Picture; 4] = [
@@ -12,7 +12,7 @@ const PICTURES: [Picture; 4] = [
             Lines(20000, "alloc 1\n"),
         ],
         once: &[],
-        counts: &[("<rect x=", 20000), ("<title>", 20000), ("merged", 0)],
+        counts: &[(RECTANGLE, 20000), ("<title>", 20000), ("merged", 0)],
     },
     // A first grant of units 0 to 52 that is live to the end, and then grants of units 52 to 100 that are live for one
     // call. With 40,003 calls one call takes 0.026 pixels. The first grant is at 120.02, and is not merged. All others
@@ -27,7 +27,7 @@ const PICTURES: [Picture; 4] = [
             "<g class='age1'>\n<rect x='120' y='150' width='1050' height='192' class='edge'/>\n</g>",
             ": 2 rectangles.",
         ],
-        counts: &[("<rect x=", 2)],
+        counts: &[(RECTANGLE, 2)],
     },
     // The first grant is live to the end, and ends the plot at unit 1,000,000. All others are one unit each, less than a
     // thousandth of a pixel high, and at the same height: from 156.7 to 156.8, drawn 0.3 pixels high. With 41,999 calls
@@ -56,7 +56,7 @@ const PICTURES: [Picture; 4] = [
             "<g class='age3'>\n<rect x='1120' y='156.5' width='2.6' height='0.3'/>\n</g>",
             ": 3 rectangles.",
         ],
-        counts: &[("<rect x=", 3)],
+        counts: &[(RECTANGLE, 3)],
     },
     // Each call takes a twentieth of a pixel: 20,999 calls. Two states lie within one tenth of a pixel. Calls 2 and 3 are
     // at 120.1 and 120.15: fewer units are free for one call. Call 4,000 is at 320, and calls 4,002 and 4,003 are at
@@ -98,7 +98,7 @@ fn merges_20001_grants(rt: HostRuntime) {
             Lines(20_001, "alloc 1\n"),
         ],
     );
-    let found = rectangles(&picture);
+    let found = count(&picture, RECTANGLE);
     assert_same(&rt, &count(&picture, "<title>"), &0);
     assert_that_at(&rt, &found, found > 1000 && found < 10_000);
     let thousands = found / 1000;

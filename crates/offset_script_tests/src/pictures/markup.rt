@@ -7,7 +7,12 @@ use std::alloc::{AllocError, Global};
 
 // Whether a text is the name of an element or of an attribute.
 fn is_name(word: &str) -> bool {
-    !word.is_empty() && word.bytes().all(|b| b.is_ascii_alphanumeric() || b == b'-')
+    for byte in word.bytes() {
+        if !byte.is_ascii_alphanumeric() && byte != b'-' {
+            return false;
+        }
+    }
+    !word.is_empty()
 }
 
 // Whether a text is attributes alone, each after a space, with its value in single quotes, and none twice.
@@ -27,7 +32,7 @@ fn are_attributes(alloc: Global, text: &str) -> Result<bool, AllocError> {
         let Some((_, others)) = after.split_once("'") else {
             return Ok(false);
         };
-        if !is_name(name) || names.iter().any(|known| *known == name) {
+        if !is_name(name) || names.contains(&name) {
             return Ok(false);
         }
         names.push(name)?;

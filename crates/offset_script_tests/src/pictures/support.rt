@@ -48,10 +48,8 @@ pub fn count(text: &str, word: &str) -> usize {
     text.matches(word).count()
 }
 
-/// How many rectangles of grants a picture has. The background has a class and no place.
-pub fn rectangles(text: &str) -> usize {
-    count(text, "<rect x=")
-}
+/// What the rectangle of a grant begins with. The background has a class and no place.
+pub const RECTANGLE: &str = "<rect x=";
 
 /// Expects the texts of a picture.
 pub fn expect_picture(rt: &impl Abort, alloc: Global, row: &Picture) {

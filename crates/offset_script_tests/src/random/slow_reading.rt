@@ -37,14 +37,10 @@ fn number_at(text: &[u8]) -> Option<(u32, &[u8])> {
     Some((number as u32, rest))
 }
 
-// The number that the whole text spells.
-fn number_of(text: &[u8]) -> Option<u32> {
-    let (number, rest) = number_at(text)?;
-    if rest.is_empty() { Some(number) } else { None }
-}
-
+// The number that all of a text after its start spells.
 fn number_after(line: &[u8], start: &[u8]) -> Option<u32> {
-    number_of(line.strip_prefix(start)?)
+    let (number, rest) = number_at(line.strip_prefix(start)?)?;
+    if rest.is_empty() { Some(number) } else { None }
 }
 
 fn is_power(number: u32) -> bool {

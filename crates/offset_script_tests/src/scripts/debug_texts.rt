@@ -28,6 +28,29 @@ const ROWS: [FullRow; 2] = [
     },
 ];
 
+const ANSWERS: [(Answer, &str); 8] = [
+    (
+        Answer::Grant {
+            number: 4_294_967_296,
+            offset: 7,
+        },
+        "Grant { number: 4294967296, offset: 7 }",
+    ),
+    (Answer::Refused, "Refused"),
+    (Answer::Freed, "Freed"),
+    (Answer::Gone, "Gone"),
+    (Answer::Size(3), "Size(3)"),
+    (
+        Answer::Report(StorageReport {
+            total_free_space: 90,
+            largest_free_region: 88,
+        }),
+        "Report(StorageReport { total_free_space: 90, largest_free_region: 88 })",
+    ),
+    (Answer::Reset, "Reset"),
+    (Answer::Extended, "Extended"),
+];
+
 #[test]
 fn prints_commands_and_answers(rt: HostRuntime) {
     for (command, wanted) in &COMMANDS {
@@ -35,35 +58,18 @@ fn prints_commands_and_answers(rt: HostRuntime) {
     }
     assert_text(&rt, rt.alloc(), &IndexWidth::Bits16, "Bits16");
     assert_text(&rt, rt.alloc(), &IndexWidth::Bits32, "Bits32");
-    for (answer, wanted) in [
-        (
-            Answer::Grant {
-                number: 4_294_967_296,
-                offset: 7,
-            },
-            "Grant { number: 4294967296, offset: 7 }",
-        ),
-        (Answer::Refused, "Refused"),
-        (Answer::Freed, "Freed"),
-        (Answer::Gone, "Gone"),
-        (Answer::Size(3), "Size(3)"),
-        (
-            Answer::Report(StorageReport {
-                total_free_space: 90,
-                largest_free_region: 88,
-            }),
-            "Report(StorageReport { total_free_space: 90, largest_free_region: 88 })",
-        ),
-        (Answer::Full(Vec::new(rt.alloc())), "Full([])"),
-        (
-            Answer::Full(ROWS.to_vec(rt.alloc()).expect(&rt, "memory")),
-            "Full([FullRow { class: 35, size: 88, count: 1 }, FullRow { class: 239, size: 4026531840, count: 2 }])",
-        ),
-        (Answer::Reset, "Reset"),
-        (Answer::Extended, "Extended"),
-    ] {
-        assert_text(&rt, rt.alloc(), &answer, wanted);
+    for (answer, wanted) in &ANSWERS {
+        assert_text(&rt, rt.alloc(), answer, wanted);
     }
+    let none = Answer::Full(Vec::new(rt.alloc()));
+    assert_text(&rt, rt.alloc(), &none, "Full([])");
+    let full = Answer::Full(ROWS.to_vec(rt.alloc()).expect(&rt, "memory"));
+    assert_text(
+        &rt,
+        rt.alloc(),
+        &full,
+        "Full([FullRow { class: 35, size: 88, count: 1 }, FullRow { class: 239, size: 4026531840, count: 2 }])",
+    );
 }
 
 // Each fault with its text, its line and its status.

@@ -100,7 +100,9 @@ fn reads_in_pieces(rt: HostRuntime) {
         );
         assert_same_at(&rt, &piece, &result, &wanted);
         assert_same_at(&rt, &piece, &reader.text.len(), &left);
-        assert_same_at(&rt, &piece, &reader.reads, &reads.unwrap_or(reader.reads));
+        if let Some(reads) = reads {
+            assert_same_at(&rt, &piece, &reader.reads, &reads);
+        }
     }
 }
 
