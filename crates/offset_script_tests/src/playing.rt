@@ -22,9 +22,8 @@ pub fn outcome(rt: &impl Abort, alloc: Global, text: &[u8]) -> String {
 /// The answers to a script by one index type, as text.
 pub fn answers_with<NI: NodeIndex>(rt: &impl Abort, alloc: Global, script: &Script) -> String {
     assert_that(rt, script.max_allocs < NI::MAX - 1);
-    let answers = play::<NI>(alloc, script.size, script.max_allocs, &script.commands).expect(
-        rt, "memory",
-    );
+    let played = play::<NI>(alloc, script.size, script.max_allocs, &script.commands);
+    let answers = played.expect(rt, "memory");
     format!(in alloc; "{answers:?}").expect(rt, "memory")
 }
 

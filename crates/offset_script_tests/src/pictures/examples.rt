@@ -66,7 +66,7 @@ const EXAMPLES: [Picture; 9] = [
         ],
         counts: &[],
     },
-    // More grants than are live at once, and no more live units after most were.
+    // Three grants, of which two are live at once, twice; the most units are in use at the first of these times.
     Picture {
         script: &[Lines(
             1,
