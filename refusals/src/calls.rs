@@ -17,6 +17,7 @@ calls! {
     NEW offset_new "new"
     LIMITED offset_with_max_allocs "with_max_allocs"
     CALLS offset_calls "with_max_allocs and 1,000 calls"
+    FILL offset_fill "with_max_allocs and twice 3,000 requests and a reset"
     PARSE offset_parse "parse"
     PLAY offset_play "play"
     RUN offset_run "run"

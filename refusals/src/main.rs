@@ -124,6 +124,20 @@ impl Check {
         );
     }
 
+    /// An allocator for a script that has no commands, filled and reset twice: no reset makes a request.
+    fn filled(&mut self, nodes: usize, bits: usize, wanted: &[u64]) {
+        let header = &format!("space 5000 nodes {nodes} index {bits}");
+        self.expect_requests(FILL, header, &table_requests(nodes, bits));
+        let made = self.fail_each(LIMITED, header, 0, &outcome(ANSWERED, &[5000, 4608]));
+        let filled = self.fail_each(FILL, header, 0, &outcome(ANSWERED, wanted));
+        self.must(
+            filled == made,
+            FILL,
+            header,
+            format!("{filled} requests, not {made}"),
+        );
+    }
+
     fn script(&mut self, text: &str, script: &Outcome, answers: &Outcome, written: &Outcome) {
         let first = self.fail_each(PARSE, text, 0, script);
         self.fail_each(PLAY, text, first, answers);
@@ -141,6 +155,9 @@ fn main() {
         check.allocator(2, bits, 100, &[0, 0]);
         check.allocator(100, bits, 1000, &[1000, 960]);
         check.allocator(most, bits, 100, &[100, 96]);
+        // at most 2,998 ranges are live under a limit of 3,000
+        check.filled(3000, bits, &[2998, 2998, 5000, 4608]);
+        check.filled(most, bits, &[3000, 3000, 5000, 4608]);
         let script = outcome(ANSWERED, &[&[100, 4, bits as u64], SCRIPT].concat());
         let written: Vec<u64> = WRITTEN.bytes().map(u64::from).collect();
         let (answers, written) = (outcome(ANSWERED, ANSWERS), outcome(ANSWERED, &written));

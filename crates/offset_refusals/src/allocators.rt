@@ -63,3 +63,42 @@ pub fn make_and_call(alloc: Global, text: &[u8], cells: &mut Cells<'_>) -> Resul
     put(cells, sum);
     Ok(())
 }
+
+// Makes 3,000 requests for one unit each, and then a reset. It returns how many were granted.
+fn fill_and_reset<NI: NodeIndex>(allocator: &mut Allocator<NI>) -> u64 {
+    let mut granted = 0u64;
+    for _ in 0..3_000u32 {
+        if allocator.allocate(1).is_some() {
+            granted = granted.wrapping_add(1);
+        }
+    }
+    allocator.reset();
+    granted
+}
+
+// Does this twice, and puts the numbers of grants, and the report of the space in the end, into the cells.
+fn fill_twice<NI: NodeIndex>(cells: &mut Cells<'_>, allocator: &mut Allocator<NI>) {
+    let first = fill_and_reset(allocator);
+    let second = fill_and_reset(allocator);
+    put(cells, first);
+    put(cells, second);
+    put_report(cells, &allocator.storage_report());
+}
+
+/// Makes an allocator by `with_max_allocs`, twice makes 3,000 requests and a reset, and puts the numbers of grants, and
+/// the report in the end, into the cells.
+pub fn make_and_fill(alloc: Global, text: &[u8], cells: &mut Cells<'_>) -> Result<(), Failure> {
+    let script = script(alloc, text)?;
+    let (size, limit) = (script.size, script.max_allocs);
+    match script.index {
+        IndexWidth::Bits16 => {
+            let mut allocator = Allocator::<u16>::with_max_allocs(alloc, size, limit)?;
+            fill_twice(cells, &mut allocator);
+        }
+        IndexWidth::Bits32 => {
+            let mut allocator = Allocator::<u32>::with_max_allocs(alloc, size, limit)?;
+            fill_twice(cells, &mut allocator);
+        }
+    }
+    Ok(())
+}

@@ -28,10 +28,17 @@ pub extern "C" fn offset_with_max_allocs(alloc: Global, text: &[u8], cells: &mut
     code(allocators::make_limited(alloc, text, &mut cells.iter_mut()))
 }
 
-/// Does the same, then makes 1,000 calls of every kind, and puts a checksum of their results in place of the report.
+/// Makes an allocator so, then makes 1,000 calls of every kind, and puts a checksum of their results into the cells.
 #[unsafe(no_mangle)]
 pub extern "C" fn offset_calls(alloc: Global, text: &[u8], cells: &mut [u64]) -> u32 {
     code(allocators::make_and_call(alloc, text, &mut cells.iter_mut()))
+}
+
+/// Makes an allocator so, then twice makes 3,000 requests and a reset, and puts the numbers of grants, and the report in
+/// the end, into the cells.
+#[unsafe(no_mangle)]
+pub extern "C" fn offset_fill(alloc: Global, text: &[u8], cells: &mut [u64]) -> u32 {
+    code(allocators::make_and_fill(alloc, text, &mut cells.iter_mut()))
 }
 
 /// Parses a text, and puts the script or the fault into the cells.
