@@ -91,20 +91,19 @@ fn command_of(line: &[u8]) -> Option<Command> {
 fn header_of(alloc: Global, line: &[u8]) -> Option<Reading> {
     let (size, rest) = number_at(line.strip_prefix(b"space ".as_slice())?)?;
     let (limit, rest) = number_at(rest.strip_prefix(b" nodes ".as_slice())?)?;
-    for (end, index) in [
-        (b" index 16".as_slice(), IndexWidth::Bits16),
-        (b" index 32".as_slice(), IndexWidth::Bits32),
-    ] {
-        if rest == end {
-            return Some(Reading {
-                size,
-                limit,
-                index,
-                commands: Vec::new(alloc),
-            });
-        }
-    }
-    None
+    let index = if rest == b" index 16".as_slice() {
+        IndexWidth::Bits16
+    } else if rest == b" index 32".as_slice() {
+        IndexWidth::Bits32
+    } else {
+        return None;
+    };
+    Some(Reading {
+        size,
+        limit,
+        index,
+        commands: Vec::new(alloc),
+    })
 }
 
 fn is_admitted(limit: u32, index: IndexWidth) -> bool {
