@@ -8,7 +8,7 @@ use Rattle.offset_allocator.specs.Orders.{Chain, Among, flag, first_of, walk, Li
 use Rattle.offset_allocator.proofs.Masks.{masked_same, flag_full}
 use Rattle.offset_allocator.proofs.Tallies.{hit_cases, one-same, times-join}
 use Rattle.offset_allocator.proofs.ViewOrders.{names_same, names_other, times_without_le, unlisted_removed}
-use Rattle.offset_allocator.proofs.Walks.{name_below, older_below, chain_fits, walk_is, IsLater, found, kept, led, not_first, first_same, newer_kept, older_kept, unlinked, without_first, without_later}
+use Rattle.offset_allocator.proofs.Walks.{name_below, older_below, chain_fits, walk_is, IsLater, found, kept, led, not_first, first_same, newer_kept, next_among, older_kept, unlinked, without_first, without_later}
 
 module _ {none : ℕ} {t : Links} {ls : List (List ℕ)} (k : Linked none t ls) where
   pub single : (c : ℕ) → c < 256 → (x : ℕ) → times x (names_at ls c) ≤ 1
@@ -66,8 +66,17 @@ module _ {none : ℕ} {t : Links} {ls : List (List ℕ)} (k : Linked none t ls) 
         cons [] f e = absurd (f refl)
         cons (x ∷ xs) f e = ap (λ i. i ∷ xs) (sym e)
 
+    pub head_among : slice_index t.heads c ≢ none → Among (slice_index t.heads c) (names_at ls c)
+    head_among n =
+        let e = (head (λ e. n (k.heads c ch ∙ ap (first_of none) e))).0 in
+        let q = ap (times (slice_index t.heads c)) e in
+        omega (arith, q, one-same (slice_index t.heads c))
+
     pub head_below : slice_index t.heads c ≢ none → slice_index t.heads c < length t.newer
     head_below n = (head (λ e. n (k.heads c ch ∙ ap (first_of none) e))).1.0
+
+    pub head_small : slice_index t.heads c ≤ none
+    head_small = elim (cases_eq (slice_index t.heads c) none) [ inl e ↦ omega (arith, e) | inr n ↦ omega (arith, head_below n, k.names_small) ]
 
     pub without_head : names_at ls c ≢ [] → without (slice_index t.heads c) (names_at ls c) ≡ drop 1 (names_at ls c)
     without_head f = let e = (head f).0 in ap (without (slice_index t.heads c)) e ∙ without_first (slice_index t.heads c) (drop 1 (names_at ls c)) (let o = ap (times (slice_index t.heads c)) e in omega (arith, single c ch (slice_index t.heads c)))
@@ -88,6 +97,9 @@ module _ {none : ℕ} {t : Links} {ls : List (List ℕ)} (k : Linked none t ls) 
 
     pub older_in : (x : ℕ) → Among x (names_at ls c) → slice_index t.older x ≢ none → slice_index t.older x < length t.newer
     older_in x a n = older_below none t k.names_small none (names_at ls c) (k.chains c ch) x a n
+
+    pub older_among : (x : ℕ) → Among x (names_at ls c) → slice_index t.older x ≢ none → Among (slice_index t.older x) (names_at ls c)
+    older_among x a n = next_among none t k.names_small none (names_at ls c) (k.chains c ch) x a n
 
     pub is_later : (x : ℕ) → Among x (names_at ls c) → slice_index t.newer x ≢ none → IsLater none t k.names_small x (names_at ls c)
     is_later x a n = elim (found none t k.names_small none x (names_at ls c) (k.chains c ch) a) [ inl f ↦ absurd (n f.0) | inr f ↦ f ]

@@ -1,5 +1,5 @@
 -- What it leaves of the whole allocator to slide the live ranges to the front.
-use Rattle.std.proofs.Common.{◌≡◌, ℕ, suc, ◌+◌, ◌-◌, ◌≤◌, Bool, true, false, not, ◌&&◌, Some, None, List, [], ◌∷◌, ◌++◌, length, replicate, sum, if◌then◌else◌, nat_eq, get_or, refl, sym, ap, ap₂, subst, ◌∙◌, inl, inr, arith, append-nil, length-append, eq-zero-or-pos}
+use Rattle.std.proofs.Common.{◌≡◌, ℕ, suc, ◌+◌, ◌≤◌, Bool, true, false, not, ◌&&◌, Some, None, List, [], ◌∷◌, ◌++◌, length, replicate, sum, if◌then◌else◌, nat_eq, refl, sym, ap, ap₂, subst, ◌∙◌, inl, inr, arith, append-nil, length-append, eq-zero-or-pos}
 use Rattle.std.specs.List.{AllByRecursion}
 use Rattle.std.proofs.lemmas.Bool.Decides.{nat_tests}
 use Rattle.std.proofs.lemmas.List.{length-replicate, ext_get_or}
@@ -13,7 +13,7 @@ use Rattle.offset_allocator.specs.Orders.{Binned, class_lists}
 use Rattle.offset_allocator.specs.State.{AreFiled, free_units}
 use Rattle.offset_allocator.proofs.Always.{parted}
 use Rattle.offset_allocator.proofs.Emptied.{no_name, none_at}
-use Rattle.offset_allocator.proofs.Exchange.{each-le, there-below, top}
+use Rattle.offset_allocator.proofs.Exchange.{each-le, there-below, unused}
 use Rattle.offset_allocator.proofs.Filed.{share}
 use Rattle.offset_allocator.proofs.Joints.{stepped, free_units-append, free_units-free, free_units-used}
 use Rattle.offset_allocator.proofs.Places.{placed}
@@ -175,7 +175,7 @@ module _ (f : Fields) (s : AreSound f) where
     abbrev p : Place
     p = o.place
 
-    pub first_held : {d : Room} → d ≡ f.cells.room → HasPlace d (length f.cells.room.nodes) f.last f.count x o.place
+    pub first_held : {d : Room} → d ≡ f.cells.room → HasPlace d f.cells.room.reserved f.last f.count x o.place
     first_held e = rw e (placed (rw o.is at s.space) o.name)
 
     abbrev packed_blocks : List Block
@@ -185,7 +185,7 @@ module _ (f : Fields) (s : AreSound f) where
     are_used = used_append p.before (live p.after) o.used (live_are_used p.after)
 
     -- what is left
-    module _ (d : Cells) (last count hole size : ℕ) (there : HasPlace d.room (length f.cells.room.nodes) last count hole (record { before = o.place.before ++ live o.place.after; block = free_block hole size; after = [] })) where
+    module _ (d : Cells) (last count hole size : ℕ) (there : HasPlace d.room f.cells.room.reserved last count hole (record { before = o.place.before ++ live o.place.after; block = free_block hole size; after = [] })) where
       module _ (sized : size ≡ o.place.block.size + free_units o.place.after) where
         abbrev left_view : View
         left_view = record v { blocks = packed_blocks ++ free_block hole size ∷ []; order = push (down size) hole (replicate 256 []) }
@@ -199,7 +199,7 @@ module _ (f : Fields) (s : AreSound f) where
           distinct = λ y. omega (arith, each-le d.room _ last count _ there.chain y);
           below = λ y l. elim (eq-zero-or-pos (count_named y (packed_blocks ++ free_block hole size ∷ []))) [
             | inl z ↦ z
-            | inr some ↦ absurd (omega (arith, there-below d.room _ last count y _ there.chain some, s.nodes))
+            | inr some ↦ absurd (omega (arith, there-below d.room _ last count y _ there.chain some, there.chain.within, s.memory))
           ];
           whole = omega (arith, w.whole, ap units o.is, units-append p.before (p.block ∷ p.after), units-append packed_blocks (free_block hole size ∷ []), units-append p.before (live p.after), live_units p.after, sized);
           fits = w.fits;
@@ -215,7 +215,7 @@ module _ (f : Fields) (s : AreSound f) where
             let gathers : gathered hole (free_sizes v.blocks) ≡ free_block hole size ∷ [] = ap (gathered hole) o.sizes ∙ ap (λ n. free_block hole n ∷ []) (omega (arith, sized, sum_sizes p.after)) in
             record {
               name = hole;
-              below = omega (arith, there.below, there.chain.cells, s.nodes);
+              below = omega (arith, there.below, there.chain.within, s.memory);
               absent = ap (count_named hole) o.live ∙ omega (arith, each-le d.room _ last count _ there.chain hole, tally_append (λ (b : Block). one (nat_eq hole b.name)) packed_blocks (free_block hole size ∷ []), one-same hole);
               view = same ∙ ap₂ (λ (bs g : List Block). record v { blocks = bs ++ g; order = push_all g (replicate 256 []); accesses = u.accesses }) (sym o.live) (sym gathers);
             }
@@ -231,11 +231,11 @@ module _ (f : Fields) (s : AreSound f) where
   pub stays_packed : (accesses : ℕ) → first_free (blocks f.cells.room f.last) ≡ None → Compacts (shown f) (shown (record f { accesses = accesses }))
   stays_packed accesses e =
       let r = packed v.blocks e in
-      let t = top (get_or f.cells.room.spare (f.count - 1) 0) s.space (omega (arith, s.space.full, w.room, s.nodes)) refl in
+      let t = unused s.space (omega (arith, w.room, s.memory)) in
       let whole = live_whole v.blocks r.used in
       record {
-        name = get_or f.cells.room.spare (f.count - 1) 0;
-        below = omega (arith, t.below, s.nodes);
-        absent = ap (count_named (get_or f.cells.room.spare (f.count - 1) 0)) whole ∙ t.absent;
-        view = ap₂ (λ (bs : List Block) (o : List (List ℕ)). record v { blocks = bs; order = o; accesses = accesses }) (sym (append-nil v.blocks) ∙ ap₂ (λ (k l : List Block). k ++ l) (sym whole) (sym (ap (gathered _) r.sizes))) (none_filed ls v.blocks w.classes r.used (λ k y. w.orders k y) ∙ sym (ap (λ ns. push_all (gathered (get_or f.cells.room.spare (f.count - 1) 0) ns) (replicate 256 [])) r.sizes));
+        name = t.0;
+        below = omega (arith, t.1, s.memory);
+        absent = ap (count_named t.0) whole ∙ t.2;
+        view = ap₂ (λ (bs : List Block) (o : List (List ℕ)). record v { blocks = bs; order = o; accesses = accesses }) (sym (append-nil v.blocks) ∙ ap₂ (λ (k l : List Block). k ++ l) (sym whole) (sym (ap (gathered _) r.sizes))) (none_filed ls v.blocks w.classes r.used (λ k y. w.orders k y) ∙ sym (ap (λ ns. push_all (gathered t.0 ns) (replicate 256 [])) r.sizes));
       }

@@ -1,6 +1,6 @@
 -- A space whose used blocks are freed one after the other, from its end on: each is the last block or the one before
 -- it, and where none is left the space is one free block.
-use Rattle.std.proofs.Common.{◌≡◌, ℕ, append_assoc, ◌<◌, ◌≤◌, Bool, true, false, not, List, [], ◌∷◌, ◌++◌, length, replicate, Option, Some, None, IfSome, nat_eq, refl, sym, ap, ap₂, subst, ◌∙◌, arith, inl, inr}
+use Rattle.std.proofs.Common.{◌≡◌, ℕ, ◌+◌, ◌*◌, append_assoc, ◌<◌, ◌≤◌, Bool, true, false, not, List, [], ◌∷◌, ◌++◌, length, replicate, Option, Some, None, IfSome, nat_eq, refl, sym, ap, ap₂, subst, ◌∙◌, arith, inl, inr}
 use Rattle.std.proofs.lemmas.List.{length-replicate, ext_get_or}
 use Rattle.std.proofs.lemmas.Bool.{cases_lt, false≢true, not-false}
 use Rattle.offset_allocator.specs.Classes.{down}
@@ -41,6 +41,18 @@ lone : (bs : List Block) → 1 ≤ length bs → IsApart bs → used_of bs ≡ 0
 lone [] s a u = absurd (omega arith)
 lone (b ∷ []) s a u = (b, ap (λ (f : Bool). record { name = b.name; size = b.size; used = f } ∷ []) (unused b.used (omega arith)))
 lone (b ∷ d ∷ bs) s a u = absurd (false≢true (sym (rw (unused b.used (omega arith), unused d.used (omega arith)) at a.0)))
+
+-- of two neighbours one is used
+pub half_used : (bs : List Block) → IsApart bs → length bs ≤ 2 * used_of bs + 1
+half_used [] a = omega arith
+half_used (b ∷ []) a = omega arith
+half_used (b ∷ d ∷ bs) a =
+    let next = half_used (d ∷ bs) a.1 in
+    let rest = half_used bs a.1.1 in
+    elim b.used as (λ u. b.used ≡ u → length (b ∷ d ∷ bs) ≤ 2 * (one u + used_of (d ∷ bs)) + 1) [
+      | true ↦ λ e. omega (arith, next)
+      | false ↦ λ e. let taken : d.used ≡ true = not-false d.used (rw e at a.0) in omega (arith, rest, ap one taken)
+    ] refl
 
 pub emptied : (v : View) → IsWellFormed v → used_of v.blocks ≡ 0 → (x : ℕ) × (x < v.max_allocs) × (v ≡ record v { blocks = free_block x v.size ∷ []; order = push (down v.size) x (replicate 256 []) })
 emptied v w u =

@@ -1,12 +1,12 @@
 -- Blocks in the middle of a chain make room for others.
-use Rattle.std.proofs.Common.{◌≡◌, ◌≢◌, ℕ, ◌+◌, ◌-◌, ◌<◌, ◌≤◌, ◌^◌, false, Option, None, Some, MatchOption, List, [], ◌∷◌, ◌++◌, length, get_or, take, set, sym, ◌∙◌, ap, arith, inl, inr, length-append, nat_eq}
+use Rattle.std.proofs.Common.{◌≡◌, ◌≢◌, ℕ, ◌+◌, ◌-◌, ◌<◌, ◌≤◌, ◌^◌, false, Option, None, Some, MatchOption, List, [], ◌∷◌, ◌++◌, length, get_or, take, set, refl, sym, ◌∙◌, ap, arith, inl, inr, length-append, nat_eq}
 use Rattle.std.proofs.lemmas.List.{take_more, take_more_set}
-use Rattle.std.proofs.lemmas.Bool.{cases_eq}
+use Rattle.std.proofs.lemmas.Bool.{cases_eq, cases_lt}
 use Rattle.std.proofs.lemmas.Bool.Decides.{nat_tests}
 use Rattle.offset_allocator.specs.Cells.{Room, Node, node, put}
 use Rattle.offset_allocator.specs.Space.{first_or, last_or, IsRow, IsChain, spares}
 use Rattle.offset_allocator.specs.Named.{Block, units, count_named, times, one}
-use Rattle.offset_allocator.proofs.Nodes.{node-put, node-put_other, length-put, spare-put}
+use Rattle.offset_allocator.proofs.Nodes.{node-put, node-put_other, length-put, spare-put, reserved-put}
 use Rattle.offset_allocator.proofs.Tallies.{one-same, times-join, times-append, units-append}
 use Rattle.offset_allocator.proofs.Rows.{times-first, times-end, first_or-append, last_or-append, IsRow-front, IsRow-back, IsRow-append, IsRow-kept, IsRow-moved, IsRow-aimed}
 
@@ -14,7 +14,7 @@ use Rattle.offset_allocator.proofs.Rows.{times-first, times-end, first_or-append
 pub each-le : (c : Room) (m last count : ℕ) (bs : List Block) → IsChain c m last count bs → (k : ℕ) → count_named k bs + times k (spares c count) ≤ 1
 each-le c m last count bs h k = grind (arith, h.each k)
 
-pub there-below : (c : Room) (m last count x : ℕ) (bs : List Block) → IsChain c m last count bs → 1 ≤ count_named x bs → x < m
+pub there-below : (c : Room) (m last count x : ℕ) (bs : List Block) → IsChain c m last count bs → 1 ≤ count_named x bs → x < length c.nodes
 there-below c m last count x bs h st = let e = h.each x in grind (arith, nat_tests)
 
 -- the name on top of the stack
@@ -26,7 +26,7 @@ top_names c count some l k =
 
 -- what is true of an unused name
 spare_new : (c : Room) (m last count : ℕ) (bs : List Block) → IsChain c m last count bs → (y : ℕ) → 1 ≤ times y (spares c count) → (count_named y bs ≡ 0) × (y < length c.nodes)
-spare_new c m last count bs h y l = let e = h.each y in let low : y < m = grind (arith, nat_tests) in (omega (arith, each-le c m last count bs h y), omega (arith, low, h.cells))
+spare_new c m last count bs h y l = let e = h.each y in (omega (arith, each-le c m last count bs h y), grind (arith, nat_tests))
 
 pub record IsTop (c : Room) (count y : ℕ) (bs : List Block) : Type 0 where
   pub below : y < length c.nodes
@@ -40,6 +40,15 @@ top {c} {m} {last} {count} {bs} y h some e =
     let names : (k : ℕ) → times k (spares c count) ≡ times k (spares c (count - 1)) + one (nat_eq k y) = λ k. rw e (top_names c count some (omega (arith, h.stack)) k) in
     let new = spare_new c m last count bs h y (omega (arith, names y, one-same y)) in
     record { below = new.1; absent = new.0; idle = h.idle y new.0; names = names }
+
+-- a name that no block has
+pub unused : {c : Room} {m last count : ℕ} {bs : List Block} → IsChain c m last count bs → length bs < m → (y : ℕ) × (y < m) × (count_named y bs ≡ 0)
+unused {c} {m} {last} {count} {bs} h room = elim (cases_lt (length c.nodes) m) [
+  | inl l ↦ (length c.nodes, l, grind (arith, nat_tests, h.each (length c.nodes)))
+  | inr g ↦
+      let t = top (get_or c.spare (count - 1) 0) h (omega (arith, h.full, room, g)) refl in
+      (get_or c.spare (count - 1) 0, omega (arith, t.below, h.within), t.absent)
+]
 
 pub kept_names : (c e : Room) (count : ℕ) → e.spare ≡ c.spare → (k : ℕ) → times k (spares e count) ≡ times k (spares c count)
 unfolding spares
@@ -56,9 +65,10 @@ pub record Wrote (c d : Room) (x : ℕ) (n : Node) : Type 0 where
   pub other : (k : ℕ) → k ≢ x → node d k ≡ node c k
   pub cells : length d.nodes ≡ length c.nodes
   pub spare : d.spare ≡ c.spare
+  pub memory : d.reserved ≡ c.reserved
 
 pub wrote : {c d : Room} {x : ℕ} {n : Node} → d ≡ put c x n → x < length c.nodes → Wrote c d x n
-wrote {c} {d} {x} {n} e l = record { here = rw e (node-put c x n l); other = λ k ne. rw e (node-put_other c x n k ne); cells = rw e (length-put c x n); spare = rw e (spare-put c x n) }
+wrote {c} {d} {x} {n} e l = record { here = rw e (node-put c x n l); other = λ k ne. rw e (node-put_other c x n k ne); cells = rw e (length-put c x n); spare = rw e (spare-put c x n); memory = rw e (reserved-put c x n) }
 
 -- a node with another link
 abbrev pub back_to : ℕ → Node → Node
@@ -88,6 +98,10 @@ module _ (f : Node → Node) (w d : Room) where
   relinked_spare None e = rw e
   relinked_spare (Some z) e = rw e (spare-put w z _)
 
+  pub relinked_memory : (link : Option ℕ) → IsRelinked link f w d → d.reserved ≡ w.reserved
+  relinked_memory None e = rw e
+  relinked_memory (Some z) e = rw e (reserved-put w z _)
+
 node_same : (c d : Room) (k : ℕ) → d.nodes ≡ c.nodes → node d k ≡ node c k
 unfolding node
 node_same c d k e = rw e
@@ -100,6 +114,7 @@ pub record IsExchange (c w d e : Room) (count count' : ℕ) (fs old new cs : Lis
   pub gone : (k : ℕ) → 1 ≤ count_named k old → count_named k new ≡ 0 → (node w k).used ≡ false
   pub cells : length w.nodes ≡ length c.nodes
   pub same : e.nodes ≡ d.nodes
+  pub memory : e.reserved ≡ c.reserved
   pub stack : length e.spare ≡ length c.spare
   pub names : (k : ℕ) → count_named k new + times k (spares e count') ≡ count_named k old + times k (spares c count)
   pub full : length new + count' ≡ length old + count
@@ -109,7 +124,7 @@ module _ {c w d e : Room} {m last count count' : ℕ} {fs old new cs : List Bloc
   seen k = omega (arith, each-le c m last count _ h k, times-append k fs (old ++ cs), times-append k old cs)
 
   apart : (k : ℕ) → 1 ≤ count_named k fs + count_named k cs → (count_named k old ≡ 0) × (count_named k new ≡ 0) × (k < length w.nodes)
-  apart k l = (omega (arith, seen k), omega (arith, seen k, x.names k), omega (arith, x.cells, h.cells, there-below c m last count k _ h (omega (arith, times-append k fs (old ++ cs), times-append k old cs))))
+  apart k l = (omega (arith, seen k), omega (arith, seen k, x.names k), omega (arith, x.cells, there-below c m last count k _ h (omega (arith, times-append k fs (old ++ cs), times-append k old cs))))
 
   left : (k : ℕ) → 1 ≤ count_named k fs + count_named k cs → node w k ≡ node c k
   left k l = let a = apart k l in x.others k a.0 a.1
@@ -133,19 +148,21 @@ module _ {c w d e : Room} {m last count count' : ℕ} {fs old new cs : List Bloc
         let long = length-append fs (new ++ cs) in
         let was = length-append fs (old ++ cs) in
         let full = h.full in
+        let cells : length e.nodes ≡ length c.nodes = ap (λ (l : List Node). length l) x.same ∙ relinked_length f w d link linked ∙ x.cells in
         record {
-          cells = ap (λ (l : List Node). length l) x.same ∙ relinked_length f w d link linked ∙ x.cells ∙ h.cells;
-          stack = x.stack ∙ h.stack;
+          memory = x.memory ∙ h.memory;
+          within = omega (arith, cells, h.within);
+          stack = x.stack ∙ h.stack ∙ sym cells;
           row = IsRow-kept d e None 0 _ None (λ k _. node_same d e k x.same) (IsRow-append d None 0 fs (new ++ cs) None (rw first_or-append before) (rw zero_is (IsRow-append d (last_or None fs) (units fs) new cs None middle after)));
           ends = ends_are new ∙ ends;
-          each = λ k. omega (arith, h.each k, x.names k, times-append k fs (old ++ cs), times-append k old cs, times-append k fs (new ++ cs), times-append k new cs);
+          each = λ k. rw cells (omega (arith, h.each k, x.names k, times-append k fs (old ++ cs), times-append k old cs, times-append k fs (new ++ cs), times-append k new cs));
           idle = λ k none.
               let no : (count_named k new ≡ 0) × (count_named k fs + count_named k cs ≡ 0) = (omega (arith, times-append k fs (new ++ cs), times-append k new cs), omega (arith, times-append k fs (new ++ cs), times-append k new cs)) in
               ap (λ (v : Node). v.used) (node_same d e k x.same ∙ relinked_other f w d link k linked (λ q. omega (arith, beside k q, no.1))) ∙ elim (cases_eq (count_named k old) 0) [
                 | inl z ↦ ap (λ (v : Node). v.used) (x.others k z no.0) ∙ h.idle k (omega (arith, no.1, times-append k fs (old ++ cs), times-append k old cs))
                 | inr z ↦ x.gone k (omega arith) no.0
               ];
-          full = omega (arith, x.full, length-append old cs, length-append new cs);
+          full = omega (arith, cells, x.full, length-append old cs, length-append new cs);
           fits = omega (arith, fits, units-append fs (new ++ cs), units-append new cs);
         }
 

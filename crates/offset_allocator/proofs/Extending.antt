@@ -52,10 +52,10 @@ module _ (it : Fields) (more : ℕ) (s : AreSound it) where
   pub can_widen : it.size + more ≤ 4294967295 → ends_used (blocks it.cells.room it.last) ≡ false → CanExtend more (shown it)
   can_widen fits e = let f = ended old it.last s.space.ends in (fits, inr (f.front, f.last, f.is, sym (ap ends_used f.is ∙ ends_last f.front f.last) ∙ e))
 
-  pub cannot_append : ends_used (blocks it.cells.room it.last) ≡ true → it.count ≤ 1 → CanExtend more (shown it) → ⊥
+  pub cannot_append : ends_used (blocks it.cells.room it.last) ≡ true → it.limit ≤ length (shown it).blocks + 1 → CanExtend more (shown it) → ⊥
   cannot_append e full c =
       elim c.1 [
-        | inl room ↦ absurd (omega (arith, room, full, s.nodes, s.space.full))
+        | inl room ↦ absurd (omega (arith, room, full))
         | inr h ↦ true≢false (sym e ∙ ap ends_used h.2 ∙ ends_last h.0 h.1 ∙ h.3)
       ]
 
@@ -92,13 +92,13 @@ module _ {it : Fields} {more : ℕ} {used : Bool} (r : Growth it more used) wher
   abbrev b : Block
   b = end.last
 
-  pub end_held : {d : Room} → d ≡ it.cells.room → HasPlace d (length it.cells.room.nodes) it.last it.count it.last (record { before = end.front; block = end.last; after = [] })
+  pub end_held : {d : Room} → d ≡ it.cells.room → HasPlace d it.cells.room.reserved it.last it.count it.last (record { before = end.front; block = end.last; after = [] })
   end_held e = rw e (end_place r.sound.space)
 
   size_at_end : (node it.cells.room it.last).size ≡ b.size
   size_at_end = ap (λ (n : Node). n.size) (at_place (end_held refl))
 
-  b_used : b.used ≡ used
+  pub b_used : end.last.used ≡ used
   b_used = sym (ends_last fs b) ∙ ap ends_used (sym end.is) ∙ r.ends
 
   pub units_fit : units (blocks it.cells.room it.last) + more < 2 ^ 32
@@ -118,7 +118,7 @@ module _ {it : Fields} {more : ℕ} {used : Bool} (r : Growth it more used) wher
 
   grown : (d : Cells) {last count top : ℕ} (k x : ℕ) (before old : List Block) → bs ≡ before ++ old → ends_free before ≡ false → AllByRecursion (λ b. b.used ≡ false) old → AllByRecursion (λ b. b.name ≡ x) old
       → (1 ≤ count_named x old) ⊎ IsNew x v → (1 ≤ length old) ⊎ (length bs + 1 < it.limit) → (old ≡ [] → IsNew x v)
-      → IsChain d.room (length it.cells.room.nodes) last count (before ++ free_block x (units old + more) ∷ []) → Binned it.max d.links top
+      → IsChain d.room it.cells.room.reserved last count (before ++ free_block x (units old + more) ∷ []) → Binned it.max d.links top
       → class_lists it.max d.links ≡ push (down (units old + more)) x (remove_all old ls) → Grown d last count top k
   grown d {last} {count} {top} k x before old e closed idle named name spare new chain bins lists =
       let left_view : View = record (replace v before old (free_block x (units old + more) ∷ []) []) { size = v.size + more } in
@@ -138,13 +138,13 @@ module _ {it : Fields} {more : ℕ} (r : Growth it more true) where
   append_unlisted y e = unused_unlisted (shown it) (w r) y (ap (count_named y) (end r).is ∙ e)
 
   pub appended : (d : Cells) (k : ℕ) {last count top y n : ℕ} → HasRoomFor 1 (shown it) → n ≡ (node it.cells.room it.last).size
-      → IsChain d.room (length it.cells.room.nodes) last count (((end r).front ++ record (end r).last { size = n } ∷ []) ++ free_block y (((end r).last.size - n) + more) ∷ []) → Binned it.max d.links top
+      → IsChain d.room it.cells.room.reserved last count (((end r).front ++ record (end r).last { size = n } ∷ []) ++ free_block y (((end r).last.size - n) + more) ∷ []) → Binned it.max d.links top
       → class_lists it.max d.links ≡ push (down more) y (class_lists it.max it.cells.links) → count_named y ((end r).front ++ (end r).last ∷ []) ≡ 0 → y < length it.cells.room.nodes → Grown r d last count top k
   appended d k {y = y} {n = n} room e chain bins eo new below =
       let whole : n ≡ (end r).last.size = e ∙ size_at_end r in
       let none : (end r).last.size - (end r).last.size ≡ 0 = omega arith in
       let sum : 0 + more ≡ more = omega arith in
-      let unused : IsNew y (shown it) = record { below = omega (arith, below, r.sound.nodes); absent = ap (count_named y) (end r).is ∙ new } in
+      let unused : IsNew y (shown it) = record { below = omega (arith, below, r.sound.space.within, r.sound.memory); absent = ap (count_named y) (end r).is ∙ new } in
       grown r d k y ((end r).front ++ (end r).last ∷ []) [] ((end r).is ∙ sym (append-nil _)) (ends_free_last (end r).front (end r).last ∙ ap not (b_used r)) tt tt (inr unused) (inr room) (λ _. unused)
       (rw (whole, none) at chain) bins (rw sum eo)
 
@@ -173,7 +173,7 @@ module _ {it : Fields} {more : ℕ} (r : Growth it more false) where
       let alone : count_named it.last (end r).front ≡ 0 = omega (arith, known.distinct it.last, ap (count_named it.last) (end r).is, times-append it.last (end r).front ((end r).last ∷ []), one-eq it.last (end r).last.name (end r).name) in
       let there : 1 ≤ times it.last (names_at (remove_all ((end r).last ∷ []) l) d) = rw is_left at a in omega (arith, there, left, known.orders d it.last, split d it.last, listed_named d it.last (end r).front, alone)
 
-  pub widened : (d : Cells) (k : ℕ) {count top : ℕ} → IsChain d.room (length it.cells.room.nodes) it.last count ((end r).front ++ record (end r).last { size = (end r).last.size + more } ∷ []) → Binned it.max d.links top
+  pub widened : (d : Cells) (k : ℕ) {count top : ℕ} → IsChain d.room it.cells.room.reserved it.last count ((end r).front ++ record (end r).last { size = (end r).last.size + more } ∷ []) → Binned it.max d.links top
       → class_lists it.max d.links ≡ push (down ((node it.cells.room it.last).size + more)) it.last widen_left → Grown r d it.last count top k
   widened d k chain bins eo =
       let size_is : (node it.cells.room it.last).size ≡ units ((end r).last ∷ []) = omega (arith, size_at_end r) in

@@ -1,5 +1,5 @@
 -- What it leaves of the whole allocator to free a block.
-use Rattle.std.proofs.Common.{◌≡◌, ℕ, ◌+◌, ◌<◌, ◌^◌, Bool, true, false, not, ◌&&◌, List, [], ◌∷◌, ◌++◌, length, Option, Some, None, if◌then◌else◌, refl, sym, ap, ap₂, subst, ◌∙◌, arith, nat_eq}
+use Rattle.std.proofs.Common.{◌≡◌, ℕ, ◌+◌, ◌<◌, ◌^◌, Bool, true, false, not, ◌&&◌, List, [], ◌∷◌, ◌++◌, Option, Some, None, if◌then◌else◌, refl, sym, ap, ap₂, subst, ◌∙◌, arith, nat_eq}
 use Rattle.std.proofs.lemmas.Bool.{false≢true}
 use Rattle.offset_allocator.specs.Classes.{down}
 use Rattle.offset_allocator.specs.Cells.{Cells}
@@ -48,7 +48,7 @@ pub record IsAt (f : Fields) (x : ℕ) : Type 0 where
   pub is : place_of x (blocks f.cells.room f.last) ≡ Some place
   pub stood : blocks f.cells.room f.last ≡ place.before ++ place.block ∷ place.after
   pub alone : count_named x place.before ≡ 0
-  pub held : HasPlace f.cells.room (length f.cells.room.nodes) f.last f.count x place
+  pub held : HasPlace f.cells.room f.cells.room.reserved f.last f.count x place
 
 -- a release: sound fields, and the name of a used block
 pub record Release (f : Fields) (x : ℕ) : Type 0 where
@@ -119,7 +119,7 @@ module _ {f : Fields} {x : ℕ} (r : Release f x) where
   abbrev pub left : List (List ℕ)
   left = remove_all (free_start at.place.after) (remove_all (free_end at.place.before) (class_lists f.max f.cells.links))
 
-  pub freed : (d : Cells) (last' count' top' acc' : ℕ) → IsChain d.room (length f.cells.room.nodes) last' count' (without_end at.place.before ++ free_block at.place.block.name whole ∷ without_start at.place.after) → Binned max d.links top'
+  pub freed : (d : Cells) (last' count' top' acc' : ℕ) → IsChain d.room f.cells.room.reserved last' count' (without_end at.place.before ++ free_block at.place.block.name whole ∷ without_start at.place.after) → Binned max d.links top'
       → class_lists f.max d.links ≡ push (down whole) x left
       → IsSound f.max f.size f.limit d last' count' top' (f.free + at.place.block.size) × Frees x (shown f) (view_of f.max f.size f.limit d last' acc')
   freed d last' count' top' acc' chain bins eo =
@@ -144,7 +144,7 @@ module _ {f : Fields} {x : ℕ} (r : Release f x) where
         view = same;
         apart = subst IsApart (sym (ap (λ (u : View). u.blocks) same)) (apart_coalesced fs freed cs apart.0 apart.1.1);
       } in
-      let named : IsChain d.room (length f.cells.room.nodes) last' count' (without_end fs ++ free_block x whole ∷ without_start cs) = subst (λ y. IsChain d.room (length f.cells.room.nodes) last' count' (without_end fs ++ free_block y whole ∷ without_start cs)) at.held.name chain in
+      let named : IsChain d.room f.cells.room.reserved last' count' (without_end fs ++ free_block x whole ∷ without_start cs) = subst (λ y. IsChain d.room f.cells.room.reserved last' count' (without_end fs ++ free_block y whole ∷ without_start cs)) at.held.name chain in
       let left = stepped f s left_view d (f.free + b.size) acc' (well_frees x v left_view w (frees left_view refl)) refl (rw sum named) refl bins (rw (removes, sum) eo)
       (omega (arith, s.total, was, total, sum, units_end fs, units_start cs, tally_end (λ (d : Block). if d.used then 0 else d.size) fs, tally_start (λ (d : Block). if d.used then 0 else d.size) cs)) in
       (left.0, frees _ left.1)

@@ -1,62 +1,61 @@
 -- A fresh space.
-use Rattle.std.proofs.Common.{◌≡◌, ◌≢◌, ℕ, zero, suc, ◌+◌, ◌-◌, ◌/◌, ◌%◌, ◌<◌, ◌≤◌, ◌^◌, false, cond, None, List, [], ◌∷◌, ◌++◌, length, get_or, take, replicate, refl, sym, ◌∙◌, ap, ap₂, subst, arith, inl, inr, nat_lt, add-one, slice_index}
-use Rattle.std.specs.List.{range_with_len}
-use Rattle.std.proofs.lemmas.List.{take_more, length-replicate, get_or-replicate}
-use Rattle.std.proofs.lemmas.List.FromFn.{length-range_with_len, get_or-range_with_len}
+use Rattle.std.proofs.Common.{◌≡◌, ◌≢◌, ℕ, zero, suc, ◌+◌, ◌/◌, ◌%◌, ◌<◌, ◌≤◌, ◌^◌, false, None, List, [], ◌∷◌, length, get_or, replicate, refl, sym, ◌∙◌, ap, ap₂, subst, arith, inl, inr, slice_index}
+use Rattle.std.proofs.lemmas.List.{length-replicate, get_or-replicate}
 use Rattle.std.proofs.lemmas.Nat.Bits.{bit_at-zero}
 use Rattle.std.proofs.lemmas.Bool.{cases_eq}
 use Rattle.std.proofs.lemmas.Bool.Decides.{nat_tests}
 use Rattle.offset_allocator.specs.Classes.{down}
-use Rattle.offset_allocator.specs.Cells.{Cells, Links, Room, Node, node, put, AreEmpty, AreUnused, AreShaped}
-use Rattle.offset_allocator.specs.Named.{Block, View, IsWellFormed, free_block, push, names_at, times}
+use Rattle.offset_allocator.specs.Cells.{Cells, Links, Room, Node, blank, node, put, AreEmpty, IsBare, AreShaped}
+use Rattle.offset_allocator.specs.Named.{Block, View, IsWellFormed, free_block, push, names_at}
 use Rattle.offset_allocator.specs.Space.{IsChain, IsSpace, blocks, spares}
 use Rattle.offset_allocator.specs.Orders.{Linked, Masked, Binned, class_lists, Among, IsUnlisted}
 use Rattle.offset_allocator.specs.State.{IsSound, view_of, free_units}
-use Rattle.offset_allocator.proofs.Nodes.{node-put, node-put_other, length-put, spare-put}
+use Rattle.offset_allocator.proofs.Nodes.{node-put, node-put_other, length-put, spare-put, reserved-put}
 use Rattle.offset_allocator.proofs.Binned.{binned}
 use Rattle.offset_allocator.proofs.ViewTaken.{well_alone}
-use Rattle.offset_allocator.proofs.Tallies.{one-eq, one-other, times-join}
+use Rattle.offset_allocator.proofs.Tallies.{one-eq, one-other}
 
 -- one free block of the whole size
 abbrev pub fresh : ℕ → ℕ → View
-fresh size limit = record { size = size; max_allocs = limit; blocks = free_block (limit - 1) size ∷ []; order = push (down size) (limit - 1) (replicate 256 []); accesses = 0 }
-
-times-rising : (k j : ℕ) (s : List ℕ) → j ≤ length s → ((i : ℕ) → i < j → get_or s i 0 ≡ i) → times k (take j s) ≡ cond (nat_lt k j) 1 0
-times-rising k zero s l h = grind (arith, nat_tests)
-times-rising k (suc j) s l h =
-    let ih = times-rising k j s (omega arith) (λ i b. h i (omega arith)) in
-    let more : take (suc j) s ≡ take j s ++ j ∷ [] = ap (λ (i : ℕ). take i s) (sym (add-one j)) ∙ take_more s j 0 (omega arith) ∙ ap (λ (i : ℕ). take j s ++ i ∷ []) (h j (omega arith)) in
-    let join = times-join k (take j s) (j ∷ []) in
-    rw more (elim (cases_eq k j) [
-      | inl e ↦ grind (arith, nat_tests, one-eq k j (sym e), ih, join)
-      | inr ne ↦ grind (arith, nat_tests, one-other k j ne, ih, join)
-    ])
+fresh size limit = record { size = size; max_allocs = limit; blocks = free_block 0 size ∷ []; order = push (down size) 0 (replicate 256 []); accesses = 0 }
 
 -- a node whose block is the whole space
 abbrev pub whole_node : ℕ → Node
 whole_node size = record { offset = 0; size = size; used = false; before = None; after = None }
 
-module _ {m : ℕ} {t : Room} (e : AreUnused m t) where
-  pub start-chain : (size : ℕ) → 0 < m → size < 2 ^ 32 → m ≤ 2 ^ 32 → (d : Room) → d ≡ put t (m - 1) (whole_node size) → IsChain d m (m - 1) (m - 1) (free_block (m - 1) size ∷ [])
+module _ {m : ℕ} {t : Room} (e : IsBare m t) where
+  pub bare_length : length t.nodes ≡ 1
+  bare_length = rw e.nodes refl
+
+  pub bare_idle : (x : ℕ) → (node t x).used ≡ false
+  unfolding node
+  bare_idle x = rw e.nodes (go x)
+    where
+      go : (x : ℕ) → (get_or (blank ∷ []) x blank).used ≡ false
+      go zero = refl
+      go (suc x) = refl
+
+  pub start-chain : (size : ℕ) → 0 < m → size < 2 ^ 32 → (d : Room) → d ≡ put t 0 (whole_node size) → IsChain d m 0 0 (free_block 0 size ∷ [])
   unfolding spares
-  start-chain size some small word d q =
-      let l : m - 1 < length t.nodes = rw e.nodes (omega arith) in
-      let stack_is : d.spare ≡ range_with_len 0 m = rw q (spare-put t (m - 1) _ ∙ e.spare) in
-      let long = length-range_with_len 0 m in
+  start-chain size some small d q =
+      let l : 0 < length t.nodes = omega (arith, bare_length) in
+      let long : length d.nodes ≡ 1 = rw q (length-put t 0 _ ∙ bare_length) in
+      let spare : d.spare ≡ 0 ∷ [] = rw q (spare-put t 0 _ ∙ e.spare) in
       record {
-        cells = rw q (length-put t (m - 1) _ ∙ e.nodes);
-        stack = rw stack_is long;
-        row = (rw q (node-put t (m - 1) _ l), tt);
+        memory = rw q (reserved-put t 0 _ ∙ e.reserved);
+        within = omega (arith, long, some);
+        stack = rw spare (sym long);
+        row = (rw q (node-put t 0 _ l), tt);
         ends = refl;
-        each = λ k. let r = times-rising k (m - 1) (range_with_len 0 m) (omega arith) (λ i b. get_or-range_with_len 0 m i 0 (omega arith) ∙ omega arith) in
-            rw stack_is (elim (cases_eq k (m - 1)) [
-              | inl i ↦ grind (arith, nat_tests, one-eq k (m - 1) (sym i), r)
-              | inr ne ↦ grind (arith, nat_tests, one-other k (m - 1) ne, r)
-            ]);
+        each = λ k. rw long (elim (cases_eq k 0) [
+          | inl i ↦ grind (arith, nat_tests, one-eq k 0 (sym i))
+          | inr ne ↦ grind (arith, nat_tests, one-other k 0 ne)
+        ]);
         idle = λ k gone.
-            let ne : k ≢ m - 1 = λ i. omega (arith, gone, one-eq k (m - 1) (sym i)) in
-            let at_k : node d k ≡ node t k = rw q (node-put_other t (m - 1) _ k ne) in ap (λ (n : Node). n.used) at_k ∙ e.idle k;
-        full = omega arith;
+            let ne : k ≢ 0 = λ i. omega (arith, gone, one-eq k 0 (sym i)) in
+            let at : node d k ≡ node t k = rw q (node-put_other t 0 _ k ne) in
+            ap (λ (n : Node). n.used) at ∙ bare_idle k;
+        full = omega (arith, long);
         fits = omega arith;
       }
 
@@ -95,19 +94,23 @@ module _ {max : ℕ} (k : Links) (older : length k.older ≡ length k.newer) (sm
   empty_binned = binned empty_linked empty_masked
 
 pub fresh_binned : {max : ℕ} {t : Cells} → AreShaped max t → AreEmpty max t.links → Binned max t.links 0 × (class_lists max t.links ≡ replicate 256 [])
-fresh_binned {t = t} s e = empty_binned t.links (s.older ∙ sym s.newer) (rw s.newer s.limit) e.heads e.masks
+fresh_binned {t = t} s e = empty_binned t.links (s.older ∙ sym s.newer) (omega (arith, s.newer, s.within, s.limit)) e.heads e.masks
+
+-- the only block is free
+pub first_idle : {c : Room} {size : ℕ} → IsSpace c 0 0 → blocks c 0 ≡ free_block 0 size ∷ [] → (node c 0).used ≡ false
+first_idle {c} s e = ap (λ (n : Node). n.used) (rw e at s.row).0
 
 -- the fields of a fresh allocator
-pub started : (max m size : ℕ) (d : Cells) (top : ℕ) → 2 ≤ m → m + 1 < max → size ≤ 4294967295 → length d.room.nodes ≡ m → IsSpace d.room (m - 1) (m - 1) → blocks d.room (m - 1) ≡ free_block (m - 1) size ∷ [] → Binned max d.links top
-    → class_lists max d.links ≡ push (down size) (m - 1) (replicate 256 []) → IsSound max size m d (m - 1) (m - 1) top size × (view_of max size m d (m - 1) 0 ≡ fresh size m)
-started max m size d top two least sized nodes space eb bins lists =
-    let ev : view_of max size m d (m - 1) 0 ≡ fresh size m = ap₂ (λ (b : List Block) (o : List (List ℕ)). let u : View = record { size = size; max_allocs = m; blocks = b; order = o; accesses = 0 } in u) eb lists in (
+pub started : (max m size : ℕ) (d : Cells) (top : ℕ) → 2 ≤ m → m + 1 < max → size ≤ 4294967295 → d.room.reserved ≡ m → IsSpace d.room 0 0 → blocks d.room 0 ≡ free_block 0 size ∷ [] → Binned max d.links top
+    → class_lists max d.links ≡ push (down size) 0 (replicate 256 []) → IsSound max size m d 0 0 top size × (view_of max size m d 0 0 ≡ fresh size m)
+started max m size d top two least sized memory space eb bins lists =
+    let ev : view_of max size m d 0 0 ≡ fresh size m = ap₂ (λ (b : List Block) (o : List (List ℕ)). let u : View = record { size = size; max_allocs = m; blocks = b; order = o; accesses = 0 } in u) eb lists in (
       record {
-        nodes = nodes;
+        memory = memory;
         admitted = least;
         space = space;
         bins = bins;
-        well = subst IsWellFormed (sym ev) (well_alone (fresh size m) (m - 1) size 0 two (omega arith) sized);
+        well = subst IsWellFormed (sym ev) (well_alone (fresh size m) 0 size 0 two (omega arith) sized);
         total = ap free_units eb ∙ omega arith;
       },
       ev,

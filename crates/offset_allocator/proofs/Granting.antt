@@ -50,7 +50,7 @@ module _ {f : Fields} {needed class x : ℕ} (call : Call f needed class x) wher
   abbrev p : Place
   p = got.place
 
-  pub held : {d : Room} → d ≡ f.cells.room → HasPlace d (length f.cells.room.nodes) f.last f.count x got.place
+  pub held : {d : Room} → d ≡ f.cells.room → HasPlace d f.cells.room.reserved f.last f.count x got.place
   held e = rw e (placed (rw got.stood at call.sound.space) got.name)
 
   pub enough : needed ≤ got.place.block.size
@@ -87,7 +87,7 @@ module _ {f : Fields} {needed class x : ℕ} (call : Call f needed class x) wher
     units_free = omega (arith, free_enough, within 0)
 
     -- with room for the blocks that it adds; the tables that are left
-    module _ (k : ℕ) (room : length (shown f).blocks + k < f.limit) (some : 1 ≤ k) (two : (o : ℕ) → 1 ≤ padding_at o → 2 ≤ k) (d : Cells) (last count front rest : ℕ) (there : HasPlace d.room (length f.cells.room.nodes) last count x (record { before = got.place.before ++ free_part front (padding_at (units got.place.before)); block = used_block got.place.block.name n; after = free_part rest (got.place.block.size - (padding_at (units got.place.before) + n)) ++ got.place.after })) where
+    module _ (k : ℕ) (room : length (shown f).blocks + k < f.limit) (some : 1 ≤ k) (two : (o : ℕ) → 1 ≤ padding_at o → 2 ≤ k) (d : Cells) (last count front rest : ℕ) (there : HasPlace d.room f.cells.room.reserved last count x (record { before = got.place.before ++ free_part front (padding_at (units got.place.before)); block = used_block got.place.block.name n; after = free_part rest (got.place.block.size - (padding_at (units got.place.before) + n)) ++ got.place.after })) where
       abbrev parts : List Block
       parts = free_part front padding ++ (used_block p.block.name n ∷ free_part rest left)
 
@@ -98,7 +98,7 @@ module _ {f : Fields} {needed class x : ℕ} (call : Call f needed class x) wher
       unused y l =
           let some : 1 ≤ count_named y ((p.before ++ free_part front padding) ++ used_block p.block.name n ∷ (free_part rest left ++ p.after)) = omega (arith, l, times-append y (p.before ++ free_part front padding) (used_block p.block.name n ∷ (free_part rest left ++ p.after)), times-append y p.before (free_part front padding), times-append y (free_part rest left) p.after) in
           record {
-            below = omega (arith, there-below d.room _ last count y _ there.chain some, call.sound.nodes);
+            below = omega (arith, there-below d.room _ last count y _ there.chain some, there.chain.within, call.sound.memory);
             absent = ap (count_named y) got.stood ∙ omega (arith, l, names y, times-append y p.before (p.block ∷ p.after));
           }
 

@@ -1,5 +1,5 @@
 -- The chain, the bins and the view together.
-use Rattle.std.proofs.Common.{◌≡◌, ℕ, zero, suc, ◌+◌, ◌≤◌, Bool, true, false, List, [], ◌∷◌, ◌++◌, length, if◌then◌else◌, refl, sym, ap, subst, ◌∙◌, arith}
+use Rattle.std.proofs.Common.{◌≡◌, ℕ, zero, suc, ◌+◌, ◌≤◌, Bool, true, false, List, [], ◌∷◌, ◌++◌, if◌then◌else◌, refl, sym, ap, subst, ◌∙◌, arith}
 use Rattle.offset_allocator.specs.Classes.{down}
 use Rattle.offset_allocator.specs.Named.{units, Block, View, count_named, count_listed, IsWellFormed, free_part, remove_all, remove}
 use Rattle.offset_allocator.specs.Cells.{Cells}
@@ -23,13 +23,13 @@ with_accesses k v = record v { accesses = k }
 
 -- the fields after a call: the tables hold the blocks and the bins of a well-formed view
 pub stepped : (f : Fields) → AreSound f → (v : View) (d : Cells) (free k : ℕ) {last count top : ℕ} {bs : List Block} → IsWellFormed v → v.max_allocs ≡ f.limit
-    → IsChain d.room (length f.cells.room.nodes) last count bs → bs ≡ v.blocks → Binned f.max d.links top → class_lists f.max d.links ≡ v.order → free_units bs ≡ free
+    → IsChain d.room f.cells.room.reserved last count bs → bs ≡ v.blocks → Binned f.max d.links top → class_lists f.max d.links ≡ v.order → free_units bs ≡ free
     → AreSound (record f { size = v.size; cells = d; last = last; count = count; top = top; free = free }) × (view_of f.max v.size f.limit d last k ≡ with_accesses k v)
 stepped f s v d free k {last} {count} {top} {bs} well limit chain eb bins eo total =
     let is = blocks-chain d.room _ last count bs chain in
     let left : (j : ℕ) → view_of f.max v.size f.limit d last j ≡ with_accesses j v = λ j. rw (is, eb, eo, limit) refl in (
       record {
-        nodes = chain.cells ∙ s.nodes;
+        memory = chain.memory ∙ s.memory;
         admitted = s.admitted;
         space = space-chain d.room _ last count bs chain;
         bins = bins;

@@ -18,16 +18,17 @@ pub mod Joints
 pub mod Listing
 pub mod Masks
 pub mod Nodes
-pub mod Overwritten
 pub mod Packed
 pub mod Padding
 pub mod Pieces
 pub mod Places
 pub mod Powers
 pub mod Ranges
+pub mod Readied
 pub mod Refusals
 pub mod Taken
 pub mod Tallies
+pub mod Uses
 pub mod Released
 pub mod Resizing
 pub mod Rows
@@ -44,4 +45,4 @@ pub mod ViewUndo
 pub mod Views
 pub mod Walks
 pub mod Writes
-pub mod Zip
+pub mod Entries

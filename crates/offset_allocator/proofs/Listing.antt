@@ -1,11 +1,11 @@
 -- The last of the first blocks of a space, and the list of what an iterator has left.
-use Rattle.std.proofs.Common.{◌≡◌, ℕ, suc, ◌+◌, ◌-◌, ◌<◌, ◌≤◌, Bool, None, Some, List, [], ◌∷◌, ◌++◌, length, take, drop, reverse, refl, sym, ap, ap₂, subst, ◌∙◌, arith, inl, inr, if◌then◌else◌}
-use Rattle.std.proofs.lemmas.Bool.{cases_lt}
+use Rattle.std.proofs.Common.{◌≡◌, ℕ, suc, ◌+◌, ◌-◌, ◌<◌, ◌≤◌, Bool, None, Some, List, [], ◌∷◌, ◌++◌, length, take, drop, reverse, refl, sym, ap, ap₂, subst, ◌∙◌, arith, if◌then◌else◌}
 use Rattle.std.proofs.lemmas.List.{length_push, length-take-le, take-take, take-append-le, take_all, take-append-drop, append_assoc, reverse-append, length-reverse}
 use Rattle.offset_allocator.specs.Cells.{Room, Node, node}
 use Rattle.offset_allocator.specs.Named.{View, Block, units, count_named}
 use Rattle.offset_allocator.specs.Space.{last_or, IsRow}
 use Rattle.offset_allocator.specs.Listing.{Placed, placed_at, placed}
+use Rattle.offset_allocator.proofs.Exchange.{there-below}
 use Rattle.offset_allocator.proofs.Ends.{Ended, ended, last_none}
 use Rattle.offset_allocator.proofs.Rows.{node_at}
 use Rattle.offset_allocator.proofs.Sound.{Fields, AreSound, shown}
@@ -92,7 +92,7 @@ module _ (it : Fields) (s : AreSound it) (k x : ℕ) where
       let at : placed_node x (node c x) ≡ placed_at (units d.front) d.block =
       ap (placed_node x) n ∙ ap (λ (i : ℕ). record { offset = units d.front; size = d.block.size; grant = if d.block.used then Some (record { name = i; offset = units d.front }) else None }) (sym d.named) in
       record {
-        below = elim (cases_lt x it.limit) [ inl m ↦ omega (arith, s.nodes) | inr m ↦ absurd (omega (arith, there, s.well.below x m)) ];
+        below = there-below c _ _ _ x bs s.space there;
         some = d.some;
         block = ap (λ (l : List Block). reverse (placed 0 l)) d.taken ∙ listing-push d.front d.block ∙ ap₂ (λ (p : Placed) (l : List Block). p ∷ reverse (placed 0 l)) (sym at) (sym d.before);
         before = ap (last_or None) d.before ∙ sym (ap (λ (n : Node). n.before) n);

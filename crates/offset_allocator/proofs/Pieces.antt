@@ -3,11 +3,12 @@ use Rattle.std.proofs.Common.{◌≡◌, ◌≢◌, ℕ, zero, suc, ◌-◌, ◌
 use Rattle.std.proofs.lemmas.Bool.{cases_eq}
 use Rattle.offset_allocator.specs.Cells.{Room}
 use Rattle.offset_allocator.specs.Classes.{down}
-use Rattle.offset_allocator.specs.Named.{Block, Place, count_named, names_at, free_part, free_block, push, push_all}
+use Rattle.offset_allocator.specs.Named.{Block, Place, count_named, names_at, free_part, free_block, used_block, push, push_all}
 use Rattle.offset_allocator.specs.Orders.{Among, IsUnlisted}
 use Rattle.offset_allocator.specs.Space.{HasPlace}
 use Rattle.offset_allocator.specs.State.{AreUnlisted}
 use Rattle.offset_allocator.proofs.Classes.{down_small}
+use Rattle.offset_allocator.proofs.Exchange.{each-le}
 use Rattle.offset_allocator.proofs.Tallies.{one-eq, one-other, times-append}
 
 unlisted_put : (y x c : ℕ) (ls : List (List ℕ)) → length ls ≡ 256 → c < 256 → y ≢ x → IsUnlisted y ls → IsUnlisted y (push c x ls)
@@ -31,6 +32,18 @@ module _ {c : Room} {m last count x : ℕ} {p : Place} where
 pub some_part : (y n : ℕ) → 0 < n → free_block y n ∷ [] ≡ free_part y n
 some_part y zero l = absurd (omega arith)
 some_part y (suc n) l = refl
+
+-- a used block goes into no bin
+pub pushed_parts : (y n x k : ℕ) (zs : List Block) (ls : List (List ℕ)) → push_all (free_part y n ++ used_block x k ∷ zs) ls ≡ push_all zs (push_all (free_part y n) ls)
+pushed_parts y zero x k zs ls = refl
+pushed_parts y (suc n) x k zs ls = refl
+
+-- the block that padding is split off is in no bin still
+pub padded_unlisted : {c : Room} {m last count x : ℕ} (fs : List Block) {cs : List Block} {b : Block} (y n : ℕ) (ls : List (List ℕ)) → length ls ≡ 256 → HasPlace c m last count x (record { before = fs ++ free_part y n; block = b; after = cs }) → IsUnlisted x ls → IsUnlisted x (push_all (free_part y n) ls)
+padded_unlisted fs y zero ls long h u = u
+padded_unlisted {c} {m} {last} {count} {x} fs {cs} {b} y (suc n) ls long h u =
+    unlisted_put x y (down (suc n)) ls long (down_small (suc n))
+    (λ q. omega (arith, each-le c m last count _ h.chain x, times-append x (fs ++ free_block y (suc n) ∷ []) (b ∷ cs), times-append x fs (free_block y (suc n) ∷ []), one-eq x y (sym q), one-eq x b.name h.name)) u
 
 -- the name of the padding is in its bin, and no other one is that was in none
 pub unlisted_part : (fs cs : List Block) (b d : Block) (y n : ℕ) (ls : List (List ℕ)) → d.name ≡ b.name → length ls ≡ 256 → AreUnlisted (fs ++ b ∷ cs) ls → AreUnlisted ((fs ++ free_part y n) ++ d ∷ cs) (push_all (free_part y n) ls)

@@ -3,7 +3,7 @@ use Rattle.std.proofs.Common.{◌≡◌, ℕ, ◌+◌, ◌<◌, ◌^◌, true, f
 use Rattle.offset_allocator.specs.Classes.{down}
 use Rattle.offset_allocator.specs.Cells.{Room, Node, node}
 use Rattle.offset_allocator.specs.Space.{first_or, last_or, IsChain, IsSpace, HasPlace, blocks, coalesced_before, coalesced_after}
-use Rattle.offset_allocator.specs.Named.{Block, Place, place_of, units, free_end, free_start, remove, remove_all}
+use Rattle.offset_allocator.specs.Named.{Block, Place, free_block, place_of, units, free_end, free_start, remove, remove_all}
 use Rattle.offset_allocator.proofs.Tallies.{one-eq, times-append, units-append}
 use Rattle.offset_allocator.proofs.Rows.{last_or-append, node_at}
 use Rattle.offset_allocator.proofs.Ends.{ended, last_none, end_free, end_used, end_kept, start_kept}
@@ -14,14 +14,14 @@ pub placed : {c : Room} {m last count x : ℕ} {p : Place} → IsChain c m last 
 placed {c} {m} {last} {count} {x} {p} h e = record {
   chain = h;
   name = e;
-  below = omega (arith, h.cells, there-below c m last count x _ h (omega (arith, times-append x p.before (p.block ∷ p.after), one-eq x p.block.name e)));
+  below = there-below c m last count x _ h (omega (arith, times-append x p.before (p.block ∷ p.after), one-eq x p.block.name e));
 }
 
-pub located : {c : Room} {last count x : ℕ} {p : Place} → IsSpace c last count → place_of x (blocks c last) ≡ Some p → HasPlace c (length c.nodes) last count x p
+pub located : {c : Room} {last count x : ℕ} {p : Place} → IsSpace c last count → place_of x (blocks c last) ≡ Some p → HasPlace c c.reserved last count x p
 located {c} {last} {count} {x} {p} h e = let a = place_at x (blocks c last) p e in placed (rw a.0 at h) (sym a.1)
 
 -- the last block of a space
-pub end_place : {c : Room} {last count : ℕ} (h : IsSpace c last count) → HasPlace c (length c.nodes) last count last (record { before = (ended (blocks c last) last h.ends).front; block = (ended (blocks c last) last h.ends).last; after = [] })
+pub end_place : {c : Room} {last count : ℕ} (h : IsSpace c last count) → HasPlace c c.reserved last count last (record { before = (ended (blocks c last) last h.ends).front; block = (ended (blocks c last) last h.ends).last; after = [] })
 end_place {c} {last} h = let f = ended (blocks c last) last h.ends in placed (rw f.is at h) f.name
 
 -- a block with no other after it is the last one
@@ -34,6 +34,17 @@ node_of p = record { offset = units p.before; size = p.block.size; used = p.bloc
 
 pub at_place : {c : Room} {m last count x : ℕ} {p : Place} → HasPlace c m last count x p → node c x ≡ node_of p
 at_place {c} {x = x} {p = p} h = node_at c p.before p.block p.after x h.chain.row h.name
+
+-- a free block beside a block
+pub next_idle : {c : Room} {m last count x y n : ℕ} {fs cs : List Block} {b : Block} → HasPlace c m last count x (record { before = fs; block = b; after = free_block y n ∷ cs }) → (node c y).used ≡ false
+next_idle {c} {m} {last} {count} {x} {y} {n} {fs} {cs} {b} h =
+    let there : HasPlace c m last count y (record { before = fs ++ b ∷ []; block = free_block y n; after = cs }) = placed (rw append_assoc h.chain) refl in
+    ap (λ (v : Node). v.used) (at_place there)
+
+pub previous_idle : (y n : ℕ) (fs : List Block) {c : Room} {m last count x : ℕ} {cs : List Block} {b : Block} → HasPlace c m last count x (record { before = fs ++ free_block y n ∷ []; block = b; after = cs }) → (node c y).used ≡ false
+previous_idle y n fs {c} {m} {last} {count} {x} {cs} {b} h =
+    let there : HasPlace c m last count y (record { before = fs; block = free_block y n; after = b ∷ cs }) = placed (rw append_assoc at h.chain) refl in
+    ap (λ (v : Node). v.used) (at_place there)
 
 pub end_fits : {c : Room} {m last count x : ℕ} {p : Place} → HasPlace c m last count x p → units p.before + p.block.size < 2 ^ 32
 end_fits {p = p} h = omega (arith, h.chain.fits, units-append p.before (p.block ∷ p.after))

@@ -1,10 +1,11 @@
 -- What a read of cells says of the view.
-use Rattle.std.proofs.Common.{◌≡◌, ℕ, ◌<◌, ◌≤◌, inl, inr, length, arith, Bool, is_some, true, false, Option, None, Some, option_and_then, option_map, unwrap_or, if◌then◌else◌, refl, sym, ap, subst, ◌∙◌}
-use Rattle.std.proofs.lemmas.Bool.{cases_lt}
+use Rattle.std.proofs.Common.{◌≡◌, ℕ, ◌<◌, inl, inr, length, arith, Bool, is_some, true, false, Option, None, Some, option_and_then, option_map, unwrap_or, if◌then◌else◌, refl, sym, ap, subst, ◌∙◌}
+use Rattle.std.proofs.lemmas.Bool.{cases_lt, false≢true}
 use Rattle.offset_allocator.specs.Cells.{Room, Node, node}
 use Rattle.offset_allocator.specs.Named.{View, Place, units, place_of, is_used_at}
 use Rattle.offset_allocator.specs.Ranges.{Range, range_of, size_of, IsLive}
 use Rattle.offset_allocator.specs.Space.{blocks, IsRow, IsSpace}
+use Rattle.offset_allocator.proofs.Nodes.{past_idle}
 use Rattle.offset_allocator.proofs.Sound.{Fields, AreSound, shown}
 use Rattle.offset_allocator.proofs.Rows.{node_at}
 use Rattle.offset_allocator.proofs.ViewSteps.{place_at, no_place}
@@ -79,15 +80,18 @@ module _ (c : Room) (last count x : ℕ) (h : IsSpace c last count) where
           ap (λ (b : Bool). offset_in (if b then Some (record { offset = units p.before; size = p.block.size }) else None)) (sym r.0 ∙ u) ∙ ap (λ (i : ℕ). Some i) (sym r.2)
 
 module _ (it : Fields) (x : ℕ) (s : AreSound it) where
-  pub none_past : it.limit ≤ x → is_used_at (place_of x (blocks it.cells.room it.last)) ≡ false
-  none_past l = sym (used_read it.cells.room it.last it.count x s.space) ∙ s.space.idle x (s.well.below x l)
-
   module _ (v : View) (e : shown it ≡ v) (live : IsLive x v) where
     used : is_used_at (place_of x (blocks it.cells.room it.last)) ≡ true
     used = ap (λ (u : View). is_used_at (place_of x u.blocks)) e ∙ live_used x v live
 
     pub live_below : x < length it.cells.room.nodes
-    live_below = elim (cases_lt x it.limit) [ inl l ↦ omega (arith, s.nodes) | inr l ↦ let f = sym (none_past l) ∙ used in absurd (cc) ]
+    live_below = elim (cases_lt x (length it.cells.room.nodes)) [
+      | inl l ↦ l
+      | inr l ↦ let f = sym (past_idle it.cells.room x l) ∙ used_read it.cells.room it.last it.count x s.space ∙ used in absurd (false≢true f)
+    ]
+
+    pub live_within : x < it.limit
+    live_within = omega (arith, live_below, s.space.within, s.memory)
 
     pub live_size : (node it.cells.room x).size ≡ size_of x v
     live_size = size_read it.cells.room it.last it.count x s.space (used_read it.cells.room it.last it.count x s.space ∙ used) ∙ ap (λ (u : View). size_at (place_of x u.blocks)) e ∙ sym (size_is x v)

@@ -1,5 +1,5 @@
 -- Why a request is refused.
-use Rattle.std.proofs.Common.{◌≡◌, ℕ, ◌+◌, ◌<◌, ◌≤◌, true, false, List, [], ◌∷◌, sum, if◌then◌else◌, refl, sym, ap, ◌∙◌, arith}
+use Rattle.std.proofs.Common.{◌≡◌, ℕ, ◌+◌, ◌<◌, ◌≤◌, true, false, List, [], ◌∷◌, length, sum, if◌then◌else◌, refl, sym, ap, ◌∙◌, arith}
 use Rattle.std.proofs.lemmas.List.Sums.{sum_by-cons}
 use Rattle.offset_allocator.specs.Named.{Block, View, units, free_sizes, IsWellFormed}
 use Rattle.offset_allocator.specs.Space.{blocks}
@@ -24,8 +24,8 @@ pub fit_small : (n : ℕ) (v : View) → IsWellFormed v → HasFit n v → n ≤
 fit_small n v w h = let f = free_units_sum v.blocks in omega (arith, class_within v w n h.0 h.1 h.2, f.0, f.1, w.whole)
 
 module _ (it : Fields) (s : AreSound it) (more n : ℕ) where
-  pub is_open : more < it.count → HasRoomFor more (shown it)
-  is_open h = let long = s.space.full in omega (arith, s.nodes)
+  pub is_open : {v : View} {left : ℕ} → shown it ≡ v → left + length v.blocks ≡ v.max_allocs → more < left → HasRoomFor more (shown it)
+  is_open e h l = omega (arith, h, l, ap (λ (u : View). length u.blocks) e, ap (λ (u : View). u.max_allocs) e)
 
   pub total_is : it.free ≡ sum (free_sizes (shown it).blocks)
   total_is = sym s.total ∙ (free_units_sum (blocks it.cells.room it.last)).0

@@ -114,7 +114,7 @@ module _ {f : Fields} {x : ℕ} (call : Release f x) where
   free_beside = omega (arith, had_free)
 
   module _ (n : ℕ) (enough : n ≤ both) (room : (1 ≤ length (free_start (at call).place.after)) ⊎ HasRoomFor 1 (shown f))
-      (d : Cells) (last count name : ℕ) (there : HasPlace d.room (length f.cells.room.nodes) last count x (record { before = (at call).place.before; block = record (at call).place.block { size = n }; after = free_part name (both - n) ++ without_start (at call).place.after })) where
+      (d : Cells) (last count name : ℕ) (there : HasPlace d.room f.cells.room.reserved last count x (record { before = (at call).place.before; block = record (at call).place.block { size = n }; after = free_part name (both - n) ++ without_start (at call).place.after })) where
     abbrev left : ℕ
     left = both - n
 
@@ -139,7 +139,7 @@ module _ {f : Fields} {x : ℕ} (call : Release f x) where
         let here : count_named name (free_part name left) ≡ 1 = part_names name name left l ∙ one-same name in
         elim (eq-zero-or-pos (count_named name next)) [
           | inl z ↦ inr (record {
-            below = omega (arith, there-below d.room _ last count name _ there.chain (omega (arith, now name, here)), call.sound.nodes);
+            below = omega (arith, there-below d.room _ last count name _ there.chain (omega (arith, now name, here)), there.chain.within, call.sound.memory);
             absent = omega (arith, z, counted name, now name, here, each-le d.room _ last count _ there.chain name);
           })
           | inr s ↦ inl s
@@ -211,8 +211,8 @@ module _ {f : Fields} {x : ℕ} (call : Release f x) where
     | inr q ↦ rw (ne_eqb n held q) (λ c. q (omega (arith, c.0, l, e, size_there)), refl)
   ]
 
-  pub shrinks_full : (n accesses : ℕ) → n < (at call).place.block.size → free_start (at call).place.after ≡ [] → f.count ≤ 1 → Shrinks x n (shown f) (shown (record f { accesses = accesses })) false
-  shrinks_full n accesses l e full = (λ c. elim (c.1 (omega (arith, l, size_there))) [ inl some ↦ some (next_there ∙ e) | inr room ↦ omega (arith, room, full, call.sound.nodes, call.sound.space.full) ], refl)
+  pub shrinks_full : (n accesses : ℕ) → n < (at call).place.block.size → free_start (at call).place.after ≡ [] → f.limit ≤ length (shown f).blocks + 1 → Shrinks x n (shown f) (shown (record f { accesses = accesses })) false
+  shrinks_full n accesses l e full = (λ c. elim (c.1 (omega (arith, l, size_there))) [ inl some ↦ some (next_there ∙ e) | inr room ↦ omega (arith, room, full) ], refl)
 
   pub shrinks_done : (n : ℕ) (u : View) → n < (at call).place.block.size → (1 ≤ length (free_start (at call).place.after)) ⊎ HasRoomFor 1 (shown f) → Resizes x n (shown f) u → Shrinks x n (shown f) u true
   shrinks_done n u l room r =

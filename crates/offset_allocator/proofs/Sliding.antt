@@ -51,7 +51,7 @@ absorbed p b bs idle e h =
     rw (idle, one) at (rw e at h)
 
 -- a walk back from the last block
-pub walked : {c : Room} {last count x : ℕ} (h : IsSpace c last count) (front rest : List Block) → blocks c last ≡ front ++ rest → (e : last_or None front ≡ Some x) → HasPlace c (length c.nodes) last count x (record { before = (ended front x e).front; block = (ended front x e).last; after = rest })
+pub walked : {c : Room} {last count x : ℕ} (h : IsSpace c last count) (front rest : List Block) → blocks c last ≡ front ++ rest → (e : last_or None front ≡ Some x) → HasPlace c c.reserved last count x (record { before = (ended front x e).front; block = (ended front x e).last; after = rest })
 walked {x = x} h front rest is e = let f = ended front x e in placed (rw append_assoc at (rw f.is at (rw is at h))) f.name
 
 pub first_used : (b : Block) (bs : List Block) → b.used ≡ true → first_free (b ∷ bs) ≡ first_free bs

@@ -12,7 +12,7 @@ pub part_room : (y n k : ℕ) → 1 ≤ k → (1 ≤ n → 2 ≤ k) → length (
 part_room y zero k some two = omega (arith, some)
 part_room y (suc n) k some two = omega (arith, two (omega arith))
 
-used_most : (bs : List Block) → used_of bs ≤ length bs
+pub used_most : (bs : List Block) → used_of bs ≤ length bs
 used_most [] = omega arith
 used_most (b ∷ bs) = let ih = used_most bs in elim b.used as (λ u. one u + used_of bs ≤ suc (length bs)) [ true ↦ omega arith | false ↦ omega arith ]
 

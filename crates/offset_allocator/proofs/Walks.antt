@@ -68,6 +68,18 @@ module _ (none : ℕ) (t : Links) (small : length t.newer ≤ none) where
       at [] d e = absurd (n e)
       at (z ∷ l) d e = omega (arith, d.0)
 
+  -- the name after one of a chain is in it too
+  pub next_among : (b : ℕ) (xs : List ℕ) → Chain none t b xs → (x : ℕ) → Among x xs → slice_index t.older x ≢ none → Among (slice_index t.older x) xs
+  next_among b [] c x a n = absurd (omega arith)
+  next_among b (y ∷ ys) c x a n = elim (hit_cases x y) [
+    | inl h ↦ at ys (ap (slice_index t.older) h.0 ∙ c.2)
+    | inr h ↦ omega (arith, next_among y ys c.3 x (omega (arith, h.1)) n)
+  ]
+    where
+      at : (l : List ℕ) → slice_index t.older x ≡ first_of none l → Among (slice_index t.older x) (y ∷ l)
+      at [] e = absurd (n e)
+      at (z ∷ l) e = omega (arith, ap (λ i. times i (z ∷ l)) e, one-same z)
+
   pub chain_fits : (b : ℕ) (xs : List ℕ) → Chain none t b xs → ((x : ℕ) → times x xs ≤ 1) → length xs ≤ length t.newer
   chain_fits b xs c o = length_below (length t.newer) xs o (name_below b xs c)
 

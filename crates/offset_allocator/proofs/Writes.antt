@@ -4,9 +4,9 @@ use Rattle.std.proofs.lemmas.Bool.{cases_eq}
 use Rattle.offset_allocator.specs.Cells.{Room, Node, node, put, with_spare}
 use Rattle.offset_allocator.specs.Space.{first_or, last_or, IsRow, IsChain, HasPlace, coalesced_before, coalesced_after}
 use Rattle.offset_allocator.specs.Named.{Block, Place, free_block, units, count_named, one}
-use Rattle.offset_allocator.proofs.Nodes.{nodes-with_spare}
+use Rattle.offset_allocator.proofs.Nodes.{nodes-with_spare, reserved-with_spare}
 use Rattle.offset_allocator.proofs.Ends.{end_free}
-use Rattle.offset_allocator.proofs.Exchange.{IsTop, IsExchange, IsRelinked, back_to, on_to, wrote, top, kept_names, pushed_names, link_back, link_on, link_none, back, relinked_spare}
+use Rattle.offset_allocator.proofs.Exchange.{IsTop, IsExchange, IsRelinked, back_to, on_to, wrote, top, kept_names, pushed_names, link_back, link_on, link_none, back, relinked_spare, relinked_memory}
 use Rattle.offset_allocator.proofs.Places.{placed, at_place, next_place, previous_place}
 use Rattle.offset_allocator.proofs.Tallies.{one-eq, one-other, times-append, units-append}
 
@@ -19,10 +19,10 @@ not_top {y = y} {p = p} h tp q = omega (arith, tp.absent, times-append y p.befor
 
 -- two blocks become one, under the name of b; the name of g is unused again
 name_freed : (b g : Block) {t w d e : Room} {m last count y : ℕ} {fs old cs : List Block} {n : ℕ} → IsChain t m last count (fs ++ (old ++ cs)) → g.name ≡ y → (node t y).used ≡ false
-    → ((k : ℕ) → k ≢ b.name → node w k ≡ node t k) → length w.nodes ≡ length t.nodes → d.spare ≡ t.spare → e ≡ with_spare d count y
+    → ((k : ℕ) → k ≢ b.name → node w k ≡ node t k) → length w.nodes ≡ length t.nodes → d.spare ≡ t.spare → d.reserved ≡ t.reserved → e ≡ with_spare d count y
     → IsRow w (last_or None fs) (units fs) (record b { size = n } ∷ []) (first_or None cs) → ((k : ℕ) → count_named k old ≡ one (nat_eq k b.name) + one (nat_eq k g.name)) → length old ≡ 2
     → IsExchange t w d e count (count + 1) fs old (record b { size = n } ∷ []) cs
-name_freed b g {t} {w} {d} {e} {m} {last} {count} {y} {fs} {old} {cs} {n} h named free other cells same e' row two both =
+name_freed b g {t} {w} {d} {e} {m} {last} {count} {y} {fs} {old} {cs} {n} h named free other cells same memory e' row two both =
     let long = h.full in
     let room : count < length t.spare = omega (arith, h.stack, length-append fs (old ++ cs), length-append old cs) in
     let spare : e.spare ≡ set t.spare count y = ap (λ (r : Room). r.spare) e' ∙ spare-with_spare d count y ∙ ap (λ (l : List ℕ). set l count y) same in
@@ -32,6 +32,7 @@ name_freed b g {t} {w} {d} {e} {m} {last} {count} {y} {fs} {old} {cs} {n} h name
       gone = λ k u v. ap (λ (i : Node). i.used) (other k (λ q. omega (arith, one-eq k b.name (sym q))) ∙ ap (node t) (elim (cases_eq k g.name) [ inl q ↦ q ∙ named | inr q ↦ absurd (omega (arith, two k, one-other k g.name q)) ])) ∙ free;
       cells = cells;
       same = ap (λ (r : Room). r.nodes) e' ∙ nodes-with_spare d count y;
+      memory = ap (λ (r : Room). r.reserved) e' ∙ reserved-with_spare d count y ∙ memory;
       stack = ap (λ (l : List ℕ). length l) spare ∙ length-set t.spare count y;
       names = λ k. omega (arith, two k, pushed_names t e count y room spare k, ap (λ (i : ℕ). one (nat_eq k i)) named);
       full = omega (arith, both);
@@ -39,15 +40,16 @@ name_freed b g {t} {w} {d} {e} {m} {last} {count} {y} {fs} {old} {cs} {n} h name
 
 -- one block becomes two, the other under an unused name
 name_taken : {t w d : Room} {count y : ℕ} {b : Block} {fs new cs : List Block} → IsTop t count y (fs ++ b ∷ cs) → 0 < count
-    → ((k : ℕ) → k ≢ b.name → k ≢ y → node w k ≡ node t k) → length w.nodes ≡ length t.nodes → d.spare ≡ t.spare
+    → ((k : ℕ) → k ≢ b.name → k ≢ y → node w k ≡ node t k) → length w.nodes ≡ length t.nodes → d.spare ≡ t.spare → d.reserved ≡ t.reserved
     → IsRow w (last_or None fs) (units fs) new (first_or None cs) → ((k : ℕ) → count_named k new ≡ one (nat_eq k b.name) + one (nat_eq k y)) → length new ≡ 2
     → IsExchange t w d d count (count - 1) fs (b ∷ []) new cs
-name_taken {t} {w} {d} {count} {y} {b} tp some other cells spare row two both = record {
+name_taken {t} {w} {d} {count} {y} {b} tp some other cells spare memory row two both = record {
   row = row;
   others = λ k u v. other k (λ q. omega (arith, one-eq k b.name (sym q))) (λ q. omega (arith, two k, one-eq k y (sym q)));
   gone = λ k u v. absurd (omega (arith, two k));
   cells = cells;
   same = refl;
+  memory = memory;
   stack = ap (λ (l : List ℕ). length l) spare;
   names = λ k. omega (arith, two k, tp.names k, kept_names t d (count - 1) spare k);
   full = omega (arith, both);
@@ -72,7 +74,7 @@ split_place {t} {w₁} {w₂} {d} {m} {last} {last'} {count} {x} {n} {y} {o} {s}
     s₂.here ∙ ap (λ (v : Node). record v { size = n; after = c }) (s₁.other x (λ q. ne (sym q)) ∙ at) ∙ rw ec refl in
     let at_y : node w₂ y ≡ record { offset = units p.before + n; size = p.block.size - n; used = false; before = Some x; after = first_or None p.after } = s₂.other y ne ∙ s₁.here ∙ rw (ao, sized, aa, eb) refl in
     let exchange : IsExchange t w₂ d d count (count - 1) p.before (p.block ∷ []) (record p.block { size = n } ∷ free_block y (p.block.size - n) ∷ []) p.after =
-    name_taken tp some (λ k u v. let nx : k ≢ x = λ q. u (q ∙ sym h.name) in s₂.other k nx ∙ s₁.other k v) (s₂.cells ∙ s₁.cells) (relinked_spare (back_to y) w₂ d a linked ∙ s₂.spare ∙ s₁.spare)
+    name_taken tp some (λ k u v. let nx : k ≢ x = λ q. u (q ∙ sym h.name) in s₂.other k nx ∙ s₁.other k v) (s₂.cells ∙ s₁.cells) (relinked_spare (back_to y) w₂ d a linked ∙ s₂.spare ∙ s₁.spare) (relinked_memory (back_to y) w₂ d a linked ∙ s₂.memory ∙ s₁.memory)
     (rw h.name (at_x, (at_y, tt))) (λ k. omega arith) refl in
     placed (link_back h.chain exchange last' y (rw aa at linked) refl refl (omega arith) (rw aa at moved)) h.name
 
@@ -95,7 +97,7 @@ split_before_place {t} {w₁} {w₂} {d} {m} {last} {count} {x} {n} {y} {o} {s} 
     s₂.here ∙ ap (λ (v : Node). record v { offset = o + n; size = s - n; before = c }) (s₁.other x (λ q. ne (sym q)) ∙ at) ∙ rw (ao, sized, ec) refl in
     let at_y : node w₂ y ≡ record { offset = units p.before; size = n; used = false; before = last_or None p.before; after = Some x } = s₂.other y ne ∙ s₁.here ∙ rw (ao, aa, eb) refl in
     let exchange : IsExchange t w₂ d d count (count - 1) p.before (p.block ∷ []) (free_block y n ∷ record p.block { size = p.block.size - n } ∷ []) p.after =
-    name_taken tp some (λ k u v. let nx : k ≢ x = λ q. u (q ∙ sym h.name) in s₂.other k nx ∙ s₁.other k v) (s₂.cells ∙ s₁.cells) (relinked_spare (on_to y) w₂ d a linked ∙ s₂.spare ∙ s₁.spare)
+    name_taken tp some (λ k u v. let nx : k ≢ x = λ q. u (q ∙ sym h.name) in s₂.other k nx ∙ s₁.other k v) (s₂.cells ∙ s₁.cells) (relinked_spare (on_to y) w₂ d a linked ∙ s₂.spare ∙ s₁.spare) (relinked_memory (on_to y) w₂ d a linked ∙ s₂.memory ∙ s₁.memory)
     (rw h.name (at_y, (at_x, tt))) (λ k. omega arith) refl in
     placed (rw append_assoc (link_on h.chain exchange y (rw aa at linked) refl refl (omega arith))) h.name
 
@@ -113,7 +115,7 @@ coalesce_after_place d {t} {w} {e} {m} {last} {last'} {count} {x} {y} {s} {a} {p
     let sized : s ≡ p.block.size + (b.size + 0) = omega (arith, es, ap (λ (v : Node). v.size) (at_place h), ap (λ (v : Node). v.size) at_y) in
     let s₁ = wrote e₁ h.below in
     let exchange : IsExchange t w d e count (count + 1) p.before (p.block ∷ b ∷ []) (record p.block { size = p.block.size + (b.size + 0) } ∷ []) n.rest =
-    name_freed p.block b (rw n.is at h.chain) n.place.name free (λ k q. s₁.other k (λ z. q (z ∙ sym h.name))) s₁.cells (relinked_spare (back_to x) w d a linked ∙ s₁.spare) e₂
+    name_freed p.block b (rw n.is at h.chain) n.place.name free (λ k q. s₁.other k (λ z. q (z ∙ sym h.name))) s₁.cells (relinked_spare (back_to x) w d a linked ∙ s₁.spare) (relinked_memory (back_to x) w d a linked ∙ s₁.memory) e₂
     (simp h.name (s₁.here ∙ ap (λ (v : Node). record v { size = s; after = a }) (at_place h) ∙ rw (sized, aa) refl, tt))
     (λ k. omega arith) refl in
     rw (n.is, idle) (placed (link_back (rw n.is at h.chain) exchange last' x (rw aa at linked) (ap (λ i. Some i) h.name) refl (omega arith) (rw aa at moved)) h.name)
@@ -133,7 +135,7 @@ coalesce_before_place d {t} {w} {e} {m} {last} {count} {x} {y} {o} {s} {a} {p} h
     let sized : s ≡ (b.size + 0) + p.block.size = omega (arith, es, ap (λ (v : Node). v.size) (at_place h), ap (λ (v : Node). v.size) at_y) in
     let s₁ = wrote e₁ h.below in
     let exchange : IsExchange t w d e count (count + 1) n.front (b ∷ p.block ∷ []) (record p.block { size = (b.size + 0) + p.block.size } ∷ []) p.after =
-    name_freed p.block b n.place.chain n.place.name free (λ k q. s₁.other k (λ z. q (z ∙ sym h.name))) s₁.cells (relinked_spare (on_to x) w d a linked ∙ s₁.spare) e₂
+    name_freed p.block b n.place.chain n.place.name free (λ k q. s₁.other k (λ z. q (z ∙ sym h.name))) s₁.cells (relinked_spare (on_to x) w d a linked ∙ s₁.spare) (relinked_memory (on_to x) w d a linked ∙ s₁.memory) e₂
     (simp h.name (s₁.here ∙ ap (λ (v : Node). record v { offset = o; size = s; before = a }) (at_place h) ∙ rw (ao, sized, aa) refl, tt))
     (λ k. omega arith) refl in
     rw (n.is, is.0, is.1) (placed (link_on n.place.chain exchange x (rw aa at linked) (ap (λ i. Some i) h.name) refl (omega arith)) h.name)
@@ -148,6 +150,7 @@ mark_place {t} {d} {m} {last} {count} {x} {u} {p} h e =
       gone = λ k a b. absurd (omega arith);
       cells = s.cells;
       same = refl;
+      memory = s.memory;
       stack = ap (λ (l : List ℕ). length l) s.spare;
       names = λ k. omega (arith, kept_names t d count s.spare k);
       full = refl;
@@ -166,6 +169,7 @@ grow_place more {t} {d} {m} {last} {count} {x} {s} {fs} {b} h small es e =
       gone = λ k u v. absurd (omega arith);
       cells = w.cells;
       same = refl;
+      memory = w.memory;
       stack = ap (λ (l : List ℕ). length l) w.spare;
       names = λ k. omega (arith, kept_names t d count w.spare k);
       full = refl;

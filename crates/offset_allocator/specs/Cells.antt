@@ -1,6 +1,5 @@
 -- What the tables hold, without an index type: nodes and unused names, and the links of the bins.
-use Rattle.std.specs.Prelude.{ℕ, nat_lt, Bool, false, List, Option, Some, None, length, ◌≡◌, ◌≤◌, replicate, slice_set, slice_index_or, eqb, if◌then◌else◌}
-use Rattle.std.specs.List.{range_with_len}
+use Rattle.std.specs.Prelude.{ℕ, nat_lt, ◌-◌, ◌<◌, Bool, false, List, [], ◌∷◌, ◌++◌, Option, Some, None, length, ◌≡◌, ◌≤◌, replicate, slice_set, slice_index, slice_index_or, eqb, if◌then◌else◌}
 
 -- a node, whichever tables its fields are in
 pub record Node : Type 0 where
@@ -10,10 +9,12 @@ pub record Node : Type 0 where
   pub before : Option ℕ
   pub after : Option ℕ
 
--- what the chain of blocks works on
+-- what the chain of blocks works on: the nodes that were made, the stack of unused names, and how many nodes there is
+-- memory for
 pub record Room : Type 0 where
   pub nodes : List Node
   pub spare : List ℕ
+  pub reserved : ℕ
 
 -- what the bins work on; the largest number is no link
 pub record Links : Type 0 where
@@ -47,26 +48,37 @@ put c x n = record c { nodes = slice_set c.nodes x n }
 unfoldable pub with_spare : Room → ℕ → ℕ → Room
 with_spare c i v = record c { spare = slice_set c.spare i v }
 
+-- the nodes with one more, which is blank, and the stack with its name at a place
+unfoldable pub with_node : Room → ℕ → Room
+with_node c i = record c { nodes = c.nodes ++ blank ∷ []; spare = slice_set (c.spare ++ length c.nodes ∷ []) i (length c.nodes) }
+
 -- a link of this number, where the largest number is no link
 abbrev pub link_of : ℕ → ℕ → Option ℕ
 link_of max n = if eqb n max then None else Some n
 
--- the tables have one length, of at most the largest number and of 32 bits, and there are a head for each class and 4
--- masks
+-- what is written in place of a link to a newer node where a node is used: the number below the largest, which is
+-- neither a name nor no link
+abbrev pub mark_of : ℕ → Bool → ℕ
+mark_of max used = if used then max - 1 else max
+
+-- the tables have one length, of names below the mark and within the memory, and there are a head for each class and 4
+-- masks; the links to newer nodes say which nodes are used
 pub record AreShaped (max : ℕ) (c : Cells) : Type 0 where
   pub spare : length c.room.spare ≡ length c.room.nodes
   pub newer : length c.links.newer ≡ length c.room.nodes
   pub older : length c.links.older ≡ length c.room.nodes
   pub heads : length c.links.heads ≡ 256
   pub masks : length c.links.masks ≡ 4
-  pub limit : length c.room.nodes ≤ max
-  pub word : length c.room.nodes ≤ 4294967295
+  pub within : length c.room.nodes ≤ c.room.reserved
+  pub limit : c.room.reserved < max
+  pub word : max ≤ 4294967295
+  pub flags : (x : ℕ) → x < length c.room.nodes → (node c.room x).used ≡ eqb (slice_index c.links.newer x) (max - 1)
 
--- m nodes, none of them used, and all their names on the stack, in order
-pub record AreUnused (m : ℕ) (c : Room) : Type 0 where
-  pub nodes : length c.nodes ≡ m
-  pub idle : (x : ℕ) → (node c x).used ≡ false
-  pub spare : c.spare ≡ range_with_len 0 m
+-- memory for m nodes, and one of them made, which is blank
+pub record IsBare (m : ℕ) (c : Room) : Type 0 where
+  pub nodes : c.nodes ≡ blank ∷ []
+  pub spare : c.spare ≡ 0 ∷ []
+  pub reserved : c.reserved ≡ m
 
 -- no class has a name
 pub record AreEmpty (max : ℕ) (k : Links) : Type 0 where

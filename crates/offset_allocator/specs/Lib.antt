@@ -6,6 +6,7 @@ pub mod Listing
 pub mod Named
 pub mod Orders
 pub mod Ranges
+pub mod Readies
 pub mod Relations
 pub mod Reports
 pub mod Resizing

@@ -1,5 +1,5 @@
 -- The blocks of a space in order, and the linked nodes that hold them.
-use Rattle.std.specs.Prelude.{ℕ, suc, false, List, [], ◌∷◌, ◌++◌, Option, Some, None, nat_lt, if◌then◌else◌, length, take, ◌≡◌, ◌+◌, ◌^◌, ◌<◌}
+use Rattle.std.specs.Prelude.{ℕ, suc, false, List, [], ◌∷◌, ◌++◌, Option, Some, None, nat_lt, if◌then◌else◌, length, take, ◌≡◌, ◌+◌, ◌^◌, ◌<◌, ◌≤◌}
 use Rattle.std.proofs.Common.{zero}
 use Rattle.offset_allocator.specs.Cells.{Room, node}
 use Rattle.offset_allocator.specs.Named.{Block, Place, units, count_named, times, free_start, without_start, free_end, without_end}
@@ -35,22 +35,23 @@ blocks c last = walk c (length c.nodes) (Some last) []
 unfoldable pub spares : Room → ℕ → List ℕ
 spares c count = take count c.spare
 
--- the tables hold the blocks bs, which end in last, and have `count` unused names
+-- the tables, with memory for m nodes, hold the blocks bs, which end in last, and have `count` unused names
 pub record IsChain (c : Room) (m last count : ℕ) (bs : List Block) : Type 0 where
-  pub cells : length c.nodes ≡ m
-  pub stack : length c.spare ≡ m
+  pub memory : c.reserved ≡ m
+  pub within : length c.nodes ≤ m
+  pub stack : length c.spare ≡ length c.nodes
   pub row : IsRow c None 0 bs None
   pub ends : last_or None bs ≡ Some last
-  pub each : (k : ℕ) → count_named k bs + times k (spares c count) ≡ (if nat_lt k m then 1 else 0)
+  pub each : (k : ℕ) → count_named k bs + times k (spares c count) ≡ (if nat_lt k (length c.nodes) then 1 else 0)
   pub idle : (k : ℕ) → count_named k bs ≡ 0 → (node c k).used ≡ false
-  pub full : length bs + count ≡ m
+  pub full : length bs + count ≡ length c.nodes
   pub fits : units bs < 2 ^ 32
 
 -- the tables hold a chain of nodes that ends in last, and have `count` unused names
 abbrev pub IsSpace : Room → ℕ → ℕ → Type 0
-IsSpace c last count = IsChain c (length c.nodes) last count (blocks c last)
+IsSpace c last count = IsChain c c.reserved last count (blocks c last)
 
--- the tables, of m nodes, hold a chain with the block x at a place
+-- the tables, with memory for m nodes, hold a chain with the block x at a place
 pub record HasPlace (c : Room) (m last count x : ℕ) (p : Place) : Type 0 where
   pub chain : IsChain c m last count (p.before ++ p.block ∷ p.after)
   pub name : p.block.name ≡ x

@@ -1,5 +1,5 @@
 -- What is true of an allocator's fields.
-use Rattle.std.specs.Prelude.{◌≡◌, ℕ, ◌+◌, ◌<◌, length, List, if◌then◌else◌}
+use Rattle.std.specs.Prelude.{◌≡◌, ℕ, ◌+◌, ◌<◌, List, if◌then◌else◌}
 use Rattle.offset_allocator.specs.Cells.{Cells}
 use Rattle.offset_allocator.specs.Orders.{Binned, class_lists, IsUnlisted}
 use Rattle.offset_allocator.specs.Space.{IsSpace, blocks}
@@ -21,7 +21,7 @@ view_of max size limit c last accesses = record {
 
 -- what is true of the fields between two calls
 pub record IsSound (max size limit : ℕ) (c : Cells) (last count top free : ℕ) : Type 0 where
-  pub nodes : length c.room.nodes ≡ limit
+  pub memory : c.room.reserved ≡ limit
   pub admitted : limit + 1 < max
   pub space : IsSpace c.room last count
   pub bins : Binned max c.links top

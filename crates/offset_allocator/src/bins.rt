@@ -1,7 +1,7 @@
 //! A bin for each size class: the names of its free blocks, in a list of links between the nodes, with a two-level
 //! mask.
-ghost use Rattle.std.specs.Prelude.{◌≡◌, ◌+◌, ◌<◌, ◌≤◌, ◌≢◌, ℕ, List, [], ◌∷◌, slice_index, slice_set, length, replicate, MatchOption};
-ghost use Rattle.offset_allocator.specs.Cells.{AreEmpty};
+ghost use Rattle.std.specs.Prelude.{◌≡◌, ◌+◌, ◌-◌, ◌<◌, ◌≤◌, ◌≢◌, ℕ, false, List, [], ◌∷◌, slice_index, slice_set, length, replicate, MatchOption};
+ghost use Rattle.offset_allocator.specs.Cells.{AreEmpty, node};
 ghost use Rattle.offset_allocator.specs.Classes.{down};
 ghost use Rattle.offset_allocator.specs.Named.{names_at, without, push, remove};
 ghost use Rattle.offset_allocator.specs.Promises.{IsLargestClass};
@@ -63,7 +63,7 @@ pub(crate) fn length_of<NI: NodeIndex>(tables: &Tables<NI>, class: u32, count: &
     ensures accesses { count.new ≡ count.old + 1 + result }
 {
     let mut names = 0;
-    let mut name = number(tables.head(class, count));
+    let mut name = tables.head(class, count);
     while name != NI::MAX {
         names += 1;
         name = number(tables.older(name, count));
@@ -82,6 +82,7 @@ pub(crate) fn push<NI: NodeIndex>(
 )
     requires held { Binned NI.MAX tables.old.links top_mask.old }
     requires named { name < length tables.old.room.nodes }
+    requires idle { (node tables.old.room name).used ≡ false }
     requires classed { class < 256 }
     requires unlisted { IsUnlisted name (class_lists NI.MAX tables.old.links) }
     ensures held { Binned NI.MAX tables.new.links top_mask.new }
@@ -92,10 +93,9 @@ pub(crate) fn push<NI: NodeIndex>(
 {
     tables.shape();
     let link = link_to(name);
-    let first = tables.head(class, count);
-    tables.set_head(class, link, count);
-    tables.set_links(name, no_link(), first, count);
-    let newest = number(first);
+    let newest = tables.head(class, count);
+    tables.set_head(class, name, count);
+    tables.set_links(name, no_link(), NI::from_u32(newest), count);
     if newest == NI::MAX {
         let word = class / 64;
         let mask = tables.mask(word, count);
@@ -131,6 +131,8 @@ fn clear_class<NI: NodeIndex>(
 fn link_newer<NI: NodeIndex>(tables: &mut Tables<NI>, at: NI, to: NI, count: &mut Accesses)
     requires limit { length tables.old.links.newer ≤ NI.MAX }
     requires named { NI.number at ≢ NI.MAX → NI.number at < length tables.old.links.newer }
+    requires idle { NI.number at ≢ NI.MAX → (node tables.old.room (NI.number at)).used ≡ false }
+    requires link { NI.number to ≢ NI.MAX - 1 }
     ensures cells { tables.new ≡ record tables.old { links = record tables.old.links { newer = slice_set tables.old.links.newer (NI.number at) (NI.number to) } } }
     ensures accesses_kept { count.old ≤ count.new }
     ensures accesses_max { count.new ≤ count.old + 1 }
@@ -159,11 +161,13 @@ fn behead<NI: NodeIndex>(
     ensures accesses_min { count.old + 1 ≤ count.new }
     ensures accesses_max { count.new ≤ count.old + 3 }
 {
-    tables.set_head(class, after, count);
-    if number(after) == NI::MAX {
+    tables.shape();
+    let next = number(after);
+    tables.set_head(class, next, count);
+    if next == NI::MAX {
         clear_class(tables, top_mask, class, count);
     } else {
-        tables.set_newer(number(after), no_link(), count);
+        tables.set_newer(next, no_link(), count);
     }
 }
 
@@ -186,6 +190,7 @@ fn leave<NI: NodeIndex>(
     ensures accesses_min { count.old + 2 ≤ count.new }
     ensures accesses_max { count.new ≤ count.old + 4 }
 {
+    tables.shape();
     let after = tables.older(name, count);
     if number(before) == NI::MAX {
         // only the newest name has to find its class
@@ -238,6 +243,7 @@ pub(crate) fn exchange<NI: NodeIndex>(
     requires held { Binned NI.MAX tables.old.links top_mask.old }
     requires listed { Among gone (names_at (class_lists NI.MAX tables.old.links) (down size)) }
     requires named { name < length tables.old.room.nodes }
+    requires idle { (node tables.old.room name).used ≡ false }
     requires classed { class < 256 }
     requires unlisted { IsUnlisted name (class_lists NI.MAX tables.old.links) }
     ensures held { Binned NI.MAX tables.new.links top_mask.new }
@@ -251,10 +257,9 @@ pub(crate) fn exchange<NI: NodeIndex>(
     if number(before) == NI::MAX && class == uint_to_float_round_down(size) {
         // the bin is empty neither before nor after, so the masks stay
         let after = tables.older(gone, count);
-        let newest = link_to(name);
-        tables.set_head(class, newest, count);
+        tables.set_head(class, name, count);
         tables.set_links(name, no_link(), after, count);
-        link_newer(tables, after, newest, count);
+        link_newer(tables, after, link_to(name), count);
     } else {
         leave(tables, top_mask, gone, before, size, count);
         push(tables, top_mask, name, class, count);
@@ -278,7 +283,7 @@ pub(crate) fn pop<NI: NodeIndex>(
     ensures accesses_min { count.old + 3 ≤ count.new }
     ensures accesses_max { count.new ≤ count.old + 6 }
 {
-    let name = number(tables.head(class, count));
+    let name = tables.head(class, count);
     let after = tables.older(name, count);
     behead(tables, top_mask, class, after, count);
     name
@@ -294,20 +299,20 @@ pub(crate) fn start<NI: NodeIndex>(tables: &Tables<NI>) -> u32
     0
 }
 
-/// Removes all names from all bins, by one write for each.
+/// Removes all names from all bins, whatever these hold, by one write for each.
 pub(crate) fn empty<NI: NodeIndex>(
     tables: &mut Tables<NI>,
     top_mask: &mut u32,
     count: &mut Accesses,
 )
-    requires held { Binned NI.MAX tables.old.links top_mask.old }
     ensures held { Binned NI.MAX tables.new.links top_mask.new }
     ensures lists { class_lists NI.MAX tables.new.links ≡ replicate 256 [] }
     ensures room { tables.new.room ≡ tables.old.room }
     ensures accesses { count.new ≡ count.old + 260 }
 {
+    tables.shape();
     for class in 0..256 {
-        tables.set_head(class, no_link(), count);
+        tables.set_head(class, NI::MAX, count);
     }
     for word in 0..4 {
         tables.set_mask(word, 0, count);

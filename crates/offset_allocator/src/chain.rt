@@ -2,50 +2,33 @@
 
 ghost use Rattle.std.specs.Prelude.{ℕ, ◌≡◌, ◌+◌, ◌-◌, ◌<◌, ◌≤◌, ◌^◌, List, [], ◌∷◌, ◌++◌, length, false, Some};
 ghost use Rattle.offset_allocator.specs.Named.{Block, Place, free_block, is_used_at, count_named, place_of, units};
-ghost use Rattle.offset_allocator.specs.Cells.{AreUnused, node};
-ghost use Rattle.offset_allocator.specs.Space.{IsSpace, HasPlace, blocks, coalesced_before, coalesced_after};
+ghost use Rattle.offset_allocator.specs.Cells.{IsBare, node};
+ghost use Rattle.offset_allocator.specs.Orders.{IsUnlisted, class_lists};
+ghost use Rattle.offset_allocator.specs.Readies.{KeepsBins, Readies};
+ghost use Rattle.offset_allocator.specs.Space.{IsChain, IsSpace, HasPlace, blocks, coalesced_before, coalesced_after};
 
 use crate::accesses::Accesses;
 use crate::index::{NodeIndex, link_to, linked, no_link, number};
 use crate::links::{point_back, point_on};
 use crate::tables::Tables;
 
-/// Makes the whole space one free block, under the last name, in tables with no used node.
+/// Makes the whole space one free block, under the name of the only node.
 pub(crate) fn start<NI: NodeIndex>(
     tables: &mut Tables<NI>,
     size: u32,
     max_allocs: u32,
     count: &mut Accesses,
 )
-    requires unused { AreUnused max_allocs tables.old.room }
-    requires some { 0 < max_allocs }
-    ensures space { IsSpace tables.new.room (max_allocs - 1) (max_allocs - 1) }
-    ensures blocks { blocks tables.new.room (max_allocs - 1) ≡ free_block (max_allocs - 1) size ∷ [] }
+    requires bare { IsBare max_allocs tables.old.room }
+    ensures space { IsSpace tables.new.room 0 0 }
+    ensures blocks { blocks tables.new.room 0 ≡ free_block 0 size ∷ [] }
+    ensures node { length tables.new.room.nodes ≡ 1 }
+    ensures reserved { tables.new.room.reserved ≡ max_allocs }
     ensures links { tables.new.links ≡ tables.old.links }
-    ensures nodes { length tables.new.room.nodes ≡ length tables.old.room.nodes }
     ensures accesses { count.new ≡ count.old + 4 }
 {
     tables.shape();
-    tables.set_block(max_allocs - 1, 0, size, no_link(), no_link(), count);
-}
-
-/// Makes the whole space one free block, under the last name, in tables with any blocks.
-pub(crate) fn restart<NI: NodeIndex>(
-    tables: &mut Tables<NI>,
-    size: u32,
-    max_allocs: u32,
-    count: &mut Accesses,
-)
-    requires limit { length tables.old.room.nodes ≡ max_allocs }
-    requires some { 0 < max_allocs }
-    ensures space { IsSpace tables.new.room (max_allocs - 1) (max_allocs - 1) }
-    ensures blocks { blocks tables.new.room (max_allocs - 1) ≡ free_block (max_allocs - 1) size ∷ [] }
-    ensures links { tables.new.links ≡ tables.old.links }
-    ensures nodes { length tables.new.room.nodes ≡ length tables.old.room.nodes }
-    ensures accesses { count.new ≡ count.old + 4 }
-{
-    tables.clear();
-    start(tables, size, max_allocs, count);
+    tables.set_block(0, 0, size, no_link(), no_link(), count);
 }
 
 /// The offset of a block.
@@ -66,7 +49,7 @@ pub(crate) fn size<NI: NodeIndex>(tables: &Tables<NI>, name: u32, count: &mut Ac
     tables.size(name, count)
 }
 
-/// Whether a name is that of a used block.
+/// Whether a block is used.
 pub(crate) fn is_used<NI: NodeIndex>(tables: &Tables<NI>, name: u32, count: &mut Accesses) -> bool
     requires { name < length tables.now.room.nodes }
     ensures cell { result ≡ (node tables.now.room name).used }
@@ -74,6 +57,19 @@ pub(crate) fn is_used<NI: NodeIndex>(tables: &Tables<NI>, name: u32, count: &mut
     ensures accesses { count.new ≡ count.old + 1 }
 {
     tables.used(name, count)
+}
+
+/// Whether any name is that of a used block. It counts one access for a name that no node has, too.
+pub(crate) fn is_live<NI: NodeIndex>(tables: &Tables<NI>, name: u32, count: &mut Accesses) -> bool
+    ensures live { (last spare : ℕ) → IsSpace tables.now.room last spare → result ≡ is_used_at (place_of name (blocks tables.now.room last)) }
+    ensures accesses { count.new ≡ count.old + 1 }
+{
+    if name < tables.len() {
+        is_used(tables, name, count)
+    } else {
+        count.tick();
+        false
+    }
 }
 
 /// The name of the block directly before a block, if there is one.
@@ -100,6 +96,50 @@ pub(crate) fn after<NI: NodeIndex>(
     ensures accesses { count.new ≡ count.old + 1 }
 {
     linked(tables.after(name, count))
+}
+
+/// Makes a node where fewer than this number of names are unused; one is lacking at most.
+#[inline(always)]
+pub(crate) fn ready<NI: NodeIndex>(
+    tables: &mut Tables<NI>,
+    spare_count: &mut u32,
+    names: u32,
+    count: &mut Accesses,
+)
+    requires memory { (m last : ℕ) × (bs : List Block) × IsChain tables.old.room m last spare_count.old bs × (length bs + names ≤ m) }
+    requires next { names ≤ spare_count.old + 1 }
+    ensures readies { Readies NI.MAX tables.old tables.new spare_count.old spare_count.new }
+    ensures enough { names ≤ spare_count.new }
+    ensures accesses_kept { count.old ≤ count.new }
+    ensures accesses_max { count.new ≤ count.old + 8 }
+{
+    tables.shape();
+    if *spare_count < names {
+        tables.add(*spare_count, count);
+        *spare_count += 1;
+    }
+}
+
+/// Makes nodes, so that at least 1 or 2 names are unused.
+#[inline(always)]
+pub(crate) fn ready_for<NI: NodeIndex>(
+    tables: &mut Tables<NI>,
+    spare_count: &mut u32,
+    names: u32,
+    count: &mut Accesses,
+)
+    requires memory { (m last : ℕ) × (bs : List Block) × IsChain tables.old.room m last spare_count.old bs × (length bs + names ≤ m) }
+    requires some { 1 ≤ names }
+    requires few { names ≤ 2 }
+    ensures readies { Readies NI.MAX tables.old tables.new spare_count.old spare_count.new }
+    ensures enough { names ≤ spare_count.new }
+    ensures accesses_kept { count.old ≤ count.new }
+    ensures accesses_max { count.new ≤ count.old + 16 }
+{
+    ready(tables, spare_count, 1, count);
+    if names > 1 {
+        ready(tables, spare_count, names, count);
+    }
 }
 
 /// Splits a block, of this offset and size, after `kept` units. The remainder becomes a free block directly after it,
@@ -202,7 +242,7 @@ pub(crate) fn coalesce_before<NI: NodeIndex>(
     *spare_count += 1;
 }
 
-/// Makes a block used or free.
+/// Makes a block, which is in no bin, used or free.
 #[tactic(auto, using(crate::proofs::Nodes::lengths))]
 pub(crate) fn mark<NI: NodeIndex>(
     tables: &mut Tables<NI>,
@@ -212,7 +252,7 @@ pub(crate) fn mark<NI: NodeIndex>(
 )
     requires { name < length tables.old.room.nodes }
     ensures place { (m last spare : ℕ) (p : Place) → HasPlace tables.old.room m last spare name p → HasPlace tables.new.room m last spare name (record p { block = record p.block { used = used } }) }
-    ensures links { tables.new.links ≡ tables.old.links }
+    ensures bins { (top : ℕ) → IsUnlisted name (class_lists NI.MAX tables.old.links) → KeepsBins NI.MAX tables.old tables.new top }
     ensures nodes { length tables.new.room.nodes ≡ length tables.old.room.nodes }
     ensures accesses { count.new ≡ count.old + 1 }
 {

@@ -108,7 +108,7 @@ pub fn storage_report_counted<NI: NodeIndex>(
     ensures accesses_min { 1 ≤ largest_free allocator.now → count.old + 1 ≤ count.new }
     ensures accesses_max { count.new ≤ count.old + 8 }
 {
-    if allocator.store.spare_count < 2 {
+    if allocator.names_left() < 2 {
         return StorageReport {
             total_free_space: 0,
             largest_free_region: 0,
@@ -178,7 +178,7 @@ pub fn refusal_aligned_counted<NI: NodeIndex>(
 {
     let blocks = align.min(2);
     let units = size as u64 + (align - 1) as u64;
-    if allocator.store.spare_count <= blocks {
+    if allocator.names_left() <= blocks {
         return Some(Refusal::Nodes);
     }
     if units > allocator.free_total as u64 {

@@ -77,9 +77,10 @@ pub fn unused_names<NI: NodeIndex>(allocator: &Allocator<NI>) -> u32
     let _free_total: &u32 = free_total;
     let _top_mask: &u32 = top_mask;
     let _last: &u32 = last;
+    let _spare_count: &u32 = spare_count;
     let _tables: &Tables<NI> = tables;
     let _accesses: &Accesses = accesses;
-    *spare_count
+    allocator.names_left()
 }
 
 /// The units of the used and of the free blocks add up to the size of the space.

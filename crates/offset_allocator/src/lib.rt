@@ -95,7 +95,8 @@ impl<NI: NodeIndex> Allocator<NI> {
     /// A space of `size` units, all free, with `max_allocs` as the node limit: at most `max_allocs - 1` blocks exist at
     /// a time, free ones included. A request is granted only while at most `max_allocs - 2` exist, and makes one of
     /// them live: so at most `max_allocs - 2` grants are live. The limit is 2 to `NI::MAX - 2`: 65533 for `u16`,
-    /// 4294967293 for `u32`. It costs 29 bytes a node with `u32`, 19 with `u16`, and this call writes them all.
+    /// 4294967293 for `u32`. It reserves 28 bytes a node with `u32`, 18 with `u16`, all of them here; those of a node are
+    /// written when its name is used for the first time.
     ///
     /// An error is returned only where an allocation failed; then nothing is made.
     pub fn with_max_allocs(alloc: Global, size: u32, max_allocs: u32) -> Result<Self, AllocError>
@@ -115,8 +116,8 @@ impl<NI: NodeIndex> Allocator<NI> {
             store: Store {
                 tables,
                 top_mask,
-                last: max_allocs - 1,
-                spare_count: max_allocs - 1,
+                last: 0,
+                spare_count: 0,
                 accesses: Accesses::new(),
             },
         })
@@ -124,23 +125,22 @@ impl<NI: NodeIndex> Allocator<NI> {
 
     /// Makes the whole space one free block again, in place. No earlier handle is live then.
     ///
-    /// It takes no memory and always succeeds, and the space keeps what `extend` added. If fewer than `max_allocs /
-    /// 128` blocks exist, it frees each live range; otherwise it clears all use flags, empties the bins and refills the
-    /// stack of unused names: 5 bytes a node with `u32`, 3 with `u16`.
+    /// It takes no memory and always succeeds, and the space keeps what `extend` added. If at most 5 blocks exist, it
+    /// frees each live range; otherwise it forgets all nodes and empties the bins: about 1 KB is written, whatever the
+    /// node limit.
     pub fn reset(&mut self)
         // The space keeps its size, and no name is live.
         ensures size { self.new.size ≡ self.old.size }
         ensures gone { (x : ℕ) → range_of x self.new ≡ None }
         // The step as a whole: one free block, alone in its bin.
         ensures step { Resets self.old self.new }
-        // It makes at most 130 accesses to table cells for each live range, and 2, where it frees these, else at most
-        // 270.
+        // It makes at most 130 accesses to table cells for each live range, and 2, and never more than 270.
         ensures accesses_min { self.old.accesses + 1 ≤ self.new.accesses }
-        ensures accesses_max { self.new.accesses ≤ self.old.accesses
-            + (if nat_lt (length self.old.blocks) (self.old.max_allocs / 128) then 130 * used_of self.old.blocks + 2 else 270) }
+        ensures accesses_max { self.new.accesses ≤ self.old.accesses + min (130 * used_of self.old.blocks + 2) 270 }
     {
-        // freeing a range takes about as long as going over 128 nodes
-        if self.block_count() < self.max_allocs / 128 {
+        self.formed();
+        // freeing five blocks takes about as long as emptying the bins
+        if self.block_count() <= 5 {
             self.free_all();
         } else {
             self.clear();
@@ -165,7 +165,7 @@ impl<NI: NodeIndex> Allocator<NI> {
     pub fn block_count(&self) -> u32
         ensures { result ≡ length self.now.blocks }
     {
-        self.max_allocs - self.store.spare_count
+        self.store.tables.len() - self.store.spare_count
     }
 
     /// Whether `max_allocs - 1` blocks exist. Then every request is refused, and the short report is 0, 0, until blocks
@@ -371,6 +371,7 @@ impl<NI: NodeIndex> Allocator<NI> {
         // The step as a whole: whether it is done, and what the last block is then.
         ensures step { Extends more self.old self.new result }
     {
+        let left = self.names_left();
         if more == 0 {
             return true;
         }
@@ -386,7 +387,7 @@ impl<NI: NodeIndex> Allocator<NI> {
             self.widen(more);
             return true;
         }
-        if self.store.spare_count < 2 {
+        if left < 2 {
             return false;
         }
         self.append(more);

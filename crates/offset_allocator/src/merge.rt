@@ -95,6 +95,7 @@ fn with_before<NI: NodeIndex>(store: &mut Store<NI>, name: u32, size: u32) -> u3
 pub(crate) fn coalesce<NI: NodeIndex>(store: &mut Store<NI>, name: u32, size: u32)
     requires place { (m : ℕ) × (p : Place) × HasPlace store.old.tables.room m store.old.last store.old.spare_count name p × AreFiled (p.before ++ p.after) (class_lists NI.MAX store.old.tables.links) }
     requires held { Binned NI.MAX store.old.tables.links store.old.top_mask }
+    requires idle { (node store.old.tables.room name).used ≡ false }
     requires size { size ≡ (node store.old.tables.room name).size }
     ensures place { (m : ℕ) (p : Place) → HasPlace store.old.tables.room m store.old.last store.old.spare_count name p → HasPlace store.new.tables.room m store.new.last store.new.spare_count name (coalesced_after (coalesced_before p)) }
     ensures held { Binned NI.MAX store.new.tables.links store.new.top_mask }

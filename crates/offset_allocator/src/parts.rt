@@ -3,7 +3,7 @@ ghost use Rattle.std.specs.Prelude.{ℕ, ◌≡◌, ◌+◌, ◌-◌, ◌<◌, �
 ghost use Rattle.offset_allocator.specs.Cells.{node};
 ghost use Rattle.offset_allocator.specs.Named.{Place, free_part, free_start, without_start, used_block, units, push_all, remove_all};
 ghost use Rattle.offset_allocator.specs.Space.{HasPlace, IsFreeAfter, coalesced_after};
-ghost use Rattle.offset_allocator.specs.Orders.{Binned, class_lists};
+ghost use Rattle.offset_allocator.specs.Orders.{Binned, IsUnlisted, class_lists};
 ghost use Rattle.offset_allocator.specs.State.{AreFiled, AreUnlisted};
 
 use crate::accesses::Accesses;
@@ -26,6 +26,7 @@ fn split_padding<NI: NodeIndex>(store: &mut Store<NI>, name: u32, units: u32) ->
     ensures lists { class_lists NI.MAX store.new.tables.links ≡ push_all (free_part result units) (class_lists NI.MAX store.old.tables.links) }
     ensures nodes { length store.new.tables.room.nodes ≡ length store.old.tables.room.nodes }
     ensures spares { store.old.spare_count ≤ store.new.spare_count + 1 }
+    ensures spares_kept { units ≡ 0 → store.old.spare_count ≤ store.new.spare_count }
     ensures accesses_kept { store.old.accesses ≤ store.new.accesses }
     ensures accesses_max { store.new.accesses ≤ store.old.accesses + 18 }
 {
@@ -108,7 +109,9 @@ pub(crate) fn divide<NI: NodeIndex>(
 ) -> (u32, u32)
     requires place { (m : ℕ) × (p : Place) × HasPlace store.old.tables.room m store.old.last store.old.spare_count name p × AreUnlisted (p.before ++ p.block ∷ p.after) (class_lists NI.MAX store.old.tables.links) }
     requires held { Binned NI.MAX store.old.tables.links store.old.top_mask }
-    requires spare { 1 < store.old.spare_count }
+    requires unlisted { IsUnlisted name (class_lists NI.MAX store.old.tables.links) }
+    requires spare { 0 < store.old.spare_count }
+    requires two { 0 < padding → 1 < store.old.spare_count }
     requires start { start ≡ (node store.old.tables.room name).offset + padding }
     requires whole { padding + size + left ≡ (node store.old.tables.room name).size }
     ensures place { (m : ℕ) (p : Place) → HasPlace store.old.tables.room m store.old.last store.old.spare_count name p → HasPlace store.new.tables.room m store.new.last store.new.spare_count name (record { before = p.before ++ free_part result.0 padding; block = used_block p.block.name size; after = free_part result.1 left ++ p.after }) }

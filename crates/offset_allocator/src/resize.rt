@@ -34,13 +34,20 @@ impl<NI: NodeIndex> Allocator<NI> {
         // The step as a whole: what becomes of the range and of the free block after it.
         ensures step { Shrinks allocation.name size self.old self.new result }
     {
+        let left = self.names_left();
         let name = index::number::<NI>(NI::of_nonmax(allocation.name()));
         let held = chain::size(&self.store.tables, name, &mut self.store.accesses);
         if size >= held {
             return size == held;
         }
+        chain::ready(
+            &mut self.store.tables,
+            &mut self.store.spare_count,
+            1,
+            &mut self.store.accesses,
+        );
         let next = merge::free_after(&self.store.tables, name, &mut self.store.accesses);
-        if next.is_none() && self.store.spare_count < 2 {
+        if next.is_none() && left < 2 {
             return false;
         }
         parts::resize(&mut self.store, name, held, next, size);
@@ -78,6 +85,12 @@ impl<NI: NodeIndex> Allocator<NI> {
         if size <= held {
             return size == held;
         }
+        chain::ready(
+            &mut self.store.tables,
+            &mut self.store.spare_count,
+            1,
+            &mut self.store.accesses,
+        );
         let next = merge::free_after(&self.store.tables, name, &mut self.store.accesses);
         let more = parts::units_after(&self.store.tables, name, next, &mut self.store.accesses);
         if size - held > more {

@@ -33,9 +33,10 @@ pub(crate) fn start<NI: NodeIndex>(
     max_allocs: u32,
     count: &mut Accesses,
 )
-    requires nodes { length tables.old.room.nodes ≡ max_allocs }
-    requires space { IsSpace tables.old.room (max_allocs - 1) (max_allocs - 1) }
-    requires blocks { blocks tables.old.room (max_allocs - 1) ≡ free_block (max_allocs - 1) size ∷ [] }
+    requires reserved { tables.old.room.reserved ≡ max_allocs }
+    requires node { length tables.old.room.nodes ≡ 1 }
+    requires space { IsSpace tables.old.room 0 0 }
+    requires blocks { blocks tables.old.room 0 ≡ free_block 0 size ∷ [] }
     requires held { Binned NI.MAX tables.old.links top_mask.old }
     requires empty { class_lists NI.MAX tables.old.links ≡ replicate 256 [] }
     requires limit_min { 2 ≤ max_allocs }
@@ -44,13 +45,7 @@ pub(crate) fn start<NI: NodeIndex>(
     ensures accesses_min { count.old + 5 ≤ count.new }
     ensures accesses_max { count.new ≤ count.old + 6 }
 {
-    bins::push(
-        tables,
-        top_mask,
-        max_allocs - 1,
-        uint_to_float_round_down(size),
-        count,
-    );
+    bins::push(tables, top_mask, 0, uint_to_float_round_down(size), count);
 }
 
 impl<NI: NodeIndex> Allocator<NI> {
@@ -75,28 +70,31 @@ impl<NI: NodeIndex> Allocator<NI> {
     pub(crate) fn free_all(&mut self)
         ensures step { Resets self.old self.new }
         ensures accesses_min { self.old.accesses + 1 ≤ self.new.accesses }
-        ensures accesses_max { self.new.accesses ≤ self.old.accesses + 130 * used_of self.old.blocks + 2 }
+        ensures accesses_max { self.new.accesses ≤ self.old.accesses + 38 * used_of self.old.blocks + 2 }
     {
         while let Some(name) = self.last_used() {
             self.release(name);
         }
     }
 
-    /// Starts the blocks and the bins anew, each in place.
+    /// Starts the blocks and the bins anew, each in place. It is out of line, so that `reset` stays small where it is
+    /// inlined.
+    #[inline(never)]
     pub(crate) fn clear(&mut self)
         ensures step { Resets self.old self.new }
         ensures accesses_min { self.old.accesses + 269 ≤ self.new.accesses }
         ensures accesses_max { self.new.accesses ≤ self.old.accesses + 270 }
     {
-        chain::restart(
-            &mut self.store.tables,
-            self.size,
-            self.max_allocs,
-            &mut self.store.accesses,
-        );
+        self.store.tables.clear();
         bins::empty(
             &mut self.store.tables,
             &mut self.store.top_mask,
+            &mut self.store.accesses,
+        );
+        chain::start(
+            &mut self.store.tables,
+            self.size,
+            self.max_allocs,
             &mut self.store.accesses,
         );
         start(
@@ -107,8 +105,15 @@ impl<NI: NodeIndex> Allocator<NI> {
             &mut self.store.accesses,
         );
         self.free_total = self.size;
-        self.store.spare_count = self.max_allocs - 1;
-        self.store.last = self.max_allocs - 1;
+        self.store.spare_count = 0;
+        self.store.last = 0;
+    }
+
+    /// How many names no block has: of nodes that were made, and of those that may still be.
+    pub(crate) fn names_left(&self) -> u32
+        ensures { result + length self.now.blocks ≡ self.now.max_allocs }
+    {
+        self.max_allocs - self.block_count()
     }
 
     /// Grants `size` units of the newest block of a class, beginning at the first multiple of `align` in that block.
@@ -120,8 +125,14 @@ impl<NI: NodeIndex> Allocator<NI> {
         requires smallest { IsSmallestFrom (up (units_needed size align)) self.old.order class }
         ensures step { Splits (units_needed size align) size (padding_to align) self.old self.new result }
         ensures accesses_min { self.old.accesses + 6 ≤ self.new.accesses }
-        ensures accesses_max { self.new.accesses ≤ self.old.accesses + 43 }
+        ensures accesses_max { self.new.accesses ≤ self.old.accesses + 59 }
     {
+        chain::ready_for(
+            &mut self.store.tables,
+            &mut self.store.spare_count,
+            align.min(2),
+            &mut self.store.accesses,
+        );
         let name = bins::pop(
             &mut self.store.tables,
             &mut self.store.top_mask,
@@ -154,9 +165,9 @@ impl<NI: NodeIndex> Allocator<NI> {
         ensures step { Aligns size align self.old self.new result }
         ensures accesses_kept { self.old.accesses ≤ self.new.accesses }
         ensures accesses_min { IsSome result → self.old.accesses + 7 ≤ self.new.accesses }
-        ensures accesses_max { self.new.accesses ≤ self.old.accesses + 45 }
+        ensures accesses_max { self.new.accesses ≤ self.old.accesses + 61 }
     {
-        if self.store.spare_count <= align.min(2) {
+        if self.names_left() <= align.min(2) {
             return None;
         }
         if size > u32::MAX - (align - 1) {
@@ -183,31 +194,26 @@ impl<NI: NodeIndex> Allocator<NI> {
         ensures gone { range_of name self.new ≡ None }
         ensures others { KeepsOthers name self.old self.new }
         ensures accesses_min { self.old.accesses + 9 ≤ self.new.accesses }
-        ensures accesses_max { self.new.accesses ≤ self.old.accesses + 128 }
+        ensures accesses_max { self.new.accesses ≤ self.old.accesses + 36 }
     {
         let size = chain::size(&self.store.tables, name, &mut self.store.accesses);
         self.free_total += size;
-        merge::coalesce(&mut self.store, name, size);
         chain::mark(
             &mut self.store.tables,
             name,
             false,
             &mut self.store.accesses,
         );
+        merge::coalesce(&mut self.store, name, size);
     }
 
     /// Whether a name is that of a used block.
     pub(crate) fn uses(&self, name: u32, count: &mut Accesses) -> bool
         ensures live { IsTrue result ↔ IsLive name self.now }
         ensures accesses_kept { count.old ≤ count.new }
-        ensures accesses_min { name < self.now.max_allocs → count.old + 1 ≤ count.new }
-        ensures accesses_max { count.new ≤ count.old + 1 }
+        ensures accesses { count.new ≡ count.old + 1 }
     {
-        if name < self.max_allocs {
-            chain::is_used(&self.store.tables, name, count)
-        } else {
-            false
-        }
+        chain::is_live(&self.store.tables, name, count)
     }
 
     /// Adds units to the last block, which is free.
@@ -258,8 +264,14 @@ impl<NI: NodeIndex> Allocator<NI> {
         ensures step { Adds more self.old self.new }
         ensures kept { KeepsAll self.old self.new }
         ensures accesses_min { self.old.accesses + 9 ≤ self.new.accesses }
-        ensures accesses_max { self.new.accesses ≤ self.old.accesses + 19 }
+        ensures accesses_max { self.new.accesses ≤ self.old.accesses + 27 }
     {
+        chain::ready(
+            &mut self.store.tables,
+            &mut self.store.spare_count,
+            1,
+            &mut self.store.accesses,
+        );
         let end = self.store.last;
         let offset = chain::offset(&self.store.tables, end, &mut self.store.accesses);
         let whole = chain::size(&self.store.tables, end, &mut self.store.accesses);

@@ -4,7 +4,7 @@ use crate::accesses::Accesses;
 use crate::index::NodeIndex;
 use crate::tables::Tables;
 
-/// The tables, which bins are not empty, which block is the last, and how many names are unused. It has no invariant:
+/// The tables, which bins are not empty, which block is the last, and how many nodes no block has. It has no invariant:
 /// `merge` and `parts` change it in the middle of a step, and the invariant of `Allocator` holds between steps.
 #[derive(Drop)]
 pub(crate) struct Store<NI: NodeIndex> {
@@ -13,7 +13,7 @@ pub(crate) struct Store<NI: NodeIndex> {
     pub(crate) top_mask: u32,
     // the name of the last block in space order
     pub(crate) last: u32,
-    // the number of names that no block has
+    // the number of made nodes that no block has
     pub(crate) spare_count: u32,
     // takes no bytes at run time
     pub(crate) accesses: Accesses,

@@ -1,25 +1,24 @@
 //! The tables: no other module reads or writes their cells. A function on single cells counts each that it touches;
-//! `with_len` and `clear` go over whole tables, and count none.
+//! `with_len` and `clear` make new tables, and count none.
 
-ghost use Rattle.std.specs.Prelude.{◌≡◌, ◌+◌, ◌<◌, ◌≤◌, false, Some, length, slice_set, slice_index, IfOk};
-ghost use Rattle.offset_allocator.specs.Cells.{AreEmpty, AreUnused, AreShaped, link_of, node, put, with_spare};
+ghost use Rattle.std.specs.Prelude.{◌≡◌, ◌≢◌, ◌+◌, ◌-◌, ◌<◌, ◌≤◌, false, Some, [], ◌∷◌, ◌++◌, length, slice_set, slice_index, IfOk};
+ghost use Rattle.offset_allocator.specs.Cells.{AreEmpty, AreShaped, IsBare, link_of, mark_of, node, put, with_node, with_spare};
 
 use crate::accesses::Accesses;
-use crate::entry::{Node, blank_nodes};
-use crate::fills::{fill, filled, probe, renumber, reserved, rising};
-use crate::index::{NodeIndex, link_to, no_link};
+use crate::entry::{Node, blank, mark};
+use crate::fills::{probe, push_within, reserved};
+use crate::index::{NodeIndex, link_to, number};
 use std::alloc::{AllocError, Global};
 use std::marker::Model;
 
-/// The nodes, whether each is used, the newest node of each size class, the masks of the classes, and the stack of
-/// unused names.
+/// The nodes that were made, the stack of unused names, the newest node of each size class, and the masks of the
+/// classes. A node is made when its name is needed for the first time; the memory for all is reserved before.
 #[derive(Drop)]
 pub(crate) struct Tables<NI: NodeIndex> {
     nodes: Vec<Node<NI>>,
-    used: Vec<bool>,
-    heads: Vec<NI>,
-    masks: [u64; 4],
     spare: Vec<NI>,
+    heads: [u32; 256],
+    masks: [u64; 4],
 }
 
 impl<NI: NodeIndex> Model for Tables<NI> {
@@ -34,37 +33,74 @@ impl<NI: NodeIndex> Model for Tables<NI> {
     ghost invariant = { λ t. AreEven NI.MAX t };
 }
 
-#[tactic(auto, using(crate::proofs::Zip::cells))]
+#[tactic(auto, using(crate::proofs::Entries::cells))]
 impl<NI: NodeIndex> Tables<NI> {
-    /// Tables for `len` nodes, none of them used. Every table has its room before any is filled.
+    /// Tables with one node, which is blank, and memory for `len`.
     pub(crate) fn with_len(alloc: Global, len: u32) -> Result<Self, AllocError>
-        requires { len ≤ NI.MAX }
-        ensures room { IfOk result (λ t. AreUnused len t.room) }
+        requires some { 0 < len }
+        requires limit { len < NI.MAX }
+        ensures room { IfOk result (λ t. IsBare len t.room) }
         ensures links { IfOk result (λ t. AreEmpty NI.MAX t.links) }
     {
         let count = len as usize;
         probe::<NI>(alloc, len)?;
-        let nodes = reserved(alloc, count)?;
-        let used = reserved(alloc, count)?;
-        let heads = reserved(alloc, 256)?;
-        let spare = reserved(alloc, count)?;
+        let mut nodes = reserved(alloc, count)?;
+        let mut spare = reserved(alloc, count)?;
+        push_within(&mut nodes, blank());
+        push_within(&mut spare, link_to::<NI>(0));
         Ok(Tables {
-            nodes: blank_nodes(nodes, count)?,
-            used: filled(used, false, count)?,
-            heads: filled(heads, no_link::<NI>(), 256)?,
+            nodes,
+            spare,
+            heads: [NI::MAX; 256],
             masks: [0; 4],
-            spare: rising(spare, len)?,
         })
     }
 
-    /// Makes all nodes unused, and puts all names on the stack of unused ones. The other fields of a node stay: they
-    /// are written before they are read.
+    /// Leaves one node, which is blank, and the memory. The classes may still name others: `bins::empty` has to follow.
     pub(crate) fn clear(&mut self)
-        ensures room { AreUnused (length self.old.room.nodes) self.new.room }
-        ensures links { self.new.links ≡ self.old.links }
+        requires { 0 < self.old.room.reserved }
+        ensures room { IsBare self.old.room.reserved self.new.room }
+        ensures heads { self.new.links.heads ≡ self.old.links.heads }
+        ensures masks { self.new.links.masks ≡ self.old.links.masks }
     {
-        fill(&mut self.used, false);
-        renumber(&mut self.spare);
+        self.nodes.clear();
+        self.spare.clear();
+        push_within(&mut self.nodes, blank());
+        push_within(&mut self.spare, link_to(0));
+    }
+
+    /// The number of nodes that were made.
+    pub(crate) fn len(&self) -> u32
+        ensures { result ≡ length self.now.room.nodes }
+    {
+        self.nodes.len() as u32
+    }
+
+    /// Makes one more node, which is blank, and puts its name at a place of the stack of unused names. It is out of line,
+    /// since each node is made once.
+    #[inline(never)]
+    pub(crate) fn add(&mut self, place: u32, count: &mut Accesses)
+        requires memory { length self.old.room.nodes < self.old.room.reserved }
+        requires place { place ≤ length self.old.room.nodes }
+        ensures room { self.new.room ≡ with_node self.old.room place }
+        ensures newer { self.new.links.newer ≡ self.old.links.newer ++ NI.MAX ∷ [] }
+        ensures older { self.new.links.older ≡ self.old.links.older ++ NI.MAX ∷ [] }
+        ensures heads { self.new.links.heads ≡ self.old.links.heads }
+        ensures masks { self.new.links.masks ≡ self.old.links.masks }
+        ensures accesses { count.new ≡ count.old + 8 }
+    {
+        count.tick();
+        count.tick();
+        count.tick();
+        count.tick();
+        count.tick();
+        count.tick();
+        count.tick();
+        count.tick();
+        let name = link_to(self.nodes.len() as u32);
+        push_within(&mut self.nodes, blank());
+        push_within(&mut self.spare, name);
+        self.spare[place as usize] = name;
     }
 
     /// The tables keep their lengths.
@@ -121,17 +157,17 @@ impl<NI: NodeIndex> Tables<NI> {
         ensures accesses { count.new ≡ count.old + 1 }
     {
         count.tick();
-        self.used[name as usize]
+        number(self.nodes[name as usize].newer) == NI::MAX - 1
     }
 
-    /// Writes whether a node is used.
+    /// Writes whether a node is used. It is in no class.
     pub(crate) fn set_used(&mut self, name: u32, used: bool, count: &mut Accesses)
         requires { name < length self.old.room.nodes }
-        ensures cells { self.new ≡ record self.old { room = put self.old.room name (record (node self.old.room name) { used = used }) } }
+        ensures cells { self.new ≡ record self.old { room = put self.old.room name (record (node self.old.room name) { used = used }); links = record self.old.links { newer = slice_set self.old.links.newer name (mark_of NI.MAX used) } } }
         ensures accesses { count.new ≡ count.old + 1 }
     {
         count.tick();
-        self.used[name as usize] = used;
+        self.nodes[name as usize].newer = mark(used);
     }
 
     /// The link to the node before a node in space.
@@ -265,9 +301,11 @@ impl<NI: NodeIndex> Tables<NI> {
         self.nodes[name as usize].newer
     }
 
-    /// Writes the link to the next newer node of a node's class.
+    /// Writes the link to the next newer node of a node's class. The node is not used.
     pub(crate) fn set_newer(&mut self, name: u32, link: NI, count: &mut Accesses)
-        requires { name < length self.old.links.newer }
+        requires name { name < length self.old.links.newer }
+        requires idle { (node self.old.room name).used ≡ false }
+        requires link { NI.number link ≢ NI.MAX - 1 }
         ensures cells { self.new ≡ record self.old { links = record self.old.links { newer = slice_set self.old.links.newer name (NI.number link) } } }
         ensures accesses { count.new ≡ count.old + 1 }
     {
@@ -295,9 +333,11 @@ impl<NI: NodeIndex> Tables<NI> {
         self.nodes[name as usize].older = link;
     }
 
-    /// Writes both links of a node in its class.
+    /// Writes both links of a node in its class. The node is not used.
     pub(crate) fn set_links(&mut self, name: u32, newer: NI, older: NI, count: &mut Accesses)
-        requires { name < length self.old.links.newer }
+        requires name { name < length self.old.links.newer }
+        requires idle { (node self.old.room name).used ≡ false }
+        requires link { NI.number newer ≢ NI.MAX - 1 }
         ensures cells { self.new ≡ record self.old { links = record self.old.links { newer = slice_set self.old.links.newer name (NI.number newer); older = slice_set self.old.links.older name (NI.number older) } } }
         ensures accesses { count.new ≡ count.old + 2 }
     {
@@ -308,24 +348,24 @@ impl<NI: NodeIndex> Tables<NI> {
         node.older = older;
     }
 
-    /// The link to the newest node of a class.
-    pub(crate) fn head(&self, class: u32, count: &mut Accesses) -> NI
+    /// The name of the newest node of a class, or `MAX`.
+    pub(crate) fn head(&self, class: u32, count: &mut Accesses) -> u32
         requires { class < length self.now.links.heads }
-        ensures cell { NI.number result ≡ slice_index self.now.links.heads class }
+        ensures cell { result ≡ slice_index self.now.links.heads class }
         ensures accesses { count.new ≡ count.old + 1 }
     {
         count.tick();
         self.heads[class as usize]
     }
 
-    /// Writes the link to the newest node of a class.
-    pub(crate) fn set_head(&mut self, class: u32, link: NI, count: &mut Accesses)
+    /// Writes the name of the newest node of a class, or `MAX`.
+    pub(crate) fn set_head(&mut self, class: u32, name: u32, count: &mut Accesses)
         requires { class < length self.old.links.heads }
-        ensures cells { self.new ≡ record self.old { links = record self.old.links { heads = slice_set self.old.links.heads class (NI.number link) } } }
+        ensures cells { self.new ≡ record self.old { links = record self.old.links { heads = slice_set self.old.links.heads class name } } }
         ensures accesses { count.new ≡ count.old + 1 }
     {
         count.tick();
-        self.heads[class as usize] = link;
+        self.heads[class as usize] = name;
     }
 
     /// A word of the masks: bit `c % 64` of word `c / 64` says whether the bin of class c is not empty.

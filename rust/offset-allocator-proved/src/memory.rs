@@ -1,5 +1,5 @@
-//! The memory of the tables: a vector whose growth returns an error where the allocation fails. Written by hand, over
-//! `alloc::vec::Vec`.
+//! The memory of the tables: a vector that returns an error where its allocation fails, and never grows past it. Written
+//! by hand, over `alloc::vec::Vec`.
 
 use core::fmt;
 use core::ops::{Deref, DerefMut, Index, IndexMut};
@@ -32,27 +32,19 @@ impl<T> Vec<T> {
         Ok(Vec(core::hint::black_box(values)))
     }
 
-    /// Appends copies of `value` up to `length` values.
-    pub(crate) fn resize(&mut self, length: usize, value: T) -> Result<(), AllocError>
-    where
-        T: Clone,
-    {
-        let more = length.saturating_sub(self.0.len());
-        self.0.try_reserve_exact(more).map_err(|_| AllocError)?;
-        self.0.resize(length, value);
+    /// Inserts a value into a vector that has room for it. Its memory stays.
+    #[inline]
+    pub(crate) fn insert(&mut self, place: usize, value: T) -> Result<(), AllocError> {
+        if self.0.len() == self.0.capacity() {
+            return Err(AllocError);
+        }
+        self.0.insert(place, value);
         Ok(())
     }
 
-    /// Appends the values of an iterator.
-    pub(crate) fn extend(
-        &mut self,
-        values: impl ExactSizeIterator<Item = T>,
-    ) -> Result<(), AllocError> {
-        self.0
-            .try_reserve_exact(values.len())
-            .map_err(|_| AllocError)?;
-        self.0.extend(values);
-        Ok(())
+    /// Removes all values, and keeps the memory.
+    pub(crate) fn clear(&mut self) {
+        self.0.clear();
     }
 }
 

@@ -2,28 +2,38 @@
 #![cfg(target_os = "linux")]
 use offset_allocator_proved::{Allocator, Global, NodeIndex};
 
-/// The bytes that the program has mapped.
-fn mapped_bytes() -> u64 {
+/// The bytes that the program has mapped, and those of them that it touched.
+fn bytes() -> (u64, u64) {
     let statm = std::fs::read_to_string("/proc/self/statm").unwrap();
-    statm.split(' ').next().unwrap().parse::<u64>().unwrap() * 4096
+    let mut pages = statm.split(' ').map(|n| n.parse::<u64>().unwrap_or(0) * 4096);
+    (pages.next().unwrap(), pages.next().unwrap())
 }
 
-fn table_bytes<NI: NodeIndex>(nodes: u32) -> u64 {
-    let before = mapped_bytes();
-    let space = Allocator::<NI>::with_max_allocs(Global, 100, nodes).unwrap();
-    let taken = mapped_bytes() - before;
+/// The bytes that an allocator maps, those that it touches when it is made, and those after 1,000 grants in all.
+fn bytes_of<NI: NodeIndex>(nodes: u32) -> (u64, u64, u64) {
+    let before = bytes();
+    let mut space = Allocator::<NI>::with_max_allocs(Global, 100_000, nodes).unwrap();
+    let made = bytes();
+    for _ in 0..1000.min(nodes - 2) {
+        assert!(space.allocate(100).is_some());
+    }
+    let used = bytes();
     drop(space);
-    taken
+    (made.0 - before.0, made.1 - before.1, used.1 - before.1)
 }
 
 #[test]
 fn bytes_of_a_node() {
     // first, so that the thread's own memory is mapped before
-    table_bytes::<u32>(100);
+    bytes_of::<u32>(100);
     // each table is large enough to be mapped separately, with at most a page and a header more than its cells. All
     // together are larger than 32 MiB: once a smaller piece is freed, the C library takes the next ones from its heap.
     let nodes = 2_000_000;
-    let found = table_bytes::<u32>(nodes as u32);
-    assert!((29 * nodes..29 * nodes + 4 * 8192).contains(&found), "{found}");
-    assert!(std::mem::size_of::<Allocator<u32>>() <= 4 * 24 + 4 * 8 + 8 * 4);
+    let (mapped, made, used) = bytes_of::<u32>(nodes as u32);
+    assert!((28 * nodes..28 * nodes + 4 * 8192).contains(&mapped), "{mapped}");
+    // what is touched depends on the nodes that are used, and not on the limit
+    assert!(made <= 64 * 1024, "{made}");
+    assert!(used <= 28 * 1001 + 64 * 1024, "{used}");
+    let heads_and_masks = 256 * 4 + 4 * 8;
+    assert!(std::mem::size_of::<Allocator<u32>>() <= heads_and_masks + 2 * 24 + 8 * 4);
 }

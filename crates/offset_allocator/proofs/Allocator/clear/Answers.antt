@@ -1,4 +1,4 @@
-use Rattle.std.proofs.Common.{◌-◌, ap, subst, arith}
+use Rattle.std.proofs.Common.{ap, subst, arith}
 use Rattle.offset_allocator.specs.Named.{View}
 use Rattle.offset_allocator.specs.State.{view_of}
 use Rattle.offset_allocator.specs.Relations.{Resets}
@@ -6,9 +6,9 @@ use Rattle.offset_allocator.proofs.Allocator.clear.Goals as goal
 
 pub returns-clause-step : goal.returns-clause-step
 returns-clause-step g c =
-    let left : View = view_of g.NI.NodeIndex.MAX c.self.inside.size c.self.inside.max_allocs c.start.new.tables (c.self.inside.max_allocs - 1) c.start.new.count in
+    let left : View = view_of g.NI.NodeIndex.MAX c.self.inside.size c.self.inside.max_allocs c.start-2.new.tables 0 c.start-2.new.count in
     subst (λ (v : View). Resets v left) c.self.view_is (record {
-      name = c.self.inside.max_allocs - 1;
-      below = omega (arith, c.self.invariant.admitted);
-      view = ap (λ (v : View). record v { accesses = c.start.new.count }) c.start.ensures.started.view;
+      name = 0;
+      below = omega (arith, c.self.invariant.well.room);
+      view = ap (λ (v : View). record v { accesses = c.start-2.new.count }) c.start-2.ensures.started.view;
     })

@@ -1,11 +1,12 @@
 use Rattle.std.proofs.Common.{◌≡◌, ℕ, suc, ◌+◌, List, [], ◌∷◌, length, refl, sym, ap, ap₂, subst, ◌∙◌, arith, length-append, replicate}
 use Rattle.offset_allocator.specs.Named.{Block, Place, View, units, free_sizes}
-use Rattle.offset_allocator.specs.Cells.{Links}
+use Rattle.offset_allocator.specs.Cells.{Links, Node}
 use Rattle.offset_allocator.specs.Orders.{class_lists}
 use Rattle.offset_allocator.specs.Space.{blocks}
 use Rattle.offset_allocator.specs.Compacting.{live, moves, KeepsSizes, Compacts}
 use Rattle.offset_allocator.proofs.Sound.{AreSound, Fields, shown, fields_of, known_sound}
 use Rattle.offset_allocator.proofs.Packed.{compacts_sizes}
+use Rattle.offset_allocator.proofs.Places.{at_place}
 use Rattle.offset_allocator.proofs.Classes.{down_small}
 use Rattle.offset_allocator.proofs.Compacting.{IsFirst, first_is, packed, compacts_live, first_held, packs, stays_packed}
 use Rattle.offset_allocator.proofs.Fresh.{empty_unlisted}
@@ -45,6 +46,13 @@ push-requires-clause-named g c =
     let o = first g (goal.at.push-requires-clause-named g c).After-slide-hole in
     let e = c.slide-hole.ensures.place _ _ (first_held f c.self.invariant o c.empty.ensures.room) o.idle in
     e.0.below
+
+pub push-requires-clause-idle : goal.push-requires-clause-idle
+push-requires-clause-idle g c =
+    let f : Fields = fields_of g.NI.NodeIndex.MAX c.self.inside in
+    let o = first g (goal.at.push-requires-clause-idle g c).After-slide-hole in
+    let e = c.slide-hole.ensures.place _ _ (first_held f c.self.invariant o c.empty.ensures.room) o.idle in
+    ap (λ (v : Node). v.used) (at_place e.0)
 
 pub push-requires-clause-classed : goal.push-requires-clause-classed
 push-requires-clause-classed g c = omega (arith, down_small c.slide-hole.result.1, c.uint_to_float_round_down.ensures.is)

@@ -1,22 +1,21 @@
-use Rattle.std.proofs.Common.{◌≡◌, ◌∙◌, true, false, refl, inl, inr, arith, ap, subst, sym}
+use Rattle.std.proofs.Common.{◌≡◌, ◌∙◌, true, false, length, refl, inl, inr, arith, ap, subst, sym}
 use Rattle.offset_allocator.specs.Named.{View}
 use Rattle.offset_allocator.proofs.Sound.{shown, Fields, fields_of}
 use Rattle.offset_allocator.specs.Relations.{Extends}
 use Rattle.offset_allocator.proofs.Extending.{used_at_end, can_widen, cannot_append, adds_counted, extends_done}
 use Rattle.offset_allocator.proofs.Places.{end_place}
 use Rattle.offset_allocator.proofs.Reading.{used_read}
-use Rattle.offset_allocator.proofs.Refusals.{is_open}
 use Rattle.offset_allocator.proofs.Allocator.extend.Goals as goal
 use Rattle.offset_allocator.proofs.Allocator.extend.Goals.{After-is_used-used}
 use Rattle.offset_allocator.proofs.Allocator.extend.Given.{Over}
 use Rattle.offset_allocator.specs.Named.{ends_used}
 use Rattle.offset_allocator.specs.Space.{blocks}
 
-pub returns-then-more-self-clause-step : goal.returns-then-more-self-clause-step
-returns-then-more-self-clause-step g c = (omega arith, λ h. absurd (let l = h.0 in let s = ap (λ (u : View). u.size) c.self.view_is in omega arith), refl)
-
 pub is_used-used-requires : goal.is_used-used-requires
 is_used-used-requires g c = (end_place c.self.invariant.space).below
+
+pub returns-then-more-self-clause-step : goal.returns-then-more-self-clause-step
+returns-then-more-self-clause-step g c = (omega arith, λ h. absurd (let l = h.0 in let s = ap (λ (u : View). u.size) c.self.view_is in omega arith), refl)
 
 -- what is read is whether the last block is used
 read : (g : Over) (c : After-is_used-used g) → ends_used (blocks c.self.inside.store.tables.room c.self.inside.store.last) ≡ c.is_used-used.result
@@ -29,13 +28,13 @@ pub append-requires-clause-used : goal.append-requires-clause-used
 append-requires-clause-used g c = read g (goal.at.append-requires-clause-used g c).After-is_used-used ∙ c.if-not-used.false
 
 pub append-requires-clause-enough : goal.append-requires-clause-enough
-append-requires-clause-enough g c = is_open (fields_of g.NI.NodeIndex.MAX c.self.inside) c.self.invariant 1 0 (omega arith)
+append-requires-clause-enough g c = omega (arith, c.names_left-left.ensures, ap (λ (u : View). length u.blocks) c.self.view_is, ap (λ (u : View). u.max_allocs) c.self.view_is)
 
-pub returns-then-self-lt2-clause-step : goal.returns-then-self-lt2-clause-step
-returns-then-self-lt2-clause-step g c =
+pub returns-then-left-lt2-clause-step : goal.returns-then-left-lt2-clause-step
+returns-then-left-lt2-clause-step g c =
     let f : Fields = fields_of g.NI.NodeIndex.MAX c.self.inside in
     let P : View → Type 0 = λ u. Extends c.args.more u (shown (record f { accesses = c.is_used-used.new.count })) false in
-    subst P c.self.view_is (omega arith, cannot_append f c.args.more c.self.invariant (read g (goal.at.returns-then-self-lt2-clause-step g c).After-is_used-used ∙ c.if-not-used.false) (omega arith), refl)
+    subst P c.self.view_is (omega arith, cannot_append f c.args.more c.self.invariant (read g (goal.at.returns-then-left-lt2-clause-step g c).After-is_used-used ∙ c.if-not-used.false) (omega (arith, c.names_left-left.ensures, ap (λ (u : View). length u.blocks) c.self.view_is, ap (λ (u : View). u.max_allocs) c.self.view_is)), refl)
 
 pub returns-then-not-used-clause-step : goal.returns-then-not-used-clause-step
 returns-then-not-used-clause-step g c =
@@ -47,7 +46,7 @@ pub returns-clause-step : goal.returns-clause-step
 returns-clause-step g c =
     let f : Fields = fields_of g.NI.NodeIndex.MAX c.self.inside in
     let P : View → Type 0 = λ u. Extends c.args.more u c.append.new.self true in
-    subst P c.self.view_is (inr (omega arith, (omega arith, inl (is_open f c.self.invariant 1 0 (omega arith))), adds_counted c.args.more (shown f) c.append.new.self c.is_used-used.new.count c.append.ensures.step))
+    subst P c.self.view_is (inr (omega arith, (omega arith, inl (omega (arith, c.names_left-left.ensures, ap (λ (u : View). length u.blocks) c.self.view_is, ap (λ (u : View). u.max_allocs) c.self.view_is))), adds_counted c.args.more (shown f) c.append.new.self c.is_used-used.new.count c.append.ensures.step))
 
 pub returns-then-more-self-clause-done : goal.returns-then-more-self-clause-done
 returns-then-more-self-clause-done g c = extends_done c.args.more c.args.self.now c.args.self.now false (returns-then-more-self-clause-step g c)
@@ -55,17 +54,11 @@ returns-then-more-self-clause-done g c = extends_done c.args.more c.args.self.no
 pub returns-then-not-used-clause-done : goal.returns-then-not-used-clause-done
 returns-then-not-used-clause-done g c = extends_done c.args.more c.args.self.now c.widen.new.self true (returns-then-not-used-clause-step g c)
 
-pub returns-then-self-lt2-clause-done : goal.returns-then-self-lt2-clause-done
-returns-then-self-lt2-clause-done g c = extends_done c.args.more c.args.self.now _ false (returns-then-self-lt2-clause-step g c)
+pub returns-then-left-lt2-clause-done : goal.returns-then-left-lt2-clause-done
+returns-then-left-lt2-clause-done g c = extends_done c.args.more c.args.self.now _ false (returns-then-left-lt2-clause-step g c)
 
 pub returns-clause-done : goal.returns-clause-done
 returns-clause-done g c = extends_done c.args.more c.args.self.now c.append.new.self true (returns-clause-step g c)
 
 pub invariant_of-self : goal.invariant_of-self
 invariant_of-self g c = c.self.invariant
-
-pub invariant_of-self-then-self-lt2 : goal.invariant_of-self-then-self-lt2
-invariant_of-self-then-self-lt2 g c = c.self.invariant
-
-pub invariant_of-self-2 : goal.invariant_of-self-2
-invariant_of-self-2 g c = c.self.invariant

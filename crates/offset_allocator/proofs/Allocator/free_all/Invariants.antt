@@ -7,7 +7,7 @@ invariant-loop-name g l = record {
   size : l.self.size ≡ l.initial.self.size;
   limit : l.self.max_allocs ≡ l.initial.self.max_allocs;
   least : l.initial.self.accesses ≤ l.self.accesses;
-  most : l.self.accesses + 130 * used_of l.self.blocks ≤ l.initial.self.accesses + 130 * used_of l.initial.self.blocks;
+  most : l.self.accesses + 38 * used_of l.self.blocks ≤ l.initial.self.accesses + 38 * used_of l.initial.self.blocks;
 }
 
 abbrev pub decreases-loop-name : goal.decreases-loop-name

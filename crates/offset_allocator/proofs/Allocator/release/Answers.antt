@@ -1,7 +1,9 @@
-use Rattle.std.proofs.Common.{refl, ◌+◌, ◌∙◌, ℕ, length, ap, arith}
+use Rattle.std.proofs.Common.{◌≡◌, false, refl, ◌+◌, ◌∙◌, ℕ, ap, arith, sym}
 use Rattle.offset_allocator.specs.Cells.{Node}
 use Rattle.offset_allocator.specs.Named.{IsWellFormed}
-use Rattle.offset_allocator.specs.Space.{HasPlace, coalesced_before, coalesced_after}
+use Rattle.offset_allocator.specs.Orders.{Binned, class_lists}
+use Rattle.offset_allocator.specs.Space.{HasPlace}
+use Rattle.offset_allocator.proofs.Filed.{unlisted}
 use Rattle.offset_allocator.proofs.Sound.{Fields, AreSound, shown, fields_of, known_sound}
 use Rattle.offset_allocator.proofs.Places.{at_place}
 use Rattle.offset_allocator.proofs.Freeing.{Release, at, room_for, filed, freed, named_live}
@@ -16,14 +18,17 @@ use Rattle.offset_allocator.proofs.Allocator.release.Given.{Over}
 release : (g : Over) (c : After-self g) → Release (fields_of g.NI.NodeIndex.MAX c.self.inside) c.args.name
 release g c = record { sound = c.self.invariant; live = named_live _ _ _ _ c.self.view_is refl (live_used c.args.name c.args.self.now c.requires.live) }
 
--- the block once it is coalesced with the free blocks beside it
-merged : (g : Over) (c : After-coalesce g) (r : Release (fields_of g.NI.NodeIndex.MAX c.self.inside) c.args.name) → HasPlace c.coalesce.new.store.tables.room (length c.self.inside.store.tables.room.nodes) c.coalesce.new.store.last c.coalesce.new.store.spare_count c.args.name (coalesced_after (coalesced_before (at r).place))
-merged g c r = c.coalesce.ensures.place _ _ (at r).held
+-- the block once it is free, and the bins as they were
+marked : (g : Over) (c : After-mark g) (r : Release (fields_of g.NI.NodeIndex.MAX c.self.inside) c.args.name) → HasPlace c.mark.new.tables.room c.self.inside.store.tables.room.reserved c.self.inside.store.last c.self.inside.store.spare_count c.args.name (record (at r).place { block = record (at r).place.block { used = false } })
+marked g c r = c.mark.ensures.place _ _ _ _ (at r).held
+
+bins : (g : Over) (c : After-mark g) (r : Release (fields_of g.NI.NodeIndex.MAX c.self.inside) c.args.name) → Binned g.NI.NodeIndex.MAX c.mark.new.tables.links c.self.inside.store.top_mask × (class_lists g.NI.NodeIndex.MAX c.mark.new.tables.links ≡ class_lists g.NI.NodeIndex.MAX c.self.inside.store.tables.links)
+bins g c r = c.mark.ensures.bins _ (unlisted (at r).held _ (filed r)) c.self.invariant.bins
 
 -- the fields that the release leaves, with any number of accesses counted
-abbrev after : (g : Over) → After-mark g → ℕ → Fields
+abbrev after : (g : Over) → After-coalesce g → ℕ → Fields
 after g c k = record (fields_of g.NI.NodeIndex.MAX c.self.inside) {
-  cells = c.mark.new.tables;
+  cells = c.coalesce.new.store.tables;
   last = c.coalesce.new.store.last;
   count = c.coalesce.new.store.spare_count;
   top = c.coalesce.new.store.top_mask;
@@ -31,14 +36,15 @@ after g c k = record (fields_of g.NI.NodeIndex.MAX c.self.inside) {
   accesses = k;
 }
 
-done : (g : Over) (c : After-mark g) (k : ℕ) → AreSound (after g c k) × Frees c.args.name c.args.self.now (shown (after g c k))
+done : (g : Over) (c : After-coalesce g) (k : ℕ) → AreSound (after g c k) × Frees c.args.name c.args.self.now (shown (after g c k))
 done g c k =
     let here = goal.at.returns-clause-step g c in
     let new : Fields = after g c k in
     let r = release g here.After-self in
-    let m = merged g here.After-coalesce r in
-    let order = rw (← c.mark.ensures.links, ap (λ (v : Node). v.size) (at_place m)) at (c.coalesce.ensures.lists _ _ (at r).held) in
-    let left = freed r new.cells new.last new.count new.top k (c.mark.ensures.place _ _ _ _ m).chain (rw c.mark.ensures.links c.coalesce.ensures.held) order in
+    let h = marked g here.After-mark r in
+    let m = c.coalesce.ensures.place _ _ h in
+    let order = rw (ap (λ (v : Node). v.size) (at_place m), (bins g here.After-mark r).1) at (c.coalesce.ensures.lists _ _ h) in
+    let left = freed r new.cells new.last new.count new.top k m.chain c.coalesce.ensures.held order in
     (rw (c.size-size.ensures.size ∙ ap (λ (v : Node). v.size) (at_place (at r).held)) left.0, rw (← c.self.view_is) left.1)
 
 pub size-size-requires : goal.size-size-requires
@@ -49,21 +55,35 @@ overflow_add-self g c =
     let r = release g (goal.at.overflow_add-self g c).After-self in
     omega (arith, c.size-size.ensures.size, ap (λ (v : Node). v.size) (at_place (at r).held), room_for r)
 
+pub mark-requires : goal.mark-requires
+mark-requires g c = (at (release g (goal.at.mark-requires g c).After-self)).held.below
+
 pub coalesce-requires-clause-place : goal.coalesce-requires-clause-place
 coalesce-requires-clause-place g c =
-    let r = release g (goal.at.coalesce-requires-clause-place g c).After-self in (_, _, (at r).held, filed r)
+    let here = goal.at.coalesce-requires-clause-place g c in
+    let r = release g here.After-self in
+    (_, _, marked g here.After-mark r, rw (bins g here.After-mark r).1 (filed r))
 
-pub mark-requires : goal.mark-requires
-mark-requires g c = let here = goal.at.mark-requires g c in (merged g here.After-coalesce (release g here.After-self)).below
+pub coalesce-requires-clause-held : goal.coalesce-requires-clause-held
+coalesce-requires-clause-held g c = let here = goal.at.coalesce-requires-clause-held g c in (bins g here.After-mark (release g here.After-self)).0
+
+pub coalesce-requires-clause-idle : goal.coalesce-requires-clause-idle
+coalesce-requires-clause-idle g c = let here = goal.at.coalesce-requires-clause-idle g c in ap (λ (v : Node). v.used) (at_place (marked g here.After-mark (release g here.After-self)))
+
+pub coalesce-requires-clause-size : goal.coalesce-requires-clause-size
+coalesce-requires-clause-size g c =
+    let here = goal.at.coalesce-requires-clause-size g c in
+    let r = release g here.After-self in
+    c.size-size.ensures.size ∙ ap (λ (v : Node). v.size) (at_place (at r).held) ∙ sym (ap (λ (v : Node). v.size) (at_place (marked g here.After-mark r)))
 
 pub invariant_of-self : goal.invariant_of-self
 invariant_of-self g c = (done g c 0).0
 
 pub returns-clause-step : goal.returns-clause-step
-returns-clause-step g c = (done g c c.mark.new.count).1
+returns-clause-step g c = (done g c c.coalesce.new.store.accesses).1
 
 -- the views before and after it are well formed
-well : (g : Over) (c : After-mark g) → IsWellFormed c.args.self.now
+well : (g : Over) (c : After-coalesce g) → IsWellFormed c.args.self.now
 well g c = (known_sound (fields_of g.NI.NodeIndex.MAX c.self.inside) c.self.invariant c.args.self.now c.self.view_is).0
 
 pub returns-clause-gone : goal.returns-clause-gone

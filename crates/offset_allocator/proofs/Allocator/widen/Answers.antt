@@ -1,9 +1,9 @@
-use Rattle.std.proofs.Common.{◌+◌, ℕ, length, false, ap, arith}
-use Rattle.offset_allocator.specs.Cells.{Room}
+use Rattle.std.proofs.Common.{◌+◌, ◌∙◌, ℕ, length, false, ap, arith}
+use Rattle.offset_allocator.specs.Cells.{Node, Room}
 use Rattle.offset_allocator.proofs.Sound.{fields_of}
 use Rattle.offset_allocator.proofs.Classes.{down_small}
-use Rattle.offset_allocator.proofs.Places.{end_place}
-use Rattle.offset_allocator.proofs.Extending.{Growth, Grown, end_held, end_small, free_fits, widen_listed, widen_unlisted, widened}
+use Rattle.offset_allocator.proofs.Places.{at_place, end_place}
+use Rattle.offset_allocator.proofs.Extending.{Growth, Grown, b_used, end_held, end_small, free_fits, widen_listed, widen_unlisted, widened}
 use Rattle.offset_allocator.proofs.Allocator.widen.Goals as goal
 use Rattle.offset_allocator.proofs.Allocator.widen.Goals.{After-self, After-push}
 use Rattle.offset_allocator.proofs.Allocator.widen.Given.{Over}
@@ -26,6 +26,12 @@ grow-requires-clause-place g c = (_, _, _, _, end_held (pre g (goal.at.grow-requ
 
 pub push-requires-clause-named : goal.push-requires-clause-named
 push-requires-clause-named g c = omega (arith, (end_place c.self.invariant.space).below, c.grow.ensures.nodes, ap (λ (r : Room). length r.nodes) c.remove.ensures.room)
+
+pub push-requires-clause-idle : goal.push-requires-clause-idle
+push-requires-clause-idle g c =
+    let r = pre g (goal.at.push-requires-clause-idle g c).After-self in
+    let grown = c.grow.ensures.place _ _ _ _ (end_held r c.remove.ensures.room) in
+    ap (λ (v : Node). v.used) (at_place grown) ∙ b_used r
 
 pub push-requires-clause-classed : goal.push-requires-clause-classed
 push-requires-clause-classed g c = omega (arith, down_small (c.size-whole.result + c.args.more), c.uint_to_float_round_down.ensures.is)

@@ -1,9 +1,9 @@
-use Rattle.std.proofs.Common.{◌≡◌, ◌-◌, ℕ, sym, subst, arith}
+use Rattle.std.proofs.Common.{◌≡◌, ℕ, sym, subst, arith}
 use Rattle.offset_allocator.specs.State.{view_of}
 use Rattle.offset_allocator.proofs.Fresh.{fresh}
 use Rattle.offset_allocator.proofs.Allocator.with_max_allocs.Goals as goal
 
 pub returns : goal.returns
 returns g c =
-    let P : ℕ → Type 0 = λ k. view_of g.NI.NodeIndex.MAX c.args.size c.args.max_allocs c.start-2.new.tables (c.args.max_allocs - 1) k ≡ fresh c.args.size c.args.max_allocs in
-    record { name = c.args.max_allocs - 1; below = omega (arith, c.requires.limit_min); view = subst P (sym c.new.ensures) c.start-2.ensures.started.view }
+    let P : ℕ → Type 0 = λ k. view_of g.NI.NodeIndex.MAX c.args.size c.args.max_allocs c.start-2.new.tables 0 k ≡ fresh c.args.size c.args.max_allocs in
+    record { name = 0; below = omega (arith, c.requires.limit_min); view = subst P (sym c.new.ensures) c.start-2.ensures.started.view }

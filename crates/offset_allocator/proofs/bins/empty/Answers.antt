@@ -5,7 +5,7 @@ use Rattle.offset_allocator.proofs.bins.empty.Goals as goal
 
 pub returns : goal.returns
 returns g c =
-    let old = c.requires.held in
+    let old = c.shape.ensures in
     let a = c.loop-class.invariant in
     let b = c.loop-word.invariant in
     let classes : c.loop-class.class ≡ 256 = omega arith in
@@ -14,10 +14,10 @@ returns g c =
     let older : length c.loop-word.tables.links.older ≡ length c.args.tables.now.links.older = ap (λ (t : Cells). length t.links.older) b.rest ∙ ap (λ (t : Cells). length t.links.older) a.rest in
     let same_masks : length c.loop-class.tables.links.masks ≡ length c.args.tables.now.links.masks = ap (λ (t : Cells). length t.links.masks) a.rest in
     let heads : c.loop-word.tables.links.heads ≡ replicate 256 g.NI.NodeIndex.MAX =
-    ap (λ (t : Cells). t.links.heads) b.rest ∙ sym (take_all c.loop-class.class c.loop-class.tables.links.heads (omega (arith, a.even, old.linked.heads_len))) ∙ a.written ∙ ap (λ (n : ℕ). replicate n g.NI.NodeIndex.MAX) classes in
+    ap (λ (t : Cells). t.links.heads) b.rest ∙ sym (take_all c.loop-class.class c.loop-class.tables.links.heads (omega (arith, a.even, old.heads))) ∙ a.written ∙ ap (λ (n : ℕ). replicate n g.NI.NodeIndex.MAX) classes in
     let masks : c.loop-word.tables.links.masks ≡ replicate 4 0 =
-    sym (take_all c.loop-word.word c.loop-word.tables.links.masks (omega (arith, b.even, same_masks, old.masked.masks_len))) ∙ b.written ∙ ap (λ (n : ℕ). replicate n 0) words in
-    let empty = empty_binned c.loop-word.tables.links (omega (arith, newer, older, old.linked.older_len)) (omega (arith, newer, old.linked.names_small)) heads masks in
+    sym (take_all c.loop-word.word c.loop-word.tables.links.masks (omega (arith, b.even, same_masks, old.masks))) ∙ b.written ∙ ap (λ (n : ℕ). replicate n 0) words in
+    let empty = empty_binned c.loop-word.tables.links (omega (arith, newer, older, old.newer, old.older)) (omega (arith, newer, old.newer, old.within, old.limit)) heads masks in
     record {
       held = empty.0;
       lists = empty.1;

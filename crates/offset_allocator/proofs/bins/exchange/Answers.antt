@@ -4,6 +4,7 @@ use Rattle.offset_allocator.specs.Classes.{down}
 use Rattle.offset_allocator.proofs.Binned.{below, older_in, is_first, exchanged, exchange_masked, binned, clauses}
 use Rattle.offset_allocator.proofs.Classes.{down_small}
 use Rattle.offset_allocator.proofs.ViewOrders.{unlisted_removed}
+use Rattle.offset_allocator.proofs.Uses.{after_idle, no_mark}
 use Rattle.offset_allocator.proofs.bins.exchange.Goals as goal
 
 pub newer-before-requires : goal.newer-before-requires
@@ -15,6 +16,16 @@ older-after-requires g c = omega (arith, below c.requires.held.linked _ (down_sm
 pub link_newer-requires-clause-named : goal.link_newer-requires-clause-named
 link_newer-requires-clause-named g c n =
     rw (c.set_links.ensures.cells, c.set_head.ensures.cells, length-set, c.older-after.ensures.cell) (older_in c.requires.held.linked _ (down_small c.args.size) _ c.requires.listed (λ e. n (c.older-after.ensures.cell ∙ e)))
+
+pub set_links-requires-clause-link : goal.set_links-requires-clause-link
+set_links-requires-clause-link g c = no_mark c.shape.ensures (g.NI.NodeIndex.number c.no_link.result) (λ n. absurd (n c.no_link.ensures.number))
+
+pub link_newer-requires-clause-idle : goal.link_newer-requires-clause-idle
+link_newer-requires-clause-idle g c n =
+    rw (c.set_links.ensures.cells, c.set_head.ensures.cells, c.older-after.ensures.cell) (after_idle c.shape.ensures c.requires.held.linked _ (down_small c.args.size) _ c.requires.listed (λ e. n (c.older-after.ensures.cell ∙ e)))
+
+pub link_newer-requires-clause-link : goal.link_newer-requires-clause-link
+link_newer-requires-clause-link g c = no_mark c.shape.ensures (g.NI.NodeIndex.number c.link_to.result) (λ n. omega (arith, c.link_to.ensures.number, c.requires.named))
 
 pub push-requires-clause-unlisted : goal.push-requires-clause-unlisted
 push-requires-clause-unlisted g c =
@@ -29,7 +40,7 @@ returns-then-class-uint_to_float_round_down g c =
     let e = rw (c.set_links.ensures.cells, c.set_head.ensures.cells) at c.link_newer.ensures.cells in
     let next = rw (← f.1) at (c.older-after.ensures.cell) in
     rw same (clauses (binned (rw f.1 at (exchanged k _ (down_small c.args.size) c.link_newer.new.tables.links c.args.name _ (omega (arith, c.requires.named, c.shape.ensures.newer)) c.requires.unlisted f.0 next
-    (rw (e, c.no_link.ensures.number, c.link_to-newest.ensures.number))
+    (rw (e, c.no_link.ensures.number, c.link_to.ensures.number))
     (rw e)
-    (rw (e, c.link_to-newest.ensures.number, same))))
+    (rw (e, same))))
     (rw e (exchange_masked c.requires.held.masked k.lists_len _ c.args.name c.args.gone (down_small c.args.size) f.0))) (rw e) (omega arith) (omega arith))

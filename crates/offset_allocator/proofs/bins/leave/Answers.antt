@@ -1,6 +1,7 @@
 use Rattle.std.proofs.Common.{◌≡◌, ◌≢◌, ◌∙◌, arith, refl, slice_index}
 use Rattle.offset_allocator.proofs.Binned.{below, newer_in, older_in, is_first, is_later, later_masked, left, binned, clauses}
 use Rattle.offset_allocator.proofs.Classes.{down_small}
+use Rattle.offset_allocator.proofs.Uses.{after_idle, no_mark}
 use Rattle.offset_allocator.proofs.bins.leave.Goals as goal
 
 pub older-after-requires : goal.older-after-requires
@@ -28,6 +29,13 @@ returns-then-number-MAX-clause-lists g c =
 -- a later name
 pub link_newer-requires-clause-named : goal.link_newer-requires-clause-named
 link_newer-requires-clause-named g c n = rw c.older-after.ensures.cell (older_in c.requires.held.linked _ (down_small c.args.size) _ c.requires.listed (λ e. n (c.older-after.ensures.cell ∙ e)))
+
+pub link_newer-requires-clause-idle : goal.link_newer-requires-clause-idle
+link_newer-requires-clause-idle g c n = rw c.older-after.ensures.cell (after_idle c.shape.ensures c.requires.held.linked _ (down_small c.args.size) _ c.requires.listed (λ e. n (c.older-after.ensures.cell ∙ e)))
+
+pub link_newer-requires-clause-link : goal.link_newer-requires-clause-link
+link_newer-requires-clause-link g c =
+    no_mark c.shape.ensures (g.NI.NodeIndex.number c.args.before) (λ n. omega (arith, c.requires.before, c.shape.ensures.newer, newer_in c.requires.held.linked _ (down_small c.args.size) _ c.requires.listed (λ e. n (c.requires.before ∙ e))))
 
 pub set_older-requires : goal.set_older-requires
 set_older-requires g c =

@@ -5,7 +5,7 @@ use Rattle.offset_allocator.proofs.bins.length_of.Goals as goal
 
 pub loop-name-init : goal.loop-name-init
 loop-name-init g c = record {
-  tail = record { before = g.NI.NodeIndex.MAX; names = _; chain = c.requires.linked.chains c.args.class c.requires.classed; is = c.number-name.ensures.number ∙ c.head.ensures.cell ∙ c.requires.linked.heads c.args.class c.requires.classed; counted = omega arith };
+  tail = record { before = g.NI.NodeIndex.MAX; names = _; chain = c.requires.linked.chains c.args.class c.requires.classed; is = c.head-name.ensures.cell ∙ c.requires.linked.heads c.args.class c.requires.classed; counted = omega arith };
   accesses = omega arith;
 }
 
@@ -22,7 +22,7 @@ loop-name-smaller g c = omega (arith, (tail_next c.loop-name.invariant.tail (ome
 
 pub loop-name-preserved : goal.loop-name-preserved
 loop-name-preserved g c = record {
-  tail = rw (c.number-name-in-loop-name.ensures.number, c.older.ensures.cell) (tail_next c.loop-name.invariant.tail (omega arith)).2;
+  tail = rw (c.number-name.ensures.number, c.older.ensures.cell) (tail_next c.loop-name.invariant.tail (omega arith)).2;
   accesses = omega arith;
 }
 

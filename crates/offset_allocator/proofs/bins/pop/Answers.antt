@@ -1,14 +1,13 @@
-use Rattle.std.proofs.Common.{◌∙◌}
 use Rattle.offset_allocator.proofs.Binned.{head, without_head}
 use Rattle.offset_allocator.proofs.bins.pop.Goals as goal
 
 pub behead-requires-clause-after : goal.behead-requires-clause-after
-behead-requires-clause-after g c = rw (← (c.number-name.ensures.number ∙ c.head.ensures.cell)) c.older-after.ensures.cell
+behead-requires-clause-after g c = rw (← (c.head-name.ensures.cell)) c.older-after.ensures.cell
 
 pub returns-clause-first : goal.returns-clause-first
 returns-clause-first g c =
     let k = c.requires.held.linked in
-    rw (c.number-name.ensures.number ∙ c.head.ensures.cell, without_head k c.args.class c.requires.classed c.requires.some) ((head k c.args.class c.requires.classed c.requires.some).0)
+    rw (c.head-name.ensures.cell, without_head k c.args.class c.requires.classed c.requires.some) ((head k c.args.class c.requires.classed c.requires.some).0)
 
 pub returns-clause-lists : goal.returns-clause-lists
-returns-clause-lists g c = rw (c.number-name.ensures.number ∙ c.head.ensures.cell) c.behead.ensures.lists
+returns-clause-lists g c = rw (c.head-name.ensures.cell) c.behead.ensures.lists

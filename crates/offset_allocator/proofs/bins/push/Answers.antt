@@ -1,33 +1,47 @@
 use Rattle.std.proofs.Common.{◌∙◌, ap, sym, arith, refl}
 use Rattle.std.proofs.lemmas.List.{length-set, set_past}
 use Rattle.offset_allocator.specs.Orders.{first_of}
-use Rattle.offset_allocator.proofs.Binned.{head_below, pushed, binned, clauses}
+use Rattle.offset_allocator.proofs.Binned.{head_among, head_below, head_small, pushed, binned, clauses}
 use Rattle.offset_allocator.proofs.Masks.{flag_full, masked_same, masked_set}
+use Rattle.offset_allocator.proofs.Uses.{listed_idle, no_mark}
 use Rattle.offset_allocator.proofs.bins.push.Goals as goal
 
-pub set_newer-requires : goal.set_newer-requires
-set_newer-requires g c =
-    let h = c.number-newest.ensures.number ∙ c.head-first.ensures.cell in
+pub set_newer-requires-clause-name : goal.set_newer-requires-clause-name
+set_newer-requires-clause-name g c =
+    let h = c.head-newest.ensures.cell in
     rw (c.set_links.ensures.cells, c.set_head.ensures.cells, length-set, h) (head_below c.requires.held.linked c.args.class c.requires.classed (λ e. absurd (omega arith)))
+
+pub set_links-requires-clause-link : goal.set_links-requires-clause-link
+set_links-requires-clause-link g c = no_mark c.shape.ensures (g.NI.NodeIndex.number c.no_link.result) (λ n. absurd (n c.no_link.ensures.number))
+
+pub set_newer-requires-clause-idle : goal.set_newer-requires-clause-idle
+set_newer-requires-clause-idle g c =
+    let h = c.head-newest.ensures.cell in
+    rw (c.set_links.ensures.cells, c.set_head.ensures.cells, h) (listed_idle c.shape.ensures c.requires.held.linked c.args.class c.requires.classed _ (head_among c.requires.held.linked c.args.class c.requires.classed (λ e. absurd (omega arith))))
+
+pub set_newer-requires-clause-link : goal.set_newer-requires-clause-link
+set_newer-requires-clause-link g c = no_mark c.shape.ensures (g.NI.NodeIndex.number c.link_to-link.result) (λ n. omega (arith, c.link_to-link.ensures.number, c.requires.named))
 
 pub returns-then-newest-MAX : goal.returns-then-newest-MAX
 returns-then-newest-MAX g c =
     let k = c.requires.held.linked in
-    let h = c.head-first.ensures.cell in
+    let h = c.head-newest.ensures.cell in
+    let kept = c.from_u32.ensures.kept (rw h (head_small k c.args.class c.requires.classed)) in
     let e = rw (c.set_links.ensures.cells, c.set_head.ensures.cells) at c.set_mask.ensures.cells in
     clauses (binned (pushed k c.args.class c.requires.classed c.set_mask.new.self.links c.args.name (omega (arith, c.requires.named, c.shape.ensures.newer)) c.requires.unlisted
     (rw (e, c.no_link.ensures.number) (sym (set_past _ _ _ (omega (arith, k.names_small, length-set c.args.tables.now.links.newer c.args.name g.NI.NodeIndex.MAX)))))
-    (rw (e, h))
-    (rw (e, c.link_to-link.ensures.number)))
+    (rw (e, kept, h))
+    (rw e))
     (rw e (masked_set c.requires.held.masked k.lists_len c.args.class c.requires.classed _ _ (c.mask-mask.ensures.cell ∙ rw (c.set_links.ensures.cells, c.set_head.ensures.cells)) refl))) (rw e) (omega arith) (omega arith)
 
 pub returns-else-newest-MAX : goal.returns-else-newest-MAX
 returns-else-newest-MAX g c =
     let k = c.requires.held.linked in
-    let h = c.head-first.ensures.cell in
+    let h = c.head-newest.ensures.cell in
+    let kept = c.from_u32.ensures.kept (rw h (head_small k c.args.class c.requires.classed)) in
     let e = rw (c.set_links.ensures.cells, c.set_head.ensures.cells) at c.set_newer.ensures.cells in
     clauses (binned (pushed k c.args.class c.requires.classed c.set_newer.new.self.links c.args.name (omega (arith, c.requires.named, c.shape.ensures.newer)) c.requires.unlisted
-    (rw (e, c.no_link.ensures.number, c.number-newest.ensures.number, h, c.link_to-link.ensures.number))
-    (rw (e, h))
-    (rw (e, c.link_to-link.ensures.number)))
+    (rw (e, c.no_link.ensures.number, h, c.link_to-link.ensures.number))
+    (rw (e, kept, h))
+    (rw e))
     (rw e (masked_same c.requires.held.masked k.lists_len c.args.class c.requires.classed _ (sym (flag_full _ (λ z. let q = h ∙ k.heads c.args.class c.requires.classed ∙ ap (first_of g.NI.NodeIndex.MAX) z in absurd (omega arith))))))) (rw e) (omega arith) (omega arith)

@@ -9,6 +9,9 @@ use Rattle.offset_allocator.proofs.Sliding.{walked, first_used, first_idle}
 use Rattle.offset_allocator.proofs.compact.first_free.Goals as goal
 use Rattle.offset_allocator.proofs.compact.first_free.Goals.{then-not-is_used, else-not-is_used}
 
+pub is_used-requires : goal.is_used-requires
+is_used-requires g c = (walked c.requires.space.1 c.loop-at.invariant.front c.loop-at.invariant.rest c.loop-at.invariant.is (c.loop-at.invariant.ends ∙ c.in-Some.is)).below
+
 pub loop-at-init : goal.loop-at-init
 loop-at-init g c = record {
   front = blocks c.args.tables.now.room c.args.last;
@@ -18,9 +21,6 @@ loop-at-init g c = record {
   first = refl;
   accesses = omega arith;
 }
-
-pub is_used-requires : goal.is_used-requires
-is_used-requires g c = (walked c.requires.space.1 c.loop-at.invariant.front c.loop-at.invariant.rest c.loop-at.invariant.is (c.loop-at.invariant.ends ∙ c.in-Some.is)).below
 
 pub before-at-requires : goal.before-at-requires
 before-at-requires g c = (walked c.requires.space.1 c.loop-at.invariant.front c.loop-at.invariant.rest c.loop-at.invariant.is (c.loop-at.invariant.ends ∙ c.in-Some.is)).below

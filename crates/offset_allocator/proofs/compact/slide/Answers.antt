@@ -7,6 +7,9 @@ use Rattle.offset_allocator.proofs.Places.{at_place, next_place, end_fits, after
 use Rattle.offset_allocator.proofs.Sliding.{absorbed, slid_past, slid_into, slid_end, at_end, same_move}
 use Rattle.offset_allocator.proofs.compact.slide.Goals as goal
 
+pub is_used-requires : goal.is_used-requires
+is_used-requires g c = let s = c.loop-next.invariant.at _ _ c.requires.place.2 c.requires.place.3 in (next_place s.there (sym c.in-Some.is ∙ c.after.ensures.after)).place.below
+
 pub loop-next-init : goal.loop-next-init
 loop-next-init g c = record {
   callable = c.requires.callable;
@@ -31,9 +34,6 @@ after-requires g c = (c.loop-next.invariant.at _ _ c.requires.place.2 c.requires
 pub size-more-requires : goal.size-more-requires
 size-more-requires g c = let s = c.loop-next.invariant.at _ _ c.requires.place.2 c.requires.place.3 in (next_place s.there (sym c.in-Some.is ∙ c.after.ensures.after)).place.below
 
-pub is_used-requires : goal.is_used-requires
-is_used-requires g c = let s = c.loop-next.invariant.at _ _ c.requires.place.2 c.requires.place.3 in (next_place s.there (sym c.in-Some.is ∙ c.after.ensures.after)).place.below
-
 pub offset-to-requires : goal.offset-to-requires
 offset-to-requires g c = let s = c.loop-next.invariant.at _ _ c.requires.place.2 c.requires.place.3 in s.there.below
 
@@ -50,14 +50,14 @@ pub report-requires-clause-named : goal.report-requires-clause-named
 report-requires-clause-named g c =
     let s = c.loop-next.invariant.at _ _ c.requires.place.2 c.requires.place.3 in
     let n = next_place s.there (sym c.in-Some.is ∙ c.after.ensures.after) in
-    omega (arith, n.place.below, s.there.chain.cells, c.requires.place.2.chain.cells, c.shape.ensures.limit)
+    omega (arith, n.place.below, s.there.chain.within, c.requires.place.2.chain.memory, c.shape.ensures.limit)
 
 pub loop-next-smaller-then-is_used : goal.loop-next-smaller-then-is_used
 loop-next-smaller-then-is_used g c =
     let s = c.loop-next.invariant.at _ _ c.requires.place.2 c.requires.place.3 in
     let n = next_place s.there (sym c.in-Some.is ∙ c.after.ensures.after) in
     let p : Place = c.requires.place.1 in
-    let all : length p.after ≤ length c.args.store.now.tables.room.nodes = omega (arith, c.requires.place.2.chain.cells, c.requires.place.2.chain.full, length-append p.before (p.block ∷ p.after)) in
+    let all : length p.after ≤ length c.args.store.now.tables.room.nodes = omega (arith, c.requires.place.2.chain.full, length-append p.before (p.block ∷ p.after)) in
     omega (arith, s.bounded, ap (λ (l : List Block). length l) n.is, all, c.after.ensures.accesses, c.size-more.ensures.accesses, c.is_used.ensures.accesses, c.offset-to.ensures.accesses, c.pass-hole.ensures.accesses_min)
 
 pub loop-next-preserved-then-is_used : goal.loop-next-preserved-then-is_used
@@ -95,7 +95,7 @@ loop-next-smaller g c =
     let s = c.loop-next.invariant.at _ _ c.requires.place.2 c.requires.place.3 in
     let n = next_place s.there (sym c.in-Some.is ∙ c.after.ensures.after) in
     let p : Place = c.requires.place.1 in
-    let all : length p.after ≤ length c.args.store.now.tables.room.nodes = omega (arith, c.requires.place.2.chain.cells, c.requires.place.2.chain.full, length-append p.before (p.block ∷ p.after)) in
+    let all : length p.after ≤ length c.args.store.now.tables.room.nodes = omega (arith, c.requires.place.2.chain.full, length-append p.before (p.block ∷ p.after)) in
     omega (arith, s.bounded, ap (λ (l : List Block). length l) n.is, all, c.after.ensures.accesses, c.size-more.ensures.accesses, c.is_used.ensures.accesses, c.coalesce_after.ensures.accesses_min)
 
 pub loop-next-preserved : goal.loop-next-preserved

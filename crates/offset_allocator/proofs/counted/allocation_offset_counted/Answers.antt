@@ -1,5 +1,4 @@
-use Rattle.std.proofs.Common.{ap, ◌∙◌, ℕ, Some, arith, refl, option_map}
-use Rattle.offset_allocator.specs.Named.{View}
+use Rattle.std.proofs.Common.{ap, ◌∙◌, ℕ, Some, refl, option_map}
 use Rattle.offset_allocator.specs.Ranges.{Range, range_of}
 use Rattle.offset_allocator.proofs.Sound.{fields_of}
 use Rattle.offset_allocator.proofs.Reading.{live_below, live_offset}
@@ -12,8 +11,3 @@ pub returns-then-uses-clause-offset : goal.returns-then-uses-clause-offset
 returns-then-uses-clause-offset g c =
     ap Some c.offset.ensures.offset ∙ live_offset (fields_of g.NI.NodeIndex.MAX c.allocator.inside) _ c.allocator.invariant _ c.allocator.view_is (c.if-uses.ensures.live.0 refl)
     ∙ ap (λ (i : ℕ). option_map (λ (r : Range). r.offset) (range_of i c.args.allocator.now)) (c.number-name.ensures.number ∙ c.of_nonmax.ensures.number ∙ c.name.ensures)
-
-pub returns-then-uses-clause-accesses_min : goal.returns-then-uses-clause-accesses_min
-returns-then-uses-clause-accesses_min g c h =
-    let below = live_below (fields_of g.NI.NodeIndex.MAX c.allocator.inside) _ c.allocator.invariant _ c.allocator.view_is (c.if-uses.ensures.live.0 refl) in
-    omega (arith, ap (λ (u : View). u.max_allocs) c.allocator.view_is, c.allocator.invariant.nodes)

@@ -1,5 +1,4 @@
-use Rattle.std.proofs.Common.{ap, ◌∙◌, ℕ, arith, refl}
-use Rattle.offset_allocator.specs.Named.{View}
+use Rattle.std.proofs.Common.{ap, ◌∙◌, ℕ, refl}
 use Rattle.offset_allocator.specs.Ranges.{size_of}
 use Rattle.offset_allocator.proofs.Sound.{fields_of}
 use Rattle.offset_allocator.proofs.Reading.{live_below, live_size}
@@ -12,8 +11,3 @@ pub returns-then-uses-clause-size : goal.returns-then-uses-clause-size
 returns-then-uses-clause-size g c =
     c.size.ensures.size ∙ live_size (fields_of g.NI.NodeIndex.MAX c.allocator.inside) _ c.allocator.invariant _ c.allocator.view_is (c.if-uses.ensures.live.0 refl)
     ∙ ap (λ (i : ℕ). size_of i c.args.allocator.now) (c.number-name.ensures.number ∙ c.of_nonmax.ensures.number ∙ c.name.ensures)
-
-pub returns-then-uses-clause-accesses_min : goal.returns-then-uses-clause-accesses_min
-returns-then-uses-clause-accesses_min g c h =
-    let below = live_below (fields_of g.NI.NodeIndex.MAX c.allocator.inside) _ c.allocator.invariant _ c.allocator.view_is (c.if-uses.ensures.live.0 refl) in
-    omega (arith, ap (λ (u : View). u.max_allocs) c.allocator.view_is, c.allocator.invariant.nodes)

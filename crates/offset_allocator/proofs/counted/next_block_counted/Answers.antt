@@ -9,6 +9,9 @@ use Rattle.offset_allocator.proofs.Listing.{left, none_left, node_placed, read_i
 use Rattle.offset_allocator.proofs.counted.next_block_counted.Goals.{then-is_used, else-is_used}
 use Rattle.offset_allocator.proofs.counted.next_block_counted.Goals as goal
 
+pub is_used-requires : goal.is_used-requires
+is_used-requires g c = (read_is (fields_of g.NI.NodeIndex.MAX c.allocator.inside) c.allocator.invariant _ _ _ c.allocator.view_is c.blocks-2.invariant.0 (c.blocks-2.invariant.1 ∙ c.in_ok-name.was)).below
+
 pub returns-in_err-name-clause-yields : goal.returns-in_err-name-clause-yields
 returns-in_err-name-clause-yields g c =
     let e = sym c.blocks-2.view_is ∙ none_left c.blocks-2.inside.left c.blocks-2.inside.allocator.now.blocks (c.blocks-2.invariant.1 ∙ c.in_err-name.was) in
@@ -19,9 +22,6 @@ offset-offset-requires g c = (read_is (fields_of g.NI.NodeIndex.MAX c.allocator.
 
 pub size-size-requires : goal.size-size-requires
 size-size-requires g c = (read_is (fields_of g.NI.NodeIndex.MAX c.allocator.inside) c.allocator.invariant _ _ _ c.allocator.view_is c.blocks-2.invariant.0 (c.blocks-2.invariant.1 ∙ c.in_ok-name.was)).below
-
-pub is_used-requires : goal.is_used-requires
-is_used-requires g c = (read_is (fields_of g.NI.NodeIndex.MAX c.allocator.inside) c.allocator.invariant _ _ _ c.allocator.view_is c.blocks-2.invariant.0 (c.blocks-2.invariant.1 ∙ c.in_ok-name.was)).below
 
 pub before-blocks-inside-requires : goal.before-blocks-inside-requires
 before-blocks-inside-requires g c = (read_is (fields_of g.NI.NodeIndex.MAX c.allocator.inside) c.allocator.invariant _ _ _ c.allocator.view_is c.blocks-2.invariant.0 (c.blocks-2.invariant.1 ∙ c.in_ok-name.was)).below

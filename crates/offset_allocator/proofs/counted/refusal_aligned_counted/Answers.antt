@@ -15,7 +15,7 @@ pub returns-then-units-allocator-clause-why : goal.returns-then-units-allocator-
 returns-then-units-allocator-clause-why g c =
     let f : Fields = fields_of g.NI.NodeIndex.MAX c.allocator.inside in
     let P : View → Type 0 = λ u. HasRoomFor (blocks_needed c.args.align) u × (sum (free_sizes u.blocks) < units_needed c.args.size c.args.align) in
-    subst P c.allocator.view_is (is_open f c.allocator.invariant _ 0 (omega (arith, c.min-blocks.ensures)), omega (arith, total_is f c.allocator.invariant 0 0, c.if-units-allocator.true, not_zero c.args.align c.requires.power))
+    subst P c.allocator.view_is (is_open f c.allocator.invariant _ 0 c.allocator.view_is c.names_left.ensures (omega (arith, c.min-blocks.ensures)), omega (arith, total_is f c.allocator.invariant 0 0, c.if-units-allocator.true, not_zero c.args.align c.requires.power))
 
 pub returns-then-units-allocator-clause-granted : goal.returns-then-units-allocator-clause-granted
 returns-then-units-allocator-clause-granted g c =
@@ -36,7 +36,7 @@ returns-in-None-clause-why g c =
     let classes = c.allocator.invariant.well.classes in
     let P : View → Type 0 = λ u. HasRoomFor (blocks_needed c.args.align) u × (units_needed c.args.size c.args.align ≤ sum (free_sizes u.blocks)) × (CanGrant (blocks_needed c.args.align) (units_needed c.args.size c.args.align) u → ⊥) in
     subst P c.allocator.view_is (
-      is_open f c.allocator.invariant _ 0 (omega (arith, c.min-blocks.ensures)),
+      is_open f c.allocator.invariant _ 0 c.allocator.view_is c.names_left.ensures (omega (arith, c.min-blocks.ensures)),
       omega (arith, total_is f c.allocator.invariant 0 0, c.if-units-allocator.false, not_zero c.args.align c.requires.power),
       λ h. elim (cases_lt h.1.0 256) [ inl l ↦ h.1.2 (c.in-None.ensures.smallest h.1.0 (omega (arith, h.1.1)) l) | inr l ↦ h.1.2 (get_or_past _ h.1.0 [] (omega arith)) ],
     )
@@ -49,4 +49,4 @@ returns-in-Some-clause-granted g c =
     let low = low_is c.args.size c.args.align _ (not_zero c.args.align c.requires.power) c.uint_to_float_round_up-smallest.ensures.is in
     let P : View → Type 0 = λ u. CanGrant (blocks_needed c.args.align) (units_needed c.args.size c.args.align) u in
     let some = c.in-Some.ensures.smallest in
-    (λ e. subst P c.allocator.view_is (is_open (fields_of g.NI.NodeIndex.MAX c.allocator.inside) c.allocator.invariant _ 0 (omega (arith, c.min-blocks.ensures)), (c.in-Some.field-0, omega (arith, some.0), some.2)), λ h. refl)
+    (λ e. subst P c.allocator.view_is (is_open (fields_of g.NI.NodeIndex.MAX c.allocator.inside) c.allocator.invariant _ 0 c.allocator.view_is c.names_left.ensures (omega (arith, c.min-blocks.ensures)), (c.in-Some.field-0, omega (arith, some.0), some.2)), λ h. refl)

@@ -1,18 +1,18 @@
 use Rattle.std.proofs.lemmas.Grind.{common_steps}
-use Rattle.std.proofs.Common.{◌≡◌, ℕ, sym, subst, ◌<◌, arith, false, ◌∙◌, refl}
+use Rattle.std.proofs.Common.{◌≡◌, ℕ, sym, subst, ◌<◌, ◌+◌, length, arith, false, ◌∙◌, refl}
 use Rattle.std.proofs.lemmas.Bool.Decides.{nat_tests}
 use Rattle.offset_allocator.specs.Named.{View, total_free, largest_free, free_sizes, is_full}
 use Rattle.offset_allocator.proofs.Sound.{shown, Fields, AreSound, fields_of, known_sound}
 use Rattle.offset_allocator.specs.Reports.{largest}
 use Rattle.offset_allocator.proofs.Counting.{largest_none, largest_some}
-use Rattle.offset_allocator.proofs.Refusals.{total_is}
+use Rattle.offset_allocator.proofs.Refusals.{is_open, total_is}
 use Rattle.offset_allocator.proofs.counted.storage_report_counted.Goals.{in-None, in-Some}
 use Rattle.offset_allocator.proofs.counted.storage_report_counted.Goals as goal
 
--- where two names are unused, the report is of the free blocks
-open_report : (it : Fields) → AreSound it → 1 < it.count → (r : ℕ) → r ≡ largest (free_sizes (shown it).blocks) → (it.free ≡ total_free (shown it)) × (r ≡ largest_free (shown it))
+-- where two names are left, the report is of the free blocks
+open_report : (it : Fields) → AreSound it → length (shown it).blocks + 1 < it.limit → (r : ℕ) → r ≡ largest (free_sizes (shown it).blocks) → (it.free ≡ total_free (shown it)) × (r ≡ largest_free (shown it))
 open_report it s room r e =
-    let short : is_full (shown it) ≡ false = let f = s.space.full in let n = s.nodes in grind (arith, nat_tests) in
+    let short : is_full (shown it) ≡ false = grind (arith, nat_tests) in
     (rw short (total_is it s 1 1), rw short e)
 
 pub returns-clause-report : goal.returns-clause-report
@@ -21,7 +21,7 @@ returns-clause-report g c =
     let s : AreSound f = c.allocator.invariant in
     let well = (known_sound f s (shown f) refl).0 in
     let P : View → Type 0 = λ u. (c.allocator.inside.free_total ≡ total_free u) × (c.match-largest.largest_free_region ≡ largest_free u) in
-    subst P c.allocator.view_is (open_report f s (omega arith) c.match-largest.largest_free_region (elim c.match-largest.branch [
+    subst P c.allocator.view_is (open_report f s (is_open f s 1 0 c.allocator.view_is c.names_left.ensures (omega arith)) c.match-largest.largest_free_region (elim c.match-largest.branch [
       | in-None w ↦ w.largest_free_region-is ∙ sym (largest_none (shown f) well w.in-None.ensures.largest)
       | in-Some w ↦ let l = largest_some (shown f) well w.in-Some.class w.in-Some.ensures.largest in omega (arith, l.0, l.1, total_is f s 1 1, w.largest_free_region-is, w.float_to_uint-largest_free_region.ensures.is)
     ]))
@@ -37,5 +37,5 @@ returns-clause-accesses_min g c l =
 pub returns-clause-accesses_max : goal.returns-clause-accesses_max
 returns-clause-accesses_max g c = grind (arith, common_steps)
 
-pub returns-then-allocator-lt2-clause-report : goal.returns-then-allocator-lt2-clause-report
-returns-then-allocator-lt2-clause-report g c = grind (arith, common_steps)
+pub returns-then-names_left-lt2-clause-report : goal.returns-then-names_left-lt2-clause-report
+returns-then-names_left-lt2-clause-report g c = grind (arith, common_steps)

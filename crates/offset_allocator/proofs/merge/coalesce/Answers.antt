@@ -70,6 +70,16 @@ exchange-requires-clause-listed g c =
 pub exchange-requires-clause-classed : goal.exchange-requires-clause-classed
 exchange-requires-clause-classed g c = let s = down_small c.match-free_after.gone.2 in omega (arith, s, c.uint_to_float_round_down-2.ensures.is)
 
+pub exchange-requires-clause-idle : goal.exchange-requires-clause-idle
+exchange-requires-clause-idle g c =
+    let h = c.requires.place.2 in
+    let used = λ (v : Node). v.used in
+    let idle = sym (ap used (at_place h)) ∙ c.requires.idle in
+    elim c.match-free_after.branch [
+      | in-Some w ↦ rw w.store-is (ap used (at_place (w.coalesce_after.ensures.place _ _ (w.with_before-size.ensures.place _ _ h))) ∙ idle)
+      | in_default+in-Some-free_before w ↦ rw w.store-is (ap used (at_place (w.coalesce_before.ensures.place _ _ _ h)) ∙ idle)
+    ]
+
 pub exchange-requires-clause-unlisted : goal.exchange-requires-clause-unlisted
 exchange-requires-clause-unlisted g c =
     let h = c.requires.place.2 in

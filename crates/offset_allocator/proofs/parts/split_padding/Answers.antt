@@ -1,5 +1,6 @@
 use Rattle.std.proofs.Common.{arith}
 use Rattle.offset_allocator.proofs.Pieces.{no_padding, some_part}
+use Rattle.offset_allocator.proofs.Places.{previous_idle}
 use Rattle.offset_allocator.proofs.Classes.{down_small}
 use Rattle.offset_allocator.proofs.parts.split_padding.Goals as goal
 
@@ -15,6 +16,9 @@ push-requires-clause-classed g c = omega (arith, down_small c.args.units, c.uint
 pub push-requires-clause-unlisted : goal.push-requires-clause-unlisted
 push-requires-clause-unlisted g c =
     rw c.split_before-front.ensures.links (c.requires.place.3 _ (c.split_before-front.ensures.fresh _ _ _ c.requires.place.2))
+
+pub push-requires-clause-idle : goal.push-requires-clause-idle
+push-requires-clause-idle g c = previous_idle c.split_before-front.result c.args.units c.requires.place.1.before (c.split_before-front.ensures.place _ _ _ c.requires.place.2)
 
 pub returns-clause-place : goal.returns-clause-place
 returns-clause-place g c m p h =

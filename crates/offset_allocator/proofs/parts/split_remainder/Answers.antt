@@ -1,7 +1,7 @@
 use Rattle.std.proofs.Common.{◌≡◌, ◌-◌, ap, arith}
 use Rattle.offset_allocator.specs.Cells.{Node}
 use Rattle.offset_allocator.proofs.Pieces.{no_remainder, some_part}
-use Rattle.offset_allocator.proofs.Places.{at_place, end_fits}
+use Rattle.offset_allocator.proofs.Places.{at_place, end_fits, next_idle}
 use Rattle.offset_allocator.proofs.Classes.{down_small}
 use Rattle.offset_allocator.proofs.parts.split_remainder.Goals as goal
 
@@ -19,6 +19,9 @@ push-requires-clause-classed g c = omega (arith, down_small c.args.left, c.uint_
 
 pub push-requires-clause-unlisted : goal.push-requires-clause-unlisted
 push-requires-clause-unlisted g c = rw c.split-rest.ensures.links (c.requires.place.3 _ (c.split-rest.ensures.fresh _ _ c.requires.place.2))
+
+pub push-requires-clause-idle : goal.push-requires-clause-idle
+push-requires-clause-idle g c = next_idle (c.split-rest.ensures.place _ _ c.requires.place.2)
 
 pub returns-clause-place : goal.returns-clause-place
 returns-clause-place g c m p h =

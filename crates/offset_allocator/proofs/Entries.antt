@@ -1,0 +1,163 @@
+-- Entries as a list of nodes.
+use Rattle.std.proofs.Common.{◌≡◌, ◌≢◌, ℕ, zero, suc, ◌-◌, [], ◌∷◌, ◌++◌, ◌<◌, ◌≤◌, Bool, true, false, List, length, map, set, get_or, refl, sym, ◌∙◌, ap, arith, eqb, eq-eqb, ne_eqb}
+use Rattle.std.proofs.lemmas.List.{get_or_past, length-map, length-set, map-set, map-append, set-get_or}
+use Rattle.std.specs.Vec.{with_item}
+use Rattle.std.proofs.Math.Seq.{map-set_same}
+use Rattle.offset_allocator.specs.Cells.{Cells, Node, blank, mark_of, node, put, AreShaped}
+use Rattle.offset_allocator.specs.View.{node_of, nodes_of, cells_of, AreEven}
+use Rattle.offset_allocator.specs.declared.entry.Node.{Node as Entry}
+use Rattle.offset_allocator.specs.declared.tables.Tables.TheInside.{Inside}
+
+pub marked : (max : ℕ) (used : Bool) → 1 ≤ max → eqb (mark_of max used) (max - 1) ≡ used
+marked max true l = eq-eqb (max - 1) (max - 1) refl
+marked max false l = ne_eqb max (max - 1) (λ e. omega (arith, e, l))
+
+module _ {A : Type 0} (max : ℕ) (number : A → ℕ) where
+  pub length-nodes_of : (ns : List (Entry A)) → length (nodes_of max number ns) ≡ length ns
+  unfolding nodes_of
+  length-nodes_of ns = length-map ns (node_of max number)
+
+  -- the node of an entry
+  entry_at : (ns : List (Entry A)) (x : ℕ) (n : Entry A) → x < length ns → n ≡ get_or ns x n → get_or (nodes_of max number ns) x blank ≡ node_of max number n
+  unfolding nodes_of
+  entry_at [] x n l e = absurd (omega (arith, l))
+  entry_at (a ∷ ns) zero n l e = ap (node_of max number) (sym e)
+  entry_at (a ∷ ns) (suc x) n l e = entry_at ns x n (omega (arith, l)) e
+
+  flag_at : (ns : List (Entry A)) (x : ℕ) → x < length ns → (get_or (nodes_of max number ns) x blank).used ≡ eqb (get_or (map (λ n. number n.newer) ns) x 0) (max - 1)
+  unfolding nodes_of
+  flag_at [] x l = absurd (omega (arith, l))
+  flag_at (a ∷ ns) zero l = refl
+  flag_at (a ∷ ns) (suc x) l = flag_at ns x (omega (arith, l))
+
+  entry_set : (ns : List (Entry A)) (x : ℕ) (m : Entry A) → nodes_of max number (set ns x m) ≡ set (nodes_of max number ns) x (node_of max number m)
+  unfolding nodes_of
+  entry_set ns x m = map-set (node_of max number) ns x m
+
+  pub entry_added : (ns : List (Entry A)) (m : Entry A) → nodes_of max number (ns ++ m ∷ []) ≡ nodes_of max number ns ++ node_of max number m ∷ []
+  unfolding nodes_of
+  entry_added ns m = map-append (node_of max number) ns (m ∷ [])
+
+  pub first_node : (ns ms : List (Entry A)) (m : Entry A) → ms ≡ [] → ns ≡ ms ++ m ∷ [] → node_of max number m ≡ blank → nodes_of max number ns ≡ blank ∷ []
+  unfolding nodes_of
+  first_node ns ms m none e b = rw (e, none) (ap (λ (n : Node). n ∷ []) b)
+
+module _ {A B : Type 0} (max : ℕ) (number : A → ℕ) (t : Inside A B) {c : Cells} (e : cells_of max number t ≡ c) where
+  abbrev ns : List (Entry A)
+  ns = t.nodes.items
+
+  -- the cells with other entries
+  abbrev seen : List (Entry A) → Cells
+  seen ns = record (cells_of max number t) {
+    room = record (cells_of max number t).room { nodes = nodes_of max number ns };
+    links = record (cells_of max number t).links { newer = map (λ n. number n.newer) ns; older = map (λ n. number n.older) ns };
+  }
+
+  -- a name below the number of nodes is below the table's length
+  pub within : (x : ℕ) → x < length c.room.nodes → x < length ns
+  within x l = omega (arith, l, ap (λ (v : Cells). length v.room.nodes) e, length-nodes_of max number ns)
+
+  pub within-links : (x : ℕ) → x < length c.links.newer → x < length ns
+  within-links x l = omega (arith, l, ap (λ (v : Cells). length v.links.newer) e, length-map ns (λ (k : Entry A). number k.newer))
+
+  pub read : (x : ℕ) (n : Entry A) → x < length c.room.nodes → n ≡ get_or ns x n → node c.room x ≡ node_of max number n
+  unfolding node
+  read x n l at = rw (← e) (entry_at max number ns x n (within x l) at)
+
+  -- past the table no node is used
+  pub read_past : (x : ℕ) → length ns ≤ x → (node c.room x).used ≡ false
+  unfolding node
+  read_past x l = rw (← e) (ap (λ (v : Node). v.used) (get_or_past (nodes_of max number ns) x blank (omega (arith, l, length-nodes_of max number ns))))
+
+  -- an entry written in what the chain of blocks sees: f is the change of the node
+  pub wrote-room : (x : ℕ) (n m : Entry A) (f : Node → Node) → x < length c.room.nodes → n ≡ get_or ns x n → node_of max number m ≡ f (node_of max number n) → number m.newer ≡ number n.newer → number m.older ≡ number n.older
+      → seen (set ns x m) ≡ record c { room = put c.room x (f (node c.room x)) }
+  unfolding node put
+  wrote-room x n m f l at q newer older =
+      let was = entry_at max number ns x n (within x l) at in
+      let nodes = entry_set max number ns x m ∙ ap (set (nodes_of max number ns) x) (q ∙ ap f (sym was)) in
+      let same_newer = map-set_same (λ (k : Entry A). number k.newer) ns x m n (newer ∙ ap (λ (k : Entry A). number k.newer) at) in
+      let same_older = map-set_same (λ (k : Entry A). number k.older) ns x m n (older ∙ ap (λ (k : Entry A). number k.older) at) in
+      rw (← e) (rw (nodes, same_newer, same_older) refl)
+
+  -- the use of a node written
+  pub wrote-used : (x : ℕ) (n : Entry A) (link : A) (used : Bool) → 1 ≤ max → x < length c.room.nodes → n ≡ get_or ns x n → number link ≡ mark_of max used
+      → seen (set ns x (record n { newer = link })) ≡ record c { room = put c.room x (record (node c.room x) { used = used }); links = record c.links { newer = set c.links.newer x (mark_of max used) } }
+  unfolding node put
+  wrote-used x n link used some l at q =
+      let m : Entry A = record n { newer = link } in
+      let was = entry_at max number ns x n (within x l) at in
+      let flag : eqb (number link) (max - 1) ≡ used = ap (λ i. eqb i (max - 1)) q ∙ marked max used some in
+      let is : node_of max number m ≡ record (get_or (nodes_of max number ns) x blank) { used = used } = ap (λ (u : Bool). record (node_of max number n) { used = u }) flag ∙ ap (λ (v : Node). record v { used = used }) (sym was) in
+      let nodes = entry_set max number ns x m ∙ ap (set (nodes_of max number ns) x) is in
+      let newer = map-set (λ (k : Entry A). number k.newer) ns x m ∙ ap (set (map (λ (k : Entry A). number k.newer) ns) x) q in
+      let older = map-set_same (λ (k : Entry A). number k.older) ns x m n (ap (λ (k : Entry A). number k.older) at) in
+      rw (← e) (rw (nodes, newer, older) refl)
+
+  -- the chain of blocks sees an entry's class links only where they say whether it is used
+  kept : (x : ℕ) (n m : Entry A) → x < length ns → n ≡ get_or ns x n → node_of max number m ≡ node_of max number n → nodes_of max number (set ns x m) ≡ nodes_of max number ns
+  kept x n m l at q =
+      let was = entry_at max number ns x n l at in
+      entry_set max number ns x m ∙ ap (set (nodes_of max number ns) x) (q ∙ sym was) ∙ set-get_or (nodes_of max number ns) x blank
+
+  -- a link that is no mark, of a node that is not used
+  idle_still : (x : ℕ) (n : Entry A) (link : A) → x < length ns → n ≡ get_or ns x n → (node c.room x).used ≡ false → number link ≢ max - 1 → eqb (number link) (max - 1) ≡ eqb (number n.newer) (max - 1)
+  unfolding node
+  idle_still x n link l at idle ne = ne_eqb _ _ ne ∙ sym (ap (λ (v : Node). v.used) (sym (entry_at max number ns x n l at) ∙ ap (λ (v : Cells). get_or v.room.nodes x blank) e) ∙ idle)
+
+  pub wrote-newer : (x : ℕ) (n : Entry A) (link : A) → x < length c.links.newer → n ≡ get_or ns x n → (node c.room x).used ≡ false → number link ≢ max - 1
+      → seen (set ns x (record n { newer = link })) ≡ record c { links = record c.links { newer = set c.links.newer x (number link) } }
+  wrote-newer x n link l at idle ne =
+      let short = within-links x l in
+      let m : Entry A = record n { newer = link } in
+      let nodes = kept x n m short at (ap (λ (u : Bool). record (node_of max number n) { used = u }) (idle_still x n link short at idle ne)) in
+      let newer = map-set (λ (k : Entry A). number k.newer) ns x m in
+      let older = map-set_same (λ (k : Entry A). number k.older) ns x m n (ap (λ (k : Entry A). number k.older) at) in
+      rw (← e) (rw (nodes, newer, older) refl)
+
+  pub wrote-older : (x : ℕ) (n : Entry A) (link : A) → x < length c.links.older → n ≡ get_or ns x n → seen (set ns x (record n { older = link })) ≡ record c { links = record c.links { older = set c.links.older x (number link) } }
+  wrote-older x n link l at =
+      let short : x < length ns = omega (arith, l, ap (λ (v : Cells). length v.links.older) e, length-map ns (λ (k : Entry A). number k.older)) in
+      let m : Entry A = record n { older = link } in
+      let nodes = kept x n m short at refl in
+      let newer = map-set_same (λ (k : Entry A). number k.newer) ns x m n (ap (λ (k : Entry A). number k.newer) at) in
+      let older = map-set (λ (k : Entry A). number k.older) ns x m in
+      rw (← e) (rw (nodes, newer, older) refl)
+
+  pub wrote-links : (x : ℕ) (n : Entry A) (newer older : A) → x < length c.links.newer → n ≡ get_or ns x n → (node c.room x).used ≡ false → number newer ≢ max - 1
+      → seen (set ns x (record n { newer = newer; older = older })) ≡ record c { links = record c.links { newer = set c.links.newer x (number newer); older = set c.links.older x (number older) } }
+  wrote-links x n newer older l at idle ne =
+      let short = within-links x l in
+      let m : Entry A = record n { newer = newer; older = older } in
+      let nodes = kept x n m short at (ap (λ (u : Bool). record (node_of max number n) { used = u }) (idle_still x n newer short at idle ne)) in
+      rw (← e) (rw (nodes, map-set (λ (k : Entry A). number k.newer) ns x m, map-set (λ (k : Entry A). number k.older) ns x m) refl)
+
+pub shaped : {A B : Type 0} (max : ℕ) (number : A → ℕ) (t : Inside A B) → AreEven max t → max ≤ 4294967295 → AreShaped max (cells_of max number t)
+unfolding node
+shaped max number t h w =
+    let n = length-nodes_of max number t.nodes.items in
+    record {
+      spare = length-map t.spare.items number ∙ h.spare ∙ sym n;
+      newer = length-map t.nodes.items (λ k. number k.newer) ∙ sym n;
+      older = length-map t.nodes.items (λ k. number k.older) ∙ sym n;
+      heads = h.heads;
+      masks = h.masks;
+      within = rw n h.within;
+      limit = h.limit;
+      word = w;
+      flags = λ x l. flag_at max number t.nodes.items x (omega (arith, l, n));
+    }
+
+-- a name below the number of nodes is below the table's length
+pub ruleset cells = (length-nodes_of, within, within-links)
+
+-- an entry written keeps the lengths
+pub even_set : {A B : Type 0} (max : ℕ) (t : Inside A B) → AreEven max t → (x : ℕ) (m : Entry A) → AreEven max (record t { nodes = with_item t.nodes x m })
+even_set max t h x m = let l = length-set t.nodes.items x m in record {
+  spare = h.spare ∙ sym l;
+  heads = h.heads;
+  masks = h.masks;
+  within = rw l h.within;
+  memory = h.memory;
+  limit = h.limit;
+}

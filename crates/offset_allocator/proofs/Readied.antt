@@ -1,0 +1,115 @@
+-- Nodes that are made before names are taken.
+use Rattle.std.proofs.Common.{◌≡◌, ◌<◌, ◌≤◌, ◌+◌, ℕ, zero, suc, List, [], ◌∷◌, ◌++◌, None, refl, sym, ap, ◌∙◌, inl, inr, arith, length, length-append, length-set, get_or, take, set}
+use Rattle.std.proofs.lemmas.Bool.{cases_eq}
+use Rattle.std.proofs.lemmas.Bool.Decides.{nat_tests}
+use Rattle.std.proofs.lemmas.List.{take_more_set}
+use Rattle.offset_allocator.specs.Cells.{Cells, Room, Node, blank, node, with_node, AreShaped}
+use Rattle.offset_allocator.specs.Named.{Block, times}
+use Rattle.offset_allocator.specs.Readies.{Readies}
+use Rattle.offset_allocator.specs.Space.{IsChain, spares, blocks}
+use Rattle.offset_allocator.proofs.Rows.{IsRow-kept}
+use Rattle.offset_allocator.proofs.Sound.{Fields, AreSound, shown}
+use Rattle.offset_allocator.proofs.Tallies.{one-eq, one-other, times-join}
+use Rattle.offset_allocator.proofs.Uses.{binned_more}
+use Rattle.offset_allocator.proofs.Views.{blocks-chain, space-chain}
+
+-- a blank node at the end is what stands for a node that is not made
+blank_at : (ns : List Node) (x : ℕ) → get_or (ns ++ blank ∷ []) x blank ≡ get_or ns x blank
+blank_at [] zero = refl
+blank_at [] (suc x) = refl
+blank_at (n ∷ ns) zero = refl
+blank_at (n ∷ ns) (suc x) = blank_at ns x
+
+module _ (c : Room) (i : ℕ) where
+  node-with_node : (x : ℕ) → node (with_node c i) x ≡ node c x
+  unfolding node with_node
+  node-with_node x = blank_at c.nodes x
+
+  length-with_node : length (with_node c i).nodes ≡ length c.nodes + 1
+  unfolding with_node
+  length-with_node = length-append c.nodes (blank ∷ [])
+
+  reserved-with_node : (with_node c i).reserved ≡ c.reserved
+  unfolding with_node
+  reserved-with_node = refl
+
+  spare-with_node : (with_node c i).spare ≡ set (c.spare ++ length c.nodes ∷ []) i (length c.nodes)
+  unfolding with_node
+  spare-with_node = refl
+
+take_left : (l : List ℕ) (v i : ℕ) → i ≤ length l → take i (l ++ v ∷ []) ≡ take i l
+take_left l v zero h = refl
+take_left [] v (suc i) h = absurd (omega (arith, h))
+take_left (x ∷ l) v (suc i) h = ap (λ (k : List ℕ). x ∷ k) (take_left l v i (omega (arith, h)))
+
+-- the names on the stack then
+names-with_node : (c : Room) (i k : ℕ) → i ≤ length c.spare → times k (spares (with_node c i) (i + 1)) ≡ times k (spares c i) + times k (length c.nodes ∷ [])
+unfolding spares
+names-with_node c i k h =
+    let l : List ℕ = c.spare ++ length c.nodes ∷ [] in
+    ap (λ s. times k (take (i + 1) s)) (spare-with_node c i) ∙ ap (times k) (take_more_set l i (length c.nodes) (omega (arith, h, length-append c.spare (length c.nodes ∷ []))))
+    ∙ times-join k (take i l) (length c.nodes ∷ []) ∙ ap (λ s. times k s + times k (length c.nodes ∷ [])) (take_left c.spare (length c.nodes) i h)
+
+pub chain_more : {c d : Room} {m last count : ℕ} {bs : List Block} → IsChain c m last count bs → d ≡ with_node c count → length c.nodes < m → IsChain d m last (count + 1) bs
+chain_more {c} {d} {m} {last} {count} {bs} h e room =
+    let at : (k : ℕ) → node d k ≡ node c k = λ k. rw e (node-with_node c count k) in
+    let long : length d.nodes ≡ length c.nodes + 1 = rw e (length-with_node c count) in
+    let spare : length d.spare ≡ length c.spare + 1 = rw (e, spare-with_node) (length-set (c.spare ++ length c.nodes ∷ []) count (length c.nodes) ∙ length-append c.spare (length c.nodes ∷ [])) in
+    let few = h.full in
+    record {
+      memory = rw e (reserved-with_node c count) ∙ h.memory;
+      within = omega (arith, long, room);
+      stack = omega (arith, spare, long, h.stack);
+      row = IsRow-kept c d None 0 bs None (λ k l. at k) h.row;
+      ends = h.ends;
+      each = λ k.
+          let names = ap (λ (r : Room). times k (spares r (count + 1))) e ∙ names-with_node c count k (omega (arith, few, h.stack)) in
+          rw long (elim (cases_eq k (length c.nodes)) [
+            | inl q ↦ grind (arith, nat_tests, names, h.each k, one-eq k (length c.nodes) (sym q), q)
+            | inr n ↦ grind (arith, nat_tests, names, h.each k, one-other k (length c.nodes) n, n)
+          ]);
+      idle = λ k gone. ap (λ (n : Node). n.used) (at k) ∙ h.idle k gone;
+      full = omega (arith, long, h.full);
+      fits = h.fits;
+    }
+
+-- there is memory for one more node where fewer names are unused than there are left
+pub has_memory : {c : Room} {m last count names : ℕ} {bs : List Block} → IsChain c m last count bs → length bs + names ≤ m → count < names → length c.nodes < m
+has_memory h l few = omega (arith, h.full, l, few)
+
+-- one node was made
+pub readied : {max count : ℕ} {c d : Cells} → AreShaped max c → length c.room.nodes < c.room.reserved → d.room ≡ with_node c.room count → d.links.newer ≡ c.links.newer ++ max ∷ [] → d.links.older ≡ c.links.older ++ max ∷ [] → d.links.heads ≡ c.links.heads → d.links.masks ≡ c.links.masks
+    → Readies max c d count (count + 1)
+readied {max} {count} {c} {d} s room e newer older heads masks = record {
+  chain = λ m last bs h. chain_more h e (omega (arith, room, h.memory));
+  node = λ x. rw e (node-with_node c.room count x);
+  bins = λ top b. binned_more max max b (omega (arith, s.newer, s.within, s.limit)) newer older heads masks;
+}
+
+pub not_readied : {max count : ℕ} {c : Cells} → Readies max c c count count
+not_readied = record { chain = λ m last bs h. h; node = λ x. refl; bins = λ top b. (b, refl) }
+
+pub readied_twice : {max count count' count'' : ℕ} {c d e : Cells} → Readies max c d count count' → Readies max d e count' count'' → Readies max c e count count''
+readied_twice a b = record { chain = λ m last bs h. b.chain m last bs (a.chain m last bs h); node = λ x. b.node x ∙ a.node x; bins = λ top h. let x = a.bins top h in let y = b.bins top x.0 in (y.0, y.1 ∙ x.1) }
+
+-- the fields then
+abbrev pub with_made : Fields → Cells → ℕ → Fields
+with_made f d count = record f { cells = d; count = count }
+
+-- they are sound still, and contracts see the same
+module _ (f : Fields) (s : AreSound f) {d : Cells} {count : ℕ} (r : Readies f.max f.cells d f.count count) where
+  same_blocks : blocks d.room f.last ≡ blocks f.cells.room f.last
+  same_blocks = blocks-chain d.room _ f.last count _ (r.chain _ _ _ s.space)
+
+  pub made_shown : shown (with_made f d count) ≡ shown f
+  made_shown = rw (same_blocks, (r.bins _ s.bins).1) refl
+
+  pub made : AreSound (with_made f d count)
+  made = record {
+    memory = (r.chain _ _ _ s.space).memory ∙ s.memory;
+    admitted = s.admitted;
+    space = space-chain d.room _ f.last count _ (r.chain _ _ _ s.space);
+    bins = (r.bins _ s.bins).0;
+    well = rw (same_blocks, (r.bins _ s.bins).1) s.well;
+    total = rw same_blocks s.total;
+  }
