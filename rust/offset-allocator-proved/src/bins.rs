@@ -44,7 +44,7 @@ pub(crate) fn largest<NI: NodeIndex>(
 /// The number of the names of a class.
 pub(crate) fn length_of<NI: NodeIndex>(tables: &Tables<NI>, class: u32, count: &mut Accesses) -> u32 {
     let mut names = 0;
-    let mut name = number(tables.head(class, count));
+    let mut name = tables.head(class, count);
     while name != NI::MAX {
         names += 1;
         name = number(tables.older(name, count));
@@ -63,10 +63,9 @@ pub(crate) fn push<NI: NodeIndex>(
 ) {
     tables.shape();
     let link = link_to(name);
-    let first = tables.head(class, count);
-    tables.set_head(class, link, count);
-    tables.set_links(name, no_link(), first, count);
-    let newest = number(first);
+    let newest = tables.head(class, count);
+    tables.set_head(class, name, count);
+    tables.set_links(name, no_link(), NI::from_u32(newest), count);
     if newest == NI::MAX {
         let word = class / 64;
         let mask = tables.mask(word, count);
@@ -108,11 +107,13 @@ fn behead<NI: NodeIndex>(
     after: NI,
     count: &mut Accesses,
 ) {
-    tables.set_head(class, after, count);
-    if number(after) == NI::MAX {
+    tables.shape();
+    let next = number(after);
+    tables.set_head(class, next, count);
+    if next == NI::MAX {
         clear_class(tables, top_mask, class, count);
     } else {
-        tables.set_newer(number(after), no_link(), count);
+        tables.set_newer(next, no_link(), count);
     }
 }
 
@@ -126,6 +127,7 @@ fn leave<NI: NodeIndex>(
     size: u32,
     count: &mut Accesses,
 ) {
+    tables.shape();
     let after = tables.older(name, count);
     if number(before) == NI::MAX {
         // only the newest name has to find its class
@@ -172,10 +174,9 @@ pub(crate) fn exchange<NI: NodeIndex>(
     if number(before) == NI::MAX && class == uint_to_float_round_down(size) {
         // the bin is empty neither before nor after, so the masks stay
         let after = tables.older(gone, count);
-        let newest = link_to(name);
-        tables.set_head(class, newest, count);
+        tables.set_head(class, name, count);
         tables.set_links(name, no_link(), after, count);
-        link_newer(tables, after, newest, count);
+        link_newer(tables, after, link_to(name), count);
     } else {
         leave(tables, top_mask, gone, before, size, count);
         push(tables, top_mask, name, class, count);
@@ -189,7 +190,7 @@ pub(crate) fn pop<NI: NodeIndex>(
     class: u32,
     count: &mut Accesses,
 ) -> u32 {
-    let name = number(tables.head(class, count));
+    let name = tables.head(class, count);
     let after = tables.older(name, count);
     behead(tables, top_mask, class, after, count);
     name
@@ -201,14 +202,15 @@ pub(crate) fn start<NI: NodeIndex>(tables: &Tables<NI>) -> u32 {
     0
 }
 
-/// Removes all names from all bins, by one write for each.
+/// Removes all names from all bins, whatever these hold, by one write for each.
 pub(crate) fn empty<NI: NodeIndex>(
     tables: &mut Tables<NI>,
     top_mask: &mut u32,
     count: &mut Accesses,
 ) {
+    tables.shape();
     for class in 0..256 {
-        tables.set_head(class, no_link(), count);
+        tables.set_head(class, NI::MAX, count);
     }
     for word in 0..4 {
         tables.set_mask(word, 0, count);

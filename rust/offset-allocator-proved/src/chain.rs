@@ -7,7 +7,7 @@ use crate::index::{NodeIndex, link_to, linked, no_link, number};
 use crate::links::{point_back, point_on};
 use crate::tables::Tables;
 
-/// Makes the whole space one free block, under the last name, in tables with no used node.
+/// Makes the whole space one free block, under the name of the only node.
 pub(crate) fn start<NI: NodeIndex>(
     tables: &mut Tables<NI>,
     size: u32,
@@ -15,18 +15,7 @@ pub(crate) fn start<NI: NodeIndex>(
     count: &mut Accesses,
 ) {
     tables.shape();
-    tables.set_block(max_allocs - 1, 0, size, no_link(), no_link(), count);
-}
-
-/// Makes the whole space one free block, under the last name, in tables with any blocks.
-pub(crate) fn restart<NI: NodeIndex>(
-    tables: &mut Tables<NI>,
-    size: u32,
-    max_allocs: u32,
-    count: &mut Accesses,
-) {
-    tables.clear();
-    start(tables, size, max_allocs, count);
+    tables.set_block(0, 0, size, no_link(), no_link(), count);
 }
 
 /// The offset of a block.
@@ -39,9 +28,19 @@ pub(crate) fn size<NI: NodeIndex>(tables: &Tables<NI>, name: u32, count: &mut Ac
     tables.size(name, count)
 }
 
-/// Whether a name is that of a used block.
+/// Whether a block is used.
 pub(crate) fn is_used<NI: NodeIndex>(tables: &Tables<NI>, name: u32, count: &mut Accesses) -> bool {
     tables.used(name, count)
+}
+
+/// Whether any name is that of a used block. It counts one access for a name that no node has, too.
+pub(crate) fn is_live<NI: NodeIndex>(tables: &Tables<NI>, name: u32, count: &mut Accesses) -> bool {
+    if name < tables.len() {
+        is_used(tables, name, count)
+    } else {
+        count.tick();
+        false
+    }
 }
 
 /// The name of the block directly before a block, if there is one.
@@ -60,6 +59,35 @@ pub(crate) fn after<NI: NodeIndex>(
     count: &mut Accesses,
 ) -> Option<u32> {
     linked(tables.after(name, count))
+}
+
+/// Makes a node where fewer than this number of names are unused; one is lacking at most.
+#[inline(always)]
+pub(crate) fn ready<NI: NodeIndex>(
+    tables: &mut Tables<NI>,
+    spare_count: &mut u32,
+    names: u32,
+    count: &mut Accesses,
+) {
+    tables.shape();
+    if *spare_count < names {
+        tables.add(*spare_count, count);
+        *spare_count += 1;
+    }
+}
+
+/// Makes nodes, so that at least 1 or 2 names are unused.
+#[inline(always)]
+pub(crate) fn ready_for<NI: NodeIndex>(
+    tables: &mut Tables<NI>,
+    spare_count: &mut u32,
+    names: u32,
+    count: &mut Accesses,
+) {
+    ready(tables, spare_count, 1, count);
+    if names > 1 {
+        ready(tables, spare_count, names, count);
+    }
 }
 
 /// Splits a block, of this offset and size, after `kept` units. The remainder becomes a free block directly after it,
@@ -123,7 +151,7 @@ pub(crate) fn coalesce_before<NI: NodeIndex>(
     *spare_count += 1;
 }
 
-/// Makes a block used or free.
+/// Makes a block, which is in no bin, used or free.
 pub(crate) fn mark<NI: NodeIndex>(
     tables: &mut Tables<NI>,
     name: u32,

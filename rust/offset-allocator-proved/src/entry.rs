@@ -1,14 +1,12 @@
 // Printed by rust/erase from crates/offset_allocator/src/entry.rt: change it there.
 
-//! The node of a block, and the table of nodes as it is made.
+//! The node of a block.
 
-use crate::memory::Vec;
-use crate::fills::filled;
 use crate::index::{NodeIndex, no_link};
-use crate::memory::AllocError;
 
 /// A block's offset and size, the links to its neighbours in space, and the links to the next nodes of its size class.
-/// A link is the number of a node, or the largest number of its type, which names none.
+/// A link is the number of a node, or the largest number of its type, which names none. A used block is in no class:
+/// its link to a newer node is the number below the largest, which names none either.
 #[derive(Clone, Copy)]
 pub(crate) struct Node<NI> {
     pub(crate) offset: u32,
@@ -19,21 +17,20 @@ pub(crate) struct Node<NI> {
     pub(crate) older: NI,
 }
 
-/// A reserved table of nodes, filled. With links of 16 or 32 bits each bit of a node is one, as in no link, so that the
-/// table is written as one run of bytes. This is a separate function because the compiler does not see that inside
-/// `with_len`.
-pub(crate) fn blank_nodes<NI: NodeIndex>(
-    nodes: Vec<Node<NI>>,
-    count: usize,
-) -> Result<Vec<Node<NI>>, AllocError> {
+/// The node of a block of no units that is linked to none.
+pub(crate) fn blank<NI: NodeIndex>() -> Node<NI> {
     let none = no_link::<NI>();
-    let node = Node {
-        offset: u32::MAX,
-        size: u32::MAX,
+    Node {
+        offset: 0,
+        size: 0,
         before: none,
         after: none,
         newer: none,
         older: none,
-    };
-    filled(nodes, node, count)
+    }
+}
+
+/// What the link to a newer node is of a used block, and of one that is in no class.
+pub(crate) fn mark<NI: NodeIndex>(used: bool) -> NI {
+    NI::from_u32(if used { NI::MAX - 1 } else { NI::MAX })
 }

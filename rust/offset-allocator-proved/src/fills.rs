@@ -1,14 +1,13 @@
 // Printed by rust/erase from crates/offset_allocator/src/fills.rt: change it there.
 
-//! Requests and fills tables: all are reserved before any is filled.
+//! Requests the memory of tables, and fills it within its bounds.
 
 use crate::memory::Vec;
 use crate::index::NodeIndex;
 use crate::memory::{AllocError, Global};
 
-// The bytes of all tables for this many nodes: of each node its offset, its size, its use flag, four links and an entry
-// of the stack, and of each class a link. A link is taken to have the bytes that its numbers need, as those of `u16`
-// and `u32` have.
+// The bytes that the tables of this many nodes reserve: of each node its offset, its size, four links and an entry of
+// the stack. A link is taken to have the bytes that its numbers need, as those of `u16` and `u32` have.
 fn table_bytes<NI: NodeIndex>(nodes: u32) -> usize {
     let link: usize = if NI::MAX < 256 {
         1
@@ -17,11 +16,11 @@ fn table_bytes<NI: NodeIndex>(nodes: u32) -> usize {
     } else {
         4
     };
-    (9 + 5 * link) * nodes as usize + 256 * link
+    (8 + 5 * link) * nodes as usize
 }
 
 /// Requests the bytes of all tables at once, and gives them back at once. A system that promises more memory than it
-/// has would grant each table, and end the program when they are filled; this one request it refuses.
+/// has would grant each table, and end the program when they are written; this one request it refuses.
 pub(crate) fn probe<NI: NodeIndex>(alloc: Global, nodes: u32) -> Result<(), AllocError> {
     let _all: Vec<u8> = reserved(alloc, table_bytes::<NI>(nodes))?;
     Ok(())
@@ -32,44 +31,8 @@ pub(crate) fn reserved<T>(alloc: Global, length: usize) -> Result<Vec<T>, AllocE
     Vec::with_capacity(alloc, length)
 }
 
-/// A reserved table, filled with one value.
-#[inline(always)]
-pub(crate) fn filled<T: Copy>(
-    mut values: Vec<T>,
-    value: T,
-    length: usize,
-) -> Result<Vec<T>, AllocError> {
-    values.resize(length, value)?;
-    Ok(values)
-}
-
-// Writes one value over a slice.
-fn fill_cells<T: Copy>(cells: &mut [T], value: T) {
-    for i in 0..cells.len() {
-        cells[i] = value;
-    }
-}
-
-/// Writes one value over a whole table. It goes through a slice, where no write can move the table, so that the
-/// compiler uses wide stores.
-pub(crate) fn fill<T: Copy>(values: &mut Vec<T>, value: T) {
-    fill_cells(values, value);
-}
-
-// Writes the numbers below the length over a slice, in order.
-fn renumber_cells<NI: NodeIndex>(cells: &mut [NI]) {
-    for i in 0..cells.len() {
-        cells[i] = NI::from_u32(i as u32);
-    }
-}
-
-/// Writes the numbers below the length over a table, in order.
-pub(crate) fn renumber<NI: NodeIndex>(values: &mut Vec<NI>) {
-    renumber_cells(values);
-}
-
-/// A reserved table, filled with the numbers below `len`, in order, each written once.
-pub(crate) fn rising<NI: NodeIndex>(mut values: Vec<NI>, len: u32) -> Result<Vec<NI>, AllocError> {
-    values.extend((0..len).map(|i| NI::from_u32(i)))?;
-    Ok(values)
+/// Adds a value at the end of a table that has room for it. `insert`, unlike `push`, promises that the memory stays
+/// the same.
+pub(crate) fn push_within<T: Copy>(values: &mut Vec<T>, value: T) {
+    let _ = values.insert(values.len(), value);
 }

@@ -90,7 +90,8 @@ impl<NI: NodeIndex> Allocator<NI> {
     /// A space of `size` units, all free, with `max_allocs` as the node limit: at most `max_allocs - 1` blocks exist at
     /// a time, free ones included. A request is granted only while at most `max_allocs - 2` exist, and makes one of
     /// them live: so at most `max_allocs - 2` grants are live. The limit is 2 to `NI::MAX - 2`: 65533 for `u16`,
-    /// 4294967293 for `u32`. It costs 29 bytes a node with `u32`, 19 with `u16`, and this call writes them all.
+    /// 4294967293 for `u32`. It reserves 28 bytes a node with `u32`, 18 with `u16`, all of them here; those of a node are
+    /// written when its name is used for the first time.
     ///
     /// An error is returned only where an allocation failed; then nothing is made.
     pub fn with_max_allocs(alloc: Global, size: u32, max_allocs: u32) -> Result<Self, AllocError> {
@@ -108,8 +109,8 @@ impl<NI: NodeIndex> Allocator<NI> {
             store: Store {
                 tables,
                 top_mask,
-                last: max_allocs - 1,
-                spare_count: max_allocs - 1,
+                last: 0,
+                spare_count: 0,
                 accesses: Accesses::new(),
             },
         })
@@ -117,12 +118,13 @@ impl<NI: NodeIndex> Allocator<NI> {
 
     /// Makes the whole space one free block again, in place. No earlier handle is live then.
     ///
-    /// It takes no memory and always succeeds, and the space keeps what `extend` added. If fewer than `max_allocs /
-    /// 128` blocks exist, it frees each live range; otherwise it clears all use flags, empties the bins and refills the
-    /// stack of unused names: 5 bytes a node with `u32`, 3 with `u16`.
+    /// It takes no memory and always succeeds, and the space keeps what `extend` added. If at most 5 blocks exist, it
+    /// frees each live range; otherwise it forgets all nodes and empties the bins: about 1 KB is written, whatever the
+    /// node limit.
     pub fn reset(&mut self) {
-        // freeing a range takes about as long as going over 128 nodes
-        if self.block_count() < self.max_allocs / 128 {
+        self.formed();
+        // freeing five blocks takes about as long as emptying the bins
+        if self.block_count() <= 5 {
             self.free_all();
         } else {
             self.clear();
@@ -141,7 +143,7 @@ impl<NI: NodeIndex> Allocator<NI> {
 
     /// The number of blocks, used and free.
     pub fn block_count(&self) -> u32 {
-        self.max_allocs - self.store.spare_count
+        self.store.tables.len() - self.store.spare_count
     }
 
     /// Whether `max_allocs - 1` blocks exist. Then every request is refused, and the short report is 0, 0, until blocks
@@ -254,6 +256,7 @@ impl<NI: NodeIndex> Allocator<NI> {
     /// no further block may exist; then nothing changes. With 0 units it is `true`. It makes at most 128 accesses to
     /// the tables, and takes no memory.
     pub fn extend(&mut self, more: u32) -> bool {
+        let left = self.names_left();
         if more == 0 {
             return true;
         }
@@ -269,7 +272,7 @@ impl<NI: NodeIndex> Allocator<NI> {
             self.widen(more);
             return true;
         }
-        if self.store.spare_count < 2 {
+        if left < 2 {
             return false;
         }
         self.append(more);

@@ -23,13 +23,7 @@ pub(crate) fn start<NI: NodeIndex>(
     max_allocs: u32,
     count: &mut Accesses,
 ) {
-    bins::push(
-        tables,
-        top_mask,
-        max_allocs - 1,
-        uint_to_float_round_down(size),
-        count,
-    );
+    bins::push(tables, top_mask, 0, uint_to_float_round_down(size), count);
 }
 
 impl<NI: NodeIndex> Allocator<NI> {
@@ -51,17 +45,20 @@ impl<NI: NodeIndex> Allocator<NI> {
         }
     }
 
-    /// Starts the blocks and the bins anew, each in place.
+    /// Starts the blocks and the bins anew, each in place. It is out of line, so that `reset` stays small where it is
+    /// inlined.
+    #[inline(never)]
     pub(crate) fn clear(&mut self) {
-        chain::restart(
-            &mut self.store.tables,
-            self.size,
-            self.max_allocs,
-            &mut self.store.accesses,
-        );
+        self.store.tables.clear();
         bins::empty(
             &mut self.store.tables,
             &mut self.store.top_mask,
+            &mut self.store.accesses,
+        );
+        chain::start(
+            &mut self.store.tables,
+            self.size,
+            self.max_allocs,
             &mut self.store.accesses,
         );
         start(
@@ -72,13 +69,24 @@ impl<NI: NodeIndex> Allocator<NI> {
             &mut self.store.accesses,
         );
         self.free_total = self.size;
-        self.store.spare_count = self.max_allocs - 1;
-        self.store.last = self.max_allocs - 1;
+        self.store.spare_count = 0;
+        self.store.last = 0;
+    }
+
+    /// How many names no block has: of nodes that were made, and of those that may still be.
+    pub(crate) fn names_left(&self) -> u32 {
+        self.max_allocs - self.block_count()
     }
 
     /// Grants `size` units of the newest block of a class, beginning at the first multiple of `align` in that block.
     #[inline(always)]
     pub(crate) fn grant(&mut self, class: u32, size: u32, align: u32) -> Allocation<NI> {
+        chain::ready_for(
+            &mut self.store.tables,
+            &mut self.store.spare_count,
+            align.min(2),
+            &mut self.store.accesses,
+        );
         let name = bins::pop(
             &mut self.store.tables,
             &mut self.store.top_mask,
@@ -105,7 +113,7 @@ impl<NI: NodeIndex> Allocator<NI> {
     /// into `allocate`, there is no padding.
     #[inline(always)]
     pub(crate) fn serve(&mut self, size: u32, align: u32) -> Option<Allocation<NI>> {
-        if self.store.spare_count <= align.min(2) {
+        if self.names_left() <= align.min(2) {
             return None;
         }
         if size > u32::MAX - (align - 1) {
@@ -129,22 +137,18 @@ impl<NI: NodeIndex> Allocator<NI> {
     pub(crate) fn release(&mut self, name: u32) {
         let size = chain::size(&self.store.tables, name, &mut self.store.accesses);
         self.free_total += size;
-        merge::coalesce(&mut self.store, name, size);
         chain::mark(
             &mut self.store.tables,
             name,
             false,
             &mut self.store.accesses,
         );
+        merge::coalesce(&mut self.store, name, size);
     }
 
     /// Whether a name is that of a used block.
     pub(crate) fn uses(&self, name: u32, count: &mut Accesses) -> bool {
-        if name < self.max_allocs {
-            chain::is_used(&self.store.tables, name, count)
-        } else {
-            false
-        }
+        chain::is_live(&self.store.tables, name, count)
     }
 
     /// Adds units to the last block, which is free.
@@ -180,6 +184,12 @@ impl<NI: NodeIndex> Allocator<NI> {
 
     /// Puts a free block after the last one, which is used.
     pub(crate) fn append(&mut self, more: u32) {
+        chain::ready(
+            &mut self.store.tables,
+            &mut self.store.spare_count,
+            1,
+            &mut self.store.accesses,
+        );
         let end = self.store.last;
         let offset = chain::offset(&self.store.tables, end, &mut self.store.accesses);
         let whole = chain::size(&self.store.tables, end, &mut self.store.accesses);

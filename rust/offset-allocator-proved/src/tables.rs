@@ -1,48 +1,70 @@
 // Printed by rust/erase from crates/offset_allocator/src/tables.rt: change it there.
 
 //! The tables: no other module reads or writes their cells. A function on single cells counts each that it touches;
-//! `with_len` and `clear` go over whole tables, and count none.
+//! `with_len` and `clear` make new tables, and count none.
 
 use crate::memory::Vec;
 use crate::accesses::Accesses;
-use crate::entry::{Node, blank_nodes};
-use crate::fills::{fill, filled, probe, renumber, reserved, rising};
-use crate::index::{NodeIndex, link_to, no_link};
+use crate::entry::{Node, blank, mark};
+use crate::fills::{probe, push_within, reserved};
+use crate::index::{NodeIndex, link_to, number};
 use crate::memory::{AllocError, Global};
 
-/// The nodes, whether each is used, the newest node of each size class, the masks of the classes, and the stack of
-/// unused names.
+/// The nodes that were made, the stack of unused names, the newest node of each size class, and the masks of the
+/// classes. A node is made when its name is needed for the first time; the memory for all is reserved before.
 pub(crate) struct Tables<NI: NodeIndex> {
     nodes: Vec<Node<NI>>,
-    used: Vec<bool>,
-    heads: Vec<NI>,
-    masks: [u64; 4],
     spare: Vec<NI>,
+    heads: [u32; 256],
+    masks: [u64; 4],
 }
 
 impl<NI: NodeIndex> Tables<NI> {
-    /// Tables for `len` nodes, none of them used. Every table has its room before any is filled.
+    /// Tables with one node, which is blank, and memory for `len`.
     pub(crate) fn with_len(alloc: Global, len: u32) -> Result<Self, AllocError> {
         let count = len as usize;
         probe::<NI>(alloc, len)?;
-        let nodes = reserved(alloc, count)?;
-        let used = reserved(alloc, count)?;
-        let heads = reserved(alloc, 256)?;
-        let spare = reserved(alloc, count)?;
+        let mut nodes = reserved(alloc, count)?;
+        let mut spare = reserved(alloc, count)?;
+        push_within(&mut nodes, blank());
+        push_within(&mut spare, link_to::<NI>(0));
         Ok(Tables {
-            nodes: blank_nodes(nodes, count)?,
-            used: filled(used, false, count)?,
-            heads: filled(heads, no_link::<NI>(), 256)?,
+            nodes,
+            spare,
+            heads: [NI::MAX; 256],
             masks: [0; 4],
-            spare: rising(spare, len)?,
         })
     }
 
-    /// Makes all nodes unused, and puts all names on the stack of unused ones. The other fields of a node stay: they
-    /// are written before they are read.
+    /// Leaves one node, which is blank, and the memory. The classes may still name others: `bins::empty` has to follow.
     pub(crate) fn clear(&mut self) {
-        fill(&mut self.used, false);
-        renumber(&mut self.spare);
+        self.nodes.clear();
+        self.spare.clear();
+        push_within(&mut self.nodes, blank());
+        push_within(&mut self.spare, link_to(0));
+    }
+
+    /// The number of nodes that were made.
+    pub(crate) fn len(&self) -> u32 {
+        self.nodes.len() as u32
+    }
+
+    /// Makes one more node, which is blank, and puts its name at a place of the stack of unused names. It is out of line,
+    /// since each node is made once.
+    #[inline(never)]
+    pub(crate) fn add(&mut self, place: u32, count: &mut Accesses) {
+        count.tick();
+        count.tick();
+        count.tick();
+        count.tick();
+        count.tick();
+        count.tick();
+        count.tick();
+        count.tick();
+        let name = link_to(self.nodes.len() as u32);
+        push_within(&mut self.nodes, blank());
+        push_within(&mut self.spare, name);
+        self.spare[place as usize] = name;
     }
 
     /// The tables keep their lengths.
@@ -78,13 +100,13 @@ impl<NI: NodeIndex> Tables<NI> {
     /// Whether a node is used.
     pub(crate) fn used(&self, name: u32, count: &mut Accesses) -> bool {
         count.tick();
-        self.used[name as usize]
+        number(self.nodes[name as usize].newer) == NI::MAX - 1
     }
 
-    /// Writes whether a node is used.
+    /// Writes whether a node is used. It is in no class.
     pub(crate) fn set_used(&mut self, name: u32, used: bool, count: &mut Accesses) {
         count.tick();
-        self.used[name as usize] = used;
+        self.nodes[name as usize].newer = mark(used);
     }
 
     /// The link to the node before a node in space.
@@ -177,7 +199,7 @@ impl<NI: NodeIndex> Tables<NI> {
         self.nodes[name as usize].newer
     }
 
-    /// Writes the link to the next newer node of a node's class.
+    /// Writes the link to the next newer node of a node's class. The node is not used.
     pub(crate) fn set_newer(&mut self, name: u32, link: NI, count: &mut Accesses) {
         count.tick();
         self.nodes[name as usize].newer = link;
@@ -195,7 +217,7 @@ impl<NI: NodeIndex> Tables<NI> {
         self.nodes[name as usize].older = link;
     }
 
-    /// Writes both links of a node in its class.
+    /// Writes both links of a node in its class. The node is not used.
     pub(crate) fn set_links(&mut self, name: u32, newer: NI, older: NI, count: &mut Accesses) {
         count.tick();
         count.tick();
@@ -204,16 +226,16 @@ impl<NI: NodeIndex> Tables<NI> {
         node.older = older;
     }
 
-    /// The link to the newest node of a class.
-    pub(crate) fn head(&self, class: u32, count: &mut Accesses) -> NI {
+    /// The name of the newest node of a class, or `MAX`.
+    pub(crate) fn head(&self, class: u32, count: &mut Accesses) -> u32 {
         count.tick();
         self.heads[class as usize]
     }
 
-    /// Writes the link to the newest node of a class.
-    pub(crate) fn set_head(&mut self, class: u32, link: NI, count: &mut Accesses) {
+    /// Writes the name of the newest node of a class, or `MAX`.
+    pub(crate) fn set_head(&mut self, class: u32, name: u32, count: &mut Accesses) {
         count.tick();
-        self.heads[class as usize] = link;
+        self.heads[class as usize] = name;
     }
 
     /// A word of the masks: bit `c % 64` of word `c / 64` says whether the bin of class c is not empty.

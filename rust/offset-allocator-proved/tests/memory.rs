@@ -12,7 +12,7 @@ fn bytes() -> (u64, u64) {
 /// The bytes that an allocator maps, those that it touches when it is made, and those after 1,000 grants in all.
 fn bytes_of<NI: NodeIndex>(nodes: u32) -> (u64, u64, u64) {
     let before = bytes();
-    let mut space = Allocator::<NI>::with_max_allocs(Global, 100_000, nodes).unwrap();
+    let mut space = Allocator::<NI>::with_max_allocs(Global, 200_000, nodes).unwrap();
     let made = bytes();
     for _ in 0..1000.min(nodes - 2) {
         assert!(space.allocate(100).is_some());
