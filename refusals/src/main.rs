@@ -25,12 +25,11 @@ const FAULT: &[u64] = &[3, 5];
 const REQUESTS_ALL_FIRST: bool = true;
 
 /// The bytes of each request that a constructor makes: the nodes, each with its offset, its size, its two neighbours
-/// and its two links; their use flags; the heads of the free lists; and the stack of unused nodes. An index has `bits`
-/// bits.
+/// and its two links; and the stack of unused nodes. An index has `bits` bits.
 fn table_requests(nodes: usize, bits: usize) -> Vec<usize> {
     let index = bits / 8;
     let node = 4 + 4 + 4 * index;
-    let tables = [node * nodes, nodes, index * 256, index * nodes];
+    let tables = [node * nodes, index * nodes];
     let all = REQUESTS_ALL_FIRST.then(|| tables.iter().sum());
     all.into_iter().chain(tables).collect()
 }

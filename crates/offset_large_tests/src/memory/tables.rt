@@ -6,11 +6,10 @@ use offset_allocator::Allocator;
 
 const NODES: u32 = 4_000_000;
 
-// A node takes 24 bytes, its entry in the stack of unused indices 4, and its use flag 1. Each of the 256 classes takes
-// 4.
-const BYTES: usize = 29 * 4_000_000 + 1_024;
+// A node takes 24 bytes, and its entry in the stack of unused indices 4.
+const BYTES: usize = 28 * 4_000_000;
 
-// Half of the smallest table of the nodes, and more than the gaps between the tables.
+// Less than the smaller of the two tables, and more than the gaps between them.
 const SLACK: usize = 2_000_000;
 
 #[test]
@@ -20,9 +19,9 @@ fn takes_no_more_than_its_tables_need(rt: HostRuntime) {
     assert_that(&rt, made.is_ok());
 }
 
-// With 16 bits a node takes 16 bytes, its entry in the stack 2, and its use flag 1; each class takes 2. The C library
-// requests at least 1 MiB at a time for what is as small as these.
-const BYTES_16: usize = 19 * 65_533 + 512;
+// With 16 bits a node takes 16 bytes, and its entry in the stack 2. The C library requests at least 1 MiB at a time for
+// what is as small as these.
+const BYTES_16: usize = 18 * 65_533;
 
 const SLACK_16: usize = 1_100_000;
 
