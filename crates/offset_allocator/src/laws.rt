@@ -3,6 +3,7 @@
 ghost use Rattle.std.specs.Prelude.{◌≡◌, ◌≢◌, ◌<◌, ◌≤◌, ◌+◌, ◌%◌, ◌↔◌, ℕ, List, ◌++◌, false, IsTrue, Some, length, sum, if◌then◌else◌};
 ghost use Rattle.std.specs.Int.{IsPowerOfTwo};
 ghost use Rattle.std.specs.List.{AllByRecursion};
+ghost use Rattle.offset_allocator.specs.Count.{Costs};
 ghost use Rattle.offset_allocator.specs.Classes.{value, up, down};
 ghost use Rattle.offset_allocator.specs.Named.{View, Block, Grant, IsWellFormed, free_sizes, tally, one, total_free, largest_free, padding_to};
 ghost use Rattle.offset_allocator.specs.Ranges.{Range, range_of, AreDisjoint};
@@ -29,9 +30,8 @@ pub fn undo<NI: NodeIndex>(allocator: &mut Allocator<NI>, n: u32) -> bool
     ensures undone { (w u : View) (g : Grant) → Allocates n allocator.old w (Some g) → Frees g.name w u → SameSpace allocator.old u }
     ensures same { SameSpace allocator.old allocator.new }
     ensures granted { IsTrue result ↔ CanGrant 1 n allocator.old }
-    ensures accesses_kept { allocator.old.accesses ≤ allocator.new.accesses }
+    ensures accesses { Costs 0 192 allocator.old.accesses allocator.new.accesses }
     ensures accesses_min { IsTrue result → allocator.old.accesses + 16 ≤ allocator.new.accesses }
-    ensures accesses_max { allocator.new.accesses ≤ allocator.old.accesses + 192 }
 {
     allocator.formed();
     match allocator.allocate(n) {

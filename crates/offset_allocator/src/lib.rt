@@ -15,6 +15,7 @@
 #![tactic(auto)]
 
 ghost use Rattle.std.specs.Prelude.{ℕ, ◌≡◌, ◌↔◌, ◌+◌, ◌-◌, ◌*◌, ◌/◌, ◌%◌, ◌<◌, ◌≤◌, nat_lt, if◌then◌else◌, min, None, false, true, IsTrue, IsSome, IfSome, IfOk, length, option_map};
+ghost use Rattle.offset_allocator.specs.Count.{Costs};
 ghost use Rattle.offset_allocator.specs.Ranges.{Range, range_of, size_of, Grants, IsLive, KeepsAll, KeepsOthers};
 ghost use Rattle.offset_allocator.specs.Reports.{IsGoodRefusal};
 ghost use Rattle.offset_allocator.specs.Named.{is_full, free_sizes, largest_free, used_of};
@@ -104,22 +105,22 @@ impl<NI: NodeIndex> Allocator<NI> {
         requires limit_max { max_allocs + 1 < NI.MAX }
         ensures { IfOk result (IsFresh size max_allocs) }
     {
-        let mut tables = Tables::with_len(alloc, max_allocs)?;
-        let mut top_mask = bins::start(&tables);
-        let mut count = Accesses::new();
-        chain::start(&mut tables, size, max_allocs, &mut count);
-        steps::start(&mut tables, &mut top_mask, size, max_allocs, &mut count);
+        let tables = Tables::with_len(alloc, max_allocs)?;
+        let top_mask = bins::start(&tables);
+        let mut store = Store {
+            tables,
+            top_mask,
+            last: 0,
+            spare_count: 0,
+            accesses: Accesses::new(),
+        };
+        steps::start(&mut store, size, max_allocs);
+        store.accesses = Accesses::new();
         Ok(Allocator {
             size,
             max_allocs,
             free_total: size,
-            store: Store {
-                tables,
-                top_mask,
-                last: 0,
-                spare_count: 0,
-                accesses: Accesses::new(),
-            },
+            store,
         })
     }
 
@@ -135,8 +136,7 @@ impl<NI: NodeIndex> Allocator<NI> {
         // The step as a whole: one free block, alone in its bin.
         ensures step { Resets self.old self.new }
         // It makes at most 130 accesses to table cells for each live range, and 2, and never more than 270.
-        ensures accesses_min { self.old.accesses + 1 ≤ self.new.accesses }
-        ensures accesses_max { self.new.accesses ≤ self.old.accesses + min (130 * used_of self.old.blocks + 2) 270 }
+        ensures accesses { Costs 1 (min (130 * used_of self.old.blocks + 2) 270) self.old.accesses self.new.accesses }
     {
         self.formed();
         // freeing five blocks takes about as long as emptying the bins
@@ -203,9 +203,8 @@ impl<NI: NodeIndex> Allocator<NI> {
         ensures refused { result ≡ None → HasRoomFor 1 self.old → IsGoodRefusal size (free_sizes self.old.blocks) }
         // It makes at most 64 accesses to table cells. A grant makes at least 7, so a count that stays as it is cannot
         // meet the contract.
-        ensures accesses_kept { self.old.accesses ≤ self.new.accesses }
+        ensures accesses { Costs 0 64 self.old.accesses self.new.accesses }
         ensures accesses_min { IsSome result → self.old.accesses + 7 ≤ self.new.accesses }
-        ensures accesses_max { self.new.accesses ≤ self.old.accesses + 64 }
         // The step as a whole: which block, which remainder, which bins.
         ensures step { Allocates size self.old self.new result }
     {
@@ -224,8 +223,7 @@ impl<NI: NodeIndex> Allocator<NI> {
         ensures gone { range_of allocation.name self.new ≡ None }
         ensures others { KeepsOthers allocation.name self.old self.new }
         // It makes at most 128 accesses to table cells, and at least 9.
-        ensures accesses_min { self.old.accesses + 9 ≤ self.new.accesses }
-        ensures accesses_max { self.new.accesses ≤ self.old.accesses + 128 }
+        ensures accesses { Costs 9 128 self.old.accesses self.new.accesses }
         // The step as a whole: the block coalesces with its free neighbours.
         ensures step { Frees allocation.name self.old self.new }
     {
@@ -342,9 +340,8 @@ impl<NI: NodeIndex> Allocator<NI> {
         ensures refused { result ≡ None → HasRoomFor (blocks_needed align) self.old
             → IsGoodRefusal (units_needed size align) (free_sizes self.old.blocks) }
         // It makes at most 128 accesses to table cells, and a grant at least 7.
-        ensures accesses_kept { self.old.accesses ≤ self.new.accesses }
+        ensures accesses { Costs 0 128 self.old.accesses self.new.accesses }
         ensures accesses_min { IsSome result → self.old.accesses + 7 ≤ self.new.accesses }
-        ensures accesses_max { self.new.accesses ≤ self.old.accesses + 128 }
         // The step as a whole.
         ensures step { Aligns size align self.old self.new result }
     {
@@ -365,9 +362,8 @@ impl<NI: NodeIndex> Allocator<NI> {
         ensures kept { KeepsAll self.old self.new }
         ensures same { result ≡ false → SameSpace self.old self.new }
         // It makes at most 128 accesses to table cells, and at least 10 where it adds units.
-        ensures accesses_kept { self.old.accesses ≤ self.new.accesses }
+        ensures accesses { Costs 0 128 self.old.accesses self.new.accesses }
         ensures accesses_min { result ≡ true → 0 < more → self.old.accesses + 10 ≤ self.new.accesses }
-        ensures accesses_max { self.new.accesses ≤ self.old.accesses + 128 }
         // The step as a whole: whether it is done, and what the last block is then.
         ensures step { Extends more self.old self.new result }
     {

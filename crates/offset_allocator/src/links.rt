@@ -1,5 +1,6 @@
 //! Writes of the links to a node.
 ghost use Rattle.std.specs.Prelude.{◌≡◌, ◌+◌, ◌<◌, ◌≤◌, length, MatchOption, IfSome, Some};
+ghost use Rattle.offset_allocator.specs.Count.{Costs};
 ghost use Rattle.offset_allocator.specs.Cells.{node, put, link_of};
 
 use crate::accesses::Accesses;
@@ -20,8 +21,7 @@ pub(crate) fn point_back<NI: NodeIndex>(
     ensures nodes { length tables.new.room.nodes ≡ length tables.old.room.nodes }
     ensures cells { MatchOption (link_of NI.MAX (NI.number link)) (tables.new.room ≡ tables.old.room) (λ after. tables.new.room ≡ put tables.old.room after (record (node tables.old.room after) { before = Some name })) }
     ensures links { tables.new.links ≡ tables.old.links }
-    ensures accesses_kept { count.old ≤ count.new }
-    ensures accesses_max { count.new ≤ count.old + 1 }
+    ensures accesses { Costs 0 1 count.old count.new }
     ensures last { MatchOption (link_of NI.MAX (NI.number link)) (last.new ≡ name) (λ _. last.new ≡ last.old) }
 {
     match linked(link) {
@@ -46,8 +46,7 @@ pub(crate) fn point_on<NI: NodeIndex>(
     ensures nodes { length tables.new.room.nodes ≡ length tables.old.room.nodes }
     ensures cells { MatchOption (link_of NI.MAX (NI.number link)) (tables.new.room ≡ tables.old.room) (λ before. tables.new.room ≡ put tables.old.room before (record (node tables.old.room before) { after = Some name })) }
     ensures links { tables.new.links ≡ tables.old.links }
-    ensures accesses_kept { count.old ≤ count.new }
-    ensures accesses_max { count.new ≤ count.old + 1 }
+    ensures accesses { Costs 0 1 count.old count.new }
 {
     if let Some(before) = linked(link) {
         let on = tables.link_to(name);

@@ -1,11 +1,12 @@
 //! Coalesces a block with the free blocks beside it, and pushes the whole block onto its bin.
 ghost use Rattle.std.specs.Prelude.{ℕ, ◌≡◌, ◌+◌, ◌≤◌, ◌++◌, [], Some, false, length, MatchOption};
+ghost use Rattle.offset_allocator.specs.Count.{Costs};
 ghost use Rattle.offset_allocator.specs.Classes.{down};
 ghost use Rattle.offset_allocator.specs.Cells.{node};
 ghost use Rattle.offset_allocator.specs.Named.{Place, free_end, free_start, push, remove_all};
 ghost use Rattle.offset_allocator.specs.Space.{HasPlace, IsFreeAfter, coalesced_before, coalesced_after};
-ghost use Rattle.offset_allocator.specs.Orders.{Binned, class_lists};
 ghost use Rattle.offset_allocator.specs.State.{AreFiled};
+ghost use Rattle.offset_allocator.specs.Stored.{IsPlaceIn, AreBinned, bins_of};
 
 use crate::accesses::Accesses;
 use crate::index::NodeIndex;
@@ -19,8 +20,7 @@ use crate::{bins, chain};
 fn free_before<NI: NodeIndex>(tables: &Tables<NI>, name: u32, count: &mut Accesses) -> Option<u32>
     requires place { (m last spare : ℕ) × (p : Place) × HasPlace tables.now.room m last spare name p }
     ensures free { MatchOption result ((m last spare : ℕ) (p : Place) → HasPlace tables.now.room m last spare name p → free_end p.before ≡ []) (λ x. (Some x ≡ (node tables.now.room name).before) × ((node tables.now.room x).used ≡ false)) }
-    ensures accesses_min { count.old + 1 ≤ count.new }
-    ensures accesses_max { count.new ≤ count.old + 2 }
+    ensures accesses { Costs 1 2 count.old count.new }
 {
     if let Some(previous) = chain::before(tables, name, count) {
         if !chain::is_used(tables, previous, count) {
@@ -39,8 +39,7 @@ pub(crate) fn free_after<NI: NodeIndex>(
 ) -> Option<u32>
     requires place { (m last spare : ℕ) × (p : Place) × HasPlace tables.now.room m last spare name p }
     ensures free { IsFreeAfter tables.now.room name result }
-    ensures accesses_min { count.old + 1 ≤ count.new }
-    ensures accesses_max { count.new ≤ count.old + 2 }
+    ensures accesses { Costs 1 2 count.old count.new }
 {
     if let Some(following) = chain::after(tables, name, count) {
         if !chain::is_used(tables, following, count) {
@@ -54,35 +53,21 @@ pub(crate) fn free_after<NI: NodeIndex>(
 // of the whole is returned.
 #[inline(always)]
 fn with_before<NI: NodeIndex>(store: &mut Store<NI>, name: u32, size: u32) -> u32
-    requires place { (m : ℕ) × (p : Place) × HasPlace store.old.tables.room m store.old.last store.old.spare_count name p × AreFiled (p.before ++ p.after) (class_lists NI.MAX store.old.tables.links) }
-    requires held { Binned NI.MAX store.old.tables.links store.old.top_mask }
+    requires place { (m : ℕ) × (p : Place) × IsPlaceIn store.old m name p × AreFiled (p.before ++ p.after) (bins_of NI.MAX store.old) }
+    requires held { AreBinned NI.MAX store.old }
     requires size { size ≡ (node store.old.tables.room name).size }
-    ensures place { (m : ℕ) (p : Place) → HasPlace store.old.tables.room m store.old.last store.old.spare_count name p → HasPlace store.new.tables.room m store.new.last store.new.spare_count name (coalesced_before p) }
-    ensures held { Binned NI.MAX store.new.tables.links store.new.top_mask }
-    ensures lists { (m : ℕ) (p : Place) → HasPlace store.old.tables.room m store.old.last store.old.spare_count name p → class_lists NI.MAX store.new.tables.links ≡ remove_all (free_end p.before) (class_lists NI.MAX store.old.tables.links) }
+    ensures place { (m : ℕ) (p : Place) → IsPlaceIn store.old m name p → IsPlaceIn store.new m name (coalesced_before p) }
+    ensures held { AreBinned NI.MAX store.new }
+    ensures lists { (m : ℕ) (p : Place) → IsPlaceIn store.old m name p → bins_of NI.MAX store.new ≡ remove_all (free_end p.before) (bins_of NI.MAX store.old) }
     ensures nodes { length store.new.tables.room.nodes ≡ length store.old.tables.room.nodes }
     ensures size { result ≡ (node store.new.tables.room name).size }
-    ensures accesses_min { store.old.accesses + 1 ≤ store.new.accesses }
-    ensures accesses_max { store.new.accesses ≤ store.old.accesses + 15 }
+    ensures accesses { Costs 1 15 store.old.accesses store.new.accesses }
 {
     if let Some(previous) = free_before(&store.tables, name, &mut store.accesses) {
         let more = chain::size(&store.tables, previous, &mut store.accesses);
         let whole = more + size;
-        bins::remove(
-            &mut store.tables,
-            &mut store.top_mask,
-            previous,
-            more,
-            &mut store.accesses,
-        );
-        chain::coalesce_before(
-            &mut store.tables,
-            &mut store.spare_count,
-            previous,
-            name,
-            whole,
-            &mut store.accesses,
-        );
+        bins::remove(store, previous, more);
+        chain::coalesce_before(store, previous, name, whole);
         return whole;
     }
     size
@@ -93,15 +78,14 @@ fn with_before<NI: NodeIndex>(store: &mut Store<NI>, name: u32, size: u32) -> u3
 /// bin.
 #[inline(always)]
 pub(crate) fn coalesce<NI: NodeIndex>(store: &mut Store<NI>, name: u32, size: u32)
-    requires place { (m : ℕ) × (p : Place) × HasPlace store.old.tables.room m store.old.last store.old.spare_count name p × AreFiled (p.before ++ p.after) (class_lists NI.MAX store.old.tables.links) }
-    requires held { Binned NI.MAX store.old.tables.links store.old.top_mask }
+    requires place { (m : ℕ) × (p : Place) × IsPlaceIn store.old m name p × AreFiled (p.before ++ p.after) (bins_of NI.MAX store.old) }
+    requires held { AreBinned NI.MAX store.old }
     requires idle { (node store.old.tables.room name).used ≡ false }
     requires size { size ≡ (node store.old.tables.room name).size }
-    ensures place { (m : ℕ) (p : Place) → HasPlace store.old.tables.room m store.old.last store.old.spare_count name p → HasPlace store.new.tables.room m store.new.last store.new.spare_count name (coalesced_after (coalesced_before p)) }
-    ensures held { Binned NI.MAX store.new.tables.links store.new.top_mask }
-    ensures lists { (m : ℕ) (p : Place) → HasPlace store.old.tables.room m store.old.last store.old.spare_count name p → class_lists NI.MAX store.new.tables.links ≡ push (down (node store.new.tables.room name).size) name (remove_all (free_start p.after) (remove_all (free_end p.before) (class_lists NI.MAX store.old.tables.links))) }
-    ensures accesses_min { store.old.accesses + 7 ≤ store.new.accesses }
-    ensures accesses_max { store.new.accesses ≤ store.old.accesses + 34 }
+    ensures place { (m : ℕ) (p : Place) → IsPlaceIn store.old m name p → IsPlaceIn store.new m name (coalesced_after (coalesced_before p)) }
+    ensures held { AreBinned NI.MAX store.new }
+    ensures lists { (m : ℕ) (p : Place) → IsPlaceIn store.old m name p → bins_of NI.MAX store.new ≡ push (down (node store.new.tables.room name).size) name (remove_all (free_start p.after) (remove_all (free_end p.before) (bins_of NI.MAX store.old))) }
+    ensures accesses { Costs 7 34 store.old.accesses store.new.accesses }
 {
     let (gone, more, whole) = if let Some(following) = free_after(
         &store.tables,
@@ -111,45 +95,16 @@ pub(crate) fn coalesce<NI: NodeIndex>(store: &mut Store<NI>, name: u32, size: u3
         let size = with_before(store, name, size);
         let more = chain::size(&store.tables, following, &mut store.accesses);
         let whole = size + more;
-        chain::coalesce_after(
-            &mut store.tables,
-            &mut store.last,
-            &mut store.spare_count,
-            name,
-            following,
-            whole,
-            &mut store.accesses,
-        );
+        chain::coalesce_after(store, name, following, whole);
         (following, more, whole)
     } else if let Some(previous) = free_before(&store.tables, name, &mut store.accesses) {
         let more = chain::size(&store.tables, previous, &mut store.accesses);
         let whole = more + size;
-        chain::coalesce_before(
-            &mut store.tables,
-            &mut store.spare_count,
-            previous,
-            name,
-            whole,
-            &mut store.accesses,
-        );
+        chain::coalesce_before(store, previous, name, whole);
         (previous, more, whole)
     } else {
-        bins::push(
-            &mut store.tables,
-            &mut store.top_mask,
-            name,
-            uint_to_float_round_down(size),
-            &mut store.accesses,
-        );
+        bins::push(store, name, uint_to_float_round_down(size));
         return;
     };
-    bins::exchange(
-        &mut store.tables,
-        &mut store.top_mask,
-        gone,
-        more,
-        name,
-        uint_to_float_round_down(whole),
-        &mut store.accesses,
-    );
+    bins::exchange(store, gone, more, name, uint_to_float_round_down(whole));
 }

@@ -1,6 +1,6 @@
 use Rattle.std.proofs.Common.{refl, sym, ap, arith}
 use Rattle.offset_allocator.specs.Cells.{Node}
-use Rattle.offset_allocator.proofs.Places.{at_place, previous_place, kept_before, free_before, before_fits}
+use Rattle.offset_allocator.proofs.Places.{at_place, previous_place, kept_before, free_before, before_fits, kept_place}
 use Rattle.offset_allocator.proofs.Filed.{previous_filed}
 use Rattle.offset_allocator.proofs.merge.with_before.Goals as goal
 
@@ -15,16 +15,16 @@ remove-requires-clause-listed g c =
     rw c.size-more.ensures.size (previous_filed c.requires.place.2 _ c.requires.place.3 c.in-Some.ensures.free.0 c.in-Some.ensures.free.1)
 
 pub returns-in-Some-clause-place : goal.returns-in-Some-clause-place
-returns-in-Some-clause-place g c m p h = c.coalesce_before.ensures.place _ _ p (rw c.remove.ensures.room h)
+returns-in-Some-clause-place g c m p h = c.coalesce_before.ensures.place _ p (kept_place c.remove.ensures.chain h)
 
 pub returns-in-Some-clause-lists : goal.returns-in-Some-clause-lists
 returns-in-Some-clause-lists g c m p h =
-    rw (c.coalesce_before.ensures.links, c.remove.ensures.lists, c.size-more.ensures.size) (sym ((free_before h c.in-Some.ensures.free.0 c.in-Some.ensures.free.1).1 _))
+    rw (c.coalesce_before.ensures.bins.0, c.remove.ensures.lists, c.size-more.ensures.size) (sym ((free_before h c.in-Some.ensures.free.0 c.in-Some.ensures.free.1).1 _))
 
 pub returns-in-Some-clause-size : goal.returns-in-Some-clause-size
 returns-in-Some-clause-size g c =
     let h = c.requires.place.2 in
-    let left = c.coalesce_before.ensures.place _ _ _ (rw (← c.remove.ensures.room) at h) in
+    let left = c.coalesce_before.ensures.place _ _ (kept_place c.remove.ensures.chain h) in
     omega (arith, c.size-more.ensures.size, c.requires.size, (free_before h c.in-Some.ensures.free.0 c.in-Some.ensures.free.1).0, ap (λ (v : Node). v.size) (at_place left), ap (λ (v : Node). v.size) (at_place h))
 
 pub returns-clause-place : goal.returns-clause-place

@@ -39,4 +39,4 @@ returns-clause-accesses_less g c l =
     let h = c.requires.place.2 in
     let w = whole g (goal.at.returns-clause-accesses_less g c).After-with_after-whole _ h in
     let some : 0 < c.with_after-whole.result - c.args.size = omega (arith, l, w, c.requires.old_size, ap (λ (v : Node). v.size) (at_place h)) in
-    omega (arith, c.split_remainder.ensures.accesses_min some, c.offset-offset.ensures.accesses, c.with_after-whole.ensures.accesses_kept)
+    omega (arith, c.split_remainder.ensures.accesses_min some, c.offset-offset.ensures.accesses, c.with_after-whole.ensures.accesses.0)

@@ -18,7 +18,7 @@ pub push-requires-clause-classed : goal.push-requires-clause-classed
 push-requires-clause-classed g c = omega (arith, down_small c.args.left, c.uint_to_float_round_down.ensures.is)
 
 pub push-requires-clause-unlisted : goal.push-requires-clause-unlisted
-push-requires-clause-unlisted g c = rw c.split-rest.ensures.links (c.requires.place.3 _ (c.split-rest.ensures.fresh _ _ c.requires.place.2))
+push-requires-clause-unlisted g c = rw c.split-rest.ensures.bins.0 (c.requires.place.3 _ (c.split-rest.ensures.fresh _ _ c.requires.place.2))
 
 pub push-requires-clause-idle : goal.push-requires-clause-idle
 push-requires-clause-idle g c = next_idle (c.split-rest.ensures.place _ _ c.requires.place.2)
@@ -27,4 +27,4 @@ pub returns-clause-place : goal.returns-clause-place
 returns-clause-place g c m p h =
     let left : p.block.size - c.args.size ≡ c.args.left = omega (arith, c.requires.whole, ap (λ (v : Node). v.size) (at_place h)) in
     let some = some_part c.split-rest.result c.args.left (omega arith) in
-    rw (c.push.ensures.room, ← some, ← left) (c.split-rest.ensures.place _ _ h)
+    rw (c.push.ensures.chain.0, c.push.ensures.chain.1, c.push.ensures.chain.2, ← some, ← left) (c.split-rest.ensures.place _ _ h)

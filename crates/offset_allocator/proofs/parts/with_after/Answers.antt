@@ -1,6 +1,6 @@
 use Rattle.std.proofs.Common.{refl, sym, ap, arith}
 use Rattle.offset_allocator.specs.Cells.{Node}
-use Rattle.offset_allocator.proofs.Places.{at_place, next_place, kept_after, free_after, after_fits}
+use Rattle.offset_allocator.proofs.Places.{at_place, next_place, kept_after, free_after, after_fits, kept_place}
 use Rattle.offset_allocator.proofs.Filed.{next_filed}
 use Rattle.offset_allocator.proofs.parts.with_after.Goals as goal
 
@@ -22,19 +22,19 @@ remove-requires-clause-listed g c =
     rw c.size-more.ensures.size (next_filed c.requires.place.2 _ c.requires.place.3 next.0 next.1)
 
 pub returns-in-Some-clause-place : goal.returns-in-Some-clause-place
-returns-in-Some-clause-place g c m p h = c.coalesce_after.ensures.place _ _ (rw c.remove.ensures.room h)
+returns-in-Some-clause-place g c m p h = c.coalesce_after.ensures.place _ _ (kept_place c.remove.ensures.chain h)
 
 pub returns-in-Some-clause-lists : goal.returns-in-Some-clause-lists
 returns-in-Some-clause-lists g c m p h =
     let next = rw c.in-Some.is at c.requires.next in
-    rw (c.coalesce_after.ensures.links, c.remove.ensures.lists, c.size-more.ensures.size) (sym ((free_after h next.0 next.1).1 _))
+    rw (c.coalesce_after.ensures.bins.0, c.remove.ensures.lists, c.size-more.ensures.size) (sym ((free_after h next.0 next.1).1 _))
 
 pub returns-in-Some-clause-size : goal.returns-in-Some-clause-size
 returns-in-Some-clause-size g c =
     let h = c.requires.place.2 in
     let next = rw c.in-Some.is at c.requires.next in
-    let left = c.coalesce_after.ensures.place _ _ (rw (← c.remove.ensures.room) at h) in
+    let left = c.coalesce_after.ensures.place _ _ (kept_place c.remove.ensures.chain h) in
     omega (arith, c.size-more.ensures.size, c.requires.size, (free_after h next.0 next.1).0, ap (λ (v : Node). v.size) (at_place left), ap (λ (v : Node). v.size) (at_place h))
 
 pub returns-in-Some-clause-accesses_min : goal.returns-in-Some-clause-accesses_min
-returns-in-Some-clause-accesses_min g c some = omega (arith, c.size-more.ensures.accesses, c.remove.ensures.accesses_min, c.coalesce_after.ensures.accesses_min)
+returns-in-Some-clause-accesses_min g c some = omega (arith, c.size-more.ensures.accesses, c.remove.ensures.accesses.0, c.coalesce_after.ensures.accesses.0)
