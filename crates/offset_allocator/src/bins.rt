@@ -86,22 +86,24 @@ pub(crate) fn push<NI: NodeIndex>(store: &mut Store<NI>, name: u32, class: u32)
     ensures chain { SameChain store.old store.new }
     ensures accesses { Costs 5 6 store.old.accesses store.new.accesses }
 {
-    store.tables.shape();
+    let Store {
+        tables,
+        top_mask,
+        accesses: count,
+        ..
+    } = store;
+    tables.shape();
     let link = link_to(name);
-    let newest = store.tables.head(class, &mut store.accesses);
-    store.tables.set_head(class, name, &mut store.accesses);
-    store
-        .tables
-        .set_links(name, no_link(), NI::from_u32(newest), &mut store.accesses);
+    let newest = tables.head(class, count);
+    tables.set_head(class, name, count);
+    tables.set_links(name, no_link(), NI::from_u32(newest), count);
     if newest == NI::MAX {
         let word = class / 64;
-        let mask = store.tables.mask(word, &mut store.accesses);
-        store
-            .tables
-            .set_mask(word, mask | 1 << (class % 64), &mut store.accesses);
-        store.top_mask |= 1 << word;
+        let mask = tables.mask(word, count);
+        tables.set_mask(word, mask | 1 << (class % 64), count);
+        *top_mask |= 1 << word;
     } else {
-        store.tables.set_newer(newest, link, &mut store.accesses);
+        tables.set_newer(newest, link, count);
     }
 }
 
@@ -113,11 +115,17 @@ fn clear_class<NI: NodeIndex>(store: &mut Store<NI>, class: u32)
     ensures rest { store.new.tables ≡ record store.old.tables { links = record store.old.tables.links { masks = store.new.tables.links.masks } } }
     ensures accesses { Costs 0 2 store.old.accesses store.new.accesses }
 {
+    let Store {
+        tables,
+        top_mask,
+        accesses: count,
+        ..
+    } = store;
     let word = class / 64;
-    let rest = store.tables.mask(word, &mut store.accesses) & !(1 << (class % 64));
-    store.tables.set_mask(word, rest, &mut store.accesses);
+    let rest = tables.mask(word, count) & !(1 << (class % 64));
+    tables.set_mask(word, rest, count);
     if rest == 0 {
-        store.top_mask &= !(1 << word);
+        *top_mask &= !(1 << word);
     }
 }
 
@@ -147,13 +155,14 @@ fn behead<NI: NodeIndex>(store: &mut Store<NI>, class: u32, after: NI)
     ensures chain { SameChain store.old store.new }
     ensures accesses { Costs 1 3 store.old.accesses store.new.accesses }
 {
-    store.tables.shape();
+    let Store { tables, accesses: count, .. } = store;
+    tables.shape();
     let next = number(after);
-    store.tables.set_head(class, next, &mut store.accesses);
+    tables.set_head(class, next, count);
     if next == NI::MAX {
         clear_class(store, class);
     } else {
-        store.tables.set_newer(next, no_link(), &mut store.accesses);
+        tables.set_newer(next, no_link(), count);
     }
 }
 
@@ -168,16 +177,15 @@ fn leave<NI: NodeIndex>(store: &mut Store<NI>, name: u32, before: NI, size: u32)
     ensures chain { SameChain store.old store.new }
     ensures accesses { Costs 2 4 store.old.accesses store.new.accesses }
 {
-    store.tables.shape();
-    let after = store.tables.older(name, &mut store.accesses);
+    let Store { tables, accesses: count, .. } = store;
+    tables.shape();
+    let after = tables.older(name, count);
     if number(before) == NI::MAX {
         // only the newest name has to find its class
         behead(store, uint_to_float_round_down(size), after);
     } else {
-        link_newer(&mut store.tables, after, before, &mut store.accesses);
-        store
-            .tables
-            .set_older(number(before), after, &mut store.accesses);
+        link_newer(tables, after, before, count);
+        tables.set_older(number(before), after, count);
     }
 }
 
@@ -220,12 +228,11 @@ pub(crate) fn exchange<NI: NodeIndex>(
     let before = store.tables.newer(gone, &mut store.accesses);
     if number(before) == NI::MAX && class == uint_to_float_round_down(size) {
         // the bin is empty neither before nor after, so the masks stay
-        let after = store.tables.older(gone, &mut store.accesses);
-        store.tables.set_head(class, name, &mut store.accesses);
-        store
-            .tables
-            .set_links(name, no_link(), after, &mut store.accesses);
-        link_newer(&mut store.tables, after, link_to(name), &mut store.accesses);
+        let Store { tables, accesses: count, .. } = store;
+        let after = tables.older(gone, count);
+        tables.set_head(class, name, count);
+        tables.set_links(name, no_link(), after, count);
+        link_newer(tables, after, link_to(name), count);
     } else {
         leave(store, gone, before, size);
         push(store, name, class);
@@ -243,8 +250,9 @@ pub(crate) fn pop<NI: NodeIndex>(store: &mut Store<NI>, class: u32) -> u32
     ensures chain { SameChain store.old store.new }
     ensures accesses { Costs 3 6 store.old.accesses store.new.accesses }
 {
-    let name = store.tables.head(class, &mut store.accesses);
-    let after = store.tables.older(name, &mut store.accesses);
+    let Store { tables, accesses: count, .. } = store;
+    let name = tables.head(class, count);
+    let after = tables.older(name, count);
     behead(store, class, after);
     name
 }
@@ -266,12 +274,18 @@ pub(crate) fn empty<NI: NodeIndex>(store: &mut Store<NI>)
     ensures chain { SameChain store.old store.new }
     ensures accesses { store.new.accesses ≡ store.old.accesses + 260 }
 {
-    store.tables.shape();
+    let Store {
+        tables,
+        top_mask,
+        accesses: count,
+        ..
+    } = store;
+    tables.shape();
     for class in 0..256 {
-        store.tables.set_head(class, NI::MAX, &mut store.accesses);
+        tables.set_head(class, NI::MAX, count);
     }
     for word in 0..4 {
-        store.tables.set_mask(word, 0, &mut store.accesses);
+        tables.set_mask(word, 0, count);
     }
-    store.top_mask = 0;
+    *top_mask = 0;
 }

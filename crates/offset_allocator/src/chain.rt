@@ -166,27 +166,21 @@ pub(crate) fn split<NI: NodeIndex>(
     ensures below { result < length store.old.tables.room.nodes }
     ensures accesses { Costs 8 9 store.old.accesses store.new.accesses }
 {
-    store.spare_count -= 1;
-    let rest = number(store.tables.spare(store.spare_count, &mut store.accesses));
-    let next = store.tables.after(name, &mut store.accesses);
-    let back = store.tables.link_to(name);
-    let on = store.tables.link_to(rest);
-    store.tables.set_block(
-        rest,
-        offset + kept,
-        size - kept,
-        back,
-        next,
-        &mut store.accesses,
-    );
-    store.tables.set_end(name, kept, on, &mut store.accesses);
-    point_back(
-        &mut store.tables,
-        &mut store.last,
-        next,
-        rest,
-        &mut store.accesses,
-    );
+    let Store {
+        tables,
+        last,
+        spare_count,
+        accesses: count,
+        ..
+    } = store;
+    *spare_count -= 1;
+    let rest = number(tables.spare(*spare_count, count));
+    let next = tables.after(name, count);
+    let back = tables.link_to(name);
+    let on = tables.link_to(rest);
+    tables.set_block(rest, offset + kept, size - kept, back, next, count);
+    tables.set_end(name, kept, on, count);
+    point_back(tables, last, next, rest, count);
     rest
 }
 
@@ -209,20 +203,19 @@ pub(crate) fn coalesce_after<NI: NodeIndex>(
     ensures spares { store.new.spare_count ≡ store.old.spare_count + 1 }
     ensures accesses { Costs 4 5 store.old.accesses store.new.accesses }
 {
-    store.tables.shape();
-    let next = store.tables.after(following, &mut store.accesses);
-    store.tables.set_end(name, total, next, &mut store.accesses);
-    point_back(
-        &mut store.tables,
-        &mut store.last,
-        next,
-        name,
-        &mut store.accesses,
-    );
-    store
-        .tables
-        .set_spare(store.spare_count, link_to(following), &mut store.accesses);
-    store.spare_count += 1;
+    let Store {
+        tables,
+        last,
+        spare_count,
+        accesses: count,
+        ..
+    } = store;
+    tables.shape();
+    let next = tables.after(following, count);
+    tables.set_end(name, total, next, count);
+    point_back(tables, last, next, name, count);
+    tables.set_spare(*spare_count, link_to(following), count);
+    *spare_count += 1;
 }
 
 /// Coalesces the free block `previous` into the block directly after it; `total` is the size of both. The name
@@ -244,17 +237,19 @@ pub(crate) fn coalesce_before<NI: NodeIndex>(
     ensures spares { store.new.spare_count ≡ store.old.spare_count + 1 }
     ensures accesses { Costs 6 7 store.old.accesses store.new.accesses }
 {
-    store.tables.shape();
-    let offset = store.tables.offset(previous, &mut store.accesses);
-    let link = store.tables.before(previous, &mut store.accesses);
-    store
-        .tables
-        .set_start(name, offset, total, link, &mut store.accesses);
-    point_on(&mut store.tables, link, name, &mut store.accesses);
-    store
-        .tables
-        .set_spare(store.spare_count, link_to(previous), &mut store.accesses);
-    store.spare_count += 1;
+    let Store {
+        tables,
+        spare_count,
+        accesses: count,
+        ..
+    } = store;
+    tables.shape();
+    let offset = tables.offset(previous, count);
+    let link = tables.before(previous, count);
+    tables.set_start(name, offset, total, link, count);
+    point_on(tables, link, name, count);
+    tables.set_spare(*spare_count, link_to(previous), count);
+    *spare_count += 1;
 }
 
 /// Makes a block, which is in no bin, used or free.
@@ -289,20 +284,22 @@ pub(crate) fn split_before<NI: NodeIndex>(store: &mut Store<NI>, name: u32, cut:
     ensures below { result < length store.old.tables.room.nodes }
     ensures accesses { Costs 11 12 store.old.accesses store.new.accesses }
 {
-    store.spare_count -= 1;
-    let front = number(store.tables.spare(store.spare_count, &mut store.accesses));
-    let offset = store.tables.offset(name, &mut store.accesses);
-    let size = store.tables.size(name, &mut store.accesses);
-    let link = store.tables.before(name, &mut store.accesses);
-    let on = store.tables.link_to(name);
-    let back = store.tables.link_to(front);
-    store
-        .tables
-        .set_block(front, offset, cut, link, on, &mut store.accesses);
-    store
-        .tables
-        .set_start(name, offset + cut, size - cut, back, &mut store.accesses);
-    point_on(&mut store.tables, link, front, &mut store.accesses);
+    let Store {
+        tables,
+        spare_count,
+        accesses: count,
+        ..
+    } = store;
+    *spare_count -= 1;
+    let front = number(tables.spare(*spare_count, count));
+    let offset = tables.offset(name, count);
+    let size = tables.size(name, count);
+    let link = tables.before(name, count);
+    let on = tables.link_to(name);
+    let back = tables.link_to(front);
+    tables.set_block(front, offset, cut, link, on, count);
+    tables.set_start(name, offset + cut, size - cut, back, count);
+    point_on(tables, link, front, count);
     front
 }
 

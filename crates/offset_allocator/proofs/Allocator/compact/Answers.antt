@@ -100,9 +100,10 @@ returns-clause-accesses g c =
     let e = c.slide-hole.ensures.place _ _ (kept_place c.empty.ensures.chain (first_held f c.self.invariant o refl)) o.idle in
     let long : length (blocks c.self.inside.store.tables.room c.self.inside.store.last) ≡ length p.before + suc (length p.after) = ap (λ (l : List Block). length l) o.is ∙ length-append p.before (p.block ∷ p.after) in
     let same : length (blocks c.self.inside.store.tables.room c.self.inside.store.last) ≡ length c.args.self.now.blocks = ap (λ (u : View). length u.blocks) c.self.view_is in
-    let counted : c.self.inside.store.accesses ≡ c.args.self.now.accesses = ap (λ (u : View). u.accesses) c.self.view_is in
-    (omega (arith, same, counted, c.first_free.ensures.accesses, c.size-units.ensures.accesses, c.empty.ensures.accesses, c.slide-hole.ensures.accesses_min, c.push.ensures.accesses.0),
-    omega (arith, e.3, long, same, counted, c.first_free.ensures.accesses, c.size-units.ensures.accesses, c.empty.ensures.accesses, c.push.ensures.accesses.1))
+    let counted : c.self.inside.store.accesses ≡ c.args.self.now.accesses = ap (λ (u : View). u.accesses) c.self.view_is in (
+      omega (arith, same, counted, c.first_free.ensures.accesses, c.size-units.ensures.accesses, c.empty.ensures.accesses, c.slide-hole.ensures.accesses_min, c.push.ensures.accesses.0),
+      omega (arith, e.3, long, same, counted, c.first_free.ensures.accesses, c.size-units.ensures.accesses, c.empty.ensures.accesses, c.push.ensures.accesses.1),
+    )
 
 pub returns-in_default-clause-accesses : goal.returns-in_default-clause-accesses
 returns-in_default-clause-accesses g c =
