@@ -97,22 +97,22 @@ impl<NI: NodeIndex> Allocator<NI> {
     pub fn with_max_allocs(alloc: Global, size: u32, max_allocs: u32) -> Result<Self, AllocError> {
         assert!(2 <= max_allocs, "max_allocs must be at least 2");
         assert!(max_allocs < NI::MAX - 1, "max_allocs must be at most NI::MAX - 2");
-        let mut tables = Tables::with_len(alloc, max_allocs)?;
-        let mut top_mask = bins::start(&tables);
-        let mut count = Accesses::new();
-        chain::start(&mut tables, size, max_allocs, &mut count);
-        steps::start(&mut tables, &mut top_mask, size, max_allocs, &mut count);
+        let tables = Tables::with_len(alloc, max_allocs)?;
+        let top_mask = bins::start(&tables);
+        let mut store = Store {
+            tables,
+            top_mask,
+            last: 0,
+            spare_count: 0,
+            accesses: Accesses::new(),
+        };
+        steps::start(&mut store, size, max_allocs);
+        store.accesses = Accesses::new();
         Ok(Allocator {
             size,
             max_allocs,
             free_total: size,
-            store: Store {
-                tables,
-                top_mask,
-                last: 0,
-                spare_count: 0,
-                accesses: Accesses::new(),
-            },
+            store,
         })
     }
 
