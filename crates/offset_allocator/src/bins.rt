@@ -24,7 +24,9 @@ pub(crate) fn find_at_or_above<NI: NodeIndex>(
 ) -> Option<u32>
     requires held { Binned NI.MAX tables.now.links top_mask }
     requires classed { class < 256 }
-    ensures smallest { MatchOption result ((c : ℕ) → class ≤ c → c < 256 → names_at (class_lists NI.MAX tables.now.links) c ≡ []) (IsSmallestFrom class (class_lists NI.MAX tables.now.links)) }
+    ensures smallest { MatchOption result ((c : ℕ) → class ≤ c → c < 256
+        → names_at (class_lists NI.MAX tables.now.links) c
+        ≡ []) (IsSmallestFrom class (class_lists NI.MAX tables.now.links)) }
     ensures accesses { Costs 1 2 count.old count.new }
 {
     let word = class / 64;
@@ -47,7 +49,8 @@ pub(crate) fn largest<NI: NodeIndex>(
     count: &mut Accesses,
 ) -> Option<u32>
     requires { Binned NI.MAX tables.now.links top_mask }
-    ensures largest { MatchOption result ((c : ℕ) → c < 256 → names_at (class_lists NI.MAX tables.now.links) c ≡ []) (IsLargestClass (class_lists NI.MAX tables.now.links)) }
+    ensures largest { MatchOption result ((c : ℕ) → c < 256 → names_at (class_lists NI.MAX tables.now.links) c
+        ≡ []) (IsLargestClass (class_lists NI.MAX tables.now.links)) }
     ensures accesses { MatchOption result (count.new ≡ count.old) (λ _. count.new ≡ count.old + 1) }
 {
     if top_mask == 0 {
@@ -110,9 +113,13 @@ pub(crate) fn push<NI: NodeIndex>(store: &mut Store<NI>, name: u32, class: u32)
 // Clears the bit of a class, whose bin is empty now.
 fn clear_class<NI: NodeIndex>(store: &mut Store<NI>, class: u32)
     requires classed { class < 256 }
-    ensures masked { (ls : List (List ℕ)) → length ls ≡ 256 → Masked ls store.old.tables.links.masks store.old.top_mask → Masked (slice_set ls class []) store.new.tables.links.masks store.new.top_mask }
+    ensures masked { (ls : List (List ℕ)) → length ls ≡ 256 → Masked ls store.old.tables.links.masks store.old.top_mask
+        → Masked (slice_set ls class []) store.new.tables.links.masks store.new.top_mask }
     ensures chain { SameChain store.old store.new }
-    ensures rest { store.new.tables ≡ record store.old.tables { links = record store.old.tables.links { masks = store.new.tables.links.masks } } }
+    ensures rest { store.new.tables ≡ record store.old.tables {
+      links = record store.old.tables.links
+          { masks = store.new.tables.links.masks };
+    } }
     ensures accesses { Costs 0 2 store.old.accesses store.new.accesses }
 {
     let Store {
@@ -135,7 +142,10 @@ fn link_newer<NI: NodeIndex>(tables: &mut Tables<NI>, at: NI, to: NI, count: &mu
     requires named { NI.number at ≢ NI.MAX → NI.number at < length tables.old.links.newer }
     requires idle { NI.number at ≢ NI.MAX → (node tables.old.room (NI.number at)).used ≡ false }
     requires link { NI.number to ≢ NI.MAX - 1 }
-    ensures cells { tables.new ≡ record tables.old { links = record tables.old.links { newer = slice_set tables.old.links.newer (NI.number at) (NI.number to) } } }
+    ensures cells { tables.new ≡ record tables.old {
+      links = record tables.old.links
+          { newer = slice_set tables.old.links.newer (NI.number at) (NI.number to) };
+    } }
     ensures accesses { Costs 0 1 count.old count.new }
 {
     if number(at) != NI::MAX {
@@ -149,13 +159,19 @@ fn behead<NI: NodeIndex>(store: &mut Store<NI>, class: u32, after: NI)
     requires held { AreBinned NI.MAX store.old }
     requires classed { class < 256 }
     requires some { names_at (bins_of NI.MAX store.old) class ≢ [] }
-    requires after { NI.number after ≡ slice_index store.old.tables.links.older (slice_index store.old.tables.links.heads class) }
+    requires after { NI.number after ≡ slice_index store.old.tables.links.older
+        (slice_index store.old.tables.links.heads class) }
     ensures held { AreBinned NI.MAX store.new }
-    ensures lists { bins_of NI.MAX store.new ≡ remove class (slice_index store.old.tables.links.heads class) (bins_of NI.MAX store.old) }
+    ensures lists { bins_of NI.MAX store.new
+        ≡ remove class (slice_index store.old.tables.links.heads class) (bins_of NI.MAX store.old) }
     ensures chain { SameChain store.old store.new }
     ensures accesses { Costs 1 3 store.old.accesses store.new.accesses }
 {
-    let Store { tables, accesses: count, .. } = store;
+    let Store {
+        tables,
+        accesses: count,
+        ..
+    } = store;
     tables.shape();
     let next = number(after);
     tables.set_head(class, next, count);
@@ -177,7 +193,11 @@ fn leave<NI: NodeIndex>(store: &mut Store<NI>, name: u32, before: NI, size: u32)
     ensures chain { SameChain store.old store.new }
     ensures accesses { Costs 2 4 store.old.accesses store.new.accesses }
 {
-    let Store { tables, accesses: count, .. } = store;
+    let Store {
+        tables,
+        accesses: count,
+        ..
+    } = store;
     tables.shape();
     let after = tables.older(name, count);
     if number(before) == NI::MAX {
@@ -228,7 +248,11 @@ pub(crate) fn exchange<NI: NodeIndex>(
     let before = store.tables.newer(gone, &mut store.accesses);
     if number(before) == NI::MAX && class == uint_to_float_round_down(size) {
         // the bin is empty neither before nor after, so the masks stay
-        let Store { tables, accesses: count, .. } = store;
+        let Store {
+            tables,
+            accesses: count,
+            ..
+        } = store;
         let after = tables.older(gone, count);
         tables.set_head(class, name, count);
         tables.set_links(name, no_link(), after, count);
@@ -244,13 +268,18 @@ pub(crate) fn pop<NI: NodeIndex>(store: &mut Store<NI>, class: u32) -> u32
     requires held { AreBinned NI.MAX store.old }
     requires classed { class < 256 }
     requires some { names_at (bins_of NI.MAX store.old) class ≢ [] }
-    ensures first { names_at (bins_of NI.MAX store.old) class ≡ result ∷ without result (names_at (bins_of NI.MAX store.old) class) }
+    ensures first { names_at (bins_of NI.MAX store.old) class
+        ≡ result ∷ without result (names_at (bins_of NI.MAX store.old) class) }
     ensures held { AreBinned NI.MAX store.new }
     ensures lists { bins_of NI.MAX store.new ≡ remove class result (bins_of NI.MAX store.old) }
     ensures chain { SameChain store.old store.new }
     ensures accesses { Costs 3 6 store.old.accesses store.new.accesses }
 {
-    let Store { tables, accesses: count, .. } = store;
+    let Store {
+        tables,
+        accesses: count,
+        ..
+    } = store;
     let name = tables.head(class, count);
     let after = tables.older(name, count);
     behead(store, class, after);

@@ -56,7 +56,8 @@ pub(crate) fn size<NI: NodeIndex>(tables: &Tables<NI>, name: u32, count: &mut Ac
 pub(crate) fn is_used<NI: NodeIndex>(tables: &Tables<NI>, name: u32, count: &mut Accesses) -> bool
     requires { name < length tables.now.room.nodes }
     ensures cell { result ≡ (node tables.now.room name).used }
-    ensures used { (last spare : ℕ) → IsSpace tables.now.room last spare → result ≡ is_used_at (place_of name (blocks tables.now.room last)) }
+    ensures used { (last spare : ℕ) → IsSpace tables.now.room last spare → result
+        ≡ is_used_at (place_of name (blocks tables.now.room last)) }
     ensures accesses { count.new ≡ count.old + 1 }
 {
     tables.used(name, count)
@@ -64,7 +65,8 @@ pub(crate) fn is_used<NI: NodeIndex>(tables: &Tables<NI>, name: u32, count: &mut
 
 /// Whether any name is that of a used block. It counts one access for a name that no node has, too.
 pub(crate) fn is_live<NI: NodeIndex>(tables: &Tables<NI>, name: u32, count: &mut Accesses) -> bool
-    ensures live { (last spare : ℕ) → IsSpace tables.now.room last spare → result ≡ is_used_at (place_of name (blocks tables.now.room last)) }
+    ensures live { (last spare : ℕ) → IsSpace tables.now.room last spare → result
+        ≡ is_used_at (place_of name (blocks tables.now.room last)) }
     ensures accesses { count.new ≡ count.old + 1 }
 {
     if name < tables.len() {
@@ -109,7 +111,8 @@ pub(crate) fn ready<NI: NodeIndex>(
     names: u32,
     count: &mut Accesses,
 )
-    requires memory { (m last : ℕ) × (bs : List Block) × IsChain tables.old.room m last spare_count.old bs × (length bs + names ≤ m) }
+    requires memory { (m last : ℕ) × (bs : List Block) × IsChain tables.old.room m last spare_count.old bs
+        × (length bs + names ≤ m) }
     requires next { names ≤ spare_count.old + 1 }
     ensures readies { Readies NI.MAX tables.old tables.new spare_count.old spare_count.new }
     ensures enough { names ≤ spare_count.new }
@@ -130,7 +133,8 @@ pub(crate) fn ready_for<NI: NodeIndex>(
     names: u32,
     count: &mut Accesses,
 )
-    requires memory { (m last : ℕ) × (bs : List Block) × IsChain tables.old.room m last spare_count.old bs × (length bs + names ≤ m) }
+    requires memory { (m last : ℕ) × (bs : List Block) × IsChain tables.old.room m last spare_count.old bs
+        × (length bs + names ≤ m) }
     requires some { 1 ≤ names }
     requires few { names ≤ 2 }
     ensures readies { Readies NI.MAX tables.old tables.new spare_count.old spare_count.new }
@@ -158,11 +162,16 @@ pub(crate) fn split<NI: NodeIndex>(
     requires offset { offset ≡ (node store.old.tables.room name).offset }
     requires size { size ≡ (node store.old.tables.room name).size }
     requires within { kept ≤ size }
-    ensures place { (m : ℕ) (p : Place) → IsPlaceIn store.old m name p → IsPlaceIn store.new m name (record p { block = record p.block { size = kept }; after = free_block result (p.block.size - kept) ∷ p.after }) }
+    ensures place { (m : ℕ) (p : Place) → IsPlaceIn store.old m name p
+        → IsPlaceIn store.new m name (record p {
+          block = record p.block { size = kept };
+          after = free_block result (p.block.size - kept) ∷ p.after;
+        }) }
     ensures bins { SameBins store.old store.new }
     ensures nodes { length store.new.tables.room.nodes ≡ length store.old.tables.room.nodes }
     ensures spares { store.new.spare_count + 1 ≡ store.old.spare_count }
-    ensures fresh { (m : ℕ) (p : Place) → IsPlaceIn store.old m name p → count_named result (p.before ++ p.block ∷ p.after) ≡ 0 }
+    ensures fresh { (m : ℕ) (p : Place) → IsPlaceIn store.old m name p
+        → count_named result (p.before ++ p.block ∷ p.after) ≡ 0 }
     ensures below { result < length store.old.tables.room.nodes }
     ensures accesses { Costs 8 9 store.old.accesses store.new.accesses }
 {
@@ -197,7 +206,8 @@ pub(crate) fn coalesce_after<NI: NodeIndex>(
     requires next { Some following ≡ (node store.old.tables.room name).after }
     requires free { (node store.old.tables.room following).used ≡ false }
     requires total { total ≡ (node store.old.tables.room name).size + (node store.old.tables.room following).size }
-    ensures place { (m : ℕ) (p : Place) → IsPlaceIn store.old m name p → IsPlaceIn store.new m name (coalesced_after p) }
+    ensures place { (m : ℕ) (p : Place) → IsPlaceIn store.old m name p
+        → IsPlaceIn store.new m name (coalesced_after p) }
     ensures bins { SameBins store.old store.new }
     ensures nodes { length store.new.tables.room.nodes ≡ length store.old.tables.room.nodes }
     ensures spares { store.new.spare_count ≡ store.old.spare_count + 1 }
@@ -231,7 +241,8 @@ pub(crate) fn coalesce_before<NI: NodeIndex>(
     requires previous { Some previous ≡ (node store.old.tables.room name).before }
     requires free { (node store.old.tables.room previous).used ≡ false }
     requires total { total ≡ (node store.old.tables.room previous).size + (node store.old.tables.room name).size }
-    ensures place { (m : ℕ) (p : Place) → IsPlaceIn store.old m name p → IsPlaceIn store.new m name (coalesced_before p) }
+    ensures place { (m : ℕ) (p : Place) → IsPlaceIn store.old m name p
+        → IsPlaceIn store.new m name (coalesced_before p) }
     ensures bins { SameBins store.old store.new }
     ensures nodes { length store.new.tables.room.nodes ≡ length store.old.tables.room.nodes }
     ensures spares { store.new.spare_count ≡ store.old.spare_count + 1 }
@@ -261,8 +272,10 @@ pub(crate) fn mark<NI: NodeIndex>(
     count: &mut Accesses,
 )
     requires { name < length tables.old.room.nodes }
-    ensures place { (m last spare : ℕ) (p : Place) → HasPlace tables.old.room m last spare name p → HasPlace tables.new.room m last spare name (record p { block = record p.block { used = used } }) }
-    ensures bins { (top : ℕ) → IsUnlisted name (class_lists NI.MAX tables.old.links) → KeepsBins NI.MAX tables.old tables.new top }
+    ensures place { (m last spare : ℕ) (p : Place) → HasPlace tables.old.room m last spare name p
+        → HasPlace tables.new.room m last spare name (record p { block = record p.block { used = used } }) }
+    ensures bins { (top : ℕ) → IsUnlisted name (class_lists NI.MAX tables.old.links)
+        → KeepsBins NI.MAX tables.old tables.new top }
     ensures nodes { length tables.new.room.nodes ≡ length tables.old.room.nodes }
     ensures accesses { count.new ≡ count.old + 1 }
 {
@@ -276,11 +289,17 @@ pub(crate) fn split_before<NI: NodeIndex>(store: &mut Store<NI>, name: u32, cut:
     requires place { (m : ℕ) × (p : Place) × IsPlaceIn store.old m name p }
     requires spare { 0 < store.old.spare_count }
     requires within { cut ≤ (node store.old.tables.room name).size }
-    ensures place { (m : ℕ) (p : Place) → IsPlaceIn store.old m name p → IsPlaceIn store.new m name (record { before = p.before ++ free_block result cut ∷ []; block = record p.block { size = p.block.size - cut }; after = p.after }) }
+    ensures place { (m : ℕ) (p : Place) → IsPlaceIn store.old m name p
+        → IsPlaceIn store.new m name (record {
+          before = p.before ++ free_block result cut ∷ [];
+          block = record p.block { size = p.block.size - cut };
+          after = p.after;
+        }) }
     ensures bins { SameBins store.old store.new }
     ensures nodes { length store.new.tables.room.nodes ≡ length store.old.tables.room.nodes }
     ensures spares { store.new.spare_count + 1 ≡ store.old.spare_count }
-    ensures fresh { (m : ℕ) (p : Place) → IsPlaceIn store.old m name p → count_named result (p.before ++ p.block ∷ p.after) ≡ 0 }
+    ensures fresh { (m : ℕ) (p : Place) → IsPlaceIn store.old m name p
+        → count_named result (p.before ++ p.block ∷ p.after) ≡ 0 }
     ensures below { result < length store.old.tables.room.nodes }
     ensures accesses { Costs 11 12 store.old.accesses store.new.accesses }
 {
@@ -311,9 +330,16 @@ pub(crate) fn grow<NI: NodeIndex>(
     more: u32,
     count: &mut Accesses,
 )
-    requires place { (m spare : ℕ) × (before : List Block) × (b : Block) × HasPlace tables.old.room m last spare last (record { before = before; block = b; after = [] }) }
+    requires place { (m spare : ℕ) × (before : List Block) × (b : Block)
+        × HasPlace tables.old.room m last spare last (record { before = before; block = b; after = [] }) }
     requires fits { units (blocks tables.old.room last) + more < 2 ^ 32 }
-    ensures place { (m spare : ℕ) (before : List Block) (b : Block) → HasPlace tables.old.room m last spare last (record { before = before; block = b; after = [] }) → HasPlace tables.new.room m last spare last (record { before = before; block = record b { size = b.size + more }; after = [] }) }
+    ensures place { (m spare : ℕ) (before : List Block) (b : Block)
+        → HasPlace tables.old.room m last spare last (record { before = before; block = b; after = [] })
+        → HasPlace tables.new.room m last spare last (record {
+          before = before;
+          block = record b { size = b.size + more };
+          after = [];
+        }) }
     ensures links { tables.new.links ≡ tables.old.links }
     ensures nodes { length tables.new.room.nodes ≡ length tables.old.room.nodes }
     ensures accesses { count.new ≡ count.old + 2 }

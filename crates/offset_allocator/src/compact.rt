@@ -72,7 +72,12 @@ fn pass<NI: NodeIndex>(
     requires size { size ≡ (node store.old.tables.room hole).size }
     requires next { Some next ≡ (node store.old.tables.room hole).after }
     requires more { more ≡ (node store.old.tables.room next).size }
-    ensures place { (m : ℕ) (p : Place) (b : Block) (bs : List Block) → IsPlaceIn store.old m hole p → p.block.used ≡ false → p.after ≡ b ∷ bs → IsPlaceIn store.new m result (record { before = p.before ++ b ∷ []; block = free_block result p.block.size; after = bs }) }
+    ensures place { (m : ℕ) (p : Place) (b : Block) (bs : List Block) → IsPlaceIn store.old m hole p → p.block.used
+        ≡ false → p.after ≡ b ∷ bs → IsPlaceIn store.new m result (record {
+          before = p.before ++ b ∷ [];
+          block = free_block result p.block.size;
+          after = bs;
+        }) }
     ensures bins { SameBins store.old store.new }
     ensures accesses { Costs 14 16 store.old.accesses store.new.accesses }
 {
@@ -91,7 +96,12 @@ fn report<NI: NodeIndex, F: FnMut(Move<NI>)>(
 )
     requires named { name < NI.MAX }
     requires callable { F.IsAlwaysCallable moved.old }
-    ensures called { (used : Bool) → FoldsTo (IsCalledWith NI.NonMax.number (λ f range g. F.step f range tt g)) moved.old (move_of from to (record { name = name; size = size; used = used })) moved.new }
+    ensures called { (used : Bool) → FoldsTo (IsCalledWith NI.NonMax.number
+        (λ f range g. F.step f range tt g)) moved.old (move_of from to (record {
+          name = name;
+          size = size;
+          used = used;
+        })) moved.new }
     ensures callable { F.IsAlwaysCallable moved.new }
 {
     if from == to {
@@ -118,9 +128,14 @@ fn slide<NI: NodeIndex, F: FnMut(Move<NI>)>(
     requires size { size ≡ (node store.old.tables.room hole).size }
     requires callable { F.IsAlwaysCallable moved.old }
     ensures place { (m : ℕ) (p : Place) → IsPlaceIn store.old m hole p → p.block.used ≡ false
-        → IsPlaceIn store.new m result.0 (record { before = p.before ++ live p.after; block = free_block result.0 result.1; after = [] })
+        → IsPlaceIn store.new m result.0 (record {
+          before = p.before ++ live p.after;
+          block = free_block result.0 result.1;
+          after = [];
+        })
         × (result.1 ≡ p.block.size + free_units p.after)
-        × FoldsTo (IsCalledWith NI.NonMax.number (λ f range g. F.step f range tt g)) moved.old (moves (units p.before + p.block.size) (units p.before) p.after) moved.new
+        × FoldsTo (IsCalledWith NI.NonMax.number (λ f range g. F.step f range tt g)) moved.old
+        (moves (units p.before + p.block.size) (units p.before) p.after) moved.new
         × (store.new.accesses ≤ store.old.accesses + 20 * length p.after + 1) }
     ensures bins { SameBins store.old store.new }
     ensures accesses_min { store.old.accesses + 1 ≤ store.new.accesses }
@@ -154,10 +169,12 @@ impl<NI: NodeIndex> Allocator<NI> {
         ensures live { live self.new.blocks ≡ live self.old.blocks }
         ensures sizes { KeepsSizes self.old self.new }
         // The closure is called with the moves, in space order.
-        ensures moved { FoldsTo (IsCalledWith NI.NonMax.number (λ f range g. F.step f range tt g)) moved.old (moves 0 0 self.old.blocks) moved.new }
+        ensures moved { FoldsTo (IsCalledWith NI.NonMax.number (λ f range g. F.step f range tt g)) moved.old
+            (moves 0 0 self.old.blocks) moved.new }
         // It makes at least 2 accesses to table cells for each block, and 267 more where a block is free; at most 24
         // for each, and 512.
-        ensures accesses { Costs (2 * length self.old.blocks) (24 * length self.old.blocks + 512) self.old.accesses self.new.accesses }
+        ensures accesses { Costs (2 * length self.old.blocks)
+            (24 * length self.old.blocks + 512) self.old.accesses self.new.accesses }
         ensures accesses_some { free_sizes self.old.blocks ≢ []
             → self.old.accesses + 2 * length self.old.blocks + 267 ≤ self.new.accesses }
         // The step as a whole: the live blocks, and after them one free block of all free units, alone in its bin.

@@ -1,5 +1,5 @@
-//! The calls that leave an allocator as it is, with a count of their accesses. The plain calls are these with a count
-//! of their own, and `laws` exports them.
+//! Read-only calls that add their table accesses to `count`. The plain calls are these with a count of their own, and
+//! `laws` exports them.
 ghost use Rattle.std.specs.Prelude.{◌≡◌, ◌<◌, ◌≤◌, ◌+◌, ◌*◌, ◌↔◌, IsTrue, IsSome, IfSome, None, length, option_map};
 ghost use Rattle.std.specs.Iterator.{YieldsFirstBy};
 ghost use Rattle.offset_allocator.specs.Count.{Costs};

@@ -27,7 +27,8 @@ use crate::tables::Tables;
 /// The contract says this of each grant that a request for `n` can have here, whichever unused name its remainder
 /// takes. The count of accesses grows by at most 192.
 pub fn undo<NI: NodeIndex>(allocator: &mut Allocator<NI>, n: u32) -> bool
-    ensures undone { (w u : View) (g : Grant) → Allocates n allocator.old w (Some g) → Frees g.name w u → SameSpace allocator.old u }
+    ensures undone { (w u : View) (g : Grant) → Allocates n allocator.old w (Some g) → Frees g.name w u
+        → SameSpace allocator.old u }
     ensures same { SameSpace allocator.old allocator.new }
     ensures granted { IsTrue result ↔ CanGrant 1 n allocator.old }
     ensures accesses { Costs 0 192 allocator.old.accesses allocator.new.accesses }

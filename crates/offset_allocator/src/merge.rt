@@ -19,7 +19,9 @@ use crate::{bins, chain};
 #[inline(always)]
 fn free_before<NI: NodeIndex>(tables: &Tables<NI>, name: u32, count: &mut Accesses) -> Option<u32>
     requires place { (m last spare : ℕ) × (p : Place) × HasPlace tables.now.room m last spare name p }
-    ensures free { MatchOption result ((m last spare : ℕ) (p : Place) → HasPlace tables.now.room m last spare name p → free_end p.before ≡ []) (λ x. (Some x ≡ (node tables.now.room name).before) × ((node tables.now.room x).used ≡ false)) }
+    ensures free { MatchOption result ((m last spare : ℕ) (p : Place) → HasPlace tables.now.room m last spare name p
+        → free_end p.before ≡ []) (λ x. (Some x ≡ (node tables.now.room name).before)
+        × ((node tables.now.room x).used ≡ false)) }
     ensures accesses { Costs 1 2 count.old count.new }
 {
     if let Some(previous) = chain::before(tables, name, count) {
@@ -53,12 +55,15 @@ pub(crate) fn free_after<NI: NodeIndex>(
 // of the whole is returned.
 #[inline(always)]
 fn with_before<NI: NodeIndex>(store: &mut Store<NI>, name: u32, size: u32) -> u32
-    requires place { (m : ℕ) × (p : Place) × IsPlaceIn store.old m name p × AreFiled (p.before ++ p.after) (bins_of NI.MAX store.old) }
+    requires place { (m : ℕ) × (p : Place) × IsPlaceIn store.old m name p
+        × AreFiled (p.before ++ p.after) (bins_of NI.MAX store.old) }
     requires held { AreBinned NI.MAX store.old }
     requires size { size ≡ (node store.old.tables.room name).size }
-    ensures place { (m : ℕ) (p : Place) → IsPlaceIn store.old m name p → IsPlaceIn store.new m name (coalesced_before p) }
+    ensures place { (m : ℕ) (p : Place) → IsPlaceIn store.old m name p
+        → IsPlaceIn store.new m name (coalesced_before p) }
     ensures held { AreBinned NI.MAX store.new }
-    ensures lists { (m : ℕ) (p : Place) → IsPlaceIn store.old m name p → bins_of NI.MAX store.new ≡ remove_all (free_end p.before) (bins_of NI.MAX store.old) }
+    ensures lists { (m : ℕ) (p : Place) → IsPlaceIn store.old m name p → bins_of NI.MAX store.new
+        ≡ remove_all (free_end p.before) (bins_of NI.MAX store.old) }
     ensures nodes { length store.new.tables.room.nodes ≡ length store.old.tables.room.nodes }
     ensures size { result ≡ (node store.new.tables.room name).size }
     ensures accesses { Costs 1 15 store.old.accesses store.new.accesses }
@@ -73,18 +78,21 @@ fn with_before<NI: NodeIndex>(store: &mut Store<NI>, name: u32, size: u32) -> u3
     size
 }
 
-/// Coalesces a block of this size, which is in no bin, with the free blocks beside it, and pushes the whole block onto
-/// its bin. There it takes the place of the neighbour that is coalesced last, where that is the newest of this same
-/// bin.
+/// Coalesces a block of this size, which is in no bin, with the free blocks beside it, and pushes the whole onto its
+/// bin. If the neighbour that is coalesced last heads this bin, the block takes its place there.
 #[inline(always)]
 pub(crate) fn coalesce<NI: NodeIndex>(store: &mut Store<NI>, name: u32, size: u32)
-    requires place { (m : ℕ) × (p : Place) × IsPlaceIn store.old m name p × AreFiled (p.before ++ p.after) (bins_of NI.MAX store.old) }
+    requires place { (m : ℕ) × (p : Place) × IsPlaceIn store.old m name p
+        × AreFiled (p.before ++ p.after) (bins_of NI.MAX store.old) }
     requires held { AreBinned NI.MAX store.old }
     requires idle { (node store.old.tables.room name).used ≡ false }
     requires size { size ≡ (node store.old.tables.room name).size }
-    ensures place { (m : ℕ) (p : Place) → IsPlaceIn store.old m name p → IsPlaceIn store.new m name (coalesced_after (coalesced_before p)) }
+    ensures place { (m : ℕ) (p : Place) → IsPlaceIn store.old m name p
+        → IsPlaceIn store.new m name (coalesced_after (coalesced_before p)) }
     ensures held { AreBinned NI.MAX store.new }
-    ensures lists { (m : ℕ) (p : Place) → IsPlaceIn store.old m name p → bins_of NI.MAX store.new ≡ push (down (node store.new.tables.room name).size) name (remove_all (free_start p.after) (remove_all (free_end p.before) (bins_of NI.MAX store.old))) }
+    ensures lists { (m : ℕ) (p : Place) → IsPlaceIn store.old m name p → bins_of NI.MAX store.new
+        ≡ push (down (node store.new.tables.room name).size) name
+        (remove_all (free_start p.after) (remove_all (free_end p.before) (bins_of NI.MAX store.old))) }
     ensures accesses { Costs 7 34 store.old.accesses store.new.accesses }
 {
     let (gone, more, whole) = if let Some(following) = free_after(

@@ -1,4 +1,4 @@
-//! Splits a block: padding, a used middle, and a remainder. And resizes one, with the free block after it.
+//! Splits a block into padding, grant and remainder; resizes one into the free block after it.
 ghost use Rattle.std.specs.Prelude.{ℕ, ◌≡◌, ◌+◌, ◌-◌, ◌<◌, ◌≤◌, IsSome, length, ◌∷◌, ◌++◌};
 ghost use Rattle.offset_allocator.specs.Count.{Costs};
 ghost use Rattle.offset_allocator.specs.Cells.{node};
@@ -19,11 +19,17 @@ use crate::{bins, chain};
 // are none, nothing changes, and the name returned is that of the block.
 #[inline(always)]
 fn split_padding<NI: NodeIndex>(store: &mut Store<NI>, name: u32, units: u32) -> u32
-    requires place { (m : ℕ) × (p : Place) × IsPlaceIn store.old m name p × AreUnlisted (p.before ++ p.block ∷ p.after) (bins_of NI.MAX store.old) }
+    requires place { (m : ℕ) × (p : Place) × IsPlaceIn store.old m name p
+        × AreUnlisted (p.before ++ p.block ∷ p.after) (bins_of NI.MAX store.old) }
     requires held { AreBinned NI.MAX store.old }
     requires spare { 0 < store.old.spare_count }
     requires within { units ≤ (node store.old.tables.room name).size }
-    ensures place { (m : ℕ) (p : Place) → IsPlaceIn store.old m name p → IsPlaceIn store.new m name (record { before = p.before ++ free_part result units; block = record p.block { size = p.block.size - units }; after = p.after }) }
+    ensures place { (m : ℕ) (p : Place) → IsPlaceIn store.old m name p
+        → IsPlaceIn store.new m name (record {
+          before = p.before ++ free_part result units;
+          block = record p.block { size = p.block.size - units };
+          after = p.after;
+        }) }
     ensures held { AreBinned NI.MAX store.new }
     ensures lists { bins_of NI.MAX store.new ≡ push_all (free_part result units) (bins_of NI.MAX store.old) }
     ensures nodes { length store.new.tables.room.nodes ≡ length store.old.tables.room.nodes }
@@ -49,12 +55,17 @@ fn split_remainder<NI: NodeIndex>(
     size: u32,
     left: u32,
 ) -> u32
-    requires place { (m : ℕ) × (p : Place) × IsPlaceIn store.old m name p × AreUnlisted (p.before ++ p.block ∷ p.after) (bins_of NI.MAX store.old) }
+    requires place { (m : ℕ) × (p : Place) × IsPlaceIn store.old m name p
+        × AreUnlisted (p.before ++ p.block ∷ p.after) (bins_of NI.MAX store.old) }
     requires held { AreBinned NI.MAX store.old }
     requires spare { 0 < store.old.spare_count }
     requires offset { offset ≡ (node store.old.tables.room name).offset }
     requires whole { size + left ≡ (node store.old.tables.room name).size }
-    ensures place { (m : ℕ) (p : Place) → IsPlaceIn store.old m name p → IsPlaceIn store.new m name (record p { block = record p.block { size = size }; after = free_part result left ++ p.after }) }
+    ensures place { (m : ℕ) (p : Place) → IsPlaceIn store.old m name p
+        → IsPlaceIn store.new m name (record p {
+          block = record p.block { size = size };
+          after = free_part result left ++ p.after;
+        }) }
     ensures held { AreBinned NI.MAX store.new }
     ensures lists { bins_of NI.MAX store.new ≡ push_all (free_part result left) (bins_of NI.MAX store.old) }
     ensures nodes { length store.new.tables.room.nodes ≡ length store.old.tables.room.nodes }
@@ -80,16 +91,24 @@ pub(crate) fn divide<NI: NodeIndex>(
     size: u32,
     left: u32,
 ) -> (u32, u32)
-    requires place { (m : ℕ) × (p : Place) × IsPlaceIn store.old m name p × AreUnlisted (p.before ++ p.block ∷ p.after) (bins_of NI.MAX store.old) }
+    requires place { (m : ℕ) × (p : Place) × IsPlaceIn store.old m name p
+        × AreUnlisted (p.before ++ p.block ∷ p.after) (bins_of NI.MAX store.old) }
     requires held { AreBinned NI.MAX store.old }
     requires unlisted { IsUnlisted name (bins_of NI.MAX store.old) }
     requires spare { 0 < store.old.spare_count }
     requires two { 0 < padding → 1 < store.old.spare_count }
     requires start { start ≡ (node store.old.tables.room name).offset + padding }
     requires whole { padding + size + left ≡ (node store.old.tables.room name).size }
-    ensures place { (m : ℕ) (p : Place) → IsPlaceIn store.old m name p → IsPlaceIn store.new m name (record { before = p.before ++ free_part result.0 padding; block = used_block p.block.name size; after = free_part result.1 left ++ p.after }) }
+    ensures place { (m : ℕ) (p : Place) → IsPlaceIn store.old m name p
+        → IsPlaceIn store.new m name (record {
+          before = p.before ++ free_part result.0 padding;
+          block = used_block p.block.name size;
+          after = free_part result.1 left ++ p.after;
+        }) }
     ensures held { AreBinned NI.MAX store.new }
-    ensures lists { bins_of NI.MAX store.new ≡ push_all (free_part result.0 padding ++ used_block name size ∷ free_part result.1 left) (bins_of NI.MAX store.old) }
+    ensures lists { bins_of NI.MAX store.new
+        ≡ push_all (free_part result.0 padding ++ used_block name size ∷ free_part result.1 left)
+        (bins_of NI.MAX store.old) }
     ensures nodes { length store.new.tables.room.nodes ≡ length store.old.tables.room.nodes }
     ensures accesses { Costs 1 35 store.old.accesses store.new.accesses }
 {
@@ -109,7 +128,8 @@ pub(crate) fn units_after<NI: NodeIndex>(
 ) -> u32
     requires place { (m last spare : ℕ) × (p : Place) × HasPlace tables.now.room m last spare name p }
     requires next { IsFreeAfter tables.now.room name next }
-    ensures units { (m last spare : ℕ) (p : Place) → HasPlace tables.now.room m last spare name p → result ≡ units (free_start p.after) }
+    ensures units { (m last spare : ℕ) (p : Place) → HasPlace tables.now.room m last spare name p → result
+        ≡ units (free_start p.after) }
     ensures accesses { Costs 0 1 count.old count.new }
 {
     match next {
@@ -122,13 +142,16 @@ pub(crate) fn units_after<NI: NodeIndex>(
 // the block. The size of the whole is returned.
 #[inline(always)]
 fn with_after<NI: NodeIndex>(store: &mut Store<NI>, name: u32, size: u32, next: Option<u32>) -> u32
-    requires place { (m : ℕ) × (p : Place) × IsPlaceIn store.old m name p × AreFiled (p.before ++ p.after) (bins_of NI.MAX store.old) }
+    requires place { (m : ℕ) × (p : Place) × IsPlaceIn store.old m name p
+        × AreFiled (p.before ++ p.after) (bins_of NI.MAX store.old) }
     requires held { AreBinned NI.MAX store.old }
     requires size { size ≡ (node store.old.tables.room name).size }
     requires next { IsFreeAfter store.old.tables.room name next }
-    ensures place { (m : ℕ) (p : Place) → IsPlaceIn store.old m name p → IsPlaceIn store.new m name (coalesced_after p) }
+    ensures place { (m : ℕ) (p : Place) → IsPlaceIn store.old m name p
+        → IsPlaceIn store.new m name (coalesced_after p) }
     ensures held { AreBinned NI.MAX store.new }
-    ensures lists { (m : ℕ) (p : Place) → IsPlaceIn store.old m name p → bins_of NI.MAX store.new ≡ remove_all (free_start p.after) (bins_of NI.MAX store.old) }
+    ensures lists { (m : ℕ) (p : Place) → IsPlaceIn store.old m name p → bins_of NI.MAX store.new
+        ≡ remove_all (free_start p.after) (bins_of NI.MAX store.old) }
     ensures spares { store.old.spare_count ≤ store.new.spare_count }
     ensures size { result ≡ (node store.new.tables.room name).size }
     ensures accesses { Costs 0 11 store.old.accesses store.new.accesses }
@@ -156,14 +179,23 @@ pub(crate) fn resize<NI: NodeIndex>(
     next: Option<u32>,
     size: u32,
 ) -> u32
-    requires place { (m : ℕ) × (p : Place) × IsPlaceIn store.old m name p × AreFiled (p.before ++ p.after) (bins_of NI.MAX store.old) × (size ≤ p.block.size + units (free_start p.after)) }
+    requires place { (m : ℕ) × (p : Place) × IsPlaceIn store.old m name p
+        × AreFiled (p.before ++ p.after) (bins_of NI.MAX store.old)
+        × (size ≤ p.block.size + units (free_start p.after)) }
     requires held { AreBinned NI.MAX store.old }
     requires spare { 0 < store.old.spare_count }
     requires old_size { old_size ≡ (node store.old.tables.room name).size }
     requires next { IsFreeAfter store.old.tables.room name next }
-    ensures place { (m : ℕ) (p : Place) → IsPlaceIn store.old m name p → IsPlaceIn store.new m name (record { before = p.before; block = record p.block { size = size }; after = free_part result (p.block.size + units (free_start p.after) - size) ++ without_start p.after }) }
+    ensures place { (m : ℕ) (p : Place) → IsPlaceIn store.old m name p
+        → IsPlaceIn store.new m name (record {
+          before = p.before;
+          block = record p.block { size = size };
+          after = free_part result (p.block.size + units (free_start p.after) - size) ++ without_start p.after;
+        }) }
     ensures held { AreBinned NI.MAX store.new }
-    ensures lists { (m : ℕ) (p : Place) → IsPlaceIn store.old m name p → bins_of NI.MAX store.new ≡ push_all (free_part result (p.block.size + units (free_start p.after) - size)) (remove_all (free_start p.after) (bins_of NI.MAX store.old)) }
+    ensures lists { (m : ℕ) (p : Place) → IsPlaceIn store.old m name p → bins_of NI.MAX store.new
+        ≡ push_all (free_part result (p.block.size + units (free_start p.after) - size))
+        (remove_all (free_start p.after) (bins_of NI.MAX store.old)) }
     ensures accesses { Costs 1 28 store.old.accesses store.new.accesses }
     ensures accesses_less { size < old_size → store.old.accesses + 14 ≤ store.new.accesses }
     ensures accesses_more { IsSome next → store.old.accesses + 9 ≤ store.new.accesses }

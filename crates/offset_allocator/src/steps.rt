@@ -1,5 +1,4 @@
-//! The private methods that the public calls are made of, and two functions that they share. Each method leaves an
-//! allocator whose blocks and bins agree.
+//! The steps behind the public calls. Each method leaves an allocator whose blocks and bins agree.
 ghost use Rattle.std.specs.Prelude.{◌≡◌, ◌↔◌, ◌+◌, ◌-◌, ◌*◌, ◌<◌, ◌≤◌, [], ◌∷◌, length, replicate, None, false, true, IsTrue, IsSome, IfSome};
 ghost use Rattle.offset_allocator.specs.Count.{Costs};
 ghost use Rattle.offset_allocator.specs.Classes.{up};

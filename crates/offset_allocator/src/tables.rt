@@ -76,8 +76,8 @@ impl<NI: NodeIndex> Tables<NI> {
         self.nodes.len() as u32
     }
 
-    /// Makes one more node, which is blank, and puts its name at a place of the stack of unused names. It is out of line,
-    /// since each node is made once.
+    /// Makes one more node, which is blank, and puts its name at a place of the stack of unused names. It is out of
+    /// line, since each node is made once.
     #[inline(never)]
     pub(crate) fn add(&mut self, place: u32, count: &mut Accesses)
         requires memory { length self.old.room.nodes < self.old.room.reserved }
@@ -143,7 +143,10 @@ impl<NI: NodeIndex> Tables<NI> {
     /// Writes the size of a node.
     pub(crate) fn set_size(&mut self, name: u32, size: u32, count: &mut Accesses)
         requires { name < length self.old.room.nodes }
-        ensures cells { self.new ≡ record self.old { room = put self.old.room name (record (node self.old.room name) { size = size }) } }
+        ensures cells { self.new ≡ record self.old {
+          room = put self.old.room name
+              (record (node self.old.room name) { size = size });
+        } }
         ensures accesses { count.new ≡ count.old + 1 }
     {
         count.tick();
@@ -163,7 +166,11 @@ impl<NI: NodeIndex> Tables<NI> {
     /// Writes whether a node is used. It is in no class.
     pub(crate) fn set_used(&mut self, name: u32, used: bool, count: &mut Accesses)
         requires { name < length self.old.room.nodes }
-        ensures cells { self.new ≡ record self.old { room = put self.old.room name (record (node self.old.room name) { used = used }); links = record self.old.links { newer = slice_set self.old.links.newer name (mark_of NI.MAX used) } } }
+        ensures cells { self.new ≡ record self.old {
+          room = put self.old.room name
+              (record (node self.old.room name) { used = used });
+          links = record self.old.links { newer = slice_set self.old.links.newer name (mark_of NI.MAX used) };
+        } }
         ensures accesses { count.new ≡ count.old + 1 }
     {
         count.tick();
@@ -183,7 +190,10 @@ impl<NI: NodeIndex> Tables<NI> {
     /// Writes the link to the node before a node in space.
     pub(crate) fn set_before(&mut self, name: u32, link: NI, count: &mut Accesses)
         requires { name < length self.old.room.nodes }
-        ensures cells { self.new ≡ record self.old { room = put self.old.room name (record (node self.old.room name) { before = link_of NI.MAX (NI.number link) }) } }
+        ensures cells { self.new ≡ record self.old {
+          room = put self.old.room name
+              (record (node self.old.room name) { before = link_of NI.MAX (NI.number link) });
+        } }
         ensures accesses { count.new ≡ count.old + 1 }
     {
         count.tick();
@@ -203,7 +213,10 @@ impl<NI: NodeIndex> Tables<NI> {
     /// Writes the link to the node after a node in space.
     pub(crate) fn set_after(&mut self, name: u32, link: NI, count: &mut Accesses)
         requires { name < length self.old.room.nodes }
-        ensures cells { self.new ≡ record self.old { room = put self.old.room name (record (node self.old.room name) { after = link_of NI.MAX (NI.number link) }) } }
+        ensures cells { self.new ≡ record self.old {
+          room = put self.old.room name
+              (record (node self.old.room name) { after = link_of NI.MAX (NI.number link) });
+        } }
         ensures accesses { count.new ≡ count.old + 1 }
     {
         count.tick();
@@ -222,7 +235,15 @@ impl<NI: NodeIndex> Tables<NI> {
     )
         requires name { name < length self.old.room.nodes }
         requires idle { (node self.old.room name).used ≡ false }
-        ensures cells { self.new ≡ record self.old { room = put self.old.room name (record { offset = offset; size = size; used = false; before = link_of NI.MAX (NI.number before); after = link_of NI.MAX (NI.number after) }) } }
+        ensures cells { self.new ≡ record self.old {
+          room = put self.old.room name (record {
+            offset = offset;
+            size = size;
+            used = false;
+            before = link_of NI.MAX (NI.number before);
+            after = link_of NI.MAX (NI.number after);
+          });
+        } }
         ensures accesses { count.new ≡ count.old + 4 }
     {
         count.tick();
@@ -246,7 +267,14 @@ impl<NI: NodeIndex> Tables<NI> {
         count: &mut Accesses,
     )
         requires { name < length self.old.room.nodes }
-        ensures cells { self.new ≡ record self.old { room = put self.old.room name (record (node self.old.room name) { offset = offset; size = size; before = link_of NI.MAX (NI.number link) }) } }
+        ensures cells { self.new ≡ record self.old {
+          room = put self.old.room name
+              (record (node self.old.room name) {
+                offset = offset;
+                size = size;
+                before = link_of NI.MAX (NI.number link);
+              });
+        } }
         ensures accesses { count.new ≡ count.old + 3 }
     {
         count.tick();
@@ -261,7 +289,10 @@ impl<NI: NodeIndex> Tables<NI> {
     /// Writes the size of a node, and the link to the node after it in space.
     pub(crate) fn set_end(&mut self, name: u32, size: u32, link: NI, count: &mut Accesses)
         requires { name < length self.old.room.nodes }
-        ensures cells { self.new ≡ record self.old { room = put self.old.room name (record (node self.old.room name) { size = size; after = link_of NI.MAX (NI.number link) }) } }
+        ensures cells { self.new ≡ record self.old {
+          room = put self.old.room name
+              (record (node self.old.room name) { size = size; after = link_of NI.MAX (NI.number link) });
+        } }
         ensures accesses { count.new ≡ count.old + 2 }
     {
         count.tick();
@@ -306,7 +337,10 @@ impl<NI: NodeIndex> Tables<NI> {
         requires name { name < length self.old.links.newer }
         requires idle { (node self.old.room name).used ≡ false }
         requires link { NI.number link ≢ NI.MAX - 1 }
-        ensures cells { self.new ≡ record self.old { links = record self.old.links { newer = slice_set self.old.links.newer name (NI.number link) } } }
+        ensures cells { self.new ≡ record self.old {
+          links = record self.old.links
+              { newer = slice_set self.old.links.newer name (NI.number link) };
+        } }
         ensures accesses { count.new ≡ count.old + 1 }
     {
         count.tick();
@@ -326,7 +360,10 @@ impl<NI: NodeIndex> Tables<NI> {
     /// Writes the link to the next older node of a node's class.
     pub(crate) fn set_older(&mut self, name: u32, link: NI, count: &mut Accesses)
         requires { name < length self.old.links.older }
-        ensures cells { self.new ≡ record self.old { links = record self.old.links { older = slice_set self.old.links.older name (NI.number link) } } }
+        ensures cells { self.new ≡ record self.old {
+          links = record self.old.links
+              { older = slice_set self.old.links.older name (NI.number link) };
+        } }
         ensures accesses { count.new ≡ count.old + 1 }
     {
         count.tick();
@@ -338,7 +375,12 @@ impl<NI: NodeIndex> Tables<NI> {
         requires name { name < length self.old.links.newer }
         requires idle { (node self.old.room name).used ≡ false }
         requires link { NI.number newer ≢ NI.MAX - 1 }
-        ensures cells { self.new ≡ record self.old { links = record self.old.links { newer = slice_set self.old.links.newer name (NI.number newer); older = slice_set self.old.links.older name (NI.number older) } } }
+        ensures cells { self.new ≡ record self.old {
+          links = record self.old.links {
+            newer = slice_set self.old.links.newer name (NI.number newer);
+            older = slice_set self.old.links.older name (NI.number older);
+          };
+        } }
         ensures accesses { count.new ≡ count.old + 2 }
     {
         count.tick();
@@ -361,7 +403,10 @@ impl<NI: NodeIndex> Tables<NI> {
     /// Writes the name of the newest node of a class, or `MAX`.
     pub(crate) fn set_head(&mut self, class: u32, name: u32, count: &mut Accesses)
         requires { class < length self.old.links.heads }
-        ensures cells { self.new ≡ record self.old { links = record self.old.links { heads = slice_set self.old.links.heads class name } } }
+        ensures cells { self.new ≡ record self.old {
+          links = record self.old.links
+              { heads = slice_set self.old.links.heads class name };
+        } }
         ensures accesses { count.new ≡ count.old + 1 }
     {
         count.tick();
@@ -381,7 +426,10 @@ impl<NI: NodeIndex> Tables<NI> {
     /// Writes a word of the masks.
     pub(crate) fn set_mask(&mut self, word: u32, mask: u64, count: &mut Accesses)
         requires { word < 4 }
-        ensures cells { self.new ≡ record self.old { links = record self.old.links { masks = slice_set self.old.links.masks word mask } } }
+        ensures cells { self.new ≡ record self.old {
+          links = record self.old.links
+              { masks = slice_set self.old.links.masks word mask };
+        } }
         ensures accesses { count.new ≡ count.old + 1 }
     {
         count.tick();

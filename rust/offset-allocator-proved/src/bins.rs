@@ -103,7 +103,11 @@ fn link_newer<NI: NodeIndex>(tables: &mut Tables<NI>, at: NI, to: NI, count: &mu
 // Removes the newest name of a class from its bin. `after` is the link to the next older one.
 #[inline(always)]
 fn behead<NI: NodeIndex>(store: &mut Store<NI>, class: u32, after: NI) {
-    let Store { tables, accesses: count, .. } = store;
+    let Store {
+        tables,
+        accesses: count,
+        ..
+    } = store;
     tables.shape();
     let next = number(after);
     tables.set_head(class, next, count);
@@ -117,7 +121,11 @@ fn behead<NI: NodeIndex>(store: &mut Store<NI>, class: u32, after: NI) {
 // Removes a name from the bin of this size. `before` is the link to the next newer one.
 #[inline(always)]
 fn leave<NI: NodeIndex>(store: &mut Store<NI>, name: u32, before: NI, size: u32) {
-    let Store { tables, accesses: count, .. } = store;
+    let Store {
+        tables,
+        accesses: count,
+        ..
+    } = store;
     tables.shape();
     let after = tables.older(name, count);
     if number(before) == NI::MAX {
@@ -150,7 +158,11 @@ pub(crate) fn exchange<NI: NodeIndex>(
     let before = store.tables.newer(gone, &mut store.accesses);
     if number(before) == NI::MAX && class == uint_to_float_round_down(size) {
         // the bin is empty neither before nor after, so the masks stay
-        let Store { tables, accesses: count, .. } = store;
+        let Store {
+            tables,
+            accesses: count,
+            ..
+        } = store;
         let after = tables.older(gone, count);
         tables.set_head(class, name, count);
         tables.set_links(name, no_link(), after, count);
@@ -163,7 +175,11 @@ pub(crate) fn exchange<NI: NodeIndex>(
 
 /// Pops the newest name of a bin.
 pub(crate) fn pop<NI: NodeIndex>(store: &mut Store<NI>, class: u32) -> u32 {
-    let Store { tables, accesses: count, .. } = store;
+    let Store {
+        tables,
+        accesses: count,
+        ..
+    } = store;
     let name = tables.head(class, count);
     let after = tables.older(name, count);
     behead(store, class, after);

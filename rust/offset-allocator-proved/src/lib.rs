@@ -5,7 +5,7 @@
 //!
 //! A *block* is a run of units, used (granted; its name is then live) or free; no two free blocks are neighbours. Each
 //! block has a *node* of the tables, whose index is the block's *name*. A *size class* is a range of sizes, and its
-//! *bin* the list of its free blocks, the one that became free last first.
+//! *bin* the list of its free blocks, most recently freed first.
 //!
 //! ```
 //! use offset_allocator_proved::*;
@@ -90,8 +90,8 @@ impl<NI: NodeIndex> Allocator<NI> {
     /// A space of `size` units, all free, with `max_allocs` as the node limit: at most `max_allocs - 1` blocks exist at
     /// a time, free ones included. A request is granted only while at most `max_allocs - 2` exist, and makes one of
     /// them live: so at most `max_allocs - 2` grants are live. The limit is 2 to `NI::MAX - 2`: 65533 for `u16`,
-    /// 4294967293 for `u32`. It reserves 28 bytes a node with `u32`, 18 with `u16`, all of them here; those of a node are
-    /// written when its name is used for the first time.
+    /// 4294967293 for `u32`. It reserves 28 bytes a node with `u32`, 18 with `u16`, all of them here; those of a node
+    /// are written when its name is used for the first time.
     ///
     /// An error is returned only where an allocation failed; then nothing is made.
     pub fn with_max_allocs(alloc: Global, size: u32, max_allocs: u32) -> Result<Self, AllocError> {
@@ -152,9 +152,9 @@ impl<NI: NodeIndex> Allocator<NI> {
         self.block_count() == self.max_allocs - 1
     }
 
-    /// Grants a range of `size` units, and returns its handle. They are the first ones of a free block of the smallest
-    /// size class that has one and whose blocks are all large enough, and of those blocks the one that became free
-    /// last. What remains of the block stays free, directly after the range.
+    /// Grants a range of `size` units, and returns its handle. It takes the first `size` units of the most recently
+    /// freed block in the smallest non-empty size class whose blocks all fit; what remains of the block stays free,
+    /// directly after the range.
     ///
     /// `None` is returned where `max_allocs - 1` blocks exist, even for an exact fit, and where no free block is of
     /// such a class; then nothing changes. A request of at least one unit is granted exactly when it is at most the

@@ -1,7 +1,6 @@
 // Printed by rust/erase from crates/offset_allocator/src/steps.rt: change it there.
 
-//! The private methods that the public calls are made of, and two functions that they share. Each method leaves an
-//! allocator whose blocks and bins agree.
+//! The steps behind the public calls. Each method leaves an allocator whose blocks and bins agree.
 
 use crate::accesses::Accesses;
 use crate::handle::Allocation;
