@@ -35,13 +35,13 @@ pub(crate) fn reserved<T>(alloc: Global, length: usize) -> Result<Vec<T>, AllocE
     Vec::with_capacity(alloc, length)
 }
 
-/// Adds a value at the end of a table that has room for it. `insert`, unlike `push`, promises that the memory stays
-/// the same.
+/// Adds a value at the end of a table that has room for it. `push_reserved`, unlike `push`, promises that the memory
+/// stays the same.
 pub(crate) fn push_within<T: Copy>(values: &mut Vec<T>, value: T)
     requires { vec_len values.old < vec_capacity values.old }
     ensures items { values.new.items ≡ values.old.items ++ value ∷ [] }
     ensures len { vec_len values.new ≡ vec_len values.old + 1 }
     ensures memory { vec_capacity values.new ≡ vec_capacity values.old }
 {
-    let _ = values.insert(values.len(), value);
+    values.push_reserved(value);
 }

@@ -91,6 +91,14 @@ impl<NI: NodeIndex> Allocator<NI> {
         self.max_allocs - self.block_count()
     }
 
+    /// Whether more than this number of names are left. Mostly the made nodes that no block has are enough.
+    #[inline(always)]
+    pub(crate) fn has_names(&self, names: u32) -> bool
+        ensures { IsTrue result ↔ HasRoomFor names self.now }
+    {
+        self.store.spare_count > names || self.names_left() > names
+    }
+
     /// Grants `size` units of the newest block of a class, beginning at the first multiple of `align` in that block.
     #[inline(always)]
     pub(crate) fn grant(&mut self, class: u32, size: u32, align: u32) -> Allocation<NI>
@@ -135,7 +143,7 @@ impl<NI: NodeIndex> Allocator<NI> {
         ensures accesses { Costs 0 61 self.old.accesses self.new.accesses }
         ensures accesses_min { IsSome result → self.old.accesses + 7 ≤ self.new.accesses }
     {
-        if self.names_left() <= align.min(2) {
+        if !self.has_names(align.min(2)) {
             return None;
         }
         if size > u32::MAX - (align - 1) {

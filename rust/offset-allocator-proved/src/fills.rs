@@ -31,8 +31,8 @@ pub(crate) fn reserved<T>(alloc: Global, length: usize) -> Result<Vec<T>, AllocE
     Vec::with_capacity(alloc, length)
 }
 
-/// Adds a value at the end of a table that has room for it. `insert`, unlike `push`, promises that the memory stays
-/// the same.
+/// Adds a value at the end of a table that has room for it. `push_reserved`, unlike `push`, promises that the memory
+/// stays the same.
 pub(crate) fn push_within<T: Copy>(values: &mut Vec<T>, value: T) {
-    let _ = values.insert(values.len(), value);
+    values.push_reserved(value);
 }

@@ -32,14 +32,13 @@ impl<T> Vec<T> {
         Ok(Vec(core::hint::black_box(values)))
     }
 
-    /// Inserts a value into a vector that has room for it. Its memory stays.
-    #[inline]
-    pub(crate) fn insert(&mut self, place: usize, value: T) -> Result<(), AllocError> {
+    /// Adds a value at the end of a vector that has room for it. Its memory stays.
+    #[inline(always)]
+    pub(crate) fn push_reserved(&mut self, value: T) {
         if self.0.len() == self.0.capacity() {
-            return Err(AllocError);
+            outside();
         }
-        self.0.insert(place, value);
-        Ok(())
+        self.0.push(value);
     }
 
     /// Removes all values, and keeps the memory.

@@ -56,6 +56,12 @@ impl<NI: NodeIndex> Allocator<NI> {
         self.max_allocs - self.block_count()
     }
 
+    /// Whether more than this number of names are left. Mostly the made nodes that no block has are enough.
+    #[inline(always)]
+    pub(crate) fn has_names(&self, names: u32) -> bool {
+        self.store.spare_count > names || self.names_left() > names
+    }
+
     /// Grants `size` units of the newest block of a class, beginning at the first multiple of `align` in that block.
     #[inline(always)]
     pub(crate) fn grant(&mut self, class: u32, size: u32, align: u32) -> Allocation<NI> {
@@ -86,7 +92,7 @@ impl<NI: NodeIndex> Allocator<NI> {
     /// into `allocate`, there is no padding.
     #[inline(always)]
     pub(crate) fn serve(&mut self, size: u32, align: u32) -> Option<Allocation<NI>> {
-        if self.names_left() <= align.min(2) {
+        if !self.has_names(align.min(2)) {
             return None;
         }
         if size > u32::MAX - (align - 1) {

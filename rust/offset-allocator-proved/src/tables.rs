@@ -49,9 +49,8 @@ impl<NI: NodeIndex> Tables<NI> {
         self.nodes.len() as u32
     }
 
-    /// Makes one more node, which is blank, and puts its name at a place of the stack of unused names. It is out of
-    /// line, since each node is made once.
-    #[inline(never)]
+    /// Makes one more node, which is blank, and puts its name at a place of the stack of unused names.
+    #[inline(always)]
     pub(crate) fn add(&mut self, place: u32, count: &mut Accesses) {
         count.tick();
         count.tick();

@@ -1,10 +1,9 @@
-use Rattle.std.proofs.Common.{◌<◌, ◌+◌, ◌-◌, Some, None, arith, refl, subst}
+use Rattle.std.proofs.Common.{◌<◌, ◌+◌, ◌-◌, Some, None, arith, ap, length, refl, subst}
 use Rattle.offset_allocator.specs.Named.{View, max_size, padding_to}
 use Rattle.offset_allocator.proofs.Sound.{Fields, shown, fields_of, known_sound}
 use Rattle.offset_allocator.specs.Promises.{blocks_needed, units_needed}
 use Rattle.offset_allocator.specs.Relations.{Aligns}
 use Rattle.offset_allocator.proofs.Classes.{below_value_up}
-use Rattle.offset_allocator.proofs.Refusals.{is_open}
 use Rattle.offset_allocator.proofs.Served.{serves_counted, past_refuses}
 use Rattle.offset_allocator.proofs.Allocator.serve.Goals as goal
 
@@ -29,7 +28,7 @@ returns-in-Some-clause-step g c =
     let f : Fields = fields_of g.NI.NodeIndex.MAX c.self.inside in
     let P : View → Type 0 = λ u. Aligns c.args.size c.args.align u c.grant.new.self (Some c.grant.result) in
     subst P c.self.view_is (serves_counted (blocks_needed c.args.align) (units_needed c.args.size c.args.align) c.args.size (padding_to c.args.align) (shown f) c.grant.new.self c.find_at_or_above.new.count (Some c.grant.result)
-    (is_open f c.self.invariant (blocks_needed c.args.align) c.args.size c.self.view_is c.names_left.ensures (omega (arith, c.min.ensures)), c.grant.ensures.step))
+    (omega (arith, c.has_names.ensures.0 (grind (arith, c.if-not-has_names.false)), c.min.ensures, ap (λ (u : View). length u.blocks) c.self.view_is, ap (λ (u : View). u.max_allocs) c.self.view_is), c.grant.ensures.step))
 
 pub invariant_of-self : goal.invariant_of-self
 invariant_of-self g c = c.self.invariant
@@ -37,8 +36,8 @@ invariant_of-self g c = c.self.invariant
 pub invariant_of-self-in-Some : goal.invariant_of-self-in-Some
 invariant_of-self-in-Some g c = c.self.invariant
 
-pub returns-then-names_left-min-clause-formed : goal.returns-then-names_left-min-clause-formed
-returns-then-names_left-min-clause-formed g c = (known_sound (fields_of g.NI.NodeIndex.MAX c.self.inside) c.self.invariant c.args.self.now c.self.view_is).0
+pub returns-then-not-has_names-clause-formed : goal.returns-then-not-has_names-clause-formed
+returns-then-not-has_names-clause-formed g c = (known_sound (fields_of g.NI.NodeIndex.MAX c.self.inside) c.self.invariant c.args.self.now c.self.view_is).0
 
 pub returns-then-size-align-clause-formed : goal.returns-then-size-align-clause-formed
 returns-then-size-align-clause-formed g c = (known_sound (fields_of g.NI.NodeIndex.MAX c.self.inside) c.self.invariant c.args.self.now c.self.view_is).0
