@@ -14,7 +14,7 @@ use crate::blocks::{Block, Blocks};
 use crate::handle::Allocation;
 use crate::index::{self, NodeIndex};
 use crate::reports::{Refusal, StorageReport, StorageReportFull, StorageReportFullRegion};
-use crate::small_float::{float_to_uint, uint_to_float_round_up};
+use crate::small_float::{float_to_uint, uint_to_float_round_down, uint_to_float_round_up};
 use crate::steps::handle_of;
 use crate::{Allocator, bins, chain};
 
@@ -171,20 +171,31 @@ pub fn refusal_aligned_counted<NI: NodeIndex>(
 {
     let blocks = align.min(2);
     let units = size as u64 + (align - 1) as u64;
+    let largest = uint_to_float_round_down(allocator.size);
     if allocator.names_left() <= blocks {
         return Some(Refusal::Nodes);
     }
-    if units > allocator.free_total as u64 {
-        return Some(Refusal::Space);
+    if units > u32::MAX as u64 {
+        return Some(Refusal::TooLarge);
     }
     let smallest = uint_to_float_round_up(units as u32);
+    if largest < smallest {
+        return Some(Refusal::TooLarge);
+    }
     match bins::find_at_or_above(
         &allocator.store.tables,
         allocator.store.top_mask,
         smallest,
         count,
     ) {
-        None => Some(Refusal::Fragmented),
         Some(_) => None,
+        None => {
+            // the class of all free units in one block, of which there has to be one at least
+            if uint_to_float_round_down(allocator.free_total) < smallest.max(1) {
+                Some(Refusal::Space)
+            } else {
+                Some(Refusal::Fragmented)
+            }
+        }
     }
 }

@@ -8,7 +8,9 @@ ghost use Rattle.offset_allocator.specs.Classes.{value, up, down};
 ghost use Rattle.offset_allocator.specs.Named.{View, Block, Grant, IsWellFormed, free_sizes, tally, one, total_free, largest_free, padding_to};
 ghost use Rattle.offset_allocator.specs.Ranges.{Range, range_of, AreDisjoint};
 ghost use Rattle.offset_allocator.specs.Relations.{IsAlignment, SameSpace, Allocates, Frees, IsFresh};
-ghost use Rattle.offset_allocator.specs.Promises.{CanGrant, HasRoomFor};
+ghost use Rattle.offset_allocator.specs.Promises.{CanGrant, HasRoomFor, IsWhy};
+ghost use Rattle.offset_allocator.specs.declared.reports.Refusal.{Refusal};
+ghost use Rattle.offset_allocator.specs.declared.reports.Refusal.TheVariants.{TooLarge, Fragmented};
 ghost use Rattle.offset_allocator.specs.Compacting.{moves, AreSafe, Compacts};
 
 use crate::Allocator;
@@ -149,6 +151,24 @@ pub fn alignments_are_powers()
 pub fn a_compacted_space_grants<NI: NodeIndex>(allocator: &Allocator<NI>)
     ensures { (v : View) (n : ℕ) → 1 ≤ n → Compacts v allocator.now
         → CanGrant 1 n allocator.now ↔ (HasRoomFor 1 allocator.now × (n ≤ value (down (sum (free_sizes v.blocks))))) }
+{
+    allocator.formed();
+}
+
+/// Of the requests that are refused though there is room for the blocks that they need, those are refused as
+/// `Fragmented` that would be granted after `compact`, and those as `TooLarge` that a fresh space of this size and
+/// limit would refuse. A request that is granted has no reason, and none has two.
+pub fn refusals_advise<NI: NodeIndex>(allocator: &Allocator<NI>)
+    ensures compacted { (blocks units : ℕ) (v : View) → HasRoomFor blocks allocator.now
+        → (CanGrant blocks units allocator.now → ⊥) → Compacts allocator.now v
+        → IsWhy blocks units allocator.now Fragmented ↔ CanGrant blocks units v }
+    ensures fresh { (blocks units : ℕ) (v : View) → HasRoomFor blocks allocator.now
+        → IsFresh allocator.now.size allocator.now.max_allocs v
+        → IsWhy blocks units allocator.now TooLarge ↔ (CanGrant blocks units v → ⊥) }
+    ensures one { (blocks units : ℕ) (r s : Refusal) → IsWhy blocks units allocator.now r
+        → IsWhy blocks units allocator.now s → r ≡ s }
+    ensures none { (blocks units : ℕ) (r : Refusal) → IsWhy blocks units allocator.now r
+        → CanGrant blocks units allocator.now → ⊥ }
 {
     allocator.formed();
 }

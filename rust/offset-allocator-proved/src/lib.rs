@@ -30,8 +30,10 @@
 extern crate alloc;
 
 mod memory;
+mod traits;
 
 pub use memory::{AllocError, Global};
+pub use nonmax::IsMax;
 
 mod accesses;
 mod bins;
@@ -94,6 +96,7 @@ impl<NI: NodeIndex> Allocator<NI> {
     /// are written when its name is used for the first time.
     ///
     /// An error is returned only where an allocation failed; then nothing is made.
+    #[track_caller]
     pub fn with_max_allocs(alloc: Global, size: u32, max_allocs: u32) -> Result<Self, AllocError> {
         assert!(2 <= max_allocs, "max_allocs must be at least 2");
         assert!(max_allocs < NI::MAX - 1, "max_allocs must be at most NI::MAX - 2");
@@ -170,8 +173,9 @@ impl<NI: NodeIndex> Allocator<NI> {
     /// The handle has to be live, which `is_live` reports. Only its name counts, and not its public `offset`: a stale
     /// handle whose name was granted again is live, and frees that range. It makes at most 128 accesses to the tables,
     /// and takes no memory.
+    #[track_caller]
     pub fn free(&mut self, allocation: Allocation<NI>) {
-        assert!(self.is_live(allocation), "the handle must be live");
+        assert!(self.is_live(allocation), "the handle must be live: {:?}", { allocation });
         self.release(index::number(NI::of_nonmax(allocation.name())));
     }
 
@@ -232,6 +236,7 @@ impl<NI: NodeIndex> Allocator<NI> {
     ///
     /// `align` has to be a power of two. If it is above 1, the request needs room for two more blocks, and a block for
     /// `size + align - 1` units. It makes at most 8 accesses to the tables.
+    #[track_caller]
     pub fn refusal_aligned(&self, size: u32, align: u32) -> Option<Refusal> {
         assert!(align.is_power_of_two(), "align must be a power of two");
         counted::refusal_aligned_counted(self, size, align, &mut Accesses::new())
@@ -244,6 +249,7 @@ impl<NI: NodeIndex> Allocator<NI> {
     /// align - 1` is above 4294967295, or if `align` is above 1 and there is no room for two more blocks, even if fewer
     /// would be added. Then nothing changes. With `align` 1 the call is `allocate(size)`. It makes at most 128 accesses
     /// to the tables, and takes no memory.
+    #[track_caller]
     pub fn allocate_aligned(&mut self, size: u32, align: u32) -> Option<Allocation<NI>> {
         assert!(align.is_power_of_two(), "align must be a power of two");
         self.serve(size, align)
