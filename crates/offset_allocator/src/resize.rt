@@ -7,7 +7,7 @@ ghost use Rattle.offset_allocator.specs.Resizing.{CanShrink, CanGrow, HasUnits, 
 
 use crate::handle::Allocation;
 use crate::index::{self, NodeIndex};
-use crate::{Allocator, chain, merge, parts};
+use crate::{Allocator, chain, neighbours};
 
 impl<NI: NodeIndex> Allocator<NI> {
     /// Frees the units of a live range after its first `size`. They are free at once, in one block with the free block
@@ -46,11 +46,11 @@ impl<NI: NodeIndex> Allocator<NI> {
             1,
             &mut self.store.accesses,
         );
-        let next = merge::free_after(&self.store.tables, name, &mut self.store.accesses);
+        let next = neighbours::free_after(&self.store.tables, name, &mut self.store.accesses);
         if next.is_none() && left < 2 {
             return false;
         }
-        parts::resize(&mut self.store, name, held, next, size);
+        neighbours::resize(&mut self.store, name, held, next, size);
         self.free_total += held - size;
         true
     }
@@ -90,12 +90,17 @@ impl<NI: NodeIndex> Allocator<NI> {
             1,
             &mut self.store.accesses,
         );
-        let next = merge::free_after(&self.store.tables, name, &mut self.store.accesses);
-        let more = parts::units_after(&self.store.tables, name, next, &mut self.store.accesses);
+        let next = neighbours::free_after(&self.store.tables, name, &mut self.store.accesses);
+        let more = neighbours::units_after(
+            &self.store.tables,
+            name,
+            next,
+            &mut self.store.accesses,
+        );
         if size - held > more {
             return false;
         }
-        parts::resize(&mut self.store, name, held, next, size);
+        neighbours::resize(&mut self.store, name, held, next, size);
         self.free_total -= size - held;
         true
     }

@@ -16,7 +16,7 @@ use crate::handle::Allocation;
 use crate::index::NodeIndex;
 use crate::small_float::{uint_to_float_round_down, uint_to_float_round_up};
 use crate::store::Store;
-use crate::{Allocator, bins, chain, merge, parts};
+use crate::{Allocator, bins, chain, neighbours};
 
 /// The handle of a name.
 pub(crate) fn handle_of<NI: NodeIndex>(offset: u32, name: u32) -> Allocation<NI>
@@ -120,7 +120,7 @@ impl<NI: NodeIndex> Allocator<NI> {
         let whole = chain::size(&self.store.tables, name, &mut self.store.accesses);
         let padding = (align - offset % align) % align;
         let start = offset + padding;
-        parts::divide(
+        neighbours::divide(
             &mut self.store,
             name,
             start,
@@ -179,7 +179,7 @@ impl<NI: NodeIndex> Allocator<NI> {
             false,
             &mut self.store.accesses,
         );
-        merge::coalesce(&mut self.store, name, size);
+        neighbours::coalesce(&mut self.store, name, size);
     }
 
     /// Whether a name is that of a used block.

@@ -3,7 +3,7 @@ use Rattle.offset_allocator.specs.Cells.{Node}
 use Rattle.offset_allocator.proofs.Pieces.{no_remainder, some_part}
 use Rattle.offset_allocator.proofs.Places.{at_place, end_fits, next_idle}
 use Rattle.offset_allocator.proofs.Classes.{down_small}
-use Rattle.offset_allocator.proofs.parts.split_remainder.Goals as goal
+use Rattle.offset_allocator.proofs.neighbours.split_remainder.Goals as goal
 
 pub returns-then-left-eq0-clause-place : goal.returns-then-left-eq0-clause-place
 returns-then-left-eq0-clause-place g c m p h = no_remainder c.args.name c.args.left c.args.size h (omega arith) (omega (arith, c.requires.whole, ap (λ (v : Node). v.size) (at_place h)))

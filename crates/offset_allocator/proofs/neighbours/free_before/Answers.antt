@@ -1,6 +1,6 @@
 use Rattle.std.proofs.Common.{sym}
 use Rattle.offset_allocator.proofs.Places.{previous_place, used_before, none_before}
-use Rattle.offset_allocator.proofs.merge.free_before.Goals as goal
+use Rattle.offset_allocator.proofs.neighbours.free_before.Goals as goal
 
 pub is_used-requires : goal.is_used-requires
 is_used-requires g c = (previous_place c.requires.place.4 c.in-Some.ensures.before).place.below

@@ -5,9 +5,9 @@ use Rattle.offset_allocator.specs.Orders.{Binned, IsUnlisted, class_lists}
 use Rattle.offset_allocator.proofs.Pieces.{padded_unlisted, pushed_parts, unlisted_part}
 use Rattle.offset_allocator.proofs.Places.{at_place}
 use Rattle.offset_allocator.proofs.Tallies.{part_sums, units-append}
-use Rattle.offset_allocator.proofs.parts.divide.Goals as goal
-use Rattle.offset_allocator.proofs.parts.divide.Goals.{After-mark}
-use Rattle.offset_allocator.proofs.parts.divide.Given.{Over}
+use Rattle.offset_allocator.proofs.neighbours.divide.Goals as goal
+use Rattle.offset_allocator.proofs.neighbours.divide.Goals.{After-mark}
+use Rattle.offset_allocator.proofs.neighbours.divide.Given.{Over}
 
 pub split_padding-front-requires-clause-place : goal.split_padding-front-requires-clause-place
 split_padding-front-requires-clause-place g c = (_, _, c.requires.place.2, c.requires.place.3)

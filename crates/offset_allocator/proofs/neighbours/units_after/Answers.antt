@@ -1,7 +1,7 @@
 use Rattle.std.proofs.Common.{sym, ap, ◌∙◌}
 use Rattle.offset_allocator.specs.Named.{units}
 use Rattle.offset_allocator.proofs.Places.{next_place, free_after}
-use Rattle.offset_allocator.proofs.parts.units_after.Goals as goal
+use Rattle.offset_allocator.proofs.neighbours.units_after.Goals as goal
 
 pub size-requires : goal.size-requires
 size-requires g c = (next_place c.requires.place.4 (rw c.in-Some.is at c.requires.next).0).place.below

@@ -4,9 +4,9 @@ use Rattle.offset_allocator.specs.Named.{Place, units, free_start}
 use Rattle.offset_allocator.proofs.Filed.{unlisted_after}
 use Rattle.offset_allocator.proofs.Places.{at_place}
 use Rattle.offset_allocator.specs.Space.{HasPlace}
-use Rattle.offset_allocator.proofs.parts.resize.Goals as goal
-use Rattle.offset_allocator.proofs.parts.resize.Goals.{After-with_after-whole}
-use Rattle.offset_allocator.proofs.parts.resize.Given.{Over}
+use Rattle.offset_allocator.proofs.neighbours.resize.Goals as goal
+use Rattle.offset_allocator.proofs.neighbours.resize.Goals.{After-with_after-whole}
+use Rattle.offset_allocator.proofs.neighbours.resize.Given.{Over}
 
 -- the size of the whole block
 whole : (g : Over) (c : After-with_after-whole g) (p : Place) {m : ℕ} → HasPlace c.args.store.now.tables.room m c.args.store.now.last c.args.store.now.spare_count c.args.name p → c.with_after-whole.result ≡ p.block.size + units (free_start p.after)

@@ -2,7 +2,7 @@ use Rattle.std.proofs.Common.{arith}
 use Rattle.offset_allocator.proofs.Pieces.{no_padding, some_part}
 use Rattle.offset_allocator.proofs.Places.{previous_idle}
 use Rattle.offset_allocator.proofs.Classes.{down_small}
-use Rattle.offset_allocator.proofs.parts.split_padding.Goals as goal
+use Rattle.offset_allocator.proofs.neighbours.split_padding.Goals as goal
 
 pub returns-then-units-eq0-clause-place : goal.returns-then-units-eq0-clause-place
 returns-then-units-eq0-clause-place g c m p h = no_padding c.args.name c.args.units h (omega arith)

@@ -2,7 +2,7 @@ use Rattle.std.proofs.Common.{refl, sym, ap, arith}
 use Rattle.offset_allocator.specs.Cells.{Node}
 use Rattle.offset_allocator.proofs.Places.{at_place, previous_place, kept_before, free_before, before_fits, kept_place}
 use Rattle.offset_allocator.proofs.Filed.{previous_filed}
-use Rattle.offset_allocator.proofs.merge.with_before.Goals as goal
+use Rattle.offset_allocator.proofs.neighbours.with_before.Goals as goal
 
 pub size-more-requires : goal.size-more-requires
 size-more-requires g c = (previous_place c.requires.place.2 c.in-Some.ensures.free.0).place.below

@@ -1,6 +1,6 @@
 use Rattle.std.proofs.Common.{sym}
 use Rattle.offset_allocator.proofs.Places.{next_place, used_after, none_after}
-use Rattle.offset_allocator.proofs.merge.free_after.Goals as goal
+use Rattle.offset_allocator.proofs.neighbours.free_after.Goals as goal
 
 pub is_used-requires : goal.is_used-requires
 is_used-requires g c = (next_place c.requires.place.4 c.in-Some.ensures.after).place.below

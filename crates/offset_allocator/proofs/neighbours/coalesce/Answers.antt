@@ -4,8 +4,8 @@ use Rattle.offset_allocator.specs.Named.{push}
 use Rattle.offset_allocator.proofs.Classes.{down_small}
 use Rattle.offset_allocator.proofs.Places.{at_place, next_place, previous_place, kept_before, kept_after, kept_place, free_before, free_after, before_fits, after_fits}
 use Rattle.offset_allocator.proofs.Filed.{unlisted, previous_filed, next_filed, filed_before, next_same}
-use Rattle.offset_allocator.proofs.merge.coalesce.Goals as goal
-use Rattle.offset_allocator.proofs.merge.coalesce.Goals.{in-Some, in_default+in-Some-free_before}
+use Rattle.offset_allocator.proofs.neighbours.coalesce.Goals as goal
+use Rattle.offset_allocator.proofs.neighbours.coalesce.Goals.{in-Some, in_default+in-Some-free_before}
 
 -- a free block after it
 pub size-more-requires : goal.size-more-requires

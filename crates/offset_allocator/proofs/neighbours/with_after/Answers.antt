@@ -2,7 +2,7 @@ use Rattle.std.proofs.Common.{refl, sym, ap, arith}
 use Rattle.offset_allocator.specs.Cells.{Node}
 use Rattle.offset_allocator.proofs.Places.{at_place, next_place, kept_after, free_after, after_fits, kept_place}
 use Rattle.offset_allocator.proofs.Filed.{next_filed}
-use Rattle.offset_allocator.proofs.parts.with_after.Goals as goal
+use Rattle.offset_allocator.proofs.neighbours.with_after.Goals as goal
 
 pub returns-in-None-clause-place : goal.returns-in-None-clause-place
 returns-in-None-clause-place g c m p h = kept_after h ((rw c.in-None.is at c.requires.next) _ _ _ _ h)
