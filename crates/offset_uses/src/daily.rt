@@ -1,5 +1,5 @@
-//! The daily use of an allocator, as `CALLING.md` of `offset_allocator` shows it. Only `place` and `defragment` have a
-//! proof file.
+//! The daily use of an allocator, as `CALLING.md` of `offset_allocator` shows it. Only `lacks_units`, `place_packed` and
+//! `defragment` have a proof file.
 
 ghost use Rattle.std.specs.Prelude.{ℕ, ◌≡◌, ◌≢◌, ◌↔◌, ◌⊎◌, ◌+◌, ◌-◌, ◌*◌, ◌<◌, ◌≤◌, ◌%◌, Some, None, false, not, min, IfSome, IfOk, IfErr, IsOk, IsSome, IsTrue, length};
 ghost use Rattle.std.specs.Int.{is_power_of_two};
@@ -62,6 +62,7 @@ pub fn give_back(space: &mut Allocator, allocation: Allocation) -> bool
 pub fn upload(heap: &mut Allocator, size: u32, align: u32) -> Option<Allocation>
     ensures aligned { IfSome result (λ h. h.offset % align ≡ 0) }
     ensures range { IfSome result (λ h. range_of h.name heap.new ≡ Some (record { offset = h.offset; size = size })) }
+    ensures fresh { IfSome result (λ h. range_of h.name heap.old ≡ None) }
     ensures others { IfSome result (λ h. KeepsOthers h.name heap.old heap.new) }
     ensures refused { result ≡ None → KeepsAll heap.old heap.new }
     ensures granted { IsTrue (is_power_of_two align)

@@ -127,8 +127,8 @@ fn reason(refusal: Option<Refusal>) -> Reason {
 macro_rules! exports { ($(
     fn $name:ident($([$space:ident: $($type:tt)*],)? $($argument:ident: $of:ty),*) -> $returned:ty { $($body:tt)* } else $other:expr;
 )*) => { $(
-    // the lint is of the export's name, which a program may have only once
-    #[allow(unsafe_code, clippy::needless_pass_by_value, missing_docs)]
+    // the first lint is of the export's name, which a program may have only once; the others are of the form of this list
+    #[allow(unsafe_code, clippy::question_mark, clippy::unused_unit)]
     #[no_mangle]
     pub extern "C" fn $name($($space: Option<$($type)*>,)? $($argument: $of),*) -> $returned {
         $(let Some([$space]) = $space else {

@@ -23,7 +23,6 @@
 #![warn(missing_docs)]
 #![expect(clippy::derivable_impls)] // an `impl Default` is where a contract says what the value is
 #![expect(clippy::manual_map)] // a `match` needs no closure, whose calls would need a proof
-#![expect(clippy::needless_range_loop)] // a loop over places is proved in few words
 #![expect(clippy::too_many_arguments)] // functions over the tables take the numbers that they change one by one
 #![expect(unused_variables)] // a parameter may be there for a contract only
 

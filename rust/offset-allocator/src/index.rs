@@ -33,8 +33,14 @@ pub trait NodeIndexNonMax: Clone + Copy + PartialEq + Default + Debug + Display 
 pub struct Index<NI>(NI);
 
 /// A name of the proved library.
-#[derive(Clone, Copy, Default, PartialEq, Debug)]
+#[derive(Clone, Copy, Default, PartialEq)]
 pub struct Name<N>(N);
+
+impl<N: Debug> Debug for Name<N> {
+    fn fmt(&self, f: &mut fmt::Formatter<'_>) -> fmt::Result {
+        Debug::fmt(&self.0, f)
+    }
+}
 
 impl<N: Display> Display for Name<N> {
     fn fmt(&self, f: &mut fmt::Formatter<'_>) -> fmt::Result {

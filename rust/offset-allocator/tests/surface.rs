@@ -83,7 +83,7 @@ fn only_the_name_counts() {
     let mut a = Allocator::<u16>::with_max_allocs(1 << 20, 16);
     let first = a.allocate(70_000).unwrap();
     let mut second = a.allocate(10).unwrap();
-    assert_eq!(second.offset, 70_000 % 65_536);
+    assert_eq!(second.offset, 4_464);
     second.offset = 0;
     assert_eq!((a.allocation_size(second), a.allocation_size(first)), (10, 70_000));
     a.free(second);
