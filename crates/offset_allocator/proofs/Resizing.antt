@@ -1,13 +1,13 @@
 -- A block that is resized with the free block after it: what that leaves of a view, and of the whole allocator.
 use Rattle.std.specs.Prelude.{IsSome}
-use Rattle.std.proofs.Common.{◌≡◌, ◌↔◌, ℕ, zero, suc, ◌+◌, ◌-◌, ◌<◌, ◌≤◌, Bool, true, false, ◌⊎◌, List, [], ◌∷◌, ◌++◌, length, Option, Some, None, is_some, nat_eq, refl, sym, ap, ap₂, subst, ◌∙◌, inl, inr, arith, length-append, eq-zero-or-pos, eq-eqb, ne_eqb, if◌then◌else◌}
+use Rattle.std.proofs.Common.{◌≡◌, ◌≢◌, ◌↔◌, ℕ, zero, suc, ◌+◌, ◌-◌, ◌<◌, ◌≤◌, Bool, true, false, ◌⊎◌, List, [], ◌∷◌, ◌++◌, length, Option, Some, None, is_some, nat_eq, refl, sym, ap, ap₂, subst, ◌∙◌, inl, inr, arith, length-append, eq-zero-or-pos, eq-eqb, ne_eqb, if◌then◌else◌}
 use Rattle.std.proofs.lemmas.Bool.{false≢true, true≢false, and_right, cases_eq}
 use Rattle.offset_allocator.specs.Cells.{Cells, Node}
 use Rattle.offset_allocator.specs.Named.{Block, View, Place, one, units, count_named, used_of, used_block, IsApart, IsWellFormed, IsNew, free_start, without_start, free_part, remove_all, push_all, replace}
 use Rattle.offset_allocator.specs.Promises.{HasRoomFor}
 use Rattle.offset_allocator.specs.Ranges.{range_of, size_of, KeepsOthers}
 use Rattle.offset_allocator.specs.Relations.{SameSpace}
-use Rattle.offset_allocator.specs.Resizing.{Resizes, Shrinks, Grows, CanShrink, CanGrow, HasUnits, free_after, free_beyond}
+use Rattle.offset_allocator.specs.Resizing.{Resizes, ResizesTo, Shrinks, Grows, CanShrink, CanGrow, HasUnits, free_after, free_beyond}
 use Rattle.offset_allocator.specs.Space.{HasPlace, IsFreeAfter}
 use Rattle.offset_allocator.specs.Orders.{class_lists, Binned}
 use Rattle.offset_allocator.specs.State.{free_units}
@@ -204,37 +204,54 @@ module _ {f : Fields} {x : ℕ} (call : Release f x) where
   next_there : free_after x v ≡ next
   next_there = ap free_beyond (at call).is
 
-  -- where nothing changes, as the units are as many, or too many to shrink to
-  pub shrinks_early : (n held accesses : ℕ) → held ≡ (at call).place.block.size → held ≤ n → Shrinks x n (shown f) (shown (record f { accesses = accesses })) (nat_eq n held)
-  shrinks_early n held accesses e l = elim (cases_eq n held) [
-    | inl q ↦ rw (eq-eqb n held q) (inl (omega (arith, q, e, size_there), refl))
-    | inr q ↦ rw (ne_eqb n held q) (λ c. q (omega (arith, c.0, l, e, size_there)), refl)
-  ]
+  -- no block may take the units that are given back
+  pub resizes_full : (n accesses : ℕ) → n < (at call).place.block.size → free_start (at call).place.after ≡ [] → f.limit ≤ length (shown f).blocks + 1 → ResizesTo x n (shown f) (shown (record f { accesses = accesses })) false
+  resizes_full n accesses l e full = (λ c. elim (c.1 (omega (arith, l, size_there))) [ inl some ↦ some (next_there ∙ e) | inr room ↦ omega (arith, room, full) ], refl)
 
-  pub shrinks_full : (n accesses : ℕ) → n < (at call).place.block.size → free_start (at call).place.after ≡ [] → f.limit ≤ length (shown f).blocks + 1 → Shrinks x n (shown f) (shown (record f { accesses = accesses })) false
-  shrinks_full n accesses l e full = (λ c. elim (c.1 (omega (arith, l, size_there))) [ inl some ↦ some (next_there ∙ e) | inr room ↦ omega (arith, room, full) ], refl)
+  -- the free block after it has too few units
+  pub resizes_short : (n accesses : ℕ) → both < n → ResizesTo x n (shown f) (shown (record f { accesses = accesses })) false
+  resizes_short n accesses l = (λ c. omega (arith, c.0, l, size_there, ap units next_there), refl)
 
-  pub shrinks_done : (n : ℕ) (u : View) → n < (at call).place.block.size → (1 ≤ length (free_start (at call).place.after)) ⊎ HasRoomFor 1 (shown f) → Resizes x n (shown f) u → Shrinks x n (shown f) u true
-  shrinks_done n u l room r =
-      let less : n < size_of x v = omega (arith, l, size_there) in
-      inr (less, (omega (arith, less), λ _. elim room [ inl some ↦ inl (λ e. omega (arith, some, ap length (sym next_there ∙ e))) | inr o ↦ inr o ]), r)
-
-  pub grows_early : (n held accesses : ℕ) → held ≡ (at call).place.block.size → n ≤ held → Grows x n (shown f) (shown (record f { accesses = accesses })) (nat_eq n held)
-  grows_early n held accesses e l = elim (cases_eq n held) [
-    | inl q ↦ rw (eq-eqb n held q) (inl (omega (arith, q, e, size_there), refl))
-    | inr q ↦ rw (ne_eqb n held q) (λ c. q (omega (arith, c.0, l, e, size_there)), refl)
-  ]
-
-  pub grows_refused : (n accesses : ℕ) → both < n → Grows x n (shown f) (shown (record f { accesses = accesses })) false
-  grows_refused n accesses l = (λ c. omega (arith, c.1, l, size_there, ap units next_there), refl)
-
-  pub grows_done : (n : ℕ) (u : View) → (at call).place.block.size < n → n ≤ both → Resizes x n (shown f) u → Grows x n (shown f) u true
-  grows_done n u l m r = let more : size_of x v < n = omega (arith, l, size_there) in inr (more, (omega (arith, more), omega (arith, m, size_there, ap units next_there)), r)
+  pub resizes_done : (n : ℕ) (u : View) → n ≢ (at call).place.block.size → n ≤ both → (1 ≤ length (free_start (at call).place.after)) ⊎ HasRoomFor 1 (shown f) → Resizes x n (shown f) u → ResizesTo x n (shown f) u true
+  resizes_done n u ne m room r =
+      inr (λ e. ne (e ∙ size_there), (omega (arith, m, size_there, ap units next_there), λ _. elim room [ inl some ↦ inl (λ e. omega (arith, some, ap length (sym next_there ∙ e))) | inr o ↦ inr o ]), r)
 
 -- blocks of some units are some
 pub some_units : (bs : List Block) → 1 ≤ units bs → 1 ≤ length bs
 some_units [] l = absurd (omega arith)
 some_units (b ∷ bs) l = omega arith
+
+-- however many accesses were counted before
+resizes_counted : (x n : ℕ) (v w : View) (accesses : ℕ) → Resizes x n (record v { accesses = accesses }) w → Resizes x n v w
+resizes_counted x n v w accesses r = record {
+  before = r.before;
+  block = r.block;
+  next = r.next;
+  after = r.after;
+  blocks = r.blocks;
+  named = r.named;
+  used = r.used;
+  free = r.free;
+  left = r.left;
+  whole = r.whole;
+  name = r.name;
+  new = λ l. elim (r.new l) [ inl a ↦ inl a | inr u ↦ inr (record { below = u.below; absent = u.absent }) ];
+  view = r.view;
+  apart = r.apart;
+}
+
+pub resized_counted : (x n : ℕ) (v w : View) (accesses : ℕ) (done : Bool) → ResizesTo x n (record v { accesses = accesses }) w done → ResizesTo x n v w done
+resized_counted x n v w accesses true s = elim s [ inl z ↦ inl z | inr r ↦ inr (r.0, r.1, resizes_counted x n v w accesses r.2) ]
+resized_counted x n v w accesses false s = s
+
+-- what the one change is to a call for fewer units, and to one for more
+pub shrinks_of : (x n : ℕ) (v w : View) (done : Bool) → n ≤ size_of x v → ResizesTo x n v w done → Shrinks x n v w done
+shrinks_of x n v w true l s = elim s [ inl z ↦ inl z | inr r ↦ inr (omega (arith, l, r.0), (l, r.1.1), r.2) ]
+shrinks_of x n v w false l s = (λ c. s.0 (omega (arith, c.0), c.1), s.1)
+
+pub grows_of : (x n : ℕ) (v w : View) (done : Bool) → size_of x v ≤ n → ResizesTo x n v w done → Grows x n v w done
+grows_of x n v w true l s = elim s [ inl z ↦ inl z | inr r ↦ inr (omega (arith, l, r.0), (l, r.1.0), r.2) ]
+grows_of x n v w false l s = (λ c. s.0 (c.1, λ m. absurd (omega (arith, m, c.0))), s.1)
 
 -- when it is done
 pub shrinks_can : (x n : ℕ) (v w : View) (done : Bool) → Shrinks x n v w done → (done ≡ true) ↔ CanShrink x n v
@@ -253,16 +270,9 @@ has_units x n v w e same r is =
 
 -- what the calls leave of ranges
 module _ (x n : ℕ) (v w : View) (k : IsWellFormed v) (left : IsWellFormed w) where
-  pub shrinks_units : (done : Bool) → Shrinks x n v w done → done ≡ true → HasUnits x n v w
-  shrinks_units true s e = elim s [ inl z ↦ has_units x n v w z.0 z.1 | inr r ↦ resizes_units x n v w k left r.2 ]
-  shrinks_units false s e = absurd (false≢true e)
+  pub resized_units : (done : Bool) → ResizesTo x n v w done → done ≡ true → HasUnits x n v w
+  resized_units true s e = elim s [ inl z ↦ has_units x n v w z.0 z.1 | inr r ↦ resizes_units x n v w k left r.2 ]
+  resized_units false s e = absurd (false≢true e)
 
-  pub shrinks_others : Shrinks x n v w true → KeepsOthers x v w
-  shrinks_others s = elim s [ inl z ↦ λ y d. ap (range_of y) z.1 | inr r ↦ resizes_others x n v w k left r.2 ]
-
-  pub grows_units : (done : Bool) → Grows x n v w done → done ≡ true → HasUnits x n v w
-  grows_units true s e = elim s [ inl z ↦ has_units x n v w z.0 z.1 | inr r ↦ resizes_units x n v w k left r.2 ]
-  grows_units false s e = absurd (false≢true e)
-
-  pub grows_others : Grows x n v w true → KeepsOthers x v w
-  grows_others s = elim s [ inl z ↦ λ y d. ap (range_of y) z.1 | inr r ↦ resizes_others x n v w k left r.2 ]
+  pub resized_others : ResizesTo x n v w true → KeepsOthers x v w
+  resized_others s = elim s [ inl z ↦ λ y d. ap (range_of y) z.1 | inr r ↦ resizes_others x n v w k left r.2 ]

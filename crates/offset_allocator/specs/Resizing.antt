@@ -24,6 +24,11 @@ CanShrink x n v = (n ≤ size_of x v) × (n < size_of x v → (free_after x v �
 abbrev pub CanGrow : ℕ → ℕ → View → Type 0
 CanGrow x n v = (size_of x v ≤ n) × (n ≤ size_of x v + units (free_after x v))
 
+-- a range can have n units in place: those that it lacks are in the free block directly after it, and those that it gives
+-- back go to that block, or there is room for one more
+abbrev pub CanResize : ℕ → ℕ → View → Type 0
+CanResize x n v = (n ≤ size_of x v + units (free_after x v)) × (n < size_of x v → (free_after x v ≢ []) ⊎ HasRoomFor 1 v)
+
 -- a range has n units after the call, from the same offset on
 abbrev pub HasUnits : ℕ → ℕ → View → View → Type 0
 HasUnits x n v w = (r : Range) → range_of x v ≡ Some r → range_of x w ≡ Some (record r { size = n })
@@ -48,6 +53,12 @@ pub record Resizes (x n : ℕ) (v w : View) : Type 0 where
   -- afterwards no two free blocks are neighbours: so where units are left, next is the free block after it if there was
   -- one
   pub apart : IsApart w.blocks
+
+-- the one change of both calls: it is refused exactly where the range cannot have n units, and then nothing changes, nor
+-- does it where the range has just as many
+abbrev pub ResizesTo : ℕ → ℕ → View → View → Bool → Type 0
+ResizesTo x n v w true = ((n ≡ size_of x v) × SameSpace v w) ⊎ ((n ≢ size_of x v) × CanResize x n v × Resizes x n v w)
+ResizesTo x n v w false = (CanResize x n v → ⊥) × SameSpace v w
 
 -- a call for fewer units: it is refused exactly where the range cannot shrink to them, and then nothing changes, nor
 -- does it where the range has just as many

@@ -3,7 +3,7 @@ ghost use Rattle.std.specs.Prelude.{◌≡◌, ◌↔◌, ◌+◌, ◌<◌, ◌�
 ghost use Rattle.offset_allocator.specs.Count.{Costs};
 ghost use Rattle.offset_allocator.specs.Ranges.{IsLive, KeepsOthers, size_of};
 ghost use Rattle.offset_allocator.specs.Relations.{SameSpace};
-ghost use Rattle.offset_allocator.specs.Resizing.{CanShrink, CanGrow, HasUnits, Shrinks, Grows};
+ghost use Rattle.offset_allocator.specs.Resizing.{CanShrink, CanGrow, HasUnits, Shrinks, Grows, ResizesTo};
 
 use crate::handle::Allocation;
 use crate::index::{self, NodeIndex};
@@ -34,25 +34,12 @@ impl<NI: NodeIndex> Allocator<NI> {
         // The step as a whole: what becomes of the range and of the free block after it.
         ensures step { Shrinks allocation.name size self.old self.new result }
     {
-        let left = self.names_left();
         let name = index::number::<NI>(NI::of_nonmax(allocation.name()));
-        let held = chain::size(&self.store.tables, name, &mut self.store.accesses);
-        if size >= held {
-            return size == held;
-        }
-        chain::ready(
-            &mut self.store.tables,
-            &mut self.store.spare_count,
-            1,
-            &mut self.store.accesses,
-        );
-        let next = neighbours::free_after(&self.store.tables, name, &mut self.store.accesses);
-        if next.is_none() && left < 2 {
+        let old_size = chain::size(&self.store.tables, name, &mut self.store.accesses);
+        if size > old_size {
             return false;
         }
-        neighbours::resize(&mut self.store, name, held, next, size);
-        self.free_total += held - size;
-        true
+        self.resize_to(name, old_size, size)
     }
 
     /// Adds units to a live range at its end, so that it has `size`: those of the free block directly after it. What
@@ -80,10 +67,30 @@ impl<NI: NodeIndex> Allocator<NI> {
         ensures step { Grows allocation.name size self.old self.new result }
     {
         let name = index::number::<NI>(NI::of_nonmax(allocation.name()));
-        let held = chain::size(&self.store.tables, name, &mut self.store.accesses);
-        if size <= held {
-            return size == held;
+        let old_size = chain::size(&self.store.tables, name, &mut self.store.accesses);
+        if size < old_size {
+            return false;
         }
+        self.resize_to(name, old_size, size)
+    }
+
+    // Makes the range of a live name, which has `old_size` units, one of `size` units in place, with the free block
+    // directly after it.
+    fn resize_to(&mut self, name: u32, old_size: u32, size: u32) -> bool
+        requires live { IsLive name self.old }
+        requires old_size { old_size ≡ size_of name self.old }
+        ensures step { ResizesTo name size self.old self.new result }
+        ensures range { IsTrue result → HasUnits name size self.old self.new }
+        ensures others { KeepsOthers name self.old self.new }
+        ensures same { result ≡ false → SameSpace self.old self.new }
+        ensures accesses { Costs 0 127 self.old.accesses self.new.accesses }
+        ensures accesses_less { IsTrue result → size < old_size → self.old.accesses + 15 ≤ self.new.accesses }
+        ensures accesses_more { IsTrue result → old_size < size → self.old.accesses + 10 ≤ self.new.accesses }
+    {
+        if size == old_size {
+            return true;
+        }
+        let left = self.names_left();
         chain::ready(
             &mut self.store.tables,
             &mut self.store.spare_count,
@@ -97,11 +104,14 @@ impl<NI: NodeIndex> Allocator<NI> {
             next,
             &mut self.store.accesses,
         );
-        if size - held > more {
+        if size > old_size + more {
             return false;
         }
-        neighbours::resize(&mut self.store, name, held, next, size);
-        self.free_total -= size - held;
+        if next.is_none() && left < 2 {
+            return false;
+        }
+        neighbours::resize(&mut self.store, name, old_size, next, size);
+        self.free_total = self.free_total + old_size - size;
         true
     }
 }
