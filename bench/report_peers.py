@@ -25,11 +25,11 @@ SIDES = ["original", "ours", *PEERS]
 def measurements():
     """For each workload of steps: its name, nodes and steps, the refusals of each side, and the nanoseconds a step by the
     clock and of the processor: None where it takes too long."""
-    # peers have no reset
+    # peers have no reset, and no tables to construct
     work = [
         (name, int(nodes), int(count))
-        for name, nodes, _space, count, function in lines("list")
-        if function.startswith("play") and "reset" not in name
+        for name, nodes, _space, count, _function, kind in lines("list")
+        if kind in ("steps", "used") and "reset" not in name
     ]
     jobs = [(name, side) for name, *_ in work for side in SIDES]
     with ThreadPoolExecutor(os.cpu_count()) as pool:
