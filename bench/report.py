@@ -18,6 +18,8 @@ WAYS = ("compact", "reset", "free")
 COUNTED = {**os.environ, "GLIBC_TUNABLES": "glibc.cpu.x86_rep_stosb_threshold=4000000000"}
 # each table has pages of its own, which nothing has touched before
 APART = {**os.environ, "GLIBC_TUNABLES": "glibc.malloc.mmap_threshold=131072"}
+# tables are in huge pages, where the system allows it
+HUGE = {**os.environ, "GLIBC_TUNABLES": "glibc.malloc.hugetlb=1"}
 # the data cache that is simulated: its level, its bytes, its ways, and the bytes of a line
 LEVEL, CACHE = 1, "32768,8,64"
 # Larger ratios are bold: ours to the original's time, to its instructions, to C's; erased to the original's time, to its
@@ -97,11 +99,11 @@ class Row(NamedTuple):
     sites: dict
 
 
-def timed(name, program):
+def timed(name, program, env=None):
     """Of each side the nanoseconds of a step, those with the construction, and those of each round."""
     if not TIMED:
         return [1.0] * len(SIDES), [1.0] * len(SIDES), []
-    rows = [[float(x) for x in row] for row in lines("time", name, *SIDES, program=program)]
+    rows = [[float(x) for x in row] for row in lines("time", name, *SIDES, program=program, env=env)]
     ns, _processor, whole, *rounds = map(list, zip(*rows))
     return ns, whole, rounds
 
@@ -236,6 +238,22 @@ def whole_table(rows):
         yield f"| {row.name} | " + " | ".join([*map(number, ns), f"{ns[1] / ns[0]:.2f}", f"{ns[2] / ns[0]:.2f}"]) + " |"
 
 
+def huge_table(rows):
+    """The times with huge pages, and their ratios to those without."""
+    yield "| workload | ns: original | ours | erased | C | with/without: original | ours | erased | C |"
+    yield "|---|" + "---:|" * 8
+    for row in rows:
+        ns = timed(row.name, MEASURE, HUGE)[0]
+        yield f"| {row.name} | " + " | ".join([*map(number, ns), *(f"{a / b:.2f}" for a, b in zip(ns, row.ns))]) + " |"
+
+
+def threads_table():
+    yield "| | ns a step, over all threads |"
+    yield "|---|---:|"
+    for way, ns in lines("threads") if TIMED else []:
+        yield f"| {way} | {number(float(ns))} |"
+
+
 def costs_table(rows):
     """The costs of an allocator: each construction, use, and reset."""
     yield "| | ns: original | ours | erased | C | instructions: original | ours | erased | C |"
@@ -367,6 +385,9 @@ def main():
     shown += ["## With the construction", "",
               "The time of a whole run, a step: with the construction of the tables, and their end.", "",
               *whole_table([row for row in steps if row.name in LONG]), "",
+              "## Huge pages", "",
+              "The times with `GLIBC_TUNABLES=glibc.malloc.hugetlb=1`: the C library asks for huge pages, for each large table.", "",
+              *huge_table([row for row in large if row.name.startswith("random")]), "",
               "## Without aligned branches", "",
               "The times where branches may cross 32 bytes, on each side but the peers: as compilers place them.", "", *plain_table(work), "",
               "## One call site or two", "",
@@ -378,6 +399,11 @@ def main():
               "## The best and the worst run", "",
               "With large tables: the time of each run in parts of the original's in the same round. A round is left out in which "
               "a run without steps took longer than the one with them.", "", *rounds_table(large if TIMED else [])]
+    if not PART or PART in "threads":
+        shown += ["", "## Threads", "",
+                  "The erased side, with 1,000 live ranges a thread, and sizes as in *random*: nanoseconds of a step, divided by the "
+                  "threads. In the last row each range is handed to another thread, which sends it back through a queue when it is "
+                  "released; the owner drains its queue every 64 requests.", "", *threads_table()]
     if not PART or PART in "compact":
         shown += ["", "## Compact", "",
                   "The erased side: `compact`, and what leaves the same ranges without it: a reset of the space, or a release of "

@@ -14,6 +14,7 @@
 //! - `measure nodes NAME`: the smallest node limit with which nothing is refused.
 //! - `measure least SIDE`: the most bytes of the trace that are live at once, and the smallest space that refuses none
 //!   of it.
+//! - `measure threads`: the ways to share allocators between threads, with nanoseconds a step.
 //! - `measure compacting LIVE`: for each way to compact a space with this many live ranges nanoseconds a range; with the
 //!   name of a WAY one run of it, for a counter of instructions.
 mod check;
@@ -22,6 +23,7 @@ mod compacting;
 mod erased;
 mod original;
 mod sides;
+mod threads;
 mod workloads;
 
 use sides::{Side, REFUSED};
@@ -268,6 +270,11 @@ fn main() {
             let (peak, space) = smallest_space(&side(of));
             println!("{peak}\t{space}");
         }
+        ["threads"] => {
+            for (way, ns) in threads::all() {
+                println!("{way}\t{ns}");
+            }
+        }
         #[cfg(not(feature = "other-sites"))]
         ["compacting", live] => {
             for ns in compacting::times(live.parse().unwrap()) {
@@ -279,6 +286,6 @@ fn main() {
             let (_, way) = *compacting::WAYS.iter().find(|way| way.0 == name).unwrap_or_else(|| panic!("no way {name}"));
             compacting::run(live.parse().unwrap(), way);
         }
-        _ => panic!("measure list | time | play | check | heap | resident | nodes | least | compacting"),
+        _ => panic!("measure list | time | play | check | heap | resident | nodes | least | threads | compacting"),
     }
 }
