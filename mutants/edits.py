@@ -11,7 +11,7 @@ import sys
 from pathlib import Path
 
 TOP = Path(__file__).resolve().parent.parent
-DOCUMENT = TOP / "docs" / "PROOFS.md"
+DOCUMENT = TOP / "docs" / "MUTANTS.md"
 BEGIN = "<!-- The tables down to the end mark are written by `mutants/table --write`. -->"
 END = "<!-- The end of the written tables. -->"
 LONGEST = 100

@@ -6,7 +6,7 @@ An entry that is not used by the sources stops `erase`, so that none outlives it
 
 # Crate of the sources, folder of the erased crate, and the modules that are written by hand there.
 CRATES = [
-    ("offset_allocator", "offset-allocator-proved", {"accesses", "memory"}),
+    ("offset_allocator", "offset-allocator-proved", {"accesses", "memory", "nonmax", "traits"}),
     ("offset_script", "offset-script", {"memory"}),
 ]
 
@@ -21,8 +21,10 @@ ROOTS = {
 extern crate alloc;
 
 mod memory;
+mod traits;
 
 pub use memory::{AllocError, Global};
+pub use nonmax::IsMax;
 """,
     "offset_script": """#![doc = include_str!("../README.md")]
 #![forbid(unsafe_code)]
@@ -40,7 +42,6 @@ LINTS = {
     "offset_allocator": {
         "clippy::derivable_impls": "an `impl Default` is where a contract says what the value is",
         "clippy::manual_map": "a `match` needs no closure, whose calls would need a proof",
-        "clippy::needless_range_loop": "a loop over places is proved in few words",
         "clippy::too_many_arguments": "functions over the tables take the numbers that they change one by one",
         "unused_variables": "a parameter may be there for a contract only",
     },
@@ -87,11 +88,12 @@ PAIRS = [
     ),
 ]
 
-# What a public function requires of its caller: the clause, the test that is made at the call, and the panic's message.
+# What a public function requires of its caller: the clause, the test that is made at the call, the panic's message, and
+# what the message shows. That is in braces: a copy is made where the test fails, and the value stays in registers.
 REQUIRES = [
     ("2 ≤ max_allocs", "2 <= max_allocs", "max_allocs must be at least 2"),
     ("max_allocs + 1 < NI.MAX", "max_allocs < NI::MAX - 1", "max_allocs must be at most NI::MAX - 2"),
-    ("IsLive allocation.name self.old", "self.is_live(allocation)", "the handle must be live"),
+    ("IsLive allocation.name self.old", "self.is_live(allocation)", "the handle must be live: {:?}", "{ allocation }"),
     ("IsAlignment align", "align.is_power_of_two()", "align must be a power of two"),
     ("needed_object_size ≤ 4026531840", "needed_object_size <= 4026531840", "needed_object_size must be at most 4026531840"),
     ("float_value < 256", "float_value < 256", "float_value must be below 256"),
@@ -109,6 +111,12 @@ REQUIRES = [
         "an alignment must be a power of two",
     ),
 ]
+
+
+def assertion(test, message, *shown):
+    """The line that makes the test."""
+    return f'assert!({test}, "{message}"{"".join(", " + value for value in shown)});'
+
 
 # What a public function requires, and always holds in plain Rust, each with the reason. It needs no assertion.
 ALWAYS = {

@@ -211,6 +211,6 @@ exchange_masked {ls} m n c x y ch full = rw (set-set ls c (without y (names_at l
 pub binned : {none : ℕ} {t : Links} {top : ℕ} {ls : List (List ℕ)} → Linked none t ls → Masked ls t.masks top → Binned none t top × (class_lists none t ≡ ls)
 binned {none} {t} {top} {ls} k m = let e = shown k in (record { linked = subst (Linked none t) (sym e) k; masked = subst (λ l. Masked l t.masks top) (sym e) m }, e)
 
--- the clauses of a change
-pub clauses : {H L R A B : Type 0} → H × L → R → A → B → record { held : H; lists : L; room : R; accesses_min : A; accesses_max : B }
-clauses p r a b = record { held = p.0; lists = p.1; room = r; accesses_min = a; accesses_max = b }
+-- the clauses of a change of the bins
+pub changed : {none : ℕ} {t : Links} {top : ℕ} {ls : List (List ℕ)} {R C : Type 0} → Linked none t ls → Masked ls t.masks top → R → C → record { held : Binned none t top; lists : class_lists none t ≡ ls; chain : R; accesses : C }
+changed k m chain accesses = let b = binned k m in record { held = b.0; lists = b.1; chain = chain; accesses = accesses }

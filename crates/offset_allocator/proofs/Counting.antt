@@ -78,6 +78,13 @@ module _ (v : View) (w : IsWellFormed v) where
     | inr h ↦ absurd (some (get_or_past v.order c [] (omega (arith, w.classes))))
   ]
 
+  -- a class that is large enough has no name where all free units are fewer than its smallest block
+  pub value_within_free : (n c : ℕ) → up n ≤ c → names_at v.order c ≢ [] → value (up n) ≤ sum (free_sizes v.blocks)
+  value_within_free n c l some = elim (cases_lt c 256) [
+    | inl h ↦ omega (arith, value_grows (up n) c l, (value_within c (free_sizes v.blocks) (counted c some)).1)
+    | inr h ↦ absurd (some (get_or_past v.order c [] (omega (arith, w.classes))))
+  ]
+
   pub largest_none : ((c : ℕ) → c < 256 → names_at v.order c ≡ []) → largest (free_sizes v.blocks) ≡ 0
   largest_none e = no_sizes (free_sizes v.blocks) (λ d h. uncounted d (e d h))
 

@@ -1,5 +1,6 @@
 pub mod Sliding
 pub mod Split
+pub mod Advice
 pub mod Always
 pub mod Binned
 pub mod Classes

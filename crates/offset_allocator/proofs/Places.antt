@@ -144,3 +144,7 @@ pub after_fits : {c : Room} {m last count x y : ℕ} {p : Place} → HasPlace c 
 after_fits {p = p} h e =
     let n = next_place h e in
     omega (arith, end_fits n.place, units-append p.before (p.block ∷ []), ap (λ (v : Node). v.size) (at_place n.place), ap (λ (v : Node). v.size) (at_place h))
+
+-- a change of the bins leaves every place as it was
+pub kept_place : {c d : Room} {m l k l' k' x : ℕ} {p : Place} → (d ≡ c) × (l' ≡ l) × (k' ≡ k) → HasPlace c m l k x p → HasPlace d m l' k' x p
+kept_place e h = rw (e.0, e.1, e.2) h

@@ -15,3 +15,4 @@ pub mod Start
 pub mod State
 pub mod Promises
 pub mod View
+pub mod Stored

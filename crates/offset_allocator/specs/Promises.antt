@@ -1,7 +1,7 @@
 -- What is reported of an allocator: when a request is granted, why it is refused, and how much is free.
-use Rattle.std.specs.Prelude.{◌≡◌, ◌≢◌, ℕ, ◌+◌, ◌-◌, min, ◌%◌, ◌^◌, ◌<◌, ◌≤◌, length, List, [], sum, slice_index_or}
+use Rattle.std.specs.Prelude.{◌≡◌, ◌≢◌, ℕ, ◌+◌, ◌-◌, min, max, ◌%◌, ◌^◌, ◌<◌, ◌≤◌, length, List, [], sum, codes, slice_index_or}
 use Rattle.offset_allocator.specs.declared.reports.Refusal.{Refusal}
-use Rattle.offset_allocator.specs.declared.reports.Refusal.TheVariants.{Nodes, Space, Fragmented}
+use Rattle.offset_allocator.specs.declared.reports.Refusal.TheVariants.{Nodes, TooLarge, Space, Fragmented}
 use Rattle.offset_allocator.specs.declared.reports.StorageReport.{StorageReport}
 use Rattle.offset_allocator.specs.declared.reports.StorageReportFull.{StorageReportFull}
 use Rattle.offset_allocator.specs.declared.reports.StorageReportFullRegion.{StorageReportFullRegion}
@@ -38,9 +38,22 @@ units_needed size align = size + align - 1
 abbrev pub CanGrant : ℕ → ℕ → View → Type 0
 CanGrant blocks units v = HasRoomFor blocks v × ((c : ℕ) × (up units ≤ c) × (names_at v.order c ≢ []))
 
--- why such a request is refused: too few nodes, too few free units, or enough of them, but in no block of a class that
--- is large enough
+-- the units that a free block has to have at least so that it is of a class that is large enough; one at least, since
+-- free units are meant
+abbrev pub block_needed : ℕ → ℕ
+block_needed units = max 1 (value (up units))
+
+-- why such a request is refused: too few nodes; the class of the whole space is not large enough; that of all free units
+-- together is not; or it is, but no free block is of a class that is large enough
 abbrev pub IsWhy : ℕ → ℕ → View → Refusal → Type 0
 IsWhy blocks units v Nodes = v.max_allocs ≤ length v.blocks + blocks
-IsWhy blocks units v Space = HasRoomFor blocks v × (sum (free_sizes v.blocks) < units)
-IsWhy blocks units v Fragmented = HasRoomFor blocks v × (units ≤ sum (free_sizes v.blocks)) × (CanGrant blocks units v → ⊥)
+IsWhy blocks units v TooLarge = HasRoomFor blocks v × (v.size < value (up units))
+IsWhy blocks units v Space = HasRoomFor blocks v × (value (up units) ≤ v.size) × (sum (free_sizes v.blocks) < block_needed units) × (CanGrant blocks units v → ⊥)
+IsWhy blocks units v Fragmented = HasRoomFor blocks v × (block_needed units ≤ sum (free_sizes v.blocks)) × (CanGrant blocks units v → ⊥)
+
+-- the text of a reason
+abbrev pub refusal_words : Refusal → List ℕ
+refusal_words Nodes = codes "too few nodes are left"
+refusal_words TooLarge = codes "the request is too large for the space"
+refusal_words Space = codes "too few units are free"
+refusal_words Fragmented = codes "no free block is large enough until the space is compacted"

@@ -1,15 +1,18 @@
 //! A bin for each size class: the names of its free blocks, in a list of links between the nodes, with a two-level
 //! mask.
 ghost use Rattle.std.specs.Prelude.{◌≡◌, ◌+◌, ◌-◌, ◌<◌, ◌≤◌, ◌≢◌, ℕ, false, List, [], ◌∷◌, slice_index, slice_set, length, replicate, MatchOption};
+ghost use Rattle.offset_allocator.specs.Count.{Costs};
 ghost use Rattle.offset_allocator.specs.Cells.{AreEmpty, node};
 ghost use Rattle.offset_allocator.specs.Classes.{down};
 ghost use Rattle.offset_allocator.specs.Named.{names_at, without, push, remove};
 ghost use Rattle.offset_allocator.specs.Promises.{IsLargestClass};
+ghost use Rattle.offset_allocator.specs.Stored.{AreBinned, SameChain, bins_of};
 ghost use Rattle.offset_allocator.specs.Orders.{IsUnlisted, IsSmallestFrom, Among, Linked, Masked, class_lists, Binned};
 
 use crate::accesses::Accesses;
 use crate::index::{NodeIndex, link_to, no_link, number};
 use crate::small_float::uint_to_float_round_down;
+use crate::store::Store;
 use crate::tables::Tables;
 
 /// The smallest class at or above `class` whose bin is not empty.
@@ -21,9 +24,10 @@ pub(crate) fn find_at_or_above<NI: NodeIndex>(
 ) -> Option<u32>
     requires held { Binned NI.MAX tables.now.links top_mask }
     requires classed { class < 256 }
-    ensures smallest { MatchOption result ((c : ℕ) → class ≤ c → c < 256 → names_at (class_lists NI.MAX tables.now.links) c ≡ []) (IsSmallestFrom class (class_lists NI.MAX tables.now.links)) }
-    ensures accesses_min { count.old + 1 ≤ count.new }
-    ensures accesses_max { count.new ≤ count.old + 2 }
+    ensures smallest { MatchOption result ((c : ℕ) → class ≤ c → c < 256
+        → names_at (class_lists NI.MAX tables.now.links) c
+        ≡ []) (IsSmallestFrom class (class_lists NI.MAX tables.now.links)) }
+    ensures accesses { Costs 1 2 count.old count.new }
 {
     let word = class / 64;
     let rest = tables.mask(word, count) & (u64::MAX << (class % 64));
@@ -45,7 +49,8 @@ pub(crate) fn largest<NI: NodeIndex>(
     count: &mut Accesses,
 ) -> Option<u32>
     requires { Binned NI.MAX tables.now.links top_mask }
-    ensures largest { MatchOption result ((c : ℕ) → c < 256 → names_at (class_lists NI.MAX tables.now.links) c ≡ []) (IsLargestClass (class_lists NI.MAX tables.now.links)) }
+    ensures largest { MatchOption result ((c : ℕ) → c < 256 → names_at (class_lists NI.MAX tables.now.links) c
+        ≡ []) (IsLargestClass (class_lists NI.MAX tables.now.links)) }
     ensures accesses { MatchOption result (count.new ≡ count.old) (λ _. count.new ≡ count.old + 1) }
 {
     if top_mask == 0 {
@@ -73,24 +78,23 @@ pub(crate) fn length_of<NI: NodeIndex>(tables: &Tables<NI>, class: u32, count: &
 
 /// Pushes a name onto a bin.
 #[inline(always)]
-pub(crate) fn push<NI: NodeIndex>(
-    tables: &mut Tables<NI>,
-    top_mask: &mut u32,
-    name: u32,
-    class: u32,
-    count: &mut Accesses,
-)
-    requires held { Binned NI.MAX tables.old.links top_mask.old }
-    requires named { name < length tables.old.room.nodes }
-    requires idle { (node tables.old.room name).used ≡ false }
+pub(crate) fn push<NI: NodeIndex>(store: &mut Store<NI>, name: u32, class: u32)
+    requires held { AreBinned NI.MAX store.old }
+    requires named { name < length store.old.tables.room.nodes }
+    requires idle { (node store.old.tables.room name).used ≡ false }
     requires classed { class < 256 }
-    requires unlisted { IsUnlisted name (class_lists NI.MAX tables.old.links) }
-    ensures held { Binned NI.MAX tables.new.links top_mask.new }
-    ensures lists { class_lists NI.MAX tables.new.links ≡ push class name (class_lists NI.MAX tables.old.links) }
-    ensures room { tables.new.room ≡ tables.old.room }
-    ensures accesses_min { count.old + 5 ≤ count.new }
-    ensures accesses_max { count.new ≤ count.old + 6 }
+    requires unlisted { IsUnlisted name (bins_of NI.MAX store.old) }
+    ensures held { AreBinned NI.MAX store.new }
+    ensures lists { bins_of NI.MAX store.new ≡ push class name (bins_of NI.MAX store.old) }
+    ensures chain { SameChain store.old store.new }
+    ensures accesses { Costs 5 6 store.old.accesses store.new.accesses }
 {
+    let Store {
+        tables,
+        top_mask,
+        accesses: count,
+        ..
+    } = store;
     tables.shape();
     let link = link_to(name);
     let newest = tables.head(class, count);
@@ -107,18 +111,23 @@ pub(crate) fn push<NI: NodeIndex>(
 }
 
 // Clears the bit of a class, whose bin is empty now.
-fn clear_class<NI: NodeIndex>(
-    tables: &mut Tables<NI>,
-    top_mask: &mut u32,
-    class: u32,
-    count: &mut Accesses,
-)
+fn clear_class<NI: NodeIndex>(store: &mut Store<NI>, class: u32)
     requires classed { class < 256 }
-    ensures masked { (ls : List (List ℕ)) → length ls ≡ 256 → Masked ls tables.old.links.masks top_mask.old → Masked (slice_set ls class []) tables.new.links.masks top_mask.new }
-    ensures rest { tables.new ≡ record tables.old { links = record tables.old.links { masks = tables.new.links.masks } } }
-    ensures accesses_kept { count.old ≤ count.new }
-    ensures accesses_max { count.new ≤ count.old + 2 }
+    ensures masked { (ls : List (List ℕ)) → length ls ≡ 256 → Masked ls store.old.tables.links.masks store.old.top_mask
+        → Masked (slice_set ls class []) store.new.tables.links.masks store.new.top_mask }
+    ensures chain { SameChain store.old store.new }
+    ensures rest { store.new.tables ≡ record store.old.tables {
+      links = record store.old.tables.links
+          { masks = store.new.tables.links.masks };
+    } }
+    ensures accesses { Costs 0 2 store.old.accesses store.new.accesses }
 {
+    let Store {
+        tables,
+        top_mask,
+        accesses: count,
+        ..
+    } = store;
     let word = class / 64;
     let rest = tables.mask(word, count) & !(1 << (class % 64));
     tables.set_mask(word, rest, count);
@@ -133,9 +142,11 @@ fn link_newer<NI: NodeIndex>(tables: &mut Tables<NI>, at: NI, to: NI, count: &mu
     requires named { NI.number at ≢ NI.MAX → NI.number at < length tables.old.links.newer }
     requires idle { NI.number at ≢ NI.MAX → (node tables.old.room (NI.number at)).used ≡ false }
     requires link { NI.number to ≢ NI.MAX - 1 }
-    ensures cells { tables.new ≡ record tables.old { links = record tables.old.links { newer = slice_set tables.old.links.newer (NI.number at) (NI.number to) } } }
-    ensures accesses_kept { count.old ≤ count.new }
-    ensures accesses_max { count.new ≤ count.old + 1 }
+    ensures cells { tables.new ≡ record tables.old {
+      links = record tables.old.links
+          { newer = slice_set tables.old.links.newer (NI.number at) (NI.number to) };
+    } }
+    ensures accesses { Costs 0 1 count.old count.new }
 {
     if number(at) != NI::MAX {
         tables.set_newer(number(at), to, count);
@@ -144,28 +155,28 @@ fn link_newer<NI: NodeIndex>(tables: &mut Tables<NI>, at: NI, to: NI, count: &mu
 
 // Removes the newest name of a class from its bin. `after` is the link to the next older one.
 #[inline(always)]
-fn behead<NI: NodeIndex>(
-    tables: &mut Tables<NI>,
-    top_mask: &mut u32,
-    class: u32,
-    after: NI,
-    count: &mut Accesses,
-)
-    requires held { Binned NI.MAX tables.old.links top_mask.old }
+fn behead<NI: NodeIndex>(store: &mut Store<NI>, class: u32, after: NI)
+    requires held { AreBinned NI.MAX store.old }
     requires classed { class < 256 }
-    requires some { names_at (class_lists NI.MAX tables.old.links) class ≢ [] }
-    requires after { NI.number after ≡ slice_index tables.old.links.older (slice_index tables.old.links.heads class) }
-    ensures held { Binned NI.MAX tables.new.links top_mask.new }
-    ensures lists { class_lists NI.MAX tables.new.links ≡ remove class (slice_index tables.old.links.heads class) (class_lists NI.MAX tables.old.links) }
-    ensures room { tables.new.room ≡ tables.old.room }
-    ensures accesses_min { count.old + 1 ≤ count.new }
-    ensures accesses_max { count.new ≤ count.old + 3 }
+    requires some { names_at (bins_of NI.MAX store.old) class ≢ [] }
+    requires after { NI.number after ≡ slice_index store.old.tables.links.older
+        (slice_index store.old.tables.links.heads class) }
+    ensures held { AreBinned NI.MAX store.new }
+    ensures lists { bins_of NI.MAX store.new
+        ≡ remove class (slice_index store.old.tables.links.heads class) (bins_of NI.MAX store.old) }
+    ensures chain { SameChain store.old store.new }
+    ensures accesses { Costs 1 3 store.old.accesses store.new.accesses }
 {
+    let Store {
+        tables,
+        accesses: count,
+        ..
+    } = store;
     tables.shape();
     let next = number(after);
     tables.set_head(class, next, count);
     if next == NI::MAX {
-        clear_class(tables, top_mask, class, count);
+        clear_class(store, class);
     } else {
         tables.set_newer(next, no_link(), count);
     }
@@ -173,34 +184,25 @@ fn behead<NI: NodeIndex>(
 
 // Removes a name from the bin of this size. `before` is the link to the next newer one.
 #[inline(always)]
-fn leave<NI: NodeIndex>(
-    tables: &mut Tables<NI>,
-    top_mask: &mut u32,
-    name: u32,
-    before: NI,
-    size: u32,
-    count: &mut Accesses,
-)
-    requires held { Binned NI.MAX tables.old.links top_mask.old }
-    requires listed { Among name (names_at (class_lists NI.MAX tables.old.links) (down size)) }
-    requires before { NI.number before ≡ slice_index tables.old.links.newer name }
-    ensures held { Binned NI.MAX tables.new.links top_mask.new }
-    ensures lists { class_lists NI.MAX tables.new.links ≡ remove (down size) name (class_lists NI.MAX tables.old.links) }
-    ensures room { tables.new.room ≡ tables.old.room }
-    ensures accesses_min { count.old + 2 ≤ count.new }
-    ensures accesses_max { count.new ≤ count.old + 4 }
+fn leave<NI: NodeIndex>(store: &mut Store<NI>, name: u32, before: NI, size: u32)
+    requires held { AreBinned NI.MAX store.old }
+    requires listed { Among name (names_at (bins_of NI.MAX store.old) (down size)) }
+    requires before { NI.number before ≡ slice_index store.old.tables.links.newer name }
+    ensures held { AreBinned NI.MAX store.new }
+    ensures lists { bins_of NI.MAX store.new ≡ remove (down size) name (bins_of NI.MAX store.old) }
+    ensures chain { SameChain store.old store.new }
+    ensures accesses { Costs 2 4 store.old.accesses store.new.accesses }
 {
+    let Store {
+        tables,
+        accesses: count,
+        ..
+    } = store;
     tables.shape();
     let after = tables.older(name, count);
     if number(before) == NI::MAX {
         // only the newest name has to find its class
-        behead(
-            tables,
-            top_mask,
-            uint_to_float_round_down(size),
-            after,
-            count,
-        );
+        behead(store, uint_to_float_round_down(size), after);
     } else {
         link_newer(tables, after, before, count);
         tables.set_older(number(before), after, count);
@@ -209,83 +211,78 @@ fn leave<NI: NodeIndex>(
 
 /// Removes a name from the bin of this size.
 #[inline(always)]
-pub(crate) fn remove<NI: NodeIndex>(
-    tables: &mut Tables<NI>,
-    top_mask: &mut u32,
-    name: u32,
-    size: u32,
-    count: &mut Accesses,
-)
-    requires held { Binned NI.MAX tables.old.links top_mask.old }
-    requires listed { Among name (names_at (class_lists NI.MAX tables.old.links) (down size)) }
-    ensures held { Binned NI.MAX tables.new.links top_mask.new }
-    ensures lists { class_lists NI.MAX tables.new.links ≡ remove (down size) name (class_lists NI.MAX tables.old.links) }
-    ensures room { tables.new.room ≡ tables.old.room }
-    ensures accesses_min { count.old + 3 ≤ count.new }
-    ensures accesses_max { count.new ≤ count.old + 5 }
+pub(crate) fn remove<NI: NodeIndex>(store: &mut Store<NI>, name: u32, size: u32)
+    requires held { AreBinned NI.MAX store.old }
+    requires listed { Among name (names_at (bins_of NI.MAX store.old) (down size)) }
+    ensures held { AreBinned NI.MAX store.new }
+    ensures lists { bins_of NI.MAX store.new ≡ remove (down size) name (bins_of NI.MAX store.old) }
+    ensures chain { SameChain store.old store.new }
+    ensures accesses { Costs 3 5 store.old.accesses store.new.accesses }
 {
-    let before = tables.newer(name, count);
-    leave(tables, top_mask, name, before, size, count);
+    let before = store.tables.newer(name, &mut store.accesses);
+    leave(store, name, before, size);
 }
 
 /// Removes `gone`, the name of a block of `size` units, from its bin, and pushes `name` onto the bin of `class`. Where
 /// both are one bin and `gone` is its newest, `name` takes its place.
 #[inline(always)]
 pub(crate) fn exchange<NI: NodeIndex>(
-    tables: &mut Tables<NI>,
-    top_mask: &mut u32,
+    store: &mut Store<NI>,
     gone: u32,
     size: u32,
     name: u32,
     class: u32,
-    count: &mut Accesses,
 )
-    requires held { Binned NI.MAX tables.old.links top_mask.old }
-    requires listed { Among gone (names_at (class_lists NI.MAX tables.old.links) (down size)) }
-    requires named { name < length tables.old.room.nodes }
-    requires idle { (node tables.old.room name).used ≡ false }
+    requires held { AreBinned NI.MAX store.old }
+    requires listed { Among gone (names_at (bins_of NI.MAX store.old) (down size)) }
+    requires named { name < length store.old.tables.room.nodes }
+    requires idle { (node store.old.tables.room name).used ≡ false }
     requires classed { class < 256 }
-    requires unlisted { IsUnlisted name (class_lists NI.MAX tables.old.links) }
-    ensures held { Binned NI.MAX tables.new.links top_mask.new }
-    ensures lists { class_lists NI.MAX tables.new.links ≡ push class name (remove (down size) gone (class_lists NI.MAX tables.old.links)) }
-    ensures room { tables.new.room ≡ tables.old.room }
-    ensures accesses_min { count.old + 5 ≤ count.new }
-    ensures accesses_max { count.new ≤ count.old + 11 }
+    requires unlisted { IsUnlisted name (bins_of NI.MAX store.old) }
+    ensures held { AreBinned NI.MAX store.new }
+    ensures lists { bins_of NI.MAX store.new ≡ push class name (remove (down size) gone (bins_of NI.MAX store.old)) }
+    ensures chain { SameChain store.old store.new }
+    ensures accesses { Costs 5 11 store.old.accesses store.new.accesses }
 {
-    tables.shape();
-    let before = tables.newer(gone, count);
+    store.tables.shape();
+    let before = store.tables.newer(gone, &mut store.accesses);
     if number(before) == NI::MAX && class == uint_to_float_round_down(size) {
         // the bin is empty neither before nor after, so the masks stay
+        let Store {
+            tables,
+            accesses: count,
+            ..
+        } = store;
         let after = tables.older(gone, count);
         tables.set_head(class, name, count);
         tables.set_links(name, no_link(), after, count);
         link_newer(tables, after, link_to(name), count);
     } else {
-        leave(tables, top_mask, gone, before, size, count);
-        push(tables, top_mask, name, class, count);
+        leave(store, gone, before, size);
+        push(store, name, class);
     }
 }
 
 /// Pops the newest name of a bin.
-pub(crate) fn pop<NI: NodeIndex>(
-    tables: &mut Tables<NI>,
-    top_mask: &mut u32,
-    class: u32,
-    count: &mut Accesses,
-) -> u32
-    requires held { Binned NI.MAX tables.old.links top_mask.old }
+pub(crate) fn pop<NI: NodeIndex>(store: &mut Store<NI>, class: u32) -> u32
+    requires held { AreBinned NI.MAX store.old }
     requires classed { class < 256 }
-    requires some { names_at (class_lists NI.MAX tables.old.links) class ≢ [] }
-    ensures first { names_at (class_lists NI.MAX tables.old.links) class ≡ result ∷ without result (names_at (class_lists NI.MAX tables.old.links) class) }
-    ensures held { Binned NI.MAX tables.new.links top_mask.new }
-    ensures lists { class_lists NI.MAX tables.new.links ≡ remove class result (class_lists NI.MAX tables.old.links) }
-    ensures room { tables.new.room ≡ tables.old.room }
-    ensures accesses_min { count.old + 3 ≤ count.new }
-    ensures accesses_max { count.new ≤ count.old + 6 }
+    requires some { names_at (bins_of NI.MAX store.old) class ≢ [] }
+    ensures first { names_at (bins_of NI.MAX store.old) class
+        ≡ result ∷ without result (names_at (bins_of NI.MAX store.old) class) }
+    ensures held { AreBinned NI.MAX store.new }
+    ensures lists { bins_of NI.MAX store.new ≡ remove class result (bins_of NI.MAX store.old) }
+    ensures chain { SameChain store.old store.new }
+    ensures accesses { Costs 3 6 store.old.accesses store.new.accesses }
 {
+    let Store {
+        tables,
+        accesses: count,
+        ..
+    } = store;
     let name = tables.head(class, count);
     let after = tables.older(name, count);
-    behead(tables, top_mask, class, after, count);
+    behead(store, class, after);
     name
 }
 
@@ -300,16 +297,18 @@ pub(crate) fn start<NI: NodeIndex>(tables: &Tables<NI>) -> u32
 }
 
 /// Removes all names from all bins, whatever these hold, by one write for each.
-pub(crate) fn empty<NI: NodeIndex>(
-    tables: &mut Tables<NI>,
-    top_mask: &mut u32,
-    count: &mut Accesses,
-)
-    ensures held { Binned NI.MAX tables.new.links top_mask.new }
-    ensures lists { class_lists NI.MAX tables.new.links ≡ replicate 256 [] }
-    ensures room { tables.new.room ≡ tables.old.room }
-    ensures accesses { count.new ≡ count.old + 260 }
+pub(crate) fn empty<NI: NodeIndex>(store: &mut Store<NI>)
+    ensures held { AreBinned NI.MAX store.new }
+    ensures lists { bins_of NI.MAX store.new ≡ replicate 256 [] }
+    ensures chain { SameChain store.old store.new }
+    ensures accesses { store.new.accesses ≡ store.old.accesses + 260 }
 {
+    let Store {
+        tables,
+        top_mask,
+        accesses: count,
+        ..
+    } = store;
     tables.shape();
     for class in 0..256 {
         tables.set_head(class, NI::MAX, count);

@@ -43,7 +43,8 @@ impl<'a, NI: NodeIndex> Model for Blocks<'a, NI> {
 
     ghost view = { λ it. reverse (placed 0 (take it.left it.allocator.now.blocks)) };
 
-    ghost invariant = { λ it. (it.left ≤ length it.allocator.now.blocks) × (last_or None (take it.left it.allocator.now.blocks) ≡ it.next) };
+    ghost invariant = { λ it. (it.left ≤ length it.allocator.now.blocks)
+        × (last_or None (take it.left it.allocator.now.blocks) ≡ it.next) };
 }
 
 impl<'a, NI: NodeIndex> Clone for Blocks<'a, NI> {

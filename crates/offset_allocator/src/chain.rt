@@ -2,14 +2,17 @@
 
 ghost use Rattle.std.specs.Prelude.{ℕ, ◌≡◌, ◌+◌, ◌-◌, ◌<◌, ◌≤◌, ◌^◌, List, [], ◌∷◌, ◌++◌, length, false, Some};
 ghost use Rattle.offset_allocator.specs.Named.{Block, Place, free_block, is_used_at, count_named, place_of, units};
+ghost use Rattle.offset_allocator.specs.Count.{Costs};
 ghost use Rattle.offset_allocator.specs.Cells.{IsBare, node};
 ghost use Rattle.offset_allocator.specs.Orders.{IsUnlisted, class_lists};
 ghost use Rattle.offset_allocator.specs.Readies.{KeepsBins, Readies};
+ghost use Rattle.offset_allocator.specs.Stored.{IsPlaceIn, SameBins};
 ghost use Rattle.offset_allocator.specs.Space.{IsChain, IsSpace, HasPlace, blocks, coalesced_before, coalesced_after};
 
 use crate::accesses::Accesses;
 use crate::index::{NodeIndex, link_to, linked, no_link, number};
 use crate::links::{point_back, point_on};
+use crate::store::Store;
 use crate::tables::Tables;
 
 /// Makes the whole space one free block, under the name of the only node.
@@ -53,7 +56,8 @@ pub(crate) fn size<NI: NodeIndex>(tables: &Tables<NI>, name: u32, count: &mut Ac
 pub(crate) fn is_used<NI: NodeIndex>(tables: &Tables<NI>, name: u32, count: &mut Accesses) -> bool
     requires { name < length tables.now.room.nodes }
     ensures cell { result ≡ (node tables.now.room name).used }
-    ensures used { (last spare : ℕ) → IsSpace tables.now.room last spare → result ≡ is_used_at (place_of name (blocks tables.now.room last)) }
+    ensures used { (last spare : ℕ) → IsSpace tables.now.room last spare → result
+        ≡ is_used_at (place_of name (blocks tables.now.room last)) }
     ensures accesses { count.new ≡ count.old + 1 }
 {
     tables.used(name, count)
@@ -61,7 +65,8 @@ pub(crate) fn is_used<NI: NodeIndex>(tables: &Tables<NI>, name: u32, count: &mut
 
 /// Whether any name is that of a used block. It counts one access for a name that no node has, too.
 pub(crate) fn is_live<NI: NodeIndex>(tables: &Tables<NI>, name: u32, count: &mut Accesses) -> bool
-    ensures live { (last spare : ℕ) → IsSpace tables.now.room last spare → result ≡ is_used_at (place_of name (blocks tables.now.room last)) }
+    ensures live { (last spare : ℕ) → IsSpace tables.now.room last spare → result
+        ≡ is_used_at (place_of name (blocks tables.now.room last)) }
     ensures accesses { count.new ≡ count.old + 1 }
 {
     if name < tables.len() {
@@ -106,12 +111,12 @@ pub(crate) fn ready<NI: NodeIndex>(
     names: u32,
     count: &mut Accesses,
 )
-    requires memory { (m last : ℕ) × (bs : List Block) × IsChain tables.old.room m last spare_count.old bs × (length bs + names ≤ m) }
+    requires memory { (m last : ℕ) × (bs : List Block) × IsChain tables.old.room m last spare_count.old bs
+        × (length bs + names ≤ m) }
     requires next { names ≤ spare_count.old + 1 }
     ensures readies { Readies NI.MAX tables.old tables.new spare_count.old spare_count.new }
     ensures enough { names ≤ spare_count.new }
-    ensures accesses_kept { count.old ≤ count.new }
-    ensures accesses_max { count.new ≤ count.old + 8 }
+    ensures accesses { Costs 0 8 count.old count.new }
 {
     tables.shape();
     if *spare_count < names {
@@ -128,13 +133,13 @@ pub(crate) fn ready_for<NI: NodeIndex>(
     names: u32,
     count: &mut Accesses,
 )
-    requires memory { (m last : ℕ) × (bs : List Block) × IsChain tables.old.room m last spare_count.old bs × (length bs + names ≤ m) }
+    requires memory { (m last : ℕ) × (bs : List Block) × IsChain tables.old.room m last spare_count.old bs
+        × (length bs + names ≤ m) }
     requires some { 1 ≤ names }
     requires few { names ≤ 2 }
     ensures readies { Readies NI.MAX tables.old tables.new spare_count.old spare_count.new }
     ensures enough { names ≤ spare_count.new }
-    ensures accesses_kept { count.old ≤ count.new }
-    ensures accesses_max { count.new ≤ count.old + 16 }
+    ensures accesses { Costs 0 16 count.old count.new }
 {
     ready(tables, spare_count, 1, count);
     if names > 1 {
@@ -146,29 +151,37 @@ pub(crate) fn ready_for<NI: NodeIndex>(
 /// under the name that is returned.
 #[tactic(auto, using(crate::proofs::Nodes::lengths))]
 pub(crate) fn split<NI: NodeIndex>(
-    tables: &mut Tables<NI>,
-    last: &mut u32,
-    spare_count: &mut u32,
+    store: &mut Store<NI>,
     name: u32,
     offset: u32,
     size: u32,
     kept: u32,
-    count: &mut Accesses,
 ) -> u32
-    requires place { (m : ℕ) × (p : Place) × HasPlace tables.old.room m last.old spare_count.old name p }
-    requires spare { 0 < spare_count.old }
-    requires offset { offset ≡ (node tables.old.room name).offset }
-    requires size { size ≡ (node tables.old.room name).size }
+    requires place { (m : ℕ) × (p : Place) × IsPlaceIn store.old m name p }
+    requires spare { 0 < store.old.spare_count }
+    requires offset { offset ≡ (node store.old.tables.room name).offset }
+    requires size { size ≡ (node store.old.tables.room name).size }
     requires within { kept ≤ size }
-    ensures place { (m : ℕ) (p : Place) → HasPlace tables.old.room m last.old spare_count.old name p → HasPlace tables.new.room m last.new spare_count.new name (record p { block = record p.block { size = kept }; after = free_block result (p.block.size - kept) ∷ p.after }) }
-    ensures links { tables.new.links ≡ tables.old.links }
-    ensures nodes { length tables.new.room.nodes ≡ length tables.old.room.nodes }
-    ensures spares { spare_count.new + 1 ≡ spare_count.old }
-    ensures fresh { (m : ℕ) (p : Place) → HasPlace tables.old.room m last.old spare_count.old name p → count_named result (p.before ++ p.block ∷ p.after) ≡ 0 }
-    ensures below { result < length tables.old.room.nodes }
-    ensures accesses_min { count.old + 8 ≤ count.new }
-    ensures accesses_max { count.new ≤ count.old + 9 }
+    ensures place { (m : ℕ) (p : Place) → IsPlaceIn store.old m name p
+        → IsPlaceIn store.new m name (record p {
+          block = record p.block { size = kept };
+          after = free_block result (p.block.size - kept) ∷ p.after;
+        }) }
+    ensures bins { SameBins store.old store.new }
+    ensures nodes { length store.new.tables.room.nodes ≡ length store.old.tables.room.nodes }
+    ensures spares { store.new.spare_count + 1 ≡ store.old.spare_count }
+    ensures fresh { (m : ℕ) (p : Place) → IsPlaceIn store.old m name p
+        → count_named result (p.before ++ p.block ∷ p.after) ≡ 0 }
+    ensures below { result < length store.old.tables.room.nodes }
+    ensures accesses { Costs 8 9 store.old.accesses store.new.accesses }
 {
+    let Store {
+        tables,
+        last,
+        spare_count,
+        accesses: count,
+        ..
+    } = store;
     *spare_count -= 1;
     let rest = number(tables.spare(*spare_count, count));
     let next = tables.after(name, count);
@@ -184,25 +197,29 @@ pub(crate) fn split<NI: NodeIndex>(
 /// `following` is unused again.
 #[tactic(auto, using(crate::proofs::Nodes::lengths))]
 pub(crate) fn coalesce_after<NI: NodeIndex>(
-    tables: &mut Tables<NI>,
-    last: &mut u32,
-    spare_count: &mut u32,
+    store: &mut Store<NI>,
     name: u32,
     following: u32,
     total: u32,
-    count: &mut Accesses,
 )
-    requires place { (m : ℕ) × (p : Place) × HasPlace tables.old.room m last.old spare_count.old name p }
-    requires next { Some following ≡ (node tables.old.room name).after }
-    requires free { (node tables.old.room following).used ≡ false }
-    requires total { total ≡ (node tables.old.room name).size + (node tables.old.room following).size }
-    ensures place { (m : ℕ) (p : Place) → HasPlace tables.old.room m last.old spare_count.old name p → HasPlace tables.new.room m last.new spare_count.new name (coalesced_after p) }
-    ensures links { tables.new.links ≡ tables.old.links }
-    ensures nodes { length tables.new.room.nodes ≡ length tables.old.room.nodes }
-    ensures spares { spare_count.new ≡ spare_count.old + 1 }
-    ensures accesses_min { count.old + 4 ≤ count.new }
-    ensures accesses_max { count.new ≤ count.old + 5 }
+    requires place { (m : ℕ) × (p : Place) × IsPlaceIn store.old m name p }
+    requires next { Some following ≡ (node store.old.tables.room name).after }
+    requires free { (node store.old.tables.room following).used ≡ false }
+    requires total { total ≡ (node store.old.tables.room name).size + (node store.old.tables.room following).size }
+    ensures place { (m : ℕ) (p : Place) → IsPlaceIn store.old m name p
+        → IsPlaceIn store.new m name (coalesced_after p) }
+    ensures bins { SameBins store.old store.new }
+    ensures nodes { length store.new.tables.room.nodes ≡ length store.old.tables.room.nodes }
+    ensures spares { store.new.spare_count ≡ store.old.spare_count + 1 }
+    ensures accesses { Costs 4 5 store.old.accesses store.new.accesses }
 {
+    let Store {
+        tables,
+        last,
+        spare_count,
+        accesses: count,
+        ..
+    } = store;
     tables.shape();
     let next = tables.after(following, count);
     tables.set_end(name, total, next, count);
@@ -215,24 +232,28 @@ pub(crate) fn coalesce_after<NI: NodeIndex>(
 /// `previous` is unused again.
 #[tactic(auto, using(crate::proofs::Nodes::lengths))]
 pub(crate) fn coalesce_before<NI: NodeIndex>(
-    tables: &mut Tables<NI>,
-    spare_count: &mut u32,
+    store: &mut Store<NI>,
     previous: u32,
     name: u32,
     total: u32,
-    count: &mut Accesses,
 )
-    requires place { (m last : ℕ) × (p : Place) × HasPlace tables.old.room m last spare_count.old name p }
-    requires previous { Some previous ≡ (node tables.old.room name).before }
-    requires free { (node tables.old.room previous).used ≡ false }
-    requires total { total ≡ (node tables.old.room previous).size + (node tables.old.room name).size }
-    ensures place { (m last : ℕ) (p : Place) → HasPlace tables.old.room m last spare_count.old name p → HasPlace tables.new.room m last spare_count.new name (coalesced_before p) }
-    ensures links { tables.new.links ≡ tables.old.links }
-    ensures nodes { length tables.new.room.nodes ≡ length tables.old.room.nodes }
-    ensures spares { spare_count.new ≡ spare_count.old + 1 }
-    ensures accesses_min { count.old + 6 ≤ count.new }
-    ensures accesses_max { count.new ≤ count.old + 7 }
+    requires place { (m : ℕ) × (p : Place) × IsPlaceIn store.old m name p }
+    requires previous { Some previous ≡ (node store.old.tables.room name).before }
+    requires free { (node store.old.tables.room previous).used ≡ false }
+    requires total { total ≡ (node store.old.tables.room previous).size + (node store.old.tables.room name).size }
+    ensures place { (m : ℕ) (p : Place) → IsPlaceIn store.old m name p
+        → IsPlaceIn store.new m name (coalesced_before p) }
+    ensures bins { SameBins store.old store.new }
+    ensures nodes { length store.new.tables.room.nodes ≡ length store.old.tables.room.nodes }
+    ensures spares { store.new.spare_count ≡ store.old.spare_count + 1 }
+    ensures accesses { Costs 6 7 store.old.accesses store.new.accesses }
 {
+    let Store {
+        tables,
+        spare_count,
+        accesses: count,
+        ..
+    } = store;
     tables.shape();
     let offset = tables.offset(previous, count);
     let link = tables.before(previous, count);
@@ -251,8 +272,10 @@ pub(crate) fn mark<NI: NodeIndex>(
     count: &mut Accesses,
 )
     requires { name < length tables.old.room.nodes }
-    ensures place { (m last spare : ℕ) (p : Place) → HasPlace tables.old.room m last spare name p → HasPlace tables.new.room m last spare name (record p { block = record p.block { used = used } }) }
-    ensures bins { (top : ℕ) → IsUnlisted name (class_lists NI.MAX tables.old.links) → KeepsBins NI.MAX tables.old tables.new top }
+    ensures place { (m last spare : ℕ) (p : Place) → HasPlace tables.old.room m last spare name p
+        → HasPlace tables.new.room m last spare name (record p { block = record p.block { used = used } }) }
+    ensures bins { (top : ℕ) → IsUnlisted name (class_lists NI.MAX tables.old.links)
+        → KeepsBins NI.MAX tables.old tables.new top }
     ensures nodes { length tables.new.room.nodes ≡ length tables.old.room.nodes }
     ensures accesses { count.new ≡ count.old + 1 }
 {
@@ -262,25 +285,30 @@ pub(crate) fn mark<NI: NodeIndex>(
 /// Splits the first `cut` units off a block. They become a free block directly before it, under the name that is
 /// returned.
 #[tactic(auto, using(crate::proofs::Nodes::lengths))]
-pub(crate) fn split_before<NI: NodeIndex>(
-    tables: &mut Tables<NI>,
-    spare_count: &mut u32,
-    name: u32,
-    cut: u32,
-    count: &mut Accesses,
-) -> u32
-    requires place { (m last : ℕ) × (p : Place) × HasPlace tables.old.room m last spare_count.old name p }
-    requires spare { 0 < spare_count.old }
-    requires within { cut ≤ (node tables.old.room name).size }
-    ensures place { (m last : ℕ) (p : Place) → HasPlace tables.old.room m last spare_count.old name p → HasPlace tables.new.room m last spare_count.new name (record { before = p.before ++ free_block result cut ∷ []; block = record p.block { size = p.block.size - cut }; after = p.after }) }
-    ensures links { tables.new.links ≡ tables.old.links }
-    ensures nodes { length tables.new.room.nodes ≡ length tables.old.room.nodes }
-    ensures spares { spare_count.new + 1 ≡ spare_count.old }
-    ensures fresh { (m last : ℕ) (p : Place) → HasPlace tables.old.room m last spare_count.old name p → count_named result (p.before ++ p.block ∷ p.after) ≡ 0 }
-    ensures below { result < length tables.old.room.nodes }
-    ensures accesses_min { count.old + 11 ≤ count.new }
-    ensures accesses_max { count.new ≤ count.old + 12 }
+pub(crate) fn split_before<NI: NodeIndex>(store: &mut Store<NI>, name: u32, cut: u32) -> u32
+    requires place { (m : ℕ) × (p : Place) × IsPlaceIn store.old m name p }
+    requires spare { 0 < store.old.spare_count }
+    requires within { cut ≤ (node store.old.tables.room name).size }
+    ensures place { (m : ℕ) (p : Place) → IsPlaceIn store.old m name p
+        → IsPlaceIn store.new m name (record {
+          before = p.before ++ free_block result cut ∷ [];
+          block = record p.block { size = p.block.size - cut };
+          after = p.after;
+        }) }
+    ensures bins { SameBins store.old store.new }
+    ensures nodes { length store.new.tables.room.nodes ≡ length store.old.tables.room.nodes }
+    ensures spares { store.new.spare_count + 1 ≡ store.old.spare_count }
+    ensures fresh { (m : ℕ) (p : Place) → IsPlaceIn store.old m name p
+        → count_named result (p.before ++ p.block ∷ p.after) ≡ 0 }
+    ensures below { result < length store.old.tables.room.nodes }
+    ensures accesses { Costs 11 12 store.old.accesses store.new.accesses }
 {
+    let Store {
+        tables,
+        spare_count,
+        accesses: count,
+        ..
+    } = store;
     *spare_count -= 1;
     let front = number(tables.spare(*spare_count, count));
     let offset = tables.offset(name, count);
@@ -302,9 +330,16 @@ pub(crate) fn grow<NI: NodeIndex>(
     more: u32,
     count: &mut Accesses,
 )
-    requires place { (m spare : ℕ) × (before : List Block) × (b : Block) × HasPlace tables.old.room m last spare last (record { before = before; block = b; after = [] }) }
+    requires place { (m spare : ℕ) × (before : List Block) × (b : Block)
+        × HasPlace tables.old.room m last spare last (record { before = before; block = b; after = [] }) }
     requires fits { units (blocks tables.old.room last) + more < 2 ^ 32 }
-    ensures place { (m spare : ℕ) (before : List Block) (b : Block) → HasPlace tables.old.room m last spare last (record { before = before; block = b; after = [] }) → HasPlace tables.new.room m last spare last (record { before = before; block = record b { size = b.size + more }; after = [] }) }
+    ensures place { (m spare : ℕ) (before : List Block) (b : Block)
+        → HasPlace tables.old.room m last spare last (record { before = before; block = b; after = [] })
+        → HasPlace tables.new.room m last spare last (record {
+          before = before;
+          block = record b { size = b.size + more };
+          after = [];
+        }) }
     ensures links { tables.new.links ≡ tables.old.links }
     ensures nodes { length tables.new.room.nodes ≡ length tables.old.room.nodes }
     ensures accesses { count.new ≡ count.old + 2 }

@@ -1,11 +1,13 @@
 //! Slides every live range to the front of the space, so that all free units are one block at its end.
 ghost use Rattle.std.specs.Prelude.{ℕ, ◌≡◌, ◌≢◌, ◌+◌, ◌*◌, ◌<◌, ◌≤◌, [], ◌∷◌, ◌++◌, Some, false, Bool, List, length};
 ghost use Rattle.std.specs.List.{FoldsTo};
+ghost use Rattle.offset_allocator.specs.Count.{Costs};
 ghost use Rattle.offset_allocator.specs.Cells.{node};
 ghost use Rattle.offset_allocator.specs.Named.{Place, Block, free_block, free_sizes, units};
 ghost use Rattle.offset_allocator.specs.Space.{IsSpace, HasPlace, blocks};
 ghost use Rattle.offset_allocator.specs.State.{free_units};
 ghost use Rattle.offset_allocator.specs.Compacting.{live, moves, move_of, Compacts, KeepsSizes, IsCalledWith, first_free};
+ghost use Rattle.offset_allocator.specs.Stored.{IsPlaceIn, SameBins};
 
 use crate::accesses::Accesses;
 use crate::handle::Allocation;
@@ -65,36 +67,23 @@ fn pass<NI: NodeIndex>(
     next: u32,
     more: u32,
 ) -> u32
-    requires place { (m : ℕ) × (p : Place) × HasPlace store.old.tables.room m store.old.last store.old.spare_count hole p × (p.block.used ≡ false) }
+    requires place { (m : ℕ) × (p : Place) × IsPlaceIn store.old m hole p × (p.block.used ≡ false) }
     requires offset { offset ≡ (node store.old.tables.room hole).offset }
     requires size { size ≡ (node store.old.tables.room hole).size }
     requires next { Some next ≡ (node store.old.tables.room hole).after }
     requires more { more ≡ (node store.old.tables.room next).size }
-    ensures place { (m : ℕ) (p : Place) (b : Block) (bs : List Block) → HasPlace store.old.tables.room m store.old.last store.old.spare_count hole p → p.block.used ≡ false → p.after ≡ b ∷ bs → HasPlace store.new.tables.room m store.new.last store.new.spare_count result (record { before = p.before ++ b ∷ []; block = free_block result p.block.size; after = bs }) }
-    ensures links { store.new.tables.links ≡ store.old.tables.links }
-    ensures mask { store.new.top_mask ≡ store.old.top_mask }
-    ensures accesses_min { store.old.accesses + 14 ≤ store.new.accesses }
-    ensures accesses_max { store.new.accesses ≤ store.old.accesses + 16 }
+    ensures place { (m : ℕ) (p : Place) (b : Block) (bs : List Block) → IsPlaceIn store.old m hole p → p.block.used
+        ≡ false → p.after ≡ b ∷ bs → IsPlaceIn store.new m result (record {
+          before = p.before ++ b ∷ [];
+          block = free_block result p.block.size;
+          after = bs;
+        }) }
+    ensures bins { SameBins store.old store.new }
+    ensures accesses { Costs 14 16 store.old.accesses store.new.accesses }
 {
     let whole = size + more;
-    chain::coalesce_before(
-        &mut store.tables,
-        &mut store.spare_count,
-        hole,
-        next,
-        whole,
-        &mut store.accesses,
-    );
-    chain::split(
-        &mut store.tables,
-        &mut store.last,
-        &mut store.spare_count,
-        next,
-        offset,
-        whole,
-        more,
-        &mut store.accesses,
-    )
+    chain::coalesce_before(store, hole, next, whole);
+    chain::split(store, next, offset, whole, more)
 }
 
 // Calls the closure with the move of a block, where it gets another offset.
@@ -107,7 +96,12 @@ fn report<NI: NodeIndex, F: FnMut(Move<NI>)>(
 )
     requires named { name < NI.MAX }
     requires callable { F.IsAlwaysCallable moved.old }
-    ensures called { (used : Bool) → FoldsTo (IsCalledWith NI.NonMax.number (λ f range g. F.step f range tt g)) moved.old (move_of from to (record { name = name; size = size; used = used })) moved.new }
+    ensures called { (used : Bool) → FoldsTo (IsCalledWith NI.NonMax.number
+        (λ f range g. F.step f range tt g)) moved.old (move_of from to (record {
+          name = name;
+          size = size;
+          used = used;
+        })) moved.new }
     ensures callable { F.IsAlwaysCallable moved.new }
 {
     if from == to {
@@ -130,16 +124,20 @@ fn slide<NI: NodeIndex, F: FnMut(Move<NI>)>(
     mut size: u32,
     moved: &mut F,
 ) -> (u32, u32)
-    requires place { (m : ℕ) × (p : Place) × HasPlace store.old.tables.room m store.old.last store.old.spare_count hole p × (p.block.used ≡ false) }
+    requires place { (m : ℕ) × (p : Place) × IsPlaceIn store.old m hole p × (p.block.used ≡ false) }
     requires size { size ≡ (node store.old.tables.room hole).size }
     requires callable { F.IsAlwaysCallable moved.old }
-    ensures place { (m : ℕ) (p : Place) → HasPlace store.old.tables.room m store.old.last store.old.spare_count hole p → p.block.used ≡ false
-        → HasPlace store.new.tables.room m store.new.last store.new.spare_count result.0 (record { before = p.before ++ live p.after; block = free_block result.0 result.1; after = [] })
+    ensures place { (m : ℕ) (p : Place) → IsPlaceIn store.old m hole p → p.block.used ≡ false
+        → IsPlaceIn store.new m result.0 (record {
+          before = p.before ++ live p.after;
+          block = free_block result.0 result.1;
+          after = [];
+        })
         × (result.1 ≡ p.block.size + free_units p.after)
-        × FoldsTo (IsCalledWith NI.NonMax.number (λ f range g. F.step f range tt g)) moved.old (moves (units p.before + p.block.size) (units p.before) p.after) moved.new
+        × FoldsTo (IsCalledWith NI.NonMax.number (λ f range g. F.step f range tt g)) moved.old
+        (moves (units p.before + p.block.size) (units p.before) p.after) moved.new
         × (store.new.accesses ≤ store.old.accesses + 20 * length p.after + 1) }
-    ensures links { store.new.tables.links ≡ store.old.tables.links }
-    ensures mask { store.new.top_mask ≡ store.old.top_mask }
+    ensures bins { SameBins store.old store.new }
     ensures accesses_min { store.old.accesses + 1 ≤ store.new.accesses }
 {
     store.tables.shape();
@@ -151,15 +149,7 @@ fn slide<NI: NodeIndex, F: FnMut(Move<NI>)>(
             report(moved, next, to + size, to, more);
         } else {
             size += more;
-            chain::coalesce_after(
-                &mut store.tables,
-                &mut store.last,
-                &mut store.spare_count,
-                hole,
-                next,
-                size,
-                &mut store.accesses,
-            );
+            chain::coalesce_after(store, hole, next, size);
         }
     }
     (hole, size)
@@ -179,13 +169,14 @@ impl<NI: NodeIndex> Allocator<NI> {
         ensures live { live self.new.blocks ≡ live self.old.blocks }
         ensures sizes { KeepsSizes self.old self.new }
         // The closure is called with the moves, in space order.
-        ensures moved { FoldsTo (IsCalledWith NI.NonMax.number (λ f range g. F.step f range tt g)) moved.old (moves 0 0 self.old.blocks) moved.new }
+        ensures moved { FoldsTo (IsCalledWith NI.NonMax.number (λ f range g. F.step f range tt g)) moved.old
+            (moves 0 0 self.old.blocks) moved.new }
         // It makes at least 2 accesses to table cells for each block, and 267 more where a block is free; at most 24
         // for each, and 512.
-        ensures accesses_min { self.old.accesses + 2 * length self.old.blocks ≤ self.new.accesses }
+        ensures accesses { Costs (2 * length self.old.blocks)
+            (24 * length self.old.blocks + 512) self.old.accesses self.new.accesses }
         ensures accesses_some { free_sizes self.old.blocks ≢ []
             → self.old.accesses + 2 * length self.old.blocks + 267 ≤ self.new.accesses }
-        ensures accesses_max { self.new.accesses ≤ self.old.accesses + 24 * length self.old.blocks + 512 }
         // The step as a whole: the live blocks, and after them one free block of all free units, alone in its bin.
         ensures step { Compacts self.old self.new }
     {
@@ -197,18 +188,8 @@ impl<NI: NodeIndex> Allocator<NI> {
             return;
         };
         let units = chain::size(&self.store.tables, first, &mut self.store.accesses);
-        bins::empty(
-            &mut self.store.tables,
-            &mut self.store.top_mask,
-            &mut self.store.accesses,
-        );
+        bins::empty(&mut self.store);
         let (hole, size) = slide(&mut self.store, first, units, moved);
-        bins::push(
-            &mut self.store.tables,
-            &mut self.store.top_mask,
-            hole,
-            uint_to_float_round_down(size),
-            &mut self.store.accesses,
-        );
+        bins::push(&mut self.store, hole, uint_to_float_round_down(size));
     }
 }

@@ -1,7 +1,8 @@
-//! The calls that leave an allocator as it is, with a count of their accesses. The plain calls are these with a count
-//! of their own, and `laws` exports them.
+//! Read-only calls that add their table accesses to `count`. The plain calls are these with a count of their own, and
+//! `laws` exports them.
 ghost use Rattle.std.specs.Prelude.{◌≡◌, ◌<◌, ◌≤◌, ◌+◌, ◌*◌, ◌↔◌, IsTrue, IsSome, IfSome, None, length, option_map};
 ghost use Rattle.std.specs.Iterator.{YieldsFirstBy};
+ghost use Rattle.offset_allocator.specs.Count.{Costs};
 ghost use Rattle.offset_allocator.specs.Named.{free_sizes, largest_free};
 ghost use Rattle.offset_allocator.specs.Ranges.{Range, range_of, size_of, IsLive};
 ghost use Rattle.offset_allocator.specs.Listing.{as_placed};
@@ -13,7 +14,7 @@ use crate::blocks::{Block, Blocks};
 use crate::handle::Allocation;
 use crate::index::{self, NodeIndex};
 use crate::reports::{Refusal, StorageReport, StorageReportFull, StorageReportFullRegion};
-use crate::small_float::{float_to_uint, uint_to_float_round_up};
+use crate::small_float::{float_to_uint, uint_to_float_round_down, uint_to_float_round_up};
 use crate::steps::handle_of;
 use crate::{Allocator, bins, chain};
 
@@ -24,9 +25,8 @@ pub fn is_live_counted<NI: NodeIndex>(
     count: &mut Accesses,
 ) -> bool
     ensures live { IsTrue result ↔ IsLive allocation.name allocator.now }
-    ensures accesses_kept { count.old ≤ count.new }
+    ensures accesses { Costs 0 8 count.old count.new }
     ensures accesses_min { allocation.name < allocator.now.max_allocs → count.old + 1 ≤ count.new }
-    ensures accesses_max { count.new ≤ count.old + 8 }
 {
     allocator.uses(index::number(NI::of_nonmax(allocation.name())), count)
 }
@@ -38,9 +38,8 @@ pub fn allocation_size_counted<NI: NodeIndex>(
     count: &mut Accesses,
 ) -> u32
     ensures size { result ≡ size_of allocation.name allocator.now }
-    ensures accesses_kept { count.old ≤ count.new }
+    ensures accesses { Costs 0 8 count.old count.new }
     ensures accesses_min { IsLive allocation.name allocator.now → count.old + 2 ≤ count.new }
-    ensures accesses_max { count.new ≤ count.old + 8 }
 {
     let name = index::number::<NI>(NI::of_nonmax(allocation.name()));
     if allocator.uses(name, count) {
@@ -57,9 +56,8 @@ pub fn allocation_offset_counted<NI: NodeIndex>(
     count: &mut Accesses,
 ) -> Option<u32>
     ensures offset { result ≡ option_map (λ (r : Range). r.offset) (range_of allocation.name allocator.now) }
-    ensures accesses_kept { count.old ≤ count.new }
+    ensures accesses { Costs 0 8 count.old count.new }
     ensures accesses_min { IsLive allocation.name allocator.now → count.old + 2 ≤ count.new }
-    ensures accesses_max { count.new ≤ count.old + 8 }
 {
     let name = index::number::<NI>(NI::of_nonmax(allocation.name()));
     if allocator.uses(name, count) {
@@ -75,9 +73,8 @@ pub fn next_block_counted<NI: NodeIndex>(
     count: &mut Accesses,
 ) -> Option<Block<NI>>
     ensures yields { YieldsFirstBy as_placed (λ rest. rest) blocks.old result blocks.new }
-    ensures accesses_kept { count.old ≤ count.new }
+    ensures accesses { Costs 0 5 count.old count.new }
     ensures accesses_min { IsSome result → count.old + 4 ≤ count.new }
-    ensures accesses_max { count.new ≤ count.old + 5 }
 {
     let name = blocks.next?;
     let allocator = blocks.allocator;
@@ -104,9 +101,8 @@ pub fn storage_report_counted<NI: NodeIndex>(
     count: &mut Accesses,
 ) -> StorageReport
     ensures report { IsReport result allocator.now }
-    ensures accesses_kept { count.old ≤ count.new }
+    ensures accesses { Costs 0 8 count.old count.new }
     ensures accesses_min { 1 ≤ largest_free allocator.now → count.old + 1 ≤ count.new }
-    ensures accesses_max { count.new ≤ count.old + 8 }
 {
     if allocator.names_left() < 2 {
         return StorageReport {
@@ -134,8 +130,7 @@ pub fn storage_report_full_counted<NI: NodeIndex>(
     count: &mut Accesses,
 ) -> StorageReportFull
     ensures report { IsFullReport result allocator.now }
-    ensures accesses_min { count.old + 256 ≤ count.new }
-    ensures accesses_max { count.new ≤ count.old + 512 + 2 * length (free_sizes allocator.now.blocks) }
+    ensures accesses { Costs 256 (512 + 2 * length (free_sizes allocator.now.blocks)) count.old count.new }
 {
     let mut report = StorageReportFull::default();
     for class in 0..256u32 {
@@ -155,9 +150,8 @@ pub fn refusal_counted<NI: NodeIndex>(
 ) -> Option<Refusal>
     ensures granted { result ≡ None ↔ CanGrant 1 size allocator.now }
     ensures why { IfSome result (IsWhy 1 size allocator.now) }
-    ensures accesses_kept { count.old ≤ count.new }
+    ensures accesses { Costs 0 8 count.old count.new }
     ensures accesses_min { result ≡ None → count.old + 1 ≤ count.new }
-    ensures accesses_max { count.new ≤ count.old + 8 }
 {
     refusal_aligned_counted(allocator, size, 1, count)
 }
@@ -172,26 +166,36 @@ pub fn refusal_aligned_counted<NI: NodeIndex>(
     requires power { IsAlignment align }
     ensures granted { result ≡ None ↔ CanGrant (blocks_needed align) (units_needed size align) allocator.now }
     ensures why { IfSome result (IsWhy (blocks_needed align) (units_needed size align) allocator.now) }
-    ensures accesses_kept { count.old ≤ count.new }
+    ensures accesses { Costs 0 8 count.old count.new }
     ensures accesses_min { result ≡ None → count.old + 1 ≤ count.new }
-    ensures accesses_max { count.new ≤ count.old + 8 }
 {
     let blocks = align.min(2);
     let units = size as u64 + (align - 1) as u64;
+    let largest = uint_to_float_round_down(allocator.size);
     if allocator.names_left() <= blocks {
         return Some(Refusal::Nodes);
     }
-    if units > allocator.free_total as u64 {
-        return Some(Refusal::Space);
+    if units > u32::MAX as u64 {
+        return Some(Refusal::TooLarge);
     }
     let smallest = uint_to_float_round_up(units as u32);
+    if largest < smallest {
+        return Some(Refusal::TooLarge);
+    }
     match bins::find_at_or_above(
         &allocator.store.tables,
         allocator.store.top_mask,
         smallest,
         count,
     ) {
-        None => Some(Refusal::Fragmented),
         Some(_) => None,
+        None => {
+            // the class of all free units in one block, of which there has to be one at least
+            if uint_to_float_round_down(allocator.free_total) < smallest.max(1) {
+                Some(Refusal::Space)
+            } else {
+                Some(Refusal::Fragmented)
+            }
+        }
     }
 }

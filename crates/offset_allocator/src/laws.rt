@@ -3,11 +3,14 @@
 ghost use Rattle.std.specs.Prelude.{◌≡◌, ◌≢◌, ◌<◌, ◌≤◌, ◌+◌, ◌%◌, ◌↔◌, ℕ, List, ◌++◌, false, IsTrue, Some, length, sum, if◌then◌else◌};
 ghost use Rattle.std.specs.Int.{IsPowerOfTwo};
 ghost use Rattle.std.specs.List.{AllByRecursion};
+ghost use Rattle.offset_allocator.specs.Count.{Costs};
 ghost use Rattle.offset_allocator.specs.Classes.{value, up, down};
 ghost use Rattle.offset_allocator.specs.Named.{View, Block, Grant, IsWellFormed, free_sizes, tally, one, total_free, largest_free, padding_to};
 ghost use Rattle.offset_allocator.specs.Ranges.{Range, range_of, AreDisjoint};
 ghost use Rattle.offset_allocator.specs.Relations.{IsAlignment, SameSpace, Allocates, Frees, IsFresh};
-ghost use Rattle.offset_allocator.specs.Promises.{CanGrant, HasRoomFor};
+ghost use Rattle.offset_allocator.specs.Promises.{CanGrant, HasRoomFor, IsWhy};
+ghost use Rattle.offset_allocator.specs.declared.reports.Refusal.{Refusal};
+ghost use Rattle.offset_allocator.specs.declared.reports.Refusal.TheVariants.{TooLarge, Fragmented};
 ghost use Rattle.offset_allocator.specs.Compacting.{moves, AreSafe, Compacts};
 
 use crate::Allocator;
@@ -26,12 +29,12 @@ use crate::tables::Tables;
 /// The contract says this of each grant that a request for `n` can have here, whichever unused name its remainder
 /// takes. The count of accesses grows by at most 192.
 pub fn undo<NI: NodeIndex>(allocator: &mut Allocator<NI>, n: u32) -> bool
-    ensures undone { (w u : View) (g : Grant) → Allocates n allocator.old w (Some g) → Frees g.name w u → SameSpace allocator.old u }
+    ensures undone { (w u : View) (g : Grant) → Allocates n allocator.old w (Some g) → Frees g.name w u
+        → SameSpace allocator.old u }
     ensures same { SameSpace allocator.old allocator.new }
     ensures granted { IsTrue result ↔ CanGrant 1 n allocator.old }
-    ensures accesses_kept { allocator.old.accesses ≤ allocator.new.accesses }
+    ensures accesses { Costs 0 192 allocator.old.accesses allocator.new.accesses }
     ensures accesses_min { IsTrue result → allocator.old.accesses + 16 ≤ allocator.new.accesses }
-    ensures accesses_max { allocator.new.accesses ≤ allocator.old.accesses + 192 }
 {
     allocator.formed();
     match allocator.allocate(n) {
@@ -148,6 +151,24 @@ pub fn alignments_are_powers()
 pub fn a_compacted_space_grants<NI: NodeIndex>(allocator: &Allocator<NI>)
     ensures { (v : View) (n : ℕ) → 1 ≤ n → Compacts v allocator.now
         → CanGrant 1 n allocator.now ↔ (HasRoomFor 1 allocator.now × (n ≤ value (down (sum (free_sizes v.blocks))))) }
+{
+    allocator.formed();
+}
+
+/// Of the requests that are refused though there is room for the blocks that they need, those are refused as
+/// `Fragmented` that would be granted after `compact`, and those as `TooLarge` that a fresh space of this size and
+/// limit would refuse. A request that is granted has no reason, and none has two.
+pub fn refusals_advise<NI: NodeIndex>(allocator: &Allocator<NI>)
+    ensures compacted { (blocks units : ℕ) (v : View) → HasRoomFor blocks allocator.now
+        → (CanGrant blocks units allocator.now → ⊥) → Compacts allocator.now v
+        → IsWhy blocks units allocator.now Fragmented ↔ CanGrant blocks units v }
+    ensures fresh { (blocks units : ℕ) (v : View) → HasRoomFor blocks allocator.now
+        → IsFresh allocator.now.size allocator.now.max_allocs v
+        → IsWhy blocks units allocator.now TooLarge ↔ (CanGrant blocks units v → ⊥) }
+    ensures one { (blocks units : ℕ) (r s : Refusal) → IsWhy blocks units allocator.now r
+        → IsWhy blocks units allocator.now s → r ≡ s }
+    ensures none { (blocks units : ℕ) (r : Refusal) → IsWhy blocks units allocator.now r
+        → CanGrant blocks units allocator.now → ⊥ }
 {
     allocator.formed();
 }

@@ -3,7 +3,7 @@
 //!
 //! A *block* is a run of units, used (granted; its name is then live) or free; no two free blocks are neighbours. Each
 //! block has a *node* of the tables, whose index is the block's *name*. A *size class* is a range of sizes, and its
-//! *bin* the list of its free blocks, the one that became free last first.
+//! *bin* the list of its free blocks, most recently freed first.
 //!
 //! ```
 //! let mut vertices = Allocator::<u32>::new(alloc, 1 << 20)?;
@@ -15,6 +15,7 @@
 #![tactic(auto)]
 
 ghost use Rattle.std.specs.Prelude.{ℕ, ◌≡◌, ◌↔◌, ◌+◌, ◌-◌, ◌*◌, ◌/◌, ◌%◌, ◌<◌, ◌≤◌, nat_lt, if◌then◌else◌, min, None, false, true, IsTrue, IsSome, IfSome, IfOk, length, option_map};
+ghost use Rattle.offset_allocator.specs.Count.{Costs};
 ghost use Rattle.offset_allocator.specs.Ranges.{Range, range_of, size_of, Grants, IsLive, KeepsAll, KeepsOthers};
 ghost use Rattle.offset_allocator.specs.Reports.{IsGoodRefusal};
 ghost use Rattle.offset_allocator.specs.Named.{is_full, free_sizes, largest_free, used_of};
@@ -35,9 +36,8 @@ mod handle;
 mod index;
 pub mod laws;
 mod links;
-mod merge;
+mod neighbours;
 mod nonmax;
-mod parts;
 mod reports;
 mod resize;
 pub mod small_float;
@@ -95,8 +95,8 @@ impl<NI: NodeIndex> Allocator<NI> {
     /// A space of `size` units, all free, with `max_allocs` as the node limit: at most `max_allocs - 1` blocks exist at
     /// a time, free ones included. A request is granted only while at most `max_allocs - 2` exist, and makes one of
     /// them live: so at most `max_allocs - 2` grants are live. The limit is 2 to `NI::MAX - 2`: 65533 for `u16`,
-    /// 4294967293 for `u32`. It reserves 28 bytes a node with `u32`, 18 with `u16`, all of them here; those of a node are
-    /// written when its name is used for the first time.
+    /// 4294967293 for `u32`. It reserves 28 bytes a node with `u32`, 18 with `u16`, all of them here; those of a node
+    /// are written when its name is used for the first time.
     ///
     /// An error is returned only where an allocation failed; then nothing is made.
     pub fn with_max_allocs(alloc: Global, size: u32, max_allocs: u32) -> Result<Self, AllocError>
@@ -104,22 +104,22 @@ impl<NI: NodeIndex> Allocator<NI> {
         requires limit_max { max_allocs + 1 < NI.MAX }
         ensures { IfOk result (IsFresh size max_allocs) }
     {
-        let mut tables = Tables::with_len(alloc, max_allocs)?;
-        let mut top_mask = bins::start(&tables);
-        let mut count = Accesses::new();
-        chain::start(&mut tables, size, max_allocs, &mut count);
-        steps::start(&mut tables, &mut top_mask, size, max_allocs, &mut count);
+        let tables = Tables::with_len(alloc, max_allocs)?;
+        let top_mask = bins::start(&tables);
+        let mut store = Store {
+            tables,
+            top_mask,
+            last: 0,
+            spare_count: 0,
+            accesses: Accesses::new(),
+        };
+        steps::start(&mut store, size, max_allocs);
+        store.accesses = Accesses::new();
         Ok(Allocator {
             size,
             max_allocs,
             free_total: size,
-            store: Store {
-                tables,
-                top_mask,
-                last: 0,
-                spare_count: 0,
-                accesses: Accesses::new(),
-            },
+            store,
         })
     }
 
@@ -135,8 +135,7 @@ impl<NI: NodeIndex> Allocator<NI> {
         // The step as a whole: one free block, alone in its bin.
         ensures step { Resets self.old self.new }
         // It makes at most 130 accesses to table cells for each live range, and 2, and never more than 270.
-        ensures accesses_min { self.old.accesses + 1 ≤ self.new.accesses }
-        ensures accesses_max { self.new.accesses ≤ self.old.accesses + min (130 * used_of self.old.blocks + 2) 270 }
+        ensures accesses { Costs 1 (min (130 * used_of self.old.blocks + 2) 270) self.old.accesses self.new.accesses }
     {
         self.formed();
         // freeing five blocks takes about as long as emptying the bins
@@ -177,9 +176,9 @@ impl<NI: NodeIndex> Allocator<NI> {
         self.block_count() == self.max_allocs - 1
     }
 
-    /// Grants a range of `size` units, and returns its handle. They are the first ones of a free block of the smallest
-    /// size class that has one and whose blocks are all large enough, and of those blocks the one that became free
-    /// last. What remains of the block stays free, directly after the range.
+    /// Grants a range of `size` units, and returns its handle. It takes the first `size` units of the most recently
+    /// freed block in the smallest non-empty size class whose blocks all fit; what remains of the block stays free,
+    /// directly after the range.
     ///
     /// `None` is returned where `max_allocs - 1` blocks exist, even for an exact fit, and where no free block is of
     /// such a class; then nothing changes. A request of at least one unit is granted exactly when it is at most the
@@ -201,11 +200,9 @@ impl<NI: NodeIndex> Allocator<NI> {
         ensures nearly { IfSome result (IsSplitNearBest size self.old) }
         // A refusal with room for one more block means that every free block is smaller than 9/8 of the request.
         ensures refused { result ≡ None → HasRoomFor 1 self.old → IsGoodRefusal size (free_sizes self.old.blocks) }
-        // It makes at most 64 accesses to table cells. A grant makes at least 7, so a count that stays as it is cannot
-        // meet the contract.
-        ensures accesses_kept { self.old.accesses ≤ self.new.accesses }
+        // At most 64 accesses to table cells; for a grant at least 7, which refuses a body that does not count.
+        ensures accesses { Costs 0 64 self.old.accesses self.new.accesses }
         ensures accesses_min { IsSome result → self.old.accesses + 7 ≤ self.new.accesses }
-        ensures accesses_max { self.new.accesses ≤ self.old.accesses + 64 }
         // The step as a whole: which block, which remainder, which bins.
         ensures step { Allocates size self.old self.new result }
     {
@@ -224,8 +221,7 @@ impl<NI: NodeIndex> Allocator<NI> {
         ensures gone { range_of allocation.name self.new ≡ None }
         ensures others { KeepsOthers allocation.name self.old self.new }
         // It makes at most 128 accesses to table cells, and at least 9.
-        ensures accesses_min { self.old.accesses + 9 ≤ self.new.accesses }
-        ensures accesses_max { self.new.accesses ≤ self.old.accesses + 128 }
+        ensures accesses { Costs 9 128 self.old.accesses self.new.accesses }
         // The step as a whole: the block coalesces with its free neighbours.
         ensures step { Frees allocation.name self.old self.new }
     {
@@ -342,9 +338,8 @@ impl<NI: NodeIndex> Allocator<NI> {
         ensures refused { result ≡ None → HasRoomFor (blocks_needed align) self.old
             → IsGoodRefusal (units_needed size align) (free_sizes self.old.blocks) }
         // It makes at most 128 accesses to table cells, and a grant at least 7.
-        ensures accesses_kept { self.old.accesses ≤ self.new.accesses }
+        ensures accesses { Costs 0 128 self.old.accesses self.new.accesses }
         ensures accesses_min { IsSome result → self.old.accesses + 7 ≤ self.new.accesses }
-        ensures accesses_max { self.new.accesses ≤ self.old.accesses + 128 }
         // The step as a whole.
         ensures step { Aligns size align self.old self.new result }
     {
@@ -365,9 +360,8 @@ impl<NI: NodeIndex> Allocator<NI> {
         ensures kept { KeepsAll self.old self.new }
         ensures same { result ≡ false → SameSpace self.old self.new }
         // It makes at most 128 accesses to table cells, and at least 10 where it adds units.
-        ensures accesses_kept { self.old.accesses ≤ self.new.accesses }
+        ensures accesses { Costs 0 128 self.old.accesses self.new.accesses }
         ensures accesses_min { result ≡ true → 0 < more → self.old.accesses + 10 ≤ self.new.accesses }
-        ensures accesses_max { self.new.accesses ≤ self.old.accesses + 128 }
         // The step as a whole: whether it is done, and what the last block is then.
         ensures step { Extends more self.old self.new result }
     {

@@ -1,12 +1,13 @@
 //! Writes of the links to a node.
 ghost use Rattle.std.specs.Prelude.{◌≡◌, ◌+◌, ◌<◌, ◌≤◌, length, MatchOption, IfSome, Some};
+ghost use Rattle.offset_allocator.specs.Count.{Costs};
 ghost use Rattle.offset_allocator.specs.Cells.{node, put, link_of};
 
 use crate::accesses::Accesses;
 use crate::index::{NodeIndex, linked};
 use crate::tables::Tables;
 
-/// Makes a node the one before the node that a link names, or the last one.
+/// Sets the link back of the node that `link` names; without one, `name` is the last block.
 #[tactic(auto, using(crate::proofs::Nodes::lengths))]
 pub(crate) fn point_back<NI: NodeIndex>(
     tables: &mut Tables<NI>,
@@ -18,10 +19,11 @@ pub(crate) fn point_back<NI: NodeIndex>(
     requires link { IfSome (link_of NI.MAX (NI.number link)) (λ after. after < length tables.old.room.nodes) }
     requires name { name < length tables.old.room.nodes }
     ensures nodes { length tables.new.room.nodes ≡ length tables.old.room.nodes }
-    ensures cells { MatchOption (link_of NI.MAX (NI.number link)) (tables.new.room ≡ tables.old.room) (λ after. tables.new.room ≡ put tables.old.room after (record (node tables.old.room after) { before = Some name })) }
+    ensures cells { MatchOption (link_of NI.MAX (NI.number link)) (tables.new.room
+        ≡ tables.old.room) (λ after. tables.new.room
+        ≡ put tables.old.room after (record (node tables.old.room after) { before = Some name })) }
     ensures links { tables.new.links ≡ tables.old.links }
-    ensures accesses_kept { count.old ≤ count.new }
-    ensures accesses_max { count.new ≤ count.old + 1 }
+    ensures accesses { Costs 0 1 count.old count.new }
     ensures last { MatchOption (link_of NI.MAX (NI.number link)) (last.new ≡ name) (λ _. last.new ≡ last.old) }
 {
     match linked(link) {
@@ -33,7 +35,7 @@ pub(crate) fn point_back<NI: NodeIndex>(
     }
 }
 
-/// Makes a node the one after the node that a link names. Where it names none, nothing changes.
+/// Sets the link on of the node that `link` names, if any.
 #[tactic(auto, using(crate::proofs::Nodes::lengths))]
 pub(crate) fn point_on<NI: NodeIndex>(
     tables: &mut Tables<NI>,
@@ -44,10 +46,11 @@ pub(crate) fn point_on<NI: NodeIndex>(
     requires link { IfSome (link_of NI.MAX (NI.number link)) (λ before. before < length tables.old.room.nodes) }
     requires name { name < length tables.old.room.nodes }
     ensures nodes { length tables.new.room.nodes ≡ length tables.old.room.nodes }
-    ensures cells { MatchOption (link_of NI.MAX (NI.number link)) (tables.new.room ≡ tables.old.room) (λ before. tables.new.room ≡ put tables.old.room before (record (node tables.old.room before) { after = Some name })) }
+    ensures cells { MatchOption (link_of NI.MAX (NI.number link)) (tables.new.room
+        ≡ tables.old.room) (λ before. tables.new.room
+        ≡ put tables.old.room before (record (node tables.old.room before) { after = Some name })) }
     ensures links { tables.new.links ≡ tables.old.links }
-    ensures accesses_kept { count.old ≤ count.new }
-    ensures accesses_max { count.new ≤ count.old + 1 }
+    ensures accesses { Costs 0 1 count.old count.new }
 {
     if let Some(before) = linked(link) {
         let on = tables.link_to(name);

@@ -1,6 +1,8 @@
 //! What is reported of the free space.
 ghost use Rattle.std.specs.Prelude.{◌≡◌, replicate};
 
+use std::fmt;
+
 /// The free space of an allocator, in short.
 ///
 /// Both numbers are 0 where `max_allocs - 1` blocks exist, since nothing is granted there.
@@ -14,16 +16,37 @@ pub struct StorageReport {
 }
 
 /// Why a request is refused: the first of these that applies.
+///
+/// A request needs a free block of a class whose blocks are all large enough: for `allocate(n)` one of at least
+/// `min_allocator_size(n)` units, for an aligned request of that for `n + align - 1`.
 #[derive(Clone, Copy, Debug, PartialEq)]
 pub enum Refusal {
     /// There is no room for one more block, or for two more where an aligned request needs them. Use another space,
     /// free ranges that have free neighbours, or compact a space of several free blocks.
     Nodes,
-    /// The request needs more units than all free blocks have together. Extend the space, or free ranges.
+    /// A fresh space of this size would refuse the request too. Extend the space, or use a larger one.
+    TooLarge,
+    /// All free units in one block would not be enough, so `compact` does not help. Free ranges, or extend the space.
     Space,
-    /// Enough units are free, but no free block is of a class whose blocks are all large enough. Compact the space, or
-    /// free ranges beside free blocks; where all free units are one block already, extend the space.
+    /// All free units in one block would be enough, but no free block is. After `compact` the request is granted.
     Fragmented,
+}
+
+impl fmt::Display for Refusal {
+    ghost use Rattle.std.specs.Prelude.{Some};
+    ghost use Rattle.offset_allocator.specs.Promises.{refusal_words};
+
+    ghost output = { λ why. Some (refusal_words why) };
+
+    fn fmt<W: fmt::Write>(&self, f: &mut fmt::Formatter<W>) -> fmt::Result {
+        let words = match self {
+            Refusal::Nodes => "too few nodes are left",
+            Refusal::TooLarge => "the request is too large for the space",
+            Refusal::Space => "too few units are free",
+            Refusal::Fragmented => "no free block is large enough until the space is compacted",
+        };
+        write!(f, "{words}")
+    }
 }
 
 /// One size class in the full report.

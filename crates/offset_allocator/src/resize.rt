@@ -1,12 +1,13 @@
 //! Ranges that become smaller or larger in place.
 ghost use Rattle.std.specs.Prelude.{◌≡◌, ◌↔◌, ◌+◌, ◌<◌, ◌≤◌, false, IsTrue};
+ghost use Rattle.offset_allocator.specs.Count.{Costs};
 ghost use Rattle.offset_allocator.specs.Ranges.{IsLive, KeepsOthers, size_of};
 ghost use Rattle.offset_allocator.specs.Relations.{SameSpace};
 ghost use Rattle.offset_allocator.specs.Resizing.{CanShrink, CanGrow, HasUnits, Shrinks, Grows};
 
 use crate::handle::Allocation;
 use crate::index::{self, NodeIndex};
-use crate::{Allocator, chain, merge, parts};
+use crate::{Allocator, chain, neighbours};
 
 impl<NI: NodeIndex> Allocator<NI> {
     /// Frees the units of a live range after its first `size`. They are free at once, in one block with the free block
@@ -27,10 +28,9 @@ impl<NI: NodeIndex> Allocator<NI> {
         // A refusal leaves the space as it was.
         ensures same { result ≡ false → SameSpace self.old self.new }
         // It makes at most 128 accesses to table cells, at least 1, and at least 16 where units are freed.
-        ensures accesses_min { self.old.accesses + 1 ≤ self.new.accesses }
+        ensures accesses { Costs 1 128 self.old.accesses self.new.accesses }
         ensures accesses_done { IsTrue result → size < size_of allocation.name self.old
             → self.old.accesses + 16 ≤ self.new.accesses }
-        ensures accesses_max { self.new.accesses ≤ self.old.accesses + 128 }
         // The step as a whole: what becomes of the range and of the free block after it.
         ensures step { Shrinks allocation.name size self.old self.new result }
     {
@@ -46,11 +46,11 @@ impl<NI: NodeIndex> Allocator<NI> {
             1,
             &mut self.store.accesses,
         );
-        let next = merge::free_after(&self.store.tables, name, &mut self.store.accesses);
+        let next = neighbours::free_after(&self.store.tables, name, &mut self.store.accesses);
         if next.is_none() && left < 2 {
             return false;
         }
-        parts::resize(&mut self.store, name, held, next, size);
+        neighbours::resize(&mut self.store, name, held, next, size);
         self.free_total += held - size;
         true
     }
@@ -73,10 +73,9 @@ impl<NI: NodeIndex> Allocator<NI> {
         // A refusal leaves the space as it was.
         ensures same { result ≡ false → SameSpace self.old self.new }
         // It makes at most 128 accesses to table cells, at least 1, and at least 11 where units are added.
-        ensures accesses_min { self.old.accesses + 1 ≤ self.new.accesses }
+        ensures accesses { Costs 1 128 self.old.accesses self.new.accesses }
         ensures accesses_done { IsTrue result → size_of allocation.name self.old < size
             → self.old.accesses + 11 ≤ self.new.accesses }
-        ensures accesses_max { self.new.accesses ≤ self.old.accesses + 128 }
         // The step as a whole: what becomes of the range and of the free block after it.
         ensures step { Grows allocation.name size self.old self.new result }
     {
@@ -91,12 +90,17 @@ impl<NI: NodeIndex> Allocator<NI> {
             1,
             &mut self.store.accesses,
         );
-        let next = merge::free_after(&self.store.tables, name, &mut self.store.accesses);
-        let more = parts::units_after(&self.store.tables, name, next, &mut self.store.accesses);
+        let next = neighbours::free_after(&self.store.tables, name, &mut self.store.accesses);
+        let more = neighbours::units_after(
+            &self.store.tables,
+            name,
+            next,
+            &mut self.store.accesses,
+        );
         if size - held > more {
             return false;
         }
-        parts::resize(&mut self.store, name, held, next, size);
+        neighbours::resize(&mut self.store, name, held, next, size);
         self.free_total -= size - held;
         true
     }

@@ -1,9 +1,10 @@
-//! The private methods that the public calls are made of, and two functions that they share. Each method leaves an
-//! allocator whose blocks and bins agree.
+//! The steps behind the public calls. Each method leaves an allocator whose blocks and bins agree.
 ghost use Rattle.std.specs.Prelude.{◌≡◌, ◌↔◌, ◌+◌, ◌-◌, ◌*◌, ◌<◌, ◌≤◌, [], ◌∷◌, length, replicate, None, false, true, IsTrue, IsSome, IfSome};
+ghost use Rattle.offset_allocator.specs.Count.{Costs};
 ghost use Rattle.offset_allocator.specs.Classes.{up};
-ghost use Rattle.offset_allocator.specs.Orders.{IsSmallestFrom, Binned, class_lists};
-ghost use Rattle.offset_allocator.specs.Space.{IsSpace, blocks};
+ghost use Rattle.offset_allocator.specs.Cells.{IsBare};
+ghost use Rattle.offset_allocator.specs.Orders.{IsSmallestFrom};
+ghost use Rattle.offset_allocator.specs.Stored.{AreBinned, bins_of};
 ghost use Rattle.offset_allocator.specs.Ranges.{range_of, IsLive, KeepsAll, KeepsOthers};
 ghost use Rattle.offset_allocator.specs.Named.{IsWellFormed, ends_used, padding_to, free_block, used_of};
 ghost use Rattle.offset_allocator.specs.Relations.{Splits, Aligns, Frees, Adds, SameSpace, Resets};
@@ -14,8 +15,8 @@ use crate::accesses::Accesses;
 use crate::handle::Allocation;
 use crate::index::NodeIndex;
 use crate::small_float::{uint_to_float_round_down, uint_to_float_round_up};
-use crate::tables::Tables;
-use crate::{Allocator, bins, chain, merge, parts};
+use crate::store::Store;
+use crate::{Allocator, bins, chain, neighbours};
 
 /// The handle of a name.
 pub(crate) fn handle_of<NI: NodeIndex>(offset: u32, name: u32) -> Allocation<NI>
@@ -25,27 +26,20 @@ pub(crate) fn handle_of<NI: NodeIndex>(offset: u32, name: u32) -> Allocation<NI>
     Allocation::make(offset, NI::from_u32(name).to_name())
 }
 
-/// Pushes the only block, which is free, on its bin, where all bins are empty.
-pub(crate) fn start<NI: NodeIndex>(
-    tables: &mut Tables<NI>,
-    top_mask: &mut u32,
-    size: u32,
-    max_allocs: u32,
-    count: &mut Accesses,
-)
-    requires reserved { tables.old.room.reserved ≡ max_allocs }
-    requires node { length tables.old.room.nodes ≡ 1 }
-    requires space { IsSpace tables.old.room 0 0 }
-    requires blocks { blocks tables.old.room 0 ≡ free_block 0 size ∷ [] }
-    requires held { Binned NI.MAX tables.old.links top_mask.old }
-    requires empty { class_lists NI.MAX tables.old.links ≡ replicate 256 [] }
+/// Makes the whole space one free block, alone in its bin, where all bins are empty and only node 0 is made.
+pub(crate) fn start<NI: NodeIndex>(store: &mut Store<NI>, size: u32, max_allocs: u32)
+    requires bare { IsBare max_allocs store.old.tables.room }
+    requires held { AreBinned NI.MAX store.old }
+    requires empty { bins_of NI.MAX store.old ≡ replicate 256 [] }
     requires limit_min { 2 ≤ max_allocs }
     requires limit_max { max_allocs + 1 < NI.MAX }
-    ensures started { IsStarted NI.MAX size max_allocs tables.new top_mask.new }
-    ensures accesses_min { count.old + 5 ≤ count.new }
-    ensures accesses_max { count.new ≤ count.old + 6 }
+    ensures started { IsStarted NI.MAX size max_allocs store.new.tables store.new.top_mask }
+    ensures last { store.new.last ≡ store.old.last }
+    ensures spares { store.new.spare_count ≡ store.old.spare_count }
+    ensures accesses { Costs 9 10 store.old.accesses store.new.accesses }
 {
-    bins::push(tables, top_mask, 0, uint_to_float_round_down(size), count);
+    chain::start(&mut store.tables, size, max_allocs, &mut store.accesses);
+    bins::push(store, 0, uint_to_float_round_down(size));
 }
 
 impl<NI: NodeIndex> Allocator<NI> {
@@ -55,8 +49,7 @@ impl<NI: NodeIndex> Allocator<NI> {
         ensures same { SameSpace self.old self.new }
         ensures used { IfSome result (λ x. IsLive x self.new) }
         ensures none { result ≡ None → Resets self.old self.new }
-        ensures accesses_min { self.old.accesses + 1 ≤ self.new.accesses }
-        ensures accesses_max { self.new.accesses ≤ self.old.accesses + 2 }
+        ensures accesses { Costs 1 2 self.old.accesses self.new.accesses }
     {
         let last = self.store.last;
         if chain::is_used(&self.store.tables, last, &mut self.store.accesses) {
@@ -69,8 +62,7 @@ impl<NI: NodeIndex> Allocator<NI> {
     #[inline(never)]
     pub(crate) fn free_all(&mut self)
         ensures step { Resets self.old self.new }
-        ensures accesses_min { self.old.accesses + 1 ≤ self.new.accesses }
-        ensures accesses_max { self.new.accesses ≤ self.old.accesses + 38 * used_of self.old.blocks + 2 }
+        ensures accesses { Costs 1 (38 * used_of self.old.blocks + 2) self.old.accesses self.new.accesses }
     {
         while let Some(name) = self.last_used() {
             self.release(name);
@@ -82,28 +74,11 @@ impl<NI: NodeIndex> Allocator<NI> {
     #[inline(never)]
     pub(crate) fn clear(&mut self)
         ensures step { Resets self.old self.new }
-        ensures accesses_min { self.old.accesses + 269 ≤ self.new.accesses }
-        ensures accesses_max { self.new.accesses ≤ self.old.accesses + 270 }
+        ensures accesses { Costs 269 270 self.old.accesses self.new.accesses }
     {
         self.store.tables.clear();
-        bins::empty(
-            &mut self.store.tables,
-            &mut self.store.top_mask,
-            &mut self.store.accesses,
-        );
-        chain::start(
-            &mut self.store.tables,
-            self.size,
-            self.max_allocs,
-            &mut self.store.accesses,
-        );
-        start(
-            &mut self.store.tables,
-            &mut self.store.top_mask,
-            self.size,
-            self.max_allocs,
-            &mut self.store.accesses,
-        );
+        bins::empty(&mut self.store);
+        start(&mut self.store, self.size, self.max_allocs);
         self.free_total = self.size;
         self.store.spare_count = 0;
         self.store.last = 0;
@@ -132,8 +107,7 @@ impl<NI: NodeIndex> Allocator<NI> {
         requires enough { HasRoomFor (blocks_needed align) self.old }
         requires smallest { IsSmallestFrom (up (units_needed size align)) self.old.order class }
         ensures step { Splits (units_needed size align) size (padding_to align) self.old self.new result }
-        ensures accesses_min { self.old.accesses + 6 ≤ self.new.accesses }
-        ensures accesses_max { self.new.accesses ≤ self.old.accesses + 59 }
+        ensures accesses { Costs 6 59 self.old.accesses self.new.accesses }
     {
         chain::ready_for(
             &mut self.store.tables,
@@ -141,17 +115,12 @@ impl<NI: NodeIndex> Allocator<NI> {
             align.min(2),
             &mut self.store.accesses,
         );
-        let name = bins::pop(
-            &mut self.store.tables,
-            &mut self.store.top_mask,
-            class,
-            &mut self.store.accesses,
-        );
+        let name = bins::pop(&mut self.store, class);
         let offset = chain::offset(&self.store.tables, name, &mut self.store.accesses);
         let whole = chain::size(&self.store.tables, name, &mut self.store.accesses);
         let padding = (align - offset % align) % align;
         let start = offset + padding;
-        parts::divide(
+        neighbours::divide(
             &mut self.store,
             name,
             start,
@@ -171,9 +140,8 @@ impl<NI: NodeIndex> Allocator<NI> {
         // the public clauses follow from the step and from this
         ensures formed { IsWellFormed self.old }
         ensures step { Aligns size align self.old self.new result }
-        ensures accesses_kept { self.old.accesses ≤ self.new.accesses }
+        ensures accesses { Costs 0 61 self.old.accesses self.new.accesses }
         ensures accesses_min { IsSome result → self.old.accesses + 7 ≤ self.new.accesses }
-        ensures accesses_max { self.new.accesses ≤ self.old.accesses + 61 }
     {
         if !self.has_names(align.min(2)) {
             return None;
@@ -201,8 +169,7 @@ impl<NI: NodeIndex> Allocator<NI> {
         ensures step { Frees name self.old self.new }
         ensures gone { range_of name self.new ≡ None }
         ensures others { KeepsOthers name self.old self.new }
-        ensures accesses_min { self.old.accesses + 9 ≤ self.new.accesses }
-        ensures accesses_max { self.new.accesses ≤ self.old.accesses + 36 }
+        ensures accesses { Costs 9 36 self.old.accesses self.new.accesses }
     {
         let size = chain::size(&self.store.tables, name, &mut self.store.accesses);
         self.free_total += size;
@@ -212,7 +179,7 @@ impl<NI: NodeIndex> Allocator<NI> {
             false,
             &mut self.store.accesses,
         );
-        merge::coalesce(&mut self.store, name, size);
+        neighbours::coalesce(&mut self.store, name, size);
     }
 
     /// Whether a name is that of a used block.
@@ -231,34 +198,13 @@ impl<NI: NodeIndex> Allocator<NI> {
         requires free { ends_used self.old.blocks ≡ false }
         ensures step { Adds more self.old self.new }
         ensures kept { KeepsAll self.old self.new }
-        ensures accesses_min { self.old.accesses + 10 ≤ self.new.accesses }
-        ensures accesses_max { self.new.accesses ≤ self.old.accesses + 16 }
+        ensures accesses { Costs 10 16 self.old.accesses self.new.accesses }
     {
-        let whole = chain::size(
-            &self.store.tables,
-            self.store.last,
-            &mut self.store.accesses,
-        );
-        bins::remove(
-            &mut self.store.tables,
-            &mut self.store.top_mask,
-            self.store.last,
-            whole,
-            &mut self.store.accesses,
-        );
-        chain::grow(
-            &mut self.store.tables,
-            self.store.last,
-            more,
-            &mut self.store.accesses,
-        );
-        bins::push(
-            &mut self.store.tables,
-            &mut self.store.top_mask,
-            self.store.last,
-            uint_to_float_round_down(whole + more),
-            &mut self.store.accesses,
-        );
+        let end = self.store.last;
+        let size = chain::size(&self.store.tables, end, &mut self.store.accesses);
+        bins::remove(&mut self.store, end, size);
+        chain::grow(&mut self.store.tables, end, more, &mut self.store.accesses);
+        bins::push(&mut self.store, end, uint_to_float_round_down(size + more));
         self.size += more;
         self.free_total += more;
     }
@@ -271,8 +217,7 @@ impl<NI: NodeIndex> Allocator<NI> {
         requires enough { HasRoomFor 1 self.old }
         ensures step { Adds more self.old self.new }
         ensures kept { KeepsAll self.old self.new }
-        ensures accesses_min { self.old.accesses + 9 ≤ self.new.accesses }
-        ensures accesses_max { self.new.accesses ≤ self.old.accesses + 27 }
+        ensures accesses { Costs 9 27 self.old.accesses self.new.accesses }
     {
         chain::ready(
             &mut self.store.tables,
@@ -283,29 +228,14 @@ impl<NI: NodeIndex> Allocator<NI> {
         let end = self.store.last;
         let offset = chain::offset(&self.store.tables, end, &mut self.store.accesses);
         let whole = chain::size(&self.store.tables, end, &mut self.store.accesses);
-        let name = chain::split(
-            &mut self.store.tables,
-            &mut self.store.last,
-            &mut self.store.spare_count,
-            end,
-            offset,
-            whole,
-            whole,
-            &mut self.store.accesses,
-        );
+        let name = chain::split(&mut self.store, end, offset, whole, whole);
         chain::grow(
             &mut self.store.tables,
             self.store.last,
             more,
             &mut self.store.accesses,
         );
-        bins::push(
-            &mut self.store.tables,
-            &mut self.store.top_mask,
-            name,
-            uint_to_float_round_down(more),
-            &mut self.store.accesses,
-        );
+        bins::push(&mut self.store, name, uint_to_float_round_down(more));
         self.size += more;
         self.free_total += more;
     }

@@ -5,7 +5,7 @@ use crate::index::NodeIndex;
 use crate::tables::Tables;
 
 /// The tables, which bins are not empty, which block is the last, and how many nodes no block has. It has no invariant:
-/// `merge` and `parts` change it in the middle of a step, and the invariant of `Allocator` holds between steps.
+/// `neighbours` changes it in the middle of a step, and the invariant of `Allocator` holds between steps.
 #[derive(Drop)]
 pub(crate) struct Store<NI: NodeIndex> {
     pub(crate) tables: Tables<NI>,

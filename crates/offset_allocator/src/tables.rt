@@ -142,7 +142,10 @@ impl<NI: NodeIndex> Tables<NI> {
     /// Writes the size of a node.
     pub(crate) fn set_size(&mut self, name: u32, size: u32, count: &mut Accesses)
         requires { name < length self.old.room.nodes }
-        ensures cells { self.new ≡ record self.old { room = put self.old.room name (record (node self.old.room name) { size = size }) } }
+        ensures cells { self.new ≡ record self.old {
+          room = put self.old.room name
+              (record (node self.old.room name) { size = size });
+        } }
         ensures accesses { count.new ≡ count.old + 1 }
     {
         count.tick();
@@ -162,7 +165,11 @@ impl<NI: NodeIndex> Tables<NI> {
     /// Writes whether a node is used. It is in no class.
     pub(crate) fn set_used(&mut self, name: u32, used: bool, count: &mut Accesses)
         requires { name < length self.old.room.nodes }
-        ensures cells { self.new ≡ record self.old { room = put self.old.room name (record (node self.old.room name) { used = used }); links = record self.old.links { newer = slice_set self.old.links.newer name (mark_of NI.MAX used) } } }
+        ensures cells { self.new ≡ record self.old {
+          room = put self.old.room name
+              (record (node self.old.room name) { used = used });
+          links = record self.old.links { newer = slice_set self.old.links.newer name (mark_of NI.MAX used) };
+        } }
         ensures accesses { count.new ≡ count.old + 1 }
     {
         count.tick();
@@ -182,7 +189,10 @@ impl<NI: NodeIndex> Tables<NI> {
     /// Writes the link to the node before a node in space.
     pub(crate) fn set_before(&mut self, name: u32, link: NI, count: &mut Accesses)
         requires { name < length self.old.room.nodes }
-        ensures cells { self.new ≡ record self.old { room = put self.old.room name (record (node self.old.room name) { before = link_of NI.MAX (NI.number link) }) } }
+        ensures cells { self.new ≡ record self.old {
+          room = put self.old.room name
+              (record (node self.old.room name) { before = link_of NI.MAX (NI.number link) });
+        } }
         ensures accesses { count.new ≡ count.old + 1 }
     {
         count.tick();
@@ -202,7 +212,10 @@ impl<NI: NodeIndex> Tables<NI> {
     /// Writes the link to the node after a node in space.
     pub(crate) fn set_after(&mut self, name: u32, link: NI, count: &mut Accesses)
         requires { name < length self.old.room.nodes }
-        ensures cells { self.new ≡ record self.old { room = put self.old.room name (record (node self.old.room name) { after = link_of NI.MAX (NI.number link) }) } }
+        ensures cells { self.new ≡ record self.old {
+          room = put self.old.room name
+              (record (node self.old.room name) { after = link_of NI.MAX (NI.number link) });
+        } }
         ensures accesses { count.new ≡ count.old + 1 }
     {
         count.tick();
@@ -221,7 +234,15 @@ impl<NI: NodeIndex> Tables<NI> {
     )
         requires name { name < length self.old.room.nodes }
         requires idle { (node self.old.room name).used ≡ false }
-        ensures cells { self.new ≡ record self.old { room = put self.old.room name (record { offset = offset; size = size; used = false; before = link_of NI.MAX (NI.number before); after = link_of NI.MAX (NI.number after) }) } }
+        ensures cells { self.new ≡ record self.old {
+          room = put self.old.room name (record {
+            offset = offset;
+            size = size;
+            used = false;
+            before = link_of NI.MAX (NI.number before);
+            after = link_of NI.MAX (NI.number after);
+          });
+        } }
         ensures accesses { count.new ≡ count.old + 4 }
     {
         count.tick();
@@ -245,7 +266,14 @@ impl<NI: NodeIndex> Tables<NI> {
         count: &mut Accesses,
     )
         requires { name < length self.old.room.nodes }
-        ensures cells { self.new ≡ record self.old { room = put self.old.room name (record (node self.old.room name) { offset = offset; size = size; before = link_of NI.MAX (NI.number link) }) } }
+        ensures cells { self.new ≡ record self.old {
+          room = put self.old.room name
+              (record (node self.old.room name) {
+                offset = offset;
+                size = size;
+                before = link_of NI.MAX (NI.number link);
+              });
+        } }
         ensures accesses { count.new ≡ count.old + 3 }
     {
         count.tick();
@@ -260,7 +288,10 @@ impl<NI: NodeIndex> Tables<NI> {
     /// Writes the size of a node, and the link to the node after it in space.
     pub(crate) fn set_end(&mut self, name: u32, size: u32, link: NI, count: &mut Accesses)
         requires { name < length self.old.room.nodes }
-        ensures cells { self.new ≡ record self.old { room = put self.old.room name (record (node self.old.room name) { size = size; after = link_of NI.MAX (NI.number link) }) } }
+        ensures cells { self.new ≡ record self.old {
+          room = put self.old.room name
+              (record (node self.old.room name) { size = size; after = link_of NI.MAX (NI.number link) });
+        } }
         ensures accesses { count.new ≡ count.old + 2 }
     {
         count.tick();
@@ -305,7 +336,10 @@ impl<NI: NodeIndex> Tables<NI> {
         requires name { name < length self.old.links.newer }
         requires idle { (node self.old.room name).used ≡ false }
         requires link { NI.number link ≢ NI.MAX - 1 }
-        ensures cells { self.new ≡ record self.old { links = record self.old.links { newer = slice_set self.old.links.newer name (NI.number link) } } }
+        ensures cells { self.new ≡ record self.old {
+          links = record self.old.links
+              { newer = slice_set self.old.links.newer name (NI.number link) };
+        } }
         ensures accesses { count.new ≡ count.old + 1 }
     {
         count.tick();
@@ -325,7 +359,10 @@ impl<NI: NodeIndex> Tables<NI> {
     /// Writes the link to the next older node of a node's class.
     pub(crate) fn set_older(&mut self, name: u32, link: NI, count: &mut Accesses)
         requires { name < length self.old.links.older }
-        ensures cells { self.new ≡ record self.old { links = record self.old.links { older = slice_set self.old.links.older name (NI.number link) } } }
+        ensures cells { self.new ≡ record self.old {
+          links = record self.old.links
+              { older = slice_set self.old.links.older name (NI.number link) };
+        } }
         ensures accesses { count.new ≡ count.old + 1 }
     {
         count.tick();
@@ -337,7 +374,12 @@ impl<NI: NodeIndex> Tables<NI> {
         requires name { name < length self.old.links.newer }
         requires idle { (node self.old.room name).used ≡ false }
         requires link { NI.number newer ≢ NI.MAX - 1 }
-        ensures cells { self.new ≡ record self.old { links = record self.old.links { newer = slice_set self.old.links.newer name (NI.number newer); older = slice_set self.old.links.older name (NI.number older) } } }
+        ensures cells { self.new ≡ record self.old {
+          links = record self.old.links {
+            newer = slice_set self.old.links.newer name (NI.number newer);
+            older = slice_set self.old.links.older name (NI.number older);
+          };
+        } }
         ensures accesses { count.new ≡ count.old + 2 }
     {
         count.tick();
@@ -360,7 +402,10 @@ impl<NI: NodeIndex> Tables<NI> {
     /// Writes the name of the newest node of a class, or `MAX`.
     pub(crate) fn set_head(&mut self, class: u32, name: u32, count: &mut Accesses)
         requires { class < length self.old.links.heads }
-        ensures cells { self.new ≡ record self.old { links = record self.old.links { heads = slice_set self.old.links.heads class name } } }
+        ensures cells { self.new ≡ record self.old {
+          links = record self.old.links
+              { heads = slice_set self.old.links.heads class name };
+        } }
         ensures accesses { count.new ≡ count.old + 1 }
     {
         count.tick();
@@ -380,7 +425,10 @@ impl<NI: NodeIndex> Tables<NI> {
     /// Writes a word of the masks.
     pub(crate) fn set_mask(&mut self, word: u32, mask: u64, count: &mut Accesses)
         requires { word < 4 }
-        ensures cells { self.new ≡ record self.old { links = record self.old.links { masks = slice_set self.old.links.masks word mask } } }
+        ensures cells { self.new ≡ record self.old {
+          links = record self.old.links
+              { masks = slice_set self.old.links.masks word mask };
+        } }
         ensures accesses { count.new ≡ count.old + 1 }
     {
         count.tick();

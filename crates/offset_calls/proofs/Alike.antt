@@ -3,19 +3,19 @@ use Rattle.std.proofs.Common.{◌≡◌, ◌≢◌, ℕ, zero, suc, ◌+◌, ◌
 use Rattle.std.proofs.lemmas.Bool.{cases_eq, cases_lt, true≢false, false≢true, lt-leb}
 use Rattle.std.proofs.lemmas.List.{map-append}
 use Rattle.offset_allocator.specs.declared.reports.Refusal.{Refusal}
-use Rattle.offset_allocator.specs.declared.reports.Refusal.TheVariants.{Nodes, Space, Fragmented}
+use Rattle.offset_allocator.specs.declared.reports.Refusal.TheVariants.{Nodes}
 use Rattle.offset_script.specs.Histories.{number_without, raise_number}
 use Rattle.offset_script.specs.Machine.{Tag, Live, Free, State, is_free, has_number, total, free_sizes, place_of, chosen_place, is_short_of, free_start, without_start, free_block, stamp_of_call, fits}
 use Rattle.offset_script.specs.Machine as machine
 use Rattle.offset_script.specs.Totals.{live}
 use Rattle.offset_script.proofs.Alike.{Alike, Matched, Fresh, Left, alike_step, same_placed, same_quiet, same_leaves, fresh_kinds, left_released, matched_in_new, agree_in_new, past_in_new, either}
 use Rattle.offset_script.proofs.Members.{In, in_append, in_left, in_right}
-use Rattle.offset_script.proofs.Pairs.{Kind, Lives, Frees, Pair, pair, left_tag, right_tag, left, right, lefts, rights, Agree, SameOrder, SamePlace, neither, both, same_free, same_total, same_sizes, same_short, same_free_sizes, same_chosen, pair_free_block, lefts_free_block, rights_free_block, in_free_block}
+use Rattle.offset_script.proofs.Pairs.{Kind, Lives, Frees, Pair, pair, left_tag, right_tag, left, right, lefts, rights, Agree, SameOrder, SamePlace, neither, both, same_free, same_total, same_sizes, same_units, same_short, same_free_sizes, same_chosen, pair_free_block, lefts_free_block, rights_free_block, in_free_block}
 use Rattle.offset_script.proofs.Tests.{if_same}
 use Rattle.offset_script.proofs.Well.{found_at}
 use Rattle.offset_calls.specs.declared.calls.Call.{Call}
 use Rattle.offset_calls.specs.declared.calls.Call.TheVariants as call
-use Rattle.offset_calls.specs.Calls.{Move, Reply, Answer, Resized, Compacted, Offset, Refused_for, Outcome, starts_free, can_shrink, can_grow, resize, resized, replies_only, remakes, number, move_of, moves, gathered, compact, offset_at, reason, step, after, replies}
+use Rattle.offset_calls.specs.Calls.{Move, Reply, Answer, Resized, Compacted, Offset, Refused_for, Outcome, starts_free, can_shrink, can_grow, resize, resized, replies_only, remakes, number, move_of, moves, gathered, compact, offset_at, shortage, reason, step, after, replies}
 use Rattle.offset_calls.specs.Histories.{renumber, number_with, raise_move, raise}
 
 -- the same reply, except for numbers, and states that are alike again
@@ -236,9 +236,10 @@ module _ (r : ℕ → ℕ) (g d : ℕ) (back : (k : ℕ) → r (number_with g d 
 
   reason_same : (k n : ℕ) → reason k n s ≡ reason k n t
   reason_same k n =
-      ap (λ b. if b then Some Nodes else if is_some (chosen_place n s.blocks) then None else if nat_lt (sum (free_sizes s.blocks)) n then Some Space else Some Fragmented) (same_short s t a.pairs a.limit a.left_blocks a.right_blocks k)
-      ∙ ap₂ (λ b ns. if is_short_of k t then Some Nodes else if b then None else if nat_lt (sum ns) n then Some Space else Some Fragmented)
-      (some_same n _ _ (subst₂ (λ x y. SamePlace (λ q. fits n (left q) ≡ true) a.pairs (chosen_place n x) (chosen_place n y)) (sym a.left_blocks) (sym a.right_blocks) (same_chosen n a.pairs a.agree))) (same_free_sizes s t a.pairs a.limit a.left_blocks a.right_blocks)
+      ap (λ b. if b then Some Nodes else if is_some (chosen_place n s.blocks) then None else Some (shortage n (total s.blocks) (sum (free_sizes s.blocks)))) (same_short s t a.pairs a.limit a.left_blocks a.right_blocks k)
+      ∙ ap₂ (λ b why. if is_short_of k t then Some Nodes else if b then None else Some why)
+      (some_same n _ _ (subst₂ (λ x y. SamePlace (λ q. fits n (left q) ≡ true) a.pairs (chosen_place n x) (chosen_place n y)) (sym a.left_blocks) (sym a.right_blocks) (same_chosen n a.pairs a.agree)))
+      (ap₂ (λ size ns. shortage n size (sum ns)) (same_units s t a.pairs a.limit a.left_blocks a.right_blocks) (same_free_sizes s t a.pairs a.limit a.left_blocks a.right_blocks))
 
   pub same_call : (c : Call) → Same r g d (step c s) (step (renumber r c) t)
   same_call (call.Command c) = let o = alike_step r d c s t a in record { reply = ap Answer o.answer; state = o.state }

@@ -1,14 +1,15 @@
 -- The steps of calls are those of the plain machine.
 use Rattle.std.proofs.Common.{◌≡◌, ◌≢◌, ◌⊎◌, ◌||◌, ℕ, ◌+◌, ◌-◌, ◌≤◌, Bool, true, false, not, ◌&&◌, List, [], ◌∷◌, length, sum, Option, Some, None, is_some, IfSome, IsTrue, option_map, option_and_then, nat_eq, nat_lt, nat_le, if◌then◌else◌, refl, sym, ap, ap₂, subst, ◌∙◌, inl, inr, arith, eq-eqb, ne_eqb, le-leb, leb-true, lt-ltb, le-ltb}
 use Rattle.std.proofs.lemmas.Bool.{cases_eq, cases_lt, true≢false, false≢true, and_parts, lt-leb}
+use Rattle.offset_allocator.proofs.Advice.{free_within}
 use Rattle.offset_allocator.proofs.Powers.{not_zero}
 use Rattle.offset_allocator.proofs.Tallies.{hit_cases}
 use Rattle.offset_allocator.specs.declared.reports.Refusal.{Refusal}
-use Rattle.offset_allocator.specs.declared.reports.Refusal.TheVariants.{Nodes, Space, Fragmented}
-use Rattle.offset_allocator.specs.Classes.{up, down}
+use Rattle.offset_allocator.specs.declared.reports.Refusal.TheVariants.{Nodes, TooLarge, Space, Fragmented}
+use Rattle.offset_allocator.specs.Classes.{value, up, down}
 use Rattle.offset_allocator.specs.Named.{Block, View, Grant, Place, one, times, count_listed, names_at, units, IsWellFormed}
 use Rattle.offset_allocator.specs.Named as named
-use Rattle.offset_allocator.specs.Promises.{HasRoomFor, IsWhy, blocks_needed, units_needed}
+use Rattle.offset_allocator.specs.Promises.{HasRoomFor, IsWhy, block_needed, blocks_needed, units_needed}
 use Rattle.offset_allocator.specs.Ranges.{Range, range_of, size_of}
 use Rattle.offset_allocator.specs.Relations.{SameSpace}
 use Rattle.offset_allocator.specs.Resizing.{Shrinks, Grows, Resizes}
@@ -16,7 +17,7 @@ use Rattle.offset_script.specs.Agreement.{Label, by_tag, kept_name}
 use Rattle.offset_script.specs.Machine.{State, is_free, free_sizes, total, chosen_place, is_short_of, fits}
 use Rattle.offset_script.specs.Machine as machine
 use Rattle.offset_script.specs.Simulation.{Represents, IfNamed, Stays}
-use Rattle.offset_script.proofs.Agreed.{agrees_but, agrees_quiet, has_room, labelled, none_there, same_length}
+use Rattle.offset_script.proofs.Agreed.{agrees_but, agrees_quiet, has_room, labelled, none_there, same_length, same_units}
 use Rattle.offset_script.proofs.Chosen.{none_chosen, plain_place}
 use Rattle.offset_script.proofs.Ends.{free_sizes_labels, total_units}
 use Rattle.offset_script.proofs.Labels.{names}
@@ -25,7 +26,7 @@ use Rattle.offset_script.proofs.Simulation as script
 use Rattle.offset_script.proofs.Well.{Well, well_quiet, well_step, not_chosen}
 use Rattle.offset_calls.specs.declared.calls.Call.{Call}
 use Rattle.offset_calls.specs.declared.calls.Call.TheVariants as call
-use Rattle.offset_calls.specs.Calls.{Reply, Answer, Resized, Compacted, Offset, Refused_for, Outcome, can_shrink, can_grow, resize, resized, replies_only, reason, offset_at, step, after, is_valid, compact, starts_free}
+use Rattle.offset_calls.specs.Calls.{Reply, Answer, Resized, Compacted, Offset, Refused_for, Outcome, can_shrink, can_grow, resize, resized, replies_only, shortage, reason, offset_at, step, after, is_valid, compact, starts_free}
 use Rattle.offset_calls.specs.Steps.{Takes, IsReason}
 use Rattle.offset_calls.proofs.Compacted.{well_compact, compact_agrees, moves_are}
 use Rattle.offset_calls.proofs.Resized.{well_resized, found, spot, size_found, can_shrink_is, shrink_can, can_grow_is, grow_can, resized_agrees}
@@ -44,8 +45,8 @@ resize_done can n s p d c = ap₂ (λ b x. if b then replies_only s Resized else
 resize_refused : (can : machine.Place → Bool) (n : ℕ) (s : State) (p : machine.Place) → n ≢ p.block.size → can p ≡ false → resize can n s (Some p) ≡ replies_only s (Answer machine.Refused)
 resize_refused can n s p d c = ap₂ (λ b x. if b then replies_only s Resized else if x then resized n s p else replies_only s (Answer machine.Refused)) (ne_eqb n p.block.size d) c
 
-abbrev reason_of : Bool → Bool → Bool → Option Refusal
-reason_of a b c = if a then Some Nodes else if b then None else if c then Some Space else Some Fragmented
+abbrev reason_of : Bool → Bool → Refusal → Option Refusal
+reason_of a b why = if a then Some Nodes else if b then None else Some why
 
 abbrev range_if : Bool → ℕ → ℕ → Option Range
 range_if b o n = if b then Some (record { offset = o; size = n }) else None
@@ -237,17 +238,33 @@ module _ (v w : View) (hs left : List (Option Grant)) (r : Reply) (s : State) (f
       some : (x : Refusal) → why ≡ Some x → why ≢ None
       some x e f = let z : Some x ≡ None = sym e ∙ f in cc
 
+      here : Refusal
+      here = shortage n (total s.blocks) (sum (free_sizes s.blocks))
+
+      size_is : total s.blocks ≡ v.size
+      size_is = sym (same_units v (kept_name hs) s p.formed ws p.agrees) ∙ p.formed.whole
+
+      is_why : (x : Refusal) → why ≡ Some x → IsWhy blocks n v x
+      is_why x e = subst (λ o. IfSome o (IsWhy blocks n v)) e t.1
+
+      is_short : (x : Refusal) → why ≡ Some x → HasRoomFor blocks v → here ≡ x → why ≡ reason blocks n s
+      is_short x e room is = e ∙ sym (ap (λ a. reason_of a (is_some (chosen_place n s.blocks)) here) (has_room v (kept_name hs) s p.formed ws p.agrees blocks room) ∙ ap₂ (reason_of false) (none room (some x e)) is)
+
       go : (o : Option Refusal) → why ≡ o → why ≡ reason blocks n s
-      go None e = let c = t.0.0 e in e ∙ sym (ap₂ (λ a b. reason_of a b (nat_lt (sum (free_sizes s.blocks)) n)) (has_room v (kept_name hs) s p.formed ws p.agrees blocks c.0) (some_chosen n c.1))
-      go (Some Nodes) e = e ∙ sym (ap (λ a. reason_of a (is_some (chosen_place n s.blocks)) (nat_lt (sum (free_sizes s.blocks)) n)) (short blocks (subst (λ o. IfSome o (IsWhy blocks n v)) e t.1)))
+      go None e = let c = t.0.0 e in e ∙ sym (ap₂ (λ a b. reason_of a b here) (has_room v (kept_name hs) s p.formed ws p.agrees blocks c.0) (some_chosen n c.1))
+      go (Some Nodes) e = e ∙ sym (ap (λ a. reason_of a (is_some (chosen_place n s.blocks)) here) (short blocks (is_why Nodes e)))
+      go (Some TooLarge) e =
+          let h = is_why TooLarge e in
+          is_short TooLarge e h.0 (ap (λ b. if b then TooLarge else if nat_lt (sum (free_sizes s.blocks)) (block_needed n) then Space else Fragmented) (lt-ltb (total s.blocks) (value (up n)) (let f = size_is in let l = h.1 in omega arith)))
       go (Some Space) e =
-          let h = subst (λ o. IfSome o (IsWhy blocks n v)) e t.1 in
-          e ∙ sym (ap (λ a. reason_of a (is_some (chosen_place n s.blocks)) (nat_lt (sum (free_sizes s.blocks)) n)) (has_room v (kept_name hs) s p.formed ws p.agrees blocks h.0)
-          ∙ ap₂ (reason_of false) (none h.0 (some Space e)) (lt-ltb (sum (free_sizes s.blocks)) n (let f = same_free in let l = h.1 in omega arith)))
+          let h = is_why Space e in
+          is_short Space e h.0 (ap₂ (λ a b. if a then TooLarge else if b then Space else Fragmented)
+          (le-ltb (total s.blocks) (value (up n)) (let f = size_is in let l = h.1 in omega arith)) (lt-ltb (sum (free_sizes s.blocks)) (block_needed n) (let f = same_free in let l = h.2 in omega arith)))
       go (Some Fragmented) e =
-          let h = subst (λ o. IfSome o (IsWhy blocks n v)) e t.1 in
-          e ∙ sym (ap (λ a. reason_of a (is_some (chosen_place n s.blocks)) (nat_lt (sum (free_sizes s.blocks)) n)) (has_room v (kept_name hs) s p.formed ws p.agrees blocks h.0)
-          ∙ ap₂ (reason_of false) (none h.0 (some Fragmented e)) (le-ltb (sum (free_sizes s.blocks)) n (let f = same_free in let l = h.1 in omega arith)))
+          let h = is_why Fragmented e in
+          let l = free_within v p.formed in
+          is_short Fragmented e h.0 (ap₂ (λ a b. if a then TooLarge else if b then Space else Fragmented)
+          (le-ltb (total s.blocks) (value (up n)) (let f = size_is in let m = h.1 in omega arith)) (le-ltb (sum (free_sizes s.blocks)) (block_needed n) (let f = same_free in let m = h.1 in omega arith)))
 
   aligned_reason : (n align : ℕ) → 1 ≤ align → reason (blocks_needed align) (units_needed n align) s ≡ (if nat_le align 1 then reason 1 n s else reason 2 (n + align - 1) s)
   aligned_reason n align some = elim (cases_lt 1 align) [

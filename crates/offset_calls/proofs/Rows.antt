@@ -1,18 +1,18 @@
 -- Releases in a row: the reply to the call after them.
 use Rattle.std.proofs.Common.{◌≡◌, ℕ, suc, ◌+◌, ◌-◌, ◌≤◌, Bool, true, false, not, ◌&&◌, ◌||◌, List, [], ◌∷◌, ◌++◌, sum, Option, Some, None, is_some, nat_eq, nat_lt, nat_le, if◌then◌else◌, refl, sym, ap, ap₂, subst₂, ◌∙◌, inl, inr, arith}
-use Rattle.offset_allocator.specs.declared.reports.Refusal.TheVariants.{Nodes, Space, Fragmented}
+use Rattle.offset_allocator.specs.declared.reports.Refusal.TheVariants.{Nodes}
 use Rattle.offset_script.specs.Histories.{IsCollapse, collapse, outline, releases}
-use Rattle.offset_script.specs.Machine.{State, start, chosen_place, free_sizes, is_short_of, place_of, is_free}
+use Rattle.offset_script.specs.Machine.{State, start, chosen_place, total, free_sizes, is_short_of, place_of, is_free}
 use Rattle.offset_script.specs.Machine as machine
 use Rattle.offset_script.proofs.Commute.{SameSpace, releases_outline, releases_scalars, same_next, same_number, some_same}
 use Rattle.offset_script.proofs.Members.{In}
-use Rattle.offset_script.proofs.Pairs.{Kind, Lives, Frees, Pair, left_tag, right_tag, left, right, lefts, rights, SamePlace, neither, both, same_free, same_total, same_short, same_free_sizes, same_place_of}
+use Rattle.offset_script.proofs.Pairs.{Kind, Lives, Frees, Pair, left_tag, right_tag, left, right, lefts, rights, SamePlace, neither, both, same_free, same_total, same_units, same_short, same_free_sizes, same_place_of}
 use Rattle.offset_script.proofs.Similar.{SameNumber, paired}
 use Rattle.offset_script.proofs.Tests.{if_same}
 use Rattle.offset_script.proofs.Well.{Well, well_start}
 use Rattle.offset_calls.specs.declared.calls.Call.{Call}
 use Rattle.offset_calls.specs.declared.calls.Call.TheVariants as call
-use Rattle.offset_calls.specs.Calls.{Move, Reply, Answer, Resized, Compacted, Offset, Refused_for, Outcome, can_shrink, can_grow, resize, resized, replies_only, number, move_of, moves, offset_at, reason, step, after}
+use Rattle.offset_calls.specs.Calls.{Move, Reply, Answer, Resized, Compacted, Offset, Refused_for, Outcome, can_shrink, can_grow, resize, resized, replies_only, number, move_of, moves, offset_at, shortage, reason, step, after}
 use Rattle.offset_calls.specs.Histories.{without_offset}
 use Rattle.offset_calls.proofs.Alike.{same_starts, same_free_start}
 use Rattle.offset_calls.proofs.Followed.{well_calls}
@@ -47,9 +47,10 @@ module _ (s t : State) (a : SameSpace s t) where
 
   reason_reply : (k n : ℕ) → reason k n s ≡ reason k n t
   reason_reply k n =
-      ap (λ b. if b then Some Nodes else if is_some (chosen_place n s.blocks) then None else if nat_lt (sum (free_sizes s.blocks)) n then Some Space else Some Fragmented) (short k)
-      ∙ ap₂ (λ b ns. if is_short_of k t then Some Nodes else if b then None else if nat_lt (sum ns) n then Some Space else Some Fragmented)
-      (ap (λ bs. is_some (chosen_place n bs)) a.blocks.left_blocks ∙ some_same n a.blocks.pairs ∙ ap (λ bs. is_some (chosen_place n bs)) (sym a.blocks.right_blocks)) (same_free_sizes s t a.blocks.pairs a.limit a.blocks.left_blocks a.blocks.right_blocks)
+      ap (λ b. if b then Some Nodes else if is_some (chosen_place n s.blocks) then None else Some (shortage n (total s.blocks) (sum (free_sizes s.blocks)))) (short k)
+      ∙ ap₂ (λ b why. if is_short_of k t then Some Nodes else if b then None else Some why)
+      (ap (λ bs. is_some (chosen_place n bs)) a.blocks.left_blocks ∙ some_same n a.blocks.pairs ∙ ap (λ bs. is_some (chosen_place n bs)) (sym a.blocks.right_blocks))
+      (ap₂ (λ size ns. shortage n size (sum ns)) (same_units s t a.blocks.pairs a.limit a.blocks.left_blocks a.blocks.right_blocks) (same_free_sizes s t a.blocks.pairs a.limit a.blocks.left_blocks a.blocks.right_blocks))
 
   next_reply : (c : Call) → without_offset (step c s).reply ≡ without_offset (step c t).reply
   next_reply (call.Command c) = ap Answer (same_next s t a c)

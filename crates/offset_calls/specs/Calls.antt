@@ -1,9 +1,10 @@
 -- The plain stamped machine over every call: beside the commands of a script, the calls that resize a range, compact
 -- the space, and ask for an offset or for the reason of a refusal. States and stamps are those of the script's machine.
-use Rattle.std.specs.Prelude.{ℕ, ◌+◌, ◌-◌, Bool, true, false, not, ◌&&◌, ◌||◌, List, [], ◌∷◌, ◌++◌, map, sum, Option, Some, None, is_some, nat_eq, nat_lt, nat_le, if◌then◌else◌}
+use Rattle.std.specs.Prelude.{ℕ, ◌+◌, ◌-◌, max, Bool, true, false, not, ◌&&◌, ◌||◌, List, [], ◌∷◌, ◌++◌, map, sum, Option, Some, None, is_some, nat_eq, nat_lt, nat_le, if◌then◌else◌}
 use Rattle.std.specs.Int.{is_power_of_two}
 use Rattle.offset_allocator.specs.declared.reports.Refusal.{Refusal}
-use Rattle.offset_allocator.specs.declared.reports.Refusal.TheVariants.{Nodes, Space, Fragmented}
+use Rattle.offset_allocator.specs.declared.reports.Refusal.TheVariants.{Nodes, TooLarge, Space, Fragmented}
+use Rattle.offset_allocator.specs.Classes.{value, up}
 use Rattle.offset_script.specs.Grammar.{has_valid_alignment}
 use Rattle.offset_script.specs.Machine.{Tag, Live, Free, Block, block, is_free, total, free_sizes, Place, place_of, chosen_place, free_block, free_start, without_start, State, returns_only, leaves, is_short_of, stamp_of_call, answer_view}
 use Rattle.offset_script.specs.Machine as machine
@@ -106,9 +107,13 @@ abbrev pub offset_at : Option Place → Reply
 offset_at None = Answer machine.Gone
 offset_at (Some p) = Offset (total p.before)
 
+-- why no block is chosen for n units, in a space of this size with so many units free
+abbrev pub shortage : ℕ → ℕ → ℕ → Refusal
+shortage n size free = if nat_lt size (value (up n)) then TooLarge else if nat_lt free (max 1 (value (up n))) then Space else Fragmented
+
 -- why a request is refused that may add `spare` blocks and takes the block chosen for n units
 abbrev pub reason : ℕ → ℕ → State → Option Refusal
-reason spare n s = if is_short_of spare s then Some Nodes else if is_some (chosen_place n s.blocks) then None else if nat_lt (sum (free_sizes s.blocks)) n then Some Space else Some Fragmented
+reason spare n s = if is_short_of spare s then Some Nodes else if is_some (chosen_place n s.blocks) then None else Some (shortage n (total s.blocks) (sum (free_sizes s.blocks)))
 
 -- ---- calls
 

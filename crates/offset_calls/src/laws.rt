@@ -26,7 +26,8 @@ pub fn an_empty_space_continues_as_fresh()
 
 /// A nest of commands leaves no trace in the replies to any calls after it. Nothing is resized or compacted in a nest.
 pub fn a_nest_leaves_no_trace()
-    ensures { (size limit : ℕ) → 2 ≤ limit → (cs : List Call) (nest : List Command) → let s = after cs (start size limit) in
+    ensures { (size limit : ℕ) → 2 ≤ limit → (cs : List Call) (nest : List Command)
+        → let s = after cs (start size limit) in
         Nest s nest → (next : List Call)
         → replies next (machine.after nest s) ≡ replies_renumbered s (machine.after nest s) next }
 {}
@@ -34,7 +35,8 @@ pub fn a_nest_leaves_no_trace()
 /// Releases in a row leave the same sizes and the same live grants in any order, after any calls.
 pub fn releases_commute()
     // The sizes and the live grants are those of the collapse, which does not depend on the order.
-    ensures space { (size limit : ℕ) → 2 ≤ limit → (cs : List Call) (ks : List ℕ) → let s = after cs (start size limit) in
+    ensures space { (size limit : ℕ) → 2 ≤ limit → (cs : List Call) (ks : List ℕ)
+        → let s = after cs (start size limit) in
         outline (machine.after (releases ks) s).blocks ≡ collapse ks (outline s.blocks) }
     // A next call, also one that resizes or compacts, has the same reply as there, except for the offset of a new
     // grant.

@@ -74,7 +74,8 @@ fn numbers_of_live<NI: NodeIndex>(
     player: &Player<NI>,
 ) -> Result<Vec<u64>, AllocError>
     requires { AreKept player.now.space player.now.handles.items }
-    ensures { IfOk result (λ ks. map (kept_name player.now.handles.items) ks.items ≡ map (λ b. Some b.name) (live player.now.space.blocks)) }
+    ensures { IfOk result (λ ks. map (kept_name player.now.handles.items) ks.items
+        ≡ map (λ b. Some b.name) (live player.now.space.blocks)) }
 {
     let mut numbers = Vec::new(alloc);
     for block in player.space.blocks() {
@@ -97,7 +98,12 @@ impl Moves {
     // One more move.
     fn add(&mut self, from: u32, to: u32, size: u32)
         ensures { self.new.is_refused ≡ false → (self.old.is_refused ≡ false)
-            × (self.new.found.items ≡ self.old.found.items ++ record { number = 0; from = from; to = to; size = size } ∷ []) }
+            × (self.new.found.items ≡ self.old.found.items ++ record {
+              number = 0;
+              from = from;
+              to = to;
+              size = size;
+            } ∷ []) }
     {
         let moved = Moved {
             number: 0,
@@ -123,7 +129,8 @@ fn collect<NI: NodeIndex>(space: &mut Allocator<NI>, seen: &mut Moves)
 // The moves with these numbers, the last of which are those of the ranges that are moved.
 fn numbered(alloc: Global, numbers: &[u64], moves: &[Moved]) -> Result<Vec<Moved>, AllocError>
     requires { length moves.now ≤ length numbers.now }
-    ensures { IfOk result (λ ms. map move_view ms.items ≡ joined (drop (length numbers.now - length moves.now) numbers.now) moves.now) }
+    ensures { IfOk result (λ ms. map move_view ms.items
+        ≡ joined (drop (length numbers.now - length moves.now) numbers.now) moves.now) }
 {
     let first = numbers.len() - moves.len();
     let mut found = Vec::new(alloc);

@@ -78,7 +78,8 @@ pub fn course_of(alloc: Global, script: &Script) -> Result<Course, AllocError>
         (λ c. map life_view c.lives.items ≡ lives_of script.now.size script.now.max_allocs script.now.commands.items) }
     ensures ordered { IfOk result (λ c. All IsOrdered (map life_view c.lives.items)) }
     ensures reports { IfOk result
-        (λ c. map report_view c.reports.items ≡ reports_of script.now.size script.now.max_allocs script.now.commands.items) }
+        (λ c. map report_view c.reports.items
+        ≡ reports_of script.now.size script.now.max_allocs script.now.commands.items) }
     ensures sizes { IfOk result (λ c. AreSizes c.sizes.items script.now.size script.now.max_allocs script.now.commands.items) }
     ensures refused { IfOk result
         (λ c. c.refused.items ≡ refusals_of script.now.size script.now.max_allocs script.now.commands.items) }

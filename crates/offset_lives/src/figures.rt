@@ -99,11 +99,14 @@ impl Count {
 
 // Adds a grant of so many units to those of a call, if there is one.
 fn add(counts: &mut Vec<Count>, call: usize, units: u32)
-    requires grants { (c : ℕ) (d : Count) → c < length counts.old.items → (slice_index_or counts.old.items c d).grants < 2 ^ 64 - 1 }
-    requires units { (c : ℕ) (d : Count) → c < length counts.old.items → (slice_index_or counts.old.items c d).units < 2 ^ 127 }
+    requires grants { (c : ℕ) (d : Count) → c < length counts.old.items
+        → (slice_index_or counts.old.items c d).grants < 2 ^ 64 - 1 }
+    requires units { (c : ℕ) (d : Count) → c < length counts.old.items
+        → (slice_index_or counts.old.items c d).units < 2 ^ 127 }
     ensures len { length counts.new.items ≡ length counts.old.items }
     ensures counts { (c : ℕ) (d : Count) → c < length counts.old.items → slice_index_or counts.new.items c d
-        ≡ (if nat_eq call c then raised (slice_index_or counts.old.items c d) units else slice_index_or counts.old.items c d) }
+        ≡ (if nat_eq call c then raised
+        (slice_index_or counts.old.items c d) units else slice_index_or counts.old.items c d) }
 {
     if call < counts.len() {
         let count = &mut counts[call];

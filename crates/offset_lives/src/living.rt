@@ -93,7 +93,8 @@ fn requested_units(command: Command) -> u32
 // The life that begins with this answer to call i, if it is a grant.
 fn life_of_answer(i: usize, command: Command, answer: &Answer, ends: &Ends) -> Option<Life>
     requires { (k offset : ℕ) → answer_view answer.now ≡ machine.Grant k offset → k < grants_in ends.now }
-    ensures { option_to_list (option_map life_view result) ≡ life_of_answer i command (answer_view answer.now) (end_in ends.now) }
+    ensures { option_to_list (option_map life_view result)
+        ≡ life_of_answer i command (answer_view answer.now) (end_in ends.now) }
 {
     match answer {
         Answer::Grant { number, offset } => Some(Life {

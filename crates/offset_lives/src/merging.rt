@@ -58,7 +58,8 @@ fn join(before: Shape, shape: &Shape) -> Shape
 /// The rectangles of lives. Those thinner than a tenth of a pixel are rounded to whole tenths, and then those of the
 /// same height and age that touch are merged.
 pub fn shapes_of(alloc: Global, plot: &Plot, lives: &[Life]) -> Result<Vec<Shape>, AllocError>
-    // Merging covers and uncovers no place: at each height and age they cover those that the rectangles of the lives do.
+    // Merging covers and uncovers no place: at each height and age they cover those that the rectangles of the lives
+    // do.
     ensures { IfOk result (λ v. (p : Place) → list_any (covers p) v.items
         ≡ list_any (covers p) (map (λ l. drawn (shape_of plot.now l)) lives.now)) }
 {

@@ -120,13 +120,23 @@ pub struct IntoWrite<W: Write> {
 impl<W: Write> Model for IntoWrite<W> {
     ghost Value = { Writing W };
 
-    ghost view = { λ s. record { inner = s.inner; push_has_failed = s.failed_push; flush_has_failed = s.failed_flush; is_flushed = s.flushed } };
+    ghost view = { λ s. record {
+      inner = s.inner;
+      push_has_failed = s.failed_push;
+      flush_has_failed = s.failed_flush;
+      is_flushed = s.flushed;
+    } };
 }
 
 impl<W: Write> IntoWrite<W> {
     /// A sink over a writer. It has not failed, and is not flushed.
     pub fn new(inner: W) -> Self
-        ensures { result ≡ record { inner = inner; push_has_failed = false; flush_has_failed = false; is_flushed = false } }
+        ensures { result ≡ record {
+          inner = inner;
+          push_has_failed = false;
+          flush_has_failed = false;
+          is_flushed = false;
+        } }
     {
         IntoWrite {
             inner,

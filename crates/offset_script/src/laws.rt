@@ -25,7 +25,8 @@ pub fn one_header_spelling()
 /// A space without live grants continues as a fresh one of its size.
 pub fn an_empty_space_continues_as_fresh()
     ensures { (size limit : ℕ) → 2 ≤ limit → (cs : List Command) → let s = after cs (start size limit) in
-        HasNoLive s → (next : List Command) → answers next s ≡ answers_renumbered (start (total s.blocks) s.limit) s next }
+        HasNoLive s → (next : List Command) → answers next s
+        ≡ answers_renumbered (start (total s.blocks) s.limit) s next }
 {}
 
 /// A fresh space that is extended continues as a fresh one of the summed size.

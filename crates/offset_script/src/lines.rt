@@ -41,7 +41,10 @@ impl<'a> Lines<'a> {
         requires { 0 < length self.old.rest.now }
         ensures lines { significant_from self.old.number self.old.rest.now
             ≡ (if is_skipped result.1.now then significant_from self.new.number self.new.rest.now
-            else record { number = result.0; text = result.1.now } ∷ significant_from self.new.number self.new.rest.now) }
+            else record {
+              number = result.0;
+              text = result.1.now;
+            } ∷ significant_from self.new.number self.new.rest.now) }
         ensures ends { self.new.number + line_ends self.new.rest.now ≡ self.old.number + line_ends self.old.rest.now }
         ensures shorter { length self.new.rest.now < length self.old.rest.now }
     {

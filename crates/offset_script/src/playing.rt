@@ -225,7 +225,8 @@ pub fn play<NI: NodeIndex>(
     ensures rows { IfOk result (λ found. RowsCommute size max_allocs commands.now (map answer_view found.items)) }
     // After a nest, whose grants are released in reverse order, the answers are those without the nest, except that its
     // grants have taken numbers.
-    ensures nests { IfOk result (λ found. NestsLeaveNoTrace size max_allocs commands.now (map answer_view found.items)) }
+    ensures nests { IfOk result (λ found. NestsLeaveNoTrace size max_allocs commands.now
+        (map answer_view found.items)) }
 {
     let mut player: Player<NI> = Player::start(alloc, size, max_allocs)?;
     // A step of the proof, which does nothing, here and below.

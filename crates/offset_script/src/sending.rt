@@ -30,7 +30,8 @@ fn push_all<K: Sink>(output: &mut K, text: &[u8]) -> bool
 /// first failure, and tries nothing again.
 pub fn send<K: Sink>(output: &mut K, text: &[u8]) -> bool
     // On `true` the whole text is appended, on `false` a beginning of it: the whole, where no push has failed.
-    ensures sent { Sends (result || not (K.push_has_failed output.new)) text.now (K.held output.old) (K.held output.new) }
+    ensures sent { Sends (result || not (K.push_has_failed output.new)) text.now (K.held output.old)
+        (K.held output.new) }
     // The result is `false` exactly where the sink failed in this call.
     ensures failed { K.has_failed output.new ≡ (if result then K.has_failed output.old else true) }
     // On `true` the sink is flushed.

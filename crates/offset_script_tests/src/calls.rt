@@ -54,7 +54,11 @@ const RESIZES: List = List {
         (Call::Offset(0), "Answer(Gone)"),
         // 10 free, 5 and 50 live, 35 free
         (Call::Refusal(36), "Refusal(Some(Fragmented))"),
+        (Call::Refusal(44), "Refusal(Some(Fragmented))"),
+        (Call::Refusal(45), "Refusal(Some(Space))"),
         (Call::Refusal(46), "Refusal(Some(Space))"),
+        (Call::Refusal(96), "Refusal(Some(Space))"),
+        (Call::Refusal(97), "Refusal(Some(TooLarge))"),
         (Call::Refusal(10), "Refusal(None)"),
         (
             Call::Compact,
@@ -69,7 +73,7 @@ const RESIZES: List = List {
         ),
         (Call::Command(Command::Reset), "Answer(Reset)"),
         (Call::Offset(3), "Answer(Gone)"),
-        (Call::RefusalAligned(97, 8), "Refusal(Some(Space))"),
+        (Call::RefusalAligned(97, 8), "Refusal(Some(TooLarge))"),
         (Call::RefusalAligned(8, 8), "Refusal(None)"),
         (
             Call::Command(Command::Align(8, 8)),

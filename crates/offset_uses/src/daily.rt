@@ -1,7 +1,7 @@
-//! The daily use of an allocator, as `CALLING.md` of `offset_allocator` shows it. Only `place` and `defragment` have a
-//! proof file.
+//! The daily use of an allocator, as `CALLING.md` of `offset_allocator` shows it. Only `lacks_units`, `place_packed` and
+//! `defragment` have a proof file.
 
-ghost use Rattle.std.specs.Prelude.{ℕ, ◌≡◌, ◌↔◌, ◌⊎◌, ◌+◌, ◌-◌, ◌*◌, ◌<◌, ◌≤◌, ◌%◌, Some, None, false, not, min, IfSome, IfOk, IfErr, IsSome, IsTrue, length};
+ghost use Rattle.std.specs.Prelude.{ℕ, ◌≡◌, ◌≢◌, ◌↔◌, ◌⊎◌, ◌+◌, ◌-◌, ◌*◌, ◌<◌, ◌≤◌, ◌%◌, Some, None, false, not, min, IfSome, IfOk, IfErr, IsOk, IsSome, IsTrue, length};
 ghost use Rattle.std.specs.Int.{is_power_of_two};
 ghost use Rattle.offset_allocator.specs.Named.{used_units, largest_free};
 ghost use Rattle.offset_allocator.specs.Ranges.{Range, range_of, size_of, KeepsAll, KeepsOthers, IsLive};
@@ -62,6 +62,7 @@ pub fn give_back(space: &mut Allocator, allocation: Allocation) -> bool
 pub fn upload(heap: &mut Allocator, size: u32, align: u32) -> Option<Allocation>
     ensures aligned { IfSome result (λ h. h.offset % align ≡ 0) }
     ensures range { IfSome result (λ h. range_of h.name heap.new ≡ Some (record { offset = h.offset; size = size })) }
+    ensures fresh { IfSome result (λ h. range_of h.name heap.old ≡ None) }
     ensures others { IfSome result (λ h. KeepsOthers h.name heap.old heap.new) }
     ensures refused { result ≡ None → KeepsAll heap.old heap.new }
     ensures granted { IsTrue (is_power_of_two align)
@@ -74,22 +75,36 @@ pub fn upload(heap: &mut Allocator, size: u32, align: u32) -> Option<Allocation>
     heap.allocate_aligned(size, align)
 }
 
+// Whether a request is refused since more units are needed, in the space or free.
+fn lacks_units(space: &Allocator, size: u32) -> bool
+    ensures { IsTrue result ↔ (IsWhy 1 size space.now Refusal.Space ⊎ IsWhy 1 size space.now Refusal.TooLarge) }
+{
+    laws::refusals_advise(space);
+    match space.refusal(size) {
+        None => false,
+        Some(Refusal::Nodes) => false,
+        Some(Refusal::TooLarge) => true,
+        Some(Refusal::Space) => true,
+        Some(Refusal::Fragmented) => false,
+    }
+}
+
 /// Allocates `size` units, in a space that grows by `more` units where too few are free.
 ///
-/// The error says why the request is refused, and so what is left to do: where the space is fragmented, `compact` it,
-/// or extend it where all free units are one block; where no node is left, use another space. Then no live range has
-/// changed. Where too few units are free, the space has grown once, whatever is returned, if it can have that many
-/// more.
+/// The error says why the request is refused, and so what is left to do: where the space is fragmented, `compact` it;
+/// where no node is left, use another space. Then no live range has changed. Where too few units are free, or the space
+/// is too small, it has grown once, whatever is returned, if it can have that many more.
 pub fn place(space: &mut Allocator, size: u32, more: u32) -> Result<Allocation, Refusal>
     ensures range { IfOk result (λ h. range_of h.name space.new ≡ Some (record { offset = h.offset; size = size })) }
     ensures why { IfErr result (IsWhy 1 size space.new) }
-    ensures grown { IsWhy 1 size space.old Refusal.Space → space.old.size + more ≤ 4294967295 → space.new.size ≡ space.old.size + more }
+    ensures grown { (IsWhy 1 size space.old Refusal.Space ⊎ IsWhy 1 size space.old Refusal.TooLarge)
+        → space.old.size + more ≤ 4294967295 → space.new.size ≡ space.old.size + more }
     ensures others { IfOk result (λ h. KeepsOthers h.name space.old space.new) }
     ensures refused { IfErr result (λ _. KeepsAll space.old space.new) }
-    ensures kept { ((IsWhy 1 size space.old Refusal.Space → ⊥) ⊎ (4294967295 < space.old.size + more)) → space.new.size ≡ space.old.size }
+    ensures kept { (((IsWhy 1 size space.old Refusal.Space ⊎ IsWhy 1 size space.old Refusal.TooLarge) → ⊥)
+        ⊎ (4294967295 < space.old.size + more)) → space.new.size ≡ space.old.size }
 {
-    laws::is_well_formed(space);
-    if space.refusal(size) == Some(Refusal::Space) {
+    if lacks_units(space, size) {
         // where it cannot grow, the next call of `refusal` says so
         let _ = space.extend(more);
     }
@@ -122,6 +137,33 @@ pub fn defragment(space: &mut Allocator, buffer: &mut [u32])
 {
     laws::is_well_formed(space);
     space.compact(&mut |range: Move| copy_down(buffer, range.from, range.to, range.size));
+}
+
+/// Allocates `size` units of a buffer. Where they are free, but lie apart, it moves all live ranges to the front first.
+///
+/// One compaction is enough, so the error is never `Fragmented`; then nothing has changed. The buffer has to be as long
+/// as the space.
+pub fn place_packed(
+    space: &mut Allocator,
+    buffer: &mut [u32],
+    size: u32,
+) -> Result<Allocation, Refusal>
+    ensures range { IfOk result (λ h. range_of h.name space.new ≡ Some (record { offset = h.offset; size = size })) }
+    ensures granted { IsWhy 1 size space.old Refusal.Fragmented → IsOk result }
+    ensures why { IfErr result (λ why. IsWhy 1 size space.old why × (why ≢ Refusal.Fragmented)) }
+    ensures same { IfErr result (λ _. space.new ≡ space.old) }
+{
+    laws::refusals_advise(space);
+    match space.refusal(size) {
+        None => Ok(space.allocate(size).unwrap()),
+        Some(Refusal::Fragmented) => {
+            defragment(space, buffer);
+            Ok(space.allocate(size).unwrap())
+        }
+        Some(Refusal::Nodes) => Err(Refusal::Nodes),
+        Some(Refusal::TooLarge) => Err(Refusal::TooLarge),
+        Some(Refusal::Space) => Err(Refusal::Space),
+    }
 }
 
 /// The byte at which the vertices of a mesh begin, with `stride` bytes each, as a draw call needs it, or `None` where

@@ -22,7 +22,7 @@ use std::alloc::{AllocError, Global};
 /// Allocates the vertices of a mesh's outer and inner hull, both or neither.
 ///
 /// It returns the two handles, or `None` where the first request is refused, or the second after it. Then the buffer is
-/// as it was, down to the order of its free lists.
+/// as it was, down to the order of its bins.
 pub fn place_mesh(
     vertices: &mut Allocator,
     outer: u32,

@@ -83,8 +83,8 @@ fn main() -> Result<(), AllocError> {
                 let copied = pool.defragment();
                 let after = pool.space.storage_report();
                 assert_eq!(before.total_free_space, after.total_free_space);
-                // the report says whether the free units, now in one block, suffice
-                assert_eq!(pool.upload(step, vertices).is_ok(), vertices <= after.largest_free_region);
+                // what was refused as fragmented is granted now
+                assert_eq!(pool.upload(step, vertices), Ok(()));
                 if times % 400 == 0 {
                     println!(
                         "step {step}: {} meshes, {} vertices free, the largest free region {} before and {} after, {copied} vertices copied",

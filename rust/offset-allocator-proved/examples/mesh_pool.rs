@@ -3,7 +3,9 @@
 //!
 //! After each step every byte of every live mesh is checked: no other mesh has touched it.
 
-use offset_allocator_proved::{Allocation, AllocError, Allocator, Global};
+use offset_allocator_proved::ext::min_allocator_size;
+use offset_allocator_proved::{Allocation, Allocator, Global, Refusal};
+use std::error::Error;
 
 /// The alignment that a graphics interface requires of a bound buffer.
 const ALIGNMENT: u32 = 256;
@@ -27,16 +29,18 @@ fn vertex_byte(number: u64, i: u32) -> u8 {
 }
 
 impl Pool {
-    fn new(bytes: u32) -> Result<Self, AllocError> {
-        Ok(Pool { buffer: vec![0; bytes as usize], space: Allocator::new(Global, bytes)?, meshes: Vec::new() })
+    fn new(bytes: u32, nodes: u32) -> Result<Self, Box<dyn Error>> {
+        let space = Allocator::with_max_allocs(Global, bytes, nodes)?;
+        Ok(Pool { buffer: vec![0; bytes as usize], space, meshes: Vec::new() })
     }
 
-    /// Copies a mesh of `bytes` bytes into the buffer, which grows where needed.
-    fn upload(&mut self, number: u64, bytes: u32) {
+    /// Copies a mesh of `bytes` bytes into the buffer, which grows where more bytes help. Else the error says why not.
+    fn upload(&mut self, number: u64, bytes: u32) -> Result<(), Refusal> {
         let range = loop {
-            match self.space.allocate_aligned(bytes, ALIGNMENT) {
-                Some(range) => break range,
-                None => self.grow(bytes),
+            match self.space.refusal_aligned(bytes, ALIGNMENT) {
+                None => break self.space.allocate_aligned(bytes, ALIGNMENT).expect("no reason to refuse it"),
+                Some(Refusal::Nodes) => return Err(Refusal::Nodes),
+                Some(why) => self.grow(bytes + ALIGNMENT - 1).ok_or(why)?,
             }
         };
         let start = range.offset as usize;
@@ -44,6 +48,7 @@ impl Pool {
             *byte = vertex_byte(number, i as u32);
         }
         self.meshes.push(Mesh { range, number });
+        Ok(())
     }
 
     fn remove(&mut self, place: usize) {
@@ -51,12 +56,16 @@ impl Pool {
         self.space.free(mesh.range);
     }
 
-    /// Makes the buffer longer. Live ranges stay where they are.
-    fn grow(&mut self, bytes: u32) {
-        let more = (self.buffer.len() as u32 / 2).max(bytes);
-        assert!(self.space.extend(more), "the buffer has at most 4294967295 bytes");
+    /// Makes the buffer longer, so that its last free block has at least `bytes` bytes of a large enough class. Live
+    /// ranges stay where they are. `None` where the space cannot have that many more.
+    fn grow(&mut self, bytes: u32) -> Option<()> {
+        let more = (self.buffer.len() as u32 / 2).max(min_allocator_size(bytes));
+        if !self.space.extend(more) {
+            return None;
+        }
         self.buffer.resize(self.buffer.len() + more as usize, 0);
         println!("grown to {} bytes, with {} meshes", self.buffer.len(), self.meshes.len());
+        Some(())
     }
 
     fn check(&self) {
@@ -71,8 +80,8 @@ impl Pool {
     }
 }
 
-fn main() -> Result<(), AllocError> {
-    let mut pool = Pool::new(1 << 16)?;
+fn main() -> Result<(), Box<dyn Error>> {
+    let mut pool = Pool::new(1 << 16, 2 * MESHES as u32 + 2)?;
     let mut random = 1u64;
     for number in 0..STEPS {
         random = random.wrapping_mul(0x5851_f42d_4c95_7f2d).wrapping_add(1);
@@ -80,7 +89,7 @@ fn main() -> Result<(), AllocError> {
         if chance % MESHES < pool.meshes.len() as u64 {
             pool.remove((chance / MESHES) as usize % pool.meshes.len());
         } else {
-            pool.upload(number, 12 * (1 + (chance % 97) as u32 * (chance % 11) as u32));
+            pool.upload(number, 12 * (1 + (chance % 97) as u32 * (chance % 11) as u32))?;
         }
         pool.check();
     }
@@ -89,6 +98,11 @@ fn main() -> Result<(), AllocError> {
     while !pool.meshes.is_empty() {
         pool.remove(0);
     }
+    // with 16 nodes the pool stops at the limit, and does not grow without end
+    let mut small = Pool::new(1 << 16, 16)?;
+    let meshes = (0..).take_while(|number| small.upload(*number, 100) != Err(Refusal::Nodes)).count();
+    println!("with 16 nodes: {meshes} meshes, then: {}", Refusal::Nodes);
+    assert_eq!(small.buffer.len(), 1 << 16);
     assert_eq!(pool.space.storage_report().total_free_space, pool.buffer.len() as u32);
     Ok(())
 }

@@ -6,6 +6,7 @@
 use crate::accesses::Accesses;
 use crate::index::{NodeIndex, link_to, no_link, number};
 use crate::small_float::uint_to_float_round_down;
+use crate::store::Store;
 use crate::tables::Tables;
 
 /// The smallest class at or above `class` whose bin is not empty.
@@ -54,13 +55,13 @@ pub(crate) fn length_of<NI: NodeIndex>(tables: &Tables<NI>, class: u32, count: &
 
 /// Pushes a name onto a bin.
 #[inline(always)]
-pub(crate) fn push<NI: NodeIndex>(
-    tables: &mut Tables<NI>,
-    top_mask: &mut u32,
-    name: u32,
-    class: u32,
-    count: &mut Accesses,
-) {
+pub(crate) fn push<NI: NodeIndex>(store: &mut Store<NI>, name: u32, class: u32) {
+    let Store {
+        tables,
+        top_mask,
+        accesses: count,
+        ..
+    } = store;
     tables.shape();
     let link = link_to(name);
     let newest = tables.head(class, count);
@@ -77,12 +78,13 @@ pub(crate) fn push<NI: NodeIndex>(
 }
 
 // Clears the bit of a class, whose bin is empty now.
-fn clear_class<NI: NodeIndex>(
-    tables: &mut Tables<NI>,
-    top_mask: &mut u32,
-    class: u32,
-    count: &mut Accesses,
-) {
+fn clear_class<NI: NodeIndex>(store: &mut Store<NI>, class: u32) {
+    let Store {
+        tables,
+        top_mask,
+        accesses: count,
+        ..
+    } = store;
     let word = class / 64;
     let rest = tables.mask(word, count) & !(1 << (class % 64));
     tables.set_mask(word, rest, count);
@@ -100,18 +102,17 @@ fn link_newer<NI: NodeIndex>(tables: &mut Tables<NI>, at: NI, to: NI, count: &mu
 
 // Removes the newest name of a class from its bin. `after` is the link to the next older one.
 #[inline(always)]
-fn behead<NI: NodeIndex>(
-    tables: &mut Tables<NI>,
-    top_mask: &mut u32,
-    class: u32,
-    after: NI,
-    count: &mut Accesses,
-) {
+fn behead<NI: NodeIndex>(store: &mut Store<NI>, class: u32, after: NI) {
+    let Store {
+        tables,
+        accesses: count,
+        ..
+    } = store;
     tables.shape();
     let next = number(after);
     tables.set_head(class, next, count);
     if next == NI::MAX {
-        clear_class(tables, top_mask, class, count);
+        clear_class(store, class);
     } else {
         tables.set_newer(next, no_link(), count);
     }
@@ -119,25 +120,17 @@ fn behead<NI: NodeIndex>(
 
 // Removes a name from the bin of this size. `before` is the link to the next newer one.
 #[inline(always)]
-fn leave<NI: NodeIndex>(
-    tables: &mut Tables<NI>,
-    top_mask: &mut u32,
-    name: u32,
-    before: NI,
-    size: u32,
-    count: &mut Accesses,
-) {
+fn leave<NI: NodeIndex>(store: &mut Store<NI>, name: u32, before: NI, size: u32) {
+    let Store {
+        tables,
+        accesses: count,
+        ..
+    } = store;
     tables.shape();
     let after = tables.older(name, count);
     if number(before) == NI::MAX {
         // only the newest name has to find its class
-        behead(
-            tables,
-            top_mask,
-            uint_to_float_round_down(size),
-            after,
-            count,
-        );
+        behead(store, uint_to_float_round_down(size), after);
     } else {
         link_newer(tables, after, before, count);
         tables.set_older(number(before), after, count);
@@ -146,53 +139,50 @@ fn leave<NI: NodeIndex>(
 
 /// Removes a name from the bin of this size.
 #[inline(always)]
-pub(crate) fn remove<NI: NodeIndex>(
-    tables: &mut Tables<NI>,
-    top_mask: &mut u32,
-    name: u32,
-    size: u32,
-    count: &mut Accesses,
-) {
-    let before = tables.newer(name, count);
-    leave(tables, top_mask, name, before, size, count);
+pub(crate) fn remove<NI: NodeIndex>(store: &mut Store<NI>, name: u32, size: u32) {
+    let before = store.tables.newer(name, &mut store.accesses);
+    leave(store, name, before, size);
 }
 
 /// Removes `gone`, the name of a block of `size` units, from its bin, and pushes `name` onto the bin of `class`. Where
 /// both are one bin and `gone` is its newest, `name` takes its place.
 #[inline(always)]
 pub(crate) fn exchange<NI: NodeIndex>(
-    tables: &mut Tables<NI>,
-    top_mask: &mut u32,
+    store: &mut Store<NI>,
     gone: u32,
     size: u32,
     name: u32,
     class: u32,
-    count: &mut Accesses,
 ) {
-    tables.shape();
-    let before = tables.newer(gone, count);
+    store.tables.shape();
+    let before = store.tables.newer(gone, &mut store.accesses);
     if number(before) == NI::MAX && class == uint_to_float_round_down(size) {
         // the bin is empty neither before nor after, so the masks stay
+        let Store {
+            tables,
+            accesses: count,
+            ..
+        } = store;
         let after = tables.older(gone, count);
         tables.set_head(class, name, count);
         tables.set_links(name, no_link(), after, count);
         link_newer(tables, after, link_to(name), count);
     } else {
-        leave(tables, top_mask, gone, before, size, count);
-        push(tables, top_mask, name, class, count);
+        leave(store, gone, before, size);
+        push(store, name, class);
     }
 }
 
 /// Pops the newest name of a bin.
-pub(crate) fn pop<NI: NodeIndex>(
-    tables: &mut Tables<NI>,
-    top_mask: &mut u32,
-    class: u32,
-    count: &mut Accesses,
-) -> u32 {
+pub(crate) fn pop<NI: NodeIndex>(store: &mut Store<NI>, class: u32) -> u32 {
+    let Store {
+        tables,
+        accesses: count,
+        ..
+    } = store;
     let name = tables.head(class, count);
     let after = tables.older(name, count);
-    behead(tables, top_mask, class, after, count);
+    behead(store, class, after);
     name
 }
 
@@ -203,11 +193,13 @@ pub(crate) fn start<NI: NodeIndex>(tables: &Tables<NI>) -> u32 {
 }
 
 /// Removes all names from all bins, whatever these hold, by one write for each.
-pub(crate) fn empty<NI: NodeIndex>(
-    tables: &mut Tables<NI>,
-    top_mask: &mut u32,
-    count: &mut Accesses,
-) {
+pub(crate) fn empty<NI: NodeIndex>(store: &mut Store<NI>) {
+    let Store {
+        tables,
+        top_mask,
+        accesses: count,
+        ..
+    } = store;
     tables.shape();
     for class in 0..256 {
         tables.set_head(class, NI::MAX, count);

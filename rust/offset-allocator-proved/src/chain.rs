@@ -5,6 +5,7 @@
 use crate::accesses::Accesses;
 use crate::index::{NodeIndex, link_to, linked, no_link, number};
 use crate::links::{point_back, point_on};
+use crate::store::Store;
 use crate::tables::Tables;
 
 /// Makes the whole space one free block, under the name of the only node.
@@ -93,15 +94,19 @@ pub(crate) fn ready_for<NI: NodeIndex>(
 /// Splits a block, of this offset and size, after `kept` units. The remainder becomes a free block directly after it,
 /// under the name that is returned.
 pub(crate) fn split<NI: NodeIndex>(
-    tables: &mut Tables<NI>,
-    last: &mut u32,
-    spare_count: &mut u32,
+    store: &mut Store<NI>,
     name: u32,
     offset: u32,
     size: u32,
     kept: u32,
-    count: &mut Accesses,
 ) -> u32 {
+    let Store {
+        tables,
+        last,
+        spare_count,
+        accesses: count,
+        ..
+    } = store;
     *spare_count -= 1;
     let rest = number(tables.spare(*spare_count, count));
     let next = tables.after(name, count);
@@ -116,14 +121,18 @@ pub(crate) fn split<NI: NodeIndex>(
 /// Coalesces the free block `following` into the block directly before it; `total` is the size of both. The name
 /// `following` is unused again.
 pub(crate) fn coalesce_after<NI: NodeIndex>(
-    tables: &mut Tables<NI>,
-    last: &mut u32,
-    spare_count: &mut u32,
+    store: &mut Store<NI>,
     name: u32,
     following: u32,
     total: u32,
-    count: &mut Accesses,
 ) {
+    let Store {
+        tables,
+        last,
+        spare_count,
+        accesses: count,
+        ..
+    } = store;
     tables.shape();
     let next = tables.after(following, count);
     tables.set_end(name, total, next, count);
@@ -135,13 +144,17 @@ pub(crate) fn coalesce_after<NI: NodeIndex>(
 /// Coalesces the free block `previous` into the block directly after it; `total` is the size of both. The name
 /// `previous` is unused again.
 pub(crate) fn coalesce_before<NI: NodeIndex>(
-    tables: &mut Tables<NI>,
-    spare_count: &mut u32,
+    store: &mut Store<NI>,
     previous: u32,
     name: u32,
     total: u32,
-    count: &mut Accesses,
 ) {
+    let Store {
+        tables,
+        spare_count,
+        accesses: count,
+        ..
+    } = store;
     tables.shape();
     let offset = tables.offset(previous, count);
     let link = tables.before(previous, count);
@@ -163,13 +176,13 @@ pub(crate) fn mark<NI: NodeIndex>(
 
 /// Splits the first `cut` units off a block. They become a free block directly before it, under the name that is
 /// returned.
-pub(crate) fn split_before<NI: NodeIndex>(
-    tables: &mut Tables<NI>,
-    spare_count: &mut u32,
-    name: u32,
-    cut: u32,
-    count: &mut Accesses,
-) -> u32 {
+pub(crate) fn split_before<NI: NodeIndex>(store: &mut Store<NI>, name: u32, cut: u32) -> u32 {
+    let Store {
+        tables,
+        spare_count,
+        accesses: count,
+        ..
+    } = store;
     *spare_count -= 1;
     let front = number(tables.spare(*spare_count, count));
     let offset = tables.offset(name, count);

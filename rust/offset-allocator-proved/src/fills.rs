@@ -19,8 +19,8 @@ fn table_bytes<NI: NodeIndex>(nodes: u32) -> usize {
     (8 + 5 * link) * nodes as usize
 }
 
-/// Requests the bytes of all tables at once, and gives them back at once. A system that promises more memory than it
-/// has would grant each table, and end the program when they are written; this one request it refuses.
+/// Allocates the bytes of all tables in one piece and frees them: a system that promises more memory than it has would
+/// grant each table, and end the program when they are written.
 pub(crate) fn probe<NI: NodeIndex>(alloc: Global, nodes: u32) -> Result<(), AllocError> {
     let _all: Vec<u8> = reserved(alloc, table_bytes::<NI>(nodes))?;
     Ok(())

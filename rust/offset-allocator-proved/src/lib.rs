@@ -5,7 +5,7 @@
 //!
 //! A *block* is a run of units, used (granted; its name is then live) or free; no two free blocks are neighbours. Each
 //! block has a *node* of the tables, whose index is the block's *name*. A *size class* is a range of sizes, and its
-//! *bin* the list of its free blocks, the one that became free last first.
+//! *bin* the list of its free blocks, most recently freed first.
 //!
 //! ```
 //! use offset_allocator_proved::*;
@@ -23,15 +23,16 @@
 #![warn(missing_docs)]
 #![expect(clippy::derivable_impls)] // an `impl Default` is where a contract says what the value is
 #![expect(clippy::manual_map)] // a `match` needs no closure, whose calls would need a proof
-#![expect(clippy::needless_range_loop)] // a loop over places is proved in few words
 #![expect(clippy::too_many_arguments)] // functions over the tables take the numbers that they change one by one
 #![expect(unused_variables)] // a parameter may be there for a contract only
 
 extern crate alloc;
 
 mod memory;
+mod traits;
 
 pub use memory::{AllocError, Global};
+pub use nonmax::IsMax;
 
 mod accesses;
 mod bins;
@@ -46,9 +47,8 @@ mod handle;
 mod index;
 pub mod laws;
 mod links;
-mod merge;
+mod neighbours;
 mod nonmax;
-mod parts;
 mod reports;
 mod resize;
 pub mod small_float;
@@ -90,29 +90,30 @@ impl<NI: NodeIndex> Allocator<NI> {
     /// A space of `size` units, all free, with `max_allocs` as the node limit: at most `max_allocs - 1` blocks exist at
     /// a time, free ones included. A request is granted only while at most `max_allocs - 2` exist, and makes one of
     /// them live: so at most `max_allocs - 2` grants are live. The limit is 2 to `NI::MAX - 2`: 65533 for `u16`,
-    /// 4294967293 for `u32`. It reserves 28 bytes a node with `u32`, 18 with `u16`, all of them here; those of a node are
-    /// written when its name is used for the first time.
+    /// 4294967293 for `u32`. It reserves 28 bytes a node with `u32`, 18 with `u16`, all of them here; those of a node
+    /// are written when its name is used for the first time.
     ///
     /// An error is returned only where an allocation failed; then nothing is made.
+    #[track_caller]
     pub fn with_max_allocs(alloc: Global, size: u32, max_allocs: u32) -> Result<Self, AllocError> {
         assert!(2 <= max_allocs, "max_allocs must be at least 2");
         assert!(max_allocs < NI::MAX - 1, "max_allocs must be at most NI::MAX - 2");
-        let mut tables = Tables::with_len(alloc, max_allocs)?;
-        let mut top_mask = bins::start(&tables);
-        let mut count = Accesses::new();
-        chain::start(&mut tables, size, max_allocs, &mut count);
-        steps::start(&mut tables, &mut top_mask, size, max_allocs, &mut count);
+        let tables = Tables::with_len(alloc, max_allocs)?;
+        let top_mask = bins::start(&tables);
+        let mut store = Store {
+            tables,
+            top_mask,
+            last: 0,
+            spare_count: 0,
+            accesses: Accesses::new(),
+        };
+        steps::start(&mut store, size, max_allocs);
+        store.accesses = Accesses::new();
         Ok(Allocator {
             size,
             max_allocs,
             free_total: size,
-            store: Store {
-                tables,
-                top_mask,
-                last: 0,
-                spare_count: 0,
-                accesses: Accesses::new(),
-            },
+            store,
         })
     }
 
@@ -152,9 +153,9 @@ impl<NI: NodeIndex> Allocator<NI> {
         self.block_count() == self.max_allocs - 1
     }
 
-    /// Grants a range of `size` units, and returns its handle. They are the first ones of a free block of the smallest
-    /// size class that has one and whose blocks are all large enough, and of those blocks the one that became free
-    /// last. What remains of the block stays free, directly after the range.
+    /// Grants a range of `size` units, and returns its handle. It takes the first `size` units of the most recently
+    /// freed block in the smallest non-empty size class whose blocks all fit; what remains of the block stays free,
+    /// directly after the range.
     ///
     /// `None` is returned where `max_allocs - 1` blocks exist, even for an exact fit, and where no free block is of
     /// such a class; then nothing changes. A request of at least one unit is granted exactly when it is at most the
@@ -170,8 +171,9 @@ impl<NI: NodeIndex> Allocator<NI> {
     /// The handle has to be live, which `is_live` reports. Only its name counts, and not its public `offset`: a stale
     /// handle whose name was granted again is live, and frees that range. It makes at most 128 accesses to the tables,
     /// and takes no memory.
+    #[track_caller]
     pub fn free(&mut self, allocation: Allocation<NI>) {
-        assert!(self.is_live(allocation), "the handle must be live");
+        assert!(self.is_live(allocation), "the handle must be live: {:?}", { allocation });
         self.release(index::number(NI::of_nonmax(allocation.name())));
     }
 
@@ -232,6 +234,7 @@ impl<NI: NodeIndex> Allocator<NI> {
     ///
     /// `align` has to be a power of two. If it is above 1, the request needs room for two more blocks, and a block for
     /// `size + align - 1` units. It makes at most 8 accesses to the tables.
+    #[track_caller]
     pub fn refusal_aligned(&self, size: u32, align: u32) -> Option<Refusal> {
         assert!(align.is_power_of_two(), "align must be a power of two");
         counted::refusal_aligned_counted(self, size, align, &mut Accesses::new())
@@ -244,6 +247,7 @@ impl<NI: NodeIndex> Allocator<NI> {
     /// align - 1` is above 4294967295, or if `align` is above 1 and there is no room for two more blocks, even if fewer
     /// would be added. Then nothing changes. With `align` 1 the call is `allocate(size)`. It makes at most 128 accesses
     /// to the tables, and takes no memory.
+    #[track_caller]
     pub fn allocate_aligned(&mut self, size: u32, align: u32) -> Option<Allocation<NI>> {
         assert!(align.is_power_of_two(), "align must be a power of two");
         self.serve(size, align)

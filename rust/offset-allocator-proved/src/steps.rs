@@ -1,29 +1,23 @@
 // Printed by rust/erase from crates/offset_allocator/src/steps.rt: change it there.
 
-//! The private methods that the public calls are made of, and two functions that they share. Each method leaves an
-//! allocator whose blocks and bins agree.
+//! The steps behind the public calls. Each method leaves an allocator whose blocks and bins agree.
 
 use crate::accesses::Accesses;
 use crate::handle::Allocation;
 use crate::index::NodeIndex;
 use crate::small_float::{uint_to_float_round_down, uint_to_float_round_up};
-use crate::tables::Tables;
-use crate::{Allocator, bins, chain, merge, parts};
+use crate::store::Store;
+use crate::{Allocator, bins, chain, neighbours};
 
 /// The handle of a name.
 pub(crate) fn handle_of<NI: NodeIndex>(offset: u32, name: u32) -> Allocation<NI> {
     Allocation::make(offset, NI::from_u32(name).to_name())
 }
 
-/// Pushes the only block, which is free, on its bin, where all bins are empty.
-pub(crate) fn start<NI: NodeIndex>(
-    tables: &mut Tables<NI>,
-    top_mask: &mut u32,
-    size: u32,
-    max_allocs: u32,
-    count: &mut Accesses,
-) {
-    bins::push(tables, top_mask, 0, uint_to_float_round_down(size), count);
+/// Makes the whole space one free block, alone in its bin, where all bins are empty and only node 0 is made.
+pub(crate) fn start<NI: NodeIndex>(store: &mut Store<NI>, size: u32, max_allocs: u32) {
+    chain::start(&mut store.tables, size, max_allocs, &mut store.accesses);
+    bins::push(store, 0, uint_to_float_round_down(size));
 }
 
 impl<NI: NodeIndex> Allocator<NI> {
@@ -50,24 +44,8 @@ impl<NI: NodeIndex> Allocator<NI> {
     #[inline(never)]
     pub(crate) fn clear(&mut self) {
         self.store.tables.clear();
-        bins::empty(
-            &mut self.store.tables,
-            &mut self.store.top_mask,
-            &mut self.store.accesses,
-        );
-        chain::start(
-            &mut self.store.tables,
-            self.size,
-            self.max_allocs,
-            &mut self.store.accesses,
-        );
-        start(
-            &mut self.store.tables,
-            &mut self.store.top_mask,
-            self.size,
-            self.max_allocs,
-            &mut self.store.accesses,
-        );
+        bins::empty(&mut self.store);
+        start(&mut self.store, self.size, self.max_allocs);
         self.free_total = self.size;
         self.store.spare_count = 0;
         self.store.last = 0;
@@ -93,17 +71,12 @@ impl<NI: NodeIndex> Allocator<NI> {
             align.min(2),
             &mut self.store.accesses,
         );
-        let name = bins::pop(
-            &mut self.store.tables,
-            &mut self.store.top_mask,
-            class,
-            &mut self.store.accesses,
-        );
+        let name = bins::pop(&mut self.store, class);
         let offset = chain::offset(&self.store.tables, name, &mut self.store.accesses);
         let whole = chain::size(&self.store.tables, name, &mut self.store.accesses);
         let padding = (align - offset % align) % align;
         let start = offset + padding;
-        parts::divide(
+        neighbours::divide(
             &mut self.store,
             name,
             start,
@@ -149,7 +122,7 @@ impl<NI: NodeIndex> Allocator<NI> {
             false,
             &mut self.store.accesses,
         );
-        merge::coalesce(&mut self.store, name, size);
+        neighbours::coalesce(&mut self.store, name, size);
     }
 
     /// Whether a name is that of a used block.
@@ -159,31 +132,11 @@ impl<NI: NodeIndex> Allocator<NI> {
 
     /// Adds units to the last block, which is free.
     pub(crate) fn widen(&mut self, more: u32) {
-        let whole = chain::size(
-            &self.store.tables,
-            self.store.last,
-            &mut self.store.accesses,
-        );
-        bins::remove(
-            &mut self.store.tables,
-            &mut self.store.top_mask,
-            self.store.last,
-            whole,
-            &mut self.store.accesses,
-        );
-        chain::grow(
-            &mut self.store.tables,
-            self.store.last,
-            more,
-            &mut self.store.accesses,
-        );
-        bins::push(
-            &mut self.store.tables,
-            &mut self.store.top_mask,
-            self.store.last,
-            uint_to_float_round_down(whole + more),
-            &mut self.store.accesses,
-        );
+        let end = self.store.last;
+        let size = chain::size(&self.store.tables, end, &mut self.store.accesses);
+        bins::remove(&mut self.store, end, size);
+        chain::grow(&mut self.store.tables, end, more, &mut self.store.accesses);
+        bins::push(&mut self.store, end, uint_to_float_round_down(size + more));
         self.size += more;
         self.free_total += more;
     }
@@ -199,29 +152,14 @@ impl<NI: NodeIndex> Allocator<NI> {
         let end = self.store.last;
         let offset = chain::offset(&self.store.tables, end, &mut self.store.accesses);
         let whole = chain::size(&self.store.tables, end, &mut self.store.accesses);
-        let name = chain::split(
-            &mut self.store.tables,
-            &mut self.store.last,
-            &mut self.store.spare_count,
-            end,
-            offset,
-            whole,
-            whole,
-            &mut self.store.accesses,
-        );
+        let name = chain::split(&mut self.store, end, offset, whole, whole);
         chain::grow(
             &mut self.store.tables,
             self.store.last,
             more,
             &mut self.store.accesses,
         );
-        bins::push(
-            &mut self.store.tables,
-            &mut self.store.top_mask,
-            name,
-            uint_to_float_round_down(more),
-            &mut self.store.accesses,
-        );
+        bins::push(&mut self.store, name, uint_to_float_round_down(more));
         self.size += more;
         self.free_total += more;
     }

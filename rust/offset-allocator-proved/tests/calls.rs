@@ -143,14 +143,33 @@ fn refusals() {
     // 4 blocks may exist; 100 units are of the class of 96
     let mut a = space(100, 5);
     assert_eq!((a.size(), a.max_allocs(), a.block_count(), a.is_full()), (100, 5, 1, false));
-    assert_eq!((a.refusal(96), a.refusal(97), a.refusal(101)), (None, Some(Refusal::Fragmented), Some(Refusal::Space)));
+    assert_eq!((a.refusal(96), a.refusal(97), a.refusal(101)), (None, Some(Refusal::TooLarge), Some(Refusal::TooLarge)));
     // with 31 units more for the alignment
-    assert_eq!((a.refusal_aligned(65, 32), a.refusal_aligned(66, 32)), (None, Some(Refusal::Fragmented)));
+    assert_eq!((a.refusal_aligned(65, 32), a.refusal_aligned(66, 32)), (None, Some(Refusal::TooLarge)));
     a.allocate(1).unwrap();
     a.allocate(1).unwrap();
     assert_eq!((a.refusal(1), a.refusal_aligned(1, 1), a.refusal_aligned(1, 2)), (None, None, Some(Refusal::Nodes)));
     a.allocate(1).unwrap();
     assert_eq!((a.block_count(), a.is_full(), a.refusal(0), a.refusal(1)), (4, true, Some(Refusal::Nodes), Some(Refusal::Nodes)));
+}
+
+#[test]
+fn a_fragmented_request_fits_after_one_compaction() {
+    // free pieces of 24, 1 and 23 units: 48 in all
+    let mut a = space(96, 16);
+    let first = a.allocate(24).unwrap();
+    a.allocate(24).unwrap();
+    let third = a.allocate(1).unwrap();
+    a.allocate(24).unwrap();
+    a.free(first);
+    a.free(third);
+    assert_eq!((a.refusal(24), a.refusal(25), a.refusal(48)), (None, Some(Refusal::Fragmented), Some(Refusal::Fragmented)));
+    assert_eq!((a.refusal(49), a.refusal(96), a.refusal(97)), (Some(Refusal::Space), Some(Refusal::Space), Some(Refusal::TooLarge)));
+    assert_eq!((a.refusal_aligned(33, 16), a.refusal_aligned(34, 16)), (Some(Refusal::Fragmented), Some(Refusal::Space)));
+    a.compact(&mut |_| ());
+    assert_eq!((a.refusal(48), a.refusal(49), a.refusal_aligned(33, 16)), (None, Some(Refusal::Space), None));
+    // nothing is fragmented in a fresh space, so compaction is not advised
+    assert_eq!(space(u32::MAX, 16).refusal(4_026_531_841), Some(Refusal::TooLarge));
 }
 
 #[test]
@@ -191,7 +210,7 @@ fn the_calls_of_laws_change_nothing() {
     assert_eq!(laws::next_block_counted(&mut a.blocks(), &mut count).unwrap().offset, 10);
     assert_eq!(laws::storage_report_counted(&a, &mut count).total_free_space, 90);
     // 90 units are of the class of 88
-    assert_eq!((laws::refusal_counted(&a, 88, &mut count), laws::refusal_counted(&a, 89, &mut count)), (None, Some(Refusal::Fragmented)));
+    assert_eq!((laws::refusal_counted(&a, 88, &mut count), laws::refusal_counted(&a, 89, &mut count)), (None, Some(Refusal::Space)));
     assert_eq!(laws::refusal_aligned_counted(&a, 85, 8, &mut count), Some(Refusal::Space));
     assert_eq!(laws::storage_report_full_counted(&a, &mut count).free_regions[35].count, 1);
     assert!(laws::undo(&mut a, 88));

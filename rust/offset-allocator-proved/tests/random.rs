@@ -138,7 +138,7 @@ impl<NI: NodeIndex> Pair<NI> {
                 let other = if random.below(2) == 0 { random.any() } else { size.saturating_add(random.below(9)).saturating_sub(random.below(9)) };
                 for grows in [false, true] {
                     let resize = || if grows { self.space.grow_in_place(handle, other) } else { self.space.shrink(handle, other) };
-                    if expect(result(resize), is_live, "the handle must be live") == Some(true) {
+                    if expect(result(resize), is_live, &format!("the handle must be live: {handle:?}")) == Some(true) {
                         let live = &self.space;
                         self.live.iter_mut().for_each(|(handle, size)| *size = live.allocation_size(*handle));
                     }
@@ -146,7 +146,7 @@ impl<NI: NodeIndex> Pair<NI> {
                 let size = self.space.allocation_size(handle);
                 let before = self.space.storage_report_full().free_regions.map(|region| region.count);
                 let found = result(|| self.space.free(handle));
-                if expect(found, is_live, "the handle must be live").is_some() {
+                if expect(found, is_live, &format!("the handle must be live: {handle:?}")).is_some() {
                     assert!(!self.space.is_live(handle));
                     let live = &self.space;
                     let there = self.live.len();

@@ -7,7 +7,7 @@ use std::collections::{BTreeMap, VecDeque};
 /// The number of frames in flight.
 const IN_FLIGHT: usize = 3;
 const FRAMES: u32 = 1_000;
-const BUFFER: u32 = 1 << 20;
+const BUFFER: u32 = 1 << 22;
 
 struct Frame {
     number: u32,
@@ -19,7 +19,7 @@ fn main() {
     let mut frames = VecDeque::new();
     // the live ranges by their first byte: the first byte after each, and its frame
     let mut live = BTreeMap::new();
-    let mut refused = 0;
+    let mut granted = 0;
     let mut random = 7u32;
     for number in 0..FRAMES {
         if frames.len() == IN_FLIGHT {
@@ -34,19 +34,16 @@ fn main() {
         for _ in 0..number % 200 {
             random = random.wrapping_mul(1_664_525).wrapping_add(1_013_904_223);
             let bytes = 64 + (random >> 24) * 16;
-            match space.allocate(bytes) {
-                None => refused += 1,
-                Some(range) => {
-                    let end = range.offset + bytes;
-                    assert!(end <= BUFFER);
-                    let before = live.range(..range.offset).next_back();
-                    assert!(before.map_or(true, |(_, (end, _))| *end <= range.offset), "in the range before");
-                    let after = live.range(range.offset..).next();
-                    assert!(after.map_or(true, |(start, _)| end <= *start), "in the range after");
-                    live.insert(range.offset, (end, number));
-                    frame.ranges.push(range);
-                }
-            }
+            let range = space.allocate(bytes).expect("the buffer has room for the frames in flight");
+            let end = range.offset + bytes;
+            assert!(end <= BUFFER);
+            let before = live.range(..range.offset).next_back();
+            assert!(before.map_or(true, |(_, (end, _))| *end <= range.offset), "in the range before");
+            let after = live.range(range.offset..).next();
+            assert!(after.map_or(true, |(start, _)| end <= *start), "in the range after");
+            live.insert(range.offset, (end, number));
+            frame.ranges.push(range);
+            granted += 1;
         }
         frames.push_back(frame);
     }
@@ -55,5 +52,5 @@ fn main() {
     }
     let report = space.storage_report();
     assert_eq!((report.total_free_space, report.largest_free_region), (BUFFER, BUFFER));
-    println!("{FRAMES} frames, {IN_FLIGHT} in flight, {refused} requests refused, no two ranges met");
+    println!("{FRAMES} frames, {IN_FLIGHT} in flight: all {granted} ranges granted, and no two met");
 }

@@ -1,7 +1,6 @@
 //! The index types of the original, as index types of the proved library.
 
 use core::fmt::{self, Debug, Display};
-use core::num::{NonZeroU16, NonZeroU32};
 
 use offset_allocator_proved as proved;
 
@@ -34,8 +33,14 @@ pub trait NodeIndexNonMax: Clone + Copy + PartialEq + Default + Debug + Display 
 pub struct Index<NI>(NI);
 
 /// A name of the proved library.
-#[derive(Clone, Copy, Default, PartialEq, Debug)]
+#[derive(Clone, Copy, Default, PartialEq)]
 pub struct Name<N>(N);
+
+impl<N: Debug> Debug for Name<N> {
+    fn fmt(&self, f: &mut fmt::Formatter<'_>) -> fmt::Result {
+        Debug::fmt(&self.0, f)
+    }
+}
 
 impl<N: Display> Display for Name<N> {
     fn fmt(&self, f: &mut fmt::Formatter<'_>) -> fmt::Result {
@@ -76,55 +81,16 @@ impl<NI: NodeIndex> proved::NodeIndex for Index<NI> {
     }
 }
 
-macro_rules! index { ($int:ident, $nonmax:ident, $nonzero:ident) => {
-    // stored with all bits inverted, which is never 0, so that an `Option` of it takes no more bytes
-    #[doc = concat!("The numbers of a `", stringify!($int), "` except the largest.")]
-    #[derive(Clone, Copy, PartialEq, Eq)]
-    pub struct $nonmax($nonzero);
-
-    impl Default for $nonmax {
-        fn default() -> Self {
-            $nonmax($nonzero::MAX)
-        }
-    }
-
-    impl Debug for $nonmax {
-        fn fmt(&self, f: &mut fmt::Formatter<'_>) -> fmt::Result {
-            Debug::fmt(&$int::from(*self), f)
-        }
-    }
-
-    impl Display for $nonmax {
-        fn fmt(&self, f: &mut fmt::Formatter<'_>) -> fmt::Result {
-            Display::fmt(&$int::from(*self), f)
-        }
-    }
-
-    impl From<$nonmax> for $int {
-        #[inline]
-        fn from(name: $nonmax) -> $int {
-            !name.0.get()
-        }
-    }
-
-    impl TryFrom<$int> for $nonmax {
-        type Error = IsMax;
-
-        #[inline]
-        fn try_from(number: $int) -> Result<Self, IsMax> {
-            $nonzero::new(!number).map($nonmax).ok_or(IsMax)
-        }
-    }
-
-    impl NodeIndexNonMax for $nonmax {
+macro_rules! index { ($int:ident, $nonmax:ident) => {
+    impl NodeIndexNonMax for proved::$nonmax {
         #[inline]
         fn to_usize(self) -> usize {
-            $int::from(self) as usize
+            self.get() as usize
         }
     }
 
     impl NodeIndex for $int {
-        type NonMax = $nonmax;
+        type NonMax = proved::$nonmax;
 
         const MAX: u32 = $int::MAX as u32;
 
@@ -140,17 +106,5 @@ macro_rules! index { ($int:ident, $nonmax:ident, $nonzero:ident) => {
     }
 } }
 
-/// The error of a conversion from the largest number, which names no node.
-#[derive(Clone, Copy, Debug, PartialEq, Eq)]
-pub struct IsMax;
-
-impl Display for IsMax {
-    fn fmt(&self, f: &mut fmt::Formatter<'_>) -> fmt::Result {
-        f.write_str("the largest number is no index")
-    }
-}
-
-impl core::error::Error for IsMax {}
-
-index!(u32, NonMaxU32, NonZeroU32);
-index!(u16, NonMaxU16, NonZeroU16);
+index!(u32, NonMaxU32);
+index!(u16, NonMaxU16);

@@ -12,7 +12,7 @@ mod index;
 
 use index::Index;
 pub use index::{NodeIndex, NodeIndexNonMax};
-pub use offset_allocator_proved::{StorageReport, StorageReportFull, StorageReportFullRegion};
+pub use offset_allocator_proved::{IsMax, NonMaxU16, NonMaxU32, StorageReport, StorageReportFull, StorageReportFullRegion};
 
 /// One space of units, and its allocations.
 pub struct Allocator<NI = u32>
@@ -30,7 +30,7 @@ where
 {
     /// The place of the first unit, in the index type: a `u16` has its low 16 bits.
     pub offset: NI,
-    proved: offset_allocator_proved::Allocation<Index<NI>>,
+    name: NI::NonMax,
 }
 
 impl<NI> Allocation<NI>
@@ -38,7 +38,20 @@ where
     NI: NodeIndex,
 {
     fn of(proved: offset_allocator_proved::Allocation<Index<NI>>) -> Self {
-        Allocation { offset: NI::from_u32(proved.offset), proved }
+        let (offset, name) = proved.to_parts();
+        match NI::NonMax::try_from(NI::from_u32(name)) {
+            Ok(name) => Allocation { offset: NI::from_u32(offset), name },
+            Err(_) => panic!("an index type that keeps no name"),
+        }
+    }
+
+    // Only the name counts in the calls below; the offset is for the message of a panic.
+    fn proved(self) -> offset_allocator_proved::Allocation<Index<NI>> {
+        let name = self.name.to_usize() as u32;
+        match offset_allocator_proved::Allocation::from_parts(self.offset.to_usize() as u32, name) {
+            Some(proved) => proved,
+            None => panic!("an index type that keeps no name"),
+        }
     }
 }
 
@@ -51,6 +64,7 @@ where
     /// # Panics
     ///
     /// Where an allocation of the tables fails.
+    #[track_caller]
     pub fn new(size: u32) -> Self {
         Allocator::with_max_allocs(size, u32::min(128 * 1024, NI::MAX - 2))
     }
@@ -60,6 +74,7 @@ where
     /// # Panics
     ///
     /// Where `max_allocs` is below 2, or not below `NI::MAX - 1`, and where an allocation of the tables fails.
+    #[track_caller]
     pub fn with_max_allocs(size: u32, max_allocs: u32) -> Self {
         match offset_allocator_proved::Allocator::with_max_allocs(Global, size, max_allocs) {
             Ok(proved) => Allocator { proved },
@@ -83,13 +98,14 @@ where
     ///
     /// Where the node of the allocation is not in use here: it was freed, or a reset freed it. A stale allocation, or one
     /// of another allocator, whose node is in use here cannot be distinguished from the live one, and frees that one.
+    #[track_caller]
     pub fn free(&mut self, allocation: Allocation<NI>) {
-        self.proved.free(allocation.proved);
+        self.proved.free(allocation.proved());
     }
 
     /// Returns the units of an allocated range, exactly as requested, or 0 where the allocation is not live.
     pub fn allocation_size(&self, allocation: Allocation<NI>) -> u32 {
-        self.proved.allocation_size(allocation.proved)
+        self.proved.allocation_size(allocation.proved())
     }
 
     /// Returns the total of free units, and the largest request that would be granted. Both are 0 where no node is

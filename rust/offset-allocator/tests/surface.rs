@@ -72,6 +72,25 @@ fn sizes() {
 }
 
 #[test]
+fn handles_are_as_small_as_the_originals() {
+    use std::mem::size_of;
+    assert_eq!((size_of::<Allocation>(), size_of::<Option<Allocation>>()), (8, 8));
+    assert_eq!((size_of::<Allocation<u16>>(), size_of::<Option<Allocation<u16>>>()), (4, 4));
+}
+
+#[test]
+fn only_the_name_counts() {
+    let mut a = Allocator::<u16>::with_max_allocs(1 << 20, 16);
+    let first = a.allocate(70_000).unwrap();
+    let mut second = a.allocate(10).unwrap();
+    assert_eq!(second.offset, 4_464);
+    second.offset = 0;
+    assert_eq!((a.allocation_size(second), a.allocation_size(first)), (10, 70_000));
+    a.free(second);
+    assert_eq!((a.allocation_size(second), a.allocation_size(first)), (0, 70_000));
+}
+
+#[test]
 fn a_narrow_offset_is_cut() {
     let mut a = Allocator::<u16>::with_max_allocs(1 << 20, 16);
     a.allocate(65_536).unwrap();
@@ -98,7 +117,7 @@ fn too_many_nodes() {
 }
 
 #[test]
-#[should_panic(expected = "the handle must be live")]
+#[should_panic(expected = "the handle must be live: Allocation { offset: 0, metadata: 0 }")]
 fn freed_twice() {
     let mut a: Allocator = Allocator::new(10);
     let h = a.allocate(1).unwrap();

@@ -89,6 +89,7 @@ impl<W: Write> IntoWrite<W> {
 
 impl<W: Write> Sink for IntoWrite<W> {
     #[inline]
+    #[track_caller]
     fn push(&mut self, bytes: &[u8]) -> Option<usize> {
         assert!(!bytes.is_empty(), "at least one byte must be pushed");
         self.flushed = false;

@@ -20,6 +20,7 @@ fn is_skipped(line: &[u8]) -> bool {
 
 impl<'a> Lines<'a> {
     /// All lines of a text.
+    #[track_caller]
     pub fn of(text: &'a [u8]) -> Self {
         assert!(text.len() < u32::MAX as usize, "a text must be shorter than 4294967295 bytes");
         Lines {

@@ -21,6 +21,7 @@ pub struct Player<NI: NodeIndex> {
 
 impl<NI: NodeIndex> Player<NI> {
     /// A fresh space, and no grants. The limit has to be 2 to `NI::MAX - 2`. It fails only where an allocation fails.
+    #[track_caller]
     pub fn start(alloc: Global, size: u32, max_allocs: u32) -> Result<Self, AllocError> {
         assert!(2 <= max_allocs, "max_allocs must be at least 2");
         assert!(max_allocs < NI::MAX - 1, "max_allocs must be at most NI::MAX - 2");
@@ -132,6 +133,7 @@ impl<NI: NodeIndex> Player<NI> {
 
     /// The answer to one command. The alignment of a request has to be a power of two. It fails only where an
     /// allocation fails.
+    #[track_caller]
     pub fn call(&mut self, alloc: Global, command: Command) -> Result<Answer, AllocError> {
         assert!(!matches!(command, Command::Align(_, align) if !align.is_power_of_two()), "an alignment must be a power of two");
         match command {
@@ -152,6 +154,7 @@ impl<NI: NodeIndex> Player<NI> {
 ///
 /// The limit has to be 2 to `NI::MAX - 2`, and each alignment a power of two. All answers are kept in memory. It fails
 /// only where an allocation fails: of the allocator's tables, of the list of handles, or of the answers.
+#[track_caller]
 pub fn play<NI: NodeIndex>(
     alloc: Global,
     size: u32,

@@ -120,7 +120,7 @@ fn checksum<NI: NodeIndex>(
 }
 
 // The C library keeps a freed block of up to 1,032 bytes for requests of its size. With this many nodes the use flags,
-// a byte each, take more. With fewer, two kept blocks, the flags and the heads of the free lists, would split the
+// a byte each, take more. With fewer, two kept blocks, the flags and the heads of the bins, would split the
 // memory in which the next allocator is made.
 const NODES: u32 = 2_000;
 

@@ -93,6 +93,7 @@ fn names_and_reasons_have_a_text(rt: HostRuntime) {
     }
     for (reason, wanted) in [
         (Refusal::Nodes, "Nodes"),
+        (Refusal::TooLarge, "TooLarge"),
         (Refusal::Space, "Space"),
         (Refusal::Fragmented, "Fragmented"),
     ] {

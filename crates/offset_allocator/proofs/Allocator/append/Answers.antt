@@ -39,7 +39,7 @@ pub push-requires-clause-classed : goal.push-requires-clause-classed
 push-requires-clause-classed g c = omega (arith, down_small c.args.more, c.uint_to_float_round_down.ensures.is)
 
 pub push-requires-clause-held : goal.push-requires-clause-held
-push-requires-clause-held g c = rw (c.grow.ensures.links, c.split-name.ensures.links) (c.ready.ensures.readies.bins _ c.self.invariant.bins).0
+push-requires-clause-held g c = rw (c.grow.ensures.links, c.split-name.ensures.bins.0, c.split-name.ensures.bins.1) (c.ready.ensures.readies.bins _ c.self.invariant.bins).0
 
 pub push-requires-clause-idle : goal.push-requires-clause-idle
 push-requires-clause-idle g c =
@@ -51,23 +51,23 @@ push-requires-clause-idle g c =
 pub push-requires-clause-unlisted : goal.push-requires-clause-unlisted
 push-requires-clause-unlisted g c =
     let r = pre g (goal.at.push-requires-clause-unlisted g c).After-ready in
-    rw (c.grow.ensures.links, c.split-name.ensures.links) (append_unlisted r c.split-name.result (c.split-name.ensures.fresh _ _ (end_held r refl)))
+    rw (c.grow.ensures.links, c.split-name.ensures.bins.0) (append_unlisted r c.split-name.result (c.split-name.ensures.fresh _ _ (end_held r refl)))
 
 pub overflow_add-self-2 : goal.overflow_add-self-2
 overflow_add-self-2 g c = omega (arith, free_fits (pre g (goal.at.overflow_add-self-2 g c).After-ready))
 
-done : (g : Over) (c : After-push g) (r : Growth (with_made (fields_of g.NI.NodeIndex.MAX c.self.inside) c.ready.new.tables c.ready.new.spare_count) c.args.more true) (k : ℕ) → Grown r c.push.new.tables c.split-name.new.last c.split-name.new.spare_count c.push.new.top_mask k
+done : (g : Over) (c : After-push g) (r : Growth (with_made (fields_of g.NI.NodeIndex.MAX c.self.inside) c.ready.new.tables c.ready.new.spare_count) c.args.more true) (k : ℕ) → Grown r c.push.new.store.tables c.push.new.store.last c.push.new.store.spare_count c.push.new.store.top_mask k
 done g c r k =
     let held = end_held r refl in
     let grown = c.grow.ensures.place _ _ _ _ (last_place _ _ _ (c.split-name.ensures.place _ _ held)) in
-    appended r c.push.new.tables k (rw (← (made_shown (fields_of g.NI.NodeIndex.MAX c.self.inside) c.self.invariant c.ready.ensures.readies ∙ c.self.view_is)) at c.requires.enough) c.size-whole.ensures.size (rw c.push.ensures.room grown.chain) c.push.ensures.held
-    (rw (c.grow.ensures.links, c.split-name.ensures.links, c.uint_to_float_round_down.ensures.is) at c.push.ensures.lists) (c.split-name.ensures.fresh _ _ held) c.split-name.ensures.below
+    rw (c.push.ensures.chain.1, c.push.ensures.chain.2) (appended r c.push.new.store.tables k (rw (← (made_shown (fields_of g.NI.NodeIndex.MAX c.self.inside) c.self.invariant c.ready.ensures.readies ∙ c.self.view_is)) at c.requires.enough) c.size-whole.ensures.size (rw c.push.ensures.chain.0 grown.chain) c.push.ensures.held
+    (rw (c.grow.ensures.links, c.split-name.ensures.bins.0, c.uint_to_float_round_down.ensures.is) at c.push.ensures.lists) (c.split-name.ensures.fresh _ _ held) c.split-name.ensures.below)
 
 pub invariant_of-self : goal.invariant_of-self
 invariant_of-self g c = let at = goal.at.invariant_of-self g c in (done g at.After-push (pre g at.After-ready) 0).0
 
 pub returns-clause-step : goal.returns-clause-step
-returns-clause-step g c = let at = goal.at.returns-clause-step g c in rw (← (made_shown (fields_of g.NI.NodeIndex.MAX c.self.inside) c.self.invariant c.ready.ensures.readies ∙ c.self.view_is)) (done g at.After-push (pre g at.After-ready) c.push.new.count).1
+returns-clause-step g c = let at = goal.at.returns-clause-step g c in rw (← (made_shown (fields_of g.NI.NodeIndex.MAX c.self.inside) c.self.invariant c.ready.ensures.readies ∙ c.self.view_is)) (done g at.After-push (pre g at.After-ready) c.push.new.store.accesses).1
 
 pub returns-clause-kept : goal.returns-clause-kept
-returns-clause-kept g c = let at = goal.at.returns-clause-kept g c in rw (← (made_shown (fields_of g.NI.NodeIndex.MAX c.self.inside) c.self.invariant c.ready.ensures.readies ∙ c.self.view_is)) (done g at.After-push (pre g at.After-ready) c.push.new.count).2
+returns-clause-kept g c = let at = goal.at.returns-clause-kept g c in rw (← (made_shown (fields_of g.NI.NodeIndex.MAX c.self.inside) c.self.invariant c.ready.ensures.readies ∙ c.self.view_is)) (done g at.After-push (pre g at.After-ready) c.push.new.store.accesses).2

@@ -6,9 +6,9 @@ use Rattle.offset_allocator.proofs.Allocator.clear.Goals as goal
 
 pub returns-clause-step : goal.returns-clause-step
 returns-clause-step g c =
-    let left : View = view_of g.NI.NodeIndex.MAX c.self.inside.size c.self.inside.max_allocs c.start-2.new.tables 0 c.start-2.new.count in
+    let left : View = view_of g.NI.NodeIndex.MAX c.self.inside.size c.self.inside.max_allocs c.start.new.store.tables 0 c.start.new.store.accesses in
     subst (λ (v : View). Resets v left) c.self.view_is (record {
       name = 0;
       below = omega (arith, c.self.invariant.well.room);
-      view = ap (λ (v : View). record v { accesses = c.start-2.new.count }) c.start-2.ensures.started.view;
+      view = ap (λ (v : View). record v { accesses = c.start.new.store.accesses }) c.start.ensures.started.view;
     })

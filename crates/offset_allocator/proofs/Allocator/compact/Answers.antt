@@ -6,7 +6,7 @@ use Rattle.offset_allocator.specs.Space.{blocks}
 use Rattle.offset_allocator.specs.Compacting.{live, moves, KeepsSizes, Compacts}
 use Rattle.offset_allocator.proofs.Sound.{AreSound, Fields, shown, fields_of, known_sound}
 use Rattle.offset_allocator.proofs.Packed.{compacts_sizes}
-use Rattle.offset_allocator.proofs.Places.{at_place}
+use Rattle.offset_allocator.proofs.Places.{at_place, kept_place}
 use Rattle.offset_allocator.proofs.Classes.{down_small}
 use Rattle.offset_allocator.proofs.Compacting.{IsFirst, first_is, packed, compacts_live, first_held, packs, stays_packed}
 use Rattle.offset_allocator.proofs.Fresh.{empty_unlisted}
@@ -35,7 +35,7 @@ pub slide-hole-requires-clause-place : goal.slide-hole-requires-clause-place
 slide-hole-requires-clause-place g c =
     let f : Fields = fields_of g.NI.NodeIndex.MAX c.self.inside in
     let o = first_is _ _ (sym c.first_free.ensures.first ∙ c.in-Some.is) in
-    (_, _, first_held f c.self.invariant o c.empty.ensures.room, o.idle)
+    (_, _, kept_place c.empty.ensures.chain (first_held f c.self.invariant o refl), o.idle)
 
 first : (g : Over) (c : After-slide-hole g) → IsFirst (blocks c.self.inside.store.tables.room c.self.inside.store.last) c.in-Some.first
 first g c = first_is _ _ (sym c.first_free.ensures.first ∙ c.in-Some.is)
@@ -44,41 +44,41 @@ pub push-requires-clause-named : goal.push-requires-clause-named
 push-requires-clause-named g c =
     let f : Fields = fields_of g.NI.NodeIndex.MAX c.self.inside in
     let o = first g (goal.at.push-requires-clause-named g c).After-slide-hole in
-    let e = c.slide-hole.ensures.place _ _ (first_held f c.self.invariant o c.empty.ensures.room) o.idle in
+    let e = c.slide-hole.ensures.place _ _ (kept_place c.empty.ensures.chain (first_held f c.self.invariant o refl)) o.idle in
     e.0.below
 
 pub push-requires-clause-idle : goal.push-requires-clause-idle
 push-requires-clause-idle g c =
     let f : Fields = fields_of g.NI.NodeIndex.MAX c.self.inside in
     let o = first g (goal.at.push-requires-clause-idle g c).After-slide-hole in
-    let e = c.slide-hole.ensures.place _ _ (first_held f c.self.invariant o c.empty.ensures.room) o.idle in
+    let e = c.slide-hole.ensures.place _ _ (kept_place c.empty.ensures.chain (first_held f c.self.invariant o refl)) o.idle in
     ap (λ (v : Node). v.used) (at_place e.0)
 
 pub push-requires-clause-classed : goal.push-requires-clause-classed
 push-requires-clause-classed g c = omega (arith, down_small c.slide-hole.result.1, c.uint_to_float_round_down.ensures.is)
 
 pub push-requires-clause-held : goal.push-requires-clause-held
-push-requires-clause-held g c = rw (c.slide-hole.ensures.links, c.slide-hole.ensures.mask) c.empty.ensures.held
+push-requires-clause-held g c = rw (c.slide-hole.ensures.bins.0, c.slide-hole.ensures.bins.1) c.empty.ensures.held
 
 pub push-requires-clause-unlisted : goal.push-requires-clause-unlisted
-push-requires-clause-unlisted g c = empty_unlisted c.slide-hole.result.0 (ap (λ (k : Links). class_lists g.NI.NodeIndex.MAX k) c.slide-hole.ensures.links ∙ c.empty.ensures.lists)
+push-requires-clause-unlisted g c = empty_unlisted c.slide-hole.result.0 (ap (λ (k : Links). class_lists g.NI.NodeIndex.MAX k) c.slide-hole.ensures.bins.0 ∙ c.empty.ensures.lists)
 
 -- the fields that are left, and what they show
-done : (g : Over) (c : After-push g) (k : ℕ) (f : Fields) → f ≡ record (fields_of g.NI.NodeIndex.MAX c.self.inside) { cells = c.push.new.tables; last = c.slide-hole.new.store.last; count = c.slide-hole.new.store.spare_count; top = c.push.new.top_mask; accesses = k }
+done : (g : Over) (c : After-push g) (k : ℕ) (f : Fields) → f ≡ record (fields_of g.NI.NodeIndex.MAX c.self.inside) { cells = c.push.new.store.tables; last = c.push.new.store.last; count = c.push.new.store.spare_count; top = c.push.new.store.top_mask; accesses = k }
     → AreSound f × Compacts (shown (fields_of g.NI.NodeIndex.MAX c.self.inside)) (shown f)
 done g c k f is =
     let old : Fields = fields_of g.NI.NodeIndex.MAX c.self.inside in
     let o : IsFirst (blocks c.self.inside.store.tables.room c.self.inside.store.last) c.in-Some.first = first_is _ _ (sym c.first_free.ensures.first ∙ c.in-Some.is) in
-    let e = c.slide-hole.ensures.place _ _ (first_held old c.self.invariant o c.empty.ensures.room) o.idle in
-    let empty : class_lists g.NI.NodeIndex.MAX c.slide-hole.new.store.tables.links ≡ replicate 256 [] = ap (λ (k : Links). class_lists g.NI.NodeIndex.MAX k) c.slide-hole.ensures.links ∙ c.empty.ensures.lists in
-    rw is (packs old c.self.invariant o c.push.new.tables _ _ c.slide-hole.result.0 c.slide-hole.result.1 (rw c.push.ensures.room e.0) e.1 {accesses = k} c.push.ensures.held (rw (c.uint_to_float_round_down.ensures.is, empty) at c.push.ensures.lists))
+    let e = c.slide-hole.ensures.place _ _ (kept_place c.empty.ensures.chain (first_held old c.self.invariant o refl)) o.idle in
+    let empty : class_lists g.NI.NodeIndex.MAX c.slide-hole.new.store.tables.links ≡ replicate 256 [] = ap (λ (k : Links). class_lists g.NI.NodeIndex.MAX k) c.slide-hole.ensures.bins.0 ∙ c.empty.ensures.lists in
+    rw is (packs old c.self.invariant o c.push.new.store.tables _ _ c.slide-hole.result.0 c.slide-hole.result.1 (kept_place c.push.ensures.chain e.0) e.1 {accesses = k} c.push.ensures.held (rw (c.uint_to_float_round_down.ensures.is, empty) at c.push.ensures.lists))
 
 pub invariant_of-self-2 : goal.invariant_of-self-2
 invariant_of-self-2 g c = (done g (goal.at.invariant_of-self-2 g c).After-push 0 _ refl).0
 
 pub returns-clause-live : goal.returns-clause-live
 returns-clause-live g c =
-    let P : View → Type 0 = λ u. live (blocks c.push.new.tables.room c.slide-hole.new.store.last) ≡ live u.blocks in
+    let P : View → Type 0 = λ u. live (blocks c.push.new.store.tables.room c.push.new.store.last) ≡ live u.blocks in
     subst P c.self.view_is (compacts_live _ _ (done g (goal.at.returns-clause-live g c).After-push 0 _ refl).1)
 
 pub returns-clause-moved : goal.returns-clause-moved
@@ -86,39 +86,35 @@ returns-clause-moved g c =
     let f : Fields = fields_of g.NI.NodeIndex.MAX c.self.inside in
     let o : IsFirst (blocks c.self.inside.store.tables.room c.self.inside.store.last) c.in-Some.first = first_is _ _ (sym c.first_free.ensures.first ∙ c.in-Some.is) in
     let p : Place = o.place in
-    let e = c.slide-hole.ensures.place _ _ (first_held f c.self.invariant o c.empty.ensures.room) o.idle in
+    let e = c.slide-hole.ensures.place _ _ (kept_place c.empty.ensures.chain (first_held f c.self.invariant o refl)) o.idle in
     let from : 0 + (units p.before + p.block.size) ≡ units p.before + p.block.size = omega arith in
     let to : 0 + units p.before ≡ units p.before = omega arith in
     let same : moves 0 0 c.args.self.now.blocks ≡ moves (units p.before + p.block.size) (units p.before) p.after = ap (λ (u : View). moves 0 0 u.blocks) (sym c.self.view_is) ∙ o.moves 0 ∙ ap₂ (λ j k. moves j k p.after) from to in
     rw same e.2
 
-pub returns-clause-accesses_max : goal.returns-clause-accesses_max
-returns-clause-accesses_max g c =
+pub returns-clause-accesses : goal.returns-clause-accesses
+returns-clause-accesses g c =
     let f : Fields = fields_of g.NI.NodeIndex.MAX c.self.inside in
     let o : IsFirst (blocks c.self.inside.store.tables.room c.self.inside.store.last) c.in-Some.first = first_is _ _ (sym c.first_free.ensures.first ∙ c.in-Some.is) in
     let p : Place = o.place in
-    let e = c.slide-hole.ensures.place _ _ (first_held f c.self.invariant o c.empty.ensures.room) o.idle in
+    let e = c.slide-hole.ensures.place _ _ (kept_place c.empty.ensures.chain (first_held f c.self.invariant o refl)) o.idle in
     let long : length (blocks c.self.inside.store.tables.room c.self.inside.store.last) ≡ length p.before + suc (length p.after) = ap (λ (l : List Block). length l) o.is ∙ length-append p.before (p.block ∷ p.after) in
     let same : length (blocks c.self.inside.store.tables.room c.self.inside.store.last) ≡ length c.args.self.now.blocks = ap (λ (u : View). length u.blocks) c.self.view_is in
-    let counted : c.self.inside.store.accesses ≡ c.args.self.now.accesses = ap (λ (u : View). u.accesses) c.self.view_is in
-    omega (arith, e.3, long, same, counted, c.first_free.ensures.accesses, c.size-units.ensures.accesses, c.empty.ensures.accesses, c.push.ensures.accesses_max)
+    let counted : c.self.inside.store.accesses ≡ c.args.self.now.accesses = ap (λ (u : View). u.accesses) c.self.view_is in (
+      omega (arith, same, counted, c.first_free.ensures.accesses, c.size-units.ensures.accesses, c.empty.ensures.accesses, c.slide-hole.ensures.accesses_min, c.push.ensures.accesses.0),
+      omega (arith, e.3, long, same, counted, c.first_free.ensures.accesses, c.size-units.ensures.accesses, c.empty.ensures.accesses, c.push.ensures.accesses.1),
+    )
 
-pub returns-clause-accesses_min : goal.returns-clause-accesses_min
-returns-clause-accesses_min g c =
+pub returns-in_default-clause-accesses : goal.returns-in_default-clause-accesses
+returns-in_default-clause-accesses g c =
     let same : length (blocks c.self.inside.store.tables.room c.self.inside.store.last) ≡ length c.args.self.now.blocks = ap (λ (u : View). length u.blocks) c.self.view_is in
     let counted : c.self.inside.store.accesses ≡ c.args.self.now.accesses = ap (λ (u : View). u.accesses) c.self.view_is in
-    omega (arith, same, counted, c.first_free.ensures.accesses, c.size-units.ensures.accesses, c.empty.ensures.accesses, c.slide-hole.ensures.accesses_min, c.push.ensures.accesses_min)
-
-pub returns-in_default-clause-accesses_min : goal.returns-in_default-clause-accesses_min
-returns-in_default-clause-accesses_min g c =
-    let same : length (blocks c.self.inside.store.tables.room c.self.inside.store.last) ≡ length c.args.self.now.blocks = ap (λ (u : View). length u.blocks) c.self.view_is in
-    let counted : c.self.inside.store.accesses ≡ c.args.self.now.accesses = ap (λ (u : View). u.accesses) c.self.view_is in
-    omega (arith, same, counted, c.first_free.ensures.accesses)
+    (omega (arith, same, counted, c.first_free.ensures.accesses), omega (arith, same, counted, c.first_free.ensures.accesses))
 
 pub returns-clause-step : goal.returns-clause-step
 returns-clause-step g c =
-    let P : View → Type 0 = λ u. Compacts u (shown (record (fields_of g.NI.NodeIndex.MAX c.self.inside) { cells = c.push.new.tables; last = c.slide-hole.new.store.last; count = c.slide-hole.new.store.spare_count; top = c.push.new.top_mask; accesses = c.push.new.count })) in
-    subst P c.self.view_is (done g (goal.at.returns-clause-step g c).After-push c.push.new.count _ refl).1
+    let P : View → Type 0 = λ u. Compacts u (shown (record (fields_of g.NI.NodeIndex.MAX c.self.inside) { cells = c.push.new.store.tables; last = c.push.new.store.last; count = c.push.new.store.spare_count; top = c.push.new.store.top_mask; accesses = c.push.new.store.accesses })) in
+    subst P c.self.view_is (done g (goal.at.returns-clause-step g c).After-push c.push.new.store.accesses _ refl).1
 
 pub returns-in_default-clause-sizes : goal.returns-in_default-clause-sizes
 returns-in_default-clause-sizes g c =
@@ -130,9 +126,9 @@ returns-in_default-clause-sizes g c =
 pub returns-clause-sizes : goal.returns-clause-sizes
 returns-clause-sizes g c =
     let f : Fields = fields_of g.NI.NodeIndex.MAX c.self.inside in
-    let left : View = shown (record f { cells = c.push.new.tables; last = c.slide-hole.new.store.last; count = c.slide-hole.new.store.spare_count; top = c.push.new.top_mask; accesses = c.push.new.count }) in
+    let left : View = shown (record f { cells = c.push.new.store.tables; last = c.push.new.store.last; count = c.push.new.store.spare_count; top = c.push.new.store.top_mask; accesses = c.push.new.store.accesses }) in
     let P : View → Type 0 = λ u. KeepsSizes u left in
-    subst P c.self.view_is (compacts_sizes (shown f) left (known_sound f c.self.invariant (shown f) refl).0 (done g (goal.at.returns-clause-sizes g c).After-push c.push.new.count _ refl).1)
+    subst P c.self.view_is (compacts_sizes (shown f) left (known_sound f c.self.invariant (shown f) refl).0 (done g (goal.at.returns-clause-sizes g c).After-push c.push.new.store.accesses _ refl).1)
 
 pub returns-in_default-clause-accesses_some : goal.returns-in_default-clause-accesses_some
 returns-in_default-clause-accesses_some g c some =

@@ -16,17 +16,14 @@ loop-name-preserved g c =
     record {
       size = ap (λ (u : View). u.size) c.release.ensures.step.view ∙ ap (λ (u : View). u.size) c.last_used.ensures.same ∙ c.loop-name.invariant.size;
       limit = ap (λ (u : View). u.max_allocs) c.release.ensures.step.view ∙ ap (λ (u : View). u.max_allocs) c.last_used.ensures.same ∙ c.loop-name.invariant.limit;
-      least = omega (arith, c.release.ensures.accesses_min, c.last_used.ensures.accesses_min, c.loop-name.invariant.least);
+      least = omega (arith, c.release.ensures.accesses.0, c.last_used.ensures.accesses.0, c.loop-name.invariant.least);
       most =
           let fewer = freed_fewer c.in-Some.name c.last_used.new.self c.release.new.self c.release.ensures.step in
-          omega (arith, fewer, ap (λ (u : View). used_of u.blocks) c.last_used.ensures.same, c.release.ensures.accesses_max, c.last_used.ensures.accesses_max, c.loop-name.invariant.most);
+          omega (arith, fewer, ap (λ (u : View). used_of u.blocks) c.last_used.ensures.same, c.release.ensures.accesses.1, c.last_used.ensures.accesses.1, c.loop-name.invariant.most);
     }
 
 pub returns-clause-step : goal.returns-clause-step
 returns-clause-step g c = reset_alike _ _ _ c.loop-name.invariant.size c.loop-name.invariant.limit (c.last_used.ensures.none c.in_default.is)
 
-pub returns-clause-accesses_min : goal.returns-clause-accesses_min
-returns-clause-accesses_min g c = omega (arith, c.last_used.ensures.accesses_min, c.loop-name.invariant.least)
-
-pub returns-clause-accesses_max : goal.returns-clause-accesses_max
-returns-clause-accesses_max g c = omega (arith, c.last_used.ensures.accesses_max, c.loop-name.invariant.most)
+pub returns-clause-accesses : goal.returns-clause-accesses
+returns-clause-accesses g c = (omega (arith, c.last_used.ensures.accesses.0, c.loop-name.invariant.least), omega (arith, c.last_used.ensures.accesses.1, c.loop-name.invariant.most))

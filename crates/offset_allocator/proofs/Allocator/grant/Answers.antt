@@ -7,7 +7,7 @@ use Rattle.offset_allocator.specs.Promises.{HasRoomFor, blocks_needed, units_nee
 use Rattle.offset_allocator.specs.Relations.{Splits}
 use Rattle.offset_allocator.proofs.Sound.{shown, AreSound, Fields, fields_of}
 use Rattle.offset_allocator.proofs.Granting.{Call, held, unlisted, whole_fits, padding_fits, units_free, granted}
-use Rattle.offset_allocator.proofs.Places.{at_place}
+use Rattle.offset_allocator.proofs.Places.{at_place, kept_place}
 use Rattle.offset_allocator.proofs.Readied.{made, made_shown, with_made}
 use Rattle.offset_allocator.proofs.Tallies.{one-same}
 use Rattle.offset_allocator.proofs.Uses.{removed_unlisted}
@@ -42,14 +42,14 @@ pop-name-requires-clause-some g c =
     (subst (λ (u : View). IsSmallestFrom (up (units_needed c.args.size c.args.align)) u.order c.args.class) (sym (made_shown (fields_of g.NI.NodeIndex.MAX c.self.inside) c.self.invariant c.ready_for.ensures.readies ∙ c.self.view_is)) c.requires.smallest).2
 
 pub offset-offset-requires : goal.offset-offset-requires
-offset-offset-requires g c = (held (call g (goal.at.offset-offset-requires g c).After-pop-name) c.pop-name.ensures.room).below
+offset-offset-requires g c = (kept_place c.pop-name.ensures.chain (held (call g (goal.at.offset-offset-requires g c).After-pop-name) refl)).below
 
 pub size-whole-requires : goal.size-whole-requires
-size-whole-requires g c = (held (call g (goal.at.size-whole-requires g c).After-pop-name) c.pop-name.ensures.room).below
+size-whole-requires g c = (kept_place c.pop-name.ensures.chain (held (call g (goal.at.size-whole-requires g c).After-pop-name) refl)).below
 
 -- the block holds the padding and the units
 fits : (g : Over) (c : After-size-whole g) → Call (with_made (fields_of g.NI.NodeIndex.MAX c.self.inside) c.ready_for.new.tables c.ready_for.new.spare_count) (units_needed c.args.size c.args.align) c.args.class c.pop-name.result → padding_to c.args.align c.offset-offset.result + c.args.size ≤ c.size-whole.result
-fits g c p = rw (c.offset-offset.ensures.offset, c.size-whole.ensures.size, at_place (held p c.pop-name.ensures.room)) (whole_fits p c.args.size (padding_to c.args.align) (λ o. within c.args.size c.args.align o c.requires.some))
+fits g c p = rw (c.offset-offset.ensures.offset, c.size-whole.ensures.size, at_place (kept_place c.pop-name.ensures.chain (held p refl))) (whole_fits p c.args.size (padding_to c.args.align) (λ o. within c.args.size c.args.align o c.requires.some))
 
 pub overflow_sub-whole : goal.overflow_sub-whole
 overflow_sub-whole g c = let at = goal.at.overflow_sub-whole g c in fits g at.After-size-whole (call g at.After-pop-name)
@@ -57,7 +57,7 @@ overflow_sub-whole g c = let at = goal.at.overflow_sub-whole g c in fits g at.Af
 pub divide-requires-clause-place : goal.divide-requires-clause-place
 divide-requires-clause-place g c =
     let p = call g (goal.at.divide-requires-clause-place g c).After-pop-name in
-    (_, _, held p c.pop-name.ensures.room, rw c.pop-name.ensures.lists (unlisted p))
+    (_, _, kept_place c.pop-name.ensures.chain (held p refl), rw c.pop-name.ensures.lists (unlisted p))
 
 pub divide-requires-clause-whole : goal.divide-requires-clause-whole
 divide-requires-clause-whole g c = let at = goal.at.divide-requires-clause-whole g c in omega (arith, c.size-whole.ensures.size, fits g at.After-size-whole (call g at.After-pop-name))
@@ -79,14 +79,14 @@ overflow_sub-self g c = units_free (call g (goal.at.overflow_sub-self g c).After
 pub overflow_add-start : goal.overflow_add-start
 overflow_add-start g c =
     let p = call g (goal.at.overflow_add-start g c).After-pop-name in
-    let small : c.offset-offset.result + padding_to c.args.align c.offset-offset.result < 2 ^ 32 = rw (c.offset-offset.ensures.offset, at_place (held p c.pop-name.ensures.room)) (padding_fits p c.args.size (padding_to c.args.align) (λ o. within c.args.size c.args.align o c.requires.some)) in
+    let small : c.offset-offset.result + padding_to c.args.align c.offset-offset.result < 2 ^ 32 = rw (c.offset-offset.ensures.offset, at_place (kept_place c.pop-name.ensures.chain (held p refl))) (padding_fits p c.args.size (padding_to c.args.align) (λ o. within c.args.size c.args.align o c.requires.some)) in
     omega (arith, small)
 
 -- the fields that are left, and what was split
 done : (g : Over) (c : After-divide g) → Call (with_made (fields_of g.NI.NodeIndex.MAX c.self.inside) c.ready_for.new.tables c.ready_for.new.spare_count) (units_needed c.args.size c.args.align) c.args.class c.pop-name.result → (k : ℕ) (f : Fields) → f ≡ record (fields_of g.NI.NodeIndex.MAX c.self.inside) { cells = c.divide.new.store.tables; last = c.divide.new.store.last; count = c.divide.new.store.spare_count; top = c.divide.new.store.top_mask; free = c.self.inside.free_total - c.args.size; accesses = k }
     → AreSound f × Splits (units_needed c.args.size c.args.align) c.args.size (padding_to c.args.align) (shown (with_made (fields_of g.NI.NodeIndex.MAX c.self.inside) c.ready_for.new.tables c.ready_for.new.spare_count)) (shown f) (record { name = c.pop-name.result; offset = c.offset-offset.result + padding_to c.args.align c.offset-offset.result })
 done g c p k f e =
-    let h = held p c.pop-name.ensures.room in
+    let h = kept_place c.pop-name.ensures.chain (held p refl) in
     let at = at_place h in
     let oe = c.offset-offset.ensures.offset ∙ ap (λ (v : Node). v.offset) at in
     let we = c.size-whole.ensures.size ∙ ap (λ (v : Node). v.size) at in

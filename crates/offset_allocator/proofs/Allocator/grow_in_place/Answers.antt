@@ -161,7 +161,7 @@ returns-clause-accesses_done g c done l =
     let r = block_made g here.After-ready in
     let some = some_after r _ c.free_after-next.ensures.free (omega (arith, more g here.After-units_after-more r, c.if-size-held.false, c.if-size-held-2.false)) in
     let counted : c.self.inside.store.accesses ≡ c.args.self.now.accesses = ap (λ (u : View). u.accesses) c.self.view_is in
-    omega (arith, counted, c.size-held.ensures.accesses, c.free_after-next.ensures.accesses_min, c.units_after-more.ensures.accesses_kept, c.resize.ensures.accesses_more some)
+    omega (arith, counted, c.size-held.ensures.accesses, c.free_after-next.ensures.accesses.0, c.units_after-more.ensures.accesses.0, c.resize.ensures.accesses_more some)
 
 pub invariant_of-self : goal.invariant_of-self
 invariant_of-self g c = c.self.invariant

@@ -1,4 +1,4 @@
-use Rattle.std.proofs.Common.{◌≡◌, ℕ, ap, sym, ◌∙◌, arith, length, take_all, replicate}
+use Rattle.std.proofs.Common.{◌≡◌, ℕ, ap, sym, ◌∙◌, arith, refl, length, take_all, replicate}
 use Rattle.offset_allocator.specs.Cells.{Cells}
 use Rattle.offset_allocator.proofs.Fresh.{empty_binned}
 use Rattle.offset_allocator.proofs.bins.empty.Goals as goal
@@ -10,9 +10,9 @@ returns g c =
     let b = c.loop-word.invariant in
     let classes : c.loop-class.class ≡ 256 = omega arith in
     let words : c.loop-word.word ≡ 4 = omega arith in
-    let newer : length c.loop-word.tables.links.newer ≡ length c.args.tables.now.links.newer = ap (λ (t : Cells). length t.links.newer) b.rest ∙ ap (λ (t : Cells). length t.links.newer) a.rest in
-    let older : length c.loop-word.tables.links.older ≡ length c.args.tables.now.links.older = ap (λ (t : Cells). length t.links.older) b.rest ∙ ap (λ (t : Cells). length t.links.older) a.rest in
-    let same_masks : length c.loop-class.tables.links.masks ≡ length c.args.tables.now.links.masks = ap (λ (t : Cells). length t.links.masks) a.rest in
+    let newer : length c.loop-word.tables.links.newer ≡ length c.args.store.now.tables.links.newer = ap (λ (t : Cells). length t.links.newer) b.rest ∙ ap (λ (t : Cells). length t.links.newer) a.rest in
+    let older : length c.loop-word.tables.links.older ≡ length c.args.store.now.tables.links.older = ap (λ (t : Cells). length t.links.older) b.rest ∙ ap (λ (t : Cells). length t.links.older) a.rest in
+    let same_masks : length c.loop-class.tables.links.masks ≡ length c.args.store.now.tables.links.masks = ap (λ (t : Cells). length t.links.masks) a.rest in
     let heads : c.loop-word.tables.links.heads ≡ replicate 256 g.NI.NodeIndex.MAX =
     ap (λ (t : Cells). t.links.heads) b.rest ∙ sym (take_all c.loop-class.class c.loop-class.tables.links.heads (omega (arith, a.even, old.heads))) ∙ a.written ∙ ap (λ (n : ℕ). replicate n g.NI.NodeIndex.MAX) classes in
     let masks : c.loop-word.tables.links.masks ≡ replicate 4 0 =
@@ -21,6 +21,6 @@ returns g c =
     record {
       held = empty.0;
       lists = empty.1;
-      room = ap (λ (t : Cells). t.room) b.rest ∙ ap (λ (t : Cells). t.room) a.rest;
+      chain = (ap (λ (t : Cells). t.room) b.rest ∙ ap (λ (t : Cells). t.room) a.rest, refl, refl);
       accesses = omega (arith, a.accesses, b.accesses);
     }

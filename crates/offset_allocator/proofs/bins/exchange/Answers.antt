@@ -1,7 +1,7 @@
-use Rattle.std.proofs.Common.{◌≡◌, ◌∙◌, sym, arith}
+use Rattle.std.proofs.Common.{◌≡◌, ◌∙◌, sym, arith, refl}
 use Rattle.std.proofs.lemmas.List.{length-set}
 use Rattle.offset_allocator.specs.Classes.{down}
-use Rattle.offset_allocator.proofs.Binned.{below, older_in, is_first, exchanged, exchange_masked, binned, clauses}
+use Rattle.offset_allocator.proofs.Binned.{below, older_in, is_first, exchanged, exchange_masked, changed}
 use Rattle.offset_allocator.proofs.Classes.{down_small}
 use Rattle.offset_allocator.proofs.ViewOrders.{unlisted_removed}
 use Rattle.offset_allocator.proofs.Uses.{after_idle, no_mark}
@@ -39,8 +39,8 @@ returns-then-class-uint_to_float_round_down g c =
     let f = is_first k _ (down_small c.args.size) _ c.requires.listed (sym c.newer-before.ensures.cell ∙ z) in
     let e = rw (c.set_links.ensures.cells, c.set_head.ensures.cells) at c.link_newer.ensures.cells in
     let next = rw (← f.1) at (c.older-after.ensures.cell) in
-    rw same (clauses (binned (rw f.1 at (exchanged k _ (down_small c.args.size) c.link_newer.new.tables.links c.args.name _ (omega (arith, c.requires.named, c.shape.ensures.newer)) c.requires.unlisted f.0 next
+    rw same (changed (rw f.1 at (exchanged k _ (down_small c.args.size) c.link_newer.new.tables.links c.args.name _ (omega (arith, c.requires.named, c.shape.ensures.newer)) c.requires.unlisted f.0 next
     (rw (e, c.no_link.ensures.number, c.link_to.ensures.number))
     (rw e)
     (rw (e, same))))
-    (rw e (exchange_masked c.requires.held.masked k.lists_len _ c.args.name c.args.gone (down_small c.args.size) f.0))) (rw e) (omega arith) (omega arith))
+    (rw e (exchange_masked c.requires.held.masked k.lists_len _ c.args.name c.args.gone (down_small c.args.size) f.0)) (rw e, refl, refl) (omega arith, omega arith))

@@ -1,5 +1,5 @@
 use Rattle.std.proofs.Common.{◌≡◌, ◌≢◌, ◌∙◌, arith, refl, slice_index}
-use Rattle.offset_allocator.proofs.Binned.{below, newer_in, older_in, is_first, is_later, later_masked, left, binned, clauses}
+use Rattle.offset_allocator.proofs.Binned.{below, newer_in, older_in, is_first, is_later, later_masked, left, changed}
 use Rattle.offset_allocator.proofs.Classes.{down_small}
 use Rattle.offset_allocator.proofs.Uses.{after_idle, no_mark}
 use Rattle.offset_allocator.proofs.bins.leave.Goals as goal
@@ -13,17 +13,17 @@ behead-requires-clause-classed g c = omega (arith, down_small c.args.size, c.uin
 
 pub behead-requires-clause-some : goal.behead-requires-clause-some
 behead-requires-clause-some g c =
-    let z : slice_index c.args.tables.now.links.newer c.args.name ≡ g.NI.NodeIndex.MAX = omega (arith, c.requires.before) in
+    let z : slice_index c.args.store.now.tables.links.newer c.args.name ≡ g.NI.NodeIndex.MAX = omega (arith, c.requires.before) in
     rw c.uint_to_float_round_down.ensures.is ((is_first c.requires.held.linked _ (down_small c.args.size) _ c.requires.listed z).0)
 
 pub behead-requires-clause-after : goal.behead-requires-clause-after
 behead-requires-clause-after g c =
-    let z : slice_index c.args.tables.now.links.newer c.args.name ≡ g.NI.NodeIndex.MAX = omega (arith, c.requires.before) in
+    let z : slice_index c.args.store.now.tables.links.newer c.args.name ≡ g.NI.NodeIndex.MAX = omega (arith, c.requires.before) in
     rw (c.uint_to_float_round_down.ensures.is, (is_first c.requires.held.linked _ (down_small c.args.size) _ c.requires.listed z).1) c.older-after.ensures.cell
 
 pub returns-then-number-MAX-clause-lists : goal.returns-then-number-MAX-clause-lists
 returns-then-number-MAX-clause-lists g c =
-    let z : slice_index c.args.tables.now.links.newer c.args.name ≡ g.NI.NodeIndex.MAX = omega (arith, c.requires.before) in
+    let z : slice_index c.args.store.now.tables.links.newer c.args.name ≡ g.NI.NodeIndex.MAX = omega (arith, c.requires.before) in
     rw (c.behead.ensures.lists, c.uint_to_float_round_down.ensures.is, (is_first c.requires.held.linked _ (down_small c.args.size) _ c.requires.listed z).1) refl
 
 -- a later name
@@ -45,8 +45,8 @@ set_older-requires g c =
 pub returns-else-number-MAX : goal.returns-else-number-MAX
 returns-else-number-MAX g c =
     let k = c.requires.held.linked in
-    let n : slice_index c.args.tables.now.links.newer c.args.name ≢ g.NI.NodeIndex.MAX = λ e. absurd (omega (arith, c.requires.before)) in
+    let n : slice_index c.args.store.now.tables.links.newer c.args.name ≢ g.NI.NodeIndex.MAX = λ e. absurd (omega (arith, c.requires.before)) in
     let e = rw c.link_newer.ensures.cells at c.set_older.ensures.cells in
-    clauses (binned (left k _ (down_small c.args.size) c.set_older.new.self.links _ _ _ (is_later k _ (down_small c.args.size) _ c.requires.listed n) c.requires.before c.older-after.ensures.cell
+    changed (left k _ (down_small c.args.size) c.set_older.new.self.links _ _ _ (is_later k _ (down_small c.args.size) _ c.requires.listed n) c.requires.before c.older-after.ensures.cell
     (rw e) (rw (e, c.number-else-number-MAX.ensures.number)) (rw e))
-    (rw e (later_masked k _ (down_small c.args.size) _ c.requires.listed n c.requires.held.masked))) (rw e) (omega arith) (omega arith)
+    (rw e (later_masked k _ (down_small c.args.size) _ c.requires.listed n c.requires.held.masked)) (rw e, refl, refl) (omega arith, omega arith)

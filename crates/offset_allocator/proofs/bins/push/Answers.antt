@@ -1,7 +1,7 @@
 use Rattle.std.proofs.Common.{◌∙◌, ap, sym, arith, refl}
 use Rattle.std.proofs.lemmas.List.{length-set, set_past}
 use Rattle.offset_allocator.specs.Orders.{first_of}
-use Rattle.offset_allocator.proofs.Binned.{head_among, head_below, head_small, pushed, binned, clauses}
+use Rattle.offset_allocator.proofs.Binned.{head_among, head_below, head_small, pushed, changed}
 use Rattle.offset_allocator.proofs.Masks.{flag_full, masked_same, masked_set}
 use Rattle.offset_allocator.proofs.Uses.{listed_idle, no_mark}
 use Rattle.offset_allocator.proofs.bins.push.Goals as goal
@@ -28,11 +28,11 @@ returns-then-newest-MAX g c =
     let h = c.head-newest.ensures.cell in
     let kept = c.from_u32.ensures.kept (rw h (head_small k c.args.class c.requires.classed)) in
     let e = rw (c.set_links.ensures.cells, c.set_head.ensures.cells) at c.set_mask.ensures.cells in
-    clauses (binned (pushed k c.args.class c.requires.classed c.set_mask.new.self.links c.args.name (omega (arith, c.requires.named, c.shape.ensures.newer)) c.requires.unlisted
-    (rw (e, c.no_link.ensures.number) (sym (set_past _ _ _ (omega (arith, k.names_small, length-set c.args.tables.now.links.newer c.args.name g.NI.NodeIndex.MAX)))))
+    changed (pushed k c.args.class c.requires.classed c.set_mask.new.self.links c.args.name (omega (arith, c.requires.named, c.shape.ensures.newer)) c.requires.unlisted
+    (rw (e, c.no_link.ensures.number) (sym (set_past _ _ _ (omega (arith, k.names_small, length-set c.args.store.now.tables.links.newer c.args.name g.NI.NodeIndex.MAX)))))
     (rw (e, kept, h))
     (rw e))
-    (rw e (masked_set c.requires.held.masked k.lists_len c.args.class c.requires.classed _ _ (c.mask-mask.ensures.cell ∙ rw (c.set_links.ensures.cells, c.set_head.ensures.cells)) refl))) (rw e) (omega arith) (omega arith)
+    (rw e (masked_set c.requires.held.masked k.lists_len c.args.class c.requires.classed _ _ (c.mask-mask.ensures.cell ∙ rw (c.set_links.ensures.cells, c.set_head.ensures.cells)) refl)) (rw e, refl, refl) (omega arith, omega arith)
 
 pub returns-else-newest-MAX : goal.returns-else-newest-MAX
 returns-else-newest-MAX g c =
@@ -40,8 +40,8 @@ returns-else-newest-MAX g c =
     let h = c.head-newest.ensures.cell in
     let kept = c.from_u32.ensures.kept (rw h (head_small k c.args.class c.requires.classed)) in
     let e = rw (c.set_links.ensures.cells, c.set_head.ensures.cells) at c.set_newer.ensures.cells in
-    clauses (binned (pushed k c.args.class c.requires.classed c.set_newer.new.self.links c.args.name (omega (arith, c.requires.named, c.shape.ensures.newer)) c.requires.unlisted
+    changed (pushed k c.args.class c.requires.classed c.set_newer.new.self.links c.args.name (omega (arith, c.requires.named, c.shape.ensures.newer)) c.requires.unlisted
     (rw (e, c.no_link.ensures.number, h, c.link_to-link.ensures.number))
     (rw (e, kept, h))
     (rw e))
-    (rw e (masked_same c.requires.held.masked k.lists_len c.args.class c.requires.classed _ (sym (flag_full _ (λ z. let q = h ∙ k.heads c.args.class c.requires.classed ∙ ap (first_of g.NI.NodeIndex.MAX) z in absurd (omega arith))))))) (rw e) (omega arith) (omega arith)
+    (rw e (masked_same c.requires.held.masked k.lists_len c.args.class c.requires.classed _ (sym (flag_full _ (λ z. let q = h ∙ k.heads c.args.class c.requires.classed ∙ ap (first_of g.NI.NodeIndex.MAX) z in absurd (omega arith)))))) (rw e, refl, refl) (omega arith, omega arith)

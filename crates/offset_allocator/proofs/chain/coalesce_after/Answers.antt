@@ -31,11 +31,11 @@ returns-clause-place g c m p h =
 pub point_back-requires-clause-name : goal.point_back-requires-clause-name
 point_back-requires-clause-name g c = rw (c.set_end.ensures.cells, length-put) c.requires.place.2.below
 
-pub returns-clause-links : goal.returns-clause-links
-returns-clause-links g c = rw (c.set_spare.ensures.cells, c.point_back.ensures.links, c.set_end.ensures.cells) refl
+pub returns-clause-bins : goal.returns-clause-bins
+returns-clause-bins g c = (rw (c.set_spare.ensures.cells, c.point_back.ensures.links, c.set_end.ensures.cells) refl, refl)
 
 pub returns-clause-nodes : goal.returns-clause-nodes
 returns-clause-nodes g c = rw (c.set_spare.ensures.cells, nodes-with_spare, c.point_back.ensures.nodes, c.set_end.ensures.cells, length-put) refl
 
-pub returns-clause-accesses_max : goal.returns-clause-accesses_max
-returns-clause-accesses_max g c = omega arith
+pub returns-clause-accesses : goal.returns-clause-accesses
+returns-clause-accesses g c = (omega arith, omega arith)

@@ -7,38 +7,38 @@ use Rattle.offset_allocator.proofs.Writes.{coalesce_before_place}
 use Rattle.offset_allocator.proofs.chain.coalesce_before.Goals as goal
 
 pub offset-offset-requires : goal.offset-offset-requires
-offset-offset-requires g c = (previous_place c.requires.place.3 c.requires.previous).place.below
+offset-offset-requires g c = (previous_place c.requires.place.2 c.requires.previous).place.below
 
 pub before-link-requires : goal.before-link-requires
-before-link-requires g c = (previous_place c.requires.place.3 c.requires.previous).place.below
+before-link-requires g c = (previous_place c.requires.place.2 c.requires.previous).place.below
 
 pub point_on-requires-clause-link : goal.point_on-requires-clause-link
 point_on-requires-clause-link g c =
-    rw (c.before-link.ensures.cell, c.set_start.ensures.cells, length-put) (previous_below (previous_place c.requires.place.3 c.requires.previous).place)
+    rw (c.before-link.ensures.cell, c.set_start.ensures.cells, length-put) (previous_below (previous_place c.requires.place.2 c.requires.previous).place)
 
 pub link_to-requires : goal.link_to-requires
-link_to-requires g c = omega (arith, c.shape.ensures.limit, (previous_place c.requires.place.3 c.requires.previous).place.below)
+link_to-requires g c = omega (arith, c.shape.ensures.limit, (previous_place c.requires.place.2 c.requires.previous).place.below)
 
 pub set_spare-requires : goal.set_spare-requires
 set_spare-requires g c =
     let room : Cells → Room = λ v. v.room in
     let same = ap (λ (l : List ℕ). length l) (relinked_spare (on_to c.args.name) _ _ _ c.point_on.ensures.cells ∙ ap (λ (r : Room). r.spare) (ap room c.set_start.ensures.cells) ∙ spare-put _ _ _) in
-    omega (arith, same, spare_room c.requires.place.3)
+    omega (arith, same, spare_room c.requires.place.2)
 
 pub returns-clause-place : goal.returns-clause-place
-returns-clause-place g c m last p h =
+returns-clause-place g c m p h =
     let room : Cells → Room = λ v. v.room in
     coalesce_before_place c.point_on.new.tables.room h c.requires.previous c.requires.free c.offset-offset.ensures.cell c.requires.total c.before-link.ensures.cell
     (ap room c.set_start.ensures.cells) c.point_on.ensures.cells (rw c.link_to.ensures.number at (ap room c.set_spare.ensures.cells))
 
 pub point_on-requires-clause-name : goal.point_on-requires-clause-name
-point_on-requires-clause-name g c = rw (c.set_start.ensures.cells, length-put) c.requires.place.3.below
+point_on-requires-clause-name g c = rw (c.set_start.ensures.cells, length-put) c.requires.place.2.below
 
-pub returns-clause-links : goal.returns-clause-links
-returns-clause-links g c = rw (c.set_spare.ensures.cells, c.point_on.ensures.links, c.set_start.ensures.cells) refl
+pub returns-clause-bins : goal.returns-clause-bins
+returns-clause-bins g c = (rw (c.set_spare.ensures.cells, c.point_on.ensures.links, c.set_start.ensures.cells) refl, refl)
 
 pub returns-clause-nodes : goal.returns-clause-nodes
 returns-clause-nodes g c = rw (c.set_spare.ensures.cells, nodes-with_spare, c.point_on.ensures.nodes, c.set_start.ensures.cells, length-put) refl
 
-pub returns-clause-accesses_max : goal.returns-clause-accesses_max
-returns-clause-accesses_max g c = omega arith
+pub returns-clause-accesses : goal.returns-clause-accesses
+returns-clause-accesses g c = (omega arith, omega arith)

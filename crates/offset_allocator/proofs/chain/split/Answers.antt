@@ -44,11 +44,11 @@ returns-clause-below g c = (top _ c.requires.place.2.chain c.requires.spare (c.n
 pub set_end-requires : goal.set_end-requires
 set_end-requires g c = rw (c.set_block.ensures.cells, length-put) c.requires.place.2.below
 
-pub returns-clause-links : goal.returns-clause-links
-returns-clause-links g c = rw (c.point_back.ensures.links, c.set_end.ensures.cells, c.set_block.ensures.cells) refl
+pub returns-clause-bins : goal.returns-clause-bins
+returns-clause-bins g c = (rw (c.point_back.ensures.links, c.set_end.ensures.cells, c.set_block.ensures.cells) refl, refl)
 
 pub returns-clause-nodes : goal.returns-clause-nodes
 returns-clause-nodes g c = rw (c.point_back.ensures.nodes, c.set_end.ensures.cells, length-put, c.set_block.ensures.cells, length-put) refl
 
-pub returns-clause-accesses_max : goal.returns-clause-accesses_max
-returns-clause-accesses_max g c = omega arith
+pub returns-clause-accesses : goal.returns-clause-accesses
+returns-clause-accesses g c = (omega arith, omega arith)

@@ -7,48 +7,48 @@ use Rattle.offset_allocator.proofs.Writes.{split_before_place}
 use Rattle.offset_allocator.proofs.chain.split_before.Goals as goal
 
 pub set_block-requires-clause-name : goal.set_block-requires-clause-name
-set_block-requires-clause-name g c = (top _ c.requires.place.3.chain c.requires.spare (c.number-front.ensures.number ∙ c.spare.ensures.cell)).below
+set_block-requires-clause-name g c = (top _ c.requires.place.2.chain c.requires.spare (c.number-front.ensures.number ∙ c.spare.ensures.cell)).below
 
 pub set_block-requires-clause-idle : goal.set_block-requires-clause-idle
-set_block-requires-clause-idle g c = (top _ c.requires.place.3.chain c.requires.spare (c.number-front.ensures.number ∙ c.spare.ensures.cell)).idle
+set_block-requires-clause-idle g c = (top _ c.requires.place.2.chain c.requires.spare (c.number-front.ensures.number ∙ c.spare.ensures.cell)).idle
 
 pub overflow_add-offset : goal.overflow_add-offset
 overflow_add-offset g c =
-    let h = c.requires.place.3 in
+    let h = c.requires.place.2 in
     let at = at_place h in
     omega (arith, c.offset-offset.ensures.cell, c.requires.within, ap (λ (v : Node). v.offset) at, ap (λ (v : Node). v.size) at, end_fits h)
 
 pub link_to-back-requires : goal.link_to-back-requires
-link_to-back-requires g c = (top _ c.requires.place.3.chain c.requires.spare (c.number-front.ensures.number ∙ c.spare.ensures.cell)).below
+link_to-back-requires g c = (top _ c.requires.place.2.chain c.requires.spare (c.number-front.ensures.number ∙ c.spare.ensures.cell)).below
 
 pub point_on-requires-clause-link : goal.point_on-requires-clause-link
 point_on-requires-clause-link g c =
-    rw (c.before-link.ensures.cell, c.set_start.ensures.cells, length-put, c.set_block.ensures.cells, length-put) (previous_below c.requires.place.3)
+    rw (c.before-link.ensures.cell, c.set_start.ensures.cells, length-put, c.set_block.ensures.cells, length-put) (previous_below c.requires.place.2)
 
 pub point_on-requires-clause-name : goal.point_on-requires-clause-name
 point_on-requires-clause-name g c =
-    rw (c.set_start.ensures.cells, length-put, c.set_block.ensures.cells, length-put) (top _ c.requires.place.3.chain c.requires.spare (c.number-front.ensures.number ∙ c.spare.ensures.cell)).below
+    rw (c.set_start.ensures.cells, length-put, c.set_block.ensures.cells, length-put) (top _ c.requires.place.2.chain c.requires.spare (c.number-front.ensures.number ∙ c.spare.ensures.cell)).below
 
 pub returns-clause-place : goal.returns-clause-place
-returns-clause-place g c m last p h =
+returns-clause-place g c m p h =
     let room : Cells → Room = λ v. v.room in
     split_before_place h c.requires.spare (c.number-front.ensures.number ∙ c.spare.ensures.cell) (omega (arith, c.requires.within, c.size-size.ensures.cell)) c.offset-offset.ensures.cell c.size-size.ensures.cell c.before-link.ensures.cell c.link_to-on.ensures c.link_to-back.ensures
     (ap room c.set_block.ensures.cells) (ap room c.set_start.ensures.cells) c.point_on.ensures.cells
 
 pub returns-clause-fresh : goal.returns-clause-fresh
-returns-clause-fresh g c m last p h = (top _ h.chain c.requires.spare (c.number-front.ensures.number ∙ c.spare.ensures.cell)).absent
+returns-clause-fresh g c m p h = (top _ h.chain c.requires.spare (c.number-front.ensures.number ∙ c.spare.ensures.cell)).absent
 
 pub returns-clause-below : goal.returns-clause-below
-returns-clause-below g c = (top _ c.requires.place.3.chain c.requires.spare (c.number-front.ensures.number ∙ c.spare.ensures.cell)).below
+returns-clause-below g c = (top _ c.requires.place.2.chain c.requires.spare (c.number-front.ensures.number ∙ c.spare.ensures.cell)).below
 
 pub set_start-requires : goal.set_start-requires
-set_start-requires g c = rw (c.set_block.ensures.cells, length-put) c.requires.place.3.below
+set_start-requires g c = rw (c.set_block.ensures.cells, length-put) c.requires.place.2.below
 
-pub returns-clause-links : goal.returns-clause-links
-returns-clause-links g c = rw (c.point_on.ensures.links, c.set_start.ensures.cells, c.set_block.ensures.cells) refl
+pub returns-clause-bins : goal.returns-clause-bins
+returns-clause-bins g c = (rw (c.point_on.ensures.links, c.set_start.ensures.cells, c.set_block.ensures.cells) refl, refl)
 
 pub returns-clause-nodes : goal.returns-clause-nodes
 returns-clause-nodes g c = rw (c.point_on.ensures.nodes, c.set_start.ensures.cells, length-put, c.set_block.ensures.cells, length-put) refl
 
-pub returns-clause-accesses_max : goal.returns-clause-accesses_max
-returns-clause-accesses_max g c = omega arith
+pub returns-clause-accesses : goal.returns-clause-accesses
+returns-clause-accesses g c = (omega arith, omega arith)

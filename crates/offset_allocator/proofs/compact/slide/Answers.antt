@@ -13,8 +13,7 @@ is_used-requires g c = let s = c.loop-next.invariant.at _ _ c.requires.place.2 c
 pub loop-next-init : goal.loop-next-init
 loop-next-init g c = record {
   callable = c.requires.callable;
-  links = refl;
-  mask = refl;
+  bins = (refl, refl);
   grows = omega arith;
   at = λ m p h idle. record {
     place = p;
@@ -58,14 +57,13 @@ loop-next-smaller-then-is_used g c =
     let n = next_place s.there (sym c.in-Some.is ∙ c.after.ensures.after) in
     let p : Place = c.requires.place.1 in
     let all : length p.after ≤ length c.args.store.now.tables.room.nodes = omega (arith, c.requires.place.2.chain.full, length-append p.before (p.block ∷ p.after)) in
-    omega (arith, s.bounded, ap (λ (l : List Block). length l) n.is, all, c.after.ensures.accesses, c.size-more.ensures.accesses, c.is_used.ensures.accesses, c.offset-to.ensures.accesses, c.pass-hole.ensures.accesses_min)
+    omega (arith, s.bounded, ap (λ (l : List Block). length l) n.is, all, c.after.ensures.accesses, c.size-more.ensures.accesses, c.is_used.ensures.accesses, c.offset-to.ensures.accesses, c.pass-hole.ensures.accesses.0)
 
 pub loop-next-preserved-then-is_used : goal.loop-next-preserved-then-is_used
 loop-next-preserved-then-is_used g c = record {
   callable = c.report.ensures.callable;
-  links = c.pass-hole.ensures.links ∙ c.loop-next.invariant.links;
-  mask = c.pass-hole.ensures.mask ∙ c.loop-next.invariant.mask;
-  grows = omega (arith, c.loop-next.invariant.grows, c.after.ensures.accesses, c.size-more.ensures.accesses, c.is_used.ensures.accesses, c.offset-to.ensures.accesses, c.pass-hole.ensures.accesses_min);
+  bins = (c.pass-hole.ensures.bins.0 ∙ c.loop-next.invariant.bins.0, c.pass-hole.ensures.bins.1 ∙ c.loop-next.invariant.bins.1);
+  grows = omega (arith, c.loop-next.invariant.grows, c.after.ensures.accesses, c.size-more.ensures.accesses, c.is_used.ensures.accesses, c.offset-to.ensures.accesses, c.pass-hole.ensures.accesses.0);
   at = λ m p h idle.
       let s = c.loop-next.invariant.at m p h idle in
       let n = next_place s.there (sym c.in-Some.is ∙ c.after.ensures.after) in
@@ -74,7 +72,7 @@ loop-next-preserved-then-is_used g c = record {
       let size : c.size-more.result ≡ n.block.size = c.size-more.ensures.size ∙ ap (λ (v : Node). v.size) (at_place n.place) in
       slid_past s n.block n.rest _ _ _ _ _ _ used n.is (c.pass-hole.ensures.place _ _ _ _ s.there s.idle n.is)
       (subst (λ (l : List Move). FoldsTo (IsCalledWith g.NI.NonMax.NodeIndexNonMax.number (λ f range h. goal.F-step g f range tt h)) c.loop-next.moved l c.report.new.moved) (same_move c.offset-to.result (units s.place.before) c.loop-next.size c.in-Some.next c.size-more.result n.block to (sym n.place.name) size) (c.report.ensures.called n.block.used))
-      (omega (arith, c.after.ensures.accesses, c.size-more.ensures.accesses, c.is_used.ensures.accesses, c.offset-to.ensures.accesses, c.pass-hole.ensures.accesses_max));
+      (omega (arith, c.after.ensures.accesses, c.size-more.ensures.accesses, c.is_used.ensures.accesses, c.offset-to.ensures.accesses, c.pass-hole.ensures.accesses.1));
 }
 
 pub coalesce_after-requires-clause-place : goal.coalesce_after-requires-clause-place
@@ -96,21 +94,20 @@ loop-next-smaller g c =
     let n = next_place s.there (sym c.in-Some.is ∙ c.after.ensures.after) in
     let p : Place = c.requires.place.1 in
     let all : length p.after ≤ length c.args.store.now.tables.room.nodes = omega (arith, c.requires.place.2.chain.full, length-append p.before (p.block ∷ p.after)) in
-    omega (arith, s.bounded, ap (λ (l : List Block). length l) n.is, all, c.after.ensures.accesses, c.size-more.ensures.accesses, c.is_used.ensures.accesses, c.coalesce_after.ensures.accesses_min)
+    omega (arith, s.bounded, ap (λ (l : List Block). length l) n.is, all, c.after.ensures.accesses, c.size-more.ensures.accesses, c.is_used.ensures.accesses, c.coalesce_after.ensures.accesses.0)
 
 pub loop-next-preserved : goal.loop-next-preserved
 loop-next-preserved g c = record {
   callable = c.loop-next.invariant.callable;
-  links = c.coalesce_after.ensures.links ∙ c.loop-next.invariant.links;
-  mask = c.loop-next.invariant.mask;
-  grows = omega (arith, c.loop-next.invariant.grows, c.after.ensures.accesses, c.size-more.ensures.accesses, c.is_used.ensures.accesses, c.coalesce_after.ensures.accesses_min);
+  bins = (c.coalesce_after.ensures.bins.0 ∙ c.loop-next.invariant.bins.0, c.coalesce_after.ensures.bins.1 ∙ c.loop-next.invariant.bins.1);
+  grows = omega (arith, c.loop-next.invariant.grows, c.after.ensures.accesses, c.size-more.ensures.accesses, c.is_used.ensures.accesses, c.coalesce_after.ensures.accesses.0);
   at = λ m p h idle.
       let s = c.loop-next.invariant.at m p h idle in
       let n = next_place s.there (sym c.in-Some.is ∙ c.after.ensures.after) in
       let free : n.block.used ≡ false = sym (ap (λ (v : Node). v.used) (at_place n.place)) ∙ sym c.is_used.ensures.cell ∙ c.if-is_used.false in
       let size : c.size-more.result ≡ n.block.size = c.size-more.ensures.size ∙ ap (λ (v : Node). v.size) (at_place n.place) in
       slid_into s n.block n.rest _ _ _ _ _ free n.is (omega (arith, size)) (absorbed s.place n.block n.rest free n.is (c.coalesce_after.ensures.place _ _ s.there))
-      (omega (arith, c.after.ensures.accesses, c.size-more.ensures.accesses, c.is_used.ensures.accesses, c.coalesce_after.ensures.accesses_max));
+      (omega (arith, c.after.ensures.accesses, c.size-more.ensures.accesses, c.is_used.ensures.accesses, c.coalesce_after.ensures.accesses.1));
 }
 
 pub returns-clause-place : goal.returns-clause-place

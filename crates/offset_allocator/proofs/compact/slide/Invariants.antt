@@ -1,5 +1,6 @@
 use Rattle.std.proofs.Common.{◌≡◌, ℕ, ◌+◌, ◌-◌, ◌*◌, ◌≤◌, false, length}
 use Rattle.offset_allocator.specs.Named.{Place}
+use Rattle.offset_allocator.specs.Stored.{SameBins}
 use Rattle.offset_allocator.specs.Space.{HasPlace}
 use Rattle.offset_allocator.specs.Compacting.{IsCalledWith}
 use Rattle.offset_allocator.proofs.Sliding.{IsSliding}
@@ -8,8 +9,7 @@ use Rattle.offset_allocator.proofs.compact.slide.Given as goal
 abbrev pub invariant-loop-next : goal.invariant-loop-next
 invariant-loop-next g l = record {
   callable : goal.F-IsAlwaysCallable g l.moved;
-  links : l.store.tables.links ≡ l.initial.store.tables.links;
-  mask : l.store.top_mask ≡ l.initial.store.top_mask;
+  bins : SameBins l.initial.store l.store;
   grows : l.initial.store.accesses ≤ l.store.accesses;
   at : (m : ℕ) (p : Place) → HasPlace l.initial.store.tables.room m l.initial.store.last l.initial.store.spare_count l.initial.hole p → p.block.used ≡ false
       → IsSliding (IsCalledWith g.NI.NonMax.NodeIndexNonMax.number (λ f range h. goal.F-step g f range tt h)) m p l.initial.moved l.initial.store.accesses l.store.tables l.store.last l.store.spare_count l.hole l.size l.moved l.store.accesses;

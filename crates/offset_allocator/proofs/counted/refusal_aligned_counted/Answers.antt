@@ -1,48 +1,66 @@
-use Rattle.std.proofs.Common.{◌≡◌, ◌∙◌, ◌<◌, ◌≤◌, ◌+◌, ◌-◌, ℕ, [], sum, subst, ap, arith, refl, inl, inr}
+use Rattle.std.proofs.Common.{◌≡◌, ◌∙◌, ◌<◌, ◌≤◌, ◌+◌, ◌-◌, ◌^◌, ℕ, [], max, sum, subst, ap, arith, refl, inl, inr}
 use Rattle.std.proofs.lemmas.Bool.{cases_lt}
 use Rattle.std.proofs.lemmas.List.{get_or_past}
-use Rattle.offset_allocator.specs.Named.{View, free_sizes}
-use Rattle.offset_allocator.specs.Classes.{up}
+use Rattle.offset_allocator.specs.Named.{View, free_sizes, IsWellFormed}
+use Rattle.offset_allocator.specs.Classes.{value, up, down}
 use Rattle.offset_allocator.proofs.Sound.{Fields, fields_of, known_sound}
-use Rattle.offset_allocator.specs.Promises.{HasRoomFor, CanGrant, blocks_needed, units_needed}
-use Rattle.offset_allocator.proofs.Classes.{below_value_up}
-use Rattle.offset_allocator.proofs.Counting.{class_within}
+use Rattle.offset_allocator.specs.Promises.{CanGrant, block_needed, blocks_needed, units_needed}
+use Rattle.offset_allocator.proofs.Advice.{free_within, too_small}
+use Rattle.offset_allocator.proofs.Classes.{past_words, down_law, value_small, below_value_up}
+use Rattle.offset_allocator.proofs.Counting.{value_within_free}
 use Rattle.offset_allocator.proofs.Powers.{not_zero}
 use Rattle.offset_allocator.proofs.Refusals.{is_open, total_is}
 use Rattle.offset_allocator.proofs.counted.refusal_aligned_counted.Goals as goal
-
-pub returns-then-units-allocator-clause-why : goal.returns-then-units-allocator-clause-why
-returns-then-units-allocator-clause-why g c =
-    let f : Fields = fields_of g.NI.NodeIndex.MAX c.allocator.inside in
-    let P : View → Type 0 = λ u. HasRoomFor (blocks_needed c.args.align) u × (sum (free_sizes u.blocks) < units_needed c.args.size c.args.align) in
-    subst P c.allocator.view_is (is_open f c.allocator.invariant _ 0 c.allocator.view_is c.names_left.ensures (omega (arith, c.min-blocks.ensures)), omega (arith, total_is f c.allocator.invariant 0 0, c.if-units-allocator.true, not_zero c.args.align c.requires.power))
-
-pub returns-then-units-allocator-clause-granted : goal.returns-then-units-allocator-clause-granted
-returns-then-units-allocator-clause-granted g c =
-    let known = known_sound (fields_of g.NI.NodeIndex.MAX c.allocator.inside) c.allocator.invariant c.args.allocator.now c.allocator.view_is in
-    (λ e. absurd (cc), λ h. absurd (omega (arith, (returns-then-units-allocator-clause-why g c).1, class_within c.args.allocator.now known.0 (units_needed c.args.size c.args.align) h.1.0 h.1.1 h.1.2)))
-
-pub find_at_or_above-requires-clause-classed : goal.find_at_or_above-requires-clause-classed
-find_at_or_above-requires-clause-classed g c = omega (arith, (below_value_up (c.args.size + (c.args.align - 1)) (omega arith)).1, c.uint_to_float_round_up-smallest.ensures.is)
 
 -- the class that is searched from is that of the units needed
 low_is : (n align k : ℕ) → 1 ≤ align → k ≡ up (n + (align - 1)) → k ≡ up (units_needed n align)
 low_is n align k l e = let same : n + (align - 1) ≡ units_needed n align = omega arith in e ∙ ap up same
 
-pub returns-in-None-clause-why : goal.returns-in-None-clause-why
-returns-in-None-clause-why g c =
-    let f : Fields = fields_of g.NI.NodeIndex.MAX c.allocator.inside in
+-- the class of some units is below that of the request, and of one unit: then the units are too few
+few : (n s k d : ℕ) → s < 2 ^ 32 → k ≡ up n → d ≡ down s → d < max k 1 → s < block_needed n
+few n s k d h e f l = elim (cases_lt s (block_needed n)) [
+  | inl m ↦ m
+  | inr m ↦
+      let a = (down_law s k h).1 (omega (arith, m, ap value e)) in
+      let b = (down_law s 1 h).1 (omega (arith, m, value_small 1 (omega arith))) in
+      absurd (omega (arith, a, b, f, l))
+]
+
+enough : (n s k d : ℕ) → s < 2 ^ 32 → k ≡ up n → d ≡ down s → max k 1 ≤ d → block_needed n ≤ s
+enough n s k d h e f l =
+    let a = (down_law s k h).0 (omega (arith, f, l)) in
+    let b = (down_law s 1 h).0 (omega (arith, f, l)) in
+    omega (arith, a, b, ap value e, value_small 1 (omega arith))
+
+pub returns-then-units-clause-why : goal.returns-then-units-clause-why
+returns-then-units-clause-why g c =
+    let known = known_sound (fields_of g.NI.NodeIndex.MAX c.allocator.inside) c.allocator.invariant c.args.allocator.now c.allocator.view_is in
+    let some = not_zero c.args.align c.requires.power in
+    (omega (arith, c.names_left.ensures, c.min-blocks.ensures, c.if-names_left-blocks.false), omega (arith, known.0.fits, past_words (units_needed c.args.size c.args.align) (omega (arith, some, c.if-units.true))))
+
+pub returns-then-units-clause-granted : goal.returns-then-units-clause-granted
+returns-then-units-clause-granted g c =
+    let known = known_sound (fields_of g.NI.NodeIndex.MAX c.allocator.inside) c.allocator.invariant c.args.allocator.now c.allocator.view_is in
+    (λ e. absurd (cc), λ h. absurd (too_small c.args.allocator.now known.0 (blocks_needed c.args.align) (units_needed c.args.size c.args.align) (returns-then-units-clause-why g c).1 h))
+
+pub returns-then-largest-smallest-clause-why : goal.returns-then-largest-smallest-clause-why
+returns-then-largest-smallest-clause-why g c =
     let low = low_is c.args.size c.args.align _ (not_zero c.args.align c.requires.power) c.uint_to_float_round_up-smallest.ensures.is in
-    let classes = c.allocator.invariant.well.classes in
-    let P : View → Type 0 = λ u. HasRoomFor (blocks_needed c.args.align) u × (units_needed c.args.size c.args.align ≤ sum (free_sizes u.blocks)) × (CanGrant (blocks_needed c.args.align) (units_needed c.args.size c.args.align) u → ⊥) in
-    subst P c.allocator.view_is (
-      is_open f c.allocator.invariant _ 0 c.allocator.view_is c.names_left.ensures (omega (arith, c.min-blocks.ensures)),
-      omega (arith, total_is f c.allocator.invariant 0 0, c.if-units-allocator.false, not_zero c.args.align c.requires.power),
-      λ h. elim (cases_lt h.1.0 256) [ inl l ↦ h.1.2 (c.in-None.ensures.smallest h.1.0 (omega (arith, h.1.1)) l) | inr l ↦ h.1.2 (get_or_past _ h.1.0 [] (omega arith)) ],
+    let size = ap (λ (v : View). v.size) c.allocator.view_is in (
+      omega (arith, c.names_left.ensures, c.min-blocks.ensures, c.if-names_left-blocks.false),
+      elim (cases_lt c.args.allocator.now.size (value (up (units_needed c.args.size c.args.align)))) [
+        | inl l ↦ l
+        | inr l ↦ absurd (omega (arith, c.if-largest-smallest.true, (c.uint_to_float_round_down-largest.ensures.largest c.uint_to_float_round_up-smallest.result).1 (omega (arith, l, size, ap value low))))
+      ],
     )
 
-pub returns-in-None-clause-granted : goal.returns-in-None-clause-granted
-returns-in-None-clause-granted g c = (λ e. absurd (cc), λ h. absurd ((returns-in-None-clause-why g c).2 h))
+pub returns-then-largest-smallest-clause-granted : goal.returns-then-largest-smallest-clause-granted
+returns-then-largest-smallest-clause-granted g c =
+    let known = known_sound (fields_of g.NI.NodeIndex.MAX c.allocator.inside) c.allocator.invariant c.args.allocator.now c.allocator.view_is in
+    (λ e. absurd (cc), λ h. absurd (too_small c.args.allocator.now known.0 (blocks_needed c.args.align) (units_needed c.args.size c.args.align) (returns-then-largest-smallest-clause-why g c).1 h))
+
+pub find_at_or_above-requires-clause-classed : goal.find_at_or_above-requires-clause-classed
+find_at_or_above-requires-clause-classed g c = omega (arith, (below_value_up (c.args.size + (c.args.align - 1)) (omega arith)).1, c.uint_to_float_round_up-smallest.ensures.is)
 
 pub returns-in-Some-clause-granted : goal.returns-in-Some-clause-granted
 returns-in-Some-clause-granted g c =
@@ -50,3 +68,49 @@ returns-in-Some-clause-granted g c =
     let P : View → Type 0 = λ u. CanGrant (blocks_needed c.args.align) (units_needed c.args.size c.args.align) u in
     let some = c.in-Some.ensures.smallest in
     (λ e. subst P c.allocator.view_is (is_open (fields_of g.NI.NodeIndex.MAX c.allocator.inside) c.allocator.invariant _ 0 c.allocator.view_is c.names_left.ensures (omega (arith, c.min-blocks.ensures)), (c.in-Some.field-0, omega (arith, some.0), some.2)), λ h. refl)
+
+-- where no bin from the class on has a block
+refused : goal.returns-then-uint_to_float_round_down-max-clause-granted
+refused g c =
+    let low = low_is c.args.size c.args.align _ (not_zero c.args.align c.requires.power) c.uint_to_float_round_up-smallest.ensures.is in
+    let classes = c.allocator.invariant.well.classes in
+    let P : View → Type 0 = λ u. CanGrant (blocks_needed c.args.align) (units_needed c.args.size c.args.align) u → ⊥ in
+    let none = subst P c.allocator.view_is (λ h. elim (cases_lt h.1.0 256) [ inl l ↦ h.1.2 (c.in-None.ensures.smallest h.1.0 (omega (arith, h.1.1)) l) | inr l ↦ h.1.2 (get_or_past _ h.1.0 [] (omega arith)) ]) in
+    (λ e. absurd (cc), λ h. absurd (none h))
+
+pub returns-then-uint_to_float_round_down-max-clause-granted : goal.returns-then-uint_to_float_round_down-max-clause-granted
+returns-then-uint_to_float_round_down-max-clause-granted g c = refused g c
+
+pub returns-then-uint_to_float_round_down-max-clause-why : goal.returns-then-uint_to_float_round_down-max-clause-why
+returns-then-uint_to_float_round_down-max-clause-why g c =
+    let f : Fields = fields_of g.NI.NodeIndex.MAX c.allocator.inside in
+    let known = known_sound f c.allocator.invariant c.args.allocator.now c.allocator.view_is in
+    let low = low_is c.args.size c.args.align _ (not_zero c.args.align c.requires.power) c.uint_to_float_round_up-smallest.ensures.is in
+    let free = total_is f c.allocator.invariant 0 0 ∙ ap (λ (v : View). sum (free_sizes v.blocks)) c.allocator.view_is in
+    let size = ap (λ (v : View). v.size) c.allocator.view_is in
+    let total = few (units_needed c.args.size c.args.align) c.allocator.inside.free_total c.uint_to_float_round_up-smallest.result c.uint_to_float_round_down.result (omega (arith, free, free_within c.args.allocator.now known.0, known.0.fits)) low c.uint_to_float_round_down.ensures.is (omega (arith, c.max.ensures, c.if-uint_to_float_round_down-max.true)) in (
+      omega (arith, c.names_left.ensures, c.min-blocks.ensures, c.if-names_left-blocks.false),
+      omega (arith, (c.uint_to_float_round_down-largest.ensures.largest c.uint_to_float_round_up-smallest.result).0 (omega (arith, c.if-largest-smallest.false)), size, ap value low),
+      omega (arith, total, free),
+      λ h. let e = (refused g c).1 h in absurd (cc),
+    )
+
+pub returns-else-uint_to_float_round_down-max-clause-granted : goal.returns-else-uint_to_float_round_down-max-clause-granted
+returns-else-uint_to_float_round_down-max-clause-granted g c =
+    let low = low_is c.args.size c.args.align _ (not_zero c.args.align c.requires.power) c.uint_to_float_round_up-smallest.ensures.is in
+    let classes = c.allocator.invariant.well.classes in
+    let P : View → Type 0 = λ u. CanGrant (blocks_needed c.args.align) (units_needed c.args.size c.args.align) u → ⊥ in
+    let none = subst P c.allocator.view_is (λ h. elim (cases_lt h.1.0 256) [ inl l ↦ h.1.2 (c.in-None.ensures.smallest h.1.0 (omega (arith, h.1.1)) l) | inr l ↦ h.1.2 (get_or_past _ h.1.0 [] (omega arith)) ]) in
+    (λ e. absurd (cc), λ h. absurd (none h))
+
+pub returns-else-uint_to_float_round_down-max-clause-why : goal.returns-else-uint_to_float_round_down-max-clause-why
+returns-else-uint_to_float_round_down-max-clause-why g c =
+    let f : Fields = fields_of g.NI.NodeIndex.MAX c.allocator.inside in
+    let known = known_sound f c.allocator.invariant c.args.allocator.now c.allocator.view_is in
+    let low = low_is c.args.size c.args.align _ (not_zero c.args.align c.requires.power) c.uint_to_float_round_up-smallest.ensures.is in
+    let free = total_is f c.allocator.invariant 0 0 ∙ ap (λ (v : View). sum (free_sizes v.blocks)) c.allocator.view_is in
+    let total = enough (units_needed c.args.size c.args.align) c.allocator.inside.free_total c.uint_to_float_round_up-smallest.result c.uint_to_float_round_down.result (omega (arith, free, free_within c.args.allocator.now known.0, known.0.fits)) low c.uint_to_float_round_down.ensures.is (omega (arith, c.max.ensures, c.if-uint_to_float_round_down-max.false)) in (
+      omega (arith, c.names_left.ensures, c.min-blocks.ensures, c.if-names_left-blocks.false),
+      omega (arith, total, free),
+      λ h. let e = (returns-else-uint_to_float_round_down-max-clause-granted g c).1 h in absurd (cc),
+    )

@@ -34,8 +34,8 @@ returns-clause-accesses_min g c l =
       | in-Some w ↦ omega (arith, w.in-Some.ensures.accesses)
     ]
 
-pub returns-clause-accesses_max : goal.returns-clause-accesses_max
-returns-clause-accesses_max g c = grind (arith, common_steps)
+pub returns-clause-accesses : goal.returns-clause-accesses
+returns-clause-accesses g c = (grind (arith, common_steps), grind (arith, common_steps))
 
 pub returns-then-names_left-lt2-clause-report : goal.returns-then-names_left-lt2-clause-report
 returns-then-names_left-lt2-clause-report g c = grind (arith, common_steps)

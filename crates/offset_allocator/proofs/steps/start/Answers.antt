@@ -1,24 +1,29 @@
-use Rattle.std.proofs.Common.{ap, ◌∙◌, arith, ℕ, List, [], replicate}
+use Rattle.std.proofs.Common.{◌≡◌, ap, ◌∙◌, arith, ℕ, List, [], replicate}
 use Rattle.offset_allocator.specs.Named.{push}
+use Rattle.offset_allocator.specs.Orders.{class_lists}
 use Rattle.offset_allocator.proofs.Classes.{down_small}
 use Rattle.offset_allocator.proofs.Fresh.{empty_unlisted, first_idle, started}
 use Rattle.offset_allocator.proofs.steps.start.Goals as goal
 
 pub push-requires-clause-named : goal.push-requires-clause-named
-push-requires-clause-named g c = omega (arith, c.requires.node)
+push-requires-clause-named g c = omega (arith, c.start.ensures.node)
 
 pub push-requires-clause-idle : goal.push-requires-clause-idle
-push-requires-clause-idle g c = first_idle c.requires.space c.requires.blocks
+push-requires-clause-idle g c = first_idle c.start.ensures.space c.start.ensures.blocks
 
 pub push-requires-clause-classed : goal.push-requires-clause-classed
 push-requires-clause-classed g c =
     let s = down_small c.args.size in omega (arith, s, c.uint_to_float_round_down.ensures.is)
 
 pub push-requires-clause-unlisted : goal.push-requires-clause-unlisted
-push-requires-clause-unlisted g c = empty_unlisted 0 c.requires.empty
+push-requires-clause-unlisted g c = empty_unlisted 0 (rw c.start.ensures.links c.requires.empty)
 
 pub returns-clause-started : goal.returns-clause-started
 returns-clause-started g c =
-    let order = c.push.ensures.lists ∙ ap (λ (o : List (List ℕ)). push c.uint_to_float_round_down.result 0 o) c.requires.empty ∙ ap (λ (k : ℕ). push k 0 (replicate 256 [])) c.uint_to_float_round_down.ensures.is in
-    let done = started g.NI.NodeIndex.MAX c.args.max_allocs c.args.size c.push.new.tables c.push.new.top_mask (omega arith) (omega arith) (omega arith) (rw c.push.ensures.room c.requires.reserved) (rw c.push.ensures.room c.requires.space) (rw c.push.ensures.room c.requires.blocks) c.push.ensures.held order in
+    let empty : class_lists g.NI.NodeIndex.MAX c.start.new.tables.links ≡ replicate 256 [] = rw c.start.ensures.links c.requires.empty in
+    let order = c.push.ensures.lists ∙ ap (λ (o : List (List ℕ)). push c.uint_to_float_round_down.result 0 o) empty ∙ ap (λ (k : ℕ). push k 0 (replicate 256 [])) c.uint_to_float_round_down.ensures.is in
+    let done = started g.NI.NodeIndex.MAX c.args.max_allocs c.args.size c.push.new.store.tables c.push.new.store.top_mask (omega arith) (omega arith) (omega arith) (rw c.push.ensures.chain.0 c.start.ensures.reserved) (rw c.push.ensures.chain.0 c.start.ensures.space) (rw c.push.ensures.chain.0 c.start.ensures.blocks) c.push.ensures.held order in
     record { sound = done.0; view = done.1 }
+
+pub push-requires-clause-held : goal.push-requires-clause-held
+push-requires-clause-held g c = rw c.start.ensures.links c.requires.held

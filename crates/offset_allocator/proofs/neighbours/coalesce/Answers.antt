@@ -1,0 +1,145 @@
+use Rattle.std.proofs.Common.{◌≡◌, ◌+◌, refl, sym, ap, arith, ◌∙◌}
+use Rattle.offset_allocator.specs.Cells.{Node, node}
+use Rattle.offset_allocator.specs.Named.{push}
+use Rattle.offset_allocator.proofs.Classes.{down_small}
+use Rattle.offset_allocator.proofs.Places.{at_place, next_place, previous_place, kept_before, kept_after, kept_place, free_before, free_after, before_fits, after_fits}
+use Rattle.offset_allocator.proofs.Filed.{unlisted, previous_filed, next_filed, filed_before, next_same}
+use Rattle.offset_allocator.proofs.neighbours.coalesce.Goals as goal
+use Rattle.offset_allocator.proofs.neighbours.coalesce.Goals.{in-Some, in_default+in-Some-free_before}
+
+-- a free block after it
+pub size-more-requires : goal.size-more-requires
+size-more-requires g c =
+    let h = c.requires.place.2 in
+    let merged = c.with_before-size.ensures.place _ _ h in
+    (next_place merged (next_same h merged refl c.in-Some.ensures.free.0).0).place.below
+
+pub overflow_add-whole : goal.overflow_add-whole
+overflow_add-whole g c =
+    let h = c.requires.place.2 in
+    let merged = c.with_before-size.ensures.place _ _ h in
+    omega (arith, c.size-more.ensures.size, c.with_before-size.ensures.size, after_fits merged (next_same h merged refl c.in-Some.ensures.free.0).0)
+
+pub coalesce_after-requires-clause-place : goal.coalesce_after-requires-clause-place
+coalesce_after-requires-clause-place g c = (_, _, c.with_before-size.ensures.place _ _ c.requires.place.2)
+
+pub coalesce_after-requires-clause-next : goal.coalesce_after-requires-clause-next
+coalesce_after-requires-clause-next g c =
+    let h = c.requires.place.2 in (next_same h (c.with_before-size.ensures.place _ _ h) refl c.in-Some.ensures.free.0).0
+
+pub coalesce_after-requires-clause-free : goal.coalesce_after-requires-clause-free
+coalesce_after-requires-clause-free g c =
+    let h = c.requires.place.2 in (next_same h (c.with_before-size.ensures.place _ _ h) refl c.in-Some.ensures.free.0).1 ∙ c.in-Some.ensures.free.1
+
+-- a free block before it alone
+pub size-more-requires-in-Some-free_before : goal.size-more-requires-in-Some-free_before
+size-more-requires-in-Some-free_before g c = (previous_place c.requires.place.2 c.in-Some-free_before.ensures.free.0).place.below
+
+pub overflow_add-whole-in-Some-free_before : goal.overflow_add-whole-in-Some-free_before
+overflow_add-whole-in-Some-free_before g c = omega (arith, c.size-more-in-Some-free_before.ensures.size, c.requires.size, before_fits c.requires.place.2 c.in-Some-free_before.ensures.free.0)
+
+-- no free block beside it
+pub push-requires-clause-classed : goal.push-requires-clause-classed
+push-requires-clause-classed g c = let s = down_small c.args.size in omega (arith, s, c.uint_to_float_round_down.ensures.is)
+
+pub push-requires-clause-unlisted : goal.push-requires-clause-unlisted
+push-requires-clause-unlisted g c = unlisted c.requires.place.2 _ c.requires.place.3
+
+pub returns-in_default-free_before-clause-place : goal.returns-in_default-free_before-clause-place
+returns-in_default-free_before-clause-place g c m p h =
+    kept_place c.push.ensures.chain (kept_after (kept_before h (c.in_default-free_before.ensures.free _ _ _ _ h)) (c.in_default.ensures.free _ _ _ _ h))
+
+pub returns-in_default-free_before-clause-lists : goal.returns-in_default-free_before-clause-lists
+returns-in_default-free_before-clause-lists g c m p h =
+    rw (c.push.ensures.chain.0, c.push.ensures.lists, c.uint_to_float_round_down.ensures.is, ← c.requires.size, c.in_default-free_before.ensures.free _ _ _ _ h, c.in_default.ensures.free _ _ _ _ h) refl
+
+-- a free block beside it
+pub exchange-requires-clause-listed : goal.exchange-requires-clause-listed
+exchange-requires-clause-listed g c =
+    let h = c.requires.place.2 in
+    elim c.match-free_after.branch [
+      | in-Some w ↦
+          let merged = w.with_before-size.ensures.place _ _ h in
+          let same = next_same h merged refl w.in-Some.ensures.free.0 in
+          rw (w.store-is, w.gone-is, w.coalesce_after.ensures.bins.0, w.with_before-size.ensures.lists _ _ h, w.size-more.ensures.size) (next_filed merged _ (filed_before h _ c.requires.place.3 c.requires.held.linked.lists_len) same.0 (same.1 ∙ w.in-Some.ensures.free.1))
+      | in_default+in-Some-free_before w ↦
+          let before = w.in-Some-free_before.ensures.free in
+          rw (w.store-is, w.gone-is, w.coalesce_before.ensures.bins.0, w.size-more-in-Some-free_before.ensures.size) (previous_filed h _ c.requires.place.3 before.0 before.1)
+    ]
+
+pub exchange-requires-clause-classed : goal.exchange-requires-clause-classed
+exchange-requires-clause-classed g c = let s = down_small c.match-free_after.gone.2 in omega (arith, s, c.uint_to_float_round_down-2.ensures.is)
+
+pub exchange-requires-clause-idle : goal.exchange-requires-clause-idle
+exchange-requires-clause-idle g c =
+    let h = c.requires.place.2 in
+    let used = λ (v : Node). v.used in
+    let idle = sym (ap used (at_place h)) ∙ c.requires.idle in
+    elim c.match-free_after.branch [
+      | in-Some w ↦ rw w.store-is (ap used (at_place (w.coalesce_after.ensures.place _ _ (w.with_before-size.ensures.place _ _ h))) ∙ idle)
+      | in_default+in-Some-free_before w ↦ rw w.store-is (ap used (at_place (w.coalesce_before.ensures.place _ _ h)) ∙ idle)
+    ]
+
+pub exchange-requires-clause-unlisted : goal.exchange-requires-clause-unlisted
+exchange-requires-clause-unlisted g c =
+    let h = c.requires.place.2 in
+    elim c.match-free_after.branch [
+      | in-Some w ↦ rw (w.store-is, w.coalesce_after.ensures.bins.0, w.with_before-size.ensures.lists _ _ h) (unlisted (w.with_before-size.ensures.place _ _ h) _ (filed_before h _ c.requires.place.3 c.requires.held.linked.lists_len))
+      | in_default+in-Some-free_before w ↦ rw (w.store-is, w.coalesce_before.ensures.bins.0) (unlisted h _ c.requires.place.3)
+    ]
+
+pub returns-clause-place : goal.returns-clause-place
+returns-clause-place g c m p h = elim c.match-free_after.branch [
+  | in-Some w ↦ kept_place c.exchange.ensures.chain (rw w.store-is (w.coalesce_after.ensures.place _ _ (w.with_before-size.ensures.place _ _ h)))
+  | in_default+in-Some-free_before w ↦ kept_place c.exchange.ensures.chain (rw w.store-is (kept_after (w.coalesce_before.ensures.place _ _ h) (w.in_default.ensures.free _ _ _ _ h)))
+]
+
+pub returns-clause-lists : goal.returns-clause-lists
+returns-clause-lists g c m p h = elim c.match-free_after.branch [
+  | in-Some w ↦
+      let merged = w.with_before-size.ensures.place _ _ h in
+      let same = next_same h merged refl w.in-Some.ensures.free.0 in
+      let gone = free_after merged same.0 (same.1 ∙ w.in-Some.ensures.free.1) in
+      let left = w.coalesce_after.ensures.place _ _ merged in
+      let whole : w.with_before-size.result + w.size-more.result ≡ (node w.coalesce_after.new.store.tables.room c.args.name).size = omega (arith, w.size-more.ensures.size, w.with_before-size.ensures.size, gone.0, ap (λ (v : Node). v.size) (at_place left), ap (λ (v : Node). v.size) (at_place merged)) in
+      rw (c.exchange.ensures.chain.0, c.exchange.ensures.lists, c.uint_to_float_round_down-2.ensures.is, w.store-is, w.gone-is, whole, w.coalesce_after.ensures.bins.0, w.with_before-size.ensures.lists _ _ h, w.size-more.ensures.size) (ap (push _ c.args.name) (sym (gone.1 _)))
+  | in_default+in-Some-free_before w ↦
+      let before = w.in-Some-free_before.ensures.free in
+      let gone = free_before h before.0 before.1 in
+      let left = w.coalesce_before.ensures.place _ _ h in
+      let whole : w.size-more-in-Some-free_before.result + c.args.size ≡ (node w.coalesce_before.new.store.tables.room c.args.name).size = omega (arith, w.size-more-in-Some-free_before.ensures.size, c.requires.size, gone.0, ap (λ (v : Node). v.size) (at_place left), ap (λ (v : Node). v.size) (at_place h)) in
+      rw (c.exchange.ensures.chain.0, c.exchange.ensures.lists, c.uint_to_float_round_down-2.ensures.is, w.store-is, w.gone-is, whole, w.coalesce_before.ensures.bins.0, w.size-more-in-Some-free_before.ensures.size, w.in_default.ensures.free _ _ _ _ h) (ap (push _ c.args.name) (sym (gone.1 _)))
+]
+
+pub free_after-requires : goal.free_after-requires
+free_after-requires g c = record { place = (_, _, _, _, c.requires.place.2) }
+
+pub free_before-requires : goal.free_before-requires
+free_before-requires g c = record { place = (_, _, _, _, c.requires.place.2) }
+
+pub with_before-size-requires-clause-place : goal.with_before-size-requires-clause-place
+with_before-size-requires-clause-place g c = c.requires.place
+
+pub with_before-size-requires-clause-held : goal.with_before-size-requires-clause-held
+with_before-size-requires-clause-held g c = c.requires.held
+
+pub with_before-size-requires-clause-size : goal.with_before-size-requires-clause-size
+with_before-size-requires-clause-size g c = c.requires.size
+
+pub coalesce_before-requires-clause-place : goal.coalesce_before-requires-clause-place
+coalesce_before-requires-clause-place g c = (_, _, c.requires.place.2)
+
+pub coalesce_before-requires-clause-previous : goal.coalesce_before-requires-clause-previous
+coalesce_before-requires-clause-previous g c = c.in-Some-free_before.ensures.free.0
+
+pub coalesce_before-requires-clause-free : goal.coalesce_before-requires-clause-free
+coalesce_before-requires-clause-free g c = c.in-Some-free_before.ensures.free.1
+
+pub returns-clause-held : goal.returns-clause-held
+returns-clause-held g c = c.exchange.ensures.held
+
+pub exchange-requires-clause-held : goal.exchange-requires-clause-held
+exchange-requires-clause-held g c = elim c.match-free_after.branch [
+  | in-Some w ↦ rw (w.store-is, w.coalesce_after.ensures.bins.0, w.coalesce_after.ensures.bins.1) w.with_before-size.ensures.held
+  | in_default+in-Some-free_before w ↦ rw (w.store-is, w.coalesce_before.ensures.bins.0, w.coalesce_before.ensures.bins.1) c.requires.held
+]

@@ -1,0 +1,58 @@
+use Rattle.std.proofs.Common.{◌≡◌, ◌∙◌, List, refl, ap, arith, inl, inr, eq-zero-or-pos, sym}
+use Rattle.offset_allocator.specs.Cells.{Node}
+use Rattle.offset_allocator.specs.Named.{Block, free_part, push_all}
+use Rattle.offset_allocator.specs.Orders.{Binned, IsUnlisted, class_lists}
+use Rattle.offset_allocator.proofs.Pieces.{padded_unlisted, pushed_parts, unlisted_part}
+use Rattle.offset_allocator.proofs.Places.{at_place}
+use Rattle.offset_allocator.proofs.Tallies.{part_sums, units-append}
+use Rattle.offset_allocator.proofs.neighbours.divide.Goals as goal
+use Rattle.offset_allocator.proofs.neighbours.divide.Goals.{After-mark}
+use Rattle.offset_allocator.proofs.neighbours.divide.Given.{Over}
+
+pub split_padding-front-requires-clause-place : goal.split_padding-front-requires-clause-place
+split_padding-front-requires-clause-place g c = (_, _, c.requires.place.2, c.requires.place.3)
+
+pub mark-requires : goal.mark-requires
+mark-requires g c = (c.split_padding-front.ensures.place _ _ c.requires.place.2).below
+
+-- the bins once the block is used
+marked : (g : Over) (c : After-mark g) → Binned g.NI.NodeIndex.MAX c.mark.new.tables.links c.split_padding-front.new.store.top_mask × (class_lists g.NI.NodeIndex.MAX c.mark.new.tables.links ≡ push_all (free_part c.split_padding-front.result c.args.padding) (class_lists g.NI.NodeIndex.MAX c.args.store.now.tables.links))
+marked g c =
+    let front = c.split_padding-front.ensures in
+    let fresh : IsUnlisted c.args.name (class_lists g.NI.NodeIndex.MAX c.split_padding-front.new.store.tables.links) = rw front.lists (padded_unlisted c.requires.place.1.before c.split_padding-front.result c.args.padding _ c.requires.held.linked.lists_len (front.place _ _ c.requires.place.2) c.requires.unlisted) in
+    let b = c.mark.ensures.bins _ fresh front.held in
+    (b.0, b.1 ∙ front.lists)
+
+pub split_remainder-rest-requires-clause-held : goal.split_remainder-rest-requires-clause-held
+split_remainder-rest-requires-clause-held g c = (marked g (goal.at.split_remainder-rest-requires-clause-held g c).After-mark).0
+
+pub split_remainder-rest-requires-clause-spare : goal.split_remainder-rest-requires-clause-spare
+split_remainder-rest-requires-clause-spare g c = elim (eq-zero-or-pos c.args.padding) [
+  | inl z ↦ omega (arith, c.requires.spare, c.split_padding-front.ensures.spares_kept z)
+  | inr l ↦ omega (arith, c.requires.two l, c.split_padding-front.ensures.spares)
+]
+
+pub split_remainder-rest-requires-clause-place : goal.split_remainder-rest-requires-clause-place
+split_remainder-rest-requires-clause-place g c =
+    let r = c.requires.place in
+    (_, _, c.mark.ensures.place _ _ _ _ (c.split_padding-front.ensures.place _ _ r.2), rw (marked g (goal.at.split_remainder-rest-requires-clause-place g c).After-mark).1 (unlisted_part r.1.before r.1.after r.1.block _ c.split_padding-front.result c.args.padding _ refl c.requires.held.linked.lists_len r.3))
+
+pub split_remainder-rest-requires-clause-whole : goal.split_remainder-rest-requires-clause-whole
+split_remainder-rest-requires-clause-whole g c =
+    let h = c.requires.place.2 in
+    let now = at_place (c.mark.ensures.place _ _ _ _ (c.split_padding-front.ensures.place _ _ h)) in
+    omega (arith, c.requires.whole, ap (λ (v : Node). v.size) (at_place h), ap (λ (v : Node). v.size) now)
+
+pub returns-clause-place : goal.returns-clause-place
+returns-clause-place g c m p h = c.split_remainder-rest.ensures.place _ _ (c.mark.ensures.place _ _ _ _ (c.split_padding-front.ensures.place _ _ h))
+
+pub split_remainder-rest-requires-clause-offset : goal.split_remainder-rest-requires-clause-offset
+split_remainder-rest-requires-clause-offset g c =
+    let h = c.requires.place.2 in
+    let now = at_place (c.mark.ensures.place _ _ _ _ (c.split_padding-front.ensures.place _ _ h)) in
+    omega (arith, c.requires.start, ap (λ (v : Node). v.offset) (at_place h), ap (λ (v : Node). v.offset) now, units-append c.requires.place.1.before (free_part c.split_padding-front.result c.args.padding), (part_sums c.split_padding-front.result c.args.padding).1)
+
+pub returns-clause-lists : goal.returns-clause-lists
+returns-clause-lists g c =
+    let rest : List Block = free_part c.split_remainder-rest.result c.args.left in
+    c.split_remainder-rest.ensures.lists ∙ ap (push_all rest) (marked g (goal.at.returns-clause-lists g c).After-mark).1 ∙ sym (pushed_parts c.split_padding-front.result c.args.padding c.args.name c.args.size rest (class_lists g.NI.NodeIndex.MAX c.args.store.now.tables.links))

@@ -1,0 +1,42 @@
+use Rattle.std.proofs.Common.{◌≡◌, ◌∙◌, ℕ, ◌+◌, ◌-◌, ◌<◌, ap, arith}
+use Rattle.offset_allocator.specs.Cells.{Node}
+use Rattle.offset_allocator.specs.Named.{Place, units, free_start}
+use Rattle.offset_allocator.proofs.Filed.{unlisted_after}
+use Rattle.offset_allocator.proofs.Places.{at_place}
+use Rattle.offset_allocator.specs.Space.{HasPlace}
+use Rattle.offset_allocator.proofs.neighbours.resize.Goals as goal
+use Rattle.offset_allocator.proofs.neighbours.resize.Goals.{After-with_after-whole}
+use Rattle.offset_allocator.proofs.neighbours.resize.Given.{Over}
+
+-- the size of the whole block
+whole : (g : Over) (c : After-with_after-whole g) (p : Place) {m : ℕ} → HasPlace c.args.store.now.tables.room m c.args.store.now.last c.args.store.now.spare_count c.args.name p → c.with_after-whole.result ≡ p.block.size + units (free_start p.after)
+whole g c p h = c.with_after-whole.ensures.size ∙ ap (λ (v : Node). v.size) (at_place (c.with_after-whole.ensures.place _ _ h))
+
+pub offset-offset-requires : goal.offset-offset-requires
+offset-offset-requires g c = (c.with_after-whole.ensures.place _ _ c.requires.place.2).below
+
+pub overflow_sub-whole : goal.overflow_sub-whole
+overflow_sub-whole g c = omega (arith, whole g (goal.at.overflow_sub-whole g c).After-with_after-whole _ c.requires.place.2, c.requires.place.4)
+
+pub split_remainder-requires-clause-place : goal.split_remainder-requires-clause-place
+split_remainder-requires-clause-place g c =
+    let r = c.requires.place in
+    (_, _, c.with_after-whole.ensures.place _ _ r.2, rw (c.with_after-whole.ensures.lists _ _ r.2) (unlisted_after r.2 _ r.3 c.requires.held.linked.lists_len _))
+
+pub split_remainder-requires-clause-whole : goal.split_remainder-requires-clause-whole
+split_remainder-requires-clause-whole g c = omega (arith, whole g (goal.at.split_remainder-requires-clause-whole g c).After-with_after-whole _ c.requires.place.2, c.requires.place.4, c.with_after-whole.ensures.size)
+
+pub returns-clause-place : goal.returns-clause-place
+returns-clause-place g c m p h =
+    rw (← whole g (goal.at.returns-clause-place g c).After-with_after-whole p h) (c.split_remainder.ensures.place _ _ (c.with_after-whole.ensures.place _ _ h))
+
+pub returns-clause-lists : goal.returns-clause-lists
+returns-clause-lists g c m p h =
+    rw (← whole g (goal.at.returns-clause-lists g c).After-with_after-whole p h, ← c.with_after-whole.ensures.lists _ _ h) c.split_remainder.ensures.lists
+
+pub returns-clause-accesses_less : goal.returns-clause-accesses_less
+returns-clause-accesses_less g c l =
+    let h = c.requires.place.2 in
+    let w = whole g (goal.at.returns-clause-accesses_less g c).After-with_after-whole _ h in
+    let some : 0 < c.with_after-whole.result - c.args.size = omega (arith, l, w, c.requires.old_size, ap (λ (v : Node). v.size) (at_place h)) in
+    omega (arith, c.split_remainder.ensures.accesses_min some, c.offset-offset.ensures.accesses, c.with_after-whole.ensures.accesses.0)

@@ -1,0 +1,34 @@
+use Rattle.std.proofs.Common.{refl, sym, ap, arith}
+use Rattle.offset_allocator.specs.Cells.{Node}
+use Rattle.offset_allocator.proofs.Places.{at_place, previous_place, kept_before, free_before, before_fits, kept_place}
+use Rattle.offset_allocator.proofs.Filed.{previous_filed}
+use Rattle.offset_allocator.proofs.neighbours.with_before.Goals as goal
+
+pub size-more-requires : goal.size-more-requires
+size-more-requires g c = (previous_place c.requires.place.2 c.in-Some.ensures.free.0).place.below
+
+pub overflow_add-whole : goal.overflow_add-whole
+overflow_add-whole g c = omega (arith, c.size-more.ensures.size, c.requires.size, before_fits c.requires.place.2 c.in-Some.ensures.free.0)
+
+pub remove-requires-clause-listed : goal.remove-requires-clause-listed
+remove-requires-clause-listed g c =
+    rw c.size-more.ensures.size (previous_filed c.requires.place.2 _ c.requires.place.3 c.in-Some.ensures.free.0 c.in-Some.ensures.free.1)
+
+pub returns-in-Some-clause-place : goal.returns-in-Some-clause-place
+returns-in-Some-clause-place g c m p h = c.coalesce_before.ensures.place _ p (kept_place c.remove.ensures.chain h)
+
+pub returns-in-Some-clause-lists : goal.returns-in-Some-clause-lists
+returns-in-Some-clause-lists g c m p h =
+    rw (c.coalesce_before.ensures.bins.0, c.remove.ensures.lists, c.size-more.ensures.size) (sym ((free_before h c.in-Some.ensures.free.0 c.in-Some.ensures.free.1).1 _))
+
+pub returns-in-Some-clause-size : goal.returns-in-Some-clause-size
+returns-in-Some-clause-size g c =
+    let h = c.requires.place.2 in
+    let left = c.coalesce_before.ensures.place _ _ (kept_place c.remove.ensures.chain h) in
+    omega (arith, c.size-more.ensures.size, c.requires.size, (free_before h c.in-Some.ensures.free.0 c.in-Some.ensures.free.1).0, ap (λ (v : Node). v.size) (at_place left), ap (λ (v : Node). v.size) (at_place h))
+
+pub returns-clause-place : goal.returns-clause-place
+returns-clause-place g c m p h = kept_before h (c.in_default.ensures.free _ _ _ _ h)
+
+pub returns-clause-lists : goal.returns-clause-lists
+returns-clause-lists g c m p h = rw (c.in_default.ensures.free _ _ _ _ h) refl

@@ -1,0 +1,310 @@
+//! A block and its neighbours: coalesces it with the free ones, splits it into padding, grant and remainder, or resizes
+//! it into the free block after it. Each changes both halves of a store.
+ghost use Rattle.std.specs.Prelude.{ℕ, ◌≡◌, ◌+◌, ◌≤◌, ◌++◌, [], Some, false, length, MatchOption, ◌-◌, ◌<◌, IsSome, ◌∷◌};
+ghost use Rattle.offset_allocator.specs.Count.{Costs};
+ghost use Rattle.offset_allocator.specs.Classes.{down};
+ghost use Rattle.offset_allocator.specs.Cells.{node};
+ghost use Rattle.offset_allocator.specs.Named.{Place, free_end, free_start, push, remove_all, free_part, without_start, used_block, units, push_all};
+ghost use Rattle.offset_allocator.specs.Space.{HasPlace, IsFreeAfter, coalesced_before, coalesced_after};
+ghost use Rattle.offset_allocator.specs.State.{AreFiled, AreUnlisted};
+ghost use Rattle.offset_allocator.specs.Stored.{IsPlaceIn, AreBinned, bins_of};
+ghost use Rattle.offset_allocator.specs.Orders.{IsUnlisted};
+
+use crate::accesses::Accesses;
+use crate::index::NodeIndex;
+use crate::small_float::uint_to_float_round_down;
+use crate::store::Store;
+use crate::tables::Tables;
+use crate::{bins, chain};
+
+// The name of a free block directly before a block, if there is one.
+#[inline(always)]
+fn free_before<NI: NodeIndex>(tables: &Tables<NI>, name: u32, count: &mut Accesses) -> Option<u32>
+    requires place { (m last spare : ℕ) × (p : Place) × HasPlace tables.now.room m last spare name p }
+    ensures free { MatchOption result ((m last spare : ℕ) (p : Place) → HasPlace tables.now.room m last spare name p
+        → free_end p.before ≡ []) (λ x. (Some x ≡ (node tables.now.room name).before)
+        × ((node tables.now.room x).used ≡ false)) }
+    ensures accesses { Costs 1 2 count.old count.new }
+{
+    if let Some(previous) = chain::before(tables, name, count) {
+        if !chain::is_used(tables, previous, count) {
+            return Some(previous);
+        }
+    }
+    None
+}
+
+/// The name of a free block directly after a block, if there is one.
+#[inline(always)]
+pub(crate) fn free_after<NI: NodeIndex>(
+    tables: &Tables<NI>,
+    name: u32,
+    count: &mut Accesses,
+) -> Option<u32>
+    requires place { (m last spare : ℕ) × (p : Place) × HasPlace tables.now.room m last spare name p }
+    ensures free { IsFreeAfter tables.now.room name result }
+    ensures accesses { Costs 1 2 count.old count.new }
+{
+    if let Some(following) = chain::after(tables, name, count) {
+        if !chain::is_used(tables, following, count) {
+            return Some(following);
+        }
+    }
+    None
+}
+
+/// The units of the free block `next`, if any, directly after a block.
+#[inline(always)]
+pub(crate) fn units_after<NI: NodeIndex>(
+    tables: &Tables<NI>,
+    name: u32,
+    next: Option<u32>,
+    count: &mut Accesses,
+) -> u32
+    requires place { (m last spare : ℕ) × (p : Place) × HasPlace tables.now.room m last spare name p }
+    requires next { IsFreeAfter tables.now.room name next }
+    ensures units { (m last spare : ℕ) (p : Place) → HasPlace tables.now.room m last spare name p → result
+        ≡ units (free_start p.after) }
+    ensures accesses { Costs 0 1 count.old count.new }
+{
+    match next {
+        None => 0,
+        Some(following) => chain::size(tables, following, count),
+    }
+}
+
+// If a free block is directly before a block of this size, it leaves its bin and is coalesced into the block. The size
+// of the whole is returned.
+#[inline(always)]
+fn with_before<NI: NodeIndex>(store: &mut Store<NI>, name: u32, size: u32) -> u32
+    requires place { (m : ℕ) × (p : Place) × IsPlaceIn store.old m name p
+        × AreFiled (p.before ++ p.after) (bins_of NI.MAX store.old) }
+    requires held { AreBinned NI.MAX store.old }
+    requires size { size ≡ (node store.old.tables.room name).size }
+    ensures place { (m : ℕ) (p : Place) → IsPlaceIn store.old m name p
+        → IsPlaceIn store.new m name (coalesced_before p) }
+    ensures held { AreBinned NI.MAX store.new }
+    ensures lists { (m : ℕ) (p : Place) → IsPlaceIn store.old m name p → bins_of NI.MAX store.new
+        ≡ remove_all (free_end p.before) (bins_of NI.MAX store.old) }
+    ensures nodes { length store.new.tables.room.nodes ≡ length store.old.tables.room.nodes }
+    ensures size { result ≡ (node store.new.tables.room name).size }
+    ensures accesses { Costs 1 15 store.old.accesses store.new.accesses }
+{
+    if let Some(previous) = free_before(&store.tables, name, &mut store.accesses) {
+        let more = chain::size(&store.tables, previous, &mut store.accesses);
+        let whole = more + size;
+        bins::remove(store, previous, more);
+        chain::coalesce_before(store, previous, name, whole);
+        return whole;
+    }
+    size
+}
+
+// If a free block, of the name `next`, is directly after a block of this size, it leaves its bin and is coalesced into
+// the block. The size of the whole is returned.
+#[inline(always)]
+fn with_after<NI: NodeIndex>(store: &mut Store<NI>, name: u32, size: u32, next: Option<u32>) -> u32
+    requires place { (m : ℕ) × (p : Place) × IsPlaceIn store.old m name p
+        × AreFiled (p.before ++ p.after) (bins_of NI.MAX store.old) }
+    requires held { AreBinned NI.MAX store.old }
+    requires size { size ≡ (node store.old.tables.room name).size }
+    requires next { IsFreeAfter store.old.tables.room name next }
+    ensures place { (m : ℕ) (p : Place) → IsPlaceIn store.old m name p
+        → IsPlaceIn store.new m name (coalesced_after p) }
+    ensures held { AreBinned NI.MAX store.new }
+    ensures lists { (m : ℕ) (p : Place) → IsPlaceIn store.old m name p → bins_of NI.MAX store.new
+        ≡ remove_all (free_start p.after) (bins_of NI.MAX store.old) }
+    ensures spares { store.old.spare_count ≤ store.new.spare_count }
+    ensures size { result ≡ (node store.new.tables.room name).size }
+    ensures accesses { Costs 0 11 store.old.accesses store.new.accesses }
+    ensures accesses_min { IsSome next → store.old.accesses + 8 ≤ store.new.accesses }
+{
+    match next {
+        None => size,
+        Some(following) => {
+            let more = chain::size(&store.tables, following, &mut store.accesses);
+            let whole = size + more;
+            bins::remove(store, following, more);
+            chain::coalesce_after(store, name, following, whole);
+            whole
+        }
+    }
+}
+
+/// Coalesces a block of this size, which is in no bin, with the free blocks beside it, and pushes the whole onto its
+/// bin. If the neighbour that is coalesced last heads this bin, the block takes its place there.
+#[inline(always)]
+pub(crate) fn coalesce<NI: NodeIndex>(store: &mut Store<NI>, name: u32, size: u32)
+    requires place { (m : ℕ) × (p : Place) × IsPlaceIn store.old m name p
+        × AreFiled (p.before ++ p.after) (bins_of NI.MAX store.old) }
+    requires held { AreBinned NI.MAX store.old }
+    requires idle { (node store.old.tables.room name).used ≡ false }
+    requires size { size ≡ (node store.old.tables.room name).size }
+    ensures place { (m : ℕ) (p : Place) → IsPlaceIn store.old m name p
+        → IsPlaceIn store.new m name (coalesced_after (coalesced_before p)) }
+    ensures held { AreBinned NI.MAX store.new }
+    ensures lists { (m : ℕ) (p : Place) → IsPlaceIn store.old m name p → bins_of NI.MAX store.new
+        ≡ push (down (node store.new.tables.room name).size) name
+        (remove_all (free_start p.after) (remove_all (free_end p.before) (bins_of NI.MAX store.old))) }
+    ensures accesses { Costs 7 34 store.old.accesses store.new.accesses }
+{
+    let (gone, more, whole) = if let Some(following) = free_after(
+        &store.tables,
+        name,
+        &mut store.accesses,
+    ) {
+        let size = with_before(store, name, size);
+        let more = chain::size(&store.tables, following, &mut store.accesses);
+        let whole = size + more;
+        chain::coalesce_after(store, name, following, whole);
+        (following, more, whole)
+    } else if let Some(previous) = free_before(&store.tables, name, &mut store.accesses) {
+        let more = chain::size(&store.tables, previous, &mut store.accesses);
+        let whole = more + size;
+        chain::coalesce_before(store, previous, name, whole);
+        (previous, more, whole)
+    } else {
+        bins::push(store, name, uint_to_float_round_down(size));
+        return;
+    };
+    bins::exchange(store, gone, more, name, uint_to_float_round_down(whole));
+}
+
+// Splits the first units off a block: they become a free block in its bin, under the name that is returned. Where there
+// are none, nothing changes, and the name returned is that of the block.
+#[inline(always)]
+fn split_padding<NI: NodeIndex>(store: &mut Store<NI>, name: u32, units: u32) -> u32
+    requires place { (m : ℕ) × (p : Place) × IsPlaceIn store.old m name p
+        × AreUnlisted (p.before ++ p.block ∷ p.after) (bins_of NI.MAX store.old) }
+    requires held { AreBinned NI.MAX store.old }
+    requires spare { 0 < store.old.spare_count }
+    requires within { units ≤ (node store.old.tables.room name).size }
+    ensures place { (m : ℕ) (p : Place) → IsPlaceIn store.old m name p
+        → IsPlaceIn store.new m name (record {
+          before = p.before ++ free_part result units;
+          block = record p.block { size = p.block.size - units };
+          after = p.after;
+        }) }
+    ensures held { AreBinned NI.MAX store.new }
+    ensures lists { bins_of NI.MAX store.new ≡ push_all (free_part result units) (bins_of NI.MAX store.old) }
+    ensures nodes { length store.new.tables.room.nodes ≡ length store.old.tables.room.nodes }
+    ensures spares { store.old.spare_count ≤ store.new.spare_count + 1 }
+    ensures spares_kept { units ≡ 0 → store.old.spare_count ≤ store.new.spare_count }
+    ensures accesses { Costs 0 18 store.old.accesses store.new.accesses }
+{
+    if units == 0 {
+        return name;
+    }
+    let front = chain::split_before(store, name, units);
+    bins::push(store, front, uint_to_float_round_down(units));
+    front
+}
+
+// Splits a block, of this offset, after `size` units. The units that are left become a free block in its bin, under the
+// name that is returned. Where none are left, nothing changes, and the name returned is that of the block.
+#[inline(always)]
+fn split_remainder<NI: NodeIndex>(
+    store: &mut Store<NI>,
+    name: u32,
+    offset: u32,
+    size: u32,
+    left: u32,
+) -> u32
+    requires place { (m : ℕ) × (p : Place) × IsPlaceIn store.old m name p
+        × AreUnlisted (p.before ++ p.block ∷ p.after) (bins_of NI.MAX store.old) }
+    requires held { AreBinned NI.MAX store.old }
+    requires spare { 0 < store.old.spare_count }
+    requires offset { offset ≡ (node store.old.tables.room name).offset }
+    requires whole { size + left ≡ (node store.old.tables.room name).size }
+    ensures place { (m : ℕ) (p : Place) → IsPlaceIn store.old m name p
+        → IsPlaceIn store.new m name (record p {
+          block = record p.block { size = size };
+          after = free_part result left ++ p.after;
+        }) }
+    ensures held { AreBinned NI.MAX store.new }
+    ensures lists { bins_of NI.MAX store.new ≡ push_all (free_part result left) (bins_of NI.MAX store.old) }
+    ensures nodes { length store.new.tables.room.nodes ≡ length store.old.tables.room.nodes }
+    ensures accesses { Costs 0 16 store.old.accesses store.new.accesses }
+    ensures accesses_min { 0 < left → store.old.accesses + 13 ≤ store.new.accesses }
+{
+    if left == 0 {
+        return name;
+    }
+    let rest = chain::split(store, name, offset, size + left, size);
+    bins::push(store, rest, uint_to_float_round_down(left));
+    rest
+}
+
+/// Splits a block into `padding` free units, `size` used units under its name, from `start` on, and a free remainder of
+/// the units that are left. The names of the padding and of the remainder are returned, where these have units.
+#[inline(always)]
+pub(crate) fn divide<NI: NodeIndex>(
+    store: &mut Store<NI>,
+    name: u32,
+    start: u32,
+    padding: u32,
+    size: u32,
+    left: u32,
+) -> (u32, u32)
+    requires place { (m : ℕ) × (p : Place) × IsPlaceIn store.old m name p
+        × AreUnlisted (p.before ++ p.block ∷ p.after) (bins_of NI.MAX store.old) }
+    requires held { AreBinned NI.MAX store.old }
+    requires unlisted { IsUnlisted name (bins_of NI.MAX store.old) }
+    requires spare { 0 < store.old.spare_count }
+    requires two { 0 < padding → 1 < store.old.spare_count }
+    requires start { start ≡ (node store.old.tables.room name).offset + padding }
+    requires whole { padding + size + left ≡ (node store.old.tables.room name).size }
+    ensures place { (m : ℕ) (p : Place) → IsPlaceIn store.old m name p
+        → IsPlaceIn store.new m name (record {
+          before = p.before ++ free_part result.0 padding;
+          block = used_block p.block.name size;
+          after = free_part result.1 left ++ p.after;
+        }) }
+    ensures held { AreBinned NI.MAX store.new }
+    ensures lists { bins_of NI.MAX store.new
+        ≡ push_all (free_part result.0 padding ++ used_block name size ∷ free_part result.1 left)
+        (bins_of NI.MAX store.old) }
+    ensures nodes { length store.new.tables.room.nodes ≡ length store.old.tables.room.nodes }
+    ensures accesses { Costs 1 35 store.old.accesses store.new.accesses }
+{
+    let front = split_padding(store, name, padding);
+    chain::mark(&mut store.tables, name, true, &mut store.accesses);
+    let rest = split_remainder(store, name, start, size, left);
+    (front, rest)
+}
+
+/// Makes a block of `old_size` units one of `size` units, from the same offset on. What remains of it and of the free
+/// block directly after it, whose name is `next`, becomes one free block in its bin, under the name that is returned.
+#[inline(always)]
+pub(crate) fn resize<NI: NodeIndex>(
+    store: &mut Store<NI>,
+    name: u32,
+    old_size: u32,
+    next: Option<u32>,
+    size: u32,
+) -> u32
+    requires place { (m : ℕ) × (p : Place) × IsPlaceIn store.old m name p
+        × AreFiled (p.before ++ p.after) (bins_of NI.MAX store.old)
+        × (size ≤ p.block.size + units (free_start p.after)) }
+    requires held { AreBinned NI.MAX store.old }
+    requires spare { 0 < store.old.spare_count }
+    requires old_size { old_size ≡ (node store.old.tables.room name).size }
+    requires next { IsFreeAfter store.old.tables.room name next }
+    ensures place { (m : ℕ) (p : Place) → IsPlaceIn store.old m name p
+        → IsPlaceIn store.new m name (record {
+          before = p.before;
+          block = record p.block { size = size };
+          after = free_part result (p.block.size + units (free_start p.after) - size) ++ without_start p.after;
+        }) }
+    ensures held { AreBinned NI.MAX store.new }
+    ensures lists { (m : ℕ) (p : Place) → IsPlaceIn store.old m name p → bins_of NI.MAX store.new
+        ≡ push_all (free_part result (p.block.size + units (free_start p.after) - size))
+        (remove_all (free_start p.after) (bins_of NI.MAX store.old)) }
+    ensures accesses { Costs 1 28 store.old.accesses store.new.accesses }
+    ensures accesses_less { size < old_size → store.old.accesses + 14 ≤ store.new.accesses }
+    ensures accesses_more { IsSome next → store.old.accesses + 9 ≤ store.new.accesses }
+{
+    let whole = with_after(store, name, old_size, next);
+    let offset = chain::offset(&store.tables, name, &mut store.accesses);
+    split_remainder(store, name, offset, size, whole - size)
+}

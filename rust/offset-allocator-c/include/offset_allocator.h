@@ -1,0 +1,193 @@
+/* Ranges of one contiguous space, handed out and taken back: the C interface (C99) of offset-allocator-proved.
+ *
+ *     oa_allocator *vertices = oa_new(1 << 20, 4096);
+ *     oa_allocation mesh = oa_allocate(vertices, 3000);    // mesh.offset is its first vertex
+ *     oa_free(vertices, mesh);
+ *     oa_drop(vertices);
+ *
+ * A space has units: bytes, vertices, rows. It is never touched. A block is a run of units, live or free; no two free
+ * blocks are neighbours. Each block has a node, whose number is its name.
+ *
+ * Errors. No argument is undefined, except a pointer that is neither null nor of oa_new (or oa_blocks_new) or that was
+ * dropped. A call with a null allocator does nothing and returns what its comment says. A handle that is not live here
+ * is refused by the result, and nothing changes: it was freed, or a reset freed it, or its name is not in use. A stale
+ * handle, or one of another allocator, whose name is in use here cannot be distinguished from the live one.
+ * Only constructors take memory: oa_new and oa_blocks_new.
+ *
+ * Threads. Calls with an oa_allocator * need it for themselves; calls with a const oa_allocator * may run at the same
+ * time as each other.
+ *
+ * Cost. "Bounded" is at most 144 accesses to table cells, whatever the space holds.
+ */
+#ifndef OFFSET_ALLOCATOR_H
+#define OFFSET_ALLOCATOR_H
+
+#include <stdbool.h>
+#include <stdint.h>
+
+#ifdef __cplusplus
+extern "C" {
+#endif
+
+/* What stands for a missing offset or name. */
+#define OA_NO_SPACE UINT32_C(0xffffffff)
+
+/* The node limit of the C++ class, where none is given. */
+#define OA_MAX_ALLOCS UINT32_C(131072)
+
+/* The allocator of one space. */
+typedef struct oa_allocator oa_allocator;
+
+/* A handle of a granted range. It is two numbers: it may be stored, copied, and compared by both.
+ * offset: where the range began when the handle was made. metadata: its name; only this counts in calls.
+ * For a refused request both are OA_NO_SPACE. A name never is; an offset is only that of a range of no units at the end
+ * of a space of 4294967295 units. */
+typedef struct oa_allocation {
+    uint32_t offset;
+    uint32_t metadata;
+} oa_allocation;
+
+/* The free space in short.
+ * total_free_space: the units of all free blocks. largest_free_region: the largest request that would be granted.
+ * Both are 0 where the node limit is reached. */
+typedef struct oa_report {
+    uint32_t total_free_space;
+    uint32_t largest_free_region;
+} oa_report;
+
+/* The free blocks by size class. size: the smallest size of the class (from class 240 on, where no block is, modulo
+ * 2 to the power of 32). count: how many free blocks it has. */
+typedef struct oa_region {
+    uint32_t size;
+    uint32_t count;
+} oa_region;
+typedef struct oa_report_full {
+    oa_region free_regions[256];
+} oa_report_full;
+
+/* Why a request would be refused: the first of these that applies. */
+typedef enum oa_reason {
+    OA_GRANTED = 0,    /* It would be granted. */
+    OA_NODES = 1,      /* Too few nodes are left. Use another space, or free ranges beside free blocks. */
+    OA_TOO_LARGE = 2,  /* A fresh space of this size would refuse it too. Extend the space. */
+    OA_SPACE = 3,      /* All free units in one block would not be enough. Free ranges, or extend the space. */
+    OA_FRAGMENTED = 4, /* They would be enough: after oa_compact the request is granted. */
+    OA_BAD_CALL = 5    /* The allocator is null, or the alignment is no power of two. */
+} oa_reason;
+
+/* A range that oa_compact moves: its units were at from, and have to be at to, which is smaller. */
+typedef struct oa_move {
+    uint32_t from;
+    uint32_t to;
+    uint32_t size;
+    oa_allocation allocation; /* the handle, with the new offset */
+} oa_move;
+
+/* A block. allocation: its handle, where it is used. */
+typedef enum oa_kind { OA_END = 0, OA_FREE = 1, OA_USED = 2 } oa_kind;
+typedef struct oa_block {
+    oa_kind kind;
+    uint32_t offset;
+    uint32_t size;
+    oa_allocation allocation;
+} oa_block;
+
+/* A list of blocks. */
+typedef struct oa_blocks oa_blocks;
+
+/* Makes a space of `size` units, all free. At most max_allocs - 1 blocks exist at a time, free ones included, so with at
+ * most L live ranges 2 * L + 2 are enough. Null where max_allocs is not 2 to 4294967293, or memory is out.
+ * Cost: 28 bytes a node, reserved here and written when the node is used for the first time. */
+oa_allocator *oa_new(uint32_t size, uint32_t max_allocs);
+
+/* Frees the allocator's own memory. A null pointer is allowed. */
+void oa_drop(oa_allocator *space);
+
+/* Frees all ranges: the whole space is one free block again, with what oa_extend added. No earlier handle is live.
+ * Cost: at most 270 accesses, whatever the node limit. */
+void oa_reset(oa_allocator *space);
+
+/* Grants a range of `size` units. With size 0 too it takes a node. Where it is refused (see oa_refusal), or the
+ * allocator is null, both parts are OA_NO_SPACE, and nothing changes. Cost: at most 64 accesses. */
+oa_allocation oa_allocate(oa_allocator *space, uint32_t size);
+
+/* Grants a range of `size` units that begins at a multiple of align, a power of two. Above 1, it needs a free block for
+ * size + align - 1 units, and room for two more blocks. It is refused as oa_allocate, and where align is no power of
+ * two. Where all requests have one alignment, count in units of it instead: then no padding is needed. Bounded. */
+oa_allocation oa_allocate_aligned(oa_allocator *space, uint32_t size, uint32_t align);
+
+/* Frees a range. True if its handle is live; false, and nothing changes, if not or if the allocator is null. Bounded. */
+bool oa_free(oa_allocator *space, oa_allocation allocation);
+
+/* Whether a handle is live: its name is the name of a used block. False for a null allocator. At most 8 accesses. */
+bool oa_is_live(const oa_allocator *space, oa_allocation allocation);
+
+/* The units of a range, exactly as requested. 0 if the handle is not live or the allocator is null, and for a range of
+ * no units. At most 16 accesses. */
+uint32_t oa_allocation_size(const oa_allocator *space, oa_allocation allocation);
+
+/* Where a range begins now, which oa_compact may have changed. OA_NO_SPACE if the handle is not live or the allocator is
+ * null. At most 16 accesses. */
+uint32_t oa_allocation_offset(const oa_allocator *space, oa_allocation allocation);
+
+/* Gives the last units of a range back, so that `size` remain. True if done. False, and nothing changes, where it has
+ * fewer, where a node is needed and none is left, if the handle is not live, or if the allocator is null. Bounded. */
+bool oa_shrink(oa_allocator *space, oa_allocation allocation, uint32_t size);
+
+/* Takes units that are free directly after a range, so that it has `size`. True if done. False, and nothing changes,
+ * where it has more, where too few are free there, if the handle is not live, or if the allocator is null. Bounded. */
+bool oa_grow_in_place(oa_allocator *space, oa_allocation allocation, uint32_t size);
+
+/* Adds `more` free units at the end of the space. True if done. False, and nothing changes, where the space would have
+ * more than 4294967295 units, where its last block is used and no node is left, or if the allocator is null. Bounded. */
+bool oa_extend(oa_allocator *space, uint32_t more);
+
+/* Moves all live ranges to the front of the space, in order, so that all free units are one block. Handles stay live.
+ * `moved`, if it is not null, is called with `user` and each range that moves, in the order in which they can be copied
+ * one after the other. It must return: no exception, no longjmp; and it must not use this allocator.
+ * Nothing is done where the allocator is null. Cost: at most 24 accesses a block, and 512. */
+void oa_compact(oa_allocator *space, void (*moved)(void *user, oa_move range), void *user);
+
+/* The units of the space, with what oa_extend added; 0 for null. */
+uint32_t oa_size(const oa_allocator *space);
+
+/* The node limit; 0 for null. */
+uint32_t oa_max_allocs(const oa_allocator *space);
+
+/* The number of blocks, used and free; 0 for null. */
+uint32_t oa_block_count(const oa_allocator *space);
+
+/* Whether max_allocs - 1 blocks exist, so that every request is refused; true for null. */
+bool oa_is_full(const oa_allocator *space);
+
+/* The free space in short; 0, 0 for null. A request of at least 1 unit is granted exactly when it is at most
+ * largest_free_region. At most 8 accesses. */
+oa_report oa_storage_report(const oa_allocator *space);
+
+/* The free blocks by class; all 0 for null. Cost: 512 accesses, and 2 a free block. */
+oa_report_full oa_storage_report_full(const oa_allocator *space);
+
+/* Why oa_allocate would be refused now. At most 8 accesses. */
+oa_reason oa_refusal(const oa_allocator *space, uint32_t size);
+
+/* Why oa_allocate_aligned would be refused now. At most 8 accesses. */
+oa_reason oa_refusal_aligned(const oa_allocator *space, uint32_t size, uint32_t align);
+
+/* The smallest size of a fresh space that grants a request of this size; 0 above 4026531840, where none does. */
+uint32_t oa_min_allocator_size(uint32_t size);
+
+/* Lists all blocks, for oa_blocks_next. The list stays as it is when the space changes. Null where memory is out, or the
+ * allocator is null. Cost: 20 bytes and 5 accesses a block. */
+oa_blocks *oa_blocks_new(const oa_allocator *space);
+
+/* The next block of a list, from the start of the space to its end; after the last one, and for null, of kind OA_END. */
+oa_block oa_blocks_next(oa_blocks *blocks);
+
+/* Frees a list. A null pointer is allowed. */
+void oa_blocks_drop(oa_blocks *blocks);
+
+#ifdef __cplusplus
+}
+#endif
+
+#endif

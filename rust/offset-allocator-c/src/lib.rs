@@ -1,0 +1,248 @@
+//! The C interface of `offset-allocator-proved`. `include/offset_allocator.h` documents each function.
+//!
+//! No `unsafe` block, no raw pointer that is read: an allocator is a box that C holds, a call borrows it, and all else
+//! goes by value. Each call tests what the library requires of its caller, so that no argument panics.
+
+#![deny(unsafe_code)]
+
+use core::ffi::c_void;
+use core::ptr::NonNull;
+
+use offset_allocator_proved::ext::min_allocator_size;
+use offset_allocator_proved::{Allocation, Allocator, Global, Move, Refusal};
+
+/// What stands for a missing offset or name.
+pub const NO_SPACE: u32 = u32::MAX;
+
+/// An allocator, as C holds it. It is an array, since a box of one can be made where an allocation may fail.
+pub type Space = [Allocator; 1];
+
+/// A handle.
+#[repr(C)]
+#[derive(Clone, Copy)]
+pub struct Handle {
+    offset: u32,
+    metadata: u32,
+}
+
+/// The short report.
+#[repr(C)]
+pub struct Report {
+    total_free_space: u32,
+    largest_free_region: u32,
+}
+
+/// One size class.
+#[repr(C)]
+#[derive(Clone, Copy)]
+pub struct Region {
+    size: u32,
+    count: u32,
+}
+
+/// The full report.
+#[repr(C)]
+pub struct FullReport {
+    free_regions: [Region; 256],
+}
+
+/// Why a request is refused.
+#[repr(C)]
+pub enum Reason {
+    None,
+    Nodes,
+    TooLarge,
+    Space,
+    Fragmented,
+    BadCall,
+}
+
+/// A range that `oa_compact` moved.
+#[repr(C)]
+pub struct Moved {
+    from: u32,
+    to: u32,
+    size: u32,
+    allocation: Handle,
+}
+
+/// What a block is.
+#[repr(C)]
+#[derive(Clone, Copy)]
+pub enum Kind {
+    End,
+    Free,
+    Used,
+}
+
+/// A block.
+#[repr(C)]
+#[derive(Clone, Copy)]
+pub struct Block {
+    kind: Kind,
+    offset: u32,
+    size: u32,
+    allocation: Handle,
+}
+
+/// Blocks that were listed, the next one last.
+pub type Blocks = [Vec<Block>; 1];
+
+const NOTHING: Handle = Handle { offset: NO_SPACE, metadata: NO_SPACE };
+
+fn handle(allocation: Option<Allocation>) -> Handle {
+    match allocation {
+        None => NOTHING,
+        Some(allocation) => {
+            let (offset, metadata) = allocation.to_parts();
+            Handle { offset, metadata }
+        }
+    }
+}
+
+// The allocation of a handle, if it is live.
+fn live(space: &Allocator, handle: Handle) -> Option<Allocation> {
+    Allocation::from_parts(handle.offset, handle.metadata).filter(|allocation| space.is_live(*allocation))
+}
+
+// A box with one value, or nothing where its allocation fails.
+fn boxed<T>(value: T) -> Option<Box<[T; 1]>> {
+    let mut one = Vec::new();
+    one.try_reserve_exact(1).ok()?;
+    one.push(value);
+    one.into_boxed_slice().try_into().ok()
+}
+
+fn reason(refusal: Option<Refusal>) -> Reason {
+    match refusal {
+        None => Reason::None,
+        Some(Refusal::Nodes) => Reason::Nodes,
+        Some(Refusal::TooLarge) => Reason::TooLarge,
+        Some(Refusal::Space) => Reason::Space,
+        Some(Refusal::Fragmented) => Reason::Fragmented,
+    }
+}
+
+// The functions that C calls. Where a pointer to an allocator is null, a function returns its last expression.
+macro_rules! exports { ($(
+    fn $name:ident($([$space:ident: $($type:tt)*],)? $($argument:ident: $of:ty),*) -> $returned:ty { $($body:tt)* } else $other:expr;
+)*) => { $(
+    // the first lint is of the export's name, which a program may have only once; the others are of the form of this list
+    #[allow(unsafe_code, clippy::question_mark, clippy::unused_unit)]
+    #[no_mangle]
+    pub extern "C" fn $name($($space: Option<$($type)*>,)? $($argument: $of),*) -> $returned {
+        $(let Some([$space]) = $space else {
+            return $other;
+        };)?
+        $($body)*
+    }
+)* } }
+
+exports! {
+    fn oa_new(size: u32, max_allocs: u32) -> Option<Box<Space>> {
+        // the limits that the library admits
+        if !(2..=u32::MAX - 2).contains(&max_allocs) {
+            return None;
+        }
+        boxed(Allocator::with_max_allocs(Global, size, max_allocs).ok()?)
+    } else ();
+
+    fn oa_drop(space: Option<Box<Space>>) -> () { drop(space) } else ();
+
+    fn oa_reset([space: &mut Space],) -> () { space.reset() } else ();
+
+    fn oa_allocate([space: &mut Space], size: u32) -> Handle { handle(space.allocate(size)) } else NOTHING;
+
+    fn oa_allocate_aligned([space: &mut Space], size: u32, align: u32) -> Handle {
+        handle(if align.is_power_of_two() { space.allocate_aligned(size, align) } else { None })
+    } else NOTHING;
+
+    fn oa_free([space: &mut Space], allocation: Handle) -> bool {
+        match live(space, allocation) {
+            None => false,
+            Some(allocation) => {
+                space.free(allocation);
+                true
+            }
+        }
+    } else false;
+
+    fn oa_is_live([space: &Space], allocation: Handle) -> bool { live(space, allocation).is_some() } else false;
+
+    fn oa_allocation_size([space: &Space], allocation: Handle) -> u32 {
+        live(space, allocation).map_or(0, |allocation| space.allocation_size(allocation))
+    } else 0;
+
+    fn oa_allocation_offset([space: &Space], allocation: Handle) -> u32 {
+        live(space, allocation).and_then(|allocation| space.allocation_offset(allocation)).unwrap_or(NO_SPACE)
+    } else NO_SPACE;
+
+    fn oa_shrink([space: &mut Space], allocation: Handle, size: u32) -> bool {
+        live(space, allocation).is_some_and(|allocation| space.shrink(allocation, size))
+    } else false;
+
+    fn oa_grow_in_place([space: &mut Space], allocation: Handle, size: u32) -> bool {
+        live(space, allocation).is_some_and(|allocation| space.grow_in_place(allocation, size))
+    } else false;
+
+    fn oa_extend([space: &mut Space], more: u32) -> bool { space.extend(more) } else false;
+
+    fn oa_compact(
+        [space: &mut Space],
+        moved: Option<extern "C" fn(Option<NonNull<c_void>>, Moved)>,
+        user: Option<NonNull<c_void>>
+    ) -> () {
+        space.compact(&mut |range: Move| {
+            let (from, to, size, allocation) = (range.from, range.to, range.size, handle(Some(range.allocation())));
+            if let Some(moved) = moved {
+                moved(user, Moved { from, to, size, allocation });
+            }
+        })
+    } else ();
+
+    fn oa_size([space: &Space],) -> u32 { space.size() } else 0;
+
+    fn oa_max_allocs([space: &Space],) -> u32 { space.max_allocs() } else 0;
+
+    fn oa_block_count([space: &Space],) -> u32 { space.block_count() } else 0;
+
+    fn oa_is_full([space: &Space],) -> bool { space.is_full() } else true;
+
+    fn oa_storage_report([space: &Space],) -> Report {
+        let report = space.storage_report();
+        Report { total_free_space: report.total_free_space, largest_free_region: report.largest_free_region }
+    } else Report { total_free_space: 0, largest_free_region: 0 };
+
+    fn oa_storage_report_full([space: &Space],) -> FullReport {
+        let report = space.storage_report_full();
+        FullReport { free_regions: report.free_regions.map(|region| Region { size: region.size, count: region.count }) }
+    } else FullReport { free_regions: [Region { size: 0, count: 0 }; 256] };
+
+    fn oa_refusal([space: &Space], size: u32) -> Reason { reason(space.refusal(size)) } else Reason::BadCall;
+
+    fn oa_refusal_aligned([space: &Space], size: u32, align: u32) -> Reason {
+        if align.is_power_of_two() { reason(space.refusal_aligned(size, align)) } else { Reason::BadCall }
+    } else Reason::BadCall;
+
+    fn oa_min_allocator_size(size: u32) -> u32 {
+        if size <= 4_026_531_840 { min_allocator_size(size) } else { 0 }
+    } else 0;
+
+    fn oa_blocks_new([space: &Space],) -> Option<Box<Blocks>> {
+        let mut listed = Vec::new();
+        listed.try_reserve_exact(space.block_count() as usize).ok()?;
+        listed.extend(space.blocks().map(|block| Block {
+            kind: if block.allocation.is_some() { Kind::Used } else { Kind::Free },
+            offset: block.offset,
+            size: block.size,
+            allocation: handle(block.allocation),
+        }));
+        boxed(listed)
+    } else None;
+
+    fn oa_blocks_next([blocks: &mut Blocks],) -> Block {
+        blocks.pop().unwrap_or(Block { kind: Kind::End, offset: 0, size: 0, allocation: NOTHING })
+    } else Block { kind: Kind::End, offset: 0, size: 0, allocation: NOTHING };
+
+    fn oa_blocks_drop(blocks: Option<Box<Blocks>>) -> () { drop(blocks) } else ();
+}

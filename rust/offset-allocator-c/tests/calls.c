@@ -1,0 +1,216 @@
+/* Each function of the C interface, with values computed by hand. */
+#include "offset_allocator.h"
+
+#include <stdio.h>
+#include <stdlib.h>
+#include <string.h>
+
+static int checks;
+
+#define CHECK(condition) do { \
+    checks++; \
+    if (!(condition)) { fprintf(stderr, "%s:%d: %s\n", __FILE__, __LINE__, #condition); exit(1); } \
+} while (0)
+
+static bool is_nothing(oa_allocation a) { return a.offset == OA_NO_SPACE && a.metadata == OA_NO_SPACE; }
+
+static oa_allocation made(uint32_t offset, uint32_t metadata) {
+    oa_allocation a;
+    a.offset = offset;
+    a.metadata = metadata;
+    return a;
+}
+
+static void constructors(void) {
+    static const uint32_t refused[] = {0, 1, 4294967294u, 4294967295u};
+    for (size_t i = 0; i < sizeof refused / sizeof *refused; i++) CHECK(!oa_new(100, refused[i]));
+    /* at the smallest limit there is one block, and no room for another */
+    oa_allocator *least = oa_new(100, 2);
+    CHECK(least && oa_max_allocs(least) == 2 && oa_block_count(least) == 1 && oa_is_full(least));
+    CHECK(is_nothing(oa_allocate(least, 1)) && oa_refusal(least, 1) == OA_NODES);
+    oa_drop(least);
+    oa_drop(NULL);
+    oa_blocks_drop(NULL);
+}
+
+static void grants(void) {
+    oa_allocator *space = oa_new(100, 16);
+    CHECK(space && oa_size(space) == 100 && oa_max_allocs(space) == 16 && !oa_is_full(space));
+    oa_allocation a = oa_allocate(space, 10), b = oa_allocate(space, 20);
+    CHECK(a.offset == 0 && b.offset == 10 && a.metadata != b.metadata);
+    CHECK(oa_is_live(space, a) && oa_allocation_size(space, b) == 20 && oa_allocation_offset(space, b) == 10);
+    /* only the name counts */
+    CHECK(oa_allocation_offset(space, made(77, b.metadata)) == 10);
+    oa_report report = oa_storage_report(space);
+    CHECK(report.total_free_space == 70 && report.largest_free_region == 64);
+    CHECK(oa_block_count(space) == 3);
+    CHECK(oa_free(space, a) && !oa_free(space, a) && !oa_is_live(space, a));
+    CHECK(oa_allocation_size(space, a) == 0 && oa_allocation_offset(space, a) == OA_NO_SPACE);
+    oa_report_full full = oa_storage_report_full(space);
+    /* 10 units are of class 10, and 70 of class 32, whose value is 64 */
+    for (int c = 0; c < 256; c++) CHECK(full.free_regions[c].count == (c == 10 || c == 32));
+    CHECK(full.free_regions[10].size == 10 && full.free_regions[32].size == 64);
+    oa_reset(space);
+    CHECK(!oa_is_live(space, b) && oa_block_count(space) == 1);
+    CHECK(is_nothing(oa_allocate(space, 97)) && oa_allocate(space, 96).offset == 0);
+    oa_drop(space);
+}
+
+static void aligned(void) {
+    oa_allocator *space = oa_new(1000, 16);
+    oa_allocate(space, 3);
+    CHECK(oa_allocate_aligned(space, 10, 64).offset == 64);
+    CHECK(is_nothing(oa_allocate_aligned(space, 10, 0)) && is_nothing(oa_allocate_aligned(space, 10, 3)));
+    CHECK(is_nothing(oa_allocate_aligned(space, 1, 0x80000000u)));
+    CHECK(oa_refusal_aligned(space, 10, 48) == OA_BAD_CALL && oa_refusal_aligned(space, 10, 8) == OA_GRANTED);
+    oa_drop(space);
+}
+
+static void resizes(void) {
+    oa_allocator *space = oa_new(100, 16);
+    oa_allocation a = oa_allocate(space, 10), b = oa_allocate(space, 10);
+    CHECK(!oa_grow_in_place(space, a, 11) && oa_shrink(space, a, 4) && oa_allocation_size(space, a) == 4);
+    CHECK(!oa_shrink(space, a, 5) && oa_grow_in_place(space, a, 10) && !oa_grow_in_place(space, a, 9));
+    CHECK(oa_grow_in_place(space, b, 90) && !oa_extend(space, 0xffffffffu) && oa_extend(space, 28));
+    CHECK(oa_size(space) == 128 && oa_grow_in_place(space, b, 118));
+    oa_free(space, b);
+    CHECK(!oa_shrink(space, b, 1) && !oa_grow_in_place(space, b, 1));
+    oa_drop(space);
+}
+
+static void reasons(void) {
+    oa_allocator *space = oa_new(96, 6);
+    CHECK(oa_refusal(space, 96) == OA_GRANTED && oa_refusal(space, 97) == OA_TOO_LARGE);
+    oa_allocation a = oa_allocate(space, 24);
+    oa_allocate(space, 48);
+    oa_free(space, a);
+    /* 24 and 24 units are free, in two pieces */
+    CHECK(oa_refusal(space, 48) == OA_FRAGMENTED && oa_refusal(space, 49) == OA_SPACE);
+    oa_compact(space, NULL, NULL);
+    CHECK(oa_refusal(space, 48) == OA_GRANTED);
+    oa_allocate(space, 1);
+    oa_allocate(space, 1);
+    oa_allocate(space, 1);
+    CHECK(oa_is_full(space) && oa_refusal(space, 1) == OA_NODES);
+    CHECK(oa_min_allocator_size(118) == 120 && oa_min_allocator_size(4026531840u) == 4026531840u);
+    CHECK(oa_min_allocator_size(4026531841u) == 0);
+    oa_drop(space);
+}
+
+struct copied { unsigned char bytes[100]; int moves; oa_allocation last; };
+
+static void copy(void *user, oa_move range) {
+    struct copied *to = user;
+    memmove(to->bytes + range.to, to->bytes + range.from, range.size);
+    to->last = range.allocation;
+    to->moves++;
+}
+
+static void compacts(void) {
+    oa_allocator *space = oa_new(100, 16);
+    struct copied data = {{0}, 0, {0, 0}};
+    oa_allocation a[5];
+    for (int i = 0; i < 5; i++) {
+        a[i] = oa_allocate(space, 10);
+        memset(data.bytes + a[i].offset, 'a' + i, 10);
+    }
+    oa_free(space, a[0]);
+    oa_free(space, a[2]);
+    oa_compact(space, copy, &data);
+    CHECK(data.moves == 3 && data.last.offset == 20 && data.last.metadata == a[4].metadata);
+    CHECK(!memcmp(data.bytes, "bbbbbbbbbbddddddddddeeeeeeeeee", 30));
+    CHECK(oa_allocation_offset(space, a[1]) == 0 && oa_allocation_offset(space, a[4]) == 20);
+    CHECK(oa_storage_report(space).total_free_space == 70 && oa_block_count(space) == 4);
+    oa_compact(space, copy, &data);
+    CHECK(data.moves == 3);
+
+    oa_blocks *blocks = oa_blocks_new(space);
+    /* the list is of the space as it was */
+    oa_reset(space);
+    static const uint32_t sizes[] = {10, 10, 10, 70};
+    uint32_t offset = 0;
+    for (int i = 0; i < 4; i++) {
+        oa_block block = oa_blocks_next(blocks);
+        CHECK(block.kind == (i < 3 ? OA_USED : OA_FREE) && block.offset == offset && block.size == sizes[i]);
+        CHECK(i < 3 ? block.allocation.offset == offset : is_nothing(block.allocation));
+        offset += block.size;
+    }
+    CHECK(oa_blocks_next(blocks).kind == OA_END && oa_blocks_next(blocks).kind == OA_END);
+    oa_blocks_drop(blocks);
+    oa_drop(space);
+}
+
+static void nulls(void) {
+    oa_allocation a = made(0, 0);
+    oa_reset(NULL);
+    oa_compact(NULL, copy, NULL);
+    CHECK(is_nothing(oa_allocate(NULL, 1)) && is_nothing(oa_allocate_aligned(NULL, 1, 1)));
+    CHECK(!oa_free(NULL, a) && !oa_is_live(NULL, a) && !oa_allocation_size(NULL, a));
+    CHECK(oa_allocation_offset(NULL, a) == OA_NO_SPACE && !oa_shrink(NULL, a, 0) && !oa_grow_in_place(NULL, a, 0));
+    CHECK(!oa_extend(NULL, 0) && !oa_size(NULL) && !oa_max_allocs(NULL) && !oa_block_count(NULL) && oa_is_full(NULL));
+    CHECK(!oa_storage_report(NULL).total_free_space && !oa_storage_report(NULL).largest_free_region);
+    CHECK(!oa_storage_report_full(NULL).free_regions[255].count && oa_refusal(NULL, 0) == OA_BAD_CALL);
+    CHECK(oa_refusal_aligned(NULL, 0, 1) == OA_BAD_CALL && !oa_blocks_new(NULL) && oa_blocks_next(NULL).kind == OA_END);
+}
+
+static uint64_t state = 88172645463325252u;
+static uint32_t any(void) {
+    state ^= state << 13;
+    state ^= state >> 7;
+    state ^= state << 17;
+    return (uint32_t)(state >> 32);
+}
+
+/* Handles that are no handles: each call keeps a count of live ranges, which the blocks have to show. */
+static void garbage(void) {
+    for (int round = 0; round < 100; round++) {
+        uint32_t limit = 2 + any() % 60;
+        oa_allocator *space = oa_new(any() >> any() % 32, limit);
+        CHECK(space);
+        uint32_t live = 0;
+        for (int i = 0; i < 10000; i++) {
+            oa_allocation h = made(any(), any() % 3 ? any() % 64 : any());
+            bool was = oa_is_live(space, h);
+            CHECK(!was || h.metadata < limit);
+            switch (any() % 8) {
+            case 0: case 1: live += oa_allocate(space, any() >> any() % 32).metadata != OA_NO_SPACE; break;
+            case 2: live += oa_allocate_aligned(space, any() >> any() % 32, any() % 2 ? 1u << any() % 32 : any()).metadata != OA_NO_SPACE; break;
+            case 3: CHECK(oa_free(space, h) == was); live -= was; break;
+            case 4: CHECK(!oa_shrink(space, h, any() >> any() % 32) || was); break;
+            case 5: CHECK(!oa_grow_in_place(space, h, any() >> any() % 32) || was); break;
+            case 6: CHECK((oa_allocation_offset(space, h) != OA_NO_SPACE || oa_size(space) == OA_NO_SPACE) || !was); break;
+            default:
+                if (any() % 50 == 0) { oa_reset(space); live = 0; }
+                else if (any() % 10 == 0) oa_compact(space, NULL, NULL);
+                else oa_extend(space, any() >> any() % 32);
+            }
+            if (i % 1000 == 0) {
+                oa_blocks *blocks = oa_blocks_new(space);
+                uint32_t used = 0, end = 0;
+                for (;;) {
+                    oa_block block = oa_blocks_next(blocks);
+                    if (block.kind == OA_END) break;
+                    CHECK(block.offset == end);
+                    end += block.size;
+                    if (block.kind == OA_USED) { used++; CHECK(oa_allocation_size(space, block.allocation) == block.size); }
+                }
+                CHECK(used == live && end == oa_size(space));
+                oa_blocks_drop(blocks);
+            }
+        }
+        oa_drop(space);
+    }
+}
+
+int main(void) {
+    constructors();
+    grants();
+    aligned();
+    resizes();
+    reasons();
+    compacts();
+    nulls();
+    garbage();
+    printf("C: %d checks pass\n", checks);
+    return 0;
+}

@@ -1,0 +1,64 @@
+/* Each allocation of memory fails in turn: the constructors return null, and keep nothing. */
+#include "offset_allocator.h"
+
+#include <stdio.h>
+#include <stdlib.h>
+
+void *__libc_malloc(size_t);
+void *__libc_calloc(size_t, size_t);
+void *__libc_realloc(void *, size_t);
+void __libc_free(void *);
+
+static long left = -1, held;
+
+static void *kept(void *p) {
+    held += p != NULL;
+    return p;
+}
+
+/* whether this one fails */
+static int fails(void) { return left >= 0 && left-- == 0; }
+
+void *malloc(size_t n) { return fails() ? NULL : kept(__libc_malloc(n)); }
+void *calloc(size_t n, size_t m) { return fails() ? NULL : kept(__libc_calloc(n, m)); }
+void *realloc(void *p, size_t n) { return fails() ? NULL : p ? __libc_realloc(p, n) : kept(__libc_malloc(n)); }
+void free(void *p) {
+    held -= p != NULL;
+    __libc_free(p);
+}
+
+int main(void) {
+    int made = 0, listed = 0;
+    oa_allocator *space = NULL;
+    for (left = 0; !space; made++) {
+        long before = held, next = left;
+        space = oa_new(1000, 100);
+        if (!space && held != before) return printf("oa_new keeps memory\n"), 1;
+        left = space ? -1 : next + 1;
+    }
+    oa_allocate(space, 10);
+    oa_blocks *blocks = NULL;
+    for (left = 0; !blocks; listed++) {
+        long before = held, next = left;
+        blocks = oa_blocks_new(space);
+        if (!blocks && held != before) return printf("oa_blocks_new keeps memory\n"), 1;
+        left = blocks ? -1 : next + 1;
+    }
+    /* no other call takes memory */
+    left = 0;
+    oa_allocation a = oa_allocate(space, 20);
+    oa_allocate(space, 20);
+    oa_free(space, a);
+    oa_extend(space, 50);
+    oa_compact(space, NULL, NULL);
+    oa_storage_report_full(space);
+    oa_reset(space);
+    if (left != 0) return printf("a call takes memory\n"), 1;
+    left = -1;
+    oa_blocks_drop(blocks);
+    oa_drop(space);
+    if (held != 0) return printf("%ld pieces are kept\n", held), 1;
+    if (made < 3 || listed < 2) return printf("%d and %d tries\n", made, listed), 1;
+    printf("memory: %d refused in oa_new, %d in oa_blocks_new\n", made - 1, listed - 1);
+    return 0;
+}

@@ -1,0 +1,192 @@
+// The class of the C++ original, as an engine uses it, and what it has beside.
+#include "offsetAllocator.hpp"
+
+#include <cstdio>
+#include <cstdlib>
+#include <cstring>
+#include <stdexcept>
+#include <type_traits>
+#include <utility>
+#include <vector>
+
+using namespace OffsetAllocator;
+
+static int checks;
+
+#define CHECK(condition) do { \
+    checks++; \
+    if (!(condition)) { std::fprintf(stderr, "%s:%d: %s\n", __FILE__, __LINE__, #condition); std::exit(1); } \
+} while (0)
+
+static const uint32 MIB = 1 << 20, WHOLE = 256 * MIB;
+
+// The cases of the original's tests, by the names that these have there.
+static void allClean(Allocator &a) {
+    Allocation whole = a.allocate(WHOLE);
+    CHECK(whole.offset == 0);
+    a.free(whole);
+}
+
+static void basic() {
+    Allocator a(WHOLE);
+    Allocation x = a.allocate(1337);
+    CHECK(x.offset == 0);
+    a.free(x);
+}
+
+static void simple() {
+    Allocator a(WHOLE);
+    const uint32 sizes[] = {0, 1, 123, 1234}, offsets[] = {0, 0, 1, 124};
+    std::vector<Allocation> live;
+    for (int i = 0; i < 4; i++) {
+        live.push_back(a.allocate(sizes[i]));
+        CHECK(live[i].offset == offsets[i] && a.allocationSize(live[i]) == sizes[i]);
+    }
+    for (Allocation x : live) a.free(x);
+    allClean(a);
+}
+
+static void mergeTrivial() {
+    Allocator a(WHOLE);
+    for (int i = 0; i < 2; i++) {
+        Allocation x = a.allocate(1337);
+        CHECK(x.offset == 0);
+        a.free(x);
+    }
+    allClean(a);
+}
+
+static void reuseTrivial() {
+    Allocator a(WHOLE);
+    Allocation x = a.allocate(1024), y = a.allocate(3456);
+    CHECK(x.offset == 0 && y.offset == 1024);
+    a.free(x);
+    Allocation z = a.allocate(1024);
+    CHECK(z.offset == 0);
+    a.free(z);
+    a.free(y);
+    allClean(a);
+}
+
+static void reuseComplex() {
+    Allocator a(WHOLE);
+    Allocation x = a.allocate(1024), y = a.allocate(3456);
+    a.free(x);
+    Allocation c = a.allocate(2345), d = a.allocate(456), e = a.allocate(512);
+    CHECK(c.offset == 4480 && d.offset == 0 && e.offset == 456);
+    StorageReport report = a.storageReport();
+    CHECK(report.totalFreeSpace == WHOLE - 3456 - 2345 - 456 - 512 && report.largestFreeRegion != report.totalFreeSpace);
+    a.free(c);
+    a.free(d);
+    a.free(y);
+    a.free(e);
+    allClean(a);
+}
+
+static void zeroFragmentation() {
+    Allocator a(WHOLE);
+    std::vector<Allocation> live;
+    for (uint32 i = 0; i < 256; i++) {
+        live.push_back(a.allocate(MIB));
+        CHECK(live[i].offset == i * MIB);
+    }
+    CHECK(a.storageReport().totalFreeSpace == 0 && a.storageReport().largestFreeRegion == 0);
+    for (int i : {243, 5, 123, 95, 151, 152, 153, 154}) a.free(live[i]);
+    for (int i : {243, 5, 123, 95}) {
+        live[i] = a.allocate(MIB);
+        CHECK(live[i].offset != Allocation::NO_SPACE);
+    }
+    live[151] = a.allocate(4 * MIB);
+    CHECK(live[151].offset == 151 * MIB);
+    for (int i = 0; i < 256; i++)
+        if (i < 152 || i > 154) a.free(live[i]);
+    CHECK(a.storageReport().totalFreeSpace == WHOLE && a.storageReport().largestFreeRegion == WHOLE);
+    allClean(a);
+}
+
+static void minSize() {
+    for (uint32 needed : {0u, 1u, 7u, 8u, 9u, 100u, 118u, 1024u, 529445u, 1048575u, 4026531840u}) {
+        uint32 size = minAllocatorSize(needed);
+        Allocator a(size);
+        CHECK(size >= needed && a.allocate(needed).offset == 0);
+        if (size > needed) {
+            Allocator less(size - 1);
+            CHECK(less.allocate(needed).offset == Allocation::NO_SPACE && less.refusal(needed) == Refusal::tooLarge);
+        }
+    }
+    CHECK(minAllocatorSize(4026531841u) == 0);
+}
+
+// What the class has.
+static void surface() {
+    static_assert(!std::is_copy_constructible<Allocator>::value && !std::is_copy_assignable<Allocator>::value, "");
+    static_assert(std::is_nothrow_move_constructible<Allocator>::value, "");
+    static_assert(sizeof(Allocation) == 8 && NUM_LEAF_BINS == 256, "");
+    Allocation none;
+    CHECK(none.offset == Allocation::NO_SPACE && none.metadata == Allocation::NO_SPACE);
+    Allocator a(100);
+    CHECK(a && a.maxAllocs() == 128 * 1024 && a.size() == 100);
+    Allocation x = a.allocate(10);
+    CHECK(!a.free(none) && a.allocationSize(none) == 0 && x != none && x == x);
+    Allocator b(std::move(a));
+    CHECK(!a && b && b.isLive(x));
+    // an empty one refuses all
+    CHECK(a.allocate(1).offset == Allocation::NO_SPACE && !a.free(x) && a.refusal(1) == Refusal::badCall && !a.extend(1));
+    CHECK(!a.eachBlock([](Block) {}));
+    a.reset();
+    a = std::move(b);
+    CHECK(a && !b && a.isLive(x));
+    a.reset();
+    CHECK(!a.isLive(x) && !a.free(x));
+    CHECK(!Allocator(10, 1) && !Allocator(10, 0xfffffffe));
+    std::vector<Allocator> several;
+    for (uint32 i = 0; i < 5; i++) several.emplace_back(100 * i, 16);
+    CHECK(several[4].allocate(200).offset == 0 && several[0].allocate(1).offset == Allocation::NO_SPACE);
+    StorageReportFull full = several[3].storageReportFull();
+    uint32 count = 0;
+    for (StorageReportFull::Region &region : full.freeRegions) count += region.count;
+    CHECK(count == 1);
+}
+
+static void beside() {
+    Allocator a(100, 16);
+    CHECK(a.allocateAligned(10, 3).offset == Allocation::NO_SPACE && a.refusalAligned(10, 3) == Refusal::badCall);
+    std::vector<Allocation> live;
+    for (int i = 0; i < 4; i++) live.push_back(a.allocate(24));
+    a.free(live[0]);
+    a.free(live[2]);
+    CHECK(a.refusal(48) == Refusal::fragmented && a.blockCount() == 5 && !a.isFull());
+    std::vector<uint32> to;
+    a.compact([&](Move m) { to.push_back(m.to); CHECK(m.allocation.offset == m.to && m.size == 24 && m.to < m.from); });
+    CHECK(to == (std::vector<uint32>{0, 24}) && a.refusal(48) == Refusal::granted);
+    CHECK(a.allocationOffset(live[1]) == 0 && a.allocationOffset(live[0]) == Allocation::NO_SPACE);
+    uint32 end = 0, used = 0;
+    CHECK(a.eachBlock([&](Block b) { CHECK(b.offset == end); end += b.size; used += b.used; }));
+    CHECK(end == 100 && used == 2);
+    CHECK(a.shrink(live[1], 8) && a.growInPlace(live[1], 24) && a.extend(28) && a.size() == 128);
+
+    // an exception of the closure goes on when all has moved
+    a.free(live[1]);
+    a.allocate(48);
+    int called = 0;
+    bool caught = false;
+    try {
+        a.compact([&](Move) { called++; throw std::runtime_error("stop"); });
+    } catch (const std::runtime_error &e) {
+        caught = !std::strcmp(e.what(), "stop");
+    }
+    CHECK(caught && called == 1 && a.allocationOffset(live[3]) == 0);
+}
+
+int main() {
+    basic();
+    simple();
+    mergeTrivial();
+    reuseTrivial();
+    reuseComplex();
+    zeroFragmentation();
+    minSize();
+    surface();
+    beside();
+    std::printf("C++: %d checks pass\n", checks);
+}

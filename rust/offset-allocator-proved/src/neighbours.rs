@@ -1,0 +1,169 @@
+// Printed by rust/erase from crates/offset_allocator/src/neighbours.rt: change it there.
+
+//! A block and its neighbours: coalesces it with the free ones, splits it into padding, grant and remainder, or resizes
+//! it into the free block after it. Each changes both halves of a store.
+
+use crate::accesses::Accesses;
+use crate::index::NodeIndex;
+use crate::small_float::uint_to_float_round_down;
+use crate::store::Store;
+use crate::tables::Tables;
+use crate::{bins, chain};
+
+// The name of a free block directly before a block, if there is one.
+#[inline(always)]
+fn free_before<NI: NodeIndex>(tables: &Tables<NI>, name: u32, count: &mut Accesses) -> Option<u32> {
+    if let Some(previous) = chain::before(tables, name, count) {
+        if !chain::is_used(tables, previous, count) {
+            return Some(previous);
+        }
+    }
+    None
+}
+
+/// The name of a free block directly after a block, if there is one.
+#[inline(always)]
+pub(crate) fn free_after<NI: NodeIndex>(
+    tables: &Tables<NI>,
+    name: u32,
+    count: &mut Accesses,
+) -> Option<u32> {
+    if let Some(following) = chain::after(tables, name, count) {
+        if !chain::is_used(tables, following, count) {
+            return Some(following);
+        }
+    }
+    None
+}
+
+/// The units of the free block `next`, if any, directly after a block.
+#[inline(always)]
+pub(crate) fn units_after<NI: NodeIndex>(
+    tables: &Tables<NI>,
+    name: u32,
+    next: Option<u32>,
+    count: &mut Accesses,
+) -> u32 {
+    match next {
+        None => 0,
+        Some(following) => chain::size(tables, following, count),
+    }
+}
+
+// If a free block is directly before a block of this size, it leaves its bin and is coalesced into the block. The size
+// of the whole is returned.
+#[inline(always)]
+fn with_before<NI: NodeIndex>(store: &mut Store<NI>, name: u32, size: u32) -> u32 {
+    if let Some(previous) = free_before(&store.tables, name, &mut store.accesses) {
+        let more = chain::size(&store.tables, previous, &mut store.accesses);
+        let whole = more + size;
+        bins::remove(store, previous, more);
+        chain::coalesce_before(store, previous, name, whole);
+        return whole;
+    }
+    size
+}
+
+// If a free block, of the name `next`, is directly after a block of this size, it leaves its bin and is coalesced into
+// the block. The size of the whole is returned.
+#[inline(always)]
+fn with_after<NI: NodeIndex>(store: &mut Store<NI>, name: u32, size: u32, next: Option<u32>) -> u32 {
+    match next {
+        None => size,
+        Some(following) => {
+            let more = chain::size(&store.tables, following, &mut store.accesses);
+            let whole = size + more;
+            bins::remove(store, following, more);
+            chain::coalesce_after(store, name, following, whole);
+            whole
+        }
+    }
+}
+
+/// Coalesces a block of this size, which is in no bin, with the free blocks beside it, and pushes the whole onto its
+/// bin. If the neighbour that is coalesced last heads this bin, the block takes its place there.
+#[inline(always)]
+pub(crate) fn coalesce<NI: NodeIndex>(store: &mut Store<NI>, name: u32, size: u32) {
+    let (gone, more, whole) = if let Some(following) = free_after(
+        &store.tables,
+        name,
+        &mut store.accesses,
+    ) {
+        let size = with_before(store, name, size);
+        let more = chain::size(&store.tables, following, &mut store.accesses);
+        let whole = size + more;
+        chain::coalesce_after(store, name, following, whole);
+        (following, more, whole)
+    } else if let Some(previous) = free_before(&store.tables, name, &mut store.accesses) {
+        let more = chain::size(&store.tables, previous, &mut store.accesses);
+        let whole = more + size;
+        chain::coalesce_before(store, previous, name, whole);
+        (previous, more, whole)
+    } else {
+        bins::push(store, name, uint_to_float_round_down(size));
+        return;
+    };
+    bins::exchange(store, gone, more, name, uint_to_float_round_down(whole));
+}
+
+// Splits the first units off a block: they become a free block in its bin, under the name that is returned. Where there
+// are none, nothing changes, and the name returned is that of the block.
+#[inline(always)]
+fn split_padding<NI: NodeIndex>(store: &mut Store<NI>, name: u32, units: u32) -> u32 {
+    if units == 0 {
+        return name;
+    }
+    let front = chain::split_before(store, name, units);
+    bins::push(store, front, uint_to_float_round_down(units));
+    front
+}
+
+// Splits a block, of this offset, after `size` units. The units that are left become a free block in its bin, under the
+// name that is returned. Where none are left, nothing changes, and the name returned is that of the block.
+#[inline(always)]
+fn split_remainder<NI: NodeIndex>(
+    store: &mut Store<NI>,
+    name: u32,
+    offset: u32,
+    size: u32,
+    left: u32,
+) -> u32 {
+    if left == 0 {
+        return name;
+    }
+    let rest = chain::split(store, name, offset, size + left, size);
+    bins::push(store, rest, uint_to_float_round_down(left));
+    rest
+}
+
+/// Splits a block into `padding` free units, `size` used units under its name, from `start` on, and a free remainder of
+/// the units that are left. The names of the padding and of the remainder are returned, where these have units.
+#[inline(always)]
+pub(crate) fn divide<NI: NodeIndex>(
+    store: &mut Store<NI>,
+    name: u32,
+    start: u32,
+    padding: u32,
+    size: u32,
+    left: u32,
+) -> (u32, u32) {
+    let front = split_padding(store, name, padding);
+    chain::mark(&mut store.tables, name, true, &mut store.accesses);
+    let rest = split_remainder(store, name, start, size, left);
+    (front, rest)
+}
+
+/// Makes a block of `old_size` units one of `size` units, from the same offset on. What remains of it and of the free
+/// block directly after it, whose name is `next`, becomes one free block in its bin, under the name that is returned.
+#[inline(always)]
+pub(crate) fn resize<NI: NodeIndex>(
+    store: &mut Store<NI>,
+    name: u32,
+    old_size: u32,
+    next: Option<u32>,
+    size: u32,
+) -> u32 {
+    let whole = with_after(store, name, old_size, next);
+    let offset = chain::offset(&store.tables, name, &mut store.accesses);
+    split_remainder(store, name, offset, size, whole - size)
+}
