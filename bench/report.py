@@ -1,33 +1,53 @@
-"""Measures the workloads of the program $1, and writes RESULTS.md and plot.svg into the folder $2.
-With $3 it measures only the workloads with this text in their names, and writes no file."""
+"""Measures the workloads of the programs in the folder $1, and writes RESULTS.md and plot.svg into the folder $2.
+With $3 it measures only the workloads with this text in their names, and writes no file. With a further word `counts`
+it takes no times, which then are those of nothing: 1 nanosecond."""
 import math, os, re, signal, subprocess, sys, tempfile
 from concurrent.futures import ThreadPoolExecutor
 from typing import NamedTuple
 
-MEASURE, HERE = sys.argv[1:3]
+OUT, HERE = sys.argv[1:3]
+PART = sys.argv[3] if len(sys.argv) > 3 else ""
+TIMED = sys.argv[4:] != ["counts"]
+# the program for times, the one for counts, and that with other call sites
+MEASURE, PLAIN, SITES = f"{OUT}/measure", f"{OUT}/measure_plain", f"{OUT}/measure_sites"
 # the sides, and the prefix of their measured functions
 SIDES = {"original": "original", "ours": "offset", "erased": "erased", "c": "tuned"}
 # the ways to compact a space, with the prefix `compacting` of their measured functions
 WAYS = ("compact", "reset", "free")
 # callgrind counts each byte that a `rep stosb` of memset writes as an instruction, so memset must use vectors
 COUNTED = {**os.environ, "GLIBC_TUNABLES": "glibc.cpu.x86_rep_stosb_threshold=4000000000"}
+# each table has pages of its own, which nothing has touched before
+APART = {**os.environ, "GLIBC_TUNABLES": "glibc.malloc.mmap_threshold=131072"}
+# tables are in huge pages, where the system allows it
+HUGE = {**os.environ, "GLIBC_TUNABLES": "glibc.malloc.hugetlb=1"}
 # the data cache that is simulated: its level, its bytes, its ways, and the bytes of a line
 LEVEL, CACHE = 1, "32768,8,64"
-# larger ratios are bold: ours to the original's time, to its instructions, to C's; erased to the original's time, to
-# its instructions
-REACH = (0.75, 0.60, 1.05, 0.85, 0.75)
+# Larger ratios are bold: ours to the original's time, to its instructions, to C's; erased to the original's time, to its
+# instructions. Some workloads have others of the first two.
+REACH = (0.70, 0.60, 1.05, 0.85, 0.68)
+REACH_TIME = {"u16": 0.68, "a million live": 0.88, "10,000,000 nodes": 0.95}
+REACH_INSTRUCTIONS = {"frames of 60,000": 0.68}
+# the instructions of a construction or a reset; the cache misses of a step; of the resident bytes, those for each node
+# that was ever used, and all others
+REACH_COST = 2000
+REACH_MISSES = {"random, 60k live": 3.4, "random, a million live": 2.0}
+REACH_NODE, REACH_MORE = 28, 65_536
+# workloads whose construction takes about as long as their steps
+LONG = ("random, a million live", "random, 10,000,000 nodes")
+# the workload whose memory is measured, and the node limits with which it is
+RESIDENT, LIMITS = "random, 1k live", (131_072, 10_000_000)
 
 
-def lines(*words):
-    out = subprocess.run([MEASURE, *words], check=True, capture_output=True, text=True).stdout
+def lines(*words, program=MEASURE, env=None):
+    out = subprocess.run([program, *words], check=True, capture_output=True, text=True, env=env).stdout
     return [line.split("\t") for line in out.splitlines()]
 
 
-def counted(function, *words):
+def counted(function, *words, program=PLAIN):
     """The instructions and the cache misses of the program with these words: inside the measured function, and in all."""
     with tempfile.NamedTemporaryFile() as file:
         command = ["valgrind", "--tool=callgrind", "--cache-sim=yes", f"--D{LEVEL}={CACHE}", "--callgrind-out-file=" + file.name,
-                   MEASURE, *words]
+                   program, *words]
         subprocess.run(command, check=True, capture_output=True, env=COUNTED)
         report = subprocess.run(["callgrind_annotate", "--inclusive=yes", "--threshold=100", "--show=Ir,D1mr,D1mw", file.name],
                                 check=True, capture_output=True, text=True).stdout
@@ -41,10 +61,10 @@ def counted(function, *words):
     return found.get(function, (0, 0)), found["PROGRAM TOTALS"]
 
 
-def a_step(name, side, function, steps):
+def a_step(name, side, function, steps, program=PLAIN):
     """The instructions and the cache misses of a step, without the construction of the tables, each computed in two ways,
     which have to agree."""
-    runs = zip(*(counted(f"{SIDES[side]}_{function}", "play", name, side, what) for what in ("all", "none")))
+    runs = zip(*(counted(f"{SIDES[side]}_{function}", "play", name, side, what, program=program) for what in ("all", "none")))
     inside, whole = ([a - b for a, b in zip(*both)] for both in runs)
     # they differ by what is loaded at a first call, and by the loop that constructs tables
     for one, other, most in zip(inside, whole, (50_000, 500)):
@@ -64,14 +84,33 @@ def refusals(name, sides, seconds=0):
 
 
 class Row(NamedTuple):
-    """The measurements of a workload. Of a step on each side: the nanoseconds of the fastest run, the instructions, the
-    cache misses, and in each round the nanoseconds."""
+    """The measurements of a workload. Of a step on each side: the nanoseconds of the fastest run, those with the
+    construction, those without aligned branches, the instructions, the cache misses, and in each round the nanoseconds;
+    and the instructions with other call sites."""
     name: str
+    kind: str
     nodes: int
     ns: list
+    whole: list
+    plain: list
     instructions: list
     misses: list
     rounds: list
+    sites: dict
+
+
+def timed(name, program, env=None):
+    """Of each side the nanoseconds of a step, those with the construction, and those of each round."""
+    if not TIMED:
+        return [1.0] * len(SIDES), [1.0] * len(SIDES), []
+    rows = [[float(x) for x in row] for row in lines("time", name, *SIDES, program=program, env=env)]
+    ns, _processor, whole, *rounds = map(list, zip(*rows))
+    return ns, whole, rounds
+
+
+def in_parallel(work, jobs):
+    with ThreadPoolExecutor(os.cpu_count()) as pool:
+        return dict(zip(jobs, pool.map(lambda job: work(*job), jobs)))
 
 
 def measurements(part=""):
@@ -79,20 +118,39 @@ def measurements(part=""):
     work = [row for row in lines("list") if part in row[0]]
     with ThreadPoolExecutor(os.cpu_count()) as pool:
         list(pool.map(lambda row: refusals(row[0], SIDES), work))
-    times = {name: [[float(x) for x in row] for row in lines("time", name, *SIDES)] for name, *_ in work}
-    jobs = [(name, side, function, int(count)) for name, _nodes, _space, count, function in work for side in SIDES]
-    with ThreadPoolExecutor(os.cpu_count()) as pool:
-        counts = dict(zip([job[:2] for job in jobs], pool.map(lambda job: a_step(*job), jobs)))
-    for name, nodes, *_ in work:
-        ns, _processor, *rounds = map(list, zip(*times[name]))
-        instructions, misses = map(list, zip(*(counts[name, side] for side in SIDES)))
-        yield Row(name, int(nodes), ns, instructions, misses, rounds)
+    # a single step takes too short a time
+    nothing = ([math.nan] * len(SIDES), [math.nan] * len(SIDES), [])
+    times = {name: timed(name, MEASURE) if kind != "last" else nothing for name, *_, kind in work}
+    shown = lambda name, kind: kind == "steps" and not name.startswith("growth")
+    plain = {name: timed(name, PLAIN)[0] for name, *_, kind in work if shown(name, kind)}
+    counts = in_parallel(a_step, [(name, side, function, int(count)) for name, _nodes, _space, count, function, _kind in work for side in SIDES])
+    sites = in_parallel(a_step, [(name, side, function, int(count), SITES) for name, _nodes, _space, count, function, kind in work
+                                 for side in ("original", "erased") if shown(name, kind)])
+    for name, nodes, _space, count, function, kind in work:
+        ns, whole, rounds = times[name]
+        instructions, misses = map(list, zip(*(counts[name, side, function, int(count)] for side in SIDES)))
+        others = {job[1]: found[0] for job, found in sites.items() if job[0] == name}
+        yield Row(name, kind, int(nodes), ns, whole, plain.get(name), instructions, misses, rounds, others)
+
+
+def resident():
+    """Of each side the bytes that become resident, with each node limit, and those that ours may take. Whatever a run
+    touches stays resident until its end."""
+    used = int(lines("nodes", RESIDENT)[0][0])
+    for limit in LIMITS:
+        found = []
+        for side in SIDES:
+            touched, most = map(int, lines("resident", RESIDENT, side, str(limit), env=APART)[0])
+            # the system may miss up to 32 pages of each processor
+            assert abs(touched - most) < 131_072 * (os.cpu_count() + 1), f"{side}: {touched} bytes touched, {most} resident"
+            found.append(touched)
+        yield limit, found, REACH_NODE * used + REACH_MORE
 
 
 def compacting():
     """Of the ways to compact a space, for a number of live ranges: nanoseconds and instructions a range."""
     for live in (1_000, 60_000):
-        ns = [float(row[0]) for row in lines("compacting", str(live))]
+        ns = [float(row[0]) for row in lines("compacting", str(live))] if TIMED else [1.0] * len(WAYS)
         yield live, ns, [counted(f"compacting_{way}", "compacting", str(live), way)[0][0] / live for way in WAYS]
 
 
@@ -106,8 +164,19 @@ def ratios(row):
     return ns[1] / ns[0], count[1] / count[0], count[1] / count[3], ns[2] / ns[0], count[2] / count[0]
 
 
-def cell(value, most):
-    return f"{value:.2f}" if value <= most else f"**{value:.2f}**"
+def reach(row):
+    """The largest ratios that are not bold."""
+    found = list(REACH)
+    for at, special in enumerate((REACH_TIME, REACH_INSTRUCTIONS)):
+        for words, most in special.items():
+            if words in row.name:
+                found[at] = most
+    return found
+
+
+def cell(value, most, text="{:.2f}"):
+    shown = text.format(value)
+    return shown if value <= most else f"**{shown}**"
 
 
 def table(rows):
@@ -115,7 +184,7 @@ def table(rows):
            "| ours: time/original | instructions/original | instructions/C | erased: time/original | instructions/original |")
     yield "|---|" + "---:|" * 13
     for row in rows:
-        cells = [number(x) for x in row.ns + row.instructions] + [cell(r, m) for r, m in zip(ratios(row), REACH)]
+        cells = [number(x) for x in row.ns + row.instructions] + [cell(r, m) for r, m in zip(ratios(row), reach(row))]
         yield f"| {row.name} | " + " | ".join(cells) + " |"
 
 
@@ -125,6 +194,7 @@ def misses_table(rows):
     for row in rows:
         original, ours, _erased, c = row.misses
         cells = [f"{x:,.2f}" for x in row.misses + [ours / original, ours / c]]
+        cells[1] = cell(ours, REACH_MISSES.get(row.name, math.inf))
         yield f"| {row.name} | " + " | ".join(cells) + " |"
 
 
@@ -138,6 +208,70 @@ def rounds_table(rows):
         sides = zip(*([ns / original for ns in others] for original, *others in rounds))
         cells = [f"{x:.2f}" for side in sides for x in (min(side), max(side))]
         yield f"| {row.name} | {len(rounds)} | " + " | ".join(cells) + " |"
+
+
+def plain_table(rows):
+    """The times without aligned branches."""
+    yield "| workload | ns: original | ours | erased | C | ours: time/original | erased: time/original |"
+    yield "|---|" + "---:|" * 6
+    for row in rows:
+        ns = row.plain
+        yield f"| {row.name} | " + " | ".join([*map(number, ns), f"{ns[1] / ns[0]:.2f}", f"{ns[2] / ns[0]:.2f}"]) + " |"
+
+
+def sites_table(rows):
+    """The instructions with one call site of each function and with two."""
+    yield "| workload | original: one | two | erased: one | two | erased/original, one each | two each |"
+    yield "|---|" + "---:|" * 6
+    for row in rows:
+        original, erased = [row.instructions[0], row.sites["original"]], [row.sites["erased"], row.instructions[2]]
+        cells = [number(x) for x in original + erased] + [f"{e / o:.2f}" for o, e in zip(original, erased)]
+        yield f"| {row.name} | " + " | ".join(cells) + " |"
+
+
+def whole_table(rows):
+    """The times of whole runs."""
+    yield "| workload | ns: original | ours | erased | C | ours: time/original | erased: time/original |"
+    yield "|---|" + "---:|" * 6
+    for row in rows:
+        ns = row.whole
+        yield f"| {row.name} | " + " | ".join([*map(number, ns), f"{ns[1] / ns[0]:.2f}", f"{ns[2] / ns[0]:.2f}"]) + " |"
+
+
+def huge_table(rows):
+    """The times with huge pages, and their ratios to those without."""
+    yield "| workload | ns: original | ours | erased | C | with/without: original | ours | erased | C |"
+    yield "|---|" + "---:|" * 8
+    for row in rows:
+        ns = timed(row.name, MEASURE, HUGE)[0]
+        yield f"| {row.name} | " + " | ".join([*map(number, ns), *(f"{a / b:.2f}" for a, b in zip(ns, row.ns))]) + " |"
+
+
+def threads_table():
+    yield "| | ns a step, over all threads |"
+    yield "|---|---:|"
+    for way, ns in lines("threads") if TIMED else []:
+        yield f"| {way} | {number(float(ns))} |"
+
+
+def costs_table(rows):
+    """The costs of an allocator: each construction, use, and reset."""
+    yield "| | ns: original | ours | erased | C | instructions: original | ours | erased | C |"
+    yield "|---|" + "---:|" * 8
+    for row in rows:
+        ns = ["" if math.isnan(x) else number(x) for x in row.ns]
+        # with grants the reach would be another
+        most = math.inf if row.kind == "used" else REACH_COST
+        count = [cell(x, most if side in ("ours", "erased") else math.inf, "{:,.0f}") for side, x in zip(SIDES, row.instructions)]
+        yield f"| {row.name} | " + " | ".join(ns + count) + " |"
+
+
+def resident_table(found):
+    yield "| node limit | original | ours | erased | C |"
+    yield "|---|" + "---:|" * 4
+    for limit, row, most in found:
+        cells = [cell(x, most if side in ("ours", "erased") else math.inf, "{:,.0f}") for side, x in zip(SIDES, row)]
+        yield f"| {limit:,} | " + " | ".join(cells) + " |"
 
 
 def compacting_table(rows):
@@ -218,39 +352,70 @@ def plot(work, growth):
 
 
 def main():
-    rows = list(measurements(*sys.argv[3:]))
-    growth = [row for row in rows if row.name.startswith("growth")]
-    work = [row for row in rows if row not in growth]
-    large = [row for row in rows if row.nodes >= 262_144 or row.name == "random, 60k live"]
-    missed = sum(r > m for row in rows for r, m in zip(ratios(row), REACH))
+    rows = list(measurements(PART))
+    steps = [row for row in rows if row.kind == "steps"]
+    growth = [row for row in steps if row.name.startswith("growth")]
+    work = [row for row in steps if row not in growth]
+    costs = [row for row in rows if row.kind != "steps"]
+    large = [row for row in steps if row.nodes >= 262_144 or row.name == "random, 60k live"]
+    missed = sum(r > m for row in steps for r, m in zip(ratios(row), reach(row)))
+    special = ", ".join(f"{most:.2f} for *{words}*" for words, most in REACH_TIME.items())
+    special_count = ", ".join(f"{most:.2f} for *{words}*" for words, most in REACH_INSTRUCTIONS.items())
     head = [
         "# Results", "",
         "Times are the fastest of nine runs, or of three where a run takes a fifth of a second, in nanoseconds; instructions are "
         "counted by callgrind. Both are per step, without the construction of the tables.",
         "All sides returned the same offsets and refusals, and no live ranges overlap or leave the space. In bold: more than "
-        f"{REACH[0]:.2f} of the original's time, {REACH[1]:.2f} of its instructions, or {REACH[2]:.2f} of C's; "
-        f"for the erased side more than {REACH[3]:.2f} of the original's time, or {REACH[4]:.2f} of its instructions.", "",
+        f"{REACH[0]:.2f} of the original's time ({special}), {REACH[1]:.2f} of its instructions ({special_count}), or "
+        f"{REACH[2]:.2f} of C's; for the erased side more than {REACH[3]:.2f} of the original's time, or {REACH[4]:.2f} of its "
+        "instructions.", "",
+        "Times are those of code in which no branch crosses 32 bytes, on each side; instructions are counted without that, since "
+        "it takes further ones. The erased side has two call sites of each function, the others one.", "",
     ]
     shown = [*head, *table(work), "", "## Over the size of the tables", "",
              "Random steps with a quarter of the nodes live.", "", *table(growth), "",
-             "## Cache misses", "",
-             "Reads and writes of a step that miss a first-level data cache of 32 KiB, as callgrind simulates it.", "",
-             *misses_table(rows), "",
-             "## The best and the worst run", "",
-             "With large tables: the time of each run in parts of the original's in the same round. A round is left out in which "
-             "a run without steps took longer than the one with them.", "", *rounds_table(large)]
-    if not sys.argv[3:] or sys.argv[3] in "compact":
+             "## What an allocator costs", "",
+             "Each allocator is made and dropped before the next; with 10 grants between, these are counted with it. A reset of 10 "
+             "live ranges takes too short a time. In bold: a construction or a reset of ours or of the erased side with more than "
+             f"{REACH_COST:,} instructions.", "", *costs_table(costs), ""]
+    if not PART or PART in RESIDENT:
+        shown += ["## Resident memory", "",
+                  f"The bytes that become resident in a run of *{RESIDENT}*, those of the player included. In bold: more than "
+                  f"{REACH_NODE} for each node that was ever used, and {REACH_MORE:,}.", "", *resident_table(resident()), ""]
+    shown += ["## With the construction", "",
+              "The time of a whole run, a step: with the construction of the tables, and their end.", "",
+              *whole_table([row for row in steps if row.name in LONG]), "",
+              "## Huge pages", "",
+              "The times with `GLIBC_TUNABLES=glibc.malloc.hugetlb=1`: the C library asks for huge pages, for each large table.", "",
+              *huge_table([row for row in large if row.name.startswith("random")]), "",
+              "## Without aligned branches", "",
+              "The times where branches may cross 32 bytes, on each side but the peers: as compilers place them.", "", *plain_table(work), "",
+              "## One call site or two", "",
+              "Instructions of a step. A function with one call site is compiled into it.", "", *sites_table(work), "",
+              "## Cache misses", "",
+              "Reads and writes of a step that miss a first-level data cache of 32 KiB, as callgrind simulates it. In bold: more than "
+              + " and ".join(f"{most} in *{name}*" for name, most in REACH_MISSES.items()) + ".", "",
+              *misses_table(steps), "",
+              "## The best and the worst run", "",
+              "With large tables: the time of each run in parts of the original's in the same round. A round is left out in which "
+              "a run without steps took longer than the one with them.", "", *rounds_table(large if TIMED else [])]
+    if not PART or PART in "threads":
+        shown += ["", "## Threads", "",
+                  "The erased side, with 1,000 live ranges a thread, and sizes as in *random*: nanoseconds of a step, divided by the "
+                  "threads. In the last row each range is handed to another thread, which sends it back through a queue when it is "
+                  "released; the owner drains its queue every 64 requests.", "", *threads_table()]
+    if not PART or PART in "compact":
         shown += ["", "## Compact", "",
                   "The erased side: `compact`, and what leaves the same ranges without it: a reset of the space, or a release of "
                   "each range, and then a request for each in space order. Per live range.", "",
                   *compacting_table(compacting())]
-    if len(sys.argv) == 3:
+    if not PART and TIMED:
         with open(f"{HERE}/RESULTS.md", "w") as file:
             file.write("\n".join(shown) + "\n")
         with open(f"{HERE}/plot.svg", "w") as file:
             file.write(plot(work, growth))
     print("\n".join(shown))
-    print(f"{len(rows)} workloads, equal answers; {missed} of {len(REACH) * len(rows)} figures miss their reach")
+    print(f"{len(rows)} workloads, equal answers; {missed} of {len(REACH) * len(steps)} figures miss their reach")
 
 
 if __name__ == "__main__":

@@ -25,11 +25,11 @@ SIDES = ["original", "ours", *PEERS]
 def measurements():
     """For each workload of steps: its name, nodes and steps, the refusals of each side, and the nanoseconds a step by the
     clock and of the processor: None where it takes too long."""
-    # peers have no reset
+    # peers have no reset, and no tables to construct
     work = [
         (name, int(nodes), int(count))
-        for name, nodes, _space, count, function in lines("list")
-        if function.startswith("play") and "reset" not in name
+        for name, nodes, _space, count, _function, kind in lines("list")
+        if kind in ("steps", "used") and "reset" not in name
     ]
     jobs = [(name, side) for name, *_ in work for side in SIDES]
     with ThreadPoolExecutor(os.cpu_count()) as pool:
@@ -203,7 +203,9 @@ def plot(growth):
 
 
 def main():
-    rows = list(measurements())
+    all_rows = list(measurements())
+    rows = [row for row in all_rows if not row[0].startswith("make")]
+    made = [row for row in all_rows if row not in rows]
     growth = [row for row in rows if row[0].startswith("growth")]
     found = list(memory(rows))
     most, smallest = spaces()
@@ -217,6 +219,8 @@ def main():
         f"Nanoseconds a step. *Over*: the run takes more than {CAP} seconds, and so more than this a step. Marked by ~: the time by "
         f"the clock and that of the processor differ by more than {100 * NEAR:.0f}%.", "",
         *times_table(rows), "",
+        "Nanoseconds of an allocator that is made, grants 10 ranges, and is dropped. The node limit is that of ours and of the original.", "",
+        *times_table(made), "",
         "## Refusals", "", "In the workloads in which any side refuses a request.", "", *refusals_table(rows), "",
         "## Memory", "", "The most bytes that `malloc` holds at any time, its headers included, divided by the live ranges. Empty: the run takes too long.", "", *memory_table(found), "",
         "## The smallest space for the trace", "",
@@ -230,8 +234,8 @@ def main():
         file.write('<svg xmlns="http://www.w3.org/2000/svg" width="760" height="500" font-family="sans-serif">'
                    '<rect width="760" height="500" fill="white"/>\n' + "\n".join(plot(growth)) + "\n</svg>\n")
     print("\n".join(shown))
-    marked = sum(busy(row[4], side) for row in rows for side in row[4])
-    print(f"{len(PEERS)} peers, ranges apart; {marked} of {sum(len(row[4]) for row in rows)} times are those of a busy machine")
+    marked = sum(busy(row[4], side) for row in all_rows for side in row[4])
+    print(f"{len(PEERS)} peers, ranges apart; {marked} of {sum(len(row[4]) for row in all_rows)} times are those of a busy machine")
 
 
 main()

@@ -41,7 +41,19 @@ fn make<NI: NodeIndex>(size: u32, max_allocs: u32) -> u64 {
     space.storage_report().total_free_space.into()
 }
 
-macro_rules! exported { ($play:ident $make:ident $width:ty) => {
+/// A second place that requests a range, frees one, and resets a space, as a program has several: a function with one
+/// call site is compiled into it, and saves the call.
+#[cfg(not(feature = "other-sites"))]
+#[inline(always)]
+fn elsewhere<NI: NodeIndex>(space: &mut Allocator<NI>, size: u32) -> bool {
+    match space.allocate(size) {
+        Some(handle) => space.free(handle),
+        None => space.reset(),
+    }
+    space.storage_report().total_free_space == size
+}
+
+macro_rules! exported { ($play:ident $make:ident $elsewhere:ident $width:ty) => {
     #[no_mangle]
     #[inline(never)]
     pub unsafe extern "C" fn $play(size: u32, max_allocs: u32, slots: usize, steps: *const Step, count: usize) -> u64 {
@@ -52,6 +64,12 @@ macro_rules! exported { ($play:ident $make:ident $width:ty) => {
     pub unsafe extern "C" fn $make(size: u32, max_allocs: u32) -> u64 {
         make::<$width>(size, max_allocs)
     }
+    #[cfg(not(feature = "other-sites"))]
+    #[no_mangle]
+    #[inline(never)]
+    pub fn $elsewhere(space: &mut Allocator<$width>, size: u32) -> bool {
+        elsewhere(space, size)
+    }
 } }
-exported! { erased_play_32 erased_make_32 u32 }
-exported! { erased_play_16 erased_make_16 u16 }
+exported! { erased_play_32 erased_make_32 erased_elsewhere_32 u32 }
+exported! { erased_play_16 erased_make_16 erased_elsewhere_16 u16 }

@@ -1,23 +1,29 @@
 //! Runs the workloads on the linked sides, and prints its measurements, separated by tabs.
 //!
-//! - `measure list`: each workload's name, nodes, space, steps, and measured function without the prefix of its side.
-//! - `measure time NAME SIDE...`: for each side nanoseconds a step, by the clock and of the processor, and then those of
-//!   each run by the clock.
+//! - `measure list`: each workload's name, nodes, space, steps, measured function without the prefix of its side, and
+//!   kind.
+//! - `measure time NAME SIDE...`: for each side nanoseconds a step, by the clock and of the processor, those with the
+//!   construction by the clock, and then those of each run by the clock.
 //! - `measure play NAME SIDE all|none`: one run with all of its steps or with none, for a counter of instructions.
 //! - `measure check SECONDS NAME SIDE...`: the number of refusals, after a check that the sides have equal answers and
 //!   that no live ranges overlap; it ends by a signal where a run of the first side takes more processor time.
 //! - `measure heap NAME SIDE [NODES]`: the bytes of a side after construction, and the most bytes that a run adds to
 //!   them.
+//! - `measure resident NAME SIDE [NODES]`: the bytes of the pages that a run is the first to touch, and the most that it
+//!   adds to the resident ones, as far as the system knows.
 //! - `measure nodes NAME`: the smallest node limit with which nothing is refused.
 //! - `measure least SIDE`: the most bytes of the trace that are live at once, and the smallest space that refuses none
 //!   of it.
+//! - `measure threads`: the ways to share allocators between threads, with nanoseconds a step.
 //! - `measure compacting LIVE`: for each way to compact a space with this many live ranges nanoseconds a range; with the
 //!   name of a WAY one run of it, for a counter of instructions.
 mod check;
+#[cfg(not(feature = "other-sites"))]
 mod compacting;
 mod erased;
 mod original;
 mod sides;
+mod threads;
 mod workloads;
 
 use sides::{Side, REFUSED};
@@ -30,15 +36,22 @@ const RUNS: usize = 9;
 const LONG_RUNS: usize = 3;
 const LONG: f64 = 0.2e9;
 
-/// One run on a side. With `none` it has no steps, and only constructs the tables.
+/// One run on a side. With `none` it leaves out what is measured: all steps, so that it only constructs the tables, or the
+/// last one, or all allocators.
 fn run(w: &Workload, side: &Side, none: bool) -> u64 {
+    let play = |slots, steps: &[Step], count| unsafe { side.play[w.width as usize](w.space, w.nodes, slots, steps.as_ptr(), count) };
     match &w.work {
         Work::Steps { slots, steps } => {
             let count = if none { 0 } else { steps.len() };
-            unsafe { side.play[w.width as usize](w.space, w.nodes, *slots, steps.as_ptr(), count) }
+            play(*slots, steps, count)
         }
+        Work::Used { times, slots, steps } => {
+            let count = if none { 0 } else { *times };
+            (0..count).fold(0, |sum, _| sum + play(*slots, steps, steps.len()))
+        }
+        Work::Last { slots, steps } => play(*slots, steps, steps.len() - usize::from(none)),
         Work::Make { times } => {
-            let make = side.make.unwrap_or_else(|| panic!("{} has no tables to make", side.name));
+            let make = side.make.unwrap_or_else(|| panic!("{} has no tables to construct", side.name));
             let count = if none { 0 } else { *times };
             (0..count).fold(0, |sum, _| sum + unsafe { make[w.width as usize](w.space, w.nodes) })
         }
@@ -65,9 +78,9 @@ fn time_run(w: &Workload, side: &Side, none: bool) -> [f64; 2] {
     [start.elapsed().as_nanos() as f64, processor() - spent]
 }
 
-/// Nanoseconds a step: of the fastest run by the clock and of the processor, and of each run by the clock. The sides take
-/// turns.
-fn times(w: &Workload, sides: &[Side]) -> Vec<([f64; 2], Vec<f64>)> {
+/// Nanoseconds a step: of the fastest run by the clock, of the processor, and by the clock with the construction; and of
+/// each run by the clock. The sides take turns.
+fn times(w: &Workload, sides: &[Side]) -> Vec<([f64; 3], Vec<f64>)> {
     let mut fastest = vec![[[f64::MAX; 2]; 2]; sides.len()];
     let mut runs = vec![Vec::new(); sides.len()];
     let a_step = |[all, none]: [[f64; 2]; 2], by: usize| (all[by] - none[by]) / w.count() as f64;
@@ -83,7 +96,7 @@ fn times(w: &Workload, sides: &[Side]) -> Vec<([f64; 2], Vec<f64>)> {
             }
         }
     }
-    fastest.into_iter().map(|l| [a_step(l, 0), a_step(l, 1)]).zip(runs).collect()
+    fastest.into_iter().map(|l| [a_step(l, 0), a_step(l, 1), l[0][0] / w.count() as f64]).zip(runs).collect()
 }
 
 /// Every answer of a side to these steps.
@@ -136,6 +149,28 @@ fn heap(w: &Workload, side: &Side, slots: usize, count: usize) -> [usize; 2] {
     unsafe { side.play[w.width as usize](w.space, w.nodes, slots, steps_of(w).1.as_ptr(), count) };
     most(&mut counted, &mut library);
     [counted, library]
+}
+
+/// The bytes of the pages that a run is the first to touch, each of which is a fault; and by how much it raises the most
+/// bytes that are resident. The system counts the latter on each processor, and adds them up now and then.
+fn resident(w: &Workload, side: &Side) -> [u64; 2] {
+    let kilobytes = |key: &str| -> u64 {
+        let text = std::fs::read_to_string("/proc/self/status").unwrap();
+        let line = text.lines().find(|line| line.starts_with(key)).unwrap();
+        line.split_whitespace().nth(1).unwrap().parse().unwrap()
+    };
+    let faults = || -> u64 {
+        let text = std::fs::read_to_string("/proc/self/stat").unwrap();
+        let (_, after) = text.rsplit_once(')').unwrap();
+        after.split_whitespace().nth(7).unwrap().parse().unwrap()
+    };
+    // the most begins anew
+    std::fs::write("/proc/self/clear_refs", "5").unwrap();
+    let before = kilobytes("VmRSS");
+    let touched = faults();
+    std::hint::black_box(run(w, side, false));
+    let touched = faults() - touched;
+    [touched * 4096, kilobytes("VmHWM").saturating_sub(before) * 1024]
 }
 
 /// The smallest number above `low` for which `holds` is true, if it is true for all larger ones; `high` is one of them.
@@ -194,13 +229,13 @@ fn main() {
     match words[..] {
         ["list"] => {
             for w in workloads::all(None) {
-                println!("{}\t{}\t{}\t{}\t{}", w.name, w.nodes, w.space, w.count(), w.function());
+                println!("{}\t{}\t{}\t{}\t{}\t{}", w.name, w.nodes, w.space, w.count(), w.function(), w.kind());
             }
         }
         ["time", name, ref names @ ..] => {
-            for ([clock, processor], runs) in times(&workload(name), &sides(names)) {
+            for ([clock, processor, whole], runs) in times(&workload(name), &sides(names)) {
                 let runs: String = runs.iter().map(|run| format!("\t{run}")).collect();
-                println!("{clock}\t{processor}{runs}");
+                println!("{clock}\t{processor}\t{whole}{runs}");
             }
         }
         ["play", name, of, what @ ("all" | "none")] => println!("{}", run(&workload(name), &side(of), what == "none")),
@@ -217,6 +252,14 @@ fn main() {
             let (none, all) = (heap(&w, &side, slots, 0), heap(&w, &side, slots, steps.len()));
             println!("{}\t{}\t{}\t{}", made[0], made[1], all[0] - none[0], all[1] - none[1]);
         }
+        ["resident", name, of, ref nodes @ ..] => {
+            let (mut w, side) = (workload(name), side(of));
+            if let [nodes] = nodes {
+                w.nodes = nodes.parse().unwrap();
+            }
+            let [touched, most] = resident(&w, &side);
+            println!("{touched}\t{most}");
+        }
         ["nodes", name] => {
             let w = workload(name);
             let (slots, steps) = steps_of(&w);
@@ -227,15 +270,22 @@ fn main() {
             let (peak, space) = smallest_space(&side(of));
             println!("{peak}\t{space}");
         }
+        ["threads"] => {
+            for (way, ns) in threads::all() {
+                println!("{way}\t{ns}");
+            }
+        }
+        #[cfg(not(feature = "other-sites"))]
         ["compacting", live] => {
             for ns in compacting::times(live.parse().unwrap()) {
                 println!("{ns}");
             }
         }
+        #[cfg(not(feature = "other-sites"))]
         ["compacting", live, name] => {
             let (_, way) = *compacting::WAYS.iter().find(|way| way.0 == name).unwrap_or_else(|| panic!("no way {name}"));
             compacting::run(live.parse().unwrap(), way);
         }
-        _ => panic!("measure list | time | play | check | heap | nodes | least | compacting"),
+        _ => panic!("measure list | time | play | check | heap | resident | nodes | least | threads | compacting"),
     }
 }

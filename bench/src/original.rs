@@ -56,7 +56,18 @@ fn make<NI: Offset>(size: u32, max_allocs: u32) -> u64 {
     space.storage_report().total_free_space.into()
 }
 
-macro_rules! exported { ($play:ident $make:ident $width:ty) => {
+/// A second place that requests a range, frees one, and resets a space. In the tables the original has none.
+#[cfg(feature = "other-sites")]
+#[inline(always)]
+fn elsewhere<NI: Offset>(space: &mut Allocator<NI>, size: u32) -> bool {
+    match space.allocate(size) {
+        Some(handle) => space.free(handle),
+        None => space.reset(),
+    }
+    space.storage_report().total_free_space == size
+}
+
+macro_rules! exported { ($play:ident $make:ident $elsewhere:ident $width:ty) => {
     #[no_mangle]
     #[inline(never)]
     pub unsafe extern "C" fn $play(size: u32, max_allocs: u32, slots: usize, steps: *const Step, count: usize) -> u64 {
@@ -67,6 +78,12 @@ macro_rules! exported { ($play:ident $make:ident $width:ty) => {
     pub unsafe extern "C" fn $make(size: u32, max_allocs: u32) -> u64 {
         make::<$width>(size, max_allocs)
     }
+    #[cfg(feature = "other-sites")]
+    #[no_mangle]
+    #[inline(never)]
+    pub fn $elsewhere(space: &mut Allocator<$width>, size: u32) -> bool {
+        elsewhere(space, size)
+    }
 } }
-exported! { original_play_32 original_make_32 u32 }
-exported! { original_play_16 original_make_16 u16 }
+exported! { original_play_32 original_make_32 original_elsewhere_32 u32 }
+exported! { original_play_16 original_make_16 original_elsewhere_16 u16 }

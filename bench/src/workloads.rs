@@ -19,7 +19,12 @@ pub enum Width {
 
 pub enum Work {
     Steps { slots: usize, steps: Vec<Step> },
+    /// Allocators, each made and dropped before the next.
     Make { times: u32 },
+    /// Allocators, each made, used for these steps, and dropped before the next.
+    Used { times: u32, slots: usize, steps: Vec<Step> },
+    /// The last one of these steps, alone.
+    Last { slots: usize, steps: Vec<Step> },
 }
 
 pub struct Workload {
@@ -34,17 +39,28 @@ impl Workload {
     pub fn count(&self) -> usize {
         match &self.work {
             Work::Steps { steps, .. } => steps.len(),
-            Work::Make { times } => *times as usize,
+            Work::Make { times } | Work::Used { times, .. } => *times as usize,
+            Work::Last { .. } => 1,
+        }
+    }
+
+    /// What is counted: a step, an allocator that is made or used, or the last step.
+    pub fn kind(&self) -> &str {
+        match self.work {
+            Work::Steps { .. } => "steps",
+            Work::Make { .. } => "make",
+            Work::Used { .. } => "used",
+            Work::Last { .. } => "last",
         }
     }
 
     /// The name of the measured function, without the prefix of its side.
     pub fn function(&self) -> &str {
         match (&self.work, self.width) {
-            (Work::Steps { .. }, Width::Bits32) => "play_32",
-            (Work::Steps { .. }, Width::Bits16) => "play_16",
-            (_, Width::Bits32) => "make_32",
-            (_, Width::Bits16) => "make_16",
+            (Work::Make { .. }, Width::Bits32) => "make_32",
+            (Work::Make { .. }, Width::Bits16) => "make_16",
+            (_, Width::Bits32) => "play_32",
+            (_, Width::Bits16) => "play_16",
         }
     }
 }
@@ -143,6 +159,18 @@ fn frames(live: u32, times: u32) -> Work {
     Work::Steps { slots: (live * times) as usize, steps }
 }
 
+/// This many small ranges.
+fn few(live: u32) -> Vec<Step> {
+    (0..live).map(|slot| Step { slot, size: 1 + 7 * slot }).collect()
+}
+
+/// A reset of a space with 10 live ranges.
+fn reset_of_ten() -> Work {
+    let mut steps = few(10);
+    steps.push(Step { slot: RESET, size: 0 });
+    Work::Last { slots: 10, steps }
+}
+
 /// The buffers of a real game, once: how many slots, one for each grant, which its script releases; and the steps.
 pub fn trace() -> (u32, Vec<Step>) {
     let mut lines = include_str!("../traces/voxel-game.script").lines();
@@ -206,8 +234,17 @@ pub fn all(only: Option<&str>) -> Vec<Workload> {
     add("u16: tight, with refusals", Bits16, 20_000, 65_000, &|| random(4_000, 6));
     add("u16: bump, then free at random", Bits16, 65_535, 65_000, &|| waves(10_000, 2, |r| r.shuffled(10_000)));
     add("u16: frames of 100, each reset", Bits16, 65_535, 65_000, &|| frames(100, 2_000));
-    add("make 131,072 nodes", Bits32, SPACE, NODES, &|| Work::Make { times: 100 });
-    add("u16: make 65,000 nodes", Bits16, 65_535, 65_000, &|| Work::Make { times: 100 });
+    // the same work at each limit
+    for (name, width, space, nodes, times) in [
+        ("1,024 nodes", Bits32, SPACE, 1_024, 1_000),
+        ("131,072 nodes", Bits32, SPACE, NODES, 1_000),
+        ("10,000,000 nodes", Bits32, LARGEST, 10_000_000, 10),
+        ("65,000 nodes, u16", Bits16, 65_535, 65_000, 1_000),
+    ] {
+        add(&format!("make, {name}"), width, space, nodes, &|| Work::Make { times });
+        add(&format!("make, 10 grants, {name}"), width, space, nodes, &|| Work::Used { times, slots: 10, steps: few(10) });
+        add(&format!("reset of 10, {name}"), width, space, nodes, &reset_of_ten);
+    }
     for bits in [6, 8].into_iter().chain(10..=20) {
         let nodes = 1 << bits;
         add(&format!("growth, {nodes} nodes"), Bits32, LARGEST, nodes, &|| random(nodes / 4, 12));

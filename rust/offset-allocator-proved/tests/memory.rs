@@ -2,11 +2,15 @@
 #![cfg(target_os = "linux")]
 use offset_allocator_proved::{Allocator, Global, NodeIndex};
 
-/// The bytes that the program has mapped, and those of them that it touched.
+/// The bytes that the program has mapped, and those of the pages that it was the first to touch. (The system counts
+/// resident pages on each processor, and adds them up too seldom for this.)
 fn bytes() -> (u64, u64) {
-    let statm = std::fs::read_to_string("/proc/self/statm").unwrap();
-    let mut pages = statm.split(' ').map(|n| n.parse::<u64>().unwrap_or(0) * 4096);
-    (pages.next().unwrap(), pages.next().unwrap())
+    let read = |file| std::fs::read_to_string(file).unwrap();
+    let (statm, stat) = (read("/proc/self/statm"), read("/proc/self/stat"));
+    let (_, numbers) = stat.rsplit_once(')').unwrap();
+    let pages = [statm.split(' ').next(), numbers.split_whitespace().nth(7)];
+    let [mapped, touched] = pages.map(|n| n.unwrap().parse::<u64>().unwrap() * 4096);
+    (mapped, touched)
 }
 
 /// The bytes that an allocator maps, those that it touches when it is made, and those after 1,000 grants in all.

@@ -46,6 +46,35 @@ fn faulty_texts() {
     expect(&vec![b'#'; 1_048_577], 2, "", "too long\n");
 }
 
+/// The number after this key of a file of the system.
+#[cfg(target_os = "linux")]
+fn number(file: &str, key: &str) -> u64 {
+    let text = std::fs::read_to_string(file).unwrap();
+    let line = text.lines().find(|line| line.starts_with(key)).unwrap();
+    line[key.len()..].split_whitespace().next().unwrap().parse().unwrap()
+}
+
+#[test]
+#[cfg(target_os = "linux")]
+fn the_largest_node_limit() {
+    // 28 bytes a node: 120 GB
+    let text = b"space 10 nodes 4294967293 index 32\nalloc 1\n";
+    let kilobytes = 28 * 4_294_967_293 / 1024;
+    let memory = |key| number("/proc/meminfo", key);
+    // what the system promises: all that is asked for, or no more than it has
+    let promised = match number("/proc/sys/vm/overcommit_memory", "") {
+        0 => memory("MemTotal:") + memory("SwapTotal:"),
+        1 => u64::MAX,
+        _ => memory("CommitLimit:"),
+    };
+    if promised < kilobytes {
+        expect(text, 3, "", "out of memory\n");
+    } else if promised == u64::MAX {
+        // little of it is touched
+        expect(text, 0, "grant 1 at 0\n", "");
+    }
+}
+
 #[test]
 #[cfg(target_os = "linux")]
 fn a_device_that_takes_nothing() {

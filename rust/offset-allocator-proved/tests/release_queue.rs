@@ -1,0 +1,88 @@
+//! The arena of the example `release_queue`, with ranges that eight threads use and release.
+#[path = "../examples/release_queue.rs"]
+mod release_queue;
+
+use release_queue::{Arena, Range};
+use std::sync::atomic::{AtomicU32, Ordering::SeqCst};
+use std::sync::mpsc::channel;
+
+const UNITS: u32 = 1 << 14;
+const THREADS: u32 = 8;
+
+/// Numbers whose order depends on the seed.
+fn random(seed: &mut u64) -> u32 {
+    *seed ^= *seed << 13;
+    *seed ^= *seed >> 7;
+    *seed ^= *seed << 17;
+    (*seed >> 32) as u32
+}
+
+#[test]
+fn eight_threads_release() {
+    const RANGES: u32 = 40_000;
+    // who uses each unit: 0 for nobody
+    let users: Vec<AtomicU32> = (0..UNITS).map(|_| AtomicU32::new(0)).collect();
+    let exchange = |range: &Range, from: u32, to: u32| {
+        for user in &users[range.start() as usize..(range.start() + range.units()) as usize] {
+            assert_eq!(user.swap(to, SeqCst), from, "{range:?}");
+        }
+    };
+    let mut arena = Arena::new(UNITS, 1024).unwrap();
+    std::thread::scope(|scope| {
+        let mut workers = Vec::new();
+        for thread in 1..=THREADS {
+            let (to, ranges) = channel::<Range>();
+            let exchange = &exchange;
+            scope.spawn(move || {
+                let (mut held, mut seed) = (Vec::<Range>::new(), u64::from(thread));
+                for range in ranges {
+                    exchange(&range, 0, thread);
+                    held.push(range);
+                    // a random one is released, while the owner requests others
+                    if held.len() > 30 {
+                        let range = held.swap_remove(random(&mut seed) as usize % held.len());
+                        exchange(&range, thread, 0);
+                        drop(range);
+                    }
+                }
+                held.iter().for_each(|range| exchange(range, thread, 0));
+            });
+            workers.push(to);
+        }
+        let mut seed = 99;
+        for number in 0..RANGES {
+            let size = 1 + random(&mut seed) % 100;
+            let range = loop {
+                match arena.request(size) {
+                    Some(range) => break range,
+                    None => std::thread::yield_now(),
+                }
+            };
+            assert_eq!(range.units(), size);
+            assert!(workers[(number % THREADS) as usize].send(range).is_ok());
+        }
+    });
+    arena.drain();
+    let space = arena.space();
+    assert_eq!((space.block_count(), space.storage_report().total_free_space), (1, UNITS));
+    assert_eq!(arena.drain(), 0);
+}
+
+#[test]
+fn a_release_is_free_after_it_is_drained() {
+    let mut arena = Arena::new(100, 16).unwrap();
+    let [first, second] = [40, 60].map(|size| arena.request(size).unwrap());
+    assert_eq!([first.start(), second.start()], [0, 40]);
+    drop(first);
+    // not yet drained
+    assert_eq!(arena.space().storage_report().total_free_space, 0);
+    assert_eq!(arena.drain(), 1);
+    assert_eq!(arena.space().storage_report().total_free_space, 40);
+    drop(second);
+    // 48 units fit only what comes back with the second one; the request drains for itself
+    assert_eq!(arena.request(48).unwrap().start(), 0);
+    // a range may outlive its arena
+    let last = arena.request(1).unwrap();
+    drop(arena);
+    drop(last);
+}
