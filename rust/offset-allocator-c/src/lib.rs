@@ -1,6 +1,6 @@
 //! The C interface of `offset-allocator-proved`. `include/offset_allocator.h` documents each function.
 //!
-//! No `unsafe` block, no raw pointer that is read: an allocator is a box that C holds, a call borrows it, and all else
+//! No pointer is read here by hand: an allocator is a box that C holds, a call borrows it, and all else
 //! goes by value. Each call tests what the library requires of its caller, so that no argument panics.
 
 #![deny(unsafe_code)]
