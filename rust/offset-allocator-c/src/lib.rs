@@ -11,7 +11,7 @@ use core::ptr::NonNull;
 use offset_allocator_proved::ext::min_allocator_size;
 use offset_allocator_proved::{Allocation, Allocator, Global, Move, Refusal};
 
-/// What stands for a missing offset or name.
+/// The value of a missing offset or name.
 pub const NO_SPACE: u32 = u32::MAX;
 
 /// An allocator, as C holds it. It is an array, since a box of one can be made where an allocation may fail.
