@@ -287,6 +287,22 @@ COLOURS = {"original": "#c0392b", "ours": "#2471a3", "erased": "#1e8449", "c": "
 NAMES = {"original": "original", "ours": "ours", "erased": "erased", "c": "C"}
 
 
+# On a dark page: lighter colours of the sides, and darker ones of the page, of its lines and of outlines.
+DARK = {"#c0392b": "#ff7b72", "#2471a3": "#6cb0f5", "#a9cce3": "#1f4a73", "#1e8449": "#56d364", "#7d8a8f": "#a5b0b5", "#d68910": "#f0b23e",
+        "#7e5109": "#c9985a", "#8e44ad": "#c792ea", "#148f77": "#4fd1b5", "#ddd": "#30363d", "#e5e5e5": "#21262d", "#bbb": "#484f58", "white": "#0d1117"}
+
+
+def page(width, height, name, parts):
+    """A picture for light and dark pages, with a name for those who do not see it."""
+    parts = "\n".join(parts)
+    dark = "".join(f"[{part}='{light}']{{{part}:{colour}}}" for light, colour in DARK.items() for part in ("fill", "stroke")
+                   if f'{part}="{light}"' in parts or (part, light) == ("fill", "white"))
+    return (f'<svg xmlns="http://www.w3.org/2000/svg" width="{width}" height="{height}" viewBox="0 0 {width} {height}" '
+            f'font-family="sans-serif" fill="#1f2328" role="img" aria-label="{name}">\n<title>{name}</title>\n'
+            f"<style>@media (prefers-color-scheme:dark){{svg{{fill:#e6edf3}}{dark}}}</style>\n"
+            f'<rect width="{width}" height="{height}" fill="white"/>\n{parts}\n</svg>\n')
+
+
 def text(x, y, words, anchor="start", size=12):
     return f'<text x="{x:.1f}" y="{y:.1f}" text-anchor="{anchor}" font-size="{size}">{words}</text>'
 
@@ -294,7 +310,7 @@ def text(x, y, words, anchor="start", size=12):
 def bars(rows, top):
     """Our time and our instructions, relative to the original's."""
     left, width, height = 260, 420, 22
-    yield text(left, top - 24, "ours, where the original is 1: time (dark), instructions (light)", size=13)
+    yield text(left, top - 24, "ours, where the original is 1: time (upper bar), instructions (lower bar)", size=13)
     bottom = top + height * len(rows)
     for at in (0, 0.25, 0.5, 0.75, 1, 1.25):
         x = left + width * at / 1.25
@@ -323,9 +339,11 @@ def curves(rows, top, title, values):
     left, width, height = 80, 600, 200
     most = max(max(values(row)) for row in rows) * 1.1
     yield text(left, top - 12, title, size=13)
-    for i in range(5):
-        y = top + height * (1 - i / 4)
-        yield f'<line x1="{left}" y1="{y}" x2="{left + width}" y2="{y}" stroke="#ddd"/>' + text(left - 6, y + 4, f"{most * i / 4:.0f}", "end", 10)
+    # round steps, at most five of them
+    step = next(s for s in (f * 10 ** e for e in range(9) for f in (1, 2, 5)) if most / s <= 5)
+    for at in range(0, int(most) + 1, step):
+        y = top + height * (1 - at / most)
+        yield f'<line x1="{left}" y1="{y:.1f}" x2="{left + width}" y2="{y:.1f}" stroke="#ddd"/>' + text(left - 6, y + 4, f"{at:,}", "end", 10)
     first, last = rows[0].nodes, rows[-1].nodes
     xs = [left + width * math.log(row.nodes / first) / math.log(last / first) for row in rows]
     for x, row in zip(xs, rows):
@@ -347,8 +365,7 @@ def plot(work, growth):
     parts = [*bars(work, 60), *curves(growth, first, "nanoseconds a step, over the nodes of the table", lambda row: row.ns),
              *curves(growth, first + 270, "instructions a step, over the nodes of the table", lambda row: row.instructions)]
     size = first + 270 + 240
-    return (f'<svg xmlns="http://www.w3.org/2000/svg" width="760" height="{size}" font-family="sans-serif">'
-            f'<rect width="760" height="{size}" fill="white"/>\n' + "\n".join(parts) + "\n</svg>\n")
+    return page(760, size, "Time and instructions a step: ours, the original's, and that of C", parts)
 
 
 def main():

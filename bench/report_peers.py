@@ -1,7 +1,7 @@
 """Measures the linked peers beside the original and ours, and writes PEERS.md and peers.svg into the folder $2."""
 import math, os, subprocess
 from concurrent.futures import ThreadPoolExecutor
-from report import COLOURS, HERE, MEASURE, lines, number, refusals, spread, text
+from report import COLOURS, HERE, MEASURE, lines, number, page, refusals, spread, text
 
 # the seconds that a run may take
 CAP = 5
@@ -197,9 +197,11 @@ def plot(growth):
         ends.setdefault(points[-1][0], []).append((side, points[-1][1]))
     for a, here in ends.items():
         for (side, _), b in zip(here, spread([b for _, b in here], 16)):
-            # a white outline, where a line crosses the text
+            # where a line ends sooner than others, its name is on the side from which no other line comes; the outline
+            # parts the text from what crosses it
+            before = a < left + width
             paint = f'fill="{COLOURS[side]}" stroke="white" stroke-width="4" paint-order="stroke"'
-            yield text(a + 10, b + 4, NAMES[side]).replace("<text", f"<text {paint}")
+            yield text(a - 10 if before else a + 10, b + 4, NAMES[side], "end" if before else "start").replace("<text", f"<text {paint}")
 
 
 def main():
@@ -231,8 +233,7 @@ def main():
     with open(f"{HERE}/PEERS.md", "w") as file:
         file.write("\n".join(shown) + "\n")
     with open(f"{HERE}/peers.svg", "w") as file:
-        file.write('<svg xmlns="http://www.w3.org/2000/svg" width="760" height="500" font-family="sans-serif">'
-                   '<rect width="760" height="500" fill="white"/>\n' + "\n".join(plot(growth)) + "\n</svg>\n")
+        file.write(page(760, 500, "Nanoseconds a step over live ranges, of ours, the original and three peers", plot(growth)))
     print("\n".join(shown))
     marked = sum(busy(row[4], side) for row in all_rows for side in row[4])
     print(f"{len(PEERS)} peers, ranges apart; {marked} of {sum(len(row[4]) for row in all_rows)} times are those of a busy machine")

@@ -315,6 +315,9 @@ impl<NI: NodeIndex> Allocator<NI> {
     /// align - 1` is above 4294967295, or if `align` is above 1 and there is no room for two more blocks, even if fewer
     /// would be added. Then nothing changes. With `align` 1 the call is `allocate(size)`. It makes at most 128 accesses
     /// to the tables, and takes no memory.
+    ///
+    /// A fresh space of 1,048,576 units grants 64 KiB at a multiple of 256 only 15 times. Where all requests have one
+    /// alignment, let a unit be as large as that, and call `allocate`: then it grants all 16.
     pub fn allocate_aligned(&mut self, size: u32, align: u32) -> Option<Allocation<NI>>
         requires power { IsAlignment align }
         // The units needed are `size + align - 1`; the blocks needed are 1 with `align` 1, and 2 above. If at least one

@@ -83,7 +83,7 @@ fn put_colours(out: &mut String, figures: &Figures) -> Result<(), AllocError> {
     write!(out, "<path class='free' d='M120 {top}h16v14h-16z'/>")?;
     writeln!(
         out,
-        "<text x='142' y='{base}'>free units (the gap: outside the largest free region)</text>"
+        "<text x='142' y='{base}'>free units (the gap: rounding to a class, or apart)</text>"
     )?;
     write!(out, "<path class='most' d='M520 {top}h16v14h-16z'/>")?;
     writeln!(out, "<text x='542' y='{base}'>largest free region</text>")?;

@@ -6,8 +6,10 @@ use offset_allocator::{Accesses, Allocation, Allocator, NodeIndex, Refusal};
 use offset_script::{Answer, Command};
 use offset_test_base::tiny::Tiny;
 use offset_uses::daily::{
-    Ring, defragment, first_byte, give_back, granted_units, insert, place, resize, upload,
+    Ring, defragment, first_byte, give_back, granted_units, insert, place, place_packed, resize,
+    upload,
 };
+use offset_uses::engine::{free_named, restored, take_from, upload_units};
 use offset_uses::walking::{count_holes, dump};
 use offset_uses::{
     Tenant, allocate_or_grow, charge, frame, place_mesh, place_promised, place_uniforms,
@@ -465,7 +467,73 @@ fn a_ring_frees_the_frame_before_the_last(rt: HostRuntime) {
     assert_same(&rt, &range.offset, &0);
 }
 
-// The example of the README.
+// Units of 256 bytes need no padding: a heap of 4,096 of them grants 4,096 requests. By bytes, 15 of 16 are granted.
+#[test]
+fn all_units_are_granted(rt: HostRuntime) {
+    let mut heap = Allocator::with_max_allocs(rt.alloc(), 4_096, 4_098).expect(&rt, "memory");
+    for k in 0..4_096u64 {
+        let bytes = if k % 2 == 0 { 256 } else { 1 };
+        let (_, first) = upload_units(&mut heap, bytes).expect(&rt, "room");
+        assert_same_at(&rt, &k, &first, &(256 * k));
+    }
+    assert_that(&rt, upload_units(&mut heap, 1).is_none());
+    let mut bytes = Allocator::<u32>::with_max_allocs(rt.alloc(), 1 << 20, 100).expect(
+        &rt, "memory",
+    );
+    for k in 0..16u32 {
+        let granted = bytes.allocate_aligned(1 << 16, 256).is_some();
+        assert_same_at(&rt, &k, &granted, &(k < 15));
+    }
+}
+
+#[test]
+fn handles_come_back(rt: HostRuntime) {
+    let mut space = Allocator::new(rt.alloc(), 100).expect(&rt, "memory");
+    let first = space.allocate(10).expect(&rt, "room");
+    let second = space.allocate(20).expect(&rt, "room");
+    assert_that(&rt, restored(second) == second);
+    assert_same(&rt, &second.to_parts().0, &10);
+    assert_that(&rt, free_named(&mut space, second.to_parts().1));
+    assert_that(&rt, !free_named(&mut space, second.to_parts().1));
+    assert_that(&rt, !free_named(&mut space, 4_294_967_295));
+    assert_that(&rt, space.is_live(first));
+    assert_same(&rt, &space.storage_report().total_free_space, &90);
+}
+
+#[test]
+fn spaces_are_in_a_vec(rt: HostRuntime) {
+    let mut slabs = Vec::new(rt.alloc());
+    for size in [10u32, 100] {
+        let slab = Allocator::new(rt.alloc(), size).expect(&rt, "memory");
+        assert_that(&rt, slabs.push(slab).is_ok());
+    }
+    assert_that(&rt, take_from(&mut slabs, 0, 50).is_none());
+    assert_that(&rt, take_from(&mut slabs, 1, 50).is_some());
+    assert_that(&rt, take_from(&mut slabs, 2, 5).is_none());
+}
+
+#[test]
+fn a_packed_place_is_granted(rt: HostRuntime) {
+    let mut space = Allocator::new(rt.alloc(), 96).expect(&rt, "memory");
+    let mut buffer = [7u32; 96];
+    let first = space.allocate(24).expect(&rt, "room");
+    assert_that(&rt, space.allocate(48).is_some());
+    assert_that(&rt, give_back(&mut space, first));
+    assert_that(
+        &rt,
+        place_packed(&mut space, &mut buffer, 49) == Err(Refusal::Space),
+    );
+    assert_that(
+        &rt,
+        place_packed(&mut space, &mut buffer, 97) == Err(Refusal::TooLarge),
+    );
+    match place_packed(&mut space, &mut buffer, 48) {
+        Ok(range) => assert_same(&rt, &range.offset, &48),
+        Err(_) => assert_that(&rt, false),
+    }
+}
+
+// The example of `docs/USING.md`.
 #[test]
 fn ten_lines(rt: HostRuntime) {
     let alloc = rt.alloc();

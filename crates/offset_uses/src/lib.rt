@@ -11,6 +11,7 @@ ghost use Rattle.offset_script.specs.Grammar.{has_valid_alignment};
 ghost use Rattle.offset_script.specs.Machine.{answers, start};
 
 pub mod daily;
+pub mod engine;
 pub mod in_memory;
 pub mod pool;
 pub mod walking;

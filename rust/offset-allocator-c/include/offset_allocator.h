@@ -29,7 +29,7 @@
 extern "C" {
 #endif
 
-/* What stands for a missing offset or name. */
+/* The value of a missing offset or name. */
 #define OA_NO_SPACE UINT32_C(0xffffffff)
 
 /* The node limit of the C++ class, where none is given. */

@@ -1,6 +1,6 @@
 //! The C interface of `offset-allocator-proved`. `include/offset_allocator.h` documents each function.
 //!
-//! No `unsafe` block, no raw pointer that is read: an allocator is a box that C holds, a call borrows it, and all else
+//! No pointer is read here by hand: an allocator is a box that C holds, a call borrows it, and all else
 //! goes by value. Each call tests what the library requires of its caller, so that no argument panics.
 
 #![deny(unsafe_code)]
@@ -11,7 +11,7 @@ use core::ptr::NonNull;
 use offset_allocator_proved::ext::min_allocator_size;
 use offset_allocator_proved::{Allocation, Allocator, Global, Move, Refusal};
 
-/// What stands for a missing offset or name.
+/// The value of a missing offset or name.
 pub const NO_SPACE: u32 = u32::MAX;
 
 /// An allocator, as C holds it. It is an array, since a box of one can be made where an allocation may fail.

@@ -2,7 +2,7 @@
 //! for this test. They have to agree in every result, in every move of `compact`, and in what is live and free after each
 //! call. A buffer has a pattern for each live range, and is copied as the moves say.
 
-use offset_allocator_proved::{Allocation, Allocator, Global, NodeIndex};
+use offset_allocator_proved::{Allocation, Allocator, Global, NodeIndex, Refusal};
 
 const HISTORIES: u64 = 100_000;
 const MOST_CALLS: u32 = 60;
@@ -74,6 +74,7 @@ struct Block<NI: NodeIndex> {
 }
 
 /// The blocks of a space in its order.
+#[derive(Clone)]
 struct Model<NI: NodeIndex> {
     limit: usize,
     blocks: Vec<Block<NI>>,
@@ -202,6 +203,25 @@ impl<NI: NodeIndex> Model<NI> {
         moves
     }
 
+    /// Why a request is refused, by what helps: a fresh space of this size, or a compaction.
+    fn refusal(&self, size: u32, align: u32) -> Option<Refusal> {
+        if !self.has_room_for(align.min(2)) {
+            return Some(Refusal::Nodes);
+        }
+        let (mut fresh, mut compacted) = (self.clone(), self.clone());
+        fresh.reset();
+        compacted.compact();
+        if self.clone().request(size, align).is_some() {
+            None
+        } else if fresh.request(size, align).is_none() {
+            Some(Refusal::TooLarge)
+        } else if compacted.request(size, align).is_none() {
+            Some(Refusal::Space)
+        } else {
+            Some(Refusal::Fragmented)
+        }
+    }
+
     /// The free units and the value of the largest class with a free block, as `storage_report` has them.
     fn report(&self) -> (u32, u32) {
         if !self.has_room_for(1) {
@@ -227,6 +247,8 @@ fn byte(number: u64, i: u32) -> u8 {
 struct Met {
     grants: u64,
     refusals: u64,
+    /// By the four reasons.
+    reasons: [u64; 4],
     moves: u64,
     overlapping_moves: u64,
     compacted_at_the_limit: u64,
@@ -253,7 +275,13 @@ impl<NI: NodeIndex> Pair<NI> {
     }
 
     fn allocate(&mut self, size: u32, align: u32, met: &mut Met) {
+        let why = self.space.refusal_aligned(size, align);
+        assert_eq!(why, self.model.refusal(size, align));
         let found = if align == 1 { self.space.allocate(size) } else { self.space.allocate_aligned(size, align) };
+        assert_eq!(found.is_none(), why.is_some());
+        if let Some(why) = why {
+            met.reasons[why as usize] += 1;
+        }
         let expected = self.model.request(size, align);
         assert_eq!(found.map(|handle| handle.offset), expected.map(|place| self.model.offset(place)));
         let (Some(handle), Some(place)) = (found, expected) else {
@@ -426,6 +454,7 @@ fn an_allocator_and_a_list_of_blocks_agree() {
         }
         let count = HISTORIES / THREADS;
         assert!(met.grants > 10 * count && met.refusals > count, "{met:?}");
+        assert!(met.reasons.iter().all(|n| *n > count / 50), "{met:?}");
         assert!(met.moves > 3 * count && met.overlapping_moves > count, "{met:?}");
         assert!(met.compacted_at_the_limit > count / 50, "{met:?}");
         assert!(met.shrunk > count / 2 && met.grown > count / 4, "{met:?}");

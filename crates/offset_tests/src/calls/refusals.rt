@@ -77,7 +77,12 @@ const REFUSED: [Case; 7] = [
         name: "a space of no unit",
         size: 0,
         limit: Few,
-        steps: &[Lacks(1, TooLarge), Grants(0, 0), Lacks(0, Space), Lacks(1, TooLarge)],
+        steps: &[
+            Lacks(1, TooLarge),
+            Grants(0, 0),
+            Lacks(0, Space),
+            Lacks(1, TooLarge),
+        ],
     },
     // The largest space: its class begins at 4026531840.
     Case {

@@ -1,0 +1,82 @@
+//! What engines do beside: requests of one alignment, handles that travel, and several spaces.
+
+ghost use Rattle.std.specs.Prelude.{ℕ, ◌≡◌, ◌≢◌, ◌↔◌, ◌+◌, ◌*◌, ◌/◌, ◌%◌, ◌<◌, ◌≤◌, Some, None, false, IfSome, IsSome, IsTrue, length, slice_index_or};
+ghost use Rattle.offset_allocator.specs.Named.{View, largest_free};
+ghost use Rattle.offset_allocator.specs.Ranges.{Range, range_of, IsLive, KeepsAll, KeepsOthers};
+ghost use Rattle.offset_allocator.specs.Relations.{Allocates, Frees};
+
+use crate::daily::{give_back, upload};
+use offset_allocator::{Allocation, Allocator};
+
+/// Allocates bytes at a multiple of 256, of a heap that counts in units of 256 bytes. It returns the handle and the
+/// first byte, or `None` where the request is refused; then no live range has changed.
+///
+/// No padding is needed, where `allocate_aligned` needs up to 255 bytes a range: a fresh heap of 4,096 units grants
+/// 4,096 requests for 256 bytes.
+pub fn upload_units(heap: &mut Allocator, bytes: u32) -> Option<(Allocation, u64)>
+    ensures aligned { IfSome result (λ r. r.1 % 256 ≡ 0) }
+    ensures first { IfSome result (λ r. r.1 ≡ 256 * r.0.offset) }
+    ensures range { IfSome result (λ r. range_of r.0.name heap.new ≡ Some (record { offset = r.0.offset; size = (bytes + 255) / 256 })) }
+    ensures others { IfSome result (λ r. KeepsOthers r.0.name heap.old heap.new) }
+    ensures granted { 1 ≤ bytes → (IsSome result ↔ ((bytes + 255) / 256 ≤ largest_free heap.old)) }
+    ensures refused { result ≡ None → KeepsAll heap.old heap.new }
+{
+    let units = ((u64::from(bytes) + 255) / 256) as u32;
+    let range = heap.allocate(units)?;
+    Some((range, 256 * u64::from(range.offset)))
+}
+
+/// Two uploads of different alignments, both or neither.
+pub fn upload_both(
+    heap: &mut Allocator,
+    size: u32,
+    align: u32,
+    other_size: u32,
+    other_align: u32,
+) -> Option<(Allocation, Allocation)>
+    ensures first { IfSome result (λ r. range_of r.0.name heap.new ≡ Some (record { offset = r.0.offset; size = size })) }
+    ensures second { IfSome result (λ r. range_of r.1.name heap.new ≡ Some (record { offset = r.1.offset; size = other_size })) }
+    ensures aligned { IfSome result (λ r. (r.0.offset % align ≡ 0) × (r.1.offset % other_align ≡ 0)) }
+    ensures differ { IfSome result (λ r. r.0.name ≢ r.1.name) }
+{
+    let one = upload(heap, size, align)?;
+    match upload(heap, other_size, other_align) {
+        None => {
+            give_back(heap, one);
+            None
+        }
+        Some(other) => Some((one, other)),
+    }
+}
+
+/// A handle as two numbers, for a file or another language, and made of them again: it is the same.
+pub fn restored(mesh: Allocation) -> Allocation
+    ensures { result ≡ mesh }
+{
+    let (offset, name) = mesh.to_parts();
+    Allocation::from_parts(offset, name).unwrap()
+}
+
+/// Frees the range of a name that came from elsewhere, if it is live. It returns whether it was.
+pub fn free_named(space: &mut Allocator, name: u32) -> bool
+    ensures live { name < 4294967295 → (IsTrue result ↔ IsLive name space.old) }
+    ensures freed { IsTrue result → Frees name space.old space.new }
+    ensures same { result ≡ false → space.new ≡ space.old }
+{
+    match Allocation::from_parts(0, name) {
+        None => false,
+        Some(allocation) => give_back(space, allocation),
+    }
+}
+
+/// Allocates in one of several spaces, or returns `None` where there is no such space or it refuses the request.
+pub fn take_from(slabs: &mut Vec<Allocator>, place: usize, size: u32) -> Option<Allocation>
+    ensures len { length slabs.new.items ≡ length slabs.old.items }
+    ensures none { length slabs.old.items ≤ place → result ≡ None }
+    ensures step { (v : View) → place < length slabs.old.items
+        → Allocates size (slice_index_or slabs.old.items place v) (slice_index_or slabs.new.items place v) result }
+    ensures others { (k : ℕ) (v : View) → k ≢ place → slice_index_or slabs.new.items k v ≡ slice_index_or slabs.old.items k v }
+{
+    let slab = slabs.get_mut(place)?;
+    slab.allocate(size)
+}
