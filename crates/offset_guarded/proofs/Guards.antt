@@ -1,0 +1,143 @@
+-- Which tickets are live, and what a grant leaves of them.
+use Rattle.std.proofs.Common.{◌≡◌, ◌≢◌, ℕ, ◌+◌, ◌<◌, ◌≤◌, length, Bool, true, false, ◌&&◌, List, [], ◌∷◌, Option, Some, None, IsSome, nat_eq, option_map, slice_set, if◌then◌else◌, refl, sym, ap, ap₂, subst, ◌∙◌, inl, inr, arith, eq-eqb, ne_eqb}
+use Rattle.std.proofs.lemmas.Bool.{cases_eq}
+use Rattle.std.proofs.lemmas.List.{get_or-set_same, get_or-set_other}
+use Rattle.offset_allocator.specs.Named.{Block, View, Grant, Place, IsWellFormed, count_named, place_of, free_block}
+use Rattle.offset_allocator.specs.Ranges.{Range}
+use Rattle.offset_allocator.specs.Ranges as named
+use Rattle.offset_allocator.specs.Relations.{Aligns, Allocates, IsFresh}
+use Rattle.offset_allocator.specs.Promises.{CanGrant}
+use Rattle.offset_allocator.proofs.Reading.{range_at}
+use Rattle.offset_allocator.proofs.Tallies.{hit_cases}
+use Rattle.offset_guarded.specs.declared.ticket.Ticket.{Ticket}
+use Rattle.offset_guarded.specs.Guard.{Guard, Table, Grants, IsGuarded, IsLive, KeepsOthers, last_serial, cell, fits}
+
+-- what the fields show
+abbrev pub guard : View → Table → ℕ → Guard
+guard v t realm = record { space = v; serials = t.cells; given = t.given; realm = realm }
+
+-- a range, where a test holds
+abbrev range_if : Bool → Option Range → Option Range
+range_if b o = if b then o else None
+
+only_if : (b : Bool) (o : Option Range) → IsSome (range_if b o) → IsSome o
+only_if true o h = h
+only_if false o h = cc
+
+none_if : (b : Bool) (o : Option Range) → o ≡ None → range_if b o ≡ None
+none_if true o e = e
+none_if false o e = refl
+
+and_none : (b : Bool) → (b && false) ≡ false
+and_none true = refl
+and_none false = refl
+
+-- a live ticket has a live name
+pub live_name : (t : Ticket) (g : Guard) → IsLive t g → named.IsLive t.name g.space
+live_name t g h = only_if (fits t g) (named.range_of t.name g.space) h
+
+-- a live name is that of a block
+no_place : (x : ℕ) (bs : List Block) → count_named x bs ≡ 0 → place_of x bs ≡ None
+no_place x [] e = refl
+no_place x (b ∷ bs) e = elim (hit_cases x b.name) [
+  | inl h ↦ absurd (let one = h.1 in omega arith)
+  | inr n ↦ rw (ne_eqb x b.name n.0) (ap (option_map (λ (p : Place). record p { before = b ∷ p.before })) (no_place x bs (let none = n.1 in omega arith)))
+]
+
+pub no_range : (x : ℕ) (v : View) → count_named x v.blocks ≡ 0 → named.IsLive x v → ⊥
+no_range x v e h = let q : IsSome (range_at None) = subst (λ o. IsSome (range_at o)) (no_place x v.blocks e) h in cc
+
+pub is_named : (x : ℕ) (v : View) → named.IsLive x v → 1 ≤ count_named x v.blocks
+is_named x v h = elim (cases_eq (count_named x v.blocks) 0) [ inl e ↦ absurd (no_range x v e h) | inr n ↦ omega arith ]
+
+-- no ticket with a name above the largest is live
+pub no_such : (max : ℕ) (ticket : Ticket) (g : Guard) (v : View) (t : Table) (realm : ℕ) → guard v t realm ≡ g → v.max_allocs < max → IsWellFormed v → max ≤ ticket.name → IsLive ticket g → ⊥
+no_such max ticket g v t realm shows admitted w above h = no_range ticket.name v (w.below ticket.name (omega arith)) (live_name ticket (guard v t realm) (subst (IsLive ticket) (sym shows) h))
+
+-- a fresh space has no live name
+pub fresh_none : (size limit : ℕ) (v : View) → IsFresh size limit v → (x : ℕ) → named.IsLive x v → ⊥
+fresh_none size limit v f x h = none (nat_eq x f.name) (subst (λ (z : View). named.IsLive x z) f.view h)
+  where
+    none : (b : Bool) → IsSome (range_at (if b then Some (record { before = []; block = free_block f.name size; after = [] }) else None)) → ⊥
+    none true h = cc
+    none false h = cc
+
+-- the serials after one more
+pub cell_set : (cells : List ℕ) (name s x : ℕ) → name < length cells → cell x (slice_set cells name s) ≡ (if nat_eq x name then s else cell x cells)
+cell_set cells name s x l = elim (cases_eq x name) [
+  | inl e ↦ rw (eq-eqb x name e) (ap (λ i. cell i (slice_set cells name s)) e ∙ get_or-set_same cells name s 0 l)
+  | inr n ↦ rw (ne_eqb x name n) (get_or-set_other cells name x s 0 n)
+]
+
+-- the serials after the next one is given to the name y, from cells that are those of t
+pub cell_given : (made next t : Table) (y name x : ℕ) → next ≡ record made { cells = slice_set made.cells y (made.given + 1); given = made.given + 1 } → y ≡ name → y < length made.cells → made.given ≡ t.given → cell x made.cells ≡ cell x t.cells
+    → cell x next.cells ≡ (if nat_eq x name then t.given + 1 else cell x t.cells)
+cell_given made next t y name x e same l given cells =
+    ap (λ (t : Table). cell x t.cells) e
+    ∙ cell_set made.cells y (made.given + 1) x l
+    ∙ ap (λ k. if nat_eq x k then made.given + 1 else cell x made.cells) same
+    ∙ ap₂ (λ a b. if nat_eq x name then a + 1 else b) given cells
+
+-- a request leaves the node limit
+pub same_limit : (n align : ℕ) (v w : View) (h : Grant) → Aligns n align v w (Some h) → w.max_allocs ≡ v.max_allocs
+same_limit n align v w h t = ap (λ (z : View). z.max_allocs) t.1.view
+
+pub same_limit_plain : (n : ℕ) (v w : View) (h : Grant) → Allocates n v w (Some h) → w.max_allocs ≡ v.max_allocs
+same_limit_plain n v w h t = ap (λ (z : View). z.max_allocs) t.1.view
+
+module _ (max n realm : ℕ) (v w : View) (t u : Table) (h : Grant) (is : IsGuarded max v t) (g : named.Grants n v w h)
+    (cells : (x : ℕ) → cell x u.cells ≡ (if nat_eq x h.name then t.given + 1 else cell x t.cells)) (given : u.given ≡ t.given + 1) where
+  here : (x : ℕ) → x ≡ h.name → cell x u.cells ≡ t.given + 1
+  here x e = cells x ∙ ap (λ b. if b then t.given + 1 else cell x t.cells) (eq-eqb x h.name e)
+
+  there : (x : ℕ) → x ≢ h.name → cell x u.cells ≡ cell x t.cells
+  there x n = cells x ∙ ap (λ b. if b then t.given + 1 else cell x t.cells) (ne_eqb x h.name n)
+
+  -- the fields agree after the grant
+  pub issued : w.max_allocs ≡ v.max_allocs → u.room ≡ t.room → IsGuarded max w u
+  issued limit room = record {
+    live = λ x l. elim (cases_eq x h.name) [
+      | inl e ↦ let c = here x e in omega arith
+      | inr n ↦ let c = there x n in let o = is.live x (subst IsSome (g.others x n) l) in omega arith
+    ];
+    given = λ x. elim (cases_eq x h.name) [
+      | inl e ↦ let c = here x e in omega arith
+      | inr n ↦ let c = there x n in let o = is.given x in omega arith
+    ];
+    memory = let m = is.memory in omega arith;
+    admitted = let m = is.admitted in omega arith;
+  }
+
+  -- the ticket of the grant
+  abbrev ticket : Ticket
+  ticket = record { offset = h.offset; name = h.name; serial = t.given + 1; realm = realm }
+
+  no_other : (z : Ticket) → z.serial ≢ t.given + 1 → z.name ≡ h.name → fits z (guard w u realm) ≡ false
+  no_other z d e = ap (λ b. nat_eq z.realm realm && b) (ne_eqb z.serial (cell z.name u.cells) (λ q. d (q ∙ here z.name e))) ∙ and_none (nat_eq z.realm realm)
+
+  pub others : KeepsOthers ticket (guard v t realm) (guard w u realm)
+  others z d = elim (cases_eq z.name h.name) [
+    | inl e ↦ ap (λ b. range_if b (named.range_of z.name w)) (no_other z d e) ∙ sym (none_if (fits z (guard v t realm)) (named.range_of z.name v) (ap (λ x. named.range_of x v) e ∙ g.not_live))
+    | inr m ↦ ap₂ (λ s r. range_if (nat_eq z.realm realm && nat_eq z.serial s) r) (there z.name m) (g.others z.name m)
+  ]
+
+  fit : fits ticket (guard w u realm) ≡ true
+  fit = ap₂ (λ a b. a && b) (eq-eqb realm realm refl) (eq-eqb (t.given + 1) (cell h.name u.cells) (sym (here h.name refl)))
+
+  pub granted : Grants n (guard v t realm) (guard w u realm) ticket
+  granted = record {
+    serial = refl;
+    given = given;
+    realm = (refl, refl);
+    not_live = none_if (fits ticket (guard v t realm)) (named.range_of h.name v) g.not_live;
+    range = ap (λ b. range_if b (named.range_of h.name w)) fit ∙ g.range;
+    space = g;
+    others = others;
+  }
+
+  pub granted_as : (g : Guard) (z : Ticket) → guard v t realm ≡ g → z ≡ ticket → Grants n g (guard w u realm) z
+  granted_as g z shows same = subst (λ g. Grants n g (guard w u realm) z) shows (subst (λ z. Grants n (guard v t realm) (guard w u realm) z) (sym same) granted)
+
+-- the answer to a request that is granted
+pub can_grant : (blocks units : ℕ) (g h : Guard) → g ≡ h → g.given < last_serial → CanGrant blocks units g.space → (true ≡ true → (h.given < last_serial) × CanGrant blocks units h.space) × ((h.given < last_serial) × CanGrant blocks units h.space → true ≡ true)
+can_grant blocks units g h shows left can = (λ e. subst (λ h. (h.given < last_serial) × CanGrant blocks units h.space) shows (left, can), λ h. refl)
