@@ -1,6 +1,6 @@
 -- Which tickets are live, and what a grant leaves of them.
-use Rattle.std.proofs.Common.{◌≡◌, ◌≢◌, ℕ, ◌+◌, ◌<◌, ◌≤◌, length, Bool, true, false, ◌&&◌, List, [], ◌∷◌, Option, Some, None, IsSome, nat_eq, option_map, slice_set, if◌then◌else◌, refl, sym, ap, ap₂, subst, ◌∙◌, inl, inr, arith, eq-eqb, ne_eqb}
-use Rattle.std.proofs.lemmas.Bool.{cases_eq}
+use Rattle.std.proofs.Common.{◌≡◌, ◌≢◌, ℕ, ◌+◌, ◌<◌, ◌≤◌, length, Bool, true, false, ◌&&◌, List, [], ◌∷◌, Option, Some, None, IsSome, is_some, nat_eq, option_map, slice_set, if◌then◌else◌, refl, sym, ap, ap₂, subst, ◌∙◌, inl, inr, arith, eq-eqb, ne_eqb}
+use Rattle.std.proofs.lemmas.Bool.{cases_eq, eqb-true, and_parts}
 use Rattle.std.proofs.lemmas.List.{get_or-set_same, get_or-set_other}
 use Rattle.offset_allocator.specs.Named.{Block, View, Grant, Place, IsWellFormed, count_named, place_of, free_block}
 use Rattle.offset_allocator.specs.Ranges.{Range}
@@ -10,7 +10,7 @@ use Rattle.offset_allocator.specs.Promises.{CanGrant}
 use Rattle.offset_allocator.proofs.Reading.{range_at}
 use Rattle.offset_allocator.proofs.Tallies.{hit_cases}
 use Rattle.offset_guarded.specs.declared.ticket.Ticket.{Ticket}
-use Rattle.offset_guarded.specs.Guard.{Guard, Table, Grants, IsGuarded, IsLive, KeepsOthers, last_serial, cell, fits}
+use Rattle.offset_guarded.specs.Guard.{Guard, Table, Grants, AreAlike, HasUnits, IsGuarded, IsLive, KeepsLive, KeepsOthers, KeepsSerials, last_serial, cell, fits, grant_of, range_of, serial_of}
 
 -- what the fields show
 abbrev pub guard : View → Table → ℕ → Guard
@@ -31,6 +31,57 @@ none_if false o e = refl
 and_none : (b : Bool) → (b && false) ≡ false
 and_none true = refl
 and_none false = refl
+
+-- a ticket with another serial or realm does not fit
+no_serial : (t : Ticket) (g : Guard) → t.serial ≢ serial_of t.name g → fits t g ≡ false
+no_serial t g n = ap (λ b. nat_eq t.realm g.realm && b) (ne_eqb t.serial (serial_of t.name g) n) ∙ and_none (nat_eq t.realm g.realm)
+
+no_realm : (t : Ticket) (g : Guard) → t.realm ≢ g.realm → fits t g ≡ false
+no_realm t g n = ap (λ b. b && nat_eq t.serial (serial_of t.name g)) (ne_eqb t.realm g.realm n)
+
+-- a live ticket fits
+pub live_fits : (t : Ticket) (g : Guard) → IsLive t g → (t.realm ≡ g.realm) × (t.serial ≡ serial_of t.name g)
+live_fits t g h = let p = and_parts (nat_eq t.realm g.realm) (nat_eq t.serial (serial_of t.name g)) (fits_if (fits t g) (named.range_of t.name g.space) h) in (eqb-true t.realm g.realm p.0, eqb-true t.serial (serial_of t.name g) p.1)
+  where
+    fits_if : (b : Bool) (o : Option Range) → IsSome (range_if b o) → b ≡ true
+    fits_if true o h = refl
+    fits_if false o h = cc
+
+-- where only the range of one live name changes, all other tickets keep theirs
+pub keeps_others : (t : Ticket) (g h : Guard) → IsLive t g → KeepsSerials g h → named.KeepsOthers t.name g.space h.space → KeepsOthers t g h
+keeps_others t g h live same others u d = elim (cases_eq u.name t.name) [
+  | inr n ↦ ap₂ range_if fit (others u.name n)
+  | inl e ↦ ap (λ b. range_if b (named.range_of u.name h.space)) (fit ∙ no e) ∙ sym (ap (λ b. range_if b (named.range_of u.name g.space)) (no e))
+]
+  where
+    fit : fits u h ≡ fits u g
+    fit = ap₂ (λ r s. nat_eq u.realm r && nat_eq u.serial s) same.realm (same.cells u.name)
+
+    no : u.name ≡ t.name → fits u g ≡ false
+    no e = elim (cases_eq u.serial t.serial) [
+      | inr n ↦ no_serial u g (λ q. n (q ∙ ap (λ x. serial_of x g) e ∙ sym (live_fits t g live).1))
+      | inl s ↦ no_realm u g (λ r. d (e, s, r ∙ sym (live_fits t g live).0))
+    ]
+
+-- where the range of one live ticket gets another size, all tickets that were live are, and no other
+pub keeps_live : (t : Ticket) (n : ℕ) (g h : Guard) → IsLive t g → KeepsOthers t g h → HasUnits t n g h → KeepsLive g h
+keeps_live t n g h live others units u = elim (cases_eq u.name t.name) [
+  | inr m ↦ ap is_some (others u (λ a. m a.0))
+  | inl e ↦ elim (cases_eq u.serial t.serial) [
+    | inr m ↦ ap is_some (others u (λ a. m a.1))
+    | inl s ↦ elim (cases_eq u.realm t.realm) [
+      | inr m ↦ ap is_some (others u (λ a. m a.2))
+      | inl r ↦ ap is_some (alike e s r h) ∙ still (range_of t g) refl live ∙ sym (ap is_some (alike e s r g))
+    ]
+  ]
+]
+  where
+    alike : u.name ≡ t.name → u.serial ≡ t.serial → u.realm ≡ t.realm → (k : Guard) → range_of u k ≡ range_of t k
+    alike e s r k = ap₂ (λ x b. range_if b (named.range_of x k.space)) e (ap₂ (λ r c. nat_eq r k.realm && c) r (ap₂ (λ s c. nat_eq s c) s (ap (λ x. serial_of x k) e)))
+
+    still : (o : Option Range) → range_of t g ≡ o → IsSome o → is_some (range_of t h) ≡ is_some (range_of t g)
+    still None e l = cc
+    still (Some r) e l = ap is_some (units r e) ∙ sym (ap is_some e)
 
 -- a live ticket has a live name
 pub live_name : (t : Ticket) (g : Guard) → IsLive t g → named.IsLive t.name g.space
@@ -112,8 +163,11 @@ module _ (max n realm : ℕ) (v w : View) (t u : Table) (h : Grant) (is : IsGuar
   abbrev ticket : Ticket
   ticket = record { offset = h.offset; name = h.name; serial = t.given + 1; realm = realm }
 
-  no_other : (z : Ticket) → z.serial ≢ t.given + 1 → z.name ≡ h.name → fits z (guard w u realm) ≡ false
-  no_other z d e = ap (λ b. nat_eq z.realm realm && b) (ne_eqb z.serial (cell z.name u.cells) (λ q. d (q ∙ here z.name e))) ∙ and_none (nat_eq z.realm realm)
+  no_other : (z : Ticket) → (AreAlike z ticket → ⊥) → z.name ≡ h.name → fits z (guard w u realm) ≡ false
+  no_other z d e = elim (cases_eq z.serial (t.given + 1)) [
+    | inr n ↦ no_serial z (guard w u realm) (λ q. n (q ∙ here z.name e))
+    | inl s ↦ no_realm z (guard w u realm) (λ r. d (e, s, r))
+  ]
 
   pub others : KeepsOthers ticket (guard v t realm) (guard w u realm)
   others z d = elim (cases_eq z.name h.name) [

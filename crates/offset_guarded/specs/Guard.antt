@@ -1,5 +1,5 @@
 -- What contracts see of a guarded allocator: which tickets are live, and what a call leaves of them.
-use Rattle.std.specs.Prelude.{◌≡◌, ◌≢◌, ℕ, ◌+◌, ◌<◌, ◌≤◌, Bool, ◌&&◌, List, Option, Some, None, IsSome, nat_eq, slice_index_or, if◌then◌else◌, option_map}
+use Rattle.std.specs.Prelude.{◌≡◌, ℕ, ◌+◌, ◌<◌, ◌≤◌, Bool, ◌&&◌, List, Option, Some, None, IsSome, is_some, nat_eq, slice_index_or, if◌then◌else◌, option_map}
 use Rattle.offset_allocator.specs.Named.{View, Grant}
 use Rattle.offset_allocator.specs.Ranges.{Range}
 use Rattle.offset_allocator.specs.Ranges as named
@@ -53,9 +53,17 @@ IsLive t g = IsSome (range_of t g)
 abbrev pub KeepsAll : Guard → Guard → Type 0
 KeepsAll g h = (t : Ticket) → range_of t h ≡ range_of t g
 
--- every ticket with another serial has the range that it had
+-- two tickets have one name, serial and realm: so they are tickets of one grant, whatever their offsets
+abbrev pub AreAlike : Ticket → Ticket → Type 0
+AreAlike t u = (t.name ≡ u.name) × (t.serial ≡ u.serial) × (t.realm ≡ u.realm)
+
+-- every other ticket has the range that it had
 abbrev pub KeepsOthers : Ticket → Guard → Guard → Type 0
-KeepsOthers t g h = (u : Ticket) → u.serial ≢ t.serial → range_of u h ≡ range_of u g
+KeepsOthers t g h = (u : Ticket) → (AreAlike u t → ⊥) → range_of u h ≡ range_of u g
+
+-- a ticket is live exactly if it was
+abbrev pub KeepsLive : Guard → Guard → Type 0
+KeepsLive g h = (t : Ticket) → is_some (range_of t h) ≡ is_some (range_of t g)
 
 -- every ticket has as many units as it had, and no other is live
 abbrev pub KeepsSizes : Guard → Guard → Type 0

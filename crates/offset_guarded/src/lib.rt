@@ -22,7 +22,7 @@ ghost use Rattle.offset_allocator.specs.Relations.{Aligns, Allocates, CanExtend,
 ghost use Rattle.offset_allocator.specs.Promises.{CanGrant, HasRoomFor, blocks_needed, units_needed};
 ghost use Rattle.offset_allocator.specs.Resizing.{CanGrow, CanShrink, Grows, Shrinks};
 ghost use Rattle.offset_allocator.specs.Compacting.{Compacts, IsCalledWith, moves};
-ghost use Rattle.offset_guarded.specs.Guard.{Grants, HasUnits, IsLive, IsSame, IsWhy, KeepsAll, KeepsOthers, KeepsSerials, KeepsSizes, cell, grant_of, last_serial, range_of, serial_of};
+ghost use Rattle.offset_guarded.specs.Guard.{Grants, HasUnits, IsLive, IsSame, IsWhy, KeepsAll, KeepsLive, KeepsOthers, KeepsSerials, KeepsSizes, cell, grant_of, last_serial, range_of, serial_of};
 
 mod refusal;
 mod serials;
@@ -220,7 +220,7 @@ impl<NI: NodeIndex> Guarded<NI> {
             ↔ ((self.old.given < last_serial) × (size ≤ largest_free self.old.space))) }
         ensures can_grant { IsSome result ↔ ((self.old.given < last_serial) × CanGrant 1 size self.old.space) }
         // A grant has the next serial, and its ticket was not live. Its range has exactly `size` units, lies in the
-        // space, and overlaps no live range. Every ticket with another serial keeps its range, if it has one.
+        // space, and overlaps no live range. Every other ticket keeps its range, if it has one.
         ensures grants { IfSome result (Grants size self.old self.new) }
         // A refusal leaves all as it was.
         ensures same { result ≡ None → IsSame self.old self.new }
@@ -267,7 +267,7 @@ impl<NI: NodeIndex> Guarded<NI> {
     pub fn free(&mut self, ticket: Ticket) -> bool
         // It is done exactly when the ticket is live.
         ensures done { IsTrue result ↔ IsLive ticket self.old }
-        // After it the ticket is not live. Every ticket with another serial keeps its range, if it has one.
+        // After it the ticket is not live. Every other ticket keeps its range, if it has one.
         ensures gone { range_of ticket self.new ≡ None }
         ensures others { KeepsOthers ticket self.old self.new }
         // A ticket that is not live changes nothing at all.
@@ -291,9 +291,10 @@ impl<NI: NodeIndex> Guarded<NI> {
     pub fn shrink(&mut self, ticket: Ticket, size: u32) -> Option<bool>
         ensures live { IsSome result ↔ IsLive ticket self.old }
         ensures done { IfSome result (λ done. IsTrue done ↔ CanShrink ticket.name size self.old.space) }
-        // Then the range has `size` units, from its first one on. Every ticket with another serial keeps its range.
+        // Then the range has `size` units, from its first one on. Every other ticket keeps its range.
         ensures range { result ≡ Some true → HasUnits ticket size self.old self.new }
         ensures others { KeepsOthers ticket self.old self.new }
+        ensures kept { KeepsLive self.old self.new }
         // A refusal leaves all as it was, and a ticket that is not live changes nothing at all.
         ensures same { result ≡ Some false → IsSame self.old self.new }
         ensures gone { result ≡ None → self.new ≡ self.old }
@@ -317,9 +318,10 @@ impl<NI: NodeIndex> Guarded<NI> {
     pub fn grow_in_place(&mut self, ticket: Ticket, size: u32) -> Option<bool>
         ensures live { IsSome result ↔ IsLive ticket self.old }
         ensures done { IfSome result (λ done. IsTrue done ↔ CanGrow ticket.name size self.old.space) }
-        // Then the range has `size` units, from its first one on. Every ticket with another serial keeps its range.
+        // Then the range has `size` units, from its first one on. Every other ticket keeps its range.
         ensures range { result ≡ Some true → HasUnits ticket size self.old self.new }
         ensures others { KeepsOthers ticket self.old self.new }
+        ensures kept { KeepsLive self.old self.new }
         // A refusal leaves all as it was, and a ticket that is not live changes nothing at all.
         ensures same { result ≡ Some false → IsSame self.old self.new }
         ensures gone { result ≡ None → self.new ≡ self.old }
