@@ -18,7 +18,7 @@ ghost use Rattle.std.specs.Prelude.{ℕ, ◌≡◌, ◌↔◌, ◌+◌, ◌-◌,
 ghost use Rattle.offset_allocator.specs.Count.{Costs};
 ghost use Rattle.offset_allocator.specs.Ranges.{Range, range_of, size_of, Grants, IsLive, KeepsAll, KeepsOthers};
 ghost use Rattle.offset_allocator.specs.Reports.{IsGoodRefusal};
-ghost use Rattle.offset_allocator.specs.Named.{is_full, free_sizes, largest_free, used_of};
+ghost use Rattle.offset_allocator.specs.Named.{count_named, is_full, free_sizes, largest_free, used_of};
 ghost use Rattle.offset_allocator.specs.Relations.{Allocates, Aligns, Frees, Extends, CanExtend, IsAlignment, SameSpace, IsSplitNearBest, IsFresh, Resets};
 ghost use Rattle.offset_allocator.specs.Promises.{IsReport, IsFullReport, CanGrant, IsWhy, HasRoomFor, blocks_needed, units_needed};
 ghost use Rattle.offset_allocator.specs.Listing.{listing};
@@ -165,6 +165,15 @@ impl<NI: NodeIndex> Allocator<NI> {
         ensures { result ≡ length self.now.blocks }
     {
         self.store.tables.len() - self.store.spare_count
+    }
+
+    /// The number of nodes that were made: each block's name is below it. It never becomes smaller except by `reset`,
+    /// and one call makes at most 2.
+    pub fn node_count(&self) -> u32
+        ensures names { (x : ℕ) → 1 ≤ count_named x self.now.blocks → x < result }
+        ensures limit { result ≤ self.now.max_allocs }
+    {
+        self.store.tables.len()
     }
 
     /// Whether `max_allocs - 1` blocks exist. Then every request is refused, and the short report is 0, 0, until blocks

@@ -1,7 +1,9 @@
+mod Numbering
 pub mod Alike
+pub mod Along
 pub mod Compacted
 pub mod Followed
 pub mod Histories
-mod Numbering
 pub mod Resized
 pub mod Rows
+pub mod Tickets

@@ -6,8 +6,10 @@
 #![tactic(auto)]
 
 mod calls;
+mod guarded;
 pub mod laws;
 mod playing;
 
 pub use calls::{Call, Moved, Reply, are_valid};
+pub use guarded::{Played, TicketCall, play_guarded};
 pub use playing::play_calls;

@@ -17,7 +17,7 @@ use offset_script::{Answer, Player};
 use std::alloc::{AllocError, Global};
 
 // The reply to a call that was to resize a range.
-fn resized(done: bool) -> Reply
+pub(crate) fn resized(done: bool) -> Reply
     ensures { reply_view result ≡ (if done then plain.Resized else plain.Answer machine.Refused) }
 {
     if done {
@@ -89,14 +89,14 @@ fn numbers_of_live<NI: NodeIndex>(
 
 // The moves of a compaction so far, without numbers, unless memory for one was refused.
 #[derive(Drop)]
-struct Moves {
-    found: Vec<Moved>,
-    is_refused: bool,
+pub(crate) struct Moves {
+    pub(crate) found: Vec<Moved>,
+    pub(crate) is_refused: bool,
 }
 
 impl Moves {
     // One more move.
-    fn add(&mut self, from: u32, to: u32, size: u32)
+    pub(crate) fn add(&mut self, from: u32, to: u32, size: u32)
         ensures { self.new.is_refused ≡ false → (self.old.is_refused ≡ false)
             × (self.new.found.items ≡ self.old.found.items ++ record {
               number = 0;
@@ -127,7 +127,11 @@ fn collect<NI: NodeIndex>(space: &mut Allocator<NI>, seen: &mut Moves)
 }
 
 // The moves with these numbers, the last of which are those of the ranges that are moved.
-fn numbered(alloc: Global, numbers: &[u64], moves: &[Moved]) -> Result<Vec<Moved>, AllocError>
+pub(crate) fn numbered(
+    alloc: Global,
+    numbers: &[u64],
+    moves: &[Moved],
+) -> Result<Vec<Moved>, AllocError>
     requires { length moves.now ≤ length numbers.now }
     ensures { IfOk result (λ ms. map move_view ms.items
         ≡ joined (drop (length numbers.now - length moves.now) numbers.now) moves.now) }

@@ -2,17 +2,42 @@
 
 ghost use Rattle.std.specs.Prelude.{◌≡◌, ◌+◌, ◌<◌, ◌≤◌, [], All, IfOk, IfSome, IsTrue, None, ℕ, length, map, option_map, slice_index_or, vec_len};
 ghost use Rattle.offset_script.specs.Agreement.{kept_name};
+ghost use Rattle.offset_script.specs.Machine as machine;
 ghost use Rattle.offset_script.specs.Machine.{answer_view, answers, start, IsPlayed};
 ghost use Rattle.offset_script.specs.Histories.{RestartsFresh, RowsCommute, NestsLeaveNoTrace};
 ghost use Rattle.offset_script.specs.Grammar.{has_valid_alignment};
 ghost use Rattle.offset_script.specs.Simulation.{IsKept, Takes, AreLive, AreOfARun};
+ghost use Rattle.offset_allocator.specs.Named.{free_sizes};
 ghost use Rattle.offset_allocator.specs.Relations.{IsFresh};
+ghost use Rattle.offset_allocator.specs.Reports.{rows_below};
 
 use crate::answers::{Answer, FullRow};
 use crate::scripts::{Command, IndexWidth, Script};
 use offset_allocator::laws::is_well_formed;
 use offset_allocator::{Allocation, Allocator, NodeIndex};
 use std::alloc::{AllocError, Global};
+
+/// The answer to `full`: a row for each class that has a free block. It fails only where an allocation fails.
+pub fn full_answer<NI: NodeIndex>(
+    alloc: Global,
+    space: &Allocator<NI>,
+) -> Result<Answer, AllocError>
+    ensures { IfOk result (λ a. answer_view a ≡ machine.Full (rows_below 256 (free_sizes space.now.blocks))) }
+{
+    let report = space.storage_report_full();
+    let mut rows = Vec::new(alloc);
+    for class in 0..256u32 {
+        let region = report.free_regions[class as usize];
+        if region.count > 0 {
+            rows.push(FullRow {
+                class,
+                size: region.size,
+                count: region.count,
+            })?;
+        }
+    }
+    Ok(Answer::Full(rows))
+}
 
 /// An allocator, with the handles of its live grants: it takes commands one by one.
 #[derive(Drop)]
@@ -119,26 +144,6 @@ impl<NI: NodeIndex> Player<NI> {
         Answer::Report(self.space.storage_report())
     }
 
-    // The answer to `full`: a row for each class that has a free block.
-    fn full(&self, alloc: Global) -> Result<Answer, AllocError>
-        ensures { IfOk result (λ a. Takes Command.Full self.now.space self.now.handles.items
-            self.now.space self.now.handles.items (answer_view a)) }
-    {
-        let report = self.space.storage_report_full();
-        let mut rows = Vec::new(alloc);
-        for class in 0..256u32 {
-            let region = report.free_regions[class as usize];
-            if region.count > 0 {
-                rows.push(FullRow {
-                    class,
-                    size: region.size,
-                    count: region.count,
-                })?;
-            }
-        }
-        Ok(Answer::Full(rows))
-    }
-
     // The answer to `reset`. All handles are removed, and numbers go on.
     fn reset(&mut self) -> Answer
         ensures { Takes Command.Reset self.old.space self.old.handles.items
@@ -187,7 +192,7 @@ impl<NI: NodeIndex> Player<NI> {
             Command::Free(number) => Ok(self.release(number)),
             Command::Size(number) => Ok(self.size(number)),
             Command::Report => Ok(self.report()),
-            Command::Full => self.full(alloc),
+            Command::Full => full_answer(alloc, &self.space),
             Command::Reset => Ok(self.reset()),
             Command::Align(size, align) => self.allocate_aligned(size, align),
             Command::Extend(more) => Ok(self.extend(more)),

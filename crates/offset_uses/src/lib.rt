@@ -10,6 +10,7 @@ ghost use Rattle.offset_script.specs.Machine.{answer_view};
 ghost use Rattle.offset_script.specs.Grammar.{has_valid_alignment};
 ghost use Rattle.offset_script.specs.Machine.{answers, start};
 
+pub mod assets;
 pub mod daily;
 pub mod engine;
 pub mod in_memory;

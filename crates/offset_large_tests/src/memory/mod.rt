@@ -5,6 +5,7 @@
 mod allocators;
 mod attempts;
 mod calls;
+mod guarded;
 mod ladder;
 mod scripts;
 mod tables;

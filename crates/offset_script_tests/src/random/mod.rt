@@ -5,3 +5,4 @@ mod numbers;
 mod random_texts;
 mod slow;
 mod slow_reading;
+mod tickets;

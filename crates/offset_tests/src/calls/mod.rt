@@ -14,4 +14,5 @@ mod reports;
 mod resizing;
 mod steps;
 mod texts;
+mod tickets;
 mod walking;

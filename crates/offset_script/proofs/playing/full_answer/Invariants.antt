@@ -2,8 +2,8 @@ use Rattle.std.proofs.Common.{◌≡◌, map}
 use Rattle.offset_allocator.specs.Named.{free_sizes}
 use Rattle.offset_allocator.specs.Reports.{rows_below}
 use Rattle.offset_script.specs.Machine.{row_view}
-use Rattle.offset_script.proofs.playing.Player.full.Given as goal
+use Rattle.offset_script.proofs.playing.full_answer.Given as goal
 
 -- the rows of the classes so far
 abbrev pub invariant-loop-class : goal.invariant-loop-class
-invariant-loop-class g l = map row_view l.rows.items ≡ rows_below l.class (free_sizes l.fn.self.space.blocks)
+invariant-loop-class g l = map row_view l.rows.items ≡ rows_below l.class (free_sizes l.fn.space.blocks)

@@ -1,0 +1,237 @@
+-- The handles of tickets, and what each call leaves of them.
+use Rattle.std.proofs.Common.{◌≡◌, ◌≢◌, ℕ, zero, suc, ◌+◌, ◌-◌, ◌<◌, Bool, true, false, ◌&&◌, List, [], ◌∷◌, ◌++◌, length, Option, Some, None, IsSome, IfSome, is_some, nat_eq, slice_get, slice_index_or, slice_set, option_map, if◌then◌else◌, refl, sym, ap, ap₂, subst, ◌∙◌, inl, inr, arith, length-append}
+use Rattle.std.proofs.lemmas.Bool.{false≢true}
+use Rattle.std.proofs.lemmas.List.{map-append, length-map}
+use Rattle.offset_allocator.specs.Named.{Grant, View}
+use Rattle.offset_allocator.specs.Ranges.{Range}
+use Rattle.offset_allocator.specs.Ranges as named
+use Rattle.offset_guarded.specs.declared.ticket.Ticket.{Ticket}
+use Rattle.offset_guarded.specs.Guard.{Guard, AreAlike, Grants, IsLive, IsSame, KeepsAll, KeepsLive, KeepsOthers, KeepsSerials, KeepsSizes, grant_of, range_of, serial_of}
+use Rattle.offset_guarded.proofs.Guards.{live_fits, live_name as live_named}
+use Rattle.offset_allocator.specs.Named.{free_sizes}
+use Rattle.offset_allocator.specs.Reports.{rows_below}
+use Rattle.offset_allocator.specs.Relations.{Extends, Frees, Resets}
+use Rattle.offset_script.specs.declared.scripts.Command.{Command}
+use Rattle.offset_script.specs.declared.scripts.Command.TheVariants as command
+use Rattle.offset_script.specs.Agreement.{kept_name}
+use Rattle.offset_script.specs.Histories as script
+use Rattle.offset_script.specs.Machine as machine
+use Rattle.offset_script.specs.Simulation.{IsKept}
+use Rattle.offset_script.proofs.Simulation.{if_some}
+use Rattle.offset_calls.specs.declared.calls.Call.TheVariants as call
+use Rattle.offset_allocator.specs.declared.reports.Refusal.{Refusal}
+use Rattle.offset_allocator.specs.Promises.{blocks_needed, units_needed}
+use Rattle.offset_calls.specs.declared.calls.Call.{Call}
+use Rattle.offset_calls.specs.Calls.{Answer, Refused_for}
+use Rattle.offset_calls.specs.Histories.{renumber}
+use Rattle.offset_calls.specs.Steps.{IsReason}
+use Rattle.offset_calls.specs.Tickets.{AreInOrder, Grown, IsLedger, IsStored, Serves, StandsFor, handle_of, handles_of, live_name, ticket_of}
+
+-- ---- tickets in order
+
+-- the serial of a ticket is its number
+pub in_order : (realm n : ℕ) (ts : List Ticket) → AreInOrder realm n ts → (i : ℕ) (u : Ticket) → slice_get ts i ≡ Some u → (u.serial ≡ n + i + 1) × (u.realm ≡ realm)
+in_order realm n [] o i u e = absurd (cc)
+in_order realm n (t ∷ ts) o zero u e = let same : t ≡ u = cc in (let s = o.0 in let z = ap (λ (t : Ticket). t.serial) same in omega arith, sym (ap (λ (t : Ticket). t.realm) same) ∙ o.1)
+in_order realm n (t ∷ ts) o (suc i) u e = let r = in_order realm (n + 1) ts o.2 i u e in (let s = r.0 in omega arith, r.1)
+
+pub order-append : (realm n : ℕ) (ts : List Ticket) (t : Ticket) → AreInOrder realm n ts → t.serial ≡ n + length ts + 1 → t.realm ≡ realm → AreInOrder realm n (ts ++ t ∷ [])
+order-append realm n [] t o s r = (omega arith, r, tt)
+order-append realm n (x ∷ ts) t o s r = (o.0, o.1, order-append realm (n + 1) ts t o.2 (omega arith) r)
+
+-- ---- handles
+
+-- the handle of a ticket, if it is live
+abbrev handle_if : Bool → Ticket → Option Grant
+handle_if b t = if b then Some (grant_of t) else None
+
+-- handles stay where tickets do
+pub same_handles : (g h : Guard) (ts : List Ticket) → KeepsLive g h → handles_of h ts ≡ handles_of g ts
+same_handles g h [] k = refl
+same_handles g h (t ∷ ts) k = ap₂ (λ b l. handle_if b t ∷ l) (k t) (same_handles g h ts k)
+
+-- all tickets but one stay, and it is none of these
+other_handles : (g h : Guard) (t : Ticket) (realm n : ℕ) (ts : List Ticket) → AreInOrder realm n ts → KeepsOthers t g h → ((i : ℕ) → i < length ts → n + i + 1 ≢ t.serial) → handles_of h ts ≡ handles_of g ts
+other_handles g h t realm n [] o k apart = refl
+other_handles g h t realm n (x ∷ ts) o k apart =
+    ap₂ (λ b l. handle_if b x ∷ l) (ap is_some (k x (λ a. apart 0 (omega arith) (let s = o.0 in let z = a.1 in omega arith))))
+    (other_handles g h t realm (n + 1) ts o.2 k (λ i l e. apart (suc i) (omega arith) (omega arith)))
+
+pub alike_range : (t u : Ticket) (g : Guard) → AreAlike t u → range_of t g ≡ range_of u g
+alike_range t u g a = ap₂ (λ x b. if b then named.range_of x g.space else None) a.0 (ap₂ (λ r c. nat_eq r g.realm && c) a.2 (ap₂ nat_eq a.1 (ap (λ x. serial_of x g) a.0)))
+
+-- the handle of a ticket that is freed is removed
+pub freed_handles : (g h : Guard) (t u : Ticket) (realm n : ℕ) (ts : List Ticket) (i : ℕ) → AreInOrder realm n ts → slice_get ts i ≡ Some u → AreAlike u t → KeepsOthers t g h → range_of t h ≡ None → handles_of h ts ≡ slice_set (handles_of g ts) i None
+freed_handles g h t u realm n [] i o e a k gone = absurd (cc)
+freed_handles g h t u realm n (x ∷ ts) zero o e a k gone =
+    let same : x ≡ u = cc in
+    ap₂ (λ b l. handle_if b x ∷ l) (ap is_some (ap (λ x. range_of x h) same ∙ alike_range u t h a ∙ gone))
+    (other_handles g h t realm (n + 1) ts o.2 k (λ i l d. let s = o.0 in let z = ap (λ (t : Ticket). t.serial) same in let y = a.1 in omega arith))
+freed_handles g h t u realm n (x ∷ ts) (suc i) o e a k gone =
+    ap₂ (λ b l. handle_if b x ∷ l) (ap is_some (k x (λ b. let s = o.0 in let r = (in_order realm (n + 1) ts o.2 i u e).0 in let y = a.1 in let z = b.1 in absurd (omega arith))))
+    (freed_handles g h t u realm (n + 1) ts i o.2 e a k gone)
+
+-- one more ticket has one more handle
+pub more_handles : (size : ℕ) (g h : Guard) (ts : List Ticket) (t : Ticket) → IsLedger g ts → Grants size g h t → handles_of h (ts ++ t ∷ []) ≡ handles_of g ts ++ Some (grant_of t) ∷ []
+more_handles size g h ts t is n =
+    map-append (handle_of h) ts (t ∷ [])
+    ∙ ap₂ (λ b l. l ++ handle_if b t ∷ []) (ap is_some n.range) (other_handles g h t g.realm 0 ts is.order n.others (λ i l d. let s = n.serial in let a = is.all in omega arith))
+
+pub more_ledger : (size : ℕ) (g h : Guard) (ts : List Ticket) (t : Ticket) → IsLedger g ts → Grants size g h t → IsLedger h (ts ++ t ∷ [])
+more_ledger size g h ts t is n = record {
+  order = subst (λ r. AreInOrder r 0 (ts ++ t ∷ [])) (sym n.realm.1) (order-append g.realm 0 ts t is.order (let s = n.serial in let a = is.all in omega arith) n.realm.0);
+  all = let s = n.serial in let v = n.given in let a = is.all in omega (arith, length-append ts (t ∷ []));
+}
+
+-- at the start there is none
+pub no_tickets : (g : Guard) (ts : List Ticket) → ts ≡ [] → g.given ≡ 0 → IsLedger g ts
+no_tickets g ts e n = record { order = subst (AreInOrder g.realm 0) (sym e) tt; all = ap length e ∙ sym n }
+
+-- the tickets stay those of all grants
+pub same_ledger : (g h : Guard) (ts : List Ticket) → IsLedger g ts → h.realm ≡ g.realm → h.given ≡ g.given → IsLedger h ts
+same_ledger g h ts is r n = record { order = subst (λ r. AreInOrder r 0 ts) (sym r) is.order; all = is.all ∙ sym n }
+
+-- ---- numbers
+
+-- the name kept for a number is that of its ticket
+pub kept_of : (g : Guard) (ts : List Ticket) (k : ℕ) → kept_name (handles_of g ts) k ≡ live_name (ticket_of ts k) g
+kept_of g ts zero = refl
+kept_of g ts (suc k) = at ts k
+  where
+    at : (ts : List Ticket) (k : ℕ) → option_map (λ (h : Grant). h.name) (slice_index_or (handles_of g ts) k None) ≡ live_name (slice_get ts k) g
+    at [] k = refl
+    at (t ∷ ts) zero = refl
+    at (t ∷ ts) (suc k) = at ts k
+
+-- a number with a kept name is that of a live ticket with this name
+pub kept_ticket : (g : Guard) (ts : List Ticket) (k x : ℕ) → kept_name (handles_of g ts) k ≡ Some x → (u : Ticket) × (ticket_of ts k ≡ Some u) × (u.name ≡ x) × IsLive u g
+kept_ticket g ts k x e = go (ticket_of ts k) refl
+  where
+    is_name : (b : Bool) (u : Ticket) → option_map (λ (h : Grant). h.name) (handle_if b u) ≡ Some x → (u.name ≡ x) × (b ≡ true)
+    is_name true u e = (cc, refl)
+    is_name false u e = absurd (cc)
+
+    go : (o : Option Ticket) → ticket_of ts k ≡ o → (u : Ticket) × (ticket_of ts k ≡ Some u) × (u.name ≡ x) × IsLive u g
+    go None f = absurd (let z = sym e ∙ kept_of g ts k ∙ ap (λ o. live_name o g) f in cc)
+    go (Some u) f = let r = is_name (is_some (range_of u g)) u (sym (ap (λ o. live_name o g) f) ∙ sym (kept_of g ts k) ∙ e) in (u, f, r.0, r.1)
+
+-- and this name is live
+pub kept_live : (g : Guard) (ts : List Ticket) (k x : ℕ) → kept_name (handles_of g ts) k ≡ Some x → named.range_of x g.space ≡ None → ⊥
+kept_live g ts k x e none =
+    let u = kept_ticket g ts k x e in
+    let l : IsSome (named.range_of u.0.name g.space) = live_named u.0 g u.3 in
+    false≢true (sym (ap is_some (ap (λ x. named.range_of x g.space) u.2 ∙ none)) ∙ l)
+
+-- it is the serial of that ticket
+pub kept_serial : (g : Guard) (ts : List Ticket) (k x : ℕ) → IsLedger g ts → kept_name (handles_of g ts) k ≡ Some x → serial_of x g ≡ k
+kept_serial g ts zero x is e = absurd (cc)
+kept_serial g ts (suc k) x is e =
+    let u = kept_ticket g ts (suc k) x e in
+    let s = (in_order g.realm 0 ts is.order k u.0 u.1).0 in
+    let f = (live_fits u.0 g u.3).1 in
+    let n = ap (λ x. serial_of x g) u.2 in
+    omega arith
+
+-- ---- calls
+
+-- a refusal leaves all tickets as they were
+same_live : (g h : Guard) → IsSame g h → KeepsLive g h
+same_live g h same t = ap is_some (ap₂ (λ b r. if b then r else None)
+    (ap₂ (λ r s. nat_eq t.realm r && nat_eq t.serial s) same.1.realm (same.1.cells t.name)) (ap (named.range_of t.name) same.0))
+
+-- a request
+pub stored : (n : ℕ) (g h : Guard) (ts us : List Ticket) (r : Option Ticket) (a : machine.Answer) → IsLedger g ts → IfSome r (Grants n g h) → (r ≡ None → IsSame g h) → IsStored r ts us a
+    → IsKept (option_map grant_of r) (handles_of g ts) (handles_of h us) a × IsLedger h us × Grown ts us
+stored n g h ts us None a is some none f = (
+  (ap (handles_of h) f.0 ∙ same_handles g h ts (same_live g h (none refl)), f.1),
+  subst (IsLedger h) (sym f.0) (same_ledger g h ts is (none refl).1.realm (none refl).1.given),
+  inl f.0,
+)
+stored n g h ts us (Some t) a is some none f = (
+  (ap (handles_of h) f.0 ∙ more_handles n g h ts t is some, f.1 ∙ ap (λ k. machine.Grant k t.offset) (sym (length-map us (handle_of h)))),
+  subst (IsLedger h) (sym f.0) (more_ledger n g h ts t is some),
+  inr (t, f.0),
+)
+
+-- the live name of a live ticket
+pub live_named_by : (t : Ticket) (g : Guard) → IsLive t g → live_name (Some t) g ≡ Some t.name
+live_named_by t g h = ap (λ b. option_map (λ (h : Grant). h.name) (handle_if b t)) h
+
+-- two live tickets with one name are of one grant
+pub alike : (t u : Ticket) (g : Guard) → IsLive t g → IsLive u g → u.name ≡ t.name → AreAlike u t
+alike t u g lt lu e =
+    let ft = live_fits t g lt in
+    let fu = live_fits u g lu in
+    (e, fu.1 ∙ ap (λ x. serial_of x g) e ∙ sym ft.1, fu.0 ∙ sym ft.0)
+
+-- a release
+pub freed : (g h : Guard) (ts : List Ticket) (t : Ticket) (k : ℕ) → IsLedger g ts → StandsFor k (Some t) g ts → IsLive t g → Frees t.name g.space h.space → KeepsOthers t g h → range_of t h ≡ None → h ≡ record g { space = h.space }
+    → Serves (call.Command (command.Free k)) g ts h ts (Answer machine.Freed)
+freed g h ts t k is stands live frees others gone same = record {
+  takes = (machine.Freed, if_some (kept_name (handles_of g ts) k) t.name _ _ named_k (frees, left k u.1, refl), refl);
+  ledger = same_ledger g h ts is (ap (λ (g : Guard). g.realm) same) (ap (λ (g : Guard). g.given) same);
+  grown = inl refl;
+}
+  where
+    named_k : kept_name (handles_of g ts) k ≡ Some t.name
+    named_k = stands ∙ live_named_by t g live
+
+    u : (u : Ticket) × (ticket_of ts k ≡ Some u) × (u.name ≡ t.name) × IsLive u g
+    u = kept_ticket g ts k t.name named_k
+
+    left : (k : ℕ) → ticket_of ts k ≡ Some u.0 → handles_of h ts ≡ slice_set (handles_of g ts) (k - 1) None
+    left zero e = absurd (cc)
+    left (suc i) e = freed_handles g h t u.0 g.realm 0 ts i is.order e (alike t u.0 g live u.3 u.2) others gone ∙ ap (λ j. slice_set (handles_of g ts) j None) (let f : i ≡ suc i - 1 = omega arith in f)
+
+-- a reset
+pub emptied : (g h : Guard) (ts : List Ticket) → IsLedger g ts → Resets g.space h.space → ((t : Ticket) → range_of t h ≡ None) → h ≡ record g { space = h.space } → Serves (call.Command command.Reset) g ts h ts (Answer machine.Reset)
+emptied g h ts is resets gone same = record {
+  takes = (machine.Reset, (resets, length-map ts (handle_of h) ∙ sym (length-map ts (handle_of g)), λ k. kept_of h ts k ∙ none (ticket_of ts k), refl), refl);
+  ledger = same_ledger g h ts is (ap (λ (g : Guard). g.realm) same) (ap (λ (g : Guard). g.given) same);
+  grown = inl refl;
+}
+  where
+    none : (o : Option Ticket) → live_name o h ≡ None
+    none None = refl
+    none (Some t) = ap (λ b. option_map (λ (h : Grant). h.name) (handle_if b t)) (ap is_some (gone t))
+
+-- an extension
+pub extended : (more : ℕ) (g h : Guard) (ts : List Ticket) (done : Bool) (a : machine.Answer) → IsLedger g ts → Extends more g.space h.space done → KeepsAll g h → KeepsSerials g h → a ≡ (if done then machine.Extended else machine.Refused)
+    → Serves (call.Command (command.Extend more)) g ts h ts (Answer a)
+extended more g h ts done a is extends keeps same e = record {
+  takes = (a, (done, extends, same_handles g h ts (λ t. ap is_some (keeps t)), e), refl);
+  ledger = same_ledger g h ts is same.realm same.given;
+  grown = inl refl;
+}
+
+-- where sizes stay, tickets do
+pub sizes_live : (g h : Guard) → KeepsSizes g h → KeepsLive g h
+sizes_live g h same t = sym (some_size (range_of t h)) ∙ ap is_some (same t) ∙ some_size (range_of t g)
+  where
+    some_size : (o : Option Range) → is_some (option_map (λ (r : Range). r.size) o) ≡ is_some o
+    some_size None = refl
+    some_size (Some r) = refl
+
+-- why a request is refused
+pub refusal_serves : (g : Guard) (ts : List Ticket) (c : Call) (k n : ℕ) (v : View) (why : Option Refusal) → IsLedger g ts → c ≡ call.Refusal n → v ≡ g.space → IsReason 1 n v why → Serves (renumber (λ j. k) c) g ts g ts (Refused_for why)
+refusal_serves g ts c k n v why is e f r = subst (λ c. Serves (renumber (λ j. k) c) g ts g ts (Refused_for why)) (sym e) (record {
+  takes = ((refl, refl), (why, subst (λ v. IsReason 1 n v why) f r, refl));
+  ledger = is;
+  grown = inl refl;
+})
+
+pub refusal_aligned_serves : (g : Guard) (ts : List Ticket) (c : Call) (k n align : ℕ) (v : View) (why : Option Refusal) → IsLedger g ts → c ≡ call.RefusalAligned n align → v ≡ g.space → IsReason (blocks_needed align) (units_needed n align) v why
+    → Serves (renumber (λ j. k) c) g ts g ts (Refused_for why)
+refusal_aligned_serves g ts c k n align v why is e f r = subst (λ c. Serves (renumber (λ j. k) c) g ts g ts (Refused_for why)) (sym e) (record {
+  takes = ((refl, refl), (why, subst (λ v. IsReason (blocks_needed align) (units_needed n align) v why) f r, refl));
+  ledger = is;
+  grown = inl refl;
+})
+
+-- a full report
+pub full_serves : (g : Guard) (ts : List Ticket) (c : Command) (k : ℕ) (v : View) (a : machine.Answer) → IsLedger g ts → c ≡ command.Full → v ≡ g.space → a ≡ machine.Full (rows_below 256 (free_sizes v.blocks)) → Serves (call.Command (script.renumber (λ j. k) c)) g ts g ts (Answer a)
+full_serves g ts c k v a is e f r = subst (λ c. Serves (call.Command (script.renumber (λ j. k) c)) g ts g ts (Answer a)) (sym e) (record {
+  takes = (a, ((refl, refl), r ∙ ap (λ (v : View). machine.Full (rows_below 256 (free_sizes v.blocks))) f), refl);
+  ledger = is;
+  grown = inl refl;
+})

@@ -1,0 +1,116 @@
+-- What contracts see of a guarded allocator: which tickets are live, and what a call leaves of them.
+use Rattle.std.specs.Prelude.{◌≡◌, ℕ, ◌+◌, ◌<◌, ◌≤◌, Bool, ◌&&◌, List, Option, Some, None, IsSome, is_some, nat_eq, slice_index_or, if◌then◌else◌, option_map}
+use Rattle.offset_allocator.specs.Named.{View, Grant}
+use Rattle.offset_allocator.specs.Ranges.{Range}
+use Rattle.offset_allocator.specs.Ranges as named
+use Rattle.offset_allocator.specs.Relations.{SameSpace}
+use Rattle.offset_allocator.specs.Promises as allocator
+use Rattle.offset_guarded.specs.declared.ticket.Ticket.{Ticket}
+use Rattle.offset_guarded.specs.declared.refusal.Refusal.{Refusal}
+use Rattle.offset_guarded.specs.declared.refusal.Refusal.TheVariants.{Serials, Allocator}
+
+-- the last serial: the largest number of 64 bits
+abbrev pub last_serial : ℕ
+last_serial = 18446744073709551615
+
+-- the serials by name; how many are given; and for how many names there is memory
+pub record Table : Type 0 where
+  pub cells : List ℕ
+  pub given : ℕ
+  pub room : ℕ
+
+-- what contracts see of a guarded allocator
+pub record Guard : Type 0 where
+  -- the allocator
+  pub space : View
+  -- the serial that each name was last granted with, 0 before its first grant
+  pub serials : List ℕ
+  -- the grants so far: their serials are 1, 2, ..
+  pub given : ℕ
+  pub realm : ℕ
+
+-- the serial in the cell of a name
+abbrev pub cell : ℕ → List ℕ → ℕ
+cell x cells = slice_index_or cells x 0
+
+-- the serial that a name was last granted with
+abbrev pub serial_of : ℕ → Guard → ℕ
+serial_of x g = cell x g.serials
+
+-- whether a ticket has the realm, and the serial that its name was last granted with
+abbrev pub fits : Ticket → Guard → Bool
+fits t g = nat_eq t.realm g.realm && nat_eq t.serial (serial_of t.name g)
+
+-- the range of a ticket: that of its name, where the ticket fits
+abbrev pub range_of : Ticket → Guard → Option Range
+range_of t g = if fits t g then named.range_of t.name g.space else None
+
+-- a ticket is live while it has a range
+abbrev pub IsLive : Ticket → Guard → Type 0
+IsLive t g = IsSome (range_of t g)
+
+-- every ticket has the range that it had
+abbrev pub KeepsAll : Guard → Guard → Type 0
+KeepsAll g h = (t : Ticket) → range_of t h ≡ range_of t g
+
+-- two tickets have one name, serial and realm: so they are tickets of one grant, whatever their offsets
+abbrev pub AreAlike : Ticket → Ticket → Type 0
+AreAlike t u = (t.name ≡ u.name) × (t.serial ≡ u.serial) × (t.realm ≡ u.realm)
+
+-- every other ticket has the range that it had
+abbrev pub KeepsOthers : Ticket → Guard → Guard → Type 0
+KeepsOthers t g h = (u : Ticket) → (AreAlike u t → ⊥) → range_of u h ≡ range_of u g
+
+-- a ticket is live exactly if it was
+abbrev pub KeepsLive : Guard → Guard → Type 0
+KeepsLive g h = (t : Ticket) → is_some (range_of t h) ≡ is_some (range_of t g)
+
+-- every ticket has as many units as it had, and no other is live
+abbrev pub KeepsSizes : Guard → Guard → Type 0
+KeepsSizes g h = (t : Ticket) → option_map (λ (r : Range). r.size) (range_of t h) ≡ option_map (λ (r : Range). r.size) (range_of t g)
+
+-- a ticket has n units after the call, from the same offset on
+abbrev pub HasUnits : Ticket → ℕ → Guard → Guard → Type 0
+HasUnits t n g h = (r : Range) → range_of t g ≡ Some r → range_of t h ≡ Some (record r { size = n })
+
+-- no name has another serial, and none is given
+pub record KeepsSerials (g h : Guard) : Type 0 where
+  pub cells : (x : ℕ) → serial_of x h ≡ serial_of x g
+  pub given : h.given ≡ g.given
+  pub realm : h.realm ≡ g.realm
+
+-- all is as it was, however many accesses are counted
+abbrev pub IsSame : Guard → Guard → Type 0
+IsSame g h = SameSpace g.space h.space × KeepsSerials g h
+
+-- the handle of a ticket
+abbrev pub grant_of : Ticket → Grant
+grant_of t = record { name = t.name; offset = t.offset }
+
+-- what a grant of n units is
+pub record Grants (n : ℕ) (g h : Guard) (t : Ticket) : Type 0 where
+  -- its serial is the next one, so no earlier grant has it
+  pub serial : t.serial ≡ g.given + 1
+  pub given : h.given ≡ t.serial
+  pub realm : (t.realm ≡ g.realm) × (h.realm ≡ g.realm)
+  -- its ticket was not live, and now has exactly n units, from the offset on
+  pub not_live : range_of t g ≡ None
+  pub range : range_of t h ≡ Some (record { offset = t.offset; size = n })
+  -- these lie in the space, and share no unit with a range that is live
+  pub space : named.Grants n g.space h.space (grant_of t)
+  -- every other ticket has the range that it had
+  pub others : KeepsOthers t g h
+
+-- why a request that may add these blocks and takes these units is refused
+abbrev pub IsWhy : ℕ → ℕ → Guard → Refusal → Type 0
+IsWhy blocks units g Serials = g.given ≡ last_serial
+IsWhy blocks units g (Allocator why) = (g.given < last_serial) × allocator.IsWhy blocks units g.space why
+
+-- what is true of the fields between two calls
+pub record IsGuarded (max : ℕ) (space : View) (t : Table) : Type 0 where
+  -- each live name has a serial
+  pub live : (x : ℕ) → named.IsLive x space → 1 ≤ cell x t.cells
+  -- and no serial is above those given
+  pub given : (x : ℕ) → cell x t.cells ≤ t.given
+  pub memory : space.max_allocs ≤ t.room
+  pub admitted : space.max_allocs < max

@@ -1,0 +1,88 @@
+//! The serials of grants, by name.
+ghost use Rattle.std.specs.Prelude.{ℕ, ◌≡◌, ◌↔◌, ◌+◌, ◌<◌, ◌≤◌, [], ◌∷◌, ◌++◌, IfOk, IsTrue, false, length, slice_set, vec_capacity, vec_len};
+ghost use Rattle.offset_guarded.specs.Guard.{cell, last_serial};
+
+use std::alloc::{AllocError, Global};
+use std::marker::Model;
+
+/// The serial that each name was last granted with, 0 before its first grant, and the number of serials given so far.
+#[derive(Drop)]
+pub(crate) struct Serials {
+    cells: Vec<u64>,
+    given: u64,
+}
+
+impl Model for Serials {
+    ghost use Rattle.std.specs.Prelude.{vec_capacity};
+    ghost use Rattle.offset_guarded.specs.Guard.{Table};
+
+    ghost Value = { Table };
+
+    ghost view = { λ s. record { cells = s.cells.items; given = s.given; room = vec_capacity s.cells } };
+}
+
+// Adds a cell at the end of a table that has room for it. `insert`, unlike `push`, promises that the memory stays the
+// same.
+fn push_within(cells: &mut Vec<u64>)
+    requires { vec_len cells.old < vec_capacity cells.old }
+    ensures items { cells.new.items ≡ cells.old.items ++ 0 ∷ [] }
+    ensures len { vec_len cells.new ≡ vec_len cells.old + 1 }
+    ensures memory { vec_capacity cells.new ≡ vec_capacity cells.old }
+{
+    let _ = cells.insert(cells.len(), 0);
+}
+
+impl Serials {
+    /// No serial, and memory for those of this many names.
+    pub(crate) fn with_room(alloc: Global, names: u32) -> Result<Self, AllocError>
+        ensures { IfOk result (λ s. s ≡ record { cells = []; given = 0; room = names }) }
+    {
+        Ok(Serials {
+            cells: Vec::with_capacity(alloc, names as usize)?,
+            given: 0,
+        })
+    }
+
+    /// Makes the cells of all names below a number.
+    pub(crate) fn cover(&mut self, names: u32)
+        requires { names ≤ self.old.room }
+        ensures covers { names ≤ length self.new.cells }
+        ensures cells { (x : ℕ) → cell x self.new.cells ≡ cell x self.old.cells }
+        ensures given { self.new.given ≡ self.old.given }
+        ensures room { self.new.room ≡ self.old.room }
+    {
+        while self.cells.len() < names as usize {
+            push_within(&mut self.cells);
+        }
+    }
+
+    /// The serial that a name was last granted with, or 0.
+    pub(crate) fn at(&self, name: u32) -> u64
+        ensures { result ≡ cell name self.now.cells }
+    {
+        match self.cells.get(name as usize) {
+            None => 0,
+            Some(serial) => *serial,
+        }
+    }
+
+    /// Whether all serials are given.
+    pub(crate) fn is_spent(&self) -> bool
+        ensures spent { IsTrue result ↔ (self.now.given ≡ last_serial) }
+        ensures left { result ≡ false → self.now.given < last_serial }
+    {
+        self.given == u64::MAX
+    }
+
+    /// Gives the next serial to a name.
+    pub(crate) fn give(&mut self, name: u32) -> u64
+        requires made { name < length self.old.cells }
+        requires left { self.old.given < last_serial }
+        ensures serial { result ≡ self.old.given + 1 }
+        ensures table { self.new ≡ record self.old { cells = slice_set self.old.cells name (self.old.given + 1); given = self.old.given + 1 } }
+    {
+        self.given += 1;
+        self.cells[name as usize] = self.given;
+        self.given
+    }
+}

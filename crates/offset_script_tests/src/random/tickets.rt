@@ -1,0 +1,229 @@
+//! Random tickets, between real ones, against a plain list of the live ranges.
+
+use super::numbers::Numbers;
+use crate::asserts::{assert_same, assert_that};
+use offset_allocator::{Move, NodeIndex};
+use offset_guarded::{Guarded, Ticket};
+use std::alloc::Global;
+use std::process::Abort;
+
+const STEPS: u32 = 4_000;
+
+const REALM: u32 = 1;
+
+// A live range.
+#[derive(Clone, Copy)]
+struct Live {
+    ticket: Ticket,
+    offset: u32,
+    size: u32,
+}
+
+// The ranges that are live, and the tickets of all that ever were.
+#[derive(Drop)]
+struct Plain {
+    live: Vec<Live>,
+    given: Vec<Ticket>,
+}
+
+impl Plain {
+    // Where the range of a ticket is in the list. The ticket's offset does not count.
+    fn place(&self, ticket: Ticket) -> Option<usize> {
+        for (i, live) in self.live.iter().enumerate() {
+            let mut same = live.ticket;
+            same.offset = ticket.offset;
+            if same == ticket {
+                return Some(i);
+            }
+        }
+        None
+    }
+
+    fn range(&self, ticket: Ticket) -> Option<Live> {
+        let place = self.place(ticket)?;
+        self.live.get(place).copied()
+    }
+}
+
+// A ticket: one of those given, stale or live, as it is or altered, or random numbers.
+fn any_ticket(numbers: &mut Numbers, given: &[Ticket]) -> Ticket {
+    let mut ticket = Ticket {
+        offset: numbers.advance(),
+        name: numbers.advance() % 80,
+        serial: u64::from(numbers.advance() % 2_000),
+        realm: numbers.advance() % 3,
+    };
+    let kind = numbers.advance() % 8;
+    let place = numbers.place(given.len());
+    if let Some(known) = given.get(place).filter(|_| kind > 0) {
+        match kind {
+            1 => ticket = Ticket {
+                name: ticket.name,
+                offset: known.offset,
+                serial: known.serial,
+                realm: known.realm,
+            },
+            2 => ticket = Ticket {
+                name: known.name,
+                offset: known.offset,
+                serial: ticket.serial,
+                realm: known.realm,
+            },
+            3 => ticket = Ticket {
+                name: known.name,
+                offset: known.offset,
+                serial: known.serial,
+                realm: ticket.realm,
+            },
+            4 => ticket = Ticket {
+                name: known.name,
+                offset: ticket.offset,
+                serial: known.serial,
+                realm: known.realm,
+            },
+            _ => ticket = *known,
+        }
+    }
+    ticket
+}
+
+// The last tickets are more often live.
+fn recent_ticket(numbers: &mut Numbers, given: &[Ticket]) -> Ticket {
+    let first = given.len().saturating_sub(64);
+    match given.get(first..) {
+        None => any_ticket(numbers, given),
+        Some(last) => any_ticket(numbers, last),
+    }
+}
+
+fn keep(rt: &impl Abort, plain: &mut Plain, granted: Option<Ticket>, size: u32) {
+    if let Some(ticket) = granted {
+        // no serial is given twice
+        assert_that(
+            rt,
+            plain.given.iter().all(|other| other.serial < ticket.serial),
+        );
+        let live = Live {
+            ticket,
+            offset: ticket.offset,
+            size,
+        };
+        plain.live.push(live).expect(rt, "memory");
+        plain.given.push(ticket).expect(rt, "memory");
+    }
+}
+
+fn free<NI: NodeIndex>(
+    rt: &impl Abort,
+    space: &mut Guarded<NI>,
+    plain: &mut Plain,
+    ticket: Ticket,
+) {
+    let place = plain.place(ticket);
+    assert_same(rt, &space.free(ticket), &place.is_some());
+    if let Some(place) = place.filter(|place| *place < plain.live.len()) {
+        let _freed = plain.live.remove(place);
+    }
+}
+
+fn resize<NI: NodeIndex>(
+    rt: &impl Abort,
+    space: &mut Guarded<NI>,
+    plain: &mut Plain,
+    ticket: Ticket,
+    size: u32,
+) {
+    let place = plain.place(ticket);
+    let done = if size % 2 == 0 {
+        space.shrink(ticket, size)
+    } else {
+        space.grow_in_place(ticket, size)
+    };
+    assert_same(rt, &done.is_some(), &place.is_some());
+    if let Some(live) = place.and_then(|place| plain.live.get_mut(place)) {
+        if done == Some(true) {
+            live.size = size;
+        }
+    }
+}
+
+// Moves go to smaller offsets, in order: so no range has the offset of a later one.
+fn compact<NI: NodeIndex>(space: &mut Guarded<NI>, plain: &mut Plain) {
+    let live = &mut plain.live;
+    space.compact(&mut |range: Move<NI>| {
+        for known in live.iter_mut() {
+            if known.offset == range.from {
+                known.offset = range.to;
+            }
+        }
+    });
+}
+
+fn step<NI: NodeIndex>(
+    rt: &impl Abort,
+    space: &mut Guarded<NI>,
+    plain: &mut Plain,
+    numbers: &mut Numbers,
+) {
+    let number = numbers.advance();
+    let size = number / 32 % 40 + 1;
+    match number % 32 {
+        0..=9 => keep(rt, plain, space.allocate(size), size),
+        10 => keep(rt, plain, space.allocate_aligned(size, 8), size),
+        11..=24 => free(rt, space, plain, recent_ticket(numbers, &plain.given)),
+        25..=27 => resize(rt, space, plain, recent_ticket(numbers, &plain.given), size),
+        28 => free(rt, space, plain, any_ticket(numbers, &plain.given)),
+        29 => compact(space, plain),
+        30 => {
+            let _done = space.extend(number / 32 % 4);
+        }
+        _ => {
+            if number / 32 % 16 == 0 {
+                space.reset();
+                plain.live.clear();
+            }
+        }
+    }
+}
+
+// Every live range is where the list has it, and there is no other.
+fn expect_same<NI: NodeIndex>(rt: &impl Abort, space: &Guarded<NI>, plain: &Plain) {
+    for live in &plain.live {
+        assert_same(rt, &space.offset_of(live.ticket), &Some(live.offset));
+        assert_same(rt, &space.size_of(live.ticket), &Some(live.size));
+    }
+    let mut used = 0usize;
+    for block in space.allocator().blocks() {
+        if block.allocation.is_some() {
+            used = used.wrapping_add(1);
+        }
+    }
+    assert_same(rt, &used, &plain.live.len());
+}
+
+fn expect_plain<NI: NodeIndex>(rt: &impl Abort, alloc: Global, state: u64) {
+    let mut numbers = Numbers::new(state);
+    let space = Guarded::<NI>::with_max_allocs(alloc, 1_000, 70, REALM);
+    let mut space = space.expect(rt, "memory");
+    let mut plain = Plain {
+        live: Vec::new(alloc),
+        given: Vec::new(alloc),
+    };
+    for _ in 0..STEPS {
+        step(rt, &mut space, &mut plain, &mut numbers);
+        let ticket = any_ticket(&mut numbers, &plain.given);
+        let wanted = plain.range(ticket).map(|live| live.size);
+        assert_same(rt, &space.size_of(ticket), &wanted);
+        expect_same(rt, &space, &plain);
+    }
+}
+
+#[test]
+fn tickets_of_32_bits_touch_no_other_range(rt: HostRuntime) {
+    expect_plain::<u32>(&rt, rt.alloc(), 1);
+}
+
+#[test]
+fn tickets_of_16_bits_touch_no_other_range(rt: HostRuntime) {
+    expect_plain::<u16>(&rt, rt.alloc(), 2);
+}
