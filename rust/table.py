@@ -7,12 +7,25 @@ An entry that is not used by the sources stops `erase`, so that none outlives it
 # Crate of the sources, folder of the erased crate, and the modules that are written by hand there.
 CRATES = [
     ("offset_allocator", "offset-allocator-proved", {"accesses", "memory"}),
+    ("offset_guarded", "offset-allocator-guarded", {"memory"}),
     ("offset_script", "offset-script", {"memory"}),
 ]
 
 # In the root file this replaces `#![tactic(auto)]`.
 ROOTS = {
     "offset_allocator": """#![doc = include_str!("../README.md")]
+#![no_std]
+#![forbid(unsafe_code)]
+#![warn(missing_docs)]
+#![expect(LINTS)]
+
+extern crate alloc;
+
+mod memory;
+
+pub use memory::{AllocError, Global};
+""",
+    "offset_guarded": """#![doc = include_str!("../README.md")]
 #![no_std]
 #![forbid(unsafe_code)]
 #![warn(missing_docs)]
@@ -44,6 +57,7 @@ LINTS = {
         "clippy::too_many_arguments": "functions over the tables take the numbers that they change one by one",
         "unused_variables": "a parameter may be there for a contract only",
     },
+    "offset_guarded": {},
     "offset_script": {},
 }
 
@@ -120,6 +134,10 @@ ALWAYS = {
 EXAMPLES = {
     "offset_allocator": (
         ["use offset_allocator_proved::*;", "let alloc = Global;"],
+        ["# Ok::<(), AllocError>(())"],
+    ),
+    "offset_guarded": (
+        ["use offset_allocator_guarded::*;", "let alloc = Global;"],
         ["# Ok::<(), AllocError>(())"],
     ),
 }

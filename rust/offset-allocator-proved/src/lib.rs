@@ -146,6 +146,12 @@ impl<NI: NodeIndex> Allocator<NI> {
         self.store.tables.len() - self.store.spare_count
     }
 
+    /// The number of nodes that were made: each block's name is below it. It never becomes smaller except by `reset`,
+    /// and one call makes at most 2.
+    pub fn node_count(&self) -> u32 {
+        self.store.tables.len()
+    }
+
     /// Whether `max_allocs - 1` blocks exist. Then every request is refused, and the short report is 0, 0, until blocks
     /// coalesce (by `free`, `compact` or `reset`) or `grow_in_place` takes the whole of a free block.
     pub fn is_full(&self) -> bool {

@@ -9,6 +9,26 @@ use offset_allocator::laws::is_well_formed;
 use offset_allocator::{Allocation, Allocator, NodeIndex};
 use crate::memory::{AllocError, Global};
 
+/// The answer to `full`: a row for each class that has a free block. It fails only where an allocation fails.
+pub fn full_answer<NI: NodeIndex>(
+    alloc: Global,
+    space: &Allocator<NI>,
+) -> Result<Answer, AllocError> {
+    let report = space.storage_report_full();
+    let mut rows = Vec::new(alloc);
+    for class in 0..256u32 {
+        let region = report.free_regions[class as usize];
+        if region.count > 0 {
+            rows.push(FullRow {
+                class,
+                size: region.size,
+                count: region.count,
+            })?;
+        }
+    }
+    Ok(Answer::Full(rows))
+}
+
 /// An allocator, with the handles of its live grants: it takes commands one by one.
 pub struct Player<NI: NodeIndex> {
     /// The allocator.
@@ -88,23 +108,6 @@ impl<NI: NodeIndex> Player<NI> {
         Answer::Report(self.space.storage_report())
     }
 
-    // The answer to `full`: a row for each class that has a free block.
-    fn full(&self, alloc: Global) -> Result<Answer, AllocError> {
-        let report = self.space.storage_report_full();
-        let mut rows = Vec::new(alloc);
-        for class in 0..256u32 {
-            let region = report.free_regions[class as usize];
-            if region.count > 0 {
-                rows.push(FullRow {
-                    class,
-                    size: region.size,
-                    count: region.count,
-                })?;
-            }
-        }
-        Ok(Answer::Full(rows))
-    }
-
     // The answer to `reset`. All handles are removed, and numbers go on.
     fn reset(&mut self) -> Answer {
         self.space.reset();
@@ -139,7 +142,7 @@ impl<NI: NodeIndex> Player<NI> {
             Command::Free(number) => Ok(self.release(number)),
             Command::Size(number) => Ok(self.size(number)),
             Command::Report => Ok(self.report()),
-            Command::Full => self.full(alloc),
+            Command::Full => full_answer(alloc, &self.space),
             Command::Reset => Ok(self.reset()),
             Command::Align(size, align) => self.allocate_aligned(size, align),
             Command::Extend(more) => Ok(self.extend(more)),
