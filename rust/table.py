@@ -7,6 +7,7 @@ An entry that is not used by the sources stops `erase`, so that none outlives it
 # Crate of the sources, folder of the erased crate, and the modules that are written by hand there.
 CRATES = [
     ("offset_allocator", "offset-allocator-proved", {"accesses", "memory", "nonmax", "traits"}),
+    ("offset_guarded", "offset-allocator-guarded", {"memory"}),
     ("offset_script", "offset-script", {"memory"}),
 ]
 
@@ -26,6 +27,18 @@ mod traits;
 pub use memory::{AllocError, Global};
 pub use nonmax::IsMax;
 """,
+    "offset_guarded": """#![doc = include_str!("../README.md")]
+#![no_std]
+#![forbid(unsafe_code)]
+#![warn(missing_docs)]
+#![expect(LINTS)]
+
+extern crate alloc;
+
+mod memory;
+
+pub use memory::{AllocError, Global};
+""",
     "offset_script": """#![doc = include_str!("../README.md")]
 #![forbid(unsafe_code)]
 #![expect(LINTS)]
@@ -44,6 +57,9 @@ LINTS = {
         "clippy::manual_map": "a `match` needs no closure, whose calls would need a proof",
         "clippy::too_many_arguments": "functions over the tables take the numbers that they change one by one",
         "unused_variables": "a parameter may be there for a contract only",
+    },
+    "offset_guarded": {
+        "clippy::manual_map": "a `match` needs no closure, whose calls would need a proof",
     },
     "offset_script": {},
 }
@@ -128,6 +144,10 @@ ALWAYS = {
 EXAMPLES = {
     "offset_allocator": (
         ["use offset_allocator_proved::*;", "let alloc = Global;"],
+        ["# Ok::<(), AllocError>(())"],
+    ),
+    "offset_guarded": (
+        ["use offset_allocator_guarded::*;", "let alloc = Global;"],
         ["# Ok::<(), AllocError>(())"],
     ),
 }

@@ -15,10 +15,9 @@ pub fn unload(assets: &mut Guarded, ticket: Ticket)
 }
 
 /// Gives an asset a new range of `size` units in place of its old one, which may be gone. It returns the new ticket, or
-/// `None` where the request is refused; the old ticket is not live then either.
+/// `None` where the request is refused; the old range is freed then too.
 pub fn reload(assets: &mut Guarded, ticket: Ticket, size: u32) -> Option<Ticket>
     ensures range { IfSome result (λ t. range_of t assets.new ≡ Some (record { offset = t.offset; size = size })) }
-    ensures gone { range_of ticket assets.new ≡ None }
     ensures others { (u : Ticket) → (AreAlike u ticket → ⊥) → IsLive u assets.old → range_of u assets.new ≡ range_of u assets.old }
 {
     unload(assets, ticket);

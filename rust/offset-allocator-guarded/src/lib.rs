@@ -1,0 +1,281 @@
+// Printed by rust/erase from crates/offset_guarded/src/lib.rt: change it there.
+
+//! An allocator of ranges whose handles cannot be stale.
+//!
+//! A handle of `offset_allocator` is the name of a node, so one whose range was freed is live again where a newer grant
+//! has its name. A `Ticket` has a serial too, which no other grant ever has: so it is live exactly until the grant that
+//! gave it is freed or reset. Every call takes any ticket, and one that is not live changes nothing.
+//!
+//! ```
+//! use offset_allocator_guarded::*;
+//! let alloc = Global;
+//! let mut vertices = Guarded::<u32>::new(alloc, 1 << 20, 1)?;
+//! if let Some(mesh) = vertices.allocate(3000) {
+//!     assert!(vertices.free(mesh));
+//!     assert!(!vertices.free(mesh));
+//! }
+//! # Ok::<(), AllocError>(())
+//! ```
+#![doc = include_str!("../README.md")]
+#![no_std]
+#![forbid(unsafe_code)]
+#![warn(missing_docs)]
+#![expect(clippy::manual_map)] // a `match` needs no closure, whose calls would need a proof
+
+extern crate alloc;
+
+mod memory;
+
+pub use memory::{AllocError, Global};
+
+mod refusal;
+mod serials;
+mod ticket;
+
+use offset_allocator::laws::is_well_formed;
+use offset_allocator::{Allocation, Allocator, Move, NodeIndex};
+pub use refusal::Refusal;
+use serials::Serials;
+pub use ticket::Ticket;
+
+/// The allocator of one space, with tickets in place of handles.
+///
+/// It holds an `Allocator`, and a table with the serial that each name was last granted with.
+pub struct Guarded<NI: NodeIndex = u32> {
+    space: Allocator<NI>,
+    serials: Serials,
+    realm: u32,
+}
+
+// Gives the next serial to a grant.
+fn ticket_for<NI: NodeIndex>(
+    space: &Allocator<NI>,
+    serials: &mut Serials,
+    realm: u32,
+    handle: Allocation<NI>,
+) -> Ticket {
+    serials.cover(space.node_count());
+    let (offset, name) = handle.to_parts();
+    Ticket {
+        offset,
+        name,
+        serial: serials.give(name),
+        realm,
+    }
+}
+
+impl<NI: NodeIndex> Guarded<NI> {
+    /// A space of `size` units, all free, with the smaller of 131072 and `NI::MAX - 2` as the node limit. The realm is
+    /// kept in its tickets: a ticket of another realm is never live here.
+    ///
+    /// An error is returned only where an allocation failed; then nothing is made.
+    pub fn new(alloc: Global, size: u32, realm: u32) -> Result<Self, AllocError> {
+        Self::with_max_allocs(alloc, size, 131072u32.min(NI::MAX - 2), realm)
+    }
+
+    /// A space of `size` units, all free, with `max_allocs` as the node limit, and a realm. The limit is 2 to
+    /// `NI::MAX - 2`. It reserves what an `Allocator` does and 8 bytes a node, all of them here; those of a node are
+    /// written when it is made.
+    ///
+    /// An error is returned only where an allocation failed; then nothing is made.
+    #[track_caller]
+    pub fn with_max_allocs(
+        alloc: Global,
+        size: u32,
+        max_allocs: u32,
+        realm: u32,
+    ) -> Result<Self, AllocError> {
+        assert!(2 <= max_allocs, "max_allocs must be at least 2");
+        assert!(max_allocs < NI::MAX - 1, "max_allocs must be at most NI::MAX - 2");
+        // before the space, which requests all its memory at once: so both are known to fit together
+        let serials = Serials::with_room(alloc, max_allocs)?;
+        let space = Allocator::with_max_allocs(alloc, size, max_allocs)?;
+        Ok(Guarded {
+            space,
+            serials,
+            realm,
+        })
+    }
+
+    /// The allocator, to read: its reports, its blocks, its sizes, and why it refuses a request.
+    pub fn allocator(&self) -> &Allocator<NI> {
+        &self.space
+    }
+
+    /// The realm of its tickets.
+    pub fn realm(&self) -> u32 {
+        self.realm
+    }
+
+    /// Whether all serials are given, after 18446744073709551615 grants. Then every request is refused.
+    pub fn is_spent(&self) -> bool {
+        self.serials.is_spent()
+    }
+
+    // The handle of a live ticket.
+    fn handle(&self, ticket: Ticket) -> Option<Allocation<NI>> {
+        if ticket.realm != self.realm || ticket.serial != self.serials.at(ticket.name) {
+            return None;
+        }
+        let Some(handle) = Allocation::from_parts(ticket.offset, ticket.name) else {
+            // A step of the proof, which does nothing: no block has such a name.
+            is_well_formed(&self.space);
+            return None;
+        };
+        if self.space.is_live(handle) {
+            Some(handle)
+        } else {
+            None
+        }
+    }
+
+    /// Whether a ticket is live here: it has the realm, and the grant that gave it was neither freed nor reset since.
+    pub fn is_live(&self, ticket: Ticket) -> bool {
+        self.handle(ticket).is_some()
+    }
+
+    /// The units of the range of a ticket, or `None` where it is not live.
+    pub fn size_of(&self, ticket: Ticket) -> Option<u32> {
+        match self.handle(ticket) {
+            None => None,
+            Some(handle) => Some(self.space.allocation_size(handle)),
+        }
+    }
+
+    /// Where the range of a ticket begins, in units from the start of the space, or `None` where it is not live.
+    ///
+    /// The `offset` of the ticket is where the range began when it was granted. `compact` does not change it.
+    pub fn offset_of(&self, ticket: Ticket) -> Option<u32> {
+        match self.handle(ticket) {
+            None => None,
+            Some(handle) => self.space.allocation_offset(handle),
+        }
+    }
+
+    /// The ticket of a live handle of the allocator, as its `blocks` and the moves of `compact` have them, or `None`
+    /// where the handle is not live.
+    pub fn ticket(&self, handle: Allocation<NI>) -> Option<Ticket> {
+        let (_, name) = handle.to_parts();
+        match self.space.allocation_offset(handle) {
+            None => None,
+            Some(offset) => Some(Ticket {
+                offset,
+                name,
+                serial: self.serials.at(name),
+                realm: self.realm,
+            }),
+        }
+    }
+
+    /// Grants a range of `size` units, and returns its ticket: of the range that `Allocator::allocate` grants, with the
+    /// next serial.
+    ///
+    /// `None` is returned where that call returns `None`, and where all serials are given; then nothing changes.
+    pub fn allocate(&mut self, size: u32) -> Option<Ticket> {
+        if self.serials.is_spent() {
+            return None;
+        }
+        match self.space.allocate(size) {
+            None => None,
+            Some(handle) => Some(ticket_for(&self.space, &mut self.serials, self.realm, handle)),
+        }
+    }
+
+    /// Grants `size` units that begin at a multiple of `align`, a power of two: the range that
+    /// `Allocator::allocate_aligned` grants, with the next serial.
+    ///
+    /// `None` is returned where that call returns `None`, and where all serials are given; then nothing changes.
+    #[track_caller]
+    pub fn allocate_aligned(&mut self, size: u32, align: u32) -> Option<Ticket> {
+        assert!(align.is_power_of_two(), "align must be a power of two");
+        if self.serials.is_spent() {
+            return None;
+        }
+        match self.space.allocate_aligned(size, align) {
+            None => None,
+            Some(handle) => Some(ticket_for(&self.space, &mut self.serials, self.realm, handle)),
+        }
+    }
+
+    /// Frees the range of a ticket, as `Allocator::free` does, and returns `true`; or `false` where the ticket is not
+    /// live, and then nothing changes.
+    ///
+    /// It reads one serial, and makes at most 129 accesses to the tables of the allocator.
+    pub fn free(&mut self, ticket: Ticket) -> bool {
+        match self.handle(ticket) {
+            None => false,
+            Some(handle) => {
+                self.space.free(handle);
+                true
+            }
+        }
+    }
+
+    /// Makes the range of a ticket smaller in place, as `Allocator::shrink` does, and returns whether it did; or `None`
+    /// where the ticket is not live, and then nothing changes.
+    pub fn shrink(&mut self, ticket: Ticket, size: u32) -> Option<bool> {
+        match self.handle(ticket) {
+            None => None,
+            Some(handle) => {
+                let done = self.space.shrink(handle, size);
+                self.serials.cover(self.space.node_count());
+                Some(done)
+            }
+        }
+    }
+
+    /// Makes the range of a ticket larger in place, as `Allocator::grow_in_place` does, and returns whether it did; or
+    /// `None` where the ticket is not live, and then nothing changes.
+    pub fn grow_in_place(&mut self, ticket: Ticket, size: u32) -> Option<bool> {
+        match self.handle(ticket) {
+            None => None,
+            Some(handle) => {
+                let done = self.space.grow_in_place(handle, size);
+                self.serials.cover(self.space.node_count());
+                Some(done)
+            }
+        }
+    }
+
+    /// Adds `more` units at the end of the space, as `Allocator::extend` does, and returns whether it did.
+    pub fn extend(&mut self, more: u32) -> bool {
+        let done = self.space.extend(more);
+        self.serials.cover(self.space.node_count());
+        done
+    }
+
+    /// Makes the whole space one free block again, as `Allocator::reset` does. No earlier ticket is ever live again.
+    pub fn reset(&mut self) {
+        self.space.reset();
+    }
+
+    /// Slides every live range to the front of the space, as `Allocator::compact` does. Every ticket stays live, with
+    /// its size; `offset_of` returns where its range begins.
+    pub fn compact<F: FnMut(Move<NI>)>(&mut self, moved: &mut F) {
+        self.space.compact(moved);
+    }
+
+    /// Why `allocate(size)` would be refused now, or `None` exactly where it would be granted.
+    pub fn refusal(&self, size: u32) -> Option<Refusal> {
+        if self.serials.is_spent() {
+            return Some(Refusal::Serials);
+        }
+        match self.space.refusal(size) {
+            None => None,
+            Some(why) => Some(Refusal::Allocator(why)),
+        }
+    }
+
+    /// Why `allocate_aligned(size, align)` would be refused now, or `None` exactly where it would be granted.
+    #[track_caller]
+    pub fn refusal_aligned(&self, size: u32, align: u32) -> Option<Refusal> {
+        assert!(align.is_power_of_two(), "align must be a power of two");
+        if self.serials.is_spent() {
+            return Some(Refusal::Serials);
+        }
+        match self.space.refusal_aligned(size, align) {
+            None => None,
+            Some(why) => Some(Refusal::Allocator(why)),
+        }
+    }
+}

@@ -1,0 +1,45 @@
+//! The memory of the serials: a vector that returns an error where its allocation fails, and never grows past it.
+//! Written by hand, over `alloc::vec::Vec`.
+
+pub use offset_allocator::{AllocError, Global};
+
+use core::ops::{Deref, DerefMut};
+
+/// A table.
+pub(crate) struct Vec<T>(alloc::vec::Vec<T>);
+
+impl<T> Vec<T> {
+    /// Makes an empty vector with room for exactly `capacity` values.
+    pub(crate) fn with_capacity(_: Global, capacity: usize) -> Result<Self, AllocError> {
+        let mut values = alloc::vec::Vec::new();
+        values.try_reserve_exact(capacity).map_err(|_| AllocError)?;
+        // an optimizer may remove a request whose memory is freed unused, and with it the failure
+        Ok(Vec(core::hint::black_box(values)))
+    }
+
+    /// Inserts a value into a vector that has room for it. Its memory stays.
+    #[inline]
+    pub(crate) fn insert(&mut self, place: usize, value: T) -> Result<(), AllocError> {
+        if self.0.len() == self.0.capacity() {
+            return Err(AllocError);
+        }
+        self.0.insert(place, value);
+        Ok(())
+    }
+}
+
+impl<T> Deref for Vec<T> {
+    type Target = [T];
+
+    #[inline]
+    fn deref(&self) -> &[T] {
+        &self.0
+    }
+}
+
+impl<T> DerefMut for Vec<T> {
+    #[inline]
+    fn deref_mut(&mut self) -> &mut [T] {
+        &mut self.0
+    }
+}

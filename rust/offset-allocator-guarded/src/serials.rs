@@ -1,0 +1,55 @@
+// Printed by rust/erase from crates/offset_guarded/src/serials.rt: change it there.
+
+//! The serials of grants, by name.
+
+use crate::memory::Vec;
+use crate::memory::{AllocError, Global};
+
+/// The serial that each name was last granted with, 0 before its first grant, and the number of serials given so far.
+pub(crate) struct Serials {
+    cells: Vec<u64>,
+    given: u64,
+}
+
+// Adds a cell at the end of a table that has room for it. `insert`, unlike `push`, promises that the memory stays the
+// same.
+fn push_within(cells: &mut Vec<u64>) {
+    let _ = cells.insert(cells.len(), 0);
+}
+
+impl Serials {
+    /// No serial, and memory for those of this many names.
+    pub(crate) fn with_room(alloc: Global, names: u32) -> Result<Self, AllocError> {
+        Ok(Serials {
+            cells: Vec::with_capacity(alloc, names as usize)?,
+            given: 0,
+        })
+    }
+
+    /// Makes the cells of all names below a number.
+    pub(crate) fn cover(&mut self, names: u32) {
+        while self.cells.len() < names as usize {
+            push_within(&mut self.cells);
+        }
+    }
+
+    /// The serial that a name was last granted with, or 0.
+    pub(crate) fn at(&self, name: u32) -> u64 {
+        match self.cells.get(name as usize) {
+            None => 0,
+            Some(serial) => *serial,
+        }
+    }
+
+    /// Whether all serials are given.
+    pub(crate) fn is_spent(&self) -> bool {
+        self.given == u64::MAX
+    }
+
+    /// Gives the next serial to a name.
+    pub(crate) fn give(&mut self, name: u32) -> u64 {
+        self.given += 1;
+        self.cells[name as usize] = self.given;
+        self.given
+    }
+}
