@@ -22,7 +22,8 @@ impl Model for Serials {
 }
 
 // Adds a cell at the end of a table that has room for it. `insert`, unlike `push`, promises that the memory stays the
-// same.
+// same. It is out of line, since each cell is made once.
+#[inline(never)]
 fn push_within(cells: &mut Vec<u64>)
     requires { vec_len cells.old < vec_capacity cells.old }
     ensures items { cells.new.items ≡ cells.old.items ++ 0 ∷ [] }
@@ -44,6 +45,7 @@ impl Serials {
     }
 
     /// Makes the cells of all names below a number.
+    #[inline]
     pub(crate) fn cover(&mut self, names: u32)
         requires { names ≤ self.old.room }
         ensures covers { names ≤ length self.new.cells }
@@ -57,6 +59,7 @@ impl Serials {
     }
 
     /// The serial that a name was last granted with, or 0.
+    #[inline]
     pub(crate) fn at(&self, name: u32) -> u64
         ensures { result ≡ cell name self.now.cells }
     {
@@ -67,6 +70,7 @@ impl Serials {
     }
 
     /// Whether all serials are given.
+    #[inline]
     pub(crate) fn is_spent(&self) -> bool
         ensures spent { IsTrue result ↔ (self.now.given ≡ last_serial) }
         ensures left { result ≡ false → self.now.given < last_serial }
@@ -75,6 +79,7 @@ impl Serials {
     }
 
     /// Gives the next serial to a name.
+    #[inline]
     pub(crate) fn give(&mut self, name: u32) -> u64
         requires made { name < length self.old.cells }
         requires left { self.old.given < last_serial }

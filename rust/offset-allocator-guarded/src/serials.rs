@@ -12,7 +12,8 @@ pub(crate) struct Serials {
 }
 
 // Adds a cell at the end of a table that has room for it. `insert`, unlike `push`, promises that the memory stays the
-// same.
+// same. It is out of line, since each cell is made once.
+#[inline(never)]
 fn push_within(cells: &mut Vec<u64>) {
     let _ = cells.insert(cells.len(), 0);
 }
@@ -27,6 +28,7 @@ impl Serials {
     }
 
     /// Makes the cells of all names below a number.
+    #[inline]
     pub(crate) fn cover(&mut self, names: u32) {
         while self.cells.len() < names as usize {
             push_within(&mut self.cells);
@@ -34,6 +36,7 @@ impl Serials {
     }
 
     /// The serial that a name was last granted with, or 0.
+    #[inline]
     pub(crate) fn at(&self, name: u32) -> u64 {
         match self.cells.get(name as usize) {
             None => 0,
@@ -42,11 +45,13 @@ impl Serials {
     }
 
     /// Whether all serials are given.
+    #[inline]
     pub(crate) fn is_spent(&self) -> bool {
         self.given == u64::MAX
     }
 
     /// Gives the next serial to a name.
+    #[inline]
     pub(crate) fn give(&mut self, name: u32) -> u64 {
         self.given += 1;
         self.cells[name as usize] = self.given;
