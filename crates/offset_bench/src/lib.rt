@@ -14,22 +14,22 @@ pub struct Step {
     pub size: u32,
 }
 
-// Takes a step. It returns the offset of a grant, 2^32 for a refusal, and 2^33 for a release.
-fn take<NI: NodeIndex>(
-    space: &mut Allocator<NI>,
-    slot: &mut Option<Allocation<NI>>,
-    size: u32,
-) -> u64 {
-    match *slot {
+// The parts of no handle. An `Option` of a handle takes 12 bytes, its parts take 8.
+const EMPTY: (u32, u32) = (0, u32::MAX);
+
+// Takes a step on a slot, which has the parts of a handle, or is empty. It returns the offset of a grant, 2^32 for a
+// refusal, and 2^33 for a release.
+fn take<NI: NodeIndex>(space: &mut Allocator<NI>, slot: &mut (u32, u32), size: u32) -> u64 {
+    match Allocation::<NI>::from_parts(slot.0, slot.1) {
         None => match space.allocate(size) {
             None => 1 << 32,
             Some(handle) => {
-                *slot = Some(handle);
+                *slot = handle.to_parts();
                 u64::from(handle.offset)
             }
         },
         Some(handle) => {
-            *slot = None;
+            *slot = EMPTY;
             if space.is_live(handle) {
                 space.free(handle);
             }
@@ -50,7 +50,7 @@ fn play<NI: NodeIndex>(
         return Ok(0);
     }
     let mut space: Allocator<NI> = Allocator::with_max_allocs(alloc, size, max_allocs)?;
-    let mut slots: Vec<Option<Allocation<NI>>> = Vec::from_elem(alloc, None, slots)?;
+    let mut slots: Vec<(u32, u32)> = Vec::from_elem(alloc, EMPTY, slots)?;
     let mut sum = 0u64;
     for step in steps {
         match slots.get_mut(step.slot as usize) {
