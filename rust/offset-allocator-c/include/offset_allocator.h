@@ -72,7 +72,8 @@ typedef enum oa_reason {
     OA_TOO_LARGE = 2,  /* A fresh space of this size would refuse it too. Extend the space. */
     OA_SPACE = 3,      /* All free units in one block would not be enough. Free ranges, or extend the space. */
     OA_FRAGMENTED = 4, /* They would be enough: after oa_compact the request is granted. */
-    OA_BAD_CALL = 5    /* The allocator is null, or the alignment is no power of two. */
+    OA_BAD_CALL = 5,   /* The allocator is null, or the alignment is no power of two. */
+    OA_SERIALS = 6     /* All serials are given (oag_refusal alone). Use another space. */
 } oa_reason;
 
 /* A range that oa_compact moves: its units were at from, and have to be at to, which is smaller. */
@@ -185,6 +186,67 @@ oa_block oa_blocks_next(oa_blocks *blocks);
 
 /* Frees a list. A null pointer is allowed. */
 void oa_blocks_drop(oa_blocks *blocks);
+
+/* ---- Tickets: handles that cannot be stale ----
+ *
+ * A guarded allocator keeps a serial for each name. A ticket has the serial of its grant, so it is live exactly until
+ * that grant is freed or reset: a stale copy, an altered ticket or random numbers are refused by the result, and nothing
+ * changes. A ticket of another allocator is refused where the two were made with different realms.
+ * Cost: as the call without tickets, one serial read, and one written for a grant; 8 bytes more a node. */
+
+/* A guarded allocator. */
+typedef struct oag_allocator oag_allocator;
+
+/* A ticket, of 16 bytes. serial: the number of the grant, from 1; 0 for a refused request. */
+typedef struct oag_ticket {
+    uint64_t serial;
+    uint32_t name;
+    uint32_t realm;
+} oag_ticket;
+
+/* A space of `size` units, all free, as oa_new makes one; `realm` is kept in its tickets. Null where memory is out, or
+ * the node limit is not from 2 to 4294967293. */
+oag_allocator *oag_new(uint32_t size, uint32_t max_allocs, uint32_t realm);
+
+/* Frees the allocator. A null pointer is allowed. */
+void oag_drop(oag_allocator *space);
+
+/* Makes the whole space free. No earlier ticket is live then. */
+void oag_reset(oag_allocator *space);
+
+/* Grants `size` units, as oa_allocate. The serial is 0 where it is refused, or the allocator is null. Bounded. */
+oag_ticket oag_allocate(oag_allocator *space, uint32_t size);
+
+/* The same at a multiple of `align`. The serial is 0 also where that is no power of two. Bounded. */
+oag_ticket oag_allocate_aligned(oag_allocator *space, uint32_t size, uint32_t align);
+
+/* Frees the range of a ticket. True if it was live; else nothing changes. Bounded. */
+bool oag_free(oag_allocator *space, oag_ticket ticket);
+
+/* Whether the grant of the ticket has neither been freed nor reset. */
+bool oag_is_live(const oag_allocator *space, oag_ticket ticket);
+
+/* The units of the range of a ticket; 0 where it is not live, and for a range of no units. */
+uint32_t oag_size_of(const oag_allocator *space, oag_ticket ticket);
+
+/* Where the range of a ticket begins; OA_NO_SPACE where it is not live. */
+uint32_t oag_offset_of(const oag_allocator *space, oag_ticket ticket);
+
+/* As oa_shrink and oa_grow_in_place: true if done. False, and nothing changes, also where the ticket is not live. */
+bool oag_shrink(oag_allocator *space, oag_ticket ticket, uint32_t size);
+bool oag_grow_in_place(oag_allocator *space, oag_ticket ticket, uint32_t size);
+
+/* As oa_extend. */
+bool oag_extend(oag_allocator *space, uint32_t more);
+
+/* As oa_compact. Tickets stay live; metadata of a move is the name in the ticket. */
+void oag_compact(oag_allocator *space, void (*moved)(void *user, oa_move range), void *user);
+
+/* As oa_storage_report. */
+oa_report oag_storage_report(const oag_allocator *space);
+
+/* Why oag_allocate would be refused now. */
+oa_reason oag_refusal(const oag_allocator *space, uint32_t size);
 
 #ifdef __cplusplus
 }

@@ -1,4 +1,5 @@
-//! The C interface of `offset-allocator-proved`. `include/offset_allocator.h` documents each function.
+//! The C interface of `offset-allocator-proved` and `offset-allocator-guarded`. `include/offset_allocator.h` documents
+//! each function.
 //!
 //! No pointer is read here by hand: an allocator is a box that C holds, a call borrows it, and all else
 //! goes by value. Each call tests what the library requires of its caller, so that no argument panics.
@@ -8,6 +9,7 @@
 use core::ffi::c_void;
 use core::ptr::NonNull;
 
+use offset_allocator_guarded::{Guarded, Ticket};
 use offset_allocator_proved::ext::min_allocator_size;
 use offset_allocator_proved::{Allocation, Allocator, Global, Move, Refusal};
 
@@ -16,6 +18,18 @@ pub const NO_SPACE: u32 = u32::MAX;
 
 /// An allocator, as C holds it. It is an array, since a box of one can be made where an allocation may fail.
 pub type Space = [Allocator; 1];
+
+/// An allocator with tickets.
+pub type GuardedSpace = [Guarded; 1];
+
+/// A ticket without its offset: a granted range, for as long as the grant lives.
+#[repr(C)]
+#[derive(Clone, Copy)]
+pub struct Guard {
+    serial: u64,
+    name: u32,
+    realm: u32,
+}
 
 /// A handle.
 #[repr(C)]
@@ -55,6 +69,7 @@ pub enum Reason {
     Space,
     Fragmented,
     BadCall,
+    Serials,
 }
 
 /// A range that `oa_compact` moved.
@@ -98,6 +113,17 @@ fn handle(allocation: Option<Allocation>) -> Handle {
             Handle { offset, metadata }
         }
     }
+}
+
+const NO_TICKET: Guard = Guard { serial: 0, name: NO_SPACE, realm: 0 };
+
+fn guard(ticket: Option<Ticket>) -> Guard {
+    ticket.map_or(NO_TICKET, |ticket| Guard { serial: ticket.serial, name: ticket.name, realm: ticket.realm })
+}
+
+// No call reads the offset of a ticket.
+fn ticket(guard: Guard) -> Ticket {
+    Ticket { offset: 0, name: guard.name, serial: guard.serial, realm: guard.realm }
 }
 
 // The allocation of a handle, if it is live.
@@ -245,4 +271,69 @@ exports! {
     } else Block { kind: Kind::End, offset: 0, size: 0, allocation: NOTHING };
 
     fn oa_blocks_drop(blocks: Option<Box<Blocks>>) -> () { drop(blocks) } else ();
+
+    fn oag_new(size: u32, max_allocs: u32, realm: u32) -> Option<Box<GuardedSpace>> {
+        if !(2..=u32::MAX - 2).contains(&max_allocs) {
+            return None;
+        }
+        boxed(Guarded::with_max_allocs(offset_allocator_guarded::Global, size, max_allocs, realm).ok()?)
+    } else ();
+
+    fn oag_drop(space: Option<Box<GuardedSpace>>) -> () { drop(space) } else ();
+
+    fn oag_reset([space: &mut GuardedSpace],) -> () { space.reset() } else ();
+
+    fn oag_allocate([space: &mut GuardedSpace], size: u32) -> Guard { guard(space.allocate(size)) } else NO_TICKET;
+
+    fn oag_allocate_aligned([space: &mut GuardedSpace], size: u32, align: u32) -> Guard {
+        guard(if align.is_power_of_two() { space.allocate_aligned(size, align) } else { None })
+    } else NO_TICKET;
+
+    fn oag_free([space: &mut GuardedSpace], allocation: Guard) -> bool { space.free(ticket(allocation)) } else false;
+
+    fn oag_is_live([space: &GuardedSpace], allocation: Guard) -> bool { space.is_live(ticket(allocation)) } else false;
+
+    fn oag_size_of([space: &GuardedSpace], allocation: Guard) -> u32 {
+        space.size_of(ticket(allocation)).unwrap_or(0)
+    } else 0;
+
+    fn oag_offset_of([space: &GuardedSpace], allocation: Guard) -> u32 {
+        space.offset_of(ticket(allocation)).unwrap_or(NO_SPACE)
+    } else NO_SPACE;
+
+    fn oag_shrink([space: &mut GuardedSpace], allocation: Guard, size: u32) -> bool {
+        space.shrink(ticket(allocation), size).unwrap_or(false)
+    } else false;
+
+    fn oag_grow_in_place([space: &mut GuardedSpace], allocation: Guard, size: u32) -> bool {
+        space.grow_in_place(ticket(allocation), size).unwrap_or(false)
+    } else false;
+
+    fn oag_extend([space: &mut GuardedSpace], more: u32) -> bool { space.extend(more) } else false;
+
+    fn oag_compact(
+        [space: &mut GuardedSpace],
+        moved: Option<extern "C" fn(Option<NonNull<c_void>>, Moved)>,
+        user: Option<NonNull<c_void>>
+    ) -> () {
+        space.compact(&mut |range: Move| {
+            let (from, to, size, allocation) = (range.from, range.to, range.size, handle(Some(range.allocation())));
+            if let Some(moved) = moved {
+                moved(user, Moved { from, to, size, allocation });
+            }
+        })
+    } else ();
+
+    fn oag_storage_report([space: &GuardedSpace],) -> Report {
+        let report = space.allocator().storage_report();
+        Report { total_free_space: report.total_free_space, largest_free_region: report.largest_free_region }
+    } else Report { total_free_space: 0, largest_free_region: 0 };
+
+    fn oag_refusal([space: &GuardedSpace], size: u32) -> Reason {
+        match space.refusal(size) {
+            Some(offset_allocator_guarded::Refusal::Serials) => Reason::Serials,
+            Some(offset_allocator_guarded::Refusal::Allocator(why)) => reason(Some(why)),
+            None => Reason::None,
+        }
+    } else Reason::BadCall;
 }

@@ -1,0 +1,99 @@
+/* Tickets that are stale, altered, foreign or random, with values computed by hand. */
+#include "offset_allocator.h"
+
+#include <stdio.h>
+#include <stdlib.h>
+
+static int checks;
+
+#define CHECK(condition) do { \
+    checks++; \
+    if (!(condition)) { fprintf(stderr, "%s:%d: %s\n", __FILE__, __LINE__, #condition); exit(1); } \
+} while (0)
+
+static uint64_t state = 88172645463325252u;
+
+static uint64_t next(void) {
+    state ^= state << 13;
+    state ^= state >> 7;
+    state ^= state << 17;
+    return state;
+}
+
+static void stale(void) {
+    oag_allocator *space = oag_new(100, 16, 7), *other = oag_new(100, 16, 8);
+    CHECK(space && other && sizeof(oag_ticket) == 16);
+    CHECK(!oag_new(100, 1, 7) && !oag_new(100, 4294967295u, 7));
+    oag_ticket a = oag_allocate(space, 10), foreign = oag_allocate(other, 10);
+    CHECK(a.serial == 1 && a.realm == 7 && oag_offset_of(space, a) == 0 && oag_size_of(space, a) == 10);
+    CHECK(oag_free(space, a) && !oag_free(space, a) && !oag_is_live(space, a));
+    /* the name is granted again, and the first ticket stays dead */
+    oag_ticket b = oag_allocate(space, 20);
+    CHECK(b.serial == 2 && b.name == a.name && !oag_free(space, a) && oag_is_live(space, b));
+    /* the same name and serial in another realm */
+    CHECK(foreign.serial == 1 && foreign.name == a.name && !oag_free(space, foreign) && oag_is_live(other, foreign));
+    oag_ticket altered = b;
+    altered.name++;
+    CHECK(!oag_free(space, altered) && oag_size_of(space, altered) == 0 && oag_offset_of(space, altered) == OA_NO_SPACE);
+    CHECK(!oag_shrink(space, a, 1) && !oag_grow_in_place(space, a, 30));
+    CHECK(oag_shrink(space, b, 15) && oag_size_of(space, b) == 15 && oag_grow_in_place(space, b, 25));
+    CHECK(oag_storage_report(space).total_free_space == 75);
+    oag_reset(space);
+    CHECK(!oag_is_live(space, b) && oag_refusal(space, 96) == OA_GRANTED && oag_refusal(space, 100) == OA_TOO_LARGE);
+    CHECK(oag_allocate_aligned(space, 10, 3).serial == 0);
+    oag_ticket c = oag_allocate_aligned(space, 10, 16);
+    CHECK(c.serial == 3 && oag_offset_of(space, c) % 16 == 0 && oag_extend(space, 10));
+    oag_compact(space, NULL, NULL);
+    CHECK(oag_is_live(space, c));
+    oag_drop(other);
+    oag_drop(space);
+    oag_drop(NULL);
+}
+
+static void nulls(void) {
+    oag_ticket none = oag_allocate(NULL, 1);
+    CHECK(none.serial == 0 && !oag_free(NULL, none) && !oag_is_live(NULL, none) && !oag_extend(NULL, 1));
+    CHECK(oag_refusal(NULL, 1) == OA_BAD_CALL && oag_offset_of(NULL, none) == OA_NO_SPACE);
+    oag_reset(NULL);
+    oag_compact(NULL, NULL, NULL);
+}
+
+/* a million tickets of random numbers, between real ones: none touches a live range */
+static void random_tickets(void) {
+    enum { SLOTS = 64 };
+    static oag_ticket kept[SLOTS];
+    static uint32_t sizes[SLOTS];
+    oag_allocator *space = oag_new(4096, 256, 1);
+    CHECK(space);
+    for (long i = 0; i < 1000000; i++) {
+        oag_ticket any;
+        any.serial = next() % 1000000;
+        any.name = (uint32_t) (next() % 300);
+        any.realm = (uint32_t) (next() % 2);
+        int slot = (int) (next() % SLOTS);
+        /* only one that is a kept ticket is live */
+        bool known = false;
+        for (int k = 0; k < SLOTS && !known; k++)
+            known = kept[k].serial && kept[k].serial == any.serial && kept[k].name == any.name && any.realm == 1;
+        if (oag_is_live(space, any) != known) CHECK(0);
+        if (!known && (oag_free(space, any) || oag_shrink(space, any, 0) || oag_size_of(space, any))) CHECK(0);
+        if (kept[slot].serial) {
+            if (oag_size_of(space, kept[slot]) != sizes[slot] || !oag_free(space, kept[slot])) CHECK(0);
+            kept[slot].serial = 0;
+        } else {
+            sizes[slot] = (uint32_t) (next() % 100) + 1;
+            kept[slot] = oag_allocate(space, sizes[slot]);
+        }
+    }
+    for (int k = 0; k < SLOTS; k++) if (kept[k].serial) CHECK(oag_free(space, kept[k]));
+    CHECK(oag_storage_report(space).total_free_space == 4096);
+    oag_drop(space);
+}
+
+int main(void) {
+    stale();
+    nulls();
+    random_tickets();
+    printf("C: %d checks of tickets pass\n", checks);
+    return 0;
+}
