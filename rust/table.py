@@ -55,7 +55,6 @@ LINTS = {
     "offset_allocator": {
         "clippy::derivable_impls": "an `impl Default` is where a contract says what the value is",
         "clippy::manual_map": "a `match` needs no closure, whose calls would need a proof",
-        "clippy::too_many_arguments": "functions over the tables take the numbers that they change one by one",
         "unused_variables": "a parameter may be there for a contract only",
     },
     "offset_guarded": {

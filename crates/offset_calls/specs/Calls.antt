@@ -107,7 +107,7 @@ abbrev pub offset_at : Option Place → Reply
 offset_at None = Answer machine.Gone
 offset_at (Some p) = Offset (total p.before)
 
--- why no block is chosen for n units, in a space of this size with so many units free
+-- why no block is chosen for n units, in a space of this size with this many units free
 abbrev pub shortage : ℕ → ℕ → ℕ → Refusal
 shortage n size free = if nat_lt size (value (up n)) then TooLarge else if nat_lt free (max 1 (value (up n))) then Space else Fragmented
 

@@ -149,6 +149,19 @@ fn reason(refusal: Option<Refusal>) -> Reason {
     }
 }
 
+/// What C passes to be called with each move.
+pub type Callback = extern "C" fn(Option<NonNull<c_void>>, Moved);
+
+// Calls C with each move, where it passed a function.
+fn calls(moved: Option<Callback>, user: Option<NonNull<c_void>>) -> impl FnMut(Move) {
+    move |range| {
+        let (from, to, size, allocation) = (range.from, range.to, range.size, handle(Some(range.allocation())));
+        if let Some(moved) = moved {
+            moved(user, Moved { from, to, size, allocation });
+        }
+    }
+}
+
 // The functions that C calls. Where a pointer to an allocator is null, a function returns its last expression.
 macro_rules! exports { ($(
     fn $name:ident($([$space:ident: $($type:tt)*],)? $($argument:ident: $of:ty),*) -> $returned:ty { $($body:tt)* } else $other:expr;
@@ -215,15 +228,10 @@ exports! {
 
     fn oa_compact(
         [space: &mut Space],
-        moved: Option<extern "C" fn(Option<NonNull<c_void>>, Moved)>,
+        moved: Option<Callback>,
         user: Option<NonNull<c_void>>
     ) -> () {
-        space.compact(&mut |range: Move| {
-            let (from, to, size, allocation) = (range.from, range.to, range.size, handle(Some(range.allocation())));
-            if let Some(moved) = moved {
-                moved(user, Moved { from, to, size, allocation });
-            }
-        })
+        space.compact(&mut calls(moved, user))
     } else ();
 
     fn oa_size([space: &Space],) -> u32 { space.size() } else 0;
@@ -313,15 +321,10 @@ exports! {
 
     fn oag_compact(
         [space: &mut GuardedSpace],
-        moved: Option<extern "C" fn(Option<NonNull<c_void>>, Moved)>,
+        moved: Option<Callback>,
         user: Option<NonNull<c_void>>
     ) -> () {
-        space.compact(&mut |range: Move| {
-            let (from, to, size, allocation) = (range.from, range.to, range.size, handle(Some(range.allocation())));
-            if let Some(moved) = moved {
-                moved(user, Moved { from, to, size, allocation });
-            }
-        })
+        space.compact(&mut calls(moved, user))
     } else ();
 
     fn oag_storage_report([space: &GuardedSpace],) -> Report {

@@ -23,7 +23,6 @@
 #![warn(missing_docs)]
 #![expect(clippy::derivable_impls)] // an `impl Default` is where a contract says what the value is
 #![expect(clippy::manual_map)] // a `match` needs no closure, whose calls would need a proof
-#![expect(clippy::too_many_arguments)] // functions over the tables take the numbers that they change one by one
 #![expect(unused_variables)] // a parameter may be there for a contract only
 
 extern crate alloc;
