@@ -148,6 +148,7 @@ pub(crate) fn coalesce<NI: NodeIndex>(store: &mut Store<NI>, name: u32, size: u3
         (remove_all (free_start p.after) (remove_all (free_end p.before) (bins_of NI.MAX store.old))) }
     ensures accesses { Costs 7 34 store.old.accesses store.new.accesses }
 {
+    // `gone` is the neighbour that is coalesced last: it is in its bin until the exchange
     let (gone, more, whole) = if let Some(following) = free_after(
         &store.tables,
         name,

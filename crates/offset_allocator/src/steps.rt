@@ -1,4 +1,4 @@
-//! The steps behind the public calls. Each method leaves an allocator whose blocks and bins agree.
+//! The steps of the public calls. Each method leaves an allocator whose blocks and bins agree.
 ghost use Rattle.std.specs.Prelude.{◌≡◌, ◌↔◌, ◌+◌, ◌-◌, ◌*◌, ◌<◌, ◌≤◌, [], ◌∷◌, length, replicate, None, false, true, IsTrue, IsSome, IfSome};
 ghost use Rattle.offset_allocator.specs.Count.{Costs};
 ghost use Rattle.offset_allocator.specs.Classes.{up};
@@ -133,12 +133,13 @@ impl<NI: NodeIndex> Allocator<NI> {
     }
 
     /// A request for units from a multiple of `align` on. With `align` 1, which is a constant where this is inlined
-    /// into `allocate`, there is no padding.
+    /// into `allocate`, there is no padding. It may add `align.min(2)` blocks: the remainder, and above 1 the padding.
     #[inline(always)]
     pub(crate) fn serve(&mut self, size: u32, align: u32) -> Option<Allocation<NI>>
         requires { 1 ≤ align }
         // the public clauses follow from the step and from this
         ensures formed { IsWellFormed self.old }
+        // with `align` 1 `Aligns` says what `Allocates` does
         ensures step { Aligns size align self.old self.new result }
         ensures accesses { Costs 0 61 self.old.accesses self.new.accesses }
         ensures accesses_min { IsSome result → self.old.accesses + 7 ≤ self.new.accesses }

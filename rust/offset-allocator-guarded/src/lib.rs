@@ -200,7 +200,8 @@ impl<NI: NodeIndex> Guarded<NI> {
     /// Frees the range of a ticket, as `Allocator::free` does, and returns `true`; or `false` where the ticket is not
     /// live, and then nothing changes.
     ///
-    /// It reads one serial, and makes at most 129 accesses to the tables of the allocator.
+    /// It reads one serial, and makes at most 136 accesses to the tables of the allocator: 8 to see whether the name is
+    /// live, and 128 to free it.
     pub fn free(&mut self, ticket: Ticket) -> bool {
         match self.handle(ticket) {
             None => false,

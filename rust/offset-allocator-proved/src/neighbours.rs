@@ -84,6 +84,7 @@ fn with_after<NI: NodeIndex>(store: &mut Store<NI>, name: u32, size: u32, next: 
 /// bin. If the neighbour that is coalesced last heads this bin, the block takes its place there.
 #[inline(always)]
 pub(crate) fn coalesce<NI: NodeIndex>(store: &mut Store<NI>, name: u32, size: u32) {
+    // `gone` is the neighbour that is coalesced last: it is in its bin until the exchange
     let (gone, more, whole) = if let Some(following) = free_after(
         &store.tables,
         name,

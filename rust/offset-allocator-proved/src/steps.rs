@@ -1,6 +1,6 @@
 // Printed by rust/erase from crates/offset_allocator/src/steps.rt: change it there.
 
-//! The steps behind the public calls. Each method leaves an allocator whose blocks and bins agree.
+//! The steps of the public calls. Each method leaves an allocator whose blocks and bins agree.
 
 use crate::accesses::Accesses;
 use crate::handle::Allocation;
@@ -89,7 +89,7 @@ impl<NI: NodeIndex> Allocator<NI> {
     }
 
     /// A request for units from a multiple of `align` on. With `align` 1, which is a constant where this is inlined
-    /// into `allocate`, there is no padding.
+    /// into `allocate`, there is no padding. It may add `align.min(2)` blocks: the remainder, and above 1 the padding.
     #[inline(always)]
     pub(crate) fn serve(&mut self, size: u32, align: u32) -> Option<Allocation<NI>> {
         if !self.has_names(align.min(2)) {
