@@ -1,8 +1,9 @@
 //! Random tickets, between real ones, against a plain list of the live ranges.
+ghost use Rattle.std.specs.Prelude.{◌<◌};
 
 use super::numbers::Numbers;
 use crate::asserts::{assert_same, assert_that};
-use offset_allocator::{Move, NodeIndex};
+use offset_allocator::NodeIndex;
 use offset_guarded::{Guarded, Ticket};
 use std::alloc::Global;
 use std::process::Abort;
@@ -88,12 +89,17 @@ fn any_ticket(numbers: &mut Numbers, given: &[Ticket]) -> Ticket {
 }
 
 // The last tickets are more often live.
-fn recent_ticket(numbers: &mut Numbers, given: &[Ticket]) -> Ticket {
-    let first = given.len().saturating_sub(64);
-    match given.get(first..) {
-        None => any_ticket(numbers, given),
+fn recent_ticket(numbers: &mut Numbers, plain: &Plain) -> Ticket {
+    let first = plain.given.len().saturating_sub(64);
+    match plain.given.get(first..) {
+        None => any_ticket(numbers, &plain.given),
         Some(last) => any_ticket(numbers, last),
     }
+}
+
+// Any ticket, also one of the first.
+fn old_ticket(numbers: &mut Numbers, plain: &Plain) -> Ticket {
+    any_ticket(numbers, &plain.given)
 }
 
 fn keep(rt: &impl Abort, plain: &mut Plain, granted: Option<Ticket>, size: u32) {
@@ -147,18 +153,6 @@ fn resize<NI: NodeIndex>(
     }
 }
 
-// Moves go to smaller offsets, in order: so no range has the offset of a later one.
-fn compact<NI: NodeIndex>(space: &mut Guarded<NI>, plain: &mut Plain) {
-    let live = &mut plain.live;
-    space.compact(&mut |range: Move<NI>| {
-        for known in live.iter_mut() {
-            if known.offset == range.from {
-                known.offset = range.to;
-            }
-        }
-    });
-}
-
 fn step<NI: NodeIndex>(
     rt: &impl Abort,
     space: &mut Guarded<NI>,
@@ -170,10 +164,18 @@ fn step<NI: NodeIndex>(
     match number % 32 {
         0..=9 => keep(rt, plain, space.allocate(size), size),
         10 => keep(rt, plain, space.allocate_aligned(size, 8), size),
-        11..=24 => free(rt, space, plain, recent_ticket(numbers, &plain.given)),
-        25..=27 => resize(rt, space, plain, recent_ticket(numbers, &plain.given), size),
-        28 => free(rt, space, plain, any_ticket(numbers, &plain.given)),
-        29 => compact(space, plain),
+        11..=24 => {
+            let ticket = recent_ticket(numbers, plain);
+            free(rt, space, plain, ticket)
+        }
+        25..=28 => {
+            let ticket = recent_ticket(numbers, plain);
+            resize(rt, space, plain, ticket, size)
+        }
+        29 => {
+            let ticket = old_ticket(numbers, plain);
+            free(rt, space, plain, ticket)
+        }
         30 => {
             let _done = space.extend(number / 32 % 4);
         }
@@ -201,7 +203,9 @@ fn expect_same<NI: NodeIndex>(rt: &impl Abort, space: &Guarded<NI>, plain: &Plai
     assert_same(rt, &used, &plain.live.len());
 }
 
-fn expect_plain<NI: NodeIndex>(rt: &impl Abort, alloc: Global, state: u64) {
+fn expect_plain<NI: NodeIndex>(rt: &impl Abort, alloc: Global, state: u64)
+    requires { 71 < NI.MAX }
+{
     let mut numbers = Numbers::new(state);
     let space = Guarded::<NI>::with_max_allocs(alloc, 1_000, 70, REALM);
     let mut space = space.expect(rt, "memory");
