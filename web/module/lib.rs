@@ -275,7 +275,7 @@ impl<NI: NodeIndex> Play<NI> {
         out[3] = n;
     }
 
-    // Three numbers for each block, from the end of the space: its offset, its units, and the number of its grant, or 0.
+    // Three numbers for each block, from the end of the space: its offset, its units, and its grant's number, or 0.
     fn blocks(&self, words: &mut Vec<u32>) {
         for block in self.player.space.blocks() {
             let number = block.allocation.and_then(|a| self.grants.get(&Self::name(a)).copied());
