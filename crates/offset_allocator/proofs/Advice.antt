@@ -7,10 +7,10 @@ use Rattle.std.proofs.lemmas.List.Sums.{sum_by-cons}
 use Rattle.offset_allocator.specs.declared.reports.Refusal.{Refusal}
 use Rattle.offset_allocator.specs.declared.reports.Refusal.TheVariants.{Nodes, TooLarge, Space, Fragmented}
 use Rattle.offset_allocator.specs.Classes.{value, up, down}
-use Rattle.offset_allocator.specs.Named.{Block, View, free_sizes, names_at, push, push_all, IsWellFormed}
+use Rattle.offset_allocator.specs.View.{Block, View, free_sizes, bin_at, push, push_all, IsWellFormed}
 use Rattle.offset_allocator.specs.Relations.{IsFresh}
 use Rattle.offset_allocator.specs.Compacting.{Compacts, live, gathered}
-use Rattle.offset_allocator.specs.Promises.{CanGrant, HasRoomFor, IsWhy, block_needed}
+use Rattle.offset_allocator.specs.Requests.{CanGrant, HasRoomFor, IsWhy, block_needed}
 use Rattle.offset_allocator.proofs.Always.{adds_up}
 use Rattle.offset_allocator.proofs.Classes.{down_law, down_small, value_down, value_grows, up_reached}
 use Rattle.offset_allocator.proofs.Counting.{value_within_free}
@@ -23,18 +23,18 @@ use Rattle.offset_allocator.proofs.ViewOrders.{names_same, names_other}
 abbrev alone : ℕ → ℕ → List (List ℕ)
 alone x s = push (down s) x (replicate 256 [])
 
-alone_here : (x s : ℕ) → names_at (alone x s) (down s) ≡ x ∷ names_at (replicate 256 []) (down s)
-alone_here x s = names_same (replicate 256 []) (down s) (x ∷ names_at (replicate 256 []) (down s)) (length-replicate {A = List ℕ} 256 []) (down_small s)
+alone_here : (x s : ℕ) → bin_at (alone x s) (down s) ≡ x ∷ bin_at (replicate 256 []) (down s)
+alone_here x s = names_same (replicate 256 []) (down s) (x ∷ bin_at (replicate 256 []) (down s)) (length-replicate {A = List ℕ} 256 []) (down_small s)
 
 -- it serves requests for as many units as it has, rounded up to a class
-serves_alone : (x s n c : ℕ) → up n ≤ c → names_at (alone x s) c ≢ [] → (n ≤ value (up n)) × (value (up n) ≤ s)
+serves_alone : (x s n c : ℕ) → up n ≤ c → bin_at (alone x s) c ≢ [] → (n ≤ value (up n)) × (value (up n) ≤ s)
 serves_alone x s n c l some = elim (cases_eq c (down s)) [
   | inl e ↦ (up_reached n (omega (arith, down_small s, e, l)), omega (arith, value_grows (up n) (down s) (omega (arith, e, l)), value_down s))
-  | inr d ↦ absurd (some (names_other (replicate 256 []) (down s) c (x ∷ names_at (replicate 256 []) (down s)) d ∙ none_at c))
+  | inr d ↦ absurd (some (names_other (replicate 256 []) (down s) c (x ∷ bin_at (replicate 256 []) (down s)) d ∙ none_at c))
 ]
 
-alone_serves : (x s n : ℕ) → s < 2 ^ 32 → value (up n) ≤ s → (up n ≤ down s) × (names_at (alone x s) (down s) ≢ [])
-alone_serves x s n h l = ((down_law s (up n) h).1 l, λ e. let z : x ∷ names_at (replicate 256 []) (down s) ≡ [] = sym (alone_here x s) ∙ e in absurd (cc))
+alone_serves : (x s n : ℕ) → s < 2 ^ 32 → value (up n) ≤ s → (up n ≤ down s) × (bin_at (alone x s) (down s) ≢ [])
+alone_serves x s n h l = ((down_law s (up n) h).1 l, λ e. let z : x ∷ bin_at (replicate 256 []) (down s) ≡ [] = sym (alone_here x s) ∙ e in absurd (cc))
 
 -- where not even a request of no unit fits, no block is free
 nothing_below : (ns : List ℕ) → AllByRecursion (λ t. 8 * t < 9 * 0) ns → ns ≡ []
@@ -76,13 +76,13 @@ module _ (v : View) (w : IsWellFormed v) (blocks n : ℕ) (room : HasRoomFor blo
     makes_room (m ∷ ns) e l =
         let s : m + sum ns ≡ sum (free_sizes v.blocks) = sym (ap sum e ∙ sum_by-cons (λ (k : ℕ). k) m ns) in
         let t = alone_serves c.name (m + sum ns) n (omega (arith, s, free_within v w, w.fits)) (omega (arith, s, l)) in
-        (down (m + sum ns), t.0, subst (λ o. names_at o (down (m + sum ns)) ≢ []) (sym (bins_are ∙ ap (λ k. push_all (gathered c.name k) (replicate 256 [])) e)) t.1)
+        (down (m + sum ns), t.0, subst (λ o. bin_at o (down (m + sum ns)) ≢ []) (sym (bins_are ∙ ap (λ k. push_all (gathered c.name k) (replicate 256 [])) e)) t.1)
 
     needs_room : (CanGrant blocks n v → ⊥) → HasFit n u → (ns : List ℕ) → free_sizes v.blocks ≡ ns → block_needed n ≤ sum (free_sizes v.blocks)
-    needs_room none h [] e = absurd (h.2 (ap (λ o. names_at o h.0) (bins_are ∙ ap (λ k. push_all (gathered c.name k) (replicate 256 [])) e) ∙ none_at h.0))
+    needs_room none h [] e = absurd (h.2 (ap (λ o. bin_at o h.0) (bins_are ∙ ap (λ k. push_all (gathered c.name k) (replicate 256 [])) e) ∙ none_at h.0))
     needs_room none h (m ∷ ns) e =
         let s : m + sum ns ≡ sum (free_sizes v.blocks) = sym (ap sum e ∙ sum_by-cons (λ (k : ℕ). k) m ns) in
-        let l = serves_alone c.name (m + sum ns) n h.0 h.1 (subst (λ o. names_at o h.0 ≢ []) (bins_are ∙ ap (λ k. push_all (gathered c.name k) (replicate 256 [])) e) h.2) in
+        let l = serves_alone c.name (m + sum ns) n h.0 h.1 (subst (λ o. bin_at o h.0 ≢ []) (bins_are ∙ ap (λ k. push_all (gathered c.name k) (replicate 256 [])) e) h.2) in
         elim (cases_lt 0 (m + sum ns)) [
           | inl p ↦ omega (arith, s, l.1, p)
           | inr z ↦ absurd (no_units (omega (arith, z, l.0, l.1)) e)
@@ -97,12 +97,12 @@ module _ (v : View) (w : IsWellFormed v) (blocks n : ℕ) (room : HasRoomFor blo
   -- a fresh space of the same size
   pub fresh : (u : View) → IsFresh v.size v.max_allocs u → IsWhy blocks n v TooLarge ↔ (CanGrant blocks n u → ⊥)
   fresh u f = (
-    λ y g. absurd (omega (arith, y.1, (serves_alone f.name v.size n g.1.0 g.1.1 (subst (λ o. names_at o g.1.0 ≢ []) order g.1.2)).1)),
+    λ y g. absurd (omega (arith, y.1, (serves_alone f.name v.size n g.1.0 g.1.1 (subst (λ o. bin_at o g.1.0 ≢ []) order g.1.2)).1)),
     λ none. (
       room,
       elim (cases_lt v.size (value (up n))) [
         | inl l ↦ l
-        | inr l ↦ absurd (none (open_too, let t = alone_serves f.name v.size n (omega (arith, w.fits)) l in (down v.size, t.0, subst (λ o. names_at o (down v.size) ≢ []) (sym order) t.1)))
+        | inr l ↦ absurd (none (open_too, let t = alone_serves f.name v.size n (omega (arith, w.fits)) l in (down v.size, t.0, subst (λ o. bin_at o (down v.size) ≢ []) (sym order) t.1)))
       ],
     ),
   )

@@ -4,9 +4,9 @@ use Rattle.std.specs.List.{AllByRecursion}
 use Rattle.std.proofs.lemmas.List.Sums.{sum_by-cons}
 use Rattle.offset_allocator.specs.Classes.{value, up, down}
 use Rattle.offset_allocator.specs.Reports.{largest}
-use Rattle.offset_allocator.specs.Named.{Block, View, used_units, total_free, largest_free, units, free_sizes, free_block, IsApart, IsWellFormed, max_size}
+use Rattle.offset_allocator.specs.View.{Block, View, used_units, total_free, largest_free, units, free_sizes, free_block, IsApart, IsWellFormed, max_size}
 use Rattle.offset_allocator.specs.Relations.{IsFresh}
-use Rattle.offset_allocator.specs.Promises.{CanGrant}
+use Rattle.offset_allocator.specs.Requests.{CanGrant}
 use Rattle.offset_allocator.proofs.Taken.{fitting}
 use Rattle.offset_allocator.proofs.Classes.{down_law}
 use Rattle.offset_allocator.proofs.ViewTaken.{well_alone}

@@ -5,12 +5,12 @@ use Rattle.std.proofs.lemmas.Bool.Decides.{nat_tests}
 use Rattle.std.proofs.lemmas.List.{length-replicate, ext_get_or}
 use Rattle.offset_allocator.specs.Classes.{down}
 use Rattle.offset_allocator.specs.Cells.{Cells, Room}
-use Rattle.offset_allocator.specs.Named.{Block, View, Place, one, free_block, units, free_sizes, used_units, used_of, count_named, count_listed, names_at, push, push_all, IsApart, IsWellFormed, starts_free}
+use Rattle.offset_allocator.specs.View.{Block, View, Place, one, free_block, units, free_sizes, used_units, used_of, count_named, count_in_bin, bin_at, push, push_all, IsApart, IsWellFormed, starts_free}
 use Rattle.offset_allocator.specs.Compacting.{live, moves, move_of, first_free, gathered, Compacts}
 use Rattle.offset_allocator.specs.Relations.{SameSpace}
-use Rattle.offset_allocator.specs.Space.{HasPlace, blocks}
-use Rattle.offset_allocator.specs.Orders.{Binned, class_lists}
-use Rattle.offset_allocator.specs.State.{AreFiled, free_units}
+use Rattle.offset_allocator.specs.Chain.{HasPlace, blocks}
+use Rattle.offset_allocator.specs.Bins.{IsBinned, bins_in}
+use Rattle.offset_allocator.specs.Soundness.{AreInBins, free_units}
 use Rattle.offset_allocator.proofs.Always.{parted}
 use Rattle.offset_allocator.proofs.Emptied.{no_name, none_at}
 use Rattle.offset_allocator.proofs.Exchange.{each-le, there-below, unused}
@@ -47,7 +47,7 @@ live_append : (bs cs : List Block) → live (bs ++ cs) ≡ live bs ++ live cs
 live_append [] cs = refl
 live_append (b ∷ bs) cs = let ih = live_append bs cs in elim b.used as (λ u. (if u then b ∷ live (bs ++ cs) else live (bs ++ cs)) ≡ (if u then b ∷ live bs else live bs) ++ live cs) [ true ↦ ap (λ l. b ∷ l) ih | false ↦ ih ]
 
-none_listed : (bs : List Block) → AreUsed bs → (c x : ℕ) → count_listed c x bs ≡ 0
+none_listed : (bs : List Block) → AreUsed bs → (c x : ℕ) → count_in_bin c x bs ≡ 0
 none_listed [] h c x = refl
 none_listed (b ∷ bs) h c x = let ih = none_listed bs h.1 c x in omega (arith, ih, ap (λ (u : Bool). one (not u && (nat_eq c (down b.size) && nat_eq x b.name))) h.0)
 
@@ -74,8 +74,8 @@ apart_end [] d h = (elim d.used as (λ u. (not u && false) ≡ false) [ true ↦
 apart_end (b ∷ bs) d h = (ap (λ (u : Bool). not u && starts_free (bs ++ d ∷ [])) h.0, apart_end bs d h.1)
 
 -- bins with no block
-none_filed : (ls : List (List ℕ)) (bs : List Block) → length ls ≡ 256 → AreUsed bs → AreFiled bs ls → ls ≡ replicate 256 []
-none_filed ls bs long used f = ext_get_or [] ls _ (long ∙ sym (length-replicate {A = List ℕ} 256 [])) (λ c _. no_name (names_at ls c) (λ y. f c y ∙ none_listed bs used c y) ∙ sym (none_at c))
+none_filed : (ls : List (List ℕ)) (bs : List Block) → length ls ≡ 256 → AreUsed bs → AreInBins bs ls → ls ≡ replicate 256 []
+none_filed ls bs long used f = ext_get_or [] ls _ (long ∙ sym (length-replicate {A = List ℕ} 256 [])) (λ c _. no_name (bin_at ls c) (λ y. f c y ∙ none_listed bs used c y) ∙ sym (none_at c))
 
 -- the first free block
 pub record IsFirst (bs : List Block) (x : ℕ) : Type 0 where
@@ -166,7 +166,7 @@ module _ (f : Fields) (s : AreSound f) where
   v = shown f
 
   abbrev ls : List (List ℕ)
-  ls = class_lists f.max f.cells.links
+  ls = bins_in f.max f.cells.links
 
   w : IsWellFormed v
   w = well_counted (shown (record f { accesses = 0 })) f.accesses s.well
@@ -220,7 +220,7 @@ module _ (f : Fields) (s : AreSound f) where
               view = same ∙ ap₂ (λ (bs g : List Block). record v { blocks = bs ++ g; order = push_all g (replicate 256 []); accesses = u.accesses }) (sym o.live) (sym gathers);
             }
 
-        pub packs : {top accesses : ℕ} → Binned f.max d.links top → class_lists f.max d.links ≡ push (down size) hole (replicate 256 [])
+        pub packs : {top accesses : ℕ} → IsBinned f.max d.links top → bins_in f.max d.links ≡ push (down size) hole (replicate 256 [])
             → AreSound (record f { cells = d; last = last; count = count; top = top; accesses = accesses }) × Compacts (shown f) (shown (record f { cells = d; last = last; count = count; top = top; accesses = accesses }))
         packs {top} {accesses} bins lists =
             let done = stepped f s left_view d f.free accesses left_well refl there.chain refl bins lists

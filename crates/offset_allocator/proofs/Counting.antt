@@ -6,8 +6,8 @@ use Rattle.std.proofs.lemmas.List.{get_or_past}
 use Rattle.std.proofs.lemmas.List.Sums.{sum_by-cons}
 use Rattle.offset_allocator.specs.Classes.{value, up, down}
 use Rattle.offset_allocator.specs.Reports.{count_of, largest}
-use Rattle.offset_allocator.specs.Named.{Block, View, one, times, count_listed, names_at, free_sizes, IsWellFormed}
-use Rattle.offset_allocator.specs.Promises.{IsLargestClass}
+use Rattle.offset_allocator.specs.View.{Block, View, one, times, count_in_bin, bin_at, free_sizes, IsWellFormed}
+use Rattle.offset_allocator.specs.Requests.{IsLargestClass}
 use Rattle.offset_allocator.proofs.Classes.{down_small, value_down, value_grows, up_reached}
 use Rattle.offset_allocator.proofs.Walks.{drop_one}
 use Rattle.offset_allocator.proofs.Tallies.{one-same}
@@ -43,49 +43,49 @@ no_sizes [] h = refl
 no_sizes (n ∷ ns) h = absurd (omega (arith, h (down n) (down_small n), self_count n ns))
 
 -- ---- names by their classes
-length_listed : (c : ℕ) (bs : List Block) (xs : List ℕ) → ((x : ℕ) → times x xs ≡ count_listed c x bs) → length xs ≡ count_of c (free_sizes bs)
+length_listed : (c : ℕ) (bs : List Block) (xs : List ℕ) → ((x : ℕ) → times x xs ≡ count_in_bin c x bs) → length xs ≡ count_of c (free_sizes bs)
 length_listed c [] [] h = refl
 length_listed c [] (x ∷ xs) h = absurd (omega (arith, h x, one-same x))
-length_listed c (b ∷ bs) xs h = elim b.used as (λ u. ((x : ℕ) → times x xs ≡ one (not u && (nat_eq c (down b.size) && nat_eq x b.name)) + count_listed c x bs) → length xs ≡ count_of c (if u then free_sizes bs else b.size ∷ free_sizes bs)) [
+length_listed c (b ∷ bs) xs h = elim b.used as (λ u. ((x : ℕ) → times x xs ≡ one (not u && (nat_eq c (down b.size) && nat_eq x b.name)) + count_in_bin c x bs) → length xs ≡ count_of c (if u then free_sizes bs else b.size ∷ free_sizes bs)) [
   | true ↦ λ k. length_listed c bs xs (λ x. omega (arith, k x))
   | false ↦ λ k. elim (cases_eq (down b.size) c) [
     | inl e ↦
-        let named : (x : ℕ) → times x xs ≡ one (nat_eq x b.name) + count_listed c x bs = λ x. rw (eq-eqb c (down b.size) (sym e)) at (k x) in
+        let named : (x : ℕ) → times x xs ≡ one (nat_eq x b.name) + count_in_bin c x bs = λ x. rw (eq-eqb c (down b.size) (sym e)) at (k x) in
         let r = drop_one b.name xs (omega (arith, named b.name, one-same b.name)) in
         rw (eq-eqb (down b.size) c e) (omega (arith, r.1, length_listed c bs r.0 (λ x. omega (arith, named x, r.2 x))))
     | inr n ↦ rw (ne_eqb (down b.size) c n) (omega (arith, length_listed c bs xs (λ x. let j = rw (ne_eqb c (down b.size) (λ q. n (sym q))) at (k x) in omega arith)))
   ]
 ] h
 
-pub length_names : (v : View) → IsWellFormed v → (c : ℕ) → length (names_at v.order c) ≡ count_of c (free_sizes v.blocks)
-length_names v w c = length_listed c v.blocks (names_at v.order c) (w.orders c)
+pub length_names : (v : View) → IsWellFormed v → (c : ℕ) → length (bin_at v.order c) ≡ count_of c (free_sizes v.blocks)
+length_names v w c = length_listed c v.blocks (bin_at v.order c) (w.orders c)
 
 module _ (v : View) (w : IsWellFormed v) where
-  counted : (c : ℕ) → names_at v.order c ≢ [] → 1 ≤ count_of c (free_sizes v.blocks)
-  counted c n = go (names_at v.order c) n (length_names v w c)
+  counted : (c : ℕ) → bin_at v.order c ≢ [] → 1 ≤ count_of c (free_sizes v.blocks)
+  counted c n = go (bin_at v.order c) n (length_names v w c)
     where
       go : (xs : List ℕ) → xs ≢ [] → length xs ≡ count_of c (free_sizes v.blocks) → 1 ≤ count_of c (free_sizes v.blocks)
       go [] n e = absurd (n refl)
       go (x ∷ xs) n e = omega arith
 
-  uncounted : (c : ℕ) → names_at v.order c ≡ [] → count_of c (free_sizes v.blocks) ≡ 0
+  uncounted : (c : ℕ) → bin_at v.order c ≡ [] → count_of c (free_sizes v.blocks) ≡ 0
   uncounted c e = omega (arith, length_names v w c, ap (λ (l : List ℕ). length l) e)
 
   -- a class that holds n units has no name where fewer units are free
-  pub class_within : (n c : ℕ) → up n ≤ c → names_at v.order c ≢ [] → n ≤ sum (free_sizes v.blocks)
+  pub class_within : (n c : ℕ) → up n ≤ c → bin_at v.order c ≢ [] → n ≤ sum (free_sizes v.blocks)
   class_within n c l some = elim (cases_lt c 256) [
     | inl h ↦ omega (arith, up_reached n (omega arith), value_grows (up n) c l, (value_within c (free_sizes v.blocks) (counted c some)).1)
     | inr h ↦ absurd (some (get_or_past v.order c [] (omega (arith, w.classes))))
   ]
 
   -- a class that is large enough has no name where all free units are fewer than its smallest block
-  pub value_within_free : (n c : ℕ) → up n ≤ c → names_at v.order c ≢ [] → value (up n) ≤ sum (free_sizes v.blocks)
+  pub value_within_free : (n c : ℕ) → up n ≤ c → bin_at v.order c ≢ [] → value (up n) ≤ sum (free_sizes v.blocks)
   value_within_free n c l some = elim (cases_lt c 256) [
     | inl h ↦ omega (arith, value_grows (up n) c l, (value_within c (free_sizes v.blocks) (counted c some)).1)
     | inr h ↦ absurd (some (get_or_past v.order c [] (omega (arith, w.classes))))
   ]
 
-  pub largest_none : ((c : ℕ) → c < 256 → names_at v.order c ≡ []) → largest (free_sizes v.blocks) ≡ 0
+  pub largest_none : ((c : ℕ) → c < 256 → bin_at v.order c ≡ []) → largest (free_sizes v.blocks) ≡ 0
   largest_none e = no_sizes (free_sizes v.blocks) (λ d h. uncounted d (e d h))
 
   pub largest_some : (c : ℕ) → IsLargestClass v.order c → (largest (free_sizes v.blocks) ≡ value c) × (value c ≤ sum (free_sizes v.blocks))
@@ -96,7 +96,7 @@ module _ (v : View) (w : IsWellFormed v) where
 -- ---- how many names the classes below c have
 abbrev pub names_below : ℕ → List (List ℕ) → ℕ
 names_below zero order = 0
-names_below (suc c) order = names_below c order + length (names_at order c)
+names_below (suc c) order = names_below c order + length (bin_at order c)
 
 -- how many sizes are of the classes below c
 abbrev sizes_below : ℕ → List ℕ → ℕ

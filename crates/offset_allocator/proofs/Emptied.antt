@@ -4,9 +4,9 @@ use Rattle.std.proofs.Common.{◌≡◌, ℕ, ◌+◌, ◌*◌, append_assoc, �
 use Rattle.std.proofs.lemmas.List.{length-replicate, ext_get_or}
 use Rattle.std.proofs.lemmas.Bool.{cases_lt, false≢true, not-false}
 use Rattle.offset_allocator.specs.Classes.{down}
-use Rattle.offset_allocator.specs.Named.{Block, View, one, is_free, free_block, units, count_named, used_of, times, count_listed, names_at, push, IsApart, IsWellFormed, place_of, is_used_at}
+use Rattle.offset_allocator.specs.View.{Block, View, one, is_free, free_block, units, count_named, used_of, times, count_in_bin, bin_at, push, IsApart, IsWellFormed, place_of, is_used_at}
 use Rattle.offset_allocator.specs.Relations.{SameSpace, Frees, Resets}
-use Rattle.offset_allocator.specs.Space.{last_or}
+use Rattle.offset_allocator.specs.Chain.{last_or}
 use Rattle.offset_allocator.proofs.Ends.{Ended, ended, last_none}
 use Rattle.offset_allocator.proofs.Classes.{down_small}
 use Rattle.offset_allocator.specs.Ranges.{IsLive}
@@ -29,8 +29,8 @@ one_name x (z ∷ l) h = elim (hit_cases z x) [
   | inr f ↦ absurd (omega (arith, h z, one-same z, f.1))
 ]
 
-pub none_at : (c : ℕ) → names_at (replicate 256 []) c ≡ []
-none_at c = no_name (names_at (replicate 256 []) c) (λ y. replicate_none y c)
+pub none_at : (c : ℕ) → bin_at (replicate 256 []) c ≡ []
+none_at c = no_name (bin_at (replicate 256 []) c) (λ y. replicate_none y c)
 
 -- no block is used
 unused : (f : Bool) → one f ≡ 0 → f ≡ false
@@ -65,19 +65,19 @@ emptied v w u =
       | inl b ↦ b
       | inr b ↦ absurd (omega (arith, w.below x b, ap (count_named x) l.1, one-same x))
     ] in
-    let order : v.order ≡ push (down n) x (replicate 256 []) = ext_get_or [] v.order _ (w.classes ∙ sym (length_put (down n) x (replicate 256 []) ∙ length-replicate {A = List ℕ} 256 [])) (λ c _. same_at v.order x n c (λ y. w.orders c y ∙ ap (count_listed c y) l.1)) in
+    let order : v.order ≡ push (down n) x (replicate 256 []) = ext_get_or [] v.order _ (w.classes ∙ sym (length_put (down n) x (replicate 256 []) ∙ length-replicate {A = List ℕ} 256 [])) (λ c _. same_at v.order x n c (λ y. w.orders c y ∙ ap (count_in_bin c y) l.1)) in
     (x, below, ap₂ (λ (bs : List Block) (o : List (List ℕ)). record v { blocks = bs; order = o }) l.1 order ∙ ap (λ (k : ℕ). record v { blocks = free_block x k ∷ []; order = push (down k) x (replicate 256 []) }) sized)
   where
-    same_at : (order : List (List ℕ)) (x n c : ℕ) → ((y : ℕ) → times y (names_at order c) ≡ count_listed c y (free_block x n ∷ [])) → names_at order c ≡ names_at (push (down n) x (replicate 256 [])) c
+    same_at : (order : List (List ℕ)) (x n c : ℕ) → ((y : ℕ) → times y (bin_at order c) ≡ count_in_bin c y (free_block x n ∷ [])) → bin_at order c ≡ bin_at (push (down n) x (replicate 256 [])) c
     same_at order x n c h =
         let long = length-replicate {A = List ℕ} 256 [] in
         elim (hit_cases c (down n)) [
           | inl f ↦
-              one_name x (names_at order c) (λ y. h y ∙ (let k = hit_at c (down n) y x f.0 in omega arith))
-              ∙ sym (ap (names_at (push (down n) x (replicate 256 []))) f.0 ∙ names_same (replicate 256 []) (down n) (x ∷ names_at (replicate 256 []) (down n)) long (down_small n) ∙ ap (λ (l : List ℕ). x ∷ l) (none_at (down n)))
+              one_name x (bin_at order c) (λ y. h y ∙ (let k = hit_at c (down n) y x f.0 in omega arith))
+              ∙ sym (ap (bin_at (push (down n) x (replicate 256 []))) f.0 ∙ names_same (replicate 256 []) (down n) (x ∷ bin_at (replicate 256 []) (down n)) long (down_small n) ∙ ap (λ (l : List ℕ). x ∷ l) (none_at (down n)))
           | inr f ↦
-              no_name (names_at order c) (λ y. h y ∙ (let k = hit_other c (down n) y x f.0 in omega arith))
-              ∙ sym (names_other (replicate 256 []) (down n) c (x ∷ names_at (replicate 256 []) (down n)) f.0 ∙ none_at c)
+              no_name (bin_at order c) (λ y. h y ∙ (let k = hit_other c (down n) y x f.0 in omega arith))
+              ∙ sym (names_other (replicate 256 []) (down n) c (x ∷ bin_at (replicate 256 []) (down n)) f.0 ∙ none_at c)
         ]
 
 -- where the last block is free

@@ -4,7 +4,7 @@ use Rattle.std.proofs.lemmas.List.{get_or_past, length-map, length-set, map-set,
 use Rattle.std.specs.Vec.{with_item}
 use Rattle.std.proofs.Math.Seq.{map-set_same}
 use Rattle.offset_allocator.specs.Cells.{Cells, Node, blank, mark_of, node, put, AreShaped}
-use Rattle.offset_allocator.specs.View.{node_of, nodes_of, cells_of, AreEven}
+use Rattle.offset_allocator.specs.Layouts.{node_of, nodes_of, cells_of, AreEven}
 use Rattle.offset_allocator.specs.declared.entry.Node.{Node as Entry}
 use Rattle.offset_allocator.specs.declared.tables.Tables.TheInside.{Inside}
 

@@ -4,8 +4,8 @@ use Rattle.std.proofs.lemmas.List.{take_more, take_more_set}
 use Rattle.std.proofs.lemmas.Bool.{cases_eq, cases_lt}
 use Rattle.std.proofs.lemmas.Bool.Decides.{nat_tests}
 use Rattle.offset_allocator.specs.Cells.{Room, Node, node, put}
-use Rattle.offset_allocator.specs.Space.{first_or, last_or, IsRow, IsChain, spares}
-use Rattle.offset_allocator.specs.Named.{Block, units, count_named, times, one}
+use Rattle.offset_allocator.specs.Chain.{first_or, last_or, IsRow, IsChain, spares}
+use Rattle.offset_allocator.specs.View.{Block, units, count_named, times, one}
 use Rattle.offset_allocator.proofs.Nodes.{node-put, node-put_other, length-put, spare-put, reserved-put}
 use Rattle.offset_allocator.proofs.Tallies.{one-same, times-join, times-append, units-append}
 use Rattle.offset_allocator.proofs.Rows.{times-first, times-end, first_or-append, last_or-append, IsRow-front, IsRow-back, IsRow-append, IsRow-kept, IsRow-moved, IsRow-aimed}

@@ -4,13 +4,13 @@ use Rattle.std.proofs.lemmas.Bool.{true≢false, false≢true}
 use Rattle.offset_allocator.specs.Classes.{down}
 use Rattle.offset_allocator.specs.Cells.{Cells, Room, Node, node}
 use Rattle.std.specs.List.{AllByRecursion}
-use Rattle.offset_allocator.specs.Named.{Block, View, count_named, names_at, count_listed, is_free, IsApart, IsWellFormed, IsNew, free_block, units, replace, remove_all, push, remove, without, times, ends_used}
-use Rattle.offset_allocator.specs.Promises.{HasRoomFor}
+use Rattle.offset_allocator.specs.View.{Block, View, count_named, bin_at, count_in_bin, is_free, IsApart, IsWellFormed, IsNew, free_block, units, replace, remove_all, push, remove, without, times, ends_used}
+use Rattle.offset_allocator.specs.Requests.{HasRoomFor}
 use Rattle.offset_allocator.specs.Ranges.{KeepsAll}
 use Rattle.offset_allocator.specs.Relations.{Adds, CanExtend, Extends}
-use Rattle.offset_allocator.specs.Space.{IsChain, HasPlace, blocks}
-use Rattle.offset_allocator.specs.Orders.{Among, IsUnlisted, class_lists, Binned}
-use Rattle.offset_allocator.specs.State.{free_units}
+use Rattle.offset_allocator.specs.Chain.{IsChain, HasPlace, blocks}
+use Rattle.offset_allocator.specs.Bins.{Among, IsUnlisted, bins_in, IsBinned}
+use Rattle.offset_allocator.specs.Soundness.{free_units}
 use Rattle.offset_allocator.proofs.Sound.{Fields, AreSound, shown, well_counted, well_same}
 use Rattle.offset_allocator.proofs.Ends.{Ended, ended}
 use Rattle.offset_allocator.proofs.Places.{at_place, end_place}
@@ -77,7 +77,7 @@ module _ {it : Fields} {more : ℕ} {used : Bool} (r : Growth it more used) wher
   bs = blocks it.cells.room it.last
 
   abbrev ls : List (List ℕ)
-  ls = class_lists it.max it.cells.links
+  ls = bins_in it.max it.cells.links
 
   w : IsWellFormed v
   w = well_counted (shown (record it { accesses = 0 })) it.accesses s.well
@@ -118,8 +118,8 @@ module _ {it : Fields} {more : ℕ} {used : Bool} (r : Growth it more used) wher
 
   grown : (d : Cells) {last count top : ℕ} (k x : ℕ) (before old : List Block) → bs ≡ before ++ old → ends_free before ≡ false → AllByRecursion (λ b. b.used ≡ false) old → AllByRecursion (λ b. b.name ≡ x) old
       → (1 ≤ count_named x old) ⊎ IsNew x v → (1 ≤ length old) ⊎ (length bs + 1 < it.limit) → (old ≡ [] → IsNew x v)
-      → IsChain d.room it.cells.room.reserved last count (before ++ free_block x (units old + more) ∷ []) → Binned it.max d.links top
-      → class_lists it.max d.links ≡ push (down (units old + more)) x (remove_all old ls) → Grown d last count top k
+      → IsChain d.room it.cells.room.reserved last count (before ++ free_block x (units old + more) ∷ []) → IsBinned it.max d.links top
+      → bins_in it.max d.links ≡ push (down (units old + more)) x (remove_all old ls) → Grown d last count top k
   grown d {last} {count} {top} k x before old e closed idle named name spare new chain bins lists =
       let left_view : View = record (replace v before old (free_block x (units old + more) ∷ []) []) { size = v.size + more } in
       let well = well_added v w more x before old e closed name spare r.fits in
@@ -134,12 +134,12 @@ module _ {it : Fields} {more : ℕ} (r : Growth it more true) where
   pub split_fits : (y n : ℕ) → n ≡ (node it.cells.room it.last).size → units ((end r).front ++ record (end r).last { size = n } ∷ free_block y ((end r).last.size - n) ∷ []) + more < 2 ^ 32
   split_fits y n e = omega (arith, e, size_at_end r, units_fit r, ap units (end r).is, units-append (end r).front ((end r).last ∷ []), units-append (end r).front (record (end r).last { size = n } ∷ free_block y ((end r).last.size - n) ∷ []))
 
-  pub append_unlisted : (y : ℕ) → count_named y ((end r).front ++ (end r).last ∷ []) ≡ 0 → IsUnlisted y (class_lists it.max it.cells.links)
+  pub append_unlisted : (y : ℕ) → count_named y ((end r).front ++ (end r).last ∷ []) ≡ 0 → IsUnlisted y (bins_in it.max it.cells.links)
   append_unlisted y e = unused_unlisted (shown it) (w r) y (ap (count_named y) (end r).is ∙ e)
 
   pub appended : (d : Cells) (k : ℕ) {last count top y n : ℕ} → HasRoomFor 1 (shown it) → n ≡ (node it.cells.room it.last).size
-      → IsChain d.room it.cells.room.reserved last count (((end r).front ++ record (end r).last { size = n } ∷ []) ++ free_block y (((end r).last.size - n) + more) ∷ []) → Binned it.max d.links top
-      → class_lists it.max d.links ≡ push (down more) y (class_lists it.max it.cells.links) → count_named y ((end r).front ++ (end r).last ∷ []) ≡ 0 → y < length it.cells.room.nodes → Grown r d last count top k
+      → IsChain d.room it.cells.room.reserved last count (((end r).front ++ record (end r).last { size = n } ∷ []) ++ free_block y (((end r).last.size - n) + more) ∷ []) → IsBinned it.max d.links top
+      → bins_in it.max d.links ≡ push (down more) y (bins_in it.max it.cells.links) → count_named y ((end r).front ++ (end r).last ∷ []) ≡ 0 → y < length it.cells.room.nodes → Grown r d last count top k
   appended d k {y = y} {n = n} room e chain bins eo new below =
       let whole : n ≡ (end r).last.size = e ∙ size_at_end r in
       let none : (end r).last.size - (end r).last.size ≡ 0 = omega arith in
@@ -152,29 +152,29 @@ module _ {it : Fields} {more : ℕ} (r : Growth it more true) where
 module _ {it : Fields} {more : ℕ} (r : Growth it more false) where
   -- its name leaves its bin
   abbrev pub widen_left : List (List ℕ)
-  widen_left = slice_set (class_lists it.max it.cells.links) (down (node it.cells.room it.last).size) (without it.last (names_at (class_lists it.max it.cells.links) (down (node it.cells.room it.last).size)))
+  widen_left = slice_set (bins_in it.max it.cells.links) (down (node it.cells.room it.last).size) (without it.last (bin_at (bins_in it.max it.cells.links) (down (node it.cells.room it.last).size)))
 
-  is_left : widen_left ≡ remove_all ((end r).last ∷ []) (class_lists it.max it.cells.links)
-  is_left = rw (size_at_end r) (sym (remove_free (end r).last (class_lists it.max it.cells.links) (b_used r) ∙ ap (λ i. remove (down (end r).last.size) i (class_lists it.max it.cells.links)) (end r).name))
+  is_left : widen_left ≡ remove_all ((end r).last ∷ []) (bins_in it.max it.cells.links)
+  is_left = rw (size_at_end r) (sym (remove_free (end r).last (bins_in it.max it.cells.links) (b_used r) ∙ ap (λ i. remove (down (end r).last.size) i (bins_in it.max it.cells.links)) (end r).name))
 
-  pub widen_listed : Among it.last (names_at (class_lists it.max it.cells.links) (down (node it.cells.room it.last).size))
+  pub widen_listed : Among it.last (bin_at (bins_in it.max it.cells.links) (down (node it.cells.room it.last).size))
   widen_listed =
       let k : ℕ = down (node it.cells.room it.last).size in
       let there = counts_once (end_held r refl) (ap (λ (n : Node). n.used) (at_place (end_held r refl)) ∙ b_used r) in
-      omega (arith, there, (w r).orders k it.last, ap (count_listed k it.last) (end r).is, tally_append (share k it.last) (end r).front ((end r).last ∷ []))
+      omega (arith, there, (w r).orders k it.last, ap (count_in_bin k it.last) (end r).is, tally_append (share k it.last) (end r).front ((end r).last ∷ []))
 
   pub widen_unlisted : IsUnlisted it.last widen_left
   widen_unlisted d dh a =
-      let l : List (List ℕ) = class_lists it.max it.cells.links in
+      let l : List (List ℕ) = bins_in it.max it.cells.links in
       let bs : List Block = blocks it.cells.room it.last in
       let known = w r in
-      let split : (k y : ℕ) → count_listed k y bs ≡ count_listed k y (end r).front + count_listed k y ((end r).last ∷ []) = λ k y. ap (count_listed k y) (end r).is ∙ tally_append (share k y) (end r).front ((end r).last ∷ []) in
+      let split : (k y : ℕ) → count_in_bin k y bs ≡ count_in_bin k y (end r).front + count_in_bin k y ((end r).last ∷ []) = λ k y. ap (count_in_bin k y) (end r).is ∙ tally_append (share k y) (end r).front ((end r).last ∷ []) in
       let left = times_remove_all ((end r).last ∷ []) l known.classes (λ k y. omega (arith, known.orders k y, known.distinct y, listed_named k y bs)) (λ k y. omega (arith, known.orders k y, split k y)) d it.last in
       let alone : count_named it.last (end r).front ≡ 0 = omega (arith, known.distinct it.last, ap (count_named it.last) (end r).is, times-append it.last (end r).front ((end r).last ∷ []), one-eq it.last (end r).last.name (end r).name) in
-      let there : 1 ≤ times it.last (names_at (remove_all ((end r).last ∷ []) l) d) = rw is_left at a in omega (arith, there, left, known.orders d it.last, split d it.last, listed_named d it.last (end r).front, alone)
+      let there : 1 ≤ times it.last (bin_at (remove_all ((end r).last ∷ []) l) d) = rw is_left at a in omega (arith, there, left, known.orders d it.last, split d it.last, listed_named d it.last (end r).front, alone)
 
-  pub widened : (d : Cells) (k : ℕ) {count top : ℕ} → IsChain d.room it.cells.room.reserved it.last count ((end r).front ++ record (end r).last { size = (end r).last.size + more } ∷ []) → Binned it.max d.links top
-      → class_lists it.max d.links ≡ push (down ((node it.cells.room it.last).size + more)) it.last widen_left → Grown r d it.last count top k
+  pub widened : (d : Cells) (k : ℕ) {count top : ℕ} → IsChain d.room it.cells.room.reserved it.last count ((end r).front ++ record (end r).last { size = (end r).last.size + more } ∷ []) → IsBinned it.max d.links top
+      → bins_in it.max d.links ≡ push (down ((node it.cells.room it.last).size + more)) it.last widen_left → Grown r d it.last count top k
   widened d k chain bins eo =
       let size_is : (node it.cells.room it.last).size ≡ units ((end r).last ∷ []) = omega (arith, size_at_end r) in
       let sum : (end r).last.size + more ≡ units ((end r).last ∷ []) + more = omega arith in

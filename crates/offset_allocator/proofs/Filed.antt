@@ -2,17 +2,17 @@
 use Rattle.std.proofs.Common.{◌≡◌, ℕ, ◌+◌, ◌≤◌, Bool, true, false, ◌&&◌, Some, None, List, [], ◌∷◌, ◌++◌, length, nat_eq, refl, sym, ap, ◌∙◌, arith, inl, inr}
 use Rattle.offset_allocator.specs.Classes.{down}
 use Rattle.offset_allocator.specs.Cells.{Room, Node, node}
-use Rattle.offset_allocator.specs.Named.{Block, Place, one, is_free, count_named, count_listed, names_at, free_end, without_end, free_start, without_start, remove_all}
-use Rattle.offset_allocator.specs.Space.{HasPlace, first_or}
-use Rattle.offset_allocator.specs.Orders.{Among, IsUnlisted}
-use Rattle.offset_allocator.specs.State.{AreFiled, AreUnlisted}
+use Rattle.offset_allocator.specs.View.{Block, Place, one, is_free, count_named, count_in_bin, bin_at, free_end, without_end, free_start, without_start, remove_all}
+use Rattle.offset_allocator.specs.Chain.{HasPlace, first_or}
+use Rattle.offset_allocator.specs.Bins.{Among, IsUnlisted}
+use Rattle.offset_allocator.specs.Soundness.{AreInBins, AreUnlisted}
 use Rattle.offset_allocator.proofs.Exchange.{each-le}
 use Rattle.offset_allocator.proofs.Places.{at_place, next_place, previous_place}
 use Rattle.offset_allocator.proofs.Tallies.{listed_named, tally_append, hit_cases, one-eq, times-append}
 use Rattle.offset_allocator.proofs.ViewOrders.{times_remove_all}
 use Rattle.offset_allocator.proofs.ViewTaken.{tally_end, tally_start}
 
--- the sum that `count_listed` takes, of one block
+-- the sum that `count_in_bin` takes, of one block
 abbrev pub share : ℕ → ℕ → Block → ℕ
 share k y b = one (is_free b && (nat_eq k (down b.size) && nat_eq y b.name))
 
@@ -29,35 +29,35 @@ counts_once {c} {y = y} {p = p} h u =
 pub few : {c : Room} {m last count x : ℕ} {p : Place} → HasPlace c m last count x p → (y : ℕ) → count_named y (p.before ++ p.after) + one (nat_eq y p.block.name) ≤ 1
 few {c} {m} {last} {count} {p = p} h y = omega (arith, each-le c m last count _ h.chain y, times-append y p.before p.after, times-append y p.before (p.block ∷ p.after))
 
-module _ {c : Room} {m last count x : ℕ} {p : Place} (h : HasPlace c m last count x p) (ls : List (List ℕ)) (f : AreFiled (p.before ++ p.after) ls) where
+module _ {c : Room} {m last count x : ℕ} {p : Place} (h : HasPlace c m last count x p) (ls : List (List ℕ)) (f : AreInBins (p.before ++ p.after) ls) where
   pub unlisted : IsUnlisted x ls
   unlisted k b a = omega (arith, f k x, listed_named k x (p.before ++ p.after), few h x, one-eq x p.block.name h.name)
 
   -- the free blocks beside it are in their bins
-  pub previous_filed : {y : ℕ} → Some y ≡ (node c x).before → (node c y).used ≡ false → Among y (names_at ls (down (node c y).size))
+  pub previous_filed : {y : ℕ} → Some y ≡ (node c x).before → (node c y).used ≡ false → Among y (bin_at ls (down (node c y).size))
   previous_filed {y} e u =
       let n = previous_place h e in
       let k : ℕ = down (node c y).size in
-      omega (arith, f k y, tally_append (share k y) p.before p.after, ap (count_listed k y) n.is, tally_append (share k y) n.front (n.block ∷ []), counts_once n.place u)
+      omega (arith, f k y, tally_append (share k y) p.before p.after, ap (count_in_bin k y) n.is, tally_append (share k y) n.front (n.block ∷ []), counts_once n.place u)
 
-  pub next_filed : {y : ℕ} → Some y ≡ (node c x).after → (node c y).used ≡ false → Among y (names_at ls (down (node c y).size))
+  pub next_filed : {y : ℕ} → Some y ≡ (node c x).after → (node c y).used ≡ false → Among y (bin_at ls (down (node c y).size))
   next_filed {y} e u =
       let n = next_place h e in
       let k : ℕ = down (node c y).size in
-      omega (arith, f k y, tally_append (share k y) p.before p.after, ap (count_listed k y) n.is, counts_once n.place u)
+      omega (arith, f k y, tally_append (share k y) p.before p.after, ap (count_in_bin k y) n.is, counts_once n.place u)
 
   -- a free block before it leaves its bin
-  pub filed_before : length ls ≡ 256 → AreFiled (without_end p.before ++ p.after) (remove_all (free_end p.before) ls)
+  pub filed_before : length ls ≡ 256 → AreInBins (without_end p.before ++ p.after) (remove_all (free_end p.before) ls)
   filed_before long k y =
-      let parts : (k y : ℕ) → count_listed k y (p.before ++ p.after) ≡ (count_listed k y (without_end p.before) + count_listed k y (free_end p.before)) + count_listed k y p.after = λ k y. omega (arith, tally_append (share k y) p.before p.after, tally_end (share k y) p.before) in
+      let parts : (k y : ℕ) → count_in_bin k y (p.before ++ p.after) ≡ (count_in_bin k y (without_end p.before) + count_in_bin k y (free_end p.before)) + count_in_bin k y p.after = λ k y. omega (arith, tally_append (share k y) p.before p.after, tally_end (share k y) p.before) in
       let left = times_remove_all (free_end p.before) ls long (λ k y. omega (arith, f k y, listed_named k y (p.before ++ p.after), few h y)) (λ k y. omega (arith, f k y, parts k y)) in
       omega (arith, f k y, parts k y, left k y, tally_append (share k y) (without_end p.before) p.after)
 
 -- and so does one after it
-module _ {c : Room} {m last count x : ℕ} {p : Place} (h : HasPlace c m last count x p) (ls : List (List ℕ)) (f : AreFiled (p.before ++ p.after) ls) (long : length ls ≡ 256) where
-  pub filed_after : AreFiled (p.before ++ without_start p.after) (remove_all (free_start p.after) ls)
+module _ {c : Room} {m last count x : ℕ} {p : Place} (h : HasPlace c m last count x p) (ls : List (List ℕ)) (f : AreInBins (p.before ++ p.after) ls) (long : length ls ≡ 256) where
+  pub filed_after : AreInBins (p.before ++ without_start p.after) (remove_all (free_start p.after) ls)
   filed_after k y =
-      let parts : (k y : ℕ) → count_listed k y (p.before ++ p.after) ≡ count_listed k y p.before + (count_listed k y (free_start p.after) + count_listed k y (without_start p.after)) = λ k y. omega (arith, tally_append (share k y) p.before p.after, tally_start (share k y) p.after) in
+      let parts : (k y : ℕ) → count_in_bin k y (p.before ++ p.after) ≡ count_in_bin k y p.before + (count_in_bin k y (free_start p.after) + count_in_bin k y (without_start p.after)) = λ k y. omega (arith, tally_append (share k y) p.before p.after, tally_start (share k y) p.after) in
       let left = times_remove_all (free_start p.after) ls long (λ k y. omega (arith, f k y, listed_named k y (p.before ++ p.after), few h y)) (λ k y. omega (arith, f k y, parts k y)) in
       omega (arith, f k y, parts k y, left k y, tally_append (share k y) p.before (without_start p.after))
 

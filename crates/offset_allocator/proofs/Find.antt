@@ -6,9 +6,9 @@ use Rattle.std.specs.Int.Count.{count_trailing_zeros, count_leading_zeros}
 use Rattle.std.proofs.lemmas.Nat.{pow_pos, leading_top, le-div, div_below, div-mul-add, mod-mul-add, and_le_l}
 use Rattle.std.proofs.lemmas.Nat.Bits.{bit_at_above, bit_at-zero, bit_at-trailing_zeros, bit_at_and, bit_at_mask_inside, bit_at_mask_below, bit_at-lt, ones_shl}
 use Rattle.std.proofs.lemmas.Bool.{cases_lt, cases_eq}
-use Rattle.offset_allocator.specs.Named.{names_at}
-use Rattle.offset_allocator.specs.Orders.{flag, mark, IsSmallestFrom, Masked}
-use Rattle.offset_allocator.specs.Promises.{IsLargestClass}
+use Rattle.offset_allocator.specs.View.{bin_at}
+use Rattle.offset_allocator.specs.Bins.{flag, mark, IsSmallestFrom, AreMasks}
+use Rattle.offset_allocator.specs.Requests.{IsLargestClass}
 
 -- the lowest bit of a word at or above a place, as code finds it: `(n & (MAX << k)).trailing_zeros()`
 module _ (w : Width) (n k : ℕ) (small : n < 2 ^ bits w) (within : k ≤ bits w) where
@@ -48,21 +48,21 @@ highest_bit k n p h =
     let is : n / 2 ^ j ≡ 1 = omega arith in
     (j, q, ap (λ x. x % 2) is, λ i l. bit_at_above n (suc j) i high (omega arith))
 
-module _ {ls : List (List ℕ)} {masks : List ℕ} {top : ℕ} (k : Masked ls masks top) where
+module _ {ls : List (List ℕ)} {masks : List ℕ} {top : ℕ} (k : AreMasks ls masks top) where
   -- a class whose bit is 0, or whose word's bit is 0, has no name
-  clear : (c : ℕ) → c < 256 → bit_at (slice_index masks (c / 64)) (c % 64) ≡ 0 → names_at ls c ≡ []
-  clear c h z = go (names_at ls c) (sym (k.bits c h) ∙ z)
+  clear : (c : ℕ) → c < 256 → bit_at (slice_index masks (c / 64)) (c % 64) ≡ 0 → bin_at ls c ≡ []
+  clear c h z = go (bin_at ls c) (sym (k.bits c h) ∙ z)
     where
       go : (xs : List ℕ) → flag xs ≡ 0 → xs ≡ []
       go [] e = refl
       go (x ∷ xs) e = absurd (omega arith)
 
-  clear_word : (c : ℕ) → c < 256 → bit_at top (c / 64) ≡ 0 → names_at ls c ≡ []
+  clear_word : (c : ℕ) → c < 256 → bit_at top (c / 64) ≡ 0 → bin_at ls c ≡ []
   clear_word c h z =
       let e : slice_index masks (c / 64) ≡ 0 = elim (cases_eq (slice_index masks (c / 64)) 0) [ inl e ↦ e | inr n ↦ absurd (let m : mark (slice_index masks (c / 64)) ≡ 1 = rw (ne_eqb _ 0 n) in omega (arith, k.tops (c / 64) (omega arith))) ] in
       clear c h (rw e (bit_at-zero (c % 64)))
 
-  full : (w t : ℕ) → w < 4 → t < 64 → bit_at (slice_index masks w) t ≡ 1 → names_at ls (w * 64 + t) ≡ [] → ⊥
+  full : (w t : ℕ) → w < 4 → t < 64 → bit_at (slice_index masks w) t ≡ 1 → bin_at ls (w * 64 + t) ≡ [] → ⊥
   full w t a b z e =
       let one : bit_at (slice_index masks ((w * 64 + t) / 64)) ((w * 64 + t) % 64) ≡ 1 = rw (div-mul-add w 64 t b, mod-mul-add w 64 t b) z in
       let f = ap flag e in omega (arith, k.bits (w * 64 + t) (omega arith))
@@ -92,12 +92,12 @@ module _ {ls : List (List ℕ)} {masks : List ℕ} {top : ℕ} (k : Masked ls ma
       top_low : top < 2 ^ 32
       top_low = omega (arith, k.top_small)
 
-      rest_clear : (d : ℕ) → c ≤ d → d / 64 < c / 64 + 1 → names_at ls d ≡ []
+      rest_clear : (d : ℕ) → c ≤ d → d / 64 < c / 64 + 1 → bin_at ls d ≡ []
       rest_clear d l h =
           let e : d / 64 ≡ c / 64 = omega arith in
           clear d (omega arith) (rw (e, ← ve) (none_from w64 v (c % 64) v_small (omega arith) (rw re at z) (d % 64) (omega arith) (omega arith)))
 
-      pub nowhere : ws ≡ 0 → (d : ℕ) → c ≤ d → d < 256 → names_at ls d ≡ []
+      pub nowhere : ws ≡ 0 → (d : ℕ) → c ≤ d → d < 256 → bin_at ls d ≡ []
       nowhere y d l h = elim (cases_lt (d / 64) (c / 64 + 1)) [
         | inl s ↦ rest_clear d l s
         | inr s ↦ clear_word d h (none_from w32 top (c / 64 + 1) top_low (omega arith) (rw we at y) (d / 64) s (omega arith))
@@ -129,7 +129,7 @@ module _ {ls : List (List ℕ)} {masks : List ℕ} {top : ℕ} (k : Masked ls ma
             )
 
   -- ---- the largest one
-  pub none_at_all : top ≡ 0 → (c : ℕ) → c < 256 → names_at ls c ≡ []
+  pub none_at_all : top ≡ 0 → (c : ℕ) → c < 256 → bin_at ls c ≡ []
   none_at_all e c h = clear_word c h (rw e (bit_at-zero (c / 64)))
 
   module _ (some : top ≢ 0) where

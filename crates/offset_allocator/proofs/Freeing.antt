@@ -3,10 +3,10 @@ use Rattle.std.proofs.Common.{◌≡◌, ℕ, ◌+◌, ◌<◌, ◌^◌, Bool, t
 use Rattle.std.proofs.lemmas.Bool.{false≢true}
 use Rattle.offset_allocator.specs.Classes.{down}
 use Rattle.offset_allocator.specs.Cells.{Cells}
-use Rattle.offset_allocator.specs.Named.{Block, View, Place, one, count_named, count_listed, IsWellFormed, units, place_of, is_used_at, free_end, without_end, free_start, without_start, remove_all, push, free_block, replace, IsApart, remove}
-use Rattle.offset_allocator.specs.Space.{IsChain, HasPlace, blocks}
-use Rattle.offset_allocator.specs.Orders.{class_lists, Binned}
-use Rattle.offset_allocator.specs.State.{IsSound, view_of, free_units, AreFiled}
+use Rattle.offset_allocator.specs.View.{Block, View, Place, one, count_named, count_in_bin, IsWellFormed, units, place_of, is_used_at, free_end, without_end, free_start, without_start, remove_all, push, free_block, replace, IsApart, remove}
+use Rattle.offset_allocator.specs.Chain.{IsChain, HasPlace, blocks}
+use Rattle.offset_allocator.specs.Bins.{bins_in, IsBinned}
+use Rattle.offset_allocator.specs.Soundness.{IsSound, view_of, free_units, AreInBins}
 use Rattle.offset_allocator.proofs.Filed.{share}
 use Rattle.offset_allocator.proofs.Sound.{Fields, AreSound, shown, well_counted}
 use Rattle.offset_allocator.proofs.Places.{located}
@@ -78,7 +78,7 @@ module _ {f : Fields} {x : ℕ} (r : Release f x) where
   bs = blocks c.room last
 
   abbrev ls : List (List ℕ)
-  ls = class_lists max c.links
+  ls = bins_in max c.links
 
   pub w : IsWellFormed (shown f)
   w = well_counted (shown (record f { accesses = 0 })) f.accesses s.well
@@ -109,18 +109,18 @@ module _ {f : Fields} {x : ℕ} (r : Release f x) where
       omega (arith, s.total, t, u, free_most fs, free_most cs, s.space.fits)
 
   -- the bins hold the other free blocks
-  pub filed : AreFiled (at.place.before ++ at.place.after) (class_lists f.max f.cells.links)
-  filed k y = omega (arith, w.orders k y, ap (count_listed k y) at.stood, tally_append (share k y) fs (b ∷ cs), share_used k y b used, tally_append (share k y) fs cs)
+  pub filed : AreInBins (at.place.before ++ at.place.after) (bins_in f.max f.cells.links)
+  filed k y = omega (arith, w.orders k y, ap (count_in_bin k y) at.stood, tally_append (share k y) fs (b ∷ cs), share_used k y b used, tally_append (share k y) fs cs)
 
   -- the size of the whole block, and the bins without the blocks that are coalesced into it
   abbrev pub whole : ℕ
   whole = (units (free_end at.place.before) + at.place.block.size) + units (free_start at.place.after)
 
   abbrev pub left : List (List ℕ)
-  left = remove_all (free_start at.place.after) (remove_all (free_end at.place.before) (class_lists f.max f.cells.links))
+  left = remove_all (free_start at.place.after) (remove_all (free_end at.place.before) (bins_in f.max f.cells.links))
 
-  pub freed : (d : Cells) (last' count' top' acc' : ℕ) → IsChain d.room f.cells.room.reserved last' count' (without_end at.place.before ++ free_block at.place.block.name whole ∷ without_start at.place.after) → Binned max d.links top'
-      → class_lists f.max d.links ≡ push (down whole) x left
+  pub freed : (d : Cells) (last' count' top' acc' : ℕ) → IsChain d.room f.cells.room.reserved last' count' (without_end at.place.before ++ free_block at.place.block.name whole ∷ without_start at.place.after) → IsBinned max d.links top'
+      → bins_in f.max d.links ≡ push (down whole) x left
       → IsSound f.max f.size f.limit d last' count' top' (f.free + at.place.block.size) × Frees x (shown f) (view_of f.max f.size f.limit d last' acc')
   freed d last' count' top' acc' chain bins eo =
       let gone : List Block = free_end fs ++ (b ∷ free_start cs) in

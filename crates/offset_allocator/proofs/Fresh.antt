@@ -6,10 +6,10 @@ use Rattle.std.proofs.lemmas.Bool.{cases_eq}
 use Rattle.std.proofs.lemmas.Bool.Decides.{nat_tests}
 use Rattle.offset_allocator.specs.Classes.{down}
 use Rattle.offset_allocator.specs.Cells.{Cells, Links, Room, Node, blank, node, put, AreEmpty, IsBare, AreShaped}
-use Rattle.offset_allocator.specs.Named.{Block, View, IsWellFormed, free_block, push, names_at}
-use Rattle.offset_allocator.specs.Space.{IsChain, IsSpace, blocks, spares}
-use Rattle.offset_allocator.specs.Orders.{Linked, Masked, Binned, class_lists, Among, IsUnlisted}
-use Rattle.offset_allocator.specs.State.{IsSound, view_of, free_units}
+use Rattle.offset_allocator.specs.View.{Block, View, IsWellFormed, free_block, push, bin_at}
+use Rattle.offset_allocator.specs.Chain.{IsChain, IsSpace, blocks, spares}
+use Rattle.offset_allocator.specs.Bins.{HasBins, AreMasks, IsBinned, bins_in, Among, IsUnlisted}
+use Rattle.offset_allocator.specs.Soundness.{IsSound, view_of, free_units}
 use Rattle.offset_allocator.proofs.Nodes.{node-put, node-put_other, length-put, spare-put, reserved-put}
 use Rattle.offset_allocator.proofs.Binned.{binned}
 use Rattle.offset_allocator.proofs.ViewTaken.{well_alone}
@@ -60,17 +60,17 @@ module _ {m : ℕ} {t : Room} (e : IsBare m t) where
       }
 
 -- no bin has a name
-empty_at : (c : ℕ) → c < 256 → names_at (replicate 256 []) c ≡ []
+empty_at : (c : ℕ) → c < 256 → bin_at (replicate 256 []) c ≡ []
 empty_at c h = get_or-replicate 256 c [] [] h
 
 pub empty_unlisted : (x : ℕ) {ls : List (List ℕ)} → ls ≡ replicate 256 [] → IsUnlisted x ls
-empty_unlisted x e c h a = absurd (omega (arith, subst (λ l. Among x l) (ap (λ o. names_at o c) e ∙ empty_at c h) a))
+empty_unlisted x e c h a = absurd (omega (arith, subst (λ l. Among x l) (ap (λ o. bin_at o c) e ∙ empty_at c h) a))
 
 module _ {max : ℕ} (k : Links) (older : length k.older ≡ length k.newer) (small : length k.newer ≤ max) (heads : k.heads ≡ replicate 256 max) (masks : k.masks ≡ replicate 4 0) where
   mask_at : (w : ℕ) → w < 4 → slice_index k.masks w ≡ 0
   mask_at w h = rw masks (get_or-replicate 4 w 0 0 h)
 
-  empty_linked : Linked max k (replicate 256 [])
+  empty_linked : HasBins max k (replicate 256 [])
   empty_linked = record {
     older_len = older;
     names_small = small;
@@ -81,7 +81,7 @@ module _ {max : ℕ} (k : Links) (older : length k.older ≡ length k.newer) (sm
     once = λ c d x h l _. rw (empty_at c h, empty_at d l) (omega arith);
   }
 
-  empty_masked : Masked (replicate 256 []) k.masks 0
+  empty_masked : AreMasks (replicate 256 []) k.masks 0
   empty_masked = record {
     masks_len = rw masks (length-replicate {A = ℕ} 4 0);
     bits = λ c h. rw (mask_at (c / 64) (omega arith), empty_at c h) (bit_at-zero (c % 64));
@@ -90,10 +90,10 @@ module _ {max : ℕ} (k : Links) (older : length k.older ≡ length k.newer) (sm
     words_small = λ w h. rw (mask_at w h) (omega arith);
   }
 
-  pub empty_binned : Binned max k 0 × (class_lists max k ≡ replicate 256 [])
+  pub empty_binned : IsBinned max k 0 × (bins_in max k ≡ replicate 256 [])
   empty_binned = binned empty_linked empty_masked
 
-pub fresh_binned : {max : ℕ} {t : Cells} → AreShaped max t → AreEmpty max t.links → Binned max t.links 0 × (class_lists max t.links ≡ replicate 256 [])
+pub fresh_binned : {max : ℕ} {t : Cells} → AreShaped max t → AreEmpty max t.links → IsBinned max t.links 0 × (bins_in max t.links ≡ replicate 256 [])
 fresh_binned {t = t} s e = empty_binned t.links (s.older ∙ sym s.newer) (omega (arith, s.newer, s.within, s.limit)) e.heads e.masks
 
 -- the only block is free
@@ -101,8 +101,8 @@ pub first_idle : {c : Room} {size : ℕ} → IsSpace c 0 0 → blocks c 0 ≡ fr
 first_idle {c} s e = ap (λ (n : Node). n.used) (rw e at s.row).0
 
 -- the fields of a fresh allocator
-pub started : (max m size : ℕ) (d : Cells) (top : ℕ) → 2 ≤ m → m + 1 < max → size ≤ 4294967295 → d.room.reserved ≡ m → IsSpace d.room 0 0 → blocks d.room 0 ≡ free_block 0 size ∷ [] → Binned max d.links top
-    → class_lists max d.links ≡ push (down size) 0 (replicate 256 []) → IsSound max size m d 0 0 top size × (view_of max size m d 0 0 ≡ fresh size m)
+pub started : (max m size : ℕ) (d : Cells) (top : ℕ) → 2 ≤ m → m + 1 < max → size ≤ 4294967295 → d.room.reserved ≡ m → IsSpace d.room 0 0 → blocks d.room 0 ≡ free_block 0 size ∷ [] → IsBinned max d.links top
+    → bins_in max d.links ≡ push (down size) 0 (replicate 256 []) → IsSound max size m d 0 0 top size × (view_of max size m d 0 0 ≡ fresh size m)
 started max m size d top two least sized memory space eb bins lists =
     let ev : view_of max size m d 0 0 ≡ fresh size m = ap₂ (λ (b : List Block) (o : List (List ℕ)). let u : View = record { size = size; max_allocs = m; blocks = b; order = o; accesses = 0 } in u) eb lists in (
       record {

@@ -2,10 +2,10 @@
 use Rattle.std.proofs.Common.{◌≡◌, ℕ, zero, suc, ◌+◌, ◌-◌, ◌<◌, ◌≤◌, ◌^◌, List, [], ◌∷◌, ◌++◌, length, refl, sym, ap, ap₂, ◌∙◌, arith, slice_set, append_assoc, le-leb, nat_eq}
 use Rattle.offset_allocator.specs.Classes.{up, down}
 use Rattle.offset_allocator.specs.Cells.{Cells, Room}
-use Rattle.offset_allocator.specs.Named.{Block, View, Place, Grant, one, count_named, names_at, IsWellFormed, IsNew, free_part, used_block, units, replace, remove_all, push_all, remove, without}
-use Rattle.offset_allocator.specs.Space.{HasPlace}
-use Rattle.offset_allocator.specs.Orders.{IsSmallestFrom, class_lists, Binned}
-use Rattle.offset_allocator.specs.State.{AreUnlisted, free_units}
+use Rattle.offset_allocator.specs.View.{Block, View, Place, Grant, one, count_named, bin_at, IsWellFormed, IsNew, free_part, used_block, units, replace, remove_all, push_all, remove, without}
+use Rattle.offset_allocator.specs.Chain.{HasPlace}
+use Rattle.offset_allocator.specs.Bins.{IsSmallestFrom, bins_in, IsBinned}
+use Rattle.offset_allocator.specs.Soundness.{AreUnlisted, free_units}
 use Rattle.offset_allocator.proofs.Sound.{Fields, AreSound, shown, well_counted}
 use Rattle.offset_allocator.specs.Relations.{SameSpace, Splits}
 use Rattle.offset_allocator.proofs.Exchange.{each-le, there-below}
@@ -20,13 +20,13 @@ use Rattle.offset_allocator.proofs.Tallies.{one-same, one-eq, times-append}
 -- a grant: sound fields, the smallest class large enough that has a block, and the first name there
 pub record Call (f : Fields) (needed class x : ℕ) : Type 0 where
   pub sound : AreSound f
-  pub smallest : IsSmallestFrom (up needed) (class_lists f.max f.cells.links) class
+  pub smallest : IsSmallestFrom (up needed) (bins_in f.max f.cells.links) class
   pub older : List ℕ
-  pub newest : names_at (class_lists f.max f.cells.links) class ≡ x ∷ older
+  pub newest : bin_at (bins_in f.max f.cells.links) class ≡ x ∷ older
 
 -- the bins without that name
 abbrev pub popped : Fields → ℕ → ℕ → List (List ℕ)
-popped f class x = slice_set (class_lists f.max f.cells.links) class (without x (names_at (class_lists f.max f.cells.links) class))
+popped f class x = slice_set (bins_in f.max f.cells.links) class (without x (bin_at (bins_in f.max f.cells.links) class))
 
 -- padding or a remainder has a name where it has units
 pub part_names : (y k n : ℕ) → 1 ≤ n → count_named y (free_part k n) ≡ one (nat_eq y k)
@@ -38,7 +38,7 @@ module _ {f : Fields} {needed class x : ℕ} (call : Call f needed class x) wher
   v = shown f
 
   abbrev ls : List (List ℕ)
-  ls = class_lists f.max f.cells.links
+  ls = bins_in f.max f.cells.links
 
   w : IsWellFormed (shown f)
   w = well_counted (shown (record f { accesses = 0 })) f.accesses call.sound.well
@@ -118,7 +118,7 @@ module _ {f : Fields} {needed class x : ℕ} (call : Call f needed class x) wher
         fits = omega (arith, got.class, call.smallest.0);
         smallest = λ c l m. call.smallest.3 c l (omega (arith, m, got.class));
         older = call.older;
-        newest = ap (names_at ls) got.class ∙ call.newest ∙ ap (λ y. y ∷ call.older) (sym got.name);
+        newest = ap (bin_at ls) got.class ∙ call.newest ∙ ap (λ y. y ∷ call.older) (sym got.name);
         padding = padding;
         padded = refl;
         remainder = left;
@@ -132,8 +132,8 @@ module _ {f : Fields} {needed class x : ℕ} (call : Call f needed class x) wher
         view = same;
       }
 
-      pub granted : {top accesses : ℕ} → Binned f.max d.links top
-          → class_lists f.max d.links ≡ push_all (free_part front (padding_at (units got.place.before)) ++ (used_block x n ∷ free_part rest (got.place.block.size - (padding_at (units got.place.before) + n)))) (popped f class x)
+      pub granted : {top accesses : ℕ} → IsBinned f.max d.links top
+          → bins_in f.max d.links ≡ push_all (free_part front (padding_at (units got.place.before)) ++ (used_block x n ∷ free_part rest (got.place.block.size - (padding_at (units got.place.before) + n)))) (popped f class x)
           → AreSound (record f { cells = d; last = last; count = count; top = top; free = f.free - n; accesses = accesses })
           × Splits needed n padding_at (shown f) (shown (record f { cells = d; last = last; count = count; top = top; free = f.free - n; accesses = accesses })) (record { name = x; offset = units got.place.before + padding_at (units got.place.before) })
       unfolding split

@@ -1,17 +1,17 @@
 -- The chain, the bins and the view together.
 use Rattle.std.proofs.Common.{◌≡◌, ℕ, zero, suc, ◌+◌, ◌≤◌, Bool, true, false, List, [], ◌∷◌, ◌++◌, if◌then◌else◌, refl, sym, ap, subst, ◌∙◌, arith}
 use Rattle.offset_allocator.specs.Classes.{down}
-use Rattle.offset_allocator.specs.Named.{units, Block, View, count_named, count_listed, IsWellFormed, free_part, remove_all, remove}
+use Rattle.offset_allocator.specs.View.{units, Block, View, count_named, count_in_bin, IsWellFormed, free_part, remove_all, remove}
 use Rattle.offset_allocator.specs.Cells.{Cells}
-use Rattle.offset_allocator.specs.Space.{IsChain}
-use Rattle.offset_allocator.specs.Orders.{Binned, class_lists, IsUnlisted}
+use Rattle.offset_allocator.specs.Chain.{IsChain}
+use Rattle.offset_allocator.specs.Bins.{IsBinned, bins_in, IsUnlisted}
 use Rattle.offset_allocator.proofs.Views.{blocks-chain, space-chain}
-use Rattle.offset_allocator.specs.State.{view_of, free_units}
+use Rattle.offset_allocator.specs.Soundness.{view_of, free_units}
 use Rattle.offset_allocator.proofs.Sound.{Fields, AreSound, well_counted}
 use Rattle.offset_allocator.proofs.Tallies.{listed_named, tally_append}
 
 -- a name that no free block has is in no list
-pub unlisted : (v : View) → IsWellFormed v → (x : ℕ) → ((c : ℕ) → count_listed c x v.blocks ≡ 0) → IsUnlisted x v.order
+pub unlisted : (v : View) → IsWellFormed v → (x : ℕ) → ((c : ℕ) → count_in_bin c x v.blocks ≡ 0) → IsUnlisted x v.order
 unlisted v w x h c ch a = omega (arith, a, w.orders c x, h c)
 
 pub unused_unlisted : (v : View) → IsWellFormed v → (x : ℕ) → count_named x v.blocks ≡ 0 → IsUnlisted x v.order
@@ -23,7 +23,7 @@ with_accesses k v = record v { accesses = k }
 
 -- the fields after a call: the tables hold the blocks and the bins of a well-formed view
 pub stepped : (f : Fields) → AreSound f → (v : View) (d : Cells) (free k : ℕ) {last count top : ℕ} {bs : List Block} → IsWellFormed v → v.max_allocs ≡ f.limit
-    → IsChain d.room f.cells.room.reserved last count bs → bs ≡ v.blocks → Binned f.max d.links top → class_lists f.max d.links ≡ v.order → free_units bs ≡ free
+    → IsChain d.room f.cells.room.reserved last count bs → bs ≡ v.blocks → IsBinned f.max d.links top → bins_in f.max d.links ≡ v.order → free_units bs ≡ free
     → AreSound (record f { size = v.size; cells = d; last = last; count = count; top = top; free = free }) × (view_of f.max v.size f.limit d last k ≡ with_accesses k v)
 stepped f s v d free k {last} {count} {top} {bs} well limit chain eb bins eo total =
     let is = blocks-chain d.room _ last count bs chain in

@@ -6,8 +6,8 @@ use Rattle.std.proofs.lemmas.Bool.Decides.{nat_tests}
 use Rattle.std.proofs.lemmas.List.Sums.{sum_by-cons}
 use Rattle.offset_allocator.specs.Classes.{value, down}
 use Rattle.offset_allocator.specs.Reports.{largest}
-use Rattle.offset_allocator.specs.Named.{Block, View, Place, one, place_of, count_named, free_sizes, units, IsWellFormed}
-use Rattle.offset_allocator.specs.Promises.{CanGrant, HasRoomFor}
+use Rattle.offset_allocator.specs.View.{Block, View, Place, one, place_of, count_named, free_sizes, units, IsWellFormed}
+use Rattle.offset_allocator.specs.Requests.{CanGrant, HasRoomFor}
 use Rattle.offset_allocator.specs.Ranges.{Range}
 use Rattle.offset_allocator.specs.Compacting.{Move, live, moves, move_of, gathered, AreSafe, KeepsSizes, Compacts}
 use Rattle.offset_allocator.proofs.Classes.{down_law}

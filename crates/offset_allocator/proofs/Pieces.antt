@@ -3,10 +3,10 @@ use Rattle.std.proofs.Common.{◌≡◌, ◌≢◌, ℕ, zero, suc, ◌-◌, ◌
 use Rattle.std.proofs.lemmas.Bool.{cases_eq}
 use Rattle.offset_allocator.specs.Cells.{Room}
 use Rattle.offset_allocator.specs.Classes.{down}
-use Rattle.offset_allocator.specs.Named.{Block, Place, count_named, names_at, free_part, free_block, used_block, push, push_all}
-use Rattle.offset_allocator.specs.Orders.{Among, IsUnlisted}
-use Rattle.offset_allocator.specs.Space.{HasPlace}
-use Rattle.offset_allocator.specs.State.{AreUnlisted}
+use Rattle.offset_allocator.specs.View.{Block, Place, count_named, bin_at, free_part, free_block, used_block, push, push_all}
+use Rattle.offset_allocator.specs.Bins.{Among, IsUnlisted}
+use Rattle.offset_allocator.specs.Chain.{HasPlace}
+use Rattle.offset_allocator.specs.Soundness.{AreUnlisted}
 use Rattle.offset_allocator.proofs.Classes.{down_small}
 use Rattle.offset_allocator.proofs.Exchange.{each-le}
 use Rattle.offset_allocator.proofs.Tallies.{one-eq, one-other, times-append}
@@ -15,8 +15,8 @@ unlisted_put : (y x c : ℕ) (ls : List (List ℕ)) → length ls ≡ 256 → c 
 unlisted_put y x c ls n ch ne u d dh a =
     let l : c < length ls = omega arith in
     elim (cases_eq d c) [
-      | inl e ↦ u c ch (omega (arith, one-other y x ne, subst (λ z. Among y z) (ap (names_at (push c x ls)) e ∙ get_or-set_same ls c (x ∷ names_at ls c) [] l) a))
-      | inr m ↦ u d dh (subst (λ z. Among y z) (get_or-set_other ls c d (x ∷ names_at ls c) [] m) a)
+      | inl e ↦ u c ch (omega (arith, one-other y x ne, subst (λ z. Among y z) (ap (bin_at (push c x ls)) e ∙ get_or-set_same ls c (x ∷ bin_at ls c) [] l) a))
+      | inr m ↦ u d dh (subst (λ z. Among y z) (get_or-set_other ls c d (x ∷ bin_at ls c) [] m) a)
     ]
 
 -- padding of no units is no block, nor is a remainder of no units

@@ -2,8 +2,8 @@
 use Rattle.std.proofs.Common.{◌≡◌, ℕ, ◌+◌, ◌<◌, ◌^◌, true, false, Option, None, Some, IfSome, List, [], ◌∷◌, ◌++◌, length, refl, sym, ◌∙◌, ap, arith, append_assoc, length-append}
 use Rattle.offset_allocator.specs.Classes.{down}
 use Rattle.offset_allocator.specs.Cells.{Room, Node, node}
-use Rattle.offset_allocator.specs.Space.{first_or, last_or, IsChain, IsSpace, HasPlace, blocks, coalesced_before, coalesced_after}
-use Rattle.offset_allocator.specs.Named.{Block, Place, free_block, place_of, units, free_end, free_start, remove, remove_all}
+use Rattle.offset_allocator.specs.Chain.{first_or, last_or, IsChain, IsSpace, HasPlace, blocks, coalesced_before, coalesced_after}
+use Rattle.offset_allocator.specs.View.{Block, Place, free_block, place_of, units, free_end, free_start, remove, remove_all}
 use Rattle.offset_allocator.proofs.Tallies.{one-eq, times-append, units-append}
 use Rattle.offset_allocator.proofs.Rows.{last_or-append, node_at}
 use Rattle.offset_allocator.proofs.Ends.{ended, last_none, end_free, end_used, end_kept, start_kept}

@@ -4,9 +4,9 @@ use Rattle.std.proofs.lemmas.Bool.{cases_eq}
 use Rattle.std.proofs.lemmas.Bool.Decides.{nat_tests}
 use Rattle.std.proofs.lemmas.List.{take_more_set}
 use Rattle.offset_allocator.specs.Cells.{Cells, Room, Node, blank, node, with_node, AreShaped}
-use Rattle.offset_allocator.specs.Named.{Block, times}
+use Rattle.offset_allocator.specs.View.{Block, times}
 use Rattle.offset_allocator.specs.Readies.{Readies}
-use Rattle.offset_allocator.specs.Space.{IsChain, spares, blocks}
+use Rattle.offset_allocator.specs.Chain.{IsChain, spares, blocks}
 use Rattle.offset_allocator.proofs.Rows.{IsRow-kept}
 use Rattle.offset_allocator.proofs.Sound.{Fields, AreSound, shown}
 use Rattle.offset_allocator.proofs.Tallies.{one-eq, one-other, times-join}

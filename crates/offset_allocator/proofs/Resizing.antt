@@ -3,14 +3,14 @@ use Rattle.std.specs.Prelude.{IsSome}
 use Rattle.std.proofs.Common.{◌≡◌, ◌≢◌, ◌↔◌, ℕ, zero, suc, ◌+◌, ◌-◌, ◌<◌, ◌≤◌, Bool, true, false, ◌⊎◌, List, [], ◌∷◌, ◌++◌, length, Option, Some, None, is_some, nat_eq, refl, sym, ap, ap₂, subst, ◌∙◌, inl, inr, arith, length-append, eq-zero-or-pos, eq-eqb, ne_eqb, if◌then◌else◌}
 use Rattle.std.proofs.lemmas.Bool.{false≢true, true≢false, and_right, cases_eq}
 use Rattle.offset_allocator.specs.Cells.{Cells, Node}
-use Rattle.offset_allocator.specs.Named.{Block, View, Place, one, units, count_named, used_of, used_block, IsApart, IsWellFormed, IsNew, free_start, without_start, free_part, remove_all, push_all, replace}
-use Rattle.offset_allocator.specs.Promises.{HasRoomFor}
+use Rattle.offset_allocator.specs.View.{Block, View, Place, one, units, count_named, used_of, used_block, IsApart, IsWellFormed, IsNew, free_start, without_start, free_part, remove_all, push_all, replace}
+use Rattle.offset_allocator.specs.Requests.{HasRoomFor}
 use Rattle.offset_allocator.specs.Ranges.{range_of, size_of, KeepsOthers}
 use Rattle.offset_allocator.specs.Relations.{SameSpace}
 use Rattle.offset_allocator.specs.Resizing.{Resizes, ResizesTo, Shrinks, Grows, CanShrink, CanGrow, HasUnits, free_after, free_beyond}
-use Rattle.offset_allocator.specs.Space.{HasPlace, IsFreeAfter}
-use Rattle.offset_allocator.specs.Orders.{class_lists, Binned}
-use Rattle.offset_allocator.specs.State.{free_units}
+use Rattle.offset_allocator.specs.Chain.{HasPlace, IsFreeAfter}
+use Rattle.offset_allocator.specs.Bins.{bins_in, IsBinned}
+use Rattle.offset_allocator.specs.Soundness.{free_units}
 use Rattle.offset_allocator.proofs.Exchange.{each-le, there-below}
 use Rattle.offset_allocator.proofs.Freeing.{Release, at, used, w, remove_used, units_start}
 use Rattle.offset_allocator.proofs.Granting.{part_names}
@@ -92,7 +92,7 @@ module _ {f : Fields} {x : ℕ} (call : Release f x) where
   p = (at call).place
 
   abbrev ls : List (List ℕ)
-  ls = class_lists f.max f.cells.links
+  ls = bins_in f.max f.cells.links
 
   abbrev next : List Block
   next = free_start p.after
@@ -169,8 +169,8 @@ module _ {f : Fields} {x : ℕ} (call : Release f x) where
       apart = subst IsApart (sym (ap (λ (z : View). z.blocks) same)) apart;
     }
 
-    pub resized : {top : ℕ} (accesses free : ℕ) → Binned f.max d.links top
-        → class_lists f.max d.links ≡ push_all (free_part name (both - n)) (remove_all (free_start (at call).place.after) (class_lists f.max f.cells.links))
+    pub resized : {top : ℕ} (accesses free : ℕ) → IsBinned f.max d.links top
+        → bins_in f.max d.links ≡ push_all (free_part name (both - n)) (remove_all (free_start (at call).place.after) (bins_in f.max f.cells.links))
         → free + n ≡ f.free + (at call).place.block.size
         → AreSound (record f { cells = d; last = last; count = count; top = top; free = free; accesses = accesses })
         × Resizes x n (shown f) (shown (record f { cells = d; last = last; count = count; top = top; free = free; accesses = accesses }))
@@ -178,7 +178,7 @@ module _ {f : Fields} {x : ℕ} (call : Release f x) where
     resized {top} accesses free bins lists total =
         let well = well_resized (resizes left_view refl) (w call) room in
         let flat : p.before ++ record p.block { size = n } ∷ (free_part name left ++ after) ≡ p.before ++ (new ++ after) = ap (λ b. p.before ++ b ∷ (free_part name left ++ after)) same_block in
-        let order : class_lists f.max d.links ≡ push_all new (remove_all (p.block ∷ next) ls) = lists ∙ ap (push_all (free_part name left)) (sym (remove_used p.block next ls (used call))) in
+        let order : bins_in f.max d.links ≡ push_all new (remove_all (p.block ∷ next) ls) = lists ∙ ap (push_all (free_part name left)) (sym (remove_used p.block next ls (used call))) in
         let units_are = free_units-append p.before (new ++ after) in
         let done = stepped f call.sound left_view d free accesses well refl there.chain flat bins order
         (ap free_units flat ∙ units_are ∙ omega (arith, free_units-used (used_block x n) (free_part name left ++ after) refl, free_part_units name left after, had_free, total, enough)) in

@@ -2,8 +2,8 @@
 use Rattle.std.proofs.Common.{◌≡◌, ◌≢◌, ℕ, zero, suc, ◌+◌, ◌≤◌, Option, None, Some, List, [], ◌∷◌, ◌++◌, length, refl, sym, ◌∙◌, ap, arith, add_assoc, zero-add, add-zero, inl, inr}
 use Rattle.std.proofs.lemmas.Bool.{cases_eq}
 use Rattle.offset_allocator.specs.Cells.{Room, node}
-use Rattle.offset_allocator.specs.Space.{first_or, last_or, IsRow, walk}
-use Rattle.offset_allocator.specs.Named.{Block, units, count_named}
+use Rattle.offset_allocator.specs.Chain.{first_or, last_or, IsRow, walk}
+use Rattle.offset_allocator.specs.View.{Block, units, count_named}
 use Rattle.offset_allocator.proofs.Tallies.{one-same, one-eq}
 
 -- the first of a list is in it

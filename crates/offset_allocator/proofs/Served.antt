@@ -2,9 +2,9 @@
 use Rattle.std.proofs.Common.{◌≡◌, ◌↔◌, ℕ, ◌+◌, ◌%◌, ◌<◌, ◌≤◌, Bool, length, Option, Some, None, IsSome, IfSome, if◌then◌else◌, refl, sym, ap, ap₂, subst, ◌∙◌, inl, inr, arith, le-leb}
 use Rattle.std.proofs.lemmas.Bool.{cases_lt, false≢true, lt-leb}
 use Rattle.offset_allocator.specs.Classes.{down}
-use Rattle.offset_allocator.specs.Named.{View, Grant, units, count_named, place_of, IsWellFormed, free_sizes, largest_free, padding_to, max_size}
+use Rattle.offset_allocator.specs.View.{View, Grant, units, count_named, place_of, IsWellFormed, free_sizes, largest_free, padding_to, max_size}
 use Rattle.offset_allocator.specs.Reports.{largest, IsGoodRefusal}
-use Rattle.offset_allocator.specs.Promises.{HasRoomFor, CanGrant, units_needed}
+use Rattle.offset_allocator.specs.Requests.{HasRoomFor, CanGrant, units_needed}
 use Rattle.offset_allocator.specs.Relations.{SameSpace, Splits, Serves, Allocates, Aligns, IsSplitNearBest}
 use Rattle.offset_allocator.proofs.Padding.{reaches}
 use Rattle.offset_allocator.proofs.Refusals.{fit_small}

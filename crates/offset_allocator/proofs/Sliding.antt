@@ -4,10 +4,10 @@ use Rattle.std.specs.List.{FoldsTo}
 use Rattle.std.proofs.lemmas.Bool.{cases_eq}
 use Rattle.std.proofs.lemmas.Bool.Decides.{nat_tests}
 use Rattle.offset_allocator.specs.Cells.{Cells, Room, Node, node}
-use Rattle.offset_allocator.specs.Named.{Block, Place, free_block, units}
-use Rattle.offset_allocator.specs.Space.{HasPlace, IsSpace, blocks, first_or, last_or, coalesced_before, coalesced_after}
+use Rattle.offset_allocator.specs.View.{Block, Place, free_block, units}
+use Rattle.offset_allocator.specs.Chain.{HasPlace, IsSpace, blocks, first_or, last_or, coalesced_before, coalesced_after}
 use Rattle.offset_allocator.specs.Compacting.{Move, first_free, live, moves, move_of}
-use Rattle.offset_allocator.specs.State.{free_units}
+use Rattle.offset_allocator.specs.Soundness.{free_units}
 use Rattle.offset_allocator.proofs.Ends.{end_free, ended}
 use Rattle.offset_allocator.proofs.Joints.{free_units-free, free_units-used}
 use Rattle.offset_allocator.proofs.Places.{placed, at_place, next_place}

@@ -1,8 +1,8 @@
 -- The fields of an allocator, and what their invariant says of the view.
 use Rattle.std.proofs.Common.{◌≡◌, ℕ, ◌≤◌, sym, ap, subst, arith}
-use Rattle.offset_allocator.specs.Named.{View, IsWellFormed}
+use Rattle.offset_allocator.specs.View.{View, IsWellFormed}
 use Rattle.offset_allocator.specs.Cells.{Cells}
-use Rattle.offset_allocator.specs.State.{view_of, IsSound}
+use Rattle.offset_allocator.specs.Soundness.{view_of, IsSound}
 use Rattle.offset_allocator.specs.declared.Allocator.TheInside.{Inside}
 use Rattle.offset_allocator.specs.Relations.{SameSpace}
 

@@ -2,7 +2,7 @@
 use Rattle.std.proofs.Common.{◌≡◌, ◌≢◌, ℕ, ◌≤◌, Bool, true, false, ◌&&◌, List, [], ◌∷◌, ◌++◌, Option, Some, None, nat_eq, refl, sym, ap, inl, inr, arith}
 use Rattle.std.proofs.lemmas.Bool.{not-true}
 use Rattle.offset_allocator.specs.Classes.{up, down}
-use Rattle.offset_allocator.specs.Named.{Block, View, Place, one, is_free, times, count_named, count_listed, names_at, place_of, IsWellFormed}
+use Rattle.offset_allocator.specs.View.{Block, View, Place, one, is_free, times, count_named, count_in_bin, bin_at, place_of, IsWellFormed}
 use Rattle.offset_allocator.proofs.ViewSteps.{place_at, no_place}
 use Rattle.offset_allocator.proofs.Tallies.{listed_named, tally_append, hit_cases, one-same}
 
@@ -19,7 +19,7 @@ hit_parts true c d r l = (refl, elim (hit_cases c d) [ inl e ↦ e.0 | inr m ↦
 hit_parts false c d r l = absurd (omega arith)
 
 -- the block of a name that is listed is free, and of that class
-listed_block : (c x : ℕ) (before : List Block) (b : Block) (after : List Block) → x ≡ b.name → count_named x (before ++ b ∷ after) ≤ 1 → 1 ≤ count_listed c x (before ++ b ∷ after) → (is_free b ≡ true) × (c ≡ down b.size)
+listed_block : (c x : ℕ) (before : List Block) (b : Block) (after : List Block) → x ≡ b.name → count_named x (before ++ b ∷ after) ≤ 1 → 1 ≤ count_in_bin c x (before ++ b ∷ after) → (is_free b ≡ true) × (c ≡ down b.size)
 listed_block c x before b after e most l = hit_parts (is_free b) c (down b.size) (nat_eq x b.name)
     (elim (hit_cases x b.name) [
       | inl h ↦ omega (arith, h.1, most, l, listed_named c x before, listed_named c x after, tally_append (λ b. one (is_free b && (nat_eq c (down b.size) && nat_eq x b.name))) before (b ∷ after), tally_append (λ (b : Block). one (nat_eq x b.name)) before (b ∷ after))
@@ -27,27 +27,27 @@ listed_block c x before b after e most l = hit_parts (is_free b) c (down b.size)
     ])
 
 -- a name in a bin is that of a free block of its class
-pub taken : (v : View) → IsWellFormed v → (c x : ℕ) (xs : List ℕ) → names_at v.order c ≡ x ∷ xs → Taken v c x
+pub taken : (v : View) → IsWellFormed v → (c x : ℕ) (xs : List ℕ) → bin_at v.order c ≡ x ∷ xs → Taken v c x
 taken v w c x xs e = go (place_of x v.blocks) refl
   where
-    listed : 1 ≤ count_listed c x v.blocks
+    listed : 1 ≤ count_in_bin c x v.blocks
     listed = omega (arith, w.orders c x, ap (times x) e, one-same x)
 
     go : (o : Option Place) → place_of x v.blocks ≡ o → Taken v c x
     go None f = absurd (omega (arith, no_place x v.blocks f, listed_named c x v.blocks, listed))
     go (Some p) f =
         let b = place_at x v.blocks p f in
-        let l = listed_block c x p.before p.block p.after b.1 (omega (arith, w.distinct x, ap (count_named x) b.0)) (omega (arith, listed, ap (count_listed c x) b.0)) in
+        let l = listed_block c x p.before p.block p.after b.1 (omega (arith, w.distinct x, ap (count_named x) b.0)) (omega (arith, listed, ap (count_in_bin c x) b.0)) in
         record { place = p; stood = b.0; name = sym b.1; free = not-true p.block.used l.0; class = sym l.1 }
 
 -- some bin is not empty whose class is large enough
 abbrev pub HasFit : ℕ → View → Type 0
-HasFit n v = (c : ℕ) × (up n ≤ c) × (names_at v.order c ≢ [])
+HasFit n v = (c : ℕ) × (up n ≤ c) × (bin_at v.order c ≢ [])
 
 -- then a free block is of such a class
 pub fitting : (n : ℕ) (v : View) → IsWellFormed v → HasFit n v → (p : Place) × (v.blocks ≡ p.before ++ (p.block ∷ p.after)) × (p.block.used ≡ false) × (up n ≤ down p.block.size)
-fitting n v w h = go (names_at v.order h.0) refl
+fitting n v w h = go (bin_at v.order h.0) refl
   where
-    go : (xs : List ℕ) → names_at v.order h.0 ≡ xs → (p : Place) × (v.blocks ≡ p.before ++ (p.block ∷ p.after)) × (p.block.used ≡ false) × (up n ≤ down p.block.size)
+    go : (xs : List ℕ) → bin_at v.order h.0 ≡ xs → (p : Place) × (v.blocks ≡ p.before ++ (p.block ∷ p.after)) × (p.block.used ≡ false) × (up n ≤ down p.block.size)
     go [] e = absurd (h.2 e)
     go (x ∷ xs) e = let t = taken v w h.0 x xs e in (t.place, t.stood, t.free, omega (arith, t.class, h.1))

@@ -3,8 +3,8 @@ use Rattle.std.proofs.Common.{◌≡◌, ◌≢◌, ◌<◌, ◌≤◌, ◌+◌,
 use Rattle.std.proofs.lemmas.Bool.{cases_eq}
 use Rattle.std.proofs.lemmas.List.{get_or_append_left}
 use Rattle.offset_allocator.specs.Cells.{Cells, Links, node, AreShaped}
-use Rattle.offset_allocator.specs.Named.{names_at, remove, times, without}
-use Rattle.offset_allocator.specs.Orders.{Chain, Among, Linked, Binned, IsUnlisted, class_lists}
+use Rattle.offset_allocator.specs.View.{bin_at, remove, times, without}
+use Rattle.offset_allocator.specs.Bins.{IsLinked, Among, HasBins, IsBinned, IsUnlisted, bins_in}
 use Rattle.offset_allocator.proofs.Binned.{below, binned, head, newer_in, older_among}
 use Rattle.offset_allocator.proofs.Tallies.{one-same}
 use Rattle.offset_allocator.proofs.ViewOrders.{names_other, names_same, times_without_self}
@@ -17,63 +17,63 @@ module _ {max : ℕ} {t : Cells} (s : AreShaped max t) where
     | inr q ↦ omega (arith, h q, s.limit, s.within, e)
   ]
 
-  module _ {ls : List (List ℕ)} (k : Linked max t.links ls) (c : ℕ) (ch : c < 256) where
+  module _ {ls : List (List ℕ)} (k : HasBins max t.links ls) (c : ℕ) (ch : c < 256) where
     -- a node in a bin is not used
-    pub listed_idle : (x : ℕ) → Among x (names_at ls c) → (node t.room x).used ≡ false
+    pub listed_idle : (x : ℕ) → Among x (bin_at ls c) → (node t.room x).used ≡ false
     listed_idle x a =
         s.flags x (omega (arith, below k c ch x a, s.newer))
         ∙ ne_eqb (slice_index t.links.newer x) (max - 1) (no_mark (slice_index t.links.newer x) (λ n. omega (arith, newer_in k c ch x a n, s.newer)))
 
     -- nor is the one after the first, or after another
-    pub after_idle : (x : ℕ) → Among x (names_at ls c) → slice_index t.links.older x ≢ max → (node t.room (slice_index t.links.older x)).used ≡ false
+    pub after_idle : (x : ℕ) → Among x (bin_at ls c) → slice_index t.links.older x ≢ max → (node t.room (slice_index t.links.older x)).used ≡ false
     after_idle x a n = listed_idle (slice_index t.links.older x) (older_among k c ch x a n)
 
-    pub second_idle : {after : ℕ} → names_at ls c ≢ [] → after ≡ slice_index t.links.older (slice_index t.links.heads c) → after ≢ max → (node t.room after).used ≡ false
+    pub second_idle : {after : ℕ} → bin_at ls c ≢ [] → after ≡ slice_index t.links.older (slice_index t.links.heads c) → after ≢ max → (node t.room after).used ≡ false
     second_idle some e n =
         let h = head k c ch some in
         let q = ap (times (slice_index t.links.heads c)) h.0 in
         rw e (after_idle (slice_index t.links.heads c) (omega (arith, q, one-same (slice_index t.links.heads c))) (λ z. n (e ∙ z)))
 
 -- a name that left its list is in none
-pub removed_unlisted : {none : ℕ} {t : Links} {ls : List (List ℕ)} → Linked none t ls → (c : ℕ) → c < 256 → (x : ℕ) → Among x (names_at ls c) → IsUnlisted x (remove c x ls)
+pub removed_unlisted : {none : ℕ} {t : Links} {ls : List (List ℕ)} → HasBins none t ls → (c : ℕ) → c < 256 → (x : ℕ) → Among x (bin_at ls c) → IsUnlisted x (remove c x ls)
 removed_unlisted {ls = ls} k c ch x there d dh a = elim (cases_eq d c) [
-  | inl e ↦ omega (arith, a, ap (times x) (ap (names_at (remove c x ls)) e ∙ names_same ls c (without x (names_at ls c)) k.lists_len ch), times_without_self x (names_at ls c))
-  | inr n ↦ omega (arith, a, ap (times x) (names_other ls c d (without x (names_at ls c)) n), there, k.once d c x dh ch n)
+  | inl e ↦ omega (arith, a, ap (times x) (ap (bin_at (remove c x ls)) e ∙ names_same ls c (without x (bin_at ls c)) k.lists_len ch), times_without_self x (bin_at ls c))
+  | inr n ↦ omega (arith, a, ap (times x) (names_other ls c d (without x (bin_at ls c)) n), there, k.once d c x dh ch n)
 ]
 
 -- the links of names that the lists have stay
 module _ (none : ℕ) (t t' : Links) (long : length t.newer ≤ length t'.newer) where
-  stays : (b : ℕ) (xs : List ℕ) → ((y : ℕ) → Among y xs → y < length t.newer → (slice_index t'.newer y ≡ slice_index t.newer y) × (slice_index t'.older y ≡ slice_index t.older y)) → Chain none t b xs → Chain none t' b xs
+  stays : (b : ℕ) (xs : List ℕ) → ((y : ℕ) → Among y xs → y < length t.newer → (slice_index t'.newer y ≡ slice_index t.newer y) × (slice_index t'.older y ≡ slice_index t.older y)) → IsLinked none t b xs → IsLinked none t' b xs
   stays b [] h d = tt
   stays b (x ∷ xs) h d =
       let e = h x (omega (arith, one-same x)) d.0 in
       (omega (arith, d.0, long), e.0 ∙ d.1, e.1 ∙ d.2, stays x xs (λ y a l. h y (omega (arith, a)) l) d.3)
 
-  pub linked_still : {ls : List (List ℕ)} → Linked none t ls → length t'.older ≡ length t'.newer → length t'.newer ≤ none → t'.heads ≡ t.heads
-      → ((c y : ℕ) → c < 256 → Among y (names_at ls c) → y < length t.newer → (slice_index t'.newer y ≡ slice_index t.newer y) × (slice_index t'.older y ≡ slice_index t.older y)) → Linked none t' ls
+  pub linked_still : {ls : List (List ℕ)} → HasBins none t ls → length t'.older ≡ length t'.newer → length t'.newer ≤ none → t'.heads ≡ t.heads
+      → ((c y : ℕ) → c < 256 → Among y (bin_at ls c) → y < length t.newer → (slice_index t'.newer y ≡ slice_index t.newer y) × (slice_index t'.older y ≡ slice_index t.older y)) → HasBins none t' ls
   linked_still k older small heads h = record {
     older_len = older;
     names_small = small;
     heads_len = rw heads k.heads_len;
     lists_len = k.lists_len;
     heads = λ c ch. rw heads (k.heads c ch);
-    chains = λ c ch. stays none (names_at _ c) (λ y a l. h c y ch a l) (k.chains c ch);
+    chains = λ c ch. stays none (bin_at _ c) (λ y a l. h c y ch a l) (k.chains c ch);
     once = k.once;
   }
 
 -- what a node that is in no bin is linked to does not matter
-pub binned_marked : {max : ℕ} {t t' : Links} {top : ℕ} (x v : ℕ) → Binned max t top → IsUnlisted x (class_lists max t) → t' ≡ record t { newer = slice_set t.newer x v } → Binned max t' top × (class_lists max t' ≡ class_lists max t)
+pub binned_marked : {max : ℕ} {t t' : Links} {top : ℕ} (x v : ℕ) → IsBinned max t top → IsUnlisted x (bins_in max t) → t' ≡ record t { newer = slice_set t.newer x v } → IsBinned max t' top × (bins_in max t' ≡ bins_in max t)
 binned_marked {max} {t} {t'} x v b fresh e =
     let k = b.linked in
     let newer : t'.newer ≡ slice_set t.newer x v = ap (λ (i : Links). i.newer) e in
     let older : t'.older ≡ t.older = ap (λ (i : Links). i.older) e in
     let long : length t'.newer ≡ length t.newer = rw newer (length-set t.newer x v) in
     binned (linked_still max t t' (omega (arith, long)) k (ap (λ (l : List ℕ). length l) older ∙ k.older_len ∙ sym long) (omega (arith, long, k.names_small)) (ap (λ (i : Links). i.heads) e)
-    (λ c y ch a l. (rw newer (get_or-set_other t.newer x y v 0 (λ q. fresh c ch (subst (λ i. Among i (names_at (class_lists max t) c)) q a))), rw older)))
+    (λ c y ch a l. (rw newer (get_or-set_other t.newer x y v 0 (λ q. fresh c ch (subst (λ i. Among i (bin_at (bins_in max t) c)) q a))), rw older)))
     (rw (ap (λ (i : Links). i.masks) e) b.masked)
 
 -- one more node
-pub binned_more : {max : ℕ} {t t' : Links} {top : ℕ} (v w : ℕ) → Binned max t top → length t.newer < max → t'.newer ≡ t.newer ++ v ∷ [] → t'.older ≡ t.older ++ w ∷ [] → t'.heads ≡ t.heads → t'.masks ≡ t.masks → Binned max t' top × (class_lists max t' ≡ class_lists max t)
+pub binned_more : {max : ℕ} {t t' : Links} {top : ℕ} (v w : ℕ) → IsBinned max t top → length t.newer < max → t'.newer ≡ t.newer ++ v ∷ [] → t'.older ≡ t.older ++ w ∷ [] → t'.heads ≡ t.heads → t'.masks ≡ t.masks → IsBinned max t' top × (bins_in max t' ≡ bins_in max t)
 binned_more {max} {t} {t'} v w b room newer older heads masks =
     let k = b.linked in
     let long : length t'.newer ≡ length t.newer + 1 = rw newer (length-append t.newer (v ∷ [])) in

@@ -4,7 +4,7 @@ use Rattle.std.specs.List.{AllByRecursion}
 use Rattle.std.proofs.lemmas.Bool.{cases_lt, true≢false, cond_both}
 use Rattle.offset_allocator.specs.Classes.{value, up, down}
 use Rattle.offset_allocator.specs.Reports.{largest, IsGoodRefusal}
-use Rattle.offset_allocator.specs.Named.{Block, View, is_free, times, count_listed, units, names_at, free_sizes, IsWellFormed}
+use Rattle.offset_allocator.specs.View.{Block, View, is_free, times, count_in_bin, units, bin_at, free_sizes, IsWellFormed}
 use Rattle.offset_allocator.proofs.Taken.{HasFit, fitting}
 use Rattle.offset_allocator.proofs.Classes.{serves, near_best, up_law, down_law}
 
@@ -13,9 +13,9 @@ abbrev pub HasName : Block → List Block → Type 0
 HasName b [] = ⊥
 HasName b (c ∷ bs) = (b ≡ c) ⊎ HasName b bs
 
-pub there_listed : (b : Block) (bs : List Block) → HasName b bs → is_free b ≡ true → 1 ≤ count_listed (down b.size) b.name bs
+pub there_listed : (b : Block) (bs : List Block) → HasName b bs → is_free b ≡ true → 1 ≤ count_in_bin (down b.size) b.name bs
 there_listed b [] i f = absurd i
-there_listed b (c ∷ bs) (inl e) f = subst (λ (d : Block). 1 ≤ count_listed (down b.size) b.name (d ∷ bs)) e (rw (f, eq-eqb (down b.size) (down b.size) refl, eq-eqb b.name b.name refl) (omega arith))
+there_listed b (c ∷ bs) (inl e) f = subst (λ (d : Block). 1 ≤ count_in_bin (down b.size) b.name (d ∷ bs)) e (rw (f, eq-eqb (down b.size) (down b.size) refl, eq-eqb b.name b.name refl) (omega arith))
 there_listed b (c ∷ bs) (inr i) f = let ih = there_listed b bs i f in omega arith
 
 -- what holds of each free block in a list holds of their sizes
@@ -60,11 +60,11 @@ module _ (v : View) (w : IsWellFormed v) (n : ℕ) (small : n ≤ 4294967295) (s
   word : n < 2 ^ 32
   word = omega (arith, small)
 
-  there : (b : Block) → HasName b v.blocks → is_free b ≡ true → names_at v.order (down b.size) ≡ [] → ⊥
+  there : (b : Block) → HasName b v.blocks → is_free b ≡ true → bin_at v.order (down b.size) ≡ [] → ⊥
   there b i f e = let l = there_listed b v.blocks i f in let o = w.orders (down b.size) b.name in let z = ap (times b.name) e in omega arith
 
   -- the block that is taken is of the smallest class from up n on that has one
-  pub near_best_fit : (b : Block) → HasName b v.blocks → ((c : ℕ) → up n ≤ c → c < down b.size → names_at v.order c ≡ []) → AllByRecursion (λ t. 9 * n ≤ 8 * t → 8 * b.size ≤ 9 * t) (free_sizes v.blocks)
+  pub near_best_fit : (b : Block) → HasName b v.blocks → ((c : ℕ) → up n ≤ c → c < down b.size → bin_at v.order c ≡ []) → AllByRecursion (λ t. 9 * n ≤ 8 * t → 8 * b.size ≤ 9 * t) (free_sizes v.blocks)
   near_best_fit b i smallest = all_free (λ z. 9 * n ≤ 8 * z → 8 * b.size ≤ 9 * z) v.blocks (λ d j f l. near_best b.size d.size (fits_word b i) (fits_word d j) (elim (cases_lt (down d.size) (down b.size)) [
     | inl m ↦ absurd (there d j f (smallest (down d.size) (serves n d.size word (fits_word d j) l) m))
     | inr m ↦ m

@@ -5,7 +5,7 @@ use Rattle.offset_allocator.proofs.Walks.{without_first}
 use Rattle.std.proofs.lemmas.List.{set-get_or}
 use Rattle.offset_allocator.specs.Classes.{down}
 use Rattle.std.specs.List.{AllByRecursion}
-use Rattle.offset_allocator.specs.Named.{Block, View, Place, Grant, used_block, free_block, units, times, count_named, starts_free, IsApart, names_at, push, without, remove, push_all, remove_all, replace, free_start, without_start, free_end, without_end, free_part, IsWellFormed, place_of}
+use Rattle.offset_allocator.specs.View.{Block, View, Place, Grant, used_block, free_block, units, times, count_named, starts_free, IsApart, bin_at, push, without, remove, push_all, remove_all, replace, free_start, without_start, free_end, without_end, free_part, IsWellFormed, place_of}
 use Rattle.offset_allocator.specs.Relations.{SameSpace, Splits, Frees, Allocates}
 use Rattle.offset_allocator.proofs.Ranges.{beside}
 use Rattle.offset_allocator.proofs.Released.{idle_parts, end_is, start_is}
@@ -21,17 +21,17 @@ set_again (o ∷ order) zero l m = refl
 set_again (o ∷ order) (suc c) l m = ap (λ z. o ∷ z) (set_again order c l m)
 
 -- a name that is put in and leaves
-remove_put : (c x : ℕ) (order : List (List ℕ)) → length order ≡ 256 → c < 256 → times x (names_at order c) ≡ 0 → remove c x (push c x order) ≡ order
+remove_put : (c x : ℕ) (order : List (List ℕ)) → length order ≡ 256 → c < 256 → times x (bin_at order c) ≡ 0 → remove c x (push c x order) ≡ order
 remove_put c x order h b e =
-    set_again order c (x ∷ names_at order c) _
-    ∙ ap (slice_set order c) (ap (without x) (names_same order c (x ∷ names_at order c) h b) ∙ without_first x (names_at order c) (omega (arith, e, one-same x)))
+    set_again order c (x ∷ bin_at order c) _
+    ∙ ap (slice_set order c) (ap (without x) (names_same order c (x ∷ bin_at order c) h b) ∙ without_first x (bin_at order c) (omega (arith, e, one-same x)))
     ∙ set-get_or order c []
 
 -- a first name that leaves and is put in
-put_remove : (c x : ℕ) (xs : List ℕ) (order : List (List ℕ)) → length order ≡ 256 → c < 256 → names_at order c ≡ x ∷ xs → times x xs ≡ 0 → push c x (remove c x order) ≡ order
+put_remove : (c x : ℕ) (xs : List ℕ) (order : List (List ℕ)) → length order ≡ 256 → c < 256 → bin_at order c ≡ x ∷ xs → times x xs ≡ 0 → push c x (remove c x order) ≡ order
 put_remove c x xs order h b e z =
-    set_again order c (without x (names_at order c)) _
-    ∙ ap (λ l. slice_set order c (x ∷ l)) (names_same order c (without x (names_at order c)) h b ∙ ap (without x) e ∙ without_first x xs (omega (arith, z, one-same x)))
+    set_again order c (without x (bin_at order c)) _
+    ∙ ap (λ l. slice_set order c (x ∷ l)) (names_same order c (without x (bin_at order c)) h b ∙ ap (without x) e ∙ without_first x xs (omega (arith, z, one-same x)))
     ∙ ap (slice_set order c) (sym e)
     ∙ set-get_or order c []
 
@@ -39,7 +39,7 @@ part_start : (x n : ℕ) (bs : List Block) → starts_free bs ≡ false → (fre
 part_start x zero bs e = no_start bs e
 part_start x (suc n) bs e = (refl, refl)
 
-orders_back : (x n : ℕ) (order : List (List ℕ)) → length order ≡ 256 → (1 ≤ n → times x (names_at order (down n)) ≡ 0) → remove_all (free_part x n) (push_all (free_part x n) order) ≡ order
+orders_back : (x n : ℕ) (order : List (List ℕ)) → length order ≡ 256 → (1 ≤ n → times x (bin_at order (down n)) ≡ 0) → remove_all (free_part x n) (push_all (free_part x n) order) ≡ order
 orders_back x zero order h e = refl
 orders_back x (suc n) order h e = remove_put (down (suc n)) x order h (down_small (suc n)) (e (omega arith))
 
@@ -107,13 +107,13 @@ module _ (n : ℕ) (v w u : View) (g : Grant) (known : IsWellFormed v) (left : I
       let is = start_is f.right f.after idle.1 left_parts.1.1 (right_false true (starts_free f.after) freed_parts.1.0 refl) in
       (sym is.0 ∙ ap free_start (sym here.2) ∙ some.0, sym is.1 ∙ ap without_start (sym here.2) ∙ some.1)
 
-  once : times x (names_at v.order (down size)) ≡ 1
+  once : times x (bin_at v.order (down size)) ≡ 1
   once = omega (arith, known.orders (down size) x, known.distinct x, listed_named (down size) x v.blocks, ap (times x) s.newest, one-same x)
 
   older_absent : times x s.older ≡ 0
   older_absent = omega (arith, once, ap (times x) s.newest, one-same x)
 
-  rest_absent : 1 ≤ s.remainder → times s.remainder_name (names_at order (down s.remainder)) ≡ 0
+  rest_absent : 1 ≤ s.remainder → times s.remainder_name (bin_at order (down s.remainder)) ≡ 0
   rest_absent l = omega (arith, times_remove (down size) x (down s.remainder) s.remainder_name v.order known.classes (down_small size) once, known.orders (down s.remainder) s.remainder_name, listed_named (down s.remainder) s.remainder_name v.blocks, (s.remainder_new l).absent)
 
   sized : units (used_block x n ∷ remainder) ≡ size

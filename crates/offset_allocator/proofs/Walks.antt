@@ -2,8 +2,8 @@
 use Rattle.std.proofs.Common.{◌≡◌, ◌≢◌, ◌<◌, ◌≤◌, ◌+◌, ◌⊎◌, ℕ, zero, suc, List, [], ◌∷◌, ◌++◌, refl, sym, ap, ◌∙◌, inl, inr, arith, length, drop, nat_eq, slice_index, slice_set, eq-eqb, ne_eqb, length-set, get_or-set_same, get_or-set_other}
 use Rattle.std.proofs.lemmas.Bool.{cases_eq}
 use Rattle.offset_allocator.specs.Cells.{Links}
-use Rattle.offset_allocator.specs.Named.{one, times, without}
-use Rattle.offset_allocator.specs.Orders.{Chain, Among, first_of, walk}
+use Rattle.offset_allocator.specs.View.{one, times, without}
+use Rattle.offset_allocator.specs.Bins.{IsLinked, Among, first_of, walk}
 use Rattle.offset_allocator.proofs.Tallies.{hit_cases, one-same, times-join}
 
 -- ---- lists of names
@@ -53,23 +53,23 @@ without_later x w (f ∷ fs) cs o = elim (hit_cases x f) [
 
 -- ---- one chain
 module _ (none : ℕ) (t : Links) (small : length t.newer ≤ none) where
-  pub name_below : (b : ℕ) (xs : List ℕ) → Chain none t b xs → (y : ℕ) → Among y xs → y < length t.newer
+  pub name_below : (b : ℕ) (xs : List ℕ) → IsLinked none t b xs → (y : ℕ) → Among y xs → y < length t.newer
   name_below b [] c y a = absurd (omega arith)
   name_below b (x ∷ xs) c y a = elim (hit_cases y x) [ inl h ↦ omega (arith, h.0, c.0) | inr h ↦ name_below x xs c.3 y (omega (arith, h.1)) ]
 
-  pub older_below : (b : ℕ) (xs : List ℕ) → Chain none t b xs → (x : ℕ) → Among x xs → slice_index t.older x ≢ none → slice_index t.older x < length t.newer
+  pub older_below : (b : ℕ) (xs : List ℕ) → IsLinked none t b xs → (x : ℕ) → Among x xs → slice_index t.older x ≢ none → slice_index t.older x < length t.newer
   older_below b [] c x a n = absurd (omega arith)
   older_below b (y ∷ ys) c x a n = elim (hit_cases x y) [
     | inl h ↦ at ys c.3 (ap (slice_index t.older) h.0 ∙ c.2)
     | inr h ↦ older_below y ys c.3 x (omega (arith, h.1)) n
   ]
     where
-      at : (l : List ℕ) → Chain none t y l → slice_index t.older x ≡ first_of none l → slice_index t.older x < length t.newer
+      at : (l : List ℕ) → IsLinked none t y l → slice_index t.older x ≡ first_of none l → slice_index t.older x < length t.newer
       at [] d e = absurd (n e)
       at (z ∷ l) d e = omega (arith, d.0)
 
   -- the name after one of a chain is in it too
-  pub next_among : (b : ℕ) (xs : List ℕ) → Chain none t b xs → (x : ℕ) → Among x xs → slice_index t.older x ≢ none → Among (slice_index t.older x) xs
+  pub next_among : (b : ℕ) (xs : List ℕ) → IsLinked none t b xs → (x : ℕ) → Among x xs → slice_index t.older x ≢ none → Among (slice_index t.older x) xs
   next_among b [] c x a n = absurd (omega arith)
   next_among b (y ∷ ys) c x a n = elim (hit_cases x y) [
     | inl h ↦ at ys (ap (slice_index t.older) h.0 ∙ c.2)
@@ -80,11 +80,11 @@ module _ (none : ℕ) (t : Links) (small : length t.newer ≤ none) where
       at [] e = absurd (n e)
       at (z ∷ l) e = omega (arith, ap (λ i. times i (z ∷ l)) e, one-same z)
 
-  pub chain_fits : (b : ℕ) (xs : List ℕ) → Chain none t b xs → ((x : ℕ) → times x xs ≤ 1) → length xs ≤ length t.newer
+  pub chain_fits : (b : ℕ) (xs : List ℕ) → IsLinked none t b xs → ((x : ℕ) → times x xs ≤ 1) → length xs ≤ length t.newer
   chain_fits b xs c o = length_below (length t.newer) xs o (name_below b xs c)
 
   -- the walk along the links is the chain
-  pub walk_is : (k b : ℕ) (xs : List ℕ) → length xs ≤ k → Chain none t b xs → walk none t.older k (first_of none xs) ≡ xs
+  pub walk_is : (k b : ℕ) (xs : List ℕ) → length xs ≤ k → IsLinked none t b xs → walk none t.older k (first_of none xs) ≡ xs
   unfolding walk
   walk_is zero b [] l c = refl
   walk_is zero b (x ∷ xs) l c = absurd (omega arith)
@@ -97,7 +97,7 @@ module _ (none : ℕ) (t : Links) (small : length t.newer ≤ none) where
     pub rest : List ℕ
     pub is : xs ≡ front ++ slice_index t.newer x ∷ x ∷ rest
 
-  pub found : (b x : ℕ) (xs : List ℕ) → Chain none t b xs → Among x xs → ((slice_index t.newer x ≡ b) × (xs ≡ x ∷ drop 1 xs)) ⊎ IsLater x xs
+  pub found : (b x : ℕ) (xs : List ℕ) → IsLinked none t b xs → Among x xs → ((slice_index t.newer x ≡ b) × (xs ≡ x ∷ drop 1 xs)) ⊎ IsLater x xs
   found b x [] c a = absurd (omega arith)
   found b x (y ∷ ys) c a = elim (hit_cases x y) [
     | inl h ↦ inl (ap (slice_index t.newer) h.0 ∙ c.1, ap (λ i. i ∷ ys) (sym h.0))
@@ -109,12 +109,12 @@ module _ (none : ℕ) (t : Links) (small : length t.newer ≤ none) where
 
 -- ---- a chain under other links
 module _ (none : ℕ) (t t' : Links) (even : length t'.newer ≡ length t.newer) where
-  pub kept : (b : ℕ) (xs : List ℕ) → ((y : ℕ) → Among y xs → (slice_index t'.newer y ≡ slice_index t.newer y) × (slice_index t'.older y ≡ slice_index t.older y)) → Chain none t b xs → Chain none t' b xs
+  pub kept : (b : ℕ) (xs : List ℕ) → ((y : ℕ) → Among y xs → (slice_index t'.newer y ≡ slice_index t.newer y) × (slice_index t'.older y ≡ slice_index t.older y)) → IsLinked none t b xs → IsLinked none t' b xs
   kept b [] s c = tt
   kept b (x ∷ xs) s c = let e = s x (omega (arith, one-same x)) in (omega (arith, c.0), e.0 ∙ c.1, e.1 ∙ c.2, kept x xs (λ y a. s y (omega arith)) c.3)
 
   -- another name, or none, before the first
-  pub led : (b b' : ℕ) (xs : List ℕ) → ((x : ℕ) → times x xs ≤ 1) → slice_index t'.newer (first_of none xs) ≡ b' ⊎ (xs ≡ []) → ((y : ℕ) → Among y xs → y ≢ first_of none xs → slice_index t'.newer y ≡ slice_index t.newer y) → ((y : ℕ) → Among y xs → slice_index t'.older y ≡ slice_index t.older y) → Chain none t b xs → Chain none t' b' xs
+  pub led : (b b' : ℕ) (xs : List ℕ) → ((x : ℕ) → times x xs ≤ 1) → slice_index t'.newer (first_of none xs) ≡ b' ⊎ (xs ≡ []) → ((y : ℕ) → Among y xs → y ≢ first_of none xs → slice_index t'.newer y ≡ slice_index t.newer y) → ((y : ℕ) → Among y xs → slice_index t'.older y ≡ slice_index t.older y) → IsLinked none t b xs → IsLinked none t' b' xs
   led b b' [] o f n s c = tt
   led b b' (x ∷ xs) o f n s c = (
     omega (arith, c.0),
@@ -140,11 +140,11 @@ module _ (none : ℕ) (t t' : Links) (w x : ℕ) (cs : List ℕ) (small : length
   pub older_kept : (y : ℕ) → y ≢ w → slice_index t'.older y ≡ slice_index t.older y
   older_kept y n = rw older (get_or-set_other t.older w y (first_of none cs) 0 n)
 
-  linked_on : (l : List ℕ) → l ≡ cs → Chain none t x l → slice_index t'.newer (first_of none l) ≡ w ⊎ (l ≡ [])
+  linked_on : (l : List ℕ) → l ≡ cs → IsLinked none t x l → slice_index t'.newer (first_of none l) ≡ w ⊎ (l ≡ [])
   linked_on [] e c = inr refl
   linked_on (y ∷ l) e c = let f = ap (first_of none) e in inl (rw (newer, ← f) (get_or-set_same t.newer y w 0 c.0))
 
-  pub unlinked : (b : ℕ) (fs : List ℕ) → ((y : ℕ) → times y (fs ++ w ∷ x ∷ cs) ≤ 1) → Chain none t b (fs ++ w ∷ x ∷ cs) → Chain none t' b (fs ++ w ∷ cs)
+  pub unlinked : (b : ℕ) (fs : List ℕ) → ((y : ℕ) → times y (fs ++ w ∷ x ∷ cs) ≤ 1) → IsLinked none t b (fs ++ w ∷ x ∷ cs) → IsLinked none t' b (fs ++ w ∷ cs)
   unlinked b [] o c =
       let long : length t'.newer ≡ length t.newer = rw newer (length-set t.newer (first_of none cs) w) in
       let alone : times w cs ≡ 0 = omega (arith, o w, one-same w) in (
@@ -166,20 +166,20 @@ module _ (none : ℕ) (t t' : Links) (w x : ℕ) (cs : List ℕ) (small : length
 pub record IsTail (none : ℕ) (t : Links) (name n total : ℕ) : Type 0 where
   pub before : ℕ
   pub names : List ℕ
-  pub chain : Chain none t before names
+  pub chain : IsLinked none t before names
   pub is : name ≡ first_of none names
   pub counted : n + length names ≡ total
 
 pub tail_next : {none : ℕ} {t : Links} {name n total : ℕ} → IsTail none t name n total → name ≢ none → (name < length t.newer) × (n < total) × IsTail none t (slice_index t.older name) (n + 1) total
 tail_next {none} {t} {name} {n} {total} s ne = go s.names s.before s.chain s.is s.counted
   where
-    go : (xs : List ℕ) (b : ℕ) → Chain none t b xs → name ≡ first_of none xs → n + length xs ≡ total → (name < length t.newer) × (n < total) × IsTail none t (slice_index t.older name) (n + 1) total
+    go : (xs : List ℕ) (b : ℕ) → IsLinked none t b xs → name ≡ first_of none xs → n + length xs ≡ total → (name < length t.newer) × (n < total) × IsTail none t (slice_index t.older name) (n + 1) total
     go [] b c e l = absurd (ne e)
     go (x ∷ xs) b c e l = (omega (arith, c.0), omega arith, record { before = x; names = xs; chain = c.3; is = ap (slice_index t.older) e ∙ c.2; counted = omega arith })
 
 pub tail_end : {none : ℕ} {t : Links} {name n total : ℕ} → length t.newer ≤ none → IsTail none t name n total → name ≡ none → n ≡ total
 tail_end {none} {t} {name} {n} {total} small s e = go s.names s.before s.chain s.is s.counted
   where
-    go : (xs : List ℕ) (b : ℕ) → Chain none t b xs → name ≡ first_of none xs → n + length xs ≡ total → n ≡ total
+    go : (xs : List ℕ) (b : ℕ) → IsLinked none t b xs → name ≡ first_of none xs → n + length xs ≡ total → n ≡ total
     go [] b c f l = omega arith
     go (x ∷ xs) b c f l = absurd (omega (arith, c.0))

@@ -2,7 +2,7 @@
 use Rattle.std.specs.Prelude.{◌≡◌, ℕ, ◌+◌, ◌<◌, ◌≤◌, List, [], ◌∷◌, ◌++◌, Option, Some, None, option_map, sum, replicate, nat_eq, if◌then◌else◌}
 use Rattle.std.specs.List.{AllByRecursion, filter}
 use Rattle.offset_allocator.specs.declared.compact.Move.{Move as Moved}
-use Rattle.offset_allocator.specs.Named.{View, Block, count_named, free_sizes, free_block, push_all}
+use Rattle.offset_allocator.specs.View.{View, Block, count_named, free_sizes, free_block, push_all}
 use Rattle.offset_allocator.specs.Ranges.{Range, range_of}
 use Rattle.offset_allocator.specs.Relations.{SameSpace}
 

@@ -1,7 +1,7 @@
 -- What an iterator over the blocks yields.
 use Rattle.std.specs.Prelude.{ℕ, ◌+◌, List, [], ◌∷◌, Option, Some, None, reverse, if◌then◌else◌}
 use Rattle.offset_allocator.specs.declared.blocks.Block.{Block as Yielded}
-use Rattle.offset_allocator.specs.Named.{View, Block, Grant}
+use Rattle.offset_allocator.specs.View.{View, Block, Grant}
 
 -- a block at its place: where it begins, its units, and its grant where it is used
 pub record Placed : Type 0 where

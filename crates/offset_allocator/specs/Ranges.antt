@@ -1,6 +1,6 @@
 -- The ranges of live handles, as their holders see them, and what a grant is.
 use Rattle.std.specs.Prelude.{◌≡◌, ℕ, ◌+◌, ◌≤◌, ◌≢◌, ◌⊎◌, Option, Some, None, IsSome, if◌then◌else◌, option_and_then, option_map, unwrap_or}
-use Rattle.offset_allocator.specs.Named.{View, Grant, Place, place_of, units}
+use Rattle.offset_allocator.specs.View.{View, Grant, Place, place_of, units}
 
 -- some units from an offset on
 pub record Range : Type 0 where

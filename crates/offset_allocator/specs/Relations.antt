@@ -3,8 +3,8 @@ use Rattle.std.specs.Prelude.{◌≡◌, ◌≢◌, ℕ, ◌+◌, ◌*◌, ◌%�
 use Rattle.std.specs.Int.{is_power_of_two, IsPowerOfTwo}
 use Rattle.std.specs.List.{AllByRecursion}
 use Rattle.offset_allocator.specs.Classes.{up, down}
-use Rattle.offset_allocator.specs.Promises.{HasRoomFor, CanGrant, blocks_needed, units_needed}
-use Rattle.offset_allocator.specs.Named.{View, Block, Grant, Place, units, names_at, free_sizes, IsApart, IsNew, max_size, padding_to, replace, push_all, free_block, free_part, place_of}
+use Rattle.offset_allocator.specs.Requests.{HasRoomFor, CanGrant, blocks_needed, units_needed}
+use Rattle.offset_allocator.specs.View.{View, Block, Grant, Place, units, bin_at, free_sizes, IsApart, IsNew, max_size, padding_to, replace, push_all, free_block, free_part, place_of}
 
 -- the same space, however many accesses are counted
 abbrev pub SameSpace : View → View → Type 0
@@ -26,9 +26,9 @@ pub record Splits (needed n : ℕ) (padding_at : ℕ → ℕ) (v w : View) (g : 
   -- which block: a free one, of a class large enough, with no block in a smaller such class, the newest of its bin
   pub free : block.used ≡ false
   pub fits : up needed ≤ down block.size
-  pub smallest : (c : ℕ) → up needed ≤ c → c < down block.size → names_at v.order c ≡ []
+  pub smallest : (c : ℕ) → up needed ≤ c → c < down block.size → bin_at v.order c ≡ []
   pub older : List ℕ
-  pub newest : names_at v.order (down block.size) ≡ block.name ∷ older
+  pub newest : bin_at v.order (down block.size) ≡ block.name ∷ older
   -- its parts: the padding that its offset asks for, n units, and the remainder
   pub padding : ℕ
   pub padded : padding ≡ padding_at (units before)

@@ -2,8 +2,8 @@
 use Rattle.std.specs.Prelude.{◌≡◌, ℕ, [], ◌∷◌, replicate}
 use Rattle.offset_allocator.specs.Classes.{down}
 use Rattle.offset_allocator.specs.Cells.{Cells}
-use Rattle.offset_allocator.specs.Named.{free_block, push}
-use Rattle.offset_allocator.specs.State.{IsSound, view_of}
+use Rattle.offset_allocator.specs.View.{free_block, push}
+use Rattle.offset_allocator.specs.Soundness.{IsSound, view_of}
 
 -- the tables hold one free block of size units, under the first name, and no other name was used
 pub record IsStarted (max size limit : ℕ) (c : Cells) (top : ℕ) : Type 0 where

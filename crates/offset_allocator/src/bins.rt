@@ -1,13 +1,13 @@
 //! A bin for each size class: the names of its free blocks, in a list of links between the nodes, with a two-level
 //! mask.
 ghost use Rattle.std.specs.Prelude.{◌≡◌, ◌+◌, ◌-◌, ◌<◌, ◌≤◌, ◌≢◌, ℕ, false, List, [], ◌∷◌, slice_index, slice_set, length, replicate, MatchOption};
-ghost use Rattle.offset_allocator.specs.Count.{Costs};
+ghost use Rattle.offset_allocator.specs.Accesses.{Costs};
 ghost use Rattle.offset_allocator.specs.Cells.{AreEmpty, node};
 ghost use Rattle.offset_allocator.specs.Classes.{down};
-ghost use Rattle.offset_allocator.specs.Named.{names_at, without, push, remove};
-ghost use Rattle.offset_allocator.specs.Promises.{IsLargestClass};
-ghost use Rattle.offset_allocator.specs.Stored.{AreBinned, SameChain, bins_of};
-ghost use Rattle.offset_allocator.specs.Orders.{IsUnlisted, IsSmallestFrom, Among, Linked, Masked, class_lists, Binned};
+ghost use Rattle.offset_allocator.specs.View.{bin_at, without, push, remove};
+ghost use Rattle.offset_allocator.specs.Requests.{IsLargestClass};
+ghost use Rattle.offset_allocator.specs.Store.{AreBinned, SameChain, bins_of};
+ghost use Rattle.offset_allocator.specs.Bins.{IsUnlisted, IsSmallestFrom, Among, HasBins, AreMasks, bins_in, IsBinned};
 
 use crate::accesses::Accesses;
 use crate::index::{NodeIndex, link_to, no_link, number};
@@ -22,11 +22,11 @@ pub(crate) fn find_at_or_above<NI: NodeIndex>(
     class: u32,
     count: &mut Accesses,
 ) -> Option<u32>
-    requires held { Binned NI.MAX tables.now.links top_mask }
+    requires held { IsBinned NI.MAX tables.now.links top_mask }
     requires classed { class < 256 }
     ensures smallest { MatchOption result ((c : ℕ) → class ≤ c → c < 256
-        → names_at (class_lists NI.MAX tables.now.links) c
-        ≡ []) (IsSmallestFrom class (class_lists NI.MAX tables.now.links)) }
+        → bin_at (bins_in NI.MAX tables.now.links) c
+        ≡ []) (IsSmallestFrom class (bins_in NI.MAX tables.now.links)) }
     ensures accesses { Costs 1 2 count.old count.new }
 {
     let word = class / 64;
@@ -48,9 +48,9 @@ pub(crate) fn largest<NI: NodeIndex>(
     top_mask: u32,
     count: &mut Accesses,
 ) -> Option<u32>
-    requires { Binned NI.MAX tables.now.links top_mask }
-    ensures largest { MatchOption result ((c : ℕ) → c < 256 → names_at (class_lists NI.MAX tables.now.links) c
-        ≡ []) (IsLargestClass (class_lists NI.MAX tables.now.links)) }
+    requires { IsBinned NI.MAX tables.now.links top_mask }
+    ensures largest { MatchOption result ((c : ℕ) → c < 256 → bin_at (bins_in NI.MAX tables.now.links) c
+        ≡ []) (IsLargestClass (bins_in NI.MAX tables.now.links)) }
     ensures accesses { MatchOption result (count.new ≡ count.old) (λ _. count.new ≡ count.old + 1) }
 {
     if top_mask == 0 {
@@ -62,9 +62,9 @@ pub(crate) fn largest<NI: NodeIndex>(
 
 /// The number of the names of a class.
 pub(crate) fn length_of<NI: NodeIndex>(tables: &Tables<NI>, class: u32, count: &mut Accesses) -> u32
-    requires linked { Linked NI.MAX tables.now.links (class_lists NI.MAX tables.now.links) }
+    requires linked { HasBins NI.MAX tables.now.links (bins_in NI.MAX tables.now.links) }
     requires classed { class < 256 }
-    ensures names { result ≡ length (names_at (class_lists NI.MAX tables.now.links) class) }
+    ensures names { result ≡ length (bin_at (bins_in NI.MAX tables.now.links) class) }
     ensures accesses { count.new ≡ count.old + 1 + result }
 {
     let mut names = 0;
@@ -111,10 +111,10 @@ pub(crate) fn push<NI: NodeIndex>(store: &mut Store<NI>, name: u32, class: u32)
 }
 
 // Clears the bit of a class, whose bin is empty now.
-fn clear_class<NI: NodeIndex>(store: &mut Store<NI>, class: u32)
+fn clear_bit<NI: NodeIndex>(store: &mut Store<NI>, class: u32)
     requires classed { class < 256 }
-    ensures masked { (ls : List (List ℕ)) → length ls ≡ 256 → Masked ls store.old.tables.links.masks store.old.top_mask
-        → Masked (slice_set ls class []) store.new.tables.links.masks store.new.top_mask }
+    ensures masked { (ls : List (List ℕ)) → length ls ≡ 256 → AreMasks ls store.old.tables.links.masks store.old.top_mask
+        → AreMasks (slice_set ls class []) store.new.tables.links.masks store.new.top_mask }
     ensures chain { SameChain store.old store.new }
     ensures rest { store.new.tables ≡ record store.old.tables {
       links = record store.old.tables.links
@@ -158,7 +158,7 @@ fn link_newer<NI: NodeIndex>(tables: &mut Tables<NI>, at: NI, to: NI, count: &mu
 fn behead<NI: NodeIndex>(store: &mut Store<NI>, class: u32, after: NI)
     requires held { AreBinned NI.MAX store.old }
     requires classed { class < 256 }
-    requires some { names_at (bins_of NI.MAX store.old) class ≢ [] }
+    requires some { bin_at (bins_of NI.MAX store.old) class ≢ [] }
     requires after { NI.number after ≡ slice_index store.old.tables.links.older
         (slice_index store.old.tables.links.heads class) }
     ensures held { AreBinned NI.MAX store.new }
@@ -176,7 +176,7 @@ fn behead<NI: NodeIndex>(store: &mut Store<NI>, class: u32, after: NI)
     let next = number(after);
     tables.set_head(class, next, count);
     if next == NI::MAX {
-        clear_class(store, class);
+        clear_bit(store, class);
     } else {
         tables.set_newer(next, no_link(), count);
     }
@@ -186,7 +186,7 @@ fn behead<NI: NodeIndex>(store: &mut Store<NI>, class: u32, after: NI)
 #[inline(always)]
 fn leave<NI: NodeIndex>(store: &mut Store<NI>, name: u32, before: NI, size: u32)
     requires held { AreBinned NI.MAX store.old }
-    requires listed { Among name (names_at (bins_of NI.MAX store.old) (down size)) }
+    requires listed { Among name (bin_at (bins_of NI.MAX store.old) (down size)) }
     requires before { NI.number before ≡ slice_index store.old.tables.links.newer name }
     ensures held { AreBinned NI.MAX store.new }
     ensures lists { bins_of NI.MAX store.new ≡ remove (down size) name (bins_of NI.MAX store.old) }
@@ -213,7 +213,7 @@ fn leave<NI: NodeIndex>(store: &mut Store<NI>, name: u32, before: NI, size: u32)
 #[inline(always)]
 pub(crate) fn remove<NI: NodeIndex>(store: &mut Store<NI>, name: u32, size: u32)
     requires held { AreBinned NI.MAX store.old }
-    requires listed { Among name (names_at (bins_of NI.MAX store.old) (down size)) }
+    requires listed { Among name (bin_at (bins_of NI.MAX store.old) (down size)) }
     ensures held { AreBinned NI.MAX store.new }
     ensures lists { bins_of NI.MAX store.new ≡ remove (down size) name (bins_of NI.MAX store.old) }
     ensures chain { SameChain store.old store.new }
@@ -234,7 +234,7 @@ pub(crate) fn exchange<NI: NodeIndex>(
     class: u32,
 )
     requires held { AreBinned NI.MAX store.old }
-    requires listed { Among gone (names_at (bins_of NI.MAX store.old) (down size)) }
+    requires listed { Among gone (bin_at (bins_of NI.MAX store.old) (down size)) }
     requires named { name < length store.old.tables.room.nodes }
     requires idle { (node store.old.tables.room name).used ≡ false }
     requires classed { class < 256 }
@@ -267,9 +267,9 @@ pub(crate) fn exchange<NI: NodeIndex>(
 pub(crate) fn pop<NI: NodeIndex>(store: &mut Store<NI>, class: u32) -> u32
     requires held { AreBinned NI.MAX store.old }
     requires classed { class < 256 }
-    requires some { names_at (bins_of NI.MAX store.old) class ≢ [] }
-    ensures first { names_at (bins_of NI.MAX store.old) class
-        ≡ result ∷ without result (names_at (bins_of NI.MAX store.old) class) }
+    requires some { bin_at (bins_of NI.MAX store.old) class ≢ [] }
+    ensures first { bin_at (bins_of NI.MAX store.old) class
+        ≡ result ∷ without result (bin_at (bins_of NI.MAX store.old) class) }
     ensures held { AreBinned NI.MAX store.new }
     ensures lists { bins_of NI.MAX store.new ≡ remove class result (bins_of NI.MAX store.old) }
     ensures chain { SameChain store.old store.new }
@@ -289,8 +289,8 @@ pub(crate) fn pop<NI: NodeIndex>(store: &mut Store<NI>, class: u32) -> u32
 /// The top mask of bins that are all empty, as those of new tables are.
 pub(crate) fn start<NI: NodeIndex>(tables: &Tables<NI>) -> u32
     requires empty { AreEmpty NI.MAX tables.now.links }
-    ensures held { Binned NI.MAX tables.now.links result }
-    ensures lists { class_lists NI.MAX tables.now.links ≡ replicate 256 [] }
+    ensures held { IsBinned NI.MAX tables.now.links result }
+    ensures lists { bins_in NI.MAX tables.now.links ≡ replicate 256 [] }
 {
     tables.shape();
     0

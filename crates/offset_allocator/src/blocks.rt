@@ -37,7 +37,7 @@ pub struct Blocks<'a, NI: NodeIndex = u32> {
 impl<'a, NI: NodeIndex> Model for Blocks<'a, NI> {
     ghost use Rattle.std.specs.Prelude.{◌≡◌, ◌≤◌, List, None, take, reverse, length};
     ghost use Rattle.offset_allocator.specs.Listing.{Placed, placed};
-    ghost use Rattle.offset_allocator.specs.Space.{last_or};
+    ghost use Rattle.offset_allocator.specs.Chain.{last_or};
 
     ghost Value = { List Placed };
 

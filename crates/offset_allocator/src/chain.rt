@@ -1,17 +1,17 @@
 //! The blocks of the space, linked in space order, and the stack of unused names.
 
 ghost use Rattle.std.specs.Prelude.{ℕ, ◌≡◌, ◌+◌, ◌-◌, ◌<◌, ◌≤◌, ◌^◌, List, [], ◌∷◌, ◌++◌, length, false, Some};
-ghost use Rattle.offset_allocator.specs.Named.{Block, Place, free_block, is_used_at, count_named, place_of, units};
-ghost use Rattle.offset_allocator.specs.Count.{Costs};
+ghost use Rattle.offset_allocator.specs.View.{Block, Place, free_block, is_used_at, count_named, place_of, units};
+ghost use Rattle.offset_allocator.specs.Accesses.{Costs};
 ghost use Rattle.offset_allocator.specs.Cells.{IsBare, node};
-ghost use Rattle.offset_allocator.specs.Orders.{IsUnlisted, class_lists};
+ghost use Rattle.offset_allocator.specs.Bins.{IsUnlisted, bins_in};
 ghost use Rattle.offset_allocator.specs.Readies.{KeepsBins, Readies};
-ghost use Rattle.offset_allocator.specs.Stored.{IsPlaceIn, SameBins};
-ghost use Rattle.offset_allocator.specs.Space.{IsChain, IsSpace, HasPlace, blocks, coalesced_before, coalesced_after};
+ghost use Rattle.offset_allocator.specs.Store.{IsPlaceIn, SameBins};
+ghost use Rattle.offset_allocator.specs.Chain.{IsChain, IsSpace, HasPlace, blocks, coalesced_before, coalesced_after};
 
 use crate::accesses::Accesses;
 use crate::index::{NodeIndex, link_to, linked, no_link, number};
-use crate::links::{point_back, point_on};
+use crate::neighbour_links::{point_back, point_on};
 use crate::store::Store;
 use crate::tables::Tables;
 
@@ -274,7 +274,7 @@ pub(crate) fn mark<NI: NodeIndex>(
     requires { name < length tables.old.room.nodes }
     ensures place { (m last spare : ℕ) (p : Place) → HasPlace tables.old.room m last spare name p
         → HasPlace tables.new.room m last spare name (record p { block = record p.block { used = used } }) }
-    ensures bins { (top : ℕ) → IsUnlisted name (class_lists NI.MAX tables.old.links)
+    ensures bins { (top : ℕ) → IsUnlisted name (bins_in NI.MAX tables.old.links)
         → KeepsBins NI.MAX tables.old tables.new top }
     ensures nodes { length tables.new.room.nodes ≡ length tables.old.room.nodes }
     ensures accesses { count.new ≡ count.old + 1 }

@@ -1,13 +1,13 @@
 //! Slides every live range to the front of the space, so that all free units are one block at its end.
 ghost use Rattle.std.specs.Prelude.{ℕ, ◌≡◌, ◌≢◌, ◌+◌, ◌*◌, ◌<◌, ◌≤◌, [], ◌∷◌, ◌++◌, Some, false, Bool, List, length};
 ghost use Rattle.std.specs.List.{FoldsTo};
-ghost use Rattle.offset_allocator.specs.Count.{Costs};
+ghost use Rattle.offset_allocator.specs.Accesses.{Costs};
 ghost use Rattle.offset_allocator.specs.Cells.{node};
-ghost use Rattle.offset_allocator.specs.Named.{Place, Block, free_block, free_sizes, units};
-ghost use Rattle.offset_allocator.specs.Space.{IsSpace, HasPlace, blocks};
-ghost use Rattle.offset_allocator.specs.State.{free_units};
+ghost use Rattle.offset_allocator.specs.View.{Place, Block, free_block, free_sizes, units};
+ghost use Rattle.offset_allocator.specs.Chain.{IsSpace, HasPlace, blocks};
+ghost use Rattle.offset_allocator.specs.Soundness.{free_units};
 ghost use Rattle.offset_allocator.specs.Compacting.{live, moves, move_of, Compacts, KeepsSizes, IsCalledWith, first_free};
-ghost use Rattle.offset_allocator.specs.Stored.{IsPlaceIn, SameBins};
+ghost use Rattle.offset_allocator.specs.Store.{IsPlaceIn, SameBins};
 
 use crate::accesses::Accesses;
 use crate::handle::Allocation;

@@ -2,12 +2,12 @@
 //! `laws` exports them.
 ghost use Rattle.std.specs.Prelude.{◌≡◌, ◌<◌, ◌≤◌, ◌+◌, ◌*◌, ◌↔◌, IsTrue, IsSome, IfSome, None, length, option_map};
 ghost use Rattle.std.specs.Iterator.{YieldsFirstBy};
-ghost use Rattle.offset_allocator.specs.Count.{Costs};
-ghost use Rattle.offset_allocator.specs.Named.{free_sizes, largest_free};
+ghost use Rattle.offset_allocator.specs.Accesses.{Costs};
+ghost use Rattle.offset_allocator.specs.View.{free_sizes, largest_free};
 ghost use Rattle.offset_allocator.specs.Ranges.{Range, range_of, size_of, IsLive};
 ghost use Rattle.offset_allocator.specs.Listing.{as_placed};
 ghost use Rattle.offset_allocator.specs.Relations.{IsAlignment};
-ghost use Rattle.offset_allocator.specs.Promises.{IsReport, IsFullReport, CanGrant, IsWhy, blocks_needed, units_needed};
+ghost use Rattle.offset_allocator.specs.Requests.{IsReport, IsFullReport, CanGrant, IsWhy, blocks_needed, units_needed};
 
 use crate::accesses::Accesses;
 use crate::blocks::{Block, Blocks};

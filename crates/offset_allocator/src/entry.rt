@@ -1,7 +1,7 @@
 //! The node of a block.
 ghost use Rattle.std.specs.Prelude.{◌≡◌, Bool};
 ghost use Rattle.offset_allocator.specs.Cells.{blank, mark_of};
-ghost use Rattle.offset_allocator.specs.View.{node_of};
+ghost use Rattle.offset_allocator.specs.Layouts.{node_of};
 
 use crate::index::{NodeIndex, no_link};
 

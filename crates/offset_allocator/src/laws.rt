@@ -3,12 +3,12 @@
 ghost use Rattle.std.specs.Prelude.{◌≡◌, ◌≢◌, ◌<◌, ◌≤◌, ◌+◌, ◌%◌, ◌↔◌, ℕ, List, ◌++◌, false, IsTrue, Some, length, sum, if◌then◌else◌};
 ghost use Rattle.std.specs.Int.{IsPowerOfTwo};
 ghost use Rattle.std.specs.List.{AllByRecursion};
-ghost use Rattle.offset_allocator.specs.Count.{Costs};
+ghost use Rattle.offset_allocator.specs.Accesses.{Costs};
 ghost use Rattle.offset_allocator.specs.Classes.{value, up, down};
-ghost use Rattle.offset_allocator.specs.Named.{View, Block, Grant, IsWellFormed, free_sizes, tally, one, total_free, largest_free, padding_to};
+ghost use Rattle.offset_allocator.specs.View.{View, Block, Grant, IsWellFormed, free_sizes, tally, one, total_free, largest_free, padding_to};
 ghost use Rattle.offset_allocator.specs.Ranges.{Range, range_of, AreDisjoint};
 ghost use Rattle.offset_allocator.specs.Relations.{IsAlignment, SameSpace, Allocates, Frees, IsFresh};
-ghost use Rattle.offset_allocator.specs.Promises.{CanGrant, HasRoomFor, IsWhy};
+ghost use Rattle.offset_allocator.specs.Requests.{CanGrant, HasRoomFor, IsWhy};
 ghost use Rattle.offset_allocator.specs.declared.reports.Refusal.{Refusal};
 ghost use Rattle.offset_allocator.specs.declared.reports.Refusal.TheVariants.{TooLarge, Fragmented};
 ghost use Rattle.offset_allocator.specs.Compacting.{moves, AreSafe, Compacts};

@@ -15,12 +15,12 @@
 #![tactic(auto)]
 
 ghost use Rattle.std.specs.Prelude.{ℕ, ◌≡◌, ◌↔◌, ◌+◌, ◌-◌, ◌*◌, ◌/◌, ◌%◌, ◌<◌, ◌≤◌, nat_lt, if◌then◌else◌, min, None, false, true, IsTrue, IsSome, IfSome, IfOk, length, option_map};
-ghost use Rattle.offset_allocator.specs.Count.{Costs};
+ghost use Rattle.offset_allocator.specs.Accesses.{Costs};
 ghost use Rattle.offset_allocator.specs.Ranges.{Range, range_of, size_of, Grants, IsLive, KeepsAll, KeepsOthers};
 ghost use Rattle.offset_allocator.specs.Reports.{IsGoodRefusal};
-ghost use Rattle.offset_allocator.specs.Named.{count_named, is_full, free_sizes, largest_free, used_of};
+ghost use Rattle.offset_allocator.specs.View.{count_named, is_full, free_sizes, largest_free, used_of};
 ghost use Rattle.offset_allocator.specs.Relations.{Allocates, Aligns, Frees, Extends, CanExtend, IsAlignment, SameSpace, IsSplitNearBest, IsFresh, Resets};
-ghost use Rattle.offset_allocator.specs.Promises.{IsReport, IsFullReport, CanGrant, IsWhy, HasRoomFor, blocks_needed, units_needed};
+ghost use Rattle.offset_allocator.specs.Requests.{IsReport, IsFullReport, CanGrant, IsWhy, HasRoomFor, blocks_needed, units_needed};
 ghost use Rattle.offset_allocator.specs.Listing.{listing};
 
 mod accesses;
@@ -35,7 +35,7 @@ mod fills;
 mod handle;
 mod index;
 pub mod laws;
-mod links;
+mod neighbour_links;
 mod neighbours;
 mod nonmax;
 mod reports;
@@ -71,8 +71,8 @@ pub struct Allocator<NI: NodeIndex = u32> {
 }
 
 impl<NI: NodeIndex> Model for Allocator<NI> {
-    ghost use Rattle.offset_allocator.specs.State.{view_of, IsSound};
-    ghost use Rattle.offset_allocator.specs.Named.{View};
+    ghost use Rattle.offset_allocator.specs.Soundness.{view_of, IsSound};
+    ghost use Rattle.offset_allocator.specs.View.{View};
 
     ghost Value = { View };
 

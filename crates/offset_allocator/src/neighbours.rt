@@ -1,14 +1,14 @@
 //! A block and its neighbours: coalesces it with the free ones, splits it into padding, grant and remainder, or resizes
 //! it into the free block after it. Each changes both halves of a store.
 ghost use Rattle.std.specs.Prelude.{ℕ, ◌≡◌, ◌+◌, ◌≤◌, ◌++◌, [], Some, false, length, MatchOption, ◌-◌, ◌<◌, IsSome, ◌∷◌};
-ghost use Rattle.offset_allocator.specs.Count.{Costs};
+ghost use Rattle.offset_allocator.specs.Accesses.{Costs};
 ghost use Rattle.offset_allocator.specs.Classes.{down};
 ghost use Rattle.offset_allocator.specs.Cells.{node};
-ghost use Rattle.offset_allocator.specs.Named.{Place, free_end, free_start, push, remove_all, free_part, without_start, used_block, units, push_all};
-ghost use Rattle.offset_allocator.specs.Space.{HasPlace, IsFreeAfter, coalesced_before, coalesced_after};
-ghost use Rattle.offset_allocator.specs.State.{AreFiled, AreUnlisted};
-ghost use Rattle.offset_allocator.specs.Stored.{IsPlaceIn, AreBinned, bins_of};
-ghost use Rattle.offset_allocator.specs.Orders.{IsUnlisted};
+ghost use Rattle.offset_allocator.specs.View.{Place, free_end, free_start, push, remove_all, free_part, without_start, used_block, units, push_all};
+ghost use Rattle.offset_allocator.specs.Chain.{HasPlace, IsFreeAfter, coalesced_before, coalesced_after};
+ghost use Rattle.offset_allocator.specs.Soundness.{AreInBins, AreUnlisted};
+ghost use Rattle.offset_allocator.specs.Store.{IsPlaceIn, AreBinned, bins_of};
+ghost use Rattle.offset_allocator.specs.Bins.{IsUnlisted};
 
 use crate::accesses::Accesses;
 use crate::index::NodeIndex;
@@ -78,7 +78,7 @@ pub(crate) fn units_after<NI: NodeIndex>(
 #[inline(always)]
 fn with_before<NI: NodeIndex>(store: &mut Store<NI>, name: u32, size: u32) -> u32
     requires place { (m : ℕ) × (p : Place) × IsPlaceIn store.old m name p
-        × AreFiled (p.before ++ p.after) (bins_of NI.MAX store.old) }
+        × AreInBins (p.before ++ p.after) (bins_of NI.MAX store.old) }
     requires held { AreBinned NI.MAX store.old }
     requires size { size ≡ (node store.old.tables.room name).size }
     ensures place { (m : ℕ) (p : Place) → IsPlaceIn store.old m name p
@@ -105,7 +105,7 @@ fn with_before<NI: NodeIndex>(store: &mut Store<NI>, name: u32, size: u32) -> u3
 #[inline(always)]
 fn with_after<NI: NodeIndex>(store: &mut Store<NI>, name: u32, size: u32, next: Option<u32>) -> u32
     requires place { (m : ℕ) × (p : Place) × IsPlaceIn store.old m name p
-        × AreFiled (p.before ++ p.after) (bins_of NI.MAX store.old) }
+        × AreInBins (p.before ++ p.after) (bins_of NI.MAX store.old) }
     requires held { AreBinned NI.MAX store.old }
     requires size { size ≡ (node store.old.tables.room name).size }
     requires next { IsFreeAfter store.old.tables.room name next }
@@ -136,7 +136,7 @@ fn with_after<NI: NodeIndex>(store: &mut Store<NI>, name: u32, size: u32, next: 
 #[inline(always)]
 pub(crate) fn coalesce<NI: NodeIndex>(store: &mut Store<NI>, name: u32, size: u32)
     requires place { (m : ℕ) × (p : Place) × IsPlaceIn store.old m name p
-        × AreFiled (p.before ++ p.after) (bins_of NI.MAX store.old) }
+        × AreInBins (p.before ++ p.after) (bins_of NI.MAX store.old) }
     requires held { AreBinned NI.MAX store.old }
     requires idle { (node store.old.tables.room name).used ≡ false }
     requires size { size ≡ (node store.old.tables.room name).size }
@@ -285,7 +285,7 @@ pub(crate) fn resize<NI: NodeIndex>(
     size: u32,
 ) -> u32
     requires place { (m : ℕ) × (p : Place) × IsPlaceIn store.old m name p
-        × AreFiled (p.before ++ p.after) (bins_of NI.MAX store.old)
+        × AreInBins (p.before ++ p.after) (bins_of NI.MAX store.old)
         × (size ≤ p.block.size + units (free_start p.after)) }
     requires held { AreBinned NI.MAX store.old }
     requires spare { 0 < store.old.spare_count }

@@ -34,7 +34,7 @@ pub enum Refusal {
 
 impl fmt::Display for Refusal {
     ghost use Rattle.std.specs.Prelude.{Some};
-    ghost use Rattle.offset_allocator.specs.Promises.{refusal_words};
+    ghost use Rattle.offset_allocator.specs.Requests.{refusal_words};
 
     ghost output = { λ why. Some (refusal_words why) };
 

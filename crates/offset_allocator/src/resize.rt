@@ -1,6 +1,6 @@
 //! Ranges that become smaller or larger in place.
 ghost use Rattle.std.specs.Prelude.{◌≡◌, ◌↔◌, ◌+◌, ◌<◌, ◌≤◌, false, IsTrue};
-ghost use Rattle.offset_allocator.specs.Count.{Costs};
+ghost use Rattle.offset_allocator.specs.Accesses.{Costs};
 ghost use Rattle.offset_allocator.specs.Ranges.{IsLive, KeepsOthers, size_of};
 ghost use Rattle.offset_allocator.specs.Relations.{SameSpace};
 ghost use Rattle.offset_allocator.specs.Resizing.{CanShrink, CanGrow, HasUnits, Shrinks, Grows, ResizesTo};

@@ -1,15 +1,15 @@
 //! The steps of the public calls. Each method leaves an allocator whose blocks and bins agree.
 ghost use Rattle.std.specs.Prelude.{◌≡◌, ◌↔◌, ◌+◌, ◌-◌, ◌*◌, ◌<◌, ◌≤◌, [], ◌∷◌, length, replicate, None, false, true, IsTrue, IsSome, IfSome};
-ghost use Rattle.offset_allocator.specs.Count.{Costs};
+ghost use Rattle.offset_allocator.specs.Accesses.{Costs};
 ghost use Rattle.offset_allocator.specs.Classes.{up};
 ghost use Rattle.offset_allocator.specs.Cells.{IsBare};
-ghost use Rattle.offset_allocator.specs.Orders.{IsSmallestFrom};
-ghost use Rattle.offset_allocator.specs.Stored.{AreBinned, bins_of};
+ghost use Rattle.offset_allocator.specs.Bins.{IsSmallestFrom};
+ghost use Rattle.offset_allocator.specs.Store.{AreBinned, bins_of};
 ghost use Rattle.offset_allocator.specs.Ranges.{range_of, IsLive, KeepsAll, KeepsOthers};
-ghost use Rattle.offset_allocator.specs.Named.{IsWellFormed, ends_used, padding_to, free_block, used_of};
+ghost use Rattle.offset_allocator.specs.View.{IsWellFormed, ends_used, padding_to, free_block, used_of};
 ghost use Rattle.offset_allocator.specs.Relations.{Splits, Aligns, Frees, Adds, SameSpace, Resets};
 ghost use Rattle.offset_allocator.specs.Start.{IsStarted};
-ghost use Rattle.offset_allocator.specs.Promises.{HasRoomFor, blocks_needed, units_needed};
+ghost use Rattle.offset_allocator.specs.Requests.{HasRoomFor, blocks_needed, units_needed};
 
 use crate::accesses::Accesses;
 use crate::handle::Allocation;

@@ -26,7 +26,7 @@ impl<NI: NodeIndex> Model for Tables<NI> {
 
     ghost Value = { Cells };
 
-    ghost use Rattle.offset_allocator.specs.View.{cells_of, AreEven};
+    ghost use Rattle.offset_allocator.specs.Layouts.{cells_of, AreEven};
 
     ghost view = { λ t. cells_of NI.MAX NI.number t };
 

@@ -5,7 +5,7 @@ use Rattle.std.specs.Option.{option_map_or}
 use Rattle.std.proofs.lemmas.Bool.{cases_eq, eqb-true, and_parts, false≢true}
 use Rattle.std.proofs.lemmas.List.{map-append, take_more}
 use Rattle.std.proofs.lemmas.List.Elements.{All-get_or}
-use Rattle.offset_allocator.specs.Named.{Block, Grant, Place, IsWellFormed, is_used_at, place_of}
+use Rattle.offset_allocator.specs.View.{Block, Grant, Place, IsWellFormed, is_used_at, place_of}
 use Rattle.offset_allocator.specs.Relations.{IsFresh}
 use Rattle.offset_allocator.proofs.Reading.{live_used}
 use Rattle.offset_guarded.specs.declared.ticket.Ticket.{Ticket}

@@ -4,8 +4,8 @@ use Rattle.std.proofs.lemmas.Bool.{cases_eq, cases_lt, true≢false, false≢tru
 use Rattle.std.proofs.lemmas.List.{map-append, get_or_past, get_or-replicate, length-replicate}
 use Rattle.std.specs.List.{AllByRecursion}
 use Rattle.offset_allocator.specs.Classes.{down}
-use Rattle.offset_allocator.specs.Named.{Block, View, Grant, one, count_named, names_at, push_all, IsWellFormed}
-use Rattle.offset_allocator.specs.Named as named
+use Rattle.offset_allocator.specs.View.{Block, View, Grant, one, count_named, bin_at, push_all, IsWellFormed}
+use Rattle.offset_allocator.specs.View as named
 use Rattle.offset_allocator.specs.Compacting.{Compacts}
 use Rattle.offset_allocator.specs.Compacting as named_moves
 use Rattle.offset_allocator.proofs.Classes.{down_small}
@@ -110,18 +110,18 @@ gathered_name_of k x t [] = refl
 gathered_name_of k x t (n ∷ ns) = refl
 
 -- its bin
-gathered_newest : (f : ℕ → ℕ) (x : ℕ) (ns : List ℕ) (c : ℕ) → IsFalling f (names_at (push_all (named_moves.gathered x ns) (replicate 256 [])) c)
+gathered_newest : (f : ℕ → ℕ) (x : ℕ) (ns : List ℕ) (c : ℕ) → IsFalling f (bin_at (push_all (named_moves.gathered x ns) (replicate 256 [])) c)
 gathered_newest f x [] c = subst (IsFalling f) (sym (empty_bin c)) tt
   where
-    empty_bin : (c : ℕ) → names_at (replicate 256 []) c ≡ []
+    empty_bin : (c : ℕ) → bin_at (replicate 256 []) c ≡ []
     empty_bin c = elim (cases_lt c 256) [ inl l ↦ get_or-replicate 256 c [] [] l | inr l ↦ get_or_past (replicate 256 []) c [] l ]
 gathered_newest f x (n ∷ ns) c = elim (cases_eq c (down (n + sum ns))) [
-  | inl e ↦ subst (λ d. IsFalling f (names_at (push_all (named_moves.gathered x (n ∷ ns)) (replicate 256 [])) d)) (sym e)
+  | inl e ↦ subst (λ d. IsFalling f (bin_at (push_all (named_moves.gathered x (n ∷ ns)) (replicate 256 [])) d)) (sym e)
       (subst (IsFalling f) (sym (names_same (replicate 256 []) (down (n + sum ns)) _ (length-replicate {A = List ℕ} 256 []) (down_small (n + sum ns)))) (subst (λ l. IsFalling f (x ∷ l)) (sym (empty_bin (down (n + sum ns)))) ((λ y m. absurd (omega arith)), tt)))
   | inr d ↦ subst (IsFalling f) (sym (names_other (replicate 256 []) (down (n + sum ns)) c _ d ∙ empty_bin c)) tt
 ]
   where
-    empty_bin : (c : ℕ) → names_at (replicate 256 []) c ≡ []
+    empty_bin : (c : ℕ) → bin_at (replicate 256 []) c ≡ []
     empty_bin c = elim (cases_lt c 256) [ inl l ↦ get_or-replicate 256 c [] [] l | inr l ↦ get_or_past (replicate 256 []) c [] l ]
 
 -- what a compaction leaves agrees
@@ -132,7 +132,7 @@ compact_agrees v kept_name s g u f = record {
       ∙ sym (map-append by_name (live_labels g.labels) (gathered_label f.name (stamp_of_call s) (free_sizes s.blocks)));
   state = ap₂ (λ a b. a ++ b) (ap live g.state ∙ sym (live_tags g.labels)) (sym (gathered_tags f.name (stamp_of_call s) (free_sizes s.blocks))) ∙ sym (map-append by_tag (live_labels g.labels) (gathered_label f.name (stamp_of_call s) (free_sizes s.blocks)));
   limit = g.limit ∙ sym (ap (λ (x : View). x.max_allocs) f.view);
-  newest = λ c. subst (λ o. IsFalling (λ x. stamp_of x (live_labels g.labels ++ gathered_label f.name (stamp_of_call s) (free_sizes s.blocks))) (names_at o c)) (sym (ap (λ (x : View). x.order) f.view)) (gathered_newest _ f.name (named.free_sizes v.blocks) c);
+  newest = λ c. subst (λ o. IsFalling (λ x. stamp_of x (live_labels g.labels ++ gathered_label f.name (stamp_of_call s) (free_sizes s.blocks))) (bin_at o c)) (sym (ap (λ (x : View). x.order) f.view)) (gathered_newest _ f.name (named.free_sizes v.blocks) c);
   handles = λ k. g.handles k ∙ sym (live_name_of k g.labels) ∙ sym (or_none (name_of k (live_labels g.labels))) ∙ ap (option_or (name_of k (live_labels g.labels))) (sym (gathered_name_of k f.name (stamp_of_call s) (free_sizes s.blocks)))
       ∙ sym (name_append k (live_labels g.labels) (gathered_label f.name (stamp_of_call s) (free_sizes s.blocks)));
 }

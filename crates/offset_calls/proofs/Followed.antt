@@ -7,9 +7,9 @@ use Rattle.offset_allocator.proofs.Tallies.{hit_cases}
 use Rattle.offset_allocator.specs.declared.reports.Refusal.{Refusal}
 use Rattle.offset_allocator.specs.declared.reports.Refusal.TheVariants.{Nodes, TooLarge, Space, Fragmented}
 use Rattle.offset_allocator.specs.Classes.{value, up, down}
-use Rattle.offset_allocator.specs.Named.{Block, View, Grant, Place, one, times, count_listed, names_at, units, IsWellFormed}
-use Rattle.offset_allocator.specs.Named as named
-use Rattle.offset_allocator.specs.Promises.{HasRoomFor, IsWhy, block_needed, blocks_needed, units_needed}
+use Rattle.offset_allocator.specs.View.{Block, View, Grant, Place, one, times, count_in_bin, bin_at, units, IsWellFormed}
+use Rattle.offset_allocator.specs.View as named
+use Rattle.offset_allocator.specs.Requests.{HasRoomFor, IsWhy, block_needed, blocks_needed, units_needed}
 use Rattle.offset_allocator.specs.Ranges.{Range, range_of, size_of}
 use Rattle.offset_allocator.specs.Relations.{SameSpace}
 use Rattle.offset_allocator.specs.Resizing.{Shrinks, Grows, Resizes}
@@ -189,32 +189,32 @@ module _ (v w : View) (hs left : List (Option Grant)) (r : Reply) (s : State) (f
   -- why a request is refused
 
   -- a name in a bin is that of a free block of its class
-  listed : (c x : ℕ) (ls : List Label) → 1 ≤ count_listed c x (names ls) → (l : Label) × In l ls × (is_free l.tag ≡ true) × (c ≡ down l.size)
+  listed : (c x : ℕ) (ls : List Label) → 1 ≤ count_in_bin c x (names ls) → (l : Label) × In l ls × (is_free l.tag ≡ true) × (c ≡ down l.size)
   listed c x [] h = absurd (omega arith)
   listed c x (l ∷ ls) h = go (is_free l.tag) refl (listed c x ls)
     where
       later : ((m : Label) × In m ls × (is_free m.tag ≡ true) × (c ≡ down m.size)) → (m : Label) × In m (l ∷ ls) × (is_free m.tag ≡ true) × (c ≡ down m.size)
       later q = (q.0, inr q.1, q.2, q.3)
 
-      go : (b : Bool) → is_free l.tag ≡ b → (1 ≤ count_listed c x (names ls) → (m : Label) × In m ls × (is_free m.tag ≡ true) × (c ≡ down m.size)) → (m : Label) × In m (l ∷ ls) × (is_free m.tag ≡ true) × (c ≡ down m.size)
+      go : (b : Bool) → is_free l.tag ≡ b → (1 ≤ count_in_bin c x (names ls) → (m : Label) × In m ls × (is_free m.tag ≡ true) × (c ≡ down m.size)) → (m : Label) × In m (l ∷ ls) × (is_free m.tag ≡ true) × (c ≡ down m.size)
       go false f ih = later (ih (let z = ap (λ b. one (not (not b) && (nat_eq c (down l.size) && nat_eq x l.name))) f in omega arith))
       go true f ih = elim (cases_eq c (down l.size)) [
         | inl e ↦ (l, inl refl, f, e)
         | inr d ↦ later (ih (let z = ap₂ (λ b y. one (not (not b) && (y && nat_eq x l.name))) f (ne_eqb c (down l.size) d) in omega arith))
       ]
 
-  some_chosen : (n : ℕ) → (c : ℕ) × (up n ≤ c) × (names_at v.order c ≢ []) → is_some (chosen_place n s.blocks) ≡ true
+  some_chosen : (n : ℕ) → (c : ℕ) × (up n ≤ c) × (bin_at v.order c ≢ []) → is_some (chosen_place n s.blocks) ≡ true
   some_chosen n h = go (chosen_place n s.blocks) refl
     where
       first : (xs : List ℕ) → xs ≢ [] → (x : ℕ) × (1 ≤ times x xs)
       first [] d = absurd (d refl)
       first (x ∷ xs) d = (x, elim (hit_cases x x) [ inl i ↦ omega (arith, i.1) | inr i ↦ absurd (i.0 refl) ])
 
-      x : (x : ℕ) × (1 ≤ times x (names_at v.order h.0))
-      x = first (names_at v.order h.0) h.2
+      x : (x : ℕ) × (1 ≤ times x (bin_at v.order h.0))
+      x = first (bin_at v.order h.0) h.2
 
       l : (l : Label) × In l p.agrees.labels × (is_free l.tag ≡ true) × (h.0 ≡ down l.size)
-      l = listed h.0 x.0 p.agrees.labels (let o = p.formed.orders h.0 x.0 in let q = x.1 in let z = ap (count_listed h.0 x.0) p.agrees.view in omega arith)
+      l = listed h.0 x.0 p.agrees.labels (let o = p.formed.orders h.0 x.0 in let q = x.1 in let z = ap (count_in_bin h.0 x.0) p.agrees.view in omega arith)
 
       fit : fits n (by_tag l.0) ≡ true
       fit = ap₂ (λ a b. a && b) l.2 (le-leb (up n) (down l.0.size) (let a = h.1 in let b = l.3 in omega arith))

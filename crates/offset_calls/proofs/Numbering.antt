@@ -3,7 +3,7 @@ use Rattle.std.proofs.Common.{◌≡◌, ℕ, zero, suc, ◌+◌, ◌-◌, ◌<�
 use Rattle.std.proofs.lemmas.Bool.{cases_eq, cases_lt, false≢true}
 use Rattle.std.proofs.lemmas.List.{map-append, length-map, reverse-append, drop_all, get_or_past}
 use Rattle.std.specs.List.{AllByRecursion, FoldsTo}
-use Rattle.offset_allocator.specs.Named.{Block, Grant, View}
+use Rattle.offset_allocator.specs.View.{Block, Grant, View}
 use Rattle.offset_allocator.specs.Ranges.{IsLive, Range, range_of}
 use Rattle.offset_allocator.specs.Compacting.{Move, live, moves}
 use Rattle.offset_allocator.specs.Listing.{Placed, placed, listing}

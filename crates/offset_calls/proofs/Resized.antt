@@ -5,9 +5,9 @@ use Rattle.std.proofs.lemmas.List.{map-append}
 use Rattle.std.specs.List.{AllByRecursion}
 use Rattle.offset_allocator.proofs.ViewApart.{right_false}
 use Rattle.offset_allocator.proofs.Reading.{size_at, size_is}
-use Rattle.offset_allocator.specs.Named.{Block, View, Place, place_of, units, IsWellFormed, IsApart, replace, used_block, free_part}
-use Rattle.offset_allocator.specs.Named as named
-use Rattle.offset_allocator.specs.Promises.{HasRoomFor}
+use Rattle.offset_allocator.specs.View.{Block, View, Place, place_of, units, IsWellFormed, IsApart, replace, used_block, free_part}
+use Rattle.offset_allocator.specs.View as named
+use Rattle.offset_allocator.specs.Requests.{HasRoomFor}
 use Rattle.offset_allocator.specs.Ranges.{size_of}
 use Rattle.offset_allocator.specs.Relations.{SameSpace}
 use Rattle.offset_allocator.specs.Resizing.{CanShrink, CanGrow, Resizes, free_after, free_beyond}

@@ -2,13 +2,13 @@
 use Rattle.std.proofs.Common.{◌≡◌, ◌≢◌, ℕ, zero, suc, ◌+◌, ◌-◌, ◌<◌, Bool, true, false, ◌&&◌, List, [], ◌∷◌, ◌++◌, length, Option, Some, None, IsSome, IfSome, is_some, nat_eq, slice_get, slice_index_or, slice_set, option_map, if◌then◌else◌, refl, sym, ap, ap₂, subst, ◌∙◌, inl, inr, arith, length-append}
 use Rattle.std.proofs.lemmas.Bool.{false≢true}
 use Rattle.std.proofs.lemmas.List.{map-append, length-map}
-use Rattle.offset_allocator.specs.Named.{Grant, View}
+use Rattle.offset_allocator.specs.View.{Grant, View}
 use Rattle.offset_allocator.specs.Ranges.{Range}
 use Rattle.offset_allocator.specs.Ranges as named
 use Rattle.offset_guarded.specs.declared.ticket.Ticket.{Ticket}
 use Rattle.offset_guarded.specs.Guard.{Guard, AreAlike, Grants, IsLive, IsSame, KeepsAll, KeepsLive, KeepsOthers, KeepsSerials, KeepsSizes, grant_of, range_of, serial_of}
 use Rattle.offset_guarded.proofs.Guards.{live_fits, live_name as live_named}
-use Rattle.offset_allocator.specs.Named.{free_sizes}
+use Rattle.offset_allocator.specs.View.{free_sizes}
 use Rattle.offset_allocator.specs.Reports.{rows_below}
 use Rattle.offset_allocator.specs.Relations.{Extends, Frees, Resets}
 use Rattle.offset_script.specs.declared.scripts.Command.{Command}
@@ -20,7 +20,7 @@ use Rattle.offset_script.specs.Simulation.{IsKept}
 use Rattle.offset_script.proofs.Simulation.{if_some}
 use Rattle.offset_calls.specs.declared.calls.Call.TheVariants as call
 use Rattle.offset_allocator.specs.declared.reports.Refusal.{Refusal}
-use Rattle.offset_allocator.specs.Promises.{blocks_needed, units_needed}
+use Rattle.offset_allocator.specs.Requests.{blocks_needed, units_needed}
 use Rattle.offset_calls.specs.declared.calls.Call.{Call}
 use Rattle.offset_calls.specs.Calls.{Answer, Refused_for}
 use Rattle.offset_calls.specs.Histories.{renumber}

@@ -2,9 +2,9 @@
 use Rattle.std.specs.Prelude.{◌≡◌, ◌↔◌, ℕ, Bool, true, List, [], ◌∷◌, Option, Some, None, IfSome, option_map, if◌then◌else◌}
 use Rattle.std.specs.List.{AllByRecursion}
 use Rattle.offset_allocator.specs.declared.reports.Refusal.{Refusal}
-use Rattle.offset_allocator.specs.Named.{View, Block, Grant}
+use Rattle.offset_allocator.specs.View.{View, Block, Grant}
 use Rattle.offset_allocator.specs.Ranges.{Range, range_of}
-use Rattle.offset_allocator.specs.Promises.{CanGrant, IsWhy, blocks_needed, units_needed}
+use Rattle.offset_allocator.specs.Requests.{CanGrant, IsWhy, blocks_needed, units_needed}
 use Rattle.offset_allocator.specs.Resizing.{Shrinks, Grows}
 use Rattle.offset_allocator.specs.Compacting.{Compacts, moves}
 use Rattle.offset_allocator.specs.Compacting as named

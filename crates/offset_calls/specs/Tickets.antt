@@ -1,7 +1,7 @@
 -- Calls on a guarded allocator: the tickets of its grants, and what a call that passes any ticket means.
 use Rattle.std.specs.Prelude.{◌≡◌, ℕ, zero, suc, ◌+◌, Bool, false, ◌&&◌, ◌⊎◌, List, [], ◌∷◌, ◌++◌, length, map, Option, Some, None, is_some, nat_eq, slice_get, option_map, option_and_then, if◌then◌else◌}
 use Rattle.std.specs.Option.{option_map_or, option_or}
-use Rattle.offset_allocator.specs.Named.{Grant}
+use Rattle.offset_allocator.specs.View.{Grant}
 use Rattle.offset_guarded.specs.declared.ticket.Ticket.{Ticket}
 use Rattle.offset_guarded.specs.Guard.{Guard, grant_of, range_of}
 use Rattle.offset_script.specs.declared.scripts.Command.{Command}

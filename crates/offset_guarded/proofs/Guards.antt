@@ -2,11 +2,11 @@
 use Rattle.std.proofs.Common.{◌≡◌, ◌≢◌, ℕ, ◌+◌, ◌<◌, ◌≤◌, length, Bool, true, false, ◌&&◌, List, [], ◌∷◌, Option, Some, None, IsSome, is_some, nat_eq, option_map, slice_set, if◌then◌else◌, refl, sym, ap, ap₂, subst, ◌∙◌, inl, inr, arith, eq-eqb, ne_eqb}
 use Rattle.std.proofs.lemmas.Bool.{cases_eq, eqb-true, and_parts}
 use Rattle.std.proofs.lemmas.List.{get_or-set_same, get_or-set_other}
-use Rattle.offset_allocator.specs.Named.{Block, View, Grant, Place, IsWellFormed, count_named, place_of, free_block}
+use Rattle.offset_allocator.specs.View.{Block, View, Grant, Place, IsWellFormed, count_named, place_of, free_block}
 use Rattle.offset_allocator.specs.Ranges.{Range}
 use Rattle.offset_allocator.specs.Ranges as named
 use Rattle.offset_allocator.specs.Relations.{Aligns, Allocates, IsFresh}
-use Rattle.offset_allocator.specs.Promises.{CanGrant}
+use Rattle.offset_allocator.specs.Requests.{CanGrant}
 use Rattle.offset_allocator.proofs.Reading.{range_at}
 use Rattle.offset_allocator.proofs.Tallies.{hit_cases}
 use Rattle.offset_guarded.specs.declared.ticket.Ticket.{Ticket}

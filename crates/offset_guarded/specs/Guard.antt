@@ -1,10 +1,10 @@
 -- What contracts see of a guarded allocator: which tickets are live, and what a call leaves of them.
 use Rattle.std.specs.Prelude.{◌≡◌, ℕ, ◌+◌, ◌<◌, ◌≤◌, Bool, ◌&&◌, List, Option, Some, None, IsSome, is_some, nat_eq, slice_index_or, if◌then◌else◌, option_map}
-use Rattle.offset_allocator.specs.Named.{View, Grant}
+use Rattle.offset_allocator.specs.View.{View, Grant}
 use Rattle.offset_allocator.specs.Ranges.{Range}
 use Rattle.offset_allocator.specs.Ranges as named
 use Rattle.offset_allocator.specs.Relations.{SameSpace}
-use Rattle.offset_allocator.specs.Promises as allocator
+use Rattle.offset_allocator.specs.Requests as allocator
 use Rattle.offset_guarded.specs.declared.ticket.Ticket.{Ticket}
 use Rattle.offset_guarded.specs.declared.refusal.Refusal.{Refusal}
 use Rattle.offset_guarded.specs.declared.refusal.Refusal.TheVariants.{Serials, Allocator}

@@ -17,9 +17,9 @@ ghost use Rattle.std.specs.Prelude.{ℕ, ◌≡◌, ◌≢◌, ◌↔◌, ◌+�
 ghost use Rattle.std.specs.List.{FoldsTo};
 ghost use Rattle.offset_allocator.specs.Ranges.{Range};
 ghost use Rattle.offset_allocator.specs.Ranges as named;
-ghost use Rattle.offset_allocator.specs.Named.{largest_free, used_of};
+ghost use Rattle.offset_allocator.specs.View.{largest_free, used_of};
 ghost use Rattle.offset_allocator.specs.Relations.{Aligns, Allocates, CanExtend, Extends, Frees, IsAlignment, IsFresh, Resets};
-ghost use Rattle.offset_allocator.specs.Promises.{CanGrant, HasRoomFor, blocks_needed, units_needed};
+ghost use Rattle.offset_allocator.specs.Requests.{CanGrant, HasRoomFor, blocks_needed, units_needed};
 ghost use Rattle.offset_allocator.specs.Resizing.{CanGrow, CanShrink, Grows, Shrinks};
 ghost use Rattle.offset_allocator.specs.Compacting.{Compacts, IsCalledWith, moves};
 ghost use Rattle.offset_guarded.specs.Guard.{Grants, HasUnits, IsLive, IsSame, IsWhy, KeepsAll, KeepsLive, KeepsOthers, KeepsSerials, KeepsSizes, cell, grant_of, last_serial, range_of, serial_of};

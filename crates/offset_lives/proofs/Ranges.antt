@@ -1,6 +1,6 @@
 -- What a call does to the range of a grant.
 use Rattle.std.proofs.Common.{◌≡◌, ◌≢◌, ℕ, zero, suc, ◌+◌, ◌-◌, ◌≤◌, Bool, true, false, List, [], ◌∷◌, ◌++◌, Option, Some, None, nat_eq, if◌then◌else◌, refl, sym, ap, ap₂, ◌∙◌, inl, inr, arith, ne_eqb, eq-eqb, append-nil}
-use Rattle.offset_allocator.specs.Named.{one}
+use Rattle.offset_allocator.specs.View.{one}
 use Rattle.std.proofs.lemmas.Bool.{cases_eq, true≢false, false≢true}
 use Rattle.offset_script.specs.Machine.{Tag, Live, Free, Block, block, is_free, has_number, total, Place, place_of, free_block, coalesce}
 use Rattle.offset_script.proofs.Well.{count, hit, whole, found_at, count-append, number_hit, granted_blocks, total-append, AllFree, coalesced}

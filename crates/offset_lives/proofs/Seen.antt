@@ -1,7 +1,7 @@
 -- A life is what the plain machine shows.
 use Rattle.std.proofs.Common.{◌≡◌, ◌≢◌, ℕ, zero, suc, ◌+◌, ◌≤◌, Bool, true, false, not, ◌&&◌, ◌||◌, List, [], ◌∷◌, Option, Some, None, nat_eq, nat_lt, if◌then◌else◌, refl, sym, ap, subst, ◌∙◌, inl, inr, arith, eq-eqb, ne_eqb}
 use Rattle.std.proofs.lemmas.Bool.{cases_eq, true≢false, false≢true}
-use Rattle.offset_allocator.specs.Named.{max_size}
+use Rattle.offset_allocator.specs.View.{max_size}
 use Rattle.offset_script.specs.declared.scripts.Command.{Command}
 use Rattle.offset_script.specs.declared.scripts.Command.TheVariants as command
 use Rattle.offset_script.specs.Machine.{Live, Block, total, Place, place_of, ends_live, coalesce, State, Answer, Outcome, start, step, answers, after, returns_only, leaves, grant, release, reset, stamp_of_call, stamp_of_padding, is_short_of}

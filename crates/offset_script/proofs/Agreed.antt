@@ -9,10 +9,10 @@ use Rattle.offset_allocator.specs.Reports.{largest, rows_below}
 use Rattle.offset_script.specs.declared.scripts.Command.TheVariants as command
 use Rattle.offset_script.specs.Machine.{Tag, Live, Free, is_free, has_number, stamp, total, chosen_place, State, Answer, step, returns_only, leaves, stamp_of_padding, stamp_of_call}
 use Rattle.offset_script.specs.Machine as machine
-use Rattle.offset_allocator.specs.Named.{Block, View, Place, Grant, place_of, tally, one, units, times, count_listed, used_block, free_block, free_part, names_at, push_all, remove_all, IsWellFormed, replace, max_size, padding_to}
-use Rattle.offset_allocator.specs.Named as named
+use Rattle.offset_allocator.specs.View.{Block, View, Place, Grant, place_of, tally, one, units, times, count_in_bin, used_block, free_block, free_part, bin_at, push_all, remove_all, IsWellFormed, replace, max_size, padding_to}
+use Rattle.offset_allocator.specs.View as named
 use Rattle.offset_allocator.proofs.Reading.{size_at}
-use Rattle.offset_allocator.specs.Promises.{HasRoomFor, CanGrant, blocks_needed, units_needed}
+use Rattle.offset_allocator.specs.Requests.{HasRoomFor, CanGrant, blocks_needed, units_needed}
 use Rattle.offset_allocator.specs.Relations.{SameSpace, Serves, Frees, Adds, CanExtend, Extends}
 use Rattle.offset_script.specs.Agreement.{Label, by_name, by_tag, stamp_of, IsFalling, name_of, Agrees}
 use Rattle.offset_script.proofs.Well.{Well, found_at, not_found, number_of, not_there, count, count-append, hit, hit_self, apart_parts, end_of, start_of, coalesce_parts, chosen_at}
@@ -121,8 +121,8 @@ module _ (v : View) (kept_name : ℕ → Option ℕ) (s : State) (w : IsWellForm
   low : (ls : List Label) → g.labels ≡ ls → (x : ℕ) → stamp_of x ls < stamp_of_padding s
   low ls e = subst (λ ls. (x : ℕ) → stamp_of x ls < stamp_of_padding s) e (stamps_below (stamp_of_padding s) g.labels (λ x. subst (λ bs. named.count_named x bs ≤ 1) g.view (w.distinct x)) (λ x b. subst (λ bs. count (Free x) bs ≡ 0) g.state (not_there s ws (Free x) (λ o. absurd (omega arith)))) (omega arith))
 
-  newest_at : (ls : List Label) → g.labels ≡ ls → (c : ℕ) → IsFalling (λ x. stamp_of x ls) (names_at v.order c)
-  newest_at ls e = subst (λ ls. (c : ℕ) → IsFalling (λ x. stamp_of x ls) (names_at v.order c)) e g.newest
+  newest_at : (ls : List Label) → g.labels ≡ ls → (c : ℕ) → IsFalling (λ x. stamp_of x ls) (bin_at v.order c)
+  newest_at ls e = subst (λ ls. (c : ℕ) → IsFalling (λ x. stamp_of x ls) (bin_at v.order c)) e g.newest
 
   -- new blocks in place of old ones
   module _ (u : View) (w' : IsWellFormed u) where
@@ -134,7 +134,7 @@ module _ (v : View) (kept_name : ℕ → Option ℕ) (s : State) (w : IsWellForm
       view = view;
       state = state;
       limit = limit ∙ g.limit ∙ sym (ap (λ (x : View). x.max_allocs) same);
-      newest = λ c. subst (λ o. IsFalling (λ x. stamp_of x (before ++ (new ++ after))) (names_at o c)) (sym (ap (λ (x : View). x.order) same))
+      newest = λ c. subst (λ o. IsFalling (λ x. stamp_of x (before ++ (new ++ after))) (bin_at o c)) (sym (ap (λ (x : View). x.order) same))
           (newest_replaced v before old new after w (g.view ∙ ap names e) (λ x. subst (λ bs. named.count_named x bs ≤ 1) view (w'.distinct x)) (stamp_of_padding s) (low _ e) rises (newest_at _ e) c);
       handles = handles;
     }
@@ -472,8 +472,8 @@ alone_agrees v x size stamp kept_name s blocks order limit state none = record {
   view = blocks;
   state = state;
   limit = limit;
-  newest = λ c. subst (λ o. IsFalling f (names_at o c)) (sym order) (elim (cases_eq c (down size)) [
-    | inl e ↦ subst (λ d. IsFalling f (names_at (push_all (free_block x size ∷ []) (replicate 256 [])) d)) (sym e) (subst (IsFalling f) (sym (names_same (replicate 256 []) (down size) _ (length-replicate {A = List ℕ} 256 []) (down_small size))) (subst (λ l. IsFalling f (x ∷ l)) (sym (empty (down size))) ((λ y m. absurd (omega arith)), tt)))
+  newest = λ c. subst (λ o. IsFalling f (bin_at o c)) (sym order) (elim (cases_eq c (down size)) [
+    | inl e ↦ subst (λ d. IsFalling f (bin_at (push_all (free_block x size ∷ []) (replicate 256 [])) d)) (sym e) (subst (IsFalling f) (sym (names_same (replicate 256 []) (down size) _ (length-replicate {A = List ℕ} 256 []) (down_small size))) (subst (λ l. IsFalling f (x ∷ l)) (sym (empty (down size))) ((λ y m. absurd (omega arith)), tt)))
     | inr n ↦ subst (IsFalling f) (sym (names_other (replicate 256 []) (down size) c _ n ∙ empty c)) tt
   ]);
   handles = none;
@@ -482,5 +482,5 @@ alone_agrees v x size stamp kept_name s blocks order limit state none = record {
     f : ℕ → ℕ
     f y = stamp_of y ((record { name = x; size = size; tag = Free stamp }) ∷ [])
 
-    empty : (c : ℕ) → names_at (replicate 256 []) c ≡ []
+    empty : (c : ℕ) → bin_at (replicate 256 []) c ≡ []
     empty c = elim (cases_lt c 256) [ inl l ↦ get_or-replicate 256 c [] [] l | inr l ↦ get_or_past (replicate 256 []) c [] l ]

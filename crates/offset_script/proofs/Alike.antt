@@ -3,7 +3,7 @@ use Rattle.std.proofs.Common.{◌≡◌, ℕ, zero, suc, ◌+◌, ◌-◌, ◌*�
 use Rattle.offset_script.specs.declared.scripts.Command.{Command}
 use Rattle.offset_script.specs.declared.scripts.Command.TheVariants as command
 use Rattle.offset_script.specs.Machine.{Free, Block, block, has_number, total, Place, fits, chosen_place, place_of, ends_live, coalesce, State, Answer, Outcome, step, answers, after, request, grant, grant_or_refuse, is_short_of, returns_only, leaves, release, size_at, report, reset, extend, stamp_of_call, free_sizes}
-use Rattle.offset_allocator.specs.Named.{padding_to}
+use Rattle.offset_allocator.specs.View.{padding_to}
 use Rattle.offset_script.specs.Machine as machine
 use Rattle.offset_allocator.specs.Reports.{largest, rows_below}
 use Rattle.offset_script.proofs.Members.{In, in_left, in_right}

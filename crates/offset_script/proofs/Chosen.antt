@@ -6,7 +6,7 @@ use Rattle.std.proofs.lemmas.Bool.{cases_eq, cases_lt, true≢false, and_parts, 
 use Rattle.offset_allocator.specs.Classes.{up, down}
 use Rattle.offset_script.specs.Machine.{Tag, Live, Free, is_free, has_number, stamp, fits, is_taken_before, chosen_place}
 use Rattle.offset_script.specs.Machine as plain
-use Rattle.offset_allocator.specs.Named.{Block, View, Place, Grant, place_of, one, times, count_named, count_listed, names_at, IsWellFormed}
+use Rattle.offset_allocator.specs.View.{Block, View, Place, Grant, place_of, one, times, count_named, count_in_bin, bin_at, IsWellFormed}
 use Rattle.offset_allocator.specs.Relations.{Splits}
 use Rattle.offset_script.specs.Agreement.{Label, by_name, by_tag, stamp_of, IsFalling}
 use Rattle.offset_script.proofs.Well.{chosen_at, not_chosen}
@@ -63,7 +63,7 @@ names_whole s = map-append by_name s.before (s.label ∷ s.after)
 -- what holds of a view and a list of labels that agree
 pub record IsLabelled (v : View) (ls : List Label) : Type 0 where
   pub view : v.blocks ≡ names ls
-  pub newest : (c : ℕ) → IsFalling (λ x. stamp_of x ls) (names_at v.order c)
+  pub newest : (c : ℕ) → IsFalling (λ x. stamp_of x ls) (bin_at v.order c)
 
 -- no block before a spot has its name
 pub alone_before : (v : View) → IsWellFormed v → (s : Spot) → v.blocks ≡ names (whole s) → count_named s.label.name (names s.before) ≡ 0
@@ -74,9 +74,9 @@ pub place_of_spot : (v : View) → IsWellFormed v → (s : Spot) → v.blocks �
 place_of_spot v w s e = ap (place_of s.label.name) (e ∙ names_whole s) ∙ place_here s.label.name (names s.before) (by_name s.label) (names s.after) (alone_before v w s e) refl
 
 -- a free block is listed in its class
-listed_spot : (v : View) → IsWellFormed v → (s : Spot) → v.blocks ≡ names (whole s) → is_free s.label.tag ≡ true → 1 ≤ times s.label.name (names_at v.order (down s.label.size))
+listed_spot : (v : View) → IsWellFormed v → (s : Spot) → v.blocks ≡ names (whole s) → is_free s.label.tag ≡ true → 1 ≤ times s.label.name (bin_at v.order (down s.label.size))
 listed_spot v w s e f =
-    let parts = ap (count_listed (down s.label.size) s.label.name) (e ∙ names_whole s) ∙ tally_append (λ (b : Block). one (not b.used && (nat_eq (down s.label.size) (down b.size) && nat_eq s.label.name b.name))) (names s.before) (by_name s.label ∷ names s.after) in
+    let parts = ap (count_in_bin (down s.label.size) s.label.name) (e ∙ names_whole s) ∙ tally_append (λ (b : Block). one (not b.used && (nat_eq (down s.label.size) (down b.size) && nat_eq s.label.name b.name))) (names s.before) (by_name s.label ∷ names s.after) in
     let o = w.orders (down s.label.size) s.label.name in
     let here : one (not (not (is_free s.label.tag)) && (nat_eq (down s.label.size) (down s.label.size) && nat_eq s.label.name s.label.name)) ≡ 1 = rw (f, eq-eqb (down s.label.size) (down s.label.size) refl, eq-eqb s.label.name s.label.name refl) refl in
     omega (arith, parts, o, here)
@@ -98,14 +98,14 @@ module _ (v : View) (w : IsWellFormed v) (ls : List Label) (a : IsLabelled v ls)
       let parts = and_parts (is_free r.0.label.tag) (nat_le (up n) (down r.0.label.size)) (ap (λ (q : plain.Place). fits n q.block) r.2 ∙ c.1) in
       (r.0, r.1, r.2, parts.0, leb-true (up n) (down r.0.label.size) parts.1)
 
-  none_if : ((c : ℕ) × (up n ≤ c) × (names_at v.order c ≢ []) → ⊥) → (o : Option plain.Place) → chosen_place n (tags ls) ≡ o → o ≡ None
+  none_if : ((c : ℕ) × (up n ≤ c) × (bin_at v.order c ≢ []) → ⊥) → (o : Option plain.Place) → chosen_place n (tags ls) ≡ o → o ≡ None
   none_if none None e = refl
   none_if none (Some p) e =
       let r = chosen_spot p e in
       absurd (none (down r.0.label.size, r.4, λ z. let h = listed_spot v w r.0 (a.view ∙ ap names r.1) r.3 in let k = ap (times r.0.label.name) z in absurd (omega arith)))
 
   -- where no bin of a large enough class has a block, the machine chooses none
-  pub none_chosen : ((c : ℕ) × (up n ≤ c) × (names_at v.order c ≢ []) → ⊥) → chosen_place n (tags ls) ≡ None
+  pub none_chosen : ((c : ℕ) × (up n ≤ c) × (bin_at v.order c ≢ []) → ⊥) → chosen_place n (tags ls) ≡ None
   none_chosen none = none_if none (chosen_place n (tags ls)) refl
 
   module _ (m : ℕ) (padding_at : ℕ → ℕ) (u : View) (g : Grant) (t : Splits n m padding_at v u g) where
@@ -135,12 +135,12 @@ module _ (v : View) (w : IsWellFormed v) (ls : List Label) (a : IsLabelled v ls)
         name : s.label.name ≡ t.block.name
         name = ap (λ (p : Place). p.block.name) place
 
-        listed : 1 ≤ times l.label.name (names_at v.order (down l.label.size))
+        listed : 1 ≤ times l.label.name (bin_at v.order (down l.label.size))
         listed = listed_spot v w l (a.view ∙ ap names el) fl
 
         newer : s.label.name ≢ l.label.name → down s.label.size ≡ down l.label.size → stamp l.label.tag < stamp s.label.tag
         newer d e =
-            let order = ap (names_at v.order) (sym e ∙ class) ∙ t.newest in
+            let order = ap (bin_at v.order) (sym e ∙ class) ∙ t.newest in
             let falls = subst (IsFalling (λ x. stamp_of x ls)) t.newest (a.newest (down t.block.size)) in
             let there : 1 ≤ times l.label.name t.older = elim (hit_cases l.label.name t.block.name) [
               | inl i ↦ absurd (d (name ∙ sym i.0))

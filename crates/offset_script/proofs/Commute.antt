@@ -6,7 +6,7 @@ use Rattle.offset_script.specs.declared.scripts.Command.{Command}
 use Rattle.offset_script.specs.declared.scripts.Command.TheVariants as command
 use Rattle.offset_allocator.specs.Classes.{up, down}
 use Rattle.offset_allocator.specs.Reports.{largest, rows_below}
-use Rattle.offset_allocator.specs.Named.{max_size, padding_to}
+use Rattle.offset_allocator.specs.View.{max_size, padding_to}
 use Rattle.offset_script.specs.Machine.{Tag, Live, Free, Block, block, is_free, has_number, total, free_sizes, Place, here, prepend, fits, is_taken_before, choose, chosen_place, place_of, free_start, without_start, ends_live, coalesce, State, Outcome, start, step, after, request, grant_or_refuse, is_short_of, returns_only, leaves, release, size_at, stamp_of_call}
 use Rattle.offset_script.specs.Machine as machine
 use Rattle.offset_script.specs.Histories.{holder, outline, widen, collapse, without_offset, releases, IsCollapse}

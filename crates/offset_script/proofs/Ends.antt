@@ -4,8 +4,8 @@ use Rattle.std.specs.Option.{option_or}
 use Rattle.std.proofs.lemmas.Bool.{false≢true, not-false}
 use Rattle.offset_script.specs.Machine.{Tag, Live, Free, is_free, has_number, stamp, total}
 use Rattle.offset_script.specs.Machine as plain
-use Rattle.offset_allocator.specs.Named as named
-use Rattle.offset_allocator.specs.Named.{Block, tally, units, one}
+use Rattle.offset_allocator.specs.View as named
+use Rattle.offset_allocator.specs.View.{Block, tally, units, one}
 use Rattle.offset_script.specs.Agreement.{Label, name_of}
 use Rattle.offset_script.proofs.Well.{count, hit, hit_number, number_of}
 use Rattle.offset_script.proofs.Well as well

@@ -5,7 +5,7 @@ use Rattle.std.proofs.lemmas.Bool.{cases_lt, not-true, not-false}
 use Rattle.offset_allocator.specs.Classes.{down}
 use Rattle.offset_script.specs.Machine.{Tag, Live, Free, is_free, has_number, stamp}
 use Rattle.offset_script.specs.Machine as plain
-use Rattle.offset_allocator.specs.Named.{Block, View, one, times, count_named, count_listed, names_at, push_all, remove_all, IsWellFormed}
+use Rattle.offset_allocator.specs.View.{Block, View, one, times, count_named, count_in_bin, bin_at, push_all, remove_all, IsWellFormed}
 use Rattle.offset_script.specs.Agreement.{Label, by_name, by_tag, stamp_of, IsFalling}
 use Rattle.offset_script.proofs.Well.{count, hit, hit_self}
 use Rattle.offset_allocator.proofs.Tallies.{tally_three, listed_named, tally_append, hit_cases, one-same}
@@ -95,8 +95,8 @@ rises_named f t (l ∷ ls) g r = (
 -- new blocks in place of old ones, where the new stamps are above the old
 pub newest_replaced : (v : View) (before old new after : List Label) → IsWellFormed v → v.blocks ≡ names (before ++ (old ++ after)) → ((x : ℕ) → count_named x (names (before ++ (new ++ after))) ≤ 1)
     → (t : ℕ) → ((x : ℕ) → stamp_of x (before ++ (old ++ after)) < t) → Rises t new
-    → ((c : ℕ) → IsFalling (λ x. stamp_of x (before ++ (old ++ after))) (names_at v.order c))
-    → (c : ℕ) → IsFalling (λ x. stamp_of x (before ++ (new ++ after))) (names_at (push_all (names new) (remove_all (names old) v.order)) c)
+    → ((c : ℕ) → IsFalling (λ x. stamp_of x (before ++ (old ++ after))) (bin_at v.order c))
+    → (c : ℕ) → IsFalling (λ x. stamp_of x (before ++ (new ++ after))) (bin_at (push_all (names new) (remove_all (names old) v.order)) c)
 newest_replaced v before old new after w e distinct t low rises newest = falling_put_all f' t (names new) (remove_all (names old) v.order) (length_remove_all (names old) v.order ∙ w.classes)
     (λ d. falling_same f f' _ (same d) (falling_remove_all f (names old) v.order w.classes newest d))
     (λ d y m. let s = same d y m in let l = low y in omega arith)
@@ -111,11 +111,11 @@ newest_replaced v before old new after w e distinct t low rises newest = falling
     parted : v.blocks ≡ names before ++ (names old ++ names after)
     parted = e ∙ map_three by_name before old after
 
-    same : (d y : ℕ) → 1 ≤ times y (names_at (remove_all (names old) v.order) d) → f y ≡ f' y
+    same : (d y : ℕ) → 1 ≤ times y (bin_at (remove_all (names old) v.order) d) → f y ≡ f' y
     same d y m =
         let r = orders_replaced v (names before) (names old) [] (names after) w parted d y in
         let o = w.orders d y in
-        let listed_parts = ap (count_listed d y) parted ∙ tally_three (λ (b : Block). one (not b.used && (nat_eq d (down b.size) && nat_eq y b.name))) (names before) (names old) (names after) in
+        let listed_parts = ap (count_in_bin d y) parted ∙ tally_three (λ (b : Block). one (not b.used && (nat_eq d (down b.size) && nat_eq y b.name))) (names before) (names old) (names after) in
         let named_parts = ap (count_named y) parted ∙ tally_three (λ (b : Block). one (nat_eq y b.name)) (names before) (names old) (names after) in
         let most = w.distinct y in
         let b = listed_named d y (names before) in

@@ -4,7 +4,7 @@ use Rattle.std.proofs.lemmas.Bool.{cases_lt, lt-leb, and_parts}
 use Rattle.offset_script.specs.declared.scripts.Command.{Command}
 use Rattle.offset_script.specs.declared.scripts.Command.TheVariants as command
 use Rattle.offset_allocator.specs.Classes.{up, down}
-use Rattle.offset_allocator.specs.Named.{max_size, padding_to}
+use Rattle.offset_allocator.specs.View.{max_size, padding_to}
 use Rattle.offset_script.specs.Machine.{Live, Free, is_free, total, Place, chosen_place, place_of, coalesce, State, Answer, Outcome, start, step, after, answers, request, grant, grant_or_refuse, is_short_of, returns_only, leaves, release, size_at, stamp_of_call}
 use Rattle.offset_script.specs.Machine as machine
 use Rattle.offset_allocator.specs.Reports.{rows_below}

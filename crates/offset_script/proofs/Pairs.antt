@@ -3,7 +3,7 @@ use Rattle.std.proofs.Common.{◌≡◌, ℕ, zero, suc, ◌+◌, ◌-◌, true,
 use Rattle.std.proofs.lemmas.List.{map-append, length-map}
 use Rattle.std.proofs.lemmas.Bool.{false≢true, and_parts}
 use Rattle.offset_allocator.specs.Classes.{up, down}
-use Rattle.offset_allocator.specs.Named.{max_size}
+use Rattle.offset_allocator.specs.View.{max_size}
 use Rattle.offset_script.specs.Machine.{Tag, Live, Free, Block, block, is_free, has_number, stamp, total, free_sizes, Place, fits, is_taken_before, choose, chosen_place, prepend, place_of, free_block, ends_live, coalesce, State, is_short_of}
 use Rattle.offset_script.proofs.Members.{In, in_append, in_left, in_right, map_parts}
 use Rattle.offset_script.proofs.Well.{starts_free, ends_free, AllFree, IsEnd, IsStart, Coalesced, coalesced, coalesce_parts}

@@ -13,13 +13,13 @@ use Rattle.offset_script.specs.declared.scripts.Command.TheVariants as command
 use Rattle.offset_script.specs.Grammar.{has_valid_alignment}
 use Rattle.offset_script.specs.Machine.{State, Answer, step, start, row_view}
 use Rattle.offset_script.specs.Machine as machine
-use Rattle.offset_allocator.specs.Named.{View, Grant, free_sizes, IsWellFormed}
+use Rattle.offset_allocator.specs.View.{View, Grant, free_sizes, IsWellFormed}
 use Rattle.offset_script.specs.Agreement.{Agrees, kept_name}
 use Rattle.offset_allocator.specs.Relations.{IsFresh, Frees, Extends, Resets}
 use Rattle.offset_script.proofs.Well.{Well}
 use Rattle.offset_script.proofs.Agreed.{with_name, without_name, Matches, serve_agrees, aligned_agrees, extend_agrees, free_agrees, live_agrees, gone_agrees, size_gone_agrees, size_agrees, report_agrees, full_agrees, agrees_quiet, agrees_kept, alone_agrees, same_units}
 use Rattle.offset_script.specs.declared.answers.FullRow.{FullRow}
-use Rattle.offset_allocator.specs.Promises.{IsFullReport}
+use Rattle.offset_allocator.specs.Requests.{IsFullReport}
 use Rattle.offset_allocator.specs.Ranges.{size_of}
 use Rattle.offset_allocator.proofs.Reading.{used_live, size_is}
 use Rattle.offset_script.specs.Simulation.{Represents, Takes, IsRun, AreOfARun, IsKept, IfNamed, Stays, AreLive}

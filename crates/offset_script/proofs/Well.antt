@@ -7,7 +7,7 @@ use Rattle.std.specs.List.{AllByRecursion}
 use Rattle.offset_script.specs.declared.scripts.Command.{Command}
 use Rattle.offset_script.specs.declared.scripts.Command.TheVariants as command
 use Rattle.offset_allocator.specs.Classes.{down}
-use Rattle.offset_allocator.specs.Named.{max_size, padding_to, one}
+use Rattle.offset_allocator.specs.View.{max_size, padding_to, one}
 use Rattle.offset_script.specs.Machine.{Tag, Live, Free, Block, block, is_free, has_number, stamp, total, Place, here, prepend, fits, is_taken_before, choose, chosen_place, place_of, free_block, free_start, without_start, free_end, without_end, ends_live, coalesce, State, Answer, Outcome, start, step, answers, after, request, grant, grant_or_refuse, is_short_of, returns_only, leaves, release, size_at, report, reset, extend, stamp_of_call, stamp_of_padding}
 use Rattle.offset_script.specs.Machine as machine
 use Rattle.offset_allocator.specs.Reports.{rows_below}

@@ -1,6 +1,6 @@
 -- When the named view of an allocator, with the handles kept for its grants, shows the blocks of a plain state.
 use Rattle.std.specs.Prelude.{◌≡◌, ℕ, zero, suc, ◌<◌, ◌≤◌, not, List, [], ◌∷◌, map, Option, Some, None, slice_index_or, option_map, nat_eq, if◌then◌else◌}
-use Rattle.offset_allocator.specs.Named.{Block, View, Grant, tally, times, names_at}
+use Rattle.offset_allocator.specs.View.{Block, View, Grant, tally, times, bin_at}
 use Rattle.offset_script.specs.Machine.{Tag, is_free, has_number, stamp, State}
 use Rattle.offset_script.specs.Machine as machine
 
@@ -39,7 +39,7 @@ pub record Agrees (v : View) (kept_name : ℕ → Option ℕ) (s : State) : Type
   pub view : v.blocks ≡ map by_name labels
   pub state : s.blocks ≡ map by_tag labels
   pub limit : s.limit ≡ v.max_allocs
-  pub newest : (c : ℕ) → IsFalling (λ x. stamp_of x labels) (names_at v.order c)
+  pub newest : (c : ℕ) → IsFalling (λ x. stamp_of x labels) (bin_at v.order c)
   pub handles : (k : ℕ) → kept_name k ≡ name_of k labels
 
 -- the name of the handle kept for grant k, where handle k - 1 is that of grant k

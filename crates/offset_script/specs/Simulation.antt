@@ -1,6 +1,6 @@
 -- The named step of each command, runs of such steps, and when an allocator represents a state of the plain machine.
 use Rattle.std.specs.Prelude.{◌≡◌, ◌-◌, ℕ, Bool, List, [], ◌∷◌, ◌++◌, length, Option, Some, None, slice_set, if◌then◌else◌}
-use Rattle.offset_allocator.specs.Named.{View, Grant, IsWellFormed, free_sizes, total_free, largest_free}
+use Rattle.offset_allocator.specs.View.{View, Grant, IsWellFormed, free_sizes, total_free, largest_free}
 use Rattle.offset_allocator.specs.Ranges.{IsLive, size_of}
 use Rattle.offset_allocator.specs.Relations.{IsFresh, Allocates, Aligns, Frees, Resets, Extends}
 use Rattle.offset_allocator.specs.Reports.{rows_below}

@@ -4,7 +4,7 @@ ghost use Rattle.std.specs.Prelude.{◌≡◌, ◌↔◌, ℕ, ◌+◌, ◌≤�
 ghost use Rattle.offset_script.specs.declared.scripts.Command.{Command};
 ghost use Rattle.offset_script.specs.declared.scripts.Command.TheVariants as command;
 ghost use Rattle.offset_script.specs.declared.scripts.Header.{Header};
-ghost use Rattle.offset_allocator.specs.Named.{max_size};
+ghost use Rattle.offset_allocator.specs.View.{max_size};
 ghost use Rattle.offset_script.specs.Grammar.{command_of, header_of};
 ghost use Rattle.offset_script.specs.Histories.{HasNoLive, answers_renumbered, outline, collapse, IsCollapse, without_offset, releases, Nest, IsQuestion};
 ghost use Rattle.offset_script.specs.Machine.{State, start, step, after, answers, total, free_sizes};

@@ -7,7 +7,7 @@ ghost use Rattle.offset_script.specs.Machine.{answer_view, answers, start, IsPla
 ghost use Rattle.offset_script.specs.Histories.{RestartsFresh, RowsCommute, NestsLeaveNoTrace};
 ghost use Rattle.offset_script.specs.Grammar.{has_valid_alignment};
 ghost use Rattle.offset_script.specs.Simulation.{IsKept, Takes, AreLive, AreOfARun};
-ghost use Rattle.offset_allocator.specs.Named.{free_sizes};
+ghost use Rattle.offset_allocator.specs.View.{free_sizes};
 ghost use Rattle.offset_allocator.specs.Relations.{IsFresh};
 ghost use Rattle.offset_allocator.specs.Reports.{rows_below};
 

@@ -3,7 +3,7 @@ use Rattle.std.proofs.Common.{◌≡◌, ℕ, ◌+◌, ◌<◌, ◌≤◌, Bool,
 use Rattle.std.proofs.lemmas.Bool.Decides.{eqb_tells}
 use Rattle.std.proofs.lemmas.List.{reverse-append}
 use Rattle.offset_allocator.specs.Classes.{down}
-use Rattle.offset_allocator.specs.Named.{Block, Grant, View, free_sizes}
+use Rattle.offset_allocator.specs.View.{Block, Grant, View, free_sizes}
 use Rattle.offset_allocator.proofs.Classes.{down_small}
 use Rattle.offset_allocator.specs.Reports.{count_of}
 use Rattle.offset_allocator.specs.Listing.{Placed, placed, placed_at, listing}

@@ -4,7 +4,7 @@ use Rattle.std.specs.Bool.{⊤}
 use Rattle.std.specs.List.{FoldsTo}
 use Rattle.std.proofs.lemmas.Bool.{cases_eq}
 use Rattle.std.proofs.lemmas.Bool.Decides.{nat_tests}
-use Rattle.offset_allocator.specs.Named.{Block, View, Place, one, place_of, count_named, free_sizes, units, IsWellFormed}
+use Rattle.offset_allocator.specs.View.{Block, View, Place, one, place_of, count_named, free_sizes, units, IsWellFormed}
 use Rattle.offset_allocator.specs.Ranges.{Range, range_of}
 use Rattle.offset_allocator.specs.Compacting.{Move, live, moves, move_of, gathered, Compacts}
 use Rattle.offset_allocator.proofs.Sliding.{live_used, live_idle, moves_used, moves_idle}

@@ -1,7 +1,7 @@
 -- A heap as text.
 use Rattle.std.specs.Prelude.{ℕ, List, ◌++◌, Option, Some, None, codes}
 use Rattle.std.specs.Fmt.{decimal}
-use Rattle.offset_allocator.specs.Named.{Grant}
+use Rattle.offset_allocator.specs.View.{Grant}
 use Rattle.offset_allocator.specs.Listing.{Placed}
 
 -- how a block's line ends

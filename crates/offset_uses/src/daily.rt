@@ -3,10 +3,10 @@
 
 ghost use Rattle.std.specs.Prelude.{ℕ, ◌≡◌, ◌≢◌, ◌↔◌, ◌⊎◌, ◌+◌, ◌-◌, ◌*◌, ◌<◌, ◌≤◌, ◌%◌, Some, None, false, not, min, IfSome, IfOk, IfErr, IsOk, IsSome, IsTrue, length};
 ghost use Rattle.std.specs.Int.{is_power_of_two};
-ghost use Rattle.offset_allocator.specs.Named.{used_units, largest_free};
+ghost use Rattle.offset_allocator.specs.View.{used_units, largest_free};
 ghost use Rattle.offset_allocator.specs.Ranges.{Range, range_of, size_of, KeepsAll, KeepsOthers, IsLive};
 ghost use Rattle.offset_allocator.specs.Relations.{Allocates, Frees, SameSpace, Resets};
-ghost use Rattle.offset_allocator.specs.Promises.{CanGrant, IsWhy};
+ghost use Rattle.offset_allocator.specs.Requests.{CanGrant, IsWhy};
 ghost use Rattle.offset_allocator.specs.Resizing.{CanShrink, CanGrow, HasUnits};
 ghost use Rattle.offset_allocator.specs.Compacting.{Compacts, KeepsSizes};
 ghost use Rattle.offset_uses.specs.Pool.{HoldsSame, IsCopied};

@@ -1,7 +1,7 @@
 //! What engines do beside: requests of one alignment, handles that travel, and several spaces.
 
 ghost use Rattle.std.specs.Prelude.{ℕ, ◌≡◌, ◌≢◌, ◌↔◌, ◌+◌, ◌*◌, ◌/◌, ◌%◌, ◌<◌, ◌≤◌, Some, None, false, IfSome, IsSome, IsTrue, length, slice_index_or};
-ghost use Rattle.offset_allocator.specs.Named.{View, largest_free};
+ghost use Rattle.offset_allocator.specs.View.{View, largest_free};
 ghost use Rattle.offset_allocator.specs.Ranges.{Range, range_of, IsLive, KeepsAll, KeepsOthers};
 ghost use Rattle.offset_allocator.specs.Relations.{Allocates, Frees};
 

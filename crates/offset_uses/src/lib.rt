@@ -2,9 +2,9 @@
 #![tactic(auto)]
 
 ghost use Rattle.std.specs.Prelude.{◌≡◌, ◌≢◌, ◌↔◌, ◌⊎◌, true, false, ◌+◌, ◌<◌, ◌≤◌, ◌%◌, Some, None, IfSome, IsSome, IsTrue, IfOk, MatchOption, All, map, min, length};
-ghost use Rattle.offset_allocator.specs.Named.{View, Grant, largest_free, total_free};
+ghost use Rattle.offset_allocator.specs.View.{View, Grant, largest_free, total_free};
 ghost use Rattle.offset_allocator.specs.Ranges.{Range, range_of, size_of, AreDisjoint, KeepsRanges, KeepsOthers, IsLive};
-ghost use Rattle.offset_allocator.specs.Promises.{CanGrant};
+ghost use Rattle.offset_allocator.specs.Requests.{CanGrant};
 ghost use Rattle.offset_allocator.specs.Relations.{Aligns, Allocates, Extends, Frees, SameSpace};
 ghost use Rattle.offset_script.specs.Machine.{answer_view};
 ghost use Rattle.offset_script.specs.Grammar.{has_valid_alignment};

@@ -78,7 +78,7 @@ pub(crate) fn push<NI: NodeIndex>(store: &mut Store<NI>, name: u32, class: u32) 
 }
 
 // Clears the bit of a class, whose bin is empty now.
-fn clear_class<NI: NodeIndex>(store: &mut Store<NI>, class: u32) {
+fn clear_bit<NI: NodeIndex>(store: &mut Store<NI>, class: u32) {
     let Store {
         tables,
         top_mask,
@@ -112,7 +112,7 @@ fn behead<NI: NodeIndex>(store: &mut Store<NI>, class: u32, after: NI) {
     let next = number(after);
     tables.set_head(class, next, count);
     if next == NI::MAX {
-        clear_class(store, class);
+        clear_bit(store, class);
     } else {
         tables.set_newer(next, no_link(), count);
     }

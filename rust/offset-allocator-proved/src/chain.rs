@@ -4,7 +4,7 @@
 
 use crate::accesses::Accesses;
 use crate::index::{NodeIndex, link_to, linked, no_link, number};
-use crate::links::{point_back, point_on};
+use crate::neighbour_links::{point_back, point_on};
 use crate::store::Store;
 use crate::tables::Tables;
 

@@ -45,7 +45,7 @@ mod fills;
 mod handle;
 mod index;
 pub mod laws;
-mod links;
+mod neighbour_links;
 mod neighbours;
 mod nonmax;
 mod reports;

@@ -1,6 +1,6 @@
 use Rattle.std.proofs.Common.{◌∙◌, ℕ, true, refl, ap, arith}
 use Rattle.offset_allocator.specs.Cells.{Node}
-use Rattle.offset_allocator.specs.Named.{View, ends_used, units}
+use Rattle.offset_allocator.specs.View.{View, ends_used, units}
 use Rattle.offset_allocator.proofs.Sound.{fields_of}
 use Rattle.offset_allocator.proofs.Classes.{down_small}
 use Rattle.offset_allocator.proofs.Places.{at_place, end_place, last_place, placed}

@@ -1,6 +1,6 @@
 use Rattle.std.proofs.Common.{ap, subst, arith}
-use Rattle.offset_allocator.specs.Named.{View}
-use Rattle.offset_allocator.specs.State.{view_of}
+use Rattle.offset_allocator.specs.View.{View}
+use Rattle.offset_allocator.specs.Soundness.{view_of}
 use Rattle.offset_allocator.specs.Relations.{Resets}
 use Rattle.offset_allocator.proofs.Allocator.clear.Goals as goal
 

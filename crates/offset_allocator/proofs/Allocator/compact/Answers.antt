@@ -1,8 +1,8 @@
 use Rattle.std.proofs.Common.{◌≡◌, ℕ, suc, ◌+◌, List, [], ◌∷◌, length, refl, sym, ap, ap₂, subst, ◌∙◌, arith, length-append, replicate}
-use Rattle.offset_allocator.specs.Named.{Block, Place, View, units, free_sizes}
+use Rattle.offset_allocator.specs.View.{Block, Place, View, units, free_sizes}
 use Rattle.offset_allocator.specs.Cells.{Links, Node}
-use Rattle.offset_allocator.specs.Orders.{class_lists}
-use Rattle.offset_allocator.specs.Space.{blocks}
+use Rattle.offset_allocator.specs.Bins.{bins_in}
+use Rattle.offset_allocator.specs.Chain.{blocks}
 use Rattle.offset_allocator.specs.Compacting.{live, moves, KeepsSizes, Compacts}
 use Rattle.offset_allocator.proofs.Sound.{AreSound, Fields, shown, fields_of, known_sound}
 use Rattle.offset_allocator.proofs.Packed.{compacts_sizes}
@@ -61,7 +61,7 @@ pub push-requires-clause-held : goal.push-requires-clause-held
 push-requires-clause-held g c = rw (c.slide-hole.ensures.bins.0, c.slide-hole.ensures.bins.1) c.empty.ensures.held
 
 pub push-requires-clause-unlisted : goal.push-requires-clause-unlisted
-push-requires-clause-unlisted g c = empty_unlisted c.slide-hole.result.0 (ap (λ (k : Links). class_lists g.NI.NodeIndex.MAX k) c.slide-hole.ensures.bins.0 ∙ c.empty.ensures.lists)
+push-requires-clause-unlisted g c = empty_unlisted c.slide-hole.result.0 (ap (λ (k : Links). bins_in g.NI.NodeIndex.MAX k) c.slide-hole.ensures.bins.0 ∙ c.empty.ensures.lists)
 
 -- the fields that are left, and what they show
 done : (g : Over) (c : After-push g) (k : ℕ) (f : Fields) → f ≡ record (fields_of g.NI.NodeIndex.MAX c.self.inside) { cells = c.push.new.store.tables; last = c.push.new.store.last; count = c.push.new.store.spare_count; top = c.push.new.store.top_mask; accesses = k }
@@ -70,7 +70,7 @@ done g c k f is =
     let old : Fields = fields_of g.NI.NodeIndex.MAX c.self.inside in
     let o : IsFirst (blocks c.self.inside.store.tables.room c.self.inside.store.last) c.in-Some.first = first_is _ _ (sym c.first_free.ensures.first ∙ c.in-Some.is) in
     let e = c.slide-hole.ensures.place _ _ (kept_place c.empty.ensures.chain (first_held old c.self.invariant o refl)) o.idle in
-    let empty : class_lists g.NI.NodeIndex.MAX c.slide-hole.new.store.tables.links ≡ replicate 256 [] = ap (λ (k : Links). class_lists g.NI.NodeIndex.MAX k) c.slide-hole.ensures.bins.0 ∙ c.empty.ensures.lists in
+    let empty : bins_in g.NI.NodeIndex.MAX c.slide-hole.new.store.tables.links ≡ replicate 256 [] = ap (λ (k : Links). bins_in g.NI.NodeIndex.MAX k) c.slide-hole.ensures.bins.0 ∙ c.empty.ensures.lists in
     rw is (packs old c.self.invariant o c.push.new.store.tables _ _ c.slide-hole.result.0 c.slide-hole.result.1 (kept_place c.push.ensures.chain e.0) e.1 {accesses = k} c.push.ensures.held (rw (c.uint_to_float_round_down.ensures.is, empty) at c.push.ensures.lists))
 
 pub invariant_of-self-2 : goal.invariant_of-self-2

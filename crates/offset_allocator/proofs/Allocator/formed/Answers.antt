@@ -1,5 +1,5 @@
 use Rattle.std.proofs.Common.{subst}
-use Rattle.offset_allocator.specs.Named.{IsWellFormed}
+use Rattle.offset_allocator.specs.View.{IsWellFormed}
 use Rattle.offset_allocator.proofs.Sound.{Fields, AreSound, shown, fields_of}
 use Rattle.offset_allocator.proofs.Allocator.formed.Goals as goal
 

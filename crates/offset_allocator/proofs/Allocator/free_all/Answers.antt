@@ -1,5 +1,5 @@
 use Rattle.std.proofs.Common.{◌∙◌, ap, refl, arith}
-use Rattle.offset_allocator.specs.Named.{View, used_of}
+use Rattle.offset_allocator.specs.View.{View, used_of}
 use Rattle.offset_allocator.proofs.Emptied.{freed_fewer, reset_alike}
 use Rattle.offset_allocator.proofs.Allocator.free_all.Goals as goal
 

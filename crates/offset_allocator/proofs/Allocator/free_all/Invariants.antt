@@ -1,5 +1,5 @@
 use Rattle.std.proofs.Common.{◌≡◌, ◌≤◌, ◌+◌, ◌*◌}
-use Rattle.offset_allocator.specs.Named.{used_of}
+use Rattle.offset_allocator.specs.View.{used_of}
 use Rattle.offset_allocator.proofs.Allocator.free_all.Given as goal
 
 abbrev pub invariant-loop-name : goal.invariant-loop-name

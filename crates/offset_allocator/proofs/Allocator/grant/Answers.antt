@@ -1,9 +1,9 @@
 use Rattle.std.proofs.Common.{◌≡◌, ◌+◌, ◌-◌, ◌≤◌, ◌<◌, ◌^◌, ◌∙◌, ℕ, ap, arith, refl, subst, sym}
 use Rattle.offset_allocator.specs.Classes.{up}
 use Rattle.offset_allocator.specs.Cells.{Node}
-use Rattle.offset_allocator.specs.Named.{View, padding_to}
-use Rattle.offset_allocator.specs.Orders.{IsSmallestFrom}
-use Rattle.offset_allocator.specs.Promises.{HasRoomFor, blocks_needed, units_needed}
+use Rattle.offset_allocator.specs.View.{View, padding_to}
+use Rattle.offset_allocator.specs.Bins.{IsSmallestFrom}
+use Rattle.offset_allocator.specs.Requests.{HasRoomFor, blocks_needed, units_needed}
 use Rattle.offset_allocator.specs.Relations.{Splits}
 use Rattle.offset_allocator.proofs.Sound.{shown, AreSound, Fields, fields_of}
 use Rattle.offset_allocator.proofs.Granting.{Call, held, unlisted, whole_fits, padding_fits, units_free, granted}

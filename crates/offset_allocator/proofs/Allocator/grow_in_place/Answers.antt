@@ -1,7 +1,7 @@
 use Rattle.std.proofs.Common.{◌≡◌, ◌∙◌, ℕ, refl, sym, ap, subst, arith}
 use Rattle.std.proofs.lemmas.Bool.{false≢true}
 use Rattle.offset_allocator.specs.Cells.{Node}
-use Rattle.offset_allocator.specs.Named.{View}
+use Rattle.offset_allocator.specs.View.{View}
 use Rattle.offset_allocator.specs.Ranges.{size_of}
 use Rattle.offset_allocator.specs.Resizing.{ResizesTo}
 use Rattle.offset_allocator.proofs.Freeing.{Release, at, named_live}

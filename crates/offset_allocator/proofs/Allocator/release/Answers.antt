@@ -1,8 +1,8 @@
 use Rattle.std.proofs.Common.{◌≡◌, false, refl, ◌+◌, ◌∙◌, ℕ, ap, arith, sym}
 use Rattle.offset_allocator.specs.Cells.{Node}
-use Rattle.offset_allocator.specs.Named.{IsWellFormed}
-use Rattle.offset_allocator.specs.Orders.{Binned, class_lists}
-use Rattle.offset_allocator.specs.Space.{HasPlace}
+use Rattle.offset_allocator.specs.View.{IsWellFormed}
+use Rattle.offset_allocator.specs.Bins.{IsBinned, bins_in}
+use Rattle.offset_allocator.specs.Chain.{HasPlace}
 use Rattle.offset_allocator.proofs.Filed.{unlisted}
 use Rattle.offset_allocator.proofs.Sound.{Fields, AreSound, shown, fields_of, known_sound}
 use Rattle.offset_allocator.proofs.Places.{at_place}
@@ -22,7 +22,7 @@ release g c = record { sound = c.self.invariant; live = named_live _ _ _ _ c.sel
 marked : (g : Over) (c : After-mark g) (r : Release (fields_of g.NI.NodeIndex.MAX c.self.inside) c.args.name) → HasPlace c.mark.new.tables.room c.self.inside.store.tables.room.reserved c.self.inside.store.last c.self.inside.store.spare_count c.args.name (record (at r).place { block = record (at r).place.block { used = false } })
 marked g c r = c.mark.ensures.place _ _ _ _ (at r).held
 
-bins : (g : Over) (c : After-mark g) (r : Release (fields_of g.NI.NodeIndex.MAX c.self.inside) c.args.name) → Binned g.NI.NodeIndex.MAX c.mark.new.tables.links c.self.inside.store.top_mask × (class_lists g.NI.NodeIndex.MAX c.mark.new.tables.links ≡ class_lists g.NI.NodeIndex.MAX c.self.inside.store.tables.links)
+bins : (g : Over) (c : After-mark g) (r : Release (fields_of g.NI.NodeIndex.MAX c.self.inside) c.args.name) → IsBinned g.NI.NodeIndex.MAX c.mark.new.tables.links c.self.inside.store.top_mask × (bins_in g.NI.NodeIndex.MAX c.mark.new.tables.links ≡ bins_in g.NI.NodeIndex.MAX c.self.inside.store.tables.links)
 bins g c r = c.mark.ensures.bins _ (unlisted (at r).held _ (filed r)) c.self.invariant.bins
 
 -- the fields that the release leaves, with any number of accesses counted

@@ -1,7 +1,7 @@
 use Rattle.std.proofs.Common.{◌≡◌, ◌⊎◌, ◌+◌, ◌-◌, ◌<◌, ◌≤◌, ◌∙◌, ℕ, true, false, length, inl, inr, refl, sym, ap, subst, arith}
 use Rattle.offset_allocator.specs.Cells.{Node}
-use Rattle.offset_allocator.specs.Named.{View, IsWellFormed, free_start, units}
-use Rattle.offset_allocator.specs.Promises.{HasRoomFor}
+use Rattle.offset_allocator.specs.View.{View, IsWellFormed, free_start, units}
+use Rattle.offset_allocator.specs.Requests.{HasRoomFor}
 use Rattle.offset_allocator.specs.Ranges.{range_of, size_of}
 use Rattle.offset_allocator.specs.Resizing.{Resizes, ResizesTo}
 use Rattle.offset_allocator.proofs.Freeing.{Release, at, filed, room_for, named_live}

@@ -1,5 +1,5 @@
 use Rattle.std.proofs.Common.{ap, sym, ◌∙◌}
-use Rattle.offset_allocator.specs.Named.{View, is_used_at, place_of}
+use Rattle.offset_allocator.specs.View.{View, is_used_at, place_of}
 use Rattle.offset_allocator.proofs.Reading.{live_is}
 use Rattle.offset_allocator.proofs.Allocator.uses.Goals as goal
 

@@ -1,6 +1,6 @@
 use Rattle.std.proofs.Common.{◌∙◌, ap, sym, arith, refl}
 use Rattle.std.proofs.lemmas.List.{set_past}
-use Rattle.offset_allocator.specs.Orders.{first_of}
+use Rattle.offset_allocator.specs.Bins.{first_of}
 use Rattle.offset_allocator.proofs.Binned.{head, without_head, none_left, beheaded, changed}
 use Rattle.offset_allocator.proofs.Masks.{flag_full, masked_same}
 use Rattle.offset_allocator.proofs.Uses.{no_mark, second_idle}
@@ -20,10 +20,10 @@ returns-then-next-MAX g c =
     let h = head k c.args.class c.requires.classed c.requires.some in
     let w = without_head k c.args.class c.requires.classed c.requires.some in
     let none = none_left k c.args.class c.requires.classed _ _ h.1.3 (sym (c.requires.after ∙ h.1.2) ∙ omega arith) in
-    let e = rw c.set_head.ensures.cells at c.clear_class.ensures.rest in
-    rw w (changed (beheaded k c.args.class c.requires.classed c.clear_class.new.store.tables.links _ c.requires.some c.requires.after
+    let e = rw c.set_head.ensures.cells at c.clear_bit.ensures.rest in
+    rw w (changed (beheaded k c.args.class c.requires.classed c.clear_bit.new.store.tables.links _ c.requires.some c.requires.after
     (rw e (sym (set_past _ _ _ (omega (arith, k.names_small))))) (rw e) (rw (e, c.number-next.ensures.number)))
-    (rw none (c.clear_class.ensures.masked _ k.lists_len (rw c.set_head.ensures.cells c.requires.held.masked))) (rw e, c.clear_class.ensures.chain.1, c.clear_class.ensures.chain.2) (omega arith, omega arith))
+    (rw none (c.clear_bit.ensures.masked _ k.lists_len (rw c.set_head.ensures.cells c.requires.held.masked))) (rw e, c.clear_bit.ensures.chain.1, c.clear_bit.ensures.chain.2) (omega arith, omega arith))
 
 pub returns-else-next-MAX : goal.returns-else-next-MAX
 returns-else-next-MAX g c =

@@ -1,14 +1,14 @@
 use Rattle.std.proofs.Common.{◌≡◌, ◌+◌, ◌-◌, length}
-use Rattle.offset_allocator.specs.Named.{names_at}
-use Rattle.offset_allocator.specs.Orders.{class_lists}
+use Rattle.offset_allocator.specs.View.{bin_at}
+use Rattle.offset_allocator.specs.Bins.{bins_in}
 use Rattle.offset_allocator.proofs.Walks.{IsTail}
 use Rattle.offset_allocator.proofs.bins.length_of.Given as goal
 
 abbrev pub invariant-loop-name : goal.invariant-loop-name
 invariant-loop-name g l = record {
-  tail : IsTail g.NI.NodeIndex.MAX l.tables.links l.name l.names (length (names_at (class_lists g.NI.NodeIndex.MAX l.tables.links) l.class));
+  tail : IsTail g.NI.NodeIndex.MAX l.tables.links l.name l.names (length (bin_at (bins_in g.NI.NodeIndex.MAX l.tables.links) l.class));
   accesses : l.count ≡ l.fn.count + 1 + l.names;
 }
 
 abbrev pub decreases-loop-name : goal.decreases-loop-name
-decreases-loop-name g l = length (names_at (class_lists g.NI.NodeIndex.MAX l.tables.links) l.class) - l.names
+decreases-loop-name g l = length (bin_at (bins_in g.NI.NodeIndex.MAX l.tables.links) l.class) - l.names

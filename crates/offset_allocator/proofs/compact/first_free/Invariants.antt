@@ -1,6 +1,6 @@
 use Rattle.std.proofs.Common.{◌≡◌, ◌+◌, ◌-◌, ◌*◌, List, ◌++◌, None, length}
-use Rattle.offset_allocator.specs.Named.{Block}
-use Rattle.offset_allocator.specs.Space.{blocks, last_or}
+use Rattle.offset_allocator.specs.View.{Block}
+use Rattle.offset_allocator.specs.Chain.{blocks, last_or}
 use Rattle.offset_allocator.specs.Compacting.{first_free}
 use Rattle.offset_allocator.proofs.compact.first_free.Given as goal
 

@@ -1,7 +1,7 @@
 use Rattle.std.proofs.Common.{◌≡◌, ◌≤◌, true, false, List, ◌∷◌, length, refl, sym, ap, subst, ◌∙◌, arith, length-append}
 use Rattle.std.specs.List.{FoldsTo}
 use Rattle.offset_allocator.specs.Cells.{Node}
-use Rattle.offset_allocator.specs.Named.{Block, Place, units}
+use Rattle.offset_allocator.specs.View.{Block, Place, units}
 use Rattle.offset_allocator.specs.Compacting.{Move, IsCalledWith}
 use Rattle.offset_allocator.proofs.Places.{at_place, next_place, end_fits, after_fits}
 use Rattle.offset_allocator.proofs.Sliding.{absorbed, slid_past, slid_into, slid_end, at_end, same_move}

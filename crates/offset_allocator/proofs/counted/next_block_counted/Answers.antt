@@ -2,7 +2,7 @@ use Rattle.std.proofs.Common.{◌≡◌, Bool, Option, None, Some, ◌∷◌, �
 use Rattle.std.specs.Iterator.{YieldsFirstBy}
 use Rattle.offset_allocator.specs.declared.blocks.Block.{Block}
 use Rattle.offset_allocator.specs.Cells.{node}
-use Rattle.offset_allocator.specs.Named.{Grant}
+use Rattle.offset_allocator.specs.View.{Grant}
 use Rattle.offset_allocator.specs.Listing.{Placed, as_placed}
 use Rattle.offset_allocator.proofs.Sound.{fields_of}
 use Rattle.offset_allocator.proofs.Listing.{left, none_left, node_placed, read_is}

@@ -1,15 +1,15 @@
 use Rattle.std.proofs.Common.{◌≡◌, ℕ, ◌+◌, ◌%◌, ◌^◌, ◌<◌, ◌≤◌, length, slice_index_or}
 use Rattle.offset_allocator.specs.declared.reports.StorageReportFullRegion.{StorageReportFullRegion}
 use Rattle.offset_allocator.specs.Classes.{value}
-use Rattle.offset_allocator.specs.Named.{names_at}
-use Rattle.offset_allocator.specs.Orders.{class_lists}
+use Rattle.offset_allocator.specs.View.{bin_at}
+use Rattle.offset_allocator.specs.Bins.{bins_in}
 use Rattle.offset_allocator.proofs.Counting.{names_below}
 use Rattle.offset_allocator.proofs.counted.storage_report_full_counted.Given as goal
 
 abbrev pub invariant-loop-class : goal.invariant-loop-class
 invariant-loop-class g l = record {
   wide : length l.report.free_regions ≡ 256;
-  filled : (k : ℕ) (d : StorageReportFullRegion) → k < l.class → slice_index_or l.report.free_regions k d ≡ record { size = value k % 2 ^ 32; count = length (names_at (class_lists g.NI.NodeIndex.MAX l.allocator-inside.store.tables.links) k) };
+  filled : (k : ℕ) (d : StorageReportFullRegion) → k < l.class → slice_index_or l.report.free_regions k d ≡ record { size = value k % 2 ^ 32; count = length (bin_at (bins_in g.NI.NodeIndex.MAX l.allocator-inside.store.tables.links) k) };
   grows : l.fn.count + l.class ≤ l.count;
-  accesses : l.count ≤ l.fn.count + l.class + names_below l.class (class_lists g.NI.NodeIndex.MAX l.allocator-inside.store.tables.links);
+  accesses : l.count ≤ l.fn.count + l.class + names_below l.class (bins_in g.NI.NodeIndex.MAX l.allocator-inside.store.tables.links);
 }

@@ -1,6 +1,6 @@
 use Rattle.std.proofs.Common.{◌≡◌, ap, ◌∙◌, arith, ℕ, List, [], replicate}
-use Rattle.offset_allocator.specs.Named.{push}
-use Rattle.offset_allocator.specs.Orders.{class_lists}
+use Rattle.offset_allocator.specs.View.{push}
+use Rattle.offset_allocator.specs.Bins.{bins_in}
 use Rattle.offset_allocator.proofs.Classes.{down_small}
 use Rattle.offset_allocator.proofs.Fresh.{empty_unlisted, first_idle, started}
 use Rattle.offset_allocator.proofs.steps.start.Goals as goal
@@ -20,7 +20,7 @@ push-requires-clause-unlisted g c = empty_unlisted 0 (rw c.start.ensures.links c
 
 pub returns-clause-started : goal.returns-clause-started
 returns-clause-started g c =
-    let empty : class_lists g.NI.NodeIndex.MAX c.start.new.tables.links ≡ replicate 256 [] = rw c.start.ensures.links c.requires.empty in
+    let empty : bins_in g.NI.NodeIndex.MAX c.start.new.tables.links ≡ replicate 256 [] = rw c.start.ensures.links c.requires.empty in
     let order = c.push.ensures.lists ∙ ap (λ (o : List (List ℕ)). push c.uint_to_float_round_down.result 0 o) empty ∙ ap (λ (k : ℕ). push k 0 (replicate 256 [])) c.uint_to_float_round_down.ensures.is in
     let done = started g.NI.NodeIndex.MAX c.args.max_allocs c.args.size c.push.new.store.tables c.push.new.store.top_mask (omega arith) (omega arith) (omega arith) (rw c.push.ensures.chain.0 c.start.ensures.reserved) (rw c.push.ensures.chain.0 c.start.ensures.space) (rw c.push.ensures.chain.0 c.start.ensures.blocks) c.push.ensures.held order in
     record { sound = done.0; view = done.1 }

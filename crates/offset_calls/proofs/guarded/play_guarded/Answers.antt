@@ -1,6 +1,6 @@
 use Rattle.std.proofs.Common.{◌<◌, length, ap, subst, arith}
 use Rattle.std.proofs.lemmas.List.{take_all}
-use Rattle.offset_allocator.specs.Named.{IsWellFormed}
+use Rattle.offset_allocator.specs.View.{IsWellFormed}
 use Rattle.offset_calls.proofs.Along.{all_kept_played, ends, goes_on, starts}
 use Rattle.offset_calls.proofs.Tickets.{no_tickets}
 use Rattle.offset_calls.proofs.guarded.play_guarded.Goals as goal

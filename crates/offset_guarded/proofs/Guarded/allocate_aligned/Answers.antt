@@ -1,5 +1,5 @@
 use Rattle.std.proofs.Common.{refl}
-use Rattle.offset_allocator.specs.Promises.{blocks_needed, units_needed}
+use Rattle.offset_allocator.specs.Requests.{blocks_needed, units_needed}
 use Rattle.offset_guarded.proofs.Guards.{can_grant, granted_as, issued, same_limit}
 use Rattle.offset_guarded.proofs.Guarded.allocate_aligned.Goals as goal
 

@@ -1,6 +1,6 @@
 use Rattle.std.proofs.Common.{◌≡◌, refl, subst, inl, inr}
 use Rattle.std.proofs.lemmas.Bool.{false≢true}
-use Rattle.offset_allocator.specs.Promises.{CanGrant, IsWhy}
+use Rattle.offset_allocator.specs.Requests.{CanGrant, IsWhy}
 use Rattle.offset_allocator.specs.declared.reports.Refusal.TheVariants.{TooLarge, Space, Fragmented}
 use Rattle.offset_uses.proofs.daily.lacks_units.Goals as goal
 

@@ -1,5 +1,5 @@
 use Rattle.std.proofs.Common.{◌≡◌, subst}
-use Rattle.offset_allocator.specs.Promises.{IsWhy}
+use Rattle.offset_allocator.specs.Requests.{IsWhy}
 use Rattle.offset_allocator.specs.declared.reports.Refusal.TheVariants.{TooLarge, Fragmented}
 use Rattle.offset_uses.proofs.daily.place_packed.Goals as goal
 

@@ -1,7 +1,7 @@
 use Rattle.std.proofs.Common.{◌≡◌, ◌∙◌, ℕ, List, [], ◌∷◌, ◌++◌, ap, ap₂, arith, length, map, refl, set}
 use Rattle.std.proofs.lemmas.List.{map-append, map-set}
 use Rattle.offset_allocator.specs.Cells.{Cells, Node, with_node}
-use Rattle.offset_allocator.specs.View.{nodes_of}
+use Rattle.offset_allocator.specs.Layouts.{nodes_of}
 use Rattle.offset_allocator.proofs.Entries.{entry_added, length-nodes_of}
 use Rattle.offset_allocator.proofs.tables.Tables.add.Goals as goal
 

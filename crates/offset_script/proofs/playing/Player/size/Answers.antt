@@ -1,5 +1,5 @@
 use Rattle.std.proofs.Common.{option_map, refl, sym, ap, ◌∙◌}
-use Rattle.offset_allocator.specs.Named.{Grant}
+use Rattle.offset_allocator.specs.View.{Grant}
 use Rattle.offset_script.specs.Machine as machine
 use Rattle.offset_script.proofs.Simulation.{if_none, if_some}
 use Rattle.offset_script.proofs.playing.Player.size.Goals as goal

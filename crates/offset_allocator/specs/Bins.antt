@@ -2,7 +2,7 @@
 use Rattle.std.specs.Prelude.{ℕ, ◌+◌, ◌≡◌, ◌≢◌, ◌<◌, ◌≤◌, ◌/◌, ◌%◌, ◌^◌, if◌then◌else◌, nat_eq, zero, suc, List, [], ◌∷◌, map, length, slice_index}
 use Rattle.std.specs.Int.{bit_at}
 use Rattle.offset_allocator.specs.Cells.{Links}
-use Rattle.offset_allocator.specs.Named.{names_at, times}
+use Rattle.offset_allocator.specs.View.{bin_at, times}
 
 -- the names from h on, along the links to older names
 unfoldable pub walk : ℕ → List ℕ → ℕ → ℕ → List ℕ
@@ -10,8 +10,8 @@ walk none older zero h = []
 walk none older (suc k) h = if nat_eq h none then [] else h ∷ (walk none) older k (slice_index older h)
 
 -- the bins in the tables: of each class, newest first
-unfoldable pub class_lists : ℕ → Links → List (List ℕ)
-class_lists none t = map ((walk none) t.older (length t.older)) t.heads
+unfoldable pub bins_in : ℕ → Links → List (List ℕ)
+bins_in none t = map ((walk none) t.older (length t.older)) t.heads
 
 -- a name is in a list
 abbrev pub Among : ℕ → List ℕ → Type 0
@@ -23,9 +23,9 @@ first_of none [] = none
 first_of none (x ∷ xs) = x
 
 -- the names are linked back and forth; b is before the first, and none after the last
-abbrev pub Chain : ℕ → Links → ℕ → List ℕ → Type 0
-Chain none t b [] = Unit {0}
-Chain none t b (x ∷ xs) = (x < length t.newer) × (slice_index t.newer x ≡ b) × (slice_index t.older x ≡ first_of none xs) × (Chain none) t x xs
+abbrev pub IsLinked : ℕ → Links → ℕ → List ℕ → Type 0
+IsLinked none t b [] = Unit {0}
+IsLinked none t b (x ∷ xs) = (x < length t.newer) × (slice_index t.newer x ≡ b) × (slice_index t.older x ≡ first_of none xs) × (IsLinked none) t x xs
 
 -- 0 for an empty list, else 1
 abbrev pub flag : List ℕ → ℕ
@@ -37,32 +37,32 @@ abbrev pub mark : ℕ → ℕ
 mark w = if nat_eq w 0 then 0 else 1
 
 -- bit c of the masks says whether class c has a name, and bit w of the top mask whether mask w has a bit
-pub record Masked (ls : List (List ℕ)) (masks : List ℕ) (top : ℕ) : Type 0 where
+pub record AreMasks (ls : List (List ℕ)) (masks : List ℕ) (top : ℕ) : Type 0 where
   pub masks_len : length masks ≡ 4
-  pub bits : (c : ℕ) → c < 256 → bit_at (slice_index masks (c / 64)) (c % 64) ≡ flag (names_at ls c)
+  pub bits : (c : ℕ) → c < 256 → bit_at (slice_index masks (c / 64)) (c % 64) ≡ flag (bin_at ls c)
   pub tops : (w : ℕ) → w < 4 → bit_at top w ≡ mark (slice_index masks w)
   pub top_small : top < 16
   pub words_small : (w : ℕ) → w < 4 → slice_index masks w < 2 ^ 64
 
 -- the tables hold the lists ls, which have each name at most once
-pub record Linked (none : ℕ) (t : Links) (ls : List (List ℕ)) : Type 0 where
+pub record HasBins (none : ℕ) (t : Links) (ls : List (List ℕ)) : Type 0 where
   pub older_len : length t.older ≡ length t.newer
   pub names_small : length t.newer ≤ none
   pub heads_len : length t.heads ≡ 256
   pub lists_len : length ls ≡ 256
-  pub heads : (c : ℕ) → c < 256 → slice_index t.heads c ≡ (first_of none) (names_at ls c)
-  pub chains : (c : ℕ) → c < 256 → (Chain none) t none (names_at ls c)
-  pub once : (c d x : ℕ) → c < 256 → d < 256 → c ≢ d → times x (names_at ls c) + times x (names_at ls d) ≤ 1
+  pub heads : (c : ℕ) → c < 256 → slice_index t.heads c ≡ (first_of none) (bin_at ls c)
+  pub chains : (c : ℕ) → c < 256 → (IsLinked none) t none (bin_at ls c)
+  pub once : (c d x : ℕ) → c < 256 → d < 256 → c ≢ d → times x (bin_at ls c) + times x (bin_at ls d) ≤ 1
 
 -- no list has the name
 abbrev pub IsUnlisted : ℕ → List (List ℕ) → Type 0
-IsUnlisted x ls = (c : ℕ) → c < 256 → Among x (names_at ls c) → ⊥
+IsUnlisted x ls = (c : ℕ) → c < 256 → Among x (bin_at ls c) → ⊥
 
 -- c is the smallest class from low on whose bin has a name
 abbrev pub IsSmallestFrom : ℕ → List (List ℕ) → ℕ → Type 0
-IsSmallestFrom low ls c = (low ≤ c) × (c < 256) × (names_at ls c ≡ [] → ⊥) × ((d : ℕ) → low ≤ d → d < c → names_at ls d ≡ [])
+IsSmallestFrom low ls c = (low ≤ c) × (c < 256) × (bin_at ls c ≡ [] → ⊥) × ((d : ℕ) → low ≤ d → d < c → bin_at ls d ≡ [])
 
 -- links and masks agree with the bins
-pub record Binned (none : ℕ) (t : Links) (top : ℕ) : Type 0 where
-  pub linked : Linked none t ((class_lists none) t)
-  pub masked : Masked ((class_lists none) t) t.masks top
+pub record IsBinned (none : ℕ) (t : Links) (top : ℕ) : Type 0 where
+  pub linked : HasBins none t ((bins_in none) t)
+  pub masked : AreMasks ((bins_in none) t) t.masks top

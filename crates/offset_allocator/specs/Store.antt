@@ -1,9 +1,9 @@
 -- What the fields of a store hold.
 use Rattle.std.specs.Prelude.{◌≡◌, ℕ, List}
 use Rattle.offset_allocator.specs.declared.store.Store.{Store}
-use Rattle.offset_allocator.specs.Named.{Place}
-use Rattle.offset_allocator.specs.Space.{HasPlace}
-use Rattle.offset_allocator.specs.Orders.{Binned, class_lists}
+use Rattle.offset_allocator.specs.View.{Place}
+use Rattle.offset_allocator.specs.Chain.{HasPlace}
+use Rattle.offset_allocator.specs.Bins.{IsBinned, bins_in}
 
 -- the store, of m nodes, holds a chain with the block x at a place
 abbrev pub IsPlaceIn : {A B : Type 0} → Store A B → ℕ → ℕ → Place → Type 0
@@ -11,11 +11,11 @@ IsPlaceIn s m x p = HasPlace s.tables.room m s.last s.spare_count x p
 
 -- its links and masks agree with its bins
 abbrev pub AreBinned : {A B : Type 0} → ℕ → Store A B → Type 0
-AreBinned none s = Binned none s.tables.links s.top_mask
+AreBinned none s = IsBinned none s.tables.links s.top_mask
 
 -- its bins
 abbrev pub bins_of : {A B : Type 0} → ℕ → Store A B → List (List ℕ)
-bins_of none s = class_lists none s.tables.links
+bins_of none s = bins_in none s.tables.links
 
 -- a change of the bins leaves the chain as it was
 abbrev pub SameChain : {A B : Type 0} → Store A B → Store A B → Type 0

@@ -2,7 +2,7 @@
 use Rattle.std.specs.Prelude.{ℕ, suc, false, List, [], ◌∷◌, ◌++◌, Option, Some, None, nat_lt, if◌then◌else◌, length, take, ◌≡◌, ◌+◌, ◌^◌, ◌<◌, ◌≤◌}
 use Rattle.std.proofs.Common.{zero}
 use Rattle.offset_allocator.specs.Cells.{Room, node}
-use Rattle.offset_allocator.specs.Named.{Block, Place, units, count_named, times, free_start, without_start, free_end, without_end}
+use Rattle.offset_allocator.specs.View.{Block, Place, units, count_named, times, free_start, without_start, free_end, without_end}
 
 -- the name of the first block, or q where there is none
 abbrev pub first_or : Option ℕ → List Block → Option ℕ

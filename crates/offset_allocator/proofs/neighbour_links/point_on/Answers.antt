@@ -1,6 +1,6 @@
 use Rattle.std.proofs.Common.{refl}
 use Rattle.offset_allocator.proofs.Nodes.{length-put}
-use Rattle.offset_allocator.proofs.links.point_on.Goals as goal
+use Rattle.offset_allocator.proofs.neighbour_links.point_on.Goals as goal
 
 pub returns-in-Some-clause-nodes : goal.returns-in-Some-clause-nodes
 returns-in-Some-clause-nodes g c = rw (c.set_after.ensures.cells, length-put) refl

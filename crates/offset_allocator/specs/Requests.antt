@@ -7,11 +7,11 @@ use Rattle.offset_allocator.specs.declared.reports.StorageReportFull.{StorageRep
 use Rattle.offset_allocator.specs.declared.reports.StorageReportFullRegion.{StorageReportFullRegion}
 use Rattle.offset_allocator.specs.Classes.{value, up}
 use Rattle.offset_allocator.specs.Reports.{count_of}
-use Rattle.offset_allocator.specs.Named.{View, names_at, free_sizes, total_free, largest_free}
+use Rattle.offset_allocator.specs.View.{View, bin_at, free_sizes, total_free, largest_free}
 
 -- c is the largest class whose bin is not empty
 abbrev pub IsLargestClass : List (List ℕ) → ℕ → Type 0
-IsLargestClass ls c = (c < 256) × (names_at ls c ≡ [] → ⊥) × ((d : ℕ) → c < d → d < 256 → names_at ls d ≡ [])
+IsLargestClass ls c = (c < 256) × (bin_at ls c ≡ [] → ⊥) × ((d : ℕ) → c < d → d < 256 → bin_at ls d ≡ [])
 
 -- the short report of a view: its free units, and its largest free region
 abbrev pub IsReport : StorageReport → View → Type 0
@@ -36,7 +36,7 @@ units_needed size align = size + align - 1
 -- when a request is granted: there is room for the blocks that it may add, and some bin is not empty whose class is
 -- large enough, which means that all its blocks have at least the units needed
 abbrev pub CanGrant : ℕ → ℕ → View → Type 0
-CanGrant blocks units v = HasRoomFor blocks v × ((c : ℕ) × (up units ≤ c) × (names_at v.order c ≢ []))
+CanGrant blocks units v = HasRoomFor blocks v × ((c : ℕ) × (up units ≤ c) × (bin_at v.order c ≢ []))
 
 -- the units that a free block has to have at least so that it is of a class that is large enough; one at least, since
 -- free units are meant

@@ -1,9 +1,9 @@
 -- What is true of an allocator's fields.
 use Rattle.std.specs.Prelude.{◌≡◌, ℕ, ◌+◌, ◌<◌, List, if◌then◌else◌}
 use Rattle.offset_allocator.specs.Cells.{Cells}
-use Rattle.offset_allocator.specs.Orders.{Binned, class_lists, IsUnlisted}
-use Rattle.offset_allocator.specs.Space.{IsSpace, blocks}
-use Rattle.offset_allocator.specs.Named.{View, Block, IsWellFormed, tally, times, names_at, count_named, count_listed}
+use Rattle.offset_allocator.specs.Bins.{IsBinned, bins_in, IsUnlisted}
+use Rattle.offset_allocator.specs.Chain.{IsSpace, blocks}
+use Rattle.offset_allocator.specs.View.{View, Block, IsWellFormed, tally, times, bin_at, count_named, count_in_bin}
 
 -- the units of the free blocks
 abbrev pub free_units : List Block → ℕ
@@ -15,7 +15,7 @@ view_of max size limit c last accesses = record {
   size = size;
   max_allocs = limit;
   blocks = blocks c.room last;
-  order = class_lists max c.links;
+  order = bins_in max c.links;
   accesses = accesses;
 }
 
@@ -24,7 +24,7 @@ pub record IsSound (max size limit : ℕ) (c : Cells) (last count top free : ℕ
   pub memory : c.room.reserved ≡ limit
   pub admitted : limit + 1 < max
   pub space : IsSpace c.room last count
-  pub bins : Binned max c.links top
+  pub bins : IsBinned max c.links top
   pub well : IsWellFormed (view_of max size limit c last 0)
   pub total : free_units (blocks c.room last) ≡ free
 
@@ -33,5 +33,5 @@ abbrev pub AreUnlisted : List Block → List (List ℕ) → Type 0
 AreUnlisted bs ls = (y : ℕ) → count_named y bs ≡ 0 → IsUnlisted y ls
 
 -- the bins hold the free blocks, each once
-abbrev pub AreFiled : List Block → List (List ℕ) → Type 0
-AreFiled bs ls = (k y : ℕ) → times y (names_at ls k) ≡ count_listed k y bs
+abbrev pub AreInBins : List Block → List (List ℕ) → Type 0
+AreInBins bs ls = (k y : ℕ) → times y (bin_at ls k) ≡ count_in_bin k y bs
