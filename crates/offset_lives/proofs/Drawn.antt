@@ -10,7 +10,8 @@ use Rattle.offset_script.specs.Running.{view, ScriptOf, Sends, is_write_fault}
 use Rattle.offset_lives.specs.Drawing.{DrawOf, IsPicture}
 
 -- a drawing that ends with its reading
-pub not_drawn : (f : RunFault) (title : List ℕ) (from left old new : Option (List ℕ)) (lost : Bool) → is_write_fault {T = Script} (Err f) ≡ false → IfSome from (λ text. ScriptOf (Err f) text left) → IfSome from (λ text. DrawOf (Err f) title text left old new lost)
+pub not_drawn : (f : RunFault) (title : List ℕ) (from left old new : Option (List ℕ)) (lost : Bool) → is_write_fault {T = Script} (Err f) ≡ false → IfSome from (λ text. ScriptOf (Err f) text left)
+    → IfSome from (λ text. DrawOf (Err f) title text left old new lost)
 not_drawn f title None left old new lost w h = tt
 not_drawn (faults.Script scripts.Memory) title (Some text) left old new lost w h = h
 not_drawn (faults.Script scripts.TooLong) title (Some text) left old new lost w h = h
@@ -26,7 +27,8 @@ abbrev IsDrawn : Bool → List ℕ → List ℕ → Option (List ℕ) → Option
 IsDrawn true title text left old new lost = DrawOf (Ok tt) title text left old new lost
 IsDrawn false title text left old new lost = DrawOf (Err faults.Write) title text left old new lost
 
-pub is_drawn : (title sent : List ℕ) (script : Script) (from left old new : Option (List ℕ)) (is_sent lost : Bool) → IfSome from (λ text. ScriptOf (Ok script) text left) → IsPicture title sent → Sends (is_sent || not lost) sent old new → IfSome from (λ text. IsDrawn is_sent title text left old new lost)
+pub is_drawn : (title sent : List ℕ) (script : Script) (from left old new : Option (List ℕ)) (is_sent lost : Bool) → IfSome from (λ text. ScriptOf (Ok script) text left) → IsPicture title sent
+    → Sends (is_sent || not lost) sent old new → IfSome from (λ text. IsDrawn is_sent title text left old new lost)
 is_drawn title sent script None left old new is_sent lost h drawn sends = tt
 is_drawn title sent script (Some text) left old new true lost h drawn sends = (h.0, record { plan = view script; picture = sent; means = h.1; drawn = drawn; sends = sends })
 is_drawn title sent script (Some text) left old new false lost h drawn sends = (h.0, record { plan = view script; picture = sent; means = h.1; drawn = drawn; sends = sends })

@@ -9,5 +9,5 @@ pub mod Lives
 pub mod Merging
 pub mod Places
 pub mod Quiet
-pub mod Reported
+pub mod Reports
 pub mod Titles

@@ -17,7 +17,14 @@ up_of a value = a.start + a.span - along a.span a.most value
 
 -- from the call that granted it to the one that ended it, counted from 1, and as high as its range
 abbrev pub shape_of : Plot → Life → Shape
-shape_of p l = record { top = up_of p.units (l.offset + l.size); bottom = up_of p.units l.offset; age = age_of (l.last - l.first); left = right_of p.calls (l.first + 1); right = right_of p.calls (l.last + 1) }
+shape_of p l = record {
+  top = up_of p.units (l.offset + l.size);
+  bottom = up_of p.units l.offset;
+  age = age_of (l.last - l.first);
+  left = right_of p.calls (l.first + 1);
+  right =
+      right_of p.calls (l.last + 1);
+}
 
 -- as wide and as high as the rectangle, but at least 0.3 pixels, from its left and its lower edge on
 abbrev pub frame_of : Shape → Frame

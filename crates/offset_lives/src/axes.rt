@@ -41,7 +41,8 @@ impl Axis {
 
     /// Where a value lies, if the axis runs upwards.
     pub fn up(&self, value: u64) -> u32
-        ensures exact { result ≡ self.now.start + self.now.span - along self.now.span self.now.most value }
+        ensures exact { result
+            ≡ self.now.start + self.now.span - along self.now.span self.now.most value }
         ensures within { self.now.start ≤ result }
         ensures below { result ≤ self.now.start + self.now.span }
     {

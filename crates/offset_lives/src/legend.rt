@@ -83,9 +83,13 @@ fn put_colours(out: &mut String, figures: &Figures) -> Result<(), AllocError> {
     write!(out, "<path class='free' d='M120 {top}h16v14h-16z'/>")?;
     writeln!(out, "<text x='142' y='{base}'>free units</text>")?;
     write!(out, "<path class='joined' d='M235 {top}h16v14h-16z'/>")?;
+    write!(
+        out,
+        "<text x='257' y='{base}'>largest free region, if they were one block "
+    )?;
     writeln!(
         out,
-        "<text x='257' y='{base}'>largest free region, if they were one block (the gap to the free units: rounding to a size class)</text>"
+        "(the gap to the free units: rounding to a size class)</text>"
     )?;
     let top = Pixels(REPORTS_TOP - 2_300);
     let base = Pixels(REPORTS_TOP - 1_000);

@@ -38,7 +38,8 @@ fn draw<S: Source, K: Sink>(
     }
 }
 
-/// Draws a script with a title, writes the picture, or the line of a fault to `errors`, and returns the status to exit with.
+/// Draws a script with a title, writes the picture, or the line of a fault to `errors`, and returns the status to exit
+/// with.
 ///
 /// The status is 0 exactly where a whole picture was written and flushed, 2 where the text is no script, 3 where an
 /// allocation failed, and 4 where the source or the sink failed. Nothing is written to `output` unless the whole text
@@ -74,7 +75,8 @@ pub fn draw_program<S: Source, K: Sink, E: Sink>(
         × OnOk ended (K.is_flushed output.new ≡ true)
         × IfErr ended (λ f. f ≢ faults.Write → output.new ≡ output.old)
         × (S.has_failed input.new ≡ (if is_read_fault ended then true else S.has_failed input.old))
-        × (K.has_failed output.new ≡ (if is_write_fault ended then true else K.has_failed output.old)) }
+        × (K.has_failed output.new
+        ≡ (if is_write_fault ended then true else K.has_failed output.old)) }
 {
     match draw(alloc, title, input, output) {
         Ok(()) => 0,
