@@ -54,10 +54,10 @@ two_apart j k offset (b ∷ bs) q r n e f = either (has_number j b.tag) (has_num
         → (range_of j (offset + b.size) bs ≡ Some q → range_of k (offset + b.size) bs ≡ Some r → (q.0 + q.1 ≤ r.0) ⊎ (r.0 + r.1 ≤ q.0))
         → (q.0 + q.1 ≤ r.0) ⊎ (r.0 + r.1 ≤ q.0)
     either true true a c e f ih = absurd (n (one_number j k b.tag a c))
-    either true false a c e f ih = let same = some_inj (offset, b.size) q e in let o = ap (λ (p : ℕ × ℕ). p.0) same in let m = ap (λ (p : ℕ × ℕ). p.1) same in let l =
-        in_list k (offset + b.size) bs r f in inl (omega (arith, l.0))
-    either false true a c e f ih = let same = some_inj (offset, b.size) r f in let o = ap (λ (p : ℕ × ℕ). p.0) same in let m = ap (λ (p : ℕ × ℕ). p.1) same in let l =
-        in_list j (offset + b.size) bs q e in inr (omega (arith, l.0))
+    either true false a c e f ih = let same = some_inj (offset, b.size) q e in let o = ap (λ (p : ℕ × ℕ). p.0) same in let m = ap (λ (p : ℕ × ℕ). p.1) same in
+        let l = in_list k (offset + b.size) bs r f in inl (omega (arith, l.0))
+    either false true a c e f ih = let same = some_inj (offset, b.size) r f in let o = ap (λ (p : ℕ × ℕ). p.0) same in let m = ap (λ (p : ℕ × ℕ). p.1) same in
+        let l = in_list j (offset + b.size) bs q e in inr (omega (arith, l.0))
     either false false a c e f ih = ih e f
 
 -- ---- two lives

@@ -1,26 +1,10 @@
 -- How a drawing ends.
 use Rattle.std.proofs.Common.{◌≡◌, ℕ, Bool, true, false, List, ◌++◌, Option, Some, None, Ok, Err, rules}
 use Rattle.std.specs.Prelude.{IfSome, ◌||◌, not}
-use Rattle.std.proofs.lemmas.Bool.{true≢false}
-use Rattle.offset_script.specs.declared.faults.ScriptFault.TheVariants as scripts
-use Rattle.offset_script.specs.declared.faults.RunFault.{RunFault}
 use Rattle.offset_script.specs.declared.faults.RunFault.TheVariants as faults
 use Rattle.offset_script.specs.declared.scripts.Script.{Script}
-use Rattle.offset_script.specs.Running.{view, ScriptOf, Sends, is_write_fault}
+use Rattle.offset_script.specs.Running.{view, ScriptOf, Sends}
 use Rattle.offset_lives.specs.Drawing.{DrawOf, IsPicture}
-
--- a drawing that ends with its reading
-pub not_drawn : (f : RunFault) (title : List ℕ) (from left old new : Option (List ℕ)) (lost : Bool) → is_write_fault {T = Script} (Err f) ≡ false → IfSome from (λ text. ScriptOf (Err f) text left)
-    → IfSome from (λ text. DrawOf (Err f) title text left old new lost)
-not_drawn f title None left old new lost w h = tt
-not_drawn (faults.Script scripts.Memory) title (Some text) left old new lost w h = h
-not_drawn (faults.Script scripts.TooLong) title (Some text) left old new lost w h = h
-not_drawn (faults.Script (scripts.BadHeader n)) title (Some text) left old new lost w h = h
-not_drawn (faults.Script (scripts.BadLimit n)) title (Some text) left old new lost w h = h
-not_drawn (faults.Script (scripts.BadCommand n)) title (Some text) left old new lost w h = h
-not_drawn faults.Memory title (Some text) left old new lost w h = tt
-not_drawn faults.Read title (Some text) left old new lost w h = tt
-not_drawn faults.Write title (Some text) left old new lost w h = absurd (true≢false w)
 
 -- a picture that was sent, with this result
 abbrev IsDrawn : Bool → List ℕ → List ℕ → Option (List ℕ) → Option (List ℕ) → Option (List ℕ) → Bool → Type 0

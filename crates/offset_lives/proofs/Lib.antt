@@ -3,6 +3,7 @@ mod Backward
 mod Counted
 mod Drawn
 mod Grown
+mod Levelled
 mod Merged
 mod Ordered
 mod Peaks

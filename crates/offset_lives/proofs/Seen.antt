@@ -86,14 +86,6 @@ call_ends command.Reset s w k e = refl
 call_ends (command.Align n align) s w k e = absurd (true≢false e)
 call_ends (command.Extend more) s w k e = absurd (true≢false e)
 
--- a grant that is not live, and was made before this call, stays so
-call_leaves_none : (c : Command) (s : State) → Well s → (k : ℕ) → k ≤ s.grants → range_of k 0 s.blocks ≡ None → left k (step c s) ≡ None
-call_leaves_none c s w k made none = either (lives.leaves k c) refl
-  where
-    either : (b : Bool) → lives.leaves k c ≡ b → left k (step c s) ≡ None
-    either true e = call_keeps c s k made e ∙ none
-    either false e = call_ends c s w k e
-
 -- how many grants an answer is
 abbrev pub grants_of : Answer → ℕ
 grants_of (machine.Grant k offset) = 1
