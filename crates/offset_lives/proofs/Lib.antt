@@ -10,5 +10,6 @@ mod Peaks
 mod Quieter
 mod Ranges
 mod Seen
+mod Stepped
 mod Watched
 mod Whole

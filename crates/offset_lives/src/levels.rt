@@ -12,7 +12,7 @@ use std::alloc::{AllocError, Global};
 pub struct Levels {
     /// The free units.
     pub free: Vec<u32>,
-    /// What the largest free region would be, were all of these one block. What it is less is fragmentation.
+    /// What the largest free region would be, were all of these one block. From that region to here is fragmentation.
     pub joined: Vec<u32>,
     /// The largest free region.
     pub most: Vec<u32>,
