@@ -4,14 +4,14 @@ ghost use Rattle.std.specs.Prelude.{◌≡◌, ◌↔◌, ◌+◌, ◌<◌, ◌�
 ghost use Rattle.offset_allocator.specs.Compacting.{Compacts, live, moves};
 ghost use Rattle.offset_guarded.specs.declared.ticket.Ticket.{Ticket};
 ghost use Rattle.offset_guarded.specs.Guard.{KeepsSizes, last_serial};
-ghost use Rattle.offset_script.specs.Agreement.{kept_name};
+ghost use Rattle.offset_script.specs.Steps.{kept_name};
 ghost use Rattle.offset_script.specs.Grammar.{has_valid_alignment};
 ghost use Rattle.offset_script.specs.Machine.{answer_view, start};
 ghost use Rattle.offset_calls.specs.Calls.{is_valid, replies, reply_view};
 ghost use Rattle.offset_calls.specs.Calls as plain;
 ghost use Rattle.offset_calls.specs.Histories.{renumber};
 ghost use Rattle.offset_calls.specs.Steps.{AreKept, AreMoves};
-ghost use Rattle.offset_calls.specs.Tickets.{IsLedger, IsStored, Serves, StandsFor, handles_of, meant, number_in, passed, ticket_of};
+ghost use Rattle.offset_calls.specs.Tickets.{IsLedger, IsStored, Serves, IsNumberOf, handles_of, meant, number_in, passed, ticket_of};
 
 use crate::calls::{Call, Reply};
 use crate::playing::{Moves, numbered, resized};
@@ -129,7 +129,7 @@ fn allocate_aligned<NI: NodeIndex>(
 
 // The answer to `free`.
 fn release<NI: NodeIndex>(space: &mut Guarded<NI>, ticket: Option<Ticket>) -> Answer
-    ensures { (ts : List Ticket) (k : ℕ) → IsLedger space.old ts → StandsFor k ticket space.old ts
+    ensures { (ts : List Ticket) (k : ℕ) → IsLedger space.old ts → IsNumberOf k ticket space.old ts
         → Serves (Call.Command (Command.Free k)) space.old ts space.new ts (plain.Answer (answer_view result)) }
 {
     let Some(ticket) = ticket else {
@@ -144,7 +144,7 @@ fn release<NI: NodeIndex>(space: &mut Guarded<NI>, ticket: Option<Ticket>) -> An
 
 // The answer to `size`.
 fn size_of<NI: NodeIndex>(space: &Guarded<NI>, ticket: Option<Ticket>) -> Answer
-    ensures { (ts : List Ticket) (k : ℕ) → IsLedger space.now ts → StandsFor k ticket space.now ts
+    ensures { (ts : List Ticket) (k : ℕ) → IsLedger space.now ts → IsNumberOf k ticket space.now ts
         → Serves (Call.Command (Command.Size k)) space.now ts space.now ts (plain.Answer (answer_view result)) }
 {
     let Some(ticket) = ticket else {
@@ -158,7 +158,7 @@ fn size_of<NI: NodeIndex>(space: &Guarded<NI>, ticket: Option<Ticket>) -> Answer
 
 // The reply to `Offset`.
 fn offset_of<NI: NodeIndex>(space: &Guarded<NI>, ticket: Option<Ticket>) -> Reply
-    ensures { (ts : List Ticket) (k : ℕ) → IsLedger space.now ts → StandsFor k ticket space.now ts
+    ensures { (ts : List Ticket) (k : ℕ) → IsLedger space.now ts → IsNumberOf k ticket space.now ts
         → Serves (Call.Offset k) space.now ts space.now ts (reply_view result) }
 {
     let Some(ticket) = ticket else {
@@ -193,7 +193,7 @@ fn extend<NI: NodeIndex>(space: &mut Guarded<NI>, more: u32) -> Answer
 
 // The reply to `Shrink`.
 fn shrink<NI: NodeIndex>(space: &mut Guarded<NI>, ticket: Option<Ticket>, size: u32) -> Reply
-    ensures { (ts : List Ticket) (k : ℕ) → IsLedger space.old ts → StandsFor k ticket space.old ts
+    ensures { (ts : List Ticket) (k : ℕ) → IsLedger space.old ts → IsNumberOf k ticket space.old ts
         → Serves (Call.Shrink k size) space.old ts space.new ts (reply_view result) }
 {
     let Some(ticket) = ticket else {
@@ -207,7 +207,7 @@ fn shrink<NI: NodeIndex>(space: &mut Guarded<NI>, ticket: Option<Ticket>, size: 
 
 // The reply to `Grow`.
 fn grow<NI: NodeIndex>(space: &mut Guarded<NI>, ticket: Option<Ticket>, size: u32) -> Reply
-    ensures { (ts : List Ticket) (k : ℕ) → IsLedger space.old ts → StandsFor k ticket space.old ts
+    ensures { (ts : List Ticket) (k : ℕ) → IsLedger space.old ts → IsNumberOf k ticket space.old ts
         → Serves (Call.Grow k size) space.old ts space.new ts (reply_view result) }
 {
     let Some(ticket) = ticket else {
@@ -281,7 +281,7 @@ fn answer<NI: NodeIndex>(
     requires ledger { IsLedger desk.old.space desk.old.tickets.items }
     requires left { desk.old.space.given < last_serial }
     requires power { IsTrue (has_valid_alignment command) }
-    ensures { IfOk result (λ a. (k : ℕ) → StandsFor k ticket desk.old.space desk.old.tickets.items
+    ensures { IfOk result (λ a. (k : ℕ) → IsNumberOf k ticket desk.old.space desk.old.tickets.items
         → Serves (renumber (λ j. k) (Call.Command command)) desk.old.space desk.old.tickets.items
         desk.new.space desk.new.tickets.items (plain.Answer (answer_view a))) }
 {
@@ -308,7 +308,7 @@ fn reply<NI: NodeIndex>(
     requires left { desk.old.space.given < last_serial }
     requires kept { AreKept desk.old.space.space (handles_of desk.old.space desk.old.tickets.items) }
     requires valid { IsTrue (is_valid call) }
-    ensures { IfOk result (λ r. (k : ℕ) → StandsFor k ticket desk.old.space desk.old.tickets.items
+    ensures { IfOk result (λ r. (k : ℕ) → IsNumberOf k ticket desk.old.space desk.old.tickets.items
         → Serves (renumber (λ j. k) call) desk.old.space desk.old.tickets.items
         desk.new.space desk.new.tickets.items (reply_view r)) }
 {

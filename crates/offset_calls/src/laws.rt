@@ -2,7 +2,7 @@
 
 ghost use Rattle.std.specs.Prelude.{◌≡◌, ◌≤◌, ◌++◌, ◌∷◌, ℕ, List, map};
 ghost use Rattle.offset_script.specs.declared.scripts.Command.{Command};
-ghost use Rattle.offset_script.specs.Histories.{HasNoLive, IsCollapse, Nest, collapse, outline, releases};
+ghost use Rattle.offset_script.specs.Histories.{HasNoLive, IsCollapse, IsNest, collapse, outline, releases};
 ghost use Rattle.offset_script.specs.Machine as machine;
 ghost use Rattle.offset_script.specs.Machine.{State, start, total};
 ghost use Rattle.offset_calls.specs.declared.calls.Call.{Call};
@@ -28,7 +28,7 @@ pub fn an_empty_space_continues_as_fresh()
 pub fn a_nest_leaves_no_trace()
     ensures { (size limit : ℕ) → 2 ≤ limit → (cs : List Call) (nest : List Command)
         → let s = after cs (start size limit) in
-        Nest s nest → (next : List Call)
+        IsNest s nest → (next : List Call)
         → replies next (machine.after nest s) ≡ replies_renumbered s (machine.after nest s) next }
 {}
 

@@ -2,10 +2,9 @@
 
 ghost use Rattle.std.specs.Prelude.{◌≡◌, ◌+◌, ◌-◌, ◌<◌, ◌≤◌, ◌++◌, ◌∷◌, [], All, Bool, IfOk, IsTrue, ℕ, Some, drop, false, if◌then◌else◌, length, map};
 ghost use Rattle.offset_allocator.specs.Compacting.{Compacts, live, moves};
-ghost use Rattle.offset_script.specs.Agreement.{kept_name};
+ghost use Rattle.offset_script.specs.Steps.{kept_name, AreLive, AreOfARun};
 ghost use Rattle.offset_script.specs.Machine as machine;
 ghost use Rattle.offset_script.specs.Machine.{start};
-ghost use Rattle.offset_script.specs.Simulation.{AreLive, AreOfARun};
 ghost use Rattle.offset_calls.specs.Calls.{is_valid, move_view, replies, reply_view};
 ghost use Rattle.offset_calls.specs.Calls as plain;
 ghost use Rattle.offset_calls.specs.Steps.{AreKept, AreMoves, Takes, joined};

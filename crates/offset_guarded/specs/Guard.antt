@@ -67,7 +67,8 @@ KeepsLive g h = (t : Ticket) → is_some (range_of t h) ≡ is_some (range_of t 
 
 -- every ticket has as many units as it had, and no other is live
 abbrev pub KeepsSizes : Guard → Guard → Type 0
-KeepsSizes g h = (t : Ticket) → option_map (λ (r : Range). r.size) (range_of t h) ≡ option_map (λ (r : Range). r.size) (range_of t g)
+KeepsSizes g h = (t : Ticket) → option_map (λ (r : Range). r.size) (range_of t h)
+    ≡ option_map (λ (r : Range). r.size) (range_of t g)
 
 -- a ticket has n units after the call, from the same offset on
 abbrev pub HasUnits : Ticket → ℕ → Guard → Guard → Type 0

@@ -9,7 +9,7 @@ ghost use Rattle.offset_allocator.specs.Relations.{Allocates, Frees, SameSpace, 
 ghost use Rattle.offset_allocator.specs.Requests.{CanGrant, IsWhy};
 ghost use Rattle.offset_allocator.specs.Resizing.{CanShrink, CanGrow, HasUnits};
 ghost use Rattle.offset_allocator.specs.Compacting.{Compacts, KeepsSizes};
-ghost use Rattle.offset_uses.specs.Pool.{HoldsSame, IsCopied};
+ghost use Rattle.offset_uses.specs.Pool.{HasSameBytes, IsCopied};
 
 use offset_allocator::{Allocation, Allocator, Move, Refusal, laws};
 
@@ -131,7 +131,7 @@ fn copy_down(buffer: &mut [u32], from: u32, to: u32, size: u32)
 pub fn defragment(space: &mut Allocator, buffer: &mut [u32])
     ensures sizes { KeepsSizes space.old space.new }
     ensures data { space.old.size ≤ length buffer.old
-        → (x : ℕ) → HoldsSame buffer.old buffer.new (range_of x space.old) (range_of x space.new) }
+        → (x : ℕ) → HasSameBytes buffer.old buffer.new (range_of x space.old) (range_of x space.new) }
     ensures len { length buffer.new ≡ length buffer.old }
     ensures step { Compacts space.old space.new }
 {

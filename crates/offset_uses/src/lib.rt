@@ -6,9 +6,8 @@ ghost use Rattle.offset_allocator.specs.View.{View, Grant, largest_free, total_f
 ghost use Rattle.offset_allocator.specs.Ranges.{Range, range_of, size_of, AreDisjoint, KeepsRanges, KeepsOthers, IsLive};
 ghost use Rattle.offset_allocator.specs.Requests.{CanGrant};
 ghost use Rattle.offset_allocator.specs.Relations.{Aligns, Allocates, Extends, Frees, SameSpace};
-ghost use Rattle.offset_script.specs.Machine.{answer_view};
+ghost use Rattle.offset_script.specs.Machine.{answer_view, answers, start};
 ghost use Rattle.offset_script.specs.Grammar.{has_valid_alignment};
-ghost use Rattle.offset_script.specs.Machine.{answers, start};
 
 pub mod assets;
 pub mod daily;

@@ -6,4 +6,5 @@ returns-in-Refusal g c k stands = refusal_serves _ _ c.args.call k c.in-Refusal.
 
 pub returns-in-RefusalAligned : goal.returns-in-RefusalAligned
 returns-in-RefusalAligned g c k stands =
-    refusal_aligned_serves _ _ c.args.call k c.in-RefusalAligned.size c.in-RefusalAligned.align _ _ c.requires.ledger c.in-RefusalAligned.is c.allocator-in-RefusalAligned.ensures (c.refusal_aligned.ensures.granted, c.refusal_aligned.ensures.why)
+    refusal_aligned_serves _ _ c.args.call k c.in-RefusalAligned.size c.in-RefusalAligned.align _ _ c.requires.ledger c.in-RefusalAligned.is c.allocator-in-RefusalAligned.ensures
+    (c.refusal_aligned.ensures.granted, c.refusal_aligned.ensures.why)
