@@ -1,6 +1,6 @@
 //! Plays calls on a guarded allocator. Each call may pass any ticket.
 
-ghost use Rattle.std.specs.Prelude.{◌≡◌, ◌↔◌, ◌+◌, ◌<◌, ◌≤◌, [], All, IfOk, IsTrue, List, ℕ, Some, false, length, map};
+ghost use Rattle.std.specs.Prelude.{◌≡◌, ◌+◌, ◌<◌, ◌≤◌, [], All, IfOk, IsTrue, List, ℕ, Some, false, map};
 ghost use Rattle.offset_allocator.specs.Compacting.{Compacts, live, moves};
 ghost use Rattle.offset_guarded.specs.declared.ticket.Ticket.{Ticket};
 ghost use Rattle.offset_guarded.specs.Guard.{KeepsSizes, last_serial};
@@ -11,7 +11,8 @@ ghost use Rattle.offset_calls.specs.Calls.{is_valid, replies, reply_view};
 ghost use Rattle.offset_calls.specs.Calls as plain;
 ghost use Rattle.offset_calls.specs.Histories.{renumber};
 ghost use Rattle.offset_calls.specs.Steps.{AreKept, AreMoves};
-ghost use Rattle.offset_calls.specs.Tickets.{IsLedger, IsStored, Serves, IsNumberOf, handles_of, meant, number_in, passed, ticket_of};
+ghost use Rattle.offset_calls.specs.Tickets.{IsLedger, IsStored, Serves, IsNumberOf, handles_of, meant, number_in};
+ghost use Rattle.offset_calls.specs.Tickets.{passed, ticket_of};
 
 use crate::calls::{Call, Reply};
 use crate::playing::{Moves, numbered, resized};

@@ -1,7 +1,8 @@
 //! Reads a text as a script.
 
 ghost use Rattle.std.specs.Prelude.{◌≡◌, IfSome, IsTrue};
-ghost use Rattle.offset_script.specs.Grammar.{plain_command, number_command, pair_command, command_of, width_of, header_of};
+ghost use Rattle.offset_script.specs.Grammar.{plain_command, number_command, pair_command, command_of, width_of};
+ghost use Rattle.offset_script.specs.Grammar.{header_of};
 ghost use Rattle.offset_script.specs.Grammar.{has_valid_alignment, is_admitted, meaning_of};
 ghost use Rattle.offset_script.specs.Running.{IsParsed};
 

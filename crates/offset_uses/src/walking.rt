@@ -28,7 +28,8 @@ pub fn count_holes(space: &Allocator) -> [u32; 256]
 
 // Appends the line of a block, with its line end.
 fn put_block(text: &mut String, block: &Block) -> Result<(), AllocError>
-    ensures { OnOk result (string_bytes text.new ≡ string_bytes text.old ++ block_line (as_placed block.now)) }
+    ensures { OnOk result
+        (string_bytes text.new ≡ string_bytes text.old ++ block_line (as_placed block.now)) }
 {
     let offset = block.offset;
     let size = block.size;
