@@ -86,8 +86,8 @@ IsNumberOf k o g ts = kept_name (handles_of g ts) k ≡ live_name o g
 abbrev pub IsGrown : List Ticket → List Ticket → Type 0
 IsGrown ts us = (us ≡ ts) ⊎ ((t : Ticket) × (us ≡ ts ++ t ∷ []))
 
--- the step of a call from one guarded allocator to the next, with this reply: before it the tickets of the grants so far
--- are those in `ts`, and after it those in `us`
+-- the step of a call from one guarded allocator to the next, with this reply: before it the tickets of the grants so
+-- far are those in `ts`, and after it those in `us`
 pub record Serves (c : Call) (g : Guard) (ts : List Ticket) (h : Guard) (us : List Ticket) (r : Reply) : Type 0 where
   pub takes : Takes c g.space (handles_of g ts) h.space (handles_of h us) r
   pub ledger : IsLedger h us

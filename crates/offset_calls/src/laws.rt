@@ -20,8 +20,10 @@ pub fn commands_have_their_answers()
 /// A space without live grants continues as a fresh one of its size, with every call; grant numbers are larger by the
 /// grants so far, in moves too.
 pub fn an_empty_space_continues_as_fresh()
-    ensures { (size limit : ℕ) → 2 ≤ limit → (cs : List Call) → let s = after cs (start size limit) in
-        HasNoLive s → (next : List Call) → replies next s ≡ replies_renumbered (start (total s.blocks) s.limit) s next }
+    ensures { (size limit : ℕ) → 2 ≤ limit → (cs : List Call)
+        → let s = after cs (start size limit) in
+        HasNoLive s → (next : List Call)
+        → replies next s ≡ replies_renumbered (start (total s.blocks) s.limit) s next }
 {}
 
 /// A nest of commands leaves no trace in the replies to any calls after it. Nothing is resized or compacted in a nest.
@@ -48,7 +50,8 @@ pub fn releases_commute()
 
 /// A question, put anywhere into the calls, changes no other reply.
 pub fn a_question_changes_nothing()
-    ensures { (size limit : ℕ) → 2 ≤ limit → (before : List Call) (q : Call) (rest : List Call) → IsQuestion q
+    ensures { (size limit : ℕ) → 2 ≤ limit
+        → (before : List Call) (q : Call) (rest : List Call) → IsQuestion q
         → let s = after before (start size limit) in
         replies (before ++ q ∷ rest) (start size limit)
         ≡ replies before (start size limit) ++ ((step q s).reply ∷ replies rest s) }

@@ -1,7 +1,7 @@
 use Rattle.std.proofs.Common.{ap, ◌∙◌}
 use Rattle.offset_calls.specs.Tickets.{live_name}
 use Rattle.offset_calls.proofs.Tickets.{freed}
-use Rattle.offset_calls.proofs.guarded.release.Goals as goal
+use Rattle.offset_calls.proofs.desk.release.Goals as goal
 
 pub returns-then-free : goal.returns-then-free
 returns-then-free g c ts k is stands =

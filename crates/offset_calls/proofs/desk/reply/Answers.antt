@@ -1,5 +1,5 @@
 use Rattle.offset_calls.proofs.Tickets.{refusal_serves, refusal_aligned_serves}
-use Rattle.offset_calls.proofs.guarded.reply.Goals as goal
+use Rattle.offset_calls.proofs.desk.reply.Goals as goal
 
 pub returns-in-Refusal : goal.returns-in-Refusal
 returns-in-Refusal g c k stands = refusal_serves _ _ c.args.call k c.in-Refusal.size _ _ c.requires.ledger c.in-Refusal.is c.allocator.ensures (c.refusal.ensures.granted, c.refusal.ensures.why)

@@ -5,7 +5,7 @@ use Rattle.offset_calls.specs.Steps.{joined}
 use Rattle.offset_calls.specs.Tickets.{handles_of}
 use Rattle.offset_calls.proofs.Numbering.{numbers_suffice, numbers_are}
 use Rattle.offset_calls.proofs.Tickets.{same_handles, same_ledger, sizes_live}
-use Rattle.offset_calls.proofs.guarded.compact.Goals as goal
+use Rattle.offset_calls.proofs.desk.compact.Goals as goal
 
 pub numbered-requires : goal.numbered-requires
 numbered-requires g c = subst₂ (λ xs ys. length xs ≤ length ys) (sym c.deref-2.ensures.value) (sym c.deref.ensures.value)

@@ -6,8 +6,8 @@ use Rattle.offset_script.specs.Steps.{kept_name}
 use Rattle.offset_calls.specs.Tickets.{handles_of}
 use Rattle.offset_calls.proofs.Numbering.{AreAllKept, placed_names, kept-listing, walk_used, walk_ends}
 use Rattle.offset_calls.proofs.Tickets.{kept_serial, kept_live}
-use Rattle.offset_calls.proofs.guarded.numbers_of_live.Goals as goal
-use Rattle.offset_calls.proofs.guarded.numbers_of_live.Goals.{in-None-ticket, in-Some-ticket}
+use Rattle.offset_calls.proofs.desk.numbers_of_live.Goals as goal
+use Rattle.offset_calls.proofs.desk.numbers_of_live.Goals.{in-None-ticket, in-Some-ticket}
 
 pub loop-block-init : goal.loop-block-init
 loop-block-init g c =

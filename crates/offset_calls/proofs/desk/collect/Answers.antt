@@ -2,7 +2,7 @@ use Rattle.std.proofs.Common.{◌≡◌, ◌++◌, ◌∷◌, [], false, rules, 
 use Rattle.offset_allocator.specs.Compacting.{moves}
 use Rattle.offset_calls.specs.Steps.{AreMoves}
 use Rattle.offset_calls.proofs.Numbering.{collected}
-use Rattle.offset_calls.proofs.guarded.collect.Goals as goal
+use Rattle.offset_calls.proofs.desk.collect.Goals as goal
 
 pub returns-clause-moves : goal.returns-clause-moves
 returns-clause-moves g c =

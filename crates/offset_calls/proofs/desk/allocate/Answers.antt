@@ -1,7 +1,7 @@
 use Rattle.std.proofs.Common.{refl}
 use Rattle.offset_script.proofs.Simulation.{if_ok}
 use Rattle.offset_calls.proofs.Tickets.{stored}
-use Rattle.offset_calls.proofs.guarded.allocate.Goals as goal
+use Rattle.offset_calls.proofs.desk.allocate.Goals as goal
 
 pub returns : goal.returns
 returns g c = if_ok c.keep.result

@@ -3,7 +3,7 @@ use Rattle.offset_allocator.specs.Listing.{listing}
 use Rattle.offset_script.specs.Steps.{kept_name}
 use Rattle.offset_calls.specs.Tickets.{handles_of}
 use Rattle.offset_calls.proofs.Numbering.{placed_names, AreAllKept}
-use Rattle.offset_calls.proofs.guarded.numbers_of_live.Given as goal
+use Rattle.offset_calls.proofs.desk.numbers_of_live.Given as goal
 
 -- the numbers so far, and the names of the blocks that are left, which are all kept
 abbrev pub invariant-loop-block : goal.invariant-loop-block
