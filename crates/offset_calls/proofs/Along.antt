@@ -30,7 +30,7 @@ use Rattle.offset_calls.proofs.Compacted.{all_kept}
 use Rattle.offset_calls.proofs.Followed.{follows, well_calls}
 use Rattle.offset_calls.proofs.Tickets.{alike, alike_range, kept_of, kept_serial, kept_ticket, live_named_by}
 
--- ---- which grant a ticket stands for
+-- ---- which grant a ticket means
 
 -- the ticket of a grant stays that with more tickets
 ticket_more : (ts more : List Ticket) (k : ℕ) (u : Ticket) → ticket_of ts k ≡ Some u → ticket_of (ts ++ more) k ≡ Some u
@@ -75,9 +75,9 @@ alike_that t u h =
     (sym (eqb-true t.name u.name p.0), sym (eqb-true t.serial u.serial q.0), sym (eqb-true t.realm u.realm q.1))
 
 module _ (g : Guard) (ts more : List Ticket) (is : IsLedger g ts) (kept : AreKept g.space (handles_of g ts)) where
-  -- any ticket stands for the grant that gave it, also where its number was not given yet
-  stands_any : (t : Ticket) → kept_name (handles_of g ts) (number_of (ts ++ more) t) ≡ live_name (Some t) g
-  stands_any t = go (is_some (range_of t g)) refl
+  -- any ticket means the grant that gave it, also where its number was not given yet
+  number_any : (t : Ticket) → kept_name (handles_of g ts) (number_of (ts ++ more) t) ≡ live_name (Some t) g
+  number_any t = go (is_some (range_of t g)) refl
     where
       live : IsLive t g → kept_name (handles_of g ts) (number_of (ts ++ more) t) ≡ live_name (Some t) g
       live l =
@@ -108,13 +108,13 @@ module _ (g : Guard) (ts more : List Ticket) (is : IsLedger g ts) (kept : AreKep
       go false e = dead e ∙ sym (ap (λ b. option_map (λ (h : Grant). h.name) (if b then Some (Rattle.offset_guarded.specs.Guard.grant_of t) else None)) e)
 
   -- so does the number of a call
-  pub stands : (c : TicketCall) → IsNumberOf (option_map_or (number_of (ts ++ more)) c.ticket (number_in c.call)) (passed ts c) g ts
-  stands c = go c.ticket refl
+  pub is_number : (c : TicketCall) → IsNumberOf (option_map_or (number_of (ts ++ more)) c.ticket (number_in c.call)) (passed ts c) g ts
+  is_number c = go c.ticket refl
     where
       go : (o : Option Ticket) → c.ticket ≡ o → IsNumberOf (option_map_or (number_of (ts ++ more)) c.ticket (number_in c.call)) (passed ts c) g ts
       go None e = ap (λ o. kept_name (handles_of g ts) (option_map_or (number_of (ts ++ more)) o (number_in c.call))) e ∙ kept_of g ts (number_in c.call)
           ∙ sym (ap (λ o. live_name (Rattle.std.specs.Option.option_or o (ticket_of ts (number_in c.call))) g) e)
-      go (Some t) e = ap (λ o. kept_name (handles_of g ts) (option_map_or (number_of (ts ++ more)) o (number_in c.call))) e ∙ stands_any t
+      go (Some t) e = ap (λ o. kept_name (handles_of g ts) (option_map_or (number_of (ts ++ more)) o (number_in c.call))) e ∙ number_any t
           ∙ sym (ap (λ o. live_name (Rattle.std.specs.Option.option_or o (ticket_of ts (number_in c.call))) g) e)
 
 -- a call is renumbered at its number alone
@@ -191,7 +191,7 @@ module _ (size limit : ℕ) (low : 2 ≤ limit) (g h : Guard) (ts us : List Tick
     (is : IsLedger g ts) (p : IsPlayed size limit g ts calls found) (formed : IsWellFormed h.space) (valid : IsTrue (is_valid c.call)) (more_found : left ≡ found ++ x ∷ [])
     (serves : (k : ℕ) → IsNumberOf k (passed ts c) g ts → Serves (renumber (λ j. k) c.call) g ts h us (reply_view x)) where
   pub served : Serves (renumber (λ j. option_map_or (number_of (ts ++ [])) c.ticket (number_in c.call)) c.call) g ts h us (reply_view x)
-  served = serves (option_map_or (number_of (ts ++ [])) c.ticket (number_in c.call)) (stands g ts [] is (all_kept_played size limit g ts calls found low p) c)
+  served = serves (option_map_or (number_of (ts ++ [])) c.ticket (number_in c.call)) (is_number g ts [] is (all_kept_played size limit g ts calls found low p) c)
 
   module _ (more : List Ticket) where
     -- the tickets given from before the call on
@@ -207,7 +207,7 @@ module _ (size limit : ℕ) (low : 2 ≤ limit) (g h : Guard) (ts us : List Tick
         × IsAtState h.space (handles_of h us) (step (meant (ts ++ all) c) (after (map (meant (ts ++ all)) calls) (start size limit))).state
     next =
         let r : ℕ → ℕ = λ j. option_map_or (number_of (ts ++ all)) c.ticket j in
-        let s = serves (r (number_in c.call)) (stands g ts all is (all_kept_played size limit g ts calls found low p) c) in
+        let s = serves (r (number_in c.call)) (is_number g ts all is (all_kept_played size limit g ts calls found low p) c) in
         follows g.space h.space (handles_of g ts) (handles_of h us) (reply_view x) (after (map (meant (ts ++ all)) calls) (start size limit)) formed
         (well_calls (map (meant (ts ++ all)) calls) _ (well_start size limit low)) (p.represents all)
         (renumber r c.call) (renumber_valid r c.call ∙ valid)
@@ -238,7 +238,7 @@ pub goes_on : (size limit : ℕ) → 2 ≤ limit → (g h : Guard) (ts us : List
     → record { ledger : IsLedger h us; few : length us ≤ i + 1; played : IsPlayed size limit h us (take (i + 1) calls) left }
 goes_on size limit low g h ts us calls i d found left x is few p formed within valid e now o same is_passed each =
     let serves : (k : ℕ) → IsNumberOf k (passed ts (get_or calls i d)) g ts → Serves (renumber (λ j. k) (get_or calls i d).call) g ts h us (reply_view x) =
-    λ k stands. each k (subst (λ o. IsNumberOf k o g ts) (sym (is_passed ∙ ap (λ l. passed l (get_or calls i d)) same)) stands) in
+    λ k is_number. each k (subst (λ o. IsNumberOf k o g ts) (sym (is_passed ∙ ap (λ l. passed l (get_or calls i d)) same)) is_number) in
     let v = All-get_or (λ c. IsTrue (is_valid c.call)) calls i d within valid in
     let s = served size limit low g h ts us (take i calls) (get_or calls i d) found left x is p formed v e serves in
     record {

@@ -169,14 +169,14 @@ alike t u g lt lu e =
 pub freed : (g h : Guard) (ts : List Ticket) (t : Ticket) (k : ℕ) → IsLedger g ts → IsNumberOf k (Some t) g ts → IsLive t g → Frees t.name g.space h.space → KeepsOthers t g h → range_of t h ≡ None
     → h ≡ record g { space = h.space }
     → Serves (call.Command (command.Free k)) g ts h ts (Answer machine.Freed)
-freed g h ts t k is stands live frees others gone same = record {
+freed g h ts t k is is_number live frees others gone same = record {
   takes = (machine.Freed, if_some (kept_name (handles_of g ts) k) t.name _ _ named_k (frees, left k u.1, refl), refl);
   ledger = same_ledger g h ts is (ap (λ (g : Guard). g.realm) same) (ap (λ (g : Guard). g.given) same);
   grown = inl refl;
 }
   where
     named_k : kept_name (handles_of g ts) k ≡ Some t.name
-    named_k = stands ∙ live_named_by t g live
+    named_k = is_number ∙ live_named_by t g live
 
     u : (u : Ticket) × (ticket_of ts k ≡ Some u) × (u.name ≡ t.name) × IsLive u g
     u = kept_ticket g ts k t.name named_k

@@ -1,4 +1,4 @@
--- Holes, counted along a walk over the blocks.
+-- Free blocks, counted along a walk over the blocks.
 use Rattle.std.proofs.Common.{◌≡◌, ℕ, ◌+◌, ◌<◌, ◌≤◌, Bool, true, false, is_some, inl, inr, slice_index, slice_set, sym, get_or-set_same, get_or-set_other, List, [], ◌∷◌, ◌++◌, length, reverse, nat_eq}
 use Rattle.std.proofs.Common.{if◌then◌else◌, refl, ap, ◌∙◌, arith}
 use Rattle.std.proofs.lemmas.Bool.Decides.{eqb_tells}
@@ -13,11 +13,11 @@ use Rattle.offset_allocator.specs.Listing.{Placed, placed, placed_at, listing}
 abbrev one_if : Bool → ℕ
 one_if u = if u then 1 else 0
 
--- whether a hole of class k is one of class c
+-- whether a free block of class k is one of class c
 abbrev class_hole : ℕ → ℕ → ℕ
 class_hole k c = one_if (nat_eq k c)
 
--- whether a block is a hole of class c
+-- whether a block is a free block of class c
 abbrev pub hole : ℕ → Placed → ℕ
 hole c p = if is_some {T = Grant} p.grant then 0 else class_hole (down p.size) c
 
@@ -41,7 +41,7 @@ holes-placed c o (b ∷ bs) =
     elim b.used as (λ u. hole c (placed_at o (record b { used = u })) + holes c (placed (o + b.size) bs) ≡ count_of c (if u then free_sizes bs else b.size ∷ free_sizes bs))
     [ true ↦ omega (arith, ih) | false ↦ omega (arith, ih) ]
 
--- a walk over all blocks finds all holes
+-- a walk over all blocks finds all free blocks
 pub holes-listing : (c : ℕ) (v : View) → holes c (listing v) ≡ count_of c (free_sizes v.blocks)
 holes-listing c v = holes-reverse c (placed 0 v.blocks) ∙ holes-placed c 0 v.blocks
 
@@ -49,7 +49,7 @@ one_hole : (u : Bool) → one_if u ≤ 1
 one_hole true = omega arith
 one_hole false = omega arith
 
--- there are no more holes than blocks
+-- there are no more free blocks than blocks
 pub count_most : (c : ℕ) (bs : List Block) → count_of c (free_sizes bs) ≤ length bs
 count_most c [] = omega arith
 count_most c (b ∷ bs) =
@@ -57,7 +57,7 @@ count_most c (b ∷ bs) =
     elim b.used as (λ (u : Bool). count_of c (if u then free_sizes bs else b.size ∷ free_sizes bs) ≤ length (b ∷ bs))
     [ true ↦ omega (arith, ih) | false ↦ omega (arith, ih, one_hole (nat_eq (down b.size) c)) ]
 
--- one hole more is counted
+-- one free block more is counted
 pub counted_hole : (ns : List ℕ) (p : Placed) (ps : List Placed) (k : ℕ) (total : ℕ → ℕ) → length ns ≡ 256 → k ≡ down p.size → is_some {T = Grant} p.grant ≡ false
     → ((c : ℕ) → c < 256 → slice_index ns c + holes c (p ∷ ps) ≡ total c)
     → (c : ℕ) → c < 256 → slice_index (slice_set ns k (slice_index ns k + 1)) c + holes c ps ≡ total c
