@@ -8,7 +8,7 @@ use Rattle.std.proofs.lemmas.List.Kept.{AllPairs-cons}
 use Rattle.offset_script.specs.declared.scripts.Command.{Command}
 use Rattle.offset_script.specs.Machine.{Tag, Live, Free, Block, has_number, total, State, Answer, start, step, answers, after}
 use Rattle.offset_script.specs.Machine as machine
-use Rattle.offset_script.proofs.Well.{Well, well_start, well_step}
+use Rattle.offset_script.proofs.Well.{IsWell, well_start, well_step}
 use Rattle.offset_lives.specs.Lives.{Life, life_of_answer, end_from, lives_from, lives_of, range_of, is_on, blocks_after, AreApart, LivesAreWithin, LivesAreApart}
 use Rattle.offset_lives.proofs.Seen.{grants_of, call_counts, call_grants}
 use Rattle.offset_lives.proofs.Whole.{IsShown, shown}
@@ -104,7 +104,7 @@ apart cs s a b m n other = elim (cases_lt b.first a.last) [
 AreRising : ℕ → List Life → Type 0
 AreRising g ls = (All (λ l. g < l.number) ls) × AllPairs (λ a b. a.number ≢ b.number) ls
 
-rising_answer : (c : Command) (cs : List Command) (s : State) → Well s → (j : ℕ) (rest : List Life) → (a : Answer) → (step c s).answer ≡ a → AreRising (step c s).state.grants rest
+rising_answer : (c : Command) (cs : List Command) (s : State) → IsWell s → (j : ℕ) (rest : List Life) → (a : Answer) → (step c s).answer ≡ a → AreRising (step c s).state.grants rest
     → AreRising s.grants (life_of_answer j c a (end_from (j + 1) cs) ++ rest)
 unfolding AreRising
 rising_answer c cs s w j rest (machine.Grant k offset) e r =
@@ -122,7 +122,7 @@ rising_answer c cs s w j rest (machine.Full rows) e r = (λ i d h. let m = r.0 i
 rising_answer c cs s w j rest machine.Reset e r = (λ i d h. let m = r.0 i d h in let g = call_counts c s w in omega arith, r.1)
 rising_answer c cs s w j rest machine.Extended e r = (λ i d h. let m = r.0 i d h in let g = call_counts c s w in omega arith, r.1)
 
-rising : (cs : List Command) (s : State) → Well s → (j : ℕ) → AreRising s.grants (lives_from j cs (answers cs s))
+rising : (cs : List Command) (s : State) → IsWell s → (j : ℕ) → AreRising s.grants (lives_from j cs (answers cs s))
 unfolding AreRising
 rising [] s w j = (λ k d h. absurd (omega arith), λ i k d l h. absurd (omega arith))
 rising (c ∷ cs) s w j = rising_answer c cs s w j _ (step c s).answer refl (rising cs (step c s).state (well_step c s w) (j + 1))

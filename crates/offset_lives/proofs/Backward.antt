@@ -7,7 +7,7 @@ use Rattle.offset_script.specs.declared.scripts.Command.{Command}
 use Rattle.offset_script.specs.declared.answers.Answer as program
 use Rattle.offset_script.specs.Machine.{answer_view, State, Answer, start, step, answers}
 use Rattle.offset_script.specs.Machine as machine
-use Rattle.offset_script.proofs.Well.{Well, well_step}
+use Rattle.offset_script.proofs.Well.{IsWell, well_step}
 use Rattle.offset_lives.specs.declared.living.Life as found
 use Rattle.offset_lives.specs.Lives.{Life, leaves, life_of_answer, end_from, lives_from, lives_of, life_view}
 use Rattle.offset_lives.proofs.Seen.{grants_of, call_counts, call_grants}
@@ -29,7 +29,7 @@ few_grants machine.Reset = omega arith
 few_grants machine.Extended = omega arith
 
 -- there are no more grants than commands
-pub number_most : (cs : List Command) (s : State) → Well s → (i : ℕ) (d : Answer) (k offset : ℕ) → i < length cs → get_or (answers cs s) i d ≡ machine.Grant k offset → k ≤ s.grants + length cs
+pub number_most : (cs : List Command) (s : State) → IsWell s → (i : ℕ) (d : Answer) (k offset : ℕ) → i < length cs → get_or (answers cs s) i d ≡ machine.Grant k offset → k ≤ s.grants + length cs
 number_most [] s w i d k offset h e = absurd (omega arith)
 number_most (c ∷ cs) s w zero d k offset h e = let g = call_grants c s w k offset e in omega (arith, g.0)
 number_most (c ∷ cs) s w (suc i) d k offset h e =

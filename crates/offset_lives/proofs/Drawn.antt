@@ -3,7 +3,7 @@ use Rattle.std.proofs.Common.{◌≡◌, ℕ, Bool, true, false, List, ◌++◌,
 use Rattle.std.specs.Prelude.{IfSome, ◌||◌, not}
 use Rattle.offset_script.specs.declared.faults.RunFault.TheVariants as faults
 use Rattle.offset_script.specs.declared.scripts.Script.{Script}
-use Rattle.offset_script.specs.Running.{view, ScriptOf, Sends}
+use Rattle.offset_script.specs.Running.{view, IsScriptOf, Sends}
 use Rattle.offset_lives.specs.Drawing.{DrawOf, IsPicture}
 
 -- a picture that was sent, with this result
@@ -11,7 +11,7 @@ abbrev IsDrawn : Bool → List ℕ → List ℕ → Option (List ℕ) → Option
 IsDrawn true title text left old new lost = DrawOf (Ok tt) title text left old new lost
 IsDrawn false title text left old new lost = DrawOf (Err faults.Write) title text left old new lost
 
-pub is_drawn : (title sent : List ℕ) (script : Script) (from left old new : Option (List ℕ)) (is_sent lost : Bool) → IfSome from (λ text. ScriptOf (Ok script) text left) → IsPicture title sent
+pub is_drawn : (title sent : List ℕ) (script : Script) (from left old new : Option (List ℕ)) (is_sent lost : Bool) → IfSome from (λ text. IsScriptOf (Ok script) text left) → IsPicture title sent
     → Sends (is_sent || not lost) sent old new → IfSome from (λ text. IsDrawn is_sent title text left old new lost)
 is_drawn title sent script None left old new is_sent lost h drawn sends = tt
 is_drawn title sent script (Some text) left old new true lost h drawn sends = (h.0, record { plan = view script; picture = sent; means = h.1; drawn = drawn; sends = sends })

@@ -4,7 +4,7 @@ use Rattle.std.proofs.Common.{ne_eqb, eq-eqb, append-nil}
 use Rattle.offset_allocator.specs.View.{one}
 use Rattle.std.proofs.lemmas.Bool.{cases_eq, true≢false, false≢true}
 use Rattle.offset_script.specs.Machine.{Tag, Live, Free, Block, block, is_free, has_number, total, Place, place_of, free_block, coalesce}
-use Rattle.offset_script.proofs.Well.{count, hit, whole, found_at, count-append, number_hit, granted_blocks, total-append, AllFree, coalesced}
+use Rattle.offset_script.proofs.Well.{count, hit, whole, found_at, count-append, number_hit, granted_blocks, total-append, AreFree, coalesced}
 use Rattle.offset_lives.specs.Lives.{range_of}
 
 -- the first of two options that is not `None`
@@ -56,7 +56,7 @@ range_none k offset (b ∷ bs) h = past k offset b bs (no_hit (has_number k b.ta
     no_hit false e z = refl
 
 -- free blocks belong to no grant
-range_free : (k offset : ℕ) (fs ys : List Block) → AllFree fs → range_of k offset (fs ++ ys) ≡ range_of k (offset + total fs) ys
+range_free : (k offset : ℕ) (fs ys : List Block) → AreFree fs → range_of k offset (fs ++ ys) ≡ range_of k (offset + total fs) ys
 range_free k offset [] ys f = ap (λ o. range_of k o ys) (omega arith)
 range_free k offset (b ∷ fs) ys f = past k offset b (fs ++ ys) (free_number k b.tag f.0) ∙ range_free k (offset + b.size) fs ys f.1 ∙ ap (λ o. range_of k o ys) (omega arith)
 

@@ -10,8 +10,8 @@ use Rattle.offset_script.specs.Machine.{stamp_of_call, stamp_of_padding, is_shor
 use Rattle.offset_script.specs.Machine as machine
 use Rattle.offset_script.specs.Histories.{KeepsSpace}
 use Rattle.offset_script.specs.Totals.{requested_units}
-use Rattle.offset_script.proofs.Well.{Well, not_there, count, whole, chosen_at, count-append, not_found}
-use Rattle.offset_script.proofs.Nests.{IsQuiet, does, Granted}
+use Rattle.offset_script.proofs.Well.{IsWell, not_there, count, whole, chosen_at, count-append, not_found}
+use Rattle.offset_script.proofs.Nests.{IsQuiet, does, IsGranted}
 use Rattle.offset_lives.specs.Lives.{Life, life_of_answer, lives_from, lives_of, range_of, blocks_after, is_on, IsSeen}
 use Rattle.offset_lives.specs.Lives as lives
 use Rattle.offset_lives.proofs.Ranges.{either_of, range_none, range_coalesce, range_released, range_gone, range_kept, range_granted}
@@ -26,7 +26,7 @@ released_keeps : (s : State) (k j : ℕ) → k ≢ j → (o : Option Place) → 
 released_keeps s k j n None e = refl
 released_keeps s k j n (Some p) e = range_released k j p.block.size (stamp_of_call s) s.blocks p e refl n
 
-released_ends : (s : State) → Well s → (k : ℕ) (o : Option Place) → place_of k s.blocks ≡ o → left k (release s o) ≡ None
+released_ends : (s : State) → IsWell s → (k : ℕ) (o : Option Place) → place_of k s.blocks ≡ o → left k (release s o) ≡ None
 released_ends s w k None e = range_none k 0 s.blocks (not_found k s.blocks e)
 released_ends s w k (Some p) e = range_gone k p.block.size (stamp_of_call s) s.blocks p (w.once (Live k)) e
 
@@ -76,7 +76,7 @@ call_keeps command.Reset s k made stays = absurd (false≢true stays)
 call_keeps (command.Align n align) s k made stays = quiet_keeps (command.Align n align) s k made tt stays
 call_keeps (command.Extend more) s k made stays = extend_keeps s k more
 
-pub call_ends : (c : Command) (s : State) → Well s → (k : ℕ) → lives.leaves k c ≡ false → left k (step c s) ≡ None
+pub call_ends : (c : Command) (s : State) → IsWell s → (k : ℕ) → lives.leaves k c ≡ false → left k (step c s) ≡ None
 call_ends (command.Alloc n) s w k e = absurd (true≢false e)
 call_ends (command.Free j) s w k e = subst (λ i. left k (release s (place_of i s.blocks)) ≡ None) (sym (is_same j k e)) (released_ends s w k (place_of k s.blocks) refl)
 call_ends (command.Size j) s w k e = absurd (true≢false e)
@@ -118,7 +118,7 @@ left_says c s bs a n none = (omega (arith, n), λ k o e. absurd (none k o e))
 same_grant : (k j o p : ℕ) → machine.Grant k o ≡ machine.Grant j p → (k ≡ j) × (o ≡ p)
 same_grant k j o p e = (cc, cc)
 
-grant_says : (c : Command) (s : State) → Well s → (d : Granted (requested_units c) s (step c s)) → HasGrantedRange c s (step c s)
+grant_says : (c : Command) (s : State) → IsWell s → (d : IsGranted (requested_units c) s (step c s)) → HasGrantedRange c s (step c s)
 unfolding HasGrantedRange
 grant_says c s w d =
     let p = d.place in
@@ -138,7 +138,7 @@ grant_says c s w d =
     none p e = let g = not_there s w (Live (s.grants + 1)) (λ o. absurd (let l = o.1 in omega arith)) in let a = count-append (Live (s.grants + 1)) p.before (p.block ∷ p.after) in
         omega (arith, g, a, ap (count (Live (s.grants + 1))) e)
 
-keeping_says : (c : Command) (s : State) → Well s → KeepsSpace c → HasGrantedRange c s (step c s)
+keeping_says : (c : Command) (s : State) → IsWell s → KeepsSpace c → HasGrantedRange c s (step c s)
 keeping_says c s w keeps = elim (does c s keeps) [
   | inl q ↦ subst (HasGrantedRange c s) (sym q.is) (quiet_says c s q.answer q.quiet)
   | inr (inl d) ↦ grant_says c s w d
@@ -149,7 +149,7 @@ says_if : (c : Command) (s : State) (b : Bool) (o p : Outcome) → HasGrantedRan
 says_if c s true o p f g = f
 says_if c s false o p f g = g
 
-call_says : (c : Command) (s : State) → Well s → HasGrantedRange c s (step c s)
+call_says : (c : Command) (s : State) → IsWell s → HasGrantedRange c s (step c s)
 call_says (command.Alloc n) s w = keeping_says (command.Alloc n) s w tt
 call_says (command.Free j) s w = keeping_says (command.Free j) s w tt
 call_says (command.Size j) s w = keeping_says (command.Size j) s w tt
@@ -163,12 +163,12 @@ call_says (command.Extend (suc more)) s w = says_if (command.Extend (suc more)) 
     (quiet_says (command.Extend (suc more)) s machine.Refused tt) (left_says (command.Extend (suc more)) s _ machine.Extended refl (λ k o e. cc))
 
 -- the grants after a call
-pub call_counts : (c : Command) (s : State) → Well s → (step c s).state.grants ≡ s.grants + grants_of (step c s).answer
+pub call_counts : (c : Command) (s : State) → IsWell s → (step c s).state.grants ≡ s.grants + grants_of (step c s).answer
 unfolding HasGrantedRange
 call_counts c s w = (call_says c s w).0
 
 -- the range of a new grant
-pub call_grants : (c : Command) (s : State) → Well s → (k offset : ℕ) → (step c s).answer ≡ machine.Grant k offset
+pub call_grants : (c : Command) (s : State) → IsWell s → (k offset : ℕ) → (step c s).answer ≡ machine.Grant k offset
     → (k ≡ s.grants + 1) × (range_of k 0 (step c s).state.blocks ≡ Some (offset, requested_units c))
 unfolding HasGrantedRange
 call_grants c s w k offset e = (call_says c s w).1 k offset e

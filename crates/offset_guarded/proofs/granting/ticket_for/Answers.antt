@@ -1,6 +1,6 @@
 use Rattle.std.proofs.Common.{arith}
 use Rattle.offset_guarded.proofs.Guards.{cell_given, is_named}
-use Rattle.offset_guarded.proofs.ticket_for.Goals as goal
+use Rattle.offset_guarded.proofs.granting.ticket_for.Goals as goal
 
 -- the name is that of a node, so it has a cell
 pub give-requires-clause-made : goal.give-requires-clause-made

@@ -1,8 +1,9 @@
 -- When the named view of an allocator, with the handles kept for its grants, shows the blocks of a plain state.
-use Rattle.std.specs.Prelude.{◌≡◌, ℕ, zero, suc, ◌<◌, ◌≤◌, not, List, [], ◌∷◌, map, Option, Some, None, slice_index_or, option_map, nat_eq, if◌then◌else◌}
-use Rattle.offset_allocator.specs.View.{Block, View, Grant, tally, times, bin_at}
+use Rattle.std.specs.Prelude.{◌≡◌, ℕ, ◌<◌, ◌≤◌, not, List, [], ◌∷◌, length, map, Option, Some, None, nat_eq, if◌then◌else◌}
+use Rattle.offset_allocator.specs.View.{Block, View, Grant, IsWellFormed, tally, times, bin_at}
 use Rattle.offset_script.specs.Machine.{Tag, is_free, has_number, stamp, State}
 use Rattle.offset_script.specs.Machine as machine
+use Rattle.offset_script.specs.Steps.{kept_name}
 
 -- a block with both its name and its tag
 pub record Label : Type 0 where
@@ -34,7 +35,7 @@ name_of k (l ∷ ls) = if has_number k l.tag then Some l.name else name_of k ls
 
 -- the view and the plain state show the same blocks, each bin has its newest block first, and the name kept for each
 -- grant is that of its block
-pub record Agrees (v : View) (kept_name : ℕ → Option ℕ) (s : State) : Type 0 where
+pub record HasBlocksOf (v : View) (kept_name : ℕ → Option ℕ) (s : State) : Type 0 where
   pub labels : List Label
   pub view : v.blocks ≡ map by_name labels
   pub state : s.blocks ≡ map by_tag labels
@@ -42,7 +43,8 @@ pub record Agrees (v : View) (kept_name : ℕ → Option ℕ) (s : State) : Type
   pub newest : (c : ℕ) → IsFalling (λ x. stamp_of x labels) (bin_at v.order c)
   pub handles : (k : ℕ) → kept_name k ≡ name_of k labels
 
--- the name of the handle kept for grant k, where handle k - 1 is that of grant k
-abbrev pub kept_name : List (Option Grant) → ℕ → Option ℕ
-kept_name hs zero = None
-kept_name hs (suc k) = option_map (λ (h : Grant). h.name) (slice_index_or hs k None)
+-- an allocator with the view v, and the handles of its grants so far, represent a state of the plain machine
+pub record IsAtState (v : View) (handles : List (Option Grant)) (s : State) : Type 0 where
+  pub formed : IsWellFormed v
+  pub agrees : HasBlocksOf v (kept_name handles) s
+  pub grants : length handles ≡ s.grants

@@ -1,9 +1,9 @@
 use Rattle.std.proofs.Common.{◌≡◌, ◌++◌, map}
 use Rattle.offset_allocator.specs.Listing.{listing}
-use Rattle.offset_script.specs.Agreement.{kept_name}
+use Rattle.offset_script.specs.Steps.{kept_name}
 use Rattle.offset_calls.specs.Tickets.{handles_of}
-use Rattle.offset_calls.proofs.Numbering.{placed_names, AllKept}
-use Rattle.offset_calls.proofs.guarded.numbers_of_live.Given as goal
+use Rattle.offset_calls.proofs.Numbering.{placed_names, AreAllKept}
+use Rattle.offset_calls.proofs.desk.numbers_of_live.Given as goal
 
 -- the numbers so far, and the names of the blocks that are left, which are all kept
 abbrev pub invariant-loop-block : goal.invariant-loop-block
@@ -11,5 +11,5 @@ invariant-loop-block g l =
     let handles = handles_of l.desk.space l.desk.tickets.items in
     record {
       names : map (kept_name handles) l.numbers.items ++ placed_names l.block-iterator ≡ placed_names (listing l.desk.space.space);
-      kept : AllKept handles l.block-iterator;
+      kept : AreAllKept handles l.block-iterator;
     }
