@@ -22,8 +22,11 @@ def texel(name):
     if name in TEXELS:
         return TEXELS[name]
     if "COMPRESSED" in name:
-        return 0.5 if "DXT1" in name or "RGTC1" in name or "ETC1" in name or name.endswith("RGB8_ETC2") else 1
-    base, bits = re.fullmatch(r"([A-Z_]+?|\d)(8|16|32)?(?:F|I|UI|_SNORM)?", name).groups()
+        return 0.5 if re.search("DXT1|RGTC1|RGB8_ETC2", name) else 1
+    known = re.fullmatch(r"([A-Z_]+?|\d)(8|16|32)?(?:F|I|UI|_SNORM)?", name)
+    if not known or known[1] not in COMPONENTS:
+        sys.exit(f"what does a texel of {name} take?")
+    base, bits = known.groups()
     return COMPONENTS[base] * int(bits or 8) // 8
 
 
@@ -67,14 +70,15 @@ def give(key, place, size):
     waiting[key] = True
 
 
-def levels(key, base, count=99):
-    """The levels below the first, down to one texel, of each image in it."""
+def levels(target, base, count=99):
+    """The bytes of the levels below the first, down to one texel. An array has as many layers on each."""
     w, h, d, each = base
+    layers, d = (d, 1) if "ARRAY" in target else (1, d)
     for level in range(1, count):
         if max(w, h, d) == 1:
             break
         w, h, d = max(1, w // 2), max(1, h // 2), max(1, d // 2)
-        yield level, w * h * d * each
+        yield level, w * h * d * layers * each
 
 
 for line in sys.stdin:
@@ -144,15 +148,16 @@ for line in sys.stdin:
     elif re.match(r"glTex(ture)?Storage\dD", call):
         k = key("texture", int(args["texture"]) if "texture" in args else None)
         base = *[int(args.get(x, 1)) for x in ("width", "height", "depth")], texel(args["internalformat"])
-        faces = 6 if "CUBE" in target else 1
+        # an array of cubes has the faces in its depth
+        faces = 6 if "CUBE" in target and "ARRAY" not in target else 1
         images[k] = {}
         give(k, (0, 0), base[0] * base[1] * base[2] * base[3] * faces)
-        for level, size in levels(k, base, int(args["levels"])):
+        for level, size in levels(target, base, int(args["levels"])):
             give(k, (0, level), size * faces)
     elif re.match(r"glGenerate(Texture)?Mipmap", call):
         k = key("texture", int(args["texture"]) if "texture" in args else None)
         for face, base in bases.get(k, {}).items():
-            for level, size in levels(k, base):
+            for level, size in levels(face, base):
                 give(k, (face, level), size)
     elif call.startswith(("glRenderbufferStorage", "glNamedRenderbufferStorage")):
         k = key("renderbuffer", int(args["renderbuffer"]) if "renderbuffer" in args else None)

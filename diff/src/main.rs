@@ -126,10 +126,9 @@ fn main() {
     expect_faults(program);
     for file in files {
         let text = std::fs::read_to_string(file).unwrap_or_else(|error| panic!("{file}: {error}"));
-        match compare(program, &scripts::read(&text)) {
-            Ok(lines) => println!("{file}: {} equal lines", lines.len()),
-            Err(fault) => panic!("{file}, {fault}"),
-        }
+        let lines = compare(program, &scripts::read(&text)).unwrap_or_else(|fault| panic!("{file}, {fault}"));
+        let name = file.rsplit('/').next().unwrap_or_default();
+        println!("{name}: {} equal lines", lines.len());
     }
     let next = AtomicU64::new(first);
     let tally = Mutex::new(Tally::default());
