@@ -105,7 +105,7 @@ shown = [
     *table([NAMES[s] for s in sides], [(t, refusing_cells(t)) for t in traces]),
 ]
 shown += ["## Refusals", "",
-          "In a space that is as large as the peak, or little larger. Behind ours, for how many of its refusals a free block was "
+          "In a space that is as large as the peak, or little larger. In brackets, after ours: for how many of its refusals a free block was "
           "large enough, so that a best fit would grant them there. A program is left out where none refuses any of it.", ""]
 for percent in PERCENT:
     some = [t for t in traces if any(count for (p, _), (count, _) in t.refused.items() if p == percent)]
