@@ -1,4 +1,4 @@
-"""Prints CORPUS.md into the folder $2 from what bench/corpus counted in the folder $1."""
+"""Prints what bench/corpus counted in the folder $1, and writes it into CORPUS.md in the folder $2 if a peer is there."""
 import pathlib, sys
 
 OUT, HERE = map(pathlib.Path, sys.argv[1:3])
@@ -119,5 +119,6 @@ shown += [
            [(t, [t.over(t.least["ours"]), t.over(t.once), t.over(t.retried), t.compacts]) for t in traces]),
     f"One at the peak saves something for {SAVED}; for the others nothing.",
 ]
-(HERE / "CORPUS.md").write_text("\n".join(shown).strip() + "\n")
+if peers:
+    (HERE / "CORPUS.md").write_text("\n".join(shown).strip() + "\n")
 print("\n".join(shown))

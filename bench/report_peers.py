@@ -125,8 +125,8 @@ def short_table(rows, found):
     """A row for each side: a summary of the other tables."""
     # the last row of a side is that of a table just large enough
     bytes_of = {side: at for side, _name, _made, at in found}
-    yield "| | time/original, smallest | largest | bytes a live range | smallest space over the peak |"
-    yield "|---|---:|---:|---:|---:|"
+    yield "| | time/original, smallest | largest | bytes a live range |"
+    yield "|---|---:|---:|---:|"
     for side in SIDES:
         lowest = min(row[4][side][0] / row[4]["original"][0] for row in rows if side in row[4])
         each = [b / live for b, live in zip(bytes_of[side], LIVE) if b is not None]
