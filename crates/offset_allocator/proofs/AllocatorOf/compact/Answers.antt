@@ -64,14 +64,14 @@ pub push-requires-clause-unlisted : goal.push-requires-clause-unlisted
 push-requires-clause-unlisted g c = empty_unlisted c.slide-hole.result.0 (ap (λ (k : Links). bins_in g.T.Index.NodeIndex.MAX k) c.slide-hole.ensures.bins.0 ∙ c.empty.ensures.lists)
 
 -- the fields that are left, and what they show
-done : (g : Over) (c : After-push g) (k : ℕ) (f : Fields) → f ≡ record (fields_of g.T.Tables.cells g.T.Index.NodeIndex.MAX c.self.inside) { cells = c.push.new.store.tables; last = c.push.new.store.last; count = c.push.new.store.spare_count; top = c.push.new.store.top_mask; accesses = k }
+done : (g : Over) (c : After-push g) (k : ℕ) (f : Fields) → f ≡ record (fields_of g.T.Tables.cells g.T.Index.NodeIndex.MAX c.self.inside) { cells = (g.T.Tables.cells c.push.new.store.tables); last = c.push.new.store.last; count = c.push.new.store.spare_count; top = c.push.new.store.top_mask; accesses = k }
     → AreSound f × Compacts (shown (fields_of g.T.Tables.cells g.T.Index.NodeIndex.MAX c.self.inside)) (shown f)
 done g c k f is =
     let old : Fields = fields_of g.T.Tables.cells g.T.Index.NodeIndex.MAX c.self.inside in
     let o : IsFirst (blocks (g.T.Tables.cells c.self.inside.store.tables).room c.self.inside.store.last) c.in-Some.first = first_is _ _ (sym c.first_free.ensures.first ∙ c.in-Some.is) in
     let e = c.slide-hole.ensures.place _ _ (kept_place c.empty.ensures.chain (first_held old c.self.invariant o refl)) o.idle in
     let empty : bins_in g.T.Index.NodeIndex.MAX (g.T.Tables.cells c.slide-hole.new.store.tables).links ≡ replicate 256 [] = ap (λ (k : Links). bins_in g.T.Index.NodeIndex.MAX k) c.slide-hole.ensures.bins.0 ∙ c.empty.ensures.lists in
-    rw is (packs old c.self.invariant o c.push.new.store.tables _ _ c.slide-hole.result.0 c.slide-hole.result.1 (kept_place c.push.ensures.chain e.0) e.1 {accesses = k} c.push.ensures.held (rw (c.uint_to_float_round_down.ensures.is, empty) at c.push.ensures.lists))
+    rw is (packs old c.self.invariant o (g.T.Tables.cells c.push.new.store.tables) _ _ c.slide-hole.result.0 c.slide-hole.result.1 (kept_place c.push.ensures.chain e.0) e.1 {accesses = k} c.push.ensures.held (rw (c.uint_to_float_round_down.ensures.is, empty) at c.push.ensures.lists))
 
 pub invariant_of-self-2 : goal.invariant_of-self-2
 invariant_of-self-2 g c = (done g (goal.at.invariant_of-self-2 g c).After-push 0 _ refl).0
@@ -113,7 +113,7 @@ returns-in_default-clause-accesses g c =
 
 pub returns-clause-step : goal.returns-clause-step
 returns-clause-step g c =
-    let P : View → Type 0 = λ u. Compacts u (shown (record (fields_of g.T.Tables.cells g.T.Index.NodeIndex.MAX c.self.inside) { cells = c.push.new.store.tables; last = c.push.new.store.last; count = c.push.new.store.spare_count; top = c.push.new.store.top_mask; accesses = c.push.new.store.accesses })) in
+    let P : View → Type 0 = λ u. Compacts u (shown (record (fields_of g.T.Tables.cells g.T.Index.NodeIndex.MAX c.self.inside) { cells = (g.T.Tables.cells c.push.new.store.tables); last = c.push.new.store.last; count = c.push.new.store.spare_count; top = c.push.new.store.top_mask; accesses = c.push.new.store.accesses })) in
     subst P c.self.view_is (done g (goal.at.returns-clause-step g c).After-push c.push.new.store.accesses _ refl).1
 
 pub returns-in_default-clause-sizes : goal.returns-in_default-clause-sizes
@@ -126,7 +126,7 @@ returns-in_default-clause-sizes g c =
 pub returns-clause-sizes : goal.returns-clause-sizes
 returns-clause-sizes g c =
     let f : Fields = fields_of g.T.Tables.cells g.T.Index.NodeIndex.MAX c.self.inside in
-    let left : View = shown (record f { cells = c.push.new.store.tables; last = c.push.new.store.last; count = c.push.new.store.spare_count; top = c.push.new.store.top_mask; accesses = c.push.new.store.accesses }) in
+    let left : View = shown (record f { cells = (g.T.Tables.cells c.push.new.store.tables); last = c.push.new.store.last; count = c.push.new.store.spare_count; top = c.push.new.store.top_mask; accesses = c.push.new.store.accesses }) in
     let P : View → Type 0 = λ u. KeepsSizes u left in
     subst P c.self.view_is (compacts_sizes (shown f) left (known_sound f c.self.invariant (shown f) refl).0 (done g (goal.at.returns-clause-sizes g c).After-push c.push.new.store.accesses _ refl).1)
 

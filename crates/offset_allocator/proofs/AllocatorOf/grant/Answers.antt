@@ -19,7 +19,7 @@ pub ready_for-requires-clause-memory : goal.ready_for-requires-clause-memory
 ready_for-requires-clause-memory g c = (_, _, _, c.self.invariant.space, omega (arith, c.min.ensures, rw (← c.self.view_is) at c.requires.enough, c.self.invariant.memory))
 
 -- what the contract asks of the view, said of the fields
-call : (g : Over) (c : After-pop-name g) → Call (with_made (fields_of g.T.Tables.cells g.T.Index.NodeIndex.MAX c.self.inside) c.ready_for.new.tables c.ready_for.new.spare_count) (units_needed c.args.size c.args.align) c.args.class c.pop-name.result
+call : (g : Over) (c : After-pop-name g) → Call (with_made (fields_of g.T.Tables.cells g.T.Index.NodeIndex.MAX c.self.inside) (g.T.Tables.cells c.ready_for.new.tables) c.ready_for.new.spare_count) (units_needed c.args.size c.args.align) c.args.class c.pop-name.result
 call g c = record {
   sound = made (fields_of g.T.Tables.cells g.T.Index.NodeIndex.MAX c.self.inside) c.self.invariant c.ready_for.ensures.readies;
   smallest = subst (λ (u : View). IsSmallestFrom (up (units_needed c.args.size c.args.align)) u.order c.args.class) (sym (made_shown (fields_of g.T.Tables.cells g.T.Index.NodeIndex.MAX c.self.inside) c.self.invariant c.ready_for.ensures.readies ∙ c.self.view_is)) c.requires.smallest;
@@ -48,7 +48,7 @@ pub size-whole-requires : goal.size-whole-requires
 size-whole-requires g c = (kept_place c.pop-name.ensures.chain (held (call g (goal.at.size-whole-requires g c).After-pop-name) refl)).below
 
 -- the block holds the padding and the units
-fits : (g : Over) (c : After-size-whole g) → Call (with_made (fields_of g.T.Tables.cells g.T.Index.NodeIndex.MAX c.self.inside) c.ready_for.new.tables c.ready_for.new.spare_count) (units_needed c.args.size c.args.align) c.args.class c.pop-name.result → padding_to c.args.align c.offset-offset.result + c.args.size ≤ c.size-whole.result
+fits : (g : Over) (c : After-size-whole g) → Call (with_made (fields_of g.T.Tables.cells g.T.Index.NodeIndex.MAX c.self.inside) (g.T.Tables.cells c.ready_for.new.tables) c.ready_for.new.spare_count) (units_needed c.args.size c.args.align) c.args.class c.pop-name.result → padding_to c.args.align c.offset-offset.result + c.args.size ≤ c.size-whole.result
 fits g c p = rw (c.offset-offset.ensures.offset, c.size-whole.ensures.size, at_place (kept_place c.pop-name.ensures.chain (held p refl))) (whole_fits p c.args.size (padding_to c.args.align) (λ o. within c.args.size c.args.align o c.requires.some))
 
 pub overflow_sub-whole : goal.overflow_sub-whole
@@ -83,8 +83,8 @@ overflow_add-start g c =
     omega (arith, small)
 
 -- the fields that are left, and what was split
-done : (g : Over) (c : After-divide g) → Call (with_made (fields_of g.T.Tables.cells g.T.Index.NodeIndex.MAX c.self.inside) c.ready_for.new.tables c.ready_for.new.spare_count) (units_needed c.args.size c.args.align) c.args.class c.pop-name.result → (k : ℕ) (f : Fields) → f ≡ record (fields_of g.T.Tables.cells g.T.Index.NodeIndex.MAX c.self.inside) { cells = c.divide.new.store.tables; last = c.divide.new.store.last; count = c.divide.new.store.spare_count; top = c.divide.new.store.top_mask; free = c.self.inside.free_total - c.args.size; accesses = k }
-    → AreSound f × Splits (units_needed c.args.size c.args.align) c.args.size (padding_to c.args.align) (shown (with_made (fields_of g.T.Tables.cells g.T.Index.NodeIndex.MAX c.self.inside) c.ready_for.new.tables c.ready_for.new.spare_count)) (shown f) (record { name = c.pop-name.result; offset = c.offset-offset.result + padding_to c.args.align c.offset-offset.result })
+done : (g : Over) (c : After-divide g) → Call (with_made (fields_of g.T.Tables.cells g.T.Index.NodeIndex.MAX c.self.inside) (g.T.Tables.cells c.ready_for.new.tables) c.ready_for.new.spare_count) (units_needed c.args.size c.args.align) c.args.class c.pop-name.result → (k : ℕ) (f : Fields) → f ≡ record (fields_of g.T.Tables.cells g.T.Index.NodeIndex.MAX c.self.inside) { cells = (g.T.Tables.cells c.divide.new.store.tables); last = c.divide.new.store.last; count = c.divide.new.store.spare_count; top = c.divide.new.store.top_mask; free = c.self.inside.free_total - c.args.size; accesses = k }
+    → AreSound f × Splits (units_needed c.args.size c.args.align) c.args.size (padding_to c.args.align) (shown (with_made (fields_of g.T.Tables.cells g.T.Index.NodeIndex.MAX c.self.inside) (g.T.Tables.cells c.ready_for.new.tables) c.ready_for.new.spare_count)) (shown f) (record { name = c.pop-name.result; offset = c.offset-offset.result + padding_to c.args.align c.offset-offset.result })
 done g c p k f e =
     let h = kept_place c.pop-name.ensures.chain (held p refl) in
     let at = at_place h in

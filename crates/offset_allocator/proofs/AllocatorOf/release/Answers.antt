@@ -28,7 +28,7 @@ bins g c r = c.mark.ensures.bins _ (unlisted (at r).held _ (filed r)) c.self.inv
 -- the fields that the release leaves, with any number of accesses counted
 abbrev after : (g : Over) → After-coalesce g → ℕ → Fields
 after g c k = record (fields_of g.T.Tables.cells g.T.Index.NodeIndex.MAX c.self.inside) {
-  cells = c.coalesce.new.store.tables;
+  cells = (g.T.Tables.cells c.coalesce.new.store.tables);
   last = c.coalesce.new.store.last;
   count = c.coalesce.new.store.spare_count;
   top = c.coalesce.new.store.top_mask;
