@@ -1,5 +1,5 @@
 """Measures the linked peers beside the original and ours, and writes PEERS.md and peers.svg into the folder $2."""
-import math, os, subprocess
+import math, os, pathlib, subprocess
 from concurrent.futures import ThreadPoolExecutor
 from report import COLOURS, HERE, MEASURE, lines, number, page, refusals, spread, text
 
@@ -13,7 +13,6 @@ NAMES = {"original": "original", "ours": "ours", "vma": "VMA", "vma_min": "VMA, 
 COLOURS = {**COLOURS, "vma": "#d68910", "vma_min": "#7e5109", "u_mm": "#8e44ad", "util_vma": "#148f77"}
 # workloads by their number of live ranges
 LIVE = {1_000: "random, 1k live", 16_000: "random, 16k live", 60_000: "random, 60k live"}
-TIGHTEST = "voxel game, least space"
 COUNTED = {**os.environ, "LD_PRELOAD": f"{HERE}/out/heap.so"}
 
 with open(f"{HERE}/out/peers.txt") as file:
@@ -106,45 +105,12 @@ def memory_table(found):
         yield f"| {name} | " + " | ".join(cells) + " |"
 
 
-def peak():
-    """The most bytes of the trace that are live at once."""
-    sizes, now, most = [], 0, 0
-    with open(f"{HERE}/traces/voxel-game.script") as file:
-        for line in file:
-            match line.split():
-                case ["alloc", size]:
-                    sizes.append(int(size))
-                    now += sizes[-1]
-                case ["free", which]:
-                    now -= sizes[int(which) - 1]
-            most = max(most, now)
-    return most
-
-
-def spaces():
-    """The most bytes that are live at once, and for each side the smallest space that refuses none of the trace."""
-    sides = [side for side in SIDES if side != "ours"]
-    with ThreadPoolExecutor(os.cpu_count()) as pool:
-        found = list(pool.map(lambda side: [int(x) for x in lines("least", side)[0]], sides))
-    most = peak()
-    assert all(row[0] == most for row in found), f"{most} bytes at the peak, or {found}"
-    smallest = {side: row[1] for side, row in zip(sides, found)}
-    # both have the same answers
-    smallest["ours"] = smallest["original"]
-    space = next(int(row[2]) for row in lines("list") if row[0] == TIGHTEST)
-    assert smallest["ours"] == space, f"{TIGHTEST}: {space} units, but {smallest['ours']} are enough"
-    return most, smallest
-
-
-def over(space, most):
-    return f"{100 * (space / most - 1):.2f}%"
-
-
-def space_table(most, smallest):
-    yield "| | smallest space | over the peak |"
-    yield "|---|---:|---:|"
-    for side in SIDES:
-        yield f"| {NAMES[side]} | {smallest[side]:,} | {over(smallest[side], most)} |"
+def recorded_table():
+    """The most bytes with each recorded program."""
+    yield "| | " + " | ".join(NAMES[s] for s in SIDES) + " |"
+    yield "|---|" + "---:|" * len(SIDES)
+    for path in sorted(pathlib.Path(HERE, "traces").glob("*.script")):
+        yield f"| {path.stem} | " + " | ".join(f"{sum(heap_bytes(path.stem, side)):,}" for side in SIDES) + " |"
 
 
 def most_of(rows, side):
@@ -155,17 +121,17 @@ def most_of(rows, side):
     return largest if float(largest.split()[1]) > max(ratios) else f"{max(ratios):.2f}" + (" or more" if late else "")
 
 
-def short_table(rows, found, most, smallest):
+def short_table(rows, found):
     """A row for each side: a summary of the other tables."""
     # the last row of a side is that of a table just large enough
     bytes_of = {side: at for side, _name, _made, at in found}
-    yield "| | time/original, smallest | largest | bytes a live range | smallest space over the peak |"
-    yield "|---|---:|---:|---:|---:|"
+    yield "| | time/original, smallest | largest | bytes a live range |"
+    yield "|---|---:|---:|---:|"
     for side in SIDES:
         lowest = min(row[4][side][0] / row[4]["original"][0] for row in rows if side in row[4])
         each = [b / live for b, live in zip(bytes_of[side], LIVE) if b is not None]
         bounds = sorted({f"{min(each):.0f}", f"{max(each):.0f}"}, key=int)
-        yield f"| {NAMES[side]} | {lowest:.2f} | {most_of(rows, side)} | {' to '.join(bounds)} | {over(smallest[side], most)} |"
+        yield f"| {NAMES[side]} | {lowest:.2f} | {most_of(rows, side)} | {' to '.join(bounds)} |"
 
 
 def plot(growth):
@@ -210,12 +176,11 @@ def main():
     made = [row for row in all_rows if row not in rows]
     growth = [row for row in rows if row[0].startswith("growth")]
     found = list(memory(rows))
-    most, smallest = spaces()
     versions = "; ".join(f"{' and '.join(NAMES[part] for part in PARTS[name])}: {version}" for name, version in VERSIONS.items())
     shown = [
         "# Beside what an engine would use instead", "",
         f"{versions}. [README.md](README.md#peers) says how this is measured.", "",
-        *short_table(rows, found, most, smallest), "",
+        *short_table(rows, found), "",
         "The bytes of ours and of the original are those of a table just large enough.", "",
         "## Time", "",
         f"Nanoseconds a step. *Over*: the run takes more than {CAP} seconds, and so more than this a step. Marked by ~: the time by "
@@ -225,11 +190,8 @@ def main():
         *times_table(made), "",
         "## Refusals", "", "In the workloads in which any side refuses a request.", "", *refusals_table(rows), "",
         "## Memory", "", "The most bytes that `malloc` holds at any time, its headers included, divided by the live ranges. Empty: the run takes too long.", "", *memory_table(found), "",
-        "## The smallest space for the trace", "",
-        f"At most {most:,} bytes of it are live at once. A bisection found the smallest space that refuses nothing; none of the "
-        "1,000 sizes below it is enough, and none of 1,000 spread from it down to the peak.", "", *space_table(most, smallest),
+        "The most bytes with each recorded program. Ours and the original have the node limit of its script.", "", *recorded_table(),
     ]
-    assert next(row[3]["ours"] for row in rows if row[0] == TIGHTEST) == 0, f"{TIGHTEST}: we refuse some of it"
     with open(f"{HERE}/PEERS.md", "w") as file:
         file.write("\n".join(shown) + "\n")
     with open(f"{HERE}/peers.svg", "w") as file:

@@ -1,12 +1,23 @@
-"""Puts the module and the traces into the page: page.py MODULE PAGE."""
+"""Puts the module and the traces into the page: page.py MODULE PAGE. Traces are deflated."""
 
 import base64
 import pathlib
 import sys
+import zlib
 
 here = pathlib.Path(__file__).parent
-module = base64.b64encode(pathlib.Path(sys.argv[1]).read_bytes()).decode()
-page = (here / "source.html").read_text()
-for mark, path in (("@GAME@", here / "../bench/traces/voxel-game.script"), ("@EVERY@", here / "every.script")):
-    page = page.replace(mark, path.read_text())
-pathlib.Path(sys.argv[2]).write_text(page.replace("@MODULE@", module))
+
+
+def base(data):
+    return base64.b64encode(data).decode()
+
+
+def deflated(path):
+    packer = zlib.compressobj(9, wbits=-15)
+    return base(packer.compress(path.read_bytes()) + packer.flush())
+
+
+paths = [*sorted((here / "../bench/traces").glob("*.script")), here / "every.script"]
+traces = ",\n".join(f"  '{path.stem}': '{deflated(path)}'" for path in paths)
+page = (here / "source.html").read_text().replace("@TRACES@", traces)
+pathlib.Path(sys.argv[2]).write_text(page.replace("@MODULE@", base(pathlib.Path(sys.argv[1]).read_bytes())))

@@ -12,8 +12,6 @@
 //! - `measure resident NAME SIDE [NODES]`: the bytes of the pages that a run is the first to touch, and the most that it
 //!   adds to the resident ones, as far as the system knows.
 //! - `measure nodes NAME`: the smallest node limit with which nothing is refused.
-//! - `measure least SIDE`: the most bytes of the trace that are live at once, and the smallest space that refuses none
-//!   of it.
 //! - `measure threads`: the ways to share allocators between threads, with nanoseconds a step.
 //! - `measure compacting LIVE`: for each way to compact a space with this many live ranges nanoseconds a range; with the
 //!   name of a WAY one run of it, for a counter of instructions.
@@ -22,14 +20,16 @@ mod check;
 mod compacting;
 mod erased;
 mod original;
+mod peers;
 mod sides;
 mod threads;
+mod traces;
 mod workloads;
 
 use sides::{Side, REFUSED};
 use std::ffi::{c_char, c_void};
 use std::time::Instant;
-use workloads::{Step, Width, Work, Workload, GAME_NODES, GAME_SPACE, RESET};
+use workloads::{Step, Width, Work, Workload, RESET};
 
 const RUNS: usize = 9;
 /// The number of runs where each takes a fifth of a second or more.
@@ -187,39 +187,6 @@ fn bisect(mut low: u32, mut high: u32, holds: impl Fn(u32) -> bool) -> u32 {
     high
 }
 
-/// The most bytes of the trace that are live at once.
-fn peak(steps: &[Step]) -> u32 {
-    let mut held = std::collections::HashMap::new();
-    let (mut now, mut most) = (0, 0);
-    for step in steps {
-        match held.remove(&step.slot) {
-            Some(size) => now -= size,
-            None => {
-                held.insert(step.slot, step.size);
-                now += step.size;
-            }
-        }
-        most = most.max(now);
-    }
-    most
-}
-
-/// The peak of live bytes, and the smallest space that refuses none of the trace. A larger space may refuse some of it.
-/// So after each bisection 1,000 sizes right below the result are tried, and 1,000 spread from the peak on, until none
-/// of them is enough.
-fn smallest_space(side: &Side) -> (u32, u32) {
-    let (slots, steps) = workloads::trace();
-    let grants_all = |space: u32| !answers(side, Width::Bits32, space, GAME_NODES, slots as usize, &steps).contains(&REFUSED);
-    let peak = peak(&steps);
-    let mut found = bisect(peak - 1, GAME_SPACE, grants_all);
-    loop {
-        let spread = (0..1000u64).map(|i| peak + (u64::from(found - peak) * i / 1000) as u32);
-        let below = spread.chain(found.saturating_sub(1000).max(peak)..found);
-        let Some(smaller) = below.filter(|space| *space < found && grants_all(*space)).min() else { return (peak, found) };
-        found = bisect(peak - 1, smaller, grants_all);
-    }
-}
-
 fn main() {
     let words: Vec<String> = std::env::args().skip(1).collect();
     let words: Vec<&str> = words.iter().map(String::as_str).collect();
@@ -266,10 +233,6 @@ fn main() {
             let enough = |nodes| !answers(&side("original"), w.width, w.space, nodes, slots, steps).contains(&REFUSED);
             println!("{}", bisect(1, w.nodes, enough));
         }
-        ["least", of] => {
-            let (peak, space) = smallest_space(&side(of));
-            println!("{peak}\t{space}");
-        }
         ["threads"] => {
             for (way, ns) in threads::all() {
                 println!("{way}\t{ns}");
@@ -286,6 +249,6 @@ fn main() {
             let (_, way) = *compacting::WAYS.iter().find(|way| way.0 == name).unwrap_or_else(|| panic!("no way {name}"));
             compacting::run(live.parse().unwrap(), way);
         }
-        _ => panic!("measure list | time | play | check | heap | resident | nodes | least | threads | compacting"),
+        _ => panic!("measure list | time | play | check | heap | resident | nodes | threads | compacting"),
     }
 }

@@ -1,16 +1,9 @@
 //! The sides. Each plays steps by one call. The peers are those that are linked.
+pub use crate::peers::{Answers, Play, REFUSED, RELEASED};
 use crate::workloads::Step;
-use crate::{erased, original};
-use std::ffi::{c_char, CStr};
+use crate::{erased, original, peers};
 
-pub type Play = unsafe extern "C" fn(u32, u32, usize, *const Step, usize) -> u64;
-/// Plays the steps, and stores every answer.
-pub type Answers = unsafe extern "C" fn(u32, u32, usize, *const Step, usize, *mut u64) -> u64;
 pub type Make = unsafe extern "C" fn(u32, u32) -> u64;
-
-/// The two answers to a step that are not an offset.
-pub const REFUSED: u64 = 1 << 32;
-pub const RELEASED: u64 = 1 << 33;
 
 /// The calls of a side, for node indices of 16 bits and of 32. A peer has one width, and no tables to construct.
 pub struct Side {
@@ -28,29 +21,9 @@ macro_rules! declared { ($($play:ident $make:ident)*) => {
 } }
 declared! { offset_play_32 offset_make_32 offset_play_16 offset_make_16 tuned_play_32 tuned_make_32 tuned_play_16 tuned_make_16 }
 
-#[repr(C)]
-struct Peer {
-    name: *const c_char,
-    play: Option<Play>,
-    answers: Option<Answers>,
-}
-
 extern "C" {
     fn tuned_answers_16(size: u32, max_allocs: u32, slots: usize, steps: *const Step, count: usize, to: *mut u64) -> u64;
     fn tuned_answers_32(size: u32, max_allocs: u32, slots: usize, steps: *const Step, count: usize, to: *mut u64) -> u64;
-    /// The last one has no name.
-    static PEERS: [Peer; 0];
-}
-
-fn peers() -> Vec<Side> {
-    let mut found = Vec::new();
-    let mut next = unsafe { PEERS.as_ptr() };
-    while let Peer { name, play: Some(play), answers: Some(answers) } = unsafe { &*next } {
-        let name = unsafe { CStr::from_ptr(*name) }.to_str().unwrap().to_string();
-        found.push(Side { name, play: [*play; 2], answers: [*answers; 2], make: None });
-        next = unsafe { next.add(1) };
-    }
-    found
 }
 
 /// All sides: four that must have the same answers, and then the peers.
@@ -72,6 +45,7 @@ pub fn all() -> Vec<Side> {
         same("erased", [erased::erased_play_16, erased::erased_play_32], [erased::erased_make_16, erased::erased_make_32]),
         same("c", [tuned_play_16, tuned_play_32], [tuned_make_16, tuned_make_32]),
     ];
-    found.extend(peers());
+    let peer = |(name, play, answers)| Side { name, play: [play; 2], answers: [answers; 2], make: None };
+    found.extend(peers::all().into_iter().map(peer));
     found
 }

@@ -1,12 +1,7 @@
 //! What is run: lists of steps over slots, and makings of tables.
 
-#[repr(C)]
-#[derive(Clone, Copy)]
-pub struct Step {
-    pub slot: u32,
-    /// The size to request where the slot is empty; a full slot is freed.
-    pub size: u32,
-}
+pub use crate::traces::Step;
+use crate::traces;
 
 /// The slot of a step that resets the space. No list of steps has a slot of this number.
 pub const RESET: u32 = u32::MAX;
@@ -92,10 +87,6 @@ impl Random {
 }
 
 const STEPS: usize = 1_000_000;
-pub const GAME_SPACE: u32 = 1 << 28;
-pub const GAME_NODES: u32 = 16_384;
-/// The smallest space in which ours refuses nothing of the trace; `measure least` finds it.
-pub const GAME_LEAST: u32 = 62_205_308;
 
 /// Fills all slots, and then empties and fills a random one, again and again, and each at least once on average.
 fn random(slots: u32, bits: u32) -> Work {
@@ -171,32 +162,12 @@ fn reset_of_ten() -> Work {
     Work::Last { slots: 10, steps }
 }
 
-/// The buffers of a real game, once: how many slots, one for each grant, which its script releases; and the steps.
-pub fn trace() -> (u32, Vec<Step>) {
-    let mut lines = include_str!("../traces/voxel-game.script").lines();
-    let header = format!("space {GAME_SPACE} nodes {GAME_NODES} index 32");
-    assert_eq!(lines.next(), Some(header.as_str()));
-    let mut once = Vec::new();
-    let mut slots = 0;
-    for line in lines {
-        let words: Vec<&str> = line.split(' ').collect();
-        match words[..] {
-            ["alloc", size] => {
-                once.push(Step { slot: slots, size: size.parse().unwrap() });
-                slots += 1;
-            }
-            ["free", number] => once.push(Step { slot: number.parse::<u32>().unwrap() - 1, size: 0 }),
-            ["report"] => {}
-            _ => panic!("a command of the trace: {line}"),
-        }
-    }
-    (slots, once)
-}
-
-/// The trace, again and again: at its end all slots are empty.
-fn game() -> Work {
-    let (slots, once) = trace();
-    Work::Steps { slots: slots as usize, steps: once.repeat(STEPS.div_ceil(once.len())) }
+/// A recorded program, again and again; what is live at its end is released each time.
+fn recorded(name: &str) -> Work {
+    let trace = traces::read(name);
+    let left = trace.left().into_iter().zip(0..).filter(|(size, _)| *size > 0);
+    let once: Vec<Step> = trace.steps.iter().copied().chain(left.map(|(_, slot)| Step { slot, size: 0 })).collect();
+    Work::Steps { slots: trace.slots as usize, steps: once.repeat(STEPS.div_ceil(once.len())) }
 }
 
 /// All workloads, or only the one of this name.
@@ -212,6 +183,10 @@ pub fn all(only: Option<&str>) -> Vec<Workload> {
             found.push(Workload { name: name.to_string(), width, space, nodes, work: work() });
         }
     };
+    for name in traces::names() {
+        let trace = traces::read(&name);
+        add(&name, Bits32, trace.space, trace.nodes, &|| recorded(&name));
+    }
     add("random, 1k live", Bits32, SPACE, NODES, &|| random(1_000, 12));
     add("random, 16k live", Bits32, SPACE, NODES, &|| random(16_000, 12));
     add("random, 60k live", Bits32, SPACE, NODES, &|| random(60_000, 12));
@@ -223,9 +198,6 @@ pub fn all(only: Option<&str>) -> Vec<Workload> {
     add("bump, then free in reverse", Bits32, SPACE, NODES, &|| waves(60_000, 12, |_| (0..60_000).rev().collect()));
     add("bump, then free at random", Bits32, SPACE, NODES, &|| waves(60_000, 12, |r| r.shuffled(60_000)));
     add("fragmenting mix", Bits32, SPACE, NODES, &|| fragments(120_000));
-    add("voxel game", Bits32, GAME_SPACE, GAME_NODES, &game);
-    add("voxel game in 65 MB", Bits32, 65_000_000, GAME_NODES, &game);
-    add("voxel game, least space", Bits32, GAME_LEAST, GAME_NODES, &game);
     add("frames of 100, each reset", Bits32, SPACE, NODES, &|| frames(100, 2_000));
     add("frames of 60,000, each reset", Bits32, SPACE, NODES, &|| frames(60_000, 10));
     add("u16: random, 1k live", Bits16, 65_535, 65_000, &|| random(1_000, 6));

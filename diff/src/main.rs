@@ -1,7 +1,7 @@
 //! Plays random scripts on our program and on the original, and compares the answers line by line.
 //!
-//! `compare PROGRAM COUNT FIRST` plays the trace of a game, and COUNT scripts from number FIRST on. A number always
-//! gives the same script.
+//! `compare PROGRAM COUNT FIRST FILE..` plays the files, which are recorded programs, and COUNT scripts from number FIRST
+//! on. A number always gives the same script.
 mod original;
 mod scripts;
 
@@ -121,13 +121,14 @@ impl Tally {
 
 fn main() {
     let words: Vec<String> = std::env::args().skip(1).collect();
-    let [program, count, first] = &words[..] else { panic!("compare PROGRAM COUNT FIRST") };
+    let [program, count, first, files @ ..] = &words[..] else { panic!("compare PROGRAM COUNT FIRST FILE..") };
     let (count, first): (u64, u64) = (count.parse().unwrap(), first.parse().unwrap());
     expect_faults(program);
-    let trace = scripts::read(include_str!("../../bench/traces/voxel-game.script"));
-    match compare(program, &trace) {
-        Ok(lines) => println!("the trace of a game: {} equal lines", lines.len()),
-        Err(fault) => panic!("the trace of a game, {fault}"),
+    for file in files {
+        let text = std::fs::read_to_string(file).unwrap_or_else(|error| panic!("{file}: {error}"));
+        let lines = compare(program, &scripts::read(&text)).unwrap_or_else(|fault| panic!("{file}, {fault}"));
+        let name = file.rsplit('/').next().unwrap_or_default();
+        println!("{name}: {} equal lines", lines.len());
     }
     let next = AtomicU64::new(first);
     let tally = Mutex::new(Tally::default());

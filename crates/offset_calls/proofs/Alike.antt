@@ -1,27 +1,30 @@
 -- Two states that differ only in numbers, and in stamps of the same order in each class, give the same replies.
-use Rattle.std.proofs.Common.{◌≡◌, ◌≢◌, ℕ, zero, suc, ◌+◌, ◌-◌, ◌*◌, ◌<◌, ◌≤◌, Bool, true, false, not, ◌&&◌, ◌||◌, ◌⊎◌, List, [], ◌∷◌, ◌++◌, map, sum, length, Option, Some, None, is_some, nat_eq, nat_lt, nat_le, if◌then◌else◌, refl, sym, ap, ap₂, subst, subst₂, ◌∙◌, inl, inr, arith, eq-eqb, ne_eqb, le-leb}
+use Rattle.std.proofs.Common.{◌≡◌, ℕ, ◌+◌, ◌-◌, ◌*◌, Bool, true, false, not, ◌&&◌, ◌||◌, ◌⊎◌, List, [], ◌∷◌, ◌++◌, map, sum, Option, Some, None, is_some, nat_eq, nat_le, if◌then◌else◌, refl, sym, ap}
+use Rattle.std.proofs.Common.{ap₂, subst, subst₂, ◌∙◌, inl, inr, arith, eq-eqb, ne_eqb, le-leb}
 use Rattle.std.proofs.lemmas.Bool.{cases_eq, cases_lt, true≢false, false≢true, lt-leb}
 use Rattle.std.proofs.lemmas.List.{map-append}
 use Rattle.offset_allocator.specs.declared.reports.Refusal.{Refusal}
 use Rattle.offset_allocator.specs.declared.reports.Refusal.TheVariants.{Nodes}
-use Rattle.offset_script.specs.Histories.{number_without, raise_number}
-use Rattle.offset_script.specs.Machine.{Tag, Live, Free, State, is_free, has_number, total, free_sizes, place_of, chosen_place, is_short_of, free_start, without_start, free_block, stamp_of_call, fits}
+use Rattle.offset_script.specs.Histories.{number_without}
+use Rattle.offset_script.specs.Machine.{State, is_free, has_number, total, free_sizes, place_of, chosen_place, is_short_of, free_start, without_start, free_block, stamp_of_call, fits}
 use Rattle.offset_script.specs.Machine as machine
 use Rattle.offset_script.specs.Totals.{live}
-use Rattle.offset_script.proofs.Alike.{Alike, Matched, Fresh, Left, alike_step, same_placed, same_quiet, same_leaves, fresh_kinds, left_released, matched_in_new, agree_in_new, past_in_new, either}
-use Rattle.offset_script.proofs.Members.{In, in_append, in_left, in_right}
-use Rattle.offset_script.proofs.Pairs.{Kind, Lives, Frees, Pair, pair, left_tag, right_tag, left, right, lefts, rights, Agree, SameOrder, SamePlace, neither, both, same_free, same_total, same_sizes, same_units, same_short, same_free_sizes, same_chosen, pair_free_block, lefts_free_block, rights_free_block, in_free_block}
+use Rattle.offset_script.proofs.Alike.{IsAlike, IsMatched, IsFreshKind, alike_step, same_placed, same_quiet, same_leaves, fresh_kinds, matched_in_new, agree_in_new, either}
+use Rattle.offset_script.proofs.Members.{IsIn, in_append, in_left, in_right}
+use Rattle.offset_script.proofs.Pairs.{Kind, Lives, Frees, Pair, pair, left_tag, right_tag, left, right, lefts, rights, AreAgreed, IsSameOrder, IsSamePlace, neither, both, same_free, same_total}
+use Rattle.offset_script.proofs.Pairs.{same_units, same_short, same_free_sizes, same_chosen, pair_free_block, lefts_free_block, rights_free_block, in_free_block}
 use Rattle.offset_script.proofs.Tests.{if_same}
 use Rattle.offset_script.proofs.Well.{found_at}
 use Rattle.offset_calls.specs.declared.calls.Call.{Call}
 use Rattle.offset_calls.specs.declared.calls.Call.TheVariants as call
-use Rattle.offset_calls.specs.Calls.{Move, Reply, Answer, Resized, Compacted, Offset, Refused_for, Outcome, starts_free, can_shrink, can_grow, resize, resized, replies_only, remakes, number, move_of, moves, gathered, compact, offset_at, shortage, reason, step, after, replies}
+use Rattle.offset_calls.specs.Calls.{Reply, Answer, Compacted, Offset, Refused_for, Outcome, starts_free, resize, resized, replies_only, number, move_of, moves, gathered, compact, offset_at, shortage}
+use Rattle.offset_calls.specs.Calls.{reason, step, after, replies}
 use Rattle.offset_calls.specs.Histories.{renumber, number_with, raise_move, raise}
 
 -- the same reply, except for numbers, and states that are alike again
-pub record Same (r : ℕ → ℕ) (g d : ℕ) (o p : Outcome) : Type 0 where
+pub record AreSame (r : ℕ → ℕ) (g d : ℕ) (o p : Outcome) : Type 0 where
   pub reply : o.reply ≡ raise g d p.reply
-  pub state : Alike r d o.state p.state
+  pub state : IsAlike r d o.state p.state
 
 -- pairs without a free one at the start
 abbrev without_pairs : List Pair → List Pair
@@ -38,9 +41,9 @@ rights_without (q ∷ ps) =
     elim (is_free (left_tag q.kind)) as (λ x. rights (if x then ps else q ∷ ps) ≡ (if x then rights ps else right q ∷ rights ps)) [ true ↦ refl | false ↦ refl ]
     ∙ ap (λ x. if x then rights ps else right q ∷ rights ps) (same_free q.kind)
 
-in_without : (q : Pair) (ps : List Pair) → In q (without_pairs ps) → In q ps
+in_without : (q : Pair) (ps : List Pair) → IsIn q (without_pairs ps) → IsIn q ps
 in_without q [] i = i
-in_without q (p ∷ ps) i = elim (is_free (left_tag p.kind)) as (λ x. In q (if x then ps else p ∷ ps) → In q (p ∷ ps)) [ true ↦ λ i. inr i | false ↦ λ i. i ] i
+in_without q (p ∷ ps) i = elim (is_free (left_tag p.kind)) as (λ x. IsIn q (if x then ps else p ∷ ps) → IsIn q (p ∷ ps)) [ true ↦ λ i. inr i | false ↦ λ i. i ] i
 
 pub same_starts : (ps : List Pair) → starts_free (lefts ps) ≡ starts_free (rights ps)
 same_starts [] = refl
@@ -57,24 +60,26 @@ live_pairs (q ∷ ps) = if is_free (left_tag q.kind) then live_pairs ps else q �
 
 lefts_live : (ps : List Pair) → lefts (live_pairs ps) ≡ live (lefts ps)
 lefts_live [] = refl
-lefts_live (q ∷ ps) = let ih = lefts_live ps in elim (is_free (left_tag q.kind)) as (λ x. lefts (if x then live_pairs ps else q ∷ live_pairs ps) ≡ (if not x then left q ∷ live (lefts ps) else live (lefts ps))) [ true ↦ ih | false ↦ ap (λ l. left q ∷ l) ih ]
+lefts_live (q ∷ ps) = let ih = lefts_live ps in elim (is_free (left_tag q.kind))
+    as (λ x. lefts (if x then live_pairs ps else q ∷ live_pairs ps) ≡ (if not x then left q ∷ live (lefts ps) else live (lefts ps))) [ true ↦ ih | false ↦ ap (λ l. left q ∷ l) ih ]
 
 rights_live : (ps : List Pair) → rights (live_pairs ps) ≡ live (rights ps)
 rights_live [] = refl
 rights_live (q ∷ ps) =
     let ih = rights_live ps in
-    elim (is_free (left_tag q.kind)) as (λ x. rights (if x then live_pairs ps else q ∷ live_pairs ps) ≡ (if not x then right q ∷ live (rights ps) else live (rights ps))) [ true ↦ ih | false ↦ ap (λ l. right q ∷ l) ih ]
+    elim (is_free (left_tag q.kind)) as (λ x. rights (if x then live_pairs ps else q ∷ live_pairs ps) ≡ (if not x then right q ∷ live (rights ps) else live (rights ps)))
+    [ true ↦ ih | false ↦ ap (λ l. right q ∷ l) ih ]
     ∙ ap (λ x. if not x then right q ∷ live (rights ps) else live (rights ps)) (same_free q.kind)
 
-in_live : (q : Pair) (ps : List Pair) → In q (live_pairs ps) → In q ps
+in_live : (q : Pair) (ps : List Pair) → IsIn q (live_pairs ps) → IsIn q ps
 in_live q [] i = i
 in_live q (p ∷ ps) i = go (is_free (left_tag p.kind)) refl (λ j. in_live q ps j)
   where
-    go : (x : Bool) → is_free (left_tag p.kind) ≡ x → (In q (live_pairs ps) → In q ps) → In q (p ∷ ps)
-    go true e ih = inr (ih (subst (λ x. In q (if x then live_pairs ps else p ∷ live_pairs ps)) e i))
-    go false e ih = first (subst (λ x. In q (if x then live_pairs ps else p ∷ live_pairs ps)) e i)
+    go : (x : Bool) → is_free (left_tag p.kind) ≡ x → (IsIn q (live_pairs ps) → IsIn q ps) → IsIn q (p ∷ ps)
+    go true e ih = inr (ih (subst (λ x. IsIn q (if x then live_pairs ps else p ∷ live_pairs ps)) e i))
+    go false e ih = first (subst (λ x. IsIn q (if x then live_pairs ps else p ∷ live_pairs ps)) e i)
       where
-        first : In q (p ∷ live_pairs ps) → In q (p ∷ ps)
+        first : IsIn q (p ∷ live_pairs ps) → IsIn q (p ∷ ps)
         first (inl e) = inl e
         first (inr j) = inr (ih j)
 
@@ -91,19 +96,19 @@ rights_gathered : (s u : ℕ) (ns : List ℕ) → rights (pair_gathered s u ns) 
 rights_gathered s u [] = refl
 rights_gathered s u (n ∷ ns) = refl
 
-in_gathered : (q : Pair) (s u : ℕ) (ns : List ℕ) → In q (pair_gathered s u ns) → q.kind ≡ Frees s u
+in_gathered : (q : Pair) (s u : ℕ) (ns : List ℕ) → IsIn q (pair_gathered s u ns) → q.kind ≡ Frees s u
 in_gathered q s u [] i = absurd i
 in_gathered q s u (n ∷ ns) (inl e) = ap (λ (z : Pair). z.kind) e
 in_gathered q s u (n ∷ ns) (inr i) = absurd i
 
 -- a live pair has the order of any other
-order_left : (k l : Kind) (i j : ℕ) → k ≡ Lives i j → SameOrder k l
-order_left k l i j e = subst (λ x. SameOrder x l) (sym e) tt
+order_left : (k l : Kind) (i j : ℕ) → k ≡ Lives i j → IsSameOrder k l
+order_left k l i j e = subst (λ x. IsSameOrder x l) (sym e) tt
 
-order_right : (k l : Kind) (i j : ℕ) → l ≡ Lives i j → SameOrder k l
-order_right k l i j e = subst (SameOrder k) (sym e) (go k)
+order_right : (k l : Kind) (i j : ℕ) → l ≡ Lives i j → IsSameOrder k l
+order_right k l i j e = subst (IsSameOrder k) (sym e) (go k)
   where
-    go : (k : Kind) → SameOrder k (Lives i j)
+    go : (k : Kind) → IsSameOrder k (Lives i j)
     go (Lives a b) = tt
     go (Frees a b) = tt
 
@@ -111,8 +116,8 @@ live_kind : (k : ℕ) (q : Kind) → has_number k (left_tag q) ≡ true → (i :
 live_kind k (Lives i j) e = (i, j, refl)
 live_kind k (Frees s u) e = absurd (false≢true e)
 
-module _ (r : ℕ → ℕ) (g d : ℕ) (back : (k : ℕ) → r (number_with g d k) ≡ k) (s t : State) (a : Alike r d s t) where
-  quiet : (x y : Reply) → x ≡ raise g d y → Same r g d (replies_only s x) (replies_only t y)
+module _ (r : ℕ → ℕ) (g d : ℕ) (back : (k : ℕ) → r (number_with g d k) ≡ k) (s t : State) (a : IsAlike r d s t) where
+  quiet : (x y : Reply) → x ≡ raise g d y → AreSame r g d (replies_only s x) (replies_only t y)
   quiet x y e = record { reply = e; state = (same_quiet r d s t a machine.Gone machine.Gone refl).state }
 
   -- a live pair that gets another size, beside pairs that were there and new free ones
@@ -120,30 +125,33 @@ module _ (r : ℕ → ℕ) (g d : ℕ) (back : (k : ℕ) → r (number_with g d 
     abbrev ps : List Pair
     ps = xs ++ (pair n q.kind ∷ (pair_free_block m (Frees (2 * (s.calls + 1) + 1) (2 * (t.calls + 1) + 1)) ++ without_pairs ys))
 
-    here : In q a.pairs
-    here = subst (In q) (sym e) (in_right q xs (q ∷ ys) (inl refl))
+    here : IsIn q a.pairs
+    here = subst (IsIn q) (sym e) (in_right q xs (q ∷ ys) (inl refl))
 
     -- old, or new, or the one that is resized
-    which : (x : Pair) → In x ps → (In x a.pairs ⊎ Fresh s.grants t.grants s.calls t.calls x.kind) ⊎ (x.kind ≡ q.kind)
+    which : (x : Pair) → IsIn x ps → (IsIn x a.pairs ⊎ IsFreshKind s.grants t.grants s.calls t.calls x.kind) ⊎ (x.kind ≡ q.kind)
     which x h = elim (in_append x xs _ h) [
-      | inl o ↦ inl (inl (subst (In x) (sym e) (in_left x xs (q ∷ ys) o)))
+      | inl o ↦ inl (inl (subst (IsIn x) (sym e) (in_left x xs (q ∷ ys) o)))
       | inr (inl z) ↦ inr (ap (λ (z : Pair). z.kind) z)
       | inr (inr o) ↦ elim (in_append x (pair_free_block m (Frees (2 * (s.calls + 1) + 1) (2 * (t.calls + 1) + 1))) (without_pairs ys) o) [
         | inl f ↦ inl (inr (fresh_kinds s.grants t.grants s.calls t.calls x (inr (inr (in_free_block x m _ f)))))
-        | inr f ↦ inl (inl (subst (In x) (sym e) (in_right x xs (q ∷ ys) (inr (in_without x ys f)))))
+        | inr f ↦ inl (inl (subst (IsIn x) (sym e) (in_right x xs (q ∷ ys) (inr (in_without x ys f)))))
       ]
     ]
 
-    matched : (x : Pair) → (In x a.pairs ⊎ Fresh s.grants t.grants s.calls t.calls x.kind) ⊎ (x.kind ≡ q.kind) → Matched r (2 * (s.calls + 1 + 1)) (2 * (t.calls + 1 + 1)) x.kind
+    matched : (x : Pair) → (IsIn x a.pairs ⊎ IsFreshKind s.grants t.grants s.calls t.calls x.kind) ⊎ (x.kind ≡ q.kind) → IsMatched r (2 * (s.calls + 1 + 1)) (2 * (t.calls + 1 + 1)) x.kind
     matched x (inl o) = matched_in_new r d s.grants t.grants s.calls t.calls a.grants a.past a.future x.kind (either r d s t a x o)
-    matched x (inr z) = subst (Matched r (2 * (s.calls + 1 + 1)) (2 * (t.calls + 1 + 1))) (sym z) (matched_in_new r d s.grants t.grants s.calls t.calls a.grants a.past a.future q.kind (inl (a.matched q here)))
+    matched x (inr z) = subst (IsMatched r (2 * (s.calls + 1 + 1)) (2 * (t.calls + 1 + 1))) (sym z)
+        (matched_in_new r d s.grants t.grants s.calls t.calls a.grants a.past a.future q.kind (inl (a.matched q here)))
 
-    ordered : (x y : Pair) → (In x a.pairs ⊎ Fresh s.grants t.grants s.calls t.calls x.kind) ⊎ (x.kind ≡ q.kind) → (In y a.pairs ⊎ Fresh s.grants t.grants s.calls t.calls y.kind) ⊎ (y.kind ≡ q.kind) → Agree x y
+    ordered : (x y : Pair) → (IsIn x a.pairs ⊎ IsFreshKind s.grants t.grants s.calls t.calls x.kind) ⊎ (x.kind ≡ q.kind)
+        → (IsIn y a.pairs ⊎ IsFreshKind s.grants t.grants s.calls t.calls y.kind) ⊎ (y.kind ≡ q.kind) → AreAgreed x y
     ordered x y (inl o) (inl u) = agree_in_new r d s t a x y o u
     ordered x y (inr z) u = λ same. order_left x.kind y.kind i j (z ∙ l)
     ordered x y (inl o) (inr z) = λ same. order_right x.kind y.kind i j (z ∙ l)
 
-    resized_alike : Alike r d (record { limit = s.limit; blocks = lefts ps; calls = s.calls + 1; grants = s.grants }) (record { limit = t.limit; blocks = rights ps; calls = t.calls + 1; grants = t.grants })
+    resized_alike : IsAlike r d (record { limit = s.limit; blocks = lefts ps; calls = s.calls + 1; grants = s.grants })
+        (record { limit = t.limit; blocks = rights ps; calls = t.calls + 1; grants = t.grants })
     resized_alike = record {
       limit = a.limit;
       pairs = ps;
@@ -158,67 +166,75 @@ module _ (r : ℕ → ℕ) (g d : ℕ) (back : (k : ℕ) → r (number_with g d 
 
   -- a resized range on both sides
   resized_same : (n : ℕ) (xs : List Pair) (q : Pair) (ys : List Pair) (i j : ℕ) → a.pairs ≡ xs ++ q ∷ ys → q.kind ≡ Lives i j
-      → Same r g d (resized n s (record { before = lefts xs; block = left q; after = lefts ys })) (resized n t (record { before = rights xs; block = right q; after = rights ys }))
+      → AreSame r g d (resized n s (record { before = lefts xs; block = left q; after = lefts ys })) (resized n t (record { before = rights xs; block = right q; after = rights ys }))
   resized_same n xs q ys i j e l =
       let m = q.size + free_start (lefts ys) - n in
       record {
         reply = refl;
-        state = subst₂ (λ bs cs. Alike r d (record { limit = s.limit; blocks = bs; calls = s.calls + 1; grants = s.grants }) (record { limit = t.limit; blocks = cs; calls = t.calls + 1; grants = t.grants })) on_left on_right (resized_alike n m xs q ys i j e l);
+        state = subst₂ (λ bs cs. IsAlike r d (record { limit = s.limit; blocks = bs; calls = s.calls + 1; grants = s.grants })
+            (record { limit = t.limit; blocks = cs; calls = t.calls + 1; grants = t.grants })) on_left on_right (resized_alike n m xs q ys i j e l);
       }
     where
       on_left : lefts (xs ++ (pair n q.kind ∷ (pair_free_block (q.size + free_start (lefts ys) - n) (Frees (2 * (s.calls + 1) + 1) (2 * (t.calls + 1) + 1)) ++ without_pairs ys)))
           ≡ lefts xs ++ (machine.block n (left_tag q.kind) ∷ (free_block (q.size + free_start (lefts ys) - n) (stamp_of_call s) ++ without_start (lefts ys)))
-      on_left = map-append left xs _ ∙ ap (λ z. lefts xs ++ (machine.block n (left_tag q.kind) ∷ z)) (map-append left (pair_free_block (q.size + free_start (lefts ys) - n) _) (without_pairs ys) ∙ ap₂ (λ x y. x ++ y) (lefts_free_block _ _ _) (lefts_without ys))
+      on_left = map-append left xs _ ∙ ap (λ z. lefts xs ++ (machine.block n (left_tag q.kind) ∷ z))
+          (map-append left (pair_free_block (q.size + free_start (lefts ys) - n) _) (without_pairs ys) ∙ ap₂ (λ x y. x ++ y) (lefts_free_block _ _ _) (lefts_without ys))
 
       on_right : rights (xs ++ (pair n q.kind ∷ (pair_free_block (q.size + free_start (lefts ys) - n) (Frees (2 * (s.calls + 1) + 1) (2 * (t.calls + 1) + 1)) ++ without_pairs ys)))
           ≡ rights xs ++ (machine.block n (right_tag q.kind) ∷ (free_block (q.size + free_start (rights ys) - n) (stamp_of_call t) ++ without_start (rights ys)))
       on_right = map-append right xs _ ∙ ap (λ z. rights xs ++ (machine.block n (right_tag q.kind) ∷ z)) (map-append right (pair_free_block (q.size + free_start (lefts ys) - n) _) (without_pairs ys)
           ∙ ap₂ (λ x y. x ++ y) (rights_free_block _ _ _ ∙ ap (λ f. free_block (q.size + f - n) (stamp_of_call t)) (same_free_start ys)) (rights_without ys))
 
-  resize_same : (k n : ℕ) (can can' : machine.Place → Bool) (o o' : Option machine.Place) → place_of k s.blocks ≡ o → SamePlace (λ q. Unit {0}) a.pairs o o'
+  resize_same : (k n : ℕ) (can can' : machine.Place → Bool) (o o' : Option machine.Place) → place_of k s.blocks ≡ o → IsSamePlace (λ q. Unit {0}) a.pairs o o'
       → ((xs : List Pair) (q : Pair) (ys : List Pair) → can (record { before = lefts xs; block = left q; after = lefts ys }) ≡ can' (record { before = rights xs; block = right q; after = rights ys }))
-      → Same r g d (resize can n s o) (resize can' n t o')
+      → AreSame r g d (resize can n s o) (resize can' n t o')
   resize_same k n can can' None None e neither same = quiet _ _ refl
   resize_same k n can can' o o' e (both xs q ys f u) same =
       let l = live_kind k q.kind (found_at k s.blocks _ e).1 in
-      if_same (Same r g d) _ _ _ _ _ _ refl (λ z. quiet _ _ refl) (if_same (Same r g d) _ _ _ _ _ _ (same xs q ys) (λ z. resized_same n xs q ys l.0 l.1 f l.2) (quiet _ _ refl))
+      if_same (AreSame r g d) _ _ _ _ _ _ refl (λ z. quiet _ _ refl) (if_same (AreSame r g d) _ _ _ _ _ _ (same xs q ys) (λ z. resized_same n xs q ys l.0 l.1 f l.2) (quiet _ _ refl))
 
   -- the numbers of moves
-  number_back : (q : Pair) → In q a.pairs → is_free (left_tag q.kind) ≡ false → number (left_tag q.kind) ≡ number_with g d (number (right_tag q.kind))
+  number_back : (q : Pair) → IsIn q a.pairs → is_free (left_tag q.kind) ≡ false → number (left_tag q.kind) ≡ number_with g d (number (right_tag q.kind))
   number_back q i f = go q.kind (a.matched q i) f
     where
-      go : (k : Kind) → Matched r (2 * (s.calls + 1)) (2 * (t.calls + 1)) k → is_free (left_tag k) ≡ false → number (left_tag k) ≡ number_with g d (number (right_tag k))
+      go : (k : Kind) → IsMatched r (2 * (s.calls + 1)) (2 * (t.calls + 1)) k → is_free (left_tag k) ≡ false → number (left_tag k) ≡ number_with g d (number (right_tag k))
       go (Frees x y) m f = absurd (true≢false f)
       go (Lives x y) m f = elim (cases_eq (number_with g d y) x) [
         | inl e ↦ sym e
         | inr n ↦ absurd (true≢false (sym (eq-eqb (r (number_with g d y)) y (back y)) ∙ sym (m (number_with g d y)) ∙ ne_eqb (number_with g d y) x n))
       ]
 
-  moves_same : (from to : ℕ) (ps : List Pair) → ((q : Pair) → In q ps → In q a.pairs) → moves from to (lefts ps) ≡ map (raise_move g d) (moves from to (rights ps))
+  moves_same : (from to : ℕ) (ps : List Pair) → ((q : Pair) → IsIn q ps → IsIn q a.pairs) → moves from to (lefts ps) ≡ map (raise_move g d) (moves from to (rights ps))
   moves_same from to [] h = refl
   moves_same from to (q ∷ ps) h = go (is_free (left_tag q.kind)) refl (nat_eq from to) refl (λ u. moves_same (from + q.size) u ps (λ x i. h x (inr i)))
     where
-      go : (x : Bool) → is_free (left_tag q.kind) ≡ x → (b : Bool) → nat_eq from to ≡ b → ((u : ℕ) → moves (from + q.size) u (lefts ps) ≡ map (raise_move g d) (moves (from + q.size) u (rights ps))) → moves from to (lefts (q ∷ ps)) ≡ map (raise_move g d) (moves from to (rights (q ∷ ps)))
+      go : (x : Bool) → is_free (left_tag q.kind) ≡ x → (b : Bool) → nat_eq from to ≡ b → ((u : ℕ) → moves (from + q.size) u (lefts ps) ≡ map (raise_move g d) (moves (from + q.size) u (rights ps)))
+          → moves from to (lefts (q ∷ ps)) ≡ map (raise_move g d) (moves from to (rights (q ∷ ps)))
       go true e b f ih =
           ap (λ x. if x then moves (from + q.size) to (lefts ps) else move_of from to (left q) ++ moves (from + q.size) (to + q.size) (lefts ps)) e ∙ ih to
-          ∙ sym (ap (λ x. map (raise_move g d) (if x then moves (from + q.size) to (rights ps) else move_of from to (right q) ++ moves (from + q.size) (to + q.size) (rights ps))) (sym (same_free q.kind) ∙ e))
+          ∙ sym (ap (λ x. map (raise_move g d) (if x then moves (from + q.size) to (rights ps) else move_of from to (right q) ++ moves (from + q.size) (to + q.size) (rights ps)))
+          (sym (same_free q.kind) ∙ e))
       go false e b f ih =
           ap (λ x. if x then moves (from + q.size) to (lefts ps) else move_of from to (left q) ++ moves (from + q.size) (to + q.size) (lefts ps)) e
           ∙ ap₂ (λ x y. x ++ y) (one b f) (ih (to + q.size)) ∙ sym (map-append (raise_move g d) (move_of from to (right q)) (moves (from + q.size) (to + q.size) (rights ps)))
-          ∙ sym (ap (λ x. map (raise_move g d) (if x then moves (from + q.size) to (rights ps) else move_of from to (right q) ++ moves (from + q.size) (to + q.size) (rights ps))) (sym (same_free q.kind) ∙ e))
+          ∙ sym (ap (λ x. map (raise_move g d) (if x then moves (from + q.size) to (rights ps) else move_of from to (right q) ++ moves (from + q.size) (to + q.size) (rights ps)))
+          (sym (same_free q.kind) ∙ e))
         where
           one : (b : Bool) → nat_eq from to ≡ b → move_of from to (left q) ≡ map (raise_move g d) (move_of from to (right q))
-          one true f = ap (λ b. if b then [] else record { number = number (left_tag q.kind); from = from; to = to; size = q.size } ∷ []) f ∙ sym (ap (λ b. map (raise_move g d) (if b then [] else record { number = number (right_tag q.kind); from = from; to = to; size = q.size } ∷ [])) f)
+          one true f = ap (λ b. if b then [] else record { number = number (left_tag q.kind); from = from; to = to; size = q.size } ∷ []) f
+              ∙ sym (ap (λ b. map (raise_move g d) (if b then [] else record { number = number (right_tag q.kind); from = from; to = to; size = q.size } ∷ [])) f)
           one false f = ap (λ b. if b then [] else record { number = number (left_tag q.kind); from = from; to = to; size = q.size } ∷ []) f
               ∙ ap (λ (k : ℕ). record { number = k; from = from; to = to; size = q.size } ∷ []) (number_back q (h q (inl refl)) e)
               ∙ sym (ap (λ b. map (raise_move g d) (if b then [] else record { number = number (right_tag q.kind); from = from; to = to; size = q.size } ∷ [])) f)
 
-  compact_same : Same r g d (compact s) (compact t)
+  compact_same : AreSame r g d (compact s) (compact t)
   compact_same = record {
     reply = ap Compacted (ap (moves 0 0) a.left_blocks ∙ moves_same 0 0 a.pairs (λ q i. i) ∙ ap (λ bs. map (raise_move g d) (moves 0 0 bs)) (sym a.right_blocks));
     state = (same_leaves r d s t a machine.Gone machine.Gone (live_pairs a.pairs ++ pair_gathered (2 * (s.calls + 1) + 1) (2 * (t.calls + 1) + 1) (free_sizes s.blocks)) _ _ refl
         (ap₂ (λ x y. x ++ y) (ap live a.left_blocks ∙ sym (lefts_live a.pairs)) (sym (lefts_gathered _ _ (free_sizes s.blocks))) ∙ sym (map-append left (live_pairs a.pairs) _))
-        (ap₂ (λ x y. x ++ y) (ap live a.right_blocks ∙ sym (rights_live a.pairs)) (ap (gathered (stamp_of_call t)) (sym (same_free_sizes s t a.pairs a.limit a.left_blocks a.right_blocks)) ∙ sym (rights_gathered _ _ (free_sizes s.blocks))) ∙ sym (map-append right (live_pairs a.pairs) _))
+        (ap₂ (λ x y. x ++ y) (ap live a.right_blocks ∙ sym (rights_live a.pairs))
+        (ap (gathered (stamp_of_call t)) (sym (same_free_sizes s t a.pairs a.limit a.left_blocks a.right_blocks)) ∙ sym (rights_gathered _ _ (free_sizes s.blocks)))
+        ∙ sym (map-append right (live_pairs a.pairs) _))
         (λ q i. elim (in_append q (live_pairs a.pairs) _ i) [
           | inl h ↦ inl (in_live q a.pairs h)
           | inr h ↦ inr (fresh_kinds s.grants t.grants s.calls t.calls q (inr (inr (in_gathered q _ _ (free_sizes s.blocks) h))))
@@ -226,24 +242,27 @@ module _ (r : ℕ → ℕ) (g d : ℕ) (back : (k : ℕ) → r (number_with g d 
   }
 
   -- questions
-  offset_same : (o o' : Option machine.Place) → SamePlace (λ q. Unit {0}) a.pairs o o' → offset_at o ≡ raise g d (offset_at o')
+  offset_same : (o o' : Option machine.Place) → IsSamePlace (λ q. Unit {0}) a.pairs o o' → offset_at o ≡ raise g d (offset_at o')
   offset_same None None neither = refl
   offset_same o o' (both xs q ys e f) = ap Offset (same_total xs)
 
-  some_same : (n : ℕ) (o o' : Option machine.Place) → SamePlace (λ x. fits n (left x) ≡ true) a.pairs o o' → is_some o ≡ is_some o'
+  some_same : (n : ℕ) (o o' : Option machine.Place) → IsSamePlace (λ x. fits n (left x) ≡ true) a.pairs o o' → is_some o ≡ is_some o'
   some_same n None None neither = refl
   some_same n o o' (both xs q ys e f) = refl
 
   reason_same : (k n : ℕ) → reason k n s ≡ reason k n t
   reason_same k n =
-      ap (λ b. if b then Some Nodes else if is_some (chosen_place n s.blocks) then None else Some (shortage n (total s.blocks) (sum (free_sizes s.blocks)))) (same_short s t a.pairs a.limit a.left_blocks a.right_blocks k)
+      ap (λ b. if b then Some Nodes else if is_some (chosen_place n s.blocks) then None else Some (shortage n (total s.blocks) (sum (free_sizes s.blocks))))
+      (same_short s t a.pairs a.limit a.left_blocks a.right_blocks k)
       ∙ ap₂ (λ b why. if is_short_of k t then Some Nodes else if b then None else Some why)
-      (some_same n _ _ (subst₂ (λ x y. SamePlace (λ q. fits n (left q) ≡ true) a.pairs (chosen_place n x) (chosen_place n y)) (sym a.left_blocks) (sym a.right_blocks) (same_chosen n a.pairs a.agree)))
+      (some_same n _ _ (subst₂ (λ x y. IsSamePlace (λ q. fits n (left q) ≡ true) a.pairs (chosen_place n x) (chosen_place n y)) (sym a.left_blocks) (sym a.right_blocks)
+      (same_chosen n a.pairs a.agree)))
       (ap₂ (λ size ns. shortage n size (sum ns)) (same_units s t a.pairs a.limit a.left_blocks a.right_blocks) (same_free_sizes s t a.pairs a.limit a.left_blocks a.right_blocks))
 
-  pub same_call : (c : Call) → Same r g d (step c s) (step (renumber r c) t)
+  pub same_call : (c : Call) → AreSame r g d (step c s) (step (renumber r c) t)
   same_call (call.Command c) = let o = alike_step r d c s t a in record { reply = ap Answer o.answer; state = o.state }
-  same_call (call.Shrink k n) = resize_same k n _ _ _ _ refl (same_placed r d s t a k) (λ xs q ys. ap₂ (λ x y. nat_le n q.size && (x || not y)) (same_starts ys) (same_short s t a.pairs a.limit a.left_blocks a.right_blocks 1))
+  same_call (call.Shrink k n) = resize_same k n _ _ _ _ refl (same_placed r d s t a k)
+      (λ xs q ys. ap₂ (λ x y. nat_le n q.size && (x || not y)) (same_starts ys) (same_short s t a.pairs a.limit a.left_blocks a.right_blocks 1))
   same_call (call.Grow k n) = resize_same k n _ _ _ _ refl (same_placed r d s t a k) (λ xs q ys. ap (λ f. nat_le q.size n && nat_le n (q.size + f)) (same_free_start ys))
   same_call call.Compact = compact_same
   same_call (call.Offset k) = quiet _ _ (offset_same _ _ (same_placed r d s t a k))
@@ -251,13 +270,14 @@ module _ (r : ℕ → ℕ) (g d : ℕ) (back : (k : ℕ) → r (number_with g d 
   same_call (call.RefusalAligned n align) = quiet _ _ (ap₂ (λ x y. Refused_for (if nat_le align 1 then x else y)) (reason_same 1 n) (reason_same 2 (n + align - 1)))
 
 -- alike states give the same replies to any calls
-pub same_replies : (r : ℕ → ℕ) (g d : ℕ) → ((k : ℕ) → r (number_with g d k) ≡ k) → (cs : List Call) (s t : State) → Alike r d s t → replies cs s ≡ map (raise g d) (replies (map (renumber r) cs) t)
+pub same_replies : (r : ℕ → ℕ) (g d : ℕ) → ((k : ℕ) → r (number_with g d k) ≡ k) → (cs : List Call) (s t : State) → IsAlike r d s t → replies cs s ≡ map (raise g d) (replies (map (renumber r) cs) t)
 same_replies r g d back [] s t a = refl
 same_replies r g d back (c ∷ cs) s t a = let o = same_call r g d back s t a c in ap₂ (λ x xs. x ∷ xs) o.reply (same_replies r g d back cs _ _ o.state)
 
 -- numbers with further grants, and without them
 pub number_back_again : (g j k : ℕ) → number_without g j (number_with g j k) ≡ k
 number_back_again g j k = elim (cases_lt g k) [
-  | inl l ↦ ap (λ b. number_without g j (if b then k else k + j)) (lt-leb k g l) ∙ ap₂ (λ x y. if x then k + j else if y then 0 else (k + j) - j) (lt-leb (k + j) g (omega arith)) (lt-leb (k + j) (g + j) (omega arith)) ∙ (let e : (k + j) - j ≡ k = omega arith in e)
+  | inl l ↦ ap (λ b. number_without g j (if b then k else k + j)) (lt-leb k g l)
+      ∙ ap₂ (λ x y. if x then k + j else if y then 0 else (k + j) - j) (lt-leb (k + j) g (omega arith)) (lt-leb (k + j) (g + j) (omega arith)) ∙ (let e : (k + j) - j ≡ k = omega arith in e)
   | inr l ↦ ap (λ b. number_without g j (if b then k else k + j)) (le-leb k g l) ∙ ap (λ x. if x then k else if nat_le k (g + j) then 0 else k - j) (le-leb k g l)
 ]

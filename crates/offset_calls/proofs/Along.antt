@@ -1,5 +1,6 @@
 -- Calls on a guarded allocator, played one after the other: whatever tickets they pass.
-use Rattle.std.proofs.Common.{◌≡◌, ℕ, zero, suc, ◌+◌, ◌<◌, ◌≤◌, Bool, true, false, ◌&&◌, List, [], ◌∷◌, ◌++◌, length, map, take, All, get_or, Option, Some, None, IsTrue, is_some, nat_eq, slice_get, option_map, if◌then◌else◌, refl, sym, ap, ap₂, subst, ◌∙◌, inl, inr, arith, eq-eqb, ne_eqb, append-nil, append_assoc, length-append}
+use Rattle.std.proofs.Common.{◌≡◌, ℕ, zero, suc, ◌+◌, ◌<◌, ◌≤◌, Bool, true, false, ◌&&◌, List, [], ◌∷◌, ◌++◌, length, map, take, All, get_or, Option, Some, None, IsTrue, is_some, nat_eq, slice_get}
+use Rattle.std.proofs.Common.{option_map, if◌then◌else◌, refl, sym, ap, ap₂, subst, ◌∙◌, inl, inr, arith, eq-eqb, ne_eqb, append-nil, append_assoc, length-append}
 use Rattle.std.specs.List.{AllByRecursion}
 use Rattle.std.specs.Option.{option_map_or}
 use Rattle.std.proofs.lemmas.Bool.{cases_eq, eqb-true, and_parts, false≢true}
@@ -9,12 +10,12 @@ use Rattle.offset_allocator.specs.View.{Block, Grant, Place, IsWellFormed, is_us
 use Rattle.offset_allocator.specs.Relations.{IsFresh}
 use Rattle.offset_allocator.proofs.Reading.{live_used}
 use Rattle.offset_guarded.specs.declared.ticket.Ticket.{Ticket}
-use Rattle.offset_guarded.specs.Guard.{Guard, AreAlike, IsLive, range_of, serial_of}
+use Rattle.offset_guarded.specs.Guard.{Guard, AreAlike, IsLive, range_of}
 use Rattle.offset_guarded.proofs.Guards.{live_fits, live_name as live_named}
 use Rattle.offset_script.specs.declared.scripts.Command.TheVariants as command
-use Rattle.offset_script.specs.Agreement.{kept_name}
+use Rattle.offset_script.specs.Steps.{kept_name}
 use Rattle.offset_script.specs.Machine.{State, start}
-use Rattle.offset_script.specs.Simulation.{Represents}
+use Rattle.offset_script.proofs.Agreement.{IsAtState}
 use Rattle.offset_script.proofs.Simulation.{fresh_represents}
 use Rattle.offset_script.proofs.Well.{well_start}
 use Rattle.offset_calls.specs.declared.calls.Call.{Call}
@@ -24,12 +25,12 @@ use Rattle.offset_calls.specs.declared.guarded.TicketCall.{TicketCall}
 use Rattle.offset_calls.specs.Calls.{after, is_valid, replies, reply_view, step}
 use Rattle.offset_calls.specs.Histories.{renumber}
 use Rattle.offset_calls.specs.Steps.{AreKept}
-use Rattle.offset_calls.specs.Tickets.{Grown, IsLedger, Serves, StandsFor, handle_of, handles_of, is_that, live_name, meant, number_in, number_of, passed, ticket_of}
+use Rattle.offset_calls.specs.Tickets.{IsGrown, IsLedger, Serves, IsNumberOf, handle_of, handles_of, is_that, live_name, meant, number_in, number_of, passed, ticket_of}
 use Rattle.offset_calls.proofs.Compacted.{all_kept}
 use Rattle.offset_calls.proofs.Followed.{follows, well_calls}
 use Rattle.offset_calls.proofs.Tickets.{alike, alike_range, kept_of, kept_serial, kept_ticket, live_named_by}
 
--- ---- which grant a ticket stands for
+-- ---- which grant a ticket means
 
 -- the ticket of a grant stays that with more tickets
 ticket_more : (ts more : List Ticket) (k : ℕ) (u : Ticket) → ticket_of ts k ≡ Some u → ticket_of (ts ++ more) k ≡ Some u
@@ -46,16 +47,21 @@ is_used_after b None = refl
 is_used_after b (Some p) = refl
 
 -- a live name is kept for some number
-live_kept : (hs : List (Option Grant)) (x : ℕ) (bs : List Block) → AllByRecursion (λ (b : Block). b.used ≡ true → (k : ℕ) × (kept_name hs k ≡ Some b.name)) bs → is_used_at (place_of x bs) ≡ true → (k : ℕ) × (kept_name hs k ≡ Some x)
+live_kept : (hs : List (Option Grant)) (x : ℕ) (bs : List Block) → AllByRecursion (λ (b : Block). b.used ≡ true → (k : ℕ) × (kept_name hs k ≡ Some b.name)) bs → is_used_at (place_of x bs) ≡ true
+    → (k : ℕ) × (kept_name hs k ≡ Some x)
 live_kept hs x [] a h = absurd (false≢true h)
 live_kept hs x (b ∷ bs) a h = elim (cases_eq x b.name) [
   | inl e ↦
-      let u : b.used ≡ true = sym (ap (λ c. is_used_at (if c then Some (record { before = []; block = b; after = bs }) else option_map (λ (p : Place). record p { before = b ∷ p.before }) (place_of x bs))) (eq-eqb x b.name e)) ∙ h in
+      let u : b.used ≡ true =
+      sym (ap (λ c. is_used_at (if c then Some (record { before = []; block = b; after = bs }) else option_map (λ (p : Place). record p { before = b ∷ p.before }) (place_of x bs)))
+      (eq-eqb x b.name e)) ∙ h in
       let r = a.0 u in
       (r.0, r.1 ∙ ap Some (sym e))
   | inr n ↦
       live_kept hs x bs a.1
-      (sym (is_used_after b (place_of x bs)) ∙ sym (ap (λ c. is_used_at (if c then Some (record { before = []; block = b; after = bs }) else option_map (λ (p : Place). record p { before = b ∷ p.before }) (place_of x bs))) (ne_eqb x b.name n)) ∙ h)
+      (sym (is_used_after b (place_of x bs))
+      ∙ sym (ap (λ c. is_used_at (if c then Some (record { before = []; block = b; after = bs }) else option_map (λ (p : Place). record p { before = b ∷ p.before }) (place_of x bs)))
+      (ne_eqb x b.name n)) ∙ h)
 ]
 
 -- tickets of one grant
@@ -69,16 +75,17 @@ alike_that t u h =
     (sym (eqb-true t.name u.name p.0), sym (eqb-true t.serial u.serial q.0), sym (eqb-true t.realm u.realm q.1))
 
 module _ (g : Guard) (ts more : List Ticket) (is : IsLedger g ts) (kept : AreKept g.space (handles_of g ts)) where
-  -- any ticket stands for the grant that gave it, also where its number was not given yet
-  stands_any : (t : Ticket) → kept_name (handles_of g ts) (number_of (ts ++ more) t) ≡ live_name (Some t) g
-  stands_any t = go (is_some (range_of t g)) refl
+  -- any ticket means the grant that gave it, also where its number was not given yet
+  number_any : (t : Ticket) → kept_name (handles_of g ts) (number_of (ts ++ more) t) ≡ live_name (Some t) g
+  number_any t = go (is_some (range_of t g)) refl
     where
       live : IsLive t g → kept_name (handles_of g ts) (number_of (ts ++ more) t) ≡ live_name (Some t) g
       live l =
           let k = live_kept (handles_of g ts) t.name g.space.blocks kept (live_used t.name g.space (live_named t g l)) in
           let u = kept_ticket g ts k.0 t.name k.1 in
           let s : t.serial ≡ k.0 = (live_fits t g l).1 ∙ kept_serial g ts k.0 t.name is k.1 in
-          let that : is_that t (ticket_of (ts ++ more) t.serial) ≡ true = ap (is_that t) (ap (ticket_of (ts ++ more)) s ∙ ticket_more ts more k.0 u.0 u.1) ∙ that_alike t u.0 (alike t u.0 g l u.3 u.2) in
+          let that : is_that t (ticket_of (ts ++ more) t.serial) ≡ true =
+          ap (is_that t) (ap (ticket_of (ts ++ more)) s ∙ ticket_more ts more k.0 u.0 u.1) ∙ that_alike t u.0 (alike t u.0 g l u.3 u.2) in
           ap (λ b. kept_name (handles_of g ts) (if b then t.serial else 0)) that ∙ ap (kept_name (handles_of g ts)) s ∙ k.1 ∙ sym (live_named_by t g l)
 
       dead : is_some (range_of t g) ≡ false → kept_name (handles_of g ts) (number_of (ts ++ more) t) ≡ None
@@ -101,12 +108,14 @@ module _ (g : Guard) (ts more : List Ticket) (is : IsLedger g ts) (kept : AreKep
       go false e = dead e ∙ sym (ap (λ b. option_map (λ (h : Grant). h.name) (if b then Some (Rattle.offset_guarded.specs.Guard.grant_of t) else None)) e)
 
   -- so does the number of a call
-  pub stands : (c : TicketCall) → StandsFor (option_map_or (number_of (ts ++ more)) c.ticket (number_in c.call)) (passed ts c) g ts
-  stands c = go c.ticket refl
+  pub is_number : (c : TicketCall) → IsNumberOf (option_map_or (number_of (ts ++ more)) c.ticket (number_in c.call)) (passed ts c) g ts
+  is_number c = go c.ticket refl
     where
-      go : (o : Option Ticket) → c.ticket ≡ o → StandsFor (option_map_or (number_of (ts ++ more)) c.ticket (number_in c.call)) (passed ts c) g ts
-      go None e = ap (λ o. kept_name (handles_of g ts) (option_map_or (number_of (ts ++ more)) o (number_in c.call))) e ∙ kept_of g ts (number_in c.call) ∙ sym (ap (λ o. live_name (Rattle.std.specs.Option.option_or o (ticket_of ts (number_in c.call))) g) e)
-      go (Some t) e = ap (λ o. kept_name (handles_of g ts) (option_map_or (number_of (ts ++ more)) o (number_in c.call))) e ∙ stands_any t ∙ sym (ap (λ o. live_name (Rattle.std.specs.Option.option_or o (ticket_of ts (number_in c.call))) g) e)
+      go : (o : Option Ticket) → c.ticket ≡ o → IsNumberOf (option_map_or (number_of (ts ++ more)) c.ticket (number_in c.call)) (passed ts c) g ts
+      go None e = ap (λ o. kept_name (handles_of g ts) (option_map_or (number_of (ts ++ more)) o (number_in c.call))) e ∙ kept_of g ts (number_in c.call)
+          ∙ sym (ap (λ o. live_name (Rattle.std.specs.Option.option_or o (ticket_of ts (number_in c.call))) g) e)
+      go (Some t) e = ap (λ o. kept_name (handles_of g ts) (option_map_or (number_of (ts ++ more)) o (number_in c.call))) e ∙ number_any t
+          ∙ sym (ap (λ o. live_name (Rattle.std.specs.Option.option_or o (ticket_of ts (number_in c.call))) g) e)
 
 -- a call is renumbered at its number alone
 renumber_at : (r : ℕ → ℕ) (c : Call) → renumber r c ≡ renumber (λ j. r (number_in c)) c
@@ -146,7 +155,7 @@ renumber_valid r (call.RefusalAligned n align) = refl
 
 -- the plain machine, after the calls that these mean, whatever tickets are given later
 pub record IsPlayed (size limit : ℕ) (g : Guard) (ts : List Ticket) (calls : List TicketCall) (found : List program.Reply) : Type 0 where
-  pub represents : (more : List Ticket) → Represents g.space (handles_of g ts) (after (map (meant (ts ++ more)) calls) (start size limit))
+  pub represents : (more : List Ticket) → IsAtState g.space (handles_of g ts) (after (map (meant (ts ++ more)) calls) (start size limit))
   pub replied : (more : List Ticket) → map reply_view found ≡ replies (map (meant (ts ++ more)) calls) (start size limit)
 
 pub starts : (size limit : ℕ) (g : Guard) (ts : List Ticket) (found : List program.Reply) → IsWellFormed g.space → IsFresh size limit g.space → ts ≡ [] → found ≡ [] → IsPlayed size limit g ts [] found
@@ -155,7 +164,8 @@ starts size limit g ts found w f e none = record {
   replied = λ more. ap (map reply_view) none;
 }
 
-pub all_kept_played : (size limit : ℕ) (g : Guard) (ts : List Ticket) (calls : List TicketCall) (found : List program.Reply) → 2 ≤ limit → IsPlayed size limit g ts calls found → AreKept g.space (handles_of g ts)
+pub all_kept_played : (size limit : ℕ) (g : Guard) (ts : List Ticket) (calls : List TicketCall) (found : List program.Reply) → 2 ≤ limit → IsPlayed size limit g ts calls found
+    → AreKept g.space (handles_of g ts)
 all_kept_played size limit g ts calls found low p =
     let r = p.represents [] in
     all_kept _ _ _ r.formed (well_calls (map (meant (ts ++ [])) calls) _ (well_start size limit low)) r.agrees
@@ -169,19 +179,19 @@ replies-append [] ys s = refl
 replies-append (c ∷ xs) ys s = ap (λ l. (step c s).reply ∷ l) (replies-append xs ys (step c s).state)
 
 -- later tickets, from before the call on
-later : (ts us more : List Ticket) → Grown ts us → (all : List Ticket) × (us ++ more ≡ ts ++ all)
+later : (ts us more : List Ticket) → IsGrown ts us → (all : List Ticket) × (us ++ more ≡ ts ++ all)
 later ts us more (inl e) = (more, ap (λ l. l ++ more) e)
 later ts us more (inr e) = (e.0 ∷ more, ap (λ l. l ++ more) e.1 ∙ append_assoc ts (e.0 ∷ []) more)
 
-pub few_more : (ts us : List Ticket) (i : ℕ) → Grown ts us → length ts ≤ i → length us ≤ i + 1
+pub few_more : (ts us : List Ticket) (i : ℕ) → IsGrown ts us → length ts ≤ i → length us ≤ i + 1
 few_more ts us i (inl e) h = let l = ap length e in omega arith
 few_more ts us i (inr e) h = let l = ap length e.1 in omega (arith, length-append ts (e.0 ∷ []))
 
 module _ (size limit : ℕ) (low : 2 ≤ limit) (g h : Guard) (ts us : List Ticket) (calls : List TicketCall) (c : TicketCall) (found left : List program.Reply) (x : program.Reply)
     (is : IsLedger g ts) (p : IsPlayed size limit g ts calls found) (formed : IsWellFormed h.space) (valid : IsTrue (is_valid c.call)) (more_found : left ≡ found ++ x ∷ [])
-    (serves : (k : ℕ) → StandsFor k (passed ts c) g ts → Serves (renumber (λ j. k) c.call) g ts h us (reply_view x)) where
+    (serves : (k : ℕ) → IsNumberOf k (passed ts c) g ts → Serves (renumber (λ j. k) c.call) g ts h us (reply_view x)) where
   pub served : Serves (renumber (λ j. option_map_or (number_of (ts ++ [])) c.ticket (number_in c.call)) c.call) g ts h us (reply_view x)
-  served = serves (option_map_or (number_of (ts ++ [])) c.ticket (number_in c.call)) (stands g ts [] is (all_kept_played size limit g ts calls found low p) c)
+  served = serves (option_map_or (number_of (ts ++ [])) c.ticket (number_in c.call)) (is_number g ts [] is (all_kept_played size limit g ts calls found low p) c)
 
   module _ (more : List Ticket) where
     -- the tickets given from before the call on
@@ -193,18 +203,22 @@ module _ (size limit : ℕ) (low : 2 ≤ limit) (g h : Guard) (ts us : List Tick
     all_is = (later ts us more served.grown).1
 
     -- the plain machine takes the call that this one means
-    next : (reply_view x ≡ (step (meant (ts ++ all) c) (after (map (meant (ts ++ all)) calls) (start size limit))).reply) × Represents h.space (handles_of h us) (step (meant (ts ++ all) c) (after (map (meant (ts ++ all)) calls) (start size limit))).state
+    next : (reply_view x ≡ (step (meant (ts ++ all) c) (after (map (meant (ts ++ all)) calls) (start size limit))).reply)
+        × IsAtState h.space (handles_of h us) (step (meant (ts ++ all) c) (after (map (meant (ts ++ all)) calls) (start size limit))).state
     next =
         let r : ℕ → ℕ = λ j. option_map_or (number_of (ts ++ all)) c.ticket j in
-        let s = serves (r (number_in c.call)) (stands g ts all is (all_kept_played size limit g ts calls found low p) c) in
-        follows g.space h.space (handles_of g ts) (handles_of h us) (reply_view x) (after (map (meant (ts ++ all)) calls) (start size limit)) formed (well_calls (map (meant (ts ++ all)) calls) _ (well_start size limit low)) (p.represents all)
-        (renumber r c.call) (renumber_valid r c.call ∙ valid) (subst (λ c. Rattle.offset_calls.specs.Steps.Takes c g.space (handles_of g ts) h.space (handles_of h us) (reply_view x)) (sym (renumber_at r c.call)) s.takes)
+        let s = serves (r (number_in c.call)) (is_number g ts all is (all_kept_played size limit g ts calls found low p) c) in
+        follows g.space h.space (handles_of g ts) (handles_of h us) (reply_view x) (after (map (meant (ts ++ all)) calls) (start size limit)) formed
+        (well_calls (map (meant (ts ++ all)) calls) _ (well_start size limit low)) (p.represents all)
+        (renumber r c.call) (renumber_valid r c.call ∙ valid)
+        (subst (λ c. Rattle.offset_calls.specs.Steps.Takes c g.space (handles_of g ts) h.space (handles_of h us) (reply_view x)) (sym (renumber_at r c.call)) s.takes)
 
     calls_more : map (meant (us ++ more)) (calls ++ c ∷ []) ≡ map (meant (ts ++ all)) calls ++ meant (ts ++ all) c ∷ []
     calls_more = ap (λ l. map (meant l) (calls ++ c ∷ [])) all_is ∙ map-append (meant (ts ++ all)) calls (c ∷ [])
 
-    represents_more : Represents h.space (handles_of h us) (after (map (meant (us ++ more)) (calls ++ c ∷ [])) (start size limit))
-    represents_more = subst (Represents h.space (handles_of h us)) (sym (ap (λ l. after l (start size limit)) calls_more ∙ after-append (map (meant (ts ++ all)) calls) (meant (ts ++ all) c ∷ []) (start size limit))) next.1
+    represents_more : IsAtState h.space (handles_of h us) (after (map (meant (us ++ more)) (calls ++ c ∷ [])) (start size limit))
+    represents_more = subst (IsAtState h.space (handles_of h us))
+        (sym (ap (λ l. after l (start size limit)) calls_more ∙ after-append (map (meant (ts ++ all)) calls) (meant (ts ++ all) c ∷ []) (start size limit))) next.1
 
     replied_more : map reply_view left ≡ replies (map (meant (us ++ more)) (calls ++ c ∷ [])) (start size limit)
     replied_more =
@@ -216,20 +230,25 @@ module _ (size limit : ℕ) (low : 2 ≤ limit) (g h : Guard) (ts us : List Tick
   played_more = record { represents = represents_more; replied = replied_more }
 
 -- a loop over calls: one more
-pub goes_on : (size limit : ℕ) → 2 ≤ limit → (g h : Guard) (ts us : List Ticket) (calls : List TicketCall) (i : ℕ) (d : TicketCall) (found left : List program.Reply) (x : program.Reply) → IsLedger g ts → length ts ≤ i → IsPlayed size limit g ts (take i calls) found
+pub goes_on : (size limit : ℕ) → 2 ≤ limit → (g h : Guard) (ts us : List Ticket) (calls : List TicketCall) (i : ℕ) (d : TicketCall) (found left : List program.Reply) (x : program.Reply)
+    → IsLedger g ts → length ts ≤ i → IsPlayed size limit g ts (take i calls) found
     → IsWellFormed h.space → i < length calls → All (λ c. IsTrue (is_valid c.call)) calls → left ≡ found ++ x ∷ []
-    → (now : List Ticket) (o : Option Ticket) → now ≡ ts → o ≡ passed now (get_or calls i d) → ((k : ℕ) → StandsFor k o g ts → Serves (renumber (λ j. k) (get_or calls i d).call) g ts h us (reply_view x))
+    → (now : List Ticket) (o : Option Ticket) → now ≡ ts → o ≡ passed now (get_or calls i d)
+    → ((k : ℕ) → IsNumberOf k o g ts → Serves (renumber (λ j. k) (get_or calls i d).call) g ts h us (reply_view x))
     → record { ledger : IsLedger h us; few : length us ≤ i + 1; played : IsPlayed size limit h us (take (i + 1) calls) left }
 goes_on size limit low g h ts us calls i d found left x is few p formed within valid e now o same is_passed each =
-    let serves : (k : ℕ) → StandsFor k (passed ts (get_or calls i d)) g ts → Serves (renumber (λ j. k) (get_or calls i d).call) g ts h us (reply_view x) = λ k stands. each k (subst (λ o. StandsFor k o g ts) (sym (is_passed ∙ ap (λ l. passed l (get_or calls i d)) same)) stands) in
+    let serves : (k : ℕ) → IsNumberOf k (passed ts (get_or calls i d)) g ts → Serves (renumber (λ j. k) (get_or calls i d).call) g ts h us (reply_view x) =
+    λ k is_number. each k (subst (λ o. IsNumberOf k o g ts) (sym (is_passed ∙ ap (λ l. passed l (get_or calls i d)) same)) is_number) in
     let v = All-get_or (λ c. IsTrue (is_valid c.call)) calls i d within valid in
     let s = served size limit low g h ts us (take i calls) (get_or calls i d) found left x is p formed v e serves in
     record {
       ledger = s.ledger;
       few = few_more ts us i s.grown few;
-      played = subst (λ cs. IsPlayed size limit h us cs left) (sym (take_more calls i d within)) (played_more size limit low g h ts us (take i calls) (get_or calls i d) found left x is p formed v e serves);
+      played = subst (λ cs. IsPlayed size limit h us cs left) (sym (take_more calls i d within))
+          (played_more size limit low g h ts us (take i calls) (get_or calls i d) found left x is p formed v e serves);
     }
 
 -- all calls are played
-pub ends : (size limit : ℕ) (g : Guard) (ts : List Ticket) (before calls : List TicketCall) (found : List program.Reply) → IsPlayed size limit g ts before found → before ≡ calls → map reply_view found ≡ replies (map (meant ts) calls) (start size limit)
+pub ends : (size limit : ℕ) (g : Guard) (ts : List Ticket) (before calls : List TicketCall) (found : List program.Reply) → IsPlayed size limit g ts before found → before ≡ calls
+    → map reply_view found ≡ replies (map (meant ts) calls) (start size limit)
 ends size limit g ts before calls found p e = p.replied [] ∙ ap₂ (λ l cs. replies (map (meant l) cs) (start size limit)) (append-nil ts) e

@@ -1,5 +1,6 @@
 -- A compaction: what is left agrees with the plain machine, and the moves are the same.
-use Rattle.std.proofs.Common.{◌≡◌, ℕ, suc, ◌+◌, ◌≤◌, Bool, true, false, not, ◌&&◌, List, [], ◌∷◌, ◌++◌, length, replicate, sum, Option, Some, None, nat_eq, if◌then◌else◌, refl, sym, ap, ap₂, subst, subst₂, ◌∙◌, inl, inr, arith, eq-eqb, ne_eqb, length-append}
+use Rattle.std.proofs.Common.{◌≡◌, ℕ, suc, ◌+◌, ◌≤◌, Bool, true, false, not, ◌&&◌, List, [], ◌∷◌, ◌++◌, length, replicate, sum, Option, Some, None, nat_eq, if◌then◌else◌, refl, sym, ap, ap₂, subst}
+use Rattle.std.proofs.Common.{subst₂, ◌∙◌, inl, inr, arith, eq-eqb, ne_eqb, length-append}
 use Rattle.std.proofs.lemmas.Bool.{cases_eq, cases_lt, true≢false, false≢true}
 use Rattle.std.proofs.lemmas.List.{map-append, get_or_past, get_or-replicate, length-replicate}
 use Rattle.std.specs.List.{AllByRecursion}
@@ -12,14 +13,15 @@ use Rattle.offset_allocator.proofs.Classes.{down_small}
 use Rattle.offset_allocator.proofs.Tallies.{hit_cases}
 use Rattle.offset_allocator.proofs.ViewOrders.{names_same, names_other}
 use Rattle.std.specs.Option.{option_or}
-use Rattle.offset_script.specs.Agreement.{Label, by_name, by_tag, name_of, kept_name, IsFalling, stamp_of, Agrees}
+use Rattle.offset_script.specs.Steps.{kept_name}
+use Rattle.offset_script.proofs.Agreement.{Label, by_name, by_tag, name_of, IsFalling, stamp_of, HasBlocksOf}
 use Rattle.offset_script.specs.Machine.{Tag, Live, Free, State, is_free, has_number, free_sizes, stamp_of_call}
 use Rattle.offset_script.specs.Machine as machine
 use Rattle.offset_script.specs.Totals.{live}
 use Rattle.offset_script.proofs.Ends.{free_sizes_labels, name_append, or_none}
 use Rattle.offset_script.proofs.Labels.{names, tags}
-use Rattle.offset_script.proofs.Members.{In}
-use Rattle.offset_script.proofs.Well.{Well, Apart, apart_append, count, hit, count-append, ends_free, starts_free, well_leaves}
+use Rattle.offset_script.proofs.Members.{IsIn}
+use Rattle.offset_script.proofs.Well.{IsWell, AreApart, apart_append, count, hit, count-append, ends_free, starts_free, well_leaves}
 use Rattle.offset_calls.specs.Calls.{Move, moves, gathered, compact, number}
 use Rattle.offset_calls.specs.Steps.{AreNumbered}
 
@@ -27,23 +29,25 @@ use Rattle.offset_calls.specs.Steps.{AreNumbered}
 
 count_live : (t : Tag) (bs : List machine.Block) → count t (live bs) ≤ count t bs
 count_live t [] = omega arith
-count_live t (b ∷ bs) = let ih = count_live t bs in elim (is_free b.tag) as (λ x. count t (if not x then b ∷ live bs else live bs) ≤ hit t b.tag + count t bs) [ true ↦ omega arith | false ↦ omega arith ]
+count_live t (b ∷ bs) = let ih = count_live t bs in elim (is_free b.tag) as (λ x. count t (if not x then b ∷ live bs else live bs) ≤ hit t b.tag + count t bs)
+    [ true ↦ omega arith | false ↦ omega arith ]
 
 length_live : (bs : List machine.Block) → length (live bs) + length (free_sizes bs) ≡ length bs
 length_live [] = refl
-length_live (b ∷ bs) = let ih = length_live bs in elim (is_free b.tag) as (λ x. length (if not x then b ∷ live bs else live bs) + length (if x then b.size ∷ free_sizes bs else free_sizes bs) ≡ suc (length bs)) [ true ↦ omega arith | false ↦ omega arith ]
+length_live (b ∷ bs) = let ih = length_live bs in elim (is_free b.tag)
+    as (λ x. length (if not x then b ∷ live bs else live bs) + length (if x then b.size ∷ free_sizes bs else free_sizes bs) ≡ suc (length bs)) [ true ↦ omega arith | false ↦ omega arith ]
 
 -- live blocks are apart
-apart_cons : (b : machine.Block) (bs : List machine.Block) → is_free b.tag ≡ false → Apart bs → Apart (b ∷ bs)
+apart_cons : (b : machine.Block) (bs : List machine.Block) → is_free b.tag ≡ false → AreApart bs → AreApart (b ∷ bs)
 apart_cons b bs e a = (ap (λ x. x && starts_free bs) e, a)
 
-apart_live : (bs : List machine.Block) → Apart (live bs)
+apart_live : (bs : List machine.Block) → AreApart (live bs)
 apart_live [] = tt
 apart_live (b ∷ bs) = go (is_free b.tag) refl (apart_live bs)
   where
-    go : (x : Bool) → is_free b.tag ≡ x → Apart (live bs) → Apart (live (b ∷ bs))
-    go true e ih = subst (λ x. Apart (if not x then b ∷ live bs else live bs)) (sym e) ih
-    go false e ih = subst (λ x. Apart (if not x then b ∷ live bs else live bs)) (sym e) (apart_cons b (live bs) e ih)
+    go : (x : Bool) → is_free b.tag ≡ x → AreApart (live bs) → AreApart (live (b ∷ bs))
+    go true e ih = subst (λ x. AreApart (if not x then b ∷ live bs else live bs)) (sym e) ih
+    go false e ih = subst (λ x. AreApart (if not x then b ∷ live bs else live bs)) (sym e) (apart_cons b (live bs) e ih)
 
 ends_cons : (b : machine.Block) (bs : List machine.Block) → is_free b.tag ≡ false → ends_free bs ≡ false → ends_free (b ∷ bs) ≡ false
 ends_cons b [] e f = e
@@ -58,13 +62,17 @@ ends_of_live (b ∷ bs) = go (is_free b.tag) refl (ends_of_live bs)
     go false e ih = ap (λ x. ends_free (if not x then b ∷ live bs else live bs)) e ∙ ends_cons b (live bs) e ih
 
 -- what a compaction leaves is well-formed
-well_gathered : (s : State) → Well s → (ns : List ℕ) → free_sizes s.blocks ≡ ns → Well (machine.leaves s (live s.blocks ++ gathered (stamp_of_call s) ns) machine.Freed).state
-well_gathered s w [] e = well_leaves s w _ machine.Freed (let l = length_live s.blocks in let o = w.some in let h = ap length e in omega (arith, l, o, h, length-append (live s.blocks) [])) (let l = length_live s.blocks in let r = w.room in omega (arith, l, r, length-append (live s.blocks) []))
-    (apart_append (live s.blocks) [] (apart_live s.blocks) tt (ap (λ x. x && false) (ends_of_live s.blocks))) (λ t. let l = count_live t s.blocks in omega (arith, l, count-append t (live s.blocks) []))
-well_gathered s w (n ∷ ns) e = well_leaves s w _ machine.Freed (omega (arith, length-append (live s.blocks) (gathered (stamp_of_call s) (n ∷ ns)))) (let l = length_live s.blocks in let r = w.room in let h = ap length e in omega (arith, l, r, h, length-append (live s.blocks) (gathered (stamp_of_call s) (n ∷ ns))))
-    (apart_append (live s.blocks) (gathered (stamp_of_call s) (n ∷ ns)) (apart_live s.blocks) (refl, tt) (ap (λ x. x && true) (ends_of_live s.blocks))) (λ t. let l = count_live t s.blocks in omega (arith, l, count-append t (live s.blocks) (gathered (stamp_of_call s) (n ∷ ns))))
+well_gathered : (s : State) → IsWell s → (ns : List ℕ) → free_sizes s.blocks ≡ ns → IsWell (machine.leaves s (live s.blocks ++ gathered (stamp_of_call s) ns) machine.Freed).state
+well_gathered s w [] e = well_leaves s w _ machine.Freed (let l = length_live s.blocks in let o = w.some in let h = ap length e in omega (arith, l, o, h, length-append (live s.blocks) []))
+    (let l = length_live s.blocks in let r = w.room in omega (arith, l, r, length-append (live s.blocks) []))
+    (apart_append (live s.blocks) [] (apart_live s.blocks) tt (ap (λ x. x && false) (ends_of_live s.blocks)))
+    (λ t. let l = count_live t s.blocks in omega (arith, l, count-append t (live s.blocks) []))
+well_gathered s w (n ∷ ns) e = well_leaves s w _ machine.Freed (omega (arith, length-append (live s.blocks) (gathered (stamp_of_call s) (n ∷ ns))))
+    (let l = length_live s.blocks in let r = w.room in let h = ap length e in omega (arith, l, r, h, length-append (live s.blocks) (gathered (stamp_of_call s) (n ∷ ns))))
+    (apart_append (live s.blocks) (gathered (stamp_of_call s) (n ∷ ns)) (apart_live s.blocks) (refl, tt) (ap (λ x. x && true) (ends_of_live s.blocks)))
+    (λ t. let l = count_live t s.blocks in omega (arith, l, count-append t (live s.blocks) (gathered (stamp_of_call s) (n ∷ ns))))
 
-pub well_compact : (s : State) → Well s → Well (compact s).state
+pub well_compact : (s : State) → IsWell s → IsWell (compact s).state
 well_compact s w = well_gathered s w (free_sizes s.blocks) refl
 
 -- labels of live blocks
@@ -74,11 +82,14 @@ live_labels (l ∷ ls) = if is_free l.tag then live_labels ls else l ∷ live_la
 
 live_names : (ls : List Label) → names (live_labels ls) ≡ named_moves.live (names ls)
 live_names [] = refl
-live_names (l ∷ ls) = let ih = live_names ls in elim (is_free l.tag) as (λ x. names (if x then live_labels ls else l ∷ live_labels ls) ≡ (if not x then by_name l ∷ named_moves.live (names ls) else named_moves.live (names ls))) [ true ↦ ih | false ↦ ap (λ z. by_name l ∷ z) ih ]
+live_names (l ∷ ls) = let ih = live_names ls in elim (is_free l.tag)
+    as (λ x. names (if x then live_labels ls else l ∷ live_labels ls) ≡ (if not x then by_name l ∷ named_moves.live (names ls) else named_moves.live (names ls)))
+    [ true ↦ ih | false ↦ ap (λ z. by_name l ∷ z) ih ]
 
 live_tags : (ls : List Label) → tags (live_labels ls) ≡ live (tags ls)
 live_tags [] = refl
-live_tags (l ∷ ls) = let ih = live_tags ls in elim (is_free l.tag) as (λ x. tags (if x then live_labels ls else l ∷ live_labels ls) ≡ (if not x then by_tag l ∷ live (tags ls) else live (tags ls))) [ true ↦ ih | false ↦ ap (λ z. by_tag l ∷ z) ih ]
+live_tags (l ∷ ls) = let ih = live_tags ls in elim (is_free l.tag) as (λ x. tags (if x then live_labels ls else l ∷ live_labels ls) ≡ (if not x then by_tag l ∷ live (tags ls) else live (tags ls)))
+    [ true ↦ ih | false ↦ ap (λ z. by_tag l ∷ z) ih ]
 
 no_number : (k : ℕ) (t : Tag) → is_free t ≡ true → has_number k t ≡ false
 no_number k (Live j) e = absurd (false≢true e)
@@ -117,7 +128,8 @@ gathered_newest f x [] c = subst (IsFalling f) (sym (empty_bin c)) tt
     empty_bin c = elim (cases_lt c 256) [ inl l ↦ get_or-replicate 256 c [] [] l | inr l ↦ get_or_past (replicate 256 []) c [] l ]
 gathered_newest f x (n ∷ ns) c = elim (cases_eq c (down (n + sum ns))) [
   | inl e ↦ subst (λ d. IsFalling f (bin_at (push_all (named_moves.gathered x (n ∷ ns)) (replicate 256 [])) d)) (sym e)
-      (subst (IsFalling f) (sym (names_same (replicate 256 []) (down (n + sum ns)) _ (length-replicate {A = List ℕ} 256 []) (down_small (n + sum ns)))) (subst (λ l. IsFalling f (x ∷ l)) (sym (empty_bin (down (n + sum ns)))) ((λ y m. absurd (omega arith)), tt)))
+      (subst (IsFalling f) (sym (names_same (replicate 256 []) (down (n + sum ns)) _ (length-replicate {A = List ℕ} 256 []) (down_small (n + sum ns))))
+      (subst (λ l. IsFalling f (x ∷ l)) (sym (empty_bin (down (n + sum ns)))) ((λ y m. absurd (omega arith)), tt)))
   | inr d ↦ subst (IsFalling f) (sym (names_other (replicate 256 []) (down (n + sum ns)) c _ d ∙ empty_bin c)) tt
 ]
   where
@@ -125,15 +137,19 @@ gathered_newest f x (n ∷ ns) c = elim (cases_eq c (down (n + sum ns))) [
     empty_bin c = elim (cases_lt c 256) [ inl l ↦ get_or-replicate 256 c [] [] l | inr l ↦ get_or_past (replicate 256 []) c [] l ]
 
 -- what a compaction leaves agrees
-pub compact_agrees : (v : View) (kept_name : ℕ → Option ℕ) (s : State) → Agrees v kept_name s → (u : View) → Compacts v u → Agrees u kept_name (compact s).state
+pub compact_agrees : (v : View) (kept_name : ℕ → Option ℕ) (s : State) → HasBlocksOf v kept_name s → (u : View) → Compacts v u → HasBlocksOf u kept_name (compact s).state
 compact_agrees v kept_name s g u f = record {
   labels = live_labels g.labels ++ gathered_label f.name (stamp_of_call s) (free_sizes s.blocks);
-  view = ap (λ (x : View). x.blocks) f.view ∙ ap₂ (λ a b. a ++ b) (ap named_moves.live g.view ∙ sym (live_names g.labels)) (ap (named_moves.gathered f.name) (sym same_sizes) ∙ sym (gathered_names f.name (stamp_of_call s) (free_sizes s.blocks)))
+  view = ap (λ (x : View). x.blocks) f.view ∙ ap₂ (λ a b. a ++ b) (ap named_moves.live g.view ∙ sym (live_names g.labels))
+      (ap (named_moves.gathered f.name) (sym same_sizes) ∙ sym (gathered_names f.name (stamp_of_call s) (free_sizes s.blocks)))
       ∙ sym (map-append by_name (live_labels g.labels) (gathered_label f.name (stamp_of_call s) (free_sizes s.blocks)));
-  state = ap₂ (λ a b. a ++ b) (ap live g.state ∙ sym (live_tags g.labels)) (sym (gathered_tags f.name (stamp_of_call s) (free_sizes s.blocks))) ∙ sym (map-append by_tag (live_labels g.labels) (gathered_label f.name (stamp_of_call s) (free_sizes s.blocks)));
+  state = ap₂ (λ a b. a ++ b) (ap live g.state ∙ sym (live_tags g.labels)) (sym (gathered_tags f.name (stamp_of_call s) (free_sizes s.blocks)))
+      ∙ sym (map-append by_tag (live_labels g.labels) (gathered_label f.name (stamp_of_call s) (free_sizes s.blocks)));
   limit = g.limit ∙ sym (ap (λ (x : View). x.max_allocs) f.view);
-  newest = λ c. subst (λ o. IsFalling (λ x. stamp_of x (live_labels g.labels ++ gathered_label f.name (stamp_of_call s) (free_sizes s.blocks))) (bin_at o c)) (sym (ap (λ (x : View). x.order) f.view)) (gathered_newest _ f.name (named.free_sizes v.blocks) c);
-  handles = λ k. g.handles k ∙ sym (live_name_of k g.labels) ∙ sym (or_none (name_of k (live_labels g.labels))) ∙ ap (option_or (name_of k (live_labels g.labels))) (sym (gathered_name_of k f.name (stamp_of_call s) (free_sizes s.blocks)))
+  newest = λ c. subst (λ o. IsFalling (λ x. stamp_of x (live_labels g.labels ++ gathered_label f.name (stamp_of_call s) (free_sizes s.blocks))) (bin_at o c)) (sym (ap (λ (x : View). x.order) f.view))
+      (gathered_newest _ f.name (named.free_sizes v.blocks) c);
+  handles = λ k. g.handles k ∙ sym (live_name_of k g.labels) ∙ sym (or_none (name_of k (live_labels g.labels)))
+      ∙ ap (option_or (name_of k (live_labels g.labels))) (sym (gathered_name_of k f.name (stamp_of_call s) (free_sizes s.blocks)))
       ∙ sym (name_append k (live_labels g.labels) (gathered_label f.name (stamp_of_call s) (free_sizes s.blocks)));
 }
   where
@@ -154,13 +170,13 @@ name_there j x (l ∷ ls) e = go (has_number j l.tag) refl (name_there j x ls)
         elim (hit_cases x l.name) [ inl i ↦ omega (arith, i.1) | inr i ↦ absurd (i.0 (sym n)) ]
     go false h ih = let r = ih (sym (ap (λ b. if b then Some l.name else name_of j ls) h) ∙ e) in omega arith
 
-label_there : (l : Label) (ls : List Label) → In l ls → 1 ≤ count_named l.name (names ls)
+label_there : (l : Label) (ls : List Label) → IsIn l ls → 1 ≤ count_named l.name (names ls)
 label_there l [] i = absurd i
 label_there l (m ∷ ls) (inl e) = elim (hit_cases l.name m.name) [ inl i ↦ omega (arith, i.1) | inr i ↦ absurd (i.0 (ap (λ (l : Label). l.name) e)) ]
 label_there l (m ∷ ls) (inr i) = let r = label_there l ls i in omega arith
 
 -- the grant of a name is that of its label
-only_number : (j k : ℕ) (ls : List Label) (l : Label) → count_named l.name (names ls) ≤ 1 → name_of j ls ≡ Some l.name → In l ls → l.tag ≡ Live k → j ≡ k
+only_number : (j k : ℕ) (ls : List Label) (l : Label) → count_named l.name (names ls) ≤ 1 → name_of j ls ≡ Some l.name → IsIn l ls → l.tag ≡ Live k → j ≡ k
 only_number j k [] l few e i t = absurd i
 only_number j k (m ∷ ls) l few e i t = go (has_number j m.tag) refl i (λ f e h. only_number j k ls l f e h t)
   where
@@ -176,19 +192,20 @@ only_number j k (m ∷ ls) l few e i t = go (has_number j m.tag) refl i (λ f e 
     same : (a b : ℕ) (c : Tag) → has_number a c ≡ true → c ≡ Live b → a ≡ b
     same a b c h d = let z : nat_eq a b ≡ true = sym (ap (has_number a) d) ∙ h in elim (cases_eq a b) [ inl e ↦ e | inr n ↦ absurd (true≢false (sym z ∙ ne_eqb a b n)) ]
 
-    go : (b : Bool) → has_number j m.tag ≡ b → In l (m ∷ ls) → (count_named l.name (names ls) ≤ 1 → name_of j ls ≡ Some l.name → In l ls → j ≡ k) → j ≡ k
+    go : (b : Bool) → has_number j m.tag ≡ b → IsIn l (m ∷ ls) → (count_named l.name (names ls) ≤ 1 → name_of j ls ≡ Some l.name → IsIn l ls → j ≡ k) → j ≡ k
     go true h (inl f) ih = same j k m.tag h (sym (ap (λ (l : Label). l.tag) f) ∙ t)
     go true h (inr f) ih = absurd (twice (here h) (label_there l ls f))
     go false h (inl f) ih = absurd (twice (sym (ap (λ (l : Label). l.name) f)) (name_there j l.name ls (rest h)))
     go false h (inr f) ih = ih (omega (arith, few)) (rest h) f
 
 -- the name of a live label is found
-pub name_found : (k : ℕ) (ls : List Label) (l : Label) → count (Live k) (tags ls) ≤ 1 → In l ls → l.tag ≡ Live k → name_of k ls ≡ Some l.name
+pub name_found : (k : ℕ) (ls : List Label) (l : Label) → count (Live k) (tags ls) ≤ 1 → IsIn l ls → l.tag ≡ Live k → name_of k ls ≡ Some l.name
 name_found k [] l few i t = absurd i
-name_found k (m ∷ ls) l few (inl f) t = ap (λ b. if b then Some m.name else name_of k ls) (ap (has_number k) (sym (ap (λ (l : Label). l.tag) f) ∙ t) ∙ eq-eqb k k refl) ∙ ap Some (sym (ap (λ (l : Label). l.name) f))
+name_found k (m ∷ ls) l few (inl f) t = ap (λ b. if b then Some m.name else name_of k ls) (ap (has_number k) (sym (ap (λ (l : Label). l.tag) f) ∙ t) ∙ eq-eqb k k refl)
+    ∙ ap Some (sym (ap (λ (l : Label). l.name) f))
 name_found k (m ∷ ls) l few (inr f) t = go (has_number k m.tag) refl (λ few. name_found k ls l few f t)
   where
-    there : (l : Label) (ls : List Label) → In l ls → l.tag ≡ Live k → 1 ≤ count (Live k) (tags ls)
+    there : (l : Label) (ls : List Label) → IsIn l ls → l.tag ≡ Live k → 1 ≤ count (Live k) (tags ls)
     there l [] i t = absurd i
     there l (m ∷ ls) (inl f) t = let h : hit (Live k) m.tag ≡ 1 = ap (hit (Live k)) (sym (ap (λ (l : Label). l.tag) f) ∙ t) ∙ ap one (eq-eqb k k refl) in omega arith
     there l (m ∷ ls) (inr f) t = let r = there l ls f t in omega arith
@@ -207,32 +224,39 @@ same_move m k from to size e f g h =
 
 -- the moves of a block and those after it
 abbrev named_step : ℕ → ℕ → Label → List Label → Bool → Bool → List named_moves.Move
-named_step from to l ls u b = if u then (if b then [] else record { name = l.name; from = from; to = to; size = l.size } ∷ []) ++ named_moves.moves (from + l.size) (to + l.size) (names ls) else named_moves.moves (from + l.size) to (names ls)
+named_step from to l ls u b = if u then (if b then [] else record { name = l.name; from = from; to = to; size = l.size } ∷ [])
+    ++ named_moves.moves (from + l.size) (to + l.size) (names ls) else named_moves.moves (from + l.size) to (names ls)
 
 abbrev plain_step : ℕ → ℕ → Label → List Label → Tag → Bool → List Move
-plain_step from to l ls t b = if is_free t then moves (from + l.size) to (tags ls) else (if b then [] else record { number = number t; from = from; to = to; size = l.size } ∷ []) ++ moves (from + l.size) (to + l.size) (tags ls)
+plain_step from to l ls t b = if is_free t then moves (from + l.size) to (tags ls) else (if b then [] else record { number = number t; from = from; to = to; size = l.size } ∷ [])
+    ++ moves (from + l.size) (to + l.size) (tags ls)
 
 -- the moves are those of the plain machine, where the name of each label has one number
-pub moves_agree : (handles : List (Option Grant)) (from to : ℕ) (ls : List Label) (ms : List Move) → ((l : Label) → In l ls → (k : ℕ) → l.tag ≡ Live k → (j : ℕ) → kept_name handles j ≡ Some l.name → j ≡ k)
+pub moves_agree : (handles : List (Option Grant)) (from to : ℕ) (ls : List Label) (ms : List Move)
+    → ((l : Label) → IsIn l ls → (k : ℕ) → l.tag ≡ Live k → (j : ℕ) → kept_name handles j ≡ Some l.name → j ≡ k)
     → AreNumbered handles (named_moves.moves from to (names ls)) ms → ms ≡ moves from to (tags ls)
 moves_agree handles from to [] [] h a = refl
 moves_agree handles from to [] (m ∷ ms) h a = absurd a
 moves_agree handles from to (l ∷ ls) ms h a = go l.tag refl (nat_eq from to) refl ms a (λ t r. moves_agree handles (from + l.size) t ls r (λ x i. h x (inr i)))
   where
-    first : (k : ℕ) → l.tag ≡ Live k → (ms : List Move) → ((r : List Move) → AreNumbered handles (named_moves.moves (from + l.size) (to + l.size) (names ls)) r → r ≡ moves (from + l.size) (to + l.size) (tags ls))
+    first : (k : ℕ) → l.tag ≡ Live k → (ms : List Move)
+        → ((r : List Move) → AreNumbered handles (named_moves.moves (from + l.size) (to + l.size) (names ls)) r → r ≡ moves (from + l.size) (to + l.size) (tags ls))
         → AreNumbered handles (record { name = l.name; from = from; to = to; size = l.size } ∷ named_moves.moves (from + l.size) (to + l.size) (names ls)) ms
         → ms ≡ record { number = k; from = from; to = to; size = l.size } ∷ moves (from + l.size) (to + l.size) (tags ls)
     first k t [] ih a = absurd a
     first k t (m ∷ ms) ih a = ap₂ (λ (x : Move) y. x ∷ y) (same_move m k from to l.size (h l (inl refl) k t m.number a.0) a.1 a.2 a.3) (ih ms a.4)
 
     go : (t : Tag) → l.tag ≡ t → (b : Bool) → nat_eq from to ≡ b → (ms : List Move) → AreNumbered handles (named_step from to l ls (not (is_free l.tag)) (nat_eq from to)) ms
-        → ((t : ℕ) (r : List Move) → AreNumbered handles (named_moves.moves (from + l.size) t (names ls)) r → r ≡ moves (from + l.size) t (tags ls)) → ms ≡ plain_step from to l ls l.tag (nat_eq from to)
-    go (Free s) t b e ms a ih = ih to ms (subst (λ y. AreNumbered handles (named_step from to l ls (not (is_free y)) (nat_eq from to)) ms) t a) ∙ sym (ap (λ y. plain_step from to l ls y (nat_eq from to)) t)
+        → ((t : ℕ) (r : List Move) → AreNumbered handles (named_moves.moves (from + l.size) t (names ls)) r → r ≡ moves (from + l.size) t (tags ls))
+        → ms ≡ plain_step from to l ls l.tag (nat_eq from to)
+    go (Free s) t b e ms a ih = ih to ms (subst (λ y. AreNumbered handles (named_step from to l ls (not (is_free y)) (nat_eq from to)) ms) t a)
+        ∙ sym (ap (λ y. plain_step from to l ls y (nat_eq from to)) t)
     go (Live k) t true e ms a ih = ih (to + l.size) ms (subst₂ (λ y b. AreNumbered handles (named_step from to l ls (not (is_free y)) b) ms) t e a) ∙ sym (ap₂ (plain_step from to l ls) t e)
-    go (Live k) t false e ms a ih = first k t ms (ih (to + l.size)) (subst₂ (λ y b. AreNumbered handles (named_step from to l ls (not (is_free y)) b) ms) t e a) ∙ sym (ap₂ (plain_step from to l ls) t e)
+    go (Live k) t false e ms a ih = first k t ms (ih (to + l.size)) (subst₂ (λ y b. AreNumbered handles (named_step from to l ls (not (is_free y)) b) ms) t e a)
+        ∙ sym (ap₂ (plain_step from to l ls) t e)
 
-module _ (v : View) (handles : List (Option Grant)) (s : State) (w : IsWellFormed v) (ws : Well s) (g : Agrees v (kept_name handles) s) where
-  one_number : (l : Label) → In l g.labels → (k : ℕ) → l.tag ≡ Live k → (j : ℕ) → kept_name handles j ≡ Some l.name → j ≡ k
+module _ (v : View) (handles : List (Option Grant)) (s : State) (w : IsWellFormed v) (ws : IsWell s) (g : HasBlocksOf v (kept_name handles) s) where
+  one_number : (l : Label) → IsIn l g.labels → (k : ℕ) → l.tag ≡ Live k → (j : ℕ) → kept_name handles j ≡ Some l.name → j ≡ k
   one_number l i k t j e = only_number j k g.labels l (subst (λ bs. count_named l.name bs ≤ 1) g.view (w.distinct l.name)) (sym (g.handles j) ∙ e) i t
 
   pub moves_are : (ms : List Move) → AreNumbered handles (named_moves.moves 0 0 v.blocks) ms → ms ≡ moves 0 0 s.blocks
@@ -246,9 +270,9 @@ module _ (v : View) (handles : List (Option Grant)) (s : State) (w : IsWellForme
       live_tag (Live k) e = (k, refl)
       live_tag (Free x) e = absurd (false≢true e)
 
-      kept : (l : Label) → In l g.labels → not (is_free l.tag) ≡ true → (k : ℕ) × (kept_name handles k ≡ Some l.name)
+      kept : (l : Label) → IsIn l g.labels → not (is_free l.tag) ≡ true → (k : ℕ) × (kept_name handles k ≡ Some l.name)
       kept l i u = let t = live_tag l.tag u in (t.0, g.handles t.0 ∙ name_found t.0 g.labels l (subst (λ bs. count (Live t.0) bs ≤ 1) g.state (ws.once (Live t.0))) i t.1)
 
-      go : (ls : List Label) → ((l : Label) → In l ls → In l g.labels) → AllByRecursion (λ (b : Block). b.used ≡ true → (k : ℕ) × (kept_name handles k ≡ Some b.name)) (names ls)
+      go : (ls : List Label) → ((l : Label) → IsIn l ls → IsIn l g.labels) → AllByRecursion (λ (b : Block). b.used ≡ true → (k : ℕ) × (kept_name handles k ≡ Some b.name)) (names ls)
       go [] f = tt
       go (l ∷ ls) f = (kept l (f l (inl refl)), go ls (λ m i. f m (inr i)))

@@ -1,5 +1,6 @@
 -- The steps of calls are those of the plain machine.
-use Rattle.std.proofs.Common.{◌≡◌, ◌≢◌, ◌⊎◌, ◌||◌, ℕ, ◌+◌, ◌-◌, ◌≤◌, Bool, true, false, not, ◌&&◌, List, [], ◌∷◌, length, sum, Option, Some, None, is_some, IfSome, IsTrue, option_map, option_and_then, nat_eq, nat_lt, nat_le, if◌then◌else◌, refl, sym, ap, ap₂, subst, ◌∙◌, inl, inr, arith, eq-eqb, ne_eqb, le-leb, leb-true, lt-ltb, le-ltb}
+use Rattle.std.proofs.Common.{◌≡◌, ◌≢◌, ◌⊎◌, ◌||◌, ℕ, ◌+◌, ◌-◌, ◌≤◌, Bool, true, false, not, ◌&&◌, List, [], ◌∷◌, length, sum, Option, Some, None, is_some, IfSome, IsTrue, option_map, option_and_then}
+use Rattle.std.proofs.Common.{nat_eq, nat_lt, nat_le, if◌then◌else◌, refl, sym, ap, ap₂, subst, ◌∙◌, inl, inr, arith, eq-eqb, ne_eqb, le-leb, leb-true, lt-ltb, le-ltb}
 use Rattle.std.proofs.lemmas.Bool.{cases_eq, cases_lt, true≢false, false≢true, and_parts, lt-leb}
 use Rattle.offset_allocator.proofs.Advice.{free_within}
 use Rattle.offset_allocator.proofs.Powers.{not_zero}
@@ -13,27 +14,28 @@ use Rattle.offset_allocator.specs.Requests.{HasRoomFor, IsWhy, block_needed, blo
 use Rattle.offset_allocator.specs.Ranges.{Range, range_of, size_of}
 use Rattle.offset_allocator.specs.Relations.{SameSpace}
 use Rattle.offset_allocator.specs.Resizing.{Shrinks, Grows, Resizes}
-use Rattle.offset_script.specs.Agreement.{Label, by_tag, kept_name}
+use Rattle.offset_script.specs.Steps.{kept_name, IfNamed, Stays}
+use Rattle.offset_script.proofs.Agreement.{Label, by_tag, IsAtState}
 use Rattle.offset_script.specs.Machine.{State, is_free, free_sizes, total, chosen_place, is_short_of, fits}
 use Rattle.offset_script.specs.Machine as machine
-use Rattle.offset_script.specs.Simulation.{Represents, IfNamed, Stays}
 use Rattle.offset_script.proofs.Agreed.{agrees_but, agrees_quiet, has_room, labelled, none_there, same_length, same_units}
 use Rattle.offset_script.proofs.Chosen.{none_chosen, plain_place}
 use Rattle.offset_script.proofs.Ends.{free_sizes_labels, total_units}
 use Rattle.offset_script.proofs.Labels.{names}
-use Rattle.offset_script.proofs.Members.{In, in_map}
+use Rattle.offset_script.proofs.Members.{IsIn, in_map}
 use Rattle.offset_script.proofs.Simulation as script
-use Rattle.offset_script.proofs.Well.{Well, well_quiet, well_step, not_chosen}
+use Rattle.offset_script.proofs.Well.{IsWell, well_quiet, well_step, not_chosen}
 use Rattle.offset_calls.specs.declared.calls.Call.{Call}
 use Rattle.offset_calls.specs.declared.calls.Call.TheVariants as call
-use Rattle.offset_calls.specs.Calls.{Reply, Answer, Resized, Compacted, Offset, Refused_for, Outcome, can_shrink, can_grow, resize, resized, replies_only, shortage, reason, offset_at, step, after, is_valid, compact, starts_free}
+use Rattle.offset_calls.specs.Calls.{Reply, Answer, Resized, Compacted, Offset, Refused_for, Outcome, can_shrink, can_grow, resize, resized, replies_only, shortage, reason, offset_at, step, after}
+use Rattle.offset_calls.specs.Calls.{is_valid, compact, starts_free}
 use Rattle.offset_calls.specs.Steps.{Takes, IsReason}
 use Rattle.offset_calls.proofs.Compacted.{well_compact, compact_agrees, moves_are}
 use Rattle.offset_calls.proofs.Resized.{well_resized, found, spot, size_found, can_shrink_is, shrink_can, can_grow_is, grow_can, resized_agrees}
 
 -- the plain machine has this reply, and a view and handles represent the state that it leaves
 abbrev pub Follows : Outcome → View → List (Option Grant) → Reply → Type 0
-Follows o w left r = (r ≡ o.reply) × Represents w left o.state
+Follows o w left r = (r ≡ o.reply) × IsAtState w left o.state
 
 -- what resizing does, by cases
 resize_same : (can : machine.Place → Bool) (n : ℕ) (s : State) (p : machine.Place) → n ≡ p.block.size → resize can n s (Some p) ≡ replies_only s Resized
@@ -57,19 +59,20 @@ not_true false f = refl
 
 -- every state stays well-formed
 
-well_resize : (s : State) → Well s → (k n : ℕ) (can : machine.Place → Bool) → ((p : machine.Place) → n ≢ p.block.size → can p ≡ true → (starts_free p.after ≡ true) ⊎ (is_short_of 1 s ≡ false)) → (o : Option machine.Place) → machine.place_of k s.blocks ≡ o → Well (resize can n s o).state
+well_resize : (s : State) → IsWell s → (k n : ℕ) (can : machine.Place → Bool) → ((p : machine.Place) → n ≢ p.block.size → can p ≡ true → (starts_free p.after ≡ true) ⊎ (is_short_of 1 s ≡ false))
+    → (o : Option machine.Place) → machine.place_of k s.blocks ≡ o → IsWell (resize can n s o).state
 well_resize s w k n can fit None e = well_quiet s w machine.Gone
 well_resize s w k n can fit (Some p) e = go (can p) refl
   where
-    go : (b : Bool) → can p ≡ b → Well (resize can n s (Some p)).state
+    go : (b : Bool) → can p ≡ b → IsWell (resize can n s (Some p)).state
     go b c = elim (cases_eq n p.block.size) [
-      | inl same ↦ subst (λ (o : Outcome). Well o.state) (sym (resize_same can n s p same)) (well_quiet s w machine.Gone)
+      | inl same ↦ subst (λ (o : Outcome). IsWell o.state) (sym (resize_same can n s p same)) (well_quiet s w machine.Gone)
       | inr d ↦ other b c d
     ]
       where
-        other : (b : Bool) → can p ≡ b → n ≢ p.block.size → Well (resize can n s (Some p)).state
-        other true c d = subst (λ (o : Outcome). Well o.state) (sym (resize_done can n s p d c)) (well_resized s w k n p e (fit p d c))
-        other false c d = subst (λ (o : Outcome). Well o.state) (sym (resize_refused can n s p d c)) (well_quiet s w machine.Gone)
+        other : (b : Bool) → can p ≡ b → n ≢ p.block.size → IsWell (resize can n s (Some p)).state
+        other true c d = subst (λ (o : Outcome). IsWell o.state) (sym (resize_done can n s p d c)) (well_resized s w k n p e (fit p d c))
+        other false c d = subst (λ (o : Outcome). IsWell o.state) (sym (resize_refused can n s p d c)) (well_quiet s w machine.Gone)
 
 shrink_fits : (s : State) (n : ℕ) (p : machine.Place) → n ≢ p.block.size → can_shrink n s p ≡ true → (starts_free p.after ≡ true) ⊎ (is_short_of 1 s ≡ false)
 shrink_fits s n p d c = go (nat_le n p.block.size) (starts_free p.after) (is_short_of 1 s) refl refl c
@@ -93,7 +96,7 @@ grow_fits s n p d c = inl (free p.after (bound p.after))
     free [] h = absurd (omega arith)
     free (b ∷ bs) h = elim (is_free b.tag) as (λ x. 1 ≤ (if x then b.size else 0) → x ≡ true) [ true ↦ λ h. refl | false ↦ λ h. absurd (omega arith) ] h
 
-pub well_call : (c : Call) (s : State) → Well s → Well (step c s).state
+pub well_call : (c : Call) (s : State) → IsWell s → IsWell (step c s).state
 well_call (call.Command c) s w = well_step c s w
 well_call (call.Shrink k n) s w = well_resize s w k n (can_shrink n s) (λ p d c. shrink_fits s n p d c) (machine.place_of k s.blocks) refl
 well_call (call.Grow k n) s w = well_resize s w k n (can_grow n) (λ p d c. grow_fits s n p d c) (machine.place_of k s.blocks) refl
@@ -102,16 +105,16 @@ well_call (call.Offset k) s w = well_quiet s w machine.Gone
 well_call (call.Refusal n) s w = well_quiet s w machine.Gone
 well_call (call.RefusalAligned n align) s w = well_quiet s w machine.Gone
 
-pub well_calls : (cs : List Call) (s : State) → Well s → Well (after cs s)
+pub well_calls : (cs : List Call) (s : State) → IsWell s → IsWell (after cs s)
 well_calls [] s w = w
 well_calls (c ∷ cs) s w = well_calls cs _ (well_call c s w)
 
-module _ (v w : View) (hs left : List (Option Grant)) (r : Reply) (s : State) (formed : IsWellFormed w) (ws : Well s) (p : Represents v hs s) where
+module _ (v w : View) (hs left : List (Option Grant)) (r : Reply) (s : State) (formed : IsWellFormed w) (ws : IsWell s) (p : IsAtState v hs s) where
   -- a call that leaves all as it is
   stays : (o : Outcome) (x : Reply) → o ≡ replies_only s x → SameSpace v w → left ≡ hs → r ≡ x → Follows o w left r
   stays o x e same f is = subst (λ (o : Outcome). Follows o w left r) (sym e) (
     is,
-    subst (λ l. Represents w l (replies_only s x).state) (sym f) (record {
+    subst (λ l. IsAtState w l (replies_only s x).state) (sym f) (record {
       formed = formed;
       agrees = agrees_but v w (kept_name hs) _ same (agrees_quiet v (kept_name hs) s p.agrees machine.Gone);
       grants = p.grants;
@@ -132,15 +135,17 @@ module _ (v w : View) (hs left : List (Option Grant)) (r : Reply) (s : State) (f
     resize_same_size : (can : machine.Place → Bool) → n ≡ size_of x v → SameSpace v w → left ≡ hs → r ≡ Resized → Follows (resize can n s (machine.place_of k s.blocks)) w left r
     resize_same_size can same space f is = stays _ Resized (ap (resize can n s) at ∙ resize_same can n s _ (same ∙ sized)) space f is
 
-    resize_refuses : (can : machine.Place → Bool) → n ≢ size_of x v → (can (plain_place (spot v (kept_name hs) s p.formed ws p.agrees k x e)) ≡ true → ⊥) → SameSpace v w → left ≡ hs → r ≡ Answer machine.Refused
+    resize_refuses : (can : machine.Place → Bool) → n ≢ size_of x v → (can (plain_place (spot v (kept_name hs) s p.formed ws p.agrees k x e)) ≡ true → ⊥) → SameSpace v w → left ≡ hs
+        → r ≡ Answer machine.Refused
         → Follows (resize can n s (machine.place_of k s.blocks)) w left r
     resize_refuses can d none space f is = stays _ (Answer machine.Refused) (ap (resize can n s) at ∙ resize_refused can n s _ (λ z. d (z ∙ sym sized)) (not_true _ none)) space f is
 
-    resize_changes : (can : machine.Place → Bool) → n ≢ size_of x v → can (plain_place (spot v (kept_name hs) s p.formed ws p.agrees k x e)) ≡ true → Resizes x n v w → left ≡ hs → r ≡ Resized → Follows (resize can n s (machine.place_of k s.blocks)) w left r
+    resize_changes : (can : machine.Place → Bool) → n ≢ size_of x v → can (plain_place (spot v (kept_name hs) s p.formed ws p.agrees k x e)) ≡ true → Resizes x n v w → left ≡ hs → r ≡ Resized
+        → Follows (resize can n s (machine.place_of k s.blocks)) w left r
     resize_changes can d c t f is =
         subst (λ (o : Outcome). Follows o w left r) (sym (ap (resize can n s) at ∙ resize_done can n s _ (λ z. d (z ∙ sym sized)) c)) (
           is,
-          subst (λ l. Represents w l (resized n s (plain_place (spot v (kept_name hs) s p.formed ws p.agrees k x e))).state) (sym f) (record {
+          subst (λ l. IsAtState w l (resized n s (plain_place (spot v (kept_name hs) s p.formed ws p.agrees k x e))).state) (sym f) (record {
             formed = formed;
             agrees = resized_agrees v (kept_name hs) s p.formed ws p.agrees k x e n w formed (λ z. d (z ∙ sym sized)) t;
             grants = p.grants;
@@ -158,7 +163,8 @@ module _ (v w : View) (hs left : List (Option Grant)) (r : Reply) (s : State) (f
     grows false t f is = resize_refuses (can_grow n) (λ z. t.0 (omega arith, omega arith)) (λ c. t.0 (grow_can v (kept_name hs) s p.formed ws p.agrees k x e n c)) t.1 f is
 
     -- where the range begins
-    range_found : range_of x v ≡ Some (record { offset = units (names (spot v (kept_name hs) s p.formed ws p.agrees k x e).before); size = (spot v (kept_name hs) s p.formed ws p.agrees k x e).label.size })
+    range_found : range_of x v
+        ≡ Some (record { offset = units (names (spot v (kept_name hs) s p.formed ws p.agrees k x e).before); size = (spot v (kept_name hs) s p.formed ws p.agrees k x e).label.size })
     range_found =
         let sp = spot v (kept_name hs) s p.formed ws p.agrees k x e in
         ap (option_and_then (λ (p : Place). if p.block.used then Some (record { offset = units p.before; size = p.block.size }) else None)) (found v (kept_name hs) s p.formed ws p.agrees k x e).named
@@ -174,29 +180,34 @@ module _ (v w : View) (hs left : List (Option Grant)) (r : Reply) (s : State) (f
   gone_there : (k : ℕ) → kept_name hs k ≡ None → machine.place_of k s.blocks ≡ None
   gone_there k e = none_there v (kept_name hs) s p.formed ws p.agrees k e
 
-  shrink_step : (k n : ℕ) (o : Option ℕ) → kept_name hs k ≡ o → IfNamed o (λ x. (done : Bool) × Shrinks x n v w done × (left ≡ hs) × (r ≡ (if done then Resized else Answer machine.Refused))) (Stays v hs w left × (r ≡ Answer machine.Gone)) → Follows (step (call.Shrink k n) s) w left r
+  shrink_step : (k n : ℕ) (o : Option ℕ) → kept_name hs k ≡ o
+      → IfNamed o (λ x. (done : Bool) × Shrinks x n v w done × (left ≡ hs) × (r ≡ (if done then Resized else Answer machine.Refused))) (Stays v hs w left × (r ≡ Answer machine.Gone))
+      → Follows (step (call.Shrink k n) s) w left r
   shrink_step k n None e t = quiet _ (Answer machine.Gone) (ap (resize (can_shrink n s) n s) (gone_there k e)) t.0 t.1
   shrink_step k n (Some x) e t = shrinks k x n e t.0 t.1 t.2 t.3
 
-  grow_step : (k n : ℕ) (o : Option ℕ) → kept_name hs k ≡ o → IfNamed o (λ x. (done : Bool) × Grows x n v w done × (left ≡ hs) × (r ≡ (if done then Resized else Answer machine.Refused))) (Stays v hs w left × (r ≡ Answer machine.Gone)) → Follows (step (call.Grow k n) s) w left r
+  grow_step : (k n : ℕ) (o : Option ℕ) → kept_name hs k ≡ o → IfNamed o (λ x. (done : Bool) × Grows x n v w done × (left ≡ hs) × (r ≡ (if done then Resized else Answer machine.Refused)))
+      (Stays v hs w left × (r ≡ Answer machine.Gone)) → Follows (step (call.Grow k n) s) w left r
   grow_step k n None e t = quiet _ (Answer machine.Gone) (ap (resize (can_grow n) n s) (gone_there k e)) t.0 t.1
   grow_step k n (Some x) e t = grows k x n e t.0 t.1 t.2 t.3
 
-  offset_step : (k : ℕ) (o : Option ℕ) → kept_name hs k ≡ o → IfNamed o (λ x. (o : ℕ) × (option_map (λ (q : Range). q.offset) (range_of x v) ≡ Some o) × (r ≡ Offset o)) (r ≡ Answer machine.Gone) → r ≡ offset_at (machine.place_of k s.blocks)
+  offset_step : (k : ℕ) (o : Option ℕ) → kept_name hs k ≡ o → IfNamed o (λ x. (o : ℕ) × (option_map (λ (q : Range). q.offset) (range_of x v) ≡ Some o) × (r ≡ Offset o)) (r ≡ Answer machine.Gone)
+      → r ≡ offset_at (machine.place_of k s.blocks)
   offset_step k None e t = t ∙ sym (ap offset_at (gone_there k e))
   offset_step k (Some x) e t = t.2 ∙ offset_found k x 0 e t.0 t.1
 
   -- why a request is refused
 
   -- a name in a bin is that of a free block of its class
-  listed : (c x : ℕ) (ls : List Label) → 1 ≤ count_in_bin c x (names ls) → (l : Label) × In l ls × (is_free l.tag ≡ true) × (c ≡ down l.size)
+  listed : (c x : ℕ) (ls : List Label) → 1 ≤ count_in_bin c x (names ls) → (l : Label) × IsIn l ls × (is_free l.tag ≡ true) × (c ≡ down l.size)
   listed c x [] h = absurd (omega arith)
   listed c x (l ∷ ls) h = go (is_free l.tag) refl (listed c x ls)
     where
-      later : ((m : Label) × In m ls × (is_free m.tag ≡ true) × (c ≡ down m.size)) → (m : Label) × In m (l ∷ ls) × (is_free m.tag ≡ true) × (c ≡ down m.size)
+      later : ((m : Label) × IsIn m ls × (is_free m.tag ≡ true) × (c ≡ down m.size)) → (m : Label) × IsIn m (l ∷ ls) × (is_free m.tag ≡ true) × (c ≡ down m.size)
       later q = (q.0, inr q.1, q.2, q.3)
 
-      go : (b : Bool) → is_free l.tag ≡ b → (1 ≤ count_in_bin c x (names ls) → (m : Label) × In m ls × (is_free m.tag ≡ true) × (c ≡ down m.size)) → (m : Label) × In m (l ∷ ls) × (is_free m.tag ≡ true) × (c ≡ down m.size)
+      go : (b : Bool) → is_free l.tag ≡ b → (1 ≤ count_in_bin c x (names ls) → (m : Label) × IsIn m ls × (is_free m.tag ≡ true) × (c ≡ down m.size))
+          → (m : Label) × IsIn m (l ∷ ls) × (is_free m.tag ≡ true) × (c ≡ down m.size)
       go false f ih = later (ih (let z = ap (λ b. one (not (not b) && (nat_eq c (down l.size) && nat_eq x l.name))) f in omega arith))
       go true f ih = elim (cases_eq c (down l.size)) [
         | inl e ↦ (l, inl refl, f, e)
@@ -213,7 +224,7 @@ module _ (v w : View) (hs left : List (Option Grant)) (r : Reply) (s : State) (f
       x : (x : ℕ) × (1 ≤ times x (bin_at v.order h.0))
       x = first (bin_at v.order h.0) h.2
 
-      l : (l : Label) × In l p.agrees.labels × (is_free l.tag ≡ true) × (h.0 ≡ down l.size)
+      l : (l : Label) × IsIn l p.agrees.labels × (is_free l.tag ≡ true) × (h.0 ≡ down l.size)
       l = listed h.0 x.0 p.agrees.labels (let o = p.formed.orders h.0 x.0 in let q = x.1 in let z = ap (count_in_bin h.0 x.0) p.agrees.view in omega arith)
 
       fit : fits n (by_tag l.0) ≡ true
@@ -221,7 +232,7 @@ module _ (v w : View) (hs left : List (Option Grant)) (r : Reply) (s : State) (f
 
       go : (o : Option machine.Place) → chosen_place n s.blocks ≡ o → is_some o ≡ true
       go (Some q) e = refl
-      go None e = absurd (true≢false (sym fit ∙ not_chosen n s.blocks e (by_tag l.0) (subst (In (by_tag l.0)) (sym p.agrees.state) (in_map by_tag l.0 p.agrees.labels l.1))))
+      go None e = absurd (true≢false (sym fit ∙ not_chosen n s.blocks e (by_tag l.0) (subst (IsIn (by_tag l.0)) (sym p.agrees.state) (in_map by_tag l.0 p.agrees.labels l.1))))
 
   same_free : sum (free_sizes s.blocks) ≡ sum (named.free_sizes v.blocks)
   same_free = ap sum (ap free_sizes p.agrees.state ∙ free_sizes_labels p.agrees.labels ∙ sym (ap named.free_sizes p.agrees.view))
@@ -248,28 +259,35 @@ module _ (v w : View) (hs left : List (Option Grant)) (r : Reply) (s : State) (f
       is_why x e = subst (λ o. IfSome o (IsWhy blocks n v)) e t.1
 
       is_short : (x : Refusal) → why ≡ Some x → HasRoomFor blocks v → here ≡ x → why ≡ reason blocks n s
-      is_short x e room is = e ∙ sym (ap (λ a. reason_of a (is_some (chosen_place n s.blocks)) here) (has_room v (kept_name hs) s p.formed ws p.agrees blocks room) ∙ ap₂ (reason_of false) (none room (some x e)) is)
+      is_short x e room is =
+          e ∙ sym (ap (λ a. reason_of a (is_some (chosen_place n s.blocks)) here) (has_room v (kept_name hs) s p.formed ws p.agrees blocks room) ∙ ap₂ (reason_of false) (none room (some x e)) is)
 
       go : (o : Option Refusal) → why ≡ o → why ≡ reason blocks n s
       go None e = let c = t.0.0 e in e ∙ sym (ap₂ (λ a b. reason_of a b here) (has_room v (kept_name hs) s p.formed ws p.agrees blocks c.0) (some_chosen n c.1))
       go (Some Nodes) e = e ∙ sym (ap (λ a. reason_of a (is_some (chosen_place n s.blocks)) here) (short blocks (is_why Nodes e)))
       go (Some TooLarge) e =
           let h = is_why TooLarge e in
-          is_short TooLarge e h.0 (ap (λ b. if b then TooLarge else if nat_lt (sum (free_sizes s.blocks)) (block_needed n) then Space else Fragmented) (lt-ltb (total s.blocks) (value (up n)) (let f = size_is in let l = h.1 in omega arith)))
+          is_short TooLarge e h.0
+          (ap (λ b. if b then TooLarge else if nat_lt (sum (free_sizes s.blocks)) (block_needed n) then Space else Fragmented)
+          (lt-ltb (total s.blocks) (value (up n)) (let f = size_is in let l = h.1 in omega arith)))
       go (Some Space) e =
           let h = is_why Space e in
           is_short Space e h.0 (ap₂ (λ a b. if a then TooLarge else if b then Space else Fragmented)
-          (le-ltb (total s.blocks) (value (up n)) (let f = size_is in let l = h.1 in omega arith)) (lt-ltb (sum (free_sizes s.blocks)) (block_needed n) (let f = same_free in let l = h.2 in omega arith)))
+          (le-ltb (total s.blocks) (value (up n)) (let f = size_is in let l = h.1 in omega arith))
+          (lt-ltb (sum (free_sizes s.blocks)) (block_needed n) (let f = same_free in let l = h.2 in omega arith)))
       go (Some Fragmented) e =
           let h = is_why Fragmented e in
           let l = free_within v p.formed in
           is_short Fragmented e h.0 (ap₂ (λ a b. if a then TooLarge else if b then Space else Fragmented)
-          (le-ltb (total s.blocks) (value (up n)) (let f = size_is in let m = h.1 in omega arith)) (le-ltb (sum (free_sizes s.blocks)) (block_needed n) (let f = same_free in let m = h.1 in omega arith)))
+          (le-ltb (total s.blocks) (value (up n)) (let f = size_is in let m = h.1 in omega arith))
+          (le-ltb (sum (free_sizes s.blocks)) (block_needed n) (let f = same_free in let m = h.1 in omega arith)))
 
   aligned_reason : (n align : ℕ) → 1 ≤ align → reason (blocks_needed align) (units_needed n align) s ≡ (if nat_le align 1 then reason 1 n s else reason 2 (n + align - 1) s)
   aligned_reason n align some = elim (cases_lt 1 align) [
-    | inl l ↦ ap (λ k. reason k (units_needed n align) s) (let e : blocks_needed align ≡ 2 = omega arith in e) ∙ sym (ap (λ b. if b then reason 1 n s else reason 2 (n + align - 1) s) (lt-leb align 1 l))
-    | inr l ↦ ap₂ (λ k m. reason k m s) (let e : blocks_needed align ≡ 1 = omega arith in e) (let e : units_needed n align ≡ n = omega arith in e) ∙ sym (ap (λ b. if b then reason 1 n s else reason 2 (n + align - 1) s) (le-leb align 1 l))
+    | inl l ↦ ap (λ k. reason k (units_needed n align) s) (let e : blocks_needed align ≡ 2 = omega arith in e)
+        ∙ sym (ap (λ b. if b then reason 1 n s else reason 2 (n + align - 1) s) (lt-leb align 1 l))
+    | inr l ↦ ap₂ (λ k m. reason k m s) (let e : blocks_needed align ≡ 1 = omega arith in e) (let e : units_needed n align ≡ n = omega arith in e)
+        ∙ sym (ap (λ b. if b then reason 1 n s else reason 2 (n + align - 1) s) (le-leb align 1 l))
   ]
 
   -- the plain machine follows each call
@@ -279,7 +297,7 @@ module _ (v w : View) (hs left : List (Option Grant)) (r : Reply) (s : State) (f
   follows (call.Grow k n) valid t = grow_step k n (kept_name hs k) refl t
   follows call.Compact valid t = (
     t.2.2 ∙ ap Compacted (moves_are v hs s p.formed ws p.agrees t.2.0 t.2.1),
-    subst (λ l. Represents w l (compact s).state) (sym t.1) (record {
+    subst (λ l. IsAtState w l (compact s).state) (sym t.1) (record {
       formed = formed;
       agrees = compact_agrees v (kept_name hs) s p.agrees w t.0;
       grants = p.grants;
@@ -287,4 +305,5 @@ module _ (v w : View) (hs left : List (Option Grant)) (r : Reply) (s : State) (f
   )
   follows (call.Offset k) valid t = quiet _ _ refl t.0 (offset_step k (kept_name hs k) refl t.1)
   follows (call.Refusal n) valid t = quiet _ _ refl t.0 (t.1.2 ∙ ap Refused_for (reason_is 1 n t.1.0 t.1.1))
-  follows (call.RefusalAligned n align) valid t = quiet _ _ refl t.0 (t.1.2 ∙ ap Refused_for (reason_is (blocks_needed align) (units_needed n align) t.1.0 t.1.1 ∙ aligned_reason n align (not_zero align (inr (inl valid)))))
+  follows (call.RefusalAligned n align) valid t = quiet _ _ refl t.0
+      (t.1.2 ∙ ap Refused_for (reason_is (blocks_needed align) (units_needed n align) t.1.0 t.1.1 ∙ aligned_reason n align (not_zero align (inr (inl valid)))))

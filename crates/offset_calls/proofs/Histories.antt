@@ -1,41 +1,43 @@
 -- The laws over whole histories of calls.
-use Rattle.std.proofs.Common.{◌≡◌, ℕ, ◌+◌, ◌-◌, ◌≤◌, List, [], ◌∷◌, ◌++◌, map, nat_le, if◌then◌else◌, refl, sym, ap, ap₂, ◌∙◌, inl, inr, arith, le-leb}
+use Rattle.std.proofs.Common.{◌≡◌, ℕ, ◌+◌, ◌-◌, ◌≤◌, List, [], ◌∷◌, ◌++◌, map, if◌then◌else◌, refl, ap, ◌∙◌, inl, inr, arith, le-leb}
 use Rattle.std.proofs.lemmas.Bool.{cases_lt, lt-leb}
 use Rattle.offset_script.specs.declared.scripts.Command.{Command}
 use Rattle.offset_script.specs.declared.scripts.Command.TheVariants as command
-use Rattle.offset_script.specs.Histories.{HasNoLive, Nest, number_without}
-use Rattle.offset_script.specs.Histories as script
+use Rattle.offset_script.specs.Histories.{HasNoLive, IsNest, number_without}
 use Rattle.offset_script.specs.Machine.{Free, State, start, total}
 use Rattle.offset_script.specs.Machine as machine
 use Rattle.offset_script.proofs.Fresh.{IsOneFree, one_free, alike_fresh, raise_none, renumber_same}
 use Rattle.offset_script.proofs.Members.{map_same}
-use Rattle.offset_script.proofs.Nests.{Traceless, traceless, alike_after, number_without_none}
+use Rattle.offset_script.proofs.Nests.{AreTraceless, traceless, alike_after, number_without_none}
 use Rattle.offset_script.proofs.Similar.{similar_refl}
-use Rattle.offset_script.proofs.Well.{Well, count, hit_self, well_start, well_after}
+use Rattle.offset_script.proofs.Well.{IsWell, count, hit_self, well_start, well_after}
 use Rattle.offset_calls.specs.declared.calls.Call.{Call}
 use Rattle.offset_calls.specs.declared.calls.Call.TheVariants as call
-use Rattle.offset_calls.specs.Calls.{Move, Reply, Answer, Compacted, after, replies, step}
+use Rattle.offset_calls.specs.Calls.{Reply, Answer, Compacted, after, replies, step}
 use Rattle.offset_calls.specs.Histories.{IsQuestion, number_with, raise, raise_move, renumber, replies_renumbered}
 use Rattle.offset_calls.proofs.Alike.{same_replies, number_back_again}
 use Rattle.offset_calls.proofs.Followed.{well_call, well_calls}
 
 -- a space without live grants
-pub fresh_law : (size limit : ℕ) → 2 ≤ limit → (cs : List Call) → let s = after cs (start size limit) in HasNoLive s → (next : List Call) → replies next s ≡ replies_renumbered (start (total s.blocks) s.limit) s next
+pub fresh_law : (size limit : ℕ) → 2 ≤ limit → (cs : List Call) → let s = after cs (start size limit) in
+    HasNoLive s → (next : List Call) → replies next s ≡ replies_renumbered (start (total s.blocks) s.limit) s next
 fresh_law size limit h cs none =
     let s = after cs (start size limit) in
-    let w : Well s = well_calls cs _ (well_start size limit h) in
+    let w : IsWell s = well_calls cs _ (well_start size limit h) in
     let f : IsOneFree s.blocks = one_free s.blocks w.some w.apart none in
     λ next. same_replies (number_without 0 (s.grants - 0)) 0 (s.grants - 0) (number_back_again 0 (s.grants - 0)) next s (start (total s.blocks) s.limit)
     (alike_fresh s f.0 f.1 (s.grants - 0) (omega arith) f.2 (w.old (Free f.1) (let c = ap (count (Free f.1)) f.2 in let h = hit_self (Free f.1) in omega arith)))
 
 -- what leaves no trace
-traceless_replies : (s t : State) → Well s → Well t → Traceless s t → (next : List Call) → replies next t ≡ replies_renumbered s t next
-traceless_replies s t w v m next = same_replies (number_without s.grants (t.grants - s.grants)) s.grants (t.grants - s.grants) (number_back_again s.grants (t.grants - s.grants)) next t s (alike_after s t w v m)
+traceless_replies : (s t : State) → IsWell s → IsWell t → AreTraceless s t → (next : List Call) → replies next t ≡ replies_renumbered s t next
+traceless_replies s t w v m next = same_replies (number_without s.grants (t.grants - s.grants)) s.grants (t.grants - s.grants) (number_back_again s.grants (t.grants - s.grants)) next t s
+    (alike_after s t w v m)
 
-pub nest_law : (size limit : ℕ) → 2 ≤ limit → (cs : List Call) (nest : List Command) → let s = after cs (start size limit) in Nest s nest → (next : List Call) → replies next (machine.after nest s) ≡ replies_renumbered s (machine.after nest s) next
+pub nest_law : (size limit : ℕ) → 2 ≤ limit → (cs : List Call) (nest : List Command) → let s = after cs (start size limit) in
+    IsNest s nest → (next : List Call) → replies next (machine.after nest s) ≡ replies_renumbered s (machine.after nest s) next
 nest_law size limit h cs nest n =
     let s = after cs (start size limit) in
-    let w : Well s = well_calls cs (start size limit) (well_start size limit h) in
+    let w : IsWell s = well_calls cs (start size limit) (well_start size limit h) in
     λ next. traceless_replies s (machine.after nest s) w (well_after nest s w) (traceless n w) next
 
 -- no grants are left out
@@ -80,8 +82,9 @@ pub question_law : (size limit : ℕ) → 2 ≤ limit → (before : List Call) (
 question_law size limit h before q rest asks =
     let s = after before (start size limit) in
     let t : State = record s { calls = s.calls + 1 } in
-    let w : Well s = well_calls before (start size limit) (well_start size limit h) in
-    let v : Well t = well_call (call.Refusal 0) s w in
-    let m : Traceless s t = record { limit = refl; blocks = similar_refl s.blocks; grants = omega arith } in
+    let w : IsWell s = well_calls before (start size limit) (well_start size limit h) in
+    let v : IsWell t = well_call (call.Refusal 0) s w in
+    let m : AreTraceless s t = record { limit = refl; blocks = similar_refl s.blocks; grants = omega arith } in
     replies-append before (q ∷ rest) (start size limit)
-    ∙ ap (λ l. replies before (start size limit) ++ ((step q s).reply ∷ l)) (ap (replies rest) (counts_only q s asks) ∙ traceless_replies s t w v m rest ∙ as_before s.grants (s.grants - s.grants) rest s (omega arith))
+    ∙ ap (λ l. replies before (start size limit) ++ ((step q s).reply ∷ l))
+    (ap (replies rest) (counts_only q s asks) ∙ traceless_replies s t w v m rest ∙ as_before s.grants (s.grants - s.grants) rest s (omega arith))

@@ -1,16 +1,16 @@
 -- The moves of a compaction, and the numbers of the ranges that move.
-use Rattle.std.proofs.Common.{◌≡◌, ℕ, zero, suc, ◌+◌, ◌-◌, ◌<◌, ◌≤◌, Bool, true, false, List, [], ◌∷◌, ◌++◌, map, drop, length, reverse, get_or, slice_index_or, drop-cons, Option, Some, None, IsSome, option_map, unwrap_or, if◌then◌else◌, refl, sym, ap, ap₂, subst, subst₂, ◌∙◌, inl, inr, arith, append_assoc, append-nil, length-append, eq-eqb, ne_eqb}
+use Rattle.std.proofs.Common.{◌≡◌, ℕ, zero, suc, ◌+◌, ◌-◌, ◌<◌, ◌≤◌, Bool, true, false, List, [], ◌∷◌, ◌++◌, map, drop, length, reverse, slice_index_or, Option, Some, None, IsSome}
+use Rattle.std.proofs.Common.{option_map, unwrap_or, if◌then◌else◌, refl, sym, ap, ap₂, subst, subst₂, ◌∙◌, inl, inr, arith, append_assoc, append-nil, length-append, eq-eqb, ne_eqb}
 use Rattle.std.proofs.lemmas.Bool.{cases_eq, cases_lt, false≢true}
-use Rattle.std.proofs.lemmas.List.{map-append, length-map, reverse-append, drop_all, get_or_past}
+use Rattle.std.proofs.lemmas.List.{map-append, length-map, reverse-append, get_or_past}
 use Rattle.std.specs.List.{AllByRecursion, FoldsTo}
 use Rattle.offset_allocator.specs.View.{Block, Grant, View}
 use Rattle.offset_allocator.specs.Ranges.{IsLive, Range, range_of}
 use Rattle.offset_allocator.specs.Compacting.{Move, live, moves}
 use Rattle.offset_allocator.specs.Listing.{Placed, placed, listing}
 use Rattle.offset_allocator.proofs.Sliding.{live_used, live_idle, moves_used, moves_idle}
-use Rattle.offset_script.specs.Agreement.{kept_name}
+use Rattle.offset_script.specs.Steps.{kept_name}
 use Rattle.offset_calls.specs.declared.calls.Moved.{Moved}
-use Rattle.offset_calls.specs.Calls as plain
 use Rattle.offset_calls.specs.Steps.{AreKept, AreMoves, AreNumbered, joined}
 
 -- the names of moves
@@ -22,7 +22,7 @@ abbrev pub live_names : List Block → List (Option ℕ)
 live_names bs = map (λ (b : Block). Some b.name) (live bs)
 
 -- the ranges that move are the last of the live ones
-record Last (bs : List Block) (ms : List Move) : Type 0 where
+record IsLast (bs : List Block) (ms : List Move) : Type 0 where
   first : List (Option ℕ)
   is : live_names bs ≡ first ++ names_of ms
 
@@ -33,23 +33,26 @@ all_move from to (b ∷ bs) l = go b.used refl (λ t h. all_move (from + b.size)
   where
     go : (u : Bool) → b.used ≡ u → ((t : ℕ) → t < from + b.size → live_names bs ≡ names_of (moves (from + b.size) t bs)) → live_names (b ∷ bs) ≡ names_of (moves from to (b ∷ bs))
     go true u ih = ap (map (λ (b : Block). Some b.name)) (live_used b bs u) ∙ ap (λ l. Some b.name ∷ l) (ih (to + b.size) (omega (arith, l)))
-        ∙ sym (ap names_of (moves_used from to b bs u ∙ ap (λ t. (if t then [] else record { name = b.name; from = from; to = to; size = b.size } ∷ []) ++ moves (from + b.size) (to + b.size) bs) (ne_eqb from to (omega (arith, l)))))
+        ∙ sym (ap names_of (moves_used from to b bs u ∙ ap (λ t. (if t then [] else record { name = b.name; from = from; to = to; size = b.size } ∷ []) ++ moves (from + b.size) (to + b.size) bs)
+        (ne_eqb from to (omega (arith, l)))))
     go false u ih = ap (map (λ (b : Block). Some b.name)) (live_idle b bs u) ∙ ih to (omega (arith, l)) ∙ sym (ap names_of (moves_idle from to b bs u))
 
-last_move : (from to : ℕ) (bs : List Block) → to ≤ from → Last bs (moves from to bs)
+last_move : (from to : ℕ) (bs : List Block) → to ≤ from → IsLast bs (moves from to bs)
 last_move from to [] l = record { first = []; is = refl }
 last_move from to (b ∷ bs) l = elim (cases_eq from to) [
   | inr n ↦ record { first = []; is = all_move from to (b ∷ bs) (omega (arith, l, n)) }
   | inl e ↦ go e b.used refl (λ t h. last_move (from + b.size) t bs h)
 ]
   where
-    go : from ≡ to → (u : Bool) → b.used ≡ u → ((t : ℕ) → t ≤ from + b.size → Last bs (moves (from + b.size) t bs)) → Last (b ∷ bs) (moves from to (b ∷ bs))
+    go : from ≡ to → (u : Bool) → b.used ≡ u → ((t : ℕ) → t ≤ from + b.size → IsLast bs (moves (from + b.size) t bs)) → IsLast (b ∷ bs) (moves from to (b ∷ bs))
     go e true u ih =
         let r = ih (to + b.size) (omega (arith, l)) in
         record {
           first = Some b.name ∷ r.first;
           is = ap (map (λ (b : Block). Some b.name)) (live_used b bs u) ∙ ap (λ l. Some b.name ∷ l) r.is
-              ∙ sym (ap (λ ms. Some b.name ∷ (r.first ++ names_of ms)) (moves_used from to b bs u ∙ ap (λ t. (if t then [] else record { name = b.name; from = from; to = to; size = b.size } ∷ []) ++ moves (from + b.size) (to + b.size) bs) (eq-eqb from to e)));
+              ∙ sym (ap (λ ms. Some b.name ∷ (r.first ++ names_of ms))
+              (moves_used from to b bs u ∙ ap (λ t. (if t then [] else record { name = b.name; from = from; to = to; size = b.size } ∷ []) ++ moves (from + b.size) (to + b.size) bs)
+              (eq-eqb from to e)));
         }
     go e false u ih =
         let r = ih to (omega (arith, l)) in
@@ -89,13 +92,21 @@ drop_front (x ∷ xs) ys zero e = absurd (omega arith)
 drop_front (x ∷ xs) ys (suc n) e = drop_front xs ys n (omega arith)
 
 module _ (handles : List (Option Grant)) (ks : List ℕ) (ms : List Moved) (v : View) (e : map (kept_name handles) ks ≡ live_names v.blocks) (a : AreMoves ms (moves 0 0 v.blocks)) where
-  numbers_parts : Last v.blocks (moves 0 0 v.blocks)
+  numbers_parts : IsLast v.blocks (moves 0 0 v.blocks)
   numbers_parts = last_move 0 0 v.blocks (omega arith)
 
   numbers_length : length ks ≡ length numbers_parts.first + length ms
   numbers_length =
       let l = ap length (e ∙ numbers_parts.is) in
-      omega (arith, l, length-map ks (kept_name handles), length-append numbers_parts.first (names_of (moves 0 0 v.blocks)), length-map (moves 0 0 v.blocks) (λ (m : Move). Some m.name), are_length ms (moves 0 0 v.blocks) a)
+      omega (
+        arith,
+        l,
+        length-map ks (kept_name handles),
+        length-append numbers_parts.first (names_of (moves 0 0 v.blocks)),
+        length-map (moves 0 0 v.blocks) (λ (m : Move). Some m.name),
+        are_length ms
+            (moves 0 0 v.blocks) a,
+      )
 
   -- there are enough numbers
   pub numbers_suffice : length ms ≤ length ks
@@ -104,7 +115,8 @@ module _ (handles : List (Option Grant)) (ks : List ℕ) (ms : List Moved) (v : 
   -- and the last ones are those of the moves
   pub numbers_are : AreNumbered handles (moves 0 0 v.blocks) (joined (drop (length ks - length ms) ks) ms)
   numbers_are = numbers_join handles (drop (length ks - length ms) ks) ms (moves 0 0 v.blocks)
-      (drop_map (kept_name handles) (length ks - length ms) ks ∙ ap (drop (length ks - length ms)) (e ∙ numbers_parts.is) ∙ drop_front numbers_parts.first (names_of (moves 0 0 v.blocks)) (length ks - length ms) (omega (arith, numbers_length))) a
+      (drop_map (kept_name handles) (length ks - length ms) ks ∙ ap (drop (length ks - length ms)) (e ∙ numbers_parts.is)
+      ∙ drop_front numbers_parts.first (names_of (moves 0 0 v.blocks)) (length ks - length ms) (omega (arith, numbers_length))) a
 
 -- the names of the used ones of blocks at their places
 abbrev pub placed_name : Option Grant → List (Option ℕ)
@@ -136,30 +148,33 @@ placed_names-live o [] = refl
 placed_names-live o (b ∷ bs) = go b.used refl (placed_names-live (o + b.size) bs)
   where
     go : (u : Bool) → b.used ≡ u → placed_names (placed (o + b.size) bs) ≡ live_names bs → placed_names (placed o (b ∷ bs)) ≡ live_names (b ∷ bs)
-    go true u ih = ap (λ (v : Bool). placed_name (if v then Some (record { name = b.name; offset = o }) else None) ++ placed_names (placed (o + b.size) bs)) u ∙ ap (λ l. Some b.name ∷ l) ih ∙ sym (ap (map (λ (b : Block). Some b.name)) (live_used b bs u))
-    go false u ih = ap (λ (v : Bool). placed_name (if v then Some (record { name = b.name; offset = o }) else None) ++ placed_names (placed (o + b.size) bs)) u ∙ ih ∙ sym (ap (map (λ (b : Block). Some b.name)) (live_idle b bs u))
+    go true u ih = ap (λ (v : Bool). placed_name (if v then Some (record { name = b.name; offset = o }) else None) ++ placed_names (placed (o + b.size) bs)) u ∙ ap (λ l. Some b.name ∷ l) ih
+        ∙ sym (ap (map (λ (b : Block). Some b.name)) (live_used b bs u))
+    go false u ih = ap (λ (v : Bool). placed_name (if v then Some (record { name = b.name; offset = o }) else None) ++ placed_names (placed (o + b.size) bs)) u ∙ ih
+        ∙ sym (ap (map (λ (b : Block). Some b.name)) (live_idle b bs u))
 
 -- the names of a walk from the end of the space to its start, in the other order
 pub walked_names : (bs : List Block) → reverse (placed_names (reverse (placed 0 bs))) ≡ live_names bs
 walked_names bs = placed_names-reverse (placed 0 bs) ∙ placed_names-live 0 bs
 
 -- the grants of placed blocks are kept
-abbrev pub AllKept : List (Option Grant) → List Placed → Type 0
-AllKept handles ps = AllByRecursion (λ (p : Placed). (g : Grant) → p.grant ≡ Some g → (k : ℕ) × (kept_name handles k ≡ Some g.name)) ps
+abbrev pub AreAllKept : List (Option Grant) → List Placed → Type 0
+AreAllKept handles ps = AllByRecursion (λ (p : Placed). (g : Grant) → p.grant ≡ Some g → (k : ℕ) × (kept_name handles k ≡ Some g.name)) ps
 
-kept-append : (handles : List (Option Grant)) (ps qs : List Placed) → AllKept handles ps → AllKept handles qs → AllKept handles (ps ++ qs)
+kept-append : (handles : List (Option Grant)) (ps qs : List Placed) → AreAllKept handles ps → AreAllKept handles qs → AreAllKept handles (ps ++ qs)
 kept-append handles [] qs a b = b
 kept-append handles (p ∷ ps) qs a b = (a.0, kept-append handles ps qs a.1 b)
 
-kept-reverse : (handles : List (Option Grant)) (ps : List Placed) → AllKept handles ps → AllKept handles (reverse ps)
+kept-reverse : (handles : List (Option Grant)) (ps : List Placed) → AreAllKept handles ps → AreAllKept handles (reverse ps)
 kept-reverse handles [] a = tt
-kept-reverse handles (p ∷ ps) a = subst (AllKept handles) (sym (reverse-append (p ∷ []) ps)) (kept-append handles (reverse ps) (p ∷ []) (kept-reverse handles ps a.1) (a.0, tt))
+kept-reverse handles (p ∷ ps) a = subst (AreAllKept handles) (sym (reverse-append (p ∷ []) ps)) (kept-append handles (reverse ps) (p ∷ []) (kept-reverse handles ps a.1) (a.0, tt))
 
 -- the grant of a block
 abbrev grant_if : Bool → ℕ → ℕ → Option Grant
 grant_if u x o = if u then Some (record { name = x; offset = o }) else None
 
-kept-placed : (handles : List (Option Grant)) (o : ℕ) (bs : List Block) → AllByRecursion (λ (b : Block). b.used ≡ true → (k : ℕ) × (kept_name handles k ≡ Some b.name)) bs → AllKept handles (placed o bs)
+kept-placed : (handles : List (Option Grant)) (o : ℕ) (bs : List Block) → AllByRecursion (λ (b : Block). b.used ≡ true → (k : ℕ) × (kept_name handles k ≡ Some b.name)) bs
+    → AreAllKept handles (placed o bs)
 kept-placed handles o [] a = tt
 kept-placed handles o (b ∷ bs) a = (go b.used refl, kept-placed handles (o + b.size) bs a.1)
   where
@@ -170,33 +185,33 @@ kept-placed handles o (b ∷ bs) a = (go b.used refl, kept-placed handles (o + b
         (r.0, r.1 ∙ ap (option_map (λ (g : Grant). g.name)) f)
     go false u g e = absurd (let f : grant_if false b.name o ≡ Some g = sym (ap (λ v. grant_if v b.name o) u) ∙ e in cc)
 
-pub kept-listing : (v : View) (handles : List (Option Grant)) → AreKept v handles → AllKept handles (listing v)
+pub kept-listing : (v : View) (handles : List (Option Grant)) → AreKept v handles → AreAllKept handles (listing v)
 kept-listing v handles a = kept-reverse handles (placed 0 v.blocks) (kept-placed handles 0 v.blocks a)
 
 -- one more walked block
-pub walk_used : (handles : List (Option Grant)) (ks : List ℕ) (k : ℕ) (p : Placed) (ps : List Placed) (g : Grant) (all : List (Option ℕ)) → map (kept_name handles) ks ++ placed_names (p ∷ ps) ≡ all → p.grant ≡ Some g → kept_name handles k ≡ Some g.name
+pub walk_used : (handles : List (Option Grant)) (ks : List ℕ) (k : ℕ) (p : Placed) (ps : List Placed) (g : Grant) (all : List (Option ℕ)) → map (kept_name handles) ks ++ placed_names (p ∷ ps) ≡ all
+    → p.grant ≡ Some g → kept_name handles k ≡ Some g.name
     → map (kept_name handles) (ks ++ k ∷ []) ++ placed_names ps ≡ all
 walk_used handles ks k p ps g all e f h =
     ap (λ l. l ++ placed_names ps) (map-append (kept_name handles) ks (k ∷ []) ∙ ap (λ o. map (kept_name handles) ks ++ o ∷ []) h)
     ∙ append_assoc (map (kept_name handles) ks) (Some g.name ∷ []) (placed_names ps)
     ∙ sym (ap (λ o. map (kept_name handles) ks ++ (placed_name o ++ placed_names ps)) f) ∙ e
 
-pub walk_free : (xs : List (Option ℕ)) (p : Placed) (ps : List Placed) (all : List (Option ℕ)) → xs ++ placed_names (p ∷ ps) ≡ all → p.grant ≡ None → xs ++ placed_names ps ≡ all
-walk_free xs p ps all e f = sym (ap (λ o. xs ++ (placed_name o ++ placed_names ps)) f) ∙ e
-
 map-reverse : {A B : Type 0} (f : A → B) (xs : List A) → map f (reverse xs) ≡ reverse (map f xs)
 map-reverse f [] = refl
 map-reverse f (x ∷ xs) = ap (map f) (reverse-append (x ∷ []) xs) ∙ map-append f (reverse xs) (x ∷ []) ∙ ap (λ l. l ++ f x ∷ []) (map-reverse f xs) ∙ sym (reverse-append (f x ∷ []) (map f xs))
 
 -- all are walked
-pub walk_ends : (handles : List (Option Grant)) (ks left : List ℕ) (v : View) → map (kept_name handles) ks ++ [] ≡ placed_names (listing v) → left ≡ reverse ks → map (kept_name handles) left ≡ live_names v.blocks
+pub walk_ends : (handles : List (Option Grant)) (ks left : List ℕ) (v : View) → map (kept_name handles) ks ++ [] ≡ placed_names (listing v) → left ≡ reverse ks
+    → map (kept_name handles) left ≡ live_names v.blocks
 walk_ends handles ks left v e f =
     ap (map (kept_name handles)) f ∙ map-reverse (kept_name handles) ks ∙ ap reverse (sym (append-nil (map (kept_name handles) ks)) ∙ e) ∙ walked_names v.blocks
 
 -- the moves that a closure has seen
 pub collected : {P S N : Type 0} (R : P → Move → P → Type 0) (xs : List Move) (p q : P) → FoldsTo R p xs q → (see : P → S) (place : P → N) (is_refused : S → Bool) (found : S → List Moved)
     → ((p : P) (x : Move) (q : P) → R p x q
-    → (is_refused (see q) ≡ false → (is_refused (see p) ≡ false) × (m : Moved) × (m.from ≡ x.from) × (m.to ≡ x.to) × (m.size ≡ x.size) × (found (see q) ≡ found (see p) ++ m ∷ [])) × (place q ≡ place p))
+    → (is_refused (see q) ≡ false → (is_refused (see p) ≡ false) × (m : Moved) × (m.from ≡ x.from) × (m.to ≡ x.to) × (m.size ≡ x.size) × (found (see q) ≡ found (see p) ++ m ∷ []))
+    × (place q ≡ place p))
     → (is_refused (see q) ≡ false → (is_refused (see p) ≡ false) × ((ys : List Move) → AreMoves (found (see p)) ys → AreMoves (found (see q)) (ys ++ xs))) × (place q ≡ place p)
 collected R [] p q e see place is_refused found each = (λ h. (ap (λ x. is_refused (see x)) e ∙ h, λ ys a. subst₂ AreMoves (ap (λ x. found (see x)) e) (sym (append-nil ys)) a), ap place (sym e))
 collected R (x ∷ xs) p q f see place is_refused found each =
@@ -204,33 +219,17 @@ collected R (x ∷ xs) p q f see place is_refused found each =
     let rest = collected R xs f.0 q f.2 see place is_refused found each in (
       (λ h.
           let r = rest.0 h in
-          let o = one.0 r.0 in
-          (o.0, λ ys a. subst (AreMoves (found (see q))) (append_assoc ys (x ∷ []) xs) (r.1 (ys ++ x ∷ []) (subst (λ l. AreMoves l (ys ++ x ∷ [])) (sym o.5) (are_more (found (see p)) ys o.1 x a o.2 o.3 o.4))))),
+          let o = one.0 r.0 in (
+            o.0,
+            λ ys a. subst (AreMoves (found (see q))) (append_assoc ys (x ∷ []) xs)
+                (r.1 (ys ++ x ∷ []) (subst (λ l. AreMoves l (ys ++ x ∷ [])) (sym o.5) (are_more (found (see p)) ys o.1 x a o.2 o.3 o.4))),
+          )),
       rest.1 ∙ one.1,
     )
 
--- one more number
-pub join_more : (ks : List ℕ) (ms : List Moved) (first i d : ℕ) (c m : Moved) (found left : List Moved) (all : List plain.Move) → i < length ms → first + i < length ks
-    → map plain.move_view found ++ joined (drop (first + i) ks) (drop i ms) ≡ all → left ≡ found ++ m ∷ [] → plain.move_view m ≡ record { number = get_or ks (first + i) d; from = (get_or ms i c).from; to = (get_or ms i c).to; size = (get_or ms i c).size }
-    → map plain.move_view left ++ joined (drop (first + (i + 1)) ks) (drop (i + 1) ms) ≡ all
-join_more ks ms first i d c m found left all within there e f g =
-    ap (λ l. map plain.move_view l ++ joined (drop (first + (i + 1)) ks) (drop (i + 1) ms)) f
-    ∙ ap (λ l. l ++ joined (drop (first + (i + 1)) ks) (drop (i + 1) ms)) (map-append plain.move_view found (m ∷ []))
-    ∙ append_assoc (map plain.move_view found) (plain.move_view m ∷ []) _
-    ∙ ap (λ l. map plain.move_view found ++ l) (ap (λ x. x ∷ joined (drop (first + (i + 1)) ks) (drop (i + 1) ms)) g
-    ∙ ap₂ (λ n j. (record { number = get_or ks (first + i) d; from = (get_or ms i c).from; to = (get_or ms i c).to; size = (get_or ms i c).size }) ∷ joined (drop n ks) (drop j ms)) (let h : first + (i + 1) ≡ suc (first + i) = omega arith in h) (let h : i + 1 ≡ suc i = omega arith in h)
-    ∙ sym (ap₂ joined (drop-cons ks (first + i) d there) (drop-cons ms i c within)))
-    ∙ e
-
-pub join_ends : (ks : List ℕ) (ms : List Moved) (i n : ℕ) (found : List Moved) (all : List plain.Move) → length ms ≤ i → map plain.move_view found ++ joined (drop n ks) (drop i ms) ≡ all → map plain.move_view found ≡ all
-join_ends ks ms i n found all h e = sym (append-nil _) ∙ sym (ap (λ l. map plain.move_view found ++ l) (ap (joined (drop n ks)) (drop_all i ms h) ∙ none (drop n ks))) ∙ e
-  where
-    none : (ks : List ℕ) → joined ks [] ≡ []
-    none [] = refl
-    none (k ∷ ks) = refl
-
 -- a number that is not among the first ones
-pub not_found : (handles : List (Option Grant)) (x : ℕ) → ((i : ℕ) → i < length handles → option_map (λ (h : Grant). h.name) (slice_index_or handles i None) ≡ Some x → ⊥) → (k : ℕ) → kept_name handles k ≡ Some x → ⊥
+pub not_found : (handles : List (Option Grant)) (x : ℕ) → ((i : ℕ) → i < length handles → option_map (λ (h : Grant). h.name) (slice_index_or handles i None) ≡ Some x → ⊥) → (k : ℕ)
+    → kept_name handles k ≡ Some x → ⊥
 not_found handles x none zero e = cc
 not_found handles x none (suc k) e = elim (cases_lt k (length handles)) [
   | inl l ↦ none k l e
@@ -238,7 +237,8 @@ not_found handles x none (suc k) e = elim (cases_lt k (length handles)) [
 ]
 
 -- where a live name begins
-pub offset_is : (x o : ℕ) (v : View) (r : Option ℕ) → IsLive x v → r ≡ option_map (λ (q : Range). q.offset) (range_of x v) → o ≡ unwrap_or r 0 → option_map (λ (q : Range). q.offset) (range_of x v) ≡ Some o
+pub offset_is : (x o : ℕ) (v : View) (r : Option ℕ) → IsLive x v → r ≡ option_map (λ (q : Range). q.offset) (range_of x v) → o ≡ unwrap_or r 0
+    → option_map (λ (q : Range). q.offset) (range_of x v) ≡ Some o
 offset_is x o v r l e f = go (range_of x v) refl
   where
     go : (q : Option Range) → range_of x v ≡ q → option_map (λ (q : Range). q.offset) (range_of x v) ≡ Some o

@@ -1,32 +1,34 @@
 -- A range that shrinks or grows: what is left agrees with the plain machine.
-use Rattle.std.proofs.Common.{◌≡◌, ◌≢◌, ℕ, zero, suc, ◌+◌, ◌-◌, ◌<◌, ◌≤◌, Bool, true, false, not, ◌&&◌, ◌||◌, ◌⊎◌, List, [], ◌∷◌, ◌++◌, length, Option, Some, None, nat_eq, nat_le, if◌then◌else◌, refl, sym, ap, ap₂, subst, subst₂, ◌∙◌, inl, inr, arith, le-leb, leb-true, leb-false, append-nil, length-append}
+use Rattle.std.proofs.Common.{◌≡◌, ◌≢◌, ℕ, zero, suc, ◌+◌, ◌-◌, ◌<◌, ◌≤◌, Bool, true, false, not, ◌&&◌, ◌||◌, ◌⊎◌, List, [], ◌∷◌, ◌++◌, length, Option, Some, None, nat_eq, nat_le, if◌then◌else◌, refl}
+use Rattle.std.proofs.Common.{sym, ap, ap₂, subst, subst₂, ◌∙◌, inl, inr, arith, le-leb, leb-true, leb-false, append-nil, length-append}
 use Rattle.std.proofs.lemmas.Bool.{false≢true, and_parts, and_right}
 use Rattle.std.proofs.lemmas.List.{map-append}
 use Rattle.std.specs.List.{AllByRecursion}
 use Rattle.offset_allocator.proofs.ViewApart.{right_false}
 use Rattle.offset_allocator.proofs.Reading.{size_at, size_is}
-use Rattle.offset_allocator.specs.View.{Block, View, Place, place_of, units, IsWellFormed, IsApart, replace, used_block, free_part}
+use Rattle.offset_allocator.specs.View.{Block, View, Place, place_of, units, IsWellFormed, IsApart, replace}
 use Rattle.offset_allocator.specs.View as named
 use Rattle.offset_allocator.specs.Requests.{HasRoomFor}
 use Rattle.offset_allocator.specs.Ranges.{size_of}
 use Rattle.offset_allocator.specs.Relations.{SameSpace}
 use Rattle.offset_allocator.specs.Resizing.{CanShrink, CanGrow, Resizes, free_after, free_beyond}
-use Rattle.offset_script.specs.Agreement.{Label, by_name, by_tag, name_of, Agrees}
+use Rattle.offset_script.proofs.Agreement.{Label, by_name, by_tag, name_of, HasBlocksOf}
 use Rattle.offset_script.specs.Machine.{Tag, Live, Free, State, is_free, has_number, total, is_short_of, stamp_of_call, stamp_of_padding, without_start, free_start}
 use Rattle.offset_script.specs.Machine as machine
 use Rattle.offset_script.proofs.Agreed.{live_at, LiveAt, room_for, has_room, agrees_replaced, new_labels, names_new, tags_new, name_new, rises_new, name_replaced}
 use Rattle.offset_script.proofs.Chosen.{Spot, place_at, named_spot, named_place, plain_place, place_of_spot}
-use Rattle.offset_script.proofs.Ends.{AllFree, free_named, free_tagged, apart_tagged, total_units, name_free}
+use Rattle.offset_script.proofs.Ends.{AreFree, free_named, free_tagged, apart_tagged, total_units, name_free}
 use Rattle.offset_script.proofs.Labels.{names, tags, map_three}
 use Rattle.offset_script.proofs.Members.{map_parts}
 use Rattle.offset_script.proofs.Tests.{same_some}
-use Rattle.offset_script.proofs.Well.{Well, Apart, IsStart, apart_parts, apart_append, apart_free_block, count, hit, count-append, count_free_block, ends_free, few_free, free_part as plain_part, found_at, number_of, start_is, start_of, well_leaves}
+use Rattle.offset_script.proofs.Well.{IsWell, AreApart, apart_parts, apart_append, apart_free_block, count, count-append, count_free_block, ends_free, few_free, free_part as plain_part, found_at}
+use Rattle.offset_script.proofs.Well.{number_of, start_is, start_of, well_leaves}
 use Rattle.offset_script.proofs.Well as well
 use Rattle.offset_calls.specs.Calls.{starts_free, can_shrink, can_grow, resized}
 
 -- lists without a free block at their start
 
-starts_after : (bs : List machine.Block) → Apart bs → well.starts_free (without_start bs) ≡ false
+starts_after : (bs : List machine.Block) → AreApart bs → well.starts_free (without_start bs) ≡ false
 starts_after [] a = refl
 starts_after (b ∷ bs) a = go (is_free b.tag) refl
   where
@@ -34,9 +36,9 @@ starts_after (b ∷ bs) a = go (is_free b.tag) refl
     go true e = ap (λ x. well.starts_free (if x then bs else b ∷ bs)) e ∙ right_false (is_free b.tag) (well.starts_free bs) a.0 e
     go false e = ap (λ x. well.starts_free (if x then bs else b ∷ bs)) e ∙ e
 
-apart_without : (bs : List machine.Block) → Apart bs → Apart (without_start bs)
+apart_without : (bs : List machine.Block) → AreApart bs → AreApart (without_start bs)
 apart_without [] a = a
-apart_without (b ∷ bs) a = elim (is_free b.tag) as (λ x. Apart (if x then bs else b ∷ bs)) [ true ↦ a.1 | false ↦ a ]
+apart_without (b ∷ bs) a = elim (is_free b.tag) as (λ x. AreApart (if x then bs else b ∷ bs)) [ true ↦ a.1 | false ↦ a ]
 
 count_without : (t : Tag) (bs : List machine.Block) → count t (without_start bs) ≤ count t bs
 count_without t [] = omega arith
@@ -44,17 +46,35 @@ count_without t (b ∷ bs) = elim (is_free b.tag) as (λ x. count t (if x then b
 
 length_without : (bs : List machine.Block) → (length (without_start bs) ≤ length bs) × (starts_free bs ≡ true → length (without_start bs) + 1 ≡ length bs)
 length_without [] = (omega arith, λ e. absurd (false≢true e))
-length_without (b ∷ bs) = elim (is_free b.tag) as (λ x. (length (if x then bs else b ∷ bs) ≤ suc (length bs)) × (x ≡ true → length (if x then bs else b ∷ bs) + 1 ≡ suc (length bs))) [ true ↦ (omega arith, λ e. omega arith) | false ↦ (omega arith, λ e. absurd (false≢true e)) ]
+length_without (b ∷ bs) = elim (is_free b.tag) as (λ x. (length (if x then bs else b ∷ bs) ≤ suc (length bs)) × (x ≡ true → length (if x then bs else b ∷ bs) + 1 ≡ suc (length bs)))
+    [ true ↦ (omega arith, λ e. omega arith) | false ↦ (omega arith, λ e. absurd (false≢true e)) ]
 
 -- what a resized range leaves is well-formed
-pub well_resized : (s : State) → Well s → (k n : ℕ) (p : machine.Place) → machine.place_of k s.blocks ≡ Some p → (starts_free p.after ≡ true) ⊎ (is_short_of 1 s ≡ false) → Well (resized n s p).state
+pub well_resized : (s : State) → IsWell s → (k n : ℕ) (p : machine.Place) → machine.place_of k s.blocks ≡ Some p → (starts_free p.after ≡ true) ⊎ (is_short_of 1 s ≡ false)
+    → IsWell (resized n s p).state
 well_resized s w k n p e fits = well_leaves s w blocks machine.Freed (omega (arith, sizes)) (elim fits [
-  | inl free ↦ (let l = (length_without p.after).1 free in let r = w.room in omega (arith, sizes, l, r, (plain_part left (stamp_of_call s)).3, ap length f.0, length-append p.before (p.block ∷ p.after)))
-  | inr room ↦ (let l = (length_without p.after).0 in let r = leb-false s.limit (length s.blocks + 1) room in omega (arith, sizes, l, r, (plain_part left (stamp_of_call s)).3, ap length f.0, length-append p.before (p.block ∷ p.after)))
+  | inl free ↦ (let l = (length_without p.after).1 free in let r = w.room in
+      omega (arith, sizes, l, r, (plain_part left (stamp_of_call s)).3, ap length f.0, length-append p.before (p.block ∷ p.after)))
+  | inr room ↦ (let l = (length_without p.after).0 in let r = leb-false s.limit (length s.blocks + 1) room in
+      omega (arith, sizes, l, r, (plain_part left (stamp_of_call s)).3, ap length f.0, length-append p.before (p.block ∷ p.after)))
 ])
-    (apart_append p.before _ parts.0 (ap (λ t. is_free t && well.starts_free (machine.free_block left (stamp_of_call s) ++ without_start p.after)) tag, apart_free_block left (stamp_of_call s) (without_start p.after) (apart_without p.after parts.1.1) (starts_after p.after parts.1.1))
+    (apart_append p.before _ parts.0 (
+      ap (λ t. is_free t && well.starts_free (machine.free_block left (stamp_of_call s) ++ without_start p.after)) tag,
+      apart_free_block left (stamp_of_call s) (without_start p.after)
+          (apart_without p.after parts.1.1) (starts_after p.after parts.1.1),
+    )
     (ap (λ t. ends_free p.before && is_free t) tag ∙ and_right (ends_free p.before) false refl))
-    (λ t. omega (arith, count-append t p.before (machine.block n p.block.tag ∷ (machine.free_block left (stamp_of_call s) ++ without_start p.after)), count-append t (machine.free_block left (stamp_of_call s)) (without_start p.after), count_free_block t left (stamp_of_call s), count_without t p.after, ap (count t) f.0, count-append t p.before (p.block ∷ p.after)))
+    (λ t. omega (
+      arith,
+      count-append t p.before (machine.block n p.block.tag ∷ (machine.free_block left (stamp_of_call s) ++ without_start p.after)),
+      count-append t
+          (machine.free_block left (stamp_of_call s)) (without_start p.after),
+      count_free_block t left (stamp_of_call s),
+      count_without t p.after,
+      ap (count t) f.0,
+      count-append t p.before
+          (p.block ∷ p.after),
+    ))
   where
     left : ℕ
     left = p.block.size + free_start p.after - n
@@ -71,8 +91,8 @@ well_resized s w k n p e fits = well_leaves s w blocks machine.Freed (omega (ari
     tag : p.block.tag ≡ Live k
     tag = number_of k p.block.tag f.1
 
-    parts : Apart p.before × (((is_free p.block.tag && well.starts_free p.after) ≡ false) × Apart p.after) × ((ends_free p.before && is_free p.block.tag) ≡ false)
-    parts = apart_parts p.before (p.block ∷ p.after) (subst Apart f.0 w.apart)
+    parts : AreApart p.before × (((is_free p.block.tag && well.starts_free p.after) ≡ false) × AreApart p.after) × ((ends_free p.before && is_free p.block.tag) ≡ false)
+    parts = apart_parts p.before (p.block ∷ p.after) (subst AreApart f.0 w.apart)
 
 -- a free block directly after, by names and by tags
 free_some : (ls : List Label) → starts_free (tags ls) ≡ true → named.free_start (names ls) ≢ []
@@ -92,12 +112,12 @@ free_units [] = refl
 free_units (l ∷ ls) = elim (is_free l.tag) as (λ x. units (if not (not x) then by_name l ∷ [] else []) ≡ (if x then l.size else 0)) [ true ↦ omega arith | false ↦ refl ]
 
 -- after free blocks of which some have units, nothing is free
-after_free : (ls : List Label) (y : Bool) → AllFree ls → Apart (tags ls) → 1 ≤ total (tags ls) → (ends_free (tags ls) && y) ≡ false → y ≡ false
+after_free : (ls : List Label) (y : Bool) → AreFree ls → AreApart (tags ls) → 1 ≤ total (tags ls) → (ends_free (tags ls) && y) ≡ false → y ≡ false
 after_free [] y f a some e = absurd (omega arith)
 after_free (l ∷ []) y f a some e = right_false (is_free l.tag) y e f.0
 after_free (l ∷ m ∷ ls) y f a some e = absurd (let h = few_free (tags (l ∷ m ∷ ls)) (free_tagged (l ∷ m ∷ ls) f) a in omega arith)
 
-module _ (v : View) (kept_name : ℕ → Option ℕ) (s : State) (w : IsWellFormed v) (ws : Well s) (g : Agrees v kept_name s) (k x : ℕ) (e : kept_name k ≡ Some x) where
+module _ (v : View) (kept_name : ℕ → Option ℕ) (s : State) (w : IsWellFormed v) (ws : IsWell s) (g : HasBlocksOf v kept_name s) (k x : ℕ) (e : kept_name k ≡ Some x) where
   abbrev pub found : LiveAt v kept_name s w ws g k x
   found = live_at v kept_name s w ws g k x e
 
@@ -145,21 +165,13 @@ module _ (v : View) (kept_name : ℕ → Option ℕ) (s : State) (w : IsWellForm
       let z = size_found in
       (let l = leb-true spot.label.size n parts.0 in omega arith, let l = leb-true n (spot.label.size + free_start (tags spot.after)) parts.1 in omega arith)
 
-  -- a range that grows to another size has a free block after it
-  pub grows_free : (n : ℕ) → n ≢ spot.label.size → can_grow n (plain_place spot) ≡ true → starts_free (tags spot.after) ≡ true
-  grows_free n d c = go (tags spot.after) (let parts = and_parts (nat_le spot.label.size n) (nat_le n (spot.label.size + free_start (tags spot.after))) c in
-      let l = leb-true spot.label.size n parts.0 in let m = leb-true n (spot.label.size + free_start (tags spot.after)) parts.1 in let h : 1 ≤ free_start (tags spot.after) = omega arith in h)
-    where
-      go : (bs : List machine.Block) → 1 ≤ free_start bs → starts_free bs ≡ true
-      go [] h = absurd (omega arith)
-      go (b ∷ bs) h = elim (is_free b.tag) as (λ x. 1 ≤ (if x then b.size else 0) → x ≡ true) [ true ↦ λ h. refl | false ↦ λ h. absurd (omega arith) ] h
-
   -- what the range and the block after it become
   module _ (n : ℕ) (u : View) (w' : IsWellFormed u) (d : n ≢ spot.label.size) (f : Resizes x n v u) where
     place : named_place spot ≡ place_at f.before f.block (f.next ++ f.after)
     place =
         let r = named_spot g.labels (place_at f.before f.block (f.next ++ f.after)) (sym g.view ∙ f.blocks) in
-        same_some (named_place spot) (named_place r.0) (sym found.named ∙ ap (λ y. place_of y v.blocks) (sym f.named ∙ sym (ap (λ (p : Place). p.block.name) r.2)) ∙ place_of_spot v w r.0 (g.view ∙ ap names r.1)) ∙ r.2
+        same_some (named_place spot) (named_place r.0)
+        (sym found.named ∙ ap (λ y. place_of y v.blocks) (sym f.named ∙ sym (ap (λ (p : Place). p.block.name) r.2)) ∙ place_of_spot v w r.0 (g.view ∙ ap names r.1)) ∙ r.2
 
     back : (xs : List Label) × (ys : List Label) × (spot.after ≡ xs ++ ys) × (names xs ≡ f.next) × (names ys ≡ f.after)
     back = map_parts by_name spot.after f.next f.after (ap (λ (p : Place). p.after) place)
@@ -167,7 +179,7 @@ module _ (v : View) (kept_name : ℕ → Option ℕ) (s : State) (w : IsWellForm
     name : spot.label.name ≡ x
     name = ap (λ (p : Place). p.block.name) place ∙ f.named
 
-    free : AllFree back.0
+    free : AreFree back.0
     free = (free_named back.0 [] (subst (AllByRecursion (λ b. b.used ≡ false)) (sym (append-nil (names back.0) ∙ back.3)) f.free)).0
 
     abbrev new : List Label
@@ -179,13 +191,15 @@ module _ (v : View) (kept_name : ℕ → Option ℕ) (s : State) (w : IsWellForm
     same : SameSpace (replace v (names spot.before) (by_name spot.label ∷ names back.0) (names new) (names back.1)) u
     same =
         subst₂ (λ y z. SameSpace (replace v y (by_name spot.label ∷ names back.0) (names new) z) u) (sym (ap (λ (p : Place). p.before) place)) (sym back.4)
-        (subst₂ (λ y z. SameSpace (replace v f.before y z f.after) u) (ap₂ (λ (b : Block) bs. b ∷ bs) (sym (ap (λ (p : Place). p.block) place)) (sym back.3)) (sym (names_new 0 0 x n k f.name f.left (stamp_of_padding s))) f.view)
+        (subst₂ (λ y z. SameSpace (replace v f.before y z f.after) u) (ap₂ (λ (b : Block) bs. b ∷ bs) (sym (ap (λ (p : Place). p.block) place)) (sym back.3))
+        (sym (names_new 0 0 x n k f.name f.left (stamp_of_padding s))) f.view)
 
     split : s.blocks ≡ tags spot.before ++ (by_tag spot.label ∷ (tags back.0 ++ tags back.1))
-    split = g.state ∙ ap tags found.split ∙ map-append by_tag spot.before (spot.label ∷ spot.after) ∙ ap (λ z. tags spot.before ++ (by_tag spot.label ∷ z)) (ap tags back.2 ∙ map-append by_tag back.0 back.1)
+    split = g.state ∙ ap tags found.split ∙ map-append by_tag spot.before (spot.label ∷ spot.after)
+        ∙ ap (λ z. tags spot.before ++ (by_tag spot.label ∷ z)) (ap tags back.2 ∙ map-append by_tag back.0 back.1)
 
-    apart : Apart (tags back.0) × Apart (tags back.1) × ((ends_free (tags back.0) && well.starts_free (tags back.1)) ≡ false)
-    apart = apart_parts (tags back.0) (tags back.1) (apart_parts (tags spot.before) (by_tag spot.label ∷ (tags back.0 ++ tags back.1)) (subst Apart split ws.apart)).1.1
+    apart : AreApart (tags back.0) × AreApart (tags back.1) × ((ends_free (tags back.0) && well.starts_free (tags back.1)) ≡ false)
+    apart = apart_parts (tags back.0) (tags back.1) (apart_parts (tags spot.before) (by_tag spot.label ∷ (tags back.0 ++ tags back.1)) (subst AreApart split ws.apart)).1.1
 
     view_after : u.blocks ≡ names (spot.before ++ (new ++ back.1))
     view_after = ap (λ (x : View). x.blocks) same ∙ sym (map_three by_name spot.before new back.1)
@@ -196,7 +210,8 @@ module _ (v : View) (kept_name : ℕ → Option ℕ) (s : State) (w : IsWellForm
     ends : (m : ℕ) → f.left ≡ m → well.starts_free (tags back.1) ≡ false
     ends zero h = after_free back.0 (well.starts_free (tags back.1)) free apart.0 (let z = sizes in omega arith) apart.2
     ends (suc m) h =
-        let a = subst Apart (tags_after ∙ ap (λ l. tags spot.before ++ (machine.block n (Live k) ∷ (machine.free_block l (stamp_of_call s) ++ tags back.1))) h) (apart_tagged (spot.before ++ (new ++ back.1)) (subst IsApart view_after f.apart)) in
+        let a = subst AreApart (tags_after ∙ ap (λ l. tags spot.before ++ (machine.block n (Live k) ∷ (machine.free_block l (stamp_of_call s) ++ tags back.1))) h)
+        (apart_tagged (spot.before ++ (new ++ back.1)) (subst IsApart view_after f.apart)) in
         (apart_parts (tags spot.before) (machine.block n (Live k) ∷ (machine.block (suc m) (Free (stamp_of_call s)) ∷ tags back.1)) a).1.1.0
 
     start : (without_start (tags spot.after) ≡ tags back.1) × (free_start (tags spot.after) ≡ total (tags back.0))
@@ -207,7 +222,8 @@ module _ (v : View) (kept_name : ℕ → Option ℕ) (s : State) (w : IsWellForm
 
     state : (resized n s (plain_place spot)).state.blocks ≡ tags (spot.before ++ (new ++ back.1))
     state =
-        ap₂ (λ (m : ℕ) z. tags spot.before ++ (machine.block n spot.label.tag ∷ (machine.free_block m (stamp_of_call s) ++ z))) (let z = sizes in let y = start.1 in let h : spot.label.size + free_start (tags spot.after) - n ≡ f.left = omega arith in h) start.0
+        ap₂ (λ (m : ℕ) z. tags spot.before ++ (machine.block n spot.label.tag ∷ (machine.free_block m (stamp_of_call s) ++ z)))
+        (let z = sizes in let y = start.1 in let h : spot.label.size + free_start (tags spot.after) - n ≡ f.left = omega arith in h) start.0
         ∙ ap (λ t. tags spot.before ++ (machine.block n t ∷ (machine.free_block f.left (stamp_of_call s) ++ tags back.1))) found.tag
         ∙ sym tags_after
 
@@ -218,6 +234,6 @@ module _ (v : View) (kept_name : ℕ → Option ℕ) (s : State) (w : IsWellForm
     handles j = g.handles j ∙ ap (name_of j) (found.split ∙ ap (λ z. spot.before ++ (spot.label ∷ z)) back.2)
         ∙ name_replaced j spot.before (spot.label ∷ back.0) new back.1 (old_name j ∙ sym (name_new j 0 0 x n k f.name f.left (stamp_of_padding s)))
 
-    pub resized_agrees : Agrees u kept_name (resized n s (plain_place spot)).state
+    pub resized_agrees : HasBlocksOf u kept_name (resized n s (plain_place spot)).state
     resized_agrees = agrees_replaced v kept_name s w ws g u w' v.size spot.before (spot.label ∷ back.0) new back.1 (found.split ∙ ap (λ z. spot.before ++ (spot.label ∷ z)) back.2) same
         (resized n s (plain_place spot)).state refl state (rises_new 0 0 x n k f.name f.left (stamp_of_padding s)) kept_name handles

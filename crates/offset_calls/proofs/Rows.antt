@@ -1,47 +1,52 @@
 -- Releases in a row: the reply to the call after them.
-use Rattle.std.proofs.Common.{◌≡◌, ℕ, suc, ◌+◌, ◌-◌, ◌≤◌, Bool, true, false, not, ◌&&◌, ◌||◌, List, [], ◌∷◌, ◌++◌, sum, Option, Some, None, is_some, nat_eq, nat_lt, nat_le, if◌then◌else◌, refl, sym, ap, ap₂, subst₂, ◌∙◌, inl, inr, arith}
+use Rattle.std.proofs.Common.{◌≡◌, ℕ, ◌+◌, ◌-◌, ◌≤◌, Bool, not, ◌&&◌, ◌||◌, List, [], ◌∷◌, ◌++◌, sum, Option, Some, None, is_some, nat_eq, nat_le, if◌then◌else◌, refl, sym, ap, ap₂, subst₂, ◌∙◌, inl}
+use Rattle.std.proofs.Common.{inr}
 use Rattle.offset_allocator.specs.declared.reports.Refusal.TheVariants.{Nodes}
 use Rattle.offset_script.specs.Histories.{IsCollapse, collapse, outline, releases}
 use Rattle.offset_script.specs.Machine.{State, start, chosen_place, total, free_sizes, is_short_of, place_of, is_free}
 use Rattle.offset_script.specs.Machine as machine
-use Rattle.offset_script.proofs.Commute.{SameSpace, releases_outline, releases_scalars, same_next, same_number, some_same}
-use Rattle.offset_script.proofs.Members.{In}
-use Rattle.offset_script.proofs.Pairs.{Kind, Lives, Frees, Pair, left_tag, right_tag, left, right, lefts, rights, SamePlace, neither, both, same_free, same_total, same_units, same_short, same_free_sizes, same_place_of}
-use Rattle.offset_script.proofs.Similar.{SameNumber, paired}
+use Rattle.offset_script.proofs.Commute.{IsSameSpace, releases_outline, releases_scalars, same_next, same_number, some_same}
+use Rattle.offset_script.proofs.Members.{IsIn}
+use Rattle.offset_script.proofs.Pairs.{Kind, Lives, Frees, Pair, left_tag, right_tag, left, right, lefts, rights, IsSamePlace, neither, both, same_free, same_total, same_units, same_short}
+use Rattle.offset_script.proofs.Pairs.{same_free_sizes, same_place_of}
+use Rattle.offset_script.proofs.Similar.{HasSameNumber, paired}
 use Rattle.offset_script.proofs.Tests.{if_same}
-use Rattle.offset_script.proofs.Well.{Well, well_start}
+use Rattle.offset_script.proofs.Well.{well_start}
 use Rattle.offset_calls.specs.declared.calls.Call.{Call}
 use Rattle.offset_calls.specs.declared.calls.Call.TheVariants as call
-use Rattle.offset_calls.specs.Calls.{Move, Reply, Answer, Resized, Compacted, Offset, Refused_for, Outcome, can_shrink, can_grow, resize, resized, replies_only, number, move_of, moves, offset_at, shortage, reason, step, after}
+use Rattle.offset_calls.specs.Calls.{Answer, Compacted, Offset, Refused_for, Outcome, resize, number, move_of, moves, offset_at, shortage, reason, step, after}
 use Rattle.offset_calls.specs.Histories.{without_offset}
 use Rattle.offset_calls.proofs.Alike.{same_starts, same_free_start}
 use Rattle.offset_calls.proofs.Followed.{well_calls}
 
-same_moved : (k : Kind) → SameNumber k → number (left_tag k) ≡ number (right_tag k)
+same_moved : (k : Kind) → HasSameNumber k → number (left_tag k) ≡ number (right_tag k)
 same_moved (Lives i j) e = e
 same_moved (Frees s u) e = refl
 
-same_moves : (from to : ℕ) (ps : List Pair) → ((q : Pair) → In q ps → SameNumber q.kind) → moves from to (lefts ps) ≡ moves from to (rights ps)
+same_moves : (from to : ℕ) (ps : List Pair) → ((q : Pair) → IsIn q ps → HasSameNumber q.kind) → moves from to (lefts ps) ≡ moves from to (rights ps)
 same_moves from to [] h = refl
 same_moves from to (q ∷ ps) h =
-    ap₂ (λ x y. if is_free (left_tag q.kind) then x else move_of from to (left q) ++ y) (same_moves (from + q.size) to ps (λ x i. h x (inr i))) (same_moves (from + q.size) (to + q.size) ps (λ x i. h x (inr i)))
-    ∙ ap₂ (λ (f : Bool) (k : ℕ). if f then moves (from + q.size) to (rights ps) else (if nat_eq from to then [] else record { number = k; from = from; to = to; size = q.size } ∷ []) ++ moves (from + q.size) (to + q.size) (rights ps)) (same_free q.kind) (same_moved q.kind (h q (inl refl)))
+    ap₂ (λ x y. if is_free (left_tag q.kind) then x else move_of from to (left q) ++ y) (same_moves (from + q.size) to ps (λ x i. h x (inr i)))
+    (same_moves (from + q.size) (to + q.size) ps (λ x i. h x (inr i)))
+    ∙ ap₂ (λ (f : Bool) (k : ℕ). if f then moves (from + q.size) to (rights ps) else (if nat_eq from to then [] else record { number = k; from = from; to = to; size = q.size } ∷ [])
+    ++ moves (from + q.size) (to + q.size) (rights ps)) (same_free q.kind) (same_moved q.kind (h q (inl refl)))
 
-module _ (s t : State) (a : SameSpace s t) where
+module _ (s t : State) (a : IsSameSpace s t) where
   short : (k : ℕ) → is_short_of k s ≡ is_short_of k t
   short k = same_short s t a.blocks.pairs a.limit a.blocks.left_blocks a.blocks.right_blocks k
 
-  placed : (k : ℕ) → SamePlace (λ q. Unit {0}) a.blocks.pairs (place_of k s.blocks) (place_of k t.blocks)
-  placed k = subst₂ (λ x y. SamePlace (λ q. Unit {0}) a.blocks.pairs (place_of k x) (place_of k y)) (sym a.blocks.left_blocks) (sym a.blocks.right_blocks) (same_place_of k k a.blocks.pairs (λ q i. same_number k q.kind (a.blocks.numbers q i)))
+  placed : (k : ℕ) → IsSamePlace (λ q. Unit {0}) a.blocks.pairs (place_of k s.blocks) (place_of k t.blocks)
+  placed k = subst₂ (λ x y. IsSamePlace (λ q. Unit {0}) a.blocks.pairs (place_of k x) (place_of k y)) (sym a.blocks.left_blocks) (sym a.blocks.right_blocks)
+      (same_place_of k k a.blocks.pairs (λ q i. same_number k q.kind (a.blocks.numbers q i)))
 
-  resize_reply : (n : ℕ) (can can' : machine.Place → Bool) (o o' : Option machine.Place) → SamePlace (λ q. Unit {0}) a.blocks.pairs o o'
+  resize_reply : (n : ℕ) (can can' : machine.Place → Bool) (o o' : Option machine.Place) → IsSamePlace (λ q. Unit {0}) a.blocks.pairs o o'
       → ((xs : List Pair) (q : Pair) (ys : List Pair) → can (record { before = lefts xs; block = left q; after = lefts ys }) ≡ can' (record { before = rights xs; block = right q; after = rights ys }))
       → without_offset (resize can n s o).reply ≡ without_offset (resize can' n t o').reply
   resize_reply n can can' None None neither same = refl
   resize_reply n can can' o o' (both xs q ys e f) same = if_same (λ (x y : Outcome). without_offset x.reply ≡ without_offset y.reply) (nat_eq n q.size) (nat_eq n q.size) _ _ _ _ refl (λ z. refl)
       (if_same (λ (x y : Outcome). without_offset x.reply ≡ without_offset y.reply) _ _ _ _ _ _ (same xs q ys) (λ z. refl) refl)
 
-  offset_reply : (o o' : Option machine.Place) → SamePlace (λ q. Unit {0}) a.blocks.pairs o o' → offset_at o ≡ offset_at o'
+  offset_reply : (o o' : Option machine.Place) → IsSamePlace (λ q. Unit {0}) a.blocks.pairs o o' → offset_at o ≡ offset_at o'
   offset_reply None None neither = refl
   offset_reply o o' (both xs q ys e f) = ap Offset (same_total xs)
 
@@ -50,7 +55,8 @@ module _ (s t : State) (a : SameSpace s t) where
       ap (λ b. if b then Some Nodes else if is_some (chosen_place n s.blocks) then None else Some (shortage n (total s.blocks) (sum (free_sizes s.blocks)))) (short k)
       ∙ ap₂ (λ b why. if is_short_of k t then Some Nodes else if b then None else Some why)
       (ap (λ bs. is_some (chosen_place n bs)) a.blocks.left_blocks ∙ some_same n a.blocks.pairs ∙ ap (λ bs. is_some (chosen_place n bs)) (sym a.blocks.right_blocks))
-      (ap₂ (λ size ns. shortage n size (sum ns)) (same_units s t a.blocks.pairs a.limit a.blocks.left_blocks a.blocks.right_blocks) (same_free_sizes s t a.blocks.pairs a.limit a.blocks.left_blocks a.blocks.right_blocks))
+      (ap₂ (λ size ns. shortage n size (sum ns)) (same_units s t a.blocks.pairs a.limit a.blocks.left_blocks a.blocks.right_blocks)
+      (same_free_sizes s t a.blocks.pairs a.limit a.blocks.left_blocks a.blocks.right_blocks))
 
   next_reply : (c : Call) → without_offset (step c s).reply ≡ without_offset (step c t).reply
   next_reply (call.Command c) = ap Answer (same_next s t a c)
@@ -64,7 +70,8 @@ module _ (s t : State) (a : SameSpace s t) where
 pub rows_space : (size limit : ℕ) → 2 ≤ limit → (cs : List Call) (ks : List ℕ) → let s = after cs (start size limit) in outline (machine.after (releases ks) s).blocks ≡ collapse ks (outline s.blocks)
 rows_space size limit h cs ks = releases_outline ks (after cs (start size limit)) (well_calls cs (start size limit) (well_start size limit h))
 
-pub rows_next : (size limit : ℕ) → 2 ≤ limit → (cs : List Call) (ks : List ℕ) (t : State) → let s = after cs (start size limit) in IsCollapse ks s t → (c : Call) → without_offset (step c (machine.after (releases ks) s)).reply ≡ without_offset (step c t).reply
+pub rows_next : (size limit : ℕ) → 2 ≤ limit → (cs : List Call) (ks : List ℕ) (t : State) → let s = after cs (start size limit) in
+    IsCollapse ks s t → (c : Call) → without_offset (step c (machine.after (releases ks) s)).reply ≡ without_offset (step c t).reply
 rows_next size limit h cs ks t is =
     let s = after cs (start size limit) in
     let scalars = releases_scalars ks s in

@@ -1,22 +1,21 @@
 -- The handles of tickets, and what each call leaves of them.
-use Rattle.std.proofs.Common.{◌≡◌, ◌≢◌, ℕ, zero, suc, ◌+◌, ◌-◌, ◌<◌, Bool, true, false, ◌&&◌, List, [], ◌∷◌, ◌++◌, length, Option, Some, None, IsSome, IfSome, is_some, nat_eq, slice_get, slice_index_or, slice_set, option_map, if◌then◌else◌, refl, sym, ap, ap₂, subst, ◌∙◌, inl, inr, arith, length-append}
+use Rattle.std.proofs.Common.{◌≡◌, ◌≢◌, ℕ, zero, suc, ◌+◌, ◌-◌, ◌<◌, Bool, true, false, ◌&&◌, List, [], ◌∷◌, ◌++◌, length, Option, Some, None, IsSome, IfSome, is_some, nat_eq, slice_get}
+use Rattle.std.proofs.Common.{slice_index_or, slice_set, option_map, if◌then◌else◌, refl, sym, ap, ap₂, subst, ◌∙◌, inl, inr, arith, length-append}
 use Rattle.std.proofs.lemmas.Bool.{false≢true}
 use Rattle.std.proofs.lemmas.List.{map-append, length-map}
-use Rattle.offset_allocator.specs.View.{Grant, View}
+use Rattle.offset_allocator.specs.View.{Grant, View, free_sizes}
 use Rattle.offset_allocator.specs.Ranges.{Range}
 use Rattle.offset_allocator.specs.Ranges as named
 use Rattle.offset_guarded.specs.declared.ticket.Ticket.{Ticket}
 use Rattle.offset_guarded.specs.Guard.{Guard, AreAlike, Grants, IsLive, IsSame, KeepsAll, KeepsLive, KeepsOthers, KeepsSerials, KeepsSizes, grant_of, range_of, serial_of}
 use Rattle.offset_guarded.proofs.Guards.{live_fits, live_name as live_named}
-use Rattle.offset_allocator.specs.View.{free_sizes}
 use Rattle.offset_allocator.specs.Reports.{rows_below}
 use Rattle.offset_allocator.specs.Relations.{Extends, Frees, Resets}
 use Rattle.offset_script.specs.declared.scripts.Command.{Command}
 use Rattle.offset_script.specs.declared.scripts.Command.TheVariants as command
-use Rattle.offset_script.specs.Agreement.{kept_name}
+use Rattle.offset_script.specs.Steps.{kept_name, IsKept}
 use Rattle.offset_script.specs.Histories as script
 use Rattle.offset_script.specs.Machine as machine
-use Rattle.offset_script.specs.Simulation.{IsKept}
 use Rattle.offset_script.proofs.Simulation.{if_some}
 use Rattle.offset_calls.specs.declared.calls.Call.TheVariants as call
 use Rattle.offset_allocator.specs.declared.reports.Refusal.{Refusal}
@@ -25,7 +24,7 @@ use Rattle.offset_calls.specs.declared.calls.Call.{Call}
 use Rattle.offset_calls.specs.Calls.{Answer, Refused_for}
 use Rattle.offset_calls.specs.Histories.{renumber}
 use Rattle.offset_calls.specs.Steps.{IsReason}
-use Rattle.offset_calls.specs.Tickets.{AreInOrder, Grown, IsLedger, IsStored, Serves, StandsFor, handle_of, handles_of, live_name, ticket_of}
+use Rattle.offset_calls.specs.Tickets.{AreInOrder, IsGrown, IsLedger, IsStored, Serves, IsNumberOf, handle_of, handles_of, live_name, ticket_of}
 
 -- ---- tickets in order
 
@@ -51,7 +50,8 @@ same_handles g h [] k = refl
 same_handles g h (t ∷ ts) k = ap₂ (λ b l. handle_if b t ∷ l) (k t) (same_handles g h ts k)
 
 -- all tickets but one stay, and it is none of these
-other_handles : (g h : Guard) (t : Ticket) (realm n : ℕ) (ts : List Ticket) → AreInOrder realm n ts → KeepsOthers t g h → ((i : ℕ) → i < length ts → n + i + 1 ≢ t.serial) → handles_of h ts ≡ handles_of g ts
+other_handles : (g h : Guard) (t : Ticket) (realm n : ℕ) (ts : List Ticket) → AreInOrder realm n ts → KeepsOthers t g h → ((i : ℕ) → i < length ts → n + i + 1 ≢ t.serial)
+    → handles_of h ts ≡ handles_of g ts
 other_handles g h t realm n [] o k apart = refl
 other_handles g h t realm n (x ∷ ts) o k apart =
     ap₂ (λ b l. handle_if b x ∷ l) (ap is_some (k x (λ a. apart 0 (omega arith) (let s = o.0 in let z = a.1 in omega arith))))
@@ -61,7 +61,8 @@ pub alike_range : (t u : Ticket) (g : Guard) → AreAlike t u → range_of t g �
 alike_range t u g a = ap₂ (λ x b. if b then named.range_of x g.space else None) a.0 (ap₂ (λ r c. nat_eq r g.realm && c) a.2 (ap₂ nat_eq a.1 (ap (λ x. serial_of x g) a.0)))
 
 -- the handle of a ticket that is freed is removed
-pub freed_handles : (g h : Guard) (t u : Ticket) (realm n : ℕ) (ts : List Ticket) (i : ℕ) → AreInOrder realm n ts → slice_get ts i ≡ Some u → AreAlike u t → KeepsOthers t g h → range_of t h ≡ None → handles_of h ts ≡ slice_set (handles_of g ts) i None
+pub freed_handles : (g h : Guard) (t u : Ticket) (realm n : ℕ) (ts : List Ticket) (i : ℕ) → AreInOrder realm n ts → slice_get ts i ≡ Some u → AreAlike u t → KeepsOthers t g h → range_of t h ≡ None
+    → handles_of h ts ≡ slice_set (handles_of g ts) i None
 freed_handles g h t u realm n [] i o e a k gone = absurd (cc)
 freed_handles g h t u realm n (x ∷ ts) zero o e a k gone =
     let same : x ≡ u = cc in
@@ -141,7 +142,7 @@ same_live g h same t = ap is_some (ap₂ (λ b r. if b then r else None)
 
 -- a request
 pub stored : (n : ℕ) (g h : Guard) (ts us : List Ticket) (r : Option Ticket) (a : machine.Answer) → IsLedger g ts → IfSome r (Grants n g h) → (r ≡ None → IsSame g h) → IsStored r ts us a
-    → IsKept (option_map grant_of r) (handles_of g ts) (handles_of h us) a × IsLedger h us × Grown ts us
+    → IsKept (option_map grant_of r) (handles_of g ts) (handles_of h us) a × IsLedger h us × IsGrown ts us
 stored n g h ts us None a is some none f = (
   (ap (handles_of h) f.0 ∙ same_handles g h ts (same_live g h (none refl)), f.1),
   subst (IsLedger h) (sym f.0) (same_ledger g h ts is (none refl).1.realm (none refl).1.given),
@@ -165,26 +166,29 @@ alike t u g lt lu e =
     (e, fu.1 ∙ ap (λ x. serial_of x g) e ∙ sym ft.1, fu.0 ∙ sym ft.0)
 
 -- a release
-pub freed : (g h : Guard) (ts : List Ticket) (t : Ticket) (k : ℕ) → IsLedger g ts → StandsFor k (Some t) g ts → IsLive t g → Frees t.name g.space h.space → KeepsOthers t g h → range_of t h ≡ None → h ≡ record g { space = h.space }
+pub freed : (g h : Guard) (ts : List Ticket) (t : Ticket) (k : ℕ) → IsLedger g ts → IsNumberOf k (Some t) g ts → IsLive t g → Frees t.name g.space h.space → KeepsOthers t g h → range_of t h ≡ None
+    → h ≡ record g { space = h.space }
     → Serves (call.Command (command.Free k)) g ts h ts (Answer machine.Freed)
-freed g h ts t k is stands live frees others gone same = record {
+freed g h ts t k is is_number live frees others gone same = record {
   takes = (machine.Freed, if_some (kept_name (handles_of g ts) k) t.name _ _ named_k (frees, left k u.1, refl), refl);
   ledger = same_ledger g h ts is (ap (λ (g : Guard). g.realm) same) (ap (λ (g : Guard). g.given) same);
   grown = inl refl;
 }
   where
     named_k : kept_name (handles_of g ts) k ≡ Some t.name
-    named_k = stands ∙ live_named_by t g live
+    named_k = is_number ∙ live_named_by t g live
 
     u : (u : Ticket) × (ticket_of ts k ≡ Some u) × (u.name ≡ t.name) × IsLive u g
     u = kept_ticket g ts k t.name named_k
 
     left : (k : ℕ) → ticket_of ts k ≡ Some u.0 → handles_of h ts ≡ slice_set (handles_of g ts) (k - 1) None
     left zero e = absurd (cc)
-    left (suc i) e = freed_handles g h t u.0 g.realm 0 ts i is.order e (alike t u.0 g live u.3 u.2) others gone ∙ ap (λ j. slice_set (handles_of g ts) j None) (let f : i ≡ suc i - 1 = omega arith in f)
+    left (suc i) e = freed_handles g h t u.0 g.realm 0 ts i is.order e (alike t u.0 g live u.3 u.2) others gone
+        ∙ ap (λ j. slice_set (handles_of g ts) j None) (let f : i ≡ suc i - 1 = omega arith in f)
 
 -- a reset
-pub emptied : (g h : Guard) (ts : List Ticket) → IsLedger g ts → Resets g.space h.space → ((t : Ticket) → range_of t h ≡ None) → h ≡ record g { space = h.space } → Serves (call.Command command.Reset) g ts h ts (Answer machine.Reset)
+pub emptied : (g h : Guard) (ts : List Ticket) → IsLedger g ts → Resets g.space h.space → ((t : Ticket) → range_of t h ≡ None) → h ≡ record g { space = h.space }
+    → Serves (call.Command command.Reset) g ts h ts (Answer machine.Reset)
 emptied g h ts is resets gone same = record {
   takes = (machine.Reset, (resets, length-map ts (handle_of h) ∙ sym (length-map ts (handle_of g)), λ k. kept_of h ts k ∙ none (ticket_of ts k), refl), refl);
   ledger = same_ledger g h ts is (ap (λ (g : Guard). g.realm) same) (ap (λ (g : Guard). g.given) same);
@@ -196,7 +200,8 @@ emptied g h ts is resets gone same = record {
     none (Some t) = ap (λ b. option_map (λ (h : Grant). h.name) (handle_if b t)) (ap is_some (gone t))
 
 -- an extension
-pub extended : (more : ℕ) (g h : Guard) (ts : List Ticket) (done : Bool) (a : machine.Answer) → IsLedger g ts → Extends more g.space h.space done → KeepsAll g h → KeepsSerials g h → a ≡ (if done then machine.Extended else machine.Refused)
+pub extended : (more : ℕ) (g h : Guard) (ts : List Ticket) (done : Bool) (a : machine.Answer) → IsLedger g ts → Extends more g.space h.space done → KeepsAll g h → KeepsSerials g h
+    → a ≡ (if done then machine.Extended else machine.Refused)
     → Serves (call.Command (command.Extend more)) g ts h ts (Answer a)
 extended more g h ts done a is extends keeps same e = record {
   takes = (a, (done, extends, same_handles g h ts (λ t. ap is_some (keeps t)), e), refl);
@@ -213,14 +218,16 @@ sizes_live g h same t = sym (some_size (range_of t h)) ∙ ap is_some (same t) �
     some_size (Some r) = refl
 
 -- why a request is refused
-pub refusal_serves : (g : Guard) (ts : List Ticket) (c : Call) (k n : ℕ) (v : View) (why : Option Refusal) → IsLedger g ts → c ≡ call.Refusal n → v ≡ g.space → IsReason 1 n v why → Serves (renumber (λ j. k) c) g ts g ts (Refused_for why)
+pub refusal_serves : (g : Guard) (ts : List Ticket) (c : Call) (k n : ℕ) (v : View) (why : Option Refusal) → IsLedger g ts → c ≡ call.Refusal n → v ≡ g.space → IsReason 1 n v why
+    → Serves (renumber (λ j. k) c) g ts g ts (Refused_for why)
 refusal_serves g ts c k n v why is e f r = subst (λ c. Serves (renumber (λ j. k) c) g ts g ts (Refused_for why)) (sym e) (record {
   takes = ((refl, refl), (why, subst (λ v. IsReason 1 n v why) f r, refl));
   ledger = is;
   grown = inl refl;
 })
 
-pub refusal_aligned_serves : (g : Guard) (ts : List Ticket) (c : Call) (k n align : ℕ) (v : View) (why : Option Refusal) → IsLedger g ts → c ≡ call.RefusalAligned n align → v ≡ g.space → IsReason (blocks_needed align) (units_needed n align) v why
+pub refusal_aligned_serves : (g : Guard) (ts : List Ticket) (c : Call) (k n align : ℕ) (v : View) (why : Option Refusal) → IsLedger g ts → c ≡ call.RefusalAligned n align → v ≡ g.space
+    → IsReason (blocks_needed align) (units_needed n align) v why
     → Serves (renumber (λ j. k) c) g ts g ts (Refused_for why)
 refusal_aligned_serves g ts c k n align v why is e f r = subst (λ c. Serves (renumber (λ j. k) c) g ts g ts (Refused_for why)) (sym e) (record {
   takes = ((refl, refl), (why, subst (λ v. IsReason (blocks_needed align) (units_needed n align) v why) f r, refl));
@@ -229,7 +236,8 @@ refusal_aligned_serves g ts c k n align v why is e f r = subst (λ c. Serves (re
 })
 
 -- a full report
-pub full_serves : (g : Guard) (ts : List Ticket) (c : Command) (k : ℕ) (v : View) (a : machine.Answer) → IsLedger g ts → c ≡ command.Full → v ≡ g.space → a ≡ machine.Full (rows_below 256 (free_sizes v.blocks)) → Serves (call.Command (script.renumber (λ j. k) c)) g ts g ts (Answer a)
+pub full_serves : (g : Guard) (ts : List Ticket) (c : Command) (k : ℕ) (v : View) (a : machine.Answer) → IsLedger g ts → c ≡ command.Full → v ≡ g.space
+    → a ≡ machine.Full (rows_below 256 (free_sizes v.blocks)) → Serves (call.Command (script.renumber (λ j. k) c)) g ts g ts (Answer a)
 full_serves g ts c k v a is e f r = subst (λ c. Serves (call.Command (script.renumber (λ j. k) c)) g ts g ts (Answer a)) (sym e) (record {
   takes = (a, ((refl, refl), r ∙ ap (λ (v : View). machine.Full (rows_below 256 (free_sizes v.blocks))) f), refl);
   ledger = is;

@@ -6,7 +6,8 @@ use Rattle.offset_allocator.specs.declared.reports.Refusal.{Refusal}
 use Rattle.offset_allocator.specs.declared.reports.Refusal.TheVariants.{Nodes, TooLarge, Space, Fragmented}
 use Rattle.offset_allocator.specs.Classes.{value, up}
 use Rattle.offset_script.specs.Grammar.{has_valid_alignment}
-use Rattle.offset_script.specs.Machine.{Tag, Live, Free, Block, block, is_free, total, free_sizes, Place, place_of, chosen_place, free_block, free_start, without_start, State, returns_only, leaves, is_short_of, stamp_of_call, answer_view}
+use Rattle.offset_script.specs.Machine.{Tag, Live, Free, Block, block, is_free, total, free_sizes, Place, place_of, chosen_place, free_block, free_start, without_start, State, is_short_of}
+use Rattle.offset_script.specs.Machine.{stamp_of_call, answer_view}
 use Rattle.offset_script.specs.Machine as machine
 use Rattle.offset_script.specs.Totals.{live}
 use Rattle.offset_calls.specs.declared.calls.Call.{Call}
@@ -68,12 +69,16 @@ can_grow n p = nat_le p.block.size n && nat_le n (p.block.size + free_start p.af
 
 -- a live block and the free block directly after it become n live units and a free block of the rest
 abbrev pub resized : ℕ → State → Place → Outcome
-resized n s p = remakes s (p.before ++ (block n p.block.tag ∷ (free_block (p.block.size + free_start p.after - n) (stamp_of_call s) ++ without_start p.after))) Resized
+resized n s p = remakes s (p.before ++ (block n p.block.tag
+    ∷ (free_block (p.block.size + free_start p.after - n) (stamp_of_call s) ++ without_start p.after))) Resized
 
 -- a live block gets n units, where it can; nothing changes where it has as many
 abbrev pub resize : (Place → Bool) → ℕ → State → Option Place → Outcome
 resize can n s None = replies_only s (Answer machine.Gone)
-resize can n s (Some p) = if nat_eq n p.block.size then replies_only s Resized else if can p then resized n s p else replies_only s (Answer machine.Refused)
+resize can n s (Some p) =
+    if nat_eq n p.block.size then replies_only s Resized
+    else if can p then resized n s p
+    else replies_only s (Answer machine.Refused)
 
 -- ---- compacting
 
@@ -84,12 +89,16 @@ number (Free s) = 0
 
 -- the move of a live block, where it goes to another offset
 abbrev pub move_of : ℕ → ℕ → Block → List Move
-move_of from to b = if nat_eq from to then [] else record { number = number b.tag; from = from; to = to; size = b.size } ∷ []
+move_of from to b =
+    if nat_eq from to then []
+    else record { number = number b.tag; from = from; to = to; size = b.size } ∷ []
 
 -- the moves of the live ones of blocks that begin at an offset, if they are packed from another offset on
 abbrev pub moves : ℕ → ℕ → List Block → List Move
 moves from to [] = []
-moves from to (b ∷ bs) = if is_free b.tag then moves (from + b.size) to bs else move_of from to b ++ moves (from + b.size) (to + b.size) bs
+moves from to (b ∷ bs) =
+    if is_free b.tag then moves (from + b.size) to bs
+    else move_of from to b ++ moves (from + b.size) (to + b.size) bs
 
 -- one free block of all these sizes, or nothing where there are none
 abbrev pub gathered : ℕ → List ℕ → List Block
@@ -98,7 +107,8 @@ gathered stamp (n ∷ ns) = block (n + sum ns) (Free stamp) ∷ []
 
 -- the live blocks come first, in their order, and all free units are one block after them
 abbrev pub compact : State → Outcome
-compact s = remakes s (live s.blocks ++ gathered (stamp_of_call s) (free_sizes s.blocks)) (Compacted (moves 0 0 s.blocks))
+compact s = remakes s (live s.blocks ++ gathered (stamp_of_call s) (free_sizes s.blocks))
+    (Compacted (moves 0 0 s.blocks))
 
 -- ---- questions
 
@@ -109,11 +119,17 @@ offset_at (Some p) = Offset (total p.before)
 
 -- why no block is chosen for n units, in a space of this size with this many units free
 abbrev pub shortage : ℕ → ℕ → ℕ → Refusal
-shortage n size free = if nat_lt size (value (up n)) then TooLarge else if nat_lt free (max 1 (value (up n))) then Space else Fragmented
+shortage n size free =
+    if nat_lt size (value (up n)) then TooLarge
+    else if nat_lt free (max 1 (value (up n))) then Space
+    else Fragmented
 
 -- why a request is refused that may add `spare` blocks and takes the block chosen for n units
 abbrev pub reason : ℕ → ℕ → State → Option Refusal
-reason spare n s = if is_short_of spare s then Some Nodes else if is_some (chosen_place n s.blocks) then None else Some (shortage n (total s.blocks) (sum (free_sizes s.blocks)))
+reason spare n s =
+    if is_short_of spare s then Some Nodes
+    else if is_some (chosen_place n s.blocks) then None
+    else Some (shortage n (total s.blocks) (sum (free_sizes s.blocks)))
 
 -- ---- calls
 
@@ -125,7 +141,8 @@ step (call.Grow k n) s = resize (can_grow n) n s (place_of k s.blocks)
 step call.Compact s = compact s
 step (call.Offset k) s = replies_only s (offset_at (place_of k s.blocks))
 step (call.Refusal n) s = replies_only s (Refused_for (reason 1 n s))
-step (call.RefusalAligned n align) s = replies_only s (Refused_for (if nat_le align 1 then reason 1 n s else reason 2 (n + align - 1) s))
+step (call.RefusalAligned n align) s =
+    replies_only s (Refused_for (if nat_le align 1 then reason 1 n s else reason 2 (n + align - 1) s))
 
 -- the replies to calls in order
 abbrev pub replies : List Call → State → List Reply

@@ -1,13 +1,11 @@
 -- Laws over whole histories of calls.
-use Rattle.std.specs.Prelude.{◌≡◌, ◌≢◌, ℕ, ◌+◌, ◌-◌, List, [], ◌∷◌, ◌++◌, length, map, nat_le, if◌then◌else◌}
-use Rattle.offset_script.specs.declared.scripts.Command.TheVariants as command
-use Rattle.offset_script.specs.Histories.{number_without, raise_number, IsGrant, KeepsSpace}
+use Rattle.std.specs.Prelude.{ℕ, ◌+◌, ◌-◌, List, [], map, nat_le, if◌then◌else◌}
+use Rattle.offset_script.specs.Histories.{number_without, raise_number}
 use Rattle.offset_script.specs.Histories as script
-use Rattle.offset_script.specs.Machine.{State, start, total}
-use Rattle.offset_script.specs.Machine as machine
+use Rattle.offset_script.specs.Machine.{State}
 use Rattle.offset_calls.specs.declared.calls.Call.{Call}
 use Rattle.offset_calls.specs.declared.calls.Call.TheVariants as call
-use Rattle.offset_calls.specs.Calls.{Move, Reply, Answer, Compacted, step, after, replies}
+use Rattle.offset_calls.specs.Calls.{Move, Reply, Answer, Compacted, replies}
 
 -- a call with the function r applied to its grant number, if it has one
 abbrev pub renumber : (ℕ → ℕ) → Call → Call
@@ -33,7 +31,8 @@ raise g j other = other
 
 -- the replies from s on, numbered as those from t on, where t has made more grants
 abbrev pub replies_renumbered : State → State → List Call → List Reply
-replies_renumbered s t cs = map (raise s.grants (t.grants - s.grants)) (replies (map (renumber (number_without s.grants (t.grants - s.grants))) cs) s)
+replies_renumbered s t cs = map (raise s.grants (t.grants - s.grants))
+    (replies (map (renumber (number_without s.grants (t.grants - s.grants))) cs) s)
 
 -- whether a call is a question: it changes nothing
 abbrev pub IsQuestion : Call → Type 0

@@ -8,10 +8,9 @@ use Rattle.offset_allocator.specs.Requests.{CanGrant, IsWhy, blocks_needed, unit
 use Rattle.offset_allocator.specs.Resizing.{Shrinks, Grows}
 use Rattle.offset_allocator.specs.Compacting.{Compacts, moves}
 use Rattle.offset_allocator.specs.Compacting as named
-use Rattle.offset_script.specs.Agreement.{kept_name}
+use Rattle.offset_script.specs.Steps.{kept_name, IfNamed, Stays}
 use Rattle.offset_script.specs.Machine as machine
-use Rattle.offset_script.specs.Simulation.{IfNamed, Stays}
-use Rattle.offset_script.specs.Simulation as script
+use Rattle.offset_script.specs.Steps as script
 use Rattle.offset_calls.specs.declared.calls.Call.{Call}
 use Rattle.offset_calls.specs.declared.calls.Call.TheVariants as call
 use Rattle.offset_calls.specs.declared.calls.Moved.{Moved}
@@ -31,7 +30,8 @@ joined ks ms = []
 -- the moves of a compaction, each with the number of the grant whose handle has its name
 abbrev pub AreNumbered : List (Option Grant) → List named.Move → List Move → Type 0
 AreNumbered handles [] [] = Unit {0}
-AreNumbered handles (m ∷ ms) (r ∷ rs) = (kept_name handles r.number ≡ Some m.name) × (r.from ≡ m.from) × (r.to ≡ m.to) × (r.size ≡ m.size) × AreNumbered handles ms rs
+AreNumbered handles (m ∷ ms) (r ∷ rs) = (kept_name handles r.number ≡ Some m.name) × (r.from ≡ m.from) × (r.to ≡ m.to)
+    × (r.size ≡ m.size) × AreNumbered handles ms rs
 AreNumbered handles ms rs = ⊥
 
 -- why a request for these blocks and units is refused, or nothing where it is granted
@@ -42,13 +42,25 @@ IsReason blocks units v r = (r ≡ None ↔ CanGrant blocks units v) × IfSome r
 -- `handles` before it, and in `left` after it, that of grant k at k - 1 while the grant is live
 abbrev pub Takes : Call → View → List (Option Grant) → View → List (Option Grant) → Reply → Type 0
 Takes (call.Command c) v handles w left r = (a : machine.Answer) × script.Takes c v handles w left a × (r ≡ Answer a)
-Takes (call.Shrink k n) v handles w left r = IfNamed (kept_name handles k) (λ x. (done : Bool) × Shrinks x n v w done × (left ≡ handles) × (r ≡ (if done then Resized else Answer machine.Refused))) (Stays v handles w left × (r ≡ Answer machine.Gone))
-Takes (call.Grow k n) v handles w left r = IfNamed (kept_name handles k) (λ x. (done : Bool) × Grows x n v w done × (left ≡ handles) × (r ≡ (if done then Resized else Answer machine.Refused))) (Stays v handles w left × (r ≡ Answer machine.Gone))
-Takes call.Compact v handles w left r = Compacts v w × (left ≡ handles) × ((ms : List Move) × AreNumbered handles (moves 0 0 v.blocks) ms × (r ≡ Compacted ms))
-Takes (call.Offset k) v handles w left r = Stays v handles w left × IfNamed (kept_name handles k) (λ x. (o : ℕ) × (option_map (λ (q : Range). q.offset) (range_of x v) ≡ Some o) × (r ≡ Offset o)) (r ≡ Answer machine.Gone)
-Takes (call.Refusal n) v handles w left r = Stays v handles w left × ((why : Option Refusal) × IsReason 1 n v why × (r ≡ Refused_for why))
-Takes (call.RefusalAligned n align) v handles w left r = Stays v handles w left × ((why : Option Refusal) × IsReason (blocks_needed align) (units_needed n align) v why × (r ≡ Refused_for why))
+Takes (call.Shrink k n) v handles w left r = IfNamed (kept_name handles k)
+    (λ x. (done : Bool) × Shrinks x n v w done × (left ≡ handles)
+    × (r ≡ (if done then Resized else Answer machine.Refused)))
+    (Stays v handles w left × (r ≡ Answer machine.Gone))
+Takes (call.Grow k n) v handles w left r = IfNamed (kept_name handles k)
+    (λ x. (done : Bool) × Grows x n v w done × (left ≡ handles)
+    × (r ≡ (if done then Resized else Answer machine.Refused)))
+    (Stays v handles w left × (r ≡ Answer machine.Gone))
+Takes call.Compact v handles w left r = Compacts v w × (left ≡ handles)
+    × ((ms : List Move) × AreNumbered handles (moves 0 0 v.blocks) ms × (r ≡ Compacted ms))
+Takes (call.Offset k) v handles w left r = Stays v handles w left × IfNamed (kept_name handles k)
+    (λ x. (o : ℕ) × (option_map (λ (q : Range). q.offset) (range_of x v) ≡ Some o) × (r ≡ Offset o))
+    (r ≡ Answer machine.Gone)
+Takes (call.Refusal n) v handles w left r = Stays v handles w left
+    × ((why : Option Refusal) × IsReason 1 n v why × (r ≡ Refused_for why))
+Takes (call.RefusalAligned n align) v handles w left r = Stays v handles w left
+    × ((why : Option Refusal) × IsReason (blocks_needed align) (units_needed n align) v why × (r ≡ Refused_for why))
 
 -- each used block has a handle that is kept
 abbrev pub AreKept : View → List (Option Grant) → Type 0
-AreKept v handles = AllByRecursion (λ (b : Block). b.used ≡ true → (k : ℕ) × (kept_name handles k ≡ Some b.name)) v.blocks
+AreKept v handles =
+    AllByRecursion (λ (b : Block). b.used ≡ true → (k : ℕ) × (kept_name handles k ≡ Some b.name)) v.blocks

@@ -1,12 +1,13 @@
 -- Calls on a guarded allocator: the tickets of its grants, and what a call that passes any ticket means.
-use Rattle.std.specs.Prelude.{◌≡◌, ℕ, zero, suc, ◌+◌, Bool, false, ◌&&◌, ◌⊎◌, List, [], ◌∷◌, ◌++◌, length, map, Option, Some, None, is_some, nat_eq, slice_get, option_map, option_and_then, if◌then◌else◌}
+use Rattle.std.specs.Prelude.{◌≡◌, ℕ, zero, suc, ◌+◌, Bool, false, ◌&&◌, ◌⊎◌, List, [], ◌∷◌, ◌++◌, length, map, Option, Some, None, is_some, nat_eq, slice_get, option_map, option_and_then}
+use Rattle.std.specs.Prelude.{if◌then◌else◌}
 use Rattle.std.specs.Option.{option_map_or, option_or}
 use Rattle.offset_allocator.specs.View.{Grant}
 use Rattle.offset_guarded.specs.declared.ticket.Ticket.{Ticket}
 use Rattle.offset_guarded.specs.Guard.{Guard, grant_of, range_of}
 use Rattle.offset_script.specs.declared.scripts.Command.{Command}
 use Rattle.offset_script.specs.declared.scripts.Command.TheVariants as command
-use Rattle.offset_script.specs.Agreement.{kept_name}
+use Rattle.offset_script.specs.Steps.{kept_name}
 use Rattle.offset_script.specs.Machine as machine
 use Rattle.offset_calls.specs.declared.calls.Call.{Call}
 use Rattle.offset_calls.specs.declared.calls.Call.TheVariants as call
@@ -78,19 +79,19 @@ abbrev pub live_name : Option Ticket → Guard → Option ℕ
 live_name o g = option_and_then (λ (t : Ticket). option_map (λ (h : Grant). h.name) (handle_of g t)) o
 
 -- the grant of this number is live exactly if the ticket is, and then they have one name
-abbrev pub StandsFor : ℕ → Option Ticket → Guard → List Ticket → Type 0
-StandsFor k o g ts = kept_name (handles_of g ts) k ≡ live_name o g
+abbrev pub IsNumberOf : ℕ → Option Ticket → Guard → List Ticket → Type 0
+IsNumberOf k o g ts = kept_name (handles_of g ts) k ≡ live_name o g
 
 -- there is at most one more ticket
-abbrev pub Grown : List Ticket → List Ticket → Type 0
-Grown ts us = (us ≡ ts) ⊎ ((t : Ticket) × (us ≡ ts ++ t ∷ []))
+abbrev pub IsGrown : List Ticket → List Ticket → Type 0
+IsGrown ts us = (us ≡ ts) ⊎ ((t : Ticket) × (us ≡ ts ++ t ∷ []))
 
--- the step of a call from one guarded allocator to the next, with this reply: before it the tickets of the grants so far
--- are those in `ts`, and after it those in `us`
+-- the step of a call from one guarded allocator to the next, with this reply: before it the tickets of the grants so
+-- far are those in `ts`, and after it those in `us`
 pub record Serves (c : Call) (g : Guard) (ts : List Ticket) (h : Guard) (us : List Ticket) (r : Reply) : Type 0 where
   pub takes : Takes c g.space (handles_of g ts) h.space (handles_of h us) r
   pub ledger : IsLedger h us
-  pub grown : Grown ts us
+  pub grown : IsGrown ts us
 
 -- the answer to a request with this result; the ticket of a grant is kept
 abbrev pub IsStored : Option Ticket → List Ticket → List Ticket → machine.Answer → Type 0

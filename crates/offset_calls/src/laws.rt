@@ -2,7 +2,7 @@
 
 ghost use Rattle.std.specs.Prelude.{◌≡◌, ◌≤◌, ◌++◌, ◌∷◌, ℕ, List, map};
 ghost use Rattle.offset_script.specs.declared.scripts.Command.{Command};
-ghost use Rattle.offset_script.specs.Histories.{HasNoLive, IsCollapse, Nest, collapse, outline, releases};
+ghost use Rattle.offset_script.specs.Histories.{HasNoLive, IsCollapse, IsNest, collapse, outline, releases};
 ghost use Rattle.offset_script.specs.Machine as machine;
 ghost use Rattle.offset_script.specs.Machine.{State, start, total};
 ghost use Rattle.offset_calls.specs.declared.calls.Call.{Call};
@@ -20,15 +20,17 @@ pub fn commands_have_their_answers()
 /// A space without live grants continues as a fresh one of its size, with every call; grant numbers are larger by the
 /// grants so far, in moves too.
 pub fn an_empty_space_continues_as_fresh()
-    ensures { (size limit : ℕ) → 2 ≤ limit → (cs : List Call) → let s = after cs (start size limit) in
-        HasNoLive s → (next : List Call) → replies next s ≡ replies_renumbered (start (total s.blocks) s.limit) s next }
+    ensures { (size limit : ℕ) → 2 ≤ limit → (cs : List Call)
+        → let s = after cs (start size limit) in
+        HasNoLive s → (next : List Call)
+        → replies next s ≡ replies_renumbered (start (total s.blocks) s.limit) s next }
 {}
 
 /// A nest of commands leaves no trace in the replies to any calls after it. Nothing is resized or compacted in a nest.
 pub fn a_nest_leaves_no_trace()
     ensures { (size limit : ℕ) → 2 ≤ limit → (cs : List Call) (nest : List Command)
         → let s = after cs (start size limit) in
-        Nest s nest → (next : List Call)
+        IsNest s nest → (next : List Call)
         → replies next (machine.after nest s) ≡ replies_renumbered s (machine.after nest s) next }
 {}
 
@@ -48,7 +50,8 @@ pub fn releases_commute()
 
 /// A question, put anywhere into the calls, changes no other reply.
 pub fn a_question_changes_nothing()
-    ensures { (size limit : ℕ) → 2 ≤ limit → (before : List Call) (q : Call) (rest : List Call) → IsQuestion q
+    ensures { (size limit : ℕ) → 2 ≤ limit
+        → (before : List Call) (q : Call) (rest : List Call) → IsQuestion q
         → let s = after before (start size limit) in
         replies (before ++ q ∷ rest) (start size limit)
         ≡ replies before (start size limit) ++ ((step q s).reply ∷ replies rest s) }

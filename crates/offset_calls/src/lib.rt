@@ -6,6 +6,7 @@
 #![tactic(auto)]
 
 mod calls;
+mod desk;
 mod guarded;
 pub mod laws;
 mod playing;

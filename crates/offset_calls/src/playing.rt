@@ -1,11 +1,11 @@
 //! Plays calls on an allocator.
 
-ghost use Rattle.std.specs.Prelude.{◌≡◌, ◌+◌, ◌-◌, ◌<◌, ◌≤◌, ◌++◌, ◌∷◌, [], All, Bool, IfOk, IsTrue, ℕ, Some, drop, false, if◌then◌else◌, length, map};
+ghost use Rattle.std.specs.Prelude.{◌≡◌, ◌+◌, ◌-◌, ◌<◌, ◌≤◌, ◌++◌, ◌∷◌, [], All, IfOk, IsTrue, ℕ, Some, drop, false};
+ghost use Rattle.std.specs.Prelude.{if◌then◌else◌, length, map};
 ghost use Rattle.offset_allocator.specs.Compacting.{Compacts, live, moves};
-ghost use Rattle.offset_script.specs.Agreement.{kept_name};
+ghost use Rattle.offset_script.specs.Steps.{kept_name, AreLive, AreOfARun};
 ghost use Rattle.offset_script.specs.Machine as machine;
 ghost use Rattle.offset_script.specs.Machine.{start};
-ghost use Rattle.offset_script.specs.Simulation.{AreLive, AreOfARun};
 ghost use Rattle.offset_calls.specs.Calls.{is_valid, move_view, replies, reply_view};
 ghost use Rattle.offset_calls.specs.Calls as plain;
 ghost use Rattle.offset_calls.specs.Steps.{AreKept, AreMoves, Takes, joined};
@@ -53,7 +53,8 @@ fn grow<NI: NodeIndex>(player: &mut Player<NI>, number: u32, size: u32) -> Reply
 
 // The number of the grant whose handle has the name of this one, or 0.
 fn number_of<NI: NodeIndex>(handles: &[Option<Allocation<NI>>], handle: Allocation<NI>) -> u64
-    ensures { (k : ℕ) → kept_name handles.now k ≡ Some handle.name → kept_name handles.now result ≡ Some handle.name }
+    ensures { (k : ℕ) → kept_name handles.now k ≡ Some handle.name
+        → kept_name handles.now result ≡ Some handle.name }
 {
     for i in 0..handles.len() {
         if let Some(kept) = handles[i] {
@@ -120,7 +121,8 @@ impl Moves {
 // Compacts a space, and collects the moves.
 fn collect<NI: NodeIndex>(space: &mut Allocator<NI>, seen: &mut Moves)
     requires { seen.old.found.items ≡ [] }
-    ensures moves { seen.new.is_refused ≡ false → AreMoves seen.new.found.items (moves 0 0 space.old.blocks) }
+    ensures moves { seen.new.is_refused ≡ false
+        → AreMoves seen.new.found.items (moves 0 0 space.old.blocks) }
     ensures step { Compacts space.old space.new }
 {
     space.compact(&mut |range: Move<NI>| seen.add(range.from, range.to, range.size));
@@ -225,9 +227,11 @@ pub fn play_calls<NI: NodeIndex>(
     // Each alignment is a power of two.
     requires valid { All (λ c. IsTrue (is_valid c)) calls.now }
     // The replies are those of the plain machine to these calls, from one free block of `size` units.
-    ensures replies { IfOk result (λ found. map reply_view found.items ≡ replies calls.now (start size max_allocs)) }
+    ensures replies { IfOk result (λ found. map reply_view found.items
+        ≡ replies calls.now (start size max_allocs)) }
     // They are those of a run of the allocator's named steps on a fresh space.
-    ensures run { IfOk result (λ found. AreOfARun Takes size max_allocs calls.now (map reply_view found.items)) }
+    ensures run { IfOk result (λ found. AreOfARun Takes size max_allocs calls.now
+        (map reply_view found.items)) }
 {
     let mut player: Player<NI> = Player::start(alloc, size, max_allocs)?;
     // A step of the proof, which does nothing, here and below.

@@ -1,16 +1,17 @@
 -- Which tickets are live, and what a grant leaves of them.
-use Rattle.std.proofs.Common.{◌≡◌, ◌≢◌, ℕ, ◌+◌, ◌<◌, ◌≤◌, length, Bool, true, false, ◌&&◌, List, [], ◌∷◌, Option, Some, None, IsSome, is_some, nat_eq, option_map, slice_set, if◌then◌else◌, refl, sym, ap, ap₂, subst, ◌∙◌, inl, inr, arith, eq-eqb, ne_eqb}
+use Rattle.std.proofs.Common.{◌≡◌, ◌≢◌, ℕ, ◌+◌, ◌<◌, ◌≤◌, length, Bool, true, false, ◌&&◌, List, [], ◌∷◌, Option, Some, None, IsSome, nat_eq, option_map, slice_set, if◌then◌else◌, refl, sym}
+use Rattle.std.proofs.Common.{ap, ap₂, subst, ◌∙◌, inl, inr, arith, eq-eqb, ne_eqb}
 use Rattle.std.proofs.lemmas.Bool.{cases_eq, eqb-true, and_parts}
 use Rattle.std.proofs.lemmas.List.{get_or-set_same, get_or-set_other}
-use Rattle.offset_allocator.specs.View.{Block, View, Grant, Place, IsWellFormed, count_named, place_of, free_block}
+use Rattle.offset_allocator.specs.View.{Block, View, Grant, Place, IsWellFormed, count_named, place_of}
 use Rattle.offset_allocator.specs.Ranges.{Range}
 use Rattle.offset_allocator.specs.Ranges as named
-use Rattle.offset_allocator.specs.Relations.{Aligns, Allocates, IsFresh}
+use Rattle.offset_allocator.specs.Relations.{Aligns, Allocates}
 use Rattle.offset_allocator.specs.Requests.{CanGrant}
 use Rattle.offset_allocator.proofs.Reading.{range_at}
 use Rattle.offset_allocator.proofs.Tallies.{hit_cases}
 use Rattle.offset_guarded.specs.declared.ticket.Ticket.{Ticket}
-use Rattle.offset_guarded.specs.Guard.{Guard, Table, Grants, AreAlike, HasUnits, IsGuarded, IsLive, KeepsLive, KeepsOthers, KeepsSerials, last_serial, cell, fits, grant_of, range_of, serial_of}
+use Rattle.offset_guarded.specs.Guard.{Guard, Table, Grants, AreAlike, IsGuarded, IsLive, KeepsOthers, last_serial, cell, fits, range_of, serial_of}
 
 -- what the fields show
 abbrev pub guard : View → Table → ℕ → Guard
@@ -41,47 +42,12 @@ no_realm t g n = ap (λ b. b && nat_eq t.serial (serial_of t.name g)) (ne_eqb t.
 
 -- a live ticket fits
 pub live_fits : (t : Ticket) (g : Guard) → IsLive t g → (t.realm ≡ g.realm) × (t.serial ≡ serial_of t.name g)
-live_fits t g h = let p = and_parts (nat_eq t.realm g.realm) (nat_eq t.serial (serial_of t.name g)) (fits_if (fits t g) (named.range_of t.name g.space) h) in (eqb-true t.realm g.realm p.0, eqb-true t.serial (serial_of t.name g) p.1)
+live_fits t g h = let p = and_parts (nat_eq t.realm g.realm) (nat_eq t.serial (serial_of t.name g)) (fits_if (fits t g) (named.range_of t.name g.space) h) in
+    (eqb-true t.realm g.realm p.0, eqb-true t.serial (serial_of t.name g) p.1)
   where
     fits_if : (b : Bool) (o : Option Range) → IsSome (range_if b o) → b ≡ true
     fits_if true o h = refl
     fits_if false o h = cc
-
--- where only the range of one live name changes, all other tickets keep theirs
-pub keeps_others : (t : Ticket) (g h : Guard) → IsLive t g → KeepsSerials g h → named.KeepsOthers t.name g.space h.space → KeepsOthers t g h
-keeps_others t g h live same others u d = elim (cases_eq u.name t.name) [
-  | inr n ↦ ap₂ range_if fit (others u.name n)
-  | inl e ↦ ap (λ b. range_if b (named.range_of u.name h.space)) (fit ∙ no e) ∙ sym (ap (λ b. range_if b (named.range_of u.name g.space)) (no e))
-]
-  where
-    fit : fits u h ≡ fits u g
-    fit = ap₂ (λ r s. nat_eq u.realm r && nat_eq u.serial s) same.realm (same.cells u.name)
-
-    no : u.name ≡ t.name → fits u g ≡ false
-    no e = elim (cases_eq u.serial t.serial) [
-      | inr n ↦ no_serial u g (λ q. n (q ∙ ap (λ x. serial_of x g) e ∙ sym (live_fits t g live).1))
-      | inl s ↦ no_realm u g (λ r. d (e, s, r ∙ sym (live_fits t g live).0))
-    ]
-
--- where the range of one live ticket gets another size, all tickets that were live are, and no other
-pub keeps_live : (t : Ticket) (n : ℕ) (g h : Guard) → IsLive t g → KeepsOthers t g h → HasUnits t n g h → KeepsLive g h
-keeps_live t n g h live others units u = elim (cases_eq u.name t.name) [
-  | inr m ↦ ap is_some (others u (λ a. m a.0))
-  | inl e ↦ elim (cases_eq u.serial t.serial) [
-    | inr m ↦ ap is_some (others u (λ a. m a.1))
-    | inl s ↦ elim (cases_eq u.realm t.realm) [
-      | inr m ↦ ap is_some (others u (λ a. m a.2))
-      | inl r ↦ ap is_some (alike e s r h) ∙ still (range_of t g) refl live ∙ sym (ap is_some (alike e s r g))
-    ]
-  ]
-]
-  where
-    alike : u.name ≡ t.name → u.serial ≡ t.serial → u.realm ≡ t.realm → (k : Guard) → range_of u k ≡ range_of t k
-    alike e s r k = ap₂ (λ x b. range_if b (named.range_of x k.space)) e (ap₂ (λ r c. nat_eq r k.realm && c) r (ap₂ (λ s c. nat_eq s c) s (ap (λ x. serial_of x k) e)))
-
-    still : (o : Option Range) → range_of t g ≡ o → IsSome o → is_some (range_of t h) ≡ is_some (range_of t g)
-    still None e l = cc
-    still (Some r) e l = ap is_some (units r e) ∙ sym (ap is_some e)
 
 -- a live ticket has a live name
 pub live_name : (t : Ticket) (g : Guard) → IsLive t g → named.IsLive t.name g.space
@@ -105,14 +71,6 @@ is_named x v h = elim (cases_eq (count_named x v.blocks) 0) [ inl e ↦ absurd (
 pub no_such : (max : ℕ) (ticket : Ticket) (g : Guard) (v : View) (t : Table) (realm : ℕ) → guard v t realm ≡ g → v.max_allocs < max → IsWellFormed v → max ≤ ticket.name → IsLive ticket g → ⊥
 no_such max ticket g v t realm shows admitted w above h = no_range ticket.name v (w.below ticket.name (omega arith)) (live_name ticket (guard v t realm) (subst (IsLive ticket) (sym shows) h))
 
--- a fresh space has no live name
-pub fresh_none : (size limit : ℕ) (v : View) → IsFresh size limit v → (x : ℕ) → named.IsLive x v → ⊥
-fresh_none size limit v f x h = none (nat_eq x f.name) (subst (λ (z : View). named.IsLive x z) f.view h)
-  where
-    none : (b : Bool) → IsSome (range_at (if b then Some (record { before = []; block = free_block f.name size; after = [] }) else None)) → ⊥
-    none true h = cc
-    none false h = cc
-
 -- the serials after one more
 pub cell_set : (cells : List ℕ) (name s x : ℕ) → name < length cells → cell x (slice_set cells name s) ≡ (if nat_eq x name then s else cell x cells)
 cell_set cells name s x l = elim (cases_eq x name) [
@@ -121,7 +79,8 @@ cell_set cells name s x l = elim (cases_eq x name) [
 ]
 
 -- the serials after the next one is given to the name y, from cells that are those of t
-pub cell_given : (made next t : Table) (y name x : ℕ) → next ≡ record made { cells = slice_set made.cells y (made.given + 1); given = made.given + 1 } → y ≡ name → y < length made.cells → made.given ≡ t.given → cell x made.cells ≡ cell x t.cells
+pub cell_given : (made next t : Table) (y name x : ℕ) → next ≡ record made { cells = slice_set made.cells y (made.given + 1); given = made.given + 1 } → y ≡ name → y < length made.cells
+    → made.given ≡ t.given → cell x made.cells ≡ cell x t.cells
     → cell x next.cells ≡ (if nat_eq x name then t.given + 1 else cell x t.cells)
 cell_given made next t y name x e same l given cells =
     ap (λ (t : Table). cell x t.cells) e
@@ -193,5 +152,6 @@ module _ (max n realm : ℕ) (v w : View) (t u : Table) (h : Grant) (is : IsGuar
   granted_as g z shows same = subst (λ g. Grants n g (guard w u realm) z) shows (subst (λ z. Grants n (guard v t realm) (guard w u realm) z) (sym same) granted)
 
 -- the answer to a request that is granted
-pub can_grant : (blocks units : ℕ) (g h : Guard) → g ≡ h → g.given < last_serial → CanGrant blocks units g.space → (true ≡ true → (h.given < last_serial) × CanGrant blocks units h.space) × ((h.given < last_serial) × CanGrant blocks units h.space → true ≡ true)
+pub can_grant : (blocks units : ℕ) (g h : Guard) → g ≡ h → g.given < last_serial → CanGrant blocks units g.space
+    → (true ≡ true → (h.given < last_serial) × CanGrant blocks units h.space) × ((h.given < last_serial) × CanGrant blocks units h.space → true ≡ true)
 can_grant blocks units g h shows left can = (λ e. subst (λ h. (h.given < last_serial) × CanGrant blocks units h.space) shows (left, can), λ h. refl)

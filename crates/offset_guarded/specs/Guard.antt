@@ -67,7 +67,8 @@ KeepsLive g h = (t : Ticket) → is_some (range_of t h) ≡ is_some (range_of t 
 
 -- every ticket has as many units as it had, and no other is live
 abbrev pub KeepsSizes : Guard → Guard → Type 0
-KeepsSizes g h = (t : Ticket) → option_map (λ (r : Range). r.size) (range_of t h) ≡ option_map (λ (r : Range). r.size) (range_of t g)
+KeepsSizes g h = (t : Ticket) → option_map (λ (r : Range). r.size) (range_of t h)
+    ≡ option_map (λ (r : Range). r.size) (range_of t g)
 
 -- a ticket has n units after the call, from the same offset on
 abbrev pub HasUnits : Ticket → ℕ → Guard → Guard → Type 0
@@ -87,6 +88,10 @@ IsSame g h = SameSpace g.space h.space × KeepsSerials g h
 abbrev pub grant_of : Ticket → Grant
 grant_of t = record { name = t.name; offset = t.offset }
 
+-- a serial is left for one more grant
+abbrev pub HasSerialLeft : Guard → Type 0
+HasSerialLeft g = g.given < last_serial
+
 -- what a grant of n units is
 pub record Grants (n : ℕ) (g h : Guard) (t : Ticket) : Type 0 where
   -- its serial is the next one, so no earlier grant has it
@@ -104,7 +109,7 @@ pub record Grants (n : ℕ) (g h : Guard) (t : Ticket) : Type 0 where
 -- why a request that may add these blocks and takes these units is refused
 abbrev pub IsWhy : ℕ → ℕ → Guard → Refusal → Type 0
 IsWhy blocks units g Serials = g.given ≡ last_serial
-IsWhy blocks units g (Allocator why) = (g.given < last_serial) × allocator.IsWhy blocks units g.space why
+IsWhy blocks units g (Allocator why) = HasSerialLeft g × allocator.IsWhy blocks units g.space why
 
 -- what is true of the fields between two calls
 pub record IsGuarded (max : ℕ) (space : View) (t : Table) : Type 0 where

@@ -13,23 +13,22 @@
 //! ```
 #![tactic(auto)]
 
-ghost use Rattle.std.specs.Prelude.{ℕ, ◌≡◌, ◌≢◌, ◌↔◌, ◌+◌, ◌-◌, ◌*◌, ◌%◌, ◌<◌, ◌≤◌, min, None, Some, false, true, [], IsTrue, IsSome, IfSome, IfOk, MatchOption, if◌then◌else◌, length, nat_eq, option_map};
-ghost use Rattle.std.specs.List.{FoldsTo};
+ghost use Rattle.std.specs.Prelude.{◌≡◌, ◌↔◌, ◌+◌, ◌-◌, ◌*◌, ◌<◌, ◌≤◌, min, None, Some, false, true, [], IsTrue};
+ghost use Rattle.std.specs.Prelude.{IsSome, IfSome, IfOk, MatchOption, option_map};
 ghost use Rattle.offset_allocator.specs.Ranges.{Range};
 ghost use Rattle.offset_allocator.specs.Ranges as named;
-ghost use Rattle.offset_allocator.specs.View.{largest_free, used_of};
-ghost use Rattle.offset_allocator.specs.Relations.{Aligns, Allocates, CanExtend, Extends, Frees, IsAlignment, IsFresh, Resets};
-ghost use Rattle.offset_allocator.specs.Requests.{CanGrant, HasRoomFor, blocks_needed, units_needed};
-ghost use Rattle.offset_allocator.specs.Resizing.{CanGrow, CanShrink, Grows, Shrinks};
-ghost use Rattle.offset_allocator.specs.Compacting.{Compacts, IsCalledWith, moves};
-ghost use Rattle.offset_guarded.specs.Guard.{Grants, HasUnits, IsLive, IsSame, IsWhy, KeepsAll, KeepsLive, KeepsOthers, KeepsSerials, KeepsSizes, cell, grant_of, last_serial, range_of, serial_of};
+ghost use Rattle.offset_allocator.specs.View.{used_of};
+ghost use Rattle.offset_allocator.specs.Relations.{Frees, IsFresh, Resets};
+ghost use Rattle.offset_guarded.specs.Guard.{IsLive, KeepsOthers, last_serial, range_of, serial_of};
 
+mod changing;
+mod granting;
 mod refusal;
 mod serials;
 mod ticket;
 
 use offset_allocator::laws::is_well_formed;
-use offset_allocator::{Allocation, Allocator, Move, NodeIndex};
+use offset_allocator::{Allocation, Allocator, NodeIndex};
 pub use refusal::Refusal;
 use serials::Serials;
 use std::alloc::{AllocError, Global};
@@ -51,34 +50,14 @@ impl<NI: NodeIndex> Model for Guarded<NI> {
 
     ghost Value = { Guard };
 
-    ghost view = { λ a. record { space = a.space; serials = a.serials.cells; given = a.serials.given; realm = a.realm } };
+    ghost view = { λ a. record {
+      space = a.space;
+      serials = a.serials.cells;
+      given = a.serials.given;
+      realm = a.realm;
+    } };
 
     ghost invariant = { λ a. IsGuarded NI.MAX a.space a.serials };
-}
-
-// Gives the next serial to a grant.
-fn ticket_for<NI: NodeIndex>(
-    space: &Allocator<NI>,
-    serials: &mut Serials,
-    realm: u32,
-    handle: Allocation<NI>,
-) -> Ticket
-    requires live { named.IsLive handle.name space.now }
-    requires room { space.now.max_allocs ≤ serials.old.room }
-    requires left { serials.old.given < last_serial }
-    ensures cells { (x : ℕ) → cell x serials.new.cells ≡ (if nat_eq x handle.name then serials.old.given + 1 else cell x serials.old.cells) }
-    ensures given { serials.new.given ≡ serials.old.given + 1 }
-    ensures room { serials.new.room ≡ serials.old.room }
-    ensures ticket { result ≡ record { offset = handle.offset; name = handle.name; serial = serials.old.given + 1; realm = realm } }
-{
-    serials.cover(space.node_count());
-    let (offset, name) = handle.to_parts();
-    Ticket {
-        offset,
-        name,
-        serial: serials.give(name),
-        realm,
-    }
 }
 
 impl<NI: NodeIndex> Guarded<NI> {
@@ -143,7 +122,8 @@ impl<NI: NodeIndex> Guarded<NI> {
     // The handle of a live ticket.
     fn handle(&self, ticket: Ticket) -> Option<Allocation<NI>>
         ensures live { IsSome result ↔ IsLive ticket self.now }
-        ensures range { IfSome result (λ h. (h.name ≡ ticket.name) × (range_of ticket self.now ≡ named.range_of ticket.name self.now.space)) }
+        ensures range { IfSome result (λ h. (h.name ≡ ticket.name)
+            × (range_of ticket self.now ≡ named.range_of ticket.name self.now.space)) }
     {
         if ticket.realm != self.realm || ticket.serial != self.serials.at(ticket.name) {
             return None;
@@ -193,7 +173,12 @@ impl<NI: NodeIndex> Guarded<NI> {
     /// where the handle is not live.
     pub fn ticket(&self, handle: Allocation<NI>) -> Option<Ticket>
         ensures { MatchOption result (named.range_of handle.name self.now.space ≡ None)
-            (λ t. (t ≡ record { offset = t.offset; name = handle.name; serial = serial_of handle.name self.now; realm = self.now.realm })
+            (λ t. (t ≡ record {
+              offset = t.offset;
+              name = handle.name;
+              serial = serial_of handle.name self.now;
+              realm = self.now.realm;
+            })
             × (range_of t self.now ≡ named.range_of handle.name self.now.space)
             × (option_map (λ (r : Range). r.offset) (range_of t self.now) ≡ Some t.offset)) }
     {
@@ -206,57 +191,6 @@ impl<NI: NodeIndex> Guarded<NI> {
                 serial: self.serials.at(name),
                 realm: self.realm,
             }),
-        }
-    }
-
-    /// Grants a range of `size` units, and returns its ticket: of the range that `Allocator::allocate` grants, with the
-    /// next serial.
-    ///
-    /// `None` is returned where that call returns `None`, and where all serials are given; then nothing changes.
-    pub fn allocate(&mut self, size: u32) -> Option<Ticket>
-        // It is granted exactly when a serial is left and the allocator can grant it: for at least one unit, when
-        // `size` is at most the reported `largest_free_region`.
-        ensures granted { 1 ≤ size → (IsSome result
-            ↔ ((self.old.given < last_serial) × (size ≤ largest_free self.old.space))) }
-        ensures can_grant { IsSome result ↔ ((self.old.given < last_serial) × CanGrant 1 size self.old.space) }
-        // A grant has the next serial, and its ticket was not live. Its range has exactly `size` units, lies in the
-        // space, and overlaps no live range. Every other ticket keeps its range, if it has one.
-        ensures grants { IfSome result (Grants size self.old self.new) }
-        // A refusal leaves all as it was.
-        ensures same { result ≡ None → IsSame self.old self.new }
-        // The step of the allocator, where a serial is left.
-        ensures step { self.old.given < last_serial → Allocates size self.old.space self.new.space (option_map grant_of result) }
-        ensures accesses_max { self.new.space.accesses ≤ self.old.space.accesses + 64 }
-    {
-        if self.serials.is_spent() {
-            return None;
-        }
-        match self.space.allocate(size) {
-            None => None,
-            Some(handle) => Some(ticket_for(&self.space, &mut self.serials, self.realm, handle)),
-        }
-    }
-
-    /// Grants `size` units that begin at a multiple of `align`, a power of two: the range that
-    /// `Allocator::allocate_aligned` grants, with the next serial.
-    ///
-    /// `None` is returned where that call returns `None`, and where all serials are given; then nothing changes.
-    pub fn allocate_aligned(&mut self, size: u32, align: u32) -> Option<Ticket>
-        requires power { IsAlignment align }
-        ensures can_grant { IsSome result ↔ ((self.old.given < last_serial)
-            × CanGrant (blocks_needed align) (units_needed size align) self.old.space) }
-        ensures grants { IfSome result (Grants size self.old self.new) }
-        ensures aligned { IfSome result (λ t. t.offset % align ≡ 0) }
-        ensures same { result ≡ None → IsSame self.old self.new }
-        ensures step { self.old.given < last_serial → Aligns size align self.old.space self.new.space (option_map grant_of result) }
-        ensures accesses_max { self.new.space.accesses ≤ self.old.space.accesses + 128 }
-    {
-        if self.serials.is_spent() {
-            return None;
-        }
-        match self.space.allocate_aligned(size, align) {
-            None => None,
-            Some(handle) => Some(ticket_for(&self.space, &mut self.serials, self.realm, handle)),
         }
     }
 
@@ -287,76 +221,6 @@ impl<NI: NodeIndex> Guarded<NI> {
         }
     }
 
-    /// Makes the range of a ticket smaller in place, as `Allocator::shrink` does, and returns whether it did; or `None`
-    /// where the ticket is not live, and then nothing changes.
-    pub fn shrink(&mut self, ticket: Ticket, size: u32) -> Option<bool>
-        ensures live { IsSome result ↔ IsLive ticket self.old }
-        ensures done { IfSome result (λ done. IsTrue done ↔ CanShrink ticket.name size self.old.space) }
-        // Then the range has `size` units, from its first one on. Every other ticket keeps its range.
-        ensures range { result ≡ Some true → HasUnits ticket size self.old self.new }
-        ensures others { KeepsOthers ticket self.old self.new }
-        ensures kept { KeepsLive self.old self.new }
-        // A refusal leaves all as it was, and a ticket that is not live changes nothing at all.
-        ensures same { result ≡ Some false → IsSame self.old self.new }
-        ensures gone { result ≡ None → self.new ≡ self.old }
-        // The step of the allocator. All serials stay.
-        ensures step { IfSome result (Shrinks ticket.name size self.old.space self.new.space) }
-        ensures serials { KeepsSerials self.old self.new }
-        ensures accesses_max { self.new.space.accesses ≤ self.old.space.accesses + 128 }
-    {
-        match self.handle(ticket) {
-            None => None,
-            Some(handle) => {
-                let done = self.space.shrink(handle, size);
-                self.serials.cover(self.space.node_count());
-                Some(done)
-            }
-        }
-    }
-
-    /// Makes the range of a ticket larger in place, as `Allocator::grow_in_place` does, and returns whether it did; or
-    /// `None` where the ticket is not live, and then nothing changes.
-    pub fn grow_in_place(&mut self, ticket: Ticket, size: u32) -> Option<bool>
-        ensures live { IsSome result ↔ IsLive ticket self.old }
-        ensures done { IfSome result (λ done. IsTrue done ↔ CanGrow ticket.name size self.old.space) }
-        // Then the range has `size` units, from its first one on. Every other ticket keeps its range.
-        ensures range { result ≡ Some true → HasUnits ticket size self.old self.new }
-        ensures others { KeepsOthers ticket self.old self.new }
-        ensures kept { KeepsLive self.old self.new }
-        // A refusal leaves all as it was, and a ticket that is not live changes nothing at all.
-        ensures same { result ≡ Some false → IsSame self.old self.new }
-        ensures gone { result ≡ None → self.new ≡ self.old }
-        // The step of the allocator. All serials stay.
-        ensures step { IfSome result (Grows ticket.name size self.old.space self.new.space) }
-        ensures serials { KeepsSerials self.old self.new }
-        ensures accesses_max { self.new.space.accesses ≤ self.old.space.accesses + 128 }
-    {
-        match self.handle(ticket) {
-            None => None,
-            Some(handle) => {
-                let done = self.space.grow_in_place(handle, size);
-                self.serials.cover(self.space.node_count());
-                Some(done)
-            }
-        }
-    }
-
-    /// Adds `more` units at the end of the space, as `Allocator::extend` does, and returns whether it did.
-    pub fn extend(&mut self, more: u32) -> bool
-        ensures done { IsTrue result ↔ (1 ≤ more → CanExtend more self.old.space) }
-        // Every ticket keeps its range, and a refusal leaves all as it was.
-        ensures size { IsTrue result → self.new.space.size ≡ self.old.space.size + more }
-        ensures kept { KeepsAll self.old self.new }
-        ensures same { result ≡ false → IsSame self.old self.new }
-        ensures step { Extends more self.old.space self.new.space result }
-        ensures serials { KeepsSerials self.old self.new }
-        ensures accesses_max { self.new.space.accesses ≤ self.old.space.accesses + 128 }
-    {
-        let done = self.space.extend(more);
-        self.serials.cover(self.space.node_count());
-        done
-    }
-
     /// Makes the whole space one free block again, as `Allocator::reset` does. No earlier ticket is ever live again.
     pub fn reset(&mut self)
         ensures gone { (t : Ticket) → range_of t self.new ≡ None }
@@ -364,52 +228,9 @@ impl<NI: NodeIndex> Guarded<NI> {
         // The step of the allocator. All serials stay, so that none is given again.
         ensures step { Resets self.old.space self.new.space }
         ensures serials { self.new ≡ record self.old { space = self.new.space } }
-        ensures accesses_max { self.new.space.accesses ≤ self.old.space.accesses + min (130 * used_of self.old.space.blocks + 2) 270 }
+        ensures accesses_max { self.new.space.accesses
+            ≤ self.old.space.accesses + min (130 * used_of self.old.space.blocks + 2) 270 }
     {
         self.space.reset();
-    }
-
-    /// Slides every live range to the front of the space, as `Allocator::compact` does. Every ticket stays live, with
-    /// its size; `offset_of` returns where its range begins.
-    pub fn compact<F: FnMut(Move<NI>)>(&mut self, moved: &mut F)
-        requires callable { F.IsAlwaysCallable moved.old }
-        ensures sizes { KeepsSizes self.old self.new }
-        // The closure is called with the moves, in space order.
-        ensures moved { FoldsTo (IsCalledWith NI.NonMax.number (λ f range g. F.step f range tt g)) moved.old (moves 0 0 self.old.space.blocks) moved.new }
-        ensures step { Compacts self.old.space self.new.space }
-        ensures serials { self.new ≡ record self.old { space = self.new.space } }
-        ensures accesses_max { self.new.space.accesses ≤ self.old.space.accesses + 24 * length self.old.space.blocks + 512 }
-    {
-        self.space.compact(moved);
-    }
-
-    /// Why `allocate(size)` would be refused now, or `None` exactly where it would be granted.
-    pub fn refusal(&self, size: u32) -> Option<Refusal>
-        ensures granted { result ≡ None ↔ ((self.now.given < last_serial) × CanGrant 1 size self.now.space) }
-        ensures why { IfSome result (IsWhy 1 size self.now) }
-    {
-        if self.serials.is_spent() {
-            return Some(Refusal::Serials);
-        }
-        match self.space.refusal(size) {
-            None => None,
-            Some(why) => Some(Refusal::Allocator(why)),
-        }
-    }
-
-    /// Why `allocate_aligned(size, align)` would be refused now, or `None` exactly where it would be granted.
-    pub fn refusal_aligned(&self, size: u32, align: u32) -> Option<Refusal>
-        requires power { IsAlignment align }
-        ensures granted { result ≡ None ↔ ((self.now.given < last_serial)
-            × CanGrant (blocks_needed align) (units_needed size align) self.now.space) }
-        ensures why { IfSome result (IsWhy (blocks_needed align) (units_needed size align) self.now) }
-    {
-        if self.serials.is_spent() {
-            return Some(Refusal::Serials);
-        }
-        match self.space.refusal_aligned(size, align) {
-            None => None,
-            Some(why) => Some(Refusal::Allocator(why)),
-        }
     }
 }

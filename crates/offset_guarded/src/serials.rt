@@ -1,5 +1,6 @@
 //! The serials of grants, by name.
-ghost use Rattle.std.specs.Prelude.{ℕ, ◌≡◌, ◌↔◌, ◌+◌, ◌<◌, ◌≤◌, [], ◌∷◌, ◌++◌, IfOk, IsTrue, false, length, slice_set, vec_capacity, vec_len};
+ghost use Rattle.std.specs.Prelude.{ℕ, ◌≡◌, ◌↔◌, ◌+◌, ◌<◌, ◌≤◌, [], ◌∷◌, ◌++◌, IfOk, IsTrue, false, length, slice_set};
+ghost use Rattle.std.specs.Prelude.{vec_capacity, vec_len};
 ghost use Rattle.offset_guarded.specs.Guard.{cell, last_serial};
 
 use std::alloc::{AllocError, Global};
@@ -84,7 +85,10 @@ impl Serials {
         requires made { name < length self.old.cells }
         requires left { self.old.given < last_serial }
         ensures serial { result ≡ self.old.given + 1 }
-        ensures table { self.new ≡ record self.old { cells = slice_set self.old.cells name (self.old.given + 1); given = self.old.given + 1 } }
+        ensures table { self.new ≡ record self.old {
+          cells = slice_set self.old.cells name (self.old.given + 1);
+          given = self.old.given + 1;
+        } }
     {
         self.given += 1;
         self.cells[name as usize] = self.given;

@@ -1,5 +1,6 @@
 -- No two lives overlap, and none leaves the space.
-use Rattle.std.proofs.Common.{◌≡◌, ◌≢◌, ℕ, ◌+◌, ◌<◌, ◌≤◌, Bool, true, false, ◌&&◌, ◌⊎◌, List, [], ◌∷◌, ◌++◌, take, Some, None, All, AllPairs, nat_eq, nat_lt, nat_le, if◌then◌else◌, refl, sym, ap, ◌∙◌, inl, inr, arith, slice_index_or, le-leb, ne_eqb}
+use Rattle.std.proofs.Common.{◌≡◌, ◌≢◌, ℕ, ◌+◌, ◌<◌, ◌≤◌, Bool, true, false, ◌&&◌, ◌⊎◌, List, [], ◌∷◌, ◌++◌, take, Some, None, All, AllPairs, nat_eq, nat_lt, nat_le, if◌then◌else◌, refl, sym, ap, ◌∙◌}
+use Rattle.std.proofs.Common.{inl, inr, arith, slice_index_or, le-leb, ne_eqb}
 use Rattle.std.proofs.lemmas.Bool.{cases_eq, cases_lt, true≢false}
 use Rattle.std.proofs.lemmas.Bool.Decides.{nat_tests}
 use Rattle.std.proofs.lemmas.List.Elements.{All-cons}
@@ -7,10 +8,10 @@ use Rattle.std.proofs.lemmas.List.Kept.{AllPairs-cons}
 use Rattle.offset_script.specs.declared.scripts.Command.{Command}
 use Rattle.offset_script.specs.Machine.{Tag, Live, Free, Block, has_number, total, State, Answer, start, step, answers, after}
 use Rattle.offset_script.specs.Machine as machine
-use Rattle.offset_script.proofs.Well.{Well, well_start, well_step}
+use Rattle.offset_script.proofs.Well.{IsWell, well_start, well_step}
 use Rattle.offset_lives.specs.Lives.{Life, life_of_answer, end_from, lives_from, lives_of, range_of, is_on, blocks_after, AreApart, LivesAreWithin, LivesAreApart}
 use Rattle.offset_lives.proofs.Seen.{grants_of, call_counts, call_grants}
-use Rattle.offset_lives.proofs.Whole.{Shown, shown}
+use Rattle.offset_lives.proofs.Whole.{IsShown, shown}
 
 -- ---- two ranges of one list
 
@@ -53,8 +54,10 @@ two_apart j k offset (b ∷ bs) q r n e f = either (has_number j b.tag) (has_num
         → (range_of j (offset + b.size) bs ≡ Some q → range_of k (offset + b.size) bs ≡ Some r → (q.0 + q.1 ≤ r.0) ⊎ (r.0 + r.1 ≤ q.0))
         → (q.0 + q.1 ≤ r.0) ⊎ (r.0 + r.1 ≤ q.0)
     either true true a c e f ih = absurd (n (one_number j k b.tag a c))
-    either true false a c e f ih = let same = some_inj (offset, b.size) q e in let o = ap (λ (p : ℕ × ℕ). p.0) same in let m = ap (λ (p : ℕ × ℕ). p.1) same in let l = in_list k (offset + b.size) bs r f in inl (omega (arith, l.0))
-    either false true a c e f ih = let same = some_inj (offset, b.size) r f in let o = ap (λ (p : ℕ × ℕ). p.0) same in let m = ap (λ (p : ℕ × ℕ). p.1) same in let l = in_list j (offset + b.size) bs q e in inr (omega (arith, l.0))
+    either true false a c e f ih = let same = some_inj (offset, b.size) q e in let o = ap (λ (p : ℕ × ℕ). p.0) same in let m = ap (λ (p : ℕ × ℕ). p.1) same in
+        let l = in_list k (offset + b.size) bs r f in inl (omega (arith, l.0))
+    either false true a c e f ih = let same = some_inj (offset, b.size) r f in let o = ap (λ (p : ℕ × ℕ). p.0) same in let m = ap (λ (p : ℕ × ℕ). p.1) same in
+        let l = in_list j (offset + b.size) bs q e in inr (omega (arith, l.0))
     either false false a c e f ih = ih e f
 
 -- ---- two lives
@@ -70,7 +73,7 @@ while_on i l f g = both (nat_lt l.first i) (nat_le i l.last) (begun_by l.first i
     begun_by x y h = grind (arith, nat_tests)
 
 -- the range of a life while it is on
-there : (cs : List Command) (s : State) (l : Life) (i : ℕ) → Shown 0 cs s l → l.first < i → i ≤ l.last → range_of l.number 0 (after (take i cs) s).blocks ≡ Some (l.offset, l.size)
+there : (cs : List Command) (s : State) (l : Life) (i : ℕ) → IsShown 0 cs s l → l.first < i → i ≤ l.last → range_of l.number 0 (after (take i cs) s).blocks ≡ Some (l.offset, l.size)
 there cs s l i m f g = m.seen i (omega (arith, m.ends)) ∙ ap (λ b. if b then Some (l.offset, l.size) else None) (ap (λ n. is_on n l) (omega arith) ∙ while_on i l f g)
 
 pub within_law : LivesAreWithin
@@ -81,11 +84,11 @@ within_law size limit h cs k d l =
     let b = in_list life.number 0 (blocks_after (life.first + 1) size limit cs) (life.offset, life.size) e in
     omega (arith, b.1)
 
-both_on : (cs : List Command) (s : State) (a b : Life) (i : ℕ) → Shown 0 cs s a → Shown 0 cs s b → a.number ≢ b.number → a.first < i → i ≤ a.last → b.first < i → i ≤ b.last → AreApart a b
+both_on : (cs : List Command) (s : State) (a b : Life) (i : ℕ) → IsShown 0 cs s a → IsShown 0 cs s b → a.number ≢ b.number → a.first < i → i ≤ a.last → b.first < i → i ≤ b.last → AreApart a b
 both_on cs s a b i m n other f g p q =
     inr (inr (two_apart a.number b.number 0 (after (take i cs) s).blocks (a.offset, a.size) (b.offset, b.size) other (there cs s a i m f g) (there cs s b i n p q)))
 
-apart : (cs : List Command) (s : State) (a b : Life) → Shown 0 cs s a → Shown 0 cs s b → a.number ≢ b.number → AreApart a b
+apart : (cs : List Command) (s : State) (a b : Life) → IsShown 0 cs s a → IsShown 0 cs s b → a.number ≢ b.number → AreApart a b
 apart cs s a b m n other = elim (cases_lt b.first a.last) [
   | inr late ↦ inl late
   | inl x ↦ elim (cases_lt a.first b.last) [
@@ -98,11 +101,12 @@ apart cs s a b m n other = elim (cases_lt b.first a.last) [
 ]
 
 -- numbers rise
-Rising : ℕ → List Life → Type 0
-Rising g ls = (All (λ l. g < l.number) ls) × AllPairs (λ a b. a.number ≢ b.number) ls
+AreRising : ℕ → List Life → Type 0
+AreRising g ls = (All (λ l. g < l.number) ls) × AllPairs (λ a b. a.number ≢ b.number) ls
 
-rising_answer : (c : Command) (cs : List Command) (s : State) → Well s → (j : ℕ) (rest : List Life) → (a : Answer) → (step c s).answer ≡ a → Rising (step c s).state.grants rest → Rising s.grants (life_of_answer j c a (end_from (j + 1) cs) ++ rest)
-unfolding Rising
+rising_answer : (c : Command) (cs : List Command) (s : State) → IsWell s → (j : ℕ) (rest : List Life) → (a : Answer) → (step c s).answer ≡ a → AreRising (step c s).state.grants rest
+    → AreRising s.grants (life_of_answer j c a (end_from (j + 1) cs) ++ rest)
+unfolding AreRising
 rising_answer c cs s w j rest (machine.Grant k offset) e r =
     let says = call_grants c s w k offset e in
     let g = call_counts c s w in (
@@ -118,13 +122,13 @@ rising_answer c cs s w j rest (machine.Full rows) e r = (λ i d h. let m = r.0 i
 rising_answer c cs s w j rest machine.Reset e r = (λ i d h. let m = r.0 i d h in let g = call_counts c s w in omega arith, r.1)
 rising_answer c cs s w j rest machine.Extended e r = (λ i d h. let m = r.0 i d h in let g = call_counts c s w in omega arith, r.1)
 
-rising : (cs : List Command) (s : State) → Well s → (j : ℕ) → Rising s.grants (lives_from j cs (answers cs s))
-unfolding Rising
+rising : (cs : List Command) (s : State) → IsWell s → (j : ℕ) → AreRising s.grants (lives_from j cs (answers cs s))
+unfolding AreRising
 rising [] s w j = (λ k d h. absurd (omega arith), λ i k d l h. absurd (omega arith))
 rising (c ∷ cs) s w j = rising_answer c cs s w j _ (step c s).answer refl (rising cs (step c s).state (well_step c s w) (j + 1))
 
 pub apart_law : LivesAreApart
-unfolding Rising
+unfolding AreRising
 apart_law size limit h cs i j d l m =
     let s = start size limit in
     let ls = lives_of size limit cs in

@@ -1,12 +1,13 @@
 -- Going over a script from its last command to its first.
-use Rattle.std.proofs.Common.{◌≡◌, ℕ, zero, suc, ◌+◌, ◌<◌, ◌≤◌, Bool, true, false, List, [], ◌∷◌, ◌++◌, length, map, reverse, drop, get_or, cond, Option, Some, None, option_map, option_to_list, if◌then◌else◌, refl, sym, ap, ap₂, subst, ◌∙◌, arith, Result, Ok, Err, IfOk, Vec}
+use Rattle.std.proofs.Common.{◌≡◌, ℕ, zero, suc, ◌+◌, ◌<◌, ◌≤◌, Bool, true, false, List, [], ◌∷◌, ◌++◌, length, map, reverse, drop, get_or, cond, Option, Some, None, option_map, option_to_list}
+use Rattle.std.proofs.Common.{if◌then◌else◌, refl, sym, ap, ap₂, subst, ◌∙◌, arith, Result, Ok, Err, IfOk, Vec}
 use Rattle.std.proofs.lemmas.List.{drop_more, get_or-map, length-map, reverse-append, reverse-reverse}
 use Rattle.std.specs.List.{prefix_len}
 use Rattle.offset_script.specs.declared.scripts.Command.{Command}
 use Rattle.offset_script.specs.declared.answers.Answer as program
 use Rattle.offset_script.specs.Machine.{answer_view, State, Answer, start, step, answers}
 use Rattle.offset_script.specs.Machine as machine
-use Rattle.offset_script.proofs.Well.{Well, well_step}
+use Rattle.offset_script.proofs.Well.{IsWell, well_step}
 use Rattle.offset_lives.specs.declared.living.Life as found
 use Rattle.offset_lives.specs.Lives.{Life, leaves, life_of_answer, end_from, lives_from, lives_of, life_view}
 use Rattle.offset_lives.proofs.Seen.{grants_of, call_counts, call_grants}
@@ -28,7 +29,7 @@ few_grants machine.Reset = omega arith
 few_grants machine.Extended = omega arith
 
 -- there are no more grants than commands
-pub number_most : (cs : List Command) (s : State) → Well s → (i : ℕ) (d : Answer) (k offset : ℕ) → i < length cs → get_or (answers cs s) i d ≡ machine.Grant k offset → k ≤ s.grants + length cs
+pub number_most : (cs : List Command) (s : State) → IsWell s → (i : ℕ) (d : Answer) (k offset : ℕ) → i < length cs → get_or (answers cs s) i d ≡ machine.Grant k offset → k ≤ s.grants + length cs
 number_most [] s w i d k offset h e = absurd (omega arith)
 number_most (c ∷ cs) s w zero d k offset h e = let g = call_grants c s w k offset e in omega (arith, g.0)
 number_most (c ∷ cs) s w (suc i) d k offset h e =
@@ -63,11 +64,13 @@ pub lives_back : (cs : List Command) (given : List Answer) (i j : ℕ) (c : Comm
     → map life_view (reverse back) ≡ lives_from i (drop i cs) (drop i given) → map life_view (reverse new) ≡ lives_from j (drop j cs) (drop j given)
 lives_back cs given i j c a back new o end e d b same is grown before =
     ap (map life_view) grown ∙ map_optional o (reverse back)
-    ∙ ap₂ (λ xs ys. xs ++ ys) (is ∙ same_answer j c a end (end_from i (drop i cs)) same ∙ ap (λ n. life_of_answer j c a (end_from n (drop i cs))) e) (before ∙ ap (λ n. lives_from n (drop i cs) (drop i given)) e)
+    ∙ ap₂ (λ xs ys. xs ++ ys) (is ∙ same_answer j c a end (end_from i (drop i cs)) same ∙ ap (λ n. life_of_answer j c a (end_from n (drop i cs))) e)
+    (before ∙ ap (λ n. lives_from n (drop i cs) (drop i given)) e)
     ∙ sym (ap₂ (lives_from j) d b)
 
 -- an answer found, as the plain machine returns it
-pub seen_at : (cs : List Command) (s : State) (all : List program.Answer) (j : ℕ) (x : program.Answer) → map answer_view all ≡ answers cs s → j < length cs → x ≡ get_or all j x → get_or (answers cs s) j (answer_view x) ≡ answer_view x
+pub seen_at : (cs : List Command) (s : State) (all : List program.Answer) (j : ℕ) (x : program.Answer) → map answer_view all ≡ answers cs s → j < length cs → x ≡ get_or all j x
+    → get_or (answers cs s) j (answer_view x) ≡ answer_view x
 seen_at cs s all j x played h e =
     let n = answers_count cs s in
     ap (λ l. get_or l j (answer_view x)) (sym played) ∙ get_or-map answer_view all j x (answer_view x) (omega (arith, ap length played, length-map all answer_view)) ∙ ap answer_view (sym e)
@@ -87,7 +90,8 @@ none_is None h = refl
 none_is (Some x) h = absurd (h x refl)
 
 -- once no command is left, these are all lives, in order
-pub all_lives : {Z E : Type 0} (cs : List Command) (i : ℕ) (back : List found.Life) (given : List Answer) (size limit : ℕ) (r : Result (Vec found.Life Z) E) → i ≡ 0 → given ≡ answers cs (start size limit)
+pub all_lives : {Z E : Type 0} (cs : List Command) (i : ℕ) (back : List found.Life) (given : List Answer) (size limit : ℕ) (r : Result (Vec found.Life Z) E) → i ≡ 0
+    → given ≡ answers cs (start size limit)
     → map life_view (reverse back) ≡ lives_from i (drop i cs) (drop i given) → IfOk r (λ v. reverse v.items ≡ back) → IfOk r (λ v. map life_view v.items ≡ lives_of size limit cs)
 all_lives cs i back given size limit (Err e) z played lives h = tt
 all_lives cs i back given size limit (Ok v) z played lives h =

@@ -1,5 +1,6 @@
 -- The sizes of a space and its refusals, call by call.
-use Rattle.std.proofs.Common.{◌≡◌, ℕ, zero, suc, ◌+◌, ◌<◌, ◌≤◌, Bool, true, false, List, [], ◌∷◌, ◌++◌, length, take, get_or, if◌then◌else◌, refl, sym, ap, ap₂, ◌∙◌, arith, add-one, zero-add, min, below_more}
+use Rattle.std.proofs.Common.{◌≡◌, ℕ, zero, suc, ◌+◌, ◌<◌, ◌≤◌, Bool, true, false, List, [], ◌∷◌, ◌++◌, length, take, get_or, if◌then◌else◌, refl, sym, ap, ap₂, ◌∙◌, arith, add-one, zero-add, min}
+use Rattle.std.proofs.Common.{below_more}
 use Rattle.std.proofs.lemmas.List.{get_or_append_left, length-map}
 use Rattle.std.proofs.Math.Seq.{get_or-append_seam}
 use Rattle.offset_script.specs.declared.scripts.Command.{Command}
@@ -11,29 +12,35 @@ use Rattle.offset_lives.specs.Growth.{is_refusal, refusals_from, refusals_of, Ar
 use Rattle.offset_lives.specs.Quiet.{replace_full, replace_all_full}
 use Rattle.offset_lives.proofs.Quieter.{quiet_state}
 
-added_next : (cs : List Command) (s : State) (i : ℕ) (c : Command) (a : Answer) → i < length cs → added_by (take (suc i) cs) s ≡ added_by (take i cs) s + added_units (get_or cs i c) (get_or (answers cs s) i a)
+added_next : (cs : List Command) (s : State) (i : ℕ) (c : Command) (a : Answer) → i < length cs
+    → added_by (take (suc i) cs) s ≡ added_by (take i cs) s + added_units (get_or cs i c) (get_or (answers cs s) i a)
 added_next [] s i c a less = absurd (omega arith)
 added_next (b ∷ cs) s zero c a less = omega arith
 added_next (b ∷ cs) s (suc i) c a less = omega (arith, added_next cs (step b s).state i c a (omega arith))
 
 -- what one more command adds
-pub added_more : (cs : List Command) (s : State) (i : ℕ) (c : Command) (a : Answer) → i < length cs → added_by (take (i + 1) cs) s ≡ added_by (take i cs) s + added_units (get_or cs i c) (get_or (answers cs s) i a)
+pub added_more : (cs : List Command) (s : State) (i : ℕ) (c : Command) (a : Answer) → i < length cs
+    → added_by (take (i + 1) cs) s ≡ added_by (take i cs) s + added_units (get_or cs i c) (get_or (answers cs s) i a)
 added_more cs s i c a less = rw (add-one i) (added_next cs s i c a less)
 
-refused_next : (k : ℕ) (given : List Answer) (i : ℕ) (a : Answer) → i < length given → refusals_from k (take (suc i) given) ≡ refusals_from k (take i given) ++ (if is_refusal (get_or given i a) then (k + i) ∷ [] else [])
+refused_next : (k : ℕ) (given : List Answer) (i : ℕ) (a : Answer) → i < length given
+    → refusals_from k (take (suc i) given) ≡ refusals_from k (take i given) ++ (if is_refusal (get_or given i a) then (k + i) ∷ [] else [])
 refused_next k [] i a less = absurd (omega arith)
 refused_next k (b ∷ given) zero a less = ap (λ n. if is_refusal b then n ∷ [] else []) (omega arith)
-refused_next k (b ∷ given) (suc i) a less = later (is_refusal b) k _ _ _ (refused_next (k + 1) given i a (omega arith) ∙ ap (λ n. refusals_from (k + 1) (take i given) ++ (if is_refusal (get_or given i a) then n ∷ [] else [])) (omega arith))
+refused_next k (b ∷ given) (suc i) a less = later (is_refusal b) k _ _ _
+    (refused_next (k + 1) given i a (omega arith) ∙ ap (λ n. refusals_from (k + 1) (take i given) ++ (if is_refusal (get_or given i a) then n ∷ [] else [])) (omega arith))
   where
     later : (b : Bool) (n : ℕ) (xs ys zs : List ℕ) → xs ≡ ys ++ zs → (if b then n ∷ xs else xs) ≡ (if b then n ∷ ys else ys) ++ zs
     later true n xs ys zs e = ap (λ l. n ∷ l) e
     later false n xs ys zs e = e
 
 -- whether one more call is refused
-pub refused_more : (given : List Answer) (i : ℕ) (a : Answer) → i < length given → refusals_from 0 (take (i + 1) given) ≡ refusals_from 0 (take i given) ++ (if is_refusal (get_or given i a) then i ∷ [] else [])
+pub refused_more : (given : List Answer) (i : ℕ) (a : Answer) → i < length given
+    → refusals_from 0 (take (i + 1) given) ≡ refusals_from 0 (take i given) ++ (if is_refusal (get_or given i a) then i ∷ [] else [])
 refused_more given i a less = rw (add-one i) (refused_next 0 given i a less ∙ ap (λ n. refusals_from 0 (take i given) ++ (if is_refusal (get_or given i a) then n ∷ [] else [])) (zero-add i))
 
-pub refused_step : (given : List Answer) (i : ℕ) (a : Answer) (b : Bool) (old new : List ℕ) → i < length given → is_refusal (get_or given i a) ≡ b → old ≡ refusals_from 0 (take i given) → new ≡ old ++ (if b then i ∷ [] else []) → new ≡ refusals_from 0 (take (i + 1) given)
+pub refused_step : (given : List Answer) (i : ℕ) (a : Answer) (b : Bool) (old new : List ℕ) → i < length given → is_refusal (get_or given i a) ≡ b → old ≡ refusals_from 0 (take i given)
+    → new ≡ old ++ (if b then i ∷ [] else []) → new ≡ refusals_from 0 (take (i + 1) given)
 refused_step given i a b old new less is before e =
     e ∙ ap (λ l. l ++ (if b then i ∷ [] else [])) before ∙ ap (λ v. refusals_from 0 (take i given) ++ (if v then i ∷ [] else [])) (sym is) ∙ sym (refused_more given i a less)
 

@@ -3,11 +3,13 @@ mod Backward
 mod Counted
 mod Drawn
 mod Grown
+mod Levelled
 mod Merged
 mod Ordered
 mod Peaks
 mod Quieter
 mod Ranges
 mod Seen
+mod Stepped
 mod Watched
 mod Whole

@@ -31,7 +31,8 @@ any_map : (t : Shape → Bool) (h : Life → Shape) (ls : List Life) → list_an
 any_map t h [] = refl
 any_map t h (l ∷ ls) = ap (λ b. t (h l) || b) (any_map t h ls)
 
-pub one_more_life : (p : Place) (h : Life → Shape) (ls : List Life) (i : ℕ) (d : Life) → i < length ls → list_any (covers p) (map h (take (i + 1) ls)) ≡ (list_any (covers p) (map h (take i ls)) || covers p (h (get_or ls i d)))
+pub one_more_life : (p : Place) (h : Life → Shape) (ls : List Life) (i : ℕ) (d : Life) → i < length ls
+    → list_any (covers p) (map h (take (i + 1) ls)) ≡ (list_any (covers p) (map h (take i ls)) || covers p (h (get_or ls i d)))
 one_more_life p h ls i d less =
     any_map (covers p) h (take (i + 1) ls) ∙ list_any_more (λ l. covers p (h l)) ls i d less ∙ ap (λ b. b || covers p (h (get_or ls i d))) (sym (any_map (covers p) h (take i ls)))
 
@@ -57,13 +58,19 @@ or_left false true c false e = ap (λ x. x || false) e
 or_left false false c true e = ap (λ x. x || true) e
 or_left false false c false e = ap (λ x. x || false) e
 
-pub tiny_life : (p : Place) (found tiny tinier : List Shape) (h : Life → Shape) (ls : List Life) (i : ℕ) (d : Life) (x : Shape) → i < length ls → tinier ≡ tiny ++ x ∷ [] → x ≡ h (get_or ls i d) → (list_any (covers p) found || list_any (covers p) tiny) ≡ list_any (covers p) (map h (take i ls)) → (list_any (covers p) found || list_any (covers p) tinier) ≡ list_any (covers p) (map h (take (i + 1) ls))
+pub tiny_life : (p : Place) (found tiny tinier : List Shape) (h : Life → Shape) (ls : List Life) (i : ℕ) (d : Life) (x : Shape) → i < length ls → tinier ≡ tiny ++ x ∷ [] → x ≡ h (get_or ls i d)
+    → (list_any (covers p) found || list_any (covers p) tiny) ≡ list_any (covers p) (map h (take i ls))
+    → (list_any (covers p) found || list_any (covers p) tinier) ≡ list_any (covers p) (map h (take (i + 1) ls))
 tiny_life p found tiny tinier h ls i d x less e is before =
-    ap (λ b. list_any (covers p) found || b) (one_more p tiny tinier x e) ∙ or_right (list_any (covers p) found) (list_any (covers p) tiny) _ (covers p x) before ∙ ap (λ y. list_any (covers p) (map h (take i ls)) || covers p y) is ∙ sym (one_more_life p h ls i d less)
+    ap (λ b. list_any (covers p) found || b) (one_more p tiny tinier x e) ∙ or_right (list_any (covers p) found) (list_any (covers p) tiny) _ (covers p x) before
+    ∙ ap (λ y. list_any (covers p) (map h (take i ls)) || covers p y) is ∙ sym (one_more_life p h ls i d less)
 
-pub plain_life : (p : Place) (found more tiny : List Shape) (h : Life → Shape) (ls : List Life) (i : ℕ) (d : Life) (x : Shape) → i < length ls → more ≡ found ++ x ∷ [] → x ≡ h (get_or ls i d) → (list_any (covers p) found || list_any (covers p) tiny) ≡ list_any (covers p) (map h (take i ls)) → (list_any (covers p) more || list_any (covers p) tiny) ≡ list_any (covers p) (map h (take (i + 1) ls))
+pub plain_life : (p : Place) (found more tiny : List Shape) (h : Life → Shape) (ls : List Life) (i : ℕ) (d : Life) (x : Shape) → i < length ls → more ≡ found ++ x ∷ [] → x ≡ h (get_or ls i d)
+    → (list_any (covers p) found || list_any (covers p) tiny) ≡ list_any (covers p) (map h (take i ls))
+    → (list_any (covers p) more || list_any (covers p) tiny) ≡ list_any (covers p) (map h (take (i + 1) ls))
 plain_life p found more tiny h ls i d x less e is before =
-    ap (λ b. b || list_any (covers p) tiny) (one_more p found more x e) ∙ or_left (list_any (covers p) found) (list_any (covers p) tiny) _ (covers p x) before ∙ ap (λ y. list_any (covers p) (map h (take i ls)) || covers p y) is ∙ sym (one_more_life p h ls i d less)
+    ap (λ b. b || list_any (covers p) tiny) (one_more p found more x e) ∙ or_left (list_any (covers p) found) (list_any (covers p) tiny) _ (covers p x) before
+    ∙ ap (λ y. list_any (covers p) (map h (take i ls)) || covers p y) is ∙ sym (one_more_life p h ls i d less)
 
 -- the rectangles that are done, and the last one, which may still grow
 abbrev pub so_far : Place → List Shape → Option Shape → Bool
@@ -88,26 +95,33 @@ shift_start true b = refl
 shift_start false b = or_false b
 
 -- one more tiny rectangle is covered, where it is covered beside the rectangles before
-more_covered : (p : Place) (tiny : List Shape) (i : ℕ) (d b : Shape) (now before rest : Bool) → i < length tiny → b ≡ get_or tiny i d → now ≡ (before || covers p b) → before ≡ (rest || list_any (covers p) (take i tiny)) → now ≡ (rest || list_any (covers p) (take (i + 1) tiny))
+more_covered : (p : Place) (tiny : List Shape) (i : ℕ) (d b : Shape) (now before rest : Bool) → i < length tiny → b ≡ get_or tiny i d → now ≡ (before || covers p b)
+    → before ≡ (rest || list_any (covers p) (take i tiny)) → now ≡ (rest || list_any (covers p) (take (i + 1) tiny))
 more_covered p tiny i d b now before rest less is shifted e =
-    shifted ∙ ap (λ x. x || covers p b) e ∙ assoc rest (list_any (covers p) (take i tiny)) (covers p b) ∙ ap (λ x. rest || (list_any (covers p) (take i tiny) || covers p x)) is ∙ ap (λ x. rest || x) (sym (list_any_more (covers p) tiny i d less))
+    shifted ∙ ap (λ x. x || covers p b) e ∙ assoc rest (list_any (covers p) (take i tiny)) (covers p b) ∙ ap (λ x. rest || (list_any (covers p) (take i tiny) || covers p x)) is
+    ∙ ap (λ x. rest || x) (sym (list_any_more (covers p) tiny i d less))
 
 -- it is joined to the last one
-pub joins_last : (p : Place) (found more tiny : List Shape) (last next : Option Shape) (i : ℕ) (d a b : Shape) (rest : Bool) → i < length tiny → b ≡ get_or tiny i d → more ≡ found → last ≡ Some a → next ≡ Some (join a b) → touch a b ≡ true → so_far p found last ≡ (rest || list_any (covers p) (take i tiny)) → so_far p more next ≡ (rest || list_any (covers p) (take (i + 1) tiny))
+pub joins_last : (p : Place) (found more tiny : List Shape) (last next : Option Shape) (i : ℕ) (d a b : Shape) (rest : Bool) → i < length tiny → b ≡ get_or tiny i d → more ≡ found → last ≡ Some a
+    → next ≡ Some (join a b) → touch a b ≡ true → so_far p found last ≡ (rest || list_any (covers p) (take i tiny)) → so_far p more next ≡ (rest || list_any (covers p) (take (i + 1) tiny))
 joins_last p found more tiny last next i d a b rest less is found-is last-is next-is h before =
     let shifted : so_far p more next ≡ (so_far p found last || covers p b) =
-    ap (λ x. so_far p x next) found-is ∙ ap (so_far p found) next-is ∙ ap (λ x. list_any (covers p) found || (x || false)) (join_covers p a b h) ∙ shift_join (list_any (covers p) found) (covers p a) (covers p b) ∙ ap (λ x. so_far p found x || covers p b) (sym last-is) in
+    ap (λ x. so_far p x next) found-is ∙ ap (so_far p found) next-is ∙ ap (λ x. list_any (covers p) found || (x || false)) (join_covers p a b h)
+    ∙ shift_join (list_any (covers p) found) (covers p a) (covers p b) ∙ ap (λ x. so_far p found x || covers p b) (sym last-is) in
     more_covered p tiny i d b (so_far p more next) (so_far p found last) rest less is shifted before
 
 -- the last one is done, and it becomes the last one
-pub pushes_last : (p : Place) (found more tiny : List Shape) (last next : Option Shape) (i : ℕ) (d a b : Shape) (rest : Bool) → i < length tiny → b ≡ get_or tiny i d → more ≡ found ++ a ∷ [] → last ≡ Some a → next ≡ Some b → so_far p found last ≡ (rest || list_any (covers p) (take i tiny)) → so_far p more next ≡ (rest || list_any (covers p) (take (i + 1) tiny))
+pub pushes_last : (p : Place) (found more tiny : List Shape) (last next : Option Shape) (i : ℕ) (d a b : Shape) (rest : Bool) → i < length tiny → b ≡ get_or tiny i d → more ≡ found ++ a ∷ []
+    → last ≡ Some a → next ≡ Some b → so_far p found last ≡ (rest || list_any (covers p) (take i tiny)) → so_far p more next ≡ (rest || list_any (covers p) (take (i + 1) tiny))
 pushes_last p found more tiny last next i d a b rest less is more-is last-is next-is before =
     let shifted : so_far p more next ≡ (so_far p found last || covers p b) =
-    ap (so_far p more) next-is ∙ ap (λ x. x || (covers p b || false)) (one_more p found more a more-is) ∙ shift_push (list_any (covers p) found) (covers p a) (covers p b) ∙ ap (λ x. so_far p found x || covers p b) (sym last-is) in
+    ap (so_far p more) next-is ∙ ap (λ x. x || (covers p b || false)) (one_more p found more a more-is) ∙ shift_push (list_any (covers p) found) (covers p a) (covers p b)
+    ∙ ap (λ x. so_far p found x || covers p b) (sym last-is) in
     more_covered p tiny i d b (so_far p more next) (so_far p found last) rest less is shifted before
 
 -- it is the first one
-pub starts_last : (p : Place) (found more tiny : List Shape) (last next : Option Shape) (i : ℕ) (d b : Shape) (rest : Bool) → i < length tiny → b ≡ get_or tiny i d → more ≡ found → last ≡ None → next ≡ Some b → so_far p found last ≡ (rest || list_any (covers p) (take i tiny)) → so_far p more next ≡ (rest || list_any (covers p) (take (i + 1) tiny))
+pub starts_last : (p : Place) (found more tiny : List Shape) (last next : Option Shape) (i : ℕ) (d b : Shape) (rest : Bool) → i < length tiny → b ≡ get_or tiny i d → more ≡ found → last ≡ None
+    → next ≡ Some b → so_far p found last ≡ (rest || list_any (covers p) (take i tiny)) → so_far p more next ≡ (rest || list_any (covers p) (take (i + 1) tiny))
 starts_last p found more tiny last next i d b rest less is more-is last-is next-is before =
     let shifted : so_far p more next ≡ (so_far p found last || covers p b) =
     ap (λ x. so_far p x next) more-is ∙ ap (so_far p found) next-is ∙ shift_start (list_any (covers p) found) (covers p b) ∙ ap (λ x. so_far p found x || covers p b) (sym last-is) in
@@ -123,6 +137,9 @@ ends_without p found more last more-is last-is =
     ap (list_any (covers p)) more-is ∙ sym (or_false (list_any (covers p) found)) ∙ ap (so_far p found) (sym last-is)
 
 -- what the sorted tiny rectangles cover is what the lives do
-pub all_covered : (p : Place) (found tiny sorted : List Shape) (h : Life → Shape) (ls : List Life) (i j : ℕ) (now : Bool) → length ls ≤ i → length sorted ≤ j → IsPermutation tiny sorted → (list_any (covers p) found || list_any (covers p) tiny) ≡ list_any (covers p) (map h (take i ls)) → now ≡ (list_any (covers p) found || list_any (covers p) (take j sorted)) → now ≡ list_any (covers p) (map h ls)
+pub all_covered : (p : Place) (found tiny sorted : List Shape) (h : Life → Shape) (ls : List Life) (i j : ℕ) (now : Bool) → length ls ≤ i → length sorted ≤ j → IsPermutation tiny sorted
+    → (list_any (covers p) found || list_any (covers p) tiny) ≡ list_any (covers p) (map h (take i ls)) → now ≡ (list_any (covers p) found || list_any (covers p) (take j sorted))
+    → now ≡ list_any (covers p) (map h ls)
 all_covered p found tiny sorted h ls i j now all all_sorted same before e =
-    e ∙ ap (λ xs. list_any (covers p) found || list_any (covers p) xs) (take_all j sorted all_sorted) ∙ ap (λ b. list_any (covers p) found || b) (sym (list_any-IsPermutation (covers p) tiny sorted same)) ∙ before ∙ ap (λ xs. list_any (covers p) (map h xs)) (take_all i ls all)
+    e ∙ ap (λ xs. list_any (covers p) found || list_any (covers p) xs) (take_all j sorted all_sorted)
+    ∙ ap (λ b. list_any (covers p) found || b) (sym (list_any-IsPermutation (covers p) tiny sorted same)) ∙ before ∙ ap (λ xs. list_any (covers p) (map h xs)) (take_all i ls all)

@@ -5,7 +5,8 @@ use Rattle.std.proofs.lemmas.Bool.Decides.{nat_tests}
 use Rattle.offset_allocator.specs.declared.reports.StorageReport.{StorageReport}
 use Rattle.offset_lives.specs.declared.course.Course.{Course}
 use Rattle.offset_lives.specs.declared.figures.Figures.{Figures}
-use Rattle.offset_lives.specs.Figures.{AreFigures, AreTotals, IsFirstLargest, IsFirstSmallest, counted, count_below, live_after, used_after, size_after, region_after, free_after, is_full_after, states}
+use Rattle.offset_lives.specs.Figures.{AreFigures, AreTotals, IsFirstLargest, IsFirstSmallest, counted, count_below, live_after, used_after, size_after, region_after, free_after, is_full_after}
+use Rattle.offset_lives.specs.Figures.{states}
 use Rattle.offset_lives.specs.Counting.{Sees, StartsAs}
 
 abbrev pub first_largest : (ℕ → ℕ) → ℕ → ℕ
@@ -90,9 +91,17 @@ full_more : (b : Bool) (n full : ℕ) → full ≡ counted n → (if b then coun
 full_more true n full e = omega arith
 full_more false n full e = omega arith
 
-seen_next : (n : ℕ) (f g : Figures) (c : Course) (r : StorageReport) → Sees (counted n) (live_after c n) (used_after c n) (size_after c n) r f g → r.largest_free_region ≡ region_after c n → r.total_free_space ≡ free_after c n → HasSeen n f c → HasSeen (suc n) g c
+seen_next : (n : ℕ) (f g : Figures) (c : Course) (r : StorageReport) → Sees (counted n) (live_after c n) (used_after c n) (size_after c n) r f g → r.largest_free_region ≡ region_after c n
+    → r.total_free_space ≡ free_after c n → HasSeen n f c → HasSeen (suc n) g c
 seen_next n f g c r s region free h = record {
-  totals = record { calls = s.calls ∙ h.totals.calls; grants = s.grants ∙ h.totals.grants; refusals = s.refusals ∙ h.totals.refusals; first_size = s.first_size ∙ h.totals.first_size; highest = s.highest ∙ h.totals.highest };
+  totals = record {
+    calls = s.calls ∙ h.totals.calls;
+    grants = s.grants ∙ h.totals.grants;
+    refusals = s.refusals ∙ h.totals.refusals;
+    first_size = s.first_size ∙ h.totals.first_size;
+    highest =
+        s.highest ∙ h.totals.highest;
+  };
   live = s.most_live ∙ ap (max (live_after c n)) h.live ∙ sym (largest_more (live_after c) n);
   used = s.most_used ∙ ap (max (used_after c n)) h.used ∙ sym (largest_more (used_after c) n);
   size_then = let m : ℕ = first_largest (used_after c) n in
@@ -111,7 +120,8 @@ seen_next n f g c r s region free h = record {
 }
 
 -- one more state
-pub has_seen : (n : ℕ) (f g : Figures) (c : Course) (r : StorageReport) (state live used size : ℕ) → Sees state live used size r f g → state ≡ counted n → live ≡ live_after c n → used ≡ used_after c n → size ≡ size_after c n → r.largest_free_region ≡ region_after c n → r.total_free_space ≡ free_after c n → HasSeen n f c → HasSeen (n + 1) g c
+pub has_seen : (n : ℕ) (f g : Figures) (c : Course) (r : StorageReport) (state live used size : ℕ) → Sees state live used size r f g → state ≡ counted n → live ≡ live_after c n → used ≡ used_after c n
+    → size ≡ size_after c n → r.largest_free_region ≡ region_after c n → r.total_free_space ≡ free_after c n → HasSeen n f c → HasSeen (n + 1) g c
 has_seen n f g c r state live used size s at-state at-live at-used at-size region free h =
     let s1 : Sees (counted n) live used size r f g = subst (λ x. Sees x live used size r f g) at-state s in
     let s2 : Sees (counted n) (live_after c n) used size r f g = subst (λ x. Sees (counted n) x used size r f g) at-live s1 in

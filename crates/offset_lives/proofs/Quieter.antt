@@ -7,7 +7,7 @@ use Rattle.offset_script.specs.Machine.{State, step, answers, start, report, is_
 use Rattle.offset_script.specs.Machine as machine
 use Rattle.offset_lives.specs.Lives.{leaves, life_of_answer, end_from, lives_from, lives_of}
 use Rattle.offset_lives.specs.Quiet.{replace_full, replace_all_full}
-use Rattle.offset_lives.specs.Reported.{reports_from, reports_of}
+use Rattle.offset_lives.specs.Reports.{reports_from, reports_of}
 use Rattle.offset_lives.proofs.Backward.{same_answer}
 
 pub quiet_state : (c : Command) (s : State) → (step (replace_full c) s).state ≡ (step c s).state
@@ -51,7 +51,8 @@ quiet_end k (c ∷ cs) = ap₂ (λ b n. cond b (1 + n) 0) (quiet_leaves k c) (qu
 quiet_from : (cs : List Command) (s : State) (j : ℕ) → lives_from j (replace_all_full cs) (answers (replace_all_full cs) s) ≡ lives_from j cs (answers cs s)
 quiet_from [] s j = refl
 quiet_from (c ∷ cs) s j = ap₂ (λ xs ys. xs ++ ys)
-    (same_answer j (replace_full c) (step (replace_full c) s).answer (end_from (j + 1) (replace_all_full cs)) (end_from (j + 1) cs) (λ k offset e. ap (λ n. j + 1 + n) (quiet_end k cs)) ∙ quiet_answer j c s (end_from (j + 1) cs))
+    (same_answer j (replace_full c) (step (replace_full c) s).answer (end_from (j + 1) (replace_all_full cs)) (end_from (j + 1) cs) (λ k offset e. ap (λ n. j + 1 + n) (quiet_end k cs))
+    ∙ quiet_answer j c s (end_from (j + 1) cs))
     (ap (λ t. lives_from (j + 1) (replace_all_full cs) (answers (replace_all_full cs) t)) (quiet_state c s) ∙ quiet_from cs (step c s).state (j + 1))
 
 pub quiet_lives : (size limit : ℕ) (cs : List Command) → lives_of size limit (replace_all_full cs) ≡ lives_of size limit cs

@@ -1,9 +1,10 @@
 -- What a call does to the range of a grant.
-use Rattle.std.proofs.Common.{◌≡◌, ◌≢◌, ℕ, zero, suc, ◌+◌, ◌-◌, ◌≤◌, Bool, true, false, List, [], ◌∷◌, ◌++◌, Option, Some, None, nat_eq, if◌then◌else◌, refl, sym, ap, ap₂, ◌∙◌, inl, inr, arith, ne_eqb, eq-eqb, append-nil}
+use Rattle.std.proofs.Common.{◌≡◌, ◌≢◌, ℕ, zero, suc, ◌+◌, ◌-◌, ◌≤◌, Bool, true, false, List, [], ◌∷◌, ◌++◌, Option, Some, None, nat_eq, if◌then◌else◌, refl, sym, ap, ap₂, ◌∙◌, inl, inr, arith}
+use Rattle.std.proofs.Common.{ne_eqb, eq-eqb, append-nil}
 use Rattle.offset_allocator.specs.View.{one}
 use Rattle.std.proofs.lemmas.Bool.{cases_eq, true≢false, false≢true}
 use Rattle.offset_script.specs.Machine.{Tag, Live, Free, Block, block, is_free, has_number, total, Place, place_of, free_block, coalesce}
-use Rattle.offset_script.proofs.Well.{count, hit, whole, found_at, count-append, number_hit, granted_blocks, total-append, AllFree, coalesced}
+use Rattle.offset_script.proofs.Well.{count, hit, whole, found_at, count-append, number_hit, granted_blocks, total-append, AreFree, coalesced}
 use Rattle.offset_lives.specs.Lives.{range_of}
 
 -- the first of two options that is not `None`
@@ -55,7 +56,7 @@ range_none k offset (b ∷ bs) h = past k offset b bs (no_hit (has_number k b.ta
     no_hit false e z = refl
 
 -- free blocks belong to no grant
-range_free : (k offset : ℕ) (fs ys : List Block) → AllFree fs → range_of k offset (fs ++ ys) ≡ range_of k (offset + total fs) ys
+range_free : (k offset : ℕ) (fs ys : List Block) → AreFree fs → range_of k offset (fs ++ ys) ≡ range_of k (offset + total fs) ys
 range_free k offset [] ys f = ap (λ o. range_of k o ys) (omega arith)
 range_free k offset (b ∷ fs) ys f = past k offset b (fs ++ ys) (free_number k b.tag f.0) ∙ range_free k (offset + b.size) fs ys f.1 ∙ ap (λ o. range_of k o ys) (omega arith)
 
@@ -94,7 +95,8 @@ range_gone k n s bs p once found =
     range_coalesce k p.before n s p.after ∙ ap (λ r. either_of r (range_of k (total p.before + n) p.after)) (range_none k 0 p.before f.2) ∙ range_none k (total p.before + n) p.after c
 
 -- a grant leaves the other ranges
-pub range_kept : (k : ℕ) (p : Place) (n padding front g rest : ℕ) → is_free p.block.tag ≡ true → padding + n ≤ p.block.size → k ≢ g → range_of k 0 (granted_blocks p n padding front g rest) ≡ range_of k 0 (whole p)
+pub range_kept : (k : ℕ) (p : Place) (n padding front g rest : ℕ) → is_free p.block.tag ≡ true → padding + n ≤ p.block.size → k ≢ g
+    → range_of k 0 (granted_blocks p n padding front g rest) ≡ range_of k 0 (whole p)
 range_kept k p n padding front g rest free within other =
     let left : List Block = free_block (p.block.size - (padding + n)) rest ++ p.after in
     at_start k p.before (free_block padding front ++ (block n (Live g) ∷ left))

@@ -1,15 +1,17 @@
 -- A life is what the plain machine shows.
-use Rattle.std.proofs.Common.{◌≡◌, ◌≢◌, ℕ, zero, suc, ◌+◌, ◌≤◌, Bool, true, false, not, ◌&&◌, ◌||◌, List, [], ◌∷◌, Option, Some, None, nat_eq, nat_lt, if◌then◌else◌, refl, sym, ap, subst, ◌∙◌, inl, inr, arith, eq-eqb, ne_eqb}
+use Rattle.std.proofs.Common.{◌≡◌, ◌≢◌, ℕ, zero, suc, ◌+◌, ◌≤◌, Bool, true, false, not, ◌&&◌, ◌||◌, List, [], ◌∷◌, Option, Some, None, nat_eq, nat_lt, if◌then◌else◌, refl, sym, ap, subst, ◌∙◌, inl}
+use Rattle.std.proofs.Common.{inr, arith, eq-eqb, ne_eqb}
 use Rattle.std.proofs.lemmas.Bool.{cases_eq, true≢false, false≢true}
 use Rattle.offset_allocator.specs.View.{max_size}
 use Rattle.offset_script.specs.declared.scripts.Command.{Command}
 use Rattle.offset_script.specs.declared.scripts.Command.TheVariants as command
-use Rattle.offset_script.specs.Machine.{Live, Block, total, Place, place_of, ends_live, coalesce, State, Answer, Outcome, start, step, answers, after, returns_only, leaves, grant, release, reset, stamp_of_call, stamp_of_padding, is_short_of}
+use Rattle.offset_script.specs.Machine.{Live, Block, total, Place, place_of, ends_live, coalesce, State, Answer, Outcome, start, step, answers, after, returns_only, leaves, grant, release, reset}
+use Rattle.offset_script.specs.Machine.{stamp_of_call, stamp_of_padding, is_short_of}
 use Rattle.offset_script.specs.Machine as machine
 use Rattle.offset_script.specs.Histories.{KeepsSpace}
 use Rattle.offset_script.specs.Totals.{requested_units}
-use Rattle.offset_script.proofs.Well.{Well, not_there, count, whole, chosen_at, count-append, not_found}
-use Rattle.offset_script.proofs.Nests.{IsQuiet, does, Granted}
+use Rattle.offset_script.proofs.Well.{IsWell, not_there, count, whole, chosen_at, count-append, not_found}
+use Rattle.offset_script.proofs.Nests.{IsQuiet, does, IsGranted}
 use Rattle.offset_lives.specs.Lives.{Life, life_of_answer, lives_from, lives_of, range_of, blocks_after, is_on, IsSeen}
 use Rattle.offset_lives.specs.Lives as lives
 use Rattle.offset_lives.proofs.Ranges.{either_of, range_none, range_coalesce, range_released, range_gone, range_kept, range_granted}
@@ -24,7 +26,7 @@ released_keeps : (s : State) (k j : ℕ) → k ≢ j → (o : Option Place) → 
 released_keeps s k j n None e = refl
 released_keeps s k j n (Some p) e = range_released k j p.block.size (stamp_of_call s) s.blocks p e refl n
 
-released_ends : (s : State) → Well s → (k : ℕ) (o : Option Place) → place_of k s.blocks ≡ o → left k (release s o) ≡ None
+released_ends : (s : State) → IsWell s → (k : ℕ) (o : Option Place) → place_of k s.blocks ≡ o → left k (release s o) ≡ None
 released_ends s w k None e = range_none k 0 s.blocks (not_found k s.blocks e)
 released_ends s w k (Some p) e = range_gone k p.block.size (stamp_of_call s) s.blocks p (w.once (Live k)) e
 
@@ -56,7 +58,8 @@ either_side false o p k r f g = g
 
 extend_keeps : (s : State) (k more : ℕ) → left k (step (command.Extend more) s) ≡ range_of k 0 s.blocks
 extend_keeps s k zero = refl
-extend_keeps s k (suc more) = either_side (nat_lt max_size (total s.blocks + suc more) || (ends_live s.blocks && is_short_of 1 s)) (returns_only s machine.Refused) (leaves s (coalesce s.blocks (suc more) (stamp_of_call s) []) machine.Extended) k _
+extend_keeps s k (suc more) = either_side (nat_lt max_size (total s.blocks + suc more) || (ends_live s.blocks && is_short_of 1 s)) (returns_only s machine.Refused)
+    (leaves s (coalesce s.blocks (suc more) (stamp_of_call s) []) machine.Extended) k _
     refl (range_coalesce k s.blocks (suc more) (stamp_of_call s) [] ∙ none_after (range_of k 0 s.blocks))
   where
     none_after : (r : Option (ℕ × ℕ)) → either_of r None ≡ r
@@ -73,7 +76,7 @@ call_keeps command.Reset s k made stays = absurd (false≢true stays)
 call_keeps (command.Align n align) s k made stays = quiet_keeps (command.Align n align) s k made tt stays
 call_keeps (command.Extend more) s k made stays = extend_keeps s k more
 
-pub call_ends : (c : Command) (s : State) → Well s → (k : ℕ) → lives.leaves k c ≡ false → left k (step c s) ≡ None
+pub call_ends : (c : Command) (s : State) → IsWell s → (k : ℕ) → lives.leaves k c ≡ false → left k (step c s) ≡ None
 call_ends (command.Alloc n) s w k e = absurd (true≢false e)
 call_ends (command.Free j) s w k e = subst (λ i. left k (release s (place_of i s.blocks)) ≡ None) (sym (is_same j k e)) (released_ends s w k (place_of k s.blocks) refl)
 call_ends (command.Size j) s w k e = absurd (true≢false e)
@@ -83,22 +86,14 @@ call_ends command.Reset s w k e = refl
 call_ends (command.Align n align) s w k e = absurd (true≢false e)
 call_ends (command.Extend more) s w k e = absurd (true≢false e)
 
--- a grant that is not live, and was made before this call, stays so
-call_leaves_none : (c : Command) (s : State) → Well s → (k : ℕ) → k ≤ s.grants → range_of k 0 s.blocks ≡ None → left k (step c s) ≡ None
-call_leaves_none c s w k made none = either (lives.leaves k c) refl
-  where
-    either : (b : Bool) → lives.leaves k c ≡ b → left k (step c s) ≡ None
-    either true e = call_keeps c s k made e ∙ none
-    either false e = call_ends c s w k e
-
 -- how many grants an answer is
 abbrev pub grants_of : Answer → ℕ
 grants_of (machine.Grant k offset) = 1
 grants_of other = 0
 
 -- what an answer says of the range of the next grant
-Says : Command → State → Outcome → Type 0
-Says c s o = (o.state.grants ≡ s.grants + grants_of o.answer)
+HasGrantedRange : Command → State → Outcome → Type 0
+HasGrantedRange c s o = (o.state.grants ≡ s.grants + grants_of o.answer)
     × ((k offset : ℕ) → o.answer ≡ machine.Grant k offset → (k ≡ s.grants + 1) × (left k o ≡ Some (offset, requested_units c)))
 
 no_grant : (a : Answer) → IsQuiet a → (grants_of a ≡ 0) × ((k offset : ℕ) → a ≡ machine.Grant k offset → ⊥)
@@ -112,23 +107,23 @@ no_grant (machine.Full rows) q = (refl, λ k o e. cc)
 no_grant machine.Reset q = (refl, λ k o e. cc)
 no_grant machine.Extended q = (refl, λ k o e. cc)
 
-quiet_says : (c : Command) (s : State) (a : Answer) → IsQuiet a → Says c s (returns_only s a)
-unfolding Says
+quiet_says : (c : Command) (s : State) (a : Answer) → IsQuiet a → HasGrantedRange c s (returns_only s a)
+unfolding HasGrantedRange
 quiet_says c s a q = let n = no_grant a q in (omega (arith, n.0), λ k o e. absurd (n.1 k o e))
 
-left_says : (c : Command) (s : State) (bs : List Block) (a : Answer) → grants_of a ≡ 0 → ((k offset : ℕ) → a ≡ machine.Grant k offset → ⊥) → Says c s (leaves s bs a)
-unfolding Says
+left_says : (c : Command) (s : State) (bs : List Block) (a : Answer) → grants_of a ≡ 0 → ((k offset : ℕ) → a ≡ machine.Grant k offset → ⊥) → HasGrantedRange c s (leaves s bs a)
+unfolding HasGrantedRange
 left_says c s bs a n none = (omega (arith, n), λ k o e. absurd (none k o e))
 
 same_grant : (k j o p : ℕ) → machine.Grant k o ≡ machine.Grant j p → (k ≡ j) × (o ≡ p)
 same_grant k j o p e = (cc, cc)
 
-grant_says : (c : Command) (s : State) → Well s → (d : Granted (requested_units c) s (step c s)) → Says c s (step c s)
-unfolding Says
+grant_says : (c : Command) (s : State) → IsWell s → (d : IsGranted (requested_units c) s (step c s)) → HasGrantedRange c s (step c s)
+unfolding HasGrantedRange
 grant_says c s w d =
     let p = d.place in
     let chosen_place = chosen_at d.needed s.blocks p d.chose in
-    subst (Says c s) (sym d.is) (
+    subst (HasGrantedRange c s) (sym d.is) (
       refl,
       λ k offset e.
           let same = same_grant (s.grants + 1) k (total p.before + d.padding) offset e in (
@@ -140,20 +135,21 @@ grant_says c s w d =
     )
   where
     none : (p : Place) → s.blocks ≡ whole p → count (Live (s.grants + 1)) p.before ≡ 0
-    none p e = let g = not_there s w (Live (s.grants + 1)) (λ o. absurd (let l = o.1 in omega arith)) in let a = count-append (Live (s.grants + 1)) p.before (p.block ∷ p.after) in omega (arith, g, a, ap (count (Live (s.grants + 1))) e)
+    none p e = let g = not_there s w (Live (s.grants + 1)) (λ o. absurd (let l = o.1 in omega arith)) in let a = count-append (Live (s.grants + 1)) p.before (p.block ∷ p.after) in
+        omega (arith, g, a, ap (count (Live (s.grants + 1))) e)
 
-keeping_says : (c : Command) (s : State) → Well s → KeepsSpace c → Says c s (step c s)
+keeping_says : (c : Command) (s : State) → IsWell s → KeepsSpace c → HasGrantedRange c s (step c s)
 keeping_says c s w keeps = elim (does c s keeps) [
-  | inl q ↦ subst (Says c s) (sym q.is) (quiet_says c s q.answer q.quiet)
+  | inl q ↦ subst (HasGrantedRange c s) (sym q.is) (quiet_says c s q.answer q.quiet)
   | inr (inl d) ↦ grant_says c s w d
-  | inr (inr d) ↦ subst (Says c s) (sym d.is) (left_says c s _ machine.Freed refl (λ k o e. cc))
+  | inr (inr d) ↦ subst (HasGrantedRange c s) (sym d.is) (left_says c s _ machine.Freed refl (λ k o e. cc))
 ]
 
-says_if : (c : Command) (s : State) (b : Bool) (o p : Outcome) → Says c s o → Says c s p → Says c s (if b then o else p)
+says_if : (c : Command) (s : State) (b : Bool) (o p : Outcome) → HasGrantedRange c s o → HasGrantedRange c s p → HasGrantedRange c s (if b then o else p)
 says_if c s true o p f g = f
 says_if c s false o p f g = g
 
-call_says : (c : Command) (s : State) → Well s → Says c s (step c s)
+call_says : (c : Command) (s : State) → IsWell s → HasGrantedRange c s (step c s)
 call_says (command.Alloc n) s w = keeping_says (command.Alloc n) s w tt
 call_says (command.Free j) s w = keeping_says (command.Free j) s w tt
 call_says (command.Size j) s w = keeping_says (command.Size j) s w tt
@@ -162,15 +158,17 @@ call_says command.Full s w = keeping_says command.Full s w tt
 call_says command.Reset s w = left_says command.Reset s _ machine.Reset refl (λ k o e. cc)
 call_says (command.Align n align) s w = keeping_says (command.Align n align) s w tt
 call_says (command.Extend zero) s w = quiet_says (command.Extend zero) s machine.Extended tt
-call_says (command.Extend (suc more)) s w = says_if (command.Extend (suc more)) s (nat_lt max_size (total s.blocks + suc more) || (ends_live s.blocks && is_short_of 1 s)) (returns_only s machine.Refused) (leaves s (coalesce s.blocks (suc more) (stamp_of_call s) []) machine.Extended)
+call_says (command.Extend (suc more)) s w = says_if (command.Extend (suc more)) s (nat_lt max_size (total s.blocks + suc more) || (ends_live s.blocks && is_short_of 1 s))
+    (returns_only s machine.Refused) (leaves s (coalesce s.blocks (suc more) (stamp_of_call s) []) machine.Extended)
     (quiet_says (command.Extend (suc more)) s machine.Refused tt) (left_says (command.Extend (suc more)) s _ machine.Extended refl (λ k o e. cc))
 
 -- the grants after a call
-pub call_counts : (c : Command) (s : State) → Well s → (step c s).state.grants ≡ s.grants + grants_of (step c s).answer
-unfolding Says
+pub call_counts : (c : Command) (s : State) → IsWell s → (step c s).state.grants ≡ s.grants + grants_of (step c s).answer
+unfolding HasGrantedRange
 call_counts c s w = (call_says c s w).0
 
 -- the range of a new grant
-pub call_grants : (c : Command) (s : State) → Well s → (k offset : ℕ) → (step c s).answer ≡ machine.Grant k offset → (k ≡ s.grants + 1) × (range_of k 0 (step c s).state.blocks ≡ Some (offset, requested_units c))
-unfolding Says
+pub call_grants : (c : Command) (s : State) → IsWell s → (k offset : ℕ) → (step c s).answer ≡ machine.Grant k offset
+    → (k ≡ s.grants + 1) × (range_of k 0 (step c s).state.blocks ≡ Some (offset, requested_units c))
+unfolding HasGrantedRange
 call_grants c s w k offset e = (call_says c s w).1 k offset e

@@ -1,5 +1,6 @@
 -- A script with a report before and after each command.
-use Rattle.std.proofs.Common.{◌≡◌, ℕ, zero, suc, ◌+◌, ◌*◌, ◌≤◌, Bool, true, false, List, [], ◌∷◌, ◌++◌, length, take, get_or, map, Option, Some, None, option_map, if◌then◌else◌, refl, sym, ap, subst, ◌∙◌, arith}
+use Rattle.std.proofs.Common.{◌≡◌, ℕ, zero, suc, ◌+◌, ◌*◌, ◌≤◌, Bool, true, false, List, [], ◌∷◌, ◌++◌, length, take, get_or, map, Option, Some, None, option_map, if◌then◌else◌, refl, sym, ap, subst}
+use Rattle.std.proofs.Common.{◌∙◌, arith}
 use Rattle.std.proofs.lemmas.List.{get_or-map, length-map, map-append}
 use Rattle.std.proofs.lemmas.Grind.{take_at_read}
 use Rattle.offset_allocator.specs.declared.reports.StorageReport.{StorageReport}
@@ -10,7 +11,7 @@ use Rattle.offset_script.specs.Machine as machine
 use Rattle.offset_script.proofs.Asking.{after_question}
 use Rattle.offset_script.proofs.Nests.{after-append}
 use Rattle.offset_script.specs.declared.answers.Answer as program
-use Rattle.offset_lives.specs.Reported.{report_view, reports_from, reports_of, with_reports}
+use Rattle.offset_lives.specs.Reports.{report_view, reports_from, reports_of, with_reports}
 
 -- any commands have the same answers
 abbrev pub AreSame : State → State → Type 0
@@ -70,7 +71,8 @@ is_report (c ∷ cs) s zero l d = either_report (is_short_of 1 s) _ _
 is_report (c ∷ cs) s (suc i) l d = is_report cs (step c s).state i (omega arith) d
 
 -- an answer found at a second place is the report there
-pub found_report : (size limit : ℕ) → 2 ≤ limit → (cs : List Command) (all : List program.Answer) (i : ℕ) (x : program.Answer) → i ≤ length cs → map answer_view all ≡ answers (with_reports cs) (start size limit) → x ≡ get_or all (2 * i) x
+pub found_report : (size limit : ℕ) → 2 ≤ limit → (cs : List Command) (all : List program.Answer) (i : ℕ) (x : program.Answer) → i ≤ length cs
+    → map answer_view all ≡ answers (with_reports cs) (start size limit) → x ≡ get_or all (2 * i) x
     → answer_view x ≡ get_or (reports_of size limit cs) i (answer_view x)
 found_report size limit h cs all i x l played e =
     let s = start size limit in
@@ -84,7 +86,8 @@ report_is o r a e f = inside (report_view r) a (ap (option_map report_view) (sym
     inside x y e = cc
 
 -- one report more
-pub report_taken : (size limit : ℕ) (cs : List Command) (i : ℕ) (found new : List StorageReport) (r : StorageReport) (o : Option StorageReport) (a : Answer) → i ≤ length cs → a ≡ get_or (reports_of size limit cs) i a
+pub report_taken : (size limit : ℕ) (cs : List Command) (i : ℕ) (found new : List StorageReport) (r : StorageReport) (o : Option StorageReport) (a : Answer) → i ≤ length cs
+    → a ≡ get_or (reports_of size limit cs) i a
     → ((free largest : ℕ) → a ≡ machine.Report free largest → option_map report_view o ≡ Some (machine.Report free largest)) → o ≡ Some r → new ≡ found ++ r ∷ []
     → map report_view found ≡ take i (reports_of size limit cs) → map report_view new ≡ take (i + 1) (reports_of size limit cs)
 report_taken size limit cs i found new r o a l is reads some grown before =

@@ -1,5 +1,6 @@
 -- Whole lives, from the call that grants to the one that ends.
-use Rattle.std.proofs.Common.{◌≡◌, ℕ, zero, suc, ◌+◌, ◌<◌, ◌≤◌, Bool, true, false, ◌&&◌, List, [], ◌∷◌, length, take, cond, Option, Some, None, All, nat_lt, nat_le, if◌then◌else◌, refl, sym, ap, ◌∙◌, inl, inr, arith, slice_index_or, le-leb}
+use Rattle.std.proofs.Common.{◌≡◌, ℕ, zero, suc, ◌+◌, ◌<◌, ◌≤◌, Bool, true, false, ◌&&◌, List, [], ◌∷◌, length, take, cond, Option, Some, None, All, nat_lt, nat_le, if◌then◌else◌, refl, sym, ap, ◌∙◌}
+use Rattle.std.proofs.Common.{inl, inr, arith, slice_index_or, le-leb}
 use Rattle.std.proofs.lemmas.Bool.{cases_lt, lt-leb}
 use Rattle.std.proofs.lemmas.Bool.Decides.{nat_tests}
 use Rattle.std.proofs.lemmas.List.Elements.{All-nil, All-cons, All-append}
@@ -9,12 +10,12 @@ use Rattle.offset_script.specs.declared.scripts.Command.{Command}
 use Rattle.offset_script.specs.Machine.{State, Answer, start, step, answers, after}
 use Rattle.offset_script.specs.Machine as machine
 use Rattle.offset_script.specs.Totals.{requested_units}
-use Rattle.offset_script.proofs.Well.{Well, not_there, well_start, well_step}
+use Rattle.offset_script.proofs.Well.{IsWell, not_there, well_start, well_step}
 use Rattle.offset_lives.specs.Lives.{Life, leaves, life_of_answer, end_from, lives_from, lives_of, range_of, is_on, LivesAreSeen}
 use Rattle.offset_lives.proofs.Ranges.{range_none}
 use Rattle.offset_lives.proofs.Seen.{grants_of, call_keeps, call_ends, call_counts, call_grants}
 
-more_grants : (c : Command) (s : State) → Well s → (k : ℕ) → k ≤ s.grants → k ≤ (step c s).state.grants
+more_grants : (c : Command) (s : State) → IsWell s → (k : ℕ) → k ≤ s.grants → k ≤ (step c s).state.grants
 more_grants c s w k made = let g = call_counts c s w in omega arith
 
 same_le : (a b c d : ℕ) → (a ≤ b → c ≤ d) → (c ≤ d → a ≤ b) → nat_le a b ≡ nat_le c d
@@ -28,7 +29,7 @@ none_of_two r e true = e
 none_of_two r e false = refl
 
 -- a range lasts exactly as long as the commands leave its grant live
-goes_on : (k : ℕ) (cs : List Command) (s : State) → Well s → k ≤ s.grants → (i : ℕ) → i ≤ length cs
+goes_on : (k : ℕ) (cs : List Command) (s : State) → IsWell s → k ≤ s.grants → (i : ℕ) → i ≤ length cs
     → range_of k 0 (after (take i cs) s).blocks ≡ (if nat_le i (prefix_len (leaves k) cs) then range_of k 0 s.blocks else None)
 goes_on k cs s w made zero h = ap (λ b. if b then range_of k 0 s.blocks else None) (sym (le-leb 0 (prefix_len (leaves k) cs) (omega arith)))
 goes_on k [] s w made (suc i) h = absurd (omega arith)
@@ -52,21 +53,21 @@ goes_on k (c ∷ cs) s w made (suc i) h = either (leaves k c) refl (goes_on k cs
         ∙ ap (λ b. if b then now else None) (sym (lt-leb (suc i) 0 (omega arith)))
 
 -- a life that begins with one of these commands, the first of which is call j
-pub record Shown (j : ℕ) (cs : List Command) (s : State) (l : Life) : Type 0 where
+pub record IsShown (j : ℕ) (cs : List Command) (s : State) (l : Life) : Type 0 where
   pub later : s.grants < l.number
   pub begins : j ≤ l.first
   pub lasts : l.first < l.last
   pub ends : l.last ≤ j + length cs
   pub seen : (i : ℕ) → i ≤ length cs → range_of l.number 0 (after (take i cs) s).blocks ≡ (if is_on (j + i) l then Some (l.offset, l.size) else None)
 
-not_yet : (s : State) → Well s → (l : Life) (i : ℕ) → s.grants < l.number → i ≤ l.first → range_of l.number 0 s.blocks ≡ (if is_on i l then Some (l.offset, l.size) else None)
+not_yet : (s : State) → IsWell s → (l : Life) (i : ℕ) → s.grants < l.number → i ≤ l.first → range_of l.number 0 s.blocks ≡ (if is_on i l then Some (l.offset, l.size) else None)
 not_yet s w l i later early = range_none l.number 0 s.blocks (not_there s w (machine.Live l.number) (λ o. absurd (let m = o.1 in omega arith)))
     ∙ ap (λ b. if b && nat_le i l.last then Some (l.offset, l.size) else None) (sym (off l.first i early))
   where
     off : (x y : ℕ) → y ≤ x → nat_lt x y ≡ false
     off x y h = grind (arith, nat_tests)
 
-shown_later : (j : ℕ) (c : Command) (cs : List Command) (s : State) → Well s → (l : Life) → Shown (j + 1) cs (step c s).state l → Shown j (c ∷ cs) s l
+shown_later : (j : ℕ) (c : Command) (cs : List Command) (s : State) → IsWell s → (l : Life) → IsShown (j + 1) cs (step c s).state l → IsShown j (c ∷ cs) s l
 shown_later j c cs s w l m = let g = call_counts c s w in record {
   later = omega (arith, m.later);
   begins = omega (arith, m.begins);
@@ -79,14 +80,14 @@ shown_later j c cs s w l m = let g = call_counts c s w in record {
     seen zero h = not_yet s w l (j + 0) (let g = call_counts c s w in omega (arith, m.later)) (omega (arith, m.begins))
     seen (suc i) h = m.seen i (omega arith) ∙ ap (λ n. if is_on n l then Some (l.offset, l.size) else None) (omega arith)
 
-shown_answer : (j : ℕ) (c : Command) (cs : List Command) (s : State) → Well s → (a : Answer) → (step c s).answer ≡ a → All (Shown j (c ∷ cs) s) (life_of_answer j c a (end_from (j + 1) cs))
-shown_answer j c cs s w (machine.Grant k offset) e = All-cons (Shown j (c ∷ cs) s) life [] (record {
+shown_answer : (j : ℕ) (c : Command) (cs : List Command) (s : State) → IsWell s → (a : Answer) → (step c s).answer ≡ a → All (IsShown j (c ∷ cs) s) (life_of_answer j c a (end_from (j + 1) cs))
+shown_answer j c cs s w (machine.Grant k offset) e = All-cons (IsShown j (c ∷ cs) s) life [] (record {
   later = omega (arith, says.0);
   begins = omega arith;
   lasts = omega arith;
   ends = omega (arith, prefix_len-le-length (leaves k) cs);
   seen = seen;
-}) (All-nil (Shown j (c ∷ cs) s))
+}) (All-nil (IsShown j (c ∷ cs) s))
   where
     life : Life
     life = record { number = k; offset = offset; size = requested_units c; first = j; last = j + 1 + prefix_len (leaves k) cs }
@@ -109,18 +110,18 @@ shown_answer j c cs s w (machine.Grant k offset) e = All-cons (Shown j (c ∷ cs
     seen (suc i) h = goes_on k cs (step c s).state (well_step c s w) made i (omega arith)
         ∙ ap (λ r. if nat_le i (prefix_len (leaves k) cs) then r else None) says.1
         ∙ ap (λ b. if b then Some (offset, requested_units c) else None) (on i)
-shown_answer j c cs s w machine.Refused e = All-nil (Shown j (c ∷ cs) s)
-shown_answer j c cs s w machine.Freed e = All-nil (Shown j (c ∷ cs) s)
-shown_answer j c cs s w machine.Gone e = All-nil (Shown j (c ∷ cs) s)
-shown_answer j c cs s w (machine.Size n) e = All-nil (Shown j (c ∷ cs) s)
-shown_answer j c cs s w (machine.Report free largest) e = All-nil (Shown j (c ∷ cs) s)
-shown_answer j c cs s w (machine.Full rows) e = All-nil (Shown j (c ∷ cs) s)
-shown_answer j c cs s w machine.Reset e = All-nil (Shown j (c ∷ cs) s)
-shown_answer j c cs s w machine.Extended e = All-nil (Shown j (c ∷ cs) s)
+shown_answer j c cs s w machine.Refused e = All-nil (IsShown j (c ∷ cs) s)
+shown_answer j c cs s w machine.Freed e = All-nil (IsShown j (c ∷ cs) s)
+shown_answer j c cs s w machine.Gone e = All-nil (IsShown j (c ∷ cs) s)
+shown_answer j c cs s w (machine.Size n) e = All-nil (IsShown j (c ∷ cs) s)
+shown_answer j c cs s w (machine.Report free largest) e = All-nil (IsShown j (c ∷ cs) s)
+shown_answer j c cs s w (machine.Full rows) e = All-nil (IsShown j (c ∷ cs) s)
+shown_answer j c cs s w machine.Reset e = All-nil (IsShown j (c ∷ cs) s)
+shown_answer j c cs s w machine.Extended e = All-nil (IsShown j (c ∷ cs) s)
 
-pub shown : (cs : List Command) (s : State) → Well s → (j : ℕ) → All (Shown j cs s) (lives_from j cs (answers cs s))
+pub shown : (cs : List Command) (s : State) → IsWell s → (j : ℕ) → All (IsShown j cs s) (lives_from j cs (answers cs s))
 shown [] s w j = λ k d h. absurd (omega arith)
-shown (c ∷ cs) s w j = All-append (Shown j (c ∷ cs) s) (life_of_answer j c (step c s).answer (end_from (j + 1) cs)) (lives_from (j + 1) cs (answers cs (step c s).state))
+shown (c ∷ cs) s w j = All-append (IsShown j (c ∷ cs) s) (life_of_answer j c (step c s).answer (end_from (j + 1) cs)) (lives_from (j + 1) cs (answers cs (step c s).state))
     (shown_answer j c cs s w (step c s).answer refl)
     (λ i d h. shown_later j c cs s w _ (shown cs (step c s).state (well_step c s w) (j + 1) i d h))
 

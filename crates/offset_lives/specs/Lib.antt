@@ -4,8 +4,10 @@ pub mod Drawing
 pub mod Ends
 pub mod Figures
 pub mod Growth
+pub mod Levels
 pub mod Lives
 pub mod Merging
 pub mod Places
 pub mod Quiet
-pub mod Reported
+pub mod Reports
+pub mod Titles

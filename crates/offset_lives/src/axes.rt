@@ -1,7 +1,7 @@
 //! Axes: where a value lies on the picture.
 
 ghost use Rattle.std.specs.Prelude.{◌≡◌, ◌+◌, ◌-◌, ◌*◌, ◌^◌, ◌<◌, ◌≤◌};
-ghost use Rattle.offset_lives.specs.Axes.{along};
+ghost use Rattle.offset_lives.specs.Axes.{along, round_step};
 
 /// A tenth of a pixel. Lengths are in hundredths of a pixel.
 pub const TENTH: u32 = 10;
@@ -41,7 +41,8 @@ impl Axis {
 
     /// Where a value lies, if the axis runs upwards.
     pub fn up(&self, value: u64) -> u32
-        ensures exact { result ≡ self.now.start + self.now.span - along self.now.span self.now.most value }
+        ensures exact { result
+            ≡ self.now.start + self.now.span - along self.now.span self.now.most value }
         ensures within { self.now.start ≤ result }
         ensures below { result ≤ self.now.start + self.now.span }
     {
@@ -85,11 +86,12 @@ const STEPS: [u32; 29] = [
 /// The smallest round number, 1, 2 or 5 with zeros, of which `count` add up to at least `most`.
 pub fn round_step(most: u32, count: u8) -> u32
     requires { 3 ≤ count }
-    ensures { most ≤ result * count }
+    ensures is { result ≡ round_step most count }
+    ensures most { most ≤ result * count }
 {
-    for step in STEPS {
-        if u64::from(step) * u64::from(count) >= u64::from(most) {
-            return step;
+    for step in &STEPS {
+        if u64::from(*step) * u64::from(count) >= u64::from(most) {
+            return *step;
         }
     }
     2_000_000_000

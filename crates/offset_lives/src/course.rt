@@ -5,7 +5,7 @@ ghost use Rattle.offset_script.specs.Machine.{answer_view};
 ghost use Rattle.offset_script.specs.Totals.{added_units};
 ghost use Rattle.offset_lives.specs.Growth.{AreSizes, is_refusal, refusals_of};
 ghost use Rattle.offset_lives.specs.Lives.{IsOrdered, life_view, lives_of};
-ghost use Rattle.offset_lives.specs.Reported.{report_view, reports_of};
+ghost use Rattle.offset_lives.specs.Reports.{report_view, reports_of};
 
 use crate::living::{Life, lives};
 use crate::quiet::without_full;
@@ -51,7 +51,8 @@ fn is_refusal(answer: &Answer) -> bool
 
 // The units of the space in each state, and the calls that returned `none`.
 fn growth(alloc: Global, script: &Script) -> Result<(Vec<u32>, Vec<usize>), AllocError>
-    ensures sizes { IfOk result (λ g. AreSizes g.0.items script.now.size script.now.max_allocs script.now.commands.items) }
+    ensures sizes { IfOk result
+        (λ g. AreSizes g.0.items script.now.size script.now.max_allocs script.now.commands.items) }
     ensures refused { IfOk result
         (λ g. g.1.items ≡ refusals_of script.now.size script.now.max_allocs script.now.commands.items) }
 {
@@ -75,14 +76,18 @@ fn growth(alloc: Global, script: &Script) -> Result<(Vec<u32>, Vec<usize>), Allo
 /// Plays a script, without its full reports, and returns its course.
 pub fn course_of(alloc: Global, script: &Script) -> Result<Course, AllocError>
     ensures lives { IfOk result
-        (λ c. map life_view c.lives.items ≡ lives_of script.now.size script.now.max_allocs script.now.commands.items) }
+        (λ c. map life_view c.lives.items
+        ≡ lives_of script.now.size script.now.max_allocs script.now.commands.items) }
     ensures ordered { IfOk result (λ c. All IsOrdered (map life_view c.lives.items)) }
     ensures reports { IfOk result
         (λ c. map report_view c.reports.items
         ≡ reports_of script.now.size script.now.max_allocs script.now.commands.items) }
-    ensures sizes { IfOk result (λ c. AreSizes c.sizes.items script.now.size script.now.max_allocs script.now.commands.items) }
+    ensures sizes { IfOk result
+        (λ c. AreSizes c.sizes.items
+        script.now.size script.now.max_allocs script.now.commands.items) }
     ensures refused { IfOk result
-        (λ c. c.refused.items ≡ refusals_of script.now.size script.now.max_allocs script.now.commands.items) }
+        (λ c. c.refused.items
+        ≡ refusals_of script.now.size script.now.max_allocs script.now.commands.items) }
 {
     let script = without_full(alloc, script)?;
     let (sizes, refused) = growth(alloc, &script)?;

@@ -7,10 +7,12 @@ ghost use Rattle.offset_lives.specs.Lives.{IsOrdered, life_view};
 use crate::course::{Course, course_of};
 use crate::figures::figures_of;
 use crate::legend::{put_legend, put_notes};
+use crate::levels::levels_of;
 use crate::plots::{Plot, ranges_plot, reports_plot};
 use crate::rectangles::put_grants;
 use crate::steps::{put_marks, put_steps};
-use crate::style::HEAD;
+use crate::style::{HEADING, OPENING, STYLE};
+use crate::titles::put_escaped;
 use offset_script::Script;
 use std::alloc::{AllocError, Global};
 
@@ -21,20 +23,19 @@ fn put_beyond(out: &mut String, plot: &Plot, course: &Course) -> Result<(), Allo
     writeln!(out, "'/>")
 }
 
-// The free units, and the largest free region before them.
+// The free units, before them what the largest free region would be without fragmentation, and before both what it is.
 fn put_reports(
     alloc: Global,
     out: &mut String,
     plot: &Plot,
     course: &Course,
 ) -> Result<(), AllocError> {
-    let mut free = Vec::with_capacity(alloc, course.reports.len())?;
-    let mut region = Vec::with_capacity(alloc, course.reports.len())?;
-    for report in &course.reports {
-        free.push(report.total_free_space)?;
-        region.push(report.largest_free_region)?;
-    }
-    for (class, values) in [("free", &free), ("most", &region)] {
+    let levels = levels_of(alloc, &course.reports)?;
+    for (class, values) in [
+        ("free", &levels.free),
+        ("joined", &levels.joined),
+        ("most", &levels.most),
+    ] {
         write!(out, "<path class='{class}' d='")?;
         put_steps(out, plot, plot.bottom(), values)?;
         writeln!(out, "'/>")?;
@@ -42,14 +43,14 @@ fn put_reports(
     Ok(())
 }
 
-// What the element `svg` holds, from its attributes on.
+// What a picture holds after its heading.
 fn body(alloc: Global, course: &Course) -> Result<String, AllocError>
     requires { All IsOrdered (map life_view course.now.lives.items) }
 {
     let figures = figures_of(alloc, course)?;
     let ranges = ranges_plot(&figures);
     let reports = reports_plot(&figures);
-    let mut out = String::from_str(alloc, HEAD)?;
+    let mut out = String::new(alloc);
     put_legend(&mut out, &figures, course.max_allocs, ranges.units.most)?;
     put_beyond(&mut out, &ranges, course)?;
     ranges.put_axes(&mut out, 6, 12)?;
@@ -65,24 +66,32 @@ fn body(alloc: Global, course: &Course) -> Result<String, AllocError>
     Ok(out)
 }
 
-/// The picture of a course, as SVG.
-pub fn picture_of(alloc: Global, course: &Course) -> Result<String, AllocError>
+/// The picture of a course, as SVG, with this title.
+pub fn picture_of(alloc: Global, title: &str, course: &Course) -> Result<String, AllocError>
     requires { All IsOrdered (map life_view course.now.lives.items) }
-    ensures { IfOk result (λ text. IsPicture (string_bytes text)) }
+    ensures { IfOk result (λ text. IsPicture title.now (string_bytes text)) }
 {
     let body = body(alloc, course)?;
-    let mut out = String::from_str(alloc, "<svg ")?;
+    let mut out = String::from_str(alloc, OPENING)?;
+    put_escaped(&mut out, title)?;
+    out.push_str("</title>\n")?;
+    out.push_str(STYLE)?;
+    out.push_str(HEADING)?;
+    put_escaped(&mut out, title)?;
+    out.push_str("</text>\n")?;
     out.push_str(&body)?;
     out.push_str("</svg>\n")?;
     Ok(out)
 }
 
-/// Plays a script, and returns its picture as SVG.
+/// Plays a script, and returns its picture as SVG, with this title: its accessible name, and the heading that it shows.
 ///
-/// It fails only where an allocation fails.
-pub fn picture(alloc: Global, script: &Script) -> Result<String, AllocError>
-    // The text begins with `<svg ` and ends with `</svg>` and a line end.
-    ensures { IfOk result (λ text. IsPicture (string_bytes text)) }
+/// In the title a space takes the place of each line end and tab, and of each character that XML 1.0 forbids. It fails
+/// only where an allocation fails.
+pub fn picture(alloc: Global, title: &str, script: &Script) -> Result<String, AllocError>
+    // The text begins with the tag of an SVG and the title, has the title as its heading, and ends with `</svg>` and a
+    // line end.
+    ensures { IfOk result (λ text. IsPicture title.now (string_bytes text)) }
 {
-    picture_of(alloc, &course_of(alloc, script)?)
+    picture_of(alloc, title, &course_of(alloc, script)?)
 }

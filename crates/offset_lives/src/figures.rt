@@ -1,6 +1,7 @@
 //! The numbers in a picture.
 
-ghost use Rattle.std.specs.Prelude.{◌≡◌, ◌≤◌, ℕ, ◌+◌, ◌-◌, ◌<◌, ◌^◌, All, IfOk, OnOk, length, map, nat_eq, slice_index_or, if◌then◌else◌};
+ghost use Rattle.std.specs.Prelude.{◌≡◌, ◌≤◌, ℕ, ◌+◌, ◌-◌, ◌<◌, ◌^◌, All, IfOk, OnOk, length, map, nat_eq};
+ghost use Rattle.std.specs.Prelude.{slice_index_or, if◌then◌else◌};
 ghost use Rattle.offset_lives.specs.Lives.{IsOrdered, life_view};
 ghost use Rattle.offset_lives.specs.Figures.{AreFigures, counted, end_of, largest};
 ghost use Rattle.offset_lives.specs.Counting.{IsCount, raised, StartsAs, Sees};

@@ -1,5 +1,7 @@
-//! Laws on the lives of grants, which are the rectangles of a picture. The functions do nothing.
+//! Laws on the lives of grants and on reports, which are the rectangles and the lines of a picture. The functions do
+//! nothing.
 
+ghost use Rattle.offset_lives.specs.Levels.{ReportsAreLevelled};
 ghost use Rattle.offset_lives.specs.Lives.{LivesAreSeen, LivesAreWithin, LivesAreApart};
 
 /// After any number of calls, a live block of a life's number exists, with its range, exactly while the life is on.
@@ -15,4 +17,9 @@ pub fn a_life_is_within_the_space()
 /// No two lives share a unit at any time, in any script.
 pub fn no_two_lives_overlap()
     ensures { LivesAreApart }
+{}
+
+/// No report has a larger free region than if its free units were one block, and that is at most these units.
+pub fn lines_never_cross()
+    ensures { ReportsAreLevelled }
 {}

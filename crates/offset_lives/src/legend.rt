@@ -12,14 +12,14 @@ fn plural(count: u32) -> &'static str {
 }
 
 // The calls, the space, and the node limit.
-fn put_heading(out: &mut String, figures: &Figures, max_allocs: u32) -> Result<(), AllocError> {
+fn put_size(out: &mut String, figures: &Figures, max_allocs: u32) -> Result<(), AllocError> {
     let calls = Grouped(figures.calls);
     let s = plural(figures.calls);
     let size = Grouped(figures.first_size);
     let nodes = Grouped(max_allocs);
     write!(
         out,
-        "<text class='big' x='24' y='34'>{calls} call{s} on a space of {size} units"
+        "<text class='figures' x='24' y='49'>{calls} call{s} on a space of {size} units"
     )?;
     if figures.largest_size > figures.first_size {
         let largest = Grouped(figures.largest_size);
@@ -37,7 +37,7 @@ fn put_use(out: &mut String, figures: &Figures) -> Result<(), AllocError> {
     let live = Grouped(figures.most_live);
     write!(
         out,
-        "<text class='figures' x='24' y='62'>{grants} grant{s}, {refusals} refusal{ends}; at most {live} live at once. "
+        "<text class='figures' x='24' y='69'>{grants} grant{s}, {refusals} refusal{ends}; at most {live} live at once. "
     )?;
     let used = Grouped(figures.most_used);
     let size = Grouped(figures.size_then);
@@ -56,7 +56,7 @@ fn put_worst(out: &mut String, figures: &Figures) -> Result<(), AllocError> {
     let s = plural(figures.worst);
     write!(
         out,
-        "<text class='figures' x='24' y='86'>Largest free region at the worst moment: {region} units, "
+        "<text class='figures' x='24' y='89'>Largest free region at the worst moment: {region} units, "
     )?;
     writeln!(out, "of {free} free, after {worst} call{s}.</text>")
 }
@@ -76,17 +76,28 @@ fn put_ages(out: &mut String) -> Result<(), AllocError> {
     writeln!(out, "<text x='1062' y='113'>refusal</text>")
 }
 
-// What the colours of the reports mean, and why a report may be 0.
+// What the colours of the reports mean, in two rows, and why a report may be 0.
 fn put_colours(out: &mut String, figures: &Figures) -> Result<(), AllocError> {
-    let top = Pixels(REPORTS_TOP - 2_300);
-    let base = Pixels(REPORTS_TOP - 1_000);
+    let top = Pixels(REPORTS_TOP - 4_500);
+    let base = Pixels(REPORTS_TOP - 3_200);
     write!(out, "<path class='free' d='M120 {top}h16v14h-16z'/>")?;
+    writeln!(out, "<text x='142' y='{base}'>free units</text>")?;
+    write!(out, "<path class='joined' d='M235 {top}h16v14h-16z'/>")?;
+    write!(
+        out,
+        "<text x='257' y='{base}'>largest free region, if they were one block "
+    )?;
     writeln!(
         out,
-        "<text x='142' y='{base}'>free units (the gap: rounding to a class, or apart)</text>"
+        "(the gap to the free units: rounding to a size class)</text>"
     )?;
-    write!(out, "<path class='most' d='M520 {top}h16v14h-16z'/>")?;
-    writeln!(out, "<text x='542' y='{base}'>largest free region</text>")?;
+    let top = Pixels(REPORTS_TOP - 2_300);
+    let base = Pixels(REPORTS_TOP - 1_000);
+    write!(out, "<path class='most' d='M120 {top}h16v14h-16z'/>")?;
+    writeln!(
+        out,
+        "<text x='142' y='{base}'>largest free region (the gap to that of one block: fragmentation)</text>"
+    )?;
     if figures.full_states > 0 {
         let right = Pixels(LEFT + WIDTH);
         let states = Grouped(figures.full_states);
@@ -115,14 +126,14 @@ fn put_end(out: &mut String, figures: &Figures, end: u32) -> Result<(), AllocErr
     )
 }
 
-/// The text above the plots, and what their colours mean. The plot of the ranges ends at the unit `end`.
+/// The text below the heading, and what their colours mean. The plot of the ranges ends at the unit `end`.
 pub fn put_legend(
     out: &mut String,
     figures: &Figures,
     max_allocs: u32,
     end: u32,
 ) -> Result<(), AllocError> {
-    put_heading(out, figures, max_allocs)?;
+    put_size(out, figures, max_allocs)?;
     put_use(out, figures)?;
     put_worst(out, figures)?;
     put_ages(out)?;

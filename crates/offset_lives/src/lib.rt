@@ -8,6 +8,7 @@ mod drawing;
 mod figures;
 pub mod laws;
 mod legend;
+mod levels;
 mod living;
 mod merging;
 mod numbers;
@@ -19,6 +20,7 @@ mod reporting;
 mod shapes;
 mod steps;
 mod style;
+mod titles;
 
 pub use drawing::picture;
 pub use living::{Life, lives};

@@ -1,6 +1,7 @@
 //! The lives of grants.
 
-ghost use Rattle.std.specs.Prelude.{◌≡◌, ℕ, ◌+◌, ◌-◌, ◌^◌, ◌<◌, ◌≤◌, All, AllPairs, IfOk, map, reverse, option_map, option_to_list, if◌then◌else◌};
+ghost use Rattle.std.specs.Prelude.{◌≡◌, ℕ, ◌+◌, ◌-◌, ◌^◌, ◌<◌, ◌≤◌, All, AllPairs, IfOk, map, reverse};
+ghost use Rattle.std.specs.Prelude.{option_map, option_to_list, if◌then◌else◌};
 ghost use Rattle.offset_script.specs.Machine.{answer_view};
 ghost use Rattle.offset_script.specs.Machine as machine;
 ghost use Rattle.offset_script.specs.Totals.{requested_units};
@@ -127,12 +128,14 @@ pub fn lives(alloc: Global, script: &Script) -> Result<Vec<Life>, AllocError>
     // The lives are those of the grants that the plain machine makes, in order: each with its number, offset and size,
     // the call that granted it, and the call that ended it, or the number of all calls.
     ensures lives { IfOk result
-        (λ v. map life_view v.items ≡ lives_of script.now.size script.now.max_allocs script.now.commands.items) }
+        (λ v. map life_view v.items
+        ≡ lives_of script.now.size script.now.max_allocs script.now.commands.items) }
     // No two lives share a unit at any time.
     ensures apart { IfOk result (λ v. AllPairs AreApart (map life_view v.items)) }
     // Each range lies within the space as the call of its grant left it.
     ensures within { IfOk result
-        (λ v. All (IsWithin script.now.size script.now.max_allocs script.now.commands.items) (map life_view v.items)) }
+        (λ v. All (IsWithin script.now.size script.now.max_allocs script.now.commands.items)
+        (map life_view v.items)) }
     // No life ends before it begins.
     ensures ordered { IfOk result (λ v. All IsOrdered (map life_view v.items)) }
 {

@@ -33,20 +33,49 @@ impl fmt::Display for Pixels {
 #[derive(Clone, Copy, PartialEq, Debug)]
 pub struct Grouped(pub u32);
 
-impl fmt::Display for Grouped {
+// The last three digits of a number, with zeros in front.
+#[derive(Clone, Copy)]
+struct Three(u32);
+
+impl fmt::Display for Three {
+    ghost use Rattle.std.specs.Prelude.{Some};
+    ghost use Rattle.offset_lives.specs.Drawing.{three_digits};
+
+    ghost output = { λ t. Some (three_digits t.0) };
+
     fn fmt<W: fmt::Write>(&self, f: &mut fmt::Formatter<W>) -> fmt::Result {
-        let ones = self.0 % 1000;
-        let thousands = self.0 / 1000 % 1000;
-        let millions = self.0 / 1_000_000 % 1000;
+        let hundreds = self.0 / 100 % 10;
+        let tens = self.0 / 10 % 10;
+        let ones = self.0 % 10;
+        write!(f, "{hundreds}{tens}{ones}")
+    }
+}
+
+impl fmt::Display for Grouped {
+    ghost use Rattle.std.specs.Prelude.{Some};
+    ghost use Rattle.offset_lives.specs.Drawing.{grouped_text};
+
+    ghost output = { λ g. Some (grouped_text g.0) };
+
+    fn fmt<W: fmt::Write>(&self, f: &mut fmt::Formatter<W>) -> fmt::Result {
+        let number = self.0;
+        let thousands = self.0 / 1000;
+        let millions = self.0 / 1_000_000;
         let billions = self.0 / 1_000_000_000;
+        let below_thousand = Three(number);
+        let below_million = Three(thousands);
+        let below_billion = Three(millions);
         if billions > 0 {
-            write!(f, "{billions},{millions:03},{thousands:03},{ones:03}")
+            write!(
+                f,
+                "{billions},{below_billion},{below_million},{below_thousand}"
+            )
         } else if millions > 0 {
-            write!(f, "{millions},{thousands:03},{ones:03}")
+            write!(f, "{millions},{below_million},{below_thousand}")
         } else if thousands > 0 {
-            write!(f, "{thousands},{ones:03}")
+            write!(f, "{thousands},{below_thousand}")
         } else {
-            write!(f, "{ones}")
+            write!(f, "{number}")
         }
     }
 }

@@ -1,6 +1,8 @@
 //! The two plots: where they are, and their axes with round numbers.
 
-ghost use Rattle.std.specs.Prelude.{◌≤◌};
+ghost use Rattle.std.specs.Prelude.{◌≡◌, ◌≤◌, ◌+◌};
+ghost use Rattle.offset_lives.specs.Figures.{counted};
+ghost use Rattle.offset_lives.specs.Places.{IsAxis, ranges_end, reports_end};
 
 use crate::axes::{Axis, round_step};
 use crate::figures::Figures;
@@ -28,7 +30,9 @@ pub const REPORTS_TOP: u32 = 63_000;
 pub const REPORTS_HEIGHT: u32 = 15_000;
 
 // Call k, counted from 1, lies at k, and the state after it from there to the next call.
-fn calls_axis(calls: u32) -> Axis {
+fn calls_axis(calls: u32) -> Axis
+    ensures { IsAxis 12000 105000 (counted (calls + 1)) result }
+{
     Axis {
         start: LEFT,
         span: WIDTH,
@@ -37,7 +41,10 @@ fn calls_axis(calls: u32) -> Axis {
 }
 
 /// The plot of the ranges. It ends a twentieth above the highest unit that was used, or where the space does.
-pub fn ranges_plot(figures: &Figures) -> Plot {
+pub fn ranges_plot(figures: &Figures) -> Plot
+    ensures calls { IsAxis 12000 105000 (counted (figures.now.calls + 1)) result.calls }
+    ensures units { IsAxis 15000 40000 (ranges_end figures.now) result.units }
+{
     let above = figures.highest.saturating_add(figures.highest / 20 + 1);
     let end = if figures.highest == 0 {
         figures.largest_size
@@ -55,7 +62,10 @@ pub fn ranges_plot(figures: &Figures) -> Plot {
 }
 
 /// The plot of the reports. It ends where the space does.
-pub fn reports_plot(figures: &Figures) -> Plot {
+pub fn reports_plot(figures: &Figures) -> Plot
+    ensures calls { IsAxis 12000 105000 (counted (figures.now.calls + 1)) result.calls }
+    ensures units { IsAxis 63000 15000 (reports_end figures.now) result.units }
+{
     Plot {
         calls: calls_axis(figures.calls),
         units: Axis {
@@ -69,7 +79,8 @@ pub fn reports_plot(figures: &Figures) -> Plot {
 impl Plot {
     /// The lower end.
     pub fn bottom(&self) -> u32
-        ensures { result ≤ 120000 }
+        ensures is { result ≡ self.now.units.start + self.now.units.span }
+        ensures within { result ≤ 120000 }
     {
         self.units.start + self.units.span
     }

@@ -14,9 +14,14 @@ use std::alloc::Global;
 
 // Reads a script to its end, draws it, writes the picture, and then flushes. The clauses are those of `run`, with a
 // picture in place of answers.
-fn draw<S: Source, K: Sink>(alloc: Global, input: &mut S, output: &mut K) -> Result<(), RunFault>
+fn draw<S: Source, K: Sink>(
+    alloc: Global,
+    title: &str,
+    input: &mut S,
+    output: &mut K,
+) -> Result<(), RunFault>
     ensures of_text { IfSome (S.left input.old)
-        (λ text. DrawOf result text (S.left input.new)
+        (λ text. DrawOf result title.now text (S.left input.new)
         (K.held output.old) (K.held output.new) (K.push_has_failed output.new)) }
     ensures flushed { OnOk result (K.is_flushed output.new ≡ true) }
     ensures untouched { IfErr result (λ f. f ≢ faults.Write → output.new ≡ output.old) }
@@ -25,7 +30,7 @@ fn draw<S: Source, K: Sink>(alloc: Global, input: &mut S, output: &mut K) -> Res
     ensures write { K.has_failed output.new ≡ (if is_write_fault result then true else K.has_failed output.old) }
 {
     let script = read_script(alloc, input)?;
-    let text = picture(alloc, &script)?;
+    let text = picture(alloc, title, &script)?;
     if send(output, text.as_bytes()) {
         Ok(())
     } else {
@@ -33,7 +38,8 @@ fn draw<S: Source, K: Sink>(alloc: Global, input: &mut S, output: &mut K) -> Res
     }
 }
 
-/// Draws a script, writes the picture, or the line of a fault to `errors`, and returns the status to exit with.
+/// Draws a script with a title, writes the picture, or the line of a fault to `errors`, and returns the status to exit
+/// with.
 ///
 /// The status is 0 exactly where a whole picture was written and flushed, 2 where the text is no script, 3 where an
 /// allocation failed, and 4 where the source or the sink failed. Nothing is written to `output` unless the whole text
@@ -41,6 +47,7 @@ fn draw<S: Source, K: Sink>(alloc: Global, input: &mut S, output: &mut K) -> Res
 /// memory.
 pub fn draw_program<S: Source, K: Sink, E: Sink>(
     alloc: Global,
+    title: &str,
     input: &mut S,
     output: &mut K,
     errors: &mut E,
@@ -63,14 +70,15 @@ pub fn draw_program<S: Source, K: Sink, E: Sink>(
         (E.held errors.old) (E.held errors.new) (E.has_failed errors.old) (E.has_failed errors.new)
         (E.push_has_failed errors.new) (E.is_flushed errors.new))
         × IfSome (S.left input.old)
-        (λ text. DrawOf ended text (S.left input.new)
+        (λ text. DrawOf ended title.now text (S.left input.new)
         (K.held output.old) (K.held output.new) (K.push_has_failed output.new))
         × OnOk ended (K.is_flushed output.new ≡ true)
         × IfErr ended (λ f. f ≢ faults.Write → output.new ≡ output.old)
         × (S.has_failed input.new ≡ (if is_read_fault ended then true else S.has_failed input.old))
-        × (K.has_failed output.new ≡ (if is_write_fault ended then true else K.has_failed output.old)) }
+        × (K.has_failed output.new
+        ≡ (if is_write_fault ended then true else K.has_failed output.old)) }
 {
-    match draw(alloc, input, output) {
+    match draw(alloc, title, input, output) {
         Ok(()) => 0,
         Err(fault) => {
             let _is_sent = send_fault(errors, fault);

@@ -5,7 +5,7 @@ ghost use Rattle.offset_script.specs.Grammar.{has_valid_alignment};
 ghost use Rattle.offset_lives.specs.Growth.{AreSizes, refusals_of};
 ghost use Rattle.offset_lives.specs.Lives.{lives_of};
 ghost use Rattle.offset_lives.specs.Quiet.{replace_full, replace_all_full};
-ghost use Rattle.offset_lives.specs.Reported.{reports_of};
+ghost use Rattle.offset_lives.specs.Reports.{reports_of};
 
 use offset_script::{Command, Script};
 use std::alloc::{AllocError, Global};
@@ -42,7 +42,8 @@ pub fn without_full(alloc: Global, script: &Script) -> Result<Script, AllocError
         ≡ lives_of script.now.size script.now.max_allocs script.now.commands.items) }
     ensures reports { IfOk result (λ s. reports_of s.size s.max_allocs s.commands.items
         ≡ reports_of script.now.size script.now.max_allocs script.now.commands.items) }
-    ensures sizes { IfOk result (λ s. (sizes : List ℕ) → AreSizes sizes s.size s.max_allocs s.commands.items
+    ensures sizes { IfOk result
+        (λ s. (sizes : List ℕ) → AreSizes sizes s.size s.max_allocs s.commands.items
         → AreSizes sizes script.now.size script.now.max_allocs script.now.commands.items) }
     ensures refusals { IfOk result (λ s. refusals_of s.size s.max_allocs s.commands.items
         ≡ refusals_of script.now.size script.now.max_allocs script.now.commands.items) }

@@ -4,7 +4,7 @@ ghost use Rattle.std.specs.Prelude.{◌≡◌, ℕ, All, IfOk, IsTrue, map, opti
 ghost use Rattle.offset_script.specs.Machine.{answer_view};
 ghost use Rattle.offset_script.specs.Grammar.{has_valid_alignment};
 ghost use Rattle.offset_script.specs.Machine as machine;
-ghost use Rattle.offset_lives.specs.Reported.{reports_of, report_view, with_reports};
+ghost use Rattle.offset_lives.specs.Reports.{reports_of, report_view, with_reports};
 
 use offset_allocator::StorageReport;
 use offset_script::{Answer, Command, Script, play_script};
@@ -46,7 +46,8 @@ fn report_in(answer: &Answer) -> Option<StorageReport>
 pub fn reports(alloc: Global, script: &Script) -> Result<Vec<StorageReport>, AllocError>
     // The reports are those of the plain machine: of the fresh space, and of the space after each command, in order.
     ensures { IfOk result
-        (λ v. map report_view v.items ≡ reports_of script.now.size script.now.max_allocs script.now.commands.items) }
+        (λ v. map report_view v.items
+        ≡ reports_of script.now.size script.now.max_allocs script.now.commands.items) }
 {
     let watched = Script {
         size: script.size,

@@ -1,19 +1,28 @@
-//! The fixed part of the picture.
+//! The fixed parts of the picture.
 
-/// The attributes of the picture, the colours, for light and for dark backgrounds, and the background itself.
-pub const HEAD: &str =
-    "xmlns='http://www.w3.org/2000/svg' width='1200' height='840' viewBox='0 0 1200 840' role='img' aria-label='Ranges of a space, and its free units, over calls'>
-<style>
+/// What comes before the title.
+pub const OPENING: &str =
+    "<svg xmlns='http://www.w3.org/2000/svg' width='1200' height='840' viewBox='0 0 1200 840' role='img'>
+<title>";
+
+/// The colours, for light and for dark backgrounds, and the background itself.
+pub const STYLE: &str = "<style>
 text{font:14px sans-serif;fill:#1f2328}
 .big{font-size:18px;font-weight:bold}.figures{font-size:16px}.end{text-anchor:end}.middle{text-anchor:middle}
-.back{fill:#fff}.out{fill:#d8dee4}.grid{stroke:#d8dee4}.tick{stroke:#57606a}.refusal{stroke:#b00020;stroke-width:2}.edge{stroke:#fff;stroke-width:.7}
-.free{fill:#f4c27a;stroke:#b35900}.most{fill:#cfe3f7;stroke:#1f5fae}
-.age1{fill:#2f5fd0}.age2{fill:#2f95e0}.age3{fill:#1fb0ad}.age4{fill:#35a552}.age5{fill:#93b021}.age6{fill:#dba40f}.age7{fill:#e5742a}.age8{fill:#c93a48}
+.back{fill:#fff}.out{fill:#d8dee4}.grid{stroke:#d8dee4}.tick{stroke:#57606a}.refusal{stroke:#b00020;stroke-width:2}
+.edge{stroke:#fff;stroke-width:.7}
+.free{fill:#e3dfd2;stroke:#6e6a5c}.joined{fill:#f4c27a;stroke:#b35900}.most{fill:#cfe3f7;stroke:#1f5fae}
+.age1{fill:#2f5fd0}.age2{fill:#2f95e0}.age3{fill:#1fb0ad}.age4{fill:#35a552}
+.age5{fill:#93b021}.age6{fill:#dba40f}.age7{fill:#e5742a}.age8{fill:#c93a48}
 @media (prefers-color-scheme:dark){
 text{fill:#e6edf3}
-.back{fill:#0d1117}.out{fill:#30363d}.grid{stroke:#30363d}.tick{stroke:#8b949e}.refusal{stroke:#ff7b80}.edge{stroke:#0d1117}
-.free{fill:#8a5a1c;stroke:#f0a04b}.most{fill:#16324f;stroke:#6cb0f5}
+.back{fill:#0d1117}.out{fill:#30363d}.grid{stroke:#30363d}.tick{stroke:#8b949e}.refusal{stroke:#ff7b80}
+.edge{stroke:#0d1117}
+.free{fill:#403d33;stroke:#aaa594}.joined{fill:#8a5a1c;stroke:#f0a04b}.most{fill:#16324f;stroke:#6cb0f5}
 }
 </style>
 <rect class='back' width='1200' height='840'/>
 ";
+
+/// What comes before the title as it is shown.
+pub const HEADING: &str = "<text class='big' x='24' y='28'>";

@@ -1,5 +1,6 @@
 -- What each call of the allocator leaves agrees with what the plain machine leaves, and the answers are the same.
-use Rattle.std.proofs.Common.{◌≡◌, ℕ, zero, suc, ◌+◌, ◌-◌, ◌<◌, ◌≤◌, Bool, true, false, not, ◌&&◌, ◌||◌, ◌⊎◌, List, [], ◌∷◌, ◌++◌, replicate, length, sum, Option, Some, None, nat_eq, nat_lt, nat_le, if◌then◌else◌, refl, sym, ap, ap₂, subst, subst₂, ◌∙◌, inl, inr, arith, eq-eqb, ne_eqb, le-leb, le-ltb, leb-false, append_assoc, append-nil}
+use Rattle.std.proofs.Common.{◌≡◌, ℕ, zero, suc, ◌+◌, ◌-◌, ◌<◌, ◌≤◌, Bool, true, false, not, ◌&&◌, ◌||◌, ◌⊎◌, List, [], ◌∷◌, ◌++◌, replicate, length, sum, Option, Some, None, nat_eq, nat_lt, nat_le}
+use Rattle.std.proofs.Common.{if◌then◌else◌, refl, sym, ap, ap₂, subst, subst₂, ◌∙◌, inl, inr, arith, eq-eqb, ne_eqb, le-leb, le-ltb, leb-false, append_assoc, append-nil}
 use Rattle.offset_script.proofs.Tests.{same_some}
 use Rattle.std.specs.Option.{option_or}
 use Rattle.offset_allocator.proofs.ViewApart.{and_true}
@@ -7,15 +8,15 @@ use Rattle.std.proofs.lemmas.Bool.{cases_eq, cases_lt, true≢false, false≢tru
 use Rattle.offset_allocator.specs.Classes.{up, down}
 use Rattle.offset_allocator.specs.Reports.{largest, rows_below}
 use Rattle.offset_script.specs.declared.scripts.Command.TheVariants as command
-use Rattle.offset_script.specs.Machine.{Tag, Live, Free, is_free, has_number, stamp, total, chosen_place, State, Answer, step, returns_only, leaves, stamp_of_padding, stamp_of_call}
+use Rattle.offset_script.specs.Machine.{Live, Free, is_free, has_number, stamp, total, chosen_place, State, Answer, step, returns_only, leaves, stamp_of_padding, stamp_of_call}
 use Rattle.offset_script.specs.Machine as machine
-use Rattle.offset_allocator.specs.View.{Block, View, Place, Grant, place_of, tally, one, units, times, count_in_bin, used_block, free_block, free_part, bin_at, push_all, remove_all, IsWellFormed, replace, max_size, padding_to}
+use Rattle.offset_allocator.specs.View.{Block, View, Place, Grant, place_of, units, used_block, free_block, free_part, bin_at, push_all, IsWellFormed, replace, max_size, padding_to}
 use Rattle.offset_allocator.specs.View as named
 use Rattle.offset_allocator.proofs.Reading.{size_at}
 use Rattle.offset_allocator.specs.Requests.{HasRoomFor, CanGrant, blocks_needed, units_needed}
 use Rattle.offset_allocator.specs.Relations.{SameSpace, Serves, Frees, Adds, CanExtend, Extends}
-use Rattle.offset_script.specs.Agreement.{Label, by_name, by_tag, stamp_of, IsFalling, name_of, Agrees}
-use Rattle.offset_script.proofs.Well.{Well, found_at, not_found, number_of, not_there, count, count-append, hit, hit_self, apart_parts, end_of, start_of, coalesce_parts, chosen_at}
+use Rattle.offset_script.proofs.Agreement.{Label, by_name, by_tag, stamp_of, IsFalling, name_of, HasBlocksOf}
+use Rattle.offset_script.proofs.Well.{IsWell, found_at, not_found, number_of, not_there, count, count-append, hit, hit_self, apart_parts, end_of, start_of, coalesce_parts, chosen_at}
 use Rattle.offset_script.proofs.Well as well
 use Rattle.std.specs.List.{AllByRecursion}
 use Rattle.std.proofs.lemmas.List.{map-append, length-map, get_or-replicate, get_or_past, length-replicate}
@@ -23,9 +24,9 @@ use Rattle.offset_allocator.proofs.Tallies.{tally_append}
 use Rattle.offset_allocator.proofs.ViewOrders.{names_same, names_other}
 use Rattle.offset_allocator.proofs.Classes.{down_small, fits_size}
 use Rattle.offset_script.proofs.Members.{map_parts, map_first}
-use Rattle.offset_script.proofs.Labels.{names, tags, map_three, stamps_below, Rises, newest_replaced}
+use Rattle.offset_script.proofs.Labels.{names, tags, map_three, stamps_below, AreRising, newest_replaced}
 use Rattle.offset_script.proofs.Chosen.{Spot, whole, place_at, named_spot, plain_spot, named_place, plain_place, IsLabelled, none_chosen, chosen, place_of_spot}
-use Rattle.offset_script.proofs.Ends.{AllFree, free_named, free_tagged, apart_tagged, ends_live_last, last_free, total_units, free_sizes_labels, or_none, name_append, name_skip, name_free, name_none}
+use Rattle.offset_script.proofs.Ends.{AreFree, free_named, free_tagged, apart_tagged, ends_live_last, last_free, total_units, free_sizes_labels, or_none, name_append, name_skip, name_free, name_none}
 
 -- the answer to a request, when g grants were made before it
 abbrev pub answer_of : ℕ → Option Grant → Answer
@@ -51,7 +52,7 @@ grant_count_after g None = g
 grant_count_after g (Some a) = g + 1
 
 -- a call that leaves the blocks as they are
-pub agrees_quiet : (v : View) (kept_name : ℕ → Option ℕ) (s : State) → Agrees v kept_name s → (a : Answer) → Agrees v kept_name (returns_only s a).state
+pub agrees_quiet : (v : View) (kept_name : ℕ → Option ℕ) (s : State) → HasBlocksOf v kept_name s → (a : Answer) → HasBlocksOf v kept_name (returns_only s a).state
 agrees_quiet v kept_name s g a = record { labels = g.labels; view = g.view; state = g.state; limit = g.limit; newest = g.newest; handles = g.handles }
 
 -- the labels of a grant
@@ -80,10 +81,12 @@ abbrev pub new_labels : (front padding x n k rest left t : ℕ) → List Label
 new_labels front padding x n k rest left t = free_labels front padding t ++ live_label x n k ∷ free_labels rest left (t + 1)
 
 pub names_new : (front padding x n k rest left t : ℕ) → names (new_labels front padding x n k rest left t) ≡ free_part front padding ++ used_block x n ∷ free_part rest left
-names_new front padding x n k rest left t = map-append by_name (free_labels front padding t) _ ∙ ap₂ (λ a b. a ++ used_block x n ∷ b) (names_free_labels front padding t) (names_free_labels rest left (t + 1))
+names_new front padding x n k rest left t = map-append by_name (free_labels front padding t) _
+    ∙ ap₂ (λ a b. a ++ used_block x n ∷ b) (names_free_labels front padding t) (names_free_labels rest left (t + 1))
 
 pub tags_new : (front padding x n k rest left t : ℕ) → tags (new_labels front padding x n k rest left t) ≡ machine.free_block padding t ++ machine.block n (Live k) ∷ machine.free_block left (t + 1)
-tags_new front padding x n k rest left t = map-append by_tag (free_labels front padding t) _ ∙ ap₂ (λ a b. a ++ machine.block n (Live k) ∷ b) (tags_free_labels front padding t) (tags_free_labels rest left (t + 1))
+tags_new front padding x n k rest left t = map-append by_tag (free_labels front padding t) _
+    ∙ ap₂ (λ a b. a ++ machine.block n (Live k) ∷ b) (tags_free_labels front padding t) (tags_free_labels rest left (t + 1))
 
 pub name_new : (j front padding x n k rest left t : ℕ) → name_of j (new_labels front padding x n k rest left t) ≡ (if nat_eq j k then Some x else None)
 name_new j front padding x n k rest left t =
@@ -91,44 +94,48 @@ name_new j front padding x n k rest left t =
     ∙ ap (λ o. option_or o (name_of j (live_label x n k ∷ free_labels rest left (t + 1)))) (name_free_labels j front padding t)
     ∙ ap (λ o. if nat_eq j k then Some x else o) (name_free_labels j rest left (t + 1))
 
-rises_remainder : (x n t u : ℕ) → t ≤ u → Rises t (free_labels x n u)
+rises_remainder : (x n t u : ℕ) → t ≤ u → AreRising t (free_labels x n u)
 rises_remainder x zero t u l = tt
 rises_remainder x (suc n) t u l = (λ e. absurd (true≢false e), λ e. (l, tt))
 
-pub rises_new : (front padding x n k rest left t : ℕ) → Rises t (new_labels front padding x n k rest left t)
+pub rises_new : (front padding x n k rest left t : ℕ) → AreRising t (new_labels front padding x n k rest left t)
 rises_new front zero x n k rest left t = (λ e. rises_remainder rest left t (t + 1) (omega arith), λ e. absurd (false≢true e))
 rises_new front (suc padding) x n k rest left t = (λ e. absurd (true≢false e), λ e. (omega arith, (λ e. rises_remainder rest left (t + 1) (t + 1) (omega arith), λ e. absurd (false≢true e))))
 
 -- other names of grants stay
 pub name_replaced : (j : ℕ) (before old new after : List Label) → name_of j old ≡ name_of j new → name_of j (before ++ (old ++ after)) ≡ name_of j (before ++ (new ++ after))
 name_replaced j before old new after e =
-    name_append j before (old ++ after) ∙ ap (option_or (name_of j before)) (name_append j old after ∙ ap (λ o. option_or o (name_of j after)) e ∙ sym (name_append j new after)) ∙ sym (name_append j before (new ++ after))
+    name_append j before (old ++ after) ∙ ap (option_or (name_of j before)) (name_append j old after ∙ ap (λ o. option_or o (name_of j after)) e ∙ sym (name_append j new after))
+    ∙ sym (name_append j before (new ++ after))
 
 -- a request has the same answer, and what it leaves agrees
-pub record Matches (u : View) (kept_name : ℕ → Option ℕ) (grants : ℕ) (r : Option Grant) (p : machine.Outcome) : Type 0 where
+pub record IsMatch (u : View) (kept_name : ℕ → Option ℕ) (grants : ℕ) (r : Option Grant) (p : machine.Outcome) : Type 0 where
   pub answer : p.answer ≡ answer_of grants r
-  pub agrees : Agrees u (kept_after grants r kept_name) p.state
+  pub agrees : HasBlocksOf u (kept_after grants r kept_name) p.state
   pub grants_after : p.state.grants ≡ grant_count_after grants r
 
 -- accesses are no part of the agreement
-pub agrees_but : (v w : View) (kept_name : ℕ → Option ℕ) (s : State) → SameSpace v w → Agrees v kept_name s → Agrees w kept_name s
-agrees_but v w kept_name s e g = subst (λ x. Agrees x kept_name s) (sym e) (record { labels = g.labels; view = g.view; state = g.state; limit = g.limit; newest = g.newest; handles = g.handles })
+pub agrees_but : (v w : View) (kept_name : ℕ → Option ℕ) (s : State) → SameSpace v w → HasBlocksOf v kept_name s → HasBlocksOf w kept_name s
+agrees_but v w kept_name s e g = subst (λ x. HasBlocksOf x kept_name s) (sym e) (record { labels = g.labels; view = g.view; state = g.state; limit = g.limit; newest = g.newest; handles = g.handles })
 
-module _ (v : View) (kept_name : ℕ → Option ℕ) (s : State) (w : IsWellFormed v) (ws : Well s) (g : Agrees v kept_name s) where
+module _ (v : View) (kept_name : ℕ → Option ℕ) (s : State) (w : IsWellFormed v) (ws : IsWell s) (g : HasBlocksOf v kept_name s) where
   pub labelled : IsLabelled v g.labels
   labelled = record { view = g.view; newest = g.newest }
 
   low : (ls : List Label) → g.labels ≡ ls → (x : ℕ) → stamp_of x ls < stamp_of_padding s
-  low ls e = subst (λ ls. (x : ℕ) → stamp_of x ls < stamp_of_padding s) e (stamps_below (stamp_of_padding s) g.labels (λ x. subst (λ bs. named.count_named x bs ≤ 1) g.view (w.distinct x)) (λ x b. subst (λ bs. count (Free x) bs ≡ 0) g.state (not_there s ws (Free x) (λ o. absurd (omega arith)))) (omega arith))
+  low ls e = subst (λ ls. (x : ℕ) → stamp_of x ls < stamp_of_padding s) e
+      (stamps_below (stamp_of_padding s) g.labels (λ x. subst (λ bs. named.count_named x bs ≤ 1) g.view (w.distinct x))
+      (λ x b. subst (λ bs. count (Free x) bs ≡ 0) g.state (not_there s ws (Free x) (λ o. absurd (omega arith)))) (omega arith))
 
   newest_at : (ls : List Label) → g.labels ≡ ls → (c : ℕ) → IsFalling (λ x. stamp_of x ls) (bin_at v.order c)
   newest_at ls e = subst (λ ls. (c : ℕ) → IsFalling (λ x. stamp_of x ls) (bin_at v.order c)) e g.newest
 
   -- new blocks in place of old ones
   module _ (u : View) (w' : IsWellFormed u) where
-    pub agrees_replaced : (size : ℕ) (before old new after : List Label) → g.labels ≡ before ++ (old ++ after) → SameSpace (record (replace v (names before) (names old) (names new) (names after)) { size = size }) u
-        → (t : State) → t.limit ≡ s.limit → t.blocks ≡ tags (before ++ (new ++ after)) → Rises (stamp_of_padding s) new
-        → (kept_name' : ℕ → Option ℕ) → ((j : ℕ) → kept_name' j ≡ name_of j (before ++ (new ++ after))) → Agrees u kept_name' t
+    pub agrees_replaced : (size : ℕ) (before old new after : List Label) → g.labels ≡ before ++ (old ++ after)
+        → SameSpace (record (replace v (names before) (names old) (names new) (names after)) { size = size }) u
+        → (t : State) → t.limit ≡ s.limit → t.blocks ≡ tags (before ++ (new ++ after)) → AreRising (stamp_of_padding s) new
+        → (kept_name' : ℕ → Option ℕ) → ((j : ℕ) → kept_name' j ≡ name_of j (before ++ (new ++ after))) → HasBlocksOf u kept_name' t
     agrees_replaced size before old new after e same t limit state rises kept_name' handles = record {
       labels = before ++ (new ++ after);
       view = view;
@@ -145,7 +152,7 @@ module _ (v : View) (kept_name : ℕ → Option ℕ) (s : State) (w : IsWellForm
     -- a grant
     grant_agrees : (n padding remainder front rest : ℕ) (sp : Spot) → g.labels ≡ whole sp → is_free sp.label.tag ≡ true → padding + n + remainder ≡ sp.label.size
         → SameSpace (replace v (names sp.before) (by_name sp.label ∷ []) (free_part front padding ++ used_block sp.label.name n ∷ free_part rest remainder) (names sp.after)) u
-        → Agrees u (with_name (s.grants + 1) sp.label.name kept_name) (machine.grant s n padding (plain_place sp)).state
+        → HasBlocksOf u (with_name (s.grants + 1) sp.label.name kept_name) (machine.grant s n padding (plain_place sp)).state
     grant_agrees n padding remainder front rest sp e f fill same = agrees_replaced v.size sp.before (sp.label ∷ []) new sp.after e
         (subst (λ put. SameSpace (replace v (names sp.before) (by_name sp.label ∷ []) put (names sp.after)) u) (sym names_are) same) _ refl
         (ap (λ z. tags sp.before ++ z) (sym (append_assoc (machine.free_block padding (stamp_of_padding s)) (machine.block n (Live k) ∷ machine.free_block left (stamp_of_call s)) (tags sp.after)))
@@ -165,20 +172,33 @@ module _ (v : View) (kept_name : ℕ → Option ℕ) (s : State) (w : IsWellForm
         names_are = names_new front padding sp.label.name n k rest left (stamp_of_padding s) ∙ ap (λ m. free_part front padding ++ used_block sp.label.name n ∷ free_part rest m) (omega arith)
 
         first : name_of k sp.before ≡ None
-        first = name_none k sp.before (omega (arith, not_there s ws (Live k) (λ o. absurd (let l = o.1 in omega arith)), ap (count (Live k)) (g.state ∙ ap tags e ∙ map-append by_tag sp.before (sp.label ∷ sp.after)), count-append (Live k) (tags sp.before) (tags (sp.label ∷ sp.after))))
+        first = name_none k sp.before
+            (omega (
+              arith,
+              not_there s ws (Live k) (λ o. absurd (let l = o.1 in omega arith)),
+              ap (count (Live k)) (g.state ∙ ap tags e ∙ map-append by_tag sp.before (sp.label ∷ sp.after)),
+              count-append (Live k) (tags sp.before) (tags (sp.label ∷ sp.after)),
+            ))
 
         handles : (j : ℕ) → with_name k sp.label.name kept_name j ≡ name_of j (sp.before ++ (new ++ sp.after))
         handles j = elim (cases_eq j k) [
           | inl i ↦ subst (λ k'. with_name k sp.label.name kept_name k' ≡ name_of k' (sp.before ++ (new ++ sp.after))) (sym i)
-              (rw (eq-eqb k k refl) (sym (name_append k sp.before (new ++ sp.after) ∙ ap₂ option_or first (name_append k new sp.after ∙ ap (λ o. option_or o (name_of k sp.after)) (name_new k front padding sp.label.name n k rest left (stamp_of_padding s) ∙ ap (λ (b : Bool). if b then Some sp.label.name else None) (eq-eqb k k refl))))))
-          | inr i ↦ rw (ne_eqb j k i) (g.handles j ∙ ap (name_of j) e ∙ name_replaced j sp.before (sp.label ∷ []) new sp.after (name_skip j sp.label [] f ∙ sym (name_new j front padding sp.label.name n k rest left (stamp_of_padding s) ∙ ap (λ (b : Bool). if b then Some sp.label.name else None) (ne_eqb j k i))))
+              (rw (eq-eqb k k refl)
+              (sym (name_append k sp.before (new ++ sp.after)
+              ∙ ap₂ option_or first
+              (name_append k new sp.after ∙ ap (λ o. option_or o (name_of k sp.after))
+              (name_new k front padding sp.label.name n k rest left (stamp_of_padding s) ∙ ap (λ (b : Bool). if b then Some sp.label.name else None) (eq-eqb k k refl))))))
+          | inr i ↦ rw (ne_eqb j k i)
+              (g.handles j ∙ ap (name_of j) e ∙ name_replaced j sp.before (sp.label ∷ []) new sp.after
+              (name_skip j sp.label [] f ∙ sym (name_new j front padding sp.label.name n k rest left (stamp_of_padding s) ∙ ap (λ (b : Bool). if b then Some sp.label.name else None) (ne_eqb j k i))))
         ]
 
     -- what becomes free, between lists that end and start with free blocks
-    coalesced_agrees : (front before left old back right after : List Label) (x n size : ℕ) → g.labels ≡ front ++ (old ++ back) → front ≡ before ++ left → back ≡ right ++ after → AllFree left → AllFree right
+    coalesced_agrees : (front before left old back right after : List Label) (x n size : ℕ) → g.labels ≡ front ++ (old ++ back) → front ≡ before ++ left → back ≡ right ++ after → AreFree left
+        → AreFree right
         → SameSpace (record (replace v (names before) (names (left ++ (old ++ right))) (free_block x (total (tags left) + n + total (tags right)) ∷ []) (names after)) { size = size }) u
         → (kept_name' : ℕ → Option ℕ) → ((j : ℕ) → kept_name' j ≡ option_or (name_of j front) (name_of j back)) → (a : Answer)
-        → Agrees u kept_name' (leaves s (machine.coalesce (tags front) n (stamp_of_call s) (tags back)) a).state
+        → HasBlocksOf u kept_name' (leaves s (machine.coalesce (tags front) n (stamp_of_call s) (tags back)) a).state
     coalesced_agrees front before left old back right after x n size e at_front at_back fl fr same kept_name' handles a =
         agrees_replaced size before (left ++ (old ++ right)) (l ∷ []) after parted same _ refl state (λ e. absurd (true≢false e), λ e. (omega arith, tt)) kept_name'
         (λ j. handles j ∙ ap₂ option_or (ap (name_of j) at_front ∙ name_append j before left ∙ ap (option_or (name_of j before)) (name_free j left fl) ∙ or_none _)
@@ -190,18 +210,19 @@ module _ (v : View) (kept_name : ℕ → Option ℕ) (s : State) (w : IsWellForm
         parted : g.labels ≡ before ++ ((left ++ (old ++ right)) ++ after)
         parted = e ∙ ap₂ (λ y z. y ++ (old ++ z)) at_front at_back ∙ simp append_assoc
 
-        parts : (xs ys : List Label) → well.Apart (tags (xs ++ ys)) → well.Apart (tags xs) × well.Apart (tags ys) × ((well.ends_free (tags xs) && well.starts_free (tags ys)) ≡ false)
-        parts xs ys h = apart_parts (tags xs) (tags ys) (subst well.Apart (map-append by_tag xs ys) h)
+        parts : (xs ys : List Label) → well.AreApart (tags (xs ++ ys)) → well.AreApart (tags xs) × well.AreApart (tags ys) × ((well.ends_free (tags xs) && well.starts_free (tags ys)) ≡ false)
+        parts xs ys h = apart_parts (tags xs) (tags ys) (subst well.AreApart (map-append by_tag xs ys) h)
 
-        apart : well.Apart (tags (left ++ (old ++ right)))
-        apart = (parts (left ++ (old ++ right)) after (parts before ((left ++ (old ++ right)) ++ after) (subst well.Apart (g.state ∙ ap tags parted) ws.apart)).1).0
+        apart : well.AreApart (tags (left ++ (old ++ right)))
+        apart = (parts (left ++ (old ++ right)) after (parts before ((left ++ (old ++ right)) ++ after) (subst well.AreApart (g.state ∙ ap tags parted) ws.apart)).1).0
 
-        apart' : well.Apart (tags before) × well.Apart (tags (l ∷ after)) × ((well.ends_free (tags before) && true) ≡ false)
+        apart' : well.AreApart (tags before) × well.AreApart (tags (l ∷ after)) × ((well.ends_free (tags before) && true) ≡ false)
         apart' = parts before (l ∷ after) (apart_tagged (before ++ (l ∷ after)) (subst named.IsApart (ap (λ (x : View). x.blocks) same ∙ sym (map-append by_name before (l ∷ after))) w'.apart))
 
         state : machine.coalesce (tags front) n (stamp_of_call s) (tags back) ≡ tags (before ++ (l ∷ after))
         state = ap₂ (λ y z. machine.coalesce y n (stamp_of_call s) z) (ap tags at_front ∙ map-append by_tag before left) (ap tags at_back ∙ map-append by_tag right after)
-            ∙ coalesce_parts (tags before) (tags left) n (stamp_of_call s) (tags right) (tags after) (end_of _ _ (free_tagged left fl) (parts left (old ++ right) apart).0 (and_true _ apart'.2)) (start_of _ _ (free_tagged right fr) (parts old right (parts left (old ++ right) apart).1).1 apart'.1.0)
+            ∙ coalesce_parts (tags before) (tags left) n (stamp_of_call s) (tags right) (tags after) (end_of _ _ (free_tagged left fl) (parts left (old ++ right) apart).0 (and_true _ apart'.2))
+            (start_of _ _ (free_tagged right fr) (parts old right (parts left (old ++ right) apart).1).1 apart'.1.0)
             ∙ sym (map-append by_tag before (l ∷ after))
 
   pub same_length : length v.blocks ≡ length s.blocks
@@ -222,30 +243,34 @@ module _ (v : View) (kept_name : ℕ → Option ℕ) (s : State) (w : IsWellForm
     refused_is : (CanGrant blocks needed v → ⊥) → machine.request s blocks needed n padding_at ≡ returns_only s machine.Refused
     refused_is none = go (machine.is_short_of blocks s) refl
       where
-        go : (b : Bool) → machine.is_short_of blocks s ≡ b → (if b then returns_only s machine.Refused else machine.grant_or_refuse s n padding_at (chosen_place needed s.blocks)) ≡ returns_only s machine.Refused
+        go : (b : Bool) → machine.is_short_of blocks s ≡ b → (if b then returns_only s machine.Refused else machine.grant_or_refuse s n padding_at (chosen_place needed s.blocks))
+            ≡ returns_only s machine.Refused
         go true e = refl
         go false e = ap (machine.grant_or_refuse s n padding_at) (ap (chosen_place needed) g.state ∙ none_chosen v w g.labels labelled needed (λ h. none (room_for blocks e, h)))
 
     -- a request that is granted, of a block at a place
-    granted_is : HasRoomFor blocks v → (padding : ℕ) (sp : Spot) → chosen_place needed (tags g.labels) ≡ Some (plain_place sp) → padding ≡ padding_at (units (names sp.before)) → machine.request s blocks needed n padding_at ≡ machine.grant s n padding (plain_place sp)
+    granted_is : HasRoomFor blocks v → (padding : ℕ) (sp : Spot) → chosen_place needed (tags g.labels) ≡ Some (plain_place sp) → padding ≡ padding_at (units (names sp.before))
+        → machine.request s blocks needed n padding_at ≡ machine.grant s n padding (plain_place sp)
     granted_is room padding sp at e =
         ap (λ (b : Bool). if b then returns_only s machine.Refused else machine.grant_or_refuse s n padding_at (chosen_place needed s.blocks)) (has_room blocks room)
         ∙ ap (machine.grant_or_refuse s n padding_at) (ap (chosen_place needed) g.state ∙ at) ∙ ap (λ m. machine.grant s n m (plain_place sp)) (ap padding_at (total_units sp.before) ∙ sym e)
 
     -- what a grant says of the place of the block that is split
     abbrev IsGrantAt : Grant → (padding remainder front rest : ℕ) → Place → Type 0
-    IsGrantAt a padding remainder front rest q = (a ≡ record { name = q.block.name; offset = units q.before + padding }) × (padding ≡ padding_at (units q.before)) × (padding + n + remainder ≡ q.block.size)
+    IsGrantAt a padding remainder front rest q = (a ≡ record { name = q.block.name; offset = units q.before + padding }) × (padding ≡ padding_at (units q.before))
+        × (padding + n + remainder ≡ q.block.size)
         × SameSpace (replace v q.before (q.block ∷ []) (free_part front padding ++ used_block q.block.name n ∷ free_part rest remainder) q.after) u
 
-    pub serve_agrees : (r : Option Grant) → Serves blocks needed n padding_at v u r → Matches u kept_name s.grants r (machine.request s blocks needed n padding_at)
-    serve_agrees None e = subst (Matches u kept_name s.grants None) (sym (refused_is e.0)) (record { answer = refl; agrees = agrees_but v u kept_name _ e.1 (agrees_quiet v kept_name s g machine.Refused); grants_after = refl })
+    pub serve_agrees : (r : Option Grant) → Serves blocks needed n padding_at v u r → IsMatch u kept_name s.grants r (machine.request s blocks needed n padding_at)
+    serve_agrees None e = subst (IsMatch u kept_name s.grants None) (sym (refused_is e.0))
+        (record { answer = refl; agrees = agrees_but v u kept_name _ e.1 (agrees_quiet v kept_name s g machine.Refused); grants_after = refl })
     serve_agrees (Some a) e =
         let t = e.1 in
         let c = chosen v w g.labels labelled needed n padding_at u a t in
         let at = subst (IsGrantAt a t.padding t.remainder t.padding_name t.remainder_name) (sym c.place) (t.grant, t.padded, t.whole, t.view) in
-        subst (Matches u kept_name s.grants (Some a)) (sym (granted_is e.0 t.padding c.spot c.is at.1)) (record {
+        subst (IsMatch u kept_name s.grants (Some a)) (sym (granted_is e.0 t.padding c.spot c.is at.1)) (record {
           answer = ap (machine.Grant (s.grants + 1)) (ap (λ m. m + t.padding) (total_units c.spot.before) ∙ sym (ap (λ (a : Grant). a.offset) at.0));
-          agrees = subst (λ x. Agrees u (with_name (s.grants + 1) x kept_name) (machine.grant s n t.padding (plain_place c.spot)).state) (sym (ap (λ (a : Grant). a.name) at.0))
+          agrees = subst (λ x. HasBlocksOf u (with_name (s.grants + 1) x kept_name) (machine.grant s n t.padding (plain_place c.spot)).state) (sym (ap (λ (a : Grant). a.name) at.0))
               (grant_agrees u w' n t.padding t.remainder t.padding_name t.remainder_name c.spot c.split c.free at.2 at.3);
           grants_after = refl;
         })
@@ -253,7 +278,9 @@ module _ (v : View) (kept_name : ℕ → Option ℕ) (s : State) (w : IsWellForm
   -- an aligned request
   request_alike : (blocks blocks' needed needed' n : ℕ) (padding_at padding_at' : ℕ → ℕ) → blocks ≡ blocks' → needed ≡ needed' → ((o : ℕ) → padding_at o ≡ padding_at' o)
       → machine.request s blocks needed n padding_at ≡ machine.request s blocks' needed' n padding_at'
-  request_alike blocks blocks' needed needed' n padding_at padding_at' e f h = ap₂ (λ b m. machine.request s b m n padding_at) e f ∙ ap (λ (o : machine.Outcome). if machine.is_short_of blocks' s then returns_only s machine.Refused else o) (go (chosen_place needed' s.blocks))
+  request_alike blocks blocks' needed needed' n padding_at padding_at' e f h =
+      ap₂ (λ b m. machine.request s b m n padding_at) e f ∙ ap (λ (o : machine.Outcome). if machine.is_short_of blocks' s then returns_only s machine.Refused else o)
+      (go (chosen_place needed' s.blocks))
     where
       go : (o : Option machine.Place) → machine.grant_or_refuse s n padding_at o ≡ machine.grant_or_refuse s n padding_at' o
       go None = refl
@@ -272,19 +299,25 @@ module _ (v : View) (kept_name : ℕ → Option ℕ) (s : State) (w : IsWellForm
 
   aligned_is : (n align : ℕ) → 1 ≤ align → step (command.Align n align) s ≡ machine.request s (blocks_needed align) (units_needed n align) n (padding_to align)
   aligned_is n align some = elim (cases_lt 1 align) [
-    | inl l ↦ ap (λ (b : Bool). if b then machine.allocate n s else large (nat_lt max_size (n + align - 1))) (lt-leb align 1 l) ∙ go (nat_lt max_size (n + align - 1)) refl ∙ ap (λ k. machine.request s k (units_needed n align) n (padding_to align)) (let e : 2 ≡ blocks_needed align = omega arith in e)
-    | inr l ↦ ap (λ (b : Bool). if b then machine.allocate n s else large (nat_lt max_size (n + align - 1))) (le-leb align 1 l) ∙ request_alike 1 (blocks_needed align) n (units_needed n align) n (λ offset. 0) (padding_to align) (omega arith) (omega arith) (λ o. omega arith)
+    | inl l ↦ ap (λ (b : Bool). if b then machine.allocate n s else large (nat_lt max_size (n + align - 1))) (lt-leb align 1 l) ∙ go (nat_lt max_size (n + align - 1)) refl
+        ∙ ap (λ k. machine.request s k (units_needed n align) n (padding_to align)) (let e : 2 ≡ blocks_needed align = omega arith in e)
+    | inr l ↦ ap (λ (b : Bool). if b then machine.allocate n s else large (nat_lt max_size (n + align - 1))) (le-leb align 1 l)
+        ∙ request_alike 1 (blocks_needed align) n (units_needed n align) n (λ offset. 0) (padding_to align) (omega arith) (omega arith) (λ o. omega arith)
   ]
     where
       large : Bool → machine.Outcome
       large b = if b then returns_only s machine.Refused else machine.request s 2 (n + align - 1) n (padding_to align)
 
       go : (b : Bool) → nat_lt max_size (n + align - 1) ≡ b → large b ≡ machine.request s 2 (n + align - 1) n (padding_to align)
-      go true e = elim (machine.is_short_of 2 s) as (λ b. returns_only s machine.Refused ≡ (if b then returns_only s machine.Refused else returns_only s machine.Refused)) [ true ↦ refl | false ↦ refl ] ∙ ap (λ (o : Option machine.Place). if machine.is_short_of 2 s then returns_only s machine.Refused else machine.grant_or_refuse s n (padding_to align) o) (sym (too_large (n + align - 1) (ltb-true max_size (n + align - 1) e) (chosen_place (n + align - 1) s.blocks) refl))
+      go true e = elim (machine.is_short_of 2 s) as (λ b. returns_only s machine.Refused ≡ (if b then returns_only s machine.Refused else returns_only s machine.Refused))
+          [ true ↦ refl | false ↦ refl ] ∙ ap (λ (o : Option machine.Place). if machine.is_short_of 2 s then returns_only s machine.Refused else machine.grant_or_refuse s n (padding_to align) o)
+          (sym (too_large (n + align - 1) (ltb-true max_size (n + align - 1) e) (chosen_place (n + align - 1) s.blocks) refl))
       go false e = refl
 
-  pub aligned_agrees : (n align : ℕ) → 1 ≤ align → (u : View) → IsWellFormed u → (r : Option Grant) → Serves (blocks_needed align) (units_needed n align) n (padding_to align) v u r → Matches u kept_name s.grants r (step (command.Align n align) s)
-  aligned_agrees n align some u w' r e = subst (Matches u kept_name s.grants r) (sym (aligned_is n align some)) (serve_agrees (blocks_needed align) (units_needed n align) n (padding_to align) u w' r e)
+  pub aligned_agrees : (n align : ℕ) → 1 ≤ align → (u : View) → IsWellFormed u → (r : Option Grant) → Serves (blocks_needed align) (units_needed n align) n (padding_to align) v u r
+      → IsMatch u kept_name s.grants r (step (command.Align n align) s)
+  aligned_agrees n align some u w' r e = subst (IsMatch u kept_name s.grants r) (sym (aligned_is n align some))
+      (serve_agrees (blocks_needed align) (units_needed n align) n (padding_to align) u w' r e)
 
   -- a live grant, whose block has the name x
   pub record LiveAt (k x : ℕ) : Type 0 where
@@ -322,8 +355,11 @@ module _ (v : View) (kept_name : ℕ → Option ℕ) (s : State) (w : IsWellForm
       go None f = f
       go (Some p) f = absurd (let n = sym (live_spot k p f).1 ∙ e in cc)
 
-  pub gone_agrees : (k : ℕ) → kept_name k ≡ None → ((step (command.Free k) s).answer ≡ machine.Gone) × Agrees v kept_name (step (command.Free k) s).state × ((step (command.Free k) s).state.grants ≡ s.grants)
-  gone_agrees k e = subst (λ (o : Option machine.Place). ((machine.release s o).answer ≡ machine.Gone) × Agrees v kept_name (machine.release s o).state × ((machine.release s o).state.grants ≡ s.grants)) (sym (none_there k e)) (refl, agrees_quiet v kept_name s g machine.Gone, refl)
+  pub gone_agrees : (k : ℕ) → kept_name k ≡ None → ((step (command.Free k) s).answer ≡ machine.Gone) × HasBlocksOf v kept_name (step (command.Free k) s).state
+      × ((step (command.Free k) s).state.grants ≡ s.grants)
+  gone_agrees k e = subst
+      (λ (o : Option machine.Place). ((machine.release s o).answer ≡ machine.Gone) × HasBlocksOf v kept_name (machine.release s o).state × ((machine.release s o).state.grants ≡ s.grants))
+      (sym (none_there k e)) (refl, agrees_quiet v kept_name s g machine.Gone, refl)
 
   pub size_gone_agrees : (k : ℕ) → kept_name k ≡ None → (step (command.Size k) s).answer ≡ machine.Gone
   size_gone_agrees k e = ap machine.size_at (none_there k e)
@@ -336,9 +372,15 @@ module _ (v : View) (kept_name : ℕ → Option ℕ) (s : State) (w : IsWellForm
 
   -- a release
   pub free_agrees : (k x : ℕ) → kept_name k ≡ Some x → (u : View) → IsWellFormed u → Frees x v u
-      → ((step (command.Free k) s).answer ≡ machine.Freed) × Agrees u (without_name k kept_name) (step (command.Free k) s).state × ((step (command.Free k) s).state.grants ≡ s.grants)
-  free_agrees k x e u w' f = subst (λ (o : Option machine.Place). ((machine.release s o).answer ≡ machine.Freed) × Agrees u (without_name k kept_name) (machine.release s o).state × ((machine.release s o).state.grants ≡ s.grants)) (sym l.placed)
-      (refl, coalesced_agrees u w' sp.before front.0 front.1 (sp.label ∷ []) sp.after back.0 back.1 x sp.label.size v.size l.split front.2 back.2 free.0 free.1 same (without_name k kept_name) handles machine.Freed, refl)
+      → ((step (command.Free k) s).answer ≡ machine.Freed) × HasBlocksOf u (without_name k kept_name) (step (command.Free k) s).state × ((step (command.Free k) s).state.grants ≡ s.grants)
+  free_agrees k x e u w' f =
+      subst (λ (o : Option machine.Place). ((machine.release s o).answer ≡ machine.Freed) × HasBlocksOf u (without_name k kept_name) (machine.release s o).state
+      × ((machine.release s o).state.grants ≡ s.grants)) (sym l.placed) (
+        refl,
+        coalesced_agrees u w' sp.before front.0 front.1 (sp.label ∷ []) sp.after back.0 back.1 x sp.label.size v.size l.split front.2 back.2 free.0 free.1 same (without_name k kept_name) handles
+            machine.Freed,
+        refl,
+      )
     where
       l : LiveAt k x
       l = live_at k x e
@@ -352,7 +394,8 @@ module _ (v : View) (kept_name : ℕ → Option ℕ) (s : State) (w : IsWellForm
       place : named_place sp ≡ place_at (f.before ++ f.left) f.block (f.right ++ f.after)
       place =
           let r = named_spot g.labels (place_at (f.before ++ f.left) f.block (f.right ++ f.after)) (sym g.view ∙ whole_is) in
-          same_some (named_place sp) (named_place r.0) (sym l.named ∙ ap (λ y. place_of y v.blocks) (sym f.named ∙ sym (ap (λ (p : Place). p.block.name) r.2)) ∙ place_of_spot v w r.0 (g.view ∙ ap names r.1)) ∙ r.2
+          same_some (named_place sp) (named_place r.0)
+          (sym l.named ∙ ap (λ y. place_of y v.blocks) (sym f.named ∙ sym (ap (λ (p : Place). p.block.name) r.2)) ∙ place_of_spot v w r.0 (g.view ∙ ap names r.1)) ∙ r.2
 
       front : (xs : List Label) × (ys : List Label) × (sp.before ≡ xs ++ ys) × (names xs ≡ f.before) × (names ys ≡ f.left)
       front = map_parts by_name sp.before f.before f.left (ap (λ (p : Place). p.before) place)
@@ -360,7 +403,7 @@ module _ (v : View) (kept_name : ℕ → Option ℕ) (s : State) (w : IsWellForm
       back : (xs : List Label) × (ys : List Label) × (sp.after ≡ xs ++ ys) × (names xs ≡ f.right) × (names ys ≡ f.after)
       back = map_parts by_name sp.after f.right f.after (ap (λ (p : Place). p.after) place)
 
-      free : AllFree front.1 × AllFree back.0
+      free : AreFree front.1 × AreFree back.0
       free = free_named front.1 back.0 (subst (AllByRecursion (λ b. b.used ≡ false)) (sym (ap₂ (λ y z. y ++ z) front.4 back.3)) f.free)
 
       sizes : units (names front.1 ++ (by_name sp.label ∷ names back.0)) ≡ total (tags front.1) + sp.label.size + total (tags back.0)
@@ -368,31 +411,44 @@ module _ (v : View) (kept_name : ℕ → Option ℕ) (s : State) (w : IsWellForm
 
       same : SameSpace (replace v (names front.0) (names (front.1 ++ (sp.label ∷ back.0))) (free_block x (total (tags front.1) + sp.label.size + total (tags back.0)) ∷ []) (names back.1)) u
       same =
-          subst (λ z. SameSpace (replace v (names front.0) z (free_block x (total (tags front.1) + sp.label.size + total (tags back.0)) ∷ []) (names back.1)) u) (sym (map-append by_name front.1 (sp.label ∷ back.0)))
+          subst (λ z. SameSpace (replace v (names front.0) z (free_block x (total (tags front.1) + sp.label.size + total (tags back.0)) ∷ []) (names back.1)) u)
+          (sym (map-append by_name front.1 (sp.label ∷ back.0)))
           (subst (λ m. SameSpace (replace v (names front.0) (names front.1 ++ (by_name sp.label ∷ names back.0)) (free_block x m ∷ []) (names back.1)) u) sizes
-          (subst₂ (λ y z. SameSpace (replace v y (names front.1 ++ (by_name sp.label ∷ names back.0)) (free_block x (units (names front.1 ++ (by_name sp.label ∷ names back.0))) ∷ []) z) u) (sym front.3) (sym back.4)
-          (subst (λ m. SameSpace (replace v f.before m (free_block x (units m) ∷ []) f.after) u) (sym (ap₂ (λ y z. y ++ (by_name sp.label ∷ z)) front.4 back.3 ∙ ap (λ (b : Block). f.left ++ (b ∷ f.right)) (ap (λ (p : Place). p.block) place))) f.view)))
+          (subst₂ (λ y z. SameSpace (replace v y (names front.1 ++ (by_name sp.label ∷ names back.0)) (free_block x (units (names front.1 ++ (by_name sp.label ∷ names back.0))) ∷ []) z) u)
+          (sym front.3) (sym back.4)
+          (subst (λ m. SameSpace (replace v f.before m (free_block x (units m) ∷ []) f.after) u)
+          (sym (ap₂ (λ y z. y ++ (by_name sp.label ∷ z)) front.4 back.3 ∙ ap (λ (b : Block). f.left ++ (b ∷ f.right)) (ap (λ (p : Place). p.block) place))) f.view)))
 
       later : name_of k sp.after ≡ None
-      later = name_none k sp.after (omega (arith, ws.once (Live k), ap (count (Live k)) (g.state ∙ ap tags l.split ∙ map-append by_tag sp.before (sp.label ∷ sp.after)), count-append (Live k) (tags sp.before) (tags (sp.label ∷ sp.after)), ap (hit (Live k)) l.tag, hit_self (Live k)))
+      later = name_none k sp.after
+          (omega (
+            arith,
+            ws.once (Live k),
+            ap (count (Live k)) (g.state ∙ ap tags l.split ∙ map-append by_tag sp.before (sp.label ∷ sp.after)),
+            count-append (Live k) (tags sp.before)
+                (tags (sp.label ∷ sp.after)),
+            ap (hit (Live k)) l.tag,
+            hit_self (Live k),
+          ))
 
       handles : (j : ℕ) → without_name k kept_name j ≡ option_or (name_of j sp.before) (name_of j sp.after)
       handles j = elim (cases_eq j k) [
         | inl i ↦ rw (eq-eqb j k i) (sym (ap (λ z. option_or (name_of z sp.before) (name_of z sp.after)) i ∙ ap₂ option_or l.first later))
         | inr i ↦ rw (ne_eqb j k i) (g.handles j ∙ ap (name_of j) l.split ∙ name_append j sp.before (sp.label ∷ sp.after)
-            ∙ ap (option_or (name_of j sp.before)) (ap (λ t. if has_number j t then Some sp.label.name else name_of j sp.after) l.tag ∙ ap (λ (b : Bool). if b then Some sp.label.name else name_of j sp.after) (ne_eqb j k i)))
+            ∙ ap (option_or (name_of j sp.before))
+            (ap (λ t. if has_number j t then Some sp.label.name else name_of j sp.after) l.tag ∙ ap (λ (b : Bool). if b then Some sp.label.name else name_of j sp.after) (ne_eqb j k i)))
       ]
 
   -- more units at the end
-  added_agrees : (more : ℕ) (u : View) → IsWellFormed u → Adds more v u → Agrees u kept_name (leaves s (machine.coalesce s.blocks more (stamp_of_call s) []) machine.Extended).state
+  added_agrees : (more : ℕ) (u : View) → IsWellFormed u → Adds more v u → HasBlocksOf u kept_name (leaves s (machine.coalesce s.blocks more (stamp_of_call s) []) machine.Extended).state
   added_agrees more u w' f =
-      subst (λ bs. Agrees u kept_name (leaves s (machine.coalesce bs more (stamp_of_call s) []) machine.Extended).state) (sym g.state)
+      subst (λ bs. HasBlocksOf u kept_name (leaves s (machine.coalesce bs more (stamp_of_call s) []) machine.Extended).state) (sym g.state)
       (coalesced_agrees u w' g.labels p.0 p.1 [] [] [] [] f.name more (v.size + more) (sym (append-nil g.labels)) p.2 refl free tt same kept_name (λ j. g.handles j ∙ sym (or_none _)) machine.Extended)
     where
       p : (xs : List Label) × (ys : List Label) × (g.labels ≡ xs ++ ys) × (names xs ≡ f.before) × (names ys ≡ f.last)
       p = map_parts by_name g.labels f.before f.last (sym g.view ∙ f.blocks)
 
-      free : AllFree p.1
+      free : AreFree p.1
       free = (free_named p.1 [] (subst (AllByRecursion (λ b. b.used ≡ false)) (sym (append-nil (names p.1) ∙ p.4)) f.free)).0
 
       sizes : units (names p.1) + more ≡ total (tags p.1) + more + 0
@@ -413,7 +469,9 @@ module _ (v : View) (kept_name : ℕ → Option ℕ) (s : State) (w : IsWellForm
     | inr l ↦
         let r = map_parts by_name g.labels l.0 (l.1 ∷ []) (sym g.view ∙ l.2) in
         let h = map_first by_name r.1 l.1 [] r.4 in
-        ap (λ (b : Bool). b && machine.is_short_of 1 s) (ap machine.ends_live (g.state ∙ ap tags (r.2 ∙ ap (λ z. r.0 ++ z) (h.2 ∙ ap (λ z. h.0 ∷ z) (none h.1 h.4)))) ∙ ends_live_last r.0 h.0 ∙ ap not (not-false _ (ap (λ (b : Block). b.used) h.3 ∙ l.3)))
+        ap (λ (b : Bool). b && machine.is_short_of 1 s)
+        (ap machine.ends_live (g.state ∙ ap tags (r.2 ∙ ap (λ z. r.0 ++ z) (h.2 ∙ ap (λ z. h.0 ∷ z) (none h.1 h.4)))) ∙ ends_live_last r.0 h.0
+        ∙ ap not (not-false _ (ap (λ (b : Block). b.used) h.3 ∙ l.3)))
   ])
     where
       none : (ls : List Label) → names ls ≡ [] → ls ≡ []
@@ -426,7 +484,8 @@ module _ (v : View) (kept_name : ℕ → Option ℕ) (s : State) (w : IsWellForm
     go (machine.ends_live s.blocks) refl (or_parts _ _ e).1,
   )
     where
-      go : (b : Bool) → machine.ends_live s.blocks ≡ b → (b && machine.is_short_of 1 s) ≡ false → HasRoomFor 1 v ⊎ ((before : List Block) × (last : Block) × (v.blocks ≡ before ++ last ∷ []) × (last.used ≡ false))
+      go : (b : Bool) → machine.ends_live s.blocks ≡ b → (b && machine.is_short_of 1 s) ≡ false
+          → HasRoomFor 1 v ⊎ ((before : List Block) × (last : Block) × (v.blocks ≡ before ++ last ∷ []) × (last.used ≡ false))
       go true f h = inl (room_for 1 h)
       go false f h =
           let r = last_free g.labels (let a = w.some in let b = ap length g.view in let d = length-map g.labels by_name in omega arith) (sym (ap machine.ends_live g.state) ∙ f) in
@@ -436,13 +495,16 @@ module _ (v : View) (kept_name : ℕ → Option ℕ) (s : State) (w : IsWellForm
   outcome more b = if b then returns_only s machine.Refused else leaves s (machine.coalesce s.blocks (suc more) (stamp_of_call s) []) machine.Extended
 
   pub extend_agrees : (more : ℕ) (u : View) (done : Bool) → IsWellFormed u → Extends more v u done
-      → ((step (command.Extend more) s).answer ≡ (if done then machine.Extended else machine.Refused)) × Agrees u kept_name (step (command.Extend more) s).state × ((step (command.Extend more) s).state.grants ≡ s.grants)
+      → ((step (command.Extend more) s).answer ≡ (if done then machine.Extended else machine.Refused)) × HasBlocksOf u kept_name (step (command.Extend more) s).state
+      × ((step (command.Extend more) s).state.grants ≡ s.grants)
   extend_agrees zero u true w' (inl z) = (refl, agrees_but v u kept_name _ z.1 (agrees_quiet v kept_name s g machine.Extended), refl)
   extend_agrees zero u true w' (inr h) = absurd (let l = h.0 in omega arith)
   extend_agrees zero u false w' h = absurd (let l = h.0 in omega arith)
   extend_agrees (suc more) u true w' (inl z) = absurd (let l = z.0 in omega arith)
-  extend_agrees (suc more) u true w' (inr h) = subst (λ (o : machine.Outcome). (o.answer ≡ machine.Extended) × Agrees u kept_name o.state × (o.state.grants ≡ s.grants)) (sym (ap (outcome more) (extendable (suc more) h.1))) (refl, added_agrees (suc more) u w' h.2, refl)
-  extend_agrees (suc more) u false w' h = subst (λ (o : machine.Outcome). (o.answer ≡ machine.Refused) × Agrees u kept_name o.state × (o.state.grants ≡ s.grants)) (sym (ap (outcome more) (refused (is_refused (suc more)) refl)))
+  extend_agrees (suc more) u true w' (inr h) = subst (λ (o : machine.Outcome). (o.answer ≡ machine.Extended) × HasBlocksOf u kept_name o.state × (o.state.grants ≡ s.grants))
+      (sym (ap (outcome more) (extendable (suc more) h.1))) (refl, added_agrees (suc more) u w' h.2, refl)
+  extend_agrees (suc more) u false w' h = subst (λ (o : machine.Outcome). (o.answer ≡ machine.Refused) × HasBlocksOf u kept_name o.state × (o.state.grants ≡ s.grants))
+      (sym (ap (outcome more) (refused (is_refused (suc more)) refl)))
       (refl, agrees_but v u kept_name _ h.2 (agrees_quiet v kept_name s g machine.Refused), refl)
     where
       refused : (b : Bool) → is_refused (suc more) ≡ b → is_refused (suc more) ≡ true
@@ -455,25 +517,30 @@ module _ (v : View) (kept_name : ℕ → Option ℕ) (s : State) (w : IsWellForm
 
   pub report_agrees : (step command.Report s).answer ≡ machine.Report (named.total_free v) (named.largest_free v)
   report_agrees = ap₂ (λ (b : Bool) ns. if b then machine.Report 0 0 else machine.Report (sum ns) (largest ns)) (ap₂ (λ m n. nat_le m (n + 1)) g.limit (sym same_length)) same_sizes
-      ∙ elim (named.is_full v) as (λ b. (if b then machine.Report 0 0 else machine.Report (sum (named.free_sizes v.blocks)) (largest (named.free_sizes v.blocks))) ≡ machine.Report (if b then 0 else sum (named.free_sizes v.blocks)) (if b then 0 else largest (named.free_sizes v.blocks))) [ true ↦ refl | false ↦ refl ]
+      ∙ elim (named.is_full v)
+      as (λ b. (if b then machine.Report 0 0 else machine.Report (sum (named.free_sizes v.blocks)) (largest (named.free_sizes v.blocks)))
+      ≡ machine.Report (if b then 0 else sum (named.free_sizes v.blocks)) (if b then 0 else largest (named.free_sizes v.blocks))) [ true ↦ refl | false ↦ refl ]
 
   pub full_agrees : (step command.Full s).answer ≡ machine.Full (rows_below 256 (named.free_sizes v.blocks))
   full_agrees = ap (λ ns. machine.Full (rows_below 256 ns)) same_sizes
 
 -- other names for the same handles
-pub agrees_kept : (v : View) (kept_name kept_name' : ℕ → Option ℕ) (s : State) → ((k : ℕ) → kept_name' k ≡ kept_name k) → Agrees v kept_name s → Agrees v kept_name' s
+pub agrees_kept : (v : View) (kept_name kept_name' : ℕ → Option ℕ) (s : State) → ((k : ℕ) → kept_name' k ≡ kept_name k) → HasBlocksOf v kept_name s → HasBlocksOf v kept_name' s
 agrees_kept v kept_name kept_name' s e g = record { labels = g.labels; view = g.view; state = g.state; limit = g.limit; newest = g.newest; handles = λ k. e k ∙ g.handles k }
 
 -- one free block and no grants
-pub alone_agrees : (v : View) (x size stamp : ℕ) (kept_name : ℕ → Option ℕ) (s : State) → v.blocks ≡ free_block x size ∷ [] → v.order ≡ push_all (free_block x size ∷ []) (replicate 256 []) → s.limit ≡ v.max_allocs → s.blocks ≡ machine.block size (Free stamp) ∷ []
-    → ((k : ℕ) → kept_name k ≡ None) → Agrees v kept_name s
+pub alone_agrees : (v : View) (x size stamp : ℕ) (kept_name : ℕ → Option ℕ) (s : State) → v.blocks ≡ free_block x size ∷ [] → v.order ≡ push_all (free_block x size ∷ []) (replicate 256 [])
+    → s.limit ≡ v.max_allocs → s.blocks ≡ machine.block size (Free stamp) ∷ []
+    → ((k : ℕ) → kept_name k ≡ None) → HasBlocksOf v kept_name s
 alone_agrees v x size stamp kept_name s blocks order limit state none = record {
   labels = (record { name = x; size = size; tag = Free stamp }) ∷ [];
   view = blocks;
   state = state;
   limit = limit;
   newest = λ c. subst (λ o. IsFalling f (bin_at o c)) (sym order) (elim (cases_eq c (down size)) [
-    | inl e ↦ subst (λ d. IsFalling f (bin_at (push_all (free_block x size ∷ []) (replicate 256 [])) d)) (sym e) (subst (IsFalling f) (sym (names_same (replicate 256 []) (down size) _ (length-replicate {A = List ℕ} 256 []) (down_small size))) (subst (λ l. IsFalling f (x ∷ l)) (sym (empty (down size))) ((λ y m. absurd (omega arith)), tt)))
+    | inl e ↦ subst (λ d. IsFalling f (bin_at (push_all (free_block x size ∷ []) (replicate 256 [])) d)) (sym e)
+        (subst (IsFalling f) (sym (names_same (replicate 256 []) (down size) _ (length-replicate {A = List ℕ} 256 []) (down_small size)))
+        (subst (λ l. IsFalling f (x ∷ l)) (sym (empty (down size))) ((λ y m. absurd (omega arith)), tt)))
     | inr n ↦ subst (IsFalling f) (sym (names_other (replicate 256 []) (down size) c _ n ∙ empty c)) tt
   ]);
   handles = none;

@@ -1,40 +1,43 @@
 -- Two states that differ only in numbers, and in stamps of the same order in each class, return the same answers.
-use Rattle.std.proofs.Common.{◌≡◌, ℕ, zero, suc, ◌+◌, ◌-◌, ◌*◌, ◌<◌, ◌≤◌, true, false, ◌⊎◌, List, [], ◌∷◌, ◌++◌, map, Option, None, nat_eq, nat_lt, if◌then◌else◌, refl, sym, ap, ap₂, subst, subst₂, ⊎_elim, ◌∙◌, inl, inr, arith, lt-ltb, le-ltb, sum}
+use Rattle.std.proofs.Common.{◌≡◌, ℕ, zero, suc, ◌+◌, ◌-◌, ◌*◌, ◌<◌, ◌≤◌, true, false, ◌⊎◌, List, [], ◌∷◌, ◌++◌, map, Option, None, nat_eq, nat_lt, if◌then◌else◌, refl, sym, ap, ap₂, subst, subst₂}
+use Rattle.std.proofs.Common.{⊎_elim, ◌∙◌, inl, inr, arith, lt-ltb, le-ltb, sum}
 use Rattle.offset_script.specs.declared.scripts.Command.{Command}
 use Rattle.offset_script.specs.declared.scripts.Command.TheVariants as command
-use Rattle.offset_script.specs.Machine.{Free, Block, block, has_number, total, Place, fits, chosen_place, place_of, ends_live, coalesce, State, Answer, Outcome, step, answers, after, request, grant, grant_or_refuse, is_short_of, returns_only, leaves, release, size_at, report, reset, extend, stamp_of_call, free_sizes}
+use Rattle.offset_script.specs.Machine.{Free, Block, block, has_number, total, Place, fits, chosen_place, place_of, coalesce, State, Answer, Outcome, step, answers, after, request, grant}
+use Rattle.offset_script.specs.Machine.{grant_or_refuse, is_short_of, returns_only, leaves, release, size_at, report, reset, extend, stamp_of_call, free_sizes}
 use Rattle.offset_allocator.specs.View.{padding_to}
 use Rattle.offset_script.specs.Machine as machine
 use Rattle.offset_allocator.specs.Reports.{largest, rows_below}
-use Rattle.offset_script.proofs.Members.{In, in_left, in_right}
-use Rattle.offset_script.proofs.Pairs.{Kind, Lives, Frees, Pair, pair, left_tag, right_tag, left, right, lefts, rights, Agree, AllAgree, SameOrder, SamePlace, neither, both, same_total, same_short, same_units, same_free_sizes, same_refusal, both_coalesced, same_place_of, same_chosen, pairs_granted, in_granted, lefts_granted, rights_granted}
+use Rattle.offset_script.proofs.Members.{IsIn, in_left, in_right}
+use Rattle.offset_script.proofs.Pairs.{Kind, Lives, Frees, Pair, pair, left_tag, right_tag, left, right, lefts, rights, AreAgreed, AreAllAgreed, IsSameOrder, IsSamePlace, neither, both, same_total}
+use Rattle.offset_script.proofs.Pairs.{same_short, same_units, same_free_sizes, same_refusal, both_coalesced, same_place_of, same_chosen, pairs_granted, in_granted, lefts_granted, rights_granted}
 use Rattle.std.proofs.lemmas.Bool.{cases_lt}
 use Rattle.std.proofs.lemmas.Bool.Decides.{nat_tests}
 use Rattle.offset_script.specs.Histories.{renumber, raise_number}
 use Rattle.offset_script.proofs.Tests.{if_same}
 
 -- Numbers are changed by r, and stamps are below x and below y.
-abbrev pub Matched : (ℕ → ℕ) → ℕ → ℕ → Kind → Type 0
-Matched r x y (Lives j j') = (k : ℕ) → nat_eq k j ≡ nat_eq (r k) j'
-Matched r x y (Frees s s') = (s < x) × (s' < y)
+abbrev pub IsMatched : (ℕ → ℕ) → ℕ → ℕ → Kind → Type 0
+IsMatched r x y (Lives j j') = (k : ℕ) → nat_eq k j ≡ nat_eq (r k) j'
+IsMatched r x y (Frees s s') = (s < x) × (s' < y)
 
 -- s and t return the same answers, except that grant numbers of s are those of t with d added; r maps numbers of s to
 -- those of t
-pub record Alike (r : ℕ → ℕ) (d : ℕ) (s t : State) : Type 0 where
+pub record IsAlike (r : ℕ → ℕ) (d : ℕ) (s t : State) : Type 0 where
   pub limit : s.limit ≡ t.limit
   pub pairs : List Pair
   pub left_blocks : s.blocks ≡ lefts pairs
   pub right_blocks : t.blocks ≡ rights pairs
-  pub matched : (q : Pair) → In q pairs → Matched r (2 * (s.calls + 1)) (2 * (t.calls + 1)) q.kind
-  pub agree : AllAgree pairs
+  pub matched : (q : Pair) → IsIn q pairs → IsMatched r (2 * (s.calls + 1)) (2 * (t.calls + 1)) q.kind
+  pub agree : AreAllAgreed pairs
   pub grants : s.grants ≡ t.grants + d
   pub past : (k : ℕ) → k ≤ s.grants → r k ≤ t.grants
   pub future : (k : ℕ) → s.grants < k → r k + d ≡ k
 
 -- what a call adds: the live block of the next grant, and free blocks with stamps of this call
-abbrev pub Fresh : ℕ → ℕ → ℕ → ℕ → Kind → Type 0
-Fresh g h x y (Lives j j') = (j ≡ g + 1) × (j' ≡ h + 1)
-Fresh g h x y (Frees s s') = (e : ℕ) × (e < 2) × (s ≡ 2 * (x + 1) + e) × (s' ≡ 2 * (y + 1) + e)
+abbrev pub IsFreshKind : ℕ → ℕ → ℕ → ℕ → Kind → Type 0
+IsFreshKind g h x y (Lives j j') = (j ≡ g + 1) × (j' ≡ h + 1)
+IsFreshKind g h x y (Frees s s') = (e : ℕ) × (e < 2) × (s ≡ 2 * (x + 1) + e) × (s' ≡ 2 * (y + 1) + e)
 
 fresh_order : (x y s u t v a b : ℕ) → s ≡ 2 * (x + 1) + a → u ≡ 2 * (y + 1) + a → t ≡ 2 * (x + 1) + b → v ≡ 2 * (y + 1) + b → nat_lt s t ≡ nat_lt u v
 fresh_order x y s u t v a b m m' n n' = elim (cases_lt a b) [
@@ -42,24 +45,24 @@ fresh_order x y s u t v a b m m' n n' = elim (cases_lt a b) [
   | inr h ↦ le-ltb s t (omega arith) ∙ sym (le-ltb u v (omega arith))
 ]
 
-old_before_fresh : (r : ℕ → ℕ) (g h x y : ℕ) (a b : Kind) → Matched r (2 * (x + 1)) (2 * (y + 1)) a → Fresh g h x y b → SameOrder a b
+old_before_fresh : (r : ℕ → ℕ) (g h x y : ℕ) (a b : Kind) → IsMatched r (2 * (x + 1)) (2 * (y + 1)) a → IsFreshKind g h x y b → IsSameOrder a b
 old_before_fresh r g h x y (Lives i j) b m n = tt
 old_before_fresh r g h x y (Frees s u) (Lives i j) m n = tt
 old_before_fresh r g h x y (Frees s u) (Frees t v) m n = lt-ltb s t (omega arith) ∙ sym (lt-ltb u v (omega arith))
 
-fresh_after_old : (r : ℕ → ℕ) (g h x y : ℕ) (a b : Kind) → Fresh g h x y a → Matched r (2 * (x + 1)) (2 * (y + 1)) b → SameOrder a b
+fresh_after_old : (r : ℕ → ℕ) (g h x y : ℕ) (a b : Kind) → IsFreshKind g h x y a → IsMatched r (2 * (x + 1)) (2 * (y + 1)) b → IsSameOrder a b
 fresh_after_old r g h x y (Lives i j) b m n = tt
 fresh_after_old r g h x y (Frees s u) (Lives i j) m n = tt
 fresh_after_old r g h x y (Frees s u) (Frees t v) m n = le-ltb s t (omega arith) ∙ sym (le-ltb u v (omega arith))
 
-both_fresh : (g h x y : ℕ) (a b : Kind) → Fresh g h x y a → Fresh g h x y b → SameOrder a b
+both_fresh : (g h x y : ℕ) (a b : Kind) → IsFreshKind g h x y a → IsFreshKind g h x y b → IsSameOrder a b
 both_fresh g h x y (Lives i j) b m n = tt
 both_fresh g h x y (Frees s u) (Lives i j) m n = tt
 both_fresh g h x y (Frees s u) (Frees t v) m n = fresh_order x y s u t v m.0 n.0 m.2 m.3 n.2 n.3
 
 -- a pair that a call leaves is matched at the next call
 pub matched_in_new : (r : ℕ → ℕ) (d g h x y : ℕ) → g ≡ h + d → ((k : ℕ) → k ≤ g → r k ≤ h) → ((k : ℕ) → g < k → r k + d ≡ k)
-    → (a : Kind) → Matched r (2 * (x + 1)) (2 * (y + 1)) a ⊎ Fresh g h x y a → Matched r (2 * (x + 1 + 1)) (2 * (y + 1 + 1)) a
+    → (a : Kind) → IsMatched r (2 * (x + 1)) (2 * (y + 1)) a ⊎ IsFreshKind g h x y a → IsMatched r (2 * (x + 1 + 1)) (2 * (y + 1 + 1)) a
 matched_in_new r d g h x y e past future (Lives j j') (inl m) = m
 matched_in_new r d g h x y e past future (Lives j j') (inr m) = λ k. elim (cases_lt g k) [
   | inl l ↦ let f = future k l in grind (arith, nat_tests)
@@ -69,16 +72,18 @@ matched_in_new r d g h x y e past future (Frees s u) (inl m) = omega arith
 matched_in_new r d g h x y e past future (Frees s u) (inr m) = omega arith
 
 -- what a call leaves: old pairs, and what is fresh
-abbrev pub Left : (r : ℕ → ℕ) (d : ℕ) (s t : State) → Alike r d s t → List Pair → Type 0
-Left r d s t a p = (q : Pair) → In q p → In q a.pairs ⊎ Fresh s.grants t.grants s.calls t.calls q.kind
+abbrev pub IsLeft : (r : ℕ → ℕ) (d : ℕ) (s t : State) → IsAlike r d s t → List Pair → Type 0
+IsLeft r d s t a p = (q : Pair) → IsIn q p → IsIn q a.pairs ⊎ IsFreshKind s.grants t.grants s.calls t.calls q.kind
 
-pub agree_in_new : (r : ℕ → ℕ) (d : ℕ) (s t : State) (a : Alike r d s t) (x y : Pair) → In x a.pairs ⊎ Fresh s.grants t.grants s.calls t.calls x.kind → In y a.pairs ⊎ Fresh s.grants t.grants s.calls t.calls y.kind → Agree x y
+pub agree_in_new : (r : ℕ → ℕ) (d : ℕ) (s t : State) (a : IsAlike r d s t) (x y : Pair) → IsIn x a.pairs ⊎ IsFreshKind s.grants t.grants s.calls t.calls x.kind
+    → IsIn y a.pairs ⊎ IsFreshKind s.grants t.grants s.calls t.calls y.kind → AreAgreed x y
 agree_in_new r d s t a x y (inl i) (inl j) = a.agree x y i j
 agree_in_new r d s t a x y (inl i) (inr f) = λ same. old_before_fresh r s.grants t.grants s.calls t.calls x.kind y.kind (a.matched x i) f
 agree_in_new r d s t a x y (inr f) (inl j) = λ same. fresh_after_old r s.grants t.grants s.calls t.calls x.kind y.kind f (a.matched y j)
 agree_in_new r d s t a x y (inr f) (inr f') = λ same. both_fresh s.grants t.grants s.calls t.calls x.kind y.kind f f'
 
-pub either : (r : ℕ → ℕ) (d : ℕ) (s t : State) (a : Alike r d s t) (q : Pair) → In q a.pairs ⊎ Fresh s.grants t.grants s.calls t.calls q.kind → Matched r (2 * (s.calls + 1)) (2 * (t.calls + 1)) q.kind ⊎ Fresh s.grants t.grants s.calls t.calls q.kind
+pub either : (r : ℕ → ℕ) (d : ℕ) (s t : State) (a : IsAlike r d s t) (q : Pair) → IsIn q a.pairs ⊎ IsFreshKind s.grants t.grants s.calls t.calls q.kind
+    → IsMatched r (2 * (s.calls + 1)) (2 * (t.calls + 1)) q.kind ⊎ IsFreshKind s.grants t.grants s.calls t.calls q.kind
 either r d s t a q (inl i) = inl (a.matched q i)
 either r d s t a q (inr f) = inr f
 
@@ -89,9 +94,9 @@ past_in_new r d x y g h k past future from e l = elim (cases_lt x k) [
 ]
 
 -- A call that leaves such pairs keeps the states alike.
-pub keeps_alike : (r : ℕ → ℕ) (d : ℕ) (s t : State) → (a : Alike r d s t) → (p : List Pair) (g h : ℕ) (bs cs : List Block) → bs ≡ lefts p → cs ≡ rights p → Left r d s t a p
+pub keeps_alike : (r : ℕ → ℕ) (d : ℕ) (s t : State) → (a : IsAlike r d s t) → (p : List Pair) (g h : ℕ) (bs cs : List Block) → bs ≡ lefts p → cs ≡ rights p → IsLeft r d s t a p
     → s.grants ≤ g → t.grants ≤ h → g ≡ h + d
-    → Alike r d (record { limit = s.limit; blocks = bs; calls = s.calls + 1; grants = g }) (record { limit = t.limit; blocks = cs; calls = t.calls + 1; grants = h })
+    → IsAlike r d (record { limit = s.limit; blocks = bs; calls = s.calls + 1; grants = g }) (record { limit = t.limit; blocks = cs; calls = t.calls + 1; grants = h })
 keeps_alike r d s t a p g h bs cs on_left on_right each from from' e = record {
   limit = a.limit;
   pairs = p;
@@ -105,31 +110,33 @@ keeps_alike r d s t a p g h bs cs on_left on_right each from from' e = record {
 }
 
 -- the same answer, except for the number of a grant, and states that are alike again
-pub record SameOutcome (r : ℕ → ℕ) (d : ℕ) (o p : Outcome) : Type 0 where
+pub record IsSameOutcome (r : ℕ → ℕ) (d : ℕ) (o p : Outcome) : Type 0 where
   pub answer : o.answer ≡ raise_number d p.answer
-  pub state : Alike r d o.state p.state
+  pub state : IsAlike r d o.state p.state
 
-pub same_quiet : (r : ℕ → ℕ) (d : ℕ) (s t : State) → Alike r d s t → (x y : Answer) → x ≡ raise_number d y → SameOutcome r d (returns_only s x) (returns_only t y)
-same_quiet r d s t a x y e = record { answer = e; state = keeps_alike r d s t a a.pairs s.grants t.grants s.blocks t.blocks a.left_blocks a.right_blocks (λ q i. inl i) (omega arith) (omega arith) a.grants }
+pub same_quiet : (r : ℕ → ℕ) (d : ℕ) (s t : State) → IsAlike r d s t → (x y : Answer) → x ≡ raise_number d y → IsSameOutcome r d (returns_only s x) (returns_only t y)
+same_quiet r d s t a x y e =
+    record { answer = e; state = keeps_alike r d s t a a.pairs s.grants t.grants s.blocks t.blocks a.left_blocks a.right_blocks (λ q i. inl i) (omega arith) (omega arith) a.grants }
 
-pub same_leaves : (r : ℕ → ℕ) (d : ℕ) (s t : State) (a : Alike r d s t) (x y : Answer) (p : List Pair) (bs cs : List Block) → x ≡ raise_number d y → bs ≡ lefts p → cs ≡ rights p → Left r d s t a p
-    → SameOutcome r d (leaves s bs x) (leaves t cs y)
+pub same_leaves : (r : ℕ → ℕ) (d : ℕ) (s t : State) (a : IsAlike r d s t) (x y : Answer) (p : List Pair) (bs cs : List Block) → x ≡ raise_number d y → bs ≡ lefts p → cs ≡ rights p → IsLeft r d s t a p
+    → IsSameOutcome r d (leaves s bs x) (leaves t cs y)
 same_leaves r d s t a x y p bs cs e on_left on_right each = record { answer = e; state = keeps_alike r d s t a p s.grants t.grants bs cs on_left on_right each (omega arith) (omega arith) a.grants }
 
 -- a grant
-pub fresh_kinds : (g h x y : ℕ) (q : Pair) → (q.kind ≡ Frees (2 * (x + 1)) (2 * (y + 1))) ⊎ (q.kind ≡ Lives (g + 1) (h + 1)) ⊎ (q.kind ≡ Frees (2 * (x + 1) + 1) (2 * (y + 1) + 1)) → Fresh g h x y q.kind
-fresh_kinds g h x y q (inl e) = subst (Fresh g h x y) (sym e) (0, omega arith, omega arith, omega arith)
-fresh_kinds g h x y q (inr (inl e)) = subst (Fresh g h x y) (sym e) (refl, refl)
-fresh_kinds g h x y q (inr (inr e)) = subst (Fresh g h x y) (sym e) (1, omega arith, omega arith, omega arith)
+pub fresh_kinds : (g h x y : ℕ) (q : Pair) → (q.kind ≡ Frees (2 * (x + 1)) (2 * (y + 1))) ⊎ (q.kind ≡ Lives (g + 1) (h + 1)) ⊎ (q.kind ≡ Frees (2 * (x + 1) + 1) (2 * (y + 1) + 1))
+    → IsFreshKind g h x y q.kind
+fresh_kinds g h x y q (inl e) = subst (IsFreshKind g h x y) (sym e) (0, omega arith, omega arith, omega arith)
+fresh_kinds g h x y q (inr (inl e)) = subst (IsFreshKind g h x y) (sym e) (refl, refl)
+fresh_kinds g h x y q (inr (inr e)) = subst (IsFreshKind g h x y) (sym e) (1, omega arith, omega arith, omega arith)
 
-left_granted : (r : ℕ → ℕ) (d : ℕ) (s t : State) (a : Alike r d s t) (ps : List Pair) (q : Pair) → a.pairs ≡ ps
-    → In q ps ⊎ ((q.kind ≡ Frees (2 * (s.calls + 1)) (2 * (t.calls + 1))) ⊎ (q.kind ≡ Lives (s.grants + 1) (t.grants + 1)) ⊎ (q.kind ≡ Frees (2 * (s.calls + 1) + 1) (2 * (t.calls + 1) + 1)))
-    → In q a.pairs ⊎ Fresh s.grants t.grants s.calls t.calls q.kind
-left_granted r d s t a ps q e (inl i) = inl (subst (In q) (sym e) i)
+left_granted : (r : ℕ → ℕ) (d : ℕ) (s t : State) (a : IsAlike r d s t) (ps : List Pair) (q : Pair) → a.pairs ≡ ps
+    → IsIn q ps ⊎ ((q.kind ≡ Frees (2 * (s.calls + 1)) (2 * (t.calls + 1))) ⊎ (q.kind ≡ Lives (s.grants + 1) (t.grants + 1)) ⊎ (q.kind ≡ Frees (2 * (s.calls + 1) + 1) (2 * (t.calls + 1) + 1)))
+    → IsIn q a.pairs ⊎ IsFreshKind s.grants t.grants s.calls t.calls q.kind
+left_granted r d s t a ps q e (inl i) = inl (subst (IsIn q) (sym e) i)
 left_granted r d s t a ps q e (inr f) = inr (fresh_kinds s.grants t.grants s.calls t.calls q f)
 
-same_grant : (r : ℕ → ℕ) (d : ℕ) (s t : State) (a : Alike r d s t) (n padding : ℕ) (xs : List Pair) (q : Pair) (ys : List Pair) → a.pairs ≡ xs ++ q ∷ ys
-    → SameOutcome r d (grant s n padding (record { before = lefts xs; block = left q; after = lefts ys })) (grant t n padding (record { before = rights xs; block = right q; after = rights ys }))
+same_grant : (r : ℕ → ℕ) (d : ℕ) (s t : State) (a : IsAlike r d s t) (n padding : ℕ) (xs : List Pair) (q : Pair) (ys : List Pair) → a.pairs ≡ xs ++ q ∷ ys
+    → IsSameOutcome r d (grant s n padding (record { before = lefts xs; block = left q; after = lefts ys })) (grant t n padding (record { before = rights xs; block = right q; after = rights ys }))
 same_grant r d s t a n padding xs q ys e =
     let front = Frees (2 * (s.calls + 1)) (2 * (t.calls + 1)) in
     let live = Lives (s.grants + 1) (t.grants + 1) in
@@ -142,80 +149,90 @@ same_grant r d s t a n padding xs q ys e =
           (omega arith) (omega arith) (omega (arith, a.grants));
     }
 
-same_granted : (r : ℕ → ℕ) (d : ℕ) (s t : State) (a : Alike r d s t) (n needed : ℕ) (padding_at : ℕ → ℕ) (o o' : Option Place) → SamePlace (λ x. fits needed (left x) ≡ true) a.pairs o o'
-    → SameOutcome r d (grant_or_refuse s n padding_at o) (grant_or_refuse t n padding_at o')
+same_granted : (r : ℕ → ℕ) (d : ℕ) (s t : State) (a : IsAlike r d s t) (n needed : ℕ) (padding_at : ℕ → ℕ) (o o' : Option Place) → IsSamePlace (λ x. fits needed (left x) ≡ true) a.pairs o o'
+    → IsSameOutcome r d (grant_or_refuse s n padding_at o) (grant_or_refuse t n padding_at o')
 same_granted r d s t a n needed padding_at None None neither = same_quiet r d s t a _ _ refl
 same_granted r d s t a n needed padding_at o o' (both xs q ys e f) =
-    subst (λ x. SameOutcome r d (grant s n (padding_at (total (lefts xs))) (record { before = lefts xs; block = left q; after = lefts ys })) (grant t n (padding_at x) (record { before = rights xs; block = right q; after = rights ys }))) (same_total xs)
+    subst (λ x. IsSameOutcome r d (grant s n (padding_at (total (lefts xs))) (record { before = lefts xs; block = left q; after = lefts ys }))
+    (grant t n (padding_at x) (record { before = rights xs; block = right q; after = rights ys }))) (same_total xs)
     (same_grant r d s t a n (padding_at (total (lefts xs))) xs q ys e)
 
-same_request : (r : ℕ → ℕ) (d : ℕ) (s t : State) (a : Alike r d s t) (spare needed n : ℕ) (padding_at : ℕ → ℕ) → SameOutcome r d (request s spare needed n padding_at) (request t spare needed n padding_at)
-same_request r d s t a spare needed n padding_at = if_same (SameOutcome r d) _ _ _ _ _ _ (same_short s t a.pairs a.limit a.left_blocks a.right_blocks spare) (λ e. same_quiet r d s t a _ _ refl)
-    (subst₂ (λ x y. SameOutcome r d (grant_or_refuse s n padding_at (chosen_place needed x)) (grant_or_refuse t n padding_at (chosen_place needed y))) (sym a.left_blocks) (sym a.right_blocks)
+same_request : (r : ℕ → ℕ) (d : ℕ) (s t : State) (a : IsAlike r d s t) (spare needed n : ℕ) (padding_at : ℕ → ℕ)
+    → IsSameOutcome r d (request s spare needed n padding_at) (request t spare needed n padding_at)
+same_request r d s t a spare needed n padding_at = if_same (IsSameOutcome r d) _ _ _ _ _ _ (same_short s t a.pairs a.limit a.left_blocks a.right_blocks spare) (λ e. same_quiet r d s t a _ _ refl)
+    (subst₂ (λ x y. IsSameOutcome r d (grant_or_refuse s n padding_at (chosen_place needed x)) (grant_or_refuse t n padding_at (chosen_place needed y))) (sym a.left_blocks) (sym a.right_blocks)
     (same_granted r d s t a n needed padding_at _ _ (same_chosen needed a.pairs a.agree)))
 
 -- the place of a grant
-same_number : (r : ℕ → ℕ) (x y k : ℕ) (q : Kind) → Matched r x y q → has_number k (left_tag q) ≡ has_number (r k) (right_tag q)
+same_number : (r : ℕ → ℕ) (x y k : ℕ) (q : Kind) → IsMatched r x y q → has_number k (left_tag q) ≡ has_number (r k) (right_tag q)
 same_number r x y k (Lives i j) m = m k
 same_number r x y k (Frees s u) m = refl
 
-pub same_placed : (r : ℕ → ℕ) (d : ℕ) (s t : State) (a : Alike r d s t) (k : ℕ) → SamePlace (λ q. Unit {0}) a.pairs (place_of k s.blocks) (place_of (r k) t.blocks)
-same_placed r d s t a k = subst₂ (λ x y. SamePlace (λ q. Unit {0}) a.pairs (place_of k x) (place_of (r k) y)) (sym a.left_blocks) (sym a.right_blocks) (same_place_of k (r k) a.pairs (λ q i. same_number r _ _ k q.kind (a.matched q i)))
+pub same_placed : (r : ℕ → ℕ) (d : ℕ) (s t : State) (a : IsAlike r d s t) (k : ℕ) → IsSamePlace (λ q. Unit {0}) a.pairs (place_of k s.blocks) (place_of (r k) t.blocks)
+same_placed r d s t a k = subst₂ (λ x y. IsSamePlace (λ q. Unit {0}) a.pairs (place_of k x) (place_of (r k) y)) (sym a.left_blocks) (sym a.right_blocks)
+    (same_place_of k (r k) a.pairs (λ q i. same_number r _ _ k q.kind (a.matched q i)))
 
-pub left_released : (r : ℕ → ℕ) (d : ℕ) (s t : State) (a : Alike r d s t) (q : Pair) → In q a.pairs ⊎ (q.kind ≡ Frees (2 * (s.calls + 1) + 1) (2 * (t.calls + 1) + 1)) → In q a.pairs ⊎ Fresh s.grants t.grants s.calls t.calls q.kind
+pub left_released : (r : ℕ → ℕ) (d : ℕ) (s t : State) (a : IsAlike r d s t) (q : Pair) → IsIn q a.pairs ⊎ (q.kind ≡ Frees (2 * (s.calls + 1) + 1) (2 * (t.calls + 1) + 1))
+    → IsIn q a.pairs ⊎ IsFreshKind s.grants t.grants s.calls t.calls q.kind
 left_released r d s t a q (inl i) = inl i
 left_released r d s t a q (inr e) = inr (fresh_kinds s.grants t.grants s.calls t.calls q (inr (inr e)))
 
-same_coalesce : (r : ℕ → ℕ) (d : ℕ) (s t : State) (a : Alike r d s t) (x : Answer) (ps : List Pair) (n : ℕ) (qs : List Pair) → x ≡ raise_number d x → ((q : Pair) → In q ps ⊎ In q qs → In q a.pairs)
-    → SameOutcome r d (leaves s (coalesce (lefts ps) n (stamp_of_call s) (lefts qs)) x) (leaves t (coalesce (rights ps) n (stamp_of_call t) (rights qs)) x)
+same_coalesce : (r : ℕ → ℕ) (d : ℕ) (s t : State) (a : IsAlike r d s t) (x : Answer) (ps : List Pair) (n : ℕ) (qs : List Pair) → x ≡ raise_number d x
+    → ((q : Pair) → IsIn q ps ⊎ IsIn q qs → IsIn q a.pairs)
+    → IsSameOutcome r d (leaves s (coalesce (lefts ps) n (stamp_of_call s) (lefts qs)) x) (leaves t (coalesce (rights ps) n (stamp_of_call t) (rights qs)) x)
 same_coalesce r d s t a x ps n qs e old =
     let c = both_coalesced ps n (2 * (s.calls + 1) + 1) (2 * (t.calls + 1) + 1) qs in
     same_leaves r d s t a x x c.pairs _ _ e c.on_left c.on_right (λ q i. left_released r d s t a q (elim (c.old q i) [ inl h ↦ inl (old q h) | inr h ↦ inr h ]))
 
-in_parts : (x : Pair) (xs : List Pair) (q : Pair) (ys : List Pair) → In x xs ⊎ In x ys → In x (xs ++ q ∷ ys)
+in_parts : (x : Pair) (xs : List Pair) (q : Pair) (ys : List Pair) → IsIn x xs ⊎ IsIn x ys → IsIn x (xs ++ q ∷ ys)
 in_parts x xs q ys (inl i) = in_left x xs _ i
 in_parts x xs q ys (inr i) = in_right x xs _ (inr i)
 
-same_released : (r : ℕ → ℕ) (d : ℕ) (s t : State) (a : Alike r d s t) (o o' : Option Place) → SamePlace (λ q. Unit {0}) a.pairs o o' → SameOutcome r d (release s o) (release t o')
+same_released : (r : ℕ → ℕ) (d : ℕ) (s t : State) (a : IsAlike r d s t) (o o' : Option Place) → IsSamePlace (λ q. Unit {0}) a.pairs o o' → IsSameOutcome r d (release s o) (release t o')
 same_released r d s t a None None neither = same_quiet r d s t a _ _ refl
-same_released r d s t a o o' (both xs q ys e f) = same_coalesce r d s t a machine.Freed xs q.size ys refl (λ x i. subst (In x) (sym e) (in_parts x xs q ys i))
+same_released r d s t a o o' (both xs q ys e f) = same_coalesce r d s t a machine.Freed xs q.size ys refl (λ x i. subst (IsIn x) (sym e) (in_parts x xs q ys i))
 
-same_size : (r : ℕ → ℕ) (d : ℕ) (s t : State) (a : Alike r d s t) (o o' : Option Place) → SamePlace (λ q. Unit {0}) a.pairs o o' → size_at o ≡ raise_number d (size_at o')
+same_size : (r : ℕ → ℕ) (d : ℕ) (s t : State) (a : IsAlike r d s t) (o o' : Option Place) → IsSamePlace (λ q. Unit {0}) a.pairs o o' → size_at o ≡ raise_number d (size_at o')
 same_size r d s t a None None neither = refl
 same_size r d s t a o o' (both xs q ys e f) = refl
 
-same_report : (r : ℕ → ℕ) (d : ℕ) (s t : State) (a : Alike r d s t) → report s ≡ raise_number d (report t)
-same_report r d s t a = elim (is_short_of 1 s) as (λ b. (if b then machine.Report 0 0 else machine.Report (sum (free_sizes s.blocks)) (largest (free_sizes s.blocks))) ≡ raise_number d (if b then machine.Report 0 0 else machine.Report (sum (free_sizes s.blocks)) (largest (free_sizes s.blocks)))) [ true ↦ refl | false ↦ refl ]
-    ∙ ap₂ (λ b l. raise_number d (if b then machine.Report 0 0 else machine.Report (sum l) (largest l))) (same_short s t a.pairs a.limit a.left_blocks a.right_blocks 1) (same_free_sizes s t a.pairs a.limit a.left_blocks a.right_blocks)
+same_report : (r : ℕ → ℕ) (d : ℕ) (s t : State) (a : IsAlike r d s t) → report s ≡ raise_number d (report t)
+same_report r d s t a =
+    elim (is_short_of 1 s)
+    as (λ b. (if b then machine.Report 0 0 else machine.Report (sum (free_sizes s.blocks)) (largest (free_sizes s.blocks)))
+    ≡ raise_number d (if b then machine.Report 0 0 else machine.Report (sum (free_sizes s.blocks)) (largest (free_sizes s.blocks)))) [ true ↦ refl | false ↦ refl ]
+    ∙ ap₂ (λ b l. raise_number d (if b then machine.Report 0 0 else machine.Report (sum l) (largest l))) (same_short s t a.pairs a.limit a.left_blocks a.right_blocks 1)
+    (same_free_sizes s t a.pairs a.limit a.left_blocks a.right_blocks)
 
-same_reset : (r : ℕ → ℕ) (d : ℕ) (s t : State) (a : Alike r d s t) → SameOutcome r d (reset s) (reset t)
+same_reset : (r : ℕ → ℕ) (d : ℕ) (s t : State) (a : IsAlike r d s t) → IsSameOutcome r d (reset s) (reset t)
 same_reset r d s t a =
     let q = pair (total s.blocks) (Frees (2 * (s.calls + 1) + 1) (2 * (t.calls + 1) + 1)) in
     same_leaves r d s t a _ _ (q ∷ []) _ _ refl refl (ap (λ n. block n (Free (stamp_of_call t)) ∷ []) (sym (same_units s t a.pairs a.limit a.left_blocks a.right_blocks)))
     (λ x i. left_released r d s t a x (inr (only x q i)))
   where
-    only : (x q : Pair) → In x (q ∷ []) → x.kind ≡ q.kind
+    only : (x q : Pair) → IsIn x (q ∷ []) → x.kind ≡ q.kind
     only x q (inl e) = ap (λ (z : Pair). z.kind) e
     only x q (inr h) = absurd h
 
-same_extend : (r : ℕ → ℕ) (d : ℕ) (s t : State) (a : Alike r d s t) (more : ℕ) → SameOutcome r d (extend more s) (extend more t)
+same_extend : (r : ℕ → ℕ) (d : ℕ) (s t : State) (a : IsAlike r d s t) (more : ℕ) → IsSameOutcome r d (extend more s) (extend more t)
 same_extend r d s t a zero = same_quiet r d s t a _ _ refl
-same_extend r d s t a (suc more) = if_same (SameOutcome r d) _ _ _ _ _ _ (same_refusal s t a.pairs a.limit a.left_blocks a.right_blocks (suc more)) (λ e. same_quiet r d s t a _ _ refl)
-    (subst₂ (λ x y. SameOutcome r d (leaves s (coalesce x (suc more) (stamp_of_call s) []) machine.Extended) (leaves t (coalesce y (suc more) (stamp_of_call t) []) machine.Extended)) (sym a.left_blocks) (sym a.right_blocks)
+same_extend r d s t a (suc more) = if_same (IsSameOutcome r d) _ _ _ _ _ _ (same_refusal s t a.pairs a.limit a.left_blocks a.right_blocks (suc more)) (λ e. same_quiet r d s t a _ _ refl)
+    (subst₂ (λ x y. IsSameOutcome r d (leaves s (coalesce x (suc more) (stamp_of_call s) []) machine.Extended) (leaves t (coalesce y (suc more) (stamp_of_call t) []) machine.Extended))
+    (sym a.left_blocks) (sym a.right_blocks)
     (same_coalesce r d s t a machine.Extended a.pairs (suc more) [] refl (λ q i. ⊎_elim (λ h. h) (λ h. absurd h) i)))
 
-pub alike_step : (r : ℕ → ℕ) (d : ℕ) (c : Command) (s t : State) → Alike r d s t → SameOutcome r d (step c s) (step (renumber r c) t)
+pub alike_step : (r : ℕ → ℕ) (d : ℕ) (c : Command) (s t : State) → IsAlike r d s t → IsSameOutcome r d (step c s) (step (renumber r c) t)
 alike_step r d (command.Alloc n) s t a = same_request r d s t a 1 n n (λ offset. 0)
 alike_step r d (command.Free k) s t a = same_released r d s t a _ _ (same_placed r d s t a k)
 alike_step r d (command.Size k) s t a = same_quiet r d s t a _ _ (same_size r d s t a _ _ (same_placed r d s t a k))
 alike_step r d command.Report s t a = same_quiet r d s t a _ _ (same_report r d s t a)
 alike_step r d command.Full s t a = same_quiet r d s t a _ _ (ap (λ l. machine.Full (rows_below 256 l)) (same_free_sizes s t a.pairs a.limit a.left_blocks a.right_blocks))
 alike_step r d command.Reset s t a = same_reset r d s t a
-alike_step r d (command.Align n align) s t a = if_same (SameOutcome r d) _ _ _ _ _ _ refl (λ e. same_request r d s t a 1 n n (λ offset. 0))
-    (if_same (SameOutcome r d) _ _ _ _ _ _ refl (λ e. same_quiet r d s t a _ _ refl) (same_request r d s t a 2 (n + align - 1) n (padding_to align)))
+alike_step r d (command.Align n align) s t a = if_same (IsSameOutcome r d) _ _ _ _ _ _ refl (λ e. same_request r d s t a 1 n n (λ offset. 0))
+    (if_same (IsSameOutcome r d) _ _ _ _ _ _ refl (λ e. same_quiet r d s t a _ _ refl) (same_request r d s t a 2 (n + align - 1) n (padding_to align)))
 alike_step r d (command.Extend more) s t a = same_extend r d s t a more
 
 -- alike states return the same answers to any commands
-pub alike_answers : (r : ℕ → ℕ) (d : ℕ) (cs : List Command) (s t : State) → Alike r d s t → answers cs s ≡ map (raise_number d) (answers (map (renumber r) cs) t)
+pub alike_answers : (r : ℕ → ℕ) (d : ℕ) (cs : List Command) (s t : State) → IsAlike r d s t → answers cs s ≡ map (raise_number d) (answers (map (renumber r) cs) t)
 alike_answers r d [] s t a = refl
 alike_answers r d (c ∷ cs) s t a = let o = alike_step r d c s t a in ap₂ (λ x xs. x ∷ xs) o.answer (alike_answers r d cs _ _ o.state)

@@ -3,7 +3,7 @@ use Rattle.std.proofs.Common.{◌≡◌, ℕ, ◌-◌, ◌≤◌, List, [], ◌�
 use Rattle.offset_script.specs.declared.scripts.Command.{Command}
 use Rattle.offset_script.specs.declared.scripts.Command.TheVariants as command
 use Rattle.offset_script.specs.Machine.{State, start, step, answers, after, is_short_of, place_of}
-use Rattle.offset_script.specs.Histories.{renumber, raise_number, number_without, IsGrant, KeepsSpace, IsQuestion}
+use Rattle.offset_script.specs.Histories.{renumber, raise_number, number_without, KeepsSpace, IsQuestion}
 use Rattle.offset_script.specs.Histories as history
 use Rattle.offset_script.proofs.Members.{map_same}
 use Rattle.offset_script.proofs.Fresh.{raise_none, renumber_same}

@@ -1,17 +1,18 @@
 -- The plain machine chooses the block that a grant splits: the newest of the smallest class that fits.
-use Rattle.std.proofs.Common.{◌≡◌, ◌≢◌, ℕ, ◌<◌, ◌≤◌, true, false, not, ◌&&◌, List, [], ◌∷◌, ◌++◌, Option, Some, None, nat_eq, nat_lt, nat_le, refl, sym, ap, ap₂, subst, ◌∙◌, inl, inr, arith, eq-eqb, le-leb, lt-ltb, leb-true}
+use Rattle.std.proofs.Common.{◌≡◌, ◌≢◌, ℕ, ◌<◌, ◌≤◌, true, false, not, ◌&&◌, List, [], ◌∷◌, ◌++◌, Option, Some, None, nat_eq, nat_lt, nat_le, refl, sym, ap, ap₂, subst, ◌∙◌, inl, inr, arith, eq-eqb}
+use Rattle.std.proofs.Common.{le-leb, lt-ltb, leb-true}
 use Rattle.offset_script.proofs.Tests.{same_some}
 use Rattle.std.proofs.lemmas.List.{map-append}
 use Rattle.std.proofs.lemmas.Bool.{cases_eq, cases_lt, true≢false, and_parts, not-false, or_right}
 use Rattle.offset_allocator.specs.Classes.{up, down}
-use Rattle.offset_script.specs.Machine.{Tag, Live, Free, is_free, has_number, stamp, fits, is_taken_before, chosen_place}
+use Rattle.offset_script.specs.Machine.{is_free, stamp, fits, is_taken_before, chosen_place}
 use Rattle.offset_script.specs.Machine as plain
 use Rattle.offset_allocator.specs.View.{Block, View, Place, Grant, place_of, one, times, count_named, count_in_bin, bin_at, IsWellFormed}
 use Rattle.offset_allocator.specs.Relations.{Splits}
-use Rattle.offset_script.specs.Agreement.{Label, by_name, by_tag, stamp_of, IsFalling}
+use Rattle.offset_script.proofs.Agreement.{Label, by_name, by_tag, stamp_of, IsFalling}
 use Rattle.offset_script.proofs.Well.{chosen_at, not_chosen}
 use Rattle.offset_allocator.proofs.ViewSteps.{place_here}
-use Rattle.offset_script.proofs.Members.{In, in_right, map_split}
+use Rattle.offset_script.proofs.Members.{IsIn, in_right, map_split}
 use Rattle.offset_script.proofs.Labels.{names, tags, gives_parts, gives_all}
 use Rattle.offset_allocator.proofs.Tallies.{tally_append, hit_cases, one-same}
 
@@ -53,8 +54,8 @@ plain_spot ls p e =
     let r = map_split by_tag ls p.before p.block p.after e in
     (record { before = r.0; label = r.1; after = r.2 }, r.3, ap₂ (λ x y. plain_at x (by_tag r.1) y) r.4 r.6 ∙ ap (λ b. plain_at p.before b p.after) r.5)
 
-occurs_spot : (s : Spot) → In (by_tag s.label) (tags (whole s))
-occurs_spot s = subst (In (by_tag s.label)) (sym (map-append by_tag s.before (s.label ∷ s.after))) (in_right (by_tag s.label) (tags s.before) (by_tag s.label ∷ tags s.after) (inl refl))
+occurs_spot : (s : Spot) → IsIn (by_tag s.label) (tags (whole s))
+occurs_spot s = subst (IsIn (by_tag s.label)) (sym (map-append by_tag s.before (s.label ∷ s.after))) (in_right (by_tag s.label) (tags s.before) (by_tag s.label ∷ tags s.after) (inl refl))
 
 -- a spot splits the named blocks
 pub names_whole : (s : Spot) → names (whole s) ≡ names s.before ++ by_name s.label ∷ names s.after
@@ -67,7 +68,15 @@ pub record IsLabelled (v : View) (ls : List Label) : Type 0 where
 
 -- no block before a spot has its name
 pub alone_before : (v : View) → IsWellFormed v → (s : Spot) → v.blocks ≡ names (whole s) → count_named s.label.name (names s.before) ≡ 0
-alone_before v w s e = omega (arith, one-same s.label.name, w.distinct s.label.name, ap (count_named s.label.name) (e ∙ names_whole s), tally_append (λ (b : Block). one (nat_eq s.label.name b.name)) (names s.before) (by_name s.label ∷ names s.after))
+alone_before v w s e =
+    omega (
+      arith,
+      one-same s.label.name,
+      w.distinct s.label.name,
+      ap (count_named s.label.name) (e ∙ names_whole s),
+      tally_append (λ (b : Block). one (nat_eq s.label.name b.name)) (names s.before)
+          (by_name s.label ∷ names s.after),
+    )
 
 -- a spot is the place of its name
 pub place_of_spot : (v : View) → IsWellFormed v → (s : Spot) → v.blocks ≡ names (whole s) → place_of s.label.name v.blocks ≡ Some (named_place s)
@@ -76,9 +85,11 @@ place_of_spot v w s e = ap (place_of s.label.name) (e ∙ names_whole s) ∙ pla
 -- a free block is listed in its class
 listed_spot : (v : View) → IsWellFormed v → (s : Spot) → v.blocks ≡ names (whole s) → is_free s.label.tag ≡ true → 1 ≤ times s.label.name (bin_at v.order (down s.label.size))
 listed_spot v w s e f =
-    let parts = ap (count_in_bin (down s.label.size) s.label.name) (e ∙ names_whole s) ∙ tally_append (λ (b : Block). one (not b.used && (nat_eq (down s.label.size) (down b.size) && nat_eq s.label.name b.name))) (names s.before) (by_name s.label ∷ names s.after) in
+    let parts = ap (count_in_bin (down s.label.size) s.label.name) (e ∙ names_whole s)
+    ∙ tally_append (λ (b : Block). one (not b.used && (nat_eq (down s.label.size) (down b.size) && nat_eq s.label.name b.name))) (names s.before) (by_name s.label ∷ names s.after) in
     let o = w.orders (down s.label.size) s.label.name in
-    let here : one (not (not (is_free s.label.tag)) && (nat_eq (down s.label.size) (down s.label.size) && nat_eq s.label.name s.label.name)) ≡ 1 = rw (f, eq-eqb (down s.label.size) (down s.label.size) refl, eq-eqb s.label.name s.label.name refl) refl in
+    let here : one (not (not (is_free s.label.tag)) && (nat_eq (down s.label.size) (down s.label.size) && nat_eq s.label.name s.label.name)) ≡ 1 =
+    rw (f, eq-eqb (down s.label.size) (down s.label.size) refl, eq-eqb s.label.name s.label.name refl) refl in
     omega (arith, parts, o, here)
 
 -- the stamp of the name at a spot
@@ -166,8 +177,8 @@ module _ (v : View) (w : IsWellFormed v) (ls : List Label) (a : IsLabelled v ls)
         s : (s : Spot) × (ls ≡ whole s) × (named_place s ≡ place_at t.before t.block t.after) × (is_free s.label.tag ≡ true)
         s = taken_spot
 
-        there : In (by_tag s.0.label) (tags ls)
-        there = subst (λ xs. In (by_tag s.0.label) (tags xs)) (sym s.1) (occurs_spot s.0)
+        there : IsIn (by_tag s.0.label) (tags ls)
+        there = subst (λ xs. IsIn (by_tag s.0.label) (tags xs)) (sym s.1) (occurs_spot s.0)
 
         fit : fits n (by_tag s.0.label) ≡ true
         fit = rw (s.3, le-leb (up n) (down s.0.label.size) (let e = ap (λ (p : Place). down p.block.size) s.2 in let c = t.fits in omega arith)) refl
@@ -178,7 +189,8 @@ module _ (v : View) (w : IsWellFormed v) (ls : List Label) (a : IsLabelled v ls)
             let l = chosen_spot p e in
             let best = (chosen_at n (tags ls) p e).2 (by_tag s.0.label) there fit in
             let name = same_name s.0 l.0 s.1 s.2 l.1 l.3 l.4 (ap (λ (q : plain.Place). is_taken_before (by_tag s.0.label) q.block) l.2 ∙ best) in
-            let same = same_some (named_place l.0) (named_place s.0) (sym (place_of_spot v w l.0 (a.view ∙ ap names l.1)) ∙ ap (λ x. place_of x v.blocks) (sym name) ∙ place_of_spot v w s.0 (a.view ∙ ap names s.1)) in
+            let same = same_some (named_place l.0) (named_place s.0)
+            (sym (place_of_spot v w l.0 (a.view ∙ ap names l.1)) ∙ ap (λ x. place_of x v.blocks) (sym name) ∙ place_of_spot v w s.0 (a.view ∙ ap names s.1)) in
             record { spot = l.0; split = l.1; place = same ∙ s.2; free = l.3; is = e ∙ ap Some (sym l.2) }
 
     pub chosen : Choice

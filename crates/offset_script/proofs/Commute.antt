@@ -1,5 +1,6 @@
 -- Releases in a row leave the same space in any order.
-use Rattle.std.proofs.Common.{◌≡◌, ℕ, zero, suc, ◌+◌, ◌-◌, Bool, true, false, ◌&&◌, ◌||◌, ◌≤◌, List, [], ◌∷◌, ◌++◌, sum, Option, Some, None, is_some, nat_eq, nat_lt, nat_le, if◌then◌else◌, refl, sym, ap, ap₂, subst, subst₂, ◌∙◌, arith, eq-eqb, eqb-true, append_assoc}
+use Rattle.std.proofs.Common.{◌≡◌, ℕ, zero, suc, ◌+◌, ◌-◌, Bool, true, false, ◌&&◌, ◌||◌, ◌≤◌, List, [], ◌∷◌, ◌++◌, sum, Option, Some, None, is_some, nat_eq, nat_lt, nat_le, if◌then◌else◌, refl, sym}
+use Rattle.std.proofs.Common.{ap, ap₂, subst, subst₂, ◌∙◌, arith, eq-eqb, eqb-true, append_assoc}
 use Rattle.std.proofs.lemmas.List.{map-append}
 use Rattle.std.proofs.lemmas.Bool.{true≢false, false≢true, false_from_ne_true}
 use Rattle.offset_script.specs.declared.scripts.Command.{Command}
@@ -7,14 +8,17 @@ use Rattle.offset_script.specs.declared.scripts.Command.TheVariants as command
 use Rattle.offset_allocator.specs.Classes.{up, down}
 use Rattle.offset_allocator.specs.Reports.{largest, rows_below}
 use Rattle.offset_allocator.specs.View.{max_size, padding_to}
-use Rattle.offset_script.specs.Machine.{Tag, Live, Free, Block, block, is_free, has_number, total, free_sizes, Place, here, prepend, fits, is_taken_before, choose, chosen_place, place_of, free_start, without_start, ends_live, coalesce, State, Outcome, start, step, after, request, grant_or_refuse, is_short_of, returns_only, leaves, release, size_at, stamp_of_call}
+use Rattle.offset_script.specs.Machine.{Tag, Live, Free, Block, block, is_free, has_number, total, Place, here, prepend, fits, is_taken_before, choose, chosen_place, place_of, ends_live, coalesce}
+use Rattle.offset_script.specs.Machine.{State, Outcome, start, step, after, request, grant_or_refuse, is_short_of, returns_only, leaves, release, size_at, stamp_of_call}
 use Rattle.offset_script.specs.Machine as machine
 use Rattle.offset_script.specs.Histories.{holder, outline, widen, collapse, without_offset, releases, IsCollapse}
 use Rattle.std.specs.List.{list_any}
 use Rattle.std.specs.Option.{option_map_or}
-use Rattle.offset_script.proofs.Pairs.{Kind, Lives, Frees, Pair, left_tag, right_tag, left, right, lefts, rights, same_free, same_short, same_free_sizes, same_refusal, SamePlace, neither, both, same_place_of}
-use Rattle.offset_script.proofs.Well.{Well, AllFree, coalesced, apart_coalesce, count_coalesce, count, hit, hit_self, number_of, count-append, starts_free, Apart, apart_parts, found_at, not_found, well_start, well_after, well_step}
-use Rattle.offset_script.proofs.Similar.{SameNumber, Paired, paired}
+use Rattle.offset_script.proofs.Pairs.{Kind, Lives, Frees, Pair, left_tag, right_tag, left, right, lefts, rights, same_free, same_short, same_free_sizes, same_refusal, IsSamePlace, neither, both}
+use Rattle.offset_script.proofs.Pairs.{same_place_of}
+use Rattle.offset_script.proofs.Well.{IsWell, AreFree, coalesced, apart_coalesce, count_coalesce, count, hit, hit_self, number_of, count-append, starts_free, AreApart, apart_parts, found_at}
+use Rattle.offset_script.proofs.Well.{not_found, well_start, well_after, well_step}
+use Rattle.offset_script.proofs.Similar.{HasSameNumber, ArePaired, paired}
 use Rattle.offset_script.proofs.Tests.{if_same}
 
 -- sizes, and the numbers of live blocks
@@ -52,7 +56,8 @@ collapse_block_more k ks n (Some j) o p ih =
     elim (nat_eq j k || false) as (λ x. collapse ks (if x then widen n o else (n, Some j) ∷ o) ≡ (if x then collapse ks (widen n o) else collapse ks ((n, Some j) ∷ o))) [ true ↦ refl | false ↦ refl ]
     ∙ ap (λ x. if nat_eq j k || false then x else collapse_block ks n (Some j) (collapse ks o)) (collapse-widen ks n o)
     ∙ ap₂ (λ x q. if x then widen n q else (if list_any (nat_eq j) ks then widen n q else (n, Some j) ∷ q)) (or_nothing (nat_eq j k)) ih
-    ∙ elim (nat_eq j k) as (λ x. (if x then widen n p else (if list_any (nat_eq j) ks then widen n p else (n, Some j) ∷ p)) ≡ (if x || list_any (nat_eq j) ks then widen n p else (n, Some j) ∷ p)) [ true ↦ refl | false ↦ refl ]
+    ∙ elim (nat_eq j k) as (λ x. (if x then widen n p else (if list_any (nat_eq j) ks then widen n p else (n, Some j) ∷ p)) ≡ (if x || list_any (nat_eq j) ks then widen n p else (n, Some j) ∷ p))
+    [ true ↦ refl | false ↦ refl ]
 
 collapse_one_more : (k : ℕ) (ks : List ℕ) (o : Outline) → collapse ks (collapse (k ∷ []) o) ≡ collapse (k ∷ ks) o
 collapse_one_more k ks [] = refl
@@ -71,14 +76,15 @@ widen_apart n (b ∷ bs) e = go b.size b.tag e
     go m (Free s) e = absurd (true≢false e)
 
 -- a block that is not released stays
-stays : (ks : List ℕ) (n : ℕ) (t : Tag) (bs : List Block) → ((j : ℕ) → t ≡ Live j → list_any (nat_eq j) ks ≡ false) → (is_free t && starts_free bs) ≡ false → collapse_block ks n (holder t) (outline bs) ≡ (n, holder t) ∷ outline bs
+stays : (ks : List ℕ) (n : ℕ) (t : Tag) (bs : List Block) → ((j : ℕ) → t ≡ Live j → list_any (nat_eq j) ks ≡ false) → (is_free t && starts_free bs) ≡ false
+    → collapse_block ks n (holder t) (outline bs) ≡ (n, holder t) ∷ outline bs
 stays ks n (Live j) bs h a = ap (λ b. if b then widen n (outline bs) else (n, Some j) ∷ outline bs) (h j refl)
 stays ks n (Free s) bs h a = widen_apart n bs a
 
 not_among : (ks : List ℕ) (b : Block) (bs : List Block) → ((j : ℕ) → list_any (nat_eq j) ks ≡ true → count (Live j) (b ∷ bs) ≡ 0) → (j : ℕ) → b.tag ≡ Live j → list_any (nat_eq j) ks ≡ false
 not_among ks b bs h j e = false_from_ne_true (list_any (nat_eq j) ks) (λ f. no_hit b.tag j e (count (Live j) bs) (h j f))
 
-unchanged : (ks : List ℕ) (bs : List Block) → Apart bs → ((j : ℕ) → list_any (nat_eq j) ks ≡ true → count (Live j) bs ≡ 0) → collapse ks (outline bs) ≡ outline bs
+unchanged : (ks : List ℕ) (bs : List Block) → AreApart bs → ((j : ℕ) → list_any (nat_eq j) ks ≡ true → count (Live j) bs ≡ 0) → collapse ks (outline bs) ≡ outline bs
 unchanged ks [] a h = refl
 unchanged ks (b ∷ bs) a h = ap (collapse_block ks b.size (holder b.tag)) (unchanged ks bs a.1 (λ j e. let z = h j e in omega arith)) ∙ stays ks b.size b.tag bs (not_among ks b bs h) a.0
 
@@ -90,26 +96,30 @@ free_holder (Live j) e = absurd (false≢true e)
 free_holder (Free s) e = refl
 
 -- free blocks after units that are free, and before them
-free_after : (ks : List ℕ) (n : ℕ) (gs : List Block) (o : Outline) → AllFree gs → widen n (collapse ks (outline gs ++ o)) ≡ widen (n + total gs) (collapse ks o)
+free_after : (ks : List ℕ) (n : ℕ) (gs : List Block) (o : Outline) → AreFree gs → widen n (collapse ks (outline gs ++ o)) ≡ widen (n + total gs) (collapse ks o)
 free_after ks n [] o f = ap (λ m. widen m (collapse ks o)) (omega arith)
-free_after ks n (b ∷ gs) o f = ap (λ h. widen n (collapse_block ks b.size h (collapse ks (outline gs ++ o)))) (free_holder b.tag f.0) ∙ widen-widen n b.size _ ∙ free_after ks (n + b.size) gs o f.1 ∙ ap (λ m. widen m (collapse ks o)) (omega arith)
+free_after ks n (b ∷ gs) o f = ap (λ h. widen n (collapse_block ks b.size h (collapse ks (outline gs ++ o)))) (free_holder b.tag f.0) ∙ widen-widen n b.size _ ∙ free_after ks (n + b.size) gs o f.1
+    ∙ ap (λ m. widen m (collapse ks o)) (omega arith)
 
-free_before : (ks : List ℕ) (n : ℕ) (fs : List Block) (o p : Outline) → AllFree fs → collapse ks o ≡ widen n p → collapse ks (outline fs ++ o) ≡ widen (total fs + n) p
+free_before : (ks : List ℕ) (n : ℕ) (fs : List Block) (o p : Outline) → AreFree fs → collapse ks o ≡ widen n p → collapse ks (outline fs ++ o) ≡ widen (total fs + n) p
 free_before ks n [] o p f e = e ∙ ap (λ m. widen m p) (omega arith)
-free_before ks n (b ∷ fs) o p f e = ap (λ h. collapse_block ks b.size h (collapse ks (outline fs ++ o))) (free_holder b.tag f.0) ∙ ap (widen b.size) (free_before ks n fs o p f.1 e) ∙ widen-widen b.size (total fs + n) p ∙ ap (λ m. widen m p) (omega arith)
+free_before ks n (b ∷ fs) o p f e = ap (λ h. collapse_block ks b.size h (collapse ks (outline fs ++ o))) (free_holder b.tag f.0) ∙ ap (widen b.size) (free_before ks n fs o p f.1 e)
+    ∙ widen-widen b.size (total fs + n) p ∙ ap (λ m. widen m p) (omega arith)
 
 -- a collapse goes by the collapse of what comes last
 collapse_same : (ks : List ℕ) (o p q : Outline) → collapse ks p ≡ collapse ks q → collapse ks (o ++ p) ≡ collapse ks (o ++ q)
 collapse_same ks [] p q e = e
 collapse_same ks (b ∷ o) p q e = ap (collapse_block ks b.0 b.1) (collapse_same ks o p q e)
 
-coalesce_outline : (k : ℕ) (xs : List Block) (n st : ℕ) (ys : List Block) → Apart (coalesce xs n st ys) → count (Live k) (coalesce xs n st ys) ≡ 0 → outline (coalesce xs n st ys) ≡ collapse (k ∷ []) (outline (xs ++ block n (Live k) ∷ ys))
+coalesce_outline : (k : ℕ) (xs : List Block) (n st : ℕ) (ys : List Block) → AreApart (coalesce xs n st ys) → count (Live k) (coalesce xs n st ys) ≡ 0
+    → outline (coalesce xs n st ys) ≡ collapse (k ∷ []) (outline (xs ++ block n (Live k) ∷ ys))
 coalesce_outline k xs n st ys a none =
     let c = coalesced xs n st ys in
     let m = total c.last + n + total c.first in
     let tail = outline c.last ++ ((n, Some k) ∷ (outline c.first ++ outline c.back)) in
     let released : collapse (k ∷ []) ((n, Some k) ∷ (outline c.first ++ outline c.back)) ≡ widen (n + total c.first) (collapse (k ∷ []) (outline c.back)) =
-    ap (λ x. if x || false then widen n (collapse (k ∷ []) (outline c.first ++ outline c.back)) else (n, Some k) ∷ collapse (k ∷ []) (outline c.first ++ outline c.back)) (eq-eqb k k refl) ∙ free_after (k ∷ []) n c.first (outline c.back) c.start.free in
+    ap (λ x. if x || false then widen n (collapse (k ∷ []) (outline c.first ++ outline c.back)) else (n, Some k) ∷ collapse (k ∷ []) (outline c.first ++ outline c.back)) (eq-eqb k k refl)
+    ∙ free_after (k ∷ []) n c.first (outline c.back) c.start.free in
     let same : collapse (k ∷ []) ((m, None) ∷ outline c.back) ≡ collapse (k ∷ []) tail =
     sym (free_before (k ∷ []) (n + total c.first) c.last _ _ c.end.free released ∙ ap (λ i. widen i (collapse (k ∷ []) (outline c.back))) (omega arith)) in
     let parts : outline ((c.front ++ c.last) ++ block n (Live k) ∷ (c.first ++ c.back)) ≡ outline c.front ++ tail = simp (map-append, append_assoc) in
@@ -120,20 +130,21 @@ coalesce_outline k xs n st ys a none =
     ∙ ap (collapse (k ∷ [])) (sym (ap₂ (λ x y. outline (x ++ block n (Live k) ∷ y)) c.at_front c.at_back ∙ parts))
 
 -- releases in a row
-released_outline : (s : State) → Well s → (k : ℕ) (o : Option Place) → place_of k s.blocks ≡ o → outline (release s o).state.blocks ≡ collapse (k ∷ []) (outline s.blocks)
+released_outline : (s : State) → IsWell s → (k : ℕ) (o : Option Place) → place_of k s.blocks ≡ o → outline (release s o).state.blocks ≡ collapse (k ∷ []) (outline s.blocks)
 released_outline s w k None e = sym (unchanged (k ∷ []) s.blocks w.apart (none_of k s.blocks (not_found k s.blocks e)))
 released_outline s w k (Some p) e =
     let f = found_at k s.blocks p e in
     let tag : p.block.tag ≡ Live k = number_of k p.block.tag f.1 in
-    let parts = apart_parts p.before (p.block ∷ p.after) (subst Apart f.0 w.apart) in
+    let parts = apart_parts p.before (p.block ∷ p.after) (subst AreApart f.0 w.apart) in
     let own : hit (Live k) p.block.tag ≡ 1 = ap (hit (Live k)) tag ∙ hit_self (Live k) in
     let once = w.once (Live k) in
     let none_after : count (Live k) p.after ≡ 0 = omega (arith, own, once, ap (count (Live k)) f.0, count-append (Live k) p.before (p.block ∷ p.after), f.2) in
-    coalesce_outline k p.before p.block.size (stamp_of_call s) p.after (apart_coalesce p.before _ _ p.after parts.0 parts.1.1) (omega (arith, f.2, none_after, count_coalesce (Live k) p.before p.block.size (stamp_of_call s) p.after))
+    coalesce_outline k p.before p.block.size (stamp_of_call s) p.after (apart_coalesce p.before _ _ p.after parts.0 parts.1.1)
+    (omega (arith, f.2, none_after, count_coalesce (Live k) p.before p.block.size (stamp_of_call s) p.after))
     ∙ ap (λ t. collapse (k ∷ []) (outline (p.before ++ block p.block.size t ∷ p.after))) (sym tag)
     ∙ ap (λ bs. collapse (k ∷ []) (outline bs)) (sym f.0)
 
-pub releases_outline : (ks : List ℕ) (s : State) → Well s → outline (after (releases ks) s).blocks ≡ collapse ks (outline s.blocks)
+pub releases_outline : (ks : List ℕ) (s : State) → IsWell s → outline (after (releases ks) s).blocks ≡ collapse ks (outline s.blocks)
 releases_outline [] s w = sym (unchanged [] s.blocks w.apart (λ j e. absurd (false≢true e)))
 releases_outline (k ∷ ks) s w =
     releases_outline ks (step (command.Free k) s).state (well_step (command.Free k) s w)
@@ -149,10 +160,10 @@ releases_scalars [] s = (refl, refl)
 releases_scalars (k ∷ ks) s = let r = released_scalars s (place_of k s.blocks) in let ih = releases_scalars ks (step (command.Free k) s).state in (ih.0 ∙ r.0, ih.1 ∙ r.1)
 
 -- one command at two states of one outline
-pub record SameSpace (s t : State) : Type 0 where
+pub record IsSameSpace (s t : State) : Type 0 where
   pub limit : s.limit ≡ t.limit
   pub grants : s.grants ≡ t.grants
-  pub blocks : Paired s.blocks t.blocks
+  pub blocks : ArePaired s.blocks t.blocks
 
 -- whether a request is granted goes by the sizes
 some_chosen : (n : ℕ) (b : Block) (bs : List Block) (o : Option Place) → is_some (choose n b bs o) ≡ (fits n b || is_some o)
@@ -168,49 +179,65 @@ some_same n (q ∷ p) = some_chosen n (left q) (lefts p) (chosen_place n (lefts 
     ∙ ap₂ (λ x y. (x && nat_le (up n) (down q.size)) || y) (same_free q.kind) (some_same n p)
     ∙ sym (some_chosen n (right q) (rights p) (chosen_place n (rights p)))
 
-same_granted : (s t : State) → s.grants ≡ t.grants → (n : ℕ) (padding_at : ℕ → ℕ) (o p : Option Place) → is_some o ≡ is_some p → without_offset (grant_or_refuse s n padding_at o).answer ≡ without_offset (grant_or_refuse t n padding_at p).answer
+same_granted : (s t : State) → s.grants ≡ t.grants → (n : ℕ) (padding_at : ℕ → ℕ) (o p : Option Place) → is_some o ≡ is_some p
+    → without_offset (grant_or_refuse s n padding_at o).answer ≡ without_offset (grant_or_refuse t n padding_at p).answer
 same_granted s t g n padding_at None None e = refl
 same_granted s t g n padding_at None (Some p) e = absurd (false≢true e)
 same_granted s t g n padding_at (Some o) None e = absurd (true≢false e)
 same_granted s t g n padding_at (Some o) (Some p) e = ap (λ k. machine.Grant (k + 1) 0) g
 
-same_request : (s t : State) → SameSpace s t → (spare needed n : ℕ) (padding_at : ℕ → ℕ) → without_offset (request s spare needed n padding_at).answer ≡ without_offset (request t spare needed n padding_at).answer
-same_request s t a spare needed n padding_at = if_same (λ (o p : Outcome). without_offset o.answer ≡ without_offset p.answer) (is_short_of spare s) (is_short_of spare t) (returns_only s machine.Refused) (returns_only t machine.Refused) (grant_or_refuse s n padding_at (chosen_place needed s.blocks)) (grant_or_refuse t n padding_at (chosen_place needed t.blocks))
-    (same_short s t a.blocks.pairs a.limit a.blocks.left_blocks a.blocks.right_blocks spare) (λ e. refl) (same_granted s t a.grants n padding_at _ _ (ap (λ bs. is_some (chosen_place needed bs)) a.blocks.left_blocks ∙ some_same needed a.blocks.pairs ∙ ap (λ bs. is_some (chosen_place needed bs)) (sym a.blocks.right_blocks)))
+same_request : (s t : State) → IsSameSpace s t → (spare needed n : ℕ) (padding_at : ℕ → ℕ)
+    → without_offset (request s spare needed n padding_at).answer ≡ without_offset (request t spare needed n padding_at).answer
+same_request s t a spare needed n padding_at = if_same (λ (o p : Outcome). without_offset o.answer ≡ without_offset p.answer) (is_short_of spare s) (is_short_of spare t)
+    (returns_only s machine.Refused) (returns_only t machine.Refused) (grant_or_refuse s n padding_at (chosen_place needed s.blocks)) (grant_or_refuse t n padding_at (chosen_place needed t.blocks))
+    (same_short s t a.blocks.pairs a.limit a.blocks.left_blocks a.blocks.right_blocks spare) (λ e. refl)
+    (same_granted s t a.grants n padding_at _ _
+    (ap (λ bs. is_some (chosen_place needed bs)) a.blocks.left_blocks ∙ some_same needed a.blocks.pairs ∙ ap (λ bs. is_some (chosen_place needed bs)) (sym a.blocks.right_blocks)))
 
-pub same_number : (k : ℕ) (q : Kind) → SameNumber q → has_number k (left_tag q) ≡ has_number k (right_tag q)
+pub same_number : (k : ℕ) (q : Kind) → HasSameNumber q → has_number k (left_tag q) ≡ has_number k (right_tag q)
 same_number k (Lives i j) e = ap (nat_eq k) e
 same_number k (Frees s u) e = refl
 
-same_released : (s t : State) (p : List Pair) (o o' : Option Place) → SamePlace (λ q. Unit {0}) p o o' → (without_offset (release s o).answer ≡ without_offset (release t o').answer) × (size_at o ≡ size_at o')
+same_released : (s t : State) (p : List Pair) (o o' : Option Place) → IsSamePlace (λ q. Unit {0}) p o o'
+    → (without_offset (release s o).answer ≡ without_offset (release t o').answer) × (size_at o ≡ size_at o')
 same_released s t p None None neither = (refl, refl)
 same_released s t p o o' (both xs q ys e f) = (refl, refl)
 
-same_place : (s t : State) → SameSpace s t → (k : ℕ) → (without_offset (release s (place_of k s.blocks)).answer ≡ without_offset (release t (place_of k t.blocks)).answer) × (size_at (place_of k s.blocks) ≡ size_at (place_of k t.blocks))
-same_place s t a k = subst₂ (λ x y. (without_offset (release s (place_of k x)).answer ≡ without_offset (release t (place_of k y)).answer) × (size_at (place_of k x) ≡ size_at (place_of k y))) (sym a.blocks.left_blocks) (sym a.blocks.right_blocks)
+same_place : (s t : State) → IsSameSpace s t → (k : ℕ) → (without_offset (release s (place_of k s.blocks)).answer ≡ without_offset (release t (place_of k t.blocks)).answer)
+    × (size_at (place_of k s.blocks) ≡ size_at (place_of k t.blocks))
+same_place s t a k = subst₂ (λ x y. (without_offset (release s (place_of k x)).answer ≡ without_offset (release t (place_of k y)).answer) × (size_at (place_of k x) ≡ size_at (place_of k y)))
+    (sym a.blocks.left_blocks) (sym a.blocks.right_blocks)
     (same_released s t a.blocks.pairs _ _ (same_place_of k k a.blocks.pairs (λ q i. same_number k q.kind (a.blocks.numbers q i))))
 
-same_extend : (s t : State) → SameSpace s t → (more : ℕ) → without_offset (step (command.Extend more) s).answer ≡ without_offset (step (command.Extend more) t).answer
+same_extend : (s t : State) → IsSameSpace s t → (more : ℕ) → without_offset (step (command.Extend more) s).answer ≡ without_offset (step (command.Extend more) t).answer
 same_extend s t a zero = refl
-same_extend s t a (suc more) = if_same (λ (o p : Outcome). without_offset o.answer ≡ without_offset p.answer) (nat_lt max_size (total s.blocks + suc more) || (ends_live s.blocks && is_short_of 1 s)) (nat_lt max_size (total t.blocks + suc more) || (ends_live t.blocks && is_short_of 1 t)) (returns_only s machine.Refused) (returns_only t machine.Refused) (leaves s (coalesce s.blocks (suc more) (stamp_of_call s) []) machine.Extended) (leaves t (coalesce t.blocks (suc more) (stamp_of_call t) []) machine.Extended)
+same_extend s t a (suc more) = if_same (λ (o p : Outcome). without_offset o.answer ≡ without_offset p.answer) (nat_lt max_size (total s.blocks + suc more) || (ends_live s.blocks && is_short_of 1 s))
+    (nat_lt max_size (total t.blocks + suc more) || (ends_live t.blocks && is_short_of 1 t)) (returns_only s machine.Refused) (returns_only t machine.Refused)
+    (leaves s (coalesce s.blocks (suc more) (stamp_of_call s) []) machine.Extended) (leaves t (coalesce t.blocks (suc more) (stamp_of_call t) []) machine.Extended)
     (same_refusal s t a.blocks.pairs a.limit a.blocks.left_blocks a.blocks.right_blocks (suc more)) (λ e. refl) refl
 
-pub same_next : (s t : State) → SameSpace s t → (c : Command) → without_offset (step c s).answer ≡ without_offset (step c t).answer
+pub same_next : (s t : State) → IsSameSpace s t → (c : Command) → without_offset (step c s).answer ≡ without_offset (step c t).answer
 same_next s t a (command.Alloc n) = same_request s t a 1 n n (λ offset. 0)
 same_next s t a (command.Free k) = (same_place s t a k).0
 same_next s t a (command.Size k) = ap without_offset (same_place s t a k).1
-same_next s t a command.Report = ap₂ (λ b l. without_offset (if b then machine.Report 0 0 else machine.Report (sum l) (largest l))) (same_short s t a.blocks.pairs a.limit a.blocks.left_blocks a.blocks.right_blocks 1) (same_free_sizes s t a.blocks.pairs a.limit a.blocks.left_blocks a.blocks.right_blocks)
+same_next s t a command.Report = ap₂ (λ b l. without_offset (if b then machine.Report 0 0 else machine.Report (sum l) (largest l)))
+    (same_short s t a.blocks.pairs a.limit a.blocks.left_blocks a.blocks.right_blocks 1) (same_free_sizes s t a.blocks.pairs a.limit a.blocks.left_blocks a.blocks.right_blocks)
 same_next s t a command.Full = ap (λ l. machine.Full (rows_below 256 l)) (same_free_sizes s t a.blocks.pairs a.limit a.blocks.left_blocks a.blocks.right_blocks)
 same_next s t a command.Reset = refl
-same_next s t a (command.Align n align) = if_same (λ (o p : Outcome). without_offset o.answer ≡ without_offset p.answer) (nat_le align 1) (nat_le align 1) (step (command.Alloc n) s) (step (command.Alloc n) t) (if nat_lt max_size (n + align - 1) then returns_only s machine.Refused else request s 2 (n + align - 1) n (padding_to align)) (if nat_lt max_size (n + align - 1) then returns_only t machine.Refused else request t 2 (n + align - 1) n (padding_to align))
+same_next s t a (command.Align n align) = if_same (λ (o p : Outcome). without_offset o.answer ≡ without_offset p.answer) (nat_le align 1) (nat_le align 1) (step (command.Alloc n) s)
+    (step (command.Alloc n) t) (if nat_lt max_size (n + align - 1) then returns_only s machine.Refused else request s 2 (n + align - 1) n (padding_to align))
+    (if nat_lt max_size (n + align - 1) then returns_only t machine.Refused else request t 2 (n + align - 1) n (padding_to align))
     refl (λ e. same_request s t a 1 n n (λ offset. 0))
-    (if_same (λ (o p : Outcome). without_offset o.answer ≡ without_offset p.answer) (nat_lt max_size (n + align - 1)) (nat_lt max_size (n + align - 1)) (returns_only s machine.Refused) (returns_only t machine.Refused) (request s 2 (n + align - 1) n (padding_to align)) (request t 2 (n + align - 1) n (padding_to align)) refl (λ e. refl) (same_request s t a 2 (n + align - 1) n (padding_to align)))
+    (if_same (λ (o p : Outcome). without_offset o.answer ≡ without_offset p.answer) (nat_lt max_size (n + align - 1)) (nat_lt max_size (n + align - 1)) (returns_only s machine.Refused)
+    (returns_only t machine.Refused) (request s 2 (n + align - 1) n (padding_to align)) (request t 2 (n + align - 1) n (padding_to align)) refl (λ e. refl)
+    (same_request s t a 2 (n + align - 1) n (padding_to align)))
 same_next s t a (command.Extend more) = same_extend s t a more
 
 pub commute_space : (size limit : ℕ) → 2 ≤ limit → (cs : List Command) (ks : List ℕ) → let s = after cs (start size limit) in outline (after (releases ks) s).blocks ≡ collapse ks (outline s.blocks)
 commute_space size limit h cs ks = releases_outline ks (after cs (start size limit)) (well_after cs (start size limit) (well_start size limit h))
 
-pub commute_next : (size limit : ℕ) → 2 ≤ limit → (cs : List Command) (ks : List ℕ) (t : State) → let s = after cs (start size limit) in IsCollapse ks s t → (c : Command) → without_offset (step c (after (releases ks) s)).answer ≡ without_offset (step c t).answer
+pub commute_next : (size limit : ℕ) → 2 ≤ limit → (cs : List Command) (ks : List ℕ) (t : State) → let s = after cs (start size limit) in
+    IsCollapse ks s t → (c : Command) → without_offset (step c (after (releases ks) s)).answer ≡ without_offset (step c t).answer
 commute_next size limit h cs ks t is =
     let s = after cs (start size limit) in
     let scalars = releases_scalars ks s in

@@ -1,5 +1,6 @@
 -- How a run ends.
-use Rattle.std.proofs.Common.{◌≡◌, ℕ, zero, suc, ◌-◌, ◌<◌, ◌⊎◌, inl, inr, false, List, [], ◌∷◌, ◌++◌, length, take, drop, get_or, refl, Option, Some, None, Ok, Err, sym, ap, ◌∙◌, append_assoc, arith, take-append-drop, IfSome, flat_map}
+use Rattle.std.proofs.Common.{◌≡◌, ℕ, zero, suc, ◌-◌, ◌<◌, ◌⊎◌, inl, inr, false, List, [], ◌∷◌, ◌++◌, length, take, drop, get_or, refl, Option, Some, None, Ok, Err, sym, ap, ◌∙◌, append_assoc, arith}
+use Rattle.std.proofs.Common.{take-append-drop, IfSome, flat_map}
 use Rattle.std.specs.Io.KnownBytes.{Appends}
 use Rattle.std.proofs.KnownBytes.{Appends-trans}
 use Rattle.std.proofs.lemmas.Bool.{cases_lt}
@@ -9,8 +10,8 @@ use Rattle.offset_script.specs.declared.faults.ScriptFault.TheVariants as script
 use Rattle.offset_script.specs.declared.scripts.Script.{Script}
 use Rattle.offset_script.specs.Faults.{as_run_fault}
 use Rattle.offset_script.specs.Grammar.{meaning_of}
-use Rattle.offset_script.specs.Running.{view, Returns, ScriptOf, HasText, Sends}
-use Rattle.offset_script.proofs.Steps.{is_too_long}
+use Rattle.offset_script.specs.Running.{view, IsParsed, IsScriptOf, HasText, Sends}
+use Rattle.offset_script.proofs.Meaning.{is_too_long}
 
 -- a longer beginning
 pub more_parts : (text front rest : List ℕ) (n : ℕ) → text ≡ front ++ rest → text ≡ (front ++ take n rest) ++ take (length rest - n) (drop n rest)
@@ -23,7 +24,8 @@ coalesce_at text (x ∷ xs) zero d h = refl
 coalesce_at text (x ∷ xs) (suc i) d h = ap (λ l. text x ++ l) (coalesce_at text xs i d (omega arith)) ∙ sym (append_assoc (text x) _ _)
 
 -- a beginning of the i-th text was sent after those before it
-pub piece_failed : {X : Type 0} (text : X → List ℕ) (xs : List X) (i : ℕ) (d : X) (old mid new : Option (List ℕ)) → i < length xs → Appends old mid (flat_map text (take i xs)) → Sends false (text (get_or xs i d)) mid new → Sends false (flat_map text xs) old new
+pub piece_failed : {X : Type 0} (text : X → List ℕ) (xs : List X) (i : ℕ) (d : X) (old mid new : Option (List ℕ)) → i < length xs → Appends old mid (flat_map text (take i xs))
+    → Sends false (text (get_or xs i d)) mid new → Sends false (flat_map text xs) old new
 piece_failed text xs i d old mid new h before sends = (
   flat_map text (take i xs) ++ sends.0,
   sends.1 ++ flat_map text (drop (suc i) xs),
@@ -37,10 +39,16 @@ whole_or_long bytes text None h = absurd h.takes
 whole_or_long bytes text (Some rest) h =
     elim (cases_lt (length bytes) 1048577) [
       | inl lt ↦ inl (ap Some (h.ends lt), h.takes ∙ ap (λ (l : List ℕ). bytes ++ l) (h.ends lt) ∙ append-nil bytes, lt)
-      | inr le ↦ inr (ap Some (sym (drop_at bytes rest 1048577 (omega (arith, h.most))) ∙ ap (drop 1048577) (sym h.takes)), is_too_long bytes (omega arith), is_too_long text (omega (arith, ap length h.takes, length-append bytes rest)))
+      | inr le ↦ inr (
+        ap Some (sym (drop_at bytes rest 1048577 (omega (arith, h.most))) ∙ ap (drop 1048577) (sym h.takes)),
+        is_too_long bytes (omega arith),
+        is_too_long text
+            (omega (arith, ap length h.takes, length-append bytes rest)),
+      )
     ]
 
-pub script_failed : (bytes : List ℕ) (f : ScriptFault) (from left : Option (List ℕ)) → HasText bytes from left → Returns (Err f) (meaning_of bytes) → IfSome from (λ text. ScriptOf (Err (as_run_fault f)) text left)
+pub script_failed : (bytes : List ℕ) (f : ScriptFault) (from left : Option (List ℕ)) → HasText bytes from left → IsParsed (Err f) (meaning_of bytes)
+    → IfSome from (λ text. IsScriptOf (Err (as_run_fault f)) text left)
 script_failed bytes f None left h fails = tt
 script_failed bytes scripts.Memory (Some text) left h fails = tt
 script_failed bytes scripts.TooLong (Some text) left h fails =
@@ -52,7 +60,8 @@ script_failed bytes (scripts.BadLimit n) (Some text) left h fails =
 script_failed bytes (scripts.BadCommand n) (Some text) left h fails =
     elim (whole_or_long bytes text left h) [ inl w ↦ (w.0, ap meaning_of w.1 ∙ fails) | inr l ↦ absurd (let e = sym l.1 ∙ fails in cc) ]
 
-pub script_read : (bytes : List ℕ) (script : Script) (from left : Option (List ℕ)) → HasText bytes from left → meaning_of bytes ≡ Ok (view script) → IfSome from (λ text. ScriptOf (Ok script) text left)
+pub script_read : (bytes : List ℕ) (script : Script) (from left : Option (List ℕ)) → HasText bytes from left → meaning_of bytes ≡ Ok (view script)
+    → IfSome from (λ text. IsScriptOf (Ok script) text left)
 script_read bytes script None left h means = tt
 script_read bytes script (Some text) left h means =
     elim (whole_or_long bytes text left h) [ inl w ↦ (w.0, ap meaning_of w.1 ∙ means) | inr l ↦ absurd (let e = sym l.1 ∙ means in cc) ]

@@ -2,34 +2,34 @@
 use Rattle.std.proofs.Common.{◌≡◌, ℕ, ◌+◌, ◌≤◌, true, false, not, ◌&&◌, List, [], ◌∷◌, ◌++◌, length, Option, Some, None, if◌then◌else◌, refl, ap, subst, subst₂, ◌∙◌, arith}
 use Rattle.std.specs.Option.{option_or}
 use Rattle.std.proofs.lemmas.Bool.{false≢true, not-false}
-use Rattle.offset_script.specs.Machine.{Tag, Live, Free, is_free, has_number, stamp, total}
+use Rattle.offset_script.specs.Machine.{Tag, Live, Free, is_free, has_number, total}
 use Rattle.offset_script.specs.Machine as plain
 use Rattle.offset_allocator.specs.View as named
-use Rattle.offset_allocator.specs.View.{Block, tally, units, one}
-use Rattle.offset_script.specs.Agreement.{Label, name_of}
-use Rattle.offset_script.proofs.Well.{count, hit, hit_number, number_of}
+use Rattle.offset_allocator.specs.View.{units}
+use Rattle.offset_script.proofs.Agreement.{Label, name_of}
+use Rattle.offset_script.proofs.Well.{count, hit_number}
 use Rattle.offset_script.proofs.Well as well
 use Rattle.offset_script.proofs.Labels.{names, tags}
 use Rattle.std.specs.List.{AllByRecursion}
 use Rattle.offset_script.proofs.Tests.{not_not}
 
 -- all of these are free
-abbrev pub AllFree : List Label → Type 0
-AllFree ls = AllByRecursion (λ l. is_free l.tag ≡ true) ls
+abbrev pub AreFree : List Label → Type 0
+AreFree ls = AllByRecursion (λ l. is_free l.tag ≡ true) ls
 
 -- by names
-pub free_named : (xs ys : List Label) → AllByRecursion (λ b. b.used ≡ false) (names xs ++ names ys) → AllFree xs × AllFree ys
+pub free_named : (xs ys : List Label) → AllByRecursion (λ b. b.used ≡ false) (names xs ++ names ys) → AreFree xs × AreFree ys
 free_named [] [] f = (tt, tt)
 free_named [] (y ∷ ys) f = (tt, (not-false _ f.0, (free_named [] ys f.1).1))
 free_named (x ∷ xs) ys f = let r = free_named xs ys f.1 in ((not-false _ f.0, r.0), r.1)
 
 -- by tags
-pub free_tagged : (ls : List Label) → AllFree ls → well.AllFree (tags ls)
+pub free_tagged : (ls : List Label) → AreFree ls → well.AreFree (tags ls)
 free_tagged [] f = tt
 free_tagged (l ∷ ls) f = (f.0, free_tagged ls f.1)
 
 -- free neighbours, by names and by tags
-pub apart_tagged : (ls : List Label) → named.IsApart (names ls) → well.Apart (tags ls)
+pub apart_tagged : (ls : List Label) → named.IsApart (names ls) → well.AreApart (tags ls)
 apart_tagged [] a = tt
 apart_tagged (l ∷ []) a = (subst (λ x. (x && false) ≡ false) (not_not (is_free l.tag)) a.0, tt)
 apart_tagged (l ∷ m ∷ ls) a = (subst₂ (λ x y. (x && y) ≡ false) (not_not (is_free l.tag)) (not_not (is_free m.tag)) a.0, apart_tagged (m ∷ ls) a.1)
@@ -54,7 +54,10 @@ total_units (l ∷ ls) = ap (λ n. l.size + n) (total_units ls)
 -- the sizes of the free blocks
 pub free_sizes_labels : (ls : List Label) → plain.free_sizes (tags ls) ≡ named.free_sizes (names ls)
 free_sizes_labels [] = refl
-free_sizes_labels (l ∷ ls) = let ih = free_sizes_labels ls in elim (is_free l.tag) as (λ u. (if u then l.size ∷ plain.free_sizes (tags ls) else plain.free_sizes (tags ls)) ≡ (if not u then named.free_sizes (names ls) else l.size ∷ named.free_sizes (names ls))) [ true ↦ ap (λ z. l.size ∷ z) ih | false ↦ ih ]
+free_sizes_labels (l ∷ ls) = let ih = free_sizes_labels ls in
+    elim (is_free l.tag)
+    as (λ u. (if u then l.size ∷ plain.free_sizes (tags ls) else plain.free_sizes (tags ls)) ≡ (if not u then named.free_sizes (names ls) else l.size ∷ named.free_sizes (names ls)))
+    [ true ↦ ap (λ z. l.size ∷ z) ih | false ↦ ih ]
 
 -- the names of grants
 pub or_none : (o : Option ℕ) → option_or o None ≡ o
@@ -64,7 +67,8 @@ or_none (Some x) = refl
 -- a grant is in the first list, or else in the second
 pub name_append : (k : ℕ) (xs ys : List Label) → name_of k (xs ++ ys) ≡ option_or (name_of k xs) (name_of k ys)
 name_append k [] ys = refl
-name_append k (x ∷ xs) ys = let ih = name_append k xs ys in elim (has_number k x.tag) as (λ u. (if u then Some x.name else name_of k (xs ++ ys)) ≡ option_or (if u then Some x.name else name_of k xs) (name_of k ys)) [ true ↦ refl | false ↦ ih ]
+name_append k (x ∷ xs) ys = let ih = name_append k xs ys in elim (has_number k x.tag)
+    as (λ u. (if u then Some x.name else name_of k (xs ++ ys)) ≡ option_or (if u then Some x.name else name_of k xs) (name_of k ys)) [ true ↦ refl | false ↦ ih ]
 
 no_number : (k : ℕ) (t : Tag) → is_free t ≡ true → has_number k t ≡ false
 no_number k (Live j) e = absurd (false≢true e)
@@ -75,7 +79,7 @@ pub name_skip : (k : ℕ) (l : Label) (ls : List Label) → is_free l.tag ≡ tr
 name_skip k l ls e = rw (no_number k l.tag e) refl
 
 -- free blocks have no grant
-pub name_free : (k : ℕ) (ls : List Label) → AllFree ls → name_of k ls ≡ None
+pub name_free : (k : ℕ) (ls : List Label) → AreFree ls → name_of k ls ≡ None
 name_free k [] f = refl
 name_free k (l ∷ ls) f = name_skip k l ls f.0 ∙ name_free k ls f.1
 

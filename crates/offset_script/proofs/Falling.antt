@@ -6,7 +6,7 @@ use Rattle.offset_allocator.specs.View.{Block, one, times, bin_at, push, without
 use Rattle.offset_allocator.proofs.Classes.{down_small}
 use Rattle.offset_allocator.proofs.Tallies.{hit_cases}
 use Rattle.offset_allocator.proofs.ViewOrders.{names_same, names_other, length_put, length_remove, times_without_le, hit, times_put}
-use Rattle.offset_script.specs.Agreement.{IsFalling}
+use Rattle.offset_script.proofs.Agreement.{IsFalling}
 
 -- a list without a name
 falling_without : (f : ℕ → ℕ) (x : ℕ) (xs : List ℕ) → IsFalling f xs → IsFalling f (without x xs)
@@ -57,7 +57,8 @@ falling_put_all f t (b ∷ bs) order h fall low rise =
   where
     put : t ≤ f b.name → (d : ℕ) → IsFalling f (bin_at (push (down b.size) b.name order) d)
     put l d = elim (cases_eq d (down b.size)) [
-      | inl e ↦ subst (λ i. IsFalling f (bin_at (push (down b.size) b.name order) i)) (sym e) (subst (IsFalling f) (sym (names_same order (down b.size) _ h (down_small b.size))) (λ y m. let k = low (down b.size) y m in omega arith, fall (down b.size)))
+      | inl e ↦ subst (λ i. IsFalling f (bin_at (push (down b.size) b.name order) i)) (sym e)
+          (subst (IsFalling f) (sym (names_same order (down b.size) _ h (down_small b.size))) (λ y m. let k = low (down b.size) y m in omega arith, fall (down b.size)))
       | inr n ↦ subst (IsFalling f) (sym (names_other order (down b.size) d _ n)) (fall d)
     ]
 

@@ -28,17 +28,27 @@ onto_some x (p ∷ ps) = (x ∷ p, ps, refl)
 -- there is always a part
 pub some_part : {X : Type 0} (p : X → Bool) (xs : List X) → (y : List X) × (ys : List (List X)) × (slice_split p xs ≡ y ∷ ys)
 some_part p [] = ([], [], refl)
-some_part {X} p (x ∷ xs) = elim (p x) as (λ b. (y : List X) × (ys : List (List X)) × (cond b ([] ∷ slice_split p xs) (onto_first x (slice_split p xs)) ≡ y ∷ ys)) [ true ↦ ([], slice_split p xs, refl) | false ↦ onto_some x (slice_split p xs) ]
+some_part {X} p (x ∷ xs) = elim (p x) as (λ b. (y : List X) × (ys : List (List X)) × (cond b ([] ∷ slice_split p xs) (onto_first x (slice_split p xs)) ≡ y ∷ ys))
+    [ true ↦ ([], slice_split p xs, refl) | false ↦ onto_some x (slice_split p xs) ]
 
 last_lines : (line : List ℕ) (n : ℕ) → filter (λ l. not (is_skipped l.text)) (numbered_from n (lines_of (line ∷ []))) ≡ cond (is_skipped line) [] (record { number = n; text = line } ∷ [])
 last_lines [] n = refl
 last_lines (b ∷ bs) n = rw not_zero (elim (eqb b 35) as (λ c. cond (not c) (line_at n (b ∷ bs) ∷ []) [] ≡ cond c [] (line_at n (b ∷ bs) ∷ [])) [ true ↦ refl | false ↦ refl ])
 
-more_lines : (line next : List ℕ) (more : List (List ℕ)) (n : ℕ) → filter (λ l. not (is_skipped l.text)) (numbered_from n (lines_of (line ∷ next ∷ more))) ≡ cond (is_skipped line) (filter (λ l. not (is_skipped l.text)) (numbered_from (n + 1) (lines_of (next ∷ more)))) (record { number = n; text = line } ∷ filter (λ l. not (is_skipped l.text)) (numbered_from (n + 1) (lines_of (next ∷ more))))
-more_lines line next more n = elim (is_skipped line) as (λ b. cond (not b) (record { number = n; text = line } ∷ filter (λ l. not (is_skipped l.text)) (numbered_from (n + 1) (lines_of (next ∷ more)))) (filter (λ l. not (is_skipped l.text)) (numbered_from (n + 1) (lines_of (next ∷ more)))) ≡ cond b (filter (λ l. not (is_skipped l.text)) (numbered_from (n + 1) (lines_of (next ∷ more)))) (record { number = n; text = line } ∷ filter (λ l. not (is_skipped l.text)) (numbered_from (n + 1) (lines_of (next ∷ more))))) [ true ↦ refl | false ↦ refl ]
+more_lines : (line next : List ℕ) (more : List (List ℕ)) (n : ℕ)
+    → filter (λ l. not (is_skipped l.text)) (numbered_from n (lines_of (line ∷ next ∷ more)))
+    ≡ cond (is_skipped line) (filter (λ l. not (is_skipped l.text)) (numbered_from (n + 1) (lines_of (next ∷ more))))
+    (record { number = n; text = line } ∷ filter (λ l. not (is_skipped l.text)) (numbered_from (n + 1) (lines_of (next ∷ more))))
+more_lines line next more n =
+    elim (is_skipped line)
+    as (λ b. cond (not b) (record { number = n; text = line } ∷ filter (λ l. not (is_skipped l.text)) (numbered_from (n + 1) (lines_of (next ∷ more))))
+    (filter (λ l. not (is_skipped l.text)) (numbered_from (n + 1) (lines_of (next ∷ more))))
+    ≡ cond b (filter (λ l. not (is_skipped l.text)) (numbered_from (n + 1) (lines_of (next ∷ more))))
+    (record { number = n; text = line } ∷ filter (λ l. not (is_skipped l.text)) (numbered_from (n + 1) (lines_of (next ∷ more))))) [ true ↦ refl | false ↦ refl ]
 
 pub significant_step : (n : ℕ) (text line : List ℕ) (after : Option (List ℕ)) → parts 10 text ≡ line ∷ option_map_or (parts 10) after []
-    → significant_from n text ≡ cond (is_skipped line) (significant_from (n + ends_in after) (rest_of after)) (record { number = n; text = line } ∷ significant_from (n + ends_in after) (rest_of after))
+    → significant_from n text ≡ cond (is_skipped line) (significant_from (n + ends_in after) (rest_of after))
+    (record { number = n; text = line } ∷ significant_from (n + ends_in after) (rest_of after))
 unfolding significant_from
 significant_step n text line None h = rw h (last_lines line n)
 significant_step n text line (Some rest) h =

@@ -1,5 +1,6 @@
 -- A state without live blocks continues as a fresh one, and a fresh one that is extended as a larger one.
-use Rattle.std.proofs.Common.{◌≡◌, ℕ, zero, suc, ◌+◌, ◌-◌, ◌*◌, ◌<◌, ◌≤◌, true, false, ◌&&◌, ◌||◌, List, [], ◌∷◌, length, IsTrue, nat_lt, if◌then◌else◌, refl, sym, ap, ap₂, subst, subst₂, le-ltb, ◌∙◌, inl, inr, arith}
+use Rattle.std.proofs.Common.{◌≡◌, ℕ, zero, suc, ◌+◌, ◌-◌, ◌*◌, ◌<◌, ◌≤◌, true, false, ◌&&◌, ◌||◌, List, [], ◌∷◌, length, IsTrue, nat_lt, if◌then◌else◌, refl, sym, ap, ap₂, subst, subst₂, le-ltb, ◌∙◌}
+use Rattle.std.proofs.Common.{inl, inr, arith}
 use Rattle.std.proofs.lemmas.Bool.{true≢false}
 use Rattle.std.specs.List.{AllByRecursion}
 use Rattle.offset_allocator.specs.View.{max_size}
@@ -8,11 +9,11 @@ use Rattle.offset_script.specs.declared.scripts.Command.{Command}
 use Rattle.offset_script.specs.declared.scripts.Command.TheVariants as command
 use Rattle.offset_script.specs.Machine as machine
 use Rattle.offset_script.specs.Histories.{renumber, raise_number, number_without, answers_renumbered, HasNoLive}
-use Rattle.offset_script.proofs.Members.{In, map_same}
-use Rattle.offset_script.proofs.Pairs.{Frees, Pair, pair, Agree}
-use Rattle.offset_script.proofs.Alike.{Alike, Matched, alike_answers}
+use Rattle.offset_script.proofs.Members.{IsIn, map_same}
+use Rattle.offset_script.proofs.Pairs.{Frees, Pair, pair, AreAgreed}
+use Rattle.offset_script.proofs.Alike.{IsAlike, IsMatched, alike_answers}
 use Rattle.offset_script.proofs.Nests.{number_without_none, number_without_past, number_without_future}
-use Rattle.offset_script.proofs.Well.{Well, Apart, count, hit_self, well_start, well_after}
+use Rattle.offset_script.proofs.Well.{IsWell, AreApart, count, hit_self, well_start, well_after}
 
 -- one free block
 abbrev pub IsOneFree : List Block → Type 0
@@ -22,7 +23,7 @@ free_tag : (t : Tag) → IsTrue (is_free t) → (x : ℕ) × (t ≡ Free x)
 free_tag (Free x) h = (x, refl)
 free_tag (Live k) h = absurd (grind (arith, h))
 
-pub one_free : (bs : List Block) → 1 ≤ length bs → Apart bs → AllByRecursion (λ b. IsTrue (is_free b.tag)) bs → IsOneFree bs
+pub one_free : (bs : List Block) → 1 ≤ length bs → AreApart bs → AllByRecursion (λ b. IsTrue (is_free b.tag)) bs → IsOneFree bs
 one_free [] some a f = absurd (omega arith)
 one_free (b ∷ []) some a f = let t = free_tag b.tag f.0 in (b.size, t.0, ap (λ t. block b.size t ∷ []) t.1)
 one_free (b ∷ c ∷ bs) some a f =
@@ -30,13 +31,13 @@ one_free (b ∷ c ∷ bs) some a f =
     let u = free_tag c.tag f.1.0 in
     absurd (true≢false (ap (λ t. is_free t && true) (sym t.1) ∙ ap (λ u. is_free b.tag && is_free u) (sym u.1) ∙ a.0))
 
-pub alike_fresh : (s : State) (n x g : ℕ) → g ≡ s.grants → s.blocks ≡ block n (Free x) ∷ [] → x < 2 * (s.calls + 1) → Alike (number_without 0 g) g s (start (total s.blocks) s.limit)
+pub alike_fresh : (s : State) (n x g : ℕ) → g ≡ s.grants → s.blocks ≡ block n (Free x) ∷ [] → x < 2 * (s.calls + 1) → IsAlike (number_without 0 g) g s (start (total s.blocks) s.limit)
 alike_fresh s n x g same e h = record {
   limit = refl;
   pairs = q ∷ [];
   left_blocks = e;
   right_blocks = ap (λ m. block m (Free 0) ∷ []) (ap total e ∙ omega arith);
-  matched = λ p i. elim i [ inl is ↦ subst (λ (z : Pair). Matched (number_without 0 g) (2 * (s.calls + 1)) 2 z.kind) (sym is) (h, omega arith) | inr none ↦ absurd none ];
+  matched = λ p i. elim i [ inl is ↦ subst (λ (z : Pair). IsMatched (number_without 0 g) (2 * (s.calls + 1)) 2 z.kind) (sym is) (h, omega arith) | inr none ↦ absurd none ];
   agree = λ a b i j. only a b i j;
   grants = omega arith;
   past = λ k l. number_without_past 0 g k (omega arith);
@@ -46,17 +47,19 @@ alike_fresh s n x g same e h = record {
     q : Pair
     q = pair n (Frees x 0)
 
-    only : (a b : Pair) → In a (q ∷ []) → In b (q ∷ []) → Agree a b
-    only a b (inl i) (inl j) = subst₂ Agree (sym i) (sym j) (λ same. le-ltb x x (omega arith))
+    only : (a b : Pair) → IsIn a (q ∷ []) → IsIn b (q ∷ []) → AreAgreed a b
+    only a b (inl i) (inl j) = subst₂ AreAgreed (sym i) (sym j) (λ same. le-ltb x x (omega arith))
     only a b (inl i) (inr j) = absurd j
     only a b (inr i) j = absurd i
 
-pub fresh_law : (size limit : ℕ) → 2 ≤ limit → (cs : List Command) → let s = after cs (start size limit) in HasNoLive s → (next : List Command) → answers next s ≡ answers_renumbered (start (total s.blocks) s.limit) s next
+pub fresh_law : (size limit : ℕ) → 2 ≤ limit → (cs : List Command) → let s = after cs (start size limit) in
+    HasNoLive s → (next : List Command) → answers next s ≡ answers_renumbered (start (total s.blocks) s.limit) s next
 fresh_law size limit h cs none =
     let s = after cs (start size limit) in
-    let w : Well s = well_after cs _ (well_start size limit h) in
+    let w : IsWell s = well_after cs _ (well_start size limit h) in
     let f : IsOneFree s.blocks = one_free s.blocks w.some w.apart none in
-    λ more. alike_answers _ _ more s (start (total s.blocks) s.limit) (alike_fresh s f.0 f.1 (s.grants - 0) (omega arith) f.2 (w.old (Free f.1) (let c = ap (count (Free f.1)) f.2 in let h = hit_self (Free f.1) in omega arith)))
+    λ more. alike_answers _ _ more s (start (total s.blocks) s.limit)
+    (alike_fresh s f.0 f.1 (s.grants - 0) (omega arith) f.2 (w.old (Free f.1) (let c = ap (count (Free f.1)) f.2 in let h = hit_self (Free f.1) in omega arith)))
 
 -- a fresh space that is extended
 pub raise_none : (a : Answer) → raise_number 0 a ≡ a
@@ -80,7 +83,8 @@ alone_is_fresh limit n x h cs =
     ∙ ap₂ (λ l m. answers l (start m limit)) (map_same (renumber (number_without 0 0)) (renumber_same _ (number_without_none 0)) cs) (let e : n + 0 ≡ n = omega arith in e)
 
 extended : (size more limit : ℕ) → nat_lt max_size (size + 0 + suc more) ≡ false → (step (command.Extend (suc more)) (start size limit)).state ≡ alone limit (size + suc more) 3
-extended size more limit e = ap (λ b. (if b || false then returns_only (start size limit) machine.Refused else leaves (start size limit) (block (size + suc more + 0) (Free 3) ∷ []) machine.Extended).state) e
+extended size more limit e =
+    ap (λ b. (if b || false then returns_only (start size limit) machine.Refused else leaves (start size limit) (block (size + suc more + 0) (Free 3) ∷ []) machine.Extended).state) e
     ∙ ap (λ n. alone limit n 3) (let h : size + suc more + 0 ≡ size + suc more = omega arith in h)
 
 pub extended_law : (size more limit : ℕ) → size + more ≤ max_size → (cs : List Command) → answers cs (after (command.Extend more ∷ []) (start size limit)) ≡ answers cs (start (size + more) limit)

@@ -1,12 +1,13 @@
 -- Blocks with both their names and their tags.
-use Rattle.std.proofs.Common.{◌≡◌, ℕ, ◌+◌, ◌<◌, ◌≤◌, true, false, not, ◌&&◌, ◌⊎◌, List, [], ◌∷◌, ◌++◌, map, nat_eq, if◌then◌else◌, refl, sym, ap, subst, ◌∙◌, inl, inr, arith, eq-eqb, ne_eqb, append_assoc}
+use Rattle.std.proofs.Common.{◌≡◌, ℕ, ◌+◌, ◌<◌, ◌≤◌, true, false, not, ◌&&◌, ◌⊎◌, List, [], ◌∷◌, ◌++◌, map, nat_eq, if◌then◌else◌, refl, sym, ap, subst, ◌∙◌, inl, inr, arith, eq-eqb, ne_eqb}
+use Rattle.std.proofs.Common.{append_assoc}
 use Rattle.std.proofs.lemmas.List.{map-append}
 use Rattle.std.proofs.lemmas.Bool.{cases_lt, not-true, not-false}
 use Rattle.offset_allocator.specs.Classes.{down}
-use Rattle.offset_script.specs.Machine.{Tag, Live, Free, is_free, has_number, stamp}
+use Rattle.offset_script.specs.Machine.{Tag, Live, Free, is_free, stamp}
 use Rattle.offset_script.specs.Machine as plain
 use Rattle.offset_allocator.specs.View.{Block, View, one, times, count_named, count_in_bin, bin_at, push_all, remove_all, IsWellFormed}
-use Rattle.offset_script.specs.Agreement.{Label, by_name, by_tag, stamp_of, IsFalling}
+use Rattle.offset_script.proofs.Agreement.{Label, by_name, by_tag, stamp_of, IsFalling}
 use Rattle.offset_script.proofs.Well.{count, hit, hit_self}
 use Rattle.offset_allocator.proofs.Tallies.{tally_three, listed_named, tally_append, hit_cases, one-same}
 use Rattle.offset_allocator.proofs.ViewOrders.{length_remove_all}
@@ -34,12 +35,12 @@ stamp_none x (l ∷ ls) e = elim (hit_cases x l.name) [
 ]
 
 -- f returns the stamp of each of these labels
-abbrev pub GivesStamps : (ℕ → ℕ) → List Label → Type 0
-GivesStamps f [] = Unit {0}
-GivesStamps f (l ∷ ls) = (f l.name ≡ stamp l.tag) × GivesStamps f ls
+abbrev pub HasStamps : (ℕ → ℕ) → List Label → Type 0
+HasStamps f [] = Unit {0}
+HasStamps f (l ∷ ls) = (f l.name ≡ stamp l.tag) × HasStamps f ls
 
 -- what returns the stamps of two lists returns those of each
-pub gives_parts : (f : ℕ → ℕ) (xs ys : List Label) → GivesStamps f (xs ++ ys) → GivesStamps f xs × GivesStamps f ys
+pub gives_parts : (f : ℕ → ℕ) (xs ys : List Label) → HasStamps f (xs ++ ys) → HasStamps f xs × HasStamps f ys
 gives_parts f [] ys g = (tt, g)
 gives_parts f (x ∷ xs) ys g = let r = gives_parts f xs ys g.1 in ((g.0, r.0), r.1)
 
@@ -51,14 +52,17 @@ stamp_at before l after most =
     let b = stamp_none l.name after (omega arith) in
     tally_append (λ (m : Label). if nat_eq l.name m.name then stamp m.tag else 0) before (l ∷ after) ∙ rw (eq-eqb l.name l.name refl) (omega arith)
 
-gives_from : (before ls : List Label) → ((x : ℕ) → count_named x (names (before ++ ls)) ≤ 1) → GivesStamps (λ x. stamp_of x (before ++ ls)) ls
+gives_from : (before ls : List Label) → ((x : ℕ) → count_named x (names (before ++ ls)) ≤ 1) → HasStamps (λ x. stamp_of x (before ++ ls)) ls
 gives_from before [] most = tt
 gives_from before (l ∷ ls) most =
-    let same : (before ++ l ∷ []) ++ ls ≡ before ++ l ∷ ls = simp append_assoc in
-    (stamp_at before l ls (most l.name), subst (λ all. GivesStamps (λ x. stamp_of x all) ls) same (gives_from (before ++ l ∷ []) ls (λ x. subst (λ all. count_named x (names all) ≤ 1) (sym same) (most x))))
+    let same : (before ++ l ∷ []) ++ ls ≡ before ++ l ∷ ls = simp append_assoc in (
+      stamp_at before l ls (most l.name),
+      subst (λ all. HasStamps (λ x. stamp_of x all) ls) same
+          (gives_from (before ++ l ∷ []) ls (λ x. subst (λ all. count_named x (names all) ≤ 1) (sym same) (most x))),
+    )
 
 -- where each name occurs once, the stamp of a name is that of its block
-pub gives_all : (ls : List Label) → ((x : ℕ) → count_named x (names ls) ≤ 1) → GivesStamps (λ x. stamp_of x ls) ls
+pub gives_all : (ls : List Label) → ((x : ℕ) → count_named x (names ls) ≤ 1) → HasStamps (λ x. stamp_of x ls) ls
 gives_all ls most = gives_from [] ls most
 
 -- every stamp is below t
@@ -75,17 +79,18 @@ stamps_below t (l ∷ ls) most low pos x = elim (hit_cases x l.name) [
       let z = stamp_none x ls (omega arith) in
       rw (eq-eqb x l.name i.0) (elim (stamp_or_zero l.tag) [
         | inl e ↦ omega arith
-        | inr r ↦ let e = ap stamp r.1 in elim (cases_lt r.0 t) [ inl b ↦ omega arith | inr b ↦ absurd (let c = low r.0 b in let h = ap (hit (Free r.0)) r.1 in let s = hit_self (Free r.0) in omega arith) ]
+        | inr r ↦ let e = ap stamp r.1 in elim (cases_lt r.0 t)
+            [ inl b ↦ omega arith | inr b ↦ absurd (let c = low r.0 b in let h = ap (hit (Free r.0)) r.1 in let s = hit_self (Free r.0) in omega arith) ]
       ])
   | inr i ↦ let k = i.1 in let ih = stamps_below t ls (λ y. let m = most y in omega arith) (λ y b. let c = low y b in omega arith) pos x in rw (ne_eqb x l.name i.0) (omega arith)
 ]
 
 -- the stamps of free blocks that are added rise from t on
-abbrev pub Rises : ℕ → List Label → Type 0
-Rises t [] = Unit {0}
-Rises t (l ∷ ls) = (is_free l.tag ≡ false → Rises t ls) × (is_free l.tag ≡ true → (t ≤ stamp l.tag) × Rises (stamp l.tag + 1) ls)
+abbrev pub AreRising : ℕ → List Label → Type 0
+AreRising t [] = Unit {0}
+AreRising t (l ∷ ls) = (is_free l.tag ≡ false → AreRising t ls) × (is_free l.tag ≡ true → (t ≤ stamp l.tag) × AreRising (stamp l.tag + 1) ls)
 
-rises_named : (f : ℕ → ℕ) (t : ℕ) (ls : List Label) → GivesStamps f ls → Rises t ls → IsRising f t (names ls)
+rises_named : (f : ℕ → ℕ) (t : ℕ) (ls : List Label) → HasStamps f ls → AreRising t ls → IsRising f t (names ls)
 rises_named f t [] g r = tt
 rises_named f t (l ∷ ls) g r = (
   λ e. rises_named f t ls g.1 (r.0 (not-true _ e)),
@@ -94,7 +99,7 @@ rises_named f t (l ∷ ls) g r = (
 
 -- new blocks in place of old ones, where the new stamps are above the old
 pub newest_replaced : (v : View) (before old new after : List Label) → IsWellFormed v → v.blocks ≡ names (before ++ (old ++ after)) → ((x : ℕ) → count_named x (names (before ++ (new ++ after))) ≤ 1)
-    → (t : ℕ) → ((x : ℕ) → stamp_of x (before ++ (old ++ after)) < t) → Rises t new
+    → (t : ℕ) → ((x : ℕ) → stamp_of x (before ++ (old ++ after)) < t) → AreRising t new
     → ((c : ℕ) → IsFalling (λ x. stamp_of x (before ++ (old ++ after))) (bin_at v.order c))
     → (c : ℕ) → IsFalling (λ x. stamp_of x (before ++ (new ++ after))) (bin_at (push_all (names new) (remove_all (names old) v.order)) c)
 newest_replaced v before old new after w e distinct t low rises newest = falling_put_all f' t (names new) (remove_all (names old) v.order) (length_remove_all (names old) v.order ∙ w.classes)
@@ -124,4 +129,11 @@ newest_replaced v before old new after w e distinct t low rises newest = falling
         let new_parts = ap (count_named y) (map_three by_name before new after) ∙ tally_three (λ (b : Block). one (nat_eq y b.name)) (names before) (names new) (names after) in
         let once = distinct y in
         let absent : count_named y (names new) ≡ 0 = omega arith in
-        omega (arith, tally_three (λ (l : Label). if nat_eq y l.name then stamp l.tag else 0) before old after, tally_three (λ (l : Label). if nat_eq y l.name then stamp l.tag else 0) before new after, stamp_none y old gone, stamp_none y new absent)
+        omega (
+          arith,
+          tally_three (λ (l : Label). if nat_eq y l.name then stamp l.tag else 0) before old after,
+          tally_three (λ (l : Label). if nat_eq y l.name then stamp l.tag else 0) before new
+              after,
+          stamp_none y old gone,
+          stamp_none y new absent,
+        )

@@ -1,12 +1,14 @@
 -- Two lists of blocks of the same sizes, both live or both free at each place, seen as one list of pairs.
-use Rattle.std.proofs.Common.{◌≡◌, ℕ, zero, suc, ◌+◌, ◌-◌, true, not, ◌&&◌, ◌||◌, ◌⊎◌, List, [], ◌∷◌, ◌++◌, map, length, Option, Some, None, option_map, nat_eq, nat_lt, nat_le, if◌then◌else◌, refl, sym, ap, ap₂, subst, subst₂, ◌∙◌, inl, inr, arith, eq-eqb, eqb-true}
+use Rattle.std.proofs.Common.{◌≡◌, ℕ, zero, suc, ◌+◌, ◌-◌, true, not, ◌&&◌, ◌||◌, ◌⊎◌, List, [], ◌∷◌, ◌++◌, map, length, Option, Some, None, option_map, nat_eq, nat_lt, nat_le, if◌then◌else◌, refl}
+use Rattle.std.proofs.Common.{sym, ap, ap₂, subst, subst₂, ◌∙◌, inl, inr, arith, eq-eqb, eqb-true}
 use Rattle.std.proofs.lemmas.List.{map-append, length-map}
 use Rattle.std.proofs.lemmas.Bool.{false≢true, and_parts}
 use Rattle.offset_allocator.specs.Classes.{up, down}
 use Rattle.offset_allocator.specs.View.{max_size}
-use Rattle.offset_script.specs.Machine.{Tag, Live, Free, Block, block, is_free, has_number, stamp, total, free_sizes, Place, fits, is_taken_before, choose, chosen_place, prepend, place_of, free_block, ends_live, coalesce, State, is_short_of}
-use Rattle.offset_script.proofs.Members.{In, in_append, in_left, in_right, map_parts}
-use Rattle.offset_script.proofs.Well.{starts_free, ends_free, AllFree, IsEnd, IsStart, Coalesced, coalesced, coalesce_parts}
+use Rattle.offset_script.specs.Machine.{Tag, Live, Free, Block, block, is_free, has_number, stamp, total, free_sizes, Place, fits, is_taken_before, choose, chosen_place, prepend, place_of, free_block}
+use Rattle.offset_script.specs.Machine.{ends_live, coalesce, State, is_short_of}
+use Rattle.offset_script.proofs.Members.{IsIn, in_append, in_left, in_right, map_parts}
+use Rattle.offset_script.proofs.Well.{starts_free, ends_free, AreFree, IsEnd, IsStart, IsCoalesced, coalesced, coalesce_parts}
 use Rattle.offset_script.proofs.Tests.{same_and, if_same}
 
 -- two blocks at one place: both live, with their numbers, or both free, with their stamps
@@ -74,7 +76,7 @@ same_ends_free [] = refl
 same_ends_free (q ∷ []) = same_free q.kind
 same_ends_free (q ∷ x ∷ p) = same_ends_free (x ∷ p)
 
-same_all_free : (p : List Pair) → AllFree (lefts p) → AllFree (rights p)
+same_all_free : (p : List Pair) → AreFree (lefts p) → AreFree (rights p)
 same_all_free [] f = tt
 same_all_free (q ∷ p) f = (sym (same_free q.kind) ∙ f.0, same_all_free p f.1)
 
@@ -94,7 +96,8 @@ module _ (s t : State) (p : List Pair) (limit : s.limit ≡ t.limit) (l : s.bloc
   pub same_free_sizes : free_sizes s.blocks ≡ free_sizes t.blocks
   same_free_sizes = ap free_sizes l ∙ same_sizes p ∙ ap free_sizes (sym r)
 
-  pub same_refusal : (more : ℕ) → (nat_lt max_size (total s.blocks + more) || (ends_live s.blocks && is_short_of 1 s)) ≡ (nat_lt max_size (total t.blocks + more) || (ends_live t.blocks && is_short_of 1 t))
+  pub same_refusal : (more : ℕ) → (nat_lt max_size (total s.blocks + more) || (ends_live s.blocks && is_short_of 1 s))
+      ≡ (nat_lt max_size (total t.blocks + more) || (ends_live t.blocks && is_short_of 1 t))
   same_refusal more = ap₂ (λ x y. nat_lt max_size (x + more) || y) same_units (ap₂ (λ x y. x && y) (ap ends_live l ∙ same_ends_live p ∙ ap ends_live (sym r)) (same_short 1))
 
 -- both lists end and start alike
@@ -113,28 +116,29 @@ same_start gs ys e = record {
 }
 
 -- units that become free and coalesce on both sides
-pub record BothCoalesced (ps : List Pair) (n s u : ℕ) (qs : List Pair) : Type 0 where
+pub record AreBothCoalesced (ps : List Pair) (n s u : ℕ) (qs : List Pair) : Type 0 where
   pub pairs : List Pair
   pub on_left : coalesce (lefts ps) n s (lefts qs) ≡ lefts pairs
   pub on_right : coalesce (rights ps) n u (rights qs) ≡ rights pairs
-  pub old : (q : Pair) → In q pairs → (In q ps ⊎ In q qs) ⊎ (q.kind ≡ Frees s u)
+  pub old : (q : Pair) → IsIn q pairs → (IsIn q ps ⊎ IsIn q qs) ⊎ (q.kind ≡ Frees s u)
 
-pub both_coalesced : (ps : List Pair) (n s u : ℕ) (qs : List Pair) → BothCoalesced ps n s u qs
+pub both_coalesced : (ps : List Pair) (n s u : ℕ) (qs : List Pair) → AreBothCoalesced ps n s u qs
 both_coalesced ps n s u qs = record {
   pairs = a.0 ++ pair m (Frees s u) ∷ b.1;
   on_left = c.is ∙ ap₂ (λ x y. x ++ block m (Free s) ∷ y) (sym a.3) (sym b.4) ∙ sym (map-append left a.0 (pair m (Frees s u) ∷ b.1));
   on_right = ap₂ (λ x y. coalesce x n u y) (ap rights a.2 ∙ map-append right a.0 a.1) (ap rights b.2 ∙ map-append right b.0 b.1)
-      ∙ coalesce_parts (rights a.0) (rights a.1) n u (rights b.0) (rights b.1) (same_end a.0 a.1 (subst₂ IsEnd (sym a.3) (sym a.4) c.end)) (same_start b.0 b.1 (subst₂ IsStart (sym b.3) (sym b.4) c.start))
+      ∙ coalesce_parts (rights a.0) (rights a.1) n u (rights b.0) (rights b.1) (same_end a.0 a.1 (subst₂ IsEnd (sym a.3) (sym a.4) c.end))
+      (same_start b.0 b.1 (subst₂ IsStart (sym b.3) (sym b.4) c.start))
       ∙ ap₂ (λ x y. rights a.0 ++ block (x + n + y) (Free u) ∷ rights b.1) (sym (same_total a.1) ∙ ap total a.4) (sym (same_total b.0) ∙ ap total b.3)
       ∙ sym (map-append right a.0 (pair m (Frees s u) ∷ b.1));
   old = λ q i. elim (in_append q a.0 _ i) [
-    | inl h ↦ inl (inl (subst (In q) (sym a.2) (in_left q a.0 a.1 h)))
+    | inl h ↦ inl (inl (subst (IsIn q) (sym a.2) (in_left q a.0 a.1 h)))
     | inr (inl e) ↦ inr (ap (λ (z : Pair). z.kind) e)
-    | inr (inr h) ↦ inl (inr (subst (In q) (sym b.2) (in_right q b.0 b.1 h)))
+    | inr (inr h) ↦ inl (inr (subst (IsIn q) (sym b.2) (in_right q b.0 b.1 h)))
   ];
 }
   where
-    c : Coalesced (lefts ps) n s (lefts qs)
+    c : IsCoalesced (lefts ps) n s (lefts qs)
     c = coalesced (lefts ps) n s (lefts qs)
 
     m : ℕ
@@ -147,54 +151,59 @@ both_coalesced ps n s u qs = record {
     b = map_parts left qs c.first c.back c.at_back
 
 -- places on both sides: of the same pair, of which P holds, or none
-pub data SamePlace (P : Pair → Type 0) (p : List Pair) : Option Place → Option Place → Type 0 where
-  neither : SamePlace P p None None
-  both : (xs : List Pair) (q : Pair) (ys : List Pair) → p ≡ xs ++ q ∷ ys → P q → SamePlace P p (Some (record { before = lefts xs; block = left q; after = lefts ys })) (Some (record { before = rights xs; block = right q; after = rights ys }))
+pub data IsSamePlace (P : Pair → Type 0) (p : List Pair) : Option Place → Option Place → Type 0 where
+  neither : IsSamePlace P p None None
+  both : (xs : List Pair) (q : Pair) (ys : List Pair) → p ≡ xs ++ q ∷ ys → P q
+      → IsSamePlace P p (Some (record { before = lefts xs; block = left q; after = lefts ys })) (Some (record { before = rights xs; block = right q; after = rights ys }))
 
-same_later : (P : Pair → Type 0) (q : Pair) (p : List Pair) (o o' : Option Place) → SamePlace P p o o' → SamePlace P (q ∷ p) (option_map (prepend (left q)) o) (option_map (prepend (right q)) o')
+same_later : (P : Pair → Type 0) (q : Pair) (p : List Pair) (o o' : Option Place) → IsSamePlace P p o o' → IsSamePlace P (q ∷ p) (option_map (prepend (left q)) o) (option_map (prepend (right q)) o')
 same_later P q p None None neither = neither
 same_later P q p o o' (both xs x ys e f) = both (q ∷ xs) x ys (ap (λ l. q ∷ l) e) f
 
 -- the places of numbers that occur at the same pairs
-pub same_place_of : (k k' : ℕ) (p : List Pair) → ((q : Pair) → In q p → has_number k (left_tag q.kind) ≡ has_number k' (right_tag q.kind)) → SamePlace (λ q. Unit {0}) p (place_of k (lefts p)) (place_of k' (rights p))
+pub same_place_of : (k k' : ℕ) (p : List Pair) → ((q : Pair) → IsIn q p → has_number k (left_tag q.kind) ≡ has_number k' (right_tag q.kind))
+    → IsSamePlace (λ q. Unit {0}) p (place_of k (lefts p)) (place_of k' (rights p))
 same_place_of k k' [] same = neither
-same_place_of k k' (q ∷ p) same = if_same (SamePlace (λ q. Unit {0}) (q ∷ p)) _ _ _ _ _ _ (same q (inl refl)) (λ e. both [] q p refl tt) (same_later (λ q. Unit {0}) q p _ _ (same_place_of k k' p (λ x h. same x (inr h))))
+same_place_of k k' (q ∷ p) same = if_same (IsSamePlace (λ q. Unit {0}) (q ∷ p)) _ _ _ _ _ _ (same q (inl refl)) (λ e. both [] q p refl tt)
+    (same_later (λ q. Unit {0}) q p _ _ (same_place_of k k' p (λ x h. same x (inr h))))
 
 -- of two free pairs of one class, the stamps have the same order on both sides
-abbrev pub SameOrder : Kind → Kind → Type 0
-SameOrder (Frees s u) (Frees t v) = nat_lt s t ≡ nat_lt u v
-SameOrder (Frees s u) (Lives j k) = Unit {0}
-SameOrder (Lives j k) y = Unit {0}
+abbrev pub IsSameOrder : Kind → Kind → Type 0
+IsSameOrder (Frees s u) (Frees t v) = nat_lt s t ≡ nat_lt u v
+IsSameOrder (Frees s u) (Lives j k) = Unit {0}
+IsSameOrder (Lives j k) y = Unit {0}
 
 -- two pairs whose stamps have the same order, if they are of one class
-abbrev pub Agree : Pair → Pair → Type 0
-Agree a b = nat_eq (down a.size) (down b.size) ≡ true → SameOrder a.kind b.kind
+abbrev pub AreAgreed : Pair → Pair → Type 0
+AreAgreed a b = nat_eq (down a.size) (down b.size) ≡ true → IsSameOrder a.kind b.kind
 
 -- any two of these pairs agree
-abbrev pub AllAgree : List Pair → Type 0
-AllAgree p = (a b : Pair) → In a p → In b p → Agree a b
+abbrev pub AreAllAgreed : List Pair → Type 0
+AreAllAgreed p = (a b : Pair) → IsIn a p → IsIn b p → AreAgreed a b
 
 same_fits : (n : ℕ) (q : Pair) → fits n (left q) ≡ fits n (right q)
 same_fits n q = ap (λ b. b && nat_le (up n) (down q.size)) (same_free q.kind)
 
-same_tests : (x y : ℕ) (k l : Kind) → is_free (left_tag k) ≡ true → is_free (left_tag l) ≡ true → (nat_eq y x ≡ true → SameOrder l k)
+same_tests : (x y : ℕ) (k l : Kind) → is_free (left_tag k) ≡ true → is_free (left_tag l) ≡ true → (nat_eq y x ≡ true → IsSameOrder l k)
     → (nat_lt x y || (nat_eq x y && nat_lt (stamp (left_tag l)) (stamp (left_tag k)))) ≡ (nat_lt x y || (nat_eq x y && nat_lt (stamp (right_tag l)) (stamp (right_tag k))))
 same_tests x y (Frees s u) (Frees t v) f g h = ap (λ b. nat_lt x y || b) (same_and (nat_eq x y) _ _ (λ e. h (eq-eqb y x (sym (eqb-true x y e)))))
 same_tests x y (Frees s u) (Lives i j) f g h = absurd (false≢true g)
 same_tests x y (Lives i j) l f g h = absurd (false≢true f)
 
 -- of two pairs that are free and agree, the same one is chosen over the other on both sides
-same_test : (m : ℕ) (a b : Pair) → fits m (left a) ≡ true → fits m (left b) ≡ true → Agree b a → is_taken_before (left a) (left b) ≡ is_taken_before (right a) (right b)
+same_test : (m : ℕ) (a b : Pair) → fits m (left a) ≡ true → fits m (left b) ≡ true → AreAgreed b a → is_taken_before (left a) (left b) ≡ is_taken_before (right a) (right b)
 same_test m a b f g h = same_tests (down a.size) (down b.size) a.kind b.kind (and_parts _ _ f).0 (and_parts _ _ g).0 h
 
 -- what is chosen, where any two pairs agree
-choose_same : (n : ℕ) (q : Pair) (p : List Pair) (o o' : Option Place) → AllAgree (q ∷ p) → SamePlace (λ x. fits n (left x) ≡ true) p o o' → SamePlace (λ x. fits n (left x) ≡ true) (q ∷ p) (choose n (left q) (lefts p) o) (choose n (right q) (rights p) o')
-choose_same n q p None None agree neither = if_same (SamePlace _ (q ∷ p)) _ _ _ _ _ _ (same_fits n q) (λ e. both [] q p refl e) neither
-choose_same n q p o o' agree (both xs x ys e f) = if_same (SamePlace (λ x. fits n (left x) ≡ true) (q ∷ p)) _ _ _ _ _ _
-    (same_and (fits n (left q)) _ _ (λ g. same_test n q x g f (agree x q (inr (subst (In x) (sym e) (in_right x xs (x ∷ ys) (inl refl)))) (inl refl))) ∙ ap (λ b. b && is_taken_before (right q) (right x)) (same_fits n q))
+choose_same : (n : ℕ) (q : Pair) (p : List Pair) (o o' : Option Place) → AreAllAgreed (q ∷ p) → IsSamePlace (λ x. fits n (left x) ≡ true) p o o'
+    → IsSamePlace (λ x. fits n (left x) ≡ true) (q ∷ p) (choose n (left q) (lefts p) o) (choose n (right q) (rights p) o')
+choose_same n q p None None agree neither = if_same (IsSamePlace _ (q ∷ p)) _ _ _ _ _ _ (same_fits n q) (λ e. both [] q p refl e) neither
+choose_same n q p o o' agree (both xs x ys e f) = if_same (IsSamePlace (λ x. fits n (left x) ≡ true) (q ∷ p)) _ _ _ _ _ _
+    (same_and (fits n (left q)) _ _ (λ g. same_test n q x g f (agree x q (inr (subst (IsIn x) (sym e) (in_right x xs (x ∷ ys) (inl refl)))) (inl refl)))
+    ∙ ap (λ b. b && is_taken_before (right q) (right x)) (same_fits n q))
     (λ h. both [] q p refl (and_parts _ _ h).0) (both (q ∷ xs) x ys (ap (λ l. q ∷ l) e) f)
 
-pub same_chosen : (n : ℕ) (p : List Pair) → AllAgree p → SamePlace (λ x. fits n (left x) ≡ true) p (chosen_place n (lefts p)) (chosen_place n (rights p))
+pub same_chosen : (n : ℕ) (p : List Pair) → AreAllAgreed p → IsSamePlace (λ x. fits n (left x) ≡ true) p (chosen_place n (lefts p)) (chosen_place n (rights p))
 same_chosen n [] agree = neither
 same_chosen n (q ∷ p) agree = choose_same n q p _ _ agree (same_chosen n p (λ a b x y. agree a b (inr x) (inr y)))
 
@@ -211,7 +220,7 @@ pub rights_free_block : (n s u : ℕ) → rights (pair_free_block n (Frees s u))
 rights_free_block zero s u = refl
 rights_free_block (suc n) s u = refl
 
-pub in_free_block : (q : Pair) (n : ℕ) (k : Kind) → In q (pair_free_block n k) → q.kind ≡ k
+pub in_free_block : (q : Pair) (n : ℕ) (k : Kind) → IsIn q (pair_free_block n k) → q.kind ≡ k
 in_free_block q zero k h = absurd h
 in_free_block q (suc n) k (inl e) = ap (λ (z : Pair). z.kind) e
 in_free_block q (suc n) k (inr h) = absurd h
@@ -220,8 +229,8 @@ in_free_block q (suc n) k (inr h) = absurd h
 abbrev pub pairs_granted : List Pair → Pair → List Pair → ℕ → ℕ → Kind → Kind → Kind → List Pair
 pairs_granted xs q ys n padding front live rest = xs ++ (pair_free_block padding front ++ (pair n live ∷ (pair_free_block (q.size - (padding + n)) rest ++ ys)))
 
-pub in_granted : (x : Pair) (xs : List Pair) (q : Pair) (ys : List Pair) (n padding : ℕ) (front live rest : Kind) → In x (pairs_granted xs q ys n padding front live rest)
-    → In x (xs ++ q ∷ ys) ⊎ ((x.kind ≡ front) ⊎ (x.kind ≡ live) ⊎ (x.kind ≡ rest))
+pub in_granted : (x : Pair) (xs : List Pair) (q : Pair) (ys : List Pair) (n padding : ℕ) (front live rest : Kind) → IsIn x (pairs_granted xs q ys n padding front live rest)
+    → IsIn x (xs ++ q ∷ ys) ⊎ ((x.kind ≡ front) ⊎ (x.kind ≡ live) ⊎ (x.kind ≡ rest))
 in_granted x xs q ys n padding front live rest h = elim (in_append x xs (pair_free_block padding front ++ (pair n live ∷ (pair_free_block (q.size - (padding + n)) rest ++ ys))) h) [
   | inl a ↦ inl (in_left x xs _ a)
   | inr b ↦ elim (in_append x (pair_free_block padding front) (pair n live ∷ (pair_free_block (q.size - (padding + n)) rest ++ ys)) b) [

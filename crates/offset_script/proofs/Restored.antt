@@ -1,21 +1,23 @@
 -- A release after a grant, with a nest between them, restores the block that was split, as the newest of its class.
-use Rattle.std.proofs.Common.{◌≡◌, ℕ, ◌+◌, ◌-◌, ◌<◌, ◌≤◌, true, false, ◌&&◌, ◌||◌, ◌⊎◌, List, [], ◌∷◌, ◌++◌, Some, nat_eq, nat_lt, nat_le, refl, sym, ap, ap₂, subst, subst₂, ◌∙◌, inl, inr, arith, append_assoc, eqb-true, eq-eqb, lt-ltb, le-ltb}
+use Rattle.std.proofs.Common.{◌≡◌, ℕ, ◌+◌, ◌-◌, ◌<◌, ◌≤◌, true, false, ◌&&◌, ◌||◌, ◌⊎◌, List, [], ◌∷◌, ◌++◌, Some, nat_eq, nat_lt, nat_le, refl, sym, ap, ap₂, subst, subst₂, ◌∙◌, inl, inr, arith}
+use Rattle.std.proofs.Common.{append_assoc, eqb-true, eq-eqb, lt-ltb, le-ltb}
 use Rattle.offset_allocator.proofs.ViewApart.{left_false, right_false}
 use Rattle.std.proofs.lemmas.List.{map-append}
 use Rattle.std.proofs.lemmas.Bool.{cases_eq, false≢true, and_parts}
 use Rattle.std.proofs.lemmas.Bool.Decides.{nat_tests}
 use Rattle.offset_allocator.specs.Classes.{up, down}
 use Rattle.offset_script.specs.Machine.{Tag, Live, Free, Block, block, is_free, has_number, stamp, total, Place, fits, place_of, free_block, coalesce, State, stamp_of_call, stamp_of_padding}
-use Rattle.offset_script.proofs.Members.{In, in_append, in_left, in_right, in_map, map_parts, map_first}
-use Rattle.offset_script.proofs.Pairs.{Kind, Lives, Frees, Pair, pair, left_tag, right_tag, left, right, lefts, rights, same_total, same_end, same_start, Agree, AllAgree, SameOrder}
-use Rattle.offset_script.proofs.Well.{Well, not_there, whole, count, hit, hit_self, in_count, count-append, count_free_block, starts_free, ends_free, Apart, apart_parts, IsEnd, IsStart, end_of, start_of, coalesce_parts, free_part, place_at, IsBest, granted_blocks}
-use Rattle.offset_script.proofs.Similar.{SameNumber, Similar}
+use Rattle.offset_script.proofs.Members.{IsIn, in_append, in_left, in_right, in_map, map_parts, map_first}
+use Rattle.offset_script.proofs.Pairs.{Kind, Lives, Frees, Pair, pair, left_tag, right_tag, left, right, lefts, rights, same_total, same_end, same_start, AreAgreed, AreAllAgreed, IsSameOrder}
+use Rattle.offset_script.proofs.Well.{IsWell, not_there, whole, count, hit, hit_self, in_count, count-append, count_free_block, starts_free, ends_free, AreApart, apart_parts, IsEnd, IsStart, end_of}
+use Rattle.offset_script.proofs.Well.{start_of, coalesce_parts, free_part, place_at, IsBest, granted_blocks}
+use Rattle.offset_script.proofs.Similar.{HasSameNumber, AreSimilar}
 
-same_hit : (k : ℕ) (q : Kind) → SameNumber q → hit (Live k) (left_tag q) ≡ hit (Live k) (right_tag q)
+same_hit : (k : ℕ) (q : Kind) → HasSameNumber q → hit (Live k) (left_tag q) ≡ hit (Live k) (right_tag q)
 same_hit k (Lives i j) e = ap (λ x. hit (Live k) (Live x)) e
 same_hit k (Frees s u) e = refl
 
-same_count : (k : ℕ) (p : List Pair) → ((q : Pair) → In q p → SameNumber q.kind) → count (Live k) (lefts p) ≡ count (Live k) (rights p)
+same_count : (k : ℕ) (p : List Pair) → ((q : Pair) → IsIn q p → HasSameNumber q.kind) → count (Live k) (lefts p) ≡ count (Live k) (rights p)
 same_count k [] h = refl
 same_count k (q ∷ p) h = ap₂ (λ m n. m + n) (same_hit k q.kind (h q (inl refl))) (same_count k p (λ x i. h x (inr i)))
 
@@ -26,11 +28,11 @@ not_after x y s u f e = grind (arith, nat_tests)
 fits_too : (n : ℕ) (q : ℕ) (t : Tag) (b : Block) → is_free t ≡ true → nat_eq (down q) (down b.size) ≡ true → fits n b ≡ true → fits n (block q t) ≡ true
 fits_too n q t b f e g = ap₂ (λ x y. x && nat_le (up n) y) f (eqb-true _ _ e) ∙ (and_parts (is_free b.tag) _ g).1
 
-older : (s : State) → Well s → (p : Place) (n u : ℕ) → s.blocks ≡ whole p → p.block.tag ≡ Free u → fits n p.block ≡ true → IsBest n s.blocks p.block
-    → (z t : ℕ) → In (block z (Free t)) p.before ⊎ In (block z (Free t)) p.after → nat_eq (down z) (down p.block.size) ≡ true → t < u
+older : (s : State) → IsWell s → (p : Place) (n u : ℕ) → s.blocks ≡ whole p → p.block.tag ≡ Free u → fits n p.block ≡ true → IsBest n s.blocks p.block
+    → (z t : ℕ) → IsIn (block z (Free t)) p.before ⊎ IsIn (block z (Free t)) p.after → nat_eq (down z) (down p.block.size) ≡ true → t < u
 older s w p n u e tag f best z t i same =
     let c : Block = block z (Free t) in
-    let present : In c s.blocks = subst (In c) (sym e) (in_whole i) in
+    let present : IsIn c s.blocks = subst (IsIn c) (sym e) (in_whole i) in
     let taken = best c present (fits_too n z (Free t) p.block refl same f) in
     let le : t ≤ stamp p.block.tag = not_after (down z) (down p.block.size) t (stamp p.block.tag) taken same in
     let le_u : t ≤ u = subst (λ x. t ≤ x) (ap stamp tag) le in
@@ -39,11 +41,11 @@ older s w p n u e tag f best z t i same =
       | inr differ ↦ omega (arith, le_u, differ)
     ]
   where
-    in_whole : In (block z (Free t)) p.before ⊎ In (block z (Free t)) p.after → In (block z (Free t)) (whole p)
+    in_whole : IsIn (block z (Free t)) p.before ⊎ IsIn (block z (Free t)) p.after → IsIn (block z (Free t)) (whole p)
     in_whole (inl h) = in_left _ p.before _ h
     in_whole (inr h) = in_right _ p.before _ (inr h)
 
-    elsewhere : In (block z (Free t)) p.before ⊎ In (block z (Free t)) p.after → 1 ≤ count (Free t) p.before + count (Free t) p.after
+    elsewhere : IsIn (block z (Free t)) p.before ⊎ IsIn (block z (Free t)) p.after → 1 ≤ count (Free t) p.before + count (Free t) p.after
     elsewhere (inl h) = let l = in_count _ p.before h in omega arith
     elsewhere (inr h) = let l = in_count _ p.after h in omega arith
 
@@ -55,9 +57,10 @@ older s w p n u e tag f best z t i same =
         omega (arith, own, l, o, ap (count (Free t)) e, count-append (Free t) p.before (p.block ∷ p.after))
 
 rights_parts : (xs fs : List Pair) (l : Pair) (rs ys : List Pair) → rights (xs ++ (fs ++ (l ∷ (rs ++ ys)))) ≡ (rights xs ++ rights fs) ++ right l ∷ (rights rs ++ rights ys)
-rights_parts xs fs l rs ys = map-append right xs _ ∙ ap (λ z. rights xs ++ z) (map-append right fs _ ∙ ap (λ z. rights fs ++ right l ∷ z) (map-append right rs ys)) ∙ sym (append_assoc (rights xs) (rights fs) _)
+rights_parts xs fs l rs ys = map-append right xs _ ∙ ap (λ z. rights xs ++ z) (map-append right fs _ ∙ ap (λ z. rights fs ++ right l ∷ z) (map-append right rs ys))
+    ∙ sym (append_assoc (rights xs) (rights fs) _)
 
-live_number : (q : Kind) (k : ℕ) → left_tag q ≡ Live k → SameNumber q → has_number k (right_tag q) ≡ true
+live_number : (q : Kind) (k : ℕ) → left_tag q ≡ Live k → HasSameNumber q → has_number k (right_tag q) ≡ true
 live_number (Lives i j) k e m = eq-eqb k j (number i k e ∙ m)
   where
     number : (i k : ℕ) → Live i ≡ Live k → k ≡ i
@@ -67,10 +70,10 @@ live_number (Frees s u) k e m = absurd (grind (arith, e))
 -- The pairs before the grant and after the release: the others, and the block itself with its old stamp and its new
 -- one.
 similar_restored : (ps : List Pair) (before after : List Pair) (z u v : ℕ)
-    → ((q : Pair) → In q before ⊎ In q after → In q ps)
-    → ((q : Pair) → In q ps → SameNumber q.kind) → AllAgree ps
-    → ((q : Pair) (s t : ℕ) → In q before ⊎ In q after → q.kind ≡ Frees s t → nat_eq (down q.size) (down z) ≡ true → (s < u) × (t < v))
-    → Similar (lefts before ++ block z (Free u) ∷ lefts after) (rights before ++ block z (Free v) ∷ rights after)
+    → ((q : Pair) → IsIn q before ⊎ IsIn q after → IsIn q ps)
+    → ((q : Pair) → IsIn q ps → HasSameNumber q.kind) → AreAllAgreed ps
+    → ((q : Pair) (s t : ℕ) → IsIn q before ⊎ IsIn q after → q.kind ≡ Frees s t → nat_eq (down q.size) (down z) ≡ true → (s < u) × (t < v))
+    → AreSimilar (lefts before ++ block z (Free u) ∷ lefts after) (rights before ++ block z (Free v) ∷ rights after)
 similar_restored ps before after z u v old numbers agree newest = record {
   pairs = before ++ pair z (Frees u v) ∷ after;
   left_blocks = sym (map-append left before _);
@@ -79,50 +82,63 @@ similar_restored ps before after z u v old numbers agree newest = record {
   agree = λ a b i j. ordered a b (which a i) (which b j);
 }
   where
-    which : (q : Pair) → In q (before ++ pair z (Frees u v) ∷ after) → (In q before ⊎ In q after) ⊎ (q ≡ pair z (Frees u v))
+    which : (q : Pair) → IsIn q (before ++ pair z (Frees u v) ∷ after) → (IsIn q before ⊎ IsIn q after) ⊎ (q ≡ pair z (Frees u v))
     which q i = elim (in_append q before _ i) [ inl h ↦ inl (inl h) | inr (inl e) ↦ inr e | inr (inr h) ↦ inl (inr h) ]
 
-    number : (q : Pair) → (In q before ⊎ In q after) ⊎ (q ≡ pair z (Frees u v)) → SameNumber q.kind
+    number : (q : Pair) → (IsIn q before ⊎ IsIn q after) ⊎ (q ≡ pair z (Frees u v)) → HasSameNumber q.kind
     number q (inl h) = numbers q (old q h)
-    number q (inr e) = subst (λ (x : Pair). SameNumber x.kind) (sym e) tt
+    number q (inr e) = subst (λ (x : Pair). HasSameNumber x.kind) (sym e) tt
 
-    before_new : (q : Pair) (k : Kind) → q.kind ≡ k → In q before ⊎ In q after → nat_eq (down q.size) (down z) ≡ true → SameOrder k (Frees u v)
+    before_new : (q : Pair) (k : Kind) → q.kind ≡ k → IsIn q before ⊎ IsIn q after → nat_eq (down q.size) (down z) ≡ true → IsSameOrder k (Frees u v)
     before_new q (Lives i j) e h same = tt
     before_new q (Frees s t) e h same = let n = newest q s t h e same in lt-ltb s u n.0 ∙ sym (lt-ltb t v n.1)
 
-    after_new : (q : Pair) (k : Kind) → q.kind ≡ k → In q before ⊎ In q after → nat_eq (down z) (down q.size) ≡ true → SameOrder (Frees u v) k
+    after_new : (q : Pair) (k : Kind) → q.kind ≡ k → IsIn q before ⊎ IsIn q after → nat_eq (down z) (down q.size) ≡ true → IsSameOrder (Frees u v) k
     after_new q (Lives i j) e h same = tt
     after_new q (Frees s t) e h same = let n = newest q s t h e (eq-eqb _ _ (sym (eqb-true _ _ same))) in le-ltb u s (omega (arith, n.0)) ∙ sym (le-ltb v t (omega (arith, n.1)))
 
-    ordered : (a b : Pair) → (In a before ⊎ In a after) ⊎ (a ≡ pair z (Frees u v)) → (In b before ⊎ In b after) ⊎ (b ≡ pair z (Frees u v)) → Agree a b
+    ordered : (a b : Pair) → (IsIn a before ⊎ IsIn a after) ⊎ (a ≡ pair z (Frees u v)) → (IsIn b before ⊎ IsIn b after) ⊎ (b ≡ pair z (Frees u v)) → AreAgreed a b
     ordered a b (inl h) (inl i) = agree a b (old a h) (old b i)
-    ordered a b (inl h) (inr e) = subst (Agree a) (sym e) (λ same. before_new a a.kind refl h same)
-    ordered a b (inr e) (inl h) = subst (λ x. Agree x b) (sym e) (λ same. after_new b b.kind refl h same)
-    ordered a b (inr e) (inr f) = subst₂ Agree (sym e) (sym f) (λ same. le-ltb u u (omega arith) ∙ sym (le-ltb v v (omega arith)))
+    ordered a b (inl h) (inr e) = subst (AreAgreed a) (sym e) (λ same. before_new a a.kind refl h same)
+    ordered a b (inr e) (inl h) = subst (λ x. AreAgreed x b) (sym e) (λ same. after_new b b.kind refl h same)
+    ordered a b (inr e) (inr f) = subst₂ AreAgreed (sym e) (sym f) (λ same. le-ltb u u (omega arith) ∙ sym (le-ltb v v (omega arith)))
 
 -- The release finds the grant, and leaves a list like the one before the grant.
-pub record Restored (s : State) (t : State) : Type 0 where
+pub record IsRestored (s : State) (t : State) : Type 0 where
   pub place : Place
   pub found : place_of (s.grants + 1) t.blocks ≡ Some place
-  pub similar : Similar s.blocks (coalesce place.before place.block.size (stamp_of_call t) place.after)
+  pub similar : AreSimilar s.blocks (coalesce place.before place.block.size (stamp_of_call t) place.after)
 
 free_stamp : (t : Tag) → is_free t ≡ true → t ≡ Free (stamp t)
 free_stamp (Free s) e = refl
 free_stamp (Live k) e = absurd (false≢true e)
 
-none_in_all : (s : State) → Well s → (k : ℕ) (xs : List Block) (b : Block) (ys : List Block) → s.blocks ≡ xs ++ b ∷ ys → s.grants < k → (before padding_bit : List Pair) (padding front : ℕ) → lefts before ≡ xs → lefts padding_bit ≡ free_block padding front
-    → ((q : Pair) → In q before → SameNumber q.kind) → ((q : Pair) → In q padding_bit → SameNumber q.kind) → count (Live k) (rights before ++ rights padding_bit) ≡ 0
+none_in_all : (s : State) → IsWell s → (k : ℕ) (xs : List Block) (b : Block) (ys : List Block) → s.blocks ≡ xs ++ b ∷ ys → s.grants < k → (before padding_bit : List Pair) (padding front : ℕ)
+    → lefts before ≡ xs → lefts padding_bit ≡ free_block padding front
+    → ((q : Pair) → IsIn q before → HasSameNumber q.kind) → ((q : Pair) → IsIn q padding_bit → HasSameNumber q.kind) → count (Live k) (rights before ++ rights padding_bit) ≡ 0
 none_in_all s w k xs b ys e l before padding_bit padding front on_before on_padding n m =
     let all = not_there s w (Live k) (λ o. absurd (let m = o.1 in omega arith)) in
     let free : count (Live k) (free_block padding front) ≤ 0 = count_free_block (Live k) padding front in
-    omega (arith, all, free, ap (count (Live k)) e, count-append (Live k) xs (b ∷ ys), count-append (Live k) (rights before) (rights padding_bit), same_count k before n, same_count k padding_bit m, ap (count (Live k)) on_before, ap (count (Live k)) on_padding)
+    omega (
+      arith,
+      all,
+      free,
+      ap (count (Live k)) e,
+      count-append (Live k) xs (b ∷ ys),
+      count-append (Live k) (rights before) (rights padding_bit),
+      same_count k before n,
+      same_count k padding_bit m,
+      ap
+          (count (Live k)) on_before,
+      ap (count (Live k)) on_padding,
+    )
 
-pub restored : (s : State) → Well s → (p : Place) (needed n padding : ℕ) → s.blocks ≡ whole p → fits needed p.block ≡ true → IsBest needed s.blocks p.block → padding + n ≤ p.block.size
-    → (t : State) → Well t → Similar (granted_blocks p n padding (stamp_of_padding s) (s.grants + 1) (stamp_of_call s)) t.blocks → Restored s t
+pub restored : (s : State) → IsWell s → (p : Place) (needed n padding : ℕ) → s.blocks ≡ whole p → fits needed p.block ≡ true → IsBest needed s.blocks p.block → padding + n ≤ p.block.size
+    → (t : State) → IsWell t → AreSimilar (granted_blocks p n padding (stamp_of_padding s) (s.grants + 1) (stamp_of_call s)) t.blocks → IsRestored s t
 restored s w p needed n padding e f best enough t v m = record {
   place = record { before = rights a.0 ++ rights b.0; block = right c.0; after = rights d.0 ++ rights d.1 };
   found = ap (place_of (s.grants + 1)) blocks ∙ place_at (s.grants + 1) _ (right c.0) _ none_before (live_number c.0.kind (s.grants + 1) (ap (λ (b : Block). b.tag) c.3) (m.numbers c.0 live_in));
-  similar = subst₂ Similar left_side (sym right_side) (similar_restored m.pairs a.0 d.1 z (stamp p.block.tag) (stamp_of_call t) old m.numbers m.agree newest);
+  similar = subst₂ AreSimilar left_side (sym right_side) (similar_restored m.pairs a.0 d.1 z (stamp p.block.tag) (stamp_of_call t) old m.numbers m.agree newest);
 }
   where
     z : ℕ
@@ -132,7 +148,8 @@ restored s w p needed n padding e f best enough t v m = record {
     rest = free_block (z - (padding + n)) (stamp_of_call s)
 
     -- the pairs after the grant, one part after the other
-    a : (front : List Pair) × (back : List Pair) × (m.pairs ≡ front ++ back) × (lefts front ≡ p.before) × (lefts back ≡ free_block padding (stamp_of_padding s) ++ (block n (Live (s.grants + 1)) ∷ (rest ++ p.after)))
+    a : (front : List Pair) × (back : List Pair) × (m.pairs ≡ front ++ back) × (lefts front ≡ p.before)
+        × (lefts back ≡ free_block padding (stamp_of_padding s) ++ (block n (Live (s.grants + 1)) ∷ (rest ++ p.after)))
     a = map_parts left m.pairs p.before (free_block padding (stamp_of_padding s) ++ (block n (Live (s.grants + 1)) ∷ (rest ++ p.after))) (sym m.left_blocks)
 
     b : (front : List Pair) × (back : List Pair) × (a.1 ≡ front ++ back) × (lefts front ≡ free_block padding (stamp_of_padding s)) × (lefts back ≡ block n (Live (s.grants + 1)) ∷ (rest ++ p.after))
@@ -150,12 +167,12 @@ restored s w p needed n padding e f best enough t v m = record {
     blocks : t.blocks ≡ (rights a.0 ++ rights b.0) ++ right c.0 ∷ (rights d.0 ++ rights d.1)
     blocks = m.right_blocks ∙ ap rights parts_whole ∙ rights_parts a.0 b.0 c.0 d.0 d.1
 
-    live_in : In c.0 m.pairs
-    live_in = subst (In c.0) (sym parts_whole) (in_right c.0 a.0 (b.0 ++ (c.0 ∷ (d.0 ++ d.1))) (in_right c.0 b.0 (c.0 ∷ (d.0 ++ d.1)) (inl refl)))
+    live_in : IsIn c.0 m.pairs
+    live_in = subst (IsIn c.0) (sym parts_whole) (in_right c.0 a.0 (b.0 ++ (c.0 ∷ (d.0 ++ d.1))) (in_right c.0 b.0 (c.0 ∷ (d.0 ++ d.1)) (inl refl)))
 
-    old : (q : Pair) → In q a.0 ⊎ In q d.1 → In q m.pairs
-    old q (inl i) = subst (In q) (sym parts_whole) (in_left q a.0 (b.0 ++ (c.0 ∷ (d.0 ++ d.1))) i)
-    old q (inr i) = subst (In q) (sym parts_whole) (in_right q a.0 (b.0 ++ (c.0 ∷ (d.0 ++ d.1))) (in_right q b.0 (c.0 ∷ (d.0 ++ d.1)) (inr (in_right q d.0 d.1 i))))
+    old : (q : Pair) → IsIn q a.0 ⊎ IsIn q d.1 → IsIn q m.pairs
+    old q (inl i) = subst (IsIn q) (sym parts_whole) (in_left q a.0 (b.0 ++ (c.0 ∷ (d.0 ++ d.1))) i)
+    old q (inr i) = subst (IsIn q) (sym parts_whole) (in_right q a.0 (b.0 ++ (c.0 ∷ (d.0 ++ d.1))) (in_right q b.0 (c.0 ∷ (d.0 ++ d.1)) (inr (in_right q d.0 d.1 i))))
 
     free : is_free p.block.tag ≡ true
     free = (and_parts (is_free p.block.tag) (nat_le (up needed) (down p.block.size)) f).0
@@ -163,8 +180,8 @@ restored s w p needed n padding e f best enough t v m = record {
     tag : p.block.tag ≡ Free (stamp p.block.tag)
     tag = free_stamp p.block.tag free
 
-    apart : Apart p.before × (((is_free p.block.tag && starts_free p.after) ≡ false) × Apart p.after) × ((ends_free p.before && is_free p.block.tag) ≡ false)
-    apart = apart_parts p.before (p.block ∷ p.after) (subst Apart e w.apart)
+    apart : AreApart p.before × (((is_free p.block.tag && starts_free p.after) ≡ false) × AreApart p.after) × ((ends_free p.before && is_free p.block.tag) ≡ false)
+    apart = apart_parts p.before (p.block ∷ p.after) (subst AreApart e w.apart)
 
     ends : IsEnd (rights a.0) (rights b.0)
     ends = same_end a.0 b.0 (subst₂ IsEnd (sym a.3) (sym b.3)
@@ -184,18 +201,18 @@ restored s w p needed n padding e f best enough t v m = record {
 
     none_before : count (Live (s.grants + 1)) (rights a.0 ++ rights b.0) ≡ 0
     none_before = none_in_all s w (s.grants + 1) p.before p.block p.after e (omega arith) a.0 b.0 padding (stamp_of_padding s) a.3 b.3
-        (λ q i. m.numbers q (old q (inl i))) (λ q i. m.numbers q (subst (In q) (sym parts_whole) (in_right q a.0 (b.0 ++ (c.0 ∷ (d.0 ++ d.1))) (in_left q b.0 (c.0 ∷ (d.0 ++ d.1)) i))))
+        (λ q i. m.numbers q (old q (inl i))) (λ q i. m.numbers q (subst (IsIn q) (sym parts_whole) (in_right q a.0 (b.0 ++ (c.0 ∷ (d.0 ++ d.1))) (in_left q b.0 (c.0 ∷ (d.0 ++ d.1)) i))))
 
-    below : (q : Pair) (y : ℕ) → In q m.pairs → right_tag q.kind ≡ Free y → y < stamp_of_call t
+    below : (q : Pair) (y : ℕ) → IsIn q m.pairs → right_tag q.kind ≡ Free y → y < stamp_of_call t
     below q y i k = let c = subst (λ x. 1 ≤ count x t.blocks) k (subst (λ bs. 1 ≤ count (right_tag q.kind) bs) (sym m.right_blocks) (in_count (right q) (rights m.pairs) (in_map right q m.pairs i))) in
         let o = v.old (Free y) c in omega arith
 
-    newest : (q : Pair) (x y : ℕ) → In q a.0 ⊎ In q d.1 → q.kind ≡ Frees x y → nat_eq (down q.size) (down z) ≡ true → (x < stamp p.block.tag) × (y < stamp_of_call t)
+    newest : (q : Pair) (x y : ℕ) → IsIn q a.0 ⊎ IsIn q d.1 → q.kind ≡ Frees x y → nat_eq (down q.size) (down z) ≡ true → (x < stamp p.block.tag) × (y < stamp_of_call t)
     newest q x y i k same = (older s w p needed (stamp p.block.tag) e tag f best q.size x (stood i) same, below q y (old q i) (ap right_tag k))
       where
-        own : (bs : List Block) → In (left q) bs → In (block q.size (Free x)) bs
-        own bs h = subst (λ c. In (block q.size c) bs) (ap left_tag k) h
+        own : (bs : List Block) → IsIn (left q) bs → IsIn (block q.size (Free x)) bs
+        own bs h = subst (λ c. IsIn (block q.size c) bs) (ap left_tag k) h
 
-        stood : In q a.0 ⊎ In q d.1 → In (block q.size (Free x)) p.before ⊎ In (block q.size (Free x)) p.after
-        stood (inl h) = inl (own p.before (subst (In (left q)) a.3 (in_map left q a.0 h)))
-        stood (inr h) = inr (own p.after (subst (In (left q)) d.4 (in_map left q d.1 h)))
+        stood : IsIn q a.0 ⊎ IsIn q d.1 → IsIn (block q.size (Free x)) p.before ⊎ IsIn (block q.size (Free x)) p.after
+        stood (inl h) = inl (own p.before (subst (IsIn (left q)) a.3 (in_map left q a.0 h)))
+        stood (inr h) = inr (own p.after (subst (IsIn (left q)) d.4 (in_map left q d.1 h)))

@@ -6,50 +6,50 @@ use Rattle.std.proofs.Math.ListN.{get_or-map}
 use Rattle.offset_allocator.specs.Classes.{down}
 use Rattle.offset_script.specs.Machine.{Tag, Live, Free, Block, block, is_free, stamp}
 use Rattle.offset_script.specs.Histories.{holder, outline}
-use Rattle.offset_script.proofs.Members.{In}
-use Rattle.offset_script.proofs.Pairs.{Kind, Lives, Frees, Pair, pair, left_tag, right_tag, left, right, lefts, rights, Agree, AllAgree, SameOrder}
+use Rattle.offset_script.proofs.Members.{IsIn}
+use Rattle.offset_script.proofs.Pairs.{Kind, Lives, Frees, Pair, pair, left_tag, right_tag, left, right, lefts, rights, AreAgreed, AreAllAgreed, IsSameOrder}
 
 -- a live pair has one number
-abbrev pub SameNumber : Kind → Type 0
-SameNumber (Lives i j) = i ≡ j
-SameNumber (Frees s u) = Unit {0}
+abbrev pub HasSameNumber : Kind → Type 0
+HasSameNumber (Lives i j) = i ≡ j
+HasSameNumber (Frees s u) = Unit {0}
 
 -- two lists of blocks of the same sizes and numbers
-pub record Paired (bs cs : List Block) : Type 0 where
+pub record ArePaired (bs cs : List Block) : Type 0 where
   pub pairs : List Pair
   pub left_blocks : bs ≡ lefts pairs
   pub right_blocks : cs ≡ rights pairs
-  pub numbers : (q : Pair) → In q pairs → SameNumber q.kind
+  pub numbers : (q : Pair) → IsIn q pairs → HasSameNumber q.kind
 
-paired_tag : (t u : Tag) → holder t ≡ holder u → (k : Kind) × (t ≡ left_tag k) × (u ≡ right_tag k) × SameNumber k
+paired_tag : (t u : Tag) → holder t ≡ holder u → (k : Kind) × (t ≡ left_tag k) × (u ≡ right_tag k) × HasSameNumber k
 paired_tag (Live i) (Live j) e = (Lives i j, refl, refl, same_some i j e)
 paired_tag (Live i) (Free s) e = absurd (grind (arith, e))
 paired_tag (Free s) (Live i) e = absurd (grind (arith, e))
 paired_tag (Free s) (Free u) e = (Frees s u, refl, refl, tt)
 
-paired_cons : (b c : Block) (bs cs : List Block) → ◌≡◌ {A = ℕ × Option ℕ} (b.size, holder b.tag) (c.size, holder c.tag) → Paired bs cs → Paired (b ∷ bs) (c ∷ cs)
+paired_cons : (b c : Block) (bs cs : List Block) → ◌≡◌ {A = ℕ × Option ℕ} (b.size, holder b.tag) (c.size, holder c.tag) → ArePaired bs cs → ArePaired (b ∷ bs) (c ∷ cs)
 paired_cons b c bs cs e p =
     let t = paired_tag b.tag c.tag (ap (λ (x : ℕ × Option ℕ). x.1) e) in
     record {
       pairs = pair b.size t.0 ∷ p.pairs;
       left_blocks = ap₂ (λ t l. block b.size t ∷ l) t.1 p.left_blocks;
       right_blocks = ap₂ (λ (x : Block) l. x ∷ l) (ap₂ block (ap (λ (x : ℕ × Option ℕ). x.0) (sym e)) t.2) p.right_blocks;
-      numbers = λ q i. elim i [ inl h ↦ subst (λ (x : Pair). SameNumber x.kind) (sym h) t.3 | inr h ↦ p.numbers q h ];
+      numbers = λ q i. elim i [ inl h ↦ subst (λ (x : Pair). HasSameNumber x.kind) (sym h) t.3 | inr h ↦ p.numbers q h ];
     }
 
-pub paired : (bs cs : List Block) → outline bs ≡ outline cs → Paired bs cs
+pub paired : (bs cs : List Block) → outline bs ≡ outline cs → ArePaired bs cs
 paired [] [] e = record { pairs = []; left_blocks = refl; right_blocks = refl; numbers = λ q i. absurd i }
 paired [] (c ∷ cs) e = absurd (cc)
 paired (b ∷ bs) [] e = absurd (cc)
 paired (b ∷ bs) (c ∷ cs) e = paired_cons b c bs cs (cc) (paired bs cs (cc))
 
 -- two lists that differ only in stamps, which have the same order in each class
-pub record Similar (bs cs : List Block) : Type 0 where
+pub record AreSimilar (bs cs : List Block) : Type 0 where
   pub pairs : List Pair
   pub left_blocks : bs ≡ lefts pairs
   pub right_blocks : cs ≡ rights pairs
-  pub numbers : (q : Pair) → In q pairs → SameNumber q.kind
-  pub agree : AllAgree pairs
+  pub numbers : (q : Pair) → IsIn q pairs → HasSameNumber q.kind
+  pub agree : AreAllAgreed pairs
 
 -- the block at a place, or a live one past the end
 abbrev at : ℕ → List Block → Block
@@ -63,7 +63,8 @@ record IsOrdered (bs cs : List Block) : Type 0 where
 
 module _ (bs cs : List Block) (e : outline bs ≡ outline cs) (i : ℕ) where
   shape_same : ◌≡◌ {A = ℕ × Option ℕ} ((at i bs).size, holder (at i bs).tag) ((at i cs).size, holder (at i cs).tag)
-  shape_same = sym (get_or-map (λ (b : Block). (b.size, holder b.tag)) bs i (block 0 (Live 0))) ∙ ap (λ o. get_or o i (0, Some 0)) e ∙ get_or-map (λ (b : Block). (b.size, holder b.tag)) cs i (block 0 (Live 0))
+  shape_same = sym (get_or-map (λ (b : Block). (b.size, holder b.tag)) bs i (block 0 (Live 0))) ∙ ap (λ o. get_or o i (0, Some 0)) e
+      ∙ get_or-map (λ (b : Block). (b.size, holder b.tag)) cs i (block 0 (Live 0))
 
   size_same : (at i bs).size ≡ (at i cs).size
   size_same = ap (λ (x : ℕ × Option ℕ). x.0) shape_same
@@ -79,35 +80,35 @@ module _ (bs cs : List Block) (e : outline bs ≡ outline cs) (i : ℕ) where
 abbrev pair_at : ℕ → List Pair → Pair
 pair_at i p = get_or p i (pair 0 (Lives 0 0))
 
-in_at : (i : ℕ) (p : List Pair) → is_free (left_tag (pair_at i p).kind) ≡ true → In (pair_at i p) p
+in_at : (i : ℕ) (p : List Pair) → is_free (left_tag (pair_at i p).kind) ≡ true → IsIn (pair_at i p) p
 in_at i [] f = absurd (false≢true f)
 in_at zero (q ∷ p) f = inl refl
 in_at (suc i) (q ∷ p) f = inr (in_at i p f)
 
-at_in : (q : Pair) (p : List Pair) → In q p → (i : ℕ) × (pair_at i p ≡ q)
+at_in : (q : Pair) (p : List Pair) → IsIn q p → (i : ℕ) × (pair_at i p ≡ q)
 at_in q [] h = absurd h
 at_in q (x ∷ p) (inl e) = (0, sym e)
 at_in q (x ∷ p) (inr h) = let r = at_in q p h in (suc r.0, r.1)
 
 -- the order of stamps of two pairs
-abbrev InOrder : Kind → Kind → Type 0
-InOrder k l = nat_lt (stamp (left_tag k)) (stamp (left_tag l)) ≡ nat_lt (stamp (right_tag k)) (stamp (right_tag l))
+abbrev IsInOrder : Kind → Kind → Type 0
+IsInOrder k l = nat_lt (stamp (left_tag k)) (stamp (left_tag l)) ≡ nat_lt (stamp (right_tag k)) (stamp (right_tag l))
 
-in_order : (k l : Kind) → is_free (left_tag k) ≡ true → is_free (left_tag l) ≡ true → SameOrder k l → InOrder k l
+in_order : (k l : Kind) → is_free (left_tag k) ≡ true → is_free (left_tag l) ≡ true → IsSameOrder k l → IsInOrder k l
 in_order (Frees s u) (Frees t v) f g h = h
 in_order (Frees s u) (Lives i j) f g h = absurd (false≢true g)
 in_order (Lives i j) l f g h = absurd (false≢true f)
 
-same_order : (k l : Kind) → (is_free (left_tag k) ≡ true → is_free (left_tag l) ≡ true → InOrder k l) → SameOrder k l
+same_order : (k l : Kind) → (is_free (left_tag k) ≡ true → is_free (left_tag l) ≡ true → IsInOrder k l) → IsSameOrder k l
 same_order (Frees s u) (Frees t v) h = h refl refl
 same_order (Frees s u) (Lives i j) h = tt
 same_order (Lives i j) l h = tt
 
-same_outline : (p : List Pair) → ((q : Pair) → In q p → SameNumber q.kind) → outline (lefts p) ≡ outline (rights p)
+same_outline : (p : List Pair) → ((q : Pair) → IsIn q p → HasSameNumber q.kind) → outline (lefts p) ≡ outline (rights p)
 same_outline [] h = refl
 same_outline (q ∷ p) h = ap₂ (λ x (o : List (ℕ × Option ℕ)). (q.size, x) ∷ o) (held q.kind (h q (inl refl))) (same_outline p (λ x i. h x (inr i)))
   where
-    held : (k : Kind) → SameNumber k → holder (left_tag k) ≡ holder (right_tag k)
+    held : (k : Kind) → HasSameNumber k → holder (left_tag k) ≡ holder (right_tag k)
     held (Lives i j) e = ap Some e
     held (Frees s u) e = refl
 
@@ -119,10 +120,10 @@ module _ (bs cs : List Block) (p : List Pair) (l : bs ≡ lefts p) (r : cs ≡ r
   right_at : (i : ℕ) → at i cs ≡ right (pair_at i p)
   right_at i = ap (at i) r ∙ get_or-map right p i (pair 0 (Lives 0 0))
 
-  order_at : (i j : ℕ) → nat_lt (stamp (at i bs).tag) (stamp (at j bs).tag) ≡ nat_lt (stamp (at i cs).tag) (stamp (at j cs).tag) → InOrder (pair_at i p).kind (pair_at j p).kind
+  order_at : (i j : ℕ) → nat_lt (stamp (at i bs).tag) (stamp (at j bs).tag) ≡ nat_lt (stamp (at i cs).tag) (stamp (at j cs).tag) → IsInOrder (pair_at i p).kind (pair_at j p).kind
   order_at i j h = sym (ap₂ (λ (x y : Block). nat_lt (stamp x.tag) (stamp y.tag)) (left_at i) (left_at j)) ∙ h ∙ ap₂ (λ (x y : Block). nat_lt (stamp x.tag) (stamp y.tag)) (right_at i) (right_at j)
 
-ordered : (bs cs : List Block) → Similar bs cs → IsOrdered bs cs
+ordered : (bs cs : List Block) → AreSimilar bs cs → IsOrdered bs cs
 ordered bs cs m = record {
   same = ap outline m.left_blocks ∙ same_outline m.pairs m.numbers ∙ sym (ap outline m.right_blocks);
   order = λ i j f g e.
@@ -131,39 +132,40 @@ ordered bs cs m = record {
       let f' = sym (ap (λ (b : Block). is_free b.tag) (l i)) ∙ f in
       let g' = sym (ap (λ (b : Block). is_free b.tag) (l j)) ∙ g in
       ap₂ (λ (x y : Block). nat_lt (stamp x.tag) (stamp y.tag)) (l i) (l j)
-      ∙ in_order (pair_at i m.pairs).kind (pair_at j m.pairs).kind f' g' (m.agree _ _ (in_at i m.pairs f') (in_at j m.pairs g') (sym (ap₂ (λ (x y : Block). nat_eq (down x.size) (down y.size)) (l i) (l j)) ∙ e))
+      ∙ in_order (pair_at i m.pairs).kind (pair_at j m.pairs).kind f' g'
+      (m.agree _ _ (in_at i m.pairs f') (in_at j m.pairs g') (sym (ap₂ (λ (x y : Block). nat_eq (down x.size) (down y.size)) (l i) (l j)) ∙ e))
       ∙ sym (ap₂ (λ (x y : Block). nat_lt (stamp x.tag) (stamp y.tag)) (r i) (r j));
 }
 
-similar : (bs cs : List Block) → IsOrdered bs cs → Similar bs cs
+similar : (bs cs : List Block) → IsOrdered bs cs → AreSimilar bs cs
 similar bs cs m = record {
   pairs = p.pairs;
   left_blocks = p.left_blocks;
   right_blocks = p.right_blocks;
   numbers = p.numbers;
-  agree = λ a b i j. let x = at_in a p.pairs i in let y = at_in b p.pairs j in subst₂ Agree x.1 y.1 (agreed x.0 y.0);
+  agree = λ a b i j. let x = at_in a p.pairs i in let y = at_in b p.pairs j in subst₂ AreAgreed x.1 y.1 (agreed x.0 y.0);
 }
   where
-    p : Paired bs cs
+    p : ArePaired bs cs
     p = paired bs cs m.same
 
-    agreed : (i j : ℕ) → Agree (pair_at i p.pairs) (pair_at j p.pairs)
+    agreed : (i j : ℕ) → AreAgreed (pair_at i p.pairs) (pair_at j p.pairs)
     agreed i j e =
         let l = left_at bs cs p.pairs p.left_blocks p.right_blocks in
         same_order _ _ (λ f g. order_at bs cs p.pairs p.left_blocks p.right_blocks i j
         (m.order i j (ap (λ (b : Block). is_free b.tag) (l i) ∙ f) (ap (λ (b : Block). is_free b.tag) (l j) ∙ g) (ap₂ (λ (x y : Block). nat_eq (down x.size) (down y.size)) (l i) (l j) ∙ e)))
 
-pub similar_refl : (bs : List Block) → Similar bs bs
+pub similar_refl : (bs : List Block) → AreSimilar bs bs
 similar_refl bs = similar bs bs (record { same = refl; order = λ i j f g e. refl })
 
-pub similar_sym : (bs cs : List Block) → Similar bs cs → Similar cs bs
+pub similar_sym : (bs cs : List Block) → AreSimilar bs cs → AreSimilar cs bs
 similar_sym bs cs m =
     let o = ordered bs cs m in
     let size = size_same bs cs o.same in
     let free = free_same bs cs o.same in
     similar cs bs (record { same = sym o.same; order = λ i j f g e. sym (o.order i j (free i ∙ f) (free j ∙ g) (ap₂ (λ x y. nat_eq (down x) (down y)) (size i) (size j) ∙ e)) })
 
-pub similar_trans : (xs bs cs : List Block) → Similar xs bs → Similar bs cs → Similar xs cs
+pub similar_trans : (xs bs cs : List Block) → AreSimilar xs bs → AreSimilar bs cs → AreSimilar xs cs
 similar_trans xs bs cs a b =
     let o = ordered xs bs a in
     let p = ordered bs cs b in

@@ -1,5 +1,6 @@
 -- The steps of a player are those of the plain machine, call by call.
-use Rattle.std.proofs.Common.{◌≡◌, ℕ, zero, suc, ◌+◌, ◌-◌, ◌%◌, ◌^◌, ◌<◌, ◌≤◌, Bool, List, [], ◌∷◌, ◌++◌, map, length, Option, Some, None, option_map, Result, Ok, Err, IfOk, slice_index_or, slice_set, get_or, if◌then◌else◌, IsTrue, refl, sym, ap, ap₂, subst, subst₂, ◌∙◌, inl, inr, arith, eq-eqb, ne_eqb, add-one, length-append, append_assoc, append-nil}
+use Rattle.std.proofs.Common.{◌≡◌, ℕ, zero, suc, ◌+◌, ◌-◌, ◌%◌, ◌^◌, ◌<◌, ◌≤◌, Bool, List, [], ◌∷◌, ◌++◌, map, length, Option, Some, None, option_map, Result, Ok, Err, IfOk, slice_index_or, slice_set}
+use Rattle.std.proofs.Common.{get_or, if◌then◌else◌, IsTrue, refl, sym, ap, ap₂, subst, subst₂, ◌∙◌, inl, inr, arith, eq-eqb, ne_eqb, add-one, length-append, append_assoc, append-nil}
 use Rattle.std.proofs.lemmas.List.{map-append, get_or-set_same, get_or-set_other, get_or_past, length-set}
 use Rattle.std.proofs.Math.ListN.{get_or-append}
 use Rattle.std.proofs.Math.Seq.{get_or-append_seam}
@@ -14,15 +15,16 @@ use Rattle.offset_script.specs.Grammar.{has_valid_alignment}
 use Rattle.offset_script.specs.Machine.{State, Answer, step, start, row_view}
 use Rattle.offset_script.specs.Machine as machine
 use Rattle.offset_allocator.specs.View.{View, Grant, free_sizes, IsWellFormed}
-use Rattle.offset_script.specs.Agreement.{Agrees, kept_name}
+use Rattle.offset_script.specs.Steps.{kept_name, Takes, IsRun, AreOfARun, IsKept, IfNamed, Stays, AreLive}
+use Rattle.offset_script.proofs.Agreement.{HasBlocksOf, IsAtState}
 use Rattle.offset_allocator.specs.Relations.{IsFresh, Frees, Extends, Resets}
-use Rattle.offset_script.proofs.Well.{Well}
-use Rattle.offset_script.proofs.Agreed.{with_name, without_name, Matches, serve_agrees, aligned_agrees, extend_agrees, free_agrees, live_agrees, gone_agrees, size_gone_agrees, size_agrees, report_agrees, full_agrees, agrees_quiet, agrees_kept, alone_agrees, same_units}
+use Rattle.offset_script.proofs.Well.{IsWell}
+use Rattle.offset_script.proofs.Agreed.{with_name, without_name, IsMatch, serve_agrees, aligned_agrees, extend_agrees, free_agrees, live_agrees, gone_agrees, size_gone_agrees, size_agrees}
+use Rattle.offset_script.proofs.Agreed.{report_agrees, full_agrees, agrees_quiet, agrees_kept, alone_agrees, same_units}
 use Rattle.offset_script.specs.declared.answers.FullRow.{FullRow}
 use Rattle.offset_allocator.specs.Requests.{IsFullReport}
 use Rattle.offset_allocator.specs.Ranges.{size_of}
 use Rattle.offset_allocator.proofs.Reading.{used_live, size_is}
-use Rattle.offset_script.specs.Simulation.{Represents, Takes, IsRun, AreOfARun, IsKept, IfNamed, Stays, AreLive}
 use Rattle.offset_allocator.proofs.Powers.{not_zero}
 
 -- the name in a handle
@@ -33,10 +35,13 @@ handle_name h = h.name
 pub kept_push : (hs : List (Option Grant)) (h : Grant) (k : ℕ) → kept_name (hs ++ Some h ∷ []) k ≡ with_name (length hs + 1) h.name (kept_name hs) k
 kept_push hs h zero = rw (ne_eqb 0 (length hs + 1) (omega arith)) refl
 kept_push hs h (suc k) = elim (cases_eq k (length hs)) [
-  | inl e ↦ ap (option_map handle_name) (ap (λ i. get_or (hs ++ Some h ∷ []) i None) e ∙ get_or-append_seam hs (Some h) [] None) ∙ sym (ap (λ (b : Bool). if b then Some h.name else kept_name hs (suc k)) (eq-eqb (suc k) (length hs + 1) (omega arith)))
+  | inl e ↦ ap (option_map handle_name) (ap (λ i. get_or (hs ++ Some h ∷ []) i None) e ∙ get_or-append_seam hs (Some h) [] None)
+      ∙ sym (ap (λ (b : Bool). if b then Some h.name else kept_name hs (suc k)) (eq-eqb (suc k) (length hs + 1) (omega arith)))
   | inr n ↦ elim (cases_lt k (length hs)) [
-    | inl l ↦ ap (option_map handle_name) (get_or-append hs (Some h ∷ []) None k l) ∙ sym (ap (λ (b : Bool). if b then Some h.name else kept_name hs (suc k)) (ne_eqb (suc k) (length hs + 1) (omega arith)))
-    | inr m ↦ ap (option_map handle_name) (get_or_past (hs ++ Some h ∷ []) k None (let e = length-append hs (Some h ∷ []) in omega arith)) ∙ sym (ap (λ (b : Bool). if b then Some h.name else kept_name hs (suc k)) (ne_eqb (suc k) (length hs + 1) (omega arith)) ∙ ap (option_map handle_name) (get_or_past hs k None m))
+    | inl l ↦ ap (option_map handle_name) (get_or-append hs (Some h ∷ []) None k l)
+        ∙ sym (ap (λ (b : Bool). if b then Some h.name else kept_name hs (suc k)) (ne_eqb (suc k) (length hs + 1) (omega arith)))
+    | inr m ↦ ap (option_map handle_name) (get_or_past (hs ++ Some h ∷ []) k None (let e = length-append hs (Some h ∷ []) in omega arith))
+        ∙ sym (ap (λ (b : Bool). if b then Some h.name else kept_name hs (suc k)) (ne_eqb (suc k) (length hs + 1) (omega arith)) ∙ ap (option_map handle_name) (get_or_past hs k None m))
   ]
 ]
 
@@ -44,7 +49,8 @@ kept_push hs h (suc k) = elim (cases_eq k (length hs)) [
 pub kept_set : (hs : List (Option Grant)) (k : ℕ) → k < length hs → (j : ℕ) → kept_name (slice_set hs k None) j ≡ without_name (suc k) (kept_name hs) j
 kept_set hs k l zero = rw (ne_eqb 0 (suc k) (omega arith)) refl
 kept_set hs k l (suc j) = elim (cases_eq j k) [
-  | inl e ↦ ap (option_map handle_name) (ap (λ i. get_or (slice_set hs k None) i None) e ∙ get_or-set_same hs k None None l) ∙ sym (ap (λ (b : Bool). if b then None else kept_name hs (suc j)) (eq-eqb (suc j) (suc k) (ap suc e)))
+  | inl e ↦ ap (option_map handle_name) (ap (λ i. get_or (slice_set hs k None) i None) e ∙ get_or-set_same hs k None None l)
+      ∙ sym (ap (λ (b : Bool). if b then None else kept_name hs (suc j)) (eq-eqb (suc j) (suc k) (ap suc e)))
   | inr n ↦ ap (option_map handle_name) (get_or-set_other hs k j None None n) ∙ sym (ap (λ (b : Bool). if b then None else kept_name hs (suc j)) (ne_eqb (suc j) (suc k) (omega arith)))
 ]
 
@@ -76,20 +82,21 @@ if_some None x P Q e q = absurd (cc)
 if_some (Some y) x P Q e q = subst P (let f : x ≡ y = cc in f) q
 
 -- a reset that leaves no handle
-pub reset_takes : (v w : View) (hs left : List (Option Grant)) → Resets v w → length left ≡ length hs → ((i : ℕ) → i < length left → slice_index_or left i None ≡ None) → Takes command.Reset v hs w left machine.Reset
+pub reset_takes : (v w : View) (hs left : List (Option Grant)) → Resets v w → length left ≡ length hs → ((i : ℕ) → i < length left → slice_index_or left i None ≡ None)
+    → Takes command.Reset v hs w left machine.Reset
 reset_takes v w hs left r len none = (r, len, none_kept left none, refl)
 
 -- the handles that represent a state are live
-pub all_live : (v : View) (hs : List (Option Grant)) (s : State) → Well s → Represents v hs s → AreLive v hs
+pub all_live : (v : View) (hs : List (Option Grant)) (s : State) → IsWell s → IsAtState v hs s → AreLive v hs
 all_live v hs s ws p k x e = used_live x v (live_agrees v (kept_name hs) s p.formed ws p.agrees k x e)
 
 -- the plain machine has this answer, and a view and handles represent the state that it leaves
 abbrev pub Follows : Command → State → View → List (Option Grant) → Answer → Type 0
-Follows c s w left a = (a ≡ (step c s).answer) × Represents w left (step c s).state
+Follows c s w left a = (a ≡ (step c s).answer) × IsAtState w left (step c s).state
 
-module _ (v w : View) (hs left : List (Option Grant)) (a : Answer) (s : State) (formed : IsWellFormed w) (ws : Well s) (p : Represents v hs s) where
+module _ (v w : View) (hs left : List (Option Grant)) (a : Answer) (s : State) (formed : IsWellFormed w) (ws : IsWell s) (p : IsAtState v hs s) where
   -- a request, whose grant is kept
-  requested : (c : Command) (r : Option Grant) → Matches w (kept_name hs) s.grants r (step c s) → IsKept r hs left a → Follows c s w left a
+  requested : (c : Command) (r : Option Grant) → IsMatch w (kept_name hs) s.grants r (step c s) → IsKept r hs left a → Follows c s w left a
   requested c None m k = (
     k.1 ∙ sym m.answer,
     record {
@@ -103,7 +110,8 @@ module _ (v w : View) (hs left : List (Option Grant)) (a : Answer) (s : State) (
         k.1 ∙ ap (λ n. machine.Grant n h.offset) count ∙ sym m.answer,
         record {
           formed = formed;
-          agrees = agrees_kept w (with_name (s.grants + 1) h.name (kept_name hs)) (kept_name left) (step c s).state (λ j. ap (λ l. kept_name l j) k.0 ∙ kept_push hs h j ∙ ap (λ n. with_name (n + 1) h.name (kept_name hs) j) p.grants) m.agrees;
+          agrees = agrees_kept w (with_name (s.grants + 1) h.name (kept_name hs)) (kept_name left) (step c s).state
+              (λ j. ap (λ l. kept_name l j) k.0 ∙ kept_push hs h j ∙ ap (λ n. with_name (n + 1) h.name (kept_name hs) j) p.grants) m.agrees;
           grants = count ∙ sym m.grants_after;
         },
       )
@@ -112,9 +120,9 @@ module _ (v w : View) (hs left : List (Option Grant)) (a : Answer) (s : State) (
   asked : (c : Command) → (step c s).state ≡ record s { calls = s.calls + 1 } → Stays v hs w left → a ≡ (step c s).answer → Follows c s w left a
   asked c same e found = (
     found,
-    subst₂ (λ u l. Represents u l (step c s).state) (sym e.0) (sym e.1) (record {
+    subst₂ (λ u l. IsAtState u l (step c s).state) (sym e.0) (sym e.1) (record {
       formed = p.formed;
-      agrees = subst (Agrees v (kept_name hs)) (sym same) (agrees_quiet v (kept_name hs) s p.agrees machine.Gone);
+      agrees = subst (HasBlocksOf v (kept_name hs)) (sym same) (agrees_quiet v (kept_name hs) s p.agrees machine.Gone);
       grants = p.grants ∙ ap (λ (t : State). t.grants) (sym same);
     }),
   )
@@ -139,10 +147,11 @@ module _ (v w : View) (hs left : List (Option Grant)) (a : Answer) (s : State) (
       freed k x e (let l = (kept_within hs (suc k) x e).1 in omega arith) f (but ∙ ap (λ i. slice_set hs i None) same) is
 
   -- a release by any number
-  release_step : (k : ℕ) (o : Option ℕ) → kept_name hs k ≡ o → IfNamed o (λ x. Frees x v w × (left ≡ slice_set hs (k - 1) None) × (a ≡ machine.Freed)) (Stays v hs w left × (a ≡ machine.Gone)) → Follows (command.Free k) s w left a
+  release_step : (k : ℕ) (o : Option ℕ) → kept_name hs k ≡ o → IfNamed o (λ x. Frees x v w × (left ≡ slice_set hs (k - 1) None) × (a ≡ machine.Freed)) (Stays v hs w left × (a ≡ machine.Gone))
+      → Follows (command.Free k) s w left a
   release_step k None e t =
       let r = gone_agrees v (kept_name hs) s p.formed ws p.agrees k e in
-      (t.1 ∙ sym r.0, subst₂ (λ u l. Represents u l (step (command.Free k) s).state) (sym t.0.0) (sym t.0.1) (record { formed = p.formed; agrees = r.1; grants = p.grants ∙ sym r.2 }))
+      (t.1 ∙ sym r.0, subst₂ (λ u l. IsAtState u l (step (command.Free k) s).state) (sym t.0.0) (sym t.0.1) (record { formed = p.formed; agrees = r.1; grants = p.grants ∙ sym r.2 }))
   release_step k (Some x) e t = released k x e t.0 t.1 t.2
 
   -- a question for a size
@@ -154,7 +163,7 @@ module _ (v w : View) (hs left : List (Option Grant)) (a : Answer) (s : State) (
   extended : (more : ℕ) (done : Bool) → Extends more v w done → left ≡ hs → a ≡ (if done then machine.Extended else machine.Refused) → Follows (command.Extend more) s w left a
   extended more done e same is =
       let r = extend_agrees v (kept_name hs) s p.formed ws p.agrees more w done formed e in
-      (is ∙ sym r.0, subst (λ l. Represents w l (step (command.Extend more) s).state) (sym same) (record { formed = formed; agrees = r.1; grants = p.grants ∙ sym r.2 }))
+      (is ∙ sym r.0, subst (λ l. IsAtState w l (step (command.Extend more) s).state) (sym same) (record { formed = formed; agrees = r.1; grants = p.grants ∙ sym r.2 }))
 
   -- the plain machine follows each command
   pub follows : (c : Command) → IsTrue (has_valid_alignment c) → Takes c v hs w left a → Follows c s w left a
@@ -167,19 +176,22 @@ module _ (v w : View) (hs left : List (Option Grant)) (a : Answer) (s : State) (
     t.3,
     record {
       formed = formed;
-      agrees = alone_agrees w t.0.name v.size (machine.stamp_of_call s) (kept_name left) (step command.Reset s).state (ap (λ (u : View). u.blocks) t.0.view) (ap (λ (u : View). u.order) t.0.view) (p.agrees.limit ∙ sym (ap (λ (u : View). u.max_allocs) t.0.view))
+      agrees = alone_agrees w t.0.name v.size (machine.stamp_of_call s) (kept_name left) (step command.Reset s).state (ap (λ (u : View). u.blocks) t.0.view) (ap (λ (u : View). u.order) t.0.view)
+          (p.agrees.limit ∙ sym (ap (λ (u : View). u.max_allocs) t.0.view))
           (ap (λ n. machine.block n (machine.Free (machine.stamp_of_call s)) ∷ []) (sym (same_units v (kept_name hs) s p.formed ws p.agrees) ∙ p.formed.whole)) t.2;
       grants = t.1 ∙ p.grants;
     },
   )
-  follows (command.Align n align) power t = requested (command.Align n align) t.0 (aligned_agrees v (kept_name hs) s p.formed ws p.agrees n align (not_zero align (inr (inl power))) w formed t.0 t.1) t.2
+  follows (command.Align n align) power t = requested (command.Align n align) t.0 (aligned_agrees v (kept_name hs) s p.formed ws p.agrees n align (not_zero align (inr (inl power))) w formed t.0 t.1)
+      t.2
   follows (command.Extend more) power t = extended more t.0 t.1 t.2 t.3
 
 -- a fresh space represents the first state
-pub fresh_represents : (w : View) → IsWellFormed w → (size limit : ℕ) (hs : List (Option Grant)) → IsFresh size limit w → hs ≡ [] → Represents w hs (start size limit)
-fresh_represents w formed size limit hs f e = subst (λ l. Represents w l (start size limit)) (sym e) (record {
+pub fresh_represents : (w : View) → IsWellFormed w → (size limit : ℕ) (hs : List (Option Grant)) → IsFresh size limit w → hs ≡ [] → IsAtState w hs (start size limit)
+fresh_represents w formed size limit hs f e = subst (λ l. IsAtState w l (start size limit)) (sym e) (record {
   formed = formed;
-  agrees = alone_agrees w f.name size 0 (kept_name []) (start size limit) (ap (λ (v : View). v.blocks) f.view) (ap (λ (v : View). v.order) f.view) (sym (ap (λ (v : View). v.max_allocs) f.view)) refl (none_kept [] (λ i l. refl));
+  agrees = alone_agrees w f.name size 0 (kept_name []) (start size limit) (ap (λ (v : View). v.blocks) f.view) (ap (λ (v : View). v.order) f.view) (sym (ap (λ (v : View). v.max_allocs) f.view)) refl
+      (none_kept [] (λ i l. refl));
   grants = refl;
 })
 
@@ -187,14 +199,16 @@ fresh_represents w formed size limit hs f e = subst (λ l. Represents w l (start
 
 -- the steps of a run on a fresh space that lead to this view and these handles
 abbrev pub IsBegun : {C A : Type 0} → (C → View → List (Option Grant) → View → List (Option Grant) → A → Type 0) → (size limit : ℕ) → View → List (Option Grant) → List C → List A → Type 0
-IsBegun {C} {A} take size limit v handles before found = (u : View) × IsFresh size limit u × ((cs : List C) (others : List A) → IsRun take v handles cs others → IsRun take u [] (before ++ cs) (found ++ others))
+IsBegun {C} {A} take size limit v handles before found = (u : View) × IsFresh size limit u
+    × ((cs : List C) (others : List A) → IsRun take v handles cs others → IsRun take u [] (before ++ cs) (found ++ others))
 
 module _ {C A : Type 0} (take : C → View → List (Option Grant) → View → List (Option Grant) → A → Type 0) (size limit : ℕ) where
   pub run_begins : (v : View) (handles : List (Option Grant)) (found : List A) → IsFresh size limit v → handles ≡ [] → found ≡ [] → IsBegun take size limit v handles [] found
   run_begins v handles found f e none = (v, f, λ cs others r. subst₂ (λ hs l. IsRun take v hs cs (l ++ others)) e (sym none) r)
 
   pub run_goes_on : (v w : View) (handles left : List (Option Grant)) (before before' : List C) (found found' : List A) (c : C) (a : A)
-      → IsBegun take size limit v handles before found → take c v handles w left a → IsWellFormed w → before' ≡ before ++ c ∷ [] → found' ≡ found ++ a ∷ [] → IsBegun take size limit w left before' found'
+      → IsBegun take size limit v handles before found → take c v handles w left a → IsWellFormed w → before' ≡ before ++ c ∷ [] → found' ≡ found ++ a ∷ []
+      → IsBegun take size limit w left before' found'
   run_goes_on v w handles left before before' found found' c a r t formed e f = (
     r.0,
     r.1,
@@ -209,7 +223,8 @@ module _ {C A : Type 0} (take : C → View → List (Option Grant) → View → 
 -- The rows of a full report.
 
 -- the full report, once all classes are seen
-pub rows_all : (c : ℕ) (v : View) (rows : List FullRow) → map row_view rows ≡ rows_below c (free_sizes v.blocks) → c ≡ 256 → machine.Full (map row_view rows) ≡ machine.Full (rows_below 256 (free_sizes v.blocks))
+pub rows_all : (c : ℕ) (v : View) (rows : List FullRow) → map row_view rows ≡ rows_below c (free_sizes v.blocks) → c ≡ 256
+    → machine.Full (map row_view rows) ≡ machine.Full (rows_below 256 (free_sizes v.blocks))
 rows_all c v rows e all = ap machine.Full (e ∙ ap (λ n. rows_below n (free_sizes v.blocks)) all)
 
 -- the row of a class with free blocks
@@ -218,17 +233,22 @@ row_of c zero l = absurd (omega arith)
 row_of c (suc n) l = refl
 
 -- a class with free blocks adds its row
-pub rows_more : (c : ℕ) (v : View) (report : StorageReportFull) (d : StorageReportFullRegion) (left rows : List FullRow) (r : FullRow) → IsFullReport report v → c < 256 → map row_view rows ≡ rows_below c (free_sizes v.blocks)
-    → left ≡ rows ++ r ∷ [] → r ≡ record { class = c; size = (slice_index_or report.free_regions c d).size; count = (slice_index_or report.free_regions c d).count } → 0 < (slice_index_or report.free_regions c d).count
+pub rows_more : (c : ℕ) (v : View) (report : StorageReportFull) (d : StorageReportFullRegion) (left rows : List FullRow) (r : FullRow) → IsFullReport report v → c < 256
+    → map row_view rows ≡ rows_below c (free_sizes v.blocks)
+    → left ≡ rows ++ r ∷ [] → r ≡ record { class = c; size = (slice_index_or report.free_regions c d).size; count = (slice_index_or report.free_regions c d).count }
+    → 0 < (slice_index_or report.free_regions c d).count
     → map row_view left ≡ rows_below (c + 1) (free_sizes v.blocks)
 rows_more c v report d left rows r full l e f h pos =
     let at = full c d l in
     let count = ap (λ (x : StorageReportFullRegion). x.count) at in
     let size = ap (λ (x : StorageReportFullRegion). x.size) at in
-    rw add-one (ap (map row_view) f ∙ map-append row_view rows (r ∷ []) ∙ ap₂ (λ xs y. xs ++ row_view y ∷ []) e h ∙ ap₂ (λ (s n : ℕ). rows_below c (free_sizes v.blocks) ++ record { class = c; size = s; count = n } ∷ []) size count ∙ ap (λ z. rows_below c (free_sizes v.blocks) ++ z) (sym (row_of c (count_of c (free_sizes v.blocks)) (omega arith))))
+    rw add-one (ap (map row_view) f ∙ map-append row_view rows (r ∷ []) ∙ ap₂ (λ xs y. xs ++ row_view y ∷ []) e h
+    ∙ ap₂ (λ (s n : ℕ). rows_below c (free_sizes v.blocks) ++ record { class = c; size = s; count = n } ∷ []) size count
+    ∙ ap (λ z. rows_below c (free_sizes v.blocks) ++ z) (sym (row_of c (count_of c (free_sizes v.blocks)) (omega arith))))
 
 -- a class with none adds nothing
-pub rows_same : (c : ℕ) (v : View) (report : StorageReportFull) (d : StorageReportFullRegion) (rows : List FullRow) → IsFullReport report v → c < 256 → map row_view rows ≡ rows_below c (free_sizes v.blocks) → (slice_index_or report.free_regions c d).count ≤ 0
+pub rows_same : (c : ℕ) (v : View) (report : StorageReportFull) (d : StorageReportFullRegion) (rows : List FullRow) → IsFullReport report v → c < 256
+    → map row_view rows ≡ rows_below c (free_sizes v.blocks) → (slice_index_or report.free_regions c d).count ≤ 0
     → map row_view rows ≡ rows_below (c + 1) (free_sizes v.blocks)
 rows_same c v report d rows full l e nothing =
     let count = ap (λ (x : StorageReportFullRegion). x.count) (full c d l) in

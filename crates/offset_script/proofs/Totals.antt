@@ -1,26 +1,46 @@
 -- The sums of sizes, and the numbers of live blocks, that every call keeps.
-use Rattle.std.proofs.Common.{◌≡◌, ℕ, zero, suc, ◌+◌, ◌-◌, ◌≤◌, true, false, not, cond, ◌&&◌, ◌||◌, List, [], ◌∷◌, ◌++◌, length, nat_le, nat_lt, if◌then◌else◌, refl, sym, ap, subst, ◌∙◌, inl, inr, arith, le-leb, length-append, sum}
+use Rattle.std.proofs.Common.{◌≡◌, ℕ, zero, suc, ◌+◌, ◌-◌, ◌≤◌, true, false, not, cond, ◌&&◌, ◌||◌, List, [], ◌∷◌, ◌++◌, length, nat_le, nat_lt, if◌then◌else◌, refl, sym, ap, subst, ◌∙◌, inl, inr}
+use Rattle.std.proofs.Common.{arith, le-leb, length-append, sum}
 use Rattle.std.proofs.lemmas.List.Elements.{filter-append}
 use Rattle.std.proofs.lemmas.List.Sums.{sum_by-cons}
 use Rattle.offset_allocator.specs.View.{max_size, padding_to}
-use Rattle.offset_script.specs.Machine.{Live, Free, Block, block, is_free, total, free_sizes, Place, chosen_place, free_block, free_start, without_start, free_end, without_end, ends_live, coalesce, State, Outcome, start, step, after, is_short_of, returns_only, leaves, request, grant_or_refuse, stamp_of_call, stamp_of_padding}
+use Rattle.offset_script.specs.Machine.{Live, Free, Block, block, is_free, total, free_sizes, Place, chosen_place, free_block, ends_live, coalesce, State, Outcome, start, step, after, is_short_of}
+use Rattle.offset_script.specs.Machine.{returns_only, leaves, request, grant_or_refuse, stamp_of_call, stamp_of_padding}
 use Rattle.offset_allocator.specs.Reports.{largest}
 use Rattle.offset_script.specs.declared.scripts.Command.{Command}
 use Rattle.offset_script.specs.declared.scripts.Command.TheVariants as command
 use Rattle.offset_script.specs.Machine as machine
 use Rattle.offset_script.specs.Histories.{KeepsSpace}
 use Rattle.offset_script.specs.Totals.{requested_units, live, added_units, added_by}
-use Rattle.offset_script.proofs.Well.{whole, chosen_at, found_at, granted_blocks, total-append, AllFree, coalesced, free_part}
+use Rattle.offset_script.proofs.Well.{whole, chosen_at, found_at, granted_blocks, total-append, AreFree, coalesced, free_part}
 use Rattle.offset_script.proofs.Nests.{does}
 use Rattle.offset_script.proofs.Tests.{if_both}
 
 total_coalesce : (xs : List Block) (n s : ℕ) (ys : List Block) → total (coalesce xs n s ys) ≡ total xs + (n + total ys)
 total_coalesce xs n s ys =
     let c = coalesced xs n s ys in
-    omega (arith, ap total c.is, total-append c.front (block (total c.last + n + total c.first) (Free s) ∷ c.back), ap total c.at_front, total-append c.front c.last, ap total c.at_back, total-append c.first c.back)
+    omega (
+      arith,
+      ap total c.is,
+      total-append c.front (block (total c.last + n + total c.first) (Free s) ∷ c.back),
+      ap total c.at_front,
+      total-append c.front c.last,
+      ap total c.at_back,
+      total-append
+          c.first c.back,
+    )
 
 total_granted : (p : Place) (n padding front k rest : ℕ) → padding + n ≤ p.block.size → total (granted_blocks p n padding front k rest) ≡ total (whole p)
-total_granted p n padding front k rest h = omega (arith, total-append p.before (p.block ∷ p.after), total-append p.before (free_block padding front ++ (block n (Live k) ∷ (free_block (p.block.size - (padding + n)) rest ++ p.after))), total-append (free_block padding front) (block n (Live k) ∷ (free_block (p.block.size - (padding + n)) rest ++ p.after)), total-append (free_block (p.block.size - (padding + n)) rest) p.after, (free_part padding front).2, (free_part (p.block.size - (padding + n)) rest).2)
+total_granted p n padding front k rest h =
+    omega (
+      arith,
+      total-append p.before (p.block ∷ p.after),
+      total-append p.before (free_block padding front ++ (block n (Live k) ∷ (free_block (p.block.size - (padding + n)) rest ++ p.after))),
+      total-append (free_block padding front) (block n (Live k) ∷ (free_block (p.block.size - (padding + n)) rest ++ p.after)),
+      total-append (free_block (p.block.size - (padding + n)) rest) p.after,
+      (free_part padding front).2,
+      (free_part (p.block.size - (padding + n)) rest).2,
+    )
 
 -- how many blocks are live
 abbrev live_blocks : List Block → ℕ
@@ -40,24 +60,46 @@ live_length (b ∷ bs) = let ih = live_length bs in elim (is_free b.tag) as (λ 
 live_more : (b : Block) (bs : List Block) → live_blocks bs ≤ live_blocks (b ∷ bs)
 live_more b bs = elim (is_free b.tag) as (λ x. live_blocks bs ≤ length (cond (not x) (b ∷ live bs) (live bs))) [ true ↦ omega arith | false ↦ omega arith ]
 
-live_none : (fs : List Block) → AllFree fs → live_blocks fs ≡ 0
+live_none : (fs : List Block) → AreFree fs → live_blocks fs ≡ 0
 live_none [] f = refl
 live_none (b ∷ fs) f = ap (λ x. length (cond (not x) (b ∷ live fs) (live fs))) f.0 ∙ live_none fs f.1
 
 live_coalesce : (xs : List Block) (n s : ℕ) (ys : List Block) → live_blocks (coalesce xs n s ys) ≡ live_blocks xs + live_blocks ys
 live_coalesce xs n s ys =
     let c = coalesced xs n s ys in
-    omega (arith, ap live_blocks c.is, live-append c.front (block (total c.last + n + total c.first) (Free s) ∷ c.back), ap live_blocks c.at_front, live-append c.front c.last, ap live_blocks c.at_back, live-append c.first c.back, live_none c.last c.end.free, live_none c.first c.start.free)
+    omega (
+      arith,
+      ap live_blocks c.is,
+      live-append c.front (block (total c.last + n + total c.first) (Free s) ∷ c.back),
+      ap live_blocks c.at_front,
+      live-append c.front c.last,
+      ap live_blocks
+          c.at_back,
+      live-append c.first c.back,
+      live_none c.last c.end.free,
+      live_none c.first c.start.free,
+    )
 
 live_granted : (p : Place) (n padding front k rest : ℕ) → live_blocks (granted_blocks p n padding front k rest) ≡ live_blocks p.before + (1 + live_blocks p.after)
-live_granted p n padding front k rest = omega (arith, live-append p.before (free_block padding front ++ (block n (Live k) ∷ (free_block (p.block.size - (padding + n)) rest ++ p.after))), live-append (free_block padding front) (block n (Live k) ∷ (free_block (p.block.size - (padding + n)) rest ++ p.after)), live-append (free_block (p.block.size - (padding + n)) rest) p.after, live_free_block padding front, live_free_block (p.block.size - (padding + n)) rest)
+live_granted p n padding front k rest =
+    omega (
+      arith,
+      live-append p.before (free_block padding front ++ (block n (Live k) ∷ (free_block (p.block.size - (padding + n)) rest ++ p.after))),
+      live-append (free_block padding front)
+          (block n (Live k) ∷ (free_block (p.block.size - (padding + n)) rest ++ p.after)),
+      live-append (free_block (p.block.size - (padding + n)) rest) p.after,
+      live_free_block padding front,
+      live_free_block (p.block.size - (padding + n)) rest,
+    )
 
 -- a command that keeps the space keeps the sum
 total_kept : (c : Command) (s : State) → KeepsSpace c → total (step c s).state.blocks ≡ total s.blocks
 total_kept c s k = elim (does c s k) [
   | inl q ↦ ap (λ (o : Outcome). total o.state.blocks) q.is
-  | inr (inl d) ↦ ap (λ (o : Outcome). total o.state.blocks) d.is ∙ total_granted d.place (requested_units c) d.padding (stamp_of_padding s) (s.grants + 1) (stamp_of_call s) d.within ∙ ap total (sym (chosen_at d.needed s.blocks d.place d.chose).0)
-  | inr (inr d) ↦ ap (λ (o : Outcome). total o.state.blocks) d.is ∙ total_coalesce d.place.before d.place.block.size (stamp_of_call s) d.place.after ∙ sym (total-append d.place.before (d.place.block ∷ d.place.after)) ∙ ap total (sym (found_at d.number s.blocks d.place d.found).0)
+  | inr (inl d) ↦ ap (λ (o : Outcome). total o.state.blocks) d.is ∙ total_granted d.place (requested_units c) d.padding (stamp_of_padding s) (s.grants + 1) (stamp_of_call s) d.within
+      ∙ ap total (sym (chosen_at d.needed s.blocks d.place d.chose).0)
+  | inr (inr d) ↦ ap (λ (o : Outcome). total o.state.blocks) d.is ∙ total_coalesce d.place.before d.place.block.size (stamp_of_call s) d.place.after
+      ∙ sym (total-append d.place.before (d.place.block ∷ d.place.after)) ∙ ap total (sym (found_at d.number s.blocks d.place d.found).0)
 ]
 
 -- what a command leaves has as many units more as it adds
@@ -76,7 +118,8 @@ adds_step command.Full s = adds_none _ _ refl
 adds_step command.Reset s = refl
 adds_step (command.Align n align) s = adds_none _ _ (total_kept (command.Align n align) s tt)
 adds_step (command.Extend zero) s = adds_none _ _ refl
-adds_step (command.Extend (suc more)) s = if_both (Adds (command.Extend (suc more)) s) (nat_lt max_size (total s.blocks + suc more) || (ends_live s.blocks && is_short_of 1 s)) (returns_only s machine.Refused) (leaves s (coalesce s.blocks (suc more) (stamp_of_call s) []) machine.Extended)
+adds_step (command.Extend (suc more)) s = if_both (Adds (command.Extend (suc more)) s) (nat_lt max_size (total s.blocks + suc more) || (ends_live s.blocks && is_short_of 1 s))
+    (returns_only s machine.Refused) (leaves s (coalesce s.blocks (suc more) (stamp_of_call s) []) machine.Extended)
     (λ e. adds_none _ _ refl) (λ e. let j = total_coalesce s.blocks (suc more) (stamp_of_call s) [] in omega arith)
 
 adds_all : (cs : List Command) (s : State) → total (after cs s).blocks ≡ total s.blocks + added_by cs s
@@ -89,25 +132,46 @@ parted [] = refl
 parted (b ∷ bs) =
     let ih = parted bs in
     let e : sum (b.size ∷ free_sizes bs) ≡ b.size + sum (free_sizes bs) = sum_by-cons (λ n. n) b.size (free_sizes bs) in
-    elim (is_free b.tag) as (λ x. total (cond (not x) (b ∷ live bs) (live bs)) + sum (if x then b.size ∷ free_sizes bs else free_sizes bs) ≡ b.size + total bs) [ true ↦ omega (arith, e, ih) | false ↦ omega (arith, ih) ]
+    elim (is_free b.tag) as (λ x. total (cond (not x) (b ∷ live bs) (live bs)) + sum (if x then b.size ∷ free_sizes bs else free_sizes bs) ≡ b.size + total bs)
+    [ true ↦ omega (arith, e, ih) | false ↦ omega (arith, ih) ]
 
 pub sums_law : (size limit : ℕ) (cs : List Command) → let bs = (after cs (start size limit)).blocks in total (live bs) + sum (free_sizes bs) ≡ size + added_by cs (start size limit)
 sums_law size limit cs = let p = parted (after cs (start size limit)).blocks in let a = adds_all cs (start size limit) in omega arith
 
 -- an outcome where no more than limit - 2 blocks are live
-abbrev Few : State → Outcome → Type 0
-Few s o = (live_blocks o.state.blocks + 2 ≤ s.limit) × (o.state.limit ≡ s.limit)
+abbrev HasFew : State → Outcome → Type 0
+HasFew s o = (live_blocks o.state.blocks + 2 ≤ s.limit) × (o.state.limit ≡ s.limit)
 
-few_kept : (c : Command) (s : State) → KeepsSpace c → live_blocks s.blocks + 2 ≤ s.limit → Few s (step c s)
+few_kept : (c : Command) (s : State) → KeepsSpace c → live_blocks s.blocks + 2 ≤ s.limit → HasFew s (step c s)
 few_kept c s k h = elim (does c s k) [
-  | inl q ↦ subst (Few s) (sym q.is) (h, refl)
-  | inr (inl d) ↦ subst (Few s) (sym d.is) (let r = d.room in
-      (omega (arith, r, live_granted d.place (requested_units c) d.padding (stamp_of_padding s) (s.grants + 1) (stamp_of_call s), ap length (chosen_at d.needed s.blocks d.place d.chose).0, length-append d.place.before (d.place.block ∷ d.place.after), live_length d.place.before, live_length d.place.after), refl))
-  | inr (inr d) ↦ subst (Few s) (sym d.is)
-      (omega (arith, live_coalesce d.place.before d.place.block.size (stamp_of_call s) d.place.after, ap live_blocks (found_at d.number s.blocks d.place d.found).0, live-append d.place.before (d.place.block ∷ d.place.after), live_more d.place.block d.place.after, h), refl)
+  | inl q ↦ subst (HasFew s) (sym q.is) (h, refl)
+  | inr (inl d) ↦ subst (HasFew s) (sym d.is) (let r = d.room in (
+    omega (
+      arith,
+      r,
+      live_granted d.place (requested_units c) d.padding (stamp_of_padding s) (s.grants + 1) (stamp_of_call s),
+      ap length (chosen_at d.needed s.blocks d.place d.chose).0,
+      length-append d.place.before (d.place.block ∷ d.place.after),
+      live_length d.place.before,
+      live_length d.place.after,
+    ),
+    refl,
+  ))
+  | inr (inr d) ↦ subst (HasFew s) (sym d.is) (
+    omega (
+      arith,
+      live_coalesce d.place.before d.place.block.size (stamp_of_call s) d.place.after,
+      ap live_blocks (found_at d.number s.blocks d.place d.found).0,
+      live-append d.place.before
+          (d.place.block ∷ d.place.after),
+      live_more d.place.block d.place.after,
+      h,
+    ),
+    refl,
+  )
 ]
 
-few_step : (c : Command) (s : State) → live_blocks s.blocks + 2 ≤ s.limit → Few s (step c s)
+few_step : (c : Command) (s : State) → live_blocks s.blocks + 2 ≤ s.limit → HasFew s (step c s)
 few_step (command.Alloc n) s h = few_kept (command.Alloc n) s tt h
 few_step (command.Free k) s h = few_kept (command.Free k) s tt h
 few_step (command.Size k) s h = (h, refl)
@@ -116,7 +180,8 @@ few_step command.Full s h = (h, refl)
 few_step command.Reset s h = (omega arith, refl)
 few_step (command.Align n align) s h = few_kept (command.Align n align) s tt h
 few_step (command.Extend zero) s h = (h, refl)
-few_step (command.Extend (suc more)) s h = if_both (Few s) (nat_lt max_size (total s.blocks + suc more) || (ends_live s.blocks && is_short_of 1 s)) (returns_only s machine.Refused) (leaves s (coalesce s.blocks (suc more) (stamp_of_call s) []) machine.Extended)
+few_step (command.Extend (suc more)) s h = if_both (HasFew s) (nat_lt max_size (total s.blocks + suc more) || (ends_live s.blocks && is_short_of 1 s)) (returns_only s machine.Refused)
+    (leaves s (coalesce s.blocks (suc more) (stamp_of_call s) []) machine.Extended)
     (λ e. (h, refl)) (λ e. (let j = live_coalesce s.blocks (suc more) (stamp_of_call s) [] in omega arith, refl))
 
 few_all : (cs : List Command) (s : State) (limit : ℕ) → s.limit ≡ limit → live_blocks s.blocks + 2 ≤ limit → live_blocks (after cs s).blocks + 2 ≤ limit
@@ -137,9 +202,11 @@ pub full_refuses : (s : State) (n : ℕ) → s.limit ≤ length s.blocks + 1 →
 full_refuses s n h = refused s 1 n n (λ offset. 0) (omega arith) h
 
 pub full_refuses_aligned : (s : State) (n align : ℕ) → s.limit ≤ length s.blocks + 1 → (step (command.Align n align) s).answer ≡ machine.Refused
-full_refuses_aligned s n align h = if_both (λ (o : Outcome). o.answer ≡ machine.Refused) (nat_le align 1) (step (command.Alloc n) s) (if nat_lt max_size (n + align - 1) then returns_only s machine.Refused else request s 2 (n + align - 1) n (padding_to align))
+full_refuses_aligned s n align h = if_both (λ (o : Outcome). o.answer ≡ machine.Refused) (nat_le align 1) (step (command.Alloc n) s)
+    (if nat_lt max_size (n + align - 1) then returns_only s machine.Refused else request s 2 (n + align - 1) n (padding_to align))
     (λ e. full_refuses s n h)
-    (λ e. if_both (λ (o : Outcome). o.answer ≡ machine.Refused) (nat_lt max_size (n + align - 1)) (returns_only s machine.Refused) (request s 2 (n + align - 1) n (padding_to align)) (λ f. refl) (λ f. refused s 2 (n + align - 1) n (padding_to align) (omega arith) h))
+    (λ e. if_both (λ (o : Outcome). o.answer ≡ machine.Refused) (nat_lt max_size (n + align - 1)) (returns_only s machine.Refused) (request s 2 (n + align - 1) n (padding_to align)) (λ f. refl)
+    (λ f. refused s 2 (n + align - 1) n (padding_to align) (omega arith) h))
 
 pub full_report : (s : State) → s.limit ≤ length s.blocks + 1 → (step command.Report s).answer ≡ machine.Report 0 0
 full_report s h = ap (λ b. if b then machine.Report 0 0 else machine.Report (sum (free_sizes s.blocks)) (largest (free_sizes s.blocks))) (short_too s 1 (omega arith) h)

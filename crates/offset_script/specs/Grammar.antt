@@ -1,5 +1,6 @@
 -- What a text means, a script or the fault of its first faulty line, and the text of answers to a script.
-use Rattle.std.specs.Prelude.{ℕ, ◌+◌, ◌^◌, Bool, true, not, ◌&&◌, List, [], ◌∷◌, ◌++◌, length, filter, count_by, Option, Some, None, option_and_then, Result, Ok, Err, ok_or, nat_lt, nat_le, ◌==◌, if◌then◌else◌, codes}
+use Rattle.std.specs.Prelude.{ℕ, ◌+◌, ◌^◌, Bool, true, not, ◌&&◌, List, [], ◌∷◌, ◌++◌, length, filter, count_by, Option, Some, None, option_and_then, Result, Ok, Err, ok_or, nat_lt, nat_le, ◌==◌}
+use Rattle.std.specs.Prelude.{if◌then◌else◌, codes}
 use Rattle.std.specs.List.{slice_split, flat_map}
 use Rattle.std.specs.Fmt.{decimal}
 use Rattle.std.specs.Str.{bytes_eq, all_ascii_digits}
@@ -13,7 +14,7 @@ use Rattle.offset_script.specs.declared.scripts.Header.{Header}
 use Rattle.offset_script.specs.declared.faults.ScriptFault.{ScriptFault}
 use Rattle.offset_script.specs.declared.faults.ScriptFault.TheVariants.{TooLong, BadHeader, BadLimit, BadCommand}
 use Rattle.offset_allocator.specs.Reports.{Row}
-use Rattle.offset_script.specs.Machine.{Answer, IsPlayed}
+use Rattle.offset_script.specs.Machine.{Answer}
 use Rattle.offset_script.specs.Machine as machine
 
 -- the parts of a text between the bytes `at`
@@ -24,7 +25,9 @@ parts at text = slice_split (λ b. b == at) text
 
 -- the number that a word spells: 1 to 10 decimal digits of a value that 32 bits hold
 unfoldable pub number_of : List ℕ → Option ℕ
-number_of word = if nat_lt 0 (length word) && nat_le (length word) 10 && all_ascii_digits word && nat_lt (digits_value 10 word) (2 ^ 32) then Some (digits_value 10 word) else None
+number_of word =
+    if nat_lt 0 (length word) && nat_le (length word) 10 && all_ascii_digits word && nat_lt (digits_value 10 word) (2 ^ 32)
+    then Some (digits_value 10 word) else None
 
 -- the words of a line: exactly one space separates two of them
 abbrev pub words : List ℕ → List (List ℕ)
@@ -84,13 +87,16 @@ has_valid_alignment other = true
 
 -- the index width that a word spells
 abbrev pub width_of : List ℕ → Option IndexWidth
-width_of word = if bytes_eq word (codes "16") then Some Bits16 else (if bytes_eq word (codes "32") then Some Bits32 else None)
+width_of word =
+    if bytes_eq word (codes "16") then Some Bits16
+    else (if bytes_eq word (codes "32") then Some Bits32 else None)
 
 -- the header that the words of a line spell, if they do, whatever its limit
 unfoldable pub header_of_words : List (List ℕ) → Option Header
 header_of_words (space ∷ size ∷ nodes ∷ limit ∷ index ∷ width ∷ []) =
     if bytes_eq space (codes "space") && bytes_eq nodes (codes "nodes") && bytes_eq index (codes "index")
-    then (number_of size >>= λ units. number_of limit >>= λ most. width_of width >>= λ bits. Some (record { size = units; max_allocs = most; index = bits }))
+    then (number_of size >>= λ units. number_of limit >>= λ most. width_of width >>= λ bits.
+    Some (record { size = units; max_allocs = most; index = bits }))
     else None
 header_of_words _ = None
 
@@ -150,13 +156,16 @@ abbrev pub ◌>>=!◌ : {A B : Type 0} → Result A ScriptFault → (A → Resul
 -- the commands that lines spell, or the fault of the first line that spells none
 unfoldable pub commands_of : List Line → Result (List Command) ScriptFault
 commands_of [] = Ok []
-commands_of (line ∷ more) = ok_or (command_of line.text) (BadCommand line.number) >>=! λ c. commands_of more >>=! λ cs. Ok (c ∷ cs)
+commands_of (line ∷ more) =
+    ok_or (command_of line.text) (BadCommand line.number) >>=! λ c. commands_of more >>=! λ cs. Ok (c ∷ cs)
 
 -- a header, of which first the form is checked and then the limit, and its commands; where there is no line, the header
 -- is missing on line `end`
 unfoldable pub plan_of : ℕ → List Line → Result Plan ScriptFault
 plan_of end [] = Err (BadHeader end)
-plan_of end (line ∷ more) = ok_or (header_of line.text) (BadHeader line.number) >>=! λ h. if is_admitted h then (commands_of more >>=! λ cs. Ok (record { header = h; commands = cs })) else Err (BadLimit line.number)
+plan_of end (line ∷ more) = ok_or (header_of line.text) (BadHeader line.number) >>=! λ h.
+    if is_admitted h then (commands_of more >>=! λ cs. Ok (record { header = h; commands = cs }))
+    else Err (BadLimit line.number)
 
 -- how many line ends a text has
 abbrev pub line_ends : List ℕ → ℕ
@@ -164,7 +173,9 @@ line_ends text = count_by (λ b. b == 10) text
 
 -- what a text means: a script, or the fault of its first faulty line
 unfoldable pub meaning_of : List ℕ → Result Plan ScriptFault
-meaning_of text = if nat_lt 1048576 (length text) then Err TooLong else plan_of (1 + line_ends text) (significant_from 1 text)
+meaning_of text =
+    if nat_lt 1048576 (length text) then Err TooLong
+    else plan_of (1 + line_ends text) (significant_from 1 text)
 
 -- ---- the text of answers
 
@@ -174,16 +185,19 @@ line_end = 10 ∷ []
 
 -- the line of a row
 abbrev pub row_line : Row → List ℕ
-row_line row = codes "class " ++ decimal row.class ++ codes " size " ++ decimal row.size ++ codes " count " ++ decimal row.count ++ line_end
+row_line row =
+    codes "class " ++ decimal row.class ++ codes " size " ++ decimal row.size ++ codes " count " ++ decimal row.count ++ line_end
 
 -- the lines of an answer: one, and of a full report also one for each row
 unfoldable pub lines_of_answer : Answer → List ℕ
-lines_of_answer (machine.Grant number offset) = codes "grant " ++ decimal number ++ codes " at " ++ decimal offset ++ line_end
+lines_of_answer (machine.Grant number offset) =
+    codes "grant " ++ decimal number ++ codes " at " ++ decimal offset ++ line_end
 lines_of_answer machine.Refused = codes "none" ++ line_end
 lines_of_answer machine.Freed = codes "freed" ++ line_end
 lines_of_answer machine.Gone = codes "gone" ++ line_end
 lines_of_answer (machine.Size n) = codes "size " ++ decimal n ++ line_end
-lines_of_answer (machine.Report free largest) = codes "free " ++ decimal free ++ codes " largest " ++ decimal largest ++ line_end
+lines_of_answer (machine.Report free largest) =
+    codes "free " ++ decimal free ++ codes " largest " ++ decimal largest ++ line_end
 lines_of_answer (machine.Full rows) = codes "full " ++ decimal (length rows) ++ line_end ++ flat_map row_line rows
 lines_of_answer machine.Reset = codes "reset" ++ line_end
 lines_of_answer machine.Extended = codes "extended" ++ line_end

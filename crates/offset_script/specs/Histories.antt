@@ -26,7 +26,8 @@ number_without g j k = if nat_le k g then k else if nat_le k (g + j) then 0 else
 
 -- the answers from s on, numbered as those from t on, where t has made more grants
 abbrev pub answers_renumbered : State → State → List Command → List Answer
-answers_renumbered s t cs = map (raise_number (t.grants - s.grants)) (answers (map (renumber (number_without s.grants (t.grants - s.grants))) cs) s)
+answers_renumbered s t cs = map (raise_number (t.grants - s.grants))
+    (answers (map (renumber (number_without s.grants (t.grants - s.grants))) cs) s)
 
 -- ---- a space without live grants continues as a fresh one
 
@@ -36,8 +37,9 @@ HasNoLive s = AllByRecursion (λ b. IsTrue (is_free b.tag)) s.blocks
 
 -- wherever no block is live, the answers found from there on are those of a fresh machine of as many units, numbered as
 -- here
-abbrev pub RestartsFresh : ℕ → ℕ → List Command → List Answer → Type 0
-RestartsFresh size limit cs found = (i : ℕ) → let s = after (take i cs) (start size limit) in HasNoLive s → drop i found ≡ answers_renumbered (start (total s.blocks) s.limit) s (drop i cs)
+abbrev pub HasFreshRestarts : ℕ → ℕ → List Command → List Answer → Type 0
+HasFreshRestarts size limit cs found = (i : ℕ) → let s = after (take i cs) (start size limit) in
+    HasNoLive s → drop i found ≡ answers_renumbered (start (total s.blocks) s.limit) s (drop i cs)
 
 -- ---- releases commute
 
@@ -62,7 +64,9 @@ widen n (b ∷ bs) = widen_by b.1
 -- each maximal run of neighbours that are free, or live with one of these numbers, becomes one free block
 abbrev pub collapse : List ℕ → List (ℕ × Option ℕ) → List (ℕ × Option ℕ)
 collapse ks [] = []
-collapse ks (b ∷ bs) = if option_map_or (λ k. list_any (nat_eq k) ks) b.1 true then widen b.0 (collapse ks bs) else b ∷ collapse ks bs
+collapse ks (b ∷ bs) =
+    if option_map_or (λ k. list_any (nat_eq k) ks) b.1 true then widen b.0 (collapse ks bs)
+    else b ∷ collapse ks bs
 
 -- t is the collapse of s, with any stamps
 pub record IsCollapse (ks : List ℕ) (s t : State) : Type 0 where
@@ -80,8 +84,9 @@ abbrev pub releases : List ℕ → List Command
 releases ks = map command.Free ks
 
 -- wherever releases in a row occur in the commands, the answer found after them is that of the collapse
-abbrev pub RowsCommute : ℕ → ℕ → List Command → List Answer → Type 0
-RowsCommute size limit cs found = (before : List Command) (ks : List ℕ) (c : Command) (rest : List Command) → cs ≡ before ++ releases ks ++ (c ∷ rest) → (t : State) → IsCollapse ks (after before (start size limit)) t
+abbrev pub HasCommutingRows : ℕ → ℕ → List Command → List Answer → Type 0
+HasCommutingRows size limit cs found = (before : List Command) (ks : List ℕ) (c : Command) (rest : List Command)
+    → cs ≡ before ++ releases ks ++ (c ∷ rest) → (t : State) → IsCollapse ks (after before (start size limit)) t
     → map without_offset (take 1 (drop (length (before ++ releases ks)) found)) ≡ without_offset (step c t).answer ∷ []
 
 -- ---- a nest leaves no trace
@@ -97,20 +102,23 @@ KeepsSpace (command.Extend more) = ⊥
 KeepsSpace other = Unit {0}
 
 -- from this state on, these commands release each block that they are granted, the last one first, and no other block
-pub data Nest : State → List Command → Type 0 where
+pub data IsNest : State → List Command → Type 0 where
   -- no commands
-  done : {s : State} → Nest s []
+  done : {s : State} → IsNest s []
   -- the first command neither grants nor releases, and the others are a nest
-  quiet : {s : State} {c : Command} {cs : List Command} → KeepsSpace c → ((k : ℕ) → IsGrant (step c s).answer k → ⊥) → (step c s).answer ≢ machine.Freed
-      → Nest (step c s).state cs → Nest s (c ∷ cs)
+  quiet : {s : State} {c : Command} {cs : List Command} → KeepsSpace c → ((k : ℕ) → IsGrant (step c s).answer k → ⊥)
+      → (step c s).answer ≢ machine.Freed → IsNest (step c s).state cs → IsNest s (c ∷ cs)
   -- the first command is granted as k, and then come a nest, the release of k, and a nest
   paired : {s : State} {c : Command} {k : ℕ} {inner outer : List Command} → KeepsSpace c → IsGrant (step c s).answer k
-      → Nest (step c s).state inner → Nest (after (inner ++ command.Free k ∷ []) (step c s).state) outer → Nest s (c ∷ (inner ++ (command.Free k ∷ outer)))
+      → IsNest (step c s).state inner → IsNest (after (inner ++ command.Free k ∷ []) (step c s).state) outer
+      → IsNest s (c ∷ (inner ++ (command.Free k ∷ outer)))
 
 -- wherever a nest occurs in the commands, the answers found after it are those without it
-abbrev pub NestsLeaveNoTrace : ℕ → ℕ → List Command → List Answer → Type 0
-NestsLeaveNoTrace size limit cs found = (before nest rest : List Command) → cs ≡ before ++ nest ++ rest → Nest (after before (start size limit)) nest
-    → drop (length (before ++ nest)) found ≡ answers_renumbered (after before (start size limit)) (after (before ++ nest) (start size limit)) rest
+abbrev pub HasTracelessNests : ℕ → ℕ → List Command → List Answer → Type 0
+HasTracelessNests size limit cs found = (before nest rest : List Command) → cs ≡ before ++ nest ++ rest
+    → IsNest (after before (start size limit)) nest
+    → drop (length (before ++ nest)) found
+    ≡ answers_renumbered (after before (start size limit)) (after (before ++ nest) (start size limit)) rest
 
 -- ---- a question leaves no trace
 

@@ -1,10 +1,9 @@
-pub mod Agreement
 pub mod Devices
 pub mod Faults
 pub mod Grammar
 pub mod Histories
 pub mod Machine
 pub mod Running
-pub mod Simulation
 pub mod Spelling
+pub mod Steps
 pub mod Totals

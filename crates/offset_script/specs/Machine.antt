@@ -1,7 +1,8 @@
 -- The plain stamped machine: the space as a list of blocks, commands in, answers out. The size classes, the rows of a
 -- full report, the largest size of a space (`max_size`) and the padding of an aligned grant (`padding_to`) are the
 -- allocator's.
-use Rattle.std.specs.Prelude.{◌≡◌, ℕ, zero, suc, ◌+◌, ◌-◌, ◌*◌, Bool, true, false, ◌&&◌, ◌||◌, not, List, [], ◌∷◌, ◌++◌, length, map, sum, Option, Some, None, option_map, nat_eq, nat_lt, nat_le, if◌then◌else◌}
+use Rattle.std.specs.Prelude.{◌≡◌, ℕ, zero, suc, ◌+◌, ◌-◌, ◌*◌, Bool, true, false, ◌&&◌, ◌||◌, not, List, [], ◌∷◌, ◌++◌, length, map, sum, Option, Some, None, option_map, nat_eq, nat_lt, nat_le}
+use Rattle.std.specs.Prelude.{if◌then◌else◌}
 use Rattle.offset_allocator.specs.Classes.{up, down}
 use Rattle.offset_allocator.specs.View.{max_size, padding_to}
 use Rattle.offset_allocator.specs.Reports.{largest, Row, rows_below}
@@ -72,7 +73,8 @@ fits n b = is_free b.tag && nat_le (up n) (down b.size)
 
 -- whether of two free blocks the first is chosen over the second: its class is smaller, or the same and its stamp newer
 abbrev pub is_taken_before : Block → Block → Bool
-is_taken_before a b = nat_lt (down a.size) (down b.size) || (nat_eq (down a.size) (down b.size) && nat_lt (stamp b.tag) (stamp a.tag))
+is_taken_before a b =
+    nat_lt (down a.size) (down b.size) || (nat_eq (down a.size) (down b.size) && nat_lt (stamp b.tag) (stamp a.tag))
 
 -- the better place for a request of n units: that of the first block b, or the one chosen among the blocks bs after it
 abbrev pub choose : ℕ → Block → List Block → Option Place → Option Place
@@ -124,7 +126,8 @@ ends_live (b ∷ c ∷ bs) = ends_live (c ∷ bs)
 
 -- n units between two lists become free, with stamp s, and coalesce with a free block right before and one right after
 abbrev pub coalesce : List Block → ℕ → ℕ → List Block → List Block
-coalesce before n s after = without_end before ++ block (free_end before + n + free_start after) (Free s) ∷ without_start after
+coalesce before n s after =
+    without_end before ++ block (free_end before + n + free_start after) (Free s) ∷ without_start after
 
 -- ---- states and calls
 
@@ -150,6 +153,10 @@ pub data Answer : Type 0 where
   Full : List Row → Answer
   Reset : Answer
   Extended : Answer
+
+-- the full report of a space with free blocks of these sizes
+abbrev pub full_report : List ℕ → Answer
+full_report sizes = Full (rows_below 256 sizes)
 
 -- the state that a call leaves, and its answer
 pub record Outcome : Type 0 where
@@ -186,7 +193,8 @@ grant s n padding p = record {
   state = record s {
     calls = s.calls + 1;
     grants = s.grants + 1;
-    blocks = p.before ++ (free_block padding (stamp_of_padding s) ++ (block n (Live (s.grants + 1)) ∷ (free_block (p.block.size - (padding + n)) (stamp_of_call s) ++ p.after)));
+    blocks = p.before ++ (free_block padding (stamp_of_padding s)
+        ++ (block n (Live (s.grants + 1)) ∷ (free_block (p.block.size - (padding + n)) (stamp_of_call s) ++ p.after)));
   };
   answer = Grant (s.grants + 1) (total p.before + padding);
 }
@@ -199,7 +207,9 @@ grant_or_refuse s n padding_at (Some p) = grant s n (padding_at (total p.before)
 -- a request for n units: it takes the block chosen for `needed` units, and is refused where there is none, or where
 -- fewer than `spare` further blocks may exist
 abbrev pub request : State → ℕ → ℕ → ℕ → (ℕ → ℕ) → Outcome
-request s spare needed n padding_at = if is_short_of spare s then returns_only s Refused else grant_or_refuse s n padding_at (chosen_place needed s.blocks)
+request s spare needed n padding_at =
+    if is_short_of spare s then returns_only s Refused
+    else grant_or_refuse s n padding_at (chosen_place needed s.blocks)
 
 -- a request for n units
 abbrev pub allocate : ℕ → State → Outcome
@@ -207,7 +217,10 @@ allocate n s = request s 1 n n (λ offset. 0)
 
 -- a request for n units whose offset is a multiple of align
 abbrev pub allocate_aligned : ℕ → ℕ → State → Outcome
-allocate_aligned n align s = if nat_le align 1 then allocate n s else if nat_lt max_size (n + align - 1) then returns_only s Refused else request s 2 (n + align - 1) n (padding_to align)
+allocate_aligned n align s =
+    if nat_le align 1 then allocate n s
+    else if nat_lt max_size (n + align - 1) then returns_only s Refused
+    else request s 2 (n + align - 1) n (padding_to align)
 
 -- the live block at a place becomes free; `Gone` where there is none
 abbrev pub release : State → Option Place → Outcome
@@ -231,7 +244,9 @@ reset s = leaves s (block (total s.blocks) (Free (stamp_of_call s)) ∷ []) Rese
 -- the units need a block of their own and none may be added
 abbrev pub extend : ℕ → State → Outcome
 extend zero s = returns_only s Extended
-extend (suc more) s = if nat_lt max_size (total s.blocks + suc more) || (ends_live s.blocks && is_short_of 1 s) then returns_only s Refused else leaves s (coalesce s.blocks (suc more) (stamp_of_call s) []) Extended
+extend (suc more) s =
+    if nat_lt max_size (total s.blocks + suc more) || (ends_live s.blocks && is_short_of 1 s) then returns_only s Refused
+    else leaves s (coalesce s.blocks (suc more) (stamp_of_call s) []) Extended
 
 -- what one command leaves and returns
 abbrev pub step : Command → State → Outcome
@@ -239,7 +254,7 @@ step (command.Alloc n) s = allocate n s
 step (command.Free k) s = release s (place_of k s.blocks)
 step (command.Size k) s = returns_only s (size_at (place_of k s.blocks))
 step command.Report s = returns_only s (report s)
-step command.Full s = returns_only s (Full (rows_below 256 (free_sizes s.blocks)))
+step command.Full s = returns_only s (full_report (free_sizes s.blocks))
 step command.Reset s = reset s
 step (command.Align n align) s = allocate_aligned n align s
 step (command.Extend more) s = extend more s

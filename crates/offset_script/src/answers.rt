@@ -67,7 +67,8 @@ fn put_rows(out: &mut String, rows: &[FullRow]) -> Result<(), AllocError>
 // Appends the lines of an answer.
 #[tactic(auto, unfolding(crate::specs::Grammar::lines_of_answer))]
 fn put_answer(out: &mut String, answer: &Answer) -> Result<(), AllocError>
-    ensures { OnOk result (string_bytes out.new ≡ string_bytes out.old ++ lines_of_answer (answer_view answer.now)) }
+    ensures { OnOk result
+        (string_bytes out.new ≡ string_bytes out.old ++ lines_of_answer (answer_view answer.now)) }
 {
     match answer {
         Answer::Grant { number, offset } => writeln!(out, "grant {number} at {offset}"),

@@ -1,6 +1,7 @@
 //! Where a script comes from, and where its answers go.
 
-ghost use Rattle.std.specs.Prelude.{◌≡◌, ℕ, ◌<◌, ◌≤◌, Bool, true, false, ◌||◌, IsTrue, List, Option, length, take, IfSome, MatchOption, is_some, if◌then◌else◌};
+ghost use Rattle.std.specs.Prelude.{◌≡◌, ℕ, ◌<◌, ◌≤◌, Bool, true, false, not, ◌||◌, IsTrue, List, Option, length, take};
+ghost use Rattle.std.specs.Prelude.{IfSome, MatchOption, is_none};
 ghost use Rattle.offset_script.specs.Devices.{Reading, Writing};
 ghost use Rattle.std.specs.Io.KnownBytes.{Consumes, Appends, Keeps, IsAtEnd};
 
@@ -22,7 +23,7 @@ pub trait Source {
         ensures bytes { MatchOption result (Keeps (left self.old) (left self.new))
             (λ n. Consumes (left self.old) (left self.new) (take n buf.new)
             × (n ≡ 0 → 0 < length buf.new → IsAtEnd (left self.new))) }
-        ensures failed { has_failed self.new ≡ (if is_some result then has_failed self.old else true) };
+        ensures failed { has_failed self.new ≡ (is_none result || has_failed self.old) };
 }
 
 /// A receiver of bytes that come in pieces.
@@ -47,13 +48,13 @@ pub trait Sink {
         ensures count { IfSome result (λ n. n ≤ length bytes.now) }
         ensures bytes { MatchOption result (Keeps (held self.old) (held self.new))
             (λ n. Appends (held self.old) (held self.new) (take n bytes.now)) }
-        ensures failed { has_failed self.new ≡ (if is_some result then has_failed self.old else true) }
-        ensures failed_push { push_has_failed self.new ≡ (if is_some result then push_has_failed self.old else true) };
+        ensures failed { has_failed self.new ≡ (is_none result || has_failed self.old) }
+        ensures failed_push { push_has_failed self.new ≡ (is_none result || push_has_failed self.old) };
 
     /// Passes on what was appended, and appends nothing itself. `false` is a failure.
     fn flush(&mut self) -> bool
         ensures bytes { Keeps (held self.old) (held self.new) }
-        ensures failed { has_failed self.new ≡ (if result then has_failed self.old else true) }
+        ensures failed { has_failed self.new ≡ (not result || has_failed self.old) }
         ensures failed_push { push_has_failed self.new ≡ push_has_failed self.old }
         ensures flushed { IsTrue result → is_flushed self.new ≡ true };
 }
@@ -175,7 +176,7 @@ impl<W: Write> Sink for IntoWrite<W> {
         ensures bytes { MatchOption result (Keeps (W.contents self.old.inner) (W.contents self.new.inner))
             (λ n. Appends (W.contents self.old.inner) (W.contents self.new.inner) (take n bytes.now)) }
         ensures failed { self.new.flush_has_failed ≡ self.old.flush_has_failed }
-        ensures failed_push { self.new.push_has_failed ≡ (if is_some result then self.old.push_has_failed else true) }
+        ensures failed_push { self.new.push_has_failed ≡ (is_none result || self.old.push_has_failed) }
         // What comes after a flush is not flushed, nor is what a write that failed may have left.
         ensures flushed { self.new.is_flushed ≡ false }
     {
@@ -191,7 +192,7 @@ impl<W: Write> Sink for IntoWrite<W> {
 
     fn flush(&mut self) -> bool
         ensures bytes { Keeps (W.contents self.old.inner) (W.contents self.new.inner) }
-        ensures failed { self.new.flush_has_failed ≡ (if result then self.old.flush_has_failed else true) }
+        ensures failed { self.new.flush_has_failed ≡ (not result || self.old.flush_has_failed) }
         ensures failed_push { self.new.push_has_failed ≡ self.old.push_has_failed }
         ensures flushed { self.new.is_flushed ≡ result }
     {

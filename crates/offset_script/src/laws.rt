@@ -6,7 +6,8 @@ ghost use Rattle.offset_script.specs.declared.scripts.Command.TheVariants as com
 ghost use Rattle.offset_script.specs.declared.scripts.Header.{Header};
 ghost use Rattle.offset_allocator.specs.View.{max_size};
 ghost use Rattle.offset_script.specs.Grammar.{command_of, header_of};
-ghost use Rattle.offset_script.specs.Histories.{HasNoLive, answers_renumbered, outline, collapse, IsCollapse, without_offset, releases, Nest, IsQuestion};
+ghost use Rattle.offset_script.specs.Histories.{HasNoLive, IsCollapse, IsNest, IsQuestion};
+ghost use Rattle.offset_script.specs.Histories.{answers_renumbered, collapse, outline, releases, without_offset};
 ghost use Rattle.offset_script.specs.Machine.{State, start, step, after, answers, total, free_sizes};
 ghost use Rattle.offset_script.specs.Machine as machine;
 ghost use Rattle.offset_script.specs.Spelling.{IsSpelling, IsHeaderSpelling};
@@ -24,9 +25,10 @@ pub fn one_header_spelling()
 
 /// A space without live grants continues as a fresh one of its size.
 pub fn an_empty_space_continues_as_fresh()
-    ensures { (size limit : ℕ) → 2 ≤ limit → (cs : List Command) → let s = after cs (start size limit) in
-        HasNoLive s → (next : List Command) → answers next s
-        ≡ answers_renumbered (start (total s.blocks) s.limit) s next }
+    ensures { (size limit : ℕ) → 2 ≤ limit → (cs : List Command)
+        → let s = after cs (start size limit) in
+        HasNoLive s → (next : List Command)
+        → answers next s ≡ answers_renumbered (start (total s.blocks) s.limit) s next }
 {}
 
 /// A fresh space that is extended continues as a fresh one of the summed size.
@@ -51,13 +53,16 @@ pub fn releases_commute()
 /// A nest leaves no trace: each of its grants is released in it, the last first, what lies between a grant and its
 /// release is a nest too, no other grant is released, and nothing is reset or extended.
 pub fn a_nest_leaves_no_trace()
-    ensures { (size limit : ℕ) → 2 ≤ limit → (cs nest : List Command) → let s = after cs (start size limit) in
-        Nest s nest → (next : List Command) → answers next (after nest s) ≡ answers_renumbered s (after nest s) next }
+    ensures { (size limit : ℕ) → 2 ≤ limit → (cs nest : List Command)
+        → let s = after cs (start size limit) in
+        IsNest s nest → (next : List Command)
+        → answers next (after nest s) ≡ answers_renumbered s (after nest s) next }
 {}
 
 /// A report, a full report or a question for a size, put anywhere into the commands, changes no other answer.
 pub fn a_question_changes_nothing()
-    ensures { (size limit : ℕ) → 2 ≤ limit → (before : List Command) (q : Command) (rest : List Command) → IsQuestion q
+    ensures { (size limit : ℕ) → 2 ≤ limit
+        → (before : List Command) (q : Command) (rest : List Command) → IsQuestion q
         → let s = after before (start size limit) in
         answers (before ++ q ∷ rest) (start size limit)
         ≡ answers before (start size limit) ++ ((step q s).answer ∷ answers rest s) }

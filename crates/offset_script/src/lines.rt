@@ -45,7 +45,8 @@ impl<'a> Lines<'a> {
               number = result.0;
               text = result.1.now;
             } ∷ significant_from self.new.number self.new.rest.now) }
-        ensures ends { self.new.number + line_ends self.new.rest.now ≡ self.old.number + line_ends self.old.rest.now }
+        ensures ends { self.new.number + line_ends self.new.rest.now
+            ≡ self.old.number + line_ends self.old.rest.now }
         ensures shorter { length self.new.rest.now < length self.old.rest.now }
     {
         let (line, after) = split_once(self.rest, b'\n');
@@ -70,7 +71,8 @@ impl<'a> Lines<'a> {
         ensures end { MatchOption result
             (self.new.number ≡ self.old.number + line_ends self.old.rest.now)
             (λ _. length self.new.rest.now < length self.old.rest.now) }
-        ensures ends { self.new.number + line_ends self.new.rest.now ≡ self.old.number + line_ends self.old.rest.now }
+        ensures ends { self.new.number + line_ends self.new.rest.now
+            ≡ self.old.number + line_ends self.old.rest.now }
     {
         while !self.rest.is_empty() {
             let (number, line) = self.take_line();

@@ -1,15 +1,14 @@
 //! Plays the commands of a script on an allocator.
 
-ghost use Rattle.std.specs.Prelude.{◌≡◌, ◌+◌, ◌<◌, ◌≤◌, [], All, IfOk, IfSome, IsTrue, None, ℕ, length, map, option_map, slice_index_or, vec_len};
-ghost use Rattle.offset_script.specs.Agreement.{kept_name};
+ghost use Rattle.std.specs.Prelude.{◌≡◌, ◌+◌, ◌<◌, ◌≤◌, ℕ, IsTrue, All, [], length, map, slice_index_or, vec_len};
+ghost use Rattle.std.specs.Prelude.{None, IfOk, IfSome, option_map};
+ghost use Rattle.offset_script.specs.Steps.{kept_name, IsKept, Takes, AreLive, AreOfARun};
 ghost use Rattle.offset_script.specs.Machine as machine;
 ghost use Rattle.offset_script.specs.Machine.{answer_view, answers, start, IsPlayed};
-ghost use Rattle.offset_script.specs.Histories.{RestartsFresh, RowsCommute, NestsLeaveNoTrace};
+ghost use Rattle.offset_script.specs.Histories.{HasFreshRestarts, HasCommutingRows, HasTracelessNests};
 ghost use Rattle.offset_script.specs.Grammar.{has_valid_alignment};
-ghost use Rattle.offset_script.specs.Simulation.{IsKept, Takes, AreLive, AreOfARun};
 ghost use Rattle.offset_allocator.specs.View.{free_sizes};
 ghost use Rattle.offset_allocator.specs.Relations.{IsFresh};
-ghost use Rattle.offset_allocator.specs.Reports.{rows_below};
 
 use crate::answers::{Answer, FullRow};
 use crate::scripts::{Command, IndexWidth, Script};
@@ -22,7 +21,7 @@ pub fn full_answer<NI: NodeIndex>(
     alloc: Global,
     space: &Allocator<NI>,
 ) -> Result<Answer, AllocError>
-    ensures { IfOk result (λ a. answer_view a ≡ machine.Full (rows_below 256 (free_sizes space.now.blocks))) }
+    ensures { IfOk result (λ a. answer_view a ≡ machine.full_report (free_sizes space.now.blocks)) }
 {
     let report = space.storage_report_full();
     let mut rows = Vec::new(alloc);
@@ -221,16 +220,19 @@ pub fn play<NI: NodeIndex>(
     ensures answers { IfOk result (λ found. map answer_view found.items
         ≡ answers commands.now (start size max_allocs)) }
     // They are those of a run of the allocator's named steps on a fresh space.
-    ensures run { IfOk result (λ found. AreOfARun Takes size max_allocs commands.now (map answer_view found.items)) }
+    ensures run { IfOk result (λ found. AreOfARun Takes size max_allocs commands.now
+        (map answer_view found.items)) }
     // Wherever no grant is live, the answers from there on are those of a fresh machine over as many units, with the
     // number of the grants so far added to its grant numbers.
-    ensures fresh { IfOk result (λ found. RestartsFresh size max_allocs commands.now (map answer_view found.items)) }
+    ensures fresh { IfOk result (λ found. HasFreshRestarts size max_allocs commands.now
+        (map answer_view found.items)) }
     // After releases in a row, the next answer, without the offset of a grant, is that of a space where each run of
     // free and released neighbours is one free block: so the order of the releases does not matter.
-    ensures rows { IfOk result (λ found. RowsCommute size max_allocs commands.now (map answer_view found.items)) }
+    ensures rows { IfOk result (λ found. HasCommutingRows size max_allocs commands.now
+        (map answer_view found.items)) }
     // After a nest, whose grants are released in reverse order, the answers are those without the nest, except that its
     // grants have taken numbers.
-    ensures nests { IfOk result (λ found. NestsLeaveNoTrace size max_allocs commands.now
+    ensures nests { IfOk result (λ found. HasTracelessNests size max_allocs commands.now
         (map answer_view found.items)) }
 {
     let mut player: Player<NI> = Player::start(alloc, size, max_allocs)?;

@@ -1,11 +1,11 @@
 //! What a program does: a run, its status, and the line of its fault.
 
-ghost use Rattle.std.specs.Prelude.{◌≡◌, ◌≢◌, Result, Err, true, IfErr, IfSome, MatchResult, OnOk, if◌then◌else◌};
+ghost use Rattle.std.specs.Prelude.{◌≡◌, ◌≢◌, Result, Err, true, IfErr, IfSome, MatchResult, OnOk, ◌||◌};
 ghost use Rattle.offset_script.specs.declared.faults.RunFault.{RunFault};
 ghost use Rattle.offset_script.specs.declared.faults.RunFault.TheVariants as faults;
 ghost use Rattle.offset_script.specs.declared.faults.ScriptFault.TheVariants as scripts;
 ghost use Rattle.offset_script.specs.Faults.{fault_status};
-ghost use Rattle.offset_script.specs.Running.{RunOf, WritesFault, is_read_fault, is_write_fault};
+ghost use Rattle.offset_script.specs.Running.{IsRunOf, WritesFault, is_read_fault, is_write_fault};
 
 use crate::devices::{Sink, Source};
 use crate::running::run;
@@ -40,12 +40,12 @@ pub fn run_program<S: Source, K: Sink, E: Sink>(
         (λ fault. (result ≡ fault_status fault) × WritesFault fault
         (E.held errors.old) (E.held errors.new) (E.has_failed errors.old) (E.has_failed errors.new)
         (E.push_has_failed errors.new) (E.is_flushed errors.new))
-        × IfSome (S.left input.old) (λ text. RunOf ended text (S.left input.new)
+        × IfSome (S.left input.old) (λ text. IsRunOf ended text (S.left input.new)
         (K.held output.old) (K.held output.new) (K.push_has_failed output.new))
         × OnOk ended (K.is_flushed output.new ≡ true)
         × IfErr ended (λ f. f ≢ faults.Write → output.new ≡ output.old)
-        × (S.has_failed input.new ≡ (if is_read_fault ended then true else S.has_failed input.old))
-        × (K.has_failed output.new ≡ (if is_write_fault ended then true else K.has_failed output.old)) }
+        × (S.has_failed input.new ≡ (is_read_fault ended || S.has_failed input.old))
+        × (K.has_failed output.new ≡ (is_write_fault ended || K.has_failed output.old)) }
 {
     match run(alloc, input, output) {
         Ok(()) => 0,

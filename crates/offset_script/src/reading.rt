@@ -1,8 +1,10 @@
 //! Reads a text as a script.
 
 ghost use Rattle.std.specs.Prelude.{◌≡◌, IfSome, IsTrue};
-ghost use Rattle.offset_script.specs.Grammar.{has_valid_alignment, plain_command, number_command, pair_command, command_of, width_of, header_of, is_admitted, meaning_of};
-ghost use Rattle.offset_script.specs.Running.{Returns};
+ghost use Rattle.offset_script.specs.Grammar.{plain_command, number_command, pair_command, command_of, width_of};
+ghost use Rattle.offset_script.specs.Grammar.{header_of};
+ghost use Rattle.offset_script.specs.Grammar.{has_valid_alignment, is_admitted, meaning_of};
+ghost use Rattle.offset_script.specs.Running.{IsParsed};
 
 use crate::faults::ScriptFault;
 use crate::lines::Lines;
@@ -139,10 +141,10 @@ impl Header {
 /// that begin with `#` are skipped. The first other line must be a header: it is `BadHeader` where it is none, or there
 /// is no such line, and `BadLimit` where its limit is not admitted. Each later line must be a command, or is
 /// `BadCommand`. `Memory` is returned only where an allocation failed.
-#[tactic(auto, using(crate::proofs::Steps::is_too_long, crate::proofs::Steps::has_no_header, crate::proofs::Steps::has_bad_form, crate::proofs::Steps::has_bad_limit, crate::proofs::Steps::has_header, crate::proofs::Steps::has_bad_command, crate::proofs::Steps::goes_on, crate::proofs::Steps::is_read))]
+#[tactic(auto, using(crate::proofs::Meaning::steps))]
 pub fn parse(alloc: Global, text: &[u8]) -> Result<Script, ScriptFault>
     // The result is the script that the text means, or the fault of its first faulty line, or `Memory`.
-    ensures { Returns result (meaning_of text.now) }
+    ensures { IsParsed result (meaning_of text.now) }
 {
     if text.len() > MAX_TEXT {
         return Err(ScriptFault::TooLong);

@@ -1,7 +1,7 @@
 //! Runs a script from a source to a sink.
 
-ghost use Rattle.std.specs.Prelude.{◌≡◌, ◌≢◌, ◌⊎◌, true, false, IfOk, IfErr, IfSome, OnOk, if◌then◌else◌};
-ghost use Rattle.offset_script.specs.Running.{RunOf, ScriptOf, HasText, is_read_fault, is_write_fault};
+ghost use Rattle.std.specs.Prelude.{◌≡◌, ◌≢◌, ◌⊎◌, true, false, IfOk, IfErr, IfSome, OnOk, ◌||◌};
+ghost use Rattle.offset_script.specs.Running.{IsRunOf, IsScriptOf, HasText, is_read_fault, is_write_fault};
 ghost use Rattle.offset_script.specs.declared.faults.RunFault.TheVariants as faults;
 ghost use Rattle.offset_script.specs.declared.faults.ScriptFault.TheVariants as scripts;
 
@@ -20,7 +20,7 @@ const PIECE: usize = 16384;
 // All bytes of the source, or its first `MAX_TEXT + 1`. It stops at the first failure.
 fn read_text<S: Source>(alloc: Global, input: &mut S) -> Result<Vec<u8>, RunFault>
     ensures text { IfOk result (λ text. HasText text.items (S.left input.old) (S.left input.new)) }
-    ensures failed { S.has_failed input.new ≡ (if is_read_fault result then true else S.has_failed input.old) }
+    ensures failed { S.has_failed input.new ≡ (is_read_fault result || S.has_failed input.old) }
     ensures fault { IfErr result (λ f. (f ≡ faults.Memory) ⊎ (f ≡ faults.Read)) }
 {
     let mut text = Vec::new(alloc);
@@ -44,13 +44,13 @@ pub fn read_script<S: Source>(alloc: Global, input: &mut S) -> Result<Script, Ru
     // Where the text of the source is known: the result is the script that the text means, or its fault, and nothing of
     // the text is left, except what follows the first 1,048,577 bytes of one that is too long. On `Memory` and
     // `Read` nothing is said.
-    ensures of_text { IfSome (S.left input.old) (λ text. ScriptOf result text (S.left input.new)) }
+    ensures of_text { IfSome (S.left input.old) (λ text. IsScriptOf result text (S.left input.new)) }
     // Out of memory is `Memory`, and never `Script(Memory)`.
     ensures memory { result ≢ Err (faults.Script scripts.Memory) }
     // The fault is never `Write`.
     ensures write { is_write_fault result ≡ false }
     // The fault is `Read` exactly where the source failed in this call.
-    ensures read { S.has_failed input.new ≡ (if is_read_fault result then true else S.has_failed input.old) }
+    ensures read { S.has_failed input.new ≡ (is_read_fault result || S.has_failed input.old) }
 {
     let text = read_text(alloc, input)?;
     Ok(parse(alloc, &text)?)
@@ -68,7 +68,7 @@ pub fn run<S: Source, K: Sink>(alloc: Global, input: &mut S, output: &mut K) -> 
     // `Write` a beginning of that text is, and all of it where no push has failed; on `Script` the fault is that of the
     // text. Nothing of the text is left, except what follows the first 1,048,577 bytes of one that is too long. On
     // `Memory` and `Read` nothing is said.
-    ensures of_text { IfSome (S.left input.old) (λ text. RunOf result text (S.left input.new)
+    ensures of_text { IfSome (S.left input.old) (λ text. IsRunOf result text (S.left input.new)
         (K.held output.old) (K.held output.new) (K.push_has_failed output.new)) }
     // After `Ok` the sink is flushed, if it says so.
     ensures flushed { OnOk result (K.is_flushed output.new ≡ true) }
@@ -77,9 +77,9 @@ pub fn run<S: Source, K: Sink>(alloc: Global, input: &mut S, output: &mut K) -> 
     // Out of memory is `Memory`, and never `Script(Memory)`.
     ensures memory { result ≢ Err (faults.Script scripts.Memory) }
     // The fault is `Read` exactly where the source failed in this call.
-    ensures read { S.has_failed input.new ≡ (if is_read_fault result then true else S.has_failed input.old) }
+    ensures read { S.has_failed input.new ≡ (is_read_fault result || S.has_failed input.old) }
     // The fault is `Write` exactly where the sink failed in this call.
-    ensures write { K.has_failed output.new ≡ (if is_write_fault result then true else K.has_failed output.old) }
+    ensures write { K.has_failed output.new ≡ (is_write_fault result || K.has_failed output.old) }
 {
     let script = read_script(alloc, input)?;
     let answers = play_script(alloc, &script)?;

@@ -1,6 +1,6 @@
 //! Sends texts to sinks.
 
-ghost use Rattle.std.specs.Prelude.{◌≡◌, ◌++◌, true, ◌||◌, not, IsTrue, if◌then◌else◌};
+ghost use Rattle.std.specs.Prelude.{◌≡◌, ◌++◌, true, ◌||◌, not, IsTrue};
 ghost use Rattle.std.specs.List.{flat_map};
 ghost use Rattle.offset_script.specs.Grammar.{line_end};
 ghost use Rattle.offset_script.specs.Running.{Sends};
@@ -13,8 +13,8 @@ use crate::tokens::{MOST_DIGITS, digits};
 // Appends all bytes, and returns whether it did. It stops at the first failure, and tries nothing again.
 fn push_all<K: Sink>(output: &mut K, text: &[u8]) -> bool
     ensures sent { Sends result text.now (K.held output.old) (K.held output.new) }
-    ensures failed { K.has_failed output.new ≡ (if result then K.has_failed output.old else true) }
-    ensures failed_push { K.push_has_failed output.new ≡ (if result then K.push_has_failed output.old else true) }
+    ensures failed { K.has_failed output.new ≡ (not result || K.has_failed output.old) }
+    ensures failed_push { K.push_has_failed output.new ≡ (not result || K.push_has_failed output.old) }
 {
     let mut rest = text;
     while !rest.is_empty() {
@@ -30,10 +30,10 @@ fn push_all<K: Sink>(output: &mut K, text: &[u8]) -> bool
 /// first failure, and tries nothing again.
 pub fn send<K: Sink>(output: &mut K, text: &[u8]) -> bool
     // On `true` the whole text is appended, on `false` a beginning of it: the whole, where no push has failed.
-    ensures sent { Sends (result || not (K.push_has_failed output.new)) text.now (K.held output.old)
-        (K.held output.new) }
+    ensures sent { Sends (result || not (K.push_has_failed output.new)) text.now
+        (K.held output.old) (K.held output.new) }
     // The result is `false` exactly where the sink failed in this call.
-    ensures failed { K.has_failed output.new ≡ (if result then K.has_failed output.old else true) }
+    ensures failed { K.has_failed output.new ≡ (not result || K.has_failed output.old) }
     // On `true` the sink is flushed.
     ensures flushed { IsTrue result → K.is_flushed output.new ≡ true }
 {
@@ -43,9 +43,9 @@ pub fn send<K: Sink>(output: &mut K, text: &[u8]) -> bool
 // Appends the pieces of a text in turn, and then flushes. Returns whether all succeeded. It stops at the first failure,
 // and tries nothing again.
 fn send_pieces<K: Sink>(output: &mut K, pieces: &[&[u8]]) -> bool
-    ensures sent { Sends (result || not (K.push_has_failed output.new)) (flat_map (λ piece. piece.now) pieces.now)
-        (K.held output.old) (K.held output.new) }
-    ensures failed { K.has_failed output.new ≡ (if result then K.has_failed output.old else true) }
+    ensures sent { Sends (result || not (K.push_has_failed output.new))
+        (flat_map (λ piece. piece.now) pieces.now) (K.held output.old) (K.held output.new) }
+    ensures failed { K.has_failed output.new ≡ (not result || K.has_failed output.old) }
     ensures flushed { IsTrue result → K.is_flushed output.new ≡ true }
 {
     for piece in pieces {
@@ -64,7 +64,7 @@ pub fn send_fault<K: Sink>(output: &mut K, fault: RunFault) -> bool
     ensures sent { Sends (result || not (K.push_has_failed output.new)) (fault_line fault ++ line_end)
         (K.held output.old) (K.held output.new) }
     // The result is `false` exactly where the sink failed in this call.
-    ensures failed { K.has_failed output.new ≡ (if result then K.has_failed output.old else true) }
+    ensures failed { K.has_failed output.new ≡ (not result || K.has_failed output.old) }
     // On `true` the sink is flushed.
     ensures flushed { IsTrue result → K.is_flushed output.new ≡ true }
 {

@@ -17,7 +17,8 @@ fn place_of(text: &[u8], at: u8) -> Option<usize>
 
 /// The part before the first byte `at`, and what comes after that byte. All of the text and `None` where there is none.
 pub fn split_once(text: &[u8], at: u8) -> (&[u8], Option<&[u8]>)
-    ensures parts { parts at text.now ≡ result.0.now ∷ option_map_or (parts at) (option_copied result.1) [] }
+    ensures parts { parts at text.now
+        ≡ result.0.now ∷ option_map_or (parts at) (option_copied result.1) [] }
     ensures shorter { IfSome result.1 (λ rest. length rest.now < length text.now) }
 {
     match place_of(text, at) {

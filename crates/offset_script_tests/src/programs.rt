@@ -29,7 +29,7 @@ fn run_over(
     let mut errors = IntoWrite::new(errors);
     let status = match program {
         Program::Run => run_program(alloc, &mut input, &mut output, &mut errors),
-        Program::Draw => draw_program(alloc, &mut input, &mut output, &mut errors),
+        Program::Draw => draw_program(alloc, "A script", &mut input, &mut output, &mut errors),
     };
     (status, output.into_inner(), errors.into_inner())
 }

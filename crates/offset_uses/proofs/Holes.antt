@@ -1,5 +1,6 @@
--- Holes, counted along a walk over the blocks.
-use Rattle.std.proofs.Common.{◌≡◌, ℕ, ◌+◌, ◌<◌, ◌≤◌, Bool, true, false, is_some, inl, inr, slice_index, slice_set, sym, get_or-set_same, get_or-set_other, List, [], ◌∷◌, ◌++◌, length, reverse, nat_eq, if◌then◌else◌, refl, ap, ◌∙◌, arith}
+-- Free blocks, counted along a walk over the blocks.
+use Rattle.std.proofs.Common.{◌≡◌, ℕ, ◌+◌, ◌<◌, ◌≤◌, Bool, true, false, is_some, inl, inr, slice_index, slice_set, sym, get_or-set_same, get_or-set_other, List, [], ◌∷◌, ◌++◌, length, reverse, nat_eq}
+use Rattle.std.proofs.Common.{if◌then◌else◌, refl, ap, ◌∙◌, arith}
 use Rattle.std.proofs.lemmas.Bool.Decides.{eqb_tells}
 use Rattle.std.proofs.lemmas.List.{reverse-append}
 use Rattle.offset_allocator.specs.Classes.{down}
@@ -12,11 +13,11 @@ use Rattle.offset_allocator.specs.Listing.{Placed, placed, placed_at, listing}
 abbrev one_if : Bool → ℕ
 one_if u = if u then 1 else 0
 
--- whether a hole of class k is one of class c
+-- whether a free block of class k is one of class c
 abbrev class_hole : ℕ → ℕ → ℕ
 class_hole k c = one_if (nat_eq k c)
 
--- whether a block is a hole of class c
+-- whether a block is a free block of class c
 abbrev pub hole : ℕ → Placed → ℕ
 hole c p = if is_some {T = Grant} p.grant then 0 else class_hole (down p.size) c
 
@@ -37,9 +38,10 @@ holes-placed : (c o : ℕ) (bs : List Block) → holes c (placed o bs) ≡ count
 holes-placed c o [] = refl
 holes-placed c o (b ∷ bs) =
     let ih = holes-placed c (o + b.size) bs in
-    elim b.used as (λ u. hole c (placed_at o (record b { used = u })) + holes c (placed (o + b.size) bs) ≡ count_of c (if u then free_sizes bs else b.size ∷ free_sizes bs)) [ true ↦ omega (arith, ih) | false ↦ omega (arith, ih) ]
+    elim b.used as (λ u. hole c (placed_at o (record b { used = u })) + holes c (placed (o + b.size) bs) ≡ count_of c (if u then free_sizes bs else b.size ∷ free_sizes bs))
+    [ true ↦ omega (arith, ih) | false ↦ omega (arith, ih) ]
 
--- a walk over all blocks finds all holes
+-- a walk over all blocks finds all free blocks
 pub holes-listing : (c : ℕ) (v : View) → holes c (listing v) ≡ count_of c (free_sizes v.blocks)
 holes-listing c v = holes-reverse c (placed 0 v.blocks) ∙ holes-placed c 0 v.blocks
 
@@ -47,14 +49,15 @@ one_hole : (u : Bool) → one_if u ≤ 1
 one_hole true = omega arith
 one_hole false = omega arith
 
--- there are no more holes than blocks
+-- there are no more free blocks than blocks
 pub count_most : (c : ℕ) (bs : List Block) → count_of c (free_sizes bs) ≤ length bs
 count_most c [] = omega arith
 count_most c (b ∷ bs) =
     let ih = count_most c bs in
-    elim b.used as (λ (u : Bool). count_of c (if u then free_sizes bs else b.size ∷ free_sizes bs) ≤ length (b ∷ bs)) [ true ↦ omega (arith, ih) | false ↦ omega (arith, ih, one_hole (nat_eq (down b.size) c)) ]
+    elim b.used as (λ (u : Bool). count_of c (if u then free_sizes bs else b.size ∷ free_sizes bs) ≤ length (b ∷ bs))
+    [ true ↦ omega (arith, ih) | false ↦ omega (arith, ih, one_hole (nat_eq (down b.size) c)) ]
 
--- one hole more is counted
+-- one free block more is counted
 pub counted_hole : (ns : List ℕ) (p : Placed) (ps : List Placed) (k : ℕ) (total : ℕ → ℕ) → length ns ≡ 256 → k ≡ down p.size → is_some {T = Grant} p.grant ≡ false
     → ((c : ℕ) → c < 256 → slice_index ns c + holes c (p ∷ ps) ≡ total c)
     → (c : ℕ) → c < 256 → slice_index (slice_set ns k (slice_index ns k + 1)) c + holes c ps ≡ total c
@@ -66,7 +69,8 @@ counted_hole ns p ps k total len e none so_far c l =
           let one : class_hole (down p.size) c ≡ 1 = ap one_if h.0 in
           let same : c ≡ k = sym (e ∙ h.1) in
           let long : k < length ns = omega (arith, same, l, len) in
-          let new : slice_index (slice_set ns k (slice_index ns k + 1)) c ≡ slice_index ns k + 1 = ap (slice_index (slice_set ns k (slice_index ns k + 1))) same ∙ get_or-set_same ns k (slice_index ns k + 1) 0 long in
+          let new : slice_index (slice_set ns k (slice_index ns k + 1)) c ≡ slice_index ns k + 1 =
+          ap (slice_index (slice_set ns k (slice_index ns k + 1))) same ∙ get_or-set_same ns k (slice_index ns k + 1) 0 long in
           omega (arith, whole, is, one, new, ap (slice_index ns) same)
       | inr h ↦
           let none : class_hole (down p.size) c ≡ 0 = ap one_if h.0 in

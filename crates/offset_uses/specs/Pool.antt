@@ -4,11 +4,12 @@ use Rattle.std.specs.List.{CopiedTo, SameBelow, SameFrom}
 use Rattle.offset_allocator.specs.Ranges.{Range}
 
 -- one range of the bytes ys holds what another one of the bytes xs held; where one is not there, the other one is not
-abbrev pub HoldsSame : List ℕ → List ℕ → Option Range → Option Range → Type 0
-HoldsSame xs ys None None = ⊤
-HoldsSame xs ys None (Some s) = ⊥
-HoldsSame xs ys (Some r) None = ⊥
-HoldsSame xs ys (Some r) (Some s) = (s.size ≡ r.size) × ((i d : ℕ) → i < r.size → slice_index_or ys (s.offset + i) d ≡ slice_index_or xs (r.offset + i) d)
+abbrev pub HasSameBytes : List ℕ → List ℕ → Option Range → Option Range → Type 0
+HasSameBytes xs ys None None = ⊤
+HasSameBytes xs ys None (Some s) = ⊥
+HasSameBytes xs ys (Some r) None = ⊥
+HasSameBytes xs ys (Some r) (Some s) = (s.size ≡ r.size)
+    × ((i d : ℕ) → i < r.size → slice_index_or ys (s.offset + i) d ≡ slice_index_or xs (r.offset + i) d)
 
 -- size bytes are copied to a smaller place, if they are within the buffer
 pub record IsCopied (from to size : ℕ) (xs ys : List ℕ) : Type 0 where

@@ -1,4 +1,5 @@
 //! An asset pool whose loaders call back late, twice, or after the pool was emptied.
+
 ghost use Rattle.std.specs.Prelude.{◌≡◌, Some, None, IfSome};
 ghost use Rattle.offset_guarded.specs.declared.ticket.Ticket.{Ticket};
 ghost use Rattle.offset_guarded.specs.Guard.{AreAlike, KeepsOthers, IsLive, range_of};
@@ -17,8 +18,10 @@ pub fn unload(assets: &mut Guarded, ticket: Ticket)
 /// Gives an asset a new range of `size` units in place of its old one, which may be gone. It returns the new ticket, or
 /// `None` where the request is refused; the old range is freed then too.
 pub fn reload(assets: &mut Guarded, ticket: Ticket, size: u32) -> Option<Ticket>
-    ensures range { IfSome result (λ t. range_of t assets.new ≡ Some (record { offset = t.offset; size = size })) }
-    ensures others { (u : Ticket) → (AreAlike u ticket → ⊥) → IsLive u assets.old → range_of u assets.new ≡ range_of u assets.old }
+    ensures range { IfSome result (λ t.
+        range_of t assets.new ≡ Some (record { offset = t.offset; size = size })) }
+    ensures others { (u : Ticket) → (AreAlike u ticket → ⊥) → IsLive u assets.old
+        → range_of u assets.new ≡ range_of u assets.old }
 {
     unload(assets, ticket);
     assets.allocate(size)

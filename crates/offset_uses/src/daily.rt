@@ -1,7 +1,8 @@
-//! The daily use of an allocator, as `CALLING.md` of `offset_allocator` shows it. Only `lacks_units`, `place_packed` and
-//! `defragment` have a proof file.
+//! The daily use of an allocator, as `CALLING.md` of `offset_allocator` shows it. Only `lacks_units`, `place_packed`
+//! and `defragment` have a proof file.
 
-ghost use Rattle.std.specs.Prelude.{ℕ, ◌≡◌, ◌≢◌, ◌↔◌, ◌⊎◌, ◌+◌, ◌-◌, ◌*◌, ◌<◌, ◌≤◌, ◌%◌, Some, None, false, not, min, IfSome, IfOk, IfErr, IsOk, IsSome, IsTrue, length};
+ghost use Rattle.std.specs.Prelude.{ℕ, ◌≡◌, ◌≢◌, ◌↔◌, ◌⊎◌, ◌+◌, ◌-◌, ◌*◌, ◌<◌, ◌≤◌, ◌%◌, Some, None, false, not, min};
+ghost use Rattle.std.specs.Prelude.{IfSome, IfOk, IfErr, IsOk, IsSome, IsTrue, length};
 ghost use Rattle.std.specs.Int.{is_power_of_two};
 ghost use Rattle.offset_allocator.specs.View.{used_units, largest_free};
 ghost use Rattle.offset_allocator.specs.Ranges.{Range, range_of, size_of, KeepsAll, KeepsOthers, IsLive};
@@ -9,7 +10,8 @@ ghost use Rattle.offset_allocator.specs.Relations.{Allocates, Frees, SameSpace, 
 ghost use Rattle.offset_allocator.specs.Requests.{CanGrant, IsWhy};
 ghost use Rattle.offset_allocator.specs.Resizing.{CanShrink, CanGrow, HasUnits};
 ghost use Rattle.offset_allocator.specs.Compacting.{Compacts, KeepsSizes};
-ghost use Rattle.offset_uses.specs.Pool.{HoldsSame, IsCopied};
+ghost use Rattle.offset_uses.specs.Grants.{HasTooFewUnits, IsGrantOf};
+ghost use Rattle.offset_uses.specs.Pool.{HasSameBytes, IsCopied};
 
 use offset_allocator::{Allocation, Allocator, Move, Refusal, laws};
 
@@ -22,13 +24,16 @@ pub fn insert(
     vertex_count: u32,
     index_count: u32,
 ) -> Option<(Allocation, Allocation)>
-    ensures vertices { IfSome result (λ mesh. range_of mesh.0.name vertices.new ≡ Some (record { offset = mesh.0.offset; size = vertex_count })) }
-    ensures indices { IfSome result (λ mesh. range_of mesh.1.name indices.new ≡ Some (record { offset = mesh.1.offset; size = index_count })) }
-    ensures others { IfSome result (λ mesh. KeepsOthers mesh.0.name vertices.old vertices.new × KeepsOthers mesh.1.name indices.old indices.new) }
-    ensures refused { result ≡ None → KeepsAll vertices.old vertices.new × KeepsAll indices.old indices.new }
+    ensures vertices { IfSome result (λ mesh. IsGrantOf vertex_count mesh.0 vertices.new) }
+    ensures indices { IfSome result (λ mesh. IsGrantOf index_count mesh.1 indices.new) }
+    ensures others { IfSome result (λ mesh. KeepsOthers mesh.0.name vertices.old vertices.new
+        × KeepsOthers mesh.1.name indices.old indices.new) }
+    ensures refused { result ≡ None
+        → KeepsAll vertices.old vertices.new × KeepsAll indices.old indices.new }
     ensures granted { 1 ≤ vertex_count → 1 ≤ index_count
         → (IsSome result ↔ ((vertex_count ≤ largest_free vertices.old) × (index_count ≤ largest_free indices.old))) }
-    ensures can_grant { IsSome result ↔ (CanGrant 1 vertex_count vertices.old × CanGrant 1 index_count indices.old) }
+    ensures can_grant { IsSome result
+        ↔ (CanGrant 1 vertex_count vertices.old × CanGrant 1 index_count indices.old) }
     ensures sizes { (vertices.new.size ≡ vertices.old.size) × (indices.new.size ≡ indices.old.size) }
 {
     let first = vertices.allocate(vertex_count)?;
@@ -61,7 +66,7 @@ pub fn give_back(space: &mut Allocator, allocation: Allocation) -> bool
 /// It returns `None` where `align` is no power of two, or the request is refused. Then no live range has changed.
 pub fn upload(heap: &mut Allocator, size: u32, align: u32) -> Option<Allocation>
     ensures aligned { IfSome result (λ h. h.offset % align ≡ 0) }
-    ensures range { IfSome result (λ h. range_of h.name heap.new ≡ Some (record { offset = h.offset; size = size })) }
+    ensures range { IfSome result (λ h. IsGrantOf size h heap.new) }
     ensures fresh { IfSome result (λ h. range_of h.name heap.old ≡ None) }
     ensures others { IfSome result (λ h. KeepsOthers h.name heap.old heap.new) }
     ensures refused { result ≡ None → KeepsAll heap.old heap.new }
@@ -77,7 +82,7 @@ pub fn upload(heap: &mut Allocator, size: u32, align: u32) -> Option<Allocation>
 
 // Whether a request is refused since more units are needed, in the space or free.
 fn lacks_units(space: &Allocator, size: u32) -> bool
-    ensures { IsTrue result ↔ (IsWhy 1 size space.now Refusal.Space ⊎ IsWhy 1 size space.now Refusal.TooLarge) }
+    ensures { IsTrue result ↔ HasTooFewUnits size space.now }
 {
     laws::refusals_advise(space);
     match space.refusal(size) {
@@ -95,14 +100,14 @@ fn lacks_units(space: &Allocator, size: u32) -> bool
 /// where no node is left, use another space. Then no live range has changed. Where too few units are free, or the space
 /// is too small, it has grown once, whatever is returned, if it can have that many more.
 pub fn place(space: &mut Allocator, size: u32, more: u32) -> Result<Allocation, Refusal>
-    ensures range { IfOk result (λ h. range_of h.name space.new ≡ Some (record { offset = h.offset; size = size })) }
+    ensures range { IfOk result (λ h. IsGrantOf size h space.new) }
     ensures why { IfErr result (IsWhy 1 size space.new) }
-    ensures grown { (IsWhy 1 size space.old Refusal.Space ⊎ IsWhy 1 size space.old Refusal.TooLarge)
-        → space.old.size + more ≤ 4294967295 → space.new.size ≡ space.old.size + more }
+    ensures grown { HasTooFewUnits size space.old → space.old.size + more ≤ 4294967295
+        → space.new.size ≡ space.old.size + more }
     ensures others { IfOk result (λ h. KeepsOthers h.name space.old space.new) }
     ensures refused { IfErr result (λ _. KeepsAll space.old space.new) }
-    ensures kept { (((IsWhy 1 size space.old Refusal.Space ⊎ IsWhy 1 size space.old Refusal.TooLarge) → ⊥)
-        ⊎ (4294967295 < space.old.size + more)) → space.new.size ≡ space.old.size }
+    ensures kept { ((HasTooFewUnits size space.old → ⊥) ⊎ (4294967295 < space.old.size + more))
+        → space.new.size ≡ space.old.size }
 {
     if lacks_units(space, size) {
         // where it cannot grow, the next call of `refusal` says so
@@ -131,7 +136,7 @@ fn copy_down(buffer: &mut [u32], from: u32, to: u32, size: u32)
 pub fn defragment(space: &mut Allocator, buffer: &mut [u32])
     ensures sizes { KeepsSizes space.old space.new }
     ensures data { space.old.size ≤ length buffer.old
-        → (x : ℕ) → HoldsSame buffer.old buffer.new (range_of x space.old) (range_of x space.new) }
+        → (x : ℕ) → HasSameBytes buffer.old buffer.new (range_of x space.old) (range_of x space.new) }
     ensures len { length buffer.new ≡ length buffer.old }
     ensures step { Compacts space.old space.new }
 {
@@ -148,7 +153,7 @@ pub fn place_packed(
     buffer: &mut [u32],
     size: u32,
 ) -> Result<Allocation, Refusal>
-    ensures range { IfOk result (λ h. range_of h.name space.new ≡ Some (record { offset = h.offset; size = size })) }
+    ensures range { IfOk result (λ h. IsGrantOf size h space.new) }
     ensures granted { IsWhy 1 size space.old Refusal.Fragmented → IsOk result }
     ensures why { IfErr result (λ why. IsWhy 1 size space.old why × (why ≢ Refusal.Fragmented)) }
     ensures same { IfErr result (λ _. space.new ≡ space.old) }
@@ -170,7 +175,8 @@ pub fn place_packed(
 /// the mesh's handle is not live.
 pub fn first_byte(vertices: &Allocator, mesh: Allocation, stride: u32) -> Option<u64>
     ensures live { IsSome result ↔ IsLive mesh.name vertices.now }
-    ensures byte { (r : Range) → range_of mesh.name vertices.now ≡ Some r → result ≡ Some (r.offset * stride) }
+    ensures byte { (r : Range) → range_of mesh.name vertices.now ≡ Some r
+        → result ≡ Some (r.offset * stride) }
 {
     let first = vertices.allocation_offset(mesh)?;
     Some(u64::from(first) * u64::from(stride))
@@ -181,8 +187,10 @@ pub fn first_byte(vertices: &Allocator, mesh: Allocation, stride: u32) -> Option
 /// has changed.
 pub fn resize(vertices: &mut Allocator, mesh: Allocation, size: u32) -> bool
     requires live { IsLive mesh.name vertices.old }
-    ensures shrunk { size < size_of mesh.name vertices.old → (IsTrue result ↔ CanShrink mesh.name size vertices.old) }
-    ensures grown { size_of mesh.name vertices.old ≤ size → (IsTrue result ↔ CanGrow mesh.name size vertices.old) }
+    ensures shrunk { size < size_of mesh.name vertices.old
+        → (IsTrue result ↔ CanShrink mesh.name size vertices.old) }
+    ensures grown { size_of mesh.name vertices.old ≤ size
+        → (IsTrue result ↔ CanGrow mesh.name size vertices.old) }
     ensures range { IsTrue result → HasUnits mesh.name size vertices.old vertices.new }
     ensures others { KeepsOthers mesh.name vertices.old vertices.new }
     ensures same { result ≡ false → SameSpace vertices.old vertices.new }
@@ -223,8 +231,10 @@ impl Ring {
     /// Begins a frame: it frees all ranges of two frames ago; those of the last frame stay live.
     pub fn begin(&mut self)
         ensures turn { self.new.is_odd ≡ not self.old.is_odd }
-        ensures odd { IsTrue self.new.is_odd → Resets self.old.odd self.new.odd × (self.new.even ≡ self.old.even) }
-        ensures even { self.new.is_odd ≡ false → Resets self.old.even self.new.even × (self.new.odd ≡ self.old.odd) }
+        ensures odd { IsTrue self.new.is_odd
+            → Resets self.old.odd self.new.odd × (self.new.even ≡ self.old.even) }
+        ensures even { self.new.is_odd ≡ false
+            → Resets self.old.even self.new.even × (self.new.odd ≡ self.old.odd) }
     {
         self.is_odd = !self.is_odd;
         if self.is_odd {
@@ -237,8 +247,10 @@ impl Ring {
     /// Allocates a range that is live until the frame after the next one begins, or returns `None` where it is refused.
     pub fn take(&mut self, size: u32) -> Option<Allocation>
         ensures turn { self.new.is_odd ≡ self.old.is_odd }
-        ensures odd { IsTrue self.old.is_odd → Allocates size self.old.odd self.new.odd result × (self.new.even ≡ self.old.even) }
-        ensures even { self.old.is_odd ≡ false → Allocates size self.old.even self.new.even result × (self.new.odd ≡ self.old.odd) }
+        ensures odd { IsTrue self.old.is_odd
+            → Allocates size self.old.odd self.new.odd result × (self.new.even ≡ self.old.even) }
+        ensures even { self.old.is_odd ≡ false
+            → Allocates size self.old.even self.new.even result × (self.new.odd ≡ self.old.odd) }
     {
         if self.is_odd {
             self.odd.allocate(size)

@@ -1,9 +1,12 @@
 //! What engines do beside: requests of one alignment, handles that travel, and several spaces.
 
-ghost use Rattle.std.specs.Prelude.{ℕ, ◌≡◌, ◌≢◌, ◌↔◌, ◌+◌, ◌*◌, ◌/◌, ◌%◌, ◌<◌, ◌≤◌, Some, None, false, IfSome, IsSome, IsTrue, length, slice_index_or};
+ghost use Rattle.std.specs.Prelude.{ℕ, ◌≡◌, ◌≢◌, ◌↔◌, ◌+◌, ◌*◌, ◌/◌, ◌%◌, ◌<◌, ◌≤◌, None, false, IfSome, IsSome};
+ghost use Rattle.std.specs.Prelude.{IsTrue};
+ghost use Rattle.std.specs.Prelude.{length, slice_index_or};
 ghost use Rattle.offset_allocator.specs.View.{View, largest_free};
-ghost use Rattle.offset_allocator.specs.Ranges.{Range, range_of, IsLive, KeepsAll, KeepsOthers};
+ghost use Rattle.offset_allocator.specs.Ranges.{IsLive, KeepsAll, KeepsOthers};
 ghost use Rattle.offset_allocator.specs.Relations.{Allocates, Frees};
+ghost use Rattle.offset_uses.specs.Grants.{IsGrantOf};
 
 use crate::daily::{give_back, upload};
 use offset_allocator::{Allocation, Allocator};
@@ -16,7 +19,7 @@ use offset_allocator::{Allocation, Allocator};
 pub fn upload_units(heap: &mut Allocator, bytes: u32) -> Option<(Allocation, u64)>
     ensures aligned { IfSome result (λ r. r.1 % 256 ≡ 0) }
     ensures first { IfSome result (λ r. r.1 ≡ 256 * r.0.offset) }
-    ensures range { IfSome result (λ r. range_of r.0.name heap.new ≡ Some (record { offset = r.0.offset; size = (bytes + 255) / 256 })) }
+    ensures range { IfSome result (λ r. IsGrantOf ((bytes + 255) / 256) r.0 heap.new) }
     ensures others { IfSome result (λ r. KeepsOthers r.0.name heap.old heap.new) }
     ensures granted { 1 ≤ bytes → (IsSome result ↔ ((bytes + 255) / 256 ≤ largest_free heap.old)) }
     ensures refused { result ≡ None → KeepsAll heap.old heap.new }
@@ -34,8 +37,8 @@ pub fn upload_both(
     other_size: u32,
     other_align: u32,
 ) -> Option<(Allocation, Allocation)>
-    ensures first { IfSome result (λ r. range_of r.0.name heap.new ≡ Some (record { offset = r.0.offset; size = size })) }
-    ensures second { IfSome result (λ r. range_of r.1.name heap.new ≡ Some (record { offset = r.1.offset; size = other_size })) }
+    ensures first { IfSome result (λ r. IsGrantOf size r.0 heap.new) }
+    ensures second { IfSome result (λ r. IsGrantOf other_size r.1 heap.new) }
     ensures aligned { IfSome result (λ r. (r.0.offset % align ≡ 0) × (r.1.offset % other_align ≡ 0)) }
     ensures differ { IfSome result (λ r. r.0.name ≢ r.1.name) }
 {
@@ -75,7 +78,8 @@ pub fn take_from(slabs: &mut Vec<Allocator>, place: usize, size: u32) -> Option<
     ensures none { length slabs.old.items ≤ place → result ≡ None }
     ensures step { (v : View) → place < length slabs.old.items
         → Allocates size (slice_index_or slabs.old.items place v) (slice_index_or slabs.new.items place v) result }
-    ensures others { (k : ℕ) (v : View) → k ≢ place → slice_index_or slabs.new.items k v ≡ slice_index_or slabs.old.items k v }
+    ensures others { (k : ℕ) (v : View) → k ≢ place
+        → slice_index_or slabs.new.items k v ≡ slice_index_or slabs.old.items k v }
 {
     let slab = slabs.get_mut(place)?;
     slab.allocate(size)

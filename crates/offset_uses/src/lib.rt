@@ -1,14 +1,16 @@
 //! Functions that use `offset_allocator` as an engine would, each with its contract.
 #![tactic(auto)]
 
-ghost use Rattle.std.specs.Prelude.{◌≡◌, ◌≢◌, ◌↔◌, ◌⊎◌, true, false, ◌+◌, ◌<◌, ◌≤◌, ◌%◌, Some, None, IfSome, IsSome, IsTrue, IfOk, MatchOption, All, map, min, length};
+ghost use Rattle.std.specs.Prelude.{◌≡◌, ◌≢◌, ◌↔◌, ◌⊎◌, true, false, ◌+◌, ◌<◌, ◌≤◌, ◌%◌, Some, None, IfSome, IsSome};
+ghost use Rattle.std.specs.Prelude.{IsTrue, IfOk, MatchOption, All, map, min, length};
 ghost use Rattle.offset_allocator.specs.View.{View, Grant, largest_free, total_free};
-ghost use Rattle.offset_allocator.specs.Ranges.{Range, range_of, size_of, AreDisjoint, KeepsRanges, KeepsOthers, IsLive};
+ghost use Rattle.offset_allocator.specs.Ranges.{Range, AreDisjoint, IsLive, KeepsOthers, KeepsRanges, range_of};
+ghost use Rattle.offset_allocator.specs.Ranges.{size_of};
 ghost use Rattle.offset_allocator.specs.Requests.{CanGrant};
 ghost use Rattle.offset_allocator.specs.Relations.{Aligns, Allocates, Extends, Frees, SameSpace};
-ghost use Rattle.offset_script.specs.Machine.{answer_view};
+ghost use Rattle.offset_script.specs.Machine.{answer_view, answers, start};
 ghost use Rattle.offset_script.specs.Grammar.{has_valid_alignment};
-ghost use Rattle.offset_script.specs.Machine.{answers, start};
+ghost use Rattle.offset_uses.specs.Grants.{IsGrantOf, range_from};
 
 pub mod assets;
 pub mod daily;
@@ -30,12 +32,14 @@ pub fn place_mesh(
     outer: u32,
     inner: u32,
 ) -> Option<(Allocation, Allocation)>
-    ensures outer { IfSome result (λ hulls. range_of hulls.0.name vertices.new ≡ Some (record { offset = hulls.0.offset; size = outer })) }
-    ensures inner { IfSome result (λ hulls. range_of hulls.1.name vertices.new ≡ Some (record { offset = hulls.1.offset; size = inner })) }
-    ensures apart { IfSome result (λ hulls. AreDisjoint (record { offset = hulls.0.offset; size = outer }) (record { offset = hulls.1.offset; size = inner })) }
+    ensures outer { IfSome result (λ hulls. IsGrantOf outer hulls.0 vertices.new) }
+    ensures inner { IfSome result (λ hulls. IsGrantOf inner hulls.1 vertices.new) }
+    ensures apart { IfSome result (λ hulls.
+        AreDisjoint (range_from hulls.0 outer) (range_from hulls.1 inner)) }
     ensures kept { KeepsRanges vertices.old vertices.new }
     ensures same { result ≡ None → SameSpace vertices.old vertices.new }
-    ensures placed { IfSome result (λ hulls. (w : View) × Allocates outer vertices.old w (Some hulls.0) × Allocates inner w vertices.new (Some hulls.1)) }
+    ensures placed { IfSome result (λ hulls. (w : View)
+        × Allocates outer vertices.old w (Some hulls.0) × Allocates inner w vertices.new (Some hulls.1)) }
     ensures refused { result ≡ None → ((w : View) × Allocates outer vertices.old w None)
         ⊎ ((v w : View) × (g : Grant) × Allocates outer vertices.old v (Some g) × Allocates inner v w None) }
 {
@@ -56,7 +60,8 @@ pub fn place_mesh(
 /// States that the ranges of two live meshes, whose handles have different names, share no vertex. It changes nothing.
 pub fn are_apart(vertices: &Allocator, one: Allocation, other: Allocation)
     requires distinct { one.name ≢ other.name }
-    ensures { (r s : Range) → range_of one.name vertices.now ≡ Some r → range_of other.name vertices.now ≡ Some s → AreDisjoint r s }
+    ensures { (r s : Range) → range_of one.name vertices.now ≡ Some r
+        → range_of other.name vertices.now ≡ Some s → AreDisjoint r s }
 {
     laws::ranges_are_disjoint(vertices);
 }
@@ -69,7 +74,7 @@ pub fn place_promised(vertices: &mut Allocator, n: u32) -> Allocation
     requires promised { n ≤ largest_free vertices.old }
     ensures step { Allocates n vertices.old vertices.new (Some result) }
     ensures live { IsLive result.name vertices.new }
-    ensures range { range_of result.name vertices.new ≡ Some (record { offset = result.offset; size = n }) }
+    ensures range { IsGrantOf n result vertices.new }
     ensures kept { KeepsRanges vertices.old vertices.new }
 {
     vertices.allocate(n).unwrap()
@@ -81,10 +86,11 @@ pub fn place_promised(vertices: &mut Allocator, n: u32) -> Allocation
 /// was.
 pub fn place_what_fits(vertices: &mut Allocator, n: u32) -> Option<(Allocation, u32)>
     requires some { 1 ≤ n }
-    ensures range { IfSome result (λ got. range_of got.0.name vertices.new ≡ Some (record { offset = got.0.offset; size = got.1 })) }
+    ensures range { IfSome result (λ got. IsGrantOf got.1 got.0 vertices.new) }
     ensures most { IfSome result (λ got. got.1 ≡ min n (largest_free vertices.old)) }
     ensures some { IsSome result ↔ (1 ≤ largest_free vertices.old) }
-    ensures step { MatchOption result (SameSpace vertices.old vertices.new) (λ got. Allocates got.1 vertices.old vertices.new (Some got.0)) }
+    ensures step { MatchOption result (SameSpace vertices.old vertices.new)
+        (λ got. Allocates got.1 vertices.old vertices.new (Some got.0)) }
     ensures kept { KeepsRanges vertices.old vertices.new }
 {
     let fits = vertices.storage_report().largest_free_region;
@@ -100,8 +106,9 @@ pub fn place_what_fits(vertices: &mut Allocator, n: u32) -> Option<(Allocation, 
 /// It returns `None` where the space cannot grow or the second request is refused. In the second case the space has
 /// grown.
 pub fn allocate_or_grow(space: &mut Allocator, n: u32, more: u32) -> Option<Allocation>
-    ensures range { IfSome result (λ h. range_of h.name space.new ≡ Some (record { offset = h.offset; size = n })) }
-    ensures at_once { 1 ≤ n → n ≤ largest_free space.old → IsSome result × Allocates n space.old space.new result }
+    ensures range { IfSome result (λ h. IsGrantOf n h space.new) }
+    ensures at_once { 1 ≤ n → n ≤ largest_free space.old
+        → IsSome result × Allocates n space.old space.new result }
     ensures refused { 1 ≤ n → result ≡ None → largest_free space.new < n }
     ensures step { (IsSome result × Allocates n space.old space.new result)
         ⊎ ((v w : View) × Allocates n space.old v None × Extends more v w true × Allocates n w space.new result)
@@ -124,8 +131,9 @@ pub fn allocate_or_grow(space: &mut Allocator, n: u32, more: u32) -> Option<Allo
 pub fn place_uniforms(heap: &mut Allocator, n: u32) -> Option<Allocation>
     ensures step { Aligns n 256 heap.old heap.new result }
     ensures aligned { IfSome result (λ h. h.offset % 256 ≡ 0) }
-    ensures granted { IsSome result ↔ ((length heap.old.blocks + 2 < heap.old.max_allocs) × (n + 255 ≤ largest_free heap.old)) }
-    ensures range { IfSome result (λ h. range_of h.name heap.new ≡ Some (record { offset = h.offset; size = n })) }
+    ensures granted { IsSome result
+        ↔ ((length heap.old.blocks + 2 < heap.old.max_allocs) × (n + 255 ≤ largest_free heap.old)) }
+    ensures range { IfSome result (λ h. IsGrantOf n h heap.new) }
     ensures kept { KeepsRanges heap.old heap.new }
 {
     heap.allocate_aligned(n, 256)
@@ -146,14 +154,17 @@ pub struct Tenant {
 /// were.
 pub fn charge(space: &mut Allocator, tenant: &mut Tenant, n: u32) -> Option<Allocation>
     requires within { tenant.old.held ≤ tenant.old.quota }
-    ensures step { MatchOption result (SameSpace space.old space.new) (λ h. Allocates n space.old space.new (Some h)) }
+    ensures step { MatchOption result (SameSpace space.old space.new)
+        (λ h. Allocates n space.old space.new (Some h)) }
     ensures within { tenant.new.held ≤ tenant.new.quota }
     ensures quota { tenant.new.quota ≡ tenant.old.quota }
     ensures charged { IfSome result (λ _. tenant.new.held ≡ tenant.old.held + n) }
     ensures refused { result ≡ None → tenant.new ≡ tenant.old }
-    ensures granted { 1 ≤ n → tenant.old.held + n ≤ tenant.old.quota → (IsSome result ↔ (n ≤ largest_free space.old)) }
-    ensures can_grant { IsSome result ↔ ((tenant.old.held + n ≤ tenant.old.quota) × CanGrant 1 n space.old) }
-    ensures range { IfSome result (λ h. range_of h.name space.new ≡ Some (record { offset = h.offset; size = n })) }
+    ensures granted { 1 ≤ n → tenant.old.held + n ≤ tenant.old.quota
+        → (IsSome result ↔ (n ≤ largest_free space.old)) }
+    ensures can_grant { IsSome result
+        ↔ ((tenant.old.held + n ≤ tenant.old.quota) × CanGrant 1 n space.old) }
+    ensures range { IfSome result (λ h. IsGrantOf n h space.new) }
     ensures kept { KeepsRanges space.old space.new }
 {
     if n > tenant.quota - tenant.held {
@@ -187,8 +198,8 @@ pub fn refund(space: &mut Allocator, tenant: &mut Tenant, allocation: Allocation
 pub fn frame<NI: NodeIndex>(space: &mut Allocator<NI>, n: u32, count: &mut Accesses) -> Option<u32>
     ensures granted { 1 ≤ n → (IsSome result ↔ (n ≤ largest_free space.old)) }
     ensures can_grant { IsSome result ↔ CanGrant 1 n space.old }
-    ensures beside { IfSome result (λ left. (w : View) × (g : Grant) × Allocates n space.old w (Some g) × (left ≡ total_free w)
-        × (1 ≤ largest_free w → count.old + 1 ≤ count.new)) }
+    ensures beside { IfSome result (λ left. (w : View) × (g : Grant) × Allocates n space.old w (Some g)
+        × (left ≡ total_free w) × (1 ≤ largest_free w → count.old + 1 ≤ count.new)) }
     ensures same { SameSpace space.old space.new }
     ensures accesses_kept { space.old.accesses ≤ space.new.accesses }
     ensures accesses_min { IsSome result → space.old.accesses + 16 ≤ space.new.accesses }
@@ -215,7 +226,8 @@ pub fn replay(
     requires low { 2 ≤ max_allocs }
     requires high { max_allocs + 1 < 65535 }
     requires powers { All (λ c. IsTrue (has_valid_alignment c)) commands.now }
-    ensures answers { IfOk result (λ both. map answer_view both.0.items ≡ answers commands.now (start size max_allocs)) }
+    ensures answers { IfOk result (λ both.
+        map answer_view both.0.items ≡ answers commands.now (start size max_allocs)) }
     ensures alike { IfOk result (λ both. map answer_view both.0.items ≡ map answer_view both.1.items) }
 {
     let narrow = play::<u16>(alloc, size, max_allocs, commands)?;

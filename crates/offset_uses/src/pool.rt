@@ -3,7 +3,7 @@
 ghost use Rattle.std.specs.Prelude.{ℕ, ◌≡◌, ◌≤◌, ◌+◌, length};
 ghost use Rattle.offset_allocator.specs.Ranges.{range_of};
 ghost use Rattle.offset_allocator.specs.Compacting.{Compacts};
-ghost use Rattle.offset_uses.specs.Pool.{HoldsSame, IsCopied};
+ghost use Rattle.offset_uses.specs.Pool.{HasSameBytes, IsCopied};
 
 use offset_allocator::{Allocator, Move, laws};
 
@@ -21,7 +21,8 @@ fn copy_down(bytes: &mut [u8], from: u32, to: u32, size: u32)
 /// handle stays live, and its range holds the same bytes; `allocation_offset` returns where it begins now.
 pub fn defragment(heap: &mut Allocator, bytes: &mut [u8])
     requires whole { heap.old.size ≤ length bytes.old }
-    ensures same { (x : ℕ) → HoldsSame bytes.old bytes.new (range_of x heap.old) (range_of x heap.new) }
+    ensures same { (x : ℕ)
+        → HasSameBytes bytes.old bytes.new (range_of x heap.old) (range_of x heap.new) }
     ensures len { length bytes.new ≡ length bytes.old }
     ensures step { Compacts heap.old heap.new }
 {

@@ -11,11 +11,11 @@ use offset_allocator::small_float::uint_to_float_round_down;
 use offset_allocator::{Allocator, Block};
 use std::alloc::{AllocError, Global};
 
-/// Counts the holes (the free blocks) of each of the 256 size classes, without the report.
+/// Counts the free blocks of each of the 256 size classes, without the report.
 pub fn count_holes(space: &Allocator) -> [u32; 256]
     ensures { (c : ℕ) → c < 256 → slice_index result c ≡ count_of c (free_sizes space.now.blocks) }
 {
-    // no class has more holes than there are blocks, so each count fits
+    // no class has more free blocks than there are blocks, so each count fits
     let _ = space.block_count();
     let mut holes = [0; 256];
     for block in space.blocks() {
@@ -28,7 +28,8 @@ pub fn count_holes(space: &Allocator) -> [u32; 256]
 
 // Appends the line of a block, with its line end.
 fn put_block(text: &mut String, block: &Block) -> Result<(), AllocError>
-    ensures { OnOk result (string_bytes text.new ≡ string_bytes text.old ++ block_line (as_placed block.now)) }
+    ensures { OnOk result
+        (string_bytes text.new ≡ string_bytes text.old ++ block_line (as_placed block.now)) }
 {
     let offset = block.offset;
     let size = block.size;

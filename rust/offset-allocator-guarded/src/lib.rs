@@ -28,12 +28,14 @@ mod memory;
 
 pub use memory::{AllocError, Global};
 
+mod changing;
+mod granting;
 mod refusal;
 mod serials;
 mod ticket;
 
 use offset_allocator::laws::is_well_formed;
-use offset_allocator::{Allocation, Allocator, Move, NodeIndex};
+use offset_allocator::{Allocation, Allocator, NodeIndex};
 pub use refusal::Refusal;
 use serials::Serials;
 pub use ticket::Ticket;
@@ -45,23 +47,6 @@ pub struct Guarded<NI: NodeIndex = u32> {
     space: Allocator<NI>,
     serials: Serials,
     realm: u32,
-}
-
-// Gives the next serial to a grant.
-fn ticket_for<NI: NodeIndex>(
-    space: &Allocator<NI>,
-    serials: &mut Serials,
-    realm: u32,
-    handle: Allocation<NI>,
-) -> Ticket {
-    serials.cover(space.node_count());
-    let (offset, name) = handle.to_parts();
-    Ticket {
-        offset,
-        name,
-        serial: serials.give(name),
-        realm,
-    }
 }
 
 impl<NI: NodeIndex> Guarded<NI> {
@@ -167,36 +152,6 @@ impl<NI: NodeIndex> Guarded<NI> {
         }
     }
 
-    /// Grants a range of `size` units, and returns its ticket: of the range that `Allocator::allocate` grants, with the
-    /// next serial.
-    ///
-    /// `None` is returned where that call returns `None`, and where all serials are given; then nothing changes.
-    pub fn allocate(&mut self, size: u32) -> Option<Ticket> {
-        if self.serials.is_spent() {
-            return None;
-        }
-        match self.space.allocate(size) {
-            None => None,
-            Some(handle) => Some(ticket_for(&self.space, &mut self.serials, self.realm, handle)),
-        }
-    }
-
-    /// Grants `size` units that begin at a multiple of `align`, a power of two: the range that
-    /// `Allocator::allocate_aligned` grants, with the next serial.
-    ///
-    /// `None` is returned where that call returns `None`, and where all serials are given; then nothing changes.
-    #[track_caller]
-    pub fn allocate_aligned(&mut self, size: u32, align: u32) -> Option<Ticket> {
-        assert!(align.is_power_of_two(), "align must be a power of two");
-        if self.serials.is_spent() {
-            return None;
-        }
-        match self.space.allocate_aligned(size, align) {
-            None => None,
-            Some(handle) => Some(ticket_for(&self.space, &mut self.serials, self.realm, handle)),
-        }
-    }
-
     /// Frees the range of a ticket, as `Allocator::free` does, and returns `true`; or `false` where the ticket is not
     /// live, and then nothing changes.
     ///
@@ -212,71 +167,8 @@ impl<NI: NodeIndex> Guarded<NI> {
         }
     }
 
-    /// Makes the range of a ticket smaller in place, as `Allocator::shrink` does, and returns whether it did; or `None`
-    /// where the ticket is not live, and then nothing changes.
-    pub fn shrink(&mut self, ticket: Ticket, size: u32) -> Option<bool> {
-        match self.handle(ticket) {
-            None => None,
-            Some(handle) => {
-                let done = self.space.shrink(handle, size);
-                self.serials.cover(self.space.node_count());
-                Some(done)
-            }
-        }
-    }
-
-    /// Makes the range of a ticket larger in place, as `Allocator::grow_in_place` does, and returns whether it did; or
-    /// `None` where the ticket is not live, and then nothing changes.
-    pub fn grow_in_place(&mut self, ticket: Ticket, size: u32) -> Option<bool> {
-        match self.handle(ticket) {
-            None => None,
-            Some(handle) => {
-                let done = self.space.grow_in_place(handle, size);
-                self.serials.cover(self.space.node_count());
-                Some(done)
-            }
-        }
-    }
-
-    /// Adds `more` units at the end of the space, as `Allocator::extend` does, and returns whether it did.
-    pub fn extend(&mut self, more: u32) -> bool {
-        let done = self.space.extend(more);
-        self.serials.cover(self.space.node_count());
-        done
-    }
-
     /// Makes the whole space one free block again, as `Allocator::reset` does. No earlier ticket is ever live again.
     pub fn reset(&mut self) {
         self.space.reset();
-    }
-
-    /// Slides every live range to the front of the space, as `Allocator::compact` does. Every ticket stays live, with
-    /// its size; `offset_of` returns where its range begins.
-    pub fn compact<F: FnMut(Move<NI>)>(&mut self, moved: &mut F) {
-        self.space.compact(moved);
-    }
-
-    /// Why `allocate(size)` would be refused now, or `None` exactly where it would be granted.
-    pub fn refusal(&self, size: u32) -> Option<Refusal> {
-        if self.serials.is_spent() {
-            return Some(Refusal::Serials);
-        }
-        match self.space.refusal(size) {
-            None => None,
-            Some(why) => Some(Refusal::Allocator(why)),
-        }
-    }
-
-    /// Why `allocate_aligned(size, align)` would be refused now, or `None` exactly where it would be granted.
-    #[track_caller]
-    pub fn refusal_aligned(&self, size: u32, align: u32) -> Option<Refusal> {
-        assert!(align.is_power_of_two(), "align must be a power of two");
-        if self.serials.is_spent() {
-            return Some(Refusal::Serials);
-        }
-        match self.space.refusal_aligned(size, align) {
-            None => None,
-            Some(why) => Some(Refusal::Allocator(why)),
-        }
     }
 }

@@ -1,16 +1,30 @@
-//! Replays the buffer requests of a real game, and checks each granted range.
+//! Replays what real programs requested, and checks each granted range.
 //!
-//! `trace [FILE]`: FILE is a script, by default `bench/traces/voxel-game.script`.
+//! `trace [FILE..]`: each FILE is a script; by default those in `bench/traces`.
 
 use offset_script::{parse, play, Answer, Command, Global, IndexWidth};
 use std::collections::{BTreeMap, HashMap};
 use std::error::Error;
+use std::path::{Path, PathBuf};
 
 fn main() -> Result<(), Box<dyn Error>> {
-    let own = concat!(env!("CARGO_MANIFEST_DIR"), "/../../bench/traces/voxel-game.script").to_string();
-    let file = std::env::args().nth(1).unwrap_or(own);
-    let text = std::fs::read(&file).map_err(|error| format!("{file}: {error}"))?;
-    let script = parse(Global, &text).map_err(|fault| format!("{file}: {fault:?}"))?;
+    let mut files: Vec<PathBuf> = std::env::args_os().skip(1).map(PathBuf::from).collect();
+    if files.is_empty() {
+        let folder = concat!(env!("CARGO_MANIFEST_DIR"), "/../../bench/traces");
+        let all = std::fs::read_dir(folder).map_err(|error| format!("{folder}: {error}"))?;
+        files = all.map(|entry| entry.map(|entry| entry.path())).collect::<Result<_, _>>()?;
+        files.retain(|file| file.extension().is_some_and(|extension| extension == "script"));
+        files.sort();
+    }
+    for file in &files {
+        replay(file).map_err(|error| format!("{}: {error}", file.display()))?;
+    }
+    Ok(())
+}
+
+fn replay(file: &Path) -> Result<(), Box<dyn Error>> {
+    let text = std::fs::read(file)?;
+    let script = parse(Global, &text).map_err(|fault| format!("{fault:?}"))?;
     let answers = match script.index {
         IndexWidth::Bits16 => play::<u16>(Global, script.size, script.max_allocs, &script.commands)?,
         IndexWidth::Bits32 => play::<u32>(Global, script.size, script.max_allocs, &script.commands)?,
@@ -51,7 +65,8 @@ fn main() -> Result<(), Box<dyn Error>> {
             _ => {}
         }
     }
-    println!("{} commands: {grants} grants, {refused} refusals, {} live at the end", answers.len(), starts.len());
-    println!("at most {most} units were held, all below offset {reach}: {:.2} times as many", reach as f64 / most as f64);
+    let name = file.file_stem().unwrap_or_default().to_string_lossy();
+    println!("{name}: {} commands, {grants} grants, {refused} refusals, {} live at the end", answers.len(), starts.len());
+    println!("  at most {most} units were held, all below offset {reach}: {:.2} times as many", reach as f64 / most as f64);
     Ok(())
 }

@@ -5,8 +5,10 @@
 //! 150 u / e in the plot of the reports.
 
 use super::support::Part::Lines;
-use super::support::{Picture, RECTANGLE, count, expect_picture, picture_of};
-use crate::asserts::{assert_same, assert_same_at, assert_that};
+use super::support::{
+    GRANT_TITLE, Picture, RECTANGLE, count, expect_picture, picture_of, titled_picture_of,
+};
+use crate::asserts::{assert_same, assert_same_at, assert_that, assert_that_at};
 
 // The stored run of `offset_picture`. With 9 calls, each takes 105 pixels. The highest unit is 192, and a twentieth
 // above it the space has ended, at 200: a unit is 2 pixels high in the upper plot, and 0.75 in the lower one.
@@ -42,6 +44,10 @@ alloc 192
         "<path class='out' d='M120 150H120V350H750V150H1170V150'/>",
         // free units: 100, 90, 70, 54, 64, 64, 164, 74, 200, 8
         "<path class='free' d='M120 780H120V705H225V712.5H330V727.5H435V739.5H540V732H750V657H855V724.5H960V630H1065V774H1170V780'/>",
+        // the classes of these numbers: from 32 on they rise by 4, from 64 on by 8, and from 128 on by 16. So they are
+        // 96 = 64 + 4 8, 88 = 64 + 3 8, 64, 52 = 32 + 5 4, 64, 64, 160 = 128 + 2 16, 72 = 64 + 8, 192 = 128 + 4 16, 8.
+        // Less 0.75 of each from 780: 708, 714, 732, 741, 732, 732, 660, 726, 636, 774
+        "<path class='joined' d='M120 780H120V708H225V714H330V732H435V741H540V732H750V660H855V726H960V636H1065V774H1170V780'/>",
         // the classes of the largest blocks, 100, 90, 70, 52, 52, 52, 152, 62, 200, 8: 96, 88, 64, 52, 52, 52, 144,
         // 60, 192, 8
         "<path class='most' d='M120 780H120V708H225V714H330V732H435V741H750V672H855V735H960V636H1065V774H1170V780'/>",
@@ -55,7 +61,22 @@ alloc 192
 };
 
 // Lives, edges, shares and numbers, also at the bounds between two cases.
-const EXAMPLES: [Picture; 9] = [
+const EXAMPLES: [Picture; 10] = [
+    // Fragmentation alone. Of 96 units, grants of 32 units each are at 0, 32 and 64, and the first and the third are
+    // released: 64 units are free in two blocks of 32. 5 calls: 120 + 175 k. A unit is 150/96 pixels high: 96, 64 and 32
+    // units are at 630, 680 and 730, and each of these numbers is the value of a class.
+    Picture {
+        script: &[Lines(
+            1,
+            "space 96 nodes 16 index 32\nalloc 32\nalloc 32\nalloc 32\nfree 1\nfree 3\n",
+        )],
+        once: &[
+            "<path class='free' d='M120 780H120V630H295V680H470V730H645V780H820V730H995V680H1170V780'/>",
+            "<path class='joined' d='M120 780H120V630H295V680H470V730H645V780H820V730H995V680H1170V780'/>",
+            "<path class='most' d='M120 780H120V630H295V680H470V730H645V780H820V730H1170V780'/>",
+        ],
+        counts: &[],
+    },
     // 1 call: it is at 645. The highest unit is 61, and the axis ends at 61 + 3 + 1. 40 is at 550 - 400 40 / 65.
     Picture {
         script: &[Lines(1, "space 1000 nodes 16 index 32\nalloc 61\n")],
@@ -157,7 +178,18 @@ const EXAMPLES: [Picture; 9] = [
 ];
 
 // Scripts at the limits.
-const EXTREMES: [Picture; 7] = [
+const EXTREMES: [Picture; 8] = [
+    // The largest space, all free: 4294967295 units are of the class 15 2^28 = 4026531840, at 780 - 150 15/16 = 639.37,
+    // drawn to a tenth.
+    Picture {
+        script: &[Lines(1, "space 4294967295 nodes 16 index 32\n")],
+        once: &[
+            "<path class='free' d='M120 780H120V630H1170V780'/>",
+            "<path class='joined' d='M120 780H120V639.3H1170V780'/>",
+            "<path class='most' d='M120 780H120V639.3H1170V780'/>",
+        ],
+        counts: &[],
+    },
     // There is one state, all along the axis. 100 free units are the whole height, and 96 of them are 144 pixels.
     Picture {
         script: &[Lines(1, "space 100 nodes 16 index 32\n")],
@@ -166,6 +198,7 @@ const EXTREMES: [Picture; 7] = [
             ">0 grants, 0 refusals; at most 0 live at once. Most in use: 0 of 100 units, 0.0 percent.<",
             ">Largest free region at the worst moment: 96 units, of 100 free, after 0 calls.<",
             "<path class='free' d='M120 780H120V630H1170V780'/>",
+            "<path class='joined' d='M120 780H120V636H1170V780'/>",
             "<path class='most' d='M120 780H120V636H1170V780'/>",
             // the legend has the only mark of a refusal
             "class='refusal'",
@@ -230,6 +263,7 @@ const EXTREMES: [Picture; 7] = [
         script: &[Lines(1, "space 100 nodes 3 index 32\nalloc 10\nalloc 10\n")],
         once: &[
             "<path class='free' d='M120 780H120V630H470V780H1170V780'/>",
+            "<path class='joined' d='M120 780H120V636H470V780H1170V780'/>",
             "<path class='refusal' d='M820 550v12'/>",
             "Largest free region at the worst moment: 0 units, of 0 free, after 1 call.<",
             "At the node limit, after 2 calls, 0 units are reported as free.",
@@ -246,6 +280,40 @@ fn draws_examples_computed_by_hand(rt: HostRuntime) {
     }
     for row in &EXTREMES {
         expect_picture(&rt, rt.alloc(), row);
+    }
+}
+
+// Titles, and how they are written. A space is in place of what XML 1.0 forbids, and of line ends and tabs.
+const TITLES: [(&str, &str); 6] = [
+    ("A voxel game", "A voxel game"),
+    ("a < b && 'c' > \"d\"", "a &lt; b &amp;&amp; 'c' &gt; \"d\""),
+    ("&lt;</title>", "&amp;lt;&lt;/title&gt;"),
+    ("", ""),
+    ("a\tb\r\nc\0d\u{1f}e\u{fffe}f\u{ffff}", "a b  c d e f "),
+    (
+        " ~\u{7f}\u{a0}\u{d7ff}\u{e000}\u{fffd}\u{10000}\u{10ffff}",
+        " ~\u{7f}\u{a0}\u{d7ff}\u{e000}\u{fffd}\u{10000}\u{10ffff}",
+    ),
+];
+
+// The title comes first, and once more as the heading.
+#[test]
+fn a_picture_begins_with_its_title(rt: HostRuntime) {
+    for (title, wanted) in TITLES {
+        let picture = titled_picture_of(
+            &rt,
+            rt.alloc(),
+            title,
+            &[Lines(1, "space 100 nodes 16 index 32\n")],
+        );
+        let start = format!(in rt.alloc();
+            "<svg xmlns='http://www.w3.org/2000/svg' width='1200' height='840' viewBox='0 0 1200 840' role='img'>\n<title>{wanted}</title>\n"
+        ).expect(&rt, "memory");
+        let heading = format!(in rt.alloc();
+            "<text class='big' x='24' y='28'>{wanted}</text>\n"
+        ).expect(&rt, "memory");
+        assert_that_at(&rt, &title, picture.starts_with(&start));
+        assert_same_at(&rt, &title, &count(&picture, &heading), &1);
     }
 }
 
@@ -279,7 +347,7 @@ fn each_age_ends_at_its_bound(rt: HostRuntime) {
                 Lines(1, "free 1\n"),
             ],
         );
-        assert_same_at(&rt, &calls, &count(&picture, "<title>"), &1);
+        assert_same_at(&rt, &calls, &count(&picture, GRANT_TITLE), &1);
         assert_same_at(&rt, &calls, &count(&picture, group), &1);
     }
 }

@@ -1,7 +1,7 @@
 //! Pictures of many grants, and of many calls.
 
 use super::support::Part::{Lines, Lives};
-use super::support::{Picture, RECTANGLE, count, expect_picture, picture_of};
+use super::support::{GRANT_TITLE, Picture, RECTANGLE, count, expect_picture, picture_of};
 use crate::asserts::{assert_same, assert_that_at};
 
 const PICTURES: [Picture; 4] = [
@@ -12,7 +12,7 @@ const PICTURES: [Picture; 4] = [
             Lines(20000, "alloc 1\n"),
         ],
         once: &[],
-        counts: &[(RECTANGLE, 20000), ("<title>", 20000), ("merged", 0)],
+        counts: &[(RECTANGLE, 20000), (GRANT_TITLE, 20000), ("merged", 0)],
     },
     // A first grant of units 0 to 52 that is live to the end, and then grants of units 52 to 100 that are live for one
     // call. With 40,003 calls one call takes 0.026 pixels. The first grant is at 120.02, and is not merged. All others
@@ -74,6 +74,8 @@ const PICTURES: [Picture; 4] = [
             ">20,999 calls on a space of 100 units, with 16 nodes<",
             // 100 free units are at 630, and 40 at 720
             "<path class='free' d='M120 780H120V630H120.1V720V630H320V720H320.1V630V720H1170V780'/>",
+            // their classes are 96, at 636, and 40
+            "<path class='joined' d='M120 780H120V636H120.1V720V636H320V720H320.1V636V720H1170V780'/>",
             "<path class='refusal' d='M420 550v12M420.1 550v12'/>",
         ],
         counts: &[],
@@ -99,7 +101,7 @@ fn merges_20001_grants(rt: HostRuntime) {
         ],
     );
     let found = count(&picture, RECTANGLE);
-    assert_same(&rt, &count(&picture, "<title>"), &0);
+    assert_same(&rt, &count(&picture, GRANT_TITLE), &0);
     assert_that_at(&rt, &found, found > 1000 && found < 10_000);
     let thousands = found / 1000;
     let ones = found % 1000;

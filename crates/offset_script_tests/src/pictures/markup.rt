@@ -1,7 +1,7 @@
 //! Pictures are well-formed XML.
 
 use super::support::Part::Lines;
-use super::support::picture_of;
+use super::support::titled_picture_of;
 use crate::asserts::{assert_same_at, assert_that_at};
 use std::alloc::{AllocError, Global};
 
@@ -41,12 +41,22 @@ fn are_attributes(alloc: Global, text: &str) -> Result<bool, AllocError> {
     Ok(rest.is_empty())
 }
 
+// Whether each `&` of a text begins one of the three names of characters that pictures have.
+fn are_names(text: &str) -> bool {
+    for piece in text.split("&").skip(1) {
+        if !piece.starts_with("amp;") && !piece.starts_with("lt;") && !piece.starts_with("gt;") {
+            return false;
+        }
+    }
+    true
+}
+
 // Whether a text is one element, with its elements closed in turn, and no bare `&`, `<` or `>` in text or attributes.
-// It knows no comments, declarations or escapes, which pictures do not have.
+// It knows no comments, declarations or other names, which pictures do not have.
 fn is_well_formed(alloc: Global, text: &str) -> Result<bool, AllocError> {
     let mut open: Vec<&str> = Vec::new(alloc);
     let mut roots = 0u32;
-    if !text.starts_with("<") || text.contains("&") {
+    if !text.starts_with("<") || !are_names(text) {
         return Ok(false);
     }
     for piece in text.split("<").skip(1) {
@@ -96,7 +106,10 @@ fn the_check_of_markup_works(rt: HostRuntime) {
         ("<a/><a/>", false),
         ("<a/>b", false),
         ("b<a/>", false),
+        ("<a>&amp;b&lt;&gt;</a>", true),
         ("<a>&</a>", false),
+        ("<a>&amp</a>", false),
+        ("<a>&amp;&b;</a>", false),
         ("<a>></a>", false),
         ("<a b=c/>", false),
         ("<a b='c/>", false),
@@ -125,7 +138,12 @@ fn draws_well_formed_pictures(rt: HostRuntime) {
         "space 100 nodes 16 index 32\nalloc 10\nalign 8 16\nfree 1\nalloc 90\nextend 50\nalloc 0\nsize 3\nfull\nreport\nreset\nalloc 7\n",
         "space 4294967295 nodes 16 index 32\nalloc 4026531840\nextend 1\nfree 9\n",
     ] {
-        let picture = picture_of(&rt, rt.alloc(), &[Lines(1, text)]);
+        let picture = titled_picture_of(
+            &rt,
+            rt.alloc(),
+            "</title><b> & 'c' \"d\"",
+            &[Lines(1, text)],
+        );
         let is_so = is_well_formed(rt.alloc(), &picture).expect(&rt, "memory");
         assert_that_at(&rt, &text, is_so);
     }

@@ -24,6 +24,11 @@ pub struct Picture {
 
 /// The picture of a script.
 pub fn picture_of(rt: &impl Abort, alloc: Global, parts: &[Part]) -> String {
+    titled_picture_of(rt, alloc, "A script", parts)
+}
+
+/// The picture of a script with a title.
+pub fn titled_picture_of(rt: &impl Abort, alloc: Global, title: &str, parts: &[Part]) -> String {
     let mut text = String::new(alloc);
     for part in parts {
         match *part {
@@ -40,7 +45,7 @@ pub fn picture_of(rt: &impl Abort, alloc: Global, parts: &[Part]) -> String {
         }
     }
     let script = parse(alloc, text.as_bytes()).expect(rt, "a script");
-    picture(alloc, &script).expect(rt, "memory")
+    picture(alloc, title, &script).expect(rt, "memory")
 }
 
 /// How often a word is in a text.
@@ -50,6 +55,9 @@ pub fn count(text: &str, word: &str) -> usize {
 
 /// What the rectangle of a grant begins with. The background has a class and no place.
 pub const RECTANGLE: &str = "<rect x=";
+
+/// What the title of a grant begins with.
+pub const GRANT_TITLE: &str = "<title>grant ";
 
 /// Expects the texts of a picture.
 pub fn expect_picture(rt: &impl Abort, alloc: Global, row: &Picture) {

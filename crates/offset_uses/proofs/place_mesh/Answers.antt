@@ -5,7 +5,8 @@ use Rattle.offset_uses.proofs.place_mesh.Goals as goal
 
 -- the first range is freed
 pub returns-in-None-clause-same : goal.returns-in-None-clause-same
-returns-in-None-clause-same c e = taken_back c.args.outer c.args.vertices.now c.allocate.new.self c.allocate-2.new.self c.free.new.self c.in_ok-one.one c.is_well_formed.ensures c.in_ok-one.ensures.step (c.allocate-2.ensures.same c.in-None.is) c.free.ensures.step
+returns-in-None-clause-same c e = taken_back c.args.outer c.args.vertices.now c.allocate.new.self c.allocate-2.new.self c.free.new.self c.in_ok-one.one c.is_well_formed.ensures
+    c.in_ok-one.ensures.step (c.allocate-2.ensures.same c.in-None.is) c.free.ensures.step
 
 pub returns-in-None-clause-kept : goal.returns-in-None-clause-kept
 returns-in-None-clause-kept c x r e = ap (range_of x) (returns-in-None-clause-same c refl) ∙ e

@@ -34,4 +34,5 @@ pub reply-requires-clause-kept : goal.reply-requires-clause-kept
 reply-requires-clause-kept g c = all_kept_played _ _ _ _ _ _ c.requires.low c.loop-call.invariant.played
 
 pub returns : goal.returns
-returns g c = ends c.args.size c.args.max_allocs c.loop-call.desk.space c.loop-call.desk.tickets.items _ c.args.calls.now _ c.loop-call.invariant.played (take_all c.loop-call.call-index c.args.calls.now (omega arith))
+returns g c = ends c.args.size c.args.max_allocs c.loop-call.desk.space c.loop-call.desk.tickets.items _ c.args.calls.now _ c.loop-call.invariant.played
+    (take_all c.loop-call.call-index c.args.calls.now (omega arith))

@@ -6,7 +6,8 @@ use Rattle.offset_calls.proofs.playing.compact.Goals as goal
 
 pub numbered-requires : goal.numbered-requires
 numbered-requires g c = subst₂ (λ xs ys. length xs ≤ length ys) (sym c.deref-2.ensures.value) (sym c.deref.ensures.value)
-    (numbers_suffice c.args.player.now.handles.items c.in_ok-numbers.numbers.items c.collect.new.seen.found.items c.args.player.now.space c.in_ok-numbers.ensures (c.collect.ensures.moves c.if-moves.false))
+    (numbers_suffice c.args.player.now.handles.items c.in_ok-numbers.numbers.items c.collect.new.seen.found.items c.args.player.now.space c.in_ok-numbers.ensures
+    (c.collect.ensures.moves c.if-moves.false))
 
 pub returns : goal.returns
 returns g c = (

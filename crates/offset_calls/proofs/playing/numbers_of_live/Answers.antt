@@ -1,7 +1,7 @@
 use Rattle.std.proofs.Common.{sym, ap, ap₂, subst, map, ◌∙◌, ◌++◌}
 use Rattle.offset_allocator.specs.Listing.{as_placed}
-use Rattle.offset_script.specs.Agreement.{kept_name}
-use Rattle.offset_calls.proofs.Numbering.{AllKept, placed_names, kept-listing, walk_used, walk_ends}
+use Rattle.offset_script.specs.Steps.{kept_name}
+use Rattle.offset_calls.proofs.Numbering.{AreAllKept, placed_names, kept-listing, walk_used, walk_ends}
 use Rattle.offset_calls.proofs.playing.numbers_of_live.Goals as goal
 
 pub loop-block-init : goal.loop-block-init
@@ -9,20 +9,22 @@ loop-block-init g c =
     let e = c.into_iter-block-iterator.ensures.into_iter_gives ∙ c.blocks-block-items.ensures in
     record {
       names = ap₂ (λ l ps. map (kept_name c.args.player.now.handles.items) l ++ placed_names ps) c.new-numbers.ensures.items e;
-      kept = subst (AllKept c.args.player.now.handles.items) (sym e) (kept-listing c.args.player.now.space _ c.requires);
+      kept = subst (AreAllKept c.args.player.now.handles.items) (sym e) (kept-listing c.args.player.now.space _ c.requires);
     }
 
 pub loop-block-preserved-in-Continue-1 : goal.loop-block-preserved-in-Continue-1
 loop-block-preserved-in-Continue-1 g c =
     let hs = c.args.player.now.handles.items in
-    let kept = subst (AllKept hs) c.in-Some.ensures.steps c.loop-block.invariant.kept in
+    let kept = subst (AreAllKept hs) c.in-Some.ensures.steps c.loop-block.invariant.kept in
     let k = kept.0 c.in-Some-allocation.handle c.in-Some-allocation.is in
     record {
       names = ap (λ l. map (kept_name hs) l ++ placed_names c.next.new.self) c.in_ok-push.ensures.items
           ∙ walk_used hs c.loop-block.numbers.items c.number_of.result (as_placed c.in-Some.block) c.next.new.self c.in-Some-allocation.handle _
-          (ap (λ ps. map (kept_name hs) c.loop-block.numbers.items ++ placed_names ps) (sym c.in-Some.ensures.steps) ∙ c.loop-block.invariant.names) c.in-Some-allocation.is (ap (λ l. kept_name l c.number_of.result) (sym c.deref.ensures.value) ∙ c.number_of.ensures k.0 (ap (λ l. kept_name l k.0) c.deref.ensures.value ∙ k.1));
+          (ap (λ ps. map (kept_name hs) c.loop-block.numbers.items ++ placed_names ps) (sym c.in-Some.ensures.steps) ∙ c.loop-block.invariant.names) c.in-Some-allocation.is
+          (ap (λ l. kept_name l c.number_of.result) (sym c.deref.ensures.value) ∙ c.number_of.ensures k.0 (ap (λ l. kept_name l k.0) c.deref.ensures.value ∙ k.1));
       kept = kept.1;
     }
 
 pub returns : goal.returns
-returns g c = walk_ends _ _ _ c.args.player.now.space (ap (λ ps. map (kept_name c.args.player.now.handles.items) c.loop-block.numbers.items ++ placed_names ps) (sym c.in-None.ensures.steps.0) ∙ c.loop-block.invariant.names) c.reverse.ensures.items
+returns g c = walk_ends _ _ _ c.args.player.now.space
+    (ap (λ ps. map (kept_name c.args.player.now.handles.items) c.loop-block.numbers.items ++ placed_names ps) (sym c.in-None.ensures.steps.0) ∙ c.loop-block.invariant.names) c.reverse.ensures.items

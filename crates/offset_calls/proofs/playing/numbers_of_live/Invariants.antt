@@ -1,12 +1,12 @@
 use Rattle.std.proofs.Common.{◌≡◌, ◌++◌, map}
 use Rattle.offset_allocator.specs.Listing.{listing}
-use Rattle.offset_script.specs.Agreement.{kept_name}
-use Rattle.offset_calls.proofs.Numbering.{placed_names, AllKept}
+use Rattle.offset_script.specs.Steps.{kept_name}
+use Rattle.offset_calls.proofs.Numbering.{placed_names, AreAllKept}
 use Rattle.offset_calls.proofs.playing.numbers_of_live.Given as goal
 
 -- the numbers so far, and the names of the blocks that are left, which are all kept
 abbrev pub invariant-loop-block : goal.invariant-loop-block
 invariant-loop-block g l = record {
   names : map (kept_name l.player.handles.items) l.numbers.items ++ placed_names l.block-iterator ≡ placed_names (listing l.player.space);
-  kept : AllKept l.player.handles.items l.block-iterator;
+  kept : AreAllKept l.player.handles.items l.block-iterator;
 }

@@ -2,7 +2,7 @@ use Rattle.std.proofs.Common.{◌≡◌, ◌+◌, ◌<◌, ◌≤◌, ℕ, List,
 use Rattle.std.proofs.lemmas.List.{map-append, take_more, take_all, drop_all}
 use Rattle.std.proofs.lemmas.List.Elements.{All-get_or}
 use Rattle.offset_script.specs.Machine.{State, start}
-use Rattle.offset_script.specs.Simulation.{Represents}
+use Rattle.offset_script.proofs.Agreement.{IsAtState}
 use Rattle.offset_script.proofs.Simulation.{all_live, fresh_represents, run_begins, run_goes_on, run_ends}
 use Rattle.offset_script.proofs.Well.{well_start}
 use Rattle.offset_calls.specs.declared.calls.Call.{Call}
@@ -34,7 +34,8 @@ replies_more cs s i d found left x all h f e so_far =
     ∙ so_far
 
 -- where nothing is left, the replies so far are those to all
-replies_all : (cs : List Call) (s : State) (i : ℕ) (found : List program.Reply) (all : List Reply) → length cs ≤ i → map reply_view found ++ replies (drop i cs) (after (take i cs) s) ≡ all → map reply_view found ≡ all
+replies_all : (cs : List Call) (s : State) (i : ℕ) (found : List program.Reply) (all : List Reply) → length cs ≤ i → map reply_view found ++ replies (drop i cs) (after (take i cs) s) ≡ all
+    → map reply_view found ≡ all
 replies_all cs s i found all h so_far = sym (append-nil (map reply_view found)) ∙ ap (λ l. map reply_view found ++ l) (sym (ap (λ l. replies l (after (take i cs) s)) (drop_all i cs h))) ∙ so_far
 
 pub reply-requires-clause-live : goal.reply-requires-clause-live
@@ -60,10 +61,12 @@ loop-call-preserved g c =
     let state = after (take i cs) s in
     let within : i < length cs = omega arith in
     let valid = All-get_or (λ c. IsTrue (is_valid c)) cs i _ within c.requires.valid in
-    let next = follows _ _ _ _ _ state c.is_well_formed-in-loop-call.ensures (well_calls (take i cs) s (well_start c.args.size c.args.max_allocs c.requires.low)) c.loop-call.invariant.represents _ valid c.in_ok-reply.ensures in
+    let next = follows _ _ _ _ _ state c.is_well_formed-in-loop-call.ensures (well_calls (take i cs) s (well_start c.args.size c.args.max_allocs c.requires.low)) c.loop-call.invariant.represents _
+    valid c.in_ok-reply.ensures in
     record {
-      represents = subst (Represents c.reply.new.player.space c.reply.new.player.handles.items) (sym (after_more cs s i _ within)) next.1;
-      run = run_goes_on Takes _ _ _ _ _ _ _ _ _ _ _ _ c.loop-call.invariant.run c.in_ok-reply.ensures c.is_well_formed-in-loop-call.ensures (take_more cs i _ within) (ap (map reply_view) c.in_ok-push.ensures.items ∙ map-append reply_view c.loop-call.found.items _);
+      represents = subst (IsAtState c.reply.new.player.space c.reply.new.player.handles.items) (sym (after_more cs s i _ within)) next.1;
+      run = run_goes_on Takes _ _ _ _ _ _ _ _ _ _ _ _ c.loop-call.invariant.run c.in_ok-reply.ensures c.is_well_formed-in-loop-call.ensures (take_more cs i _ within)
+          (ap (map reply_view) c.in_ok-push.ensures.items ∙ map-append reply_view c.loop-call.found.items _);
       so_far = replies_more cs s i _ c.loop-call.found.items _ c.in_ok-reply.reply (replies cs s) within c.in_ok-push.ensures.items next.0 c.loop-call.invariant.so_far;
     }
 

@@ -1,6 +1,6 @@
 use Rattle.std.proofs.Common.{◌≡◌, map, take, drop, ◌++◌}
 use Rattle.offset_script.specs.Machine.{start}
-use Rattle.offset_script.specs.Simulation.{Represents}
+use Rattle.offset_script.proofs.Agreement.{IsAtState}
 use Rattle.offset_script.proofs.Simulation.{IsBegun}
 use Rattle.offset_calls.specs.Calls.{after, replies, reply_view}
 use Rattle.offset_calls.specs.Steps.{Takes}
@@ -11,7 +11,7 @@ abbrev pub invariant-loop-call : goal.invariant-loop-call
 invariant-loop-call g l =
     let state = after (take l.call-index l.calls) (start l.size l.max_allocs) in
     record {
-      represents : Represents l.player.space l.player.handles.items state;
+      represents : IsAtState l.player.space l.player.handles.items state;
       run : IsBegun Takes l.size l.max_allocs l.player.space l.player.handles.items (take l.call-index l.calls) (map reply_view l.found.items);
       so_far : map reply_view l.found.items ++ replies (drop l.call-index l.calls) state ≡ replies l.calls (start l.size l.max_allocs);
     }

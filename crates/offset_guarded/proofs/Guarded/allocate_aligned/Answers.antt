@@ -9,7 +9,8 @@ invariant_of-self-in-Some g c =
     (same_limit c.args.size c.args.align _ _ _ c.in-Some.ensures.step) c.ticket_for.ensures.room
 
 pub returns-in-Some-clause-can_grant : goal.returns-in-Some-clause-can_grant
-returns-in-Some-clause-can_grant g c = can_grant (blocks_needed c.args.align) (units_needed c.args.size c.args.align) _ _ c.self.view_is (c.is_spent.ensures.left c.if-is_spent.false) (c.in-Some.ensures.can_grant.0 refl)
+returns-in-Some-clause-can_grant g c = can_grant (blocks_needed c.args.align) (units_needed c.args.size c.args.align) _ _ c.self.view_is (c.is_spent.ensures.left c.if-is_spent.false)
+    (c.in-Some.ensures.can_grant.0 refl)
 
 pub returns-in-Some-clause-grants : goal.returns-in-Some-clause-grants
 returns-in-Some-clause-grants g c =

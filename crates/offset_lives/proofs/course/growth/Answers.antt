@@ -35,15 +35,19 @@ loop-i-preserved c =
     let more = added_more cs s i command (answer_view answer) (omega arith) in
     let added : c.added_units.result ≡ added_units (get_or cs i command) (get_or (answers cs s) i (answer_view answer)) = c.added_units.ensures ∙ ap₂ added_units c.index.ensures (sym at) in
     let size : c.saturating_add-size.result ≡ size_after (i + 1) script.size script.max_allocs cs = omega (arith, more, added, c.saturating_add-size.ensures, c.loop-i.invariant.size) in
-    let here : get_or given i (answer_view answer) ≡ answer_view answer = get_or-map answer_view found i answer (answer_view answer) (omega (arith, ap length played, answers_count cs s, n)) ∙ ap answer_view (sym c.index-answer.ensures) in
+    let here : get_or given i (answer_view answer) ≡ answer_view answer =
+    get_or-map answer_view found i answer (answer_view answer) (omega (arith, ap length played, answers_count cs s, n)) ∙ ap answer_view (sym c.index-answer.ensures) in
     let is : is_refusal (get_or given i (answer_view answer)) ≡ c.is_refusal.result = ap is_refusal here ∙ sym c.is_refusal.ensures in
     record {
       size = size;
       len = omega (arith, c.in_ok-push-2.ensures.len);
-      sizes = λ k l. ap (λ xs. get_or xs k 0) c.in_ok-push-2.ensures.items ∙ size_pushed c.loop-i.sizes.items c.saturating_add-size.result i (λ j. size_after j script.size script.max_allocs cs) c.loop-i.invariant.len c.loop-i.invariant.sizes size k l;
+      sizes = λ k l. ap (λ xs. get_or xs k 0) c.in_ok-push-2.ensures.items
+          ∙ size_pushed c.loop-i.sizes.items c.saturating_add-size.result i (λ j. size_after j script.size script.max_allocs cs) c.loop-i.invariant.len c.loop-i.invariant.sizes size k l;
       refused = elim c.if-is_refusal.branch [
-        | then-is_refusal+in_ok-push-3 w ↦ refused_step given i (answer_view answer) true c.loop-i.refused.items c.if-is_refusal.refused.items (omega (arith, ap length played, answers_count cs s, n)) (is ∙ w.if-is_refusal.true) c.loop-i.invariant.refused (ap (λ v. v.items) w.refused-is ∙ w.in_ok-push-3.ensures.items)
-        | else-is_refusal w ↦ refused_step given i (answer_view answer) false c.loop-i.refused.items c.if-is_refusal.refused.items (omega (arith, ap length played, answers_count cs s, n)) (is ∙ w.if-is_refusal.false) c.loop-i.invariant.refused (ap (λ v. v.items) w.refused-is ∙ sym (append-nil c.loop-i.refused.items))
+        | then-is_refusal+in_ok-push-3 w ↦ refused_step given i (answer_view answer) true c.loop-i.refused.items c.if-is_refusal.refused.items (omega (arith, ap length played, answers_count cs s, n))
+            (is ∙ w.if-is_refusal.true) c.loop-i.invariant.refused (ap (λ v. v.items) w.refused-is ∙ w.in_ok-push-3.ensures.items)
+        | else-is_refusal w ↦ refused_step given i (answer_view answer) false c.loop-i.refused.items c.if-is_refusal.refused.items (omega (arith, ap length played, answers_count cs s, n))
+            (is ∙ w.if-is_refusal.false) c.loop-i.invariant.refused (ap (λ v. v.items) w.refused-is ∙ sym (append-nil c.loop-i.refused.items))
       ];
     }
 

@@ -20,7 +20,8 @@ loop-life-preserved c =
     let none : Life = record { number = 0; offset = 0; size = 0; first = 0; last = 0 } in
     record {
       len = omega arith;
-      counts = λ k d less. counted_more (λ x. nat_eq x.last k) lives i none (get_or c.loop-life.counts.items k d) (get_or c.add.new.counts.items k d) (omega arith) (c.loop-life.invariant.counts k d less) (c.add.ensures.counts k d (omega arith));
+      counts = λ k d less. counted_more (λ x. nat_eq x.last k) lives i none (get_or c.loop-life.counts.items k d) (get_or c.add.new.counts.items k d) (omega arith)
+          (c.loop-life.invariant.counts k d less) (c.add.ensures.counts k d (omega arith));
       sizes = All-more (λ x. x.size < 4294967296) lives i none (omega arith) c.loop-life.invariant.sizes (omega arith);
     }
 

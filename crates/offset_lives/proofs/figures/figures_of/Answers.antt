@@ -20,10 +20,18 @@ loop-state-init c =
     }
 
 pub overflow_sub-granted : goal.overflow_sub-granted
-overflow_sub-granted c = omega (arith, grants_on c.loop-state.state c.args.course.now.lives.items c.loop-state.granted c.loop-state.gone c.requires c.loop-state.invariant.granted c.loop-state.invariant.gone)
+overflow_sub-granted c = omega (
+  arith,
+  grants_on c.loop-state.state c.args.course.now.lives.items c.loop-state.granted c.loop-state.gone c.requires c.loop-state.invariant.granted
+      c.loop-state.invariant.gone,
+)
 
 pub overflow_sub-granted-in-loop-state : goal.overflow_sub-granted-in-loop-state
-overflow_sub-granted-in-loop-state c = omega (arith, units_on c.loop-state.state c.args.course.now.lives.items c.loop-state.granted c.loop-state.gone c.requires c.loop-state.invariant.granted c.loop-state.invariant.gone)
+overflow_sub-granted-in-loop-state c = omega (
+  arith,
+  units_on c.loop-state.state c.args.course.now.lives.items c.loop-state.granted c.loop-state.gone c.requires c.loop-state.invariant.granted
+      c.loop-state.invariant.gone,
+)
 
 pub add-requires-clause-grants : goal.add-requires-clause-grants
 add-requires-clause-grants c =
@@ -31,7 +39,8 @@ add-requires-clause-grants c =
     let s = c.loop-state.state in
     let d : Count = c.index-in-loop-state-2.result.now in
     let same : c.deref.result.now ≡ ls = c.deref.ensures.value in
-    let b = joins (λ l. l.first) s ls c.deref.result.now c.in_ok-begun.begun.items d c.loop-state.granted same c.loop-state.invariant.granted (c.in_ok-begun.ensures.counts s d (omega arith)) c.index-in-loop-state-2.ensures in
+    let b = joins (λ l. l.first) s ls c.deref.result.now c.in_ok-begun.begun.items d c.loop-state.granted same c.loop-state.invariant.granted (c.in_ok-begun.ensures.counts s d (omega arith))
+    c.index-in-loop-state-2.ensures in
     let bound = few (λ l. nat_lt l.first (s + 1)) ls _ b (subst (All (λ l. l.size < 4294967296)) same c.in_ok-begun.ensures.sizes) in
     let short : length ls < 18446744073709551616 = subst (λ x. length x < 18446744073709551616) same c.in_ok-begun.ensures.few in
     omega (arith, bound.0, short)
@@ -42,7 +51,8 @@ add-requires-clause-units c =
     let s = c.loop-state.state in
     let d : Count = c.index-in-loop-state-2.result.now in
     let same : c.deref.result.now ≡ ls = c.deref.ensures.value in
-    let b = joins (λ l. l.first) s ls c.deref.result.now c.in_ok-begun.begun.items d c.loop-state.granted same c.loop-state.invariant.granted (c.in_ok-begun.ensures.counts s d (omega arith)) c.index-in-loop-state-2.ensures in
+    let b = joins (λ l. l.first) s ls c.deref.result.now c.in_ok-begun.begun.items d c.loop-state.granted same c.loop-state.invariant.granted (c.in_ok-begun.ensures.counts s d (omega arith))
+    c.index-in-loop-state-2.ensures in
     let bound = few (λ l. nat_lt l.first (s + 1)) ls _ b (subst (All (λ l. l.size < 4294967296)) same c.in_ok-begun.ensures.sizes) in
     let short : length ls < 18446744073709551616 = subst (λ x. length x < 18446744073709551616) same c.in_ok-begun.ensures.few in
     omega (arith, bound.1, short)
@@ -53,7 +63,8 @@ add-requires-in-loop-state-clause-grants c =
     let s = c.loop-state.state in
     let d : Count = c.index-in-loop-state-3.result.now in
     let same : c.deref-2.result.now ≡ ls = c.deref-2.ensures.value in
-    let b = joins (λ l. l.last) s ls c.deref-2.result.now c.in_ok-ended.ended.items d c.loop-state.gone same c.loop-state.invariant.gone (c.in_ok-ended.ensures.counts s d (omega arith)) c.index-in-loop-state-3.ensures in
+    let b = joins (λ l. l.last) s ls c.deref-2.result.now c.in_ok-ended.ended.items d c.loop-state.gone same c.loop-state.invariant.gone (c.in_ok-ended.ensures.counts s d (omega arith))
+    c.index-in-loop-state-3.ensures in
     let bound = few (λ l. nat_lt l.last (s + 1)) ls _ b (subst (All (λ l. l.size < 4294967296)) same c.in_ok-ended.ensures.sizes) in
     let short : length ls < 18446744073709551616 = subst (λ x. length x < 18446744073709551616) same c.in_ok-ended.ensures.few in
     omega (arith, bound.0, short)
@@ -64,7 +75,8 @@ add-requires-in-loop-state-clause-units c =
     let s = c.loop-state.state in
     let d : Count = c.index-in-loop-state-3.result.now in
     let same : c.deref-2.result.now ≡ ls = c.deref-2.ensures.value in
-    let b = joins (λ l. l.last) s ls c.deref-2.result.now c.in_ok-ended.ended.items d c.loop-state.gone same c.loop-state.invariant.gone (c.in_ok-ended.ensures.counts s d (omega arith)) c.index-in-loop-state-3.ensures in
+    let b = joins (λ l. l.last) s ls c.deref-2.result.now c.in_ok-ended.ended.items d c.loop-state.gone same c.loop-state.invariant.gone (c.in_ok-ended.ensures.counts s d (omega arith))
+    c.index-in-loop-state-3.ensures in
     let bound = few (λ l. nat_lt l.last (s + 1)) ls _ b (subst (All (λ l. l.size < 4294967296)) same c.in_ok-ended.ensures.sizes) in
     let short : length ls < 18446744073709551616 = subst (λ x. length x < 18446744073709551616) same c.in_ok-ended.ensures.few in
     omega (arith, bound.1, short)
@@ -77,12 +89,15 @@ loop-state-preserved c =
     let r : StorageReport = c.index-in-loop-state.result.now in
     let begun : Count = c.index-in-loop-state-2.result.now in
     let ended : Count = c.index-in-loop-state-3.result.now in
-    let g = joins (λ l. l.first) s ls c.deref.result.now c.in_ok-begun.begun.items begun c.loop-state.granted c.deref.ensures.value c.loop-state.invariant.granted (c.in_ok-begun.ensures.counts s begun (omega arith)) c.index-in-loop-state-2.ensures in
-    let e = joins (λ l. l.last) s ls c.deref-2.result.now c.in_ok-ended.ended.items ended c.loop-state.gone c.deref-2.ensures.value c.loop-state.invariant.gone (c.in_ok-ended.ensures.counts s ended (omega arith)) c.index-in-loop-state-3.ensures in
+    let g = joins (λ l. l.first) s ls c.deref.result.now c.in_ok-begun.begun.items begun c.loop-state.granted c.deref.ensures.value c.loop-state.invariant.granted
+    (c.in_ok-begun.ensures.counts s begun (omega arith)) c.index-in-loop-state-2.ensures in
+    let e = joins (λ l. l.last) s ls c.deref-2.result.now c.in_ok-ended.ended.items ended c.loop-state.gone c.deref-2.ensures.value c.loop-state.invariant.gone
+    (c.in_ok-ended.ensures.counts s ended (omega arith)) c.index-in-loop-state-3.ensures in
     let grants = grants_on s ls c.loop-state.granted c.loop-state.gone c.requires c.loop-state.invariant.granted c.loop-state.invariant.gone in
     let units = units_on s ls c.loop-state.granted c.loop-state.gone c.requires c.loop-state.invariant.granted c.loop-state.invariant.gone in
     record {
-      seen = has_seen s c.loop-state.found c.see.new.self course r _ _ _ _ c.see.ensures c.counted.ensures (c.counted-live.ensures ∙ ap counted (omega (arith, grants))) (c.counted_units-used.ensures ∙ ap counted (omega (arith, units))) (c.index.ensures ∙ get_or_default_zero course.sizes.items s c.index.result.now (omega arith))
+      seen = has_seen s c.loop-state.found c.see.new.self course r _ _ _ _ c.see.ensures c.counted.ensures (c.counted-live.ensures ∙ ap counted (omega (arith, grants)))
+          (c.counted_units-used.ensures ∙ ap counted (omega (arith, units))) (c.index.ensures ∙ get_or_default_zero course.sizes.items s c.index.result.now (omega arith))
           (ap (λ (x : StorageReport). x.largest_free_region) c.index-in-loop-state.ensures ∙ sym (get_or-map (λ (x : StorageReport). x.largest_free_region) course.reports.items s r 0 (omega arith)))
           (ap (λ (x : StorageReport). x.total_free_space) c.index-in-loop-state.ensures ∙ sym (get_or-map (λ (x : StorageReport). x.total_free_space) course.reports.items s r 0 (omega arith)))
           c.loop-state.invariant.seen;
@@ -91,4 +106,5 @@ loop-state-preserved c =
     }
 
 pub returns : goal.returns
-returns c = let done : c.loop-state.state ≡ c.min-states.result = omega arith in all_seen c.loop-state.found c.args.course.now (subst (λ n. HasSeen n c.loop-state.found c.args.course.now) (done ∙ c.min-states.ensures ∙ (omega arith)) c.loop-state.invariant.seen)
+returns c = let done : c.loop-state.state ≡ c.min-states.result = omega arith in
+    all_seen c.loop-state.found c.args.course.now (subst (λ n. HasSeen n c.loop-state.found c.args.course.now) (done ∙ c.min-states.ensures ∙ (omega arith)) c.loop-state.invariant.seen)

@@ -47,15 +47,19 @@ loop-i-preserved c =
     let b = left_at given i (i - 1) answer one (omega (arith, ap length played, answers_count cs s)) (ap (λ l. get_or l (i - 1) answer) played ∙ at) in
     record {
       lives = lives_back cs given i (i - 1) command answer c.loop-i.backward.items c.match-life_of_answer.backward.items c.life_of_answer.result (end_in c.loop-i.ends) one d b
-          (λ k offset e. c.loop-i.invariant.ends k (let most = number_most cs s (well_start script.size script.max_allocs script.low) (i - 1) answer k offset (omega arith) (at ∙ e) in omega (arith, most)))
+          (λ k offset e. c.loop-i.invariant.ends k (let most = number_most cs s (well_start script.size script.max_allocs script.low) (i - 1) answer k offset (omega arith) (at ∙ e) in
+          omega (arith, most)))
           c.life_of_answer.ensures
           (elim c.match-life_of_answer.branch [
-            | in-Some+in_ok-push w ↦ pushed c.match-life_of_answer.backward.items c.loop-i.backward.items w.in-Some.life c.life_of_answer.result (let e = w.in-Some.is in cc) (let e = w.backward-is in let f = w.in_ok-push.ensures.items in cc)
-            | in_default w ↦ not_pushed c.match-life_of_answer.backward.items c.loop-i.backward.items c.life_of_answer.result (none_is c.life_of_answer.result w.in_default.not-Some) (let e = w.backward-is in cc)
+            | in-Some+in_ok-push w ↦ pushed c.match-life_of_answer.backward.items c.loop-i.backward.items w.in-Some.life c.life_of_answer.result (let e = w.in-Some.is in cc)
+                (let e = w.backward-is in let f = w.in_ok-push.ensures.items in cc)
+            | in_default w ↦ not_pushed c.match-life_of_answer.backward.items c.loop-i.backward.items c.life_of_answer.result (none_is c.life_of_answer.result w.in_default.not-Some)
+                (let e = w.backward-is in cc)
           ])
           c.loop-i.invariant.lives;
       len = omega (arith, c.meet.ensures.len, c.loop-i.invariant.len);
-      ends = λ k l. c.meet.ensures.ends k (omega (arith, c.loop-i.invariant.len)) ∙ ap (λ e. if leaves k command then e else i - 1) (c.loop-i.invariant.ends k l) ∙ sym (end_back cs i (i - 1) command k one d);
+      ends = λ k l. c.meet.ensures.ends k (omega (arith, c.loop-i.invariant.len)) ∙ ap (λ e. if leaves k command then e else i - 1) (c.loop-i.invariant.ends k l)
+          ∙ sym (end_back cs i (i - 1) command k one d);
     }
 
 pub returns : goal.returns
@@ -65,7 +69,8 @@ returns c =
     let cs : List Command = script.commands.items in
     let start_is : c.loop-i.i ≡ 0 = omega arith in
     let played : map answer_view c.in_ok-answers.answers.items ≡ answers cs (start script.size script.max_allocs) = c.in_ok-answers.ensures in
-    let all = all_lives cs c.loop-i.i c.loop-i.backward.items (map answer_view c.in_ok-answers.answers.items) script.size script.max_allocs c.in_reverse.result start_is played c.loop-i.invariant.lives (rw c.deref.ensures.value at c.in_reverse.ensures) in
+    let all = all_lives cs c.loop-i.i c.loop-i.backward.items (map answer_view c.in_ok-answers.answers.items) script.size script.max_allocs c.in_reverse.result start_is played c.loop-i.invariant.lives
+    (rw c.deref.ensures.value at c.in_reverse.ensures) in
     record {
       lives = all;
       apart = each_result (AllPairs AreApart) c.in_reverse.result _ all (apart_law script.size script.max_allocs script.low cs);

@@ -24,11 +24,13 @@ loop-life-preserved c = λ p.
           let x : Shape = w.round_out.result in
           let drawn_is : x ≡ h (get_or ls i none) = w.round_out.ensures ∙ sym (drawn_tiny shape (sym c.is_tiny.ensures ∙ w.if-is_tiny.true)) ∙ ap drawn is in
           ap (λ (v : List Shape). list_any (covers p) v || list_any (covers p) c.if-is_tiny.tiny.items) (ap (λ v. v.items) w.found-is)
-          ∙ tiny_life p c.loop-life.found.items c.loop-life.tiny.items c.if-is_tiny.tiny.items h ls i none x (omega arith) (ap (λ v. v.items) w.tiny-is ∙ w.in_ok-push.ensures.items) drawn_is (c.loop-life.invariant p)
+          ∙ tiny_life p c.loop-life.found.items c.loop-life.tiny.items c.if-is_tiny.tiny.items h ls i none x (omega arith) (ap (λ v. v.items) w.tiny-is ∙ w.in_ok-push.ensures.items) drawn_is
+          (c.loop-life.invariant p)
       | else-is_tiny+in_ok-push-2 w ↦
           let drawn_is : shape ≡ h (get_or ls i none) = sym (drawn_plain shape (sym c.is_tiny.ensures ∙ w.if-is_tiny.false)) ∙ ap drawn is in
           ap (λ (v : List Shape). list_any (covers p) c.if-is_tiny.found.items || list_any (covers p) v) (ap (λ v. v.items) w.tiny-is)
-          ∙ plain_life p c.loop-life.found.items c.if-is_tiny.found.items c.loop-life.tiny.items h ls i none shape (omega arith) (ap (λ v. v.items) w.found-is ∙ w.in_ok-push-2.ensures.items) drawn_is (c.loop-life.invariant p)
+          ∙ plain_life p c.loop-life.found.items c.if-is_tiny.found.items c.loop-life.tiny.items h ls i none shape (omega arith) (ap (λ v. v.items) w.found-is ∙ w.in_ok-push-2.ensures.items) drawn_is
+          (c.loop-life.invariant p)
     ]
 
 pub loop-shape-preserved : goal.loop-shape-preserved
@@ -38,17 +40,24 @@ loop-shape-preserved c = λ p.
     let none : Shape = record { top = 0; bottom = 0; age = 0; left = 0; right = 0 } in
     let b : Shape = get_or tiny i none in
     elim c.match-last.branch [
-      | in-Some w ↦ joins_last p c.loop-shape.found.items c.match-last.found.items tiny c.loop-shape.last c.match-last.last i none w.in-Some.before b _ (omega arith) refl (ap (λ v. v.items) w.found-is) w.in-Some.is (w.last-is ∙ ap Some w.join.ensures ∙ ap (λ x. Some (join x b)) w.in-Some.before-is) (ap (λ x. touch x b) (sym w.in-Some.before-is) ∙ sym w.touch.ensures ∙ w.if-touch.true) (c.loop-shape.invariant p)
-      | in-Some-2+in_ok-push-in-Some-2 w ↦ pushes_last p c.loop-shape.found.items c.match-last.found.items tiny c.loop-shape.last c.match-last.last i none w.in-Some-2.before b _ (omega arith) refl (ap (λ v. v.items) w.found-is ∙ w.in_ok-push-in-Some-2.ensures.items) w.in-Some-2.is w.last-is (c.loop-shape.invariant p)
-      | in-None w ↦ starts_last p c.loop-shape.found.items c.match-last.found.items tiny c.loop-shape.last c.match-last.last i none b _ (omega arith) refl (ap (λ v. v.items) w.found-is) w.in-None.is w.last-is (c.loop-shape.invariant p)
+      | in-Some w ↦ joins_last p c.loop-shape.found.items c.match-last.found.items tiny c.loop-shape.last c.match-last.last i none w.in-Some.before b _ (omega arith) refl
+          (ap (λ v. v.items) w.found-is) w.in-Some.is (w.last-is ∙ ap Some w.join.ensures ∙ ap (λ x. Some (join x b)) w.in-Some.before-is)
+          (ap (λ x. touch x b) (sym w.in-Some.before-is) ∙ sym w.touch.ensures ∙ w.if-touch.true) (c.loop-shape.invariant p)
+      | in-Some-2+in_ok-push-in-Some-2 w ↦ pushes_last p c.loop-shape.found.items c.match-last.found.items tiny c.loop-shape.last c.match-last.last i none w.in-Some-2.before b _ (omega arith) refl
+          (ap (λ v. v.items) w.found-is ∙ w.in_ok-push-in-Some-2.ensures.items) w.in-Some-2.is w.last-is (c.loop-shape.invariant p)
+      | in-None w ↦ starts_last p c.loop-shape.found.items c.match-last.found.items tiny c.loop-shape.last c.match-last.last i none b _ (omega arith) refl (ap (λ v. v.items) w.found-is) w.in-None.is
+          w.last-is (c.loop-shape.invariant p)
     ]
 
 pub returns : goal.returns
 returns c = λ p.
     let plot : Plot = c.args.plot.now in
     let ls : List Life = c.args.lives.now in
-    let covered = all_covered p c.loop-life.found.items c.loop-life.tiny.items c.deref-shape-items.result.now (λ l. drawn (shape_of plot l)) ls c.loop-life.life-index c.loop-shape.shape-index _ (omega arith) (omega arith) (subst (IsPermutation c.loop-life.tiny.items) (sym c.deref-shape-items.ensures.value) c.sort.ensures.permutation) (c.loop-life.invariant p) (c.loop-shape.invariant p) in
+    let covered = all_covered p c.loop-life.found.items c.loop-life.tiny.items c.deref-shape-items.result.now (λ l. drawn (shape_of plot l)) ls c.loop-life.life-index c.loop-shape.shape-index _
+    (omega arith) (omega arith) (subst (IsPermutation c.loop-life.tiny.items) (sym c.deref-shape-items.ensures.value) c.sort.ensures.permutation) (c.loop-life.invariant p)
+    (c.loop-shape.invariant p) in
     elim c.match-last-2.branch [
-      | in-Some-last+in_ok-push-3 w ↦ ends_with p c.loop-shape.found.items c.match-last-2.found.items c.loop-shape.last w.in-Some-last.before (ap (λ v. v.items) w.found-is ∙ w.in_ok-push-3.ensures.items) w.in-Some-last.is ∙ covered
+      | in-Some-last+in_ok-push-3 w ↦ ends_with p c.loop-shape.found.items c.match-last-2.found.items c.loop-shape.last w.in-Some-last.before
+          (ap (λ v. v.items) w.found-is ∙ w.in_ok-push-3.ensures.items) w.in-Some-last.is ∙ covered
       | in_default w ↦ ends_without p c.loop-shape.found.items c.match-last-2.found.items c.loop-shape.last (ap (λ v. v.items) w.found-is) (no_last c.loop-shape.last w.in_default.not-Some) ∙ covered
     ]

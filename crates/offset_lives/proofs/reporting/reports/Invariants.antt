@@ -1,5 +1,5 @@
 use Rattle.std.proofs.Common.{◌≡◌, map, take}
-use Rattle.offset_lives.specs.Reported.{report_view, reports_of}
+use Rattle.offset_lives.specs.Reports.{report_view, reports_of}
 use Rattle.offset_lives.proofs.reporting.reports.Given as goal
 
 -- the reports so far

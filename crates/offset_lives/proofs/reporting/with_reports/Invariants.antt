@@ -1,6 +1,6 @@
 use Rattle.std.proofs.Common.{◌≡◌, ◌++◌, All, IsTrue, drop}
 use Rattle.offset_script.specs.Grammar.{has_valid_alignment}
-use Rattle.offset_lives.specs.Reported.{with_reports}
+use Rattle.offset_lives.specs.Reports.{with_reports}
 use Rattle.offset_lives.proofs.reporting.with_reports.Given as goal
 
 -- the commands so far, and those to come

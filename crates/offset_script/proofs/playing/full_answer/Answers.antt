@@ -9,6 +9,9 @@ returns g c = rows_all c.loop-class.class c.args.space.now c.loop-class.rows.ite
 
 pub loop-class-preserved : goal.loop-class-preserved
 loop-class-preserved g c = elim c.if-region-gt0.branch [
-  | then-region-gt0+in_ok-push w ↦ ap (λ v. map row_view v.items) w.rows-is ∙ rows_more c.loop-class.class c.args.space.now c.storage_report_full-report.result _ _ _ _ c.storage_report_full-report.ensures c.loop-class-test.true c.loop-class.invariant w.in_ok-push.ensures.items refl w.if-region-gt0.true
-  | else-region-gt0 w ↦ ap (λ v. map row_view v.items) w.rows-is ∙ rows_same c.loop-class.class c.args.space.now c.storage_report_full-report.result _ _ c.storage_report_full-report.ensures c.loop-class-test.true c.loop-class.invariant w.if-region-gt0.false
+  | then-region-gt0+in_ok-push w ↦ ap (λ v. map row_view v.items) w.rows-is
+      ∙ rows_more c.loop-class.class c.args.space.now c.storage_report_full-report.result _ _ _ _ c.storage_report_full-report.ensures c.loop-class-test.true c.loop-class.invariant
+      w.in_ok-push.ensures.items refl w.if-region-gt0.true
+  | else-region-gt0 w ↦ ap (λ v. map row_view v.items) w.rows-is
+      ∙ rows_same c.loop-class.class c.args.space.now c.storage_report_full-report.result _ _ c.storage_report_full-report.ensures c.loop-class-test.true c.loop-class.invariant w.if-region-gt0.false
 ]

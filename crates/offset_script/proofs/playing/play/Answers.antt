@@ -1,13 +1,15 @@
-use Rattle.std.proofs.Common.{◌<◌, map, take, length, refl, sym, subst, arith, IsTrue, ◌≡◌, ℕ, zero, suc, ◌+◌, ◌≤◌, List, [], ◌∷◌, ◌++◌, drop, get_or, ap, ap₂, ◌∙◌, add-one, append-nil, append_assoc, drop-cons}
+use Rattle.std.proofs.Common.{◌<◌, map, take, length, refl, sym, subst, arith, IsTrue, ◌≡◌, ℕ, zero, suc, ◌+◌, ◌≤◌, List, [], ◌∷◌, ◌++◌, drop, get_or, ap, ap₂, ◌∙◌, add-one, append-nil, append_assoc}
+use Rattle.std.proofs.Common.{drop-cons}
 use Rattle.std.proofs.lemmas.List.{map-append, take_more, take_all, drop_all}
 use Rattle.std.proofs.lemmas.List.Elements.{All-get_or}
 use Rattle.offset_script.specs.Grammar.{has_valid_alignment}
 use Rattle.offset_script.specs.Machine.{answers, start, after, State, Answer, step, answer_view}
-use Rattle.offset_script.specs.Simulation.{Represents, Takes}
+use Rattle.offset_script.specs.Steps.{Takes}
+use Rattle.offset_script.proofs.Agreement.{IsAtState}
 use Rattle.offset_script.proofs.Simulation.{all_live, follows, fresh_represents, run_begins, run_goes_on, run_ends}
 use Rattle.offset_script.proofs.Well.{well_start, well_after}
 use Rattle.offset_script.specs.declared.scripts.Command.{Command}
-use Rattle.offset_script.specs.Histories.{RestartsFresh, NestsLeaveNoTrace, RowsCommute, answers_renumbered, releases, without_offset}
+use Rattle.offset_script.specs.Histories.{HasFreshRestarts, HasTracelessNests, HasCommutingRows, answers_renumbered, releases, without_offset}
 use Rattle.offset_script.specs.declared.answers.Answer as program
 use Rattle.offset_script.proofs.Fresh.{fresh_law}
 use Rattle.offset_script.proofs.Nests.{after-append, nest_law}
@@ -31,7 +33,8 @@ answers_more cs s i d found left x all h f e so_far =
     ∙ so_far
 
 -- where nothing is left, the answers so far are those to all
-answers_all : (cs : List Command) (s : State) (i : ℕ) (found : List program.Answer) (all : List Answer) → length cs ≤ i → map answer_view found ++ answers (drop i cs) (after (take i cs) s) ≡ all → map answer_view found ≡ all
+answers_all : (cs : List Command) (s : State) (i : ℕ) (found : List program.Answer) (all : List Answer) → length cs ≤ i → map answer_view found ++ answers (drop i cs) (after (take i cs) s) ≡ all
+    → map answer_view found ≡ all
 answers_all cs s i found all h so_far = sym (append-nil (map answer_view found)) ∙ ap (λ l. map answer_view found ++ l) (sym (ap (λ l. answers l (after (take i cs) s)) (drop_all i cs h))) ∙ so_far
 
 -- The laws over whole histories, of the answers to a list of commands.
@@ -42,7 +45,7 @@ answers_from zero cs s = refl
 answers_from (suc i) [] s = refl
 answers_from (suc i) (c ∷ cs) s = answers_from i cs (step c s).state
 
-fresh : (size limit : ℕ) (cs : List Command) (found : List Answer) → 2 ≤ limit → found ≡ answers cs (start size limit) → RestartsFresh size limit cs found
+fresh : (size limit : ℕ) (cs : List Command) (found : List Answer) → 2 ≤ limit → found ≡ answers cs (start size limit) → HasFreshRestarts size limit cs found
 fresh size limit cs found h e i none = ap (drop i) e ∙ answers_from i cs (start size limit) ∙ fresh_law size limit h (take i cs) none (drop i cs)
 
 -- the answers after some commands, and the state there
@@ -50,14 +53,14 @@ answers_past : (xs ys : List Command) (s : State) → drop (length xs) (answers 
 answers_past [] ys s = refl
 answers_past (x ∷ xs) ys s = answers_past xs ys (step x s).state
 
-nests : (size limit : ℕ) (cs : List Command) (found : List Answer) → 2 ≤ limit → found ≡ answers cs (start size limit) → NestsLeaveNoTrace size limit cs found
+nests : (size limit : ℕ) (cs : List Command) (found : List Answer) → 2 ≤ limit → found ≡ answers cs (start size limit) → HasTracelessNests size limit cs found
 nests size limit cs found h e before nest rest parts n =
     let s = start size limit in
     ap (drop (length (before ++ nest))) (e ∙ ap (λ c. answers c s) parts)
     ∙ answers_past (before ++ nest) rest s
     ∙ subst (λ t. answers rest t ≡ answers_renumbered (after before s) t rest) (sym (after-append before nest s)) (nest_law size limit h before nest n rest)
 
-rows : (size limit : ℕ) (cs : List Command) (found : List Answer) → 2 ≤ limit → found ≡ answers cs (start size limit) → RowsCommute size limit cs found
+rows : (size limit : ℕ) (cs : List Command) (found : List Answer) → 2 ≤ limit → found ≡ answers cs (start size limit) → HasCommutingRows size limit cs found
 rows size limit cs found h e before ks c rest parts t is =
     let s = start size limit in
     ap (λ l. map without_offset (take 1 l)) (ap (drop (length (before ++ releases ks))) (e ∙ ap (λ c. answers c s) parts) ∙ answers_past (before ++ releases ks) (c ∷ rest) s)
@@ -85,10 +88,12 @@ loop-command-preserved g c =
     let state = after (take i cs) s in
     let within : i < length cs = omega arith in
     let power = All-get_or (λ c. IsTrue (has_valid_alignment c)) cs i _ within c.requires.powers in
-    let next = follows _ _ _ _ _ state c.is_well_formed-in-loop-command.ensures (well_after (take i cs) s (well_start c.args.size c.args.max_allocs c.requires.low)) c.loop-command.invariant.represents _ power c.in_ok-answer.ensures in
+    let next = follows _ _ _ _ _ state c.is_well_formed-in-loop-command.ensures (well_after (take i cs) s (well_start c.args.size c.args.max_allocs c.requires.low)) c.loop-command.invariant.represents
+    _ power c.in_ok-answer.ensures in
     record {
-      represents = subst (Represents c.call.new.self.space c.call.new.self.handles.items) (sym (after_more cs s i _ within)) next.1;
-      run = run_goes_on Takes _ _ _ _ _ _ _ _ _ _ _ _ c.loop-command.invariant.run c.in_ok-answer.ensures c.is_well_formed-in-loop-command.ensures (take_more cs i _ within) (ap (map answer_view) c.in_ok-push.ensures.items ∙ map-append answer_view c.loop-command.found.items _);
+      represents = subst (IsAtState c.call.new.self.space c.call.new.self.handles.items) (sym (after_more cs s i _ within)) next.1;
+      run = run_goes_on Takes _ _ _ _ _ _ _ _ _ _ _ _ c.loop-command.invariant.run c.in_ok-answer.ensures c.is_well_formed-in-loop-command.ensures (take_more cs i _ within)
+          (ap (map answer_view) c.in_ok-push.ensures.items ∙ map-append answer_view c.loop-command.found.items _);
       so_far = answers_more cs s i _ c.loop-command.found.items _ c.in_ok-answer.answer (answers cs s) within c.in_ok-push.ensures.items next.0 c.loop-command.invariant.so_far;
     }
 

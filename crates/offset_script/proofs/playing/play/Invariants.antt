@@ -1,6 +1,7 @@
 use Rattle.std.proofs.Common.{◌≡◌, map, take, drop, ◌++◌}
 use Rattle.offset_script.specs.Machine.{answer_view, answers, after, start}
-use Rattle.offset_script.specs.Simulation.{Represents, Takes}
+use Rattle.offset_script.specs.Steps.{Takes}
+use Rattle.offset_script.proofs.Agreement.{IsAtState}
 use Rattle.offset_script.proofs.Simulation.{IsBegun}
 use Rattle.offset_script.proofs.playing.play.Given as goal
 
@@ -9,7 +10,7 @@ abbrev pub invariant-loop-command : goal.invariant-loop-command
 invariant-loop-command g l =
     let state = after (take l.command-index l.commands) (start l.size l.max_allocs) in
     record {
-      represents : Represents l.player.space l.player.handles.items state;
+      represents : IsAtState l.player.space l.player.handles.items state;
       run : IsBegun Takes l.size l.max_allocs l.player.space l.player.handles.items (take l.command-index l.commands) (map answer_view l.found.items);
       so_far : map answer_view l.found.items ++ answers (drop l.command-index l.commands) state ≡ answers l.commands (start l.size l.max_allocs);
     }

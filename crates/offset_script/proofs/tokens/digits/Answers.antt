@@ -34,4 +34,5 @@ returns c =
     let l = c.loop-rest in
     let written = set l.room l.at (48 + l.rest) in
     let long = length-drop l.at written ∙ ap (λ n. n - l.at) (length-set l.room l.at (48 + l.rest) ∙ l.invariant.0) in
-    rw (take_all (10 - l.at) (drop l.at written) (omega (arith, long)), drop-set l.room l.at (48 + l.rest) (omega (arith, l.invariant.0))) (rw (decimal_digit l.rest c.loop-rest-test.false) at l.invariant.3)
+    rw (take_all (10 - l.at) (drop l.at written) (omega (arith, long)), drop-set l.room l.at (48 + l.rest) (omega (arith, l.invariant.0)))
+    (rw (decimal_digit l.rest c.loop-rest-test.false) at l.invariant.3)

@@ -5,7 +5,12 @@ use Rattle.offset_script.proofs.tokens.number.Goals as goal
 use Rattle.offset_script.proofs.tokens.number.Goals.{then-is_empty-via-then-is_empty, then-is_empty-via-else-is_empty+then-word-gt-MOST_DIGITS}
 
 pub returns-then-is_empty : goal.returns-then-is_empty
-returns-then-is_empty c = elim c.then-is_empty.branch [ then-is_empty-via-then-is_empty w ↦ is_empty c.args.word.now (eqb-true _ _ (sym w.if-is_empty.ensures)) | then-is_empty-via-else-is_empty+then-word-gt-MOST_DIGITS w ↦ is_long c.args.word.now (omega arith) ]
+returns-then-is_empty c =
+    elim c.then-is_empty.branch [
+      | then-is_empty-via-then-is_empty w ↦ is_empty c.args.word.now (eqb-true _ _ (sym w.if-is_empty.ensures))
+      | then-is_empty-via-else-is_empty+then-word-gt-MOST_DIGITS w ↦
+          is_long c.args.word.now (omega arith)
+    ]
 
 pub returns-then-not-is_ascii_digit : goal.returns-then-not-is_ascii_digit
 returns-then-not-is_ascii_digit c = has_other c.args.word.now c.loop-b.b-index c.loop-b-test.true (sym c.is_ascii_digit.ensures.value ∙ c.if-not-is_ascii_digit.true)
@@ -25,4 +30,5 @@ pub returns : goal.returns
 returns c =
     let w = c.args.word.now in
     let all : take c.loop-b.b-index w ≡ w = take_all c.loop-b.b-index w (omega arith) in
-    c.ok.ensures.value ∙ is_read w c.loop-b.n c.try_from.result (pos_of_ne-zero (eqb-false (length w) 0 (sym c.if-is_empty.ensures))) (omega arith) (rw all at c.loop-b.invariant.digits) (rw all at c.loop-b.invariant.value) c.try_from.ensures
+    c.ok.ensures.value ∙ is_read w c.loop-b.n c.try_from.result (pos_of_ne-zero (eqb-false (length w) 0 (sym c.if-is_empty.ensures))) (omega arith) (rw all at c.loop-b.invariant.digits)
+    (rw all at c.loop-b.invariant.value) c.try_from.ensures

@@ -4,6 +4,6 @@ use Rattle.offset_allocator.specs.Reports.{count_of}
 use Rattle.offset_uses.proofs.Holes.{holes}
 use Rattle.offset_uses.proofs.walking.count_holes.Given as goal
 
--- the holes so far and those that are left are all holes
+-- the free blocks so far and those that are left are all free blocks
 abbrev pub invariant-loop-block : goal.invariant-loop-block
 invariant-loop-block l = (length l.holes ≡ 256) × ((c : ℕ) → c < 256 → slice_index l.holes c + holes c l.block-iterator ≡ count_of c (free_sizes l.space.blocks))

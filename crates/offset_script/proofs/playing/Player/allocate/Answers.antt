@@ -1,11 +1,12 @@
 use Rattle.std.proofs.Common.{sym, subst}
 use Rattle.offset_script.specs.Machine.{answer_view}
-use Rattle.offset_script.specs.Simulation.{Takes}
+use Rattle.offset_script.specs.Steps.{Takes}
 use Rattle.offset_script.specs.declared.scripts.Command.TheVariants.{Alloc}
 use Rattle.offset_script.proofs.Simulation.{if_ok}
 use Rattle.offset_script.proofs.playing.Player.allocate.Goals as goal
 
 pub returns : goal.returns
 returns g c = if_ok c.keep.result
-    (λ a k. subst (λ w. Takes (Alloc c.args.size) c.args.self.now.space c.args.self.now.handles.items w c.keep.new.self.handles.items (answer_view a)) (sym c.keep.ensures.space) (_, c.allocate-granted.ensures.step, k))
+    (λ a k. subst (λ w. Takes (Alloc c.args.size) c.args.self.now.space c.args.self.now.handles.items w c.keep.new.self.handles.items (answer_view a)) (sym c.keep.ensures.space)
+    (_, c.allocate-granted.ensures.step, k))
     c.keep.ensures.handle

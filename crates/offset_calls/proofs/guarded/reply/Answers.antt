@@ -1,9 +1,0 @@
-use Rattle.offset_calls.proofs.Tickets.{refusal_serves, refusal_aligned_serves}
-use Rattle.offset_calls.proofs.guarded.reply.Goals as goal
-
-pub returns-in-Refusal : goal.returns-in-Refusal
-returns-in-Refusal g c k stands = refusal_serves _ _ c.args.call k c.in-Refusal.size _ _ c.requires.ledger c.in-Refusal.is c.allocator.ensures (c.refusal.ensures.granted, c.refusal.ensures.why)
-
-pub returns-in-RefusalAligned : goal.returns-in-RefusalAligned
-returns-in-RefusalAligned g c k stands =
-    refusal_aligned_serves _ _ c.args.call k c.in-RefusalAligned.size c.in-RefusalAligned.align _ _ c.requires.ledger c.in-RefusalAligned.is c.allocator-in-RefusalAligned.ensures (c.refusal_aligned.ensures.granted, c.refusal_aligned.ensures.why)

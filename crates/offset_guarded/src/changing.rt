@@ -1,0 +1,101 @@
+//! Calls that give a range another size, the space another size, and the ranges other places.
+
+ghost use Rattle.std.specs.Prelude.{◌≡◌, ◌↔◌, ◌+◌, ◌*◌, ◌≤◌, None, Some, false, true, IsTrue, IsSome, IfSome, length};
+ghost use Rattle.std.specs.List.{FoldsTo};
+ghost use Rattle.offset_allocator.specs.Relations.{CanExtend, Extends};
+ghost use Rattle.offset_allocator.specs.Resizing.{CanGrow, CanShrink, Grows, Shrinks};
+ghost use Rattle.offset_allocator.specs.Compacting.{Compacts, IsCalledWith, moves};
+ghost use Rattle.offset_guarded.specs.Guard.{HasUnits, IsLive, IsSame, KeepsAll, KeepsLive, KeepsOthers, KeepsSerials};
+ghost use Rattle.offset_guarded.specs.Guard.{KeepsSizes};
+
+use crate::Guarded;
+use crate::ticket::Ticket;
+use offset_allocator::{Move, NodeIndex};
+
+impl<NI: NodeIndex> Guarded<NI> {
+    /// Makes the range of a ticket smaller in place, as `Allocator::shrink` does, and returns whether it did; or `None`
+    /// where the ticket is not live, and then nothing changes.
+    pub fn shrink(&mut self, ticket: Ticket, size: u32) -> Option<bool>
+        ensures live { IsSome result ↔ IsLive ticket self.old }
+        ensures done { IfSome result (λ done. IsTrue done ↔ CanShrink ticket.name size self.old.space) }
+        // Then the range has `size` units, from its first one on. Every other ticket keeps its range.
+        ensures range { result ≡ Some true → HasUnits ticket size self.old self.new }
+        ensures others { KeepsOthers ticket self.old self.new }
+        ensures kept { KeepsLive self.old self.new }
+        // A refusal leaves all as it was, and a ticket that is not live changes nothing at all.
+        ensures same { result ≡ Some false → IsSame self.old self.new }
+        ensures gone { result ≡ None → self.new ≡ self.old }
+        // The step of the allocator. All serials stay.
+        ensures step { IfSome result (Shrinks ticket.name size self.old.space self.new.space) }
+        ensures serials { KeepsSerials self.old self.new }
+        ensures accesses_max { self.new.space.accesses ≤ self.old.space.accesses + 128 }
+    {
+        match self.handle(ticket) {
+            None => None,
+            Some(handle) => {
+                let done = self.space.shrink(handle, size);
+                self.serials.cover(self.space.node_count());
+                Some(done)
+            }
+        }
+    }
+
+    /// Makes the range of a ticket larger in place, as `Allocator::grow_in_place` does, and returns whether it did; or
+    /// `None` where the ticket is not live, and then nothing changes.
+    pub fn grow_in_place(&mut self, ticket: Ticket, size: u32) -> Option<bool>
+        ensures live { IsSome result ↔ IsLive ticket self.old }
+        ensures done { IfSome result (λ done. IsTrue done ↔ CanGrow ticket.name size self.old.space) }
+        // Then the range has `size` units, from its first one on. Every other ticket keeps its range.
+        ensures range { result ≡ Some true → HasUnits ticket size self.old self.new }
+        ensures others { KeepsOthers ticket self.old self.new }
+        ensures kept { KeepsLive self.old self.new }
+        // A refusal leaves all as it was, and a ticket that is not live changes nothing at all.
+        ensures same { result ≡ Some false → IsSame self.old self.new }
+        ensures gone { result ≡ None → self.new ≡ self.old }
+        // The step of the allocator. All serials stay.
+        ensures step { IfSome result (Grows ticket.name size self.old.space self.new.space) }
+        ensures serials { KeepsSerials self.old self.new }
+        ensures accesses_max { self.new.space.accesses ≤ self.old.space.accesses + 128 }
+    {
+        match self.handle(ticket) {
+            None => None,
+            Some(handle) => {
+                let done = self.space.grow_in_place(handle, size);
+                self.serials.cover(self.space.node_count());
+                Some(done)
+            }
+        }
+    }
+
+    /// Adds `more` units at the end of the space, as `Allocator::extend` does, and returns whether it did.
+    pub fn extend(&mut self, more: u32) -> bool
+        ensures done { IsTrue result ↔ (1 ≤ more → CanExtend more self.old.space) }
+        // Every ticket keeps its range, and a refusal leaves all as it was.
+        ensures size { IsTrue result → self.new.space.size ≡ self.old.space.size + more }
+        ensures kept { KeepsAll self.old self.new }
+        ensures same { result ≡ false → IsSame self.old self.new }
+        ensures step { Extends more self.old.space self.new.space result }
+        ensures serials { KeepsSerials self.old self.new }
+        ensures accesses_max { self.new.space.accesses ≤ self.old.space.accesses + 128 }
+    {
+        let done = self.space.extend(more);
+        self.serials.cover(self.space.node_count());
+        done
+    }
+
+    /// Slides every live range to the front of the space, as `Allocator::compact` does. Every ticket stays live, with
+    /// its size; `offset_of` returns where its range begins.
+    pub fn compact<F: FnMut(Move<NI>)>(&mut self, moved: &mut F)
+        requires callable { F.IsAlwaysCallable moved.old }
+        ensures sizes { KeepsSizes self.old self.new }
+        // The closure is called with the moves, in space order.
+        ensures moved { FoldsTo (IsCalledWith NI.NonMax.number (λ f range g. F.step f range tt g)) moved.old
+            (moves 0 0 self.old.space.blocks) moved.new }
+        ensures step { Compacts self.old.space self.new.space }
+        ensures serials { self.new ≡ record self.old { space = self.new.space } }
+        ensures accesses_max { self.new.space.accesses
+            ≤ self.old.space.accesses + 24 * length self.old.space.blocks + 512 }
+    {
+        self.space.compact(moved);
+    }
+}

@@ -1,0 +1,131 @@
+//! Grants, each with the next serial, and why one is refused.
+
+ghost use Rattle.std.specs.Prelude.{ℕ, ◌≡◌, ◌↔◌, ◌+◌, ◌%◌, ◌<◌, ◌≤◌, None, Some, IsSome, IfSome, if◌then◌else◌, nat_eq};
+ghost use Rattle.std.specs.Prelude.{option_map};
+ghost use Rattle.offset_allocator.specs.Ranges as named;
+ghost use Rattle.offset_allocator.specs.View.{largest_free};
+ghost use Rattle.offset_allocator.specs.Relations.{Aligns, Allocates, IsAlignment};
+ghost use Rattle.offset_allocator.specs.Requests.{CanGrant, blocks_needed, units_needed};
+ghost use Rattle.offset_guarded.specs.Guard.{Grants, IsLive, IsSame, IsWhy, cell, grant_of, last_serial, HasSerialLeft};
+
+use crate::Guarded;
+use crate::refusal::Refusal;
+use crate::serials::Serials;
+use crate::ticket::Ticket;
+use offset_allocator::{Allocation, Allocator, NodeIndex};
+
+// Gives the next serial to a grant.
+fn ticket_for<NI: NodeIndex>(
+    space: &Allocator<NI>,
+    serials: &mut Serials,
+    realm: u32,
+    handle: Allocation<NI>,
+) -> Ticket
+    requires live { named.IsLive handle.name space.now }
+    requires room { space.now.max_allocs ≤ serials.old.room }
+    requires left { serials.old.given < last_serial }
+    ensures cells { (x : ℕ) → cell x serials.new.cells
+        ≡ (if nat_eq x handle.name then serials.old.given + 1 else cell x serials.old.cells) }
+    ensures given { serials.new.given ≡ serials.old.given + 1 }
+    ensures room { serials.new.room ≡ serials.old.room }
+    ensures ticket { result ≡ record {
+      offset = handle.offset;
+      name = handle.name;
+      serial = serials.old.given + 1;
+      realm = realm;
+    } }
+{
+    serials.cover(space.node_count());
+    let (offset, name) = handle.to_parts();
+    Ticket {
+        offset,
+        name,
+        serial: serials.give(name),
+        realm,
+    }
+}
+
+impl<NI: NodeIndex> Guarded<NI> {
+    /// Grants a range of `size` units, and returns its ticket: of the range that `Allocator::allocate` grants, with the
+    /// next serial.
+    ///
+    /// `None` is returned where that call returns `None`, and where all serials are given; then nothing changes.
+    pub fn allocate(&mut self, size: u32) -> Option<Ticket>
+        // It is granted exactly when a serial is left and the allocator can grant it: for at least one unit, when
+        // `size` is at most the reported `largest_free_region`.
+        ensures granted { 1 ≤ size
+            → (IsSome result ↔ (HasSerialLeft self.old × (size ≤ largest_free self.old.space))) }
+        ensures can_grant { IsSome result ↔ (HasSerialLeft self.old × CanGrant 1 size self.old.space) }
+        // A grant has the next serial, and its ticket was not live. Its range has exactly `size` units, lies in the
+        // space, and overlaps no live range. Every other ticket keeps its range, if it has one.
+        ensures grants { IfSome result (Grants size self.old self.new) }
+        // A refusal leaves all as it was.
+        ensures same { result ≡ None → IsSame self.old self.new }
+        // The step of the allocator, where a serial is left.
+        ensures step { HasSerialLeft self.old
+            → Allocates size self.old.space self.new.space (option_map grant_of result) }
+        ensures accesses_max { self.new.space.accesses ≤ self.old.space.accesses + 64 }
+    {
+        if self.serials.is_spent() {
+            return None;
+        }
+        match self.space.allocate(size) {
+            None => None,
+            Some(handle) => Some(ticket_for(&self.space, &mut self.serials, self.realm, handle)),
+        }
+    }
+
+    /// Grants `size` units that begin at a multiple of `align`, a power of two: the range that
+    /// `Allocator::allocate_aligned` grants, with the next serial.
+    ///
+    /// `None` is returned where that call returns `None`, and where all serials are given; then nothing changes.
+    pub fn allocate_aligned(&mut self, size: u32, align: u32) -> Option<Ticket>
+        requires power { IsAlignment align }
+        ensures can_grant { IsSome result
+            ↔ (HasSerialLeft self.old × CanGrant (blocks_needed align) (units_needed size align) self.old.space) }
+        ensures grants { IfSome result (Grants size self.old self.new) }
+        ensures aligned { IfSome result (λ t. t.offset % align ≡ 0) }
+        ensures same { result ≡ None → IsSame self.old self.new }
+        ensures step { HasSerialLeft self.old
+            → Aligns size align self.old.space self.new.space (option_map grant_of result) }
+        ensures accesses_max { self.new.space.accesses ≤ self.old.space.accesses + 128 }
+    {
+        if self.serials.is_spent() {
+            return None;
+        }
+        match self.space.allocate_aligned(size, align) {
+            None => None,
+            Some(handle) => Some(ticket_for(&self.space, &mut self.serials, self.realm, handle)),
+        }
+    }
+
+    /// Why `allocate(size)` would be refused now, or `None` exactly where it would be granted.
+    pub fn refusal(&self, size: u32) -> Option<Refusal>
+        ensures granted { result ≡ None ↔ (HasSerialLeft self.now × CanGrant 1 size self.now.space) }
+        ensures why { IfSome result (IsWhy 1 size self.now) }
+    {
+        if self.serials.is_spent() {
+            return Some(Refusal::Serials);
+        }
+        match self.space.refusal(size) {
+            None => None,
+            Some(why) => Some(Refusal::Allocator(why)),
+        }
+    }
+
+    /// Why `allocate_aligned(size, align)` would be refused now, or `None` exactly where it would be granted.
+    pub fn refusal_aligned(&self, size: u32, align: u32) -> Option<Refusal>
+        requires power { IsAlignment align }
+        ensures granted { result ≡ None
+            ↔ (HasSerialLeft self.now × CanGrant (blocks_needed align) (units_needed size align) self.now.space) }
+        ensures why { IfSome result (IsWhy (blocks_needed align) (units_needed size align) self.now) }
+    {
+        if self.serials.is_spent() {
+            return Some(Refusal::Serials);
+        }
+        match self.space.refusal_aligned(size, align) {
+            None => None,
+            Some(why) => Some(Refusal::Allocator(why)),
+        }
+    }
+}

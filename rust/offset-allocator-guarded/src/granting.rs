@@ -1,0 +1,82 @@
+// Printed by rust/erase from crates/offset_guarded/src/granting.rt: change it there.
+
+//! Grants, each with the next serial, and why one is refused.
+
+use crate::Guarded;
+use crate::refusal::Refusal;
+use crate::serials::Serials;
+use crate::ticket::Ticket;
+use offset_allocator::{Allocation, Allocator, NodeIndex};
+
+// Gives the next serial to a grant.
+fn ticket_for<NI: NodeIndex>(
+    space: &Allocator<NI>,
+    serials: &mut Serials,
+    realm: u32,
+    handle: Allocation<NI>,
+) -> Ticket {
+    serials.cover(space.node_count());
+    let (offset, name) = handle.to_parts();
+    Ticket {
+        offset,
+        name,
+        serial: serials.give(name),
+        realm,
+    }
+}
+
+impl<NI: NodeIndex> Guarded<NI> {
+    /// Grants a range of `size` units, and returns its ticket: of the range that `Allocator::allocate` grants, with the
+    /// next serial.
+    ///
+    /// `None` is returned where that call returns `None`, and where all serials are given; then nothing changes.
+    pub fn allocate(&mut self, size: u32) -> Option<Ticket> {
+        if self.serials.is_spent() {
+            return None;
+        }
+        match self.space.allocate(size) {
+            None => None,
+            Some(handle) => Some(ticket_for(&self.space, &mut self.serials, self.realm, handle)),
+        }
+    }
+
+    /// Grants `size` units that begin at a multiple of `align`, a power of two: the range that
+    /// `Allocator::allocate_aligned` grants, with the next serial.
+    ///
+    /// `None` is returned where that call returns `None`, and where all serials are given; then nothing changes.
+    #[track_caller]
+    pub fn allocate_aligned(&mut self, size: u32, align: u32) -> Option<Ticket> {
+        assert!(align.is_power_of_two(), "align must be a power of two");
+        if self.serials.is_spent() {
+            return None;
+        }
+        match self.space.allocate_aligned(size, align) {
+            None => None,
+            Some(handle) => Some(ticket_for(&self.space, &mut self.serials, self.realm, handle)),
+        }
+    }
+
+    /// Why `allocate(size)` would be refused now, or `None` exactly where it would be granted.
+    pub fn refusal(&self, size: u32) -> Option<Refusal> {
+        if self.serials.is_spent() {
+            return Some(Refusal::Serials);
+        }
+        match self.space.refusal(size) {
+            None => None,
+            Some(why) => Some(Refusal::Allocator(why)),
+        }
+    }
+
+    /// Why `allocate_aligned(size, align)` would be refused now, or `None` exactly where it would be granted.
+    #[track_caller]
+    pub fn refusal_aligned(&self, size: u32, align: u32) -> Option<Refusal> {
+        assert!(align.is_power_of_two(), "align must be a power of two");
+        if self.serials.is_spent() {
+            return Some(Refusal::Serials);
+        }
+        match self.space.refusal_aligned(size, align) {
+            None => None,
+            Some(why) => Some(Refusal::Allocator(why)),
+        }
+    }
+}
