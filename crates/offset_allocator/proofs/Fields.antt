@@ -147,7 +147,7 @@ module _ {A B : Type 0} (max : ℕ) (number : A → ℕ) (t : Inside A B) {c : C
       let short = within x l in
       let is = at-newer x (mark_of max used) (omega (arith, short, even)) ∙ ap (λ u. record (node_in max fs x) { used = u }) (marked max used some) in
       let nodes = nodes_set max fs (record fs { newer = set fs.newer x (mark_of max used) }) x refl (off-newer x (mark_of max used))
-          ∙ ap (set (nodes_in max fs) x) (is ∙ ap (λ (n : Node). record n { used = used }) (sym (node_at max fs x short))) in
+      ∙ ap (set (nodes_in max fs) x) (is ∙ ap (λ (n : Node). record n { used = used }) (sym (node_at max fs x short))) in
       rw (← e) (rw nodes refl)
 
   -- a link that is no mark, of a node that is not used: the chain of blocks does not see it
@@ -157,8 +157,8 @@ module _ {A B : Type 0} (max : ℕ) (number : A → ℕ) (t : Inside A B) {c : C
       let short : x < length fs.newer = omega (arith, within x l, even) in
       let was : eqb (get_or fs.newer x 0) (max - 1) ≡ false = ap (λ (n : Node). n.used) (sym (read x l)) ∙ idle in
       let nodes = nodes_set max fs (record fs { newer = set fs.newer x link }) x refl (off-newer x link)
-          ∙ ap (set (nodes_in max fs) x) (at-newer x link short ∙ ap (λ u. record (node_in max fs x) { used = u }) (ne_eqb _ _ ne ∙ sym was) ∙ sym (node_at max fs x (within x l)))
-          ∙ set-get_or (nodes_in max fs) x blank in
+      ∙ ap (set (nodes_in max fs) x) (at-newer x link short ∙ ap (λ u. record (node_in max fs x) { used = u }) (ne_eqb _ _ ne ∙ sym was) ∙ sym (node_at max fs x (within x l)))
+      ∙ set-get_or (nodes_in max fs) x blank in
       rw (← e) (rw nodes refl)
 
 -- other tables of the same lengths and memory

@@ -43,11 +43,7 @@ pub(crate) fn find_at_or_above<T: Tables>(
 }
 
 /// The largest class whose bin is not empty.
-pub(crate) fn largest<T: Tables>(
-    tables: &T,
-    top_mask: u32,
-    count: &mut Accesses,
-) -> Option<u32>
+pub(crate) fn largest<T: Tables>(tables: &T, top_mask: u32, count: &mut Accesses) -> Option<u32>
     requires { IsBinned T.Index.MAX (T.cells tables.now).links top_mask }
     ensures largest { MatchOption result ((c : ℕ) → c < 256 → bin_at (bins_in T.Index.MAX (T.cells tables.now).links) c
         ≡ []) (IsLargestClass (bins_in T.Index.MAX (T.cells tables.now).links)) }
@@ -226,13 +222,7 @@ pub(crate) fn remove<T: Tables>(store: &mut Store<T>, name: u32, size: u32)
 /// Removes `gone`, the name of a block of `size` units, from its bin, and pushes `name` onto the bin of `class`. Where
 /// both are one bin and `gone` is its newest, `name` takes its place.
 #[inline(always)]
-pub(crate) fn exchange<T: Tables>(
-    store: &mut Store<T>,
-    gone: u32,
-    size: u32,
-    name: u32,
-    class: u32,
-)
+pub(crate) fn exchange<T: Tables>(store: &mut Store<T>, gone: u32, size: u32, name: u32, class: u32)
     requires held { AreBinned T.cells T.Index.MAX store.old }
     requires listed { Among gone (bin_at (bins_of T.cells T.Index.MAX store.old) (down size)) }
     requires named { name < length (T.cells store.old.tables).room.nodes }

@@ -188,14 +188,7 @@ impl<NI: NodeIndex> Tables for ByField<NI> {
         self.after[name as usize] = after;
     }
 
-    fn set_start(
-        &mut self,
-        name: u32,
-        offset: u32,
-        size: u32,
-        link: NI,
-        count: &mut Accesses,
-    ) {
+    fn set_start(&mut self, name: u32, offset: u32, size: u32, link: NI, count: &mut Accesses) {
         count.tick();
         count.tick();
         count.tick();

@@ -185,14 +185,7 @@ impl<NI: NodeIndex> Tables for ByNode<NI> {
         node.after = after;
     }
 
-    fn set_start(
-        &mut self,
-        name: u32,
-        offset: u32,
-        size: u32,
-        link: NI,
-        count: &mut Accesses,
-    ) {
+    fn set_start(&mut self, name: u32, offset: u32, size: u32, link: NI, count: &mut Accesses) {
         count.tick();
         count.tick();
         count.tick();

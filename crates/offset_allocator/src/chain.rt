@@ -16,12 +16,7 @@ use crate::store::Store;
 use crate::tables::Tables;
 
 /// Makes the whole space one free block, under the name of the only node.
-pub(crate) fn start<T: Tables>(
-    tables: &mut T,
-    size: u32,
-    max_allocs: u32,
-    count: &mut Accesses,
-)
+pub(crate) fn start<T: Tables>(tables: &mut T, size: u32, max_allocs: u32, count: &mut Accesses)
     requires bare { IsBare max_allocs (T.cells tables.old).room }
     ensures space { IsSpace (T.cells tables.new).room 0 0 }
     ensures blocks { blocks (T.cells tables.new).room 0 ≡ free_block 0 size ∷ [] }
@@ -78,11 +73,7 @@ pub(crate) fn is_live<T: Tables>(tables: &T, name: u32, count: &mut Accesses) ->
 }
 
 /// The name of the block directly before a block, if there is one.
-pub(crate) fn before<T: Tables>(
-    tables: &T,
-    name: u32,
-    count: &mut Accesses,
-) -> Option<u32>
+pub(crate) fn before<T: Tables>(tables: &T, name: u32, count: &mut Accesses) -> Option<u32>
     requires { name < length (T.cells tables.now).room.nodes }
     ensures before { result ≡ (node (T.cells tables.now).room name).before }
     ensures accesses { count.new ≡ count.old + 1 }
@@ -91,11 +82,7 @@ pub(crate) fn before<T: Tables>(
 }
 
 /// The name of the block directly after a block, if there is one.
-pub(crate) fn after<T: Tables>(
-    tables: &T,
-    name: u32,
-    count: &mut Accesses,
-) -> Option<u32>
+pub(crate) fn after<T: Tables>(tables: &T, name: u32, count: &mut Accesses) -> Option<u32>
     requires { name < length (T.cells tables.now).room.nodes }
     ensures after { result ≡ (node (T.cells tables.now).room name).after }
     ensures accesses { count.new ≡ count.old + 1 }
@@ -196,12 +183,7 @@ pub(crate) fn split<T: Tables>(
 /// Coalesces the free block `following` into the block directly before it; `total` is the size of both. The name
 /// `following` is unused again.
 #[tactic(auto, using(crate::proofs::Nodes::lengths))]
-pub(crate) fn coalesce_after<T: Tables>(
-    store: &mut Store<T>,
-    name: u32,
-    following: u32,
-    total: u32,
-)
+pub(crate) fn coalesce_after<T: Tables>(store: &mut Store<T>, name: u32, following: u32, total: u32)
     requires place { (m : ℕ) × (p : Place) × IsPlaceIn T.cells store.old m name p }
     requires next { Some following ≡ (node (T.cells store.old.tables).room name).after }
     requires free { (node (T.cells store.old.tables).room following).used ≡ false }
@@ -231,12 +213,7 @@ pub(crate) fn coalesce_after<T: Tables>(
 /// Coalesces the free block `previous` into the block directly after it; `total` is the size of both. The name
 /// `previous` is unused again.
 #[tactic(auto, using(crate::proofs::Nodes::lengths))]
-pub(crate) fn coalesce_before<T: Tables>(
-    store: &mut Store<T>,
-    previous: u32,
-    name: u32,
-    total: u32,
-)
+pub(crate) fn coalesce_before<T: Tables>(store: &mut Store<T>, previous: u32, name: u32, total: u32)
     requires place { (m : ℕ) × (p : Place) × IsPlaceIn T.cells store.old m name p }
     requires previous { Some previous ≡ (node (T.cells store.old.tables).room name).before }
     requires free { (node (T.cells store.old.tables).room previous).used ≡ false }
@@ -265,12 +242,7 @@ pub(crate) fn coalesce_before<T: Tables>(
 
 /// Makes a block, which is in no bin, used or free.
 #[tactic(auto, using(crate::proofs::Nodes::lengths))]
-pub(crate) fn mark<T: Tables>(
-    tables: &mut T,
-    name: u32,
-    used: bool,
-    count: &mut Accesses,
-)
+pub(crate) fn mark<T: Tables>(tables: &mut T, name: u32, used: bool, count: &mut Accesses)
     requires { name < length (T.cells tables.old).room.nodes }
     ensures place { (m last spare : ℕ) (p : Place) → HasPlace (T.cells tables.old).room m last spare name p
         → HasPlace (T.cells tables.new).room m last spare name (record p { block = record p.block { used = used } }) }
@@ -324,12 +296,7 @@ pub(crate) fn split_before<T: Tables>(store: &mut Store<T>, name: u32, cut: u32)
 
 /// Adds units to the last block.
 #[tactic(auto, using(crate::proofs::Nodes::lengths))]
-pub(crate) fn grow<T: Tables>(
-    tables: &mut T,
-    last: u32,
-    more: u32,
-    count: &mut Accesses,
-)
+pub(crate) fn grow<T: Tables>(tables: &mut T, last: u32, more: u32, count: &mut Accesses)
     requires place { (m spare : ℕ) × (before : List Block) × (b : Block)
         × HasPlace (T.cells tables.old).room m last spare last (record { before = before; block = b; after = [] }) }
     requires fits { units (blocks (T.cells tables.old).room last) + more < 2 ^ 32 }

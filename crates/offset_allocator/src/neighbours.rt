@@ -36,11 +36,7 @@ fn free_before<T: Tables>(tables: &T, name: u32, count: &mut Accesses) -> Option
 
 /// The name of a free block directly after a block, if there is one.
 #[inline(always)]
-pub(crate) fn free_after<T: Tables>(
-    tables: &T,
-    name: u32,
-    count: &mut Accesses,
-) -> Option<u32>
+pub(crate) fn free_after<T: Tables>(tables: &T, name: u32, count: &mut Accesses) -> Option<u32>
     requires place { (m last spare : ℕ) × (p : Place) × HasPlace (T.cells tables.now).room m last spare name p }
     ensures free { IsFreeAfter (T.cells tables.now).room name result }
     ensures accesses { Costs 1 2 count.old count.new }
