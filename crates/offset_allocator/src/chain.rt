@@ -10,7 +10,7 @@ ghost use Rattle.offset_allocator.specs.Store.{IsPlaceIn, SameBins};
 ghost use Rattle.offset_allocator.specs.Chain.{IsChain, IsSpace, HasPlace, blocks, coalesced_before, coalesced_after};
 
 use crate::accesses::Accesses;
-use crate::index::{NodeIndex, link_to, linked, no_link, number};
+use crate::index::{link_to, linked, no_link, number};
 use crate::neighbour_links::{point_back, point_on};
 use crate::store::Store;
 use crate::tables::Tables;

@@ -19,7 +19,6 @@ pub use crate::counted::{
     allocation_offset_counted, allocation_size_counted, is_live_counted, next_block_counted,
     refusal_aligned_counted, refusal_counted, storage_report_counted, storage_report_full_counted,
 };
-use crate::index::NodeIndex;
 use crate::store::Store;
 use crate::tables::Tables;
 

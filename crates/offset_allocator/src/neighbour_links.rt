@@ -4,7 +4,7 @@ ghost use Rattle.offset_allocator.specs.Accesses.{Costs};
 ghost use Rattle.offset_allocator.specs.Cells.{node, put, link_of};
 
 use crate::accesses::Accesses;
-use crate::index::{NodeIndex, linked};
+use crate::index::linked;
 use crate::tables::Tables;
 
 /// Sets the link back of the node that `link` names; without one, `name` is the last block.

@@ -11,7 +11,6 @@ ghost use Rattle.offset_allocator.specs.Store.{IsPlaceIn, AreBinned, bins_of};
 ghost use Rattle.offset_allocator.specs.Bins.{IsUnlisted};
 
 use crate::accesses::Accesses;
-use crate::index::NodeIndex;
 use crate::small_float::uint_to_float_round_down;
 use crate::store::Store;
 use crate::tables::Tables;

@@ -1,7 +1,6 @@
 //! The tables, with the numbers that belong to them.
 
 use crate::accesses::Accesses;
-use crate::index::NodeIndex;
 use crate::tables::Tables;
 
 /// The tables, which bins are not empty, which block is the last, and how many nodes no block has. It has no invariant:
