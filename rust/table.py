@@ -54,6 +54,7 @@ pub use memory::{AllocError, Global, String, Vec};
 LINTS = {
     "offset_allocator": {
         "clippy::derivable_impls": "an `impl Default` is where a contract says what the value is",
+        "clippy::len_without_is_empty": "tables are never empty: they have a node from the start",
         "clippy::manual_map": "a `match` needs no closure, whose calls would need a proof",
         "unused_variables": "a parameter may be there for a contract only",
     },

@@ -22,6 +22,7 @@
 #![forbid(unsafe_code)]
 #![warn(missing_docs)]
 #![expect(clippy::derivable_impls)] // an `impl Default` is where a contract says what the value is
+#![expect(clippy::len_without_is_empty)] // tables are never empty: they have a node from the start
 #![expect(clippy::manual_map)] // a `match` needs no closure, whose calls would need a proof
 #![expect(unused_variables)] // a parameter may be there for a contract only
 
