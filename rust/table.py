@@ -54,6 +54,7 @@ pub use memory::{AllocError, Global, String, Vec};
 LINTS = {
     "offset_allocator": {
         "clippy::derivable_impls": "an `impl Default` is where a contract says what the value is",
+        "clippy::len_without_is_empty": "tables are never empty: they have a node from the start",
         "clippy::manual_map": "a `match` needs no closure, whose calls would need a proof",
         "unused_variables": "a parameter may be there for a contract only",
     },
@@ -87,9 +88,14 @@ PAIRS = [
         "in Rattle a clone may take memory; Rust's does not return a Result",
     ),
     (
-        "fn clone(&self) -> Result<Self, AllocError> { Ok(Blocks { allocator: self.allocator, next: self.next, left: self.left, }) }",
-        "fn clone(&self) -> Self {\n        Blocks {\n            allocator: self.allocator,\n            next: self.next,\n            left: self.left,\n        }\n    }",
+        "fn clone(&self) -> Result<Self, AllocError> { Ok(BlocksOf { allocator: self.allocator, next: self.next, left: self.left, }) }",
+        "fn clone(&self) -> Self {\n        BlocksOf {\n            allocator: self.allocator,\n            next: self.next,\n            left: self.left,\n        }\n    }",
         "the same",
+    ),
+    (
+        "pub trait Tables: Drop {",
+        "pub trait Tables: Sized {",
+        "in Rattle what a type parameter is bounded by says that its values may be dropped",
     ),
     (
         "fn fmt<W: fmt::Write>(&self, f: &mut fmt::Formatter<W>) -> fmt::Result",
@@ -108,6 +114,7 @@ PAIRS = [
 REQUIRES = [
     ("2 ≤ max_allocs", "2 <= max_allocs", "max_allocs must be at least 2"),
     ("max_allocs + 1 < NI.MAX", "max_allocs < NI::MAX - 1", "max_allocs must be at most NI::MAX - 2"),
+    ("max_allocs + 1 < T.Index.MAX", "max_allocs < T::Index::MAX - 1", "max_allocs must be at most NI::MAX - 2"),
     ("IsLive allocation.name self.old", "self.is_live(allocation)", "the handle must be live: {:?}", "{ allocation }"),
     ("IsAlignment align", "align.is_power_of_two()", "align must be a power of two"),
     ("needed_object_size ≤ 4026531840", "needed_object_size <= 4026531840", "needed_object_size must be at most 4026531840"),
@@ -138,6 +145,10 @@ ALWAYS = {
     "AreLive self.old.space self.old.handles.items": "each call of a player keeps it, and `free` itself panics at a handle that is not live",
     "F.IsAlwaysCallable moved.old": "a closure of Rust may be called at any time; if it panics, that is its own panic",
 }
+
+# Traits whose conditions are not tested: only the library calls their methods, and it is proved that it meets them.
+# Whoever else calls one meets the tests of Rust's own indices.
+INSIDE = {"Tables"}
 
 # Lines around each example in the documentation, so that `cargo test` runs it. Those after a `#` are hidden.
 EXAMPLES = {

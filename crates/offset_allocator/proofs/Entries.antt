@@ -4,9 +4,9 @@ use Rattle.std.proofs.lemmas.List.{get_or_past, length-map, length-set, map-set,
 use Rattle.std.specs.Vec.{with_item}
 use Rattle.std.proofs.Math.Seq.{map-set_same}
 use Rattle.offset_allocator.specs.Cells.{Cells, Node, blank, mark_of, node, put, AreShaped}
-use Rattle.offset_allocator.specs.Layouts.{node_of, nodes_of, cells_of, AreEven}
-use Rattle.offset_allocator.specs.declared.entry.Node.{Node as Entry}
-use Rattle.offset_allocator.specs.declared.tables.Tables.TheInside.{Inside}
+use Rattle.offset_allocator.specs.Layouts.{node_of, nodes_of, cells_by_node, AreEven}
+use Rattle.offset_allocator.specs.declared.by_node.Node.{Node as Entry}
+use Rattle.offset_allocator.specs.declared.by_node.ByNode.TheInside.{Inside}
 
 pub marked : (max : ℕ) (used : Bool) → 1 ≤ max → eqb (mark_of max used) (max - 1) ≡ used
 marked max true l = eq-eqb (max - 1) (max - 1) refl
@@ -42,15 +42,15 @@ module _ {A : Type 0} (max : ℕ) (number : A → ℕ) where
   unfolding nodes_of
   first_node ns ms m none e b = rw (e, none) (ap (λ (n : Node). n ∷ []) b)
 
-module _ {A B : Type 0} (max : ℕ) (number : A → ℕ) (t : Inside A B) {c : Cells} (e : cells_of max number t ≡ c) where
+module _ {A B : Type 0} (max : ℕ) (number : A → ℕ) (t : Inside A B) {c : Cells} (e : cells_by_node max number t ≡ c) where
   abbrev ns : List (Entry A)
   ns = t.nodes.items
 
   -- the cells with other entries
   abbrev seen : List (Entry A) → Cells
-  seen ns = record (cells_of max number t) {
-    room = record (cells_of max number t).room { nodes = nodes_of max number ns };
-    links = record (cells_of max number t).links { newer = map (λ n. number n.newer) ns; older = map (λ n. number n.older) ns };
+  seen ns = record (cells_by_node max number t) {
+    room = record (cells_by_node max number t).room { nodes = nodes_of max number ns };
+    links = record (cells_by_node max number t).links { newer = map (λ n. number n.newer) ns; older = map (λ n. number n.older) ns };
   }
 
   -- a name below the number of nodes is below the table's length
@@ -132,7 +132,7 @@ module _ {A B : Type 0} (max : ℕ) (number : A → ℕ) (t : Inside A B) {c : C
       let nodes = kept x n m short at (ap (λ (u : Bool). record (node_of max number n) { used = u }) (idle_still x n newer short at idle ne)) in
       rw (← e) (rw (nodes, map-set (λ (k : Entry A). number k.newer) ns x m, map-set (λ (k : Entry A). number k.older) ns x m) refl)
 
-pub shaped : {A B : Type 0} (max : ℕ) (number : A → ℕ) (t : Inside A B) → AreEven max t → max ≤ 4294967295 → AreShaped max (cells_of max number t)
+pub shaped : {A B : Type 0} (max : ℕ) (number : A → ℕ) (t : Inside A B) → AreEven max t → max ≤ 4294967295 → AreShaped max (cells_by_node max number t)
 unfolding node
 shaped max number t h w =
     let n = length-nodes_of max number t.nodes.items in

@@ -47,3 +47,4 @@ pub mod Views
 pub mod Walks
 pub mod Writes
 pub mod Entries
+pub mod Fields

@@ -3,7 +3,7 @@ use Rattle.std.proofs.Common.{◌≡◌, ℕ, ◌≤◌, sym, ap, subst, arith}
 use Rattle.offset_allocator.specs.View.{View, IsWellFormed}
 use Rattle.offset_allocator.specs.Cells.{Cells}
 use Rattle.offset_allocator.specs.Soundness.{view_of, IsSound}
-use Rattle.offset_allocator.specs.declared.Allocator.TheInside.{Inside}
+use Rattle.offset_allocator.specs.declared.AllocatorOf.TheInside.{Inside}
 use Rattle.offset_allocator.specs.Relations.{SameSpace}
 
 -- the fields, with the largest number of the index type
@@ -27,8 +27,8 @@ abbrev pub AreSound : Fields → Type 0
 AreSound it = IsSound it.max it.size it.limit it.cells it.last it.count it.top it.free
 
 -- the fields of an allocator
-abbrev pub fields_of : {A B : Type 0} → ℕ → Inside A B → Fields
-fields_of max a = record { max = max; size = a.size; limit = a.max_allocs; cells = a.store.tables; last = a.store.last; count = a.store.spare_count; top = a.store.top_mask; free = a.free_total; accesses = a.store.accesses }
+abbrev pub fields_of : {A B C : Type 0} → (A → Cells) → ℕ → Inside A B C → Fields
+fields_of cells max a = record { max = max; size = a.size; limit = a.max_allocs; cells = cells a.store.tables; last = a.store.last; count = a.store.spare_count; top = a.store.top_mask; free = a.free_total; accesses = a.store.accesses }
 
 -- whatever was counted
 pub well_counted : (v : View) (k : ℕ) → IsWellFormed v → IsWellFormed (record v { accesses = k })

@@ -16,17 +16,17 @@ use crate::store::Store;
 use crate::tables::Tables;
 
 /// The smallest class at or above `class` whose bin is not empty.
-pub(crate) fn find_at_or_above<NI: NodeIndex>(
-    tables: &Tables<NI>,
+pub(crate) fn find_at_or_above<T: Tables>(
+    tables: &T,
     top_mask: u32,
     class: u32,
     count: &mut Accesses,
 ) -> Option<u32>
-    requires held { IsBinned NI.MAX tables.now.links top_mask }
+    requires held { IsBinned T.Index.MAX (T.cells tables.now).links top_mask }
     requires classed { class < 256 }
     ensures smallest { MatchOption result ((c : ℕ) → class ≤ c → c < 256
-        → bin_at (bins_in NI.MAX tables.now.links) c
-        ≡ []) (IsSmallestFrom class (bins_in NI.MAX tables.now.links)) }
+        → bin_at (bins_in T.Index.MAX (T.cells tables.now).links) c
+        ≡ []) (IsSmallestFrom class (bins_in T.Index.MAX (T.cells tables.now).links)) }
     ensures accesses { Costs 1 2 count.old count.new }
 {
     let word = class / 64;
@@ -43,14 +43,10 @@ pub(crate) fn find_at_or_above<NI: NodeIndex>(
 }
 
 /// The largest class whose bin is not empty.
-pub(crate) fn largest<NI: NodeIndex>(
-    tables: &Tables<NI>,
-    top_mask: u32,
-    count: &mut Accesses,
-) -> Option<u32>
-    requires { IsBinned NI.MAX tables.now.links top_mask }
-    ensures largest { MatchOption result ((c : ℕ) → c < 256 → bin_at (bins_in NI.MAX tables.now.links) c
-        ≡ []) (IsLargestClass (bins_in NI.MAX tables.now.links)) }
+pub(crate) fn largest<T: Tables>(tables: &T, top_mask: u32, count: &mut Accesses) -> Option<u32>
+    requires { IsBinned T.Index.MAX (T.cells tables.now).links top_mask }
+    ensures largest { MatchOption result ((c : ℕ) → c < 256 → bin_at (bins_in T.Index.MAX (T.cells tables.now).links) c
+        ≡ []) (IsLargestClass (bins_in T.Index.MAX (T.cells tables.now).links)) }
     ensures accesses { MatchOption result (count.new ≡ count.old) (λ _. count.new ≡ count.old + 1) }
 {
     if top_mask == 0 {
@@ -61,15 +57,15 @@ pub(crate) fn largest<NI: NodeIndex>(
 }
 
 /// The number of the names of a class.
-pub(crate) fn length_of<NI: NodeIndex>(tables: &Tables<NI>, class: u32, count: &mut Accesses) -> u32
-    requires linked { HasBins NI.MAX tables.now.links (bins_in NI.MAX tables.now.links) }
+pub(crate) fn length_of<T: Tables>(tables: &T, class: u32, count: &mut Accesses) -> u32
+    requires linked { HasBins T.Index.MAX (T.cells tables.now).links (bins_in T.Index.MAX (T.cells tables.now).links) }
     requires classed { class < 256 }
-    ensures names { result ≡ length (bin_at (bins_in NI.MAX tables.now.links) class) }
+    ensures names { result ≡ length (bin_at (bins_in T.Index.MAX (T.cells tables.now).links) class) }
     ensures accesses { count.new ≡ count.old + 1 + result }
 {
     let mut names = 0;
     let mut name = tables.head(class, count);
-    while name != NI::MAX {
+    while name != T::Index::MAX {
         names += 1;
         name = number(tables.older(name, count));
     }
@@ -78,15 +74,15 @@ pub(crate) fn length_of<NI: NodeIndex>(tables: &Tables<NI>, class: u32, count: &
 
 /// Pushes a name onto a bin.
 #[inline(always)]
-pub(crate) fn push<NI: NodeIndex>(store: &mut Store<NI>, name: u32, class: u32)
-    requires held { AreBinned NI.MAX store.old }
-    requires named { name < length store.old.tables.room.nodes }
-    requires idle { (node store.old.tables.room name).used ≡ false }
+pub(crate) fn push<T: Tables>(store: &mut Store<T>, name: u32, class: u32)
+    requires held { AreBinned T.cells T.Index.MAX store.old }
+    requires named { name < length (T.cells store.old.tables).room.nodes }
+    requires idle { (node (T.cells store.old.tables).room name).used ≡ false }
     requires classed { class < 256 }
-    requires unlisted { IsUnlisted name (bins_of NI.MAX store.old) }
-    ensures held { AreBinned NI.MAX store.new }
-    ensures lists { bins_of NI.MAX store.new ≡ push class name (bins_of NI.MAX store.old) }
-    ensures chain { SameChain store.old store.new }
+    requires unlisted { IsUnlisted name (bins_of T.cells T.Index.MAX store.old) }
+    ensures held { AreBinned T.cells T.Index.MAX store.new }
+    ensures lists { bins_of T.cells T.Index.MAX store.new ≡ push class name (bins_of T.cells T.Index.MAX store.old) }
+    ensures chain { SameChain T.cells store.old store.new }
     ensures accesses { Costs 5 6 store.old.accesses store.new.accesses }
 {
     let Store {
@@ -99,8 +95,8 @@ pub(crate) fn push<NI: NodeIndex>(store: &mut Store<NI>, name: u32, class: u32)
     let link = link_to(name);
     let newest = tables.head(class, count);
     tables.set_head(class, name, count);
-    tables.set_links(name, no_link(), NI::from_u32(newest), count);
-    if newest == NI::MAX {
+    tables.set_links(name, no_link(), T::Index::from_u32(newest), count);
+    if newest == T::Index::MAX {
         let word = class / 64;
         let mask = tables.mask(word, count);
         tables.set_mask(word, mask | 1 << (class % 64), count);
@@ -111,14 +107,14 @@ pub(crate) fn push<NI: NodeIndex>(store: &mut Store<NI>, name: u32, class: u32)
 }
 
 // Clears the bit of a class, whose bin is empty now.
-fn clear_bit<NI: NodeIndex>(store: &mut Store<NI>, class: u32)
+fn clear_bit<T: Tables>(store: &mut Store<T>, class: u32)
     requires classed { class < 256 }
-    ensures masked { (ls : List (List ℕ)) → length ls ≡ 256 → AreMasks ls store.old.tables.links.masks store.old.top_mask
-        → AreMasks (slice_set ls class []) store.new.tables.links.masks store.new.top_mask }
-    ensures chain { SameChain store.old store.new }
-    ensures rest { store.new.tables ≡ record store.old.tables {
-      links = record store.old.tables.links
-          { masks = store.new.tables.links.masks };
+    ensures masked { (ls : List (List ℕ)) → length ls ≡ 256 → AreMasks ls (T.cells store.old.tables).links.masks store.old.top_mask
+        → AreMasks (slice_set ls class []) (T.cells store.new.tables).links.masks store.new.top_mask }
+    ensures chain { SameChain T.cells store.old store.new }
+    ensures rest { T.cells store.new.tables ≡ record (T.cells store.old.tables) {
+      links = record (T.cells store.old.tables).links
+          { masks = (T.cells store.new.tables).links.masks };
     } }
     ensures accesses { Costs 0 2 store.old.accesses store.new.accesses }
 {
@@ -137,34 +133,34 @@ fn clear_bit<NI: NodeIndex>(store: &mut Store<NI>, class: u32)
 }
 
 // Links the node that a link names, if any, to a next newer one.
-fn link_newer<NI: NodeIndex>(tables: &mut Tables<NI>, at: NI, to: NI, count: &mut Accesses)
-    requires limit { length tables.old.links.newer ≤ NI.MAX }
-    requires named { NI.number at ≢ NI.MAX → NI.number at < length tables.old.links.newer }
-    requires idle { NI.number at ≢ NI.MAX → (node tables.old.room (NI.number at)).used ≡ false }
-    requires link { NI.number to ≢ NI.MAX - 1 }
-    ensures cells { tables.new ≡ record tables.old {
-      links = record tables.old.links
-          { newer = slice_set tables.old.links.newer (NI.number at) (NI.number to) };
+fn link_newer<T: Tables>(tables: &mut T, at: T::Index, to: T::Index, count: &mut Accesses)
+    requires limit { length (T.cells tables.old).links.newer ≤ T.Index.MAX }
+    requires named { T.Index.number at ≢ T.Index.MAX → T.Index.number at < length (T.cells tables.old).links.newer }
+    requires idle { T.Index.number at ≢ T.Index.MAX → (node (T.cells tables.old).room (T.Index.number at)).used ≡ false }
+    requires link { T.Index.number to ≢ T.Index.MAX - 1 }
+    ensures cells { T.cells tables.new ≡ record (T.cells tables.old) {
+      links = record (T.cells tables.old).links
+          { newer = slice_set (T.cells tables.old).links.newer (T.Index.number at) (T.Index.number to) };
     } }
     ensures accesses { Costs 0 1 count.old count.new }
 {
-    if number(at) != NI::MAX {
+    if number(at) != T::Index::MAX {
         tables.set_newer(number(at), to, count);
     }
 }
 
 // Removes the newest name of a class from its bin. `after` is the link to the next older one.
 #[inline(always)]
-fn behead<NI: NodeIndex>(store: &mut Store<NI>, class: u32, after: NI)
-    requires held { AreBinned NI.MAX store.old }
+fn behead<T: Tables>(store: &mut Store<T>, class: u32, after: T::Index)
+    requires held { AreBinned T.cells T.Index.MAX store.old }
     requires classed { class < 256 }
-    requires some { bin_at (bins_of NI.MAX store.old) class ≢ [] }
-    requires after { NI.number after ≡ slice_index store.old.tables.links.older
-        (slice_index store.old.tables.links.heads class) }
-    ensures held { AreBinned NI.MAX store.new }
-    ensures lists { bins_of NI.MAX store.new
-        ≡ remove class (slice_index store.old.tables.links.heads class) (bins_of NI.MAX store.old) }
-    ensures chain { SameChain store.old store.new }
+    requires some { bin_at (bins_of T.cells T.Index.MAX store.old) class ≢ [] }
+    requires after { T.Index.number after ≡ slice_index (T.cells store.old.tables).links.older
+        (slice_index (T.cells store.old.tables).links.heads class) }
+    ensures held { AreBinned T.cells T.Index.MAX store.new }
+    ensures lists { bins_of T.cells T.Index.MAX store.new
+        ≡ remove class (slice_index (T.cells store.old.tables).links.heads class) (bins_of T.cells T.Index.MAX store.old) }
+    ensures chain { SameChain T.cells store.old store.new }
     ensures accesses { Costs 1 3 store.old.accesses store.new.accesses }
 {
     let Store {
@@ -175,7 +171,7 @@ fn behead<NI: NodeIndex>(store: &mut Store<NI>, class: u32, after: NI)
     tables.shape();
     let next = number(after);
     tables.set_head(class, next, count);
-    if next == NI::MAX {
+    if next == T::Index::MAX {
         clear_bit(store, class);
     } else {
         tables.set_newer(next, no_link(), count);
@@ -184,13 +180,13 @@ fn behead<NI: NodeIndex>(store: &mut Store<NI>, class: u32, after: NI)
 
 // Removes a name from the bin of this size. `before` is the link to the next newer one.
 #[inline(always)]
-fn leave<NI: NodeIndex>(store: &mut Store<NI>, name: u32, before: NI, size: u32)
-    requires held { AreBinned NI.MAX store.old }
-    requires listed { Among name (bin_at (bins_of NI.MAX store.old) (down size)) }
-    requires before { NI.number before ≡ slice_index store.old.tables.links.newer name }
-    ensures held { AreBinned NI.MAX store.new }
-    ensures lists { bins_of NI.MAX store.new ≡ remove (down size) name (bins_of NI.MAX store.old) }
-    ensures chain { SameChain store.old store.new }
+fn leave<T: Tables>(store: &mut Store<T>, name: u32, before: T::Index, size: u32)
+    requires held { AreBinned T.cells T.Index.MAX store.old }
+    requires listed { Among name (bin_at (bins_of T.cells T.Index.MAX store.old) (down size)) }
+    requires before { T.Index.number before ≡ slice_index (T.cells store.old.tables).links.newer name }
+    ensures held { AreBinned T.cells T.Index.MAX store.new }
+    ensures lists { bins_of T.cells T.Index.MAX store.new ≡ remove (down size) name (bins_of T.cells T.Index.MAX store.old) }
+    ensures chain { SameChain T.cells store.old store.new }
     ensures accesses { Costs 2 4 store.old.accesses store.new.accesses }
 {
     let Store {
@@ -200,7 +196,7 @@ fn leave<NI: NodeIndex>(store: &mut Store<NI>, name: u32, before: NI, size: u32)
     } = store;
     tables.shape();
     let after = tables.older(name, count);
-    if number(before) == NI::MAX {
+    if number(before) == T::Index::MAX {
         // only the newest name has to find its class
         behead(store, uint_to_float_round_down(size), after);
     } else {
@@ -211,12 +207,12 @@ fn leave<NI: NodeIndex>(store: &mut Store<NI>, name: u32, before: NI, size: u32)
 
 /// Removes a name from the bin of this size.
 #[inline(always)]
-pub(crate) fn remove<NI: NodeIndex>(store: &mut Store<NI>, name: u32, size: u32)
-    requires held { AreBinned NI.MAX store.old }
-    requires listed { Among name (bin_at (bins_of NI.MAX store.old) (down size)) }
-    ensures held { AreBinned NI.MAX store.new }
-    ensures lists { bins_of NI.MAX store.new ≡ remove (down size) name (bins_of NI.MAX store.old) }
-    ensures chain { SameChain store.old store.new }
+pub(crate) fn remove<T: Tables>(store: &mut Store<T>, name: u32, size: u32)
+    requires held { AreBinned T.cells T.Index.MAX store.old }
+    requires listed { Among name (bin_at (bins_of T.cells T.Index.MAX store.old) (down size)) }
+    ensures held { AreBinned T.cells T.Index.MAX store.new }
+    ensures lists { bins_of T.cells T.Index.MAX store.new ≡ remove (down size) name (bins_of T.cells T.Index.MAX store.old) }
+    ensures chain { SameChain T.cells store.old store.new }
     ensures accesses { Costs 3 5 store.old.accesses store.new.accesses }
 {
     let before = store.tables.newer(name, &mut store.accesses);
@@ -226,27 +222,21 @@ pub(crate) fn remove<NI: NodeIndex>(store: &mut Store<NI>, name: u32, size: u32)
 /// Removes `gone`, the name of a block of `size` units, from its bin, and pushes `name` onto the bin of `class`. Where
 /// both are one bin and `gone` is its newest, `name` takes its place.
 #[inline(always)]
-pub(crate) fn exchange<NI: NodeIndex>(
-    store: &mut Store<NI>,
-    gone: u32,
-    size: u32,
-    name: u32,
-    class: u32,
-)
-    requires held { AreBinned NI.MAX store.old }
-    requires listed { Among gone (bin_at (bins_of NI.MAX store.old) (down size)) }
-    requires named { name < length store.old.tables.room.nodes }
-    requires idle { (node store.old.tables.room name).used ≡ false }
+pub(crate) fn exchange<T: Tables>(store: &mut Store<T>, gone: u32, size: u32, name: u32, class: u32)
+    requires held { AreBinned T.cells T.Index.MAX store.old }
+    requires listed { Among gone (bin_at (bins_of T.cells T.Index.MAX store.old) (down size)) }
+    requires named { name < length (T.cells store.old.tables).room.nodes }
+    requires idle { (node (T.cells store.old.tables).room name).used ≡ false }
     requires classed { class < 256 }
-    requires unlisted { IsUnlisted name (bins_of NI.MAX store.old) }
-    ensures held { AreBinned NI.MAX store.new }
-    ensures lists { bins_of NI.MAX store.new ≡ push class name (remove (down size) gone (bins_of NI.MAX store.old)) }
-    ensures chain { SameChain store.old store.new }
+    requires unlisted { IsUnlisted name (bins_of T.cells T.Index.MAX store.old) }
+    ensures held { AreBinned T.cells T.Index.MAX store.new }
+    ensures lists { bins_of T.cells T.Index.MAX store.new ≡ push class name (remove (down size) gone (bins_of T.cells T.Index.MAX store.old)) }
+    ensures chain { SameChain T.cells store.old store.new }
     ensures accesses { Costs 5 11 store.old.accesses store.new.accesses }
 {
     store.tables.shape();
     let before = store.tables.newer(gone, &mut store.accesses);
-    if number(before) == NI::MAX && class == uint_to_float_round_down(size) {
+    if number(before) == T::Index::MAX && class == uint_to_float_round_down(size) {
         // the bin is empty neither before nor after, so the masks stay
         let Store {
             tables,
@@ -264,15 +254,15 @@ pub(crate) fn exchange<NI: NodeIndex>(
 }
 
 /// Pops the newest name of a bin.
-pub(crate) fn pop<NI: NodeIndex>(store: &mut Store<NI>, class: u32) -> u32
-    requires held { AreBinned NI.MAX store.old }
+pub(crate) fn pop<T: Tables>(store: &mut Store<T>, class: u32) -> u32
+    requires held { AreBinned T.cells T.Index.MAX store.old }
     requires classed { class < 256 }
-    requires some { bin_at (bins_of NI.MAX store.old) class ≢ [] }
-    ensures first { bin_at (bins_of NI.MAX store.old) class
-        ≡ result ∷ without result (bin_at (bins_of NI.MAX store.old) class) }
-    ensures held { AreBinned NI.MAX store.new }
-    ensures lists { bins_of NI.MAX store.new ≡ remove class result (bins_of NI.MAX store.old) }
-    ensures chain { SameChain store.old store.new }
+    requires some { bin_at (bins_of T.cells T.Index.MAX store.old) class ≢ [] }
+    ensures first { bin_at (bins_of T.cells T.Index.MAX store.old) class
+        ≡ result ∷ without result (bin_at (bins_of T.cells T.Index.MAX store.old) class) }
+    ensures held { AreBinned T.cells T.Index.MAX store.new }
+    ensures lists { bins_of T.cells T.Index.MAX store.new ≡ remove class result (bins_of T.cells T.Index.MAX store.old) }
+    ensures chain { SameChain T.cells store.old store.new }
     ensures accesses { Costs 3 6 store.old.accesses store.new.accesses }
 {
     let Store {
@@ -287,20 +277,20 @@ pub(crate) fn pop<NI: NodeIndex>(store: &mut Store<NI>, class: u32) -> u32
 }
 
 /// The top mask of bins that are all empty, as those of new tables are.
-pub(crate) fn start<NI: NodeIndex>(tables: &Tables<NI>) -> u32
-    requires empty { AreEmpty NI.MAX tables.now.links }
-    ensures held { IsBinned NI.MAX tables.now.links result }
-    ensures lists { bins_in NI.MAX tables.now.links ≡ replicate 256 [] }
+pub(crate) fn start<T: Tables>(tables: &T) -> u32
+    requires empty { AreEmpty T.Index.MAX (T.cells tables.now).links }
+    ensures held { IsBinned T.Index.MAX (T.cells tables.now).links result }
+    ensures lists { bins_in T.Index.MAX (T.cells tables.now).links ≡ replicate 256 [] }
 {
     tables.shape();
     0
 }
 
 /// Removes all names from all bins, whatever these hold, by one write for each.
-pub(crate) fn empty<NI: NodeIndex>(store: &mut Store<NI>)
-    ensures held { AreBinned NI.MAX store.new }
-    ensures lists { bins_of NI.MAX store.new ≡ replicate 256 [] }
-    ensures chain { SameChain store.old store.new }
+pub(crate) fn empty<T: Tables>(store: &mut Store<T>)
+    ensures held { AreBinned T.cells T.Index.MAX store.new }
+    ensures lists { bins_of T.cells T.Index.MAX store.new ≡ replicate 256 [] }
+    ensures chain { SameChain T.cells store.old store.new }
     ensures accesses { store.new.accesses ≡ store.old.accesses + 260 }
 {
     let Store {
@@ -311,7 +301,7 @@ pub(crate) fn empty<NI: NodeIndex>(store: &mut Store<NI>)
     } = store;
     tables.shape();
     for class in 0..256 {
-        tables.set_head(class, NI::MAX, count);
+        tables.set_head(class, T::Index::MAX, count);
     }
     for word in 0..4 {
         tables.set_mask(word, 0, count);

@@ -3,11 +3,12 @@ ghost use Rattle.std.specs.Prelude.{◌≡◌, ⊤};
 ghost use Rattle.std.specs.Iterator.{YieldsFirstBy, item_count};
 ghost use Rattle.offset_allocator.specs.Listing.{as_placed};
 
-use crate::Allocator;
+use crate::AllocatorOf;
 use crate::accesses::Accesses;
 use crate::counted::next_block_counted;
 use crate::handle::Allocation;
 use crate::index::{NodeIndex, NodeIndexNonMax};
+use crate::tables::Tables;
 use std::alloc::AllocError;
 use std::fmt;
 use std::iter::FusedIterator;
@@ -26,15 +27,15 @@ pub struct Block<NI: NodeIndex = u32, N: NodeIndexNonMax = <NI as NodeIndex>::No
 
 /// The blocks of a space, from its end to its start, seen as the list of those that are left.
 #[derive(Drop)]
-pub struct Blocks<'a, NI: NodeIndex = u32> {
-    pub(crate) allocator: &'a Allocator<NI>,
+pub struct BlocksOf<'a, T: Tables> {
+    pub(crate) allocator: &'a AllocatorOf<T>,
     // the name of the next block
     pub(crate) next: Option<u32>,
     // how many blocks are left: the first ones of the space
     pub(crate) left: u32,
 }
 
-impl<'a, NI: NodeIndex> Model for Blocks<'a, NI> {
+impl<'a, T: Tables> Model for BlocksOf<'a, T> {
     ghost use Rattle.std.specs.Prelude.{◌≡◌, ◌≤◌, List, None, take, reverse, length};
     ghost use Rattle.offset_allocator.specs.Listing.{Placed, placed};
     ghost use Rattle.offset_allocator.specs.Chain.{last_or};
@@ -47,13 +48,13 @@ impl<'a, NI: NodeIndex> Model for Blocks<'a, NI> {
         × (last_or None (take it.left it.allocator.now.blocks) ≡ it.next) };
 }
 
-impl<'a, NI: NodeIndex> Clone for Blocks<'a, NI> {
+impl<'a, T: Tables> Clone for BlocksOf<'a, T> {
     ghost is_clone = { λ it copy. copy ≡ it };
 
     ghost is_infallible = { λ _. ⊤ };
 
     fn clone(&self) -> Result<Self, AllocError> {
-        Ok(Blocks {
+        Ok(BlocksOf {
             allocator: self.allocator,
             next: self.next,
             left: self.left,
@@ -61,14 +62,14 @@ impl<'a, NI: NodeIndex> Clone for Blocks<'a, NI> {
     }
 }
 
-impl<'a, NI: NodeIndex> Iterator for Blocks<'a, NI> {
-    type Item = Block<NI>;
+impl<'a, T: Tables> Iterator for BlocksOf<'a, T> {
+    type Item = Block<T::Index>;
 
     ghost next_gives = { YieldsFirstBy as_placed (λ rest. rest) };
 
     ghost remaining = { item_count (λ rest. rest) };
 
-    fn next(&mut self) -> Option<Block<NI>> {
+    fn next(&mut self) -> Option<Block<T::Index>> {
         next_block_counted(self, &mut Accesses::new())
     }
 
@@ -77,15 +78,15 @@ impl<'a, NI: NodeIndex> Iterator for Blocks<'a, NI> {
     }
 }
 
-impl<'a, NI: NodeIndex> ExactSizeIterator for Blocks<'a, NI> {
+impl<'a, T: Tables> ExactSizeIterator for BlocksOf<'a, T> {
     fn len(&self) -> usize {
         self.left as usize
     }
 }
 
-impl<'a, NI: NodeIndex> FusedIterator for Blocks<'a, NI> {}
+impl<'a, T: Tables> FusedIterator for BlocksOf<'a, T> {}
 
-impl<'a, NI: NodeIndex> fmt::Debug for Blocks<'a, NI> {
+impl<'a, T: Tables> fmt::Debug for BlocksOf<'a, T> {
     fn fmt<W: fmt::Write>(&self, f: &mut fmt::Formatter<W>) -> fmt::Result {
         f.debug_struct("Blocks")
             .field("remaining", &self.len())

@@ -10,24 +10,19 @@ ghost use Rattle.offset_allocator.specs.Store.{IsPlaceIn, SameBins};
 ghost use Rattle.offset_allocator.specs.Chain.{IsChain, IsSpace, HasPlace, blocks, coalesced_before, coalesced_after};
 
 use crate::accesses::Accesses;
-use crate::index::{NodeIndex, link_to, linked, no_link, number};
+use crate::index::{link_to, linked, no_link, number};
 use crate::neighbour_links::{point_back, point_on};
 use crate::store::Store;
 use crate::tables::Tables;
 
 /// Makes the whole space one free block, under the name of the only node.
-pub(crate) fn start<NI: NodeIndex>(
-    tables: &mut Tables<NI>,
-    size: u32,
-    max_allocs: u32,
-    count: &mut Accesses,
-)
-    requires bare { IsBare max_allocs tables.old.room }
-    ensures space { IsSpace tables.new.room 0 0 }
-    ensures blocks { blocks tables.new.room 0 ≡ free_block 0 size ∷ [] }
-    ensures node { length tables.new.room.nodes ≡ 1 }
-    ensures reserved { tables.new.room.reserved ≡ max_allocs }
-    ensures links { tables.new.links ≡ tables.old.links }
+pub(crate) fn start<T: Tables>(tables: &mut T, size: u32, max_allocs: u32, count: &mut Accesses)
+    requires bare { IsBare max_allocs (T.cells tables.old).room }
+    ensures space { IsSpace (T.cells tables.new).room 0 0 }
+    ensures blocks { blocks (T.cells tables.new).room 0 ≡ free_block 0 size ∷ [] }
+    ensures node { length (T.cells tables.new).room.nodes ≡ 1 }
+    ensures reserved { (T.cells tables.new).room.reserved ≡ max_allocs }
+    ensures links { (T.cells tables.new).links ≡ (T.cells tables.old).links }
     ensures accesses { count.new ≡ count.old + 4 }
 {
     tables.shape();
@@ -35,38 +30,38 @@ pub(crate) fn start<NI: NodeIndex>(
 }
 
 /// The offset of a block.
-pub(crate) fn offset<NI: NodeIndex>(tables: &Tables<NI>, name: u32, count: &mut Accesses) -> u32
-    requires { name < length tables.now.room.nodes }
-    ensures offset { result ≡ (node tables.now.room name).offset }
+pub(crate) fn offset<T: Tables>(tables: &T, name: u32, count: &mut Accesses) -> u32
+    requires { name < length (T.cells tables.now).room.nodes }
+    ensures offset { result ≡ (node (T.cells tables.now).room name).offset }
     ensures accesses { count.new ≡ count.old + 1 }
 {
     tables.offset(name, count)
 }
 
 /// The size of a block.
-pub(crate) fn size<NI: NodeIndex>(tables: &Tables<NI>, name: u32, count: &mut Accesses) -> u32
-    requires { name < length tables.now.room.nodes }
-    ensures size { result ≡ (node tables.now.room name).size }
+pub(crate) fn size<T: Tables>(tables: &T, name: u32, count: &mut Accesses) -> u32
+    requires { name < length (T.cells tables.now).room.nodes }
+    ensures size { result ≡ (node (T.cells tables.now).room name).size }
     ensures accesses { count.new ≡ count.old + 1 }
 {
     tables.size(name, count)
 }
 
 /// Whether a block is used.
-pub(crate) fn is_used<NI: NodeIndex>(tables: &Tables<NI>, name: u32, count: &mut Accesses) -> bool
-    requires { name < length tables.now.room.nodes }
-    ensures cell { result ≡ (node tables.now.room name).used }
-    ensures used { (last spare : ℕ) → IsSpace tables.now.room last spare → result
-        ≡ is_used_at (place_of name (blocks tables.now.room last)) }
+pub(crate) fn is_used<T: Tables>(tables: &T, name: u32, count: &mut Accesses) -> bool
+    requires { name < length (T.cells tables.now).room.nodes }
+    ensures cell { result ≡ (node (T.cells tables.now).room name).used }
+    ensures used { (last spare : ℕ) → IsSpace (T.cells tables.now).room last spare → result
+        ≡ is_used_at (place_of name (blocks (T.cells tables.now).room last)) }
     ensures accesses { count.new ≡ count.old + 1 }
 {
     tables.used(name, count)
 }
 
 /// Whether any name is that of a used block. It counts one access for a name that no node has, too.
-pub(crate) fn is_live<NI: NodeIndex>(tables: &Tables<NI>, name: u32, count: &mut Accesses) -> bool
-    ensures live { (last spare : ℕ) → IsSpace tables.now.room last spare → result
-        ≡ is_used_at (place_of name (blocks tables.now.room last)) }
+pub(crate) fn is_live<T: Tables>(tables: &T, name: u32, count: &mut Accesses) -> bool
+    ensures live { (last spare : ℕ) → IsSpace (T.cells tables.now).room last spare → result
+        ≡ is_used_at (place_of name (blocks (T.cells tables.now).room last)) }
     ensures accesses { count.new ≡ count.old + 1 }
 {
     if name < tables.len() {
@@ -78,26 +73,18 @@ pub(crate) fn is_live<NI: NodeIndex>(tables: &Tables<NI>, name: u32, count: &mut
 }
 
 /// The name of the block directly before a block, if there is one.
-pub(crate) fn before<NI: NodeIndex>(
-    tables: &Tables<NI>,
-    name: u32,
-    count: &mut Accesses,
-) -> Option<u32>
-    requires { name < length tables.now.room.nodes }
-    ensures before { result ≡ (node tables.now.room name).before }
+pub(crate) fn before<T: Tables>(tables: &T, name: u32, count: &mut Accesses) -> Option<u32>
+    requires { name < length (T.cells tables.now).room.nodes }
+    ensures before { result ≡ (node (T.cells tables.now).room name).before }
     ensures accesses { count.new ≡ count.old + 1 }
 {
     linked(tables.before(name, count))
 }
 
 /// The name of the block directly after a block, if there is one.
-pub(crate) fn after<NI: NodeIndex>(
-    tables: &Tables<NI>,
-    name: u32,
-    count: &mut Accesses,
-) -> Option<u32>
-    requires { name < length tables.now.room.nodes }
-    ensures after { result ≡ (node tables.now.room name).after }
+pub(crate) fn after<T: Tables>(tables: &T, name: u32, count: &mut Accesses) -> Option<u32>
+    requires { name < length (T.cells tables.now).room.nodes }
+    ensures after { result ≡ (node (T.cells tables.now).room name).after }
     ensures accesses { count.new ≡ count.old + 1 }
 {
     linked(tables.after(name, count))
@@ -105,16 +92,16 @@ pub(crate) fn after<NI: NodeIndex>(
 
 /// Makes a node where fewer than this number of names are unused; one is lacking at most.
 #[inline(always)]
-pub(crate) fn ready<NI: NodeIndex>(
-    tables: &mut Tables<NI>,
+pub(crate) fn ready<T: Tables>(
+    tables: &mut T,
     spare_count: &mut u32,
     names: u32,
     count: &mut Accesses,
 )
-    requires memory { (m last : ℕ) × (bs : List Block) × IsChain tables.old.room m last spare_count.old bs
+    requires memory { (m last : ℕ) × (bs : List Block) × IsChain (T.cells tables.old).room m last spare_count.old bs
         × (length bs + names ≤ m) }
     requires next { names ≤ spare_count.old + 1 }
-    ensures readies { Readies NI.MAX tables.old tables.new spare_count.old spare_count.new }
+    ensures readies { Readies T.Index.MAX (T.cells tables.old) (T.cells tables.new) spare_count.old spare_count.new }
     ensures enough { names ≤ spare_count.new }
     ensures accesses { Costs 0 8 count.old count.new }
 {
@@ -127,17 +114,17 @@ pub(crate) fn ready<NI: NodeIndex>(
 
 /// Makes nodes, so that at least 1 or 2 names are unused.
 #[inline(always)]
-pub(crate) fn ready_for<NI: NodeIndex>(
-    tables: &mut Tables<NI>,
+pub(crate) fn ready_for<T: Tables>(
+    tables: &mut T,
     spare_count: &mut u32,
     names: u32,
     count: &mut Accesses,
 )
-    requires memory { (m last : ℕ) × (bs : List Block) × IsChain tables.old.room m last spare_count.old bs
+    requires memory { (m last : ℕ) × (bs : List Block) × IsChain (T.cells tables.old).room m last spare_count.old bs
         × (length bs + names ≤ m) }
     requires some { 1 ≤ names }
     requires few { names ≤ 2 }
-    ensures readies { Readies NI.MAX tables.old tables.new spare_count.old spare_count.new }
+    ensures readies { Readies T.Index.MAX (T.cells tables.old) (T.cells tables.new) spare_count.old spare_count.new }
     ensures enough { names ≤ spare_count.new }
     ensures accesses { Costs 0 16 count.old count.new }
 {
@@ -150,29 +137,29 @@ pub(crate) fn ready_for<NI: NodeIndex>(
 /// Splits a block, of this offset and size, after `kept` units. The remainder becomes a free block directly after it,
 /// under the name that is returned.
 #[tactic(auto, using(crate::proofs::Nodes::lengths))]
-pub(crate) fn split<NI: NodeIndex>(
-    store: &mut Store<NI>,
+pub(crate) fn split<T: Tables>(
+    store: &mut Store<T>,
     name: u32,
     offset: u32,
     size: u32,
     kept: u32,
 ) -> u32
-    requires place { (m : ℕ) × (p : Place) × IsPlaceIn store.old m name p }
+    requires place { (m : ℕ) × (p : Place) × IsPlaceIn T.cells store.old m name p }
     requires spare { 0 < store.old.spare_count }
-    requires offset { offset ≡ (node store.old.tables.room name).offset }
-    requires size { size ≡ (node store.old.tables.room name).size }
+    requires offset { offset ≡ (node (T.cells store.old.tables).room name).offset }
+    requires size { size ≡ (node (T.cells store.old.tables).room name).size }
     requires within { kept ≤ size }
-    ensures place { (m : ℕ) (p : Place) → IsPlaceIn store.old m name p
-        → IsPlaceIn store.new m name (record p {
+    ensures place { (m : ℕ) (p : Place) → IsPlaceIn T.cells store.old m name p
+        → IsPlaceIn T.cells store.new m name (record p {
           block = record p.block { size = kept };
           after = free_block result (p.block.size - kept) ∷ p.after;
         }) }
-    ensures bins { SameBins store.old store.new }
-    ensures nodes { length store.new.tables.room.nodes ≡ length store.old.tables.room.nodes }
+    ensures bins { SameBins T.cells store.old store.new }
+    ensures nodes { length (T.cells store.new.tables).room.nodes ≡ length (T.cells store.old.tables).room.nodes }
     ensures spares { store.new.spare_count + 1 ≡ store.old.spare_count }
-    ensures fresh { (m : ℕ) (p : Place) → IsPlaceIn store.old m name p
+    ensures fresh { (m : ℕ) (p : Place) → IsPlaceIn T.cells store.old m name p
         → count_named result (p.before ++ p.block ∷ p.after) ≡ 0 }
-    ensures below { result < length store.old.tables.room.nodes }
+    ensures below { result < length (T.cells store.old.tables).room.nodes }
     ensures accesses { Costs 8 9 store.old.accesses store.new.accesses }
 {
     let Store {
@@ -196,20 +183,15 @@ pub(crate) fn split<NI: NodeIndex>(
 /// Coalesces the free block `following` into the block directly before it; `total` is the size of both. The name
 /// `following` is unused again.
 #[tactic(auto, using(crate::proofs::Nodes::lengths))]
-pub(crate) fn coalesce_after<NI: NodeIndex>(
-    store: &mut Store<NI>,
-    name: u32,
-    following: u32,
-    total: u32,
-)
-    requires place { (m : ℕ) × (p : Place) × IsPlaceIn store.old m name p }
-    requires next { Some following ≡ (node store.old.tables.room name).after }
-    requires free { (node store.old.tables.room following).used ≡ false }
-    requires total { total ≡ (node store.old.tables.room name).size + (node store.old.tables.room following).size }
-    ensures place { (m : ℕ) (p : Place) → IsPlaceIn store.old m name p
-        → IsPlaceIn store.new m name (coalesced_after p) }
-    ensures bins { SameBins store.old store.new }
-    ensures nodes { length store.new.tables.room.nodes ≡ length store.old.tables.room.nodes }
+pub(crate) fn coalesce_after<T: Tables>(store: &mut Store<T>, name: u32, following: u32, total: u32)
+    requires place { (m : ℕ) × (p : Place) × IsPlaceIn T.cells store.old m name p }
+    requires next { Some following ≡ (node (T.cells store.old.tables).room name).after }
+    requires free { (node (T.cells store.old.tables).room following).used ≡ false }
+    requires total { total ≡ (node (T.cells store.old.tables).room name).size + (node (T.cells store.old.tables).room following).size }
+    ensures place { (m : ℕ) (p : Place) → IsPlaceIn T.cells store.old m name p
+        → IsPlaceIn T.cells store.new m name (coalesced_after p) }
+    ensures bins { SameBins T.cells store.old store.new }
+    ensures nodes { length (T.cells store.new.tables).room.nodes ≡ length (T.cells store.old.tables).room.nodes }
     ensures spares { store.new.spare_count ≡ store.old.spare_count + 1 }
     ensures accesses { Costs 4 5 store.old.accesses store.new.accesses }
 {
@@ -231,20 +213,15 @@ pub(crate) fn coalesce_after<NI: NodeIndex>(
 /// Coalesces the free block `previous` into the block directly after it; `total` is the size of both. The name
 /// `previous` is unused again.
 #[tactic(auto, using(crate::proofs::Nodes::lengths))]
-pub(crate) fn coalesce_before<NI: NodeIndex>(
-    store: &mut Store<NI>,
-    previous: u32,
-    name: u32,
-    total: u32,
-)
-    requires place { (m : ℕ) × (p : Place) × IsPlaceIn store.old m name p }
-    requires previous { Some previous ≡ (node store.old.tables.room name).before }
-    requires free { (node store.old.tables.room previous).used ≡ false }
-    requires total { total ≡ (node store.old.tables.room previous).size + (node store.old.tables.room name).size }
-    ensures place { (m : ℕ) (p : Place) → IsPlaceIn store.old m name p
-        → IsPlaceIn store.new m name (coalesced_before p) }
-    ensures bins { SameBins store.old store.new }
-    ensures nodes { length store.new.tables.room.nodes ≡ length store.old.tables.room.nodes }
+pub(crate) fn coalesce_before<T: Tables>(store: &mut Store<T>, previous: u32, name: u32, total: u32)
+    requires place { (m : ℕ) × (p : Place) × IsPlaceIn T.cells store.old m name p }
+    requires previous { Some previous ≡ (node (T.cells store.old.tables).room name).before }
+    requires free { (node (T.cells store.old.tables).room previous).used ≡ false }
+    requires total { total ≡ (node (T.cells store.old.tables).room previous).size + (node (T.cells store.old.tables).room name).size }
+    ensures place { (m : ℕ) (p : Place) → IsPlaceIn T.cells store.old m name p
+        → IsPlaceIn T.cells store.new m name (coalesced_before p) }
+    ensures bins { SameBins T.cells store.old store.new }
+    ensures nodes { length (T.cells store.new.tables).room.nodes ≡ length (T.cells store.old.tables).room.nodes }
     ensures spares { store.new.spare_count ≡ store.old.spare_count + 1 }
     ensures accesses { Costs 6 7 store.old.accesses store.new.accesses }
 {
@@ -265,18 +242,13 @@ pub(crate) fn coalesce_before<NI: NodeIndex>(
 
 /// Makes a block, which is in no bin, used or free.
 #[tactic(auto, using(crate::proofs::Nodes::lengths))]
-pub(crate) fn mark<NI: NodeIndex>(
-    tables: &mut Tables<NI>,
-    name: u32,
-    used: bool,
-    count: &mut Accesses,
-)
-    requires { name < length tables.old.room.nodes }
-    ensures place { (m last spare : ℕ) (p : Place) → HasPlace tables.old.room m last spare name p
-        → HasPlace tables.new.room m last spare name (record p { block = record p.block { used = used } }) }
-    ensures bins { (top : ℕ) → IsUnlisted name (bins_in NI.MAX tables.old.links)
-        → KeepsBins NI.MAX tables.old tables.new top }
-    ensures nodes { length tables.new.room.nodes ≡ length tables.old.room.nodes }
+pub(crate) fn mark<T: Tables>(tables: &mut T, name: u32, used: bool, count: &mut Accesses)
+    requires { name < length (T.cells tables.old).room.nodes }
+    ensures place { (m last spare : ℕ) (p : Place) → HasPlace (T.cells tables.old).room m last spare name p
+        → HasPlace (T.cells tables.new).room m last spare name (record p { block = record p.block { used = used } }) }
+    ensures bins { (top : ℕ) → IsUnlisted name (bins_in T.Index.MAX (T.cells tables.old).links)
+        → KeepsBins T.Index.MAX (T.cells tables.old) (T.cells tables.new) top }
+    ensures nodes { length (T.cells tables.new).room.nodes ≡ length (T.cells tables.old).room.nodes }
     ensures accesses { count.new ≡ count.old + 1 }
 {
     tables.set_used(name, used, count);
@@ -285,22 +257,22 @@ pub(crate) fn mark<NI: NodeIndex>(
 /// Splits the first `cut` units off a block. They become a free block directly before it, under the name that is
 /// returned.
 #[tactic(auto, using(crate::proofs::Nodes::lengths))]
-pub(crate) fn split_before<NI: NodeIndex>(store: &mut Store<NI>, name: u32, cut: u32) -> u32
-    requires place { (m : ℕ) × (p : Place) × IsPlaceIn store.old m name p }
+pub(crate) fn split_before<T: Tables>(store: &mut Store<T>, name: u32, cut: u32) -> u32
+    requires place { (m : ℕ) × (p : Place) × IsPlaceIn T.cells store.old m name p }
     requires spare { 0 < store.old.spare_count }
-    requires within { cut ≤ (node store.old.tables.room name).size }
-    ensures place { (m : ℕ) (p : Place) → IsPlaceIn store.old m name p
-        → IsPlaceIn store.new m name (record {
+    requires within { cut ≤ (node (T.cells store.old.tables).room name).size }
+    ensures place { (m : ℕ) (p : Place) → IsPlaceIn T.cells store.old m name p
+        → IsPlaceIn T.cells store.new m name (record {
           before = p.before ++ free_block result cut ∷ [];
           block = record p.block { size = p.block.size - cut };
           after = p.after;
         }) }
-    ensures bins { SameBins store.old store.new }
-    ensures nodes { length store.new.tables.room.nodes ≡ length store.old.tables.room.nodes }
+    ensures bins { SameBins T.cells store.old store.new }
+    ensures nodes { length (T.cells store.new.tables).room.nodes ≡ length (T.cells store.old.tables).room.nodes }
     ensures spares { store.new.spare_count + 1 ≡ store.old.spare_count }
-    ensures fresh { (m : ℕ) (p : Place) → IsPlaceIn store.old m name p
+    ensures fresh { (m : ℕ) (p : Place) → IsPlaceIn T.cells store.old m name p
         → count_named result (p.before ++ p.block ∷ p.after) ≡ 0 }
-    ensures below { result < length store.old.tables.room.nodes }
+    ensures below { result < length (T.cells store.old.tables).room.nodes }
     ensures accesses { Costs 11 12 store.old.accesses store.new.accesses }
 {
     let Store {
@@ -324,24 +296,19 @@ pub(crate) fn split_before<NI: NodeIndex>(store: &mut Store<NI>, name: u32, cut:
 
 /// Adds units to the last block.
 #[tactic(auto, using(crate::proofs::Nodes::lengths))]
-pub(crate) fn grow<NI: NodeIndex>(
-    tables: &mut Tables<NI>,
-    last: u32,
-    more: u32,
-    count: &mut Accesses,
-)
+pub(crate) fn grow<T: Tables>(tables: &mut T, last: u32, more: u32, count: &mut Accesses)
     requires place { (m spare : ℕ) × (before : List Block) × (b : Block)
-        × HasPlace tables.old.room m last spare last (record { before = before; block = b; after = [] }) }
-    requires fits { units (blocks tables.old.room last) + more < 2 ^ 32 }
+        × HasPlace (T.cells tables.old).room m last spare last (record { before = before; block = b; after = [] }) }
+    requires fits { units (blocks (T.cells tables.old).room last) + more < 2 ^ 32 }
     ensures place { (m spare : ℕ) (before : List Block) (b : Block)
-        → HasPlace tables.old.room m last spare last (record { before = before; block = b; after = [] })
-        → HasPlace tables.new.room m last spare last (record {
+        → HasPlace (T.cells tables.old).room m last spare last (record { before = before; block = b; after = [] })
+        → HasPlace (T.cells tables.new).room m last spare last (record {
           before = before;
           block = record b { size = b.size + more };
           after = [];
         }) }
-    ensures links { tables.new.links ≡ tables.old.links }
-    ensures nodes { length tables.new.room.nodes ≡ length tables.old.room.nodes }
+    ensures links { (T.cells tables.new).links ≡ (T.cells tables.old).links }
+    ensures nodes { length (T.cells tables.new).room.nodes ≡ length (T.cells tables.old).room.nodes }
     ensures accesses { count.new ≡ count.old + 2 }
 {
     let size = tables.size(last, count);

@@ -15,7 +15,7 @@ use crate::index::{NodeIndex, NodeIndexNonMax};
 use crate::small_float::uint_to_float_round_down;
 use crate::store::Store;
 use crate::tables::Tables;
-use crate::{Allocator, bins, chain};
+use crate::{AllocatorOf, bins, chain};
 use std::marker::PhantomData;
 
 /// A range that `compact` moves: `size` units from the offset `from` to the offset `to`, which is smaller.
@@ -42,10 +42,10 @@ impl<NI: NodeIndex, N: NodeIndexNonMax> Move<NI, N> {
 }
 
 // The name of the first free block, if there is one. It is found from the end on, since only the last block is known.
-fn first_free<NI: NodeIndex>(tables: &Tables<NI>, last: u32, count: &mut Accesses) -> Option<u32>
-    requires space { (spare : ℕ) × IsSpace tables.now.room last spare }
-    ensures first { result ≡ first_free (blocks tables.now.room last) }
-    ensures accesses { count.new ≡ count.old + 2 * length (blocks tables.now.room last) }
+fn first_free<T: Tables>(tables: &T, last: u32, count: &mut Accesses) -> Option<u32>
+    requires space { (spare : ℕ) × IsSpace (T.cells tables.now).room last spare }
+    ensures first { result ≡ first_free (blocks (T.cells tables.now).room last) }
+    ensures accesses { count.new ≡ count.old + 2 * length (blocks (T.cells tables.now).room last) }
 {
     let mut first = None;
     let mut at = Some(last);
@@ -59,26 +59,26 @@ fn first_free<NI: NodeIndex>(tables: &Tables<NI>, last: u32, count: &mut Accesse
 }
 
 // Exchanges a free block with the used block directly after it. The name that the free block has then is returned.
-fn pass<NI: NodeIndex>(
-    store: &mut Store<NI>,
+fn pass<T: Tables>(
+    store: &mut Store<T>,
     hole: u32,
     offset: u32,
     size: u32,
     next: u32,
     more: u32,
 ) -> u32
-    requires place { (m : ℕ) × (p : Place) × IsPlaceIn store.old m hole p × (p.block.used ≡ false) }
-    requires offset { offset ≡ (node store.old.tables.room hole).offset }
-    requires size { size ≡ (node store.old.tables.room hole).size }
-    requires next { Some next ≡ (node store.old.tables.room hole).after }
-    requires more { more ≡ (node store.old.tables.room next).size }
-    ensures place { (m : ℕ) (p : Place) (b : Block) (bs : List Block) → IsPlaceIn store.old m hole p → p.block.used
-        ≡ false → p.after ≡ b ∷ bs → IsPlaceIn store.new m result (record {
+    requires place { (m : ℕ) × (p : Place) × IsPlaceIn T.cells store.old m hole p × (p.block.used ≡ false) }
+    requires offset { offset ≡ (node (T.cells store.old.tables).room hole).offset }
+    requires size { size ≡ (node (T.cells store.old.tables).room hole).size }
+    requires next { Some next ≡ (node (T.cells store.old.tables).room hole).after }
+    requires more { more ≡ (node (T.cells store.old.tables).room next).size }
+    ensures place { (m : ℕ) (p : Place) (b : Block) (bs : List Block) → IsPlaceIn T.cells store.old m hole p → p.block.used
+        ≡ false → p.after ≡ b ∷ bs → IsPlaceIn T.cells store.new m result (record {
           before = p.before ++ b ∷ [];
           block = free_block result p.block.size;
           after = bs;
         }) }
-    ensures bins { SameBins store.old store.new }
+    ensures bins { SameBins T.cells store.old store.new }
     ensures accesses { Costs 14 16 store.old.accesses store.new.accesses }
 {
     let whole = size + more;
@@ -118,26 +118,26 @@ fn report<NI: NodeIndex, F: FnMut(Move<NI>)>(
 
 // Slides the used blocks after a free block to the front, and coalesces it with the free ones, until it is the last
 // block. Its name and its size are returned. The bins stay as they are.
-fn slide<NI: NodeIndex, F: FnMut(Move<NI>)>(
-    store: &mut Store<NI>,
+fn slide<T: Tables, F: FnMut(Move<T::Index>)>(
+    store: &mut Store<T>,
     mut hole: u32,
     mut size: u32,
     moved: &mut F,
 ) -> (u32, u32)
-    requires place { (m : ℕ) × (p : Place) × IsPlaceIn store.old m hole p × (p.block.used ≡ false) }
-    requires size { size ≡ (node store.old.tables.room hole).size }
+    requires place { (m : ℕ) × (p : Place) × IsPlaceIn T.cells store.old m hole p × (p.block.used ≡ false) }
+    requires size { size ≡ (node (T.cells store.old.tables).room hole).size }
     requires callable { F.IsAlwaysCallable moved.old }
-    ensures place { (m : ℕ) (p : Place) → IsPlaceIn store.old m hole p → p.block.used ≡ false
-        → IsPlaceIn store.new m result.0 (record {
+    ensures place { (m : ℕ) (p : Place) → IsPlaceIn T.cells store.old m hole p → p.block.used ≡ false
+        → IsPlaceIn T.cells store.new m result.0 (record {
           before = p.before ++ live p.after;
           block = free_block result.0 result.1;
           after = [];
         })
         × (result.1 ≡ p.block.size + free_units p.after)
-        × FoldsTo (IsCalledWith NI.NonMax.number (λ f range g. F.step f range tt g)) moved.old
+        × FoldsTo (IsCalledWith T.Index.NonMax.number (λ f range g. F.step f range tt g)) moved.old
         (moves (units p.before + p.block.size) (units p.before) p.after) moved.new
         × (store.new.accesses ≤ store.old.accesses + 20 * length p.after + 1) }
-    ensures bins { SameBins store.old store.new }
+    ensures bins { SameBins T.cells store.old store.new }
     ensures accesses_min { store.old.accesses + 1 ≤ store.new.accesses }
 {
     store.tables.shape();
@@ -155,7 +155,7 @@ fn slide<NI: NodeIndex, F: FnMut(Move<NI>)>(
     (hole, size)
 }
 
-impl<NI: NodeIndex> Allocator<NI> {
+impl<T: Tables> AllocatorOf<T> {
     /// Slides every live range to the front of the space, in space order, so that all free units are one block at its
     /// end. `moved` is called for each range that gets another offset, in space order: the units from `from` on are to
     /// be copied to `to`, as `copy_within` does. In this order no copy writes on a unit that a later one reads.
@@ -163,13 +163,13 @@ impl<NI: NodeIndex> Allocator<NI> {
     /// Every handle stays live, with its size; only the public `offset` of a moved one is that of before, and
     /// `allocation_offset` returns the new one. `moved` has to be callable with any move: its contract may require
     /// nothing of it. It makes at most 24 accesses to the tables for each block, and 512, and takes no memory.
-    pub fn compact<F: FnMut(Move<NI>)>(&mut self, moved: &mut F)
+    pub fn compact<F: FnMut(Move<T::Index>)>(&mut self, moved: &mut F)
         requires callable { F.IsAlwaysCallable moved.old }
         // The live blocks keep their names, their sizes and their order: so every handle stays live, with its size.
         ensures live { live self.new.blocks ≡ live self.old.blocks }
         ensures sizes { KeepsSizes self.old self.new }
         // The closure is called with the moves, in space order.
-        ensures moved { FoldsTo (IsCalledWith NI.NonMax.number (λ f range g. F.step f range tt g)) moved.old
+        ensures moved { FoldsTo (IsCalledWith T.Index.NonMax.number (λ f range g. F.step f range tt g)) moved.old
             (moves 0 0 self.old.blocks) moved.new }
         // It makes at least 2 accesses to table cells for each block, and 267 more where a block is free; at most 24
         // for each, and 512.

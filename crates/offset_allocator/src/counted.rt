@@ -10,38 +10,39 @@ ghost use Rattle.offset_allocator.specs.Relations.{IsAlignment};
 ghost use Rattle.offset_allocator.specs.Requests.{IsReport, IsFullReport, CanGrant, IsWhy, blocks_needed, units_needed};
 
 use crate::accesses::Accesses;
-use crate::blocks::{Block, Blocks};
+use crate::blocks::{Block, BlocksOf};
 use crate::handle::Allocation;
 use crate::index::{self, NodeIndex};
 use crate::reports::{Refusal, StorageReport, StorageReportFull, StorageReportFullRegion};
 use crate::small_float::{float_to_uint, uint_to_float_round_down, uint_to_float_round_up};
 use crate::steps::handle_of;
-use crate::{Allocator, bins, chain};
+use crate::tables::Tables;
+use crate::{AllocatorOf, bins, chain};
 
 /// As `Allocator::is_live`. The count grows by at most 8.
-pub fn is_live_counted<NI: NodeIndex>(
-    allocator: &Allocator<NI>,
-    allocation: Allocation<NI>,
+pub fn is_live_counted<T: Tables>(
+    allocator: &AllocatorOf<T>,
+    allocation: Allocation<T::Index>,
     count: &mut Accesses,
 ) -> bool
     ensures live { IsTrue result ↔ IsLive allocation.name allocator.now }
     ensures accesses { Costs 0 8 count.old count.new }
     ensures accesses_min { allocation.name < allocator.now.max_allocs → count.old + 1 ≤ count.new }
 {
-    allocator.uses(index::number(NI::of_nonmax(allocation.name())), count)
+    allocator.uses(index::number(T::Index::of_nonmax(allocation.name())), count)
 }
 
 /// As `Allocator::allocation_size`. The count grows by at most 8.
-pub fn allocation_size_counted<NI: NodeIndex>(
-    allocator: &Allocator<NI>,
-    allocation: Allocation<NI>,
+pub fn allocation_size_counted<T: Tables>(
+    allocator: &AllocatorOf<T>,
+    allocation: Allocation<T::Index>,
     count: &mut Accesses,
 ) -> u32
     ensures size { result ≡ size_of allocation.name allocator.now }
     ensures accesses { Costs 0 8 count.old count.new }
     ensures accesses_min { IsLive allocation.name allocator.now → count.old + 2 ≤ count.new }
 {
-    let name = index::number::<NI>(NI::of_nonmax(allocation.name()));
+    let name = index::number::<T::Index>(T::Index::of_nonmax(allocation.name()));
     if allocator.uses(name, count) {
         chain::size(&allocator.store.tables, name, count)
     } else {
@@ -50,16 +51,16 @@ pub fn allocation_size_counted<NI: NodeIndex>(
 }
 
 /// As `Allocator::allocation_offset`. The count grows by at most 8.
-pub fn allocation_offset_counted<NI: NodeIndex>(
-    allocator: &Allocator<NI>,
-    allocation: Allocation<NI>,
+pub fn allocation_offset_counted<T: Tables>(
+    allocator: &AllocatorOf<T>,
+    allocation: Allocation<T::Index>,
     count: &mut Accesses,
 ) -> Option<u32>
     ensures offset { result ≡ option_map (λ (r : Range). r.offset) (range_of allocation.name allocator.now) }
     ensures accesses { Costs 0 8 count.old count.new }
     ensures accesses_min { IsLive allocation.name allocator.now → count.old + 2 ≤ count.new }
 {
-    let name = index::number::<NI>(NI::of_nonmax(allocation.name()));
+    let name = index::number::<T::Index>(T::Index::of_nonmax(allocation.name()));
     if allocator.uses(name, count) {
         Some(chain::offset(&allocator.store.tables, name, count))
     } else {
@@ -68,10 +69,10 @@ pub fn allocation_offset_counted<NI: NodeIndex>(
 }
 
 /// As `next` of `Blocks`. The count grows by at most 5.
-pub fn next_block_counted<NI: NodeIndex>(
-    blocks: &mut Blocks<NI>,
+pub fn next_block_counted<T: Tables>(
+    blocks: &mut BlocksOf<'_, T>,
     count: &mut Accesses,
-) -> Option<Block<NI>>
+) -> Option<Block<T::Index>>
     ensures yields { YieldsFirstBy as_placed (λ rest. rest) blocks.old result blocks.new }
     ensures accesses { Costs 0 5 count.old count.new }
     ensures accesses_min { IsSome result → count.old + 4 ≤ count.new }
@@ -96,8 +97,8 @@ pub fn next_block_counted<NI: NodeIndex>(
 }
 
 /// As `Allocator::storage_report`. The count grows by at most 8.
-pub fn storage_report_counted<NI: NodeIndex>(
-    allocator: &Allocator<NI>,
+pub fn storage_report_counted<T: Tables>(
+    allocator: &AllocatorOf<T>,
     count: &mut Accesses,
 ) -> StorageReport
     ensures report { IsReport result allocator.now }
@@ -125,8 +126,8 @@ pub fn storage_report_counted<NI: NodeIndex>(
 }
 
 /// As `Allocator::storage_report_full`. The count grows by at most 512, and 2 for each free block.
-pub fn storage_report_full_counted<NI: NodeIndex>(
-    allocator: &Allocator<NI>,
+pub fn storage_report_full_counted<T: Tables>(
+    allocator: &AllocatorOf<T>,
     count: &mut Accesses,
 ) -> StorageReportFull
     ensures report { IsFullReport result allocator.now }
@@ -143,8 +144,8 @@ pub fn storage_report_full_counted<NI: NodeIndex>(
 }
 
 /// As `Allocator::refusal`. The count grows by at most 8.
-pub fn refusal_counted<NI: NodeIndex>(
-    allocator: &Allocator<NI>,
+pub fn refusal_counted<T: Tables>(
+    allocator: &AllocatorOf<T>,
     size: u32,
     count: &mut Accesses,
 ) -> Option<Refusal>
@@ -157,8 +158,8 @@ pub fn refusal_counted<NI: NodeIndex>(
 }
 
 /// As `Allocator::refusal_aligned`. The count grows by at most 8.
-pub fn refusal_aligned_counted<NI: NodeIndex>(
-    allocator: &Allocator<NI>,
+pub fn refusal_aligned_counted<T: Tables>(
+    allocator: &AllocatorOf<T>,
     size: u32,
     align: u32,
     count: &mut Accesses,

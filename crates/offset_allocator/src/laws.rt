@@ -13,13 +13,12 @@ ghost use Rattle.offset_allocator.specs.declared.reports.Refusal.{Refusal};
 ghost use Rattle.offset_allocator.specs.declared.reports.Refusal.TheVariants.{TooLarge, Fragmented};
 ghost use Rattle.offset_allocator.specs.Compacting.{moves, AreSafe, Compacts};
 
-use crate::Allocator;
+use crate::AllocatorOf;
 use crate::accesses::Accesses;
 pub use crate::counted::{
     allocation_offset_counted, allocation_size_counted, is_live_counted, next_block_counted,
     refusal_aligned_counted, refusal_counted, storage_report_counted, storage_report_full_counted,
 };
-use crate::index::NodeIndex;
 use crate::store::Store;
 use crate::tables::Tables;
 
@@ -28,7 +27,7 @@ use crate::tables::Tables;
 ///
 /// The contract says this of each grant that a request for `n` can have here, whichever unused name its remainder
 /// takes. The count of accesses grows by at most 192.
-pub fn undo<NI: NodeIndex>(allocator: &mut Allocator<NI>, n: u32) -> bool
+pub fn undo<T: Tables>(allocator: &mut AllocatorOf<T>, n: u32) -> bool
     ensures undone { (w u : View) (g : Grant) → Allocates n allocator.old w (Some g) → Frees g.name w u
         → SameSpace allocator.old u }
     ensures same { SameSpace allocator.old allocator.new }
@@ -49,7 +48,7 @@ pub fn undo<NI: NodeIndex>(allocator: &mut Allocator<NI>, n: u32) -> bool
 /// The blocks fill the space, no two free ones side by side, and each bin holds the free blocks of its class.
 ///
 /// Lemmas over the definitions ask for this, such as `taken_back` of `proofs/ViewUndo.antt`.
-pub fn is_well_formed<NI: NodeIndex>(allocator: &Allocator<NI>)
+pub fn is_well_formed<T: Tables>(allocator: &AllocatorOf<T>)
     ensures { IsWellFormed allocator.now }
 {
     allocator.formed();
@@ -59,10 +58,10 @@ pub fn is_well_formed<NI: NodeIndex>(allocator: &Allocator<NI>)
 ///
 /// An allocator has no other fields than these: one set of tables, and numbers. The patterns name each with its type,
 /// so a second list of blocks would not compile.
-pub fn unused_names<NI: NodeIndex>(allocator: &Allocator<NI>) -> u32
+pub fn unused_names<T: Tables>(allocator: &AllocatorOf<T>) -> u32
     ensures { result + length allocator.now.blocks ≡ allocator.now.max_allocs }
 {
-    let Allocator {
+    let AllocatorOf {
         size,
         max_allocs,
         free_total,
@@ -81,13 +80,13 @@ pub fn unused_names<NI: NodeIndex>(allocator: &Allocator<NI>) -> u32
     let _top_mask: &u32 = top_mask;
     let _last: &u32 = last;
     let _spare_count: &u32 = spare_count;
-    let _tables: &Tables<NI> = tables;
+    let _tables: &T = tables;
     let _accesses: &Accesses = accesses;
     allocator.names_left()
 }
 
 /// The units of the used and of the free blocks add up to the size of the space.
-pub fn sizes_add_up<NI: NodeIndex>(allocator: &Allocator<NI>)
+pub fn sizes_add_up<T: Tables>(allocator: &AllocatorOf<T>)
     ensures { tally (λ b. if b.used then b.size else 0) allocator.now.blocks
         + sum (free_sizes allocator.now.blocks) ≡ allocator.now.size }
 {
@@ -95,7 +94,7 @@ pub fn sizes_add_up<NI: NodeIndex>(allocator: &Allocator<NI>)
 }
 
 /// The live ranges lie in the space, and no two of them have a unit in common.
-pub fn ranges_are_disjoint<NI: NodeIndex>(allocator: &Allocator<NI>)
+pub fn ranges_are_disjoint<T: Tables>(allocator: &AllocatorOf<T>)
     ensures within { (x : ℕ) (r : Range) → range_of x allocator.now ≡ Some r → r.offset + r.size ≤ allocator.now.size }
     ensures disjoint { (x y : ℕ) (r s : Range) → x ≢ y
         → range_of x allocator.now ≡ Some r → range_of y allocator.now ≡ Some s → AreDisjoint r s }
@@ -104,7 +103,7 @@ pub fn ranges_are_disjoint<NI: NodeIndex>(allocator: &Allocator<NI>)
 }
 
 /// Between two live ranges, and at each end of the space, there is at most one free block.
-pub fn no_free_neighbours<NI: NodeIndex>(allocator: &Allocator<NI>)
+pub fn no_free_neighbours<T: Tables>(allocator: &AllocatorOf<T>)
     ensures { (before run after : List Block) → allocator.now.blocks ≡ before ++ (run ++ after)
         → AllByRecursion (λ b. b.used ≡ false) run → length run ≤ 1 }
 {
@@ -112,14 +111,14 @@ pub fn no_free_neighbours<NI: NodeIndex>(allocator: &Allocator<NI>)
 }
 
 /// At most `max_allocs - 2` ranges are live.
-pub fn few_are_live<NI: NodeIndex>(allocator: &Allocator<NI>)
+pub fn few_are_live<T: Tables>(allocator: &AllocatorOf<T>)
     ensures { tally (λ b. one b.used) allocator.now.blocks + 2 ≤ allocator.now.max_allocs }
 {
     allocator.formed();
 }
 
 /// Where `max_allocs - 1` blocks exist, every request is refused, and the report is 0 and 0.
-pub fn a_full_space_refuses<NI: NodeIndex>(allocator: &Allocator<NI>)
+pub fn a_full_space_refuses<T: Tables>(allocator: &AllocatorOf<T>)
     ensures refuses { (blocks units : ℕ) → 1 ≤ blocks → allocator.now.max_allocs ≤ length allocator.now.blocks + 1
         → CanGrant blocks units allocator.now → ⊥ }
     ensures reports { allocator.now.max_allocs ≤ length allocator.now.blocks + 1
@@ -148,7 +147,7 @@ pub fn alignments_are_powers()
 
 /// After `compact`, with room for one more block, a request is granted exactly when it is at most the value of the
 /// class of all free units together.
-pub fn a_compacted_space_grants<NI: NodeIndex>(allocator: &Allocator<NI>)
+pub fn a_compacted_space_grants<T: Tables>(allocator: &AllocatorOf<T>)
     ensures { (v : View) (n : ℕ) → 1 ≤ n → Compacts v allocator.now
         → CanGrant 1 n allocator.now ↔ (HasRoomFor 1 allocator.now × (n ≤ value (down (sum (free_sizes v.blocks))))) }
 {
@@ -158,7 +157,7 @@ pub fn a_compacted_space_grants<NI: NodeIndex>(allocator: &Allocator<NI>)
 /// Of the requests that are refused though there is room for the blocks that they need, those are refused as
 /// `Fragmented` that would be granted after `compact`, and those as `TooLarge` that a fresh space of this size and
 /// limit would refuse. A request that is granted has no reason, and none has two.
-pub fn refusals_advise<NI: NodeIndex>(allocator: &Allocator<NI>)
+pub fn refusals_advise<T: Tables>(allocator: &AllocatorOf<T>)
     ensures compacted { (blocks units : ℕ) (v : View) → HasRoomFor blocks allocator.now
         → (CanGrant blocks units allocator.now → ⊥) → Compacts allocator.now v
         → IsWhy blocks units allocator.now Fragmented ↔ CanGrant blocks units v }

@@ -26,10 +26,11 @@ ghost use Rattle.offset_allocator.specs.Listing.{listing};
 mod accesses;
 mod bins;
 mod blocks;
+mod by_field;
+mod by_node;
 mod chain;
 mod compact;
 mod counted;
-mod entry;
 pub mod ext;
 mod fills;
 mod handle;
@@ -46,7 +47,9 @@ mod store;
 mod tables;
 
 pub use accesses::Accesses;
-pub use blocks::{Block, Blocks};
+pub use blocks::{Block, BlocksOf};
+pub use by_field::ByField;
+pub use by_node::ByNode;
 pub use compact::Move;
 pub use handle::Allocation;
 pub use index::{NodeIndex, NodeIndexNonMax};
@@ -56,55 +59,62 @@ use std::alloc::{AllocError, Global};
 use std::fmt;
 use std::marker::Model;
 use store::Store;
-use tables::Tables;
+pub use tables::Tables;
+
+/// The allocator of one space, with one table of nodes: the layout that takes the least time.
+pub type Allocator<NI = u32> = AllocatorOf<ByNode<NI>>;
+
+/// The blocks of such an allocator.
+pub type Blocks<'a, NI = u32> = BlocksOf<'a, ByNode<NI>>;
 
 /// The allocator of one space.
 ///
-/// `NI` is the type of the links between nodes. It limits how many nodes there can be, and changes no result otherwise.
+/// `T` is the layout of its tables; it changes no result. The index type of the layout is the type of the links between
+/// nodes: it limits how many nodes there can be, and changes no result otherwise.
 #[derive(Drop)]
-pub struct Allocator<NI: NodeIndex = u32> {
+pub struct AllocatorOf<T: Tables> {
     size: u32,
     max_allocs: u32,
     // the units of all free blocks
     free_total: u32,
-    store: Store<NI>,
+    store: Store<T>,
 }
 
-impl<NI: NodeIndex> Model for Allocator<NI> {
+impl<T: Tables> Model for AllocatorOf<T> {
     ghost use Rattle.offset_allocator.specs.Soundness.{view_of, IsSound};
     ghost use Rattle.offset_allocator.specs.View.{View};
 
     ghost Value = { View };
 
-    ghost view = { λ a. view_of NI.MAX a.size a.max_allocs a.store.tables a.store.last a.store.accesses };
+    ghost view = { λ a. view_of T.Index.MAX a.size a.max_allocs (T.cells a.store.tables) a.store.last a.store.accesses };
 
-    ghost invariant = { λ a. IsSound NI.MAX a.size a.max_allocs a.store.tables a.store.last a.store.spare_count a.store.top_mask a.free_total };
+    ghost invariant = { λ a. IsSound T.Index.MAX a.size a.max_allocs (T.cells a.store.tables) a.store.last a.store.spare_count a.store.top_mask a.free_total };
 }
 
-impl<NI: NodeIndex> Allocator<NI> {
-    /// A space of `size` units, all free, with the smaller of 131072 and `NI::MAX - 2` as the node limit. A node costs
+impl<T: Tables> AllocatorOf<T> {
+    /// A space of `size` units, all free, with the smaller of 131072 and `T::Index::MAX - 2` as the node limit. A node costs
     /// as much as in `with_max_allocs`.
     ///
     /// An error is returned only where an allocation failed; then nothing is made.
     pub fn new(alloc: Global, size: u32) -> Result<Self, AllocError>
-        ensures { IfOk result (IsFresh size (min 131072 (NI.MAX - 2))) }
+        ensures { IfOk result (IsFresh size (min 131072 (T.Index.MAX - 2))) }
     {
-        Self::with_max_allocs(alloc, size, 131072u32.min(NI::MAX - 2))
+        Self::with_max_allocs(alloc, size, 131072u32.min(T::Index::MAX - 2))
     }
 
     /// A space of `size` units, all free, with `max_allocs` as the node limit: at most `max_allocs - 1` blocks exist at
     /// a time, free ones included. A request is granted only while at most `max_allocs - 2` exist, and makes one of
-    /// them live: so at most `max_allocs - 2` grants are live. The limit is 2 to `NI::MAX - 2`: 65533 for `u16`,
+    /// them live: so at most `max_allocs - 2` grants are live. The limit is 2 to `T::Index::MAX - 2`: 65533 for `u16`,
     /// 4294967293 for `u32`. It reserves 28 bytes a node with `u32`, 18 with `u16`, all of them here; those of a node
     /// are written when its name is used for the first time.
     ///
     /// An error is returned only where an allocation failed; then nothing is made.
     pub fn with_max_allocs(alloc: Global, size: u32, max_allocs: u32) -> Result<Self, AllocError>
         requires limit_min { 2 ≤ max_allocs }
-        requires limit_max { max_allocs + 1 < NI.MAX }
+        requires limit_max { max_allocs + 1 < T.Index.MAX }
         ensures { IfOk result (IsFresh size max_allocs) }
     {
-        let tables = Tables::with_len(alloc, max_allocs)?;
+        let tables = T::with_len(alloc, max_allocs)?;
         let top_mask = bins::start(&tables);
         let mut store = Store {
             tables,
@@ -115,7 +125,7 @@ impl<NI: NodeIndex> Allocator<NI> {
         };
         steps::start(&mut store, size, max_allocs);
         store.accesses = Accesses::new();
-        Ok(Allocator {
+        Ok(AllocatorOf {
             size,
             max_allocs,
             free_total: size,
@@ -193,7 +203,7 @@ impl<NI: NodeIndex> Allocator<NI> {
     /// such a class; then nothing changes. A request of at least one unit is granted exactly when it is at most the
     /// `largest_free_region` that `storage_report` returns just before. One of 0 units takes a node too, and needs a
     /// free block of any size. It makes at most 64 accesses to the tables, and takes no memory.
-    pub fn allocate(&mut self, size: u32) -> Option<Allocation<NI>>
+    pub fn allocate(&mut self, size: u32) -> Option<Allocation<T::Index>>
         // A request of at least one unit is granted exactly when `size` is at most the `largest_free_region` of the
         // report, which is 0 at the node limit. Any request, of 0 units too, is granted exactly when there is room for
         // one more block, and there is a free block in a size class whose blocks all have at least `size` units.
@@ -224,7 +234,7 @@ impl<NI: NodeIndex> Allocator<NI> {
     /// The handle has to be live, which `is_live` reports. Only its name counts, and not its public `offset`: a stale
     /// handle whose name was granted again is live, and frees that range. It makes at most 128 accesses to the tables,
     /// and takes no memory.
-    pub fn free(&mut self, allocation: Allocation<NI>)
+    pub fn free(&mut self, allocation: Allocation<T::Index>)
         requires live { IsLive allocation.name self.old }
         // The name holds no range any more, and all other ranges stay.
         ensures gone { range_of allocation.name self.new ≡ None }
@@ -234,14 +244,14 @@ impl<NI: NodeIndex> Allocator<NI> {
         // The step as a whole: the block coalesces with its free neighbours.
         ensures step { Frees allocation.name self.old self.new }
     {
-        self.release(index::number(NI::of_nonmax(allocation.name())));
+        self.release(index::number(T::Index::of_nonmax(allocation.name())));
     }
 
     /// Whether the handle is live here: its name is the name of a used block. `free` asks for exactly this.
     ///
     /// A handle whose block was freed is live again where a newer grant has its name. It makes at most 8 accesses to
     /// the tables.
-    pub fn is_live(&self, allocation: Allocation<NI>) -> bool
+    pub fn is_live(&self, allocation: Allocation<T::Index>) -> bool
         ensures { IsTrue result ↔ IsLive allocation.name self.now }
     {
         counted::is_live_counted(self, allocation, &mut Accesses::new())
@@ -250,7 +260,7 @@ impl<NI: NodeIndex> Allocator<NI> {
     /// The units of the range that a live handle has: exactly those that `allocate`, `allocate_aligned`, `shrink` or
     /// `grow_in_place` last gave it. It is 0 where the handle is not live, and for a live range of no units too. It
     /// makes at most 8 accesses to the tables.
-    pub fn allocation_size(&self, allocation: Allocation<NI>) -> u32
+    pub fn allocation_size(&self, allocation: Allocation<T::Index>) -> u32
         ensures { result ≡ size_of allocation.name self.now }
     {
         counted::allocation_size_counted(self, allocation, &mut Accesses::new())
@@ -261,7 +271,7 @@ impl<NI: NodeIndex> Allocator<NI> {
     ///
     /// The public `offset` of a handle is a copy: a caller may have changed it, `compact` leaves it as it was, and a
     /// stale handle keeps it. It makes at most 8 accesses to the tables.
-    pub fn allocation_offset(&self, allocation: Allocation<NI>) -> Option<u32>
+    pub fn allocation_offset(&self, allocation: Allocation<T::Index>) -> Option<u32>
         ensures { result ≡ option_map (λ (r : Range). r.offset) (range_of allocation.name self.now) }
     {
         counted::allocation_offset_counted(self, allocation, &mut Accesses::new())
@@ -269,10 +279,10 @@ impl<NI: NodeIndex> Allocator<NI> {
 
     /// The blocks of the space, used and free, from its end to its start. It takes no memory, and each block costs at
     /// most 5 accesses to the tables.
-    pub fn blocks(&self) -> Blocks<'_, NI>
+    pub fn blocks(&self) -> BlocksOf<'_, T>
         ensures { result ≡ listing self.now }
     {
-        Blocks {
+        BlocksOf {
             allocator: self,
             next: Some(self.store.last),
             left: self.block_count(),
@@ -327,7 +337,7 @@ impl<NI: NodeIndex> Allocator<NI> {
     ///
     /// A fresh space of 1,048,576 units grants 64 KiB at a multiple of 256 only 15 times. Where all requests have one
     /// alignment, let a unit be as large as that, and call `allocate`: then it grants all 16.
-    pub fn allocate_aligned(&mut self, size: u32, align: u32) -> Option<Allocation<NI>>
+    pub fn allocate_aligned(&mut self, size: u32, align: u32) -> Option<Allocation<T::Index>>
         requires power { IsAlignment align }
         // The units needed are `size + align - 1`; the blocks needed are 1 with `align` 1, and 2 above. If at least one
         // unit is needed, the request is granted exactly when there is room for the blocks needed and the units needed
@@ -402,7 +412,7 @@ impl<NI: NodeIndex> Allocator<NI> {
 }
 
 /// The text is that of the short report.
-impl<NI: NodeIndex> fmt::Debug for Allocator<NI> {
+impl<T: Tables> fmt::Debug for AllocatorOf<T> {
     fn fmt<W: fmt::Write>(&self, f: &mut fmt::Formatter<W>) -> fmt::Result {
         fmt::Debug::fmt(&self.storage_report(), f)
     }

@@ -11,7 +11,6 @@ ghost use Rattle.offset_allocator.specs.Store.{IsPlaceIn, AreBinned, bins_of};
 ghost use Rattle.offset_allocator.specs.Bins.{IsUnlisted};
 
 use crate::accesses::Accesses;
-use crate::index::NodeIndex;
 use crate::small_float::uint_to_float_round_down;
 use crate::store::Store;
 use crate::tables::Tables;
@@ -19,11 +18,11 @@ use crate::{bins, chain};
 
 // The name of a free block directly before a block, if there is one.
 #[inline(always)]
-fn free_before<NI: NodeIndex>(tables: &Tables<NI>, name: u32, count: &mut Accesses) -> Option<u32>
-    requires place { (m last spare : ℕ) × (p : Place) × HasPlace tables.now.room m last spare name p }
-    ensures free { MatchOption result ((m last spare : ℕ) (p : Place) → HasPlace tables.now.room m last spare name p
-        → free_end p.before ≡ []) (λ x. (Some x ≡ (node tables.now.room name).before)
-        × ((node tables.now.room x).used ≡ false)) }
+fn free_before<T: Tables>(tables: &T, name: u32, count: &mut Accesses) -> Option<u32>
+    requires place { (m last spare : ℕ) × (p : Place) × HasPlace (T.cells tables.now).room m last spare name p }
+    ensures free { MatchOption result ((m last spare : ℕ) (p : Place) → HasPlace (T.cells tables.now).room m last spare name p
+        → free_end p.before ≡ []) (λ x. (Some x ≡ (node (T.cells tables.now).room name).before)
+        × ((node (T.cells tables.now).room x).used ≡ false)) }
     ensures accesses { Costs 1 2 count.old count.new }
 {
     if let Some(previous) = chain::before(tables, name, count) {
@@ -36,13 +35,9 @@ fn free_before<NI: NodeIndex>(tables: &Tables<NI>, name: u32, count: &mut Access
 
 /// The name of a free block directly after a block, if there is one.
 #[inline(always)]
-pub(crate) fn free_after<NI: NodeIndex>(
-    tables: &Tables<NI>,
-    name: u32,
-    count: &mut Accesses,
-) -> Option<u32>
-    requires place { (m last spare : ℕ) × (p : Place) × HasPlace tables.now.room m last spare name p }
-    ensures free { IsFreeAfter tables.now.room name result }
+pub(crate) fn free_after<T: Tables>(tables: &T, name: u32, count: &mut Accesses) -> Option<u32>
+    requires place { (m last spare : ℕ) × (p : Place) × HasPlace (T.cells tables.now).room m last spare name p }
+    ensures free { IsFreeAfter (T.cells tables.now).room name result }
     ensures accesses { Costs 1 2 count.old count.new }
 {
     if let Some(following) = chain::after(tables, name, count) {
@@ -55,15 +50,15 @@ pub(crate) fn free_after<NI: NodeIndex>(
 
 /// The units of the free block `next`, if any, directly after a block.
 #[inline(always)]
-pub(crate) fn units_after<NI: NodeIndex>(
-    tables: &Tables<NI>,
+pub(crate) fn units_after<T: Tables>(
+    tables: &T,
     name: u32,
     next: Option<u32>,
     count: &mut Accesses,
 ) -> u32
-    requires place { (m last spare : ℕ) × (p : Place) × HasPlace tables.now.room m last spare name p }
-    requires next { IsFreeAfter tables.now.room name next }
-    ensures units { (m last spare : ℕ) (p : Place) → HasPlace tables.now.room m last spare name p → result
+    requires place { (m last spare : ℕ) × (p : Place) × HasPlace (T.cells tables.now).room m last spare name p }
+    requires next { IsFreeAfter (T.cells tables.now).room name next }
+    ensures units { (m last spare : ℕ) (p : Place) → HasPlace (T.cells tables.now).room m last spare name p → result
         ≡ units (free_start p.after) }
     ensures accesses { Costs 0 1 count.old count.new }
 {
@@ -76,18 +71,18 @@ pub(crate) fn units_after<NI: NodeIndex>(
 // If a free block is directly before a block of this size, it leaves its bin and is coalesced into the block. The size
 // of the whole is returned.
 #[inline(always)]
-fn with_before<NI: NodeIndex>(store: &mut Store<NI>, name: u32, size: u32) -> u32
-    requires place { (m : ℕ) × (p : Place) × IsPlaceIn store.old m name p
-        × AreInBins (p.before ++ p.after) (bins_of NI.MAX store.old) }
-    requires held { AreBinned NI.MAX store.old }
-    requires size { size ≡ (node store.old.tables.room name).size }
-    ensures place { (m : ℕ) (p : Place) → IsPlaceIn store.old m name p
-        → IsPlaceIn store.new m name (coalesced_before p) }
-    ensures held { AreBinned NI.MAX store.new }
-    ensures lists { (m : ℕ) (p : Place) → IsPlaceIn store.old m name p → bins_of NI.MAX store.new
-        ≡ remove_all (free_end p.before) (bins_of NI.MAX store.old) }
-    ensures nodes { length store.new.tables.room.nodes ≡ length store.old.tables.room.nodes }
-    ensures size { result ≡ (node store.new.tables.room name).size }
+fn with_before<T: Tables>(store: &mut Store<T>, name: u32, size: u32) -> u32
+    requires place { (m : ℕ) × (p : Place) × IsPlaceIn T.cells store.old m name p
+        × AreInBins (p.before ++ p.after) (bins_of T.cells T.Index.MAX store.old) }
+    requires held { AreBinned T.cells T.Index.MAX store.old }
+    requires size { size ≡ (node (T.cells store.old.tables).room name).size }
+    ensures place { (m : ℕ) (p : Place) → IsPlaceIn T.cells store.old m name p
+        → IsPlaceIn T.cells store.new m name (coalesced_before p) }
+    ensures held { AreBinned T.cells T.Index.MAX store.new }
+    ensures lists { (m : ℕ) (p : Place) → IsPlaceIn T.cells store.old m name p → bins_of T.cells T.Index.MAX store.new
+        ≡ remove_all (free_end p.before) (bins_of T.cells T.Index.MAX store.old) }
+    ensures nodes { length (T.cells store.new.tables).room.nodes ≡ length (T.cells store.old.tables).room.nodes }
+    ensures size { result ≡ (node (T.cells store.new.tables).room name).size }
     ensures accesses { Costs 1 15 store.old.accesses store.new.accesses }
 {
     if let Some(previous) = free_before(&store.tables, name, &mut store.accesses) {
@@ -103,19 +98,19 @@ fn with_before<NI: NodeIndex>(store: &mut Store<NI>, name: u32, size: u32) -> u3
 // If a free block, of the name `next`, is directly after a block of this size, it leaves its bin and is coalesced into
 // the block. The size of the whole is returned.
 #[inline(always)]
-fn with_after<NI: NodeIndex>(store: &mut Store<NI>, name: u32, size: u32, next: Option<u32>) -> u32
-    requires place { (m : ℕ) × (p : Place) × IsPlaceIn store.old m name p
-        × AreInBins (p.before ++ p.after) (bins_of NI.MAX store.old) }
-    requires held { AreBinned NI.MAX store.old }
-    requires size { size ≡ (node store.old.tables.room name).size }
-    requires next { IsFreeAfter store.old.tables.room name next }
-    ensures place { (m : ℕ) (p : Place) → IsPlaceIn store.old m name p
-        → IsPlaceIn store.new m name (coalesced_after p) }
-    ensures held { AreBinned NI.MAX store.new }
-    ensures lists { (m : ℕ) (p : Place) → IsPlaceIn store.old m name p → bins_of NI.MAX store.new
-        ≡ remove_all (free_start p.after) (bins_of NI.MAX store.old) }
+fn with_after<T: Tables>(store: &mut Store<T>, name: u32, size: u32, next: Option<u32>) -> u32
+    requires place { (m : ℕ) × (p : Place) × IsPlaceIn T.cells store.old m name p
+        × AreInBins (p.before ++ p.after) (bins_of T.cells T.Index.MAX store.old) }
+    requires held { AreBinned T.cells T.Index.MAX store.old }
+    requires size { size ≡ (node (T.cells store.old.tables).room name).size }
+    requires next { IsFreeAfter (T.cells store.old.tables).room name next }
+    ensures place { (m : ℕ) (p : Place) → IsPlaceIn T.cells store.old m name p
+        → IsPlaceIn T.cells store.new m name (coalesced_after p) }
+    ensures held { AreBinned T.cells T.Index.MAX store.new }
+    ensures lists { (m : ℕ) (p : Place) → IsPlaceIn T.cells store.old m name p → bins_of T.cells T.Index.MAX store.new
+        ≡ remove_all (free_start p.after) (bins_of T.cells T.Index.MAX store.old) }
     ensures spares { store.old.spare_count ≤ store.new.spare_count }
-    ensures size { result ≡ (node store.new.tables.room name).size }
+    ensures size { result ≡ (node (T.cells store.new.tables).room name).size }
     ensures accesses { Costs 0 11 store.old.accesses store.new.accesses }
     ensures accesses_min { IsSome next → store.old.accesses + 8 ≤ store.new.accesses }
 {
@@ -134,18 +129,18 @@ fn with_after<NI: NodeIndex>(store: &mut Store<NI>, name: u32, size: u32, next: 
 /// Coalesces a block of this size, which is in no bin, with the free blocks beside it, and pushes the whole onto its
 /// bin. If the neighbour that is coalesced last heads this bin, the block takes its place there.
 #[inline(always)]
-pub(crate) fn coalesce<NI: NodeIndex>(store: &mut Store<NI>, name: u32, size: u32)
-    requires place { (m : ℕ) × (p : Place) × IsPlaceIn store.old m name p
-        × AreInBins (p.before ++ p.after) (bins_of NI.MAX store.old) }
-    requires held { AreBinned NI.MAX store.old }
-    requires idle { (node store.old.tables.room name).used ≡ false }
-    requires size { size ≡ (node store.old.tables.room name).size }
-    ensures place { (m : ℕ) (p : Place) → IsPlaceIn store.old m name p
-        → IsPlaceIn store.new m name (coalesced_after (coalesced_before p)) }
-    ensures held { AreBinned NI.MAX store.new }
-    ensures lists { (m : ℕ) (p : Place) → IsPlaceIn store.old m name p → bins_of NI.MAX store.new
-        ≡ push (down (node store.new.tables.room name).size) name
-        (remove_all (free_start p.after) (remove_all (free_end p.before) (bins_of NI.MAX store.old))) }
+pub(crate) fn coalesce<T: Tables>(store: &mut Store<T>, name: u32, size: u32)
+    requires place { (m : ℕ) × (p : Place) × IsPlaceIn T.cells store.old m name p
+        × AreInBins (p.before ++ p.after) (bins_of T.cells T.Index.MAX store.old) }
+    requires held { AreBinned T.cells T.Index.MAX store.old }
+    requires idle { (node (T.cells store.old.tables).room name).used ≡ false }
+    requires size { size ≡ (node (T.cells store.old.tables).room name).size }
+    ensures place { (m : ℕ) (p : Place) → IsPlaceIn T.cells store.old m name p
+        → IsPlaceIn T.cells store.new m name (coalesced_after (coalesced_before p)) }
+    ensures held { AreBinned T.cells T.Index.MAX store.new }
+    ensures lists { (m : ℕ) (p : Place) → IsPlaceIn T.cells store.old m name p → bins_of T.cells T.Index.MAX store.new
+        ≡ push (down (node (T.cells store.new.tables).room name).size) name
+        (remove_all (free_start p.after) (remove_all (free_end p.before) (bins_of T.cells T.Index.MAX store.old))) }
     ensures accesses { Costs 7 34 store.old.accesses store.new.accesses }
 {
     // `gone` is the neighbour that is coalesced last: it is in its bin until the exchange
@@ -174,21 +169,21 @@ pub(crate) fn coalesce<NI: NodeIndex>(store: &mut Store<NI>, name: u32, size: u3
 // Splits the first units off a block: they become a free block in its bin, under the name that is returned. Where there
 // are none, nothing changes, and the name returned is that of the block.
 #[inline(always)]
-fn split_padding<NI: NodeIndex>(store: &mut Store<NI>, name: u32, units: u32) -> u32
-    requires place { (m : ℕ) × (p : Place) × IsPlaceIn store.old m name p
-        × AreUnlisted (p.before ++ p.block ∷ p.after) (bins_of NI.MAX store.old) }
-    requires held { AreBinned NI.MAX store.old }
+fn split_padding<T: Tables>(store: &mut Store<T>, name: u32, units: u32) -> u32
+    requires place { (m : ℕ) × (p : Place) × IsPlaceIn T.cells store.old m name p
+        × AreUnlisted (p.before ++ p.block ∷ p.after) (bins_of T.cells T.Index.MAX store.old) }
+    requires held { AreBinned T.cells T.Index.MAX store.old }
     requires spare { 0 < store.old.spare_count }
-    requires within { units ≤ (node store.old.tables.room name).size }
-    ensures place { (m : ℕ) (p : Place) → IsPlaceIn store.old m name p
-        → IsPlaceIn store.new m name (record {
+    requires within { units ≤ (node (T.cells store.old.tables).room name).size }
+    ensures place { (m : ℕ) (p : Place) → IsPlaceIn T.cells store.old m name p
+        → IsPlaceIn T.cells store.new m name (record {
           before = p.before ++ free_part result units;
           block = record p.block { size = p.block.size - units };
           after = p.after;
         }) }
-    ensures held { AreBinned NI.MAX store.new }
-    ensures lists { bins_of NI.MAX store.new ≡ push_all (free_part result units) (bins_of NI.MAX store.old) }
-    ensures nodes { length store.new.tables.room.nodes ≡ length store.old.tables.room.nodes }
+    ensures held { AreBinned T.cells T.Index.MAX store.new }
+    ensures lists { bins_of T.cells T.Index.MAX store.new ≡ push_all (free_part result units) (bins_of T.cells T.Index.MAX store.old) }
+    ensures nodes { length (T.cells store.new.tables).room.nodes ≡ length (T.cells store.old.tables).room.nodes }
     ensures spares { store.old.spare_count ≤ store.new.spare_count + 1 }
     ensures spares_kept { units ≡ 0 → store.old.spare_count ≤ store.new.spare_count }
     ensures accesses { Costs 0 18 store.old.accesses store.new.accesses }
@@ -204,27 +199,27 @@ fn split_padding<NI: NodeIndex>(store: &mut Store<NI>, name: u32, units: u32) ->
 // Splits a block, of this offset, after `size` units. The units that are left become a free block in its bin, under the
 // name that is returned. Where none are left, nothing changes, and the name returned is that of the block.
 #[inline(always)]
-fn split_remainder<NI: NodeIndex>(
-    store: &mut Store<NI>,
+fn split_remainder<T: Tables>(
+    store: &mut Store<T>,
     name: u32,
     offset: u32,
     size: u32,
     left: u32,
 ) -> u32
-    requires place { (m : ℕ) × (p : Place) × IsPlaceIn store.old m name p
-        × AreUnlisted (p.before ++ p.block ∷ p.after) (bins_of NI.MAX store.old) }
-    requires held { AreBinned NI.MAX store.old }
+    requires place { (m : ℕ) × (p : Place) × IsPlaceIn T.cells store.old m name p
+        × AreUnlisted (p.before ++ p.block ∷ p.after) (bins_of T.cells T.Index.MAX store.old) }
+    requires held { AreBinned T.cells T.Index.MAX store.old }
     requires spare { 0 < store.old.spare_count }
-    requires offset { offset ≡ (node store.old.tables.room name).offset }
-    requires whole { size + left ≡ (node store.old.tables.room name).size }
-    ensures place { (m : ℕ) (p : Place) → IsPlaceIn store.old m name p
-        → IsPlaceIn store.new m name (record p {
+    requires offset { offset ≡ (node (T.cells store.old.tables).room name).offset }
+    requires whole { size + left ≡ (node (T.cells store.old.tables).room name).size }
+    ensures place { (m : ℕ) (p : Place) → IsPlaceIn T.cells store.old m name p
+        → IsPlaceIn T.cells store.new m name (record p {
           block = record p.block { size = size };
           after = free_part result left ++ p.after;
         }) }
-    ensures held { AreBinned NI.MAX store.new }
-    ensures lists { bins_of NI.MAX store.new ≡ push_all (free_part result left) (bins_of NI.MAX store.old) }
-    ensures nodes { length store.new.tables.room.nodes ≡ length store.old.tables.room.nodes }
+    ensures held { AreBinned T.cells T.Index.MAX store.new }
+    ensures lists { bins_of T.cells T.Index.MAX store.new ≡ push_all (free_part result left) (bins_of T.cells T.Index.MAX store.old) }
+    ensures nodes { length (T.cells store.new.tables).room.nodes ≡ length (T.cells store.old.tables).room.nodes }
     ensures accesses { Costs 0 16 store.old.accesses store.new.accesses }
     ensures accesses_min { 0 < left → store.old.accesses + 13 ≤ store.new.accesses }
 {
@@ -239,33 +234,33 @@ fn split_remainder<NI: NodeIndex>(
 /// Splits a block into `padding` free units, `size` used units under its name, from `start` on, and a free remainder of
 /// the units that are left. The names of the padding and of the remainder are returned, where these have units.
 #[inline(always)]
-pub(crate) fn divide<NI: NodeIndex>(
-    store: &mut Store<NI>,
+pub(crate) fn divide<T: Tables>(
+    store: &mut Store<T>,
     name: u32,
     start: u32,
     padding: u32,
     size: u32,
     left: u32,
 ) -> (u32, u32)
-    requires place { (m : ℕ) × (p : Place) × IsPlaceIn store.old m name p
-        × AreUnlisted (p.before ++ p.block ∷ p.after) (bins_of NI.MAX store.old) }
-    requires held { AreBinned NI.MAX store.old }
-    requires unlisted { IsUnlisted name (bins_of NI.MAX store.old) }
+    requires place { (m : ℕ) × (p : Place) × IsPlaceIn T.cells store.old m name p
+        × AreUnlisted (p.before ++ p.block ∷ p.after) (bins_of T.cells T.Index.MAX store.old) }
+    requires held { AreBinned T.cells T.Index.MAX store.old }
+    requires unlisted { IsUnlisted name (bins_of T.cells T.Index.MAX store.old) }
     requires spare { 0 < store.old.spare_count }
     requires two { 0 < padding → 1 < store.old.spare_count }
-    requires start { start ≡ (node store.old.tables.room name).offset + padding }
-    requires whole { padding + size + left ≡ (node store.old.tables.room name).size }
-    ensures place { (m : ℕ) (p : Place) → IsPlaceIn store.old m name p
-        → IsPlaceIn store.new m name (record {
+    requires start { start ≡ (node (T.cells store.old.tables).room name).offset + padding }
+    requires whole { padding + size + left ≡ (node (T.cells store.old.tables).room name).size }
+    ensures place { (m : ℕ) (p : Place) → IsPlaceIn T.cells store.old m name p
+        → IsPlaceIn T.cells store.new m name (record {
           before = p.before ++ free_part result.0 padding;
           block = used_block p.block.name size;
           after = free_part result.1 left ++ p.after;
         }) }
-    ensures held { AreBinned NI.MAX store.new }
-    ensures lists { bins_of NI.MAX store.new
+    ensures held { AreBinned T.cells T.Index.MAX store.new }
+    ensures lists { bins_of T.cells T.Index.MAX store.new
         ≡ push_all (free_part result.0 padding ++ used_block name size ∷ free_part result.1 left)
-        (bins_of NI.MAX store.old) }
-    ensures nodes { length store.new.tables.room.nodes ≡ length store.old.tables.room.nodes }
+        (bins_of T.cells T.Index.MAX store.old) }
+    ensures nodes { length (T.cells store.new.tables).room.nodes ≡ length (T.cells store.old.tables).room.nodes }
     ensures accesses { Costs 1 35 store.old.accesses store.new.accesses }
 {
     let front = split_padding(store, name, padding);
@@ -277,30 +272,30 @@ pub(crate) fn divide<NI: NodeIndex>(
 /// Makes a block of `old_size` units one of `size` units, from the same offset on. What remains of it and of the free
 /// block directly after it, whose name is `next`, becomes one free block in its bin, under the name that is returned.
 #[inline(always)]
-pub(crate) fn resize<NI: NodeIndex>(
-    store: &mut Store<NI>,
+pub(crate) fn resize<T: Tables>(
+    store: &mut Store<T>,
     name: u32,
     old_size: u32,
     next: Option<u32>,
     size: u32,
 ) -> u32
-    requires place { (m : ℕ) × (p : Place) × IsPlaceIn store.old m name p
-        × AreInBins (p.before ++ p.after) (bins_of NI.MAX store.old)
+    requires place { (m : ℕ) × (p : Place) × IsPlaceIn T.cells store.old m name p
+        × AreInBins (p.before ++ p.after) (bins_of T.cells T.Index.MAX store.old)
         × (size ≤ p.block.size + units (free_start p.after)) }
-    requires held { AreBinned NI.MAX store.old }
+    requires held { AreBinned T.cells T.Index.MAX store.old }
     requires spare { 0 < store.old.spare_count }
-    requires old_size { old_size ≡ (node store.old.tables.room name).size }
-    requires next { IsFreeAfter store.old.tables.room name next }
-    ensures place { (m : ℕ) (p : Place) → IsPlaceIn store.old m name p
-        → IsPlaceIn store.new m name (record {
+    requires old_size { old_size ≡ (node (T.cells store.old.tables).room name).size }
+    requires next { IsFreeAfter (T.cells store.old.tables).room name next }
+    ensures place { (m : ℕ) (p : Place) → IsPlaceIn T.cells store.old m name p
+        → IsPlaceIn T.cells store.new m name (record {
           before = p.before;
           block = record p.block { size = size };
           after = free_part result (p.block.size + units (free_start p.after) - size) ++ without_start p.after;
         }) }
-    ensures held { AreBinned NI.MAX store.new }
-    ensures lists { (m : ℕ) (p : Place) → IsPlaceIn store.old m name p → bins_of NI.MAX store.new
+    ensures held { AreBinned T.cells T.Index.MAX store.new }
+    ensures lists { (m : ℕ) (p : Place) → IsPlaceIn T.cells store.old m name p → bins_of T.cells T.Index.MAX store.new
         ≡ push_all (free_part result (p.block.size + units (free_start p.after) - size))
-        (remove_all (free_start p.after) (bins_of NI.MAX store.old)) }
+        (remove_all (free_start p.after) (bins_of T.cells T.Index.MAX store.old)) }
     ensures accesses { Costs 1 28 store.old.accesses store.new.accesses }
     ensures accesses_less { size < old_size → store.old.accesses + 14 ≤ store.new.accesses }
     ensures accesses_more { IsSome next → store.old.accesses + 9 ≤ store.new.accesses }

@@ -7,9 +7,10 @@ ghost use Rattle.offset_allocator.specs.Resizing.{CanShrink, CanGrow, HasUnits, 
 
 use crate::handle::Allocation;
 use crate::index::{self, NodeIndex};
-use crate::{Allocator, chain, neighbours};
+use crate::tables::Tables;
+use crate::{AllocatorOf, chain, neighbours};
 
-impl<NI: NodeIndex> Allocator<NI> {
+impl<T: Tables> AllocatorOf<T> {
     /// Frees the units of a live range after its first `size`. They are free at once, in one block with the free block
     /// directly after the range, and that block is the newest of its bin. The handle stays live, with its offset.
     ///
@@ -17,7 +18,7 @@ impl<NI: NodeIndex> Allocator<NI> {
     /// free block is directly after the range; then nothing changes. With exactly the units of the range it is `true`,
     /// and nothing changes either. The handle has to be live, and only its name counts, as in `free`. It makes at most
     /// 128 accesses to the tables, and takes no memory.
-    pub fn shrink(&mut self, allocation: Allocation<NI>, size: u32) -> bool
+    pub fn shrink(&mut self, allocation: Allocation<T::Index>, size: u32) -> bool
         requires live { IsLive allocation.name self.old }
         // It is done exactly when the range has at least `size` units, and, if it has more, a free block is directly
         // after it or there is room for one more block.
@@ -34,7 +35,7 @@ impl<NI: NodeIndex> Allocator<NI> {
         // The step as a whole: what becomes of the range and of the free block after it.
         ensures step { Shrinks allocation.name size self.old self.new result }
     {
-        let name = index::number::<NI>(NI::of_nonmax(allocation.name()));
+        let name = index::number::<T::Index>(T::Index::of_nonmax(allocation.name()));
         let old_size = chain::size(&self.store.tables, name, &mut self.store.accesses);
         if size > old_size {
             return false;
@@ -49,7 +50,7 @@ impl<NI: NodeIndex> Allocator<NI> {
     /// range has the units that it lacks; then nothing changes. With exactly the units of the range it is `true`, and
     /// nothing changes either. The handle has to be live, and only its name counts, as in `free`. It makes at most 128
     /// accesses to the tables, and takes no memory.
-    pub fn grow_in_place(&mut self, allocation: Allocation<NI>, size: u32) -> bool
+    pub fn grow_in_place(&mut self, allocation: Allocation<T::Index>, size: u32) -> bool
         requires live { IsLive allocation.name self.old }
         // It is done exactly when the range has at most `size` units, and at least `size` with those of the free block
         // directly after it.
@@ -66,7 +67,7 @@ impl<NI: NodeIndex> Allocator<NI> {
         // The step as a whole: what becomes of the range and of the free block after it.
         ensures step { Grows allocation.name size self.old self.new result }
     {
-        let name = index::number::<NI>(NI::of_nonmax(allocation.name()));
+        let name = index::number::<T::Index>(T::Index::of_nonmax(allocation.name()));
         let old_size = chain::size(&self.store.tables, name, &mut self.store.accesses);
         if size < old_size {
             return false;

@@ -16,7 +16,8 @@ use crate::handle::Allocation;
 use crate::index::NodeIndex;
 use crate::small_float::{uint_to_float_round_down, uint_to_float_round_up};
 use crate::store::Store;
-use crate::{Allocator, bins, chain, neighbours};
+use crate::tables::Tables;
+use crate::{AllocatorOf, bins, chain, neighbours};
 
 /// The handle of a name.
 pub(crate) fn handle_of<NI: NodeIndex>(offset: u32, name: u32) -> Allocation<NI>
@@ -27,13 +28,13 @@ pub(crate) fn handle_of<NI: NodeIndex>(offset: u32, name: u32) -> Allocation<NI>
 }
 
 /// Makes the whole space one free block, alone in its bin, where all bins are empty and only node 0 is made.
-pub(crate) fn start<NI: NodeIndex>(store: &mut Store<NI>, size: u32, max_allocs: u32)
-    requires bare { IsBare max_allocs store.old.tables.room }
-    requires held { AreBinned NI.MAX store.old }
-    requires empty { bins_of NI.MAX store.old ≡ replicate 256 [] }
+pub(crate) fn start<T: Tables>(store: &mut Store<T>, size: u32, max_allocs: u32)
+    requires bare { IsBare max_allocs (T.cells store.old.tables).room }
+    requires held { AreBinned T.cells T.Index.MAX store.old }
+    requires empty { bins_of T.cells T.Index.MAX store.old ≡ replicate 256 [] }
     requires limit_min { 2 ≤ max_allocs }
-    requires limit_max { max_allocs + 1 < NI.MAX }
-    ensures started { IsStarted NI.MAX size max_allocs store.new.tables store.new.top_mask }
+    requires limit_max { max_allocs + 1 < T.Index.MAX }
+    ensures started { IsStarted T.Index.MAX size max_allocs (T.cells store.new.tables) store.new.top_mask }
     ensures last { store.new.last ≡ store.old.last }
     ensures spares { store.new.spare_count ≡ store.old.spare_count }
     ensures accesses { Costs 9 10 store.old.accesses store.new.accesses }
@@ -42,7 +43,7 @@ pub(crate) fn start<NI: NodeIndex>(store: &mut Store<NI>, size: u32, max_allocs:
     bins::push(store, 0, uint_to_float_round_down(size));
 }
 
-impl<NI: NodeIndex> Allocator<NI> {
+impl<T: Tables> AllocatorOf<T> {
     /// The name of a live range, or `None` where nothing is live: then the space is as after a reset. Since no two
     /// neighbours are free, the last used block is the last block or the one before it.
     pub(crate) fn last_used(&mut self) -> Option<u32>
@@ -101,7 +102,7 @@ impl<NI: NodeIndex> Allocator<NI> {
 
     /// Grants `size` units of the newest block of a class, beginning at the first multiple of `align` in that block.
     #[inline(always)]
-    pub(crate) fn grant(&mut self, class: u32, size: u32, align: u32) -> Allocation<NI>
+    pub(crate) fn grant(&mut self, class: u32, size: u32, align: u32) -> Allocation<T::Index>
         requires some { 1 ≤ align }
         requires fits { units_needed size align ≤ 4294967295 }
         requires enough { HasRoomFor (blocks_needed align) self.old }
@@ -135,7 +136,7 @@ impl<NI: NodeIndex> Allocator<NI> {
     /// A request for units from a multiple of `align` on. With `align` 1, which is a constant where this is inlined
     /// into `allocate`, there is no padding. It may add `align.min(2)` blocks: the remainder, and above 1 the padding.
     #[inline(always)]
-    pub(crate) fn serve(&mut self, size: u32, align: u32) -> Option<Allocation<NI>>
+    pub(crate) fn serve(&mut self, size: u32, align: u32) -> Option<Allocation<T::Index>>
         requires { 1 ≤ align }
         // the public clauses follow from the step and from this
         ensures formed { IsWellFormed self.old }

@@ -10,8 +10,8 @@ use crate::store::Store;
 use crate::tables::Tables;
 
 /// The smallest class at or above `class` whose bin is not empty.
-pub(crate) fn find_at_or_above<NI: NodeIndex>(
-    tables: &Tables<NI>,
+pub(crate) fn find_at_or_above<T: Tables>(
+    tables: &T,
     top_mask: u32,
     class: u32,
     count: &mut Accesses,
@@ -30,11 +30,7 @@ pub(crate) fn find_at_or_above<NI: NodeIndex>(
 }
 
 /// The largest class whose bin is not empty.
-pub(crate) fn largest<NI: NodeIndex>(
-    tables: &Tables<NI>,
-    top_mask: u32,
-    count: &mut Accesses,
-) -> Option<u32> {
+pub(crate) fn largest<T: Tables>(tables: &T, top_mask: u32, count: &mut Accesses) -> Option<u32> {
     if top_mask == 0 {
         return None;
     }
@@ -43,10 +39,10 @@ pub(crate) fn largest<NI: NodeIndex>(
 }
 
 /// The number of the names of a class.
-pub(crate) fn length_of<NI: NodeIndex>(tables: &Tables<NI>, class: u32, count: &mut Accesses) -> u32 {
+pub(crate) fn length_of<T: Tables>(tables: &T, class: u32, count: &mut Accesses) -> u32 {
     let mut names = 0;
     let mut name = tables.head(class, count);
-    while name != NI::MAX {
+    while name != T::Index::MAX {
         names += 1;
         name = number(tables.older(name, count));
     }
@@ -55,7 +51,7 @@ pub(crate) fn length_of<NI: NodeIndex>(tables: &Tables<NI>, class: u32, count: &
 
 /// Pushes a name onto a bin.
 #[inline(always)]
-pub(crate) fn push<NI: NodeIndex>(store: &mut Store<NI>, name: u32, class: u32) {
+pub(crate) fn push<T: Tables>(store: &mut Store<T>, name: u32, class: u32) {
     let Store {
         tables,
         top_mask,
@@ -66,8 +62,8 @@ pub(crate) fn push<NI: NodeIndex>(store: &mut Store<NI>, name: u32, class: u32) 
     let link = link_to(name);
     let newest = tables.head(class, count);
     tables.set_head(class, name, count);
-    tables.set_links(name, no_link(), NI::from_u32(newest), count);
-    if newest == NI::MAX {
+    tables.set_links(name, no_link(), T::Index::from_u32(newest), count);
+    if newest == T::Index::MAX {
         let word = class / 64;
         let mask = tables.mask(word, count);
         tables.set_mask(word, mask | 1 << (class % 64), count);
@@ -78,7 +74,7 @@ pub(crate) fn push<NI: NodeIndex>(store: &mut Store<NI>, name: u32, class: u32) 
 }
 
 // Clears the bit of a class, whose bin is empty now.
-fn clear_bit<NI: NodeIndex>(store: &mut Store<NI>, class: u32) {
+fn clear_bit<T: Tables>(store: &mut Store<T>, class: u32) {
     let Store {
         tables,
         top_mask,
@@ -94,15 +90,15 @@ fn clear_bit<NI: NodeIndex>(store: &mut Store<NI>, class: u32) {
 }
 
 // Links the node that a link names, if any, to a next newer one.
-fn link_newer<NI: NodeIndex>(tables: &mut Tables<NI>, at: NI, to: NI, count: &mut Accesses) {
-    if number(at) != NI::MAX {
+fn link_newer<T: Tables>(tables: &mut T, at: T::Index, to: T::Index, count: &mut Accesses) {
+    if number(at) != T::Index::MAX {
         tables.set_newer(number(at), to, count);
     }
 }
 
 // Removes the newest name of a class from its bin. `after` is the link to the next older one.
 #[inline(always)]
-fn behead<NI: NodeIndex>(store: &mut Store<NI>, class: u32, after: NI) {
+fn behead<T: Tables>(store: &mut Store<T>, class: u32, after: T::Index) {
     let Store {
         tables,
         accesses: count,
@@ -111,7 +107,7 @@ fn behead<NI: NodeIndex>(store: &mut Store<NI>, class: u32, after: NI) {
     tables.shape();
     let next = number(after);
     tables.set_head(class, next, count);
-    if next == NI::MAX {
+    if next == T::Index::MAX {
         clear_bit(store, class);
     } else {
         tables.set_newer(next, no_link(), count);
@@ -120,7 +116,7 @@ fn behead<NI: NodeIndex>(store: &mut Store<NI>, class: u32, after: NI) {
 
 // Removes a name from the bin of this size. `before` is the link to the next newer one.
 #[inline(always)]
-fn leave<NI: NodeIndex>(store: &mut Store<NI>, name: u32, before: NI, size: u32) {
+fn leave<T: Tables>(store: &mut Store<T>, name: u32, before: T::Index, size: u32) {
     let Store {
         tables,
         accesses: count,
@@ -128,7 +124,7 @@ fn leave<NI: NodeIndex>(store: &mut Store<NI>, name: u32, before: NI, size: u32)
     } = store;
     tables.shape();
     let after = tables.older(name, count);
-    if number(before) == NI::MAX {
+    if number(before) == T::Index::MAX {
         // only the newest name has to find its class
         behead(store, uint_to_float_round_down(size), after);
     } else {
@@ -139,7 +135,7 @@ fn leave<NI: NodeIndex>(store: &mut Store<NI>, name: u32, before: NI, size: u32)
 
 /// Removes a name from the bin of this size.
 #[inline(always)]
-pub(crate) fn remove<NI: NodeIndex>(store: &mut Store<NI>, name: u32, size: u32) {
+pub(crate) fn remove<T: Tables>(store: &mut Store<T>, name: u32, size: u32) {
     let before = store.tables.newer(name, &mut store.accesses);
     leave(store, name, before, size);
 }
@@ -147,16 +143,10 @@ pub(crate) fn remove<NI: NodeIndex>(store: &mut Store<NI>, name: u32, size: u32)
 /// Removes `gone`, the name of a block of `size` units, from its bin, and pushes `name` onto the bin of `class`. Where
 /// both are one bin and `gone` is its newest, `name` takes its place.
 #[inline(always)]
-pub(crate) fn exchange<NI: NodeIndex>(
-    store: &mut Store<NI>,
-    gone: u32,
-    size: u32,
-    name: u32,
-    class: u32,
-) {
+pub(crate) fn exchange<T: Tables>(store: &mut Store<T>, gone: u32, size: u32, name: u32, class: u32) {
     store.tables.shape();
     let before = store.tables.newer(gone, &mut store.accesses);
-    if number(before) == NI::MAX && class == uint_to_float_round_down(size) {
+    if number(before) == T::Index::MAX && class == uint_to_float_round_down(size) {
         // the bin is empty neither before nor after, so the masks stay
         let Store {
             tables,
@@ -174,7 +164,7 @@ pub(crate) fn exchange<NI: NodeIndex>(
 }
 
 /// Pops the newest name of a bin.
-pub(crate) fn pop<NI: NodeIndex>(store: &mut Store<NI>, class: u32) -> u32 {
+pub(crate) fn pop<T: Tables>(store: &mut Store<T>, class: u32) -> u32 {
     let Store {
         tables,
         accesses: count,
@@ -187,13 +177,13 @@ pub(crate) fn pop<NI: NodeIndex>(store: &mut Store<NI>, class: u32) -> u32 {
 }
 
 /// The top mask of bins that are all empty, as those of new tables are.
-pub(crate) fn start<NI: NodeIndex>(tables: &Tables<NI>) -> u32 {
+pub(crate) fn start<T: Tables>(tables: &T) -> u32 {
     tables.shape();
     0
 }
 
 /// Removes all names from all bins, whatever these hold, by one write for each.
-pub(crate) fn empty<NI: NodeIndex>(store: &mut Store<NI>) {
+pub(crate) fn empty<T: Tables>(store: &mut Store<T>) {
     let Store {
         tables,
         top_mask,
@@ -202,7 +192,7 @@ pub(crate) fn empty<NI: NodeIndex>(store: &mut Store<NI>) {
     } = store;
     tables.shape();
     for class in 0..256 {
-        tables.set_head(class, NI::MAX, count);
+        tables.set_head(class, T::Index::MAX, count);
     }
     for word in 0..4 {
         tables.set_mask(word, 0, count);

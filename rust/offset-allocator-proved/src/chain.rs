@@ -3,39 +3,34 @@
 //! The blocks of the space, linked in space order, and the stack of unused names.
 
 use crate::accesses::Accesses;
-use crate::index::{NodeIndex, link_to, linked, no_link, number};
+use crate::index::{link_to, linked, no_link, number};
 use crate::neighbour_links::{point_back, point_on};
 use crate::store::Store;
 use crate::tables::Tables;
 
 /// Makes the whole space one free block, under the name of the only node.
-pub(crate) fn start<NI: NodeIndex>(
-    tables: &mut Tables<NI>,
-    size: u32,
-    max_allocs: u32,
-    count: &mut Accesses,
-) {
+pub(crate) fn start<T: Tables>(tables: &mut T, size: u32, max_allocs: u32, count: &mut Accesses) {
     tables.shape();
     tables.set_block(0, 0, size, no_link(), no_link(), count);
 }
 
 /// The offset of a block.
-pub(crate) fn offset<NI: NodeIndex>(tables: &Tables<NI>, name: u32, count: &mut Accesses) -> u32 {
+pub(crate) fn offset<T: Tables>(tables: &T, name: u32, count: &mut Accesses) -> u32 {
     tables.offset(name, count)
 }
 
 /// The size of a block.
-pub(crate) fn size<NI: NodeIndex>(tables: &Tables<NI>, name: u32, count: &mut Accesses) -> u32 {
+pub(crate) fn size<T: Tables>(tables: &T, name: u32, count: &mut Accesses) -> u32 {
     tables.size(name, count)
 }
 
 /// Whether a block is used.
-pub(crate) fn is_used<NI: NodeIndex>(tables: &Tables<NI>, name: u32, count: &mut Accesses) -> bool {
+pub(crate) fn is_used<T: Tables>(tables: &T, name: u32, count: &mut Accesses) -> bool {
     tables.used(name, count)
 }
 
 /// Whether any name is that of a used block. It counts one access for a name that no node has, too.
-pub(crate) fn is_live<NI: NodeIndex>(tables: &Tables<NI>, name: u32, count: &mut Accesses) -> bool {
+pub(crate) fn is_live<T: Tables>(tables: &T, name: u32, count: &mut Accesses) -> bool {
     if name < tables.len() {
         is_used(tables, name, count)
     } else {
@@ -45,27 +40,19 @@ pub(crate) fn is_live<NI: NodeIndex>(tables: &Tables<NI>, name: u32, count: &mut
 }
 
 /// The name of the block directly before a block, if there is one.
-pub(crate) fn before<NI: NodeIndex>(
-    tables: &Tables<NI>,
-    name: u32,
-    count: &mut Accesses,
-) -> Option<u32> {
+pub(crate) fn before<T: Tables>(tables: &T, name: u32, count: &mut Accesses) -> Option<u32> {
     linked(tables.before(name, count))
 }
 
 /// The name of the block directly after a block, if there is one.
-pub(crate) fn after<NI: NodeIndex>(
-    tables: &Tables<NI>,
-    name: u32,
-    count: &mut Accesses,
-) -> Option<u32> {
+pub(crate) fn after<T: Tables>(tables: &T, name: u32, count: &mut Accesses) -> Option<u32> {
     linked(tables.after(name, count))
 }
 
 /// Makes a node where fewer than this number of names are unused; one is lacking at most.
 #[inline(always)]
-pub(crate) fn ready<NI: NodeIndex>(
-    tables: &mut Tables<NI>,
+pub(crate) fn ready<T: Tables>(
+    tables: &mut T,
     spare_count: &mut u32,
     names: u32,
     count: &mut Accesses,
@@ -79,8 +66,8 @@ pub(crate) fn ready<NI: NodeIndex>(
 
 /// Makes nodes, so that at least 1 or 2 names are unused.
 #[inline(always)]
-pub(crate) fn ready_for<NI: NodeIndex>(
-    tables: &mut Tables<NI>,
+pub(crate) fn ready_for<T: Tables>(
+    tables: &mut T,
     spare_count: &mut u32,
     names: u32,
     count: &mut Accesses,
@@ -93,8 +80,8 @@ pub(crate) fn ready_for<NI: NodeIndex>(
 
 /// Splits a block, of this offset and size, after `kept` units. The remainder becomes a free block directly after it,
 /// under the name that is returned.
-pub(crate) fn split<NI: NodeIndex>(
-    store: &mut Store<NI>,
+pub(crate) fn split<T: Tables>(
+    store: &mut Store<T>,
     name: u32,
     offset: u32,
     size: u32,
@@ -120,12 +107,7 @@ pub(crate) fn split<NI: NodeIndex>(
 
 /// Coalesces the free block `following` into the block directly before it; `total` is the size of both. The name
 /// `following` is unused again.
-pub(crate) fn coalesce_after<NI: NodeIndex>(
-    store: &mut Store<NI>,
-    name: u32,
-    following: u32,
-    total: u32,
-) {
+pub(crate) fn coalesce_after<T: Tables>(store: &mut Store<T>, name: u32, following: u32, total: u32) {
     let Store {
         tables,
         last,
@@ -143,12 +125,7 @@ pub(crate) fn coalesce_after<NI: NodeIndex>(
 
 /// Coalesces the free block `previous` into the block directly after it; `total` is the size of both. The name
 /// `previous` is unused again.
-pub(crate) fn coalesce_before<NI: NodeIndex>(
-    store: &mut Store<NI>,
-    previous: u32,
-    name: u32,
-    total: u32,
-) {
+pub(crate) fn coalesce_before<T: Tables>(store: &mut Store<T>, previous: u32, name: u32, total: u32) {
     let Store {
         tables,
         spare_count,
@@ -165,18 +142,13 @@ pub(crate) fn coalesce_before<NI: NodeIndex>(
 }
 
 /// Makes a block, which is in no bin, used or free.
-pub(crate) fn mark<NI: NodeIndex>(
-    tables: &mut Tables<NI>,
-    name: u32,
-    used: bool,
-    count: &mut Accesses,
-) {
+pub(crate) fn mark<T: Tables>(tables: &mut T, name: u32, used: bool, count: &mut Accesses) {
     tables.set_used(name, used, count);
 }
 
 /// Splits the first `cut` units off a block. They become a free block directly before it, under the name that is
 /// returned.
-pub(crate) fn split_before<NI: NodeIndex>(store: &mut Store<NI>, name: u32, cut: u32) -> u32 {
+pub(crate) fn split_before<T: Tables>(store: &mut Store<T>, name: u32, cut: u32) -> u32 {
     let Store {
         tables,
         spare_count,
@@ -197,12 +169,7 @@ pub(crate) fn split_before<NI: NodeIndex>(store: &mut Store<NI>, name: u32, cut:
 }
 
 /// Adds units to the last block.
-pub(crate) fn grow<NI: NodeIndex>(
-    tables: &mut Tables<NI>,
-    last: u32,
-    more: u32,
-    count: &mut Accesses,
-) {
+pub(crate) fn grow<T: Tables>(tables: &mut T, last: u32, more: u32, count: &mut Accesses) {
     let size = tables.size(last, count);
     tables.set_size(last, size + more, count);
 }

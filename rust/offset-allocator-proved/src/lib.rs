@@ -22,6 +22,7 @@
 #![forbid(unsafe_code)]
 #![warn(missing_docs)]
 #![expect(clippy::derivable_impls)] // an `impl Default` is where a contract says what the value is
+#![expect(clippy::len_without_is_empty)] // tables are never empty: they have a node from the start
 #![expect(clippy::manual_map)] // a `match` needs no closure, whose calls would need a proof
 #![expect(unused_variables)] // a parameter may be there for a contract only
 
@@ -36,10 +37,11 @@ pub use nonmax::IsMax;
 mod accesses;
 mod bins;
 mod blocks;
+mod by_field;
+mod by_node;
 mod chain;
 mod compact;
 mod counted;
-mod entry;
 pub mod ext;
 mod fills;
 mod handle;
@@ -56,7 +58,9 @@ mod store;
 mod tables;
 
 pub use accesses::Accesses;
-pub use blocks::{Block, Blocks};
+pub use blocks::{Block, BlocksOf};
+pub use by_field::ByField;
+pub use by_node::ByNode;
 pub use compact::Move;
 pub use handle::Allocation;
 pub use index::{NodeIndex, NodeIndexNonMax};
@@ -64,31 +68,38 @@ pub use nonmax::{NonMaxU16, NonMaxU32};
 pub use reports::{Refusal, StorageReport, StorageReportFull, StorageReportFullRegion};
 use core::fmt;
 use store::Store;
-use tables::Tables;
+pub use tables::Tables;
+
+/// The allocator of one space, with one table of nodes: the layout that takes the least time.
+pub type Allocator<NI = u32> = AllocatorOf<ByNode<NI>>;
+
+/// The blocks of such an allocator.
+pub type Blocks<'a, NI = u32> = BlocksOf<'a, ByNode<NI>>;
 
 /// The allocator of one space.
 ///
-/// `NI` is the type of the links between nodes. It limits how many nodes there can be, and changes no result otherwise.
-pub struct Allocator<NI: NodeIndex = u32> {
+/// `T` is the layout of its tables; it changes no result. The index type of the layout is the type of the links between
+/// nodes: it limits how many nodes there can be, and changes no result otherwise.
+pub struct AllocatorOf<T: Tables> {
     size: u32,
     max_allocs: u32,
     // the units of all free blocks
     free_total: u32,
-    store: Store<NI>,
+    store: Store<T>,
 }
 
-impl<NI: NodeIndex> Allocator<NI> {
-    /// A space of `size` units, all free, with the smaller of 131072 and `NI::MAX - 2` as the node limit. A node costs
+impl<T: Tables> AllocatorOf<T> {
+    /// A space of `size` units, all free, with the smaller of 131072 and `T::Index::MAX - 2` as the node limit. A node costs
     /// as much as in `with_max_allocs`.
     ///
     /// An error is returned only where an allocation failed; then nothing is made.
     pub fn new(alloc: Global, size: u32) -> Result<Self, AllocError> {
-        Self::with_max_allocs(alloc, size, 131072u32.min(NI::MAX - 2))
+        Self::with_max_allocs(alloc, size, 131072u32.min(T::Index::MAX - 2))
     }
 
     /// A space of `size` units, all free, with `max_allocs` as the node limit: at most `max_allocs - 1` blocks exist at
     /// a time, free ones included. A request is granted only while at most `max_allocs - 2` exist, and makes one of
-    /// them live: so at most `max_allocs - 2` grants are live. The limit is 2 to `NI::MAX - 2`: 65533 for `u16`,
+    /// them live: so at most `max_allocs - 2` grants are live. The limit is 2 to `T::Index::MAX - 2`: 65533 for `u16`,
     /// 4294967293 for `u32`. It reserves 28 bytes a node with `u32`, 18 with `u16`, all of them here; those of a node
     /// are written when its name is used for the first time.
     ///
@@ -96,8 +107,8 @@ impl<NI: NodeIndex> Allocator<NI> {
     #[track_caller]
     pub fn with_max_allocs(alloc: Global, size: u32, max_allocs: u32) -> Result<Self, AllocError> {
         assert!(2 <= max_allocs, "max_allocs must be at least 2");
-        assert!(max_allocs < NI::MAX - 1, "max_allocs must be at most NI::MAX - 2");
-        let tables = Tables::with_len(alloc, max_allocs)?;
+        assert!(max_allocs < T::Index::MAX - 1, "max_allocs must be at most NI::MAX - 2");
+        let tables = T::with_len(alloc, max_allocs)?;
         let top_mask = bins::start(&tables);
         let mut store = Store {
             tables,
@@ -108,7 +119,7 @@ impl<NI: NodeIndex> Allocator<NI> {
         };
         steps::start(&mut store, size, max_allocs);
         store.accesses = Accesses::new();
-        Ok(Allocator {
+        Ok(AllocatorOf {
             size,
             max_allocs,
             free_total: size,
@@ -166,7 +177,7 @@ impl<NI: NodeIndex> Allocator<NI> {
     /// such a class; then nothing changes. A request of at least one unit is granted exactly when it is at most the
     /// `largest_free_region` that `storage_report` returns just before. One of 0 units takes a node too, and needs a
     /// free block of any size. It makes at most 64 accesses to the tables, and takes no memory.
-    pub fn allocate(&mut self, size: u32) -> Option<Allocation<NI>> {
+    pub fn allocate(&mut self, size: u32) -> Option<Allocation<T::Index>> {
         self.serve(size, 1)
     }
 
@@ -177,23 +188,23 @@ impl<NI: NodeIndex> Allocator<NI> {
     /// handle whose name was granted again is live, and frees that range. It makes at most 128 accesses to the tables,
     /// and takes no memory.
     #[track_caller]
-    pub fn free(&mut self, allocation: Allocation<NI>) {
+    pub fn free(&mut self, allocation: Allocation<T::Index>) {
         assert!(self.is_live(allocation), "the handle must be live: {:?}", { allocation });
-        self.release(index::number(NI::of_nonmax(allocation.name())));
+        self.release(index::number(T::Index::of_nonmax(allocation.name())));
     }
 
     /// Whether the handle is live here: its name is the name of a used block. `free` asks for exactly this.
     ///
     /// A handle whose block was freed is live again where a newer grant has its name. It makes at most 8 accesses to
     /// the tables.
-    pub fn is_live(&self, allocation: Allocation<NI>) -> bool {
+    pub fn is_live(&self, allocation: Allocation<T::Index>) -> bool {
         counted::is_live_counted(self, allocation, &mut Accesses::new())
     }
 
     /// The units of the range that a live handle has: exactly those that `allocate`, `allocate_aligned`, `shrink` or
     /// `grow_in_place` last gave it. It is 0 where the handle is not live, and for a live range of no units too. It
     /// makes at most 8 accesses to the tables.
-    pub fn allocation_size(&self, allocation: Allocation<NI>) -> u32 {
+    pub fn allocation_size(&self, allocation: Allocation<T::Index>) -> u32 {
         counted::allocation_size_counted(self, allocation, &mut Accesses::new())
     }
 
@@ -202,14 +213,14 @@ impl<NI: NodeIndex> Allocator<NI> {
     ///
     /// The public `offset` of a handle is a copy: a caller may have changed it, `compact` leaves it as it was, and a
     /// stale handle keeps it. It makes at most 8 accesses to the tables.
-    pub fn allocation_offset(&self, allocation: Allocation<NI>) -> Option<u32> {
+    pub fn allocation_offset(&self, allocation: Allocation<T::Index>) -> Option<u32> {
         counted::allocation_offset_counted(self, allocation, &mut Accesses::new())
     }
 
     /// The blocks of the space, used and free, from its end to its start. It takes no memory, and each block costs at
     /// most 5 accesses to the tables.
-    pub fn blocks(&self) -> Blocks<'_, NI> {
-        Blocks {
+    pub fn blocks(&self) -> BlocksOf<'_, T> {
+        BlocksOf {
             allocator: self,
             next: Some(self.store.last),
             left: self.block_count(),
@@ -256,7 +267,7 @@ impl<NI: NodeIndex> Allocator<NI> {
     /// A fresh space of 1,048,576 units grants 64 KiB at a multiple of 256 only 15 times. Where all requests have one
     /// alignment, let a unit be as large as that, and call `allocate`: then it grants all 16.
     #[track_caller]
-    pub fn allocate_aligned(&mut self, size: u32, align: u32) -> Option<Allocation<NI>> {
+    pub fn allocate_aligned(&mut self, size: u32, align: u32) -> Option<Allocation<T::Index>> {
         assert!(align.is_power_of_two(), "align must be a power of two");
         self.serve(size, align)
     }
@@ -293,7 +304,7 @@ impl<NI: NodeIndex> Allocator<NI> {
 }
 
 /// The text is that of the short report.
-impl<NI: NodeIndex> fmt::Debug for Allocator<NI> {
+impl<T: Tables> fmt::Debug for AllocatorOf<T> {
     fn fmt(&self, f: &mut fmt::Formatter<'_>) -> fmt::Result {
         fmt::Debug::fmt(&self.storage_report(), f)
     }

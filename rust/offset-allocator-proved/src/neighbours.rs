@@ -4,7 +4,6 @@
 //! it into the free block after it. Each changes both halves of a store.
 
 use crate::accesses::Accesses;
-use crate::index::NodeIndex;
 use crate::small_float::uint_to_float_round_down;
 use crate::store::Store;
 use crate::tables::Tables;
@@ -12,7 +11,7 @@ use crate::{bins, chain};
 
 // The name of a free block directly before a block, if there is one.
 #[inline(always)]
-fn free_before<NI: NodeIndex>(tables: &Tables<NI>, name: u32, count: &mut Accesses) -> Option<u32> {
+fn free_before<T: Tables>(tables: &T, name: u32, count: &mut Accesses) -> Option<u32> {
     if let Some(previous) = chain::before(tables, name, count) {
         if !chain::is_used(tables, previous, count) {
             return Some(previous);
@@ -23,11 +22,7 @@ fn free_before<NI: NodeIndex>(tables: &Tables<NI>, name: u32, count: &mut Access
 
 /// The name of a free block directly after a block, if there is one.
 #[inline(always)]
-pub(crate) fn free_after<NI: NodeIndex>(
-    tables: &Tables<NI>,
-    name: u32,
-    count: &mut Accesses,
-) -> Option<u32> {
+pub(crate) fn free_after<T: Tables>(tables: &T, name: u32, count: &mut Accesses) -> Option<u32> {
     if let Some(following) = chain::after(tables, name, count) {
         if !chain::is_used(tables, following, count) {
             return Some(following);
@@ -38,8 +33,8 @@ pub(crate) fn free_after<NI: NodeIndex>(
 
 /// The units of the free block `next`, if any, directly after a block.
 #[inline(always)]
-pub(crate) fn units_after<NI: NodeIndex>(
-    tables: &Tables<NI>,
+pub(crate) fn units_after<T: Tables>(
+    tables: &T,
     name: u32,
     next: Option<u32>,
     count: &mut Accesses,
@@ -53,7 +48,7 @@ pub(crate) fn units_after<NI: NodeIndex>(
 // If a free block is directly before a block of this size, it leaves its bin and is coalesced into the block. The size
 // of the whole is returned.
 #[inline(always)]
-fn with_before<NI: NodeIndex>(store: &mut Store<NI>, name: u32, size: u32) -> u32 {
+fn with_before<T: Tables>(store: &mut Store<T>, name: u32, size: u32) -> u32 {
     if let Some(previous) = free_before(&store.tables, name, &mut store.accesses) {
         let more = chain::size(&store.tables, previous, &mut store.accesses);
         let whole = more + size;
@@ -67,7 +62,7 @@ fn with_before<NI: NodeIndex>(store: &mut Store<NI>, name: u32, size: u32) -> u3
 // If a free block, of the name `next`, is directly after a block of this size, it leaves its bin and is coalesced into
 // the block. The size of the whole is returned.
 #[inline(always)]
-fn with_after<NI: NodeIndex>(store: &mut Store<NI>, name: u32, size: u32, next: Option<u32>) -> u32 {
+fn with_after<T: Tables>(store: &mut Store<T>, name: u32, size: u32, next: Option<u32>) -> u32 {
     match next {
         None => size,
         Some(following) => {
@@ -83,7 +78,7 @@ fn with_after<NI: NodeIndex>(store: &mut Store<NI>, name: u32, size: u32, next: 
 /// Coalesces a block of this size, which is in no bin, with the free blocks beside it, and pushes the whole onto its
 /// bin. If the neighbour that is coalesced last heads this bin, the block takes its place there.
 #[inline(always)]
-pub(crate) fn coalesce<NI: NodeIndex>(store: &mut Store<NI>, name: u32, size: u32) {
+pub(crate) fn coalesce<T: Tables>(store: &mut Store<T>, name: u32, size: u32) {
     // `gone` is the neighbour that is coalesced last: it is in its bin until the exchange
     let (gone, more, whole) = if let Some(following) = free_after(
         &store.tables,
@@ -110,7 +105,7 @@ pub(crate) fn coalesce<NI: NodeIndex>(store: &mut Store<NI>, name: u32, size: u3
 // Splits the first units off a block: they become a free block in its bin, under the name that is returned. Where there
 // are none, nothing changes, and the name returned is that of the block.
 #[inline(always)]
-fn split_padding<NI: NodeIndex>(store: &mut Store<NI>, name: u32, units: u32) -> u32 {
+fn split_padding<T: Tables>(store: &mut Store<T>, name: u32, units: u32) -> u32 {
     if units == 0 {
         return name;
     }
@@ -122,8 +117,8 @@ fn split_padding<NI: NodeIndex>(store: &mut Store<NI>, name: u32, units: u32) ->
 // Splits a block, of this offset, after `size` units. The units that are left become a free block in its bin, under the
 // name that is returned. Where none are left, nothing changes, and the name returned is that of the block.
 #[inline(always)]
-fn split_remainder<NI: NodeIndex>(
-    store: &mut Store<NI>,
+fn split_remainder<T: Tables>(
+    store: &mut Store<T>,
     name: u32,
     offset: u32,
     size: u32,
@@ -140,8 +135,8 @@ fn split_remainder<NI: NodeIndex>(
 /// Splits a block into `padding` free units, `size` used units under its name, from `start` on, and a free remainder of
 /// the units that are left. The names of the padding and of the remainder are returned, where these have units.
 #[inline(always)]
-pub(crate) fn divide<NI: NodeIndex>(
-    store: &mut Store<NI>,
+pub(crate) fn divide<T: Tables>(
+    store: &mut Store<T>,
     name: u32,
     start: u32,
     padding: u32,
@@ -157,8 +152,8 @@ pub(crate) fn divide<NI: NodeIndex>(
 /// Makes a block of `old_size` units one of `size` units, from the same offset on. What remains of it and of the free
 /// block directly after it, whose name is `next`, becomes one free block in its bin, under the name that is returned.
 #[inline(always)]
-pub(crate) fn resize<NI: NodeIndex>(
-    store: &mut Store<NI>,
+pub(crate) fn resize<T: Tables>(
+    store: &mut Store<T>,
     name: u32,
     old_size: u32,
     next: Option<u32>,

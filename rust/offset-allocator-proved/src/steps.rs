@@ -7,7 +7,8 @@ use crate::handle::Allocation;
 use crate::index::NodeIndex;
 use crate::small_float::{uint_to_float_round_down, uint_to_float_round_up};
 use crate::store::Store;
-use crate::{Allocator, bins, chain, neighbours};
+use crate::tables::Tables;
+use crate::{AllocatorOf, bins, chain, neighbours};
 
 /// The handle of a name.
 pub(crate) fn handle_of<NI: NodeIndex>(offset: u32, name: u32) -> Allocation<NI> {
@@ -15,12 +16,12 @@ pub(crate) fn handle_of<NI: NodeIndex>(offset: u32, name: u32) -> Allocation<NI>
 }
 
 /// Makes the whole space one free block, alone in its bin, where all bins are empty and only node 0 is made.
-pub(crate) fn start<NI: NodeIndex>(store: &mut Store<NI>, size: u32, max_allocs: u32) {
+pub(crate) fn start<T: Tables>(store: &mut Store<T>, size: u32, max_allocs: u32) {
     chain::start(&mut store.tables, size, max_allocs, &mut store.accesses);
     bins::push(store, 0, uint_to_float_round_down(size));
 }
 
-impl<NI: NodeIndex> Allocator<NI> {
+impl<T: Tables> AllocatorOf<T> {
     /// The name of a live range, or `None` where nothing is live: then the space is as after a reset. Since no two
     /// neighbours are free, the last used block is the last block or the one before it.
     pub(crate) fn last_used(&mut self) -> Option<u32> {
@@ -64,7 +65,7 @@ impl<NI: NodeIndex> Allocator<NI> {
 
     /// Grants `size` units of the newest block of a class, beginning at the first multiple of `align` in that block.
     #[inline(always)]
-    pub(crate) fn grant(&mut self, class: u32, size: u32, align: u32) -> Allocation<NI> {
+    pub(crate) fn grant(&mut self, class: u32, size: u32, align: u32) -> Allocation<T::Index> {
         chain::ready_for(
             &mut self.store.tables,
             &mut self.store.spare_count,
@@ -91,7 +92,7 @@ impl<NI: NodeIndex> Allocator<NI> {
     /// A request for units from a multiple of `align` on. With `align` 1, which is a constant where this is inlined
     /// into `allocate`, there is no padding. It may add `align.min(2)` blocks: the remainder, and above 1 the padding.
     #[inline(always)]
-    pub(crate) fn serve(&mut self, size: u32, align: u32) -> Option<Allocation<NI>> {
+    pub(crate) fn serve(&mut self, size: u32, align: u32) -> Option<Allocation<T::Index>> {
         if !self.has_names(align.min(2)) {
             return None;
         }

@@ -1,251 +1,120 @@
 // Printed by rust/erase from crates/offset_allocator/src/tables.rt: change it there.
 
-//! The tables: no other module reads or writes their cells. A function on single cells counts each that it touches;
-//! `with_len` and `clear` make new tables, and count none.
+//! The tables, whatever their layout in memory: no other module reads or writes their cells. A function on single cells
+//! counts each that it touches; `with_len` and `clear` make new tables, and count none.
 
-use crate::memory::Vec;
 use crate::accesses::Accesses;
-use crate::entry::{Node, blank, mark};
-use crate::fills::{probe, push_within, reserved};
-use crate::index::{NodeIndex, link_to, number};
+use crate::index::NodeIndex;
 use crate::memory::{AllocError, Global};
 
 /// The nodes that were made, the stack of unused names, the newest node of each size class, and the masks of the
 /// classes. A node is made when its name is needed for the first time; the memory for all is reserved before.
-pub(crate) struct Tables<NI: NodeIndex> {
-    nodes: Vec<Node<NI>>,
-    spare: Vec<NI>,
-    heads: [u32; 256],
-    masks: [u64; 4],
-}
+///
+/// A layout is lawful that keeps these contracts: a cell has what was last written, the others stay, and each access is
+/// counted.
+pub trait Tables: Sized {
+    /// The type of the links. A link is the number of a node, or the largest number, which names none.
+    type Index: NodeIndex;
 
-impl<NI: NodeIndex> Tables<NI> {
     /// Tables with one node, which is blank, and memory for `len`.
-    pub(crate) fn with_len(alloc: Global, len: u32) -> Result<Self, AllocError> {
-        let count = len as usize;
-        probe::<NI>(alloc, len)?;
-        let mut nodes = reserved(alloc, count)?;
-        let mut spare = reserved(alloc, count)?;
-        push_within(&mut nodes, blank());
-        push_within(&mut spare, link_to::<NI>(0));
-        Ok(Tables {
-            nodes,
-            spare,
-            heads: [NI::MAX; 256],
-            masks: [0; 4],
-        })
-    }
+    fn with_len(alloc: Global, len: u32) -> Result<Self, AllocError>;
 
     /// Leaves one node, which is blank, and the memory. The classes may still name others: `bins::empty` has to follow.
-    pub(crate) fn clear(&mut self) {
-        self.nodes.clear();
-        self.spare.clear();
-        push_within(&mut self.nodes, blank());
-        push_within(&mut self.spare, link_to(0));
-    }
+    fn clear(&mut self);
 
     /// The number of nodes that were made.
-    pub(crate) fn len(&self) -> u32 {
-        self.nodes.len() as u32
-    }
+    fn len(&self) -> u32;
 
     /// Makes one more node, which is blank, and puts its name at a place of the stack of unused names.
-    #[inline(always)]
-    pub(crate) fn add(&mut self, place: u32, count: &mut Accesses) {
-        count.tick();
-        count.tick();
-        count.tick();
-        count.tick();
-        count.tick();
-        count.tick();
-        count.tick();
-        count.tick();
-        let name = link_to(self.nodes.len() as u32);
-        push_within(&mut self.nodes, blank());
-        push_within(&mut self.spare, name);
-        self.spare[place as usize] = name;
-    }
+    fn add(&mut self, place: u32, count: &mut Accesses);
 
     /// The tables keep their lengths.
-    pub(crate) fn shape(&self) {
-        // a look at a field recalls the invariant
-        let _ = &self.nodes;
-    }
+    fn shape(&self);
 
     /// The link to a node.
-    pub(crate) fn link_to(&self, name: u32) -> NI {
-        let _ = &self.nodes;
-        link_to(name)
-    }
+    fn link_to(&self, name: u32) -> Self::Index;
 
     /// The offset of a node.
-    pub(crate) fn offset(&self, name: u32, count: &mut Accesses) -> u32 {
-        count.tick();
-        self.nodes[name as usize].offset
-    }
+    fn offset(&self, name: u32, count: &mut Accesses) -> u32;
 
     /// The size of a node.
-    pub(crate) fn size(&self, name: u32, count: &mut Accesses) -> u32 {
-        count.tick();
-        self.nodes[name as usize].size
-    }
+    fn size(&self, name: u32, count: &mut Accesses) -> u32;
 
     /// Writes the size of a node.
-    pub(crate) fn set_size(&mut self, name: u32, size: u32, count: &mut Accesses) {
-        count.tick();
-        self.nodes[name as usize].size = size;
-    }
+    fn set_size(&mut self, name: u32, size: u32, count: &mut Accesses);
 
     /// Whether a node is used.
-    pub(crate) fn used(&self, name: u32, count: &mut Accesses) -> bool {
-        count.tick();
-        number(self.nodes[name as usize].newer) == NI::MAX - 1
-    }
+    fn used(&self, name: u32, count: &mut Accesses) -> bool;
 
     /// Writes whether a node is used. It is in no class.
-    pub(crate) fn set_used(&mut self, name: u32, used: bool, count: &mut Accesses) {
-        count.tick();
-        self.nodes[name as usize].newer = mark(used);
-    }
+    fn set_used(&mut self, name: u32, used: bool, count: &mut Accesses);
 
     /// The link to the node before a node in space.
-    pub(crate) fn before(&self, name: u32, count: &mut Accesses) -> NI {
-        count.tick();
-        self.nodes[name as usize].before
-    }
+    fn before(&self, name: u32, count: &mut Accesses) -> Self::Index;
 
     /// Writes the link to the node before a node in space.
-    pub(crate) fn set_before(&mut self, name: u32, link: NI, count: &mut Accesses) {
-        count.tick();
-        self.nodes[name as usize].before = link;
-    }
+    fn set_before(&mut self, name: u32, link: Self::Index, count: &mut Accesses);
 
     /// The link to the node after a node in space.
-    pub(crate) fn after(&self, name: u32, count: &mut Accesses) -> NI {
-        count.tick();
-        self.nodes[name as usize].after
-    }
+    fn after(&self, name: u32, count: &mut Accesses) -> Self::Index;
 
     /// Writes the link to the node after a node in space.
-    pub(crate) fn set_after(&mut self, name: u32, link: NI, count: &mut Accesses) {
-        count.tick();
-        self.nodes[name as usize].after = link;
-    }
+    fn set_after(&mut self, name: u32, link: Self::Index, count: &mut Accesses);
 
     /// Writes the cells of an unused node, for a free block between two links.
-    pub(crate) fn set_block(
+    fn set_block(
         &mut self,
         name: u32,
         offset: u32,
         size: u32,
-        before: NI,
-        after: NI,
+        before: Self::Index,
+        after: Self::Index,
         count: &mut Accesses,
-    ) {
-        count.tick();
-        count.tick();
-        count.tick();
-        count.tick();
-        let node = &mut self.nodes[name as usize];
-        node.offset = offset;
-        node.size = size;
-        node.before = before;
-        node.after = after;
-    }
+    );
 
     /// Writes where a node begins, its size, and the link to the node before it in space.
-    pub(crate) fn set_start(
+    fn set_start(
         &mut self,
         name: u32,
         offset: u32,
         size: u32,
-        link: NI,
+        link: Self::Index,
         count: &mut Accesses,
-    ) {
-        count.tick();
-        count.tick();
-        count.tick();
-        let node = &mut self.nodes[name as usize];
-        node.offset = offset;
-        node.size = size;
-        node.before = link;
-    }
+    );
 
     /// Writes the size of a node, and the link to the node after it in space.
-    pub(crate) fn set_end(&mut self, name: u32, size: u32, link: NI, count: &mut Accesses) {
-        count.tick();
-        count.tick();
-        let node = &mut self.nodes[name as usize];
-        node.size = size;
-        node.after = link;
-    }
+    fn set_end(&mut self, name: u32, size: u32, link: Self::Index, count: &mut Accesses);
 
     /// An entry of the stack of unused names.
-    pub(crate) fn spare(&self, place: u32, count: &mut Accesses) -> NI {
-        count.tick();
-        self.spare[place as usize]
-    }
+    fn spare(&self, place: u32, count: &mut Accesses) -> Self::Index;
 
     /// Writes an entry of the stack of unused names.
-    pub(crate) fn set_spare(&mut self, place: u32, name: NI, count: &mut Accesses) {
-        count.tick();
-        self.spare[place as usize] = name;
-    }
+    fn set_spare(&mut self, place: u32, name: Self::Index, count: &mut Accesses);
 
     /// The link to the next newer node of a node's class.
-    pub(crate) fn newer(&self, name: u32, count: &mut Accesses) -> NI {
-        count.tick();
-        self.nodes[name as usize].newer
-    }
+    fn newer(&self, name: u32, count: &mut Accesses) -> Self::Index;
 
     /// Writes the link to the next newer node of a node's class. The node is not used.
-    pub(crate) fn set_newer(&mut self, name: u32, link: NI, count: &mut Accesses) {
-        count.tick();
-        self.nodes[name as usize].newer = link;
-    }
+    fn set_newer(&mut self, name: u32, link: Self::Index, count: &mut Accesses);
 
     /// The link to the next older node of a node's class.
-    pub(crate) fn older(&self, name: u32, count: &mut Accesses) -> NI {
-        count.tick();
-        self.nodes[name as usize].older
-    }
+    fn older(&self, name: u32, count: &mut Accesses) -> Self::Index;
 
     /// Writes the link to the next older node of a node's class.
-    pub(crate) fn set_older(&mut self, name: u32, link: NI, count: &mut Accesses) {
-        count.tick();
-        self.nodes[name as usize].older = link;
-    }
+    fn set_older(&mut self, name: u32, link: Self::Index, count: &mut Accesses);
 
     /// Writes both links of a node in its class. The node is not used.
-    pub(crate) fn set_links(&mut self, name: u32, newer: NI, older: NI, count: &mut Accesses) {
-        count.tick();
-        count.tick();
-        let node = &mut self.nodes[name as usize];
-        node.newer = newer;
-        node.older = older;
-    }
+    fn set_links(&mut self, name: u32, newer: Self::Index, older: Self::Index, count: &mut Accesses);
 
     /// The name of the newest node of a class, or `MAX`.
-    pub(crate) fn head(&self, class: u32, count: &mut Accesses) -> u32 {
-        count.tick();
-        self.heads[class as usize]
-    }
+    fn head(&self, class: u32, count: &mut Accesses) -> u32;
 
     /// Writes the name of the newest node of a class, or `MAX`.
-    pub(crate) fn set_head(&mut self, class: u32, name: u32, count: &mut Accesses) {
-        count.tick();
-        self.heads[class as usize] = name;
-    }
+    fn set_head(&mut self, class: u32, name: u32, count: &mut Accesses);
 
     /// A word of the masks: bit `c % 64` of word `c / 64` says whether the bin of class c is not empty.
-    pub(crate) fn mask(&self, word: u32, count: &mut Accesses) -> u64 {
-        count.tick();
-        self.masks[word as usize]
-    }
+    fn mask(&self, word: u32, count: &mut Accesses) -> u64;
 
     /// Writes a word of the masks.
-    pub(crate) fn set_mask(&mut self, word: u32, mask: u64, count: &mut Accesses) {
-        count.tick();
-        self.masks[word as usize] = mask;
-    }
+    fn set_mask(&mut self, word: u32, mask: u64, count: &mut Accesses);
 }

@@ -13,17 +13,17 @@ behead-requires-clause-classed g c = omega (arith, down_small c.args.size, c.uin
 
 pub behead-requires-clause-some : goal.behead-requires-clause-some
 behead-requires-clause-some g c =
-    let z : slice_index c.args.store.now.tables.links.newer c.args.name ≡ g.NI.NodeIndex.MAX = omega (arith, c.requires.before) in
+    let z : slice_index (g.T.Tables.cells c.args.store.now.tables).links.newer c.args.name ≡ g.T.Index.NodeIndex.MAX = omega (arith, c.requires.before) in
     rw c.uint_to_float_round_down.ensures.is ((is_first c.requires.held.linked _ (down_small c.args.size) _ c.requires.listed z).0)
 
 pub behead-requires-clause-after : goal.behead-requires-clause-after
 behead-requires-clause-after g c =
-    let z : slice_index c.args.store.now.tables.links.newer c.args.name ≡ g.NI.NodeIndex.MAX = omega (arith, c.requires.before) in
+    let z : slice_index (g.T.Tables.cells c.args.store.now.tables).links.newer c.args.name ≡ g.T.Index.NodeIndex.MAX = omega (arith, c.requires.before) in
     rw (c.uint_to_float_round_down.ensures.is, (is_first c.requires.held.linked _ (down_small c.args.size) _ c.requires.listed z).1) c.older-after.ensures.cell
 
 pub returns-then-number-MAX-clause-lists : goal.returns-then-number-MAX-clause-lists
 returns-then-number-MAX-clause-lists g c =
-    let z : slice_index c.args.store.now.tables.links.newer c.args.name ≡ g.NI.NodeIndex.MAX = omega (arith, c.requires.before) in
+    let z : slice_index (g.T.Tables.cells c.args.store.now.tables).links.newer c.args.name ≡ g.T.Index.NodeIndex.MAX = omega (arith, c.requires.before) in
     rw (c.behead.ensures.lists, c.uint_to_float_round_down.ensures.is, (is_first c.requires.held.linked _ (down_small c.args.size) _ c.requires.listed z).1) refl
 
 -- a later name
@@ -35,7 +35,7 @@ link_newer-requires-clause-idle g c n = rw c.older-after.ensures.cell (after_idl
 
 pub link_newer-requires-clause-link : goal.link_newer-requires-clause-link
 link_newer-requires-clause-link g c =
-    no_mark c.shape.ensures (g.NI.NodeIndex.number c.args.before) (λ n. omega (arith, c.requires.before, c.shape.ensures.newer, newer_in c.requires.held.linked _ (down_small c.args.size) _ c.requires.listed (λ e. n (c.requires.before ∙ e))))
+    no_mark c.shape.ensures (g.T.Index.NodeIndex.number c.args.before) (λ n. omega (arith, c.requires.before, c.shape.ensures.newer, newer_in c.requires.held.linked _ (down_small c.args.size) _ c.requires.listed (λ e. n (c.requires.before ∙ e))))
 
 pub set_older-requires : goal.set_older-requires
 set_older-requires g c =
@@ -45,8 +45,8 @@ set_older-requires g c =
 pub returns-else-number-MAX : goal.returns-else-number-MAX
 returns-else-number-MAX g c =
     let k = c.requires.held.linked in
-    let n : slice_index c.args.store.now.tables.links.newer c.args.name ≢ g.NI.NodeIndex.MAX = λ e. absurd (omega (arith, c.requires.before)) in
+    let n : slice_index (g.T.Tables.cells c.args.store.now.tables).links.newer c.args.name ≢ g.T.Index.NodeIndex.MAX = λ e. absurd (omega (arith, c.requires.before)) in
     let e = rw c.link_newer.ensures.cells at c.set_older.ensures.cells in
-    changed (left k _ (down_small c.args.size) c.set_older.new.self.links _ _ _ (is_later k _ (down_small c.args.size) _ c.requires.listed n) c.requires.before c.older-after.ensures.cell
+    changed (left k _ (down_small c.args.size) (g.T.Tables.cells c.set_older.new.self).links _ _ _ (is_later k _ (down_small c.args.size) _ c.requires.listed n) c.requires.before c.older-after.ensures.cell
     (rw e) (rw (e, c.number-else-number-MAX.ensures.number)) (rw e))
     (rw e (later_masked k _ (down_small c.args.size) _ c.requires.listed n c.requires.held.masked)) (rw e, refl, refl) (omega arith, omega arith)

@@ -5,13 +5,13 @@ use Rattle.offset_allocator.proofs.bins.length_of.Goals as goal
 
 pub loop-name-init : goal.loop-name-init
 loop-name-init g c = record {
-  tail = record { before = g.NI.NodeIndex.MAX; names = _; chain = c.requires.linked.chains c.args.class c.requires.classed; is = c.head-name.ensures.cell ∙ c.requires.linked.heads c.args.class c.requires.classed; counted = omega arith };
+  tail = record { before = g.T.Index.NodeIndex.MAX; names = _; chain = c.requires.linked.chains c.args.class c.requires.classed; is = c.head-name.ensures.cell ∙ c.requires.linked.heads c.args.class c.requires.classed; counted = omega arith };
   accesses = omega arith;
 }
 
 pub overflow_add-names : goal.overflow_add-names
 overflow_add-names g c =
-    let word : g.NI.NodeIndex.MAX ≤ 4294967295 = search rules in
+    let word : g.T.Index.NodeIndex.MAX ≤ 4294967295 = search rules in
     omega (arith, (tail_next c.loop-name.invariant.tail (omega arith)).1, fits c.requires.linked c.args.class c.requires.classed, c.requires.linked.names_small)
 
 pub older-requires : goal.older-requires

@@ -12,7 +12,7 @@ set_newer-requires-clause-name g c =
     rw (c.set_links.ensures.cells, c.set_head.ensures.cells, length-set, h) (head_below c.requires.held.linked c.args.class c.requires.classed (λ e. absurd (omega arith)))
 
 pub set_links-requires-clause-link : goal.set_links-requires-clause-link
-set_links-requires-clause-link g c = no_mark c.shape.ensures (g.NI.NodeIndex.number c.no_link.result) (λ n. absurd (n c.no_link.ensures.number))
+set_links-requires-clause-link g c = no_mark c.shape.ensures (g.T.Index.NodeIndex.number c.no_link.result) (λ n. absurd (n c.no_link.ensures.number))
 
 pub set_newer-requires-clause-idle : goal.set_newer-requires-clause-idle
 set_newer-requires-clause-idle g c =
@@ -20,7 +20,7 @@ set_newer-requires-clause-idle g c =
     rw (c.set_links.ensures.cells, c.set_head.ensures.cells, h) (listed_idle c.shape.ensures c.requires.held.linked c.args.class c.requires.classed _ (head_among c.requires.held.linked c.args.class c.requires.classed (λ e. absurd (omega arith))))
 
 pub set_newer-requires-clause-link : goal.set_newer-requires-clause-link
-set_newer-requires-clause-link g c = no_mark c.shape.ensures (g.NI.NodeIndex.number c.link_to-link.result) (λ n. omega (arith, c.link_to-link.ensures.number, c.requires.named))
+set_newer-requires-clause-link g c = no_mark c.shape.ensures (g.T.Index.NodeIndex.number c.link_to-link.result) (λ n. omega (arith, c.link_to-link.ensures.number, c.requires.named))
 
 pub returns-then-newest-MAX : goal.returns-then-newest-MAX
 returns-then-newest-MAX g c =
@@ -28,8 +28,8 @@ returns-then-newest-MAX g c =
     let h = c.head-newest.ensures.cell in
     let kept = c.from_u32.ensures.kept (rw h (head_small k c.args.class c.requires.classed)) in
     let e = rw (c.set_links.ensures.cells, c.set_head.ensures.cells) at c.set_mask.ensures.cells in
-    changed (pushed k c.args.class c.requires.classed c.set_mask.new.self.links c.args.name (omega (arith, c.requires.named, c.shape.ensures.newer)) c.requires.unlisted
-    (rw (e, c.no_link.ensures.number) (sym (set_past _ _ _ (omega (arith, k.names_small, length-set c.args.store.now.tables.links.newer c.args.name g.NI.NodeIndex.MAX)))))
+    changed (pushed k c.args.class c.requires.classed (g.T.Tables.cells c.set_mask.new.self).links c.args.name (omega (arith, c.requires.named, c.shape.ensures.newer)) c.requires.unlisted
+    (rw (e, c.no_link.ensures.number) (sym (set_past _ _ _ (omega (arith, k.names_small, length-set (g.T.Tables.cells c.args.store.now.tables).links.newer c.args.name g.T.Index.NodeIndex.MAX)))))
     (rw (e, kept, h))
     (rw e))
     (rw e (masked_set c.requires.held.masked k.lists_len c.args.class c.requires.classed _ _ (c.mask-mask.ensures.cell ∙ rw (c.set_links.ensures.cells, c.set_head.ensures.cells)) refl)) (rw e, refl, refl) (omega arith, omega arith)
@@ -40,8 +40,8 @@ returns-else-newest-MAX g c =
     let h = c.head-newest.ensures.cell in
     let kept = c.from_u32.ensures.kept (rw h (head_small k c.args.class c.requires.classed)) in
     let e = rw (c.set_links.ensures.cells, c.set_head.ensures.cells) at c.set_newer.ensures.cells in
-    changed (pushed k c.args.class c.requires.classed c.set_newer.new.self.links c.args.name (omega (arith, c.requires.named, c.shape.ensures.newer)) c.requires.unlisted
+    changed (pushed k c.args.class c.requires.classed (g.T.Tables.cells c.set_newer.new.self).links c.args.name (omega (arith, c.requires.named, c.shape.ensures.newer)) c.requires.unlisted
     (rw (e, c.no_link.ensures.number, h, c.link_to-link.ensures.number))
     (rw (e, kept, h))
     (rw e))
-    (rw e (masked_same c.requires.held.masked k.lists_len c.args.class c.requires.classed _ (sym (flag_full _ (λ z. let q = h ∙ k.heads c.args.class c.requires.classed ∙ ap (first_of g.NI.NodeIndex.MAX) z in absurd (omega arith)))))) (rw e, refl, refl) (omega arith, omega arith)
+    (rw e (masked_same c.requires.held.masked k.lists_len c.args.class c.requires.classed _ (sym (flag_full _ (λ z. let q = h ∙ k.heads c.args.class c.requires.classed ∙ ap (first_of g.T.Index.NodeIndex.MAX) z in absurd (omega arith)))))) (rw e, refl, refl) (omega arith, omega arith)

@@ -14,7 +14,7 @@ is_used-requires g c = (walked c.requires.space.1 c.loop-at.invariant.front c.lo
 
 pub loop-at-init : goal.loop-at-init
 loop-at-init g c = record {
-  front = blocks c.args.tables.now.room c.args.last;
+  front = blocks (g.T.Tables.cells c.args.tables.now).room c.args.last;
   rest = [];
   is = sym (append-nil _);
   ends = c.requires.space.1.ends;

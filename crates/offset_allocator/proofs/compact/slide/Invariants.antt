@@ -9,11 +9,11 @@ use Rattle.offset_allocator.proofs.compact.slide.Given as goal
 abbrev pub invariant-loop-next : goal.invariant-loop-next
 invariant-loop-next g l = record {
   callable : goal.F-IsAlwaysCallable g l.moved;
-  bins : SameBins l.initial.store l.store;
+  bins : SameBins g.T.Tables.cells l.initial.store l.store;
   grows : l.initial.store.accesses ≤ l.store.accesses;
-  at : (m : ℕ) (p : Place) → HasPlace l.initial.store.tables.room m l.initial.store.last l.initial.store.spare_count l.initial.hole p → p.block.used ≡ false
-      → IsSliding (IsCalledWith g.NI.NonMax.NodeIndexNonMax.number (λ f range h. goal.F-step g f range tt h)) m p l.initial.moved l.initial.store.accesses l.store.tables l.store.last l.store.spare_count l.hole l.size l.moved l.store.accesses;
+  at : (m : ℕ) (p : Place) → HasPlace (g.T.Tables.cells l.initial.store.tables).room m l.initial.store.last l.initial.store.spare_count l.initial.hole p → p.block.used ≡ false
+      → IsSliding (IsCalledWith g.T.Index.NonMax.NodeIndexNonMax.number (λ f range h. goal.F-step g f range tt h)) m p l.initial.moved l.initial.store.accesses (g.T.Tables.cells l.store.tables) l.store.last l.store.spare_count l.hole l.size l.moved l.store.accesses;
 }
 
 abbrev pub decreases-loop-next : goal.decreases-loop-next
-decreases-loop-next g l = (l.initial.store.accesses + 20 * length l.initial.store.tables.room.nodes) - l.store.accesses
+decreases-loop-next g l = (l.initial.store.accesses + 20 * length (g.T.Tables.cells l.initial.store.tables).room.nodes) - l.store.accesses

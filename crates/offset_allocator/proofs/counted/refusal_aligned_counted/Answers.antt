@@ -34,13 +34,13 @@ enough n s k d h e f l =
 
 pub returns-then-units-clause-why : goal.returns-then-units-clause-why
 returns-then-units-clause-why g c =
-    let known = known_sound (fields_of g.NI.NodeIndex.MAX c.allocator.inside) c.allocator.invariant c.args.allocator.now c.allocator.view_is in
+    let known = known_sound (fields_of g.T.Tables.cells g.T.Index.NodeIndex.MAX c.allocator.inside) c.allocator.invariant c.args.allocator.now c.allocator.view_is in
     let some = not_zero c.args.align c.requires.power in
     (omega (arith, c.names_left.ensures, c.min-blocks.ensures, c.if-names_left-blocks.false), omega (arith, known.0.fits, past_words (units_needed c.args.size c.args.align) (omega (arith, some, c.if-units.true))))
 
 pub returns-then-units-clause-granted : goal.returns-then-units-clause-granted
 returns-then-units-clause-granted g c =
-    let known = known_sound (fields_of g.NI.NodeIndex.MAX c.allocator.inside) c.allocator.invariant c.args.allocator.now c.allocator.view_is in
+    let known = known_sound (fields_of g.T.Tables.cells g.T.Index.NodeIndex.MAX c.allocator.inside) c.allocator.invariant c.args.allocator.now c.allocator.view_is in
     (λ e. absurd (cc), λ h. absurd (too_small c.args.allocator.now known.0 (blocks_needed c.args.align) (units_needed c.args.size c.args.align) (returns-then-units-clause-why g c).1 h))
 
 pub returns-then-largest-smallest-clause-why : goal.returns-then-largest-smallest-clause-why
@@ -56,7 +56,7 @@ returns-then-largest-smallest-clause-why g c =
 
 pub returns-then-largest-smallest-clause-granted : goal.returns-then-largest-smallest-clause-granted
 returns-then-largest-smallest-clause-granted g c =
-    let known = known_sound (fields_of g.NI.NodeIndex.MAX c.allocator.inside) c.allocator.invariant c.args.allocator.now c.allocator.view_is in
+    let known = known_sound (fields_of g.T.Tables.cells g.T.Index.NodeIndex.MAX c.allocator.inside) c.allocator.invariant c.args.allocator.now c.allocator.view_is in
     (λ e. absurd (cc), λ h. absurd (too_small c.args.allocator.now known.0 (blocks_needed c.args.align) (units_needed c.args.size c.args.align) (returns-then-largest-smallest-clause-why g c).1 h))
 
 pub find_at_or_above-requires-clause-classed : goal.find_at_or_above-requires-clause-classed
@@ -67,7 +67,7 @@ returns-in-Some-clause-granted g c =
     let low = low_is c.args.size c.args.align _ (not_zero c.args.align c.requires.power) c.uint_to_float_round_up-smallest.ensures.is in
     let P : View → Type 0 = λ u. CanGrant (blocks_needed c.args.align) (units_needed c.args.size c.args.align) u in
     let some = c.in-Some.ensures.smallest in
-    (λ e. subst P c.allocator.view_is (is_open (fields_of g.NI.NodeIndex.MAX c.allocator.inside) c.allocator.invariant _ 0 c.allocator.view_is c.names_left.ensures (omega (arith, c.min-blocks.ensures)), (c.in-Some.field-0, omega (arith, some.0), some.2)), λ h. refl)
+    (λ e. subst P c.allocator.view_is (is_open (fields_of g.T.Tables.cells g.T.Index.NodeIndex.MAX c.allocator.inside) c.allocator.invariant _ 0 c.allocator.view_is c.names_left.ensures (omega (arith, c.min-blocks.ensures)), (c.in-Some.field-0, omega (arith, some.0), some.2)), λ h. refl)
 
 -- where no bin from the class on has a block
 refused : goal.returns-then-uint_to_float_round_down-max-clause-granted
@@ -83,7 +83,7 @@ returns-then-uint_to_float_round_down-max-clause-granted g c = refused g c
 
 pub returns-then-uint_to_float_round_down-max-clause-why : goal.returns-then-uint_to_float_round_down-max-clause-why
 returns-then-uint_to_float_round_down-max-clause-why g c =
-    let f : Fields = fields_of g.NI.NodeIndex.MAX c.allocator.inside in
+    let f : Fields = fields_of g.T.Tables.cells g.T.Index.NodeIndex.MAX c.allocator.inside in
     let known = known_sound f c.allocator.invariant c.args.allocator.now c.allocator.view_is in
     let low = low_is c.args.size c.args.align _ (not_zero c.args.align c.requires.power) c.uint_to_float_round_up-smallest.ensures.is in
     let free = total_is f c.allocator.invariant 0 0 ∙ ap (λ (v : View). sum (free_sizes v.blocks)) c.allocator.view_is in
@@ -105,7 +105,7 @@ returns-else-uint_to_float_round_down-max-clause-granted g c =
 
 pub returns-else-uint_to_float_round_down-max-clause-why : goal.returns-else-uint_to_float_round_down-max-clause-why
 returns-else-uint_to_float_round_down-max-clause-why g c =
-    let f : Fields = fields_of g.NI.NodeIndex.MAX c.allocator.inside in
+    let f : Fields = fields_of g.T.Tables.cells g.T.Index.NodeIndex.MAX c.allocator.inside in
     let known = known_sound f c.allocator.invariant c.args.allocator.now c.allocator.view_is in
     let low = low_is c.args.size c.args.align _ (not_zero c.args.align c.requires.power) c.uint_to_float_round_up-smallest.ensures.is in
     let free = total_is f c.allocator.invariant 0 0 ∙ ap (λ (v : View). sum (free_sizes v.blocks)) c.allocator.view_is in

@@ -17,7 +17,7 @@ open_report it s room r e =
 
 pub returns-clause-report : goal.returns-clause-report
 returns-clause-report g c =
-    let f : Fields = fields_of g.NI.NodeIndex.MAX c.allocator.inside in
+    let f : Fields = fields_of g.T.Tables.cells g.T.Index.NodeIndex.MAX c.allocator.inside in
     let s : AreSound f = c.allocator.invariant in
     let well = (known_sound f s (shown f) refl).0 in
     let P : View → Type 0 = λ u. (c.allocator.inside.free_total ≡ total_free u) × (c.match-largest.largest_free_region ≡ largest_free u) in

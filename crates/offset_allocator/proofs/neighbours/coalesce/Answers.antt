@@ -101,13 +101,13 @@ returns-clause-lists g c m p h = elim c.match-free_after.branch [
       let same = next_same h merged refl w.in-Some.ensures.free.0 in
       let gone = free_after merged same.0 (same.1 ∙ w.in-Some.ensures.free.1) in
       let left = w.coalesce_after.ensures.place _ _ merged in
-      let whole : w.with_before-size.result + w.size-more.result ≡ (node w.coalesce_after.new.store.tables.room c.args.name).size = omega (arith, w.size-more.ensures.size, w.with_before-size.ensures.size, gone.0, ap (λ (v : Node). v.size) (at_place left), ap (λ (v : Node). v.size) (at_place merged)) in
+      let whole : w.with_before-size.result + w.size-more.result ≡ (node (g.T.Tables.cells w.coalesce_after.new.store.tables).room c.args.name).size = omega (arith, w.size-more.ensures.size, w.with_before-size.ensures.size, gone.0, ap (λ (v : Node). v.size) (at_place left), ap (λ (v : Node). v.size) (at_place merged)) in
       rw (c.exchange.ensures.chain.0, c.exchange.ensures.lists, c.uint_to_float_round_down-2.ensures.is, w.store-is, w.gone-is, whole, w.coalesce_after.ensures.bins.0, w.with_before-size.ensures.lists _ _ h, w.size-more.ensures.size) (ap (push _ c.args.name) (sym (gone.1 _)))
   | in_default+in-Some-free_before w ↦
       let before = w.in-Some-free_before.ensures.free in
       let gone = free_before h before.0 before.1 in
       let left = w.coalesce_before.ensures.place _ _ h in
-      let whole : w.size-more-in-Some-free_before.result + c.args.size ≡ (node w.coalesce_before.new.store.tables.room c.args.name).size = omega (arith, w.size-more-in-Some-free_before.ensures.size, c.requires.size, gone.0, ap (λ (v : Node). v.size) (at_place left), ap (λ (v : Node). v.size) (at_place h)) in
+      let whole : w.size-more-in-Some-free_before.result + c.args.size ≡ (node (g.T.Tables.cells w.coalesce_before.new.store.tables).room c.args.name).size = omega (arith, w.size-more-in-Some-free_before.ensures.size, c.requires.size, gone.0, ap (λ (v : Node). v.size) (at_place left), ap (λ (v : Node). v.size) (at_place h)) in
       rw (c.exchange.ensures.chain.0, c.exchange.ensures.lists, c.uint_to_float_round_down-2.ensures.is, w.store-is, w.gone-is, whole, w.coalesce_before.ensures.bins.0, w.size-more-in-Some-free_before.ensures.size, w.in_default.ensures.free _ _ _ _ h) (ap (push _ c.args.name) (sym (gone.1 _)))
 ]
 

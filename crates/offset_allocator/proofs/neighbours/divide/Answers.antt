@@ -16,10 +16,10 @@ pub mark-requires : goal.mark-requires
 mark-requires g c = (c.split_padding-front.ensures.place _ _ c.requires.place.2).below
 
 -- the bins once the block is used
-marked : (g : Over) (c : After-mark g) → IsBinned g.NI.NodeIndex.MAX c.mark.new.tables.links c.split_padding-front.new.store.top_mask × (bins_in g.NI.NodeIndex.MAX c.mark.new.tables.links ≡ push_all (free_part c.split_padding-front.result c.args.padding) (bins_in g.NI.NodeIndex.MAX c.args.store.now.tables.links))
+marked : (g : Over) (c : After-mark g) → IsBinned g.T.Index.NodeIndex.MAX (g.T.Tables.cells c.mark.new.tables).links c.split_padding-front.new.store.top_mask × (bins_in g.T.Index.NodeIndex.MAX (g.T.Tables.cells c.mark.new.tables).links ≡ push_all (free_part c.split_padding-front.result c.args.padding) (bins_in g.T.Index.NodeIndex.MAX (g.T.Tables.cells c.args.store.now.tables).links))
 marked g c =
     let front = c.split_padding-front.ensures in
-    let fresh : IsUnlisted c.args.name (bins_in g.NI.NodeIndex.MAX c.split_padding-front.new.store.tables.links) = rw front.lists (padded_unlisted c.requires.place.1.before c.split_padding-front.result c.args.padding _ c.requires.held.linked.lists_len (front.place _ _ c.requires.place.2) c.requires.unlisted) in
+    let fresh : IsUnlisted c.args.name (bins_in g.T.Index.NodeIndex.MAX (g.T.Tables.cells c.split_padding-front.new.store.tables).links) = rw front.lists (padded_unlisted c.requires.place.1.before c.split_padding-front.result c.args.padding _ c.requires.held.linked.lists_len (front.place _ _ c.requires.place.2) c.requires.unlisted) in
     let b = c.mark.ensures.bins _ fresh front.held in
     (b.0, b.1 ∙ front.lists)
 
@@ -55,4 +55,4 @@ split_remainder-rest-requires-clause-offset g c =
 pub returns-clause-lists : goal.returns-clause-lists
 returns-clause-lists g c =
     let rest : List Block = free_part c.split_remainder-rest.result c.args.left in
-    c.split_remainder-rest.ensures.lists ∙ ap (push_all rest) (marked g (goal.at.returns-clause-lists g c).After-mark).1 ∙ sym (pushed_parts c.split_padding-front.result c.args.padding c.args.name c.args.size rest (bins_in g.NI.NodeIndex.MAX c.args.store.now.tables.links))
+    c.split_remainder-rest.ensures.lists ∙ ap (push_all rest) (marked g (goal.at.returns-clause-lists g c).After-mark).1 ∙ sym (pushed_parts c.split_padding-front.result c.args.padding c.args.name c.args.size rest (bins_in g.T.Index.NodeIndex.MAX (g.T.Tables.cells c.args.store.now.tables).links))

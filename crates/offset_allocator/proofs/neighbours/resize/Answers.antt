@@ -9,7 +9,7 @@ use Rattle.offset_allocator.proofs.neighbours.resize.Goals.{After-with_after-who
 use Rattle.offset_allocator.proofs.neighbours.resize.Given.{Over}
 
 -- the size of the whole block
-whole : (g : Over) (c : After-with_after-whole g) (p : Place) {m : ℕ} → HasPlace c.args.store.now.tables.room m c.args.store.now.last c.args.store.now.spare_count c.args.name p → c.with_after-whole.result ≡ p.block.size + units (free_start p.after)
+whole : (g : Over) (c : After-with_after-whole g) (p : Place) {m : ℕ} → HasPlace (g.T.Tables.cells c.args.store.now.tables).room m c.args.store.now.last c.args.store.now.spare_count c.args.name p → c.with_after-whole.result ≡ p.block.size + units (free_start p.after)
 whole g c p h = c.with_after-whole.ensures.size ∙ ap (λ (v : Node). v.size) (at_place (c.with_after-whole.ensures.place _ _ h))
 
 pub offset-offset-requires : goal.offset-offset-requires

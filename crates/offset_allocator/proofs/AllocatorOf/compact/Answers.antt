@@ -1,0 +1,136 @@
+use Rattle.std.proofs.Common.{◌≡◌, ℕ, suc, ◌+◌, List, [], ◌∷◌, length, refl, sym, ap, ap₂, subst, ◌∙◌, arith, length-append, replicate}
+use Rattle.offset_allocator.specs.View.{Block, Place, View, units, free_sizes}
+use Rattle.offset_allocator.specs.Cells.{Links, Node}
+use Rattle.offset_allocator.specs.Bins.{bins_in}
+use Rattle.offset_allocator.specs.Chain.{blocks}
+use Rattle.offset_allocator.specs.Compacting.{live, moves, KeepsSizes, Compacts}
+use Rattle.offset_allocator.proofs.Sound.{AreSound, Fields, shown, fields_of, known_sound}
+use Rattle.offset_allocator.proofs.Packed.{compacts_sizes}
+use Rattle.offset_allocator.proofs.Places.{at_place, kept_place}
+use Rattle.offset_allocator.proofs.Classes.{down_small}
+use Rattle.offset_allocator.proofs.Compacting.{IsFirst, first_is, packed, compacts_live, first_held, packs, stays_packed}
+use Rattle.offset_allocator.proofs.Fresh.{empty_unlisted}
+use Rattle.offset_allocator.proofs.AllocatorOf.compact.Goals as goal
+use Rattle.offset_allocator.proofs.AllocatorOf.compact.Goals.{After-slide-hole, After-push}
+use Rattle.offset_allocator.proofs.AllocatorOf.compact.Given.{Over}
+
+pub returns-in_default-clause-moved : goal.returns-in_default-clause-moved
+returns-in_default-clause-moved g c =
+    let r = packed (blocks (g.T.Tables.cells c.self.inside.store.tables).room c.self.inside.store.last) (sym c.first_free.ensures.first ∙ c.in_default.is) in
+    let none : moves 0 0 c.args.self.now.blocks ≡ [] = ap (λ (u : View). moves 0 0 u.blocks) (sym c.self.view_is) ∙ r.moves 0 in
+    rw none refl
+
+pub returns-in_default-clause-step : goal.returns-in_default-clause-step
+returns-in_default-clause-step g c =
+    let f : Fields = fields_of g.T.Tables.cells g.T.Index.NodeIndex.MAX c.self.inside in
+    let P : View → Type 0 = λ u. Compacts u (shown (record f { accesses = c.first_free.new.count })) in
+    subst P c.self.view_is (stays_packed f c.self.invariant c.first_free.new.count (sym c.first_free.ensures.first ∙ c.in_default.is))
+
+pub size-units-requires : goal.size-units-requires
+size-units-requires g c =
+    let o = first_is _ _ (sym c.first_free.ensures.first ∙ c.in-Some.is) in
+    (first_held (fields_of g.T.Tables.cells g.T.Index.NodeIndex.MAX c.self.inside) c.self.invariant o refl).below
+
+pub slide-hole-requires-clause-place : goal.slide-hole-requires-clause-place
+slide-hole-requires-clause-place g c =
+    let f : Fields = fields_of g.T.Tables.cells g.T.Index.NodeIndex.MAX c.self.inside in
+    let o = first_is _ _ (sym c.first_free.ensures.first ∙ c.in-Some.is) in
+    (_, _, kept_place c.empty.ensures.chain (first_held f c.self.invariant o refl), o.idle)
+
+first : (g : Over) (c : After-slide-hole g) → IsFirst (blocks (g.T.Tables.cells c.self.inside.store.tables).room c.self.inside.store.last) c.in-Some.first
+first g c = first_is _ _ (sym c.first_free.ensures.first ∙ c.in-Some.is)
+
+pub push-requires-clause-named : goal.push-requires-clause-named
+push-requires-clause-named g c =
+    let f : Fields = fields_of g.T.Tables.cells g.T.Index.NodeIndex.MAX c.self.inside in
+    let o = first g (goal.at.push-requires-clause-named g c).After-slide-hole in
+    let e = c.slide-hole.ensures.place _ _ (kept_place c.empty.ensures.chain (first_held f c.self.invariant o refl)) o.idle in
+    e.0.below
+
+pub push-requires-clause-idle : goal.push-requires-clause-idle
+push-requires-clause-idle g c =
+    let f : Fields = fields_of g.T.Tables.cells g.T.Index.NodeIndex.MAX c.self.inside in
+    let o = first g (goal.at.push-requires-clause-idle g c).After-slide-hole in
+    let e = c.slide-hole.ensures.place _ _ (kept_place c.empty.ensures.chain (first_held f c.self.invariant o refl)) o.idle in
+    ap (λ (v : Node). v.used) (at_place e.0)
+
+pub push-requires-clause-classed : goal.push-requires-clause-classed
+push-requires-clause-classed g c = omega (arith, down_small c.slide-hole.result.1, c.uint_to_float_round_down.ensures.is)
+
+pub push-requires-clause-held : goal.push-requires-clause-held
+push-requires-clause-held g c = rw (c.slide-hole.ensures.bins.0, c.slide-hole.ensures.bins.1) c.empty.ensures.held
+
+pub push-requires-clause-unlisted : goal.push-requires-clause-unlisted
+push-requires-clause-unlisted g c = empty_unlisted c.slide-hole.result.0 (ap (λ (k : Links). bins_in g.T.Index.NodeIndex.MAX k) c.slide-hole.ensures.bins.0 ∙ c.empty.ensures.lists)
+
+-- the fields that are left, and what they show
+done : (g : Over) (c : After-push g) (k : ℕ) (f : Fields) → f ≡ record (fields_of g.T.Tables.cells g.T.Index.NodeIndex.MAX c.self.inside) { cells = (g.T.Tables.cells c.push.new.store.tables); last = c.push.new.store.last; count = c.push.new.store.spare_count; top = c.push.new.store.top_mask; accesses = k }
+    → AreSound f × Compacts (shown (fields_of g.T.Tables.cells g.T.Index.NodeIndex.MAX c.self.inside)) (shown f)
+done g c k f is =
+    let old : Fields = fields_of g.T.Tables.cells g.T.Index.NodeIndex.MAX c.self.inside in
+    let o : IsFirst (blocks (g.T.Tables.cells c.self.inside.store.tables).room c.self.inside.store.last) c.in-Some.first = first_is _ _ (sym c.first_free.ensures.first ∙ c.in-Some.is) in
+    let e = c.slide-hole.ensures.place _ _ (kept_place c.empty.ensures.chain (first_held old c.self.invariant o refl)) o.idle in
+    let empty : bins_in g.T.Index.NodeIndex.MAX (g.T.Tables.cells c.slide-hole.new.store.tables).links ≡ replicate 256 [] = ap (λ (k : Links). bins_in g.T.Index.NodeIndex.MAX k) c.slide-hole.ensures.bins.0 ∙ c.empty.ensures.lists in
+    rw is (packs old c.self.invariant o (g.T.Tables.cells c.push.new.store.tables) _ _ c.slide-hole.result.0 c.slide-hole.result.1 (kept_place c.push.ensures.chain e.0) e.1 {accesses = k} c.push.ensures.held (rw (c.uint_to_float_round_down.ensures.is, empty) at c.push.ensures.lists))
+
+pub invariant_of-self-2 : goal.invariant_of-self-2
+invariant_of-self-2 g c = (done g (goal.at.invariant_of-self-2 g c).After-push 0 _ refl).0
+
+pub returns-clause-live : goal.returns-clause-live
+returns-clause-live g c =
+    let P : View → Type 0 = λ u. live (blocks (g.T.Tables.cells c.push.new.store.tables).room c.push.new.store.last) ≡ live u.blocks in
+    subst P c.self.view_is (compacts_live _ _ (done g (goal.at.returns-clause-live g c).After-push 0 _ refl).1)
+
+pub returns-clause-moved : goal.returns-clause-moved
+returns-clause-moved g c =
+    let f : Fields = fields_of g.T.Tables.cells g.T.Index.NodeIndex.MAX c.self.inside in
+    let o : IsFirst (blocks (g.T.Tables.cells c.self.inside.store.tables).room c.self.inside.store.last) c.in-Some.first = first_is _ _ (sym c.first_free.ensures.first ∙ c.in-Some.is) in
+    let p : Place = o.place in
+    let e = c.slide-hole.ensures.place _ _ (kept_place c.empty.ensures.chain (first_held f c.self.invariant o refl)) o.idle in
+    let from : 0 + (units p.before + p.block.size) ≡ units p.before + p.block.size = omega arith in
+    let to : 0 + units p.before ≡ units p.before = omega arith in
+    let same : moves 0 0 c.args.self.now.blocks ≡ moves (units p.before + p.block.size) (units p.before) p.after = ap (λ (u : View). moves 0 0 u.blocks) (sym c.self.view_is) ∙ o.moves 0 ∙ ap₂ (λ j k. moves j k p.after) from to in
+    rw same e.2
+
+pub returns-clause-accesses : goal.returns-clause-accesses
+returns-clause-accesses g c =
+    let f : Fields = fields_of g.T.Tables.cells g.T.Index.NodeIndex.MAX c.self.inside in
+    let o : IsFirst (blocks (g.T.Tables.cells c.self.inside.store.tables).room c.self.inside.store.last) c.in-Some.first = first_is _ _ (sym c.first_free.ensures.first ∙ c.in-Some.is) in
+    let p : Place = o.place in
+    let e = c.slide-hole.ensures.place _ _ (kept_place c.empty.ensures.chain (first_held f c.self.invariant o refl)) o.idle in
+    let long : length (blocks (g.T.Tables.cells c.self.inside.store.tables).room c.self.inside.store.last) ≡ length p.before + suc (length p.after) = ap (λ (l : List Block). length l) o.is ∙ length-append p.before (p.block ∷ p.after) in
+    let same : length (blocks (g.T.Tables.cells c.self.inside.store.tables).room c.self.inside.store.last) ≡ length c.args.self.now.blocks = ap (λ (u : View). length u.blocks) c.self.view_is in
+    let counted : c.self.inside.store.accesses ≡ c.args.self.now.accesses = ap (λ (u : View). u.accesses) c.self.view_is in (
+      omega (arith, same, counted, c.first_free.ensures.accesses, c.size-units.ensures.accesses, c.empty.ensures.accesses, c.slide-hole.ensures.accesses_min, c.push.ensures.accesses.0),
+      omega (arith, e.3, long, same, counted, c.first_free.ensures.accesses, c.size-units.ensures.accesses, c.empty.ensures.accesses, c.push.ensures.accesses.1),
+    )
+
+pub returns-in_default-clause-accesses : goal.returns-in_default-clause-accesses
+returns-in_default-clause-accesses g c =
+    let same : length (blocks (g.T.Tables.cells c.self.inside.store.tables).room c.self.inside.store.last) ≡ length c.args.self.now.blocks = ap (λ (u : View). length u.blocks) c.self.view_is in
+    let counted : c.self.inside.store.accesses ≡ c.args.self.now.accesses = ap (λ (u : View). u.accesses) c.self.view_is in
+    (omega (arith, same, counted, c.first_free.ensures.accesses), omega (arith, same, counted, c.first_free.ensures.accesses))
+
+pub returns-clause-step : goal.returns-clause-step
+returns-clause-step g c =
+    let P : View → Type 0 = λ u. Compacts u (shown (record (fields_of g.T.Tables.cells g.T.Index.NodeIndex.MAX c.self.inside) { cells = (g.T.Tables.cells c.push.new.store.tables); last = c.push.new.store.last; count = c.push.new.store.spare_count; top = c.push.new.store.top_mask; accesses = c.push.new.store.accesses })) in
+    subst P c.self.view_is (done g (goal.at.returns-clause-step g c).After-push c.push.new.store.accesses _ refl).1
+
+pub returns-in_default-clause-sizes : goal.returns-in_default-clause-sizes
+returns-in_default-clause-sizes g c =
+    let f : Fields = fields_of g.T.Tables.cells g.T.Index.NodeIndex.MAX c.self.inside in
+    let left : View = shown (record f { accesses = c.first_free.new.count }) in
+    let P : View → Type 0 = λ u. KeepsSizes u left in
+    subst P c.self.view_is (compacts_sizes (shown f) left (known_sound f c.self.invariant (shown f) refl).0 (stays_packed f c.self.invariant c.first_free.new.count (sym c.first_free.ensures.first ∙ c.in_default.is)))
+
+pub returns-clause-sizes : goal.returns-clause-sizes
+returns-clause-sizes g c =
+    let f : Fields = fields_of g.T.Tables.cells g.T.Index.NodeIndex.MAX c.self.inside in
+    let left : View = shown (record f { cells = (g.T.Tables.cells c.push.new.store.tables); last = c.push.new.store.last; count = c.push.new.store.spare_count; top = c.push.new.store.top_mask; accesses = c.push.new.store.accesses }) in
+    let P : View → Type 0 = λ u. KeepsSizes u left in
+    subst P c.self.view_is (compacts_sizes (shown f) left (known_sound f c.self.invariant (shown f) refl).0 (done g (goal.at.returns-clause-sizes g c).After-push c.push.new.store.accesses _ refl).1)
+
+pub returns-in_default-clause-accesses_some : goal.returns-in_default-clause-accesses_some
+returns-in_default-clause-accesses_some g c some =
+    let r = packed (blocks (g.T.Tables.cells c.self.inside.store.tables).room c.self.inside.store.last) (sym c.first_free.ensures.first ∙ c.in_default.is) in
+    absurd (some (ap (λ (u : View). free_sizes u.blocks) (sym c.self.view_is) ∙ r.sizes))

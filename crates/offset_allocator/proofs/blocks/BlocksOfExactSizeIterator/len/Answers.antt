@@ -1,0 +1,6 @@
+use Rattle.std.proofs.Common.{sym, ap, length, ◌∙◌}
+use Rattle.offset_allocator.proofs.Listing.{length-left}
+use Rattle.offset_allocator.proofs.blocks.BlocksOfExactSizeIterator.len.Goals as goal
+
+pub returns-clause-value : goal.returns-clause-value
+returns-clause-value g c = sym (length-left c.self.inside.left c.self.inside.allocator.now.blocks c.self.invariant.0) ∙ ap length c.self.view_is

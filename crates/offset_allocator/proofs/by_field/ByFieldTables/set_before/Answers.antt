@@ -1,0 +1,22 @@
+use Rattle.std.proofs.Common.{◌≡◌, ◌≢◌, ◌∙◌, ℕ, Bool, map, set, refl, ap, arith}
+use Rattle.std.proofs.lemmas.List.{get_or-set_same, get_or-set_other, length-set}
+use Rattle.offset_allocator.specs.Cells.{Node, node, put, link_of}
+use Rattle.offset_allocator.specs.Layouts.{FieldTables, node_in, field_tables}
+use Rattle.offset_allocator.proofs.Fields.{other, at, within, wrote-room, level_kept}
+use Rattle.offset_allocator.proofs.by_field.ByFieldTables.set_before.Goals as goal
+
+pub returns-clause-cells : goal.returns-clause-cells
+returns-clause-cells g c =
+    let t = c.self.inside in
+    let h = c.self.invariant in
+    let max : ℕ = g.NI.NodeIndex.MAX in
+    let x : ℕ = c.args.name in
+    let fs : FieldTables = field_tables g.NI.NodeIndex.number t in
+    let short = within _ _ t c.self.view_is x c.requires in
+    let u : FieldTables = record fs { before = map g.NI.NodeIndex.number (set t.before.items x c.args.link) } in
+    let off : (i : ℕ) → i ≢ x → node_in max u i ≡ node_in max fs i = λ i ne. rw (other g.NI.NodeIndex.number t.before.items x c.args.link i ne) refl in
+    let is : node_in max u x ≡ record (node_in max fs x) { before = link_of max (g.NI.NodeIndex.number c.args.link) } = rw (at g.NI.NodeIndex.number t.before.items x c.args.link (omega (arith, short, h.before))) refl in
+    wrote-room _ _ t c.self.view_is u x (λ (n : Node). record n { before = link_of max (g.NI.NodeIndex.number c.args.link) }) c.requires refl refl off is
+
+pub invariant_of-self : goal.invariant_of-self
+invariant_of-self g c = level_kept _ c.self.inside _ c.self.invariant refl refl (length-set c.self.inside.before.items c.args.name c.args.link) refl refl refl refl refl refl refl refl refl refl refl refl refl

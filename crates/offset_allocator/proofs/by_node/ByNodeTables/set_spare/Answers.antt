@@ -1,0 +1,7 @@
+use Rattle.std.proofs.lemmas.List.{map-set}
+use Rattle.offset_allocator.specs.Cells.{with_spare}
+use Rattle.offset_allocator.proofs.by_node.ByNodeTables.set_spare.Goals as goal
+
+pub returns-clause-cells : goal.returns-clause-cells
+unfolding with_spare
+returns-clause-cells g c = rw (← c.self.view_is) (simp map-set)
