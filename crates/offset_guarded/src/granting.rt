@@ -15,6 +15,7 @@ use crate::ticket::Ticket;
 use offset_allocator::{Allocation, Allocator, NodeIndex};
 
 // Gives the next serial to a grant.
+#[inline(always)]
 fn ticket_for<NI: NodeIndex>(
     space: &Allocator<NI>,
     serials: &mut Serials,
@@ -50,6 +51,7 @@ impl<NI: NodeIndex> Guarded<NI> {
     /// next serial.
     ///
     /// `None` is returned where that call returns `None`, and where all serials are given; then nothing changes.
+    #[inline(always)]
     pub fn allocate(&mut self, size: u32) -> Option<Ticket>
         // It is granted exactly when a serial is left and the allocator can grant it: for at least one unit, when
         // `size` is at most the reported `largest_free_region`.

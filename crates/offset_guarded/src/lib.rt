@@ -120,6 +120,7 @@ impl<NI: NodeIndex> Guarded<NI> {
     }
 
     // The handle of a live ticket.
+    #[inline(always)]
     fn handle(&self, ticket: Ticket) -> Option<Allocation<NI>>
         ensures live { IsSome result ↔ IsLive ticket self.now }
         ensures range { IfSome result (λ h. (h.name ≡ ticket.name)
@@ -199,6 +200,7 @@ impl<NI: NodeIndex> Guarded<NI> {
     ///
     /// It reads one serial, and makes at most 136 accesses to the tables of the allocator: 8 to see whether the name is
     /// live, and 128 to free it.
+    #[inline(always)]
     pub fn free(&mut self, ticket: Ticket) -> bool
         // It is done exactly when the ticket is live.
         ensures done { IsTrue result ↔ IsLive ticket self.old }

@@ -9,6 +9,7 @@ use crate::ticket::Ticket;
 use offset_allocator::{Allocation, Allocator, NodeIndex};
 
 // Gives the next serial to a grant.
+#[inline(always)]
 fn ticket_for<NI: NodeIndex>(
     space: &Allocator<NI>,
     serials: &mut Serials,
@@ -30,6 +31,7 @@ impl<NI: NodeIndex> Guarded<NI> {
     /// next serial.
     ///
     /// `None` is returned where that call returns `None`, and where all serials are given; then nothing changes.
+    #[inline(always)]
     pub fn allocate(&mut self, size: u32) -> Option<Ticket> {
         if self.serials.is_spent() {
             return None;

@@ -98,6 +98,7 @@ impl<NI: NodeIndex> Guarded<NI> {
     }
 
     // The handle of a live ticket.
+    #[inline(always)]
     fn handle(&self, ticket: Ticket) -> Option<Allocation<NI>> {
         if ticket.realm != self.realm || ticket.serial != self.serials.at(ticket.name) {
             return None;
@@ -157,6 +158,7 @@ impl<NI: NodeIndex> Guarded<NI> {
     ///
     /// It reads one serial, and makes at most 136 accesses to the tables of the allocator: 8 to see whether the name is
     /// live, and 128 to free it.
+    #[inline(always)]
     pub fn free(&mut self, ticket: Ticket) -> bool {
         match self.handle(ticket) {
             None => false,
