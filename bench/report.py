@@ -12,6 +12,11 @@ TIMED = sys.argv[4:] != ["counts"]
 MEASURE, PLAIN, SITES = f"{OUT}/measure", f"{OUT}/measure_plain", f"{OUT}/measure_sites"
 # the sides, and the prefix of their measured functions
 SIDES = {"original": "original", "ours": "offset", "erased": "erased", "c": "tuned"}
+# the sides with tables of their own, the prefix of each, and the side that it is compared with
+BESIDE = {"by field": ("by_field", "ours"), "guarded": ("guarded", "erased"), "ours guarded": ("offset_guarded", "ours")}
+PREFIXES = {**SIDES, **{side: prefix for side, (prefix, _) in BESIDE.items()}}
+# in how many rounds the sides are timed
+ROUNDS = int(os.environ.get("ROUNDS", 9))
 # the ways to compact a space, with the prefix `compacting` of their measured functions
 WAYS = ("compact", "reset", "free")
 # callgrind counts each byte that a `rep stosb` of memset writes as an instruction, so memset must use vectors
@@ -20,6 +25,8 @@ COUNTED = {**os.environ, "GLIBC_TUNABLES": "glibc.cpu.x86_rep_stosb_threshold=40
 APART = {**os.environ, "GLIBC_TUNABLES": "glibc.malloc.mmap_threshold=131072"}
 # tables are in huge pages, where the system allows it
 HUGE = {**os.environ, "GLIBC_TUNABLES": "glibc.malloc.hugetlb=1"}
+# what malloc holds is counted
+HEAP = {**os.environ, "LD_PRELOAD": f"{OUT}/heap.so"}
 # the data cache that is simulated: its level, its bytes, its ways, and the bytes of a line
 LEVEL, CACHE = 1, "32768,8,64"
 # Larger ratios are bold: ours to the original's time, to its instructions, to C's; erased to the original's time, to its
@@ -32,6 +39,8 @@ REACH_INSTRUCTIONS = {"frames of 60,000": 0.68}
 REACH_COST = 2000
 REACH_MISSES = {"random, 60k live": 3.4, "random, a million live": 2.0}
 REACH_NODE, REACH_MORE = 28, 65_536
+# the time of the guarded side, in parts of the erased one's
+REACH_GUARDED = 1.10
 # workloads whose construction takes about as long as their steps
 LONG = ("random, a million live", "random, 10,000,000 nodes")
 # the workload whose memory is measured, and the node limits with which it is
@@ -64,7 +73,7 @@ def counted(function, *words, program=PLAIN):
 def a_step(name, side, function, steps, program=PLAIN):
     """The instructions and the cache misses of a step, without the construction of the tables, each computed in two ways,
     which have to agree."""
-    runs = zip(*(counted(f"{SIDES[side]}_{function}", "play", name, side, what, program=program) for what in ("all", "none")))
+    runs = zip(*(counted(f"{PREFIXES[side]}_{function}", "play", name, side, what, program=program) for what in ("all", "none")))
     inside, whole = ([a - b for a, b in zip(*both)] for both in runs)
     # they differ by what is loaded at a first call, and by the loop that constructs tables
     for one, other, most in zip(inside, whole, (50_000, 500)):
@@ -83,10 +92,29 @@ def refusals(name, sides, seconds=0):
     return int(ended.stdout)
 
 
+def heap_bytes(name, side, *nodes):
+    """The bytes of a side after construction, and the most that a run adds, counted in two ways that have to agree."""
+    out = subprocess.run([MEASURE, "heap", name, side, *map(str, nodes)], env=HEAP, check=True, capture_output=True, text=True).stdout
+    made, made_again, more, more_again = map(int, out.split())
+    for one, other in ((made, made_again), (more, more_again)):
+        # a block with its own pages has a longer header
+        assert abs(one - other) <= 4096 + one / 100, f"{name}, {side}: {one} bytes, or {other}"
+    return made, more
+
+
+class Beside(NamedTuple):
+    """A side in parts of the one that it is compared with: the time of a step, its instructions, and its cache misses;
+    and its nanoseconds."""
+    time: float
+    instructions: float
+    misses: float
+    ns: float
+
+
 class Row(NamedTuple):
     """The measurements of a workload. Of a step on each side: the nanoseconds of the fastest run, those with the
     construction, those without aligned branches, the instructions, the cache misses, and in each round the nanoseconds;
-    and the instructions with other call sites."""
+    the instructions with other call sites; and the sides with tables of their own."""
     name: str
     kind: str
     nodes: int
@@ -97,13 +125,14 @@ class Row(NamedTuple):
     misses: list
     rounds: list
     sites: dict
+    beside: dict
 
 
-def timed(name, program, env=None):
+def timed(name, program, env=None, sides=SIDES):
     """Of each side the nanoseconds of a step, those with the construction, and those of each round."""
     if not TIMED:
-        return [1.0] * len(SIDES), [1.0] * len(SIDES), []
-    rows = [[float(x) for x in row] for row in lines("time", name, *SIDES, program=program, env=env)]
+        return [1.0] * len(sides), [1.0] * len(sides), []
+    rows = [[float(x) for x in row] for row in lines("time", name, *sides, program=program, env=env)]
     ns, _processor, whole, *rounds = map(list, zip(*rows))
     return ns, whole, rounds
 
@@ -117,20 +146,24 @@ def measurements(part=""):
     """A row for each workload with this text in its name."""
     work = [row for row in lines("list") if part in row[0]]
     with ThreadPoolExecutor(os.cpu_count()) as pool:
-        list(pool.map(lambda row: refusals(row[0], SIDES), work))
+        list(pool.map(lambda row: refusals(row[0], PREFIXES), work))
     # a single step takes too short a time
-    nothing = ([math.nan] * len(SIDES), [math.nan] * len(SIDES), [])
-    times = {name: timed(name, MEASURE) if kind != "last" else nothing for name, *_, kind in work}
+    nothing = ([math.nan] * len(PREFIXES), [math.nan] * len(PREFIXES), [])
+    times = {name: timed(name, MEASURE, sides=PREFIXES) if kind != "last" else nothing for name, *_, kind in work}
     shown = lambda name, kind: kind == "steps" and not name.startswith("growth")
     plain = {name: timed(name, PLAIN)[0] for name, *_, kind in work if shown(name, kind)}
-    counts = in_parallel(a_step, [(name, side, function, int(count)) for name, _nodes, _space, count, function, _kind in work for side in SIDES])
+    counts = in_parallel(a_step, [(name, side, function, int(count)) for name, _nodes, _space, count, function, _kind in work for side in PREFIXES])
     sites = in_parallel(a_step, [(name, side, function, int(count), SITES) for name, _nodes, _space, count, function, kind in work
                                  for side in ("original", "erased") if shown(name, kind)])
     for name, nodes, _space, count, function, kind in work:
         ns, whole, rounds = times[name]
-        instructions, misses = map(list, zip(*(counts[name, side, function, int(count)] for side in SIDES)))
+        instructions, misses = map(list, zip(*(counts[name, side, function, int(count)] for side in PREFIXES)))
+        found = {side: row for side, *row in zip(PREFIXES, ns, instructions, misses)}
+        parts = lambda side, base: Beside(*(a / b if b else math.nan for a, b in zip(found[side], found[base])), found[side][0])
+        beside = {side: parts(side, base) for side, (_, base) in BESIDE.items()}
         others = {job[1]: found[0] for job, found in sites.items() if job[0] == name}
-        yield Row(name, kind, int(nodes), ns, whole, plain.get(name), instructions, misses, rounds, others)
+        ns, whole, instructions, misses, *rounds = (row[:len(SIDES)] for row in (ns, whole, instructions, misses, *rounds))
+        yield Row(name, kind, int(nodes), ns, whole, plain.get(name), instructions, misses, rounds, others, beside)
 
 
 def resident():
@@ -283,6 +316,35 @@ def compacting_table(rows):
         yield f"| {live:,} | " + " | ".join([*map(number, ns + count), *ratios]) + " |"
 
 
+def part(value, most=math.inf):
+    """A ratio, or nothing where there is none."""
+    return "" if math.isnan(value) else cell(value, most)
+
+
+def by_field_table(rows):
+    """Ours with a table for each field of a node, in parts of ours with one table of nodes."""
+    yield "| workload | ns: by field | time | instructions | cache misses |"
+    yield "|---|" + "---:|" * 4
+    for row in rows:
+        found = row.beside["by field"]
+        ns = "" if math.isnan(found.ns) else number(found.ns)
+        yield f"| {row.name} | {ns} | {part(found.time)} | {part(found.instructions)} | {part(found.misses)} |"
+
+
+def guarded_table(rows):
+    """The sides with tickets, in parts of those with handles."""
+    yield "| workload | ns: guarded | erased: time | instructions | cache misses | bytes | ours: time | instructions | cache misses |"
+    yield "|---|" + "---:|" * 8
+    names = [row.name for row in rows if row.kind == "steps"]
+    bytes_of = in_parallel(lambda name, side: sum(heap_bytes(name, side)), [(name, side) for name in names for side in ("erased", "guarded")])
+    for row in rows:
+        erased, ours = row.beside["guarded"], row.beside["ours guarded"]
+        ns = "" if math.isnan(erased.ns) else number(erased.ns)
+        more = part(bytes_of[row.name, "guarded"] / bytes_of[row.name, "erased"]) if row.name in names else ""
+        cells = [ns, part(erased.time, REACH_GUARDED), part(erased.instructions), part(erased.misses), more, *map(part, ours[:3])]
+        yield f"| {row.name} | " + " | ".join(cells) + " |"
+
+
 COLOURS = {"original": "#c0392b", "ours": "#2471a3", "erased": "#1e8449", "c": "#7d8a8f"}
 NAMES = {"original": "original", "ours": "ours", "erased": "erased", "c": "C"}
 
@@ -380,8 +442,8 @@ def main():
     special_count = ", ".join(f"{most:.2f} for *{words}*" for words, most in REACH_INSTRUCTIONS.items())
     head = [
         "# Results", "",
-        "Times are the fastest of nine runs, or of three where a run takes a fifth of a second, in nanoseconds; instructions are "
-        "counted by callgrind. Both are per step, without the construction of the tables.",
+        f"Times are the fastest of {ROUNDS} runs, or of {min(ROUNDS, 3)} where a run takes a fifth of a second, in nanoseconds; "
+        "instructions are counted by callgrind. Both are per step, without the construction of the tables.",
         "All sides returned the same offsets and refusals, and no live ranges overlap or leave the space. In bold: more than "
         f"{REACH[0]:.2f} of the original's time ({special}), {REACH[1]:.2f} of its instructions ({special_count}), or "
         f"{REACH[2]:.2f} of C's; for the erased side more than {REACH[3]:.2f} of the original's time, or {REACH[4]:.2f} of its "
@@ -394,7 +456,13 @@ def main():
              "## What an allocator costs", "",
              "Each allocator is made and dropped before the next; with 10 grants between, these are counted with it. A reset of 10 "
              "live ranges takes too short a time. In bold: a construction or a reset of ours or of the erased side with more than "
-             f"{REACH_COST:,} instructions.", "", *costs_table(costs), ""]
+             f"{REACH_COST:,} instructions.", "", *costs_table(costs), "",
+             "## By field", "",
+             "Ours with a table for each field of a node, in parts of ours with one table of nodes.", "", *by_field_table(rows), "",
+             "## Tickets", "",
+             "The erased side with tickets, in parts of it with handles, and ours likewise. The bytes are those that the library "
+             "holds; besides, the caller keeps 24 bytes for a ticket, and 8 for a handle. In bold: more than "
+             f"{REACH_GUARDED:.2f} of the time. [README.md](README.md#tickets) has the reasons.", "", *guarded_table(rows), ""]
     if not PART or PART in RESIDENT:
         shown += ["## Resident memory", "",
                   f"The bytes that become resident in a run of *{RESIDENT}*, those of the player included. In bold: more than "

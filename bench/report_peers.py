@@ -1,7 +1,7 @@
 """Measures the linked peers beside the original and ours, and writes PEERS.md and peers.svg into the folder $2."""
-import math, os, pathlib, subprocess
+import math, os, pathlib
 from concurrent.futures import ThreadPoolExecutor
-from report import COLOURS, HERE, MEASURE, lines, number, page, refusals, spread, text
+from report import COLOURS, HERE, heap_bytes, lines, number, page, refusals, spread, text
 
 # the seconds that a run may take
 CAP = 5
@@ -13,7 +13,6 @@ NAMES = {"original": "original", "ours": "ours", "vma": "VMA", "vma_min": "VMA, 
 COLOURS = {**COLOURS, "vma": "#d68910", "vma_min": "#7e5109", "u_mm": "#8e44ad", "util_vma": "#148f77"}
 # workloads by their number of live ranges
 LIVE = {1_000: "random, 1k live", 16_000: "random, 16k live", 60_000: "random, 60k live"}
-COUNTED = {**os.environ, "LD_PRELOAD": f"{HERE}/out/heap.so"}
 
 with open(f"{HERE}/out/peers.txt") as file:
     VERSIONS = dict(line.rstrip("\n").split("\t") for line in file)
@@ -73,16 +72,6 @@ def refusals_table(rows):
         if any(refused.values()):
             cells = ["" if refused[side] is None else f"{refused[side]:,}" for side in SIDES[1:]]
             yield f"| {name} | " + " | ".join(cells) + " |"
-
-
-def heap_bytes(name, side, *nodes):
-    """The bytes of a side after construction, and the most that a run adds, counted in two ways that have to agree."""
-    out = subprocess.run([MEASURE, "heap", name, side, *map(str, nodes)], env=COUNTED, check=True, capture_output=True, text=True).stdout
-    made, made_again, more, more_again = map(int, out.split())
-    for one, other in ((made, made_again), (more, more_again)):
-        # a block with its own pages has a longer header
-        assert abs(one - other) <= 4096 + one / 100, f"{name}, {side}: {one} bytes, or {other}"
-    return made, more
 
 
 def memory(rows):

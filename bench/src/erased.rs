@@ -1,75 +1,57 @@
-//! Ours as plain Rust, with the same calls as the other sides.
-use crate::workloads::Step;
+//! Ours as plain Rust.
+use crate::peers::REFUSED;
+use crate::player::{exported, Space};
 use offset_allocator_proved::{Allocation, Allocator, Global, NodeIndex};
 
-#[inline(always)]
-fn take<NI: NodeIndex>(space: &mut Allocator<NI>, slot: &mut Option<Allocation<NI>>, size: u32) -> u64 {
-    match *slot {
-        None => match space.allocate(size) {
-            None => 1 << 32,
-            Some(handle) => {
-                *slot = Some(handle);
-                handle.offset.into()
+impl<NI: NodeIndex> Space for Allocator<NI> {
+    type Slot = Option<Allocation<NI>>;
+    const EMPTY: Self::Slot = None;
+
+    #[inline(always)]
+    fn make(size: u32, max_allocs: u32) -> Self {
+        Allocator::with_max_allocs(Global, size, max_allocs).unwrap()
+    }
+
+    #[inline(always)]
+    fn request(&mut self, slot: &mut Self::Slot, size: u32) -> u64 {
+        match self.allocate(size) {
+            None => REFUSED,
+            Some(range) => {
+                *slot = Some(range);
+                range.offset.into()
             }
-        },
-        Some(handle) => {
-            *slot = None;
-            // asserts that the handle is live
-            space.free(handle);
-            1 << 33
         }
+    }
+
+    #[inline(always)]
+    fn release(&mut self, slot: &mut Self::Slot) -> bool {
+        match *slot {
+            None => false,
+            Some(range) => {
+                *slot = None;
+                self.free(range);
+                true
+            }
+        }
+    }
+
+    #[inline(always)]
+    fn clear(&mut self) {
+        self.reset();
+    }
+
+    #[inline(always)]
+    fn free_units(&self) -> u64 {
+        self.storage_report().total_free_space.into()
     }
 }
 
-#[inline(always)]
-unsafe fn play<NI: NodeIndex>(size: u32, max_allocs: u32, slots: usize, steps: *const Step, count: usize) -> u64 {
-    let steps = std::slice::from_raw_parts(steps, count);
-    let mut space = Allocator::<NI>::with_max_allocs(Global, size, max_allocs).unwrap();
-    let mut slots: Vec<Option<Allocation<NI>>> = vec![None; slots];
-    let mut sum = 0u64;
-    for step in steps {
-        match slots.get_mut(step.slot as usize) {
-            None => space.reset(),
-            Some(slot) => sum = sum.wrapping_mul(31).wrapping_add(take(&mut space, slot, step.size)),
-        }
-    }
-    sum
-}
+exported! { erased_play_32 erased_make_32 Allocator<u32> }
+exported! { erased_play_16 erased_make_16 Allocator<u16> }
 
-fn make<NI: NodeIndex>(size: u32, max_allocs: u32) -> u64 {
-    let space = Allocator::<NI>::with_max_allocs(Global, size, max_allocs).unwrap();
-    space.storage_report().total_free_space.into()
-}
-
-/// A second place that requests a range, frees one, and resets a space, as a program has several: a function with one
-/// call site is compiled into it, and saves the call.
 #[cfg(not(feature = "other-sites"))]
-#[inline(always)]
-fn elsewhere<NI: NodeIndex>(space: &mut Allocator<NI>, size: u32) -> bool {
-    match space.allocate(size) {
-        Some(handle) => space.free(handle),
-        None => space.reset(),
-    }
-    space.storage_report().total_free_space == size
+mod second {
+    use super::Allocator;
+    crate::player::second_site! { erased_elsewhere_32 Allocator<u32> }
+    crate::player::second_site! { erased_elsewhere_16 Allocator<u16> }
 }
-
-macro_rules! exported { ($play:ident $make:ident $elsewhere:ident $width:ty) => {
-    #[no_mangle]
-    #[inline(never)]
-    pub unsafe extern "C" fn $play(size: u32, max_allocs: u32, slots: usize, steps: *const Step, count: usize) -> u64 {
-        play::<$width>(size, max_allocs, slots, steps, count)
-    }
-    #[no_mangle]
-    #[inline(never)]
-    pub unsafe extern "C" fn $make(size: u32, max_allocs: u32) -> u64 {
-        make::<$width>(size, max_allocs)
-    }
-    #[cfg(not(feature = "other-sites"))]
-    #[no_mangle]
-    #[inline(never)]
-    pub fn $elsewhere(space: &mut Allocator<$width>, size: u32) -> bool {
-        elsewhere(space, size)
-    }
-} }
-exported! { erased_play_32 erased_make_32 erased_elsewhere_32 u32 }
-exported! { erased_play_16 erased_make_16 erased_elsewhere_16 u16 }

@@ -19,8 +19,11 @@ mod check;
 #[cfg(not(feature = "other-sites"))]
 mod compacting;
 mod erased;
+#[cfg(not(feature = "other-sites"))]
+mod guarded;
 mod original;
 mod peers;
+mod player;
 mod sides;
 mod threads;
 mod traces;
@@ -31,8 +34,9 @@ use std::ffi::{c_char, c_void};
 use std::time::Instant;
 use workloads::{Step, Width, Work, Workload, RESET};
 
-const RUNS: usize = 9;
-/// The number of runs where each takes a fifth of a second or more.
+/// The number of rounds, where the environment has no `ROUNDS`.
+const ROUNDS: usize = 9;
+/// The most rounds where a run takes a fifth of a second or more.
 const LONG_RUNS: usize = 3;
 const LONG: f64 = 0.2e9;
 
@@ -84,7 +88,8 @@ fn times(w: &Workload, sides: &[Side]) -> Vec<([f64; 3], Vec<f64>)> {
     let mut fastest = vec![[[f64::MAX; 2]; 2]; sides.len()];
     let mut runs = vec![Vec::new(); sides.len()];
     let a_step = |[all, none]: [[f64; 2]; 2], by: usize| (all[by] - none[by]) / w.count() as f64;
-    for _ in 0..RUNS {
+    let rounds = std::env::var("ROUNDS").map_or(ROUNDS, |rounds| rounds.parse().unwrap());
+    for _ in 0..rounds {
         for (s, side) in sides.iter().enumerate() {
             if runs[s].len() >= LONG_RUNS && fastest[s][0][0] >= LONG {
                 continue;

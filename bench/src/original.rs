@@ -1,89 +1,59 @@
-//! The original, with the same calls as the other sides.
-use crate::workloads::Step;
+//! The original.
+use crate::peers::REFUSED;
+use crate::player::{exported, Space};
 use offset_allocator::{Allocation, Allocator, NodeIndex};
 
-/// An offset of the original, which has the index type.
-trait Offset: NodeIndex {
-    fn offset(self) -> u64;
-}
-impl Offset for u32 {
-    fn offset(self) -> u64 {
-        self.into()
-    }
-}
-impl Offset for u16 {
-    fn offset(self) -> u64 {
-        self.into()
-    }
-}
+impl<NI: NodeIndex + Into<u64>> Space for Allocator<NI> {
+    type Slot = Option<Allocation<NI>>;
+    const EMPTY: Self::Slot = None;
 
-#[inline(always)]
-fn take<NI: Offset>(space: &mut Allocator<NI>, slot: &mut Option<Allocation<NI>>, size: u32) -> u64 {
-    match *slot {
-        None => match space.allocate(size) {
-            None => 1 << 32,
-            Some(handle) => {
-                *slot = Some(handle);
-                handle.offset.offset()
+    #[inline(always)]
+    fn make(size: u32, max_allocs: u32) -> Self {
+        Allocator::with_max_allocs(size, max_allocs)
+    }
+
+    #[inline(always)]
+    fn request(&mut self, slot: &mut Self::Slot, size: u32) -> u64 {
+        match self.allocate(size) {
+            None => REFUSED,
+            Some(range) => {
+                *slot = Some(range);
+                // its offset has the index type
+                range.offset.into()
             }
-        },
-        Some(handle) => {
-            *slot = None;
-            // asserts that the handle is live
-            space.free(handle);
-            1 << 33
         }
+    }
+
+    #[inline(always)]
+    fn release(&mut self, slot: &mut Self::Slot) -> bool {
+        match *slot {
+            None => false,
+            Some(range) => {
+                *slot = None;
+                self.free(range);
+                true
+            }
+        }
+    }
+
+    #[inline(always)]
+    fn clear(&mut self) {
+        self.reset();
+    }
+
+    #[inline(always)]
+    fn free_units(&self) -> u64 {
+        self.storage_report().total_free_space.into()
     }
 }
 
-#[inline(always)]
-unsafe fn play<NI: Offset>(size: u32, max_allocs: u32, slots: usize, steps: *const Step, count: usize) -> u64 {
-    let steps = std::slice::from_raw_parts(steps, count);
-    let mut space = Allocator::<NI>::with_max_allocs(size, max_allocs);
-    let mut slots: Vec<Option<Allocation<NI>>> = vec![None; slots];
-    let mut sum = 0u64;
-    for step in steps {
-        match slots.get_mut(step.slot as usize) {
-            None => space.reset(),
-            Some(slot) => sum = sum.wrapping_mul(31).wrapping_add(take(&mut space, slot, step.size)),
-        }
-    }
-    sum
-}
+exported! { original_play_32 original_make_32 Allocator<u32> }
+exported! { original_play_16 original_make_16 Allocator<u16> }
 
-fn make<NI: Offset>(size: u32, max_allocs: u32) -> u64 {
-    let space = Allocator::<NI>::with_max_allocs(size, max_allocs);
-    space.storage_report().total_free_space.into()
-}
-
-/// A second place that requests a range, frees one, and resets a space. In the tables the original has none.
+/// In the tables the original has one call site of each function.
 #[cfg(feature = "other-sites")]
-#[inline(always)]
-fn elsewhere<NI: Offset>(space: &mut Allocator<NI>, size: u32) -> bool {
-    match space.allocate(size) {
-        Some(handle) => space.free(handle),
-        None => space.reset(),
-    }
-    space.storage_report().total_free_space == size
+mod second {
+    use super::Allocator;
+    crate::player::second_site! { original_elsewhere_32 Allocator<u32> }
+    crate::player::second_site! { original_elsewhere_16 Allocator<u16> }
 }
-
-macro_rules! exported { ($play:ident $make:ident $elsewhere:ident $width:ty) => {
-    #[no_mangle]
-    #[inline(never)]
-    pub unsafe extern "C" fn $play(size: u32, max_allocs: u32, slots: usize, steps: *const Step, count: usize) -> u64 {
-        play::<$width>(size, max_allocs, slots, steps, count)
-    }
-    #[no_mangle]
-    #[inline(never)]
-    pub unsafe extern "C" fn $make(size: u32, max_allocs: u32) -> u64 {
-        make::<$width>(size, max_allocs)
-    }
-    #[cfg(feature = "other-sites")]
-    #[no_mangle]
-    #[inline(never)]
-    pub fn $elsewhere(space: &mut Allocator<$width>, size: u32) -> bool {
-        elsewhere(space, size)
-    }
-} }
-exported! { original_play_32 original_make_32 original_elsewhere_32 u32 }
-exported! { original_play_16 original_make_16 original_elsewhere_16 u16 }

@@ -1,9 +1,14 @@
-//! Whole runs over one allocator, each a single C call, which `bench/` measures from Rust. These functions have no
-//! contracts; those that they call are proved.
+//! Whole runs over one space, each a single C call, which `bench/` measures from Rust: of an allocator with one table of
+//! nodes (`offset`), of one with a table for each field (`by_field`), and of one with tickets (`offset_guarded`). These
+//! functions have no contracts; those that they call are proved.
 #![tactic(auto)]
 
-use offset_allocator::{Allocation, Allocator, NodeIndex};
-use std::alloc::{AllocError, Global};
+mod space;
+
+use offset_allocator::{Allocator, AllocatorOf, ByField};
+use offset_guarded::Guarded;
+use space::Space;
+use std::alloc::Global;
 
 /// One step of a run: a request of this size where the slot is empty, else the release of its grant. A step past the
 /// last slot resets the space.
@@ -14,67 +19,37 @@ pub struct Step {
     pub size: u32,
 }
 
-// The parts of no handle. An `Option` of a handle takes 12 bytes, its parts take 8.
-const EMPTY: (u32, u32) = (0, u32::MAX);
-
-// Takes a step on a slot, which has the parts of a handle, or is empty. It returns the offset of a grant, 2^32 for a
-// refusal, and 2^33 for a release.
-fn take<NI: NodeIndex>(space: &mut Allocator<NI>, slot: &mut (u32, u32), size: u32) -> u64 {
-    match Allocation::<NI>::from_parts(slot.0, slot.1) {
-        None => match space.allocate(size) {
-            None => 1 << 32,
-            Some(handle) => {
-                *slot = handle.to_parts();
-                u64::from(handle.offset)
-            }
-        },
-        Some(handle) => {
-            *slot = EMPTY;
-            if space.is_live(handle) {
-                space.free(handle);
-            }
-            1 << 33
-        }
-    }
-}
-
-// Plays the steps on a new allocator, and returns a checksum of their results.
-fn play<NI: NodeIndex>(
-    alloc: Global,
-    size: u32,
-    max_allocs: u32,
-    slots: usize,
-    steps: &[Step],
-) -> Result<u64, AllocError> {
-    if max_allocs < 2 || max_allocs >= NI::MAX - 1 {
-        return Ok(0);
-    }
-    let mut space: Allocator<NI> = Allocator::with_max_allocs(alloc, size, max_allocs)?;
-    let mut slots: Vec<(u32, u32)> = Vec::from_elem(alloc, EMPTY, slots)?;
+// Plays the steps on a new space, and returns a checksum of their results, or 0 where the space cannot be made.
+fn play<S: Space>(alloc: Global, size: u32, max_allocs: u32, slots: usize, steps: &[Step]) -> u64 {
+    let Some(mut space) = S::make(alloc, size, max_allocs) else {
+        return 0;
+    };
+    let Ok(mut slots) = Vec::from_elem(alloc, S::empty(), slots) else {
+        return 0;
+    };
     let mut sum = 0u64;
     for step in steps {
         match slots.get_mut(step.slot as usize) {
-            None => space.reset(),
+            None => space.clear(),
             Some(slot) => {
                 sum = sum
                     .wrapping_mul(31)
-                    .wrapping_add(take(&mut space, slot, step.size))
+                    .wrapping_add(space.take(slot, step.size))
             }
         }
     }
-    Ok(sum)
+    sum
 }
 
-// Makes an allocator, and returns what is free then.
-fn make<NI: NodeIndex>(alloc: Global, size: u32, max_allocs: u32) -> Result<u64, AllocError> {
-    if max_allocs < 2 || max_allocs >= NI::MAX - 1 {
-        return Ok(0);
+// Makes a space, and returns what is free then, or 0 where it cannot be made.
+fn make<S: Space>(alloc: Global, size: u32, max_allocs: u32) -> u64 {
+    match S::make(alloc, size, max_allocs) {
+        None => 0,
+        Some(space) => u64::from(space.free_units()),
     }
-    let space: Allocator<NI> = Allocator::with_max_allocs(alloc, size, max_allocs)?;
-    Ok(u64::from(space.storage_report().total_free_space))
 }
 
-/// Plays the steps with node indices of 32 bits. It returns the checksum, or 0 where an allocation fails.
+/// Plays the steps on a space with one table of nodes, and node indices of 32 bits.
 #[unsafe(no_mangle)]
 pub extern "C" fn offset_play_32(
     alloc: Global,
@@ -83,10 +58,16 @@ pub extern "C" fn offset_play_32(
     slots: usize,
     steps: &[Step],
 ) -> u64 {
-    play::<u32>(alloc, size, max_allocs, slots, steps).unwrap_or(0)
+    play::<Allocator<u32>>(alloc, size, max_allocs, slots, steps)
 }
 
-/// Plays the steps with node indices of 16 bits. It returns the checksum, or 0 where an allocation fails.
+/// Makes a space with one table of nodes, and node indices of 32 bits.
+#[unsafe(no_mangle)]
+pub extern "C" fn offset_make_32(alloc: Global, size: u32, max_allocs: u32) -> u64 {
+    make::<Allocator<u32>>(alloc, size, max_allocs)
+}
+
+/// Plays the steps on a space with one table of nodes, and node indices of 16 bits.
 #[unsafe(no_mangle)]
 pub extern "C" fn offset_play_16(
     alloc: Global,
@@ -95,17 +76,83 @@ pub extern "C" fn offset_play_16(
     slots: usize,
     steps: &[Step],
 ) -> u64 {
-    play::<u16>(alloc, size, max_allocs, slots, steps).unwrap_or(0)
+    play::<Allocator<u16>>(alloc, size, max_allocs, slots, steps)
 }
 
-/// The free units of a new space, with names of 32 bits. It is 0 where an allocation fails.
-#[unsafe(no_mangle)]
-pub extern "C" fn offset_make_32(alloc: Global, size: u32, max_allocs: u32) -> u64 {
-    make::<u32>(alloc, size, max_allocs).unwrap_or(0)
-}
-
-/// The free units of a new space, with names of 16 bits. It is 0 where an allocation fails.
+/// Makes a space with one table of nodes, and node indices of 16 bits.
 #[unsafe(no_mangle)]
 pub extern "C" fn offset_make_16(alloc: Global, size: u32, max_allocs: u32) -> u64 {
-    make::<u16>(alloc, size, max_allocs).unwrap_or(0)
+    make::<Allocator<u16>>(alloc, size, max_allocs)
+}
+
+/// Plays the steps on a space with a table for each field, and node indices of 32 bits.
+#[unsafe(no_mangle)]
+pub extern "C" fn by_field_play_32(
+    alloc: Global,
+    size: u32,
+    max_allocs: u32,
+    slots: usize,
+    steps: &[Step],
+) -> u64 {
+    play::<AllocatorOf<ByField<u32>>>(alloc, size, max_allocs, slots, steps)
+}
+
+/// Makes a space with a table for each field, and node indices of 32 bits.
+#[unsafe(no_mangle)]
+pub extern "C" fn by_field_make_32(alloc: Global, size: u32, max_allocs: u32) -> u64 {
+    make::<AllocatorOf<ByField<u32>>>(alloc, size, max_allocs)
+}
+
+/// Plays the steps on a space with a table for each field, and node indices of 16 bits.
+#[unsafe(no_mangle)]
+pub extern "C" fn by_field_play_16(
+    alloc: Global,
+    size: u32,
+    max_allocs: u32,
+    slots: usize,
+    steps: &[Step],
+) -> u64 {
+    play::<AllocatorOf<ByField<u16>>>(alloc, size, max_allocs, slots, steps)
+}
+
+/// Makes a space with a table for each field, and node indices of 16 bits.
+#[unsafe(no_mangle)]
+pub extern "C" fn by_field_make_16(alloc: Global, size: u32, max_allocs: u32) -> u64 {
+    make::<AllocatorOf<ByField<u16>>>(alloc, size, max_allocs)
+}
+
+/// Plays the steps on a space with tickets, and node indices of 32 bits.
+#[unsafe(no_mangle)]
+pub extern "C" fn offset_guarded_play_32(
+    alloc: Global,
+    size: u32,
+    max_allocs: u32,
+    slots: usize,
+    steps: &[Step],
+) -> u64 {
+    play::<Guarded<u32>>(alloc, size, max_allocs, slots, steps)
+}
+
+/// Makes a space with tickets, and node indices of 32 bits.
+#[unsafe(no_mangle)]
+pub extern "C" fn offset_guarded_make_32(alloc: Global, size: u32, max_allocs: u32) -> u64 {
+    make::<Guarded<u32>>(alloc, size, max_allocs)
+}
+
+/// Plays the steps on a space with tickets, and node indices of 16 bits.
+#[unsafe(no_mangle)]
+pub extern "C" fn offset_guarded_play_16(
+    alloc: Global,
+    size: u32,
+    max_allocs: u32,
+    slots: usize,
+    steps: &[Step],
+) -> u64 {
+    play::<Guarded<u16>>(alloc, size, max_allocs, slots, steps)
+}
+
+/// Makes a space with tickets, and node indices of 16 bits.
+#[unsafe(no_mangle)]
+pub extern "C" fn offset_guarded_make_16(alloc: Global, size: u32, max_allocs: u32) -> u64 {
+    make::<Guarded<u16>>(alloc, size, max_allocs)
 }
