@@ -1,4 +1,5 @@
 pub mod Calls
 pub mod Histories
+pub mod Playing
 pub mod Steps
 pub mod Tickets

@@ -2,7 +2,7 @@
 //!
 //! `offset_script` plays the commands of a script. Here `shrink`, `grow_in_place` and `compact`, and the questions for
 //! an offset and for the reason of a refusal, are calls too. The answers are proved to be those of the plain stamped
-//! list of blocks, which `specs/Calls.antt` extends by these calls, for every lawful index type.
+//! list of blocks, which `specs/Calls.antt` extends by these calls, for every lawful layout and index type.
 #![tactic(auto)]
 
 mod calls;
@@ -13,4 +13,4 @@ mod playing;
 
 pub use calls::{Call, Moved, Reply, are_valid};
 pub use guarded::{Played, TicketCall, play_guarded};
-pub use playing::play_calls;
+pub use playing::{play_calls, play_calls_of};

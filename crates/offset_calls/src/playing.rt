@@ -3,17 +3,17 @@
 ghost use Rattle.std.specs.Prelude.{◌≡◌, ◌+◌, ◌-◌, ◌<◌, ◌≤◌, ◌++◌, ◌∷◌, [], All, IfOk, IsTrue, ℕ, Some, drop, false};
 ghost use Rattle.std.specs.Prelude.{if◌then◌else◌, length, map};
 ghost use Rattle.offset_allocator.specs.Compacting.{Compacts, live, moves};
-ghost use Rattle.offset_script.specs.Steps.{kept_name, AreLive, AreOfARun};
+ghost use Rattle.offset_script.specs.Steps.{kept_name, AreLive};
 ghost use Rattle.offset_script.specs.Machine as machine;
-ghost use Rattle.offset_script.specs.Machine.{start};
-ghost use Rattle.offset_calls.specs.Calls.{is_valid, move_view, replies, reply_view};
+ghost use Rattle.offset_calls.specs.Calls.{is_valid, move_view, reply_view};
 ghost use Rattle.offset_calls.specs.Calls as plain;
+ghost use Rattle.offset_calls.specs.Playing.{AreReplies};
 ghost use Rattle.offset_calls.specs.Steps.{AreKept, AreMoves, Takes, joined};
 
 use crate::calls::{Call, Moved, Reply};
 use offset_allocator::laws::is_well_formed;
-use offset_allocator::{Allocation, Allocator, Move, NodeIndex};
-use offset_script::{Answer, Player};
+use offset_allocator::{Allocation, AllocatorOf, ByNode, Move, NodeIndex, Tables};
+use offset_script::{Answer, PlayerOf};
 use std::alloc::{AllocError, Global};
 
 // The reply to a call that was to resize a range.
@@ -28,7 +28,7 @@ pub(crate) fn resized(done: bool) -> Reply
 }
 
 // The reply to `Shrink`.
-fn shrink<NI: NodeIndex>(player: &mut Player<NI>, number: u32, size: u32) -> Reply
+fn shrink<T: Tables>(player: &mut PlayerOf<T>, number: u32, size: u32) -> Reply
     requires { AreLive player.old.space player.old.handles.items }
     ensures { Takes (Call.Shrink number size) player.old.space player.old.handles.items
         player.new.space player.new.handles.items (reply_view result) }
@@ -40,7 +40,7 @@ fn shrink<NI: NodeIndex>(player: &mut Player<NI>, number: u32, size: u32) -> Rep
 }
 
 // The reply to `Grow`.
-fn grow<NI: NodeIndex>(player: &mut Player<NI>, number: u32, size: u32) -> Reply
+fn grow<T: Tables>(player: &mut PlayerOf<T>, number: u32, size: u32) -> Reply
     requires { AreLive player.old.space player.old.handles.items }
     ensures { Takes (Call.Grow number size) player.old.space player.old.handles.items
         player.new.space player.new.handles.items (reply_view result) }
@@ -70,10 +70,7 @@ fn number_of<NI: NodeIndex>(handles: &[Option<Allocation<NI>>], handle: Allocati
 }
 
 // The numbers of the live ranges, in space order.
-fn numbers_of_live<NI: NodeIndex>(
-    alloc: Global,
-    player: &Player<NI>,
-) -> Result<Vec<u64>, AllocError>
+fn numbers_of_live<T: Tables>(alloc: Global, player: &PlayerOf<T>) -> Result<Vec<u64>, AllocError>
     requires { AreKept player.now.space player.now.handles.items }
     ensures { IfOk result (λ ks. map (kept_name player.now.handles.items) ks.items
         ≡ map (λ b. Some b.name) (live player.now.space.blocks)) }
@@ -118,8 +115,8 @@ impl Moves {
     }
 }
 
-// Compacts a space, and collects the moves.
-fn collect<NI: NodeIndex>(space: &mut Allocator<NI>, seen: &mut Moves)
+// Compacts a space, and collects the moves. Its index type has a name of its own, which keeps the proof short.
+fn collect<NI: NodeIndex, T: Tables<Index = NI>>(space: &mut AllocatorOf<T>, seen: &mut Moves)
     requires { seen.old.found.items ≡ [] }
     ensures moves { seen.new.is_refused ≡ false
         → AreMoves seen.new.found.items (moves 0 0 space.old.blocks) }
@@ -153,7 +150,7 @@ pub(crate) fn numbered(
 }
 
 // The reply to `Compact`. All ranges after the first one that moves are moved too.
-fn compact<NI: NodeIndex>(alloc: Global, player: &mut Player<NI>) -> Result<Reply, AllocError>
+fn compact<T: Tables>(alloc: Global, player: &mut PlayerOf<T>) -> Result<Reply, AllocError>
     requires { AreKept player.old.space player.old.handles.items }
     ensures { IfOk result (λ r. Takes Call.Compact player.old.space player.old.handles.items
         player.new.space player.new.handles.items (reply_view r)) }
@@ -171,7 +168,7 @@ fn compact<NI: NodeIndex>(alloc: Global, player: &mut Player<NI>) -> Result<Repl
 }
 
 // The reply to `Offset`.
-fn offset<NI: NodeIndex>(player: &Player<NI>, number: u32) -> Reply
+fn offset<T: Tables>(player: &PlayerOf<T>, number: u32) -> Reply
     requires { AreLive player.now.space player.now.handles.items }
     ensures { Takes (Call.Offset number) player.now.space player.now.handles.items
         player.now.space player.now.handles.items (reply_view result) }
@@ -184,9 +181,9 @@ fn offset<NI: NodeIndex>(player: &Player<NI>, number: u32) -> Reply
 }
 
 // The reply to one call.
-fn reply<NI: NodeIndex>(
+fn reply<T: Tables>(
     alloc: Global,
-    player: &mut Player<NI>,
+    player: &mut PlayerOf<T>,
     call: Call,
 ) -> Result<Reply, AllocError>
     requires live { AreLive player.old.space player.old.handles.items }
@@ -211,10 +208,10 @@ fn reply<NI: NodeIndex>(
 /// Plays calls on an allocator of `size` units with the node limit `max_allocs`, and returns the replies in order, one
 /// for each.
 ///
-/// The limit has to be 2 to `NI::MAX - 2`, and each alignment a power of two. All replies are kept in memory. It fails
-/// only where an allocation fails. A compaction looks for the number of each live range among all grants so far; every
-/// other call costs what it costs in the allocator.
-pub fn play_calls<NI: NodeIndex>(
+/// The limit has to be 2 to `T::Index::MAX - 2`, and each alignment a power of two. All replies are kept in memory. It
+/// fails only where an allocation fails. A compaction looks for the number of each live range among all grants so far;
+/// every other call costs what it costs in the allocator.
+pub fn play_calls_of<T: Tables>(
     alloc: Global,
     size: u32,
     max_allocs: u32,
@@ -223,17 +220,14 @@ pub fn play_calls<NI: NodeIndex>(
     // The node limit is at least 2.
     requires low { 2 ≤ max_allocs }
     // The index type admits the node limit.
-    requires high { max_allocs + 1 < NI.MAX }
+    requires high { max_allocs + 1 < T.Index.MAX }
     // Each alignment is a power of two.
     requires valid { All (λ c. IsTrue (is_valid c)) calls.now }
-    // The replies are those of the plain machine to these calls, from one free block of `size` units.
-    ensures replies { IfOk result (λ found. map reply_view found.items
-        ≡ replies calls.now (start size max_allocs)) }
-    // They are those of a run of the allocator's named steps on a fresh space.
-    ensures run { IfOk result (λ found. AreOfARun Takes size max_allocs calls.now
-        (map reply_view found.items)) }
+    // The replies are those of the plain machine to these calls, from one free block of `size` units, and of a run of
+    // the allocator's named steps.
+    ensures { IfOk result (λ found. AreReplies size max_allocs calls.now (map reply_view found.items)) }
 {
-    let mut player: Player<NI> = Player::start(alloc, size, max_allocs)?;
+    let mut player: PlayerOf<T> = PlayerOf::start(alloc, size, max_allocs)?;
     // A step of the proof, which does nothing, here and below.
     is_well_formed(&player.space);
     let mut found = Vec::new(alloc);
@@ -243,4 +237,19 @@ pub fn play_calls<NI: NodeIndex>(
         found.push(reply)?;
     }
     Ok(found)
+}
+
+/// `play_calls_of` by node: the layout that takes the least time. The limit has to be 2 to `NI::MAX - 2`.
+pub fn play_calls<NI: NodeIndex>(
+    alloc: Global,
+    size: u32,
+    max_allocs: u32,
+    calls: &[Call],
+) -> Result<Vec<Reply>, AllocError>
+    requires low { 2 ≤ max_allocs }
+    requires high { max_allocs + 1 < NI.MAX }
+    requires valid { All (λ c. IsTrue (is_valid c)) calls.now }
+    ensures { IfOk result (λ found. AreReplies size max_allocs calls.now (map reply_view found.items)) }
+{
+    play_calls_of::<ByNode<NI>>(alloc, size, max_allocs, calls)
 }

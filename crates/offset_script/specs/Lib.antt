@@ -3,6 +3,7 @@ pub mod Faults
 pub mod Grammar
 pub mod Histories
 pub mod Machine
+pub mod Playing
 pub mod Running
 pub mod Spelling
 pub mod Steps

@@ -17,7 +17,7 @@ mod tokens;
 pub use answers::{Answer, FullRow};
 pub use devices::{FromRead, IntoWrite, Sink, Source};
 pub use faults::{RunFault, ScriptFault};
-pub use playing::{Player, full_answer, play, play_script};
+pub use playing::{Player, PlayerOf, full_answer, play, play_of, play_script};
 pub use program::run_program;
 pub use reading::parse;
 pub use running::{read_script, run};

@@ -2,10 +2,10 @@
 
 ghost use Rattle.std.specs.Prelude.{◌≡◌, ◌+◌, ◌<◌, ◌≤◌, ℕ, IsTrue, All, [], length, map, slice_index_or, vec_len};
 ghost use Rattle.std.specs.Prelude.{None, IfOk, IfSome, option_map};
-ghost use Rattle.offset_script.specs.Steps.{kept_name, IsKept, Takes, AreLive, AreOfARun};
+ghost use Rattle.offset_script.specs.Steps.{kept_name, IsKept, Takes, AreLive};
 ghost use Rattle.offset_script.specs.Machine as machine;
-ghost use Rattle.offset_script.specs.Machine.{answer_view, answers, start, IsPlayed};
-ghost use Rattle.offset_script.specs.Histories.{HasFreshRestarts, HasCommutingRows, HasTracelessNests};
+ghost use Rattle.offset_script.specs.Machine.{answer_view, IsPlayed};
+ghost use Rattle.offset_script.specs.Playing.{AreAnswers};
 ghost use Rattle.offset_script.specs.Grammar.{has_valid_alignment};
 ghost use Rattle.offset_allocator.specs.View.{free_sizes};
 ghost use Rattle.offset_allocator.specs.Relations.{IsFresh};
@@ -13,14 +13,11 @@ ghost use Rattle.offset_allocator.specs.Relations.{IsFresh};
 use crate::answers::{Answer, FullRow};
 use crate::scripts::{Command, IndexWidth, Script};
 use offset_allocator::laws::is_well_formed;
-use offset_allocator::{Allocation, Allocator, NodeIndex};
+use offset_allocator::{Allocation, AllocatorOf, ByNode, NodeIndex, Tables};
 use std::alloc::{AllocError, Global};
 
 /// The answer to `full`: a row for each class that has a free block. It fails only where an allocation fails.
-pub fn full_answer<NI: NodeIndex>(
-    alloc: Global,
-    space: &Allocator<NI>,
-) -> Result<Answer, AllocError>
+pub fn full_answer<T: Tables>(alloc: Global, space: &AllocatorOf<T>) -> Result<Answer, AllocError>
     ensures { IfOk result (λ a. answer_view a ≡ machine.full_report (free_sizes space.now.blocks)) }
 {
     let report = space.storage_report_full();
@@ -38,28 +35,32 @@ pub fn full_answer<NI: NodeIndex>(
     Ok(Answer::Full(rows))
 }
 
+/// A player of an allocator by node.
+pub type Player<NI = u32> = PlayerOf<ByNode<NI>>;
+
 /// An allocator, with the handles of its live grants: it takes commands one by one.
 #[derive(Drop)]
-pub struct Player<NI: NodeIndex> {
+pub struct PlayerOf<T: Tables> {
     /// The allocator.
-    pub space: Allocator<NI>,
+    pub space: AllocatorOf<T>,
     /// The handle of grant k is at k - 1 while the grant is live.
-    pub handles: Vec<Option<Allocation<NI>>>,
+    pub handles: Vec<Option<Allocation<T::Index>>>,
     // Resets have removed the first handles, up to this number.
     swept: usize,
     ghost within: { swept ≤ vec_len handles },
     ghost gone: { (k : ℕ) → k < swept → slice_index_or handles.items k None ≡ None },
 }
 
-impl<NI: NodeIndex> Player<NI> {
-    /// A fresh space, and no grants. The limit has to be 2 to `NI::MAX - 2`. It fails only where an allocation fails.
+impl<T: Tables> PlayerOf<T> {
+    /// A fresh space, and no grants. The limit has to be 2 to `T::Index::MAX - 2`. It fails only where an allocation
+    /// fails.
     pub fn start(alloc: Global, size: u32, max_allocs: u32) -> Result<Self, AllocError>
         requires low { 2 ≤ max_allocs }
-        requires high { max_allocs + 1 < NI.MAX }
+        requires high { max_allocs + 1 < T.Index.MAX }
         ensures { IfOk result (λ p. IsFresh size max_allocs p.space × (p.handles.items ≡ [])) }
     {
-        let space = Allocator::with_max_allocs(alloc, size, max_allocs)?;
-        Ok(Player {
+        let space = AllocatorOf::with_max_allocs(alloc, size, max_allocs)?;
+        Ok(PlayerOf {
             space,
             handles: Vec::new(alloc),
             swept: 0,
@@ -67,7 +68,7 @@ impl<NI: NodeIndex> Player<NI> {
     }
 
     /// The handle of the grant of this number, if it is live.
-    pub fn handle(&self, number: u32) -> Option<Allocation<NI>>
+    pub fn handle(&self, number: u32) -> Option<Allocation<T::Index>>
         ensures name { option_map (λ h. h.name) result ≡ kept_name self.now.handles.items number }
         ensures within { IfSome result (λ h. (1 ≤ number)
             × (number ≤ length self.now.handles.items)) }
@@ -82,7 +83,7 @@ impl<NI: NodeIndex> Player<NI> {
     }
 
     // The answer to a request with this result. The handle of a grant is kept under the next number.
-    fn keep(&mut self, granted: Option<Allocation<NI>>) -> Result<Answer, AllocError>
+    fn keep(&mut self, granted: Option<Allocation<T::Index>>) -> Result<Answer, AllocError>
         ensures handle { IfOk result (λ a. IsKept granted self.old.handles.items
             self.new.handles.items (answer_view a)) }
         ensures space { self.new.space ≡ self.old.space }
@@ -202,9 +203,9 @@ impl<NI: NodeIndex> Player<NI> {
 /// Plays commands on an allocator of `size` units with the node limit `max_allocs`, and returns their answers in order,
 /// one for each.
 ///
-/// The limit has to be 2 to `NI::MAX - 2`, and each alignment a power of two. All answers are kept in memory. It fails
-/// only where an allocation fails: of the allocator's tables, of the list of handles, or of the answers.
-pub fn play<NI: NodeIndex>(
+/// The limit has to be 2 to `T::Index::MAX - 2`, and each alignment a power of two. All answers are kept in memory. It
+/// fails only where an allocation fails: of the allocator's tables, of the list of handles, or of the answers.
+pub fn play_of<T: Tables>(
     alloc: Global,
     size: u32,
     max_allocs: u32,
@@ -213,29 +214,14 @@ pub fn play<NI: NodeIndex>(
     // The node limit is at least 2.
     requires low { 2 ≤ max_allocs }
     // The index type admits the node limit.
-    requires high { max_allocs + 1 < NI.MAX }
+    requires high { max_allocs + 1 < T.Index.MAX }
     // Each alignment is a power of two.
     requires powers { All (λ c. IsTrue (has_valid_alignment c)) commands.now }
-    // The answers are those of the plain machine to these commands, from one free block of `size` units.
-    ensures answers { IfOk result (λ found. map answer_view found.items
-        ≡ answers commands.now (start size max_allocs)) }
-    // They are those of a run of the allocator's named steps on a fresh space.
-    ensures run { IfOk result (λ found. AreOfARun Takes size max_allocs commands.now
-        (map answer_view found.items)) }
-    // Wherever no grant is live, the answers from there on are those of a fresh machine over as many units, with the
-    // number of the grants so far added to its grant numbers.
-    ensures fresh { IfOk result (λ found. HasFreshRestarts size max_allocs commands.now
-        (map answer_view found.items)) }
-    // After releases in a row, the next answer, without the offset of a grant, is that of a space where each run of
-    // free and released neighbours is one free block: so the order of the releases does not matter.
-    ensures rows { IfOk result (λ found. HasCommutingRows size max_allocs commands.now
-        (map answer_view found.items)) }
-    // After a nest, whose grants are released in reverse order, the answers are those without the nest, except that its
-    // grants have taken numbers.
-    ensures nests { IfOk result (λ found. HasTracelessNests size max_allocs commands.now
-        (map answer_view found.items)) }
+    // The answers are those of the plain machine to these commands, from one free block of `size` units, and of a run
+    // of the allocator's named steps; and three laws hold of them.
+    ensures { IfOk result (λ found. AreAnswers size max_allocs commands.now (map answer_view found.items)) }
 {
-    let mut player: Player<NI> = Player::start(alloc, size, max_allocs)?;
+    let mut player: PlayerOf<T> = PlayerOf::start(alloc, size, max_allocs)?;
     // A step of the proof, which does nothing, here and below.
     is_well_formed(&player.space);
     let mut found = Vec::new(alloc);
@@ -245,6 +231,21 @@ pub fn play<NI: NodeIndex>(
         found.push(answer)?;
     }
     Ok(found)
+}
+
+/// `play_of` by node: the layout that takes the least time. The limit has to be 2 to `NI::MAX - 2`.
+pub fn play<NI: NodeIndex>(
+    alloc: Global,
+    size: u32,
+    max_allocs: u32,
+    commands: &[Command],
+) -> Result<Vec<Answer>, AllocError>
+    requires low { 2 ≤ max_allocs }
+    requires high { max_allocs + 1 < NI.MAX }
+    requires powers { All (λ c. IsTrue (has_valid_alignment c)) commands.now }
+    ensures { IfOk result (λ found. AreAnswers size max_allocs commands.now (map answer_view found.items)) }
+{
+    play_of::<ByNode<NI>>(alloc, size, max_allocs, commands)
 }
 
 /// Plays a script on an allocator of its index width, and returns the answers to its commands in order, one for each.

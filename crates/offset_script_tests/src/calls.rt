@@ -1,8 +1,8 @@
-//! Lists of calls, with replies computed by hand, for each index type.
+//! Lists of calls, with replies computed by hand, for each layout and index type.
 
 use crate::asserts::{assert_same, assert_text, assert_that};
-use offset_allocator::NodeIndex;
-use offset_calls::{Call, are_valid, play_calls};
+use offset_allocator::{ByField, ByNode, NodeIndex, Tables};
+use offset_calls::{Call, are_valid, play_calls_of};
 use offset_script::Command;
 use offset_test_base::tiny::Tiny;
 use std::alloc::Global;
@@ -152,11 +152,11 @@ fn calls_of(rt: &impl Abort, alloc: Global, list: &List) -> Vec<Call> {
     calls
 }
 
-fn expect_replies<NI: NodeIndex>(rt: &impl Abort, alloc: Global, list: &List) {
-    assert_that(rt, 2 <= list.limit && list.limit < NI::MAX - 1);
+fn expect_replies<T: Tables>(rt: &impl Abort, alloc: Global, list: &List) {
+    assert_that(rt, 2 <= list.limit && list.limit < T::Index::MAX - 1);
     let calls = calls_of(rt, alloc, list);
     assert_that(rt, are_valid(&calls));
-    let replies = play_calls::<NI>(alloc, list.size, list.limit, &calls).expect(rt, "memory");
+    let replies = play_calls_of::<T>(alloc, list.size, list.limit, &calls).expect(rt, "memory");
     assert_same(rt, &replies.len(), &list.rows.len());
     for (reply, (_, wanted)) in replies.iter().zip(list.rows.iter()) {
         assert_text(rt, alloc, reply, wanted);
@@ -166,10 +166,13 @@ fn expect_replies<NI: NodeIndex>(rt: &impl Abort, alloc: Global, list: &List) {
 #[test]
 fn resizes_and_compacts(rt: HostRuntime) {
     for list in [RESIZES, AT_THE_LIMIT, OF_NO_UNITS] {
-        expect_replies::<u32>(&rt, rt.alloc(), &list);
-        expect_replies::<u16>(&rt, rt.alloc(), &list);
+        expect_replies::<ByNode<u32>>(&rt, rt.alloc(), &list);
+        expect_replies::<ByNode<u16>>(&rt, rt.alloc(), &list);
+        expect_replies::<ByField<u32>>(&rt, rt.alloc(), &list);
+        expect_replies::<ByField<u16>>(&rt, rt.alloc(), &list);
         if list.limit <= 5 {
-            expect_replies::<Tiny>(&rt, rt.alloc(), &list);
+            expect_replies::<ByNode<Tiny>>(&rt, rt.alloc(), &list);
+            expect_replies::<ByField<Tiny>>(&rt, rt.alloc(), &list);
         }
     }
 }

@@ -1,8 +1,8 @@
 //! What scripts and texts give, for the tests to compare.
 
 use crate::asserts::{assert_same, assert_that};
-use offset_allocator::NodeIndex;
-use offset_script::{FromRead, IntoWrite, Script, play, run};
+use offset_allocator::{ByField, ByNode, NodeIndex, Tables};
+use offset_script::{FromRead, IntoWrite, Script, play_of, run};
 use offset_test_base::tiny::Tiny;
 use std::alloc::Global;
 use std::process::Abort;
@@ -19,22 +19,27 @@ pub fn outcome(rt: &impl Abort, alloc: Global, text: &[u8]) -> String {
     written
 }
 
-/// The answers to a script by one index type, as text.
-pub fn answers_with<NI: NodeIndex>(rt: &impl Abort, alloc: Global, script: &Script) -> String {
-    assert_that(rt, script.max_allocs < NI::MAX - 1);
-    let played = play::<NI>(alloc, script.size, script.max_allocs, &script.commands);
+/// The answers to a script by one layout, as text.
+pub fn answers_with<T: Tables>(rt: &impl Abort, alloc: Global, script: &Script) -> String {
+    assert_that(rt, script.max_allocs < T::Index::MAX - 1);
+    let played = play_of::<T>(alloc, script.size, script.max_allocs, &script.commands);
     let answers = played.expect(rt, "memory");
     format!(in alloc; "{answers:?}").expect(rt, "memory")
 }
 
-/// Expects these answers to a script by both index types, and by a third where it admits the limit.
+fn expect_with<T: Tables>(rt: &impl Abort, alloc: Global, script: &Script, wanted: &str) {
+    let found = answers_with::<T>(rt, alloc, script);
+    assert_same(rt, &found.as_str(), &wanted);
+}
+
+/// Expects these answers to a script by each layout, with both index types, and a third where it admits the limit.
 pub fn expect_answers(rt: &impl Abort, alloc: Global, script: &Script, wanted: &str) {
-    let wide = answers_with::<u32>(rt, alloc, script);
-    assert_same(rt, &wide.as_str(), &wanted);
-    let narrow = answers_with::<u16>(rt, alloc, script);
-    assert_same(rt, &narrow.as_str(), &wanted);
+    expect_with::<ByNode<u32>>(rt, alloc, script, wanted);
+    expect_with::<ByNode<u16>>(rt, alloc, script, wanted);
+    expect_with::<ByField<u32>>(rt, alloc, script, wanted);
+    expect_with::<ByField<u16>>(rt, alloc, script, wanted);
     if script.max_allocs <= 5 {
-        let tiny = answers_with::<Tiny>(rt, alloc, script);
-        assert_same(rt, &tiny.as_str(), &wanted);
+        expect_with::<ByNode<Tiny>>(rt, alloc, script, wanted);
+        expect_with::<ByField<Tiny>>(rt, alloc, script, wanted);
     }
 }

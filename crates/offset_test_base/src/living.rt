@@ -1,11 +1,11 @@
 //! The calls on a living heap: questions, a walk over it, a resize in place, and a compaction.
 
-use offset_allocator::{Allocation, Allocator, Move, NodeIndex};
+use offset_allocator::{Allocation, AllocatorOf, Move, Tables};
 
 // Resizes a range in place, if its handle is live. It returns the size and the offset of the range then.
-fn resize<NI: NodeIndex>(
-    allocator: &mut Allocator<NI>,
-    handle: Allocation<NI>,
+fn resize<T: Tables>(
+    allocator: &mut AllocatorOf<T>,
+    handle: Allocation<T::Index>,
     size: u32,
 ) -> (u32, Option<u32>) {
     if allocator.is_live(handle) {
@@ -22,12 +22,12 @@ fn resize<NI: NodeIndex>(
 }
 
 // The offsets of all blocks, and those of all moves of a compaction, as one number.
-fn compact<NI: NodeIndex>(allocator: &mut Allocator<NI>) -> u32 {
+fn compact<T: Tables>(allocator: &mut AllocatorOf<T>) -> u32 {
     let mut sum = 0u32;
     for block in allocator.blocks() {
         sum = sum.wrapping_mul(31).wrapping_add(block.offset);
     }
-    allocator.compact(&mut |range: Move<NI>| {
+    allocator.compact(&mut |range: Move<T::Index>| {
         sum = sum
             .wrapping_mul(31)
             .wrapping_add(range.from)
@@ -38,9 +38,9 @@ fn compact<NI: NodeIndex>(allocator: &mut Allocator<NI>) -> u32 {
 }
 
 /// Makes each of these calls, those on one range with the handle. It returns a checksum of their results.
-pub fn living_calls<NI: NodeIndex>(
-    allocator: &mut Allocator<NI>,
-    handle: Option<Allocation<NI>>,
+pub fn living_calls<T: Tables>(
+    allocator: &mut AllocatorOf<T>,
+    handle: Option<Allocation<T::Index>>,
     size: u32,
 ) -> u32 {
     let is_granted = allocator.refusal(size).is_none();

@@ -6,14 +6,11 @@ use crate::memory::Vec;
 use crate::answers::{Answer, FullRow};
 use crate::scripts::{Command, IndexWidth, Script};
 use offset_allocator::laws::is_well_formed;
-use offset_allocator::{Allocation, Allocator, NodeIndex};
+use offset_allocator::{Allocation, AllocatorOf, ByNode, NodeIndex, Tables};
 use crate::memory::{AllocError, Global};
 
 /// The answer to `full`: a row for each class that has a free block. It fails only where an allocation fails.
-pub fn full_answer<NI: NodeIndex>(
-    alloc: Global,
-    space: &Allocator<NI>,
-) -> Result<Answer, AllocError> {
+pub fn full_answer<T: Tables>(alloc: Global, space: &AllocatorOf<T>) -> Result<Answer, AllocError> {
     let report = space.storage_report_full();
     let mut rows = Vec::new(alloc);
     for class in 0..256u32 {
@@ -29,24 +26,28 @@ pub fn full_answer<NI: NodeIndex>(
     Ok(Answer::Full(rows))
 }
 
+/// A player of an allocator by node.
+pub type Player<NI = u32> = PlayerOf<ByNode<NI>>;
+
 /// An allocator, with the handles of its live grants: it takes commands one by one.
-pub struct Player<NI: NodeIndex> {
+pub struct PlayerOf<T: Tables> {
     /// The allocator.
-    pub space: Allocator<NI>,
+    pub space: AllocatorOf<T>,
     /// The handle of grant k is at k - 1 while the grant is live.
-    pub handles: Vec<Option<Allocation<NI>>>,
+    pub handles: Vec<Option<Allocation<T::Index>>>,
     // Resets have removed the first handles, up to this number.
     swept: usize,
 }
 
-impl<NI: NodeIndex> Player<NI> {
-    /// A fresh space, and no grants. The limit has to be 2 to `NI::MAX - 2`. It fails only where an allocation fails.
+impl<T: Tables> PlayerOf<T> {
+    /// A fresh space, and no grants. The limit has to be 2 to `T::Index::MAX - 2`. It fails only where an allocation
+    /// fails.
     #[track_caller]
     pub fn start(alloc: Global, size: u32, max_allocs: u32) -> Result<Self, AllocError> {
         assert!(2 <= max_allocs, "max_allocs must be at least 2");
-        assert!(max_allocs < NI::MAX - 1, "max_allocs must be at most NI::MAX - 2");
-        let space = Allocator::with_max_allocs(alloc, size, max_allocs)?;
-        Ok(Player {
+        assert!(max_allocs < T::Index::MAX - 1, "max_allocs must be at most NI::MAX - 2");
+        let space = AllocatorOf::with_max_allocs(alloc, size, max_allocs)?;
+        Ok(PlayerOf {
             space,
             handles: Vec::new(alloc),
             swept: 0,
@@ -54,7 +55,7 @@ impl<NI: NodeIndex> Player<NI> {
     }
 
     /// The handle of the grant of this number, if it is live.
-    pub fn handle(&self, number: u32) -> Option<Allocation<NI>> {
+    pub fn handle(&self, number: u32) -> Option<Allocation<T::Index>> {
         if number == 0 {
             return None;
         }
@@ -65,7 +66,7 @@ impl<NI: NodeIndex> Player<NI> {
     }
 
     // The answer to a request with this result. The handle of a grant is kept under the next number.
-    fn keep(&mut self, granted: Option<Allocation<NI>>) -> Result<Answer, AllocError> {
+    fn keep(&mut self, granted: Option<Allocation<T::Index>>) -> Result<Answer, AllocError> {
         match granted {
             None => Ok(Answer::Refused),
             Some(handle) => {
@@ -155,8 +156,31 @@ impl<NI: NodeIndex> Player<NI> {
 /// Plays commands on an allocator of `size` units with the node limit `max_allocs`, and returns their answers in order,
 /// one for each.
 ///
-/// The limit has to be 2 to `NI::MAX - 2`, and each alignment a power of two. All answers are kept in memory. It fails
-/// only where an allocation fails: of the allocator's tables, of the list of handles, or of the answers.
+/// The limit has to be 2 to `T::Index::MAX - 2`, and each alignment a power of two. All answers are kept in memory. It
+/// fails only where an allocation fails: of the allocator's tables, of the list of handles, or of the answers.
+#[track_caller]
+pub fn play_of<T: Tables>(
+    alloc: Global,
+    size: u32,
+    max_allocs: u32,
+    commands: &[Command],
+) -> Result<Vec<Answer>, AllocError> {
+    assert!(2 <= max_allocs, "max_allocs must be at least 2");
+    assert!(max_allocs < T::Index::MAX - 1, "max_allocs must be at most NI::MAX - 2");
+    assert!(commands.iter().all(|c| !matches!(c, Command::Align(_, align) if !align.is_power_of_two())), "each alignment must be a power of two");
+    let mut player: PlayerOf<T> = PlayerOf::start(alloc, size, max_allocs)?;
+    // A step of the proof, which does nothing, here and below.
+    is_well_formed(&player.space);
+    let mut found = Vec::new(alloc);
+    for command in commands {
+        let answer = player.call(alloc, *command)?;
+        is_well_formed(&player.space);
+        found.push(answer)?;
+    }
+    Ok(found)
+}
+
+/// `play_of` by node: the layout that takes the least time. The limit has to be 2 to `NI::MAX - 2`.
 #[track_caller]
 pub fn play<NI: NodeIndex>(
     alloc: Global,
@@ -167,16 +191,7 @@ pub fn play<NI: NodeIndex>(
     assert!(2 <= max_allocs, "max_allocs must be at least 2");
     assert!(max_allocs < NI::MAX - 1, "max_allocs must be at most NI::MAX - 2");
     assert!(commands.iter().all(|c| !matches!(c, Command::Align(_, align) if !align.is_power_of_two())), "each alignment must be a power of two");
-    let mut player: Player<NI> = Player::start(alloc, size, max_allocs)?;
-    // A step of the proof, which does nothing, here and below.
-    is_well_formed(&player.space);
-    let mut found = Vec::new(alloc);
-    for command in commands {
-        let answer = player.call(alloc, *command)?;
-        is_well_formed(&player.space);
-        found.push(answer)?;
-    }
-    Ok(found)
+    play_of::<ByNode<NI>>(alloc, size, max_allocs, commands)
 }
 
 /// Plays a script on an allocator of its index width, and returns the answers to its commands in order, one for each.

@@ -1,66 +1,68 @@
 //! Constructors where allocations fail.
 
 use super::attempts::{Attempt, Outcome, right_if};
-use super::ladder::{COARSE, FINE, expect_refusals};
-use offset_allocator::{Allocator, NodeIndex};
+use super::ladder::{COARSE, FINE, Steps, expect_refusals};
+use offset_allocator::{AllocatorOf, ByField, ByNode, NodeIndex, Tables};
 use offset_test_base::tiny::Tiny;
 use std::alloc::{AllocError, Global};
+use std::marker::PhantomData;
+use std::process::Abort;
 
+// Makes an allocator with a node limit, or without one.
 #[derive(Drop)]
-enum Constructor {
-    New16,
-    New32,
-    Limited16(u32),
-    Limited32(u32),
-    NewTiny,
-    LimitedTiny(u32),
+struct Constructor<T: Tables> {
+    limit: Option<u32>,
+    layout: PhantomData<T>,
 }
 
-fn outcome_of<NI: NodeIndex>(made: Result<Allocator<NI>, AllocError>) -> Outcome {
+fn outcome_of<T: Tables>(made: Result<AllocatorOf<T>, AllocError>) -> Outcome {
     match made {
         Err(_) => Outcome::Refused,
         Ok(allocator) => right_if(allocator.storage_report().total_free_space == 100),
     }
 }
 
-fn construct_limited<NI: NodeIndex>(alloc: Global, limit: u32) -> Outcome {
-    if limit < 2 || limit >= NI::MAX - 1 {
-        return Outcome::Wrong;
-    }
-    outcome_of(Allocator::<NI>::with_max_allocs(alloc, 100, limit))
-}
-
-impl Attempt for Constructor {
+impl<T: Tables> Attempt for Constructor<T> {
     fn outcome(&mut self, alloc: Global) -> Outcome {
-        match self {
-            Constructor::New16 => outcome_of(Allocator::<u16>::new(alloc, 100)),
-            Constructor::New32 => outcome_of(Allocator::<u32>::new(alloc, 100)),
-            Constructor::Limited16(limit) => construct_limited::<u16>(alloc, *limit),
-            Constructor::Limited32(limit) => construct_limited::<u32>(alloc, *limit),
-            Constructor::NewTiny => outcome_of(Allocator::<Tiny>::new(alloc, 100)),
-            Constructor::LimitedTiny(limit) => construct_limited::<Tiny>(alloc, *limit),
+        match self.limit {
+            None => outcome_of(AllocatorOf::<T>::new(alloc, 100)),
+            Some(limit) => {
+                if limit < 2 || limit >= T::Index::MAX - 1 {
+                    return Outcome::Wrong;
+                }
+                outcome_of(AllocatorOf::<T>::with_max_allocs(alloc, 100, limit))
+            }
         }
     }
 }
 
+fn expect_constructor<T: Tables>(rt: &impl Abort, alloc: Global, steps: Steps, limit: Option<u32>) {
+    let mut constructor: Constructor<T> = Constructor {
+        limit,
+        layout: PhantomData,
+    };
+    expect_refusals(rt, alloc, steps, &mut constructor, 1);
+}
+
 #[test]
 fn small_allocators(rt: HostRuntime) {
-    for mut constructor in [
-        Constructor::Limited16(4),
-        Constructor::Limited32(4),
-        Constructor::Limited16(100),
-        Constructor::Limited32(100),
-        Constructor::NewTiny,
-        Constructor::LimitedTiny(4),
-    ] {
-        expect_refusals(&rt, rt.alloc(), FINE, &mut constructor, 1);
+    for limit in [Some(4), Some(100)] {
+        expect_constructor::<ByNode<u16>>(&rt, rt.alloc(), FINE, limit);
+        expect_constructor::<ByNode<u32>>(&rt, rt.alloc(), FINE, limit);
+        expect_constructor::<ByField<u16>>(&rt, rt.alloc(), FINE, limit);
+        expect_constructor::<ByField<u32>>(&rt, rt.alloc(), FINE, limit);
+    }
+    for limit in [None, Some(4)] {
+        expect_constructor::<ByNode<Tiny>>(&rt, rt.alloc(), FINE, limit);
+        expect_constructor::<ByField<Tiny>>(&rt, rt.alloc(), FINE, limit);
     }
 }
 
 // In a process of their own, since larger steps are no neighbours in the memory that smaller ones have left.
 #[test]
 fn large_allocators(rt: HostRuntime) {
-    for mut constructor in [Constructor::New16, Constructor::New32] {
-        expect_refusals(&rt, rt.alloc(), COARSE, &mut constructor, 1);
-    }
+    expect_constructor::<ByNode<u16>>(&rt, rt.alloc(), COARSE, None);
+    expect_constructor::<ByNode<u32>>(&rt, rt.alloc(), COARSE, None);
+    expect_constructor::<ByField<u16>>(&rt, rt.alloc(), COARSE, None);
+    expect_constructor::<ByField<u32>>(&rt, rt.alloc(), COARSE, None);
 }

@@ -4,11 +4,12 @@ use super::attempts::{Attempt, Outcome, all_memory, all_memory_but, refused_if, 
 use super::ladder::{FINE, expect_refusals};
 use crate::asserts::{assert_same, assert_that};
 use offset_allocator::laws::undo;
-use offset_allocator::{Allocation, Allocator, NodeIndex};
-use offset_script::play;
+use offset_allocator::{Allocation, AllocatorOf, ByField, ByNode, NodeIndex, Tables};
+use offset_script::play_of;
 use offset_test_base::living::living_calls;
 use offset_test_base::tiny::Tiny;
 use std::alloc::{AllocError, Global};
+use std::marker::PhantomData;
 use std::process::Abort;
 
 // Larger than any offset of the space.
@@ -16,11 +17,11 @@ const REFUSED: u32 = 100_000;
 
 const DEAD: u32 = 200_000;
 
-fn request<NI: NodeIndex>(
-    allocator: &mut Allocator<NI>,
+fn request<T: Tables>(
+    allocator: &mut AllocatorOf<T>,
     kind: u32,
     size: u32,
-) -> Option<Allocation<NI>> {
+) -> Option<Allocation<T::Index>> {
     if kind % 2 == 0 {
         allocator.allocate(size)
     } else {
@@ -28,11 +29,11 @@ fn request<NI: NodeIndex>(
     }
 }
 
-fn request_aligned<NI: NodeIndex>(
-    allocator: &mut Allocator<NI>,
+fn request_aligned<T: Tables>(
+    allocator: &mut AllocatorOf<T>,
     size: u32,
     align: u32,
-) -> Option<Allocation<NI>> {
+) -> Option<Allocation<T::Index>> {
     if align.is_power_of_two() {
         allocator.allocate_aligned(size, align)
     } else {
@@ -41,9 +42,9 @@ fn request_aligned<NI: NodeIndex>(
 }
 
 // Frees the kept handle, or makes a request where none is kept. It returns the size, the offset, or another number.
-fn grant_or_free<NI: NodeIndex>(
-    allocator: &mut Allocator<NI>,
-    kept: &mut Option<Allocation<NI>>,
+fn grant_or_free<T: Tables>(
+    allocator: &mut AllocatorOf<T>,
+    kept: &mut Option<Allocation<T::Index>>,
     kind: u32,
     size: u32,
 ) -> u32 {
@@ -68,7 +69,7 @@ fn grant_or_free<NI: NodeIndex>(
     }
 }
 
-fn report<NI: NodeIndex>(allocator: &Allocator<NI>, class: usize) -> u32 {
+fn report<T: Tables>(allocator: &AllocatorOf<T>, class: usize) -> u32 {
     let short = allocator.storage_report();
     let full = allocator.storage_report_full();
     short
@@ -80,9 +81,9 @@ fn report<NI: NodeIndex>(allocator: &Allocator<NI>, class: usize) -> u32 {
 }
 
 // Makes one call. It returns the result as a number.
-fn call<NI: NodeIndex>(
-    allocator: &mut Allocator<NI>,
-    kept: &mut Option<Allocation<NI>>,
+fn call<T: Tables>(
+    allocator: &mut AllocatorOf<T>,
+    kept: &mut Option<Allocation<T::Index>>,
     kind: u32,
     number: u32,
 ) -> u32 {
@@ -102,9 +103,9 @@ fn call<NI: NodeIndex>(
 }
 
 // Makes 1,000 calls of every kind, and returns a checksum of their results. It keeps the handles in `kept`.
-fn checksum<NI: NodeIndex>(
-    allocator: &mut Allocator<NI>,
-    kept: &mut [Option<Allocation<NI>>],
+fn checksum<T: Tables>(
+    allocator: &mut AllocatorOf<T>,
+    kept: &mut [Option<Allocation<T::Index>>],
 ) -> u64 {
     let mut state = 1u64;
     let mut sum = 0u64;
@@ -124,23 +125,27 @@ fn checksum<NI: NodeIndex>(
 // memory in which the next allocator is made.
 const NODES: u32 = 2_000;
 
-fn construct(alloc: Global) -> Result<Allocator<u32>, AllocError> {
-    Allocator::with_max_allocs(alloc, 1_000, NODES)
+fn construct<T: Tables>(alloc: Global) -> Result<AllocatorOf<T>, AllocError> {
+    if NODES < T::Index::MAX - 1 {
+        AllocatorOf::with_max_allocs(alloc, 1_000, NODES)
+    } else {
+        AllocatorOf::new(alloc, 1_000)
+    }
 }
 
-fn construct_and_call(alloc: Global) -> Result<u64, AllocError> {
-    let mut kept: [Option<Allocation<u32>>; 16] = [None; 16];
-    let mut allocator = construct(alloc)?;
+fn construct_and_call<T: Tables>(alloc: Global) -> Result<u64, AllocError> {
+    let mut kept: [Option<Allocation<T::Index>>; 16] = [None; 16];
+    let mut allocator = construct::<T>(alloc)?;
     Ok(checksum(&mut allocator, &mut kept))
 }
 
 // The calls return the same as before where not one byte is left.
-fn expect_results<NI: NodeIndex>(rt: &impl Abort, alloc: Global) {
+fn expect_results<T: Tables>(rt: &impl Abort, alloc: Global) {
     let mut kept = vec![in alloc; None; 16].expect(rt, "memory");
-    let mut allocator = Allocator::<NI>::new(alloc, 1_000).expect(rt, "memory");
+    let mut allocator = AllocatorOf::<T>::new(alloc, 1_000).expect(rt, "memory");
     let wanted = checksum(&mut allocator, &mut kept);
     kept.fill(None);
-    let mut allocator = Allocator::<NI>::new(alloc, 1_000).expect(rt, "memory");
+    let mut allocator = AllocatorOf::<T>::new(alloc, 1_000).expect(rt, "memory");
     let _rest = all_memory(alloc).expect(rt, "memory");
     assert_that(rt, Vec::<u8>::with_capacity(alloc, 1).is_err());
     assert_same(rt, &checksum(&mut allocator, &mut kept), &wanted);
@@ -148,72 +153,101 @@ fn expect_results<NI: NodeIndex>(rt: &impl Abort, alloc: Global) {
 
 #[test]
 fn calls_need_no_memory(rt: HostRuntime) {
-    expect_results::<u32>(&rt, rt.alloc());
-    expect_results::<u16>(&rt, rt.alloc());
-    expect_results::<Tiny>(&rt, rt.alloc());
+    expect_results::<ByNode<u32>>(&rt, rt.alloc());
+    expect_results::<ByNode<u16>>(&rt, rt.alloc());
+    expect_results::<ByNode<Tiny>>(&rt, rt.alloc());
+    expect_results::<ByField<u32>>(&rt, rt.alloc());
+    expect_results::<ByField<Tiny>>(&rt, rt.alloc());
 }
 
 const ROOM: usize = 1 << 30;
 
 // All free memory is in one piece. A request that took any of it, or a small one that was freed at once, would have
 // split that piece.
+fn expect_untouched<T: Tables>(rt: &impl Abort, alloc: Global) {
+    let wanted = construct_and_call::<T>(alloc).expect(rt, "memory");
+    let mut kept: [Option<Allocation<T::Index>>; 16] = [None; 16];
+    let mut allocator = construct::<T>(alloc).expect(rt, "memory");
+    let _rest = all_memory_but(alloc, ROOM).expect(rt, "memory");
+    assert_same(rt, &checksum(&mut allocator, &mut kept), &wanted);
+    assert_that(rt, Vec::<u8>::with_capacity(alloc, ROOM).is_ok());
+    assert_that(rt, Vec::<u8>::with_capacity(alloc, 16).is_ok());
+    assert_that(rt, Vec::<u8>::with_capacity(alloc, ROOM).is_err());
+}
+
 #[test]
 fn calls_leave_all_memory_as_it_was(rt: HostRuntime) {
-    let wanted = construct_and_call(rt.alloc()).expect(&rt, "memory");
-    let mut kept: [Option<Allocation<u32>>; 16] = [None; 16];
-    let mut allocator = construct(rt.alloc()).expect(&rt, "memory");
-    let _rest = all_memory_but(rt.alloc(), ROOM).expect(&rt, "memory");
-    assert_same(&rt, &checksum(&mut allocator, &mut kept), &wanted);
-    assert_that(&rt, Vec::<u8>::with_capacity(rt.alloc(), ROOM).is_ok());
-    assert_that(&rt, Vec::<u8>::with_capacity(rt.alloc(), 16).is_ok());
-    assert_that(&rt, Vec::<u8>::with_capacity(rt.alloc(), ROOM).is_err());
+    expect_untouched::<ByNode<u32>>(&rt, rt.alloc());
+    expect_untouched::<ByField<u32>>(&rt, rt.alloc());
 }
 
 // Makes an allocator and the calls. They fail exactly where the construction alone fails, and else return the same as
 // with ample memory.
 #[derive(Drop)]
-struct WithCalls {
+struct WithCalls<T: Tables> {
     wanted: u64,
+    layout: PhantomData<T>,
 }
 
-impl Attempt for WithCalls {
+impl<T: Tables> Attempt for WithCalls<T> {
     fn outcome(&mut self, alloc: Global) -> Outcome {
-        let is_made = construct(alloc).is_ok();
-        match construct_and_call(alloc) {
+        let is_made = construct::<T>(alloc).is_ok();
+        match construct_and_call::<T>(alloc) {
             Err(_) => refused_if(!is_made),
             Ok(sum) => right_if(is_made && sum == self.wanted),
         }
     }
 }
 
+fn expect_only_construction_fails<T: Tables>(rt: &impl Abort, alloc: Global) {
+    let mut with_calls: WithCalls<T> = WithCalls {
+        wanted: construct_and_call::<T>(alloc).expect(rt, "memory"),
+        layout: PhantomData,
+    };
+    expect_refusals(rt, alloc, FINE, &mut with_calls, 1);
+}
+
 #[test]
 fn calls_fail_only_in_construction(rt: HostRuntime) {
-    let wanted = construct_and_call(rt.alloc()).expect(&rt, "memory");
-    expect_refusals(&rt, rt.alloc(), FINE, &mut WithCalls { wanted }, 1);
+    expect_only_construction_fails::<ByNode<u32>>(&rt, rt.alloc());
+    expect_only_construction_fails::<ByField<u32>>(&rt, rt.alloc());
 }
 
 // Plays a script without commands. It fails wherever a construction fails.
 #[derive(Drop)]
-struct WithoutCommands;
+struct WithoutCommands<T: Tables> {
+    layout: PhantomData<T>,
+}
 
-impl Attempt for WithoutCommands {
+impl<T: Tables> Attempt for WithoutCommands<T> {
     fn outcome(&mut self, alloc: Global) -> Outcome {
-        let is_made = construct(alloc).is_ok();
-        match play::<u32>(alloc, 1_000, NODES, &[]) {
+        if NODES >= T::Index::MAX - 1 {
+            return Outcome::Wrong;
+        }
+        let is_made = construct::<T>(alloc).is_ok();
+        match play_of::<T>(alloc, 1_000, NODES, &[]) {
             Err(_) => Outcome::Refused,
             Ok(answers) => right_if(is_made && answers.is_empty()),
         }
     }
 }
 
+fn expect_an_allocator<T: Tables>(rt: &impl Abort, alloc: Global) {
+    let mut without_commands: WithoutCommands<T> = WithoutCommands {
+        layout: PhantomData,
+    };
+    expect_refusals(rt, alloc, FINE, &mut without_commands, 1);
+}
+
 #[test]
 fn playing_makes_an_allocator(rt: HostRuntime) {
-    expect_refusals(&rt, rt.alloc(), FINE, &mut WithoutCommands, 1);
+    expect_an_allocator::<ByNode<u32>>(&rt, rt.alloc());
+    expect_an_allocator::<ByField<u32>>(&rt, rt.alloc());
 }
 
 // With 2,000 live ranges more than one node in 128 is in use, and `reset` goes over whole tables.
-fn expect_reset<NI: NodeIndex>(rt: &impl Abort, alloc: Global, room: usize) {
-    let mut allocator = Allocator::<NI>::new(alloc, 1_000_000).expect(rt, "memory");
+fn expect_reset<T: Tables>(rt: &impl Abort, alloc: Global, room: usize) {
+    let mut allocator = AllocatorOf::<T>::new(alloc, 1_000_000).expect(rt, "memory");
     for _ in 0..2_000u32 {
         assert_that(rt, allocator.allocate(1).is_some());
     }
@@ -235,7 +269,8 @@ fn expect_reset<NI: NodeIndex>(rt: &impl Abort, alloc: Global, room: usize) {
 #[test]
 fn a_reset_of_many_ranges_needs_no_memory(rt: HostRuntime) {
     for room in [0, ROOM] {
-        expect_reset::<u32>(&rt, rt.alloc(), room);
-        expect_reset::<u16>(&rt, rt.alloc(), room);
+        expect_reset::<ByNode<u32>>(&rt, rt.alloc(), room);
+        expect_reset::<ByNode<u16>>(&rt, rt.alloc(), room);
+        expect_reset::<ByField<u32>>(&rt, rt.alloc(), room);
     }
 }

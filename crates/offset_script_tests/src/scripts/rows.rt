@@ -1,7 +1,8 @@
-//! Scripts with their answers, read and written in pieces of several lengths, and played with each index type.
+//! Scripts with their answers, read and written in pieces of several lengths, and played on each layout.
 
 use crate::asserts::assert_same_at;
 use crate::playing::{answers_with, expect_answers};
+use offset_allocator::ByNode;
 use offset_script::{FromRead, IntoWrite, parse, run};
 use offset_test_base::devices::{Reader, Writer};
 use std::alloc::Global;
@@ -207,11 +208,11 @@ fn plays_scripts(rt: HostRuntime) {
 }
 
 #[test]
-fn all_index_types_return_the_same_answers(rt: HostRuntime) {
+fn all_layouts_return_the_same_answers(rt: HostRuntime) {
     for (header, lines, _wanted) in &ROWS {
         let text = text_of(&rt, rt.alloc(), header, 32, lines);
         let script = parse(rt.alloc(), text.as_bytes()).expect(&rt, "a script");
-        let wanted = answers_with::<u32>(&rt, rt.alloc(), &script);
+        let wanted = answers_with::<ByNode<u32>>(&rt, rt.alloc(), &script);
         expect_answers(&rt, rt.alloc(), &script, &wanted);
     }
     let text = b"space 40 nodes 5 index 16\nalloc 10\nalloc 10\nalloc 10\nalloc 10\n".as_slice();

@@ -3,7 +3,7 @@ use Rattle.offset_script.specs.Machine.{answer_view, answers, after, start}
 use Rattle.offset_script.specs.Steps.{Takes}
 use Rattle.offset_script.proofs.Agreement.{IsAtState}
 use Rattle.offset_script.proofs.Simulation.{IsBegun}
-use Rattle.offset_script.proofs.playing.play.Given as goal
+use Rattle.offset_script.proofs.playing.play_of.Given as goal
 
 -- the answers so far and those to what is left are those to all, and the steps so far begin any run that goes on
 abbrev pub invariant-loop-command : goal.invariant-loop-command

@@ -2,7 +2,7 @@ use Rattle.std.proofs.Common.{option_map, refl, sym, ap, ◌∙◌}
 use Rattle.offset_allocator.specs.View.{Grant}
 use Rattle.offset_script.specs.Machine as machine
 use Rattle.offset_script.proofs.Simulation.{if_none, if_some}
-use Rattle.offset_script.proofs.playing.Player.size.Goals as goal
+use Rattle.offset_script.proofs.playing.PlayerOf.size.Goals as goal
 
 pub returns-in-None : goal.returns-in-None
 returns-in-None g c = ((refl, refl), if_none _ _ _ (sym c.handle.ensures.name ∙ ap (option_map (λ (h : Grant). h.name)) c.in-None.is) refl)

@@ -14,7 +14,7 @@ use Rattle.offset_script.specs.declared.answers.Answer as program
 use Rattle.offset_script.proofs.Fresh.{fresh_law}
 use Rattle.offset_script.proofs.Nests.{after-append, nest_law}
 use Rattle.offset_script.proofs.Commute.{commute_next}
-use Rattle.offset_script.proofs.playing.play.Goals as goal
+use Rattle.offset_script.proofs.playing.play_of.Goals as goal
 
 -- A loop over commands: one more command, and one more answer.
 

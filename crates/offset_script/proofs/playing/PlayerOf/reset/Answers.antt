@@ -1,7 +1,7 @@
 use Rattle.std.proofs.Common.{sym, subst, arith}
 use Rattle.offset_allocator.specs.Relations.{Resets}
 use Rattle.offset_script.proofs.Simulation.{reset_takes}
-use Rattle.offset_script.proofs.playing.Player.reset.Goals as goal
+use Rattle.offset_script.proofs.playing.PlayerOf.reset.Goals as goal
 
 pub returns : goal.returns
 returns g c = reset_takes _ _ _ _ (subst (Resets c.args.self.now.space) (sym c.loop-i.invariant.space) c.reset.ensures.step) c.loop-i.invariant.length

@@ -11,7 +11,7 @@ use Rattle.offset_calls.specs.Calls.{Reply, after, is_valid, replies, reply_view
 use Rattle.offset_calls.specs.Steps.{Takes}
 use Rattle.offset_calls.proofs.Followed.{follows, well_calls}
 use Rattle.offset_calls.proofs.Compacted.{all_kept}
-use Rattle.offset_calls.proofs.playing.play_calls.Goals as goal
+use Rattle.offset_calls.proofs.playing.play_calls_of.Goals as goal
 
 -- A loop over calls: one more call, and one more reply.
 

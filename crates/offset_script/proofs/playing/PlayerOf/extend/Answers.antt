@@ -1,6 +1,6 @@
 use Rattle.std.proofs.Common.{Bool, refl, sym, ap, if◌then◌else◌}
 use Rattle.offset_script.specs.Machine as machine
-use Rattle.offset_script.proofs.playing.Player.extend.Goals as goal
+use Rattle.offset_script.proofs.playing.PlayerOf.extend.Goals as goal
 
 pub returns-then-extend : goal.returns-then-extend
 returns-then-extend g c = (c.extend.result, c.extend.ensures.step, refl, ap (λ (b : Bool). if b then machine.Extended else machine.Refused) (sym c.if-extend.true))

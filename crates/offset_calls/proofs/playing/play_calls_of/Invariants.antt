@@ -4,7 +4,7 @@ use Rattle.offset_script.proofs.Agreement.{IsAtState}
 use Rattle.offset_script.proofs.Simulation.{IsBegun}
 use Rattle.offset_calls.specs.Calls.{after, replies, reply_view}
 use Rattle.offset_calls.specs.Steps.{Takes}
-use Rattle.offset_calls.proofs.playing.play_calls.Given as goal
+use Rattle.offset_calls.proofs.playing.play_calls_of.Given as goal
 
 -- the replies so far and those to what is left are those to all, and the steps so far begin any run that goes on
 abbrev pub invariant-loop-call : goal.invariant-loop-call

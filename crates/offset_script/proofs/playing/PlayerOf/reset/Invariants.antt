@@ -1,5 +1,5 @@
 use Rattle.std.proofs.Common.{◌≡◌, ◌<◌, ℕ, None, slice_index_or, length}
-use Rattle.offset_script.proofs.playing.Player.reset.Given as goal
+use Rattle.offset_script.proofs.playing.PlayerOf.reset.Given as goal
 
 -- the handles so far are gone
 abbrev pub invariant-loop-i : goal.invariant-loop-i

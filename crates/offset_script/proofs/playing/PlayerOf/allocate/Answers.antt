@@ -3,7 +3,7 @@ use Rattle.offset_script.specs.Machine.{answer_view}
 use Rattle.offset_script.specs.Steps.{Takes}
 use Rattle.offset_script.specs.declared.scripts.Command.TheVariants.{Alloc}
 use Rattle.offset_script.proofs.Simulation.{if_ok}
-use Rattle.offset_script.proofs.playing.Player.allocate.Goals as goal
+use Rattle.offset_script.proofs.playing.PlayerOf.allocate.Goals as goal
 
 pub returns : goal.returns
 returns g c = if_ok c.keep.result

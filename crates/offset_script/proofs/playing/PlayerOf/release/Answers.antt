@@ -1,7 +1,7 @@
 use Rattle.std.proofs.Common.{option_map, refl, sym, ap, ◌∙◌}
 use Rattle.offset_allocator.specs.View.{Grant}
 use Rattle.offset_script.proofs.Simulation.{if_none, if_some}
-use Rattle.offset_script.proofs.playing.Player.release.Goals as goal
+use Rattle.offset_script.proofs.playing.PlayerOf.release.Goals as goal
 
 pub free-requires : goal.free-requires
 free-requires g c = record { live = c.requires _ _ (sym c.handle.ensures.name ∙ ap (option_map (λ (h : Grant). h.name)) c.in-Some.is) }

@@ -1,0 +1,15 @@
+-- What `play_calls` returns.
+use Rattle.std.specs.Prelude.{◌≡◌, ℕ, List}
+use Rattle.offset_script.specs.Machine.{start}
+use Rattle.offset_script.specs.Steps.{AreOfARun}
+use Rattle.offset_calls.specs.declared.calls.Call.{Call}
+use Rattle.offset_calls.specs.Calls.{Reply}
+use Rattle.offset_calls.specs.Calls as plain
+use Rattle.offset_calls.specs.Steps.{Takes}
+
+-- these are the replies to calls, from one free block of size units
+pub record AreReplies (size limit : ℕ) (calls : List Call) (found : List Reply) : Type 0 where
+  -- they are those of the plain machine
+  pub replies : found ≡ plain.replies calls (start size limit)
+  -- they are those of a run of the allocator's named steps on a fresh space
+  pub run : AreOfARun Takes size limit calls found
