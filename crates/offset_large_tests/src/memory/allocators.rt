@@ -63,6 +63,4 @@ fn small_allocators(rt: HostRuntime) {
 fn large_allocators(rt: HostRuntime) {
     expect_constructor::<ByNode<u16>>(&rt, rt.alloc(), COARSE, None);
     expect_constructor::<ByNode<u32>>(&rt, rt.alloc(), COARSE, None);
-    expect_constructor::<ByField<u16>>(&rt, rt.alloc(), COARSE, None);
-    expect_constructor::<ByField<u32>>(&rt, rt.alloc(), COARSE, None);
 }

@@ -133,9 +133,9 @@ fn construct<T: Tables>(alloc: Global) -> Result<AllocatorOf<T>, AllocError> {
     }
 }
 
-fn construct_and_call<T: Tables>(alloc: Global) -> Result<u64, AllocError> {
-    let mut kept: [Option<Allocation<T::Index>>; 16] = [None; 16];
-    let mut allocator = construct::<T>(alloc)?;
+fn construct_and_call(alloc: Global) -> Result<u64, AllocError> {
+    let mut kept: [Option<Allocation<u32>>; 16] = [None; 16];
+    let mut allocator = construct::<ByNode<u32>>(alloc)?;
     Ok(checksum(&mut allocator, &mut kept))
 }
 
@@ -164,53 +164,39 @@ const ROOM: usize = 1 << 30;
 
 // All free memory is in one piece. A request that took any of it, or a small one that was freed at once, would have
 // split that piece.
-fn expect_untouched<T: Tables>(rt: &impl Abort, alloc: Global) {
-    let wanted = construct_and_call::<T>(alloc).expect(rt, "memory");
-    let mut kept: [Option<Allocation<T::Index>>; 16] = [None; 16];
-    let mut allocator = construct::<T>(alloc).expect(rt, "memory");
-    let _rest = all_memory_but(alloc, ROOM).expect(rt, "memory");
-    assert_same(rt, &checksum(&mut allocator, &mut kept), &wanted);
-    assert_that(rt, Vec::<u8>::with_capacity(alloc, ROOM).is_ok());
-    assert_that(rt, Vec::<u8>::with_capacity(alloc, 16).is_ok());
-    assert_that(rt, Vec::<u8>::with_capacity(alloc, ROOM).is_err());
-}
-
 #[test]
 fn calls_leave_all_memory_as_it_was(rt: HostRuntime) {
-    expect_untouched::<ByNode<u32>>(&rt, rt.alloc());
-    expect_untouched::<ByField<u32>>(&rt, rt.alloc());
+    let wanted = construct_and_call(rt.alloc()).expect(&rt, "memory");
+    let mut kept: [Option<Allocation<u32>>; 16] = [None; 16];
+    let mut allocator = construct::<ByNode<u32>>(rt.alloc()).expect(&rt, "memory");
+    let _rest = all_memory_but(rt.alloc(), ROOM).expect(&rt, "memory");
+    assert_same(&rt, &checksum(&mut allocator, &mut kept), &wanted);
+    assert_that(&rt, Vec::<u8>::with_capacity(rt.alloc(), ROOM).is_ok());
+    assert_that(&rt, Vec::<u8>::with_capacity(rt.alloc(), 16).is_ok());
+    assert_that(&rt, Vec::<u8>::with_capacity(rt.alloc(), ROOM).is_err());
 }
 
 // Makes an allocator and the calls. They fail exactly where the construction alone fails, and else return the same as
 // with ample memory.
 #[derive(Drop)]
-struct WithCalls<T: Tables> {
+struct WithCalls {
     wanted: u64,
-    layout: PhantomData<T>,
 }
 
-impl<T: Tables> Attempt for WithCalls<T> {
+impl Attempt for WithCalls {
     fn outcome(&mut self, alloc: Global) -> Outcome {
-        let is_made = construct::<T>(alloc).is_ok();
-        match construct_and_call::<T>(alloc) {
+        let is_made = construct::<ByNode<u32>>(alloc).is_ok();
+        match construct_and_call(alloc) {
             Err(_) => refused_if(!is_made),
             Ok(sum) => right_if(is_made && sum == self.wanted),
         }
     }
 }
 
-fn expect_only_construction_fails<T: Tables>(rt: &impl Abort, alloc: Global) {
-    let mut with_calls: WithCalls<T> = WithCalls {
-        wanted: construct_and_call::<T>(alloc).expect(rt, "memory"),
-        layout: PhantomData,
-    };
-    expect_refusals(rt, alloc, FINE, &mut with_calls, 1);
-}
-
 #[test]
 fn calls_fail_only_in_construction(rt: HostRuntime) {
-    expect_only_construction_fails::<ByNode<u32>>(&rt, rt.alloc());
-    expect_only_construction_fails::<ByField<u32>>(&rt, rt.alloc());
+    let wanted = construct_and_call(rt.alloc()).expect(&rt, "memory");
+    expect_refusals(&rt, rt.alloc(), FINE, &mut WithCalls { wanted }, 1);
 }
 
 // Plays a script without commands. It fails wherever a construction fails.
