@@ -115,7 +115,7 @@ impl Moves {
     }
 }
 
-// Compacts a space, and collects the moves. Its index type has a name of its own, which keeps the proof short.
+// Compacts a space, and collects the moves. Its index type is a parameter too, which keeps the proof short.
 fn collect<NI: NodeIndex, T: Tables<Index = NI>>(space: &mut AllocatorOf<T>, seen: &mut Moves)
     requires { seen.old.found.items ≡ [] }
     ensures moves { seen.new.is_refused ≡ false

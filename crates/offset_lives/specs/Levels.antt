@@ -6,7 +6,7 @@ use Rattle.offset_script.specs.declared.scripts.Command.{Command}
 use Rattle.offset_script.specs.Machine.{Answer, Report}
 use Rattle.offset_lives.specs.Reports.{reports_of}
 
--- the largest free region that is reported where so many units are one free block: the value of its class
+-- the largest free region that is reported where these units are one free block: the value of its class
 abbrev pub joined : ℕ → ℕ
 joined units = value (down units)
 
