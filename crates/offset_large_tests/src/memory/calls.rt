@@ -6,6 +6,7 @@ use crate::asserts::{assert_same, assert_that};
 use offset_allocator::laws::undo;
 use offset_allocator::{Allocation, AllocatorOf, ByField, ByNode, NodeIndex, Tables};
 use offset_script::play_of;
+use offset_test_base::flat::Flat;
 use offset_test_base::living::living_calls;
 use offset_test_base::tiny::Tiny;
 use std::alloc::{AllocError, Global};
@@ -158,6 +159,7 @@ fn calls_need_no_memory(rt: HostRuntime) {
     expect_results::<ByNode<Tiny>>(&rt, rt.alloc());
     expect_results::<ByField<u32>>(&rt, rt.alloc());
     expect_results::<ByField<Tiny>>(&rt, rt.alloc());
+    expect_results::<Flat>(&rt, rt.alloc());
 }
 
 const ROOM: usize = 1 << 30;
@@ -179,6 +181,7 @@ fn expect_untouched<T: Tables>(rt: &impl Abort, alloc: Global) {
 fn calls_leave_all_memory_as_it_was(rt: HostRuntime) {
     expect_untouched::<ByNode<u32>>(&rt, rt.alloc());
     expect_untouched::<ByField<u32>>(&rt, rt.alloc());
+    expect_untouched::<Flat>(&rt, rt.alloc());
 }
 
 // Makes an allocator and the calls. They fail exactly where the construction alone fails, and else return the same as
@@ -211,6 +214,7 @@ fn expect_only_construction_fails<T: Tables>(rt: &impl Abort, alloc: Global) {
 fn calls_fail_only_in_construction(rt: HostRuntime) {
     expect_only_construction_fails::<ByNode<u32>>(&rt, rt.alloc());
     expect_only_construction_fails::<ByField<u32>>(&rt, rt.alloc());
+    expect_only_construction_fails::<Flat>(&rt, rt.alloc());
 }
 
 // Plays a script without commands. It fails wherever a construction fails.
@@ -243,6 +247,7 @@ fn expect_an_allocator<T: Tables>(rt: &impl Abort, alloc: Global) {
 fn playing_makes_an_allocator(rt: HostRuntime) {
     expect_an_allocator::<ByNode<u32>>(&rt, rt.alloc());
     expect_an_allocator::<ByField<u32>>(&rt, rt.alloc());
+    expect_an_allocator::<Flat>(&rt, rt.alloc());
 }
 
 // With 2,000 live ranges more than one node in 128 is in use, and `reset` goes over whole tables.
@@ -272,5 +277,6 @@ fn a_reset_of_many_ranges_needs_no_memory(rt: HostRuntime) {
         expect_reset::<ByNode<u32>>(&rt, rt.alloc(), room);
         expect_reset::<ByNode<u16>>(&rt, rt.alloc(), room);
         expect_reset::<ByField<u32>>(&rt, rt.alloc(), room);
+        expect_reset::<Flat>(&rt, rt.alloc(), room);
     }
 }
