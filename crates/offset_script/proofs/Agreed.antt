@@ -89,10 +89,7 @@ tags_new front padding x n k rest left t = map-append by_tag (free_labels front 
     ∙ ap₂ (λ a b. a ++ machine.block n (Live k) ∷ b) (tags_free_labels front padding t) (tags_free_labels rest left (t + 1))
 
 pub name_new : (j front padding x n k rest left t : ℕ) → name_of j (new_labels front padding x n k rest left t) ≡ (if nat_eq j k then Some x else None)
-name_new j front padding x n k rest left t =
-    name_append j (free_labels front padding t) (live_label x n k ∷ free_labels rest left (t + 1))
-    ∙ ap (λ o. option_or o (name_of j (live_label x n k ∷ free_labels rest left (t + 1)))) (name_free_labels j front padding t)
-    ∙ ap (λ o. if nat_eq j k then Some x else o) (name_free_labels j rest left (t + 1))
+name_new j front padding x n k rest left t = search (arith, name_append, name_of, name_free_labels, nat_eq)
 
 rises_remainder : (x n t u : ℕ) → t ≤ u → AreRising t (free_labels x n u)
 rises_remainder x zero t u l = tt
@@ -104,9 +101,7 @@ rises_new front (suc padding) x n k rest left t = (λ e. absurd (true≢false e)
 
 -- other names of grants stay
 pub name_replaced : (j : ℕ) (before old new after : List Label) → name_of j old ≡ name_of j new → name_of j (before ++ (old ++ after)) ≡ name_of j (before ++ (new ++ after))
-name_replaced j before old new after e =
-    name_append j before (old ++ after) ∙ ap (option_or (name_of j before)) (name_append j old after ∙ ap (λ o. option_or o (name_of j after)) e ∙ sym (name_append j new after))
-    ∙ sym (name_append j before (new ++ after))
+name_replaced j before old new after e = search (arith, name_append, name_of)
 
 -- a request has the same answer, and what it leaves agrees
 pub record IsMatch (u : View) (kept_name : ℕ → Option ℕ) (grants : ℕ) (r : Option Grant) (p : machine.Outcome) : Type 0 where

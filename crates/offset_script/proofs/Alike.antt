@@ -1,13 +1,13 @@
 -- Two states that differ only in numbers, and in stamps of the same order in each class, return the same answers.
-use Rattle.std.proofs.Common.{◌≡◌, ℕ, zero, suc, ◌+◌, ◌-◌, ◌*◌, ◌<◌, ◌≤◌, true, false, ◌⊎◌, List, [], ◌∷◌, ◌++◌, map, Option, None, nat_eq, nat_lt, if◌then◌else◌, refl, sym, ap, ap₂, subst, subst₂}
+use Rattle.std.proofs.Common.{◌≡◌, ℕ, zero, suc, ◌+◌, ◌-◌, ◌*◌, ◌<◌, ◌≤◌, true, ◌⊎◌, List, [], ◌∷◌, ◌++◌, map, Option, None, nat_eq, nat_lt, refl, sym, ap, ap₂, subst, subst₂}
 use Rattle.std.proofs.Common.{⊎_elim, ◌∙◌, inl, inr, arith, lt-ltb, le-ltb, sum}
 use Rattle.offset_script.specs.declared.scripts.Command.{Command}
 use Rattle.offset_script.specs.declared.scripts.Command.TheVariants as command
 use Rattle.offset_script.specs.Machine.{Free, Block, block, has_number, total, Place, fits, chosen_place, place_of, coalesce, State, Answer, Outcome, step, answers, after, request, grant}
-use Rattle.offset_script.specs.Machine.{grant_or_refuse, is_short_of, returns_only, leaves, release, size_at, report, reset, extend, stamp_of_call, free_sizes}
+use Rattle.offset_script.specs.Machine.{grant_or_refuse, returns_only, leaves, release, size_at, report, reset, extend, stamp_of_call}
 use Rattle.offset_allocator.specs.View.{padding_to}
 use Rattle.offset_script.specs.Machine as machine
-use Rattle.offset_allocator.specs.Reports.{largest, rows_below}
+use Rattle.offset_allocator.specs.Reports.{rows_below}
 use Rattle.offset_script.proofs.Members.{IsIn, in_left, in_right}
 use Rattle.offset_script.proofs.Pairs.{Kind, Lives, Frees, Pair, pair, left_tag, right_tag, left, right, lefts, rights, AreAgreed, AreAllAgreed, IsSameOrder, IsSamePlace, neither, both, same_total}
 use Rattle.offset_script.proofs.Pairs.{same_short, same_units, same_free_sizes, same_refusal, both_coalesced, same_place_of, same_chosen, pairs_granted, in_granted, lefts_granted, rights_granted}
@@ -40,10 +40,7 @@ IsFreshKind g h x y (Lives j j') = (j ≡ g + 1) × (j' ≡ h + 1)
 IsFreshKind g h x y (Frees s s') = (e : ℕ) × (e < 2) × (s ≡ 2 * (x + 1) + e) × (s' ≡ 2 * (y + 1) + e)
 
 fresh_order : (x y s u t v a b : ℕ) → s ≡ 2 * (x + 1) + a → u ≡ 2 * (y + 1) + a → t ≡ 2 * (x + 1) + b → v ≡ 2 * (y + 1) + b → nat_lt s t ≡ nat_lt u v
-fresh_order x y s u t v a b m m' n n' = elim (cases_lt a b) [
-  | inl h ↦ lt-ltb s t (omega arith) ∙ sym (lt-ltb u v (omega arith))
-  | inr h ↦ le-ltb s t (omega arith) ∙ sym (le-ltb u v (omega arith))
-]
+fresh_order x y s u t v a b m m' n n' = search (arith, cases_lt, lt-ltb, le-ltb)
 
 old_before_fresh : (r : ℕ → ℕ) (g h x y : ℕ) (a b : Kind) → IsMatched r (2 * (x + 1)) (2 * (y + 1)) a → IsFreshKind g h x y b → IsSameOrder a b
 old_before_fresh r g h x y (Lives i j) b m n = tt
@@ -64,10 +61,7 @@ both_fresh g h x y (Frees s u) (Frees t v) m n = fresh_order x y s u t v m.0 n.0
 pub matched_in_new : (r : ℕ → ℕ) (d g h x y : ℕ) → g ≡ h + d → ((k : ℕ) → k ≤ g → r k ≤ h) → ((k : ℕ) → g < k → r k + d ≡ k)
     → (a : Kind) → IsMatched r (2 * (x + 1)) (2 * (y + 1)) a ⊎ IsFreshKind g h x y a → IsMatched r (2 * (x + 1 + 1)) (2 * (y + 1 + 1)) a
 matched_in_new r d g h x y e past future (Lives j j') (inl m) = m
-matched_in_new r d g h x y e past future (Lives j j') (inr m) = λ k. elim (cases_lt g k) [
-  | inl l ↦ let f = future k l in grind (arith, nat_tests)
-  | inr l ↦ let f = past k l in grind (arith, nat_tests)
-]
+matched_in_new r d g h x y e past future (Lives j j') (inr m) = search (arith, cases_lt, nat_tests)
 matched_in_new r d g h x y e past future (Frees s u) (inl m) = omega arith
 matched_in_new r d g h x y e past future (Frees s u) (inr m) = omega arith
 
@@ -88,10 +82,7 @@ either r d s t a q (inl i) = inl (a.matched q i)
 either r d s t a q (inr f) = inr f
 
 pub past_in_new : (r : ℕ → ℕ) (d x y g h k : ℕ) → ((k : ℕ) → k ≤ x → r k ≤ y) → ((k : ℕ) → x < k → r k + d ≡ k) → y ≤ h → g ≡ h + d → k ≤ g → r k ≤ h
-past_in_new r d x y g h k past future from e l = elim (cases_lt x k) [
-  | inl m ↦ let f = future k m in omega arith
-  | inr m ↦ let f = past k m in omega arith
-]
+past_in_new r d x y g h k past future from e l = search (arith, cases_lt)
 
 -- A call that leaves such pairs keeps the states alike.
 pub keeps_alike : (r : ℕ → ℕ) (d : ℕ) (s t : State) → (a : IsAlike r d s t) → (p : List Pair) (g h : ℕ) (bs cs : List Block) → bs ≡ lefts p → cs ≡ rights p → IsLeft r d s t a p
@@ -197,12 +188,7 @@ same_size r d s t a None None neither = refl
 same_size r d s t a o o' (both xs q ys e f) = refl
 
 same_report : (r : ℕ → ℕ) (d : ℕ) (s t : State) (a : IsAlike r d s t) → report s ≡ raise_number d (report t)
-same_report r d s t a =
-    elim (is_short_of 1 s)
-    as (λ b. (if b then machine.Report 0 0 else machine.Report (sum (free_sizes s.blocks)) (largest (free_sizes s.blocks)))
-    ≡ raise_number d (if b then machine.Report 0 0 else machine.Report (sum (free_sizes s.blocks)) (largest (free_sizes s.blocks)))) [ true ↦ refl | false ↦ refl ]
-    ∙ ap₂ (λ b l. raise_number d (if b then machine.Report 0 0 else machine.Report (sum l) (largest l))) (same_short s t a.pairs a.limit a.left_blocks a.right_blocks 1)
-    (same_free_sizes s t a.pairs a.limit a.left_blocks a.right_blocks)
+same_report r d s t a = search (arith, sum, same_short, same_free_sizes)
 
 same_reset : (r : ℕ → ℕ) (d : ℕ) (s t : State) (a : IsAlike r d s t) → IsSameOutcome r d (reset s) (reset t)
 same_reset r d s t a =

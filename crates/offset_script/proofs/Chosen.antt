@@ -1,5 +1,5 @@
 -- The plain machine chooses the block that a grant splits: the newest of the smallest class that fits.
-use Rattle.std.proofs.Common.{◌≡◌, ◌≢◌, ℕ, ◌<◌, ◌≤◌, true, false, not, ◌&&◌, List, [], ◌∷◌, ◌++◌, Option, Some, None, nat_eq, nat_lt, nat_le, refl, sym, ap, ap₂, subst, ◌∙◌, inl, inr, arith, eq-eqb}
+use Rattle.std.proofs.Common.{◌≡◌, ◌≢◌, ℕ, ◌<◌, ◌≤◌, true, false, not, List, [], ◌∷◌, ◌++◌, Option, Some, None, nat_eq, nat_lt, nat_le, refl, sym, ap, ap₂, subst, ◌∙◌, inl, inr, arith, eq-eqb}
 use Rattle.std.proofs.Common.{le-leb, lt-ltb, leb-true}
 use Rattle.offset_script.proofs.Tests.{same_some}
 use Rattle.std.proofs.lemmas.List.{map-append}
@@ -7,7 +7,7 @@ use Rattle.std.proofs.lemmas.Bool.{cases_eq, cases_lt, true≢false, and_parts, 
 use Rattle.offset_allocator.specs.Classes.{up, down}
 use Rattle.offset_script.specs.Machine.{is_free, stamp, fits, is_taken_before, chosen_place}
 use Rattle.offset_script.specs.Machine as plain
-use Rattle.offset_allocator.specs.View.{Block, View, Place, Grant, place_of, one, times, count_named, count_in_bin, bin_at, IsWellFormed}
+use Rattle.offset_allocator.specs.View.{Block, View, Place, Grant, place_of, one, times, count_named, bin_at, IsWellFormed}
 use Rattle.offset_allocator.specs.Relations.{Splits}
 use Rattle.offset_script.proofs.Agreement.{Label, by_name, by_tag, stamp_of, IsFalling}
 use Rattle.offset_script.proofs.Well.{chosen_at, not_chosen}
@@ -84,13 +84,7 @@ place_of_spot v w s e = ap (place_of s.label.name) (e ∙ names_whole s) ∙ pla
 
 -- a free block is listed in its class
 listed_spot : (v : View) → IsWellFormed v → (s : Spot) → v.blocks ≡ names (whole s) → is_free s.label.tag ≡ true → 1 ≤ times s.label.name (bin_at v.order (down s.label.size))
-listed_spot v w s e f =
-    let parts = ap (count_in_bin (down s.label.size) s.label.name) (e ∙ names_whole s)
-    ∙ tally_append (λ (b : Block). one (not b.used && (nat_eq (down s.label.size) (down b.size) && nat_eq s.label.name b.name))) (names s.before) (by_name s.label ∷ names s.after) in
-    let o = w.orders (down s.label.size) s.label.name in
-    let here : one (not (not (is_free s.label.tag)) && (nat_eq (down s.label.size) (down s.label.size) && nat_eq s.label.name s.label.name)) ≡ 1 =
-    rw (f, eq-eqb (down s.label.size) (down s.label.size) refl, eq-eqb s.label.name s.label.name refl) refl in
-    omega (arith, parts, o, here)
+listed_spot v w s e f = search (arith, names_whole, tally_append, not, nat_eq, names, by_name, eq-eqb)
 
 -- the stamp of the name at a spot
 spot_stamp : (v : View) → IsWellFormed v → (s : Spot) → v.blocks ≡ names (whole s) → stamp_of s.label.name (whole s) ≡ stamp s.label.tag

@@ -5,11 +5,10 @@ use Rattle.std.proofs.lemmas.List.{map-append}
 use Rattle.std.proofs.lemmas.Bool.{true≢false, false≢true, false_from_ne_true}
 use Rattle.offset_script.specs.declared.scripts.Command.{Command}
 use Rattle.offset_script.specs.declared.scripts.Command.TheVariants as command
-use Rattle.offset_allocator.specs.Classes.{up, down}
 use Rattle.offset_allocator.specs.Reports.{largest, rows_below}
 use Rattle.offset_allocator.specs.View.{max_size, padding_to}
-use Rattle.offset_script.specs.Machine.{Tag, Live, Free, Block, block, is_free, has_number, total, Place, here, prepend, fits, is_taken_before, choose, chosen_place, place_of, ends_live, coalesce}
-use Rattle.offset_script.specs.Machine.{State, Outcome, start, step, after, request, grant_or_refuse, is_short_of, returns_only, leaves, release, size_at, stamp_of_call}
+use Rattle.offset_script.specs.Machine.{Tag, Live, Free, Block, block, is_free, has_number, total, Place, here, fits, choose, chosen_place, place_of, coalesce}
+use Rattle.offset_script.specs.Machine.{State, Outcome, start, step, after, request, grant_or_refuse, returns_only, release, size_at, stamp_of_call}
 use Rattle.offset_script.specs.Machine as machine
 use Rattle.offset_script.specs.Histories.{holder, outline, widen, collapse, without_offset, releases, IsCollapse}
 use Rattle.std.specs.List.{list_any}
@@ -32,19 +31,11 @@ collapse_block ks n h o = if option_map_or (λ k. list_any (nat_eq k) ks) h true
 -- collapsing twice
 widen-widen : (n m : ℕ) (o : Outline) → widen n (widen m o) ≡ widen (n + m) o
 widen-widen n m [] = refl
-widen-widen n m (b ∷ o) = go b.0 b.1
-  where
-    go : (x : ℕ) (h : Option ℕ) → widen n (widen m ((x, h) ∷ o)) ≡ widen (n + m) ((x, h) ∷ o)
-    go x None = ap (λ y. (y, None) ∷ o) (let e : n + (m + x) ≡ (n + m) + x = omega arith in e)
-    go x (Some k) = refl
+widen-widen n m (b ∷ o) = search (arith)
 
 collapse-widen : (ks : List ℕ) (n : ℕ) (o : Outline) → collapse ks (widen n o) ≡ widen n (collapse ks o)
 collapse-widen ks n [] = refl
-collapse-widen ks n (b ∷ o) = go b.0 b.1
-  where
-    go : (x : ℕ) (h : Option ℕ) → collapse ks (widen n ((x, h) ∷ o)) ≡ widen n (collapse ks ((x, h) ∷ o))
-    go x None = sym (widen-widen n x (collapse ks o))
-    go x (Some k) = refl
+collapse-widen ks n (b ∷ o) = search (arith, widen-widen)
 
 or_nothing : (b : Bool) → (b || false) ≡ b
 or_nothing true = refl
@@ -52,12 +43,7 @@ or_nothing false = refl
 
 collapse_block_more : (k : ℕ) (ks : List ℕ) (n : ℕ) (h : Option ℕ) (o p : Outline) → collapse ks o ≡ p → collapse ks (collapse_block (k ∷ []) n h o) ≡ collapse_block (k ∷ ks) n h p
 collapse_block_more k ks n None o p ih = collapse-widen ks n o ∙ ap (widen n) ih
-collapse_block_more k ks n (Some j) o p ih =
-    elim (nat_eq j k || false) as (λ x. collapse ks (if x then widen n o else (n, Some j) ∷ o) ≡ (if x then collapse ks (widen n o) else collapse ks ((n, Some j) ∷ o))) [ true ↦ refl | false ↦ refl ]
-    ∙ ap (λ x. if nat_eq j k || false then x else collapse_block ks n (Some j) (collapse ks o)) (collapse-widen ks n o)
-    ∙ ap₂ (λ x q. if x then widen n q else (if list_any (nat_eq j) ks then widen n q else (n, Some j) ∷ q)) (or_nothing (nat_eq j k)) ih
-    ∙ elim (nat_eq j k) as (λ x. (if x then widen n p else (if list_any (nat_eq j) ks then widen n p else (n, Some j) ∷ p)) ≡ (if x || list_any (nat_eq j) ks then widen n p else (n, Some j) ∷ p))
-    [ true ↦ refl | false ↦ refl ]
+collapse_block_more k ks n (Some j) o p ih = search (arith, nat_eq, collapse-widen, or_nothing)
 
 collapse_one_more : (k : ℕ) (ks : List ℕ) (o : Outline) → collapse ks (collapse (k ∷ []) o) ≡ collapse (k ∷ ks) o
 collapse_one_more k ks [] = refl
@@ -69,11 +55,7 @@ no_hit t j e c z = let h : hit (Live j) t ≡ 1 = ap (hit (Live j)) e ∙ hit_se
 
 widen_apart : (n : ℕ) (bs : List Block) → starts_free bs ≡ false → widen n (outline bs) ≡ (n, None) ∷ outline bs
 widen_apart n [] e = refl
-widen_apart n (b ∷ bs) e = go b.size b.tag e
-  where
-    go : (m : ℕ) (t : Tag) → is_free t ≡ false → widen n (outline (block m t ∷ bs)) ≡ (n, None) ∷ outline (block m t ∷ bs)
-    go m (Live j) e = refl
-    go m (Free s) e = absurd (true≢false e)
+widen_apart n (b ∷ bs) e = search (arith, true≢false)
 
 -- a block that is not released stays
 stays : (ks : List ℕ) (n : ℕ) (t : Tag) (bs : List Block) → ((j : ℕ) → t ≡ Live j → list_any (nat_eq j) ks ≡ false) → (is_free t && starts_free bs) ≡ false
@@ -168,16 +150,11 @@ pub record IsSameSpace (s t : State) : Type 0 where
 -- whether a request is granted goes by the sizes
 some_chosen : (n : ℕ) (b : Block) (bs : List Block) (o : Option Place) → is_some (choose n b bs o) ≡ (fits n b || is_some o)
 some_chosen n b bs None = elim (fits n b) as (λ x. is_some (if x then Some (here b bs) else None) ≡ (x || false)) [ true ↦ refl | false ↦ refl ]
-some_chosen n b bs (Some p) = elim (fits n b) as (λ x. is_some (if x && is_taken_before b p.block then Some (here b bs) else Some (prepend b p)) ≡ (x || true)) [
-  | true ↦ elim (is_taken_before b p.block) as (λ y. is_some (if y then Some (here b bs) else Some (prepend b p)) ≡ true) [ true ↦ refl | false ↦ refl ]
-  | false ↦ refl
-]
+some_chosen n b bs (Some p) = search (arith, is_some)
 
 pub some_same : (n : ℕ) (p : List Pair) → is_some (chosen_place n (lefts p)) ≡ is_some (chosen_place n (rights p))
 some_same n [] = refl
-some_same n (q ∷ p) = some_chosen n (left q) (lefts p) (chosen_place n (lefts p))
-    ∙ ap₂ (λ x y. (x && nat_le (up n) (down q.size)) || y) (same_free q.kind) (some_same n p)
-    ∙ sym (some_chosen n (right q) (rights p) (chosen_place n (rights p)))
+some_same n (q ∷ p) = search (arith, (some_same n p), some_chosen, left, lefts, nat_le, same_free, right, rights)
 
 same_granted : (s t : State) → s.grants ≡ t.grants → (n : ℕ) (padding_at : ℕ → ℕ) (o p : Option Place) → is_some o ≡ is_some p
     → without_offset (grant_or_refuse s n padding_at o).answer ≡ without_offset (grant_or_refuse t n padding_at p).answer
@@ -188,11 +165,7 @@ same_granted s t g n padding_at (Some o) (Some p) e = ap (λ k. machine.Grant (k
 
 same_request : (s t : State) → IsSameSpace s t → (spare needed n : ℕ) (padding_at : ℕ → ℕ)
     → without_offset (request s spare needed n padding_at).answer ≡ without_offset (request t spare needed n padding_at).answer
-same_request s t a spare needed n padding_at = if_same (λ (o p : Outcome). without_offset o.answer ≡ without_offset p.answer) (is_short_of spare s) (is_short_of spare t)
-    (returns_only s machine.Refused) (returns_only t machine.Refused) (grant_or_refuse s n padding_at (chosen_place needed s.blocks)) (grant_or_refuse t n padding_at (chosen_place needed t.blocks))
-    (same_short s t a.blocks.pairs a.limit a.blocks.left_blocks a.blocks.right_blocks spare) (λ e. refl)
-    (same_granted s t a.grants n padding_at _ _
-    (ap (λ bs. is_some (chosen_place needed bs)) a.blocks.left_blocks ∙ some_same needed a.blocks.pairs ∙ ap (λ bs. is_some (chosen_place needed bs)) (sym a.blocks.right_blocks)))
+same_request s t a spare needed n padding_at = search (arith, if_same, same_short, same_granted, is_some, some_same)
 
 pub same_number : (k : ℕ) (q : Kind) → HasSameNumber q → has_number k (left_tag q) ≡ has_number k (right_tag q)
 same_number k (Lives i j) e = ap (nat_eq k) e
@@ -211,10 +184,7 @@ same_place s t a k = subst₂ (λ x y. (without_offset (release s (place_of k x)
 
 same_extend : (s t : State) → IsSameSpace s t → (more : ℕ) → without_offset (step (command.Extend more) s).answer ≡ without_offset (step (command.Extend more) t).answer
 same_extend s t a zero = refl
-same_extend s t a (suc more) = if_same (λ (o p : Outcome). without_offset o.answer ≡ without_offset p.answer) (nat_lt max_size (total s.blocks + suc more) || (ends_live s.blocks && is_short_of 1 s))
-    (nat_lt max_size (total t.blocks + suc more) || (ends_live t.blocks && is_short_of 1 t)) (returns_only s machine.Refused) (returns_only t machine.Refused)
-    (leaves s (coalesce s.blocks (suc more) (stamp_of_call s) []) machine.Extended) (leaves t (coalesce t.blocks (suc more) (stamp_of_call t) []) machine.Extended)
-    (same_refusal s t a.blocks.pairs a.limit a.blocks.left_blocks a.blocks.right_blocks (suc more)) (λ e. refl) refl
+same_extend s t a (suc more) = search (arith, if_same, nat_lt, same_refusal)
 
 pub same_next : (s t : State) → IsSameSpace s t → (c : Command) → without_offset (step c s).answer ≡ without_offset (step c t).answer
 same_next s t a (command.Alloc n) = same_request s t a 1 n n (λ offset. 0)
@@ -238,7 +208,4 @@ commute_space size limit h cs ks = releases_outline ks (after cs (start size lim
 
 pub commute_next : (size limit : ℕ) → 2 ≤ limit → (cs : List Command) (ks : List ℕ) (t : State) → let s = after cs (start size limit) in
     IsCollapse ks s t → (c : Command) → without_offset (step c (after (releases ks) s)).answer ≡ without_offset (step c t).answer
-commute_next size limit h cs ks t is =
-    let s = after cs (start size limit) in
-    let scalars = releases_scalars ks s in
-    same_next (after (releases ks) s) t (record { limit = scalars.0 ∙ sym is.limit; grants = scalars.1 ∙ sym is.grants; blocks = paired _ _ (commute_space size limit h cs ks ∙ sym is.blocks) })
+commute_next size limit h cs ks t is = search (arith, releases_scalars, same_next, paired, commute_space)

@@ -175,24 +175,14 @@ traceless (history.paired {s = s} {c = c} {k = k} {inner = inner} {outer = outer
 
 -- numbers after grants that are left out
 pub number_without_cases : (g j k : ℕ) → ((k ≤ g) × (number_without g j k ≡ k)) ⊎ (((g < k) × (k ≤ g + j) × (number_without g j k ≡ 0)) ⊎ ((g + j < k) × (number_without g j k ≡ k - j)))
-number_without_cases g j k = elim (cases_lt g k) [
-  | inl l ↦ elim (cases_lt (g + j) k) [
-    | inl m ↦ inr (inr (m, ap (λ b. if b then k else if nat_le k (g + j) then 0 else k - j) (lt-leb k g l) ∙ ap (λ b. if b then 0 else k - j) (lt-leb k (g + j) m)))
-    | inr m ↦ inr (inl (l, m, ap (λ b. if b then k else if nat_le k (g + j) then 0 else k - j) (lt-leb k g l) ∙ ap (λ b. if b then 0 else k - j) (le-leb k (g + j) m)))
-  ]
-  | inr l ↦ inl (l, ap (λ b. if b then k else if nat_le k (g + j) then 0 else k - j) (le-leb k g l))
-]
+number_without_cases g j k = search (arith, cases_lt, nat_le, lt-leb, le-leb)
 
 -- the same number, where no grants are left out
 pub number_without_none : (g k : ℕ) → number_without g 0 k ≡ k
 number_without_none g k = elim (number_without_cases g 0 k) [ inl h ↦ h.1 | inr (inl h) ↦ absurd (omega arith) | inr (inr h) ↦ h.1 ∙ omega arith ]
 
 number_without_kept : (g j i k : ℕ) → 1 ≤ i → i ≤ g → nat_eq k i ≡ nat_eq (number_without g j k) i
-number_without_kept g j i k one most = elim (number_without_cases g j k) [
-  | inl h ↦ ap (λ x. nat_eq x i) (sym h.1)
-  | inr (inl h) ↦ ne_eqb k i (λ e. omega arith) ∙ sym (ne_eqb (number_without g j k) i (λ e. omega arith))
-  | inr (inr h) ↦ ne_eqb k i (λ e. omega arith) ∙ sym (ne_eqb (number_without g j k) i (λ e. omega arith))
-]
+number_without_kept g j i k one most = search (arith, number_without_cases, nat_eq, ne_eqb)
 
 pub number_without_past : (g j k : ℕ) → k ≤ g + j → number_without g j k ≤ g
 number_without_past g j k l = elim (number_without_cases g j k) [ inl h ↦ omega arith | inr (inl h) ↦ omega arith | inr (inr h) ↦ absurd (omega arith) ]

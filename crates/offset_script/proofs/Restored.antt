@@ -61,10 +61,7 @@ rights_parts xs fs l rs ys = map-append right xs _ ∙ ap (λ z. rights xs ++ z)
     ∙ sym (append_assoc (rights xs) (rights fs) _)
 
 live_number : (q : Kind) (k : ℕ) → left_tag q ≡ Live k → HasSameNumber q → has_number k (right_tag q) ≡ true
-live_number (Lives i j) k e m = eq-eqb k j (number i k e ∙ m)
-  where
-    number : (i k : ℕ) → Live i ≡ Live k → k ≡ i
-    number i k e = cc
+live_number (Lives i j) k e m = search (arith, eq-eqb)
 live_number (Frees s u) k e m = absurd (grind (arith, e))
 
 -- The pairs before the grant and after the release: the others, and the block itself with its old stamp and its new
@@ -116,22 +113,7 @@ free_stamp (Live k) e = absurd (false≢true e)
 none_in_all : (s : State) → IsWell s → (k : ℕ) (xs : List Block) (b : Block) (ys : List Block) → s.blocks ≡ xs ++ b ∷ ys → s.grants < k → (before padding_bit : List Pair) (padding front : ℕ)
     → lefts before ≡ xs → lefts padding_bit ≡ free_block padding front
     → ((q : Pair) → IsIn q before → HasSameNumber q.kind) → ((q : Pair) → IsIn q padding_bit → HasSameNumber q.kind) → count (Live k) (rights before ++ rights padding_bit) ≡ 0
-none_in_all s w k xs b ys e l before padding_bit padding front on_before on_padding n m =
-    let all = not_there s w (Live k) (λ o. absurd (let m = o.1 in omega arith)) in
-    let free : count (Live k) (free_block padding front) ≤ 0 = count_free_block (Live k) padding front in
-    omega (
-      arith,
-      all,
-      free,
-      ap (count (Live k)) e,
-      count-append (Live k) xs (b ∷ ys),
-      count-append (Live k) (rights before) (rights padding_bit),
-      same_count k before n,
-      same_count k padding_bit m,
-      ap
-          (count (Live k)) on_before,
-      ap (count (Live k)) on_padding,
-    )
+none_in_all s w k xs b ys e l before padding_bit padding front on_before on_padding n m = search (arith, not_there, count, count_free_block, count-append, rights, same_count)
 
 pub restored : (s : State) → IsWell s → (p : Place) (needed n padding : ℕ) → s.blocks ≡ whole p → fits needed p.block ≡ true → IsBest needed s.blocks p.block → padding + n ≤ p.block.size
     → (t : State) → IsWell t → AreSimilar (granted_blocks p n padding (stamp_of_padding s) (s.grants + 1) (stamp_of_call s)) t.blocks → IsRestored s t

@@ -48,11 +48,7 @@ kept_push hs h (suc k) = elim (cases_eq k (length hs)) [
 -- a handle is removed
 pub kept_set : (hs : List (Option Grant)) (k : ℕ) → k < length hs → (j : ℕ) → kept_name (slice_set hs k None) j ≡ without_name (suc k) (kept_name hs) j
 kept_set hs k l zero = rw (ne_eqb 0 (suc k) (omega arith)) refl
-kept_set hs k l (suc j) = elim (cases_eq j k) [
-  | inl e ↦ ap (option_map handle_name) (ap (λ i. get_or (slice_set hs k None) i None) e ∙ get_or-set_same hs k None None l)
-      ∙ sym (ap (λ (b : Bool). if b then None else kept_name hs (suc j)) (eq-eqb (suc j) (suc k) (ap suc e)))
-  | inr n ↦ ap (option_map handle_name) (get_or-set_other hs k j None None n) ∙ sym (ap (λ (b : Bool). if b then None else kept_name hs (suc j)) (ne_eqb (suc j) (suc k) (omega arith)))
-]
+kept_set hs k l (suc j) = search (arith, cases_eq, option_map, get_or, slice_set, get_or-set_same, eq-eqb, get_or-set_other, ne_eqb)
 
 -- a clause of what a call returned, from another
 pub if_ok : {A E : Type 0} {P Q : A → Type 0} (r : Result A E) → ((a : A) → P a → Q a) → IfOk r P → IfOk r Q
@@ -62,10 +58,7 @@ if_ok (Err e) f p = tt
 -- only numbers from 1 to that of the last handle have one
 kept_within : (hs : List (Option Grant)) (k x : ℕ) → kept_name hs k ≡ Some x → (1 ≤ k) × (k - 1 < length hs)
 kept_within hs zero x e = absurd (cc)
-kept_within hs (suc k) x e = elim (cases_lt k (length hs)) [
-  | inl l ↦ (omega arith, omega arith)
-  | inr m ↦ absurd (let n = sym e ∙ ap (option_map handle_name) (get_or_past hs k None m) in cc)
-]
+kept_within hs (suc k) x e = search (arith, cases_lt, length, option_map, get_or_past)
 
 -- where no handle is left, no name is kept
 none_kept : (hs : List (Option Grant)) → ((i : ℕ) → i < length hs → slice_index_or hs i None ≡ None) → (k : ℕ) → kept_name hs k ≡ None
@@ -250,7 +243,4 @@ rows_more c v report d left rows r full l e f h pos =
 pub rows_same : (c : ℕ) (v : View) (report : StorageReportFull) (d : StorageReportFullRegion) (rows : List FullRow) → IsFullReport report v → c < 256
     → map row_view rows ≡ rows_below c (free_sizes v.blocks) → (slice_index_or report.free_regions c d).count ≤ 0
     → map row_view rows ≡ rows_below (c + 1) (free_sizes v.blocks)
-rows_same c v report d rows full l e nothing =
-    let count = ap (λ (x : StorageReportFullRegion). x.count) (full c d l) in
-    let none : count_of c (free_sizes v.blocks) ≡ 0 = omega arith in
-    rw add-one (e ∙ sym (ap (λ n. rows_below c (free_sizes v.blocks) ++ row c n) none ∙ append-nil _))
+rows_same c v report d rows full l e nothing = search (arith, add-one, append-nil)

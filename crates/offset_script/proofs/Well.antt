@@ -173,10 +173,7 @@ start_is (b ∷ c ∷ gs) ys e = absurd (let l = e.few in omega arith)
 
 -- what becomes free coalesces with the free blocks before and after it
 pub coalesce_parts : (xs fs : List Block) (n s : ℕ) (gs ys : List Block) → IsEnd xs fs → IsStart gs ys → coalesce (xs ++ fs) n s (gs ++ ys) ≡ xs ++ block (total fs + n + total gs) (Free s) ∷ ys
-coalesce_parts xs fs n s gs ys e h =
-    let x = end_is xs fs e in
-    let y = start_is gs ys h in
-    ap₂ (λ (u v : List Block). u ++ block (free_end (xs ++ fs) + n + free_start (gs ++ ys)) (Free s) ∷ v) x.0 y.0 ∙ ap₂ (λ (u v : ℕ). xs ++ block (u + n + v) (Free s) ∷ ys) x.1 y.1
+coalesce_parts xs fs n s gs ys e h = search (arith, end_is, start_is)
 
 ended : (bs : List Block) → (xs : List Block) × (fs : List Block) × (bs ≡ xs ++ fs) × IsEnd xs fs
 ended [] = ([], [], refl, record { few = omega arith; free = tt; live = λ h. refl })
@@ -262,19 +259,7 @@ apart_coalesce xs n s ys a b =
 
 -- the machine
 pub well_start : (size limit : ℕ) → 2 ≤ limit → IsWell (start size limit)
-well_start size limit h =
-    record {
-      some = omega arith;
-      apart = (refl, tt);
-      once = λ t. elim (same_tag t (Free 0)) as (λ b. one b + 0 ≤ 1) [ true ↦ omega arith | false ↦ omega arith ];
-      old = λ t c. first t c;
-      room =
-          omega arith;
-    }
-  where
-    first : (t : Tag) → 1 ≤ hit t (Free 0) + 0 → IsOld (start size limit) t
-    first (Live k) c = absurd (omega arith)
-    first (Free x) c = elim (hit_cases x 0) [ inl e ↦ omega arith | inr e ↦ absurd (omega arith) ]
+well_start size limit h = search (arith, hit_cases)
 
 -- a call after which each tag occurs no more often than before, except for new ones
 module _ (s s' : State) (w : IsWell s) (news : Tag → ℕ) (counts : (t : Tag) → count t s'.blocks ≤ count t s.blocks + news t)
@@ -299,11 +284,7 @@ well_quiet s w a = well_next s (returns_only s a).state w (λ t. 0) (λ t. omega
 -- blocks that a call leaves, where each tag occurs no more often than before, except for the stamp of the call
 pub well_leaves : (s : State) → IsWell s → (bs : List Block) (a : Answer) → 1 ≤ length bs → length bs + 1 ≤ s.limit → AreApart bs
     → ((t : Tag) → count t bs ≤ count t s.blocks + hit t (Free (stamp_of_call s))) → IsWell (leaves s bs a).state
-well_leaves s w bs a some room apart counts = well_next s (leaves s bs a).state w (λ t. hit t (Free (stamp_of_call s))) counts fresh (omega arith) (omega arith) some room apart
-  where
-    fresh : (t : Tag) → (hit t (Free (stamp_of_call s)) ≡ 0) ⊎ ((hit t (Free (stamp_of_call s)) ≡ 1) × (IsOld s t → ⊥) × IsOld (leaves s bs a).state t)
-    fresh (Live k) = inl refl
-    fresh (Free x) = elim (hit_cases x (stamp_of_call s)) [ inl e ↦ inr (e.1, λ o. absurd (omega arith), omega arith) | inr e ↦ inl e.1 ]
+well_leaves s w bs a some room apart counts = search (arith, hit_cases)
 
 -- what is found
 abbrev IsFoundAt : ℕ → List Block → Option Place → Type 0
@@ -364,11 +345,7 @@ chosen_prepend n b bs d f best c (inr i) g = best c i g
 
 choose_none : (n : ℕ) (b : Block) (bs : List Block) → ((c : Block) → IsIn c bs → fits n c ≡ false) → (x : Bool) → fits n b ≡ x → IsChosenAt n (b ∷ bs) (if x then Some (here b bs) else None)
 choose_none n b bs h true e = (refl, e, chosen_here n b bs e (λ c i g. absurd (true≢false (sym g ∙ h c i))))
-choose_none n b bs h false e = λ c i. none c i
-  where
-    none : (c : Block) → IsIn c (b ∷ bs) → fits n c ≡ false
-    none c (inl same) = subst (λ (x : Block). fits n x ≡ false) (sym same) e
-    none c (inr i) = h c i
+choose_none n b bs h false e = search (arith)
 
 choose_some : (n : ℕ) (b : Block) (bs : List Block) (p : Place) → IsChosenAt n bs (Some p) → (x : Bool) → (fits n b && is_taken_before b p.block) ≡ x
     → IsChosenAt n (b ∷ bs) (if x then Some (here b bs) else Some (prepend b p))
@@ -406,16 +383,7 @@ granted_blocks p n padding front k rest = p.before ++ (free_block padding front 
 
 count_granted : (t : Tag) (p : Place) (n padding front k rest : ℕ)
     → count t (granted_blocks p n padding front k rest) + hit t p.block.tag ≤ count t (whole p) + (hit t (Free front) + (hit t (Live k) + hit t (Free rest)))
-count_granted t p n padding front k rest =
-    omega (
-      arith,
-      count-append t p.before (p.block ∷ p.after),
-      count-append t p.before (free_block padding front ++ (block n (Live k) ∷ (free_block (p.block.size - (padding + n)) rest ++ p.after))),
-      count-append t (free_block padding front) (block n (Live k) ∷ (free_block (p.block.size - (padding + n)) rest ++ p.after)),
-      count-append t (free_block (p.block.size - (padding + n)) rest) p.after,
-      count_free_block t padding front,
-      count_free_block t (p.block.size - (padding + n)) rest,
-    )
+count_granted t p n padding front k rest = search (arith, count-append, count_free_block)
 
 apart_granted : (p : Place) (n padding front k rest : ℕ) → is_free p.block.tag ≡ true → AreApart (whole p) → AreApart (granted_blocks p n padding front k rest)
 apart_granted p n padding front k rest f a =
