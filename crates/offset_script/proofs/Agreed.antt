@@ -81,12 +81,10 @@ abbrev pub new_labels : (front padding x n k rest left t : ℕ) → List Label
 new_labels front padding x n k rest left t = free_labels front padding t ++ live_label x n k ∷ free_labels rest left (t + 1)
 
 pub names_new : (front padding x n k rest left t : ℕ) → names (new_labels front padding x n k rest left t) ≡ free_part front padding ++ used_block x n ∷ free_part rest left
-names_new front padding x n k rest left t = map-append by_name (free_labels front padding t) _
-    ∙ ap₂ (λ a b. a ++ used_block x n ∷ b) (names_free_labels front padding t) (names_free_labels rest left (t + 1))
+names_new front padding x n k rest left t = search (arith, map-append, by_name, names_free_labels)
 
 pub tags_new : (front padding x n k rest left t : ℕ) → tags (new_labels front padding x n k rest left t) ≡ machine.free_block padding t ++ machine.block n (Live k) ∷ machine.free_block left (t + 1)
-tags_new front padding x n k rest left t = map-append by_tag (free_labels front padding t) _
-    ∙ ap₂ (λ a b. a ++ machine.block n (Live k) ∷ b) (tags_free_labels front padding t) (tags_free_labels rest left (t + 1))
+tags_new front padding x n k rest left t = search (arith, map-append, by_tag, tags_free_labels)
 
 pub name_new : (j front padding x n k rest left t : ℕ) → name_of j (new_labels front padding x n k rest left t) ≡ (if nat_eq j k then Some x else None)
 name_new j front padding x n k rest left t = search (arith, name_append, name_of, name_free_labels, nat_eq)

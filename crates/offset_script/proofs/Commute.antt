@@ -5,7 +5,7 @@ use Rattle.std.proofs.lemmas.List.{map-append}
 use Rattle.std.proofs.lemmas.Bool.{true≢false, false≢true, false_from_ne_true}
 use Rattle.offset_script.specs.declared.scripts.Command.{Command}
 use Rattle.offset_script.specs.declared.scripts.Command.TheVariants as command
-use Rattle.offset_allocator.specs.Reports.{largest, rows_below}
+use Rattle.offset_allocator.specs.Reports.{rows_below}
 use Rattle.offset_allocator.specs.View.{max_size, padding_to}
 use Rattle.offset_script.specs.Machine.{Tag, Live, Free, Block, block, is_free, has_number, total, Place, here, fits, choose, chosen_place, place_of, coalesce}
 use Rattle.offset_script.specs.Machine.{State, Outcome, start, step, after, request, grant_or_refuse, returns_only, release, size_at, stamp_of_call}
@@ -85,8 +85,7 @@ free_after ks n (b ∷ gs) o f = ap (λ h. widen n (collapse_block ks b.size h (
 
 free_before : (ks : List ℕ) (n : ℕ) (fs : List Block) (o p : Outline) → AreFree fs → collapse ks o ≡ widen n p → collapse ks (outline fs ++ o) ≡ widen (total fs + n) p
 free_before ks n [] o p f e = e ∙ ap (λ m. widen m p) (omega arith)
-free_before ks n (b ∷ fs) o p f e = ap (λ h. collapse_block ks b.size h (collapse ks (outline fs ++ o))) (free_holder b.tag f.0) ∙ ap (widen b.size) (free_before ks n fs o p f.1 e)
-    ∙ widen-widen b.size (total fs + n) p ∙ ap (λ m. widen m p) (omega arith)
+free_before ks n (b ∷ fs) o p f e = search (arith, (free_before ks n fs o p f.1 e), free_holder, widen-widen)
 
 -- a collapse goes by the collapse of what comes last
 collapse_same : (ks : List ℕ) (o p q : Outline) → collapse ks p ≡ collapse ks q → collapse ks (o ++ p) ≡ collapse ks (o ++ q)
@@ -190,8 +189,7 @@ pub same_next : (s t : State) → IsSameSpace s t → (c : Command) → without_
 same_next s t a (command.Alloc n) = same_request s t a 1 n n (λ offset. 0)
 same_next s t a (command.Free k) = (same_place s t a k).0
 same_next s t a (command.Size k) = ap without_offset (same_place s t a k).1
-same_next s t a command.Report = ap₂ (λ b l. without_offset (if b then machine.Report 0 0 else machine.Report (sum l) (largest l)))
-    (same_short s t a.blocks.pairs a.limit a.blocks.left_blocks a.blocks.right_blocks 1) (same_free_sizes s t a.blocks.pairs a.limit a.blocks.left_blocks a.blocks.right_blocks)
+same_next s t a command.Report = search (arith, sum, same_short, same_free_sizes)
 same_next s t a command.Full = ap (λ l. machine.Full (rows_below 256 l)) (same_free_sizes s t a.blocks.pairs a.limit a.blocks.left_blocks a.blocks.right_blocks)
 same_next s t a command.Reset = refl
 same_next s t a (command.Align n align) = if_same (λ (o p : Outcome). without_offset o.answer ≡ without_offset p.answer) (nat_le align 1) (nat_le align 1) (step (command.Alloc n) s)

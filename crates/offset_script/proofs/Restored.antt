@@ -57,8 +57,7 @@ older s w p n u e tag f best z t i same =
         omega (arith, own, l, o, ap (count (Free t)) e, count-append (Free t) p.before (p.block ∷ p.after))
 
 rights_parts : (xs fs : List Pair) (l : Pair) (rs ys : List Pair) → rights (xs ++ (fs ++ (l ∷ (rs ++ ys)))) ≡ (rights xs ++ rights fs) ++ right l ∷ (rights rs ++ rights ys)
-rights_parts xs fs l rs ys = map-append right xs _ ∙ ap (λ z. rights xs ++ z) (map-append right fs _ ∙ ap (λ z. rights fs ++ right l ∷ z) (map-append right rs ys))
-    ∙ sym (append_assoc (rights xs) (rights fs) _)
+rights_parts xs fs l rs ys = search (arith, map-append, right, rights, append_assoc)
 
 live_number : (q : Kind) (k : ℕ) → left_tag q ≡ Live k → HasSameNumber q → has_number k (right_tag q) ≡ true
 live_number (Lives i j) k e m = search (arith, eq-eqb)

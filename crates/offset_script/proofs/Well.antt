@@ -313,8 +313,7 @@ found_at k bs p e = subst (IsFoundAt k bs) e (found_all k bs)
 pub place_at : (k : ℕ) (xs : List Block) (b : Block) (ys : List Block) → count (Live k) xs ≡ 0 → has_number k b.tag ≡ true
     → place_of k (xs ++ b ∷ ys) ≡ Some (record { before = xs; block = b; after = ys })
 place_at k [] b ys c e = ap (λ x. if x then Some (here b ys) else option_map (prepend b) (place_of k ys)) e
-place_at k (x ∷ xs) b ys c e = ap (λ t. if t then Some (here x (xs ++ b ∷ ys)) else option_map (prepend x) (place_of k (xs ++ b ∷ ys))) (hit_number k x.tag (omega arith))
-    ∙ ap (option_map (prepend x)) (place_at k xs b ys (omega arith) e)
+place_at k (x ∷ xs) b ys c e = search (arith, (place_at k xs b ys (omega arith) e), option_map, hit_number)
 
 -- where a grant is not found, no block has its number
 pub not_found : (k : ℕ) (bs : List Block) → place_of k bs ≡ None → count (Live k) bs ≡ 0
