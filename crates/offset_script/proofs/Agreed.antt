@@ -1,6 +1,6 @@
 -- What each call of the allocator leaves agrees with what the plain machine leaves, and the answers are the same.
 use Rattle.std.proofs.Common.{◌≡◌, ℕ, zero, suc, ◌+◌, ◌-◌, ◌<◌, ◌≤◌, Bool, true, false, not, ◌&&◌, ◌||◌, ◌⊎◌, List, [], ◌∷◌, ◌++◌, replicate, length, sum, Option, Some, None, nat_eq, nat_lt, nat_le}
-use Rattle.std.proofs.Common.{if◌then◌else◌, refl, sym, ap, ap₂, subst, subst₂, ◌∙◌, inl, inr, arith, eq-eqb, ne_eqb, le-leb, le-ltb, leb-false, append_assoc, append-nil}
+use Rattle.std.proofs.Common.{if◌then◌else◌, refl, sym, ap, ap₂, subst, ◌∙◌, inl, inr, arith, eq-eqb, ne_eqb, le-leb, le-ltb, leb-false, append_assoc, append-nil}
 use Rattle.offset_script.proofs.Tests.{same_some}
 use Rattle.std.specs.Option.{option_or}
 use Rattle.offset_allocator.proofs.ViewApart.{and_true}
@@ -116,9 +116,7 @@ module _ (v : View) (kept_name : ℕ → Option ℕ) (s : State) (w : IsWellForm
   labelled = record { view = g.view; newest = g.newest }
 
   low : (ls : List Label) → g.labels ≡ ls → (x : ℕ) → stamp_of x ls < stamp_of_padding s
-  low ls e = subst (λ ls. (x : ℕ) → stamp_of x ls < stamp_of_padding s) e
-      (stamps_below (stamp_of_padding s) g.labels (λ x. subst (λ bs. named.count_named x bs ≤ 1) g.view (w.distinct x))
-      (λ x b. subst (λ bs. count (Free x) bs ≡ 0) g.state (not_there s ws (Free x) (λ o. absurd (omega arith)))) (omega arith))
+  low ls e = search (arith, stamp_of, stamps_below, count, not_there)
 
   newest_at : (ls : List Label) → g.labels ≡ ls → (c : ℕ) → IsFalling (λ x. stamp_of x ls) (bin_at v.order c)
   newest_at ls e = subst (λ ls. (c : ℕ) → IsFalling (λ x. stamp_of x ls) (bin_at v.order c)) e g.newest
@@ -174,17 +172,7 @@ module _ (v : View) (kept_name : ℕ → Option ℕ) (s : State) (w : IsWellForm
             ))
 
         handles : (j : ℕ) → with_name k sp.label.name kept_name j ≡ name_of j (sp.before ++ (new ++ sp.after))
-        handles j = elim (cases_eq j k) [
-          | inl i ↦ subst (λ k'. with_name k sp.label.name kept_name k' ≡ name_of k' (sp.before ++ (new ++ sp.after))) (sym i)
-              (rw (eq-eqb k k refl)
-              (sym (name_append k sp.before (new ++ sp.after)
-              ∙ ap₂ option_or first
-              (name_append k new sp.after ∙ ap (λ o. option_or o (name_of k sp.after))
-              (name_new k front padding sp.label.name n k rest left (stamp_of_padding s) ∙ ap (λ (b : Bool). if b then Some sp.label.name else None) (eq-eqb k k refl))))))
-          | inr i ↦ rw (ne_eqb j k i)
-              (g.handles j ∙ ap (name_of j) e ∙ name_replaced j sp.before (sp.label ∷ []) new sp.after
-              (name_skip j sp.label [] f ∙ sym (name_new j front padding sp.label.name n k rest left (stamp_of_padding s) ∙ ap (λ (b : Bool). if b then Some sp.label.name else None) (ne_eqb j k i))))
-        ]
+        handles j = search (arith, cases_eq, k, name_of, new, eq-eqb, name_append, first, name_new, left, ne_eqb, name_replaced, name_skip)
 
     -- what becomes free, between lists that end and start with free blocks
     coalesced_agrees : (front before left old back right after : List Label) (x n size : ℕ) → g.labels ≡ front ++ (old ++ back) → front ≡ before ++ left → back ≡ right ++ after → AreFree left
@@ -213,10 +201,7 @@ module _ (v : View) (kept_name : ℕ → Option ℕ) (s : State) (w : IsWellForm
         apart' = parts before (l ∷ after) (apart_tagged (before ++ (l ∷ after)) (subst named.IsApart (ap (λ (x : View). x.blocks) same ∙ sym (map-append by_name before (l ∷ after))) w'.apart))
 
         state : machine.coalesce (tags front) n (stamp_of_call s) (tags back) ≡ tags (before ++ (l ∷ after))
-        state = ap₂ (λ y z. machine.coalesce y n (stamp_of_call s) z) (ap tags at_front ∙ map-append by_tag before left) (ap tags at_back ∙ map-append by_tag right after)
-            ∙ coalesce_parts (tags before) (tags left) n (stamp_of_call s) (tags right) (tags after) (end_of _ _ (free_tagged left fl) (parts left (old ++ right) apart).0 (and_true _ apart'.2))
-            (start_of _ _ (free_tagged right fr) (parts old right (parts left (old ++ right) apart).1).1 apart'.1.0)
-            ∙ sym (map-append by_tag before (l ∷ after))
+        state = search (arith, tags, map-append, by_tag, left, coalesce_parts, end_of, free_tagged, parts, apart, and_true, apart', start_of, l)
 
   pub same_length : length v.blocks ≡ length s.blocks
   same_length = ap length g.view ∙ (length-map g.labels by_name ∙ sym (length-map g.labels by_tag)) ∙ sym (ap length g.state)
@@ -234,19 +219,12 @@ module _ (v : View) (kept_name : ℕ → Option ℕ) (s : State) (w : IsWellForm
   module _ (blocks needed n : ℕ) (padding_at : ℕ → ℕ) (u : View) (w' : IsWellFormed u) where
     -- a request that is refused
     refused_is : (CanGrant blocks needed v → ⊥) → machine.request s blocks needed n padding_at ≡ returns_only s machine.Refused
-    refused_is none = go (machine.is_short_of blocks s) refl
-      where
-        go : (b : Bool) → machine.is_short_of blocks s ≡ b → (if b then returns_only s machine.Refused else machine.grant_or_refuse s n padding_at (chosen_place needed s.blocks))
-            ≡ returns_only s machine.Refused
-        go true e = refl
-        go false e = ap (machine.grant_or_refuse s n padding_at) (ap (chosen_place needed) g.state ∙ none_chosen v w g.labels labelled needed (λ h. none (room_for blocks e, h)))
+    refused_is none = search (arith, none_chosen, labelled, room_for)
 
     -- a request that is granted, of a block at a place
     granted_is : HasRoomFor blocks v → (padding : ℕ) (sp : Spot) → chosen_place needed (tags g.labels) ≡ Some (plain_place sp) → padding ≡ padding_at (units (names sp.before))
         → machine.request s blocks needed n padding_at ≡ machine.grant s n padding (plain_place sp)
-    granted_is room padding sp at e =
-        ap (λ (b : Bool). if b then returns_only s machine.Refused else machine.grant_or_refuse s n padding_at (chosen_place needed s.blocks)) (has_room blocks room)
-        ∙ ap (machine.grant_or_refuse s n padding_at) (ap (chosen_place needed) g.state ∙ at) ∙ ap (λ m. machine.grant s n m (plain_place sp)) (ap padding_at (total_units sp.before) ∙ sym e)
+    granted_is room padding sp at e = search (arith, has_room, plain_place, total_units)
 
     -- what a grant says of the place of the block that is split
     abbrev IsGrantAt : Grant → (padding remainder front rest : ℕ) → Place → Type 0
@@ -271,13 +249,7 @@ module _ (v : View) (kept_name : ℕ → Option ℕ) (s : State) (w : IsWellForm
   -- an aligned request
   request_alike : (blocks blocks' needed needed' n : ℕ) (padding_at padding_at' : ℕ → ℕ) → blocks ≡ blocks' → needed ≡ needed' → ((o : ℕ) → padding_at o ≡ padding_at' o)
       → machine.request s blocks needed n padding_at ≡ machine.request s blocks' needed' n padding_at'
-  request_alike blocks blocks' needed needed' n padding_at padding_at' e f h =
-      ap₂ (λ b m. machine.request s b m n padding_at) e f ∙ ap (λ (o : machine.Outcome). if machine.is_short_of blocks' s then returns_only s machine.Refused else o)
-      (go (chosen_place needed' s.blocks))
-    where
-      go : (o : Option machine.Place) → machine.grant_or_refuse s n padding_at o ≡ machine.grant_or_refuse s n padding_at' o
-      go None = refl
-      go (Some p) = ap (λ m. machine.grant s n m p) (h (total p.before))
+  request_alike blocks blocks' needed needed' n padding_at padding_at' e f h = search (arith)
 
   too_large : (n : ℕ) → max_size < n → (o : Option machine.Place) → chosen_place n s.blocks ≡ o → o ≡ None
   too_large n l None e = refl
@@ -309,8 +281,7 @@ module _ (v : View) (kept_name : ℕ → Option ℕ) (s : State) (w : IsWellForm
 
   pub aligned_agrees : (n align : ℕ) → 1 ≤ align → (u : View) → IsWellFormed u → (r : Option Grant) → Serves (blocks_needed align) (units_needed n align) n (padding_to align) v u r
       → IsMatch u kept_name s.grants r (step (command.Align n align) s)
-  aligned_agrees n align some u w' r e = subst (IsMatch u kept_name s.grants r) (sym (aligned_is n align some))
-      (serve_agrees (blocks_needed align) (units_needed n align) n (padding_to align) u w' r e)
+  aligned_agrees n align some u w' r e = search (arith, aligned_is, serve_agrees)
 
   -- a live grant, whose block has the name x
   pub record LiveAt (k x : ℕ) : Type 0 where
@@ -334,25 +305,15 @@ module _ (v : View) (kept_name : ℕ → Option ℕ) (s : State) (w : IsWellForm
       )
 
   pub live_at : (k x : ℕ) → kept_name k ≡ Some x → LiveAt k x
-  live_at k x e = go (machine.place_of k s.blocks) refl
-    where
-      go : (o : Option machine.Place) → machine.place_of k s.blocks ≡ o → LiveAt k x
-      go None f = absurd (let n = sym (g.handles k ∙ name_none k g.labels (ap (count (Live k)) (sym g.state) ∙ not_found k s.blocks f)) ∙ e in cc)
-      go (Some p) f = let r = live_spot k p f in let n = sym r.1 ∙ e in subst (LiveAt k) (cc) r.2
+  live_at k x e = search (arith, k, name_none, count, not_found, live_spot)
 
   -- a grant that is not live
   pub none_there : (k : ℕ) → kept_name k ≡ None → machine.place_of k s.blocks ≡ None
-  none_there k e = go (machine.place_of k s.blocks) refl
-    where
-      go : (o : Option machine.Place) → machine.place_of k s.blocks ≡ o → machine.place_of k s.blocks ≡ None
-      go None f = f
-      go (Some p) f = absurd (let n = sym (live_spot k p f).1 ∙ e in cc)
+  none_there k e = search (arith, k, live_spot)
 
   pub gone_agrees : (k : ℕ) → kept_name k ≡ None → ((step (command.Free k) s).answer ≡ machine.Gone) × HasBlocksOf v kept_name (step (command.Free k) s).state
       × ((step (command.Free k) s).state.grants ≡ s.grants)
-  gone_agrees k e = subst
-      (λ (o : Option machine.Place). ((machine.release s o).answer ≡ machine.Gone) × HasBlocksOf v kept_name (machine.release s o).state × ((machine.release s o).state.grants ≡ s.grants))
-      (sym (none_there k e)) (refl, agrees_quiet v kept_name s g machine.Gone, refl)
+  gone_agrees k e = search (arith, none_there, k, agrees_quiet)
 
   pub size_gone_agrees : (k : ℕ) → kept_name k ≡ None → (step (command.Size k) s).answer ≡ machine.Gone
   size_gone_agrees k e = ap machine.size_at (none_there k e)
@@ -403,34 +364,13 @@ module _ (v : View) (kept_name : ℕ → Option ℕ) (s : State) (w : IsWellForm
       sizes = omega (arith, tally_append (λ (b : Block). b.size) (names front.1) (by_name sp.label ∷ names back.0), total_units front.1, total_units back.0)
 
       same : SameSpace (replace v (names front.0) (names (front.1 ++ (sp.label ∷ back.0))) (free_block x (total (tags front.1) + sp.label.size + total (tags back.0)) ∷ []) (names back.1)) u
-      same =
-          subst (λ z. SameSpace (replace v (names front.0) z (free_block x (total (tags front.1) + sp.label.size + total (tags back.0)) ∷ []) (names back.1)) u)
-          (sym (map-append by_name front.1 (sp.label ∷ back.0)))
-          (subst (λ m. SameSpace (replace v (names front.0) (names front.1 ++ (by_name sp.label ∷ names back.0)) (free_block x m ∷ []) (names back.1)) u) sizes
-          (subst₂ (λ y z. SameSpace (replace v y (names front.1 ++ (by_name sp.label ∷ names back.0)) (free_block x (units (names front.1 ++ (by_name sp.label ∷ names back.0))) ∷ []) z) u)
-          (sym front.3) (sym back.4)
-          (subst (λ m. SameSpace (replace v f.before m (free_block x (units m) ∷ []) f.after) u)
-          (sym (ap₂ (λ y z. y ++ (by_name sp.label ∷ z)) front.4 back.3 ∙ ap (λ (b : Block). f.left ++ (b ∷ f.right)) (ap (λ (p : Place). p.block) place))) f.view)))
+      same = search (arith, names, front, tags, sp, back, map-append, by_name, sizes, place)
 
       later : name_of k sp.after ≡ None
-      later = name_none k sp.after
-          (omega (
-            arith,
-            ws.once (Live k),
-            ap (count (Live k)) (g.state ∙ ap tags l.split ∙ map-append by_tag sp.before (sp.label ∷ sp.after)),
-            count-append (Live k) (tags sp.before)
-                (tags (sp.label ∷ sp.after)),
-            ap (hit (Live k)) l.tag,
-            hit_self (Live k),
-          ))
+      later = search (arith, name_none, k, sp, count, tags, l, map-append, by_tag, count-append, hit, hit_self)
 
       handles : (j : ℕ) → without_name k kept_name j ≡ option_or (name_of j sp.before) (name_of j sp.after)
-      handles j = elim (cases_eq j k) [
-        | inl i ↦ rw (eq-eqb j k i) (sym (ap (λ z. option_or (name_of z sp.before) (name_of z sp.after)) i ∙ ap₂ option_or l.first later))
-        | inr i ↦ rw (ne_eqb j k i) (g.handles j ∙ ap (name_of j) l.split ∙ name_append j sp.before (sp.label ∷ sp.after)
-            ∙ ap (option_or (name_of j sp.before))
-            (ap (λ t. if has_number j t then Some sp.label.name else name_of j sp.after) l.tag ∙ ap (λ (b : Bool). if b then Some sp.label.name else name_of j sp.after) (ne_eqb j k i)))
-      ]
+      handles j = search (arith, cases_eq, k, eq-eqb, name_of, sp, l, later, ne_eqb, name_append)
 
   -- more units at the end
   added_agrees : (more : ℕ) (u : View) → IsWellFormed u → Adds more v u → HasBlocksOf u kept_name (leaves s (machine.coalesce s.blocks more (stamp_of_call s) []) machine.Extended).state
@@ -448,9 +388,7 @@ module _ (v : View) (kept_name : ℕ → Option ℕ) (s : State) (w : IsWellForm
       sizes = omega (arith, total_units p.1)
 
       same : SameSpace (record (replace v (names p.0) (names (p.1 ++ [])) (free_block f.name (total (tags p.1) + more + 0) ∷ []) []) { size = v.size + more }) u
-      same =
-          subst₂ (λ z m. SameSpace (record (replace v (names p.0) z (free_block f.name m ∷ []) []) { size = v.size + more }) u) (ap names (sym (append-nil p.1))) sizes
-          (subst₂ (λ y z. SameSpace (record (replace v y z (free_block f.name (units z + more) ∷ []) []) { size = v.size + more }) u) (sym p.3) (sym p.4) f.view)
+      same = search (arith, names, p, append-nil, sizes)
 
   -- when the machine refuses to extend
   abbrev is_refused : ℕ → Bool
@@ -480,9 +418,7 @@ module _ (v : View) (kept_name : ℕ → Option ℕ) (s : State) (w : IsWellForm
       go : (b : Bool) → machine.ends_live s.blocks ≡ b → (b && machine.is_short_of 1 s) ≡ false
           → HasRoomFor 1 v ⊎ ((before : List Block) × (last : Block) × (v.blocks ≡ before ++ last ∷ []) × (last.used ≡ false))
       go true f h = inl (room_for 1 h)
-      go false f h =
-          let r = last_free g.labels (let a = w.some in let b = ap length g.view in let d = length-map g.labels by_name in omega arith) (sym (ap machine.ends_live g.state) ∙ f) in
-          inr (names r.0, by_name r.1, g.view ∙ ap names r.2 ∙ map-append by_name r.0 (r.1 ∷ []), ap not r.3)
+      go false f h = search (arith, last_free, length, length-map, by_name, names, map-append, not)
 
   abbrev outcome : ℕ → Bool → machine.Outcome
   outcome more b = if b then returns_only s machine.Refused else leaves s (machine.coalesce s.blocks (suc more) (stamp_of_call s) []) machine.Extended
@@ -494,15 +430,8 @@ module _ (v : View) (kept_name : ℕ → Option ℕ) (s : State) (w : IsWellForm
   extend_agrees zero u true w' (inr h) = absurd (let l = h.0 in omega arith)
   extend_agrees zero u false w' h = absurd (let l = h.0 in omega arith)
   extend_agrees (suc more) u true w' (inl z) = absurd (let l = z.0 in omega arith)
-  extend_agrees (suc more) u true w' (inr h) = subst (λ (o : machine.Outcome). (o.answer ≡ machine.Extended) × HasBlocksOf u kept_name o.state × (o.state.grants ≡ s.grants))
-      (sym (ap (outcome more) (extendable (suc more) h.1))) (refl, added_agrees (suc more) u w' h.2, refl)
-  extend_agrees (suc more) u false w' h = subst (λ (o : machine.Outcome). (o.answer ≡ machine.Refused) × HasBlocksOf u kept_name o.state × (o.state.grants ≡ s.grants))
-      (sym (ap (outcome more) (refused (is_refused (suc more)) refl)))
-      (refl, agrees_but v u kept_name _ h.2 (agrees_quiet v kept_name s g machine.Refused), refl)
-    where
-      refused : (b : Bool) → is_refused (suc more) ≡ b → is_refused (suc more) ≡ true
-      refused true e = e
-      refused false e = absurd (h.1 (can_extend (suc more) e))
+  extend_agrees (suc more) u true w' (inr h) = search (arith, extendable, added_agrees)
+  extend_agrees (suc more) u false w' h = search (arith, agrees_but, agrees_quiet, can_extend)
 
   -- questions
   same_sizes : machine.free_sizes s.blocks ≡ named.free_sizes v.blocks

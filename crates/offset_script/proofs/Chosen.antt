@@ -144,18 +144,7 @@ module _ (v : View) (w : IsWellFormed v) (ls : List Label) (a : IsLabelled v ls)
         listed = listed_spot v w l (a.view ∙ ap names el) fl
 
         newer : s.label.name ≢ l.label.name → down s.label.size ≡ down l.label.size → stamp l.label.tag < stamp s.label.tag
-        newer d e =
-            let order = ap (bin_at v.order) (sym e ∙ class) ∙ t.newest in
-            let falls = subst (IsFalling (λ x. stamp_of x ls)) t.newest (a.newest (down t.block.size)) in
-            let there : 1 ≤ times l.label.name t.older = elim (hit_cases l.label.name t.block.name) [
-              | inl i ↦ absurd (d (name ∙ sym i.0))
-              | inr i ↦ let k = i.1 in let h = listed in let c = ap (times l.label.name) order in omega arith
-            ] in
-            let lower = falls.0 l.label.name there in
-            let ss = ap (stamp_of s.label.name) es ∙ spot_stamp v w s (a.view ∙ ap names es) in
-            let sl = ap (stamp_of l.label.name) el ∙ spot_stamp v w l (a.view ∙ ap names el) in
-            let sq = ap (λ x. stamp_of x ls) name in
-            omega arith
+        newer d e = search (arith, class, stamp_of, hit_cases, name, listed, spot_stamp, names)
 
     -- the machine chooses it
     pub record Choice : Type 0 where

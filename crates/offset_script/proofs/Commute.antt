@@ -1,14 +1,13 @@
 -- Releases in a row leave the same space in any order.
-use Rattle.std.proofs.Common.{◌≡◌, ℕ, zero, suc, ◌+◌, ◌-◌, Bool, true, false, ◌&&◌, ◌||◌, ◌≤◌, List, [], ◌∷◌, ◌++◌, sum, Option, Some, None, is_some, nat_eq, nat_lt, nat_le, if◌then◌else◌, refl, sym}
+use Rattle.std.proofs.Common.{◌≡◌, ℕ, zero, suc, ◌+◌, Bool, true, false, ◌&&◌, ◌||◌, ◌≤◌, List, [], ◌∷◌, ◌++◌, sum, Option, Some, None, is_some, nat_eq, nat_lt, nat_le, if◌then◌else◌, refl, sym}
 use Rattle.std.proofs.Common.{ap, ap₂, subst, subst₂, ◌∙◌, arith, eq-eqb, eqb-true, append_assoc}
 use Rattle.std.proofs.lemmas.List.{map-append}
 use Rattle.std.proofs.lemmas.Bool.{true≢false, false≢true, false_from_ne_true}
 use Rattle.offset_script.specs.declared.scripts.Command.{Command}
 use Rattle.offset_script.specs.declared.scripts.Command.TheVariants as command
 use Rattle.offset_allocator.specs.Reports.{rows_below}
-use Rattle.offset_allocator.specs.View.{max_size, padding_to}
 use Rattle.offset_script.specs.Machine.{Tag, Live, Free, Block, block, is_free, has_number, total, Place, here, fits, choose, chosen_place, place_of, coalesce}
-use Rattle.offset_script.specs.Machine.{State, Outcome, start, step, after, request, grant_or_refuse, returns_only, release, size_at, stamp_of_call}
+use Rattle.offset_script.specs.Machine.{State, start, step, after, request, grant_or_refuse, release, size_at, stamp_of_call}
 use Rattle.offset_script.specs.Machine as machine
 use Rattle.offset_script.specs.Histories.{holder, outline, widen, collapse, without_offset, releases, IsCollapse}
 use Rattle.std.specs.List.{list_any}
@@ -192,13 +191,7 @@ same_next s t a (command.Size k) = ap without_offset (same_place s t a k).1
 same_next s t a command.Report = search (arith, sum, same_short, same_free_sizes)
 same_next s t a command.Full = ap (λ l. machine.Full (rows_below 256 l)) (same_free_sizes s t a.blocks.pairs a.limit a.blocks.left_blocks a.blocks.right_blocks)
 same_next s t a command.Reset = refl
-same_next s t a (command.Align n align) = if_same (λ (o p : Outcome). without_offset o.answer ≡ without_offset p.answer) (nat_le align 1) (nat_le align 1) (step (command.Alloc n) s)
-    (step (command.Alloc n) t) (if nat_lt max_size (n + align - 1) then returns_only s machine.Refused else request s 2 (n + align - 1) n (padding_to align))
-    (if nat_lt max_size (n + align - 1) then returns_only t machine.Refused else request t 2 (n + align - 1) n (padding_to align))
-    refl (λ e. same_request s t a 1 n n (λ offset. 0))
-    (if_same (λ (o p : Outcome). without_offset o.answer ≡ without_offset p.answer) (nat_lt max_size (n + align - 1)) (nat_lt max_size (n + align - 1)) (returns_only s machine.Refused)
-    (returns_only t machine.Refused) (request s 2 (n + align - 1) n (padding_to align)) (request t 2 (n + align - 1) n (padding_to align)) refl (λ e. refl)
-    (same_request s t a 2 (n + align - 1) n (padding_to align)))
+same_next s t a (command.Align n align) = search (arith, if_same, nat_le, nat_lt, same_request)
 same_next s t a (command.Extend more) = same_extend s t a more
 
 pub commute_space : (size limit : ℕ) → 2 ≤ limit → (cs : List Command) (ks : List ℕ) → let s = after cs (start size limit) in outline (after (releases ks) s).blocks ≡ collapse ks (outline s.blocks)

@@ -1,6 +1,5 @@
 -- A state without live blocks continues as a fresh one, and a fresh one that is extended as a larger one.
-use Rattle.std.proofs.Common.{◌≡◌, ℕ, zero, suc, ◌+◌, ◌-◌, ◌*◌, ◌<◌, ◌≤◌, false, List, [], ◌∷◌, length, IsTrue, nat_lt, refl, sym, ap, ap₂, subst, subst₂, le-ltb, ◌∙◌}
-use Rattle.std.proofs.Common.{inl, inr, arith}
+use Rattle.std.proofs.Common.{◌≡◌, ℕ, zero, suc, ◌+◌, ◌-◌, ◌*◌, ◌<◌, ◌≤◌, false, List, [], ◌∷◌, length, IsTrue, nat_lt, refl, sym, ap, ap₂, subst, subst₂, le-ltb, ◌∙◌, inl, inr, arith}
 use Rattle.std.proofs.lemmas.Bool.{true≢false}
 use Rattle.std.specs.List.{AllByRecursion}
 use Rattle.offset_allocator.specs.View.{max_size}

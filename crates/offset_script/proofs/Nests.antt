@@ -77,9 +77,7 @@ does_grant c s room needed padding_at h (Some p) e = inr (inl (record {
 
 does_request : (c : Command) (s : State) (spare : ℕ) → 1 ≤ spare → (needed : ℕ) (padding_at : ℕ → ℕ) → ((o : ℕ) → padding_at o + requested_units c ≤ needed)
     → Does c s (request s spare needed (requested_units c) padding_at)
-does_request c s spare some needed padding_at h = if_both (Does c s) (is_short_of spare s) (returns_only s machine.Refused)
-    (grant_or_refuse s (requested_units c) padding_at (chosen_place needed s.blocks)) (λ e. only c s machine.Refused tt)
-    (λ e. does_grant c s (let l = leb-false s.limit (length s.blocks + spare) e in omega arith) needed padding_at h (chosen_place needed s.blocks) refl)
+does_request c s spare some needed padding_at h = search (arith, if_both, needed, only, does_grant, leb-false, length)
 
 does_release : (s : State) (k : ℕ) (o : Option Place) → place_of k s.blocks ≡ o → Does (command.Free k) s (release s o)
 does_release s k None e = only (command.Free k) s machine.Gone tt

@@ -6,7 +6,7 @@ use Rattle.std.proofs.lemmas.List.{map-append}
 use Rattle.std.proofs.lemmas.Bool.{cases_eq, false≢true, and_parts}
 use Rattle.std.proofs.lemmas.Bool.Decides.{nat_tests}
 use Rattle.offset_allocator.specs.Classes.{up, down}
-use Rattle.offset_script.specs.Machine.{Tag, Live, Free, Block, block, is_free, has_number, stamp, total, Place, fits, place_of, free_block, coalesce, State, stamp_of_call, stamp_of_padding}
+use Rattle.offset_script.specs.Machine.{Tag, Live, Free, Block, block, is_free, has_number, stamp, Place, fits, place_of, free_block, coalesce, State, stamp_of_call, stamp_of_padding}
 use Rattle.offset_script.proofs.Members.{IsIn, in_append, in_left, in_right, in_map, map_parts, map_first}
 use Rattle.offset_script.proofs.Pairs.{Kind, Lives, Frees, Pair, pair, left_tag, right_tag, left, right, lefts, rights, same_total, same_end, same_start, AreAgreed, AreAllAgreed, IsSameOrder}
 use Rattle.offset_script.proofs.Well.{IsWell, not_there, whole, count, hit, hit_self, in_count, count-append, count_free_block, starts_free, ends_free, AreApart, apart_parts, IsEnd, IsStart, end_of}
@@ -173,9 +173,7 @@ restored s w p needed n padding e f best enough t v m = record {
         (start_of (free_block (z - (padding + n)) (stamp_of_call s)) p.after (free_part _ _).0 (free_part _ _).1 (right_false (is_free p.block.tag) (starts_free p.after) apart.1.0 free)))
 
     right_side : coalesce (rights a.0 ++ rights b.0) c.0.size (stamp_of_call t) (rights d.0 ++ rights d.1) ≡ rights a.0 ++ block z (Free (stamp_of_call t)) ∷ rights d.1
-    right_side = coalesce_parts (rights a.0) (rights b.0) c.0.size (stamp_of_call t) (rights d.0) (rights d.1) ends starts
-        ∙ ap (λ x. rights a.0 ++ block x (Free (stamp_of_call t)) ∷ rights d.1) (let l : c.0.size ≡ n = ap (λ (b : Block). b.size) c.3 in
-        omega (arith, l, same_total b.0, ap total b.3, (free_part padding (stamp_of_padding s)).2, same_total d.0, ap total d.3, (free_part (z - (padding + n)) (stamp_of_call s)).2))
+    right_side = search (arith, coalesce_parts, rights, a, b, c, d, ends, starts, same_total, free_part, z)
 
     left_side : lefts a.0 ++ block z (Free (stamp p.block.tag)) ∷ lefts d.1 ≡ s.blocks
     left_side = ap₂ (λ x y. x ++ block z (Free (stamp p.block.tag)) ∷ y) a.3 d.4 ∙ ap (λ x. p.before ++ block z x ∷ p.after) (sym tag) ∙ sym e

@@ -70,11 +70,7 @@ module _ (bs cs : List Block) (e : outline bs ≡ outline cs) (i : ℕ) where
   size_same = ap (λ (x : ℕ × Option ℕ). x.0) shape_same
 
   free_same : is_free (at i bs).tag ≡ is_free (at i cs).tag
-  free_same = held (at i bs).tag ∙ ap (λ (x : ℕ × Option ℕ). is_none x.1) shape_same ∙ sym (held (at i cs).tag)
-    where
-      held : (t : Tag) → is_free t ≡ is_none (holder t)
-      held (Live k) = refl
-      held (Free s) = refl
+  free_same = search (arith, is_none, shape_same)
 
 -- pairs by their places
 abbrev pair_at : ℕ → List Pair → Pair

@@ -16,7 +16,7 @@ use Rattle.offset_script.specs.Machine.{State, Answer, step, start, row_view}
 use Rattle.offset_script.specs.Machine as machine
 use Rattle.offset_allocator.specs.View.{View, Grant, free_sizes, IsWellFormed}
 use Rattle.offset_script.specs.Steps.{kept_name, Takes, IsRun, AreOfARun, IsKept, IfNamed, Stays, AreLive}
-use Rattle.offset_script.proofs.Agreement.{HasBlocksOf, IsAtState}
+use Rattle.offset_script.proofs.Agreement.{IsAtState}
 use Rattle.offset_allocator.specs.Relations.{IsFresh, Frees, Extends, Resets}
 use Rattle.offset_script.proofs.Well.{IsWell}
 use Rattle.offset_script.proofs.Agreed.{with_name, without_name, IsMatch, serve_agrees, aligned_agrees, extend_agrees, free_agrees, live_agrees, gone_agrees, size_gone_agrees, size_agrees}
@@ -90,35 +90,12 @@ Follows c s w left a = (a ≡ (step c s).answer) × IsAtState w left (step c s).
 module _ (v w : View) (hs left : List (Option Grant)) (a : Answer) (s : State) (formed : IsWellFormed w) (ws : IsWell s) (p : IsAtState v hs s) where
   -- a request, whose grant is kept
   requested : (c : Command) (r : Option Grant) → IsMatch w (kept_name hs) s.grants r (step c s) → IsKept r hs left a → Follows c s w left a
-  requested c None m k = (
-    k.1 ∙ sym m.answer,
-    record {
-      formed = formed;
-      agrees = agrees_kept w (kept_name hs) (kept_name left) (step c s).state (λ j. ap (λ l. kept_name l j) k.0) m.agrees;
-      grants = ap length k.0 ∙ p.grants ∙ sym m.grants_after;
-    },
-  )
-  requested c (Some h) m k =
-      let count : length left ≡ s.grants + 1 = ap length k.0 ∙ length-append hs (Some h ∷ []) ∙ ap (λ n. n + 1) p.grants in (
-        k.1 ∙ ap (λ n. machine.Grant n h.offset) count ∙ sym m.answer,
-        record {
-          formed = formed;
-          agrees = agrees_kept w (with_name (s.grants + 1) h.name (kept_name hs)) (kept_name left) (step c s).state
-              (λ j. ap (λ l. kept_name l j) k.0 ∙ kept_push hs h j ∙ ap (λ n. with_name (n + 1) h.name (kept_name hs) j) p.grants) m.agrees;
-          grants = count ∙ sym m.grants_after;
-        },
-      )
+  requested c None m k = search (arith, agrees_kept, length)
+  requested c (Some h) m k = search (arith, length, length-append, agrees_kept, with_name, kept_push)
 
   -- a question leaves all as it is
   asked : (c : Command) → (step c s).state ≡ record s { calls = s.calls + 1 } → Stays v hs w left → a ≡ (step c s).answer → Follows c s w left a
-  asked c same e found = (
-    found,
-    subst₂ (λ u l. IsAtState u l (step c s).state) (sym e.0) (sym e.1) (record {
-      formed = p.formed;
-      agrees = subst (HasBlocksOf v (kept_name hs)) (sym same) (agrees_quiet v (kept_name hs) s p.agrees machine.Gone);
-      grants = p.grants ∙ ap (λ (t : State). t.grants) (sym same);
-    }),
-  )
+  asked c same e found = search (arith, agrees_quiet)
 
   -- a release of a live grant, whose handle is removed
   freed : (k x : ℕ) → kept_name hs (suc k) ≡ Some x → k < length hs → Frees x v w → left ≡ slice_set hs k None → a ≡ machine.Freed → Follows (command.Free (suc k)) s w left a
@@ -202,13 +179,7 @@ module _ {C A : Type 0} (take : C → View → List (Option Grant) → View → 
   pub run_goes_on : (v w : View) (handles left : List (Option Grant)) (before before' : List C) (found found' : List A) (c : C) (a : A)
       → IsBegun take size limit v handles before found → take c v handles w left a → IsWellFormed w → before' ≡ before ++ c ∷ [] → found' ≡ found ++ a ∷ []
       → IsBegun take size limit w left before' found'
-  run_goes_on v w handles left before before' found found' c a r t formed e f = (
-    r.0,
-    r.1,
-    λ cs others rest.
-        subst₂ (IsRun take r.0 []) (sym (ap (λ l. l ++ cs) e ∙ append_assoc before (c ∷ []) cs)) (sym (ap (λ l. l ++ others) f ∙ append_assoc found (a ∷ []) others))
-        (r.2 (c ∷ cs) (a ∷ others) (w, left, t, formed, rest)),
-  )
+  run_goes_on v w handles left before before' found found' c a r t formed e f = search (arith, append_assoc)
 
   pub run_ends : (v : View) (handles : List (Option Grant)) (before cs : List C) (found : List A) → IsBegun take size limit v handles before found → before ≡ cs → AreOfARun take size limit cs found
   run_ends v handles before cs found r e = (r.0, r.1, subst₂ (IsRun take r.0 []) (append-nil before ∙ e) (append-nil found) (r.2 [] [] tt))

@@ -394,22 +394,7 @@ apart_granted p n padding front k rest f a =
 -- a grant
 well_grant : (s : State) → IsWell s → (n padding : ℕ) (p : Place) → s.blocks ≡ whole p → is_free p.block.tag ≡ true → (spare : ℕ) → length s.blocks + spare < s.limit
     → length (free_block padding (stamp_of_padding s)) + 1 ≤ spare → IsWell (grant s n padding p).state
-well_grant s w n padding p e f spare room enough = well_next s (grant s n padding p).state w (λ t. hit t (Free (stamp_of_padding s)) + (hit t (Live (s.grants + 1)) + hit t (Free (stamp_of_call s))))
-    (λ t. omega (arith, count_granted t p n padding (stamp_of_padding s) (s.grants + 1) (stamp_of_call s), ap (count t) e)) fresh (omega arith) (omega arith)
-    (omega (arith, sizes)) (omega (arith, sizes, ap length e, length-append p.before (p.block ∷ p.after), (free_part (p.block.size - (padding + n)) (stamp_of_call s)).3))
-    (apart_granted p n padding _ _ _ f (subst AreApart e w.apart))
-  where
-    sizes : length (granted_blocks p n padding (stamp_of_padding s) (s.grants + 1) (stamp_of_call s))
-        ≡ length p.before + (length (free_block padding (stamp_of_padding s)) + suc (length (free_block (p.block.size - (padding + n)) (stamp_of_call s)) + length p.after))
-    sizes = simp length-append
-
-    fresh : (t : Tag) → (hit t (Free (stamp_of_padding s)) + (hit t (Live (s.grants + 1)) + hit t (Free (stamp_of_call s))) ≡ 0)
-        ⊎ ((hit t (Free (stamp_of_padding s)) + (hit t (Live (s.grants + 1)) + hit t (Free (stamp_of_call s))) ≡ 1) × (IsOld s t → ⊥) × IsOld (grant s n padding p).state t)
-    fresh (Live k) = elim (hit_cases k (s.grants + 1)) [ inl e ↦ inr (omega (arith, e.1), λ o. absurd (omega (arith, o.1, e.0)), (omega arith, omega arith)) | inr e ↦ inl (omega (arith, e.1)) ]
-    fresh (Free x) = elim (hit_cases x (stamp_of_padding s)) [
-      | inl e ↦ elim (hit_cases x (stamp_of_call s)) [ inl h ↦ absurd (omega (arith, e.0, h.0)) | inr h ↦ inr (omega (arith, e.1, h.1), λ o. absurd (omega arith), omega (arith, e.0)) ]
-      | inr e ↦ elim (hit_cases x (stamp_of_call s)) [ inl h ↦ inr (omega (arith, e.1, h.1), λ o. absurd (omega (arith, o, h.0)), omega (arith, h.0)) | inr h ↦ inl (omega (arith, e.1, h.1)) ]
-    ]
+well_grant s w n padding p e f spare room enough = search (arith, well_next, count_granted, length, length-append, free_part, apart_granted, hit_cases)
 
 -- coalescing leaves some block, and at most one more
 pub length_coalesce : (xs : List Block) (n s : ℕ) (ys : List Block) → (1 ≤ length (coalesce xs n s ys)) × (length (coalesce xs n s ys) ≤ length xs + suc (length ys))
