@@ -420,9 +420,6 @@ module _ (v : View) (kept_name : ℕ → Option ℕ) (s : State) (w : IsWellForm
       go true f h = inl (room_for 1 h)
       go false f h = search (arith, last_free, length, length-map, by_name, names, map-append, not)
 
-  abbrev outcome : ℕ → Bool → machine.Outcome
-  outcome more b = if b then returns_only s machine.Refused else leaves s (machine.coalesce s.blocks (suc more) (stamp_of_call s) []) machine.Extended
-
   pub extend_agrees : (more : ℕ) (u : View) (done : Bool) → IsWellFormed u → Extends more v u done
       → ((step (command.Extend more) s).answer ≡ (if done then machine.Extended else machine.Refused)) × HasBlocksOf u kept_name (step (command.Extend more) s).state
       × ((step (command.Extend more) s).state.grants ≡ s.grants)
