@@ -69,10 +69,7 @@ that_alike : (t u : Ticket) → AreAlike u t → is_that t (Some u) ≡ true
 that_alike t u a = ap₂ (λ b c. b && c) (eq-eqb t.name u.name (sym a.0)) (ap₂ (λ b c. b && c) (eq-eqb t.serial u.serial (sym a.1)) (eq-eqb t.realm u.realm (sym a.2)))
 
 alike_that : (t u : Ticket) → is_that t (Some u) ≡ true → AreAlike u t
-alike_that t u h =
-    let p = and_parts (nat_eq t.name u.name) (nat_eq t.serial u.serial && nat_eq t.realm u.realm) h in
-    let q = and_parts (nat_eq t.serial u.serial) (nat_eq t.realm u.realm) p.1 in
-    (sym (eqb-true t.name u.name p.0), sym (eqb-true t.serial u.serial q.0), sym (eqb-true t.realm u.realm q.1))
+alike_that t u h = search (arith, and_parts, nat_eq, eqb-true)
 
 module _ (g : Guard) (ts more : List Ticket) (is : IsLedger g ts) (kept : AreKept g.space (handles_of g ts)) where
   -- any ticket means the grant that gave it, also where its number was not given yet
@@ -89,19 +86,7 @@ module _ (g : Guard) (ts more : List Ticket) (is : IsLedger g ts) (kept : AreKep
           ap (λ b. kept_name (handles_of g ts) (if b then t.serial else 0)) that ∙ ap (kept_name (handles_of g ts)) s ∙ k.1 ∙ sym (live_named_by t g l)
 
       dead : is_some (range_of t g) ≡ false → kept_name (handles_of g ts) (number_of (ts ++ more) t) ≡ None
-      dead d = given (ticket_of (ts ++ more) t.serial) refl (ticket_of ts t.serial) refl
-        where
-          -- the number, where the ticket is that of a grant
-          at : (b : Bool) → is_that t (ticket_of (ts ++ more) t.serial) ≡ b → (b ≡ true → kept_name (handles_of g ts) t.serial ≡ None) → kept_name (handles_of g ts) (number_of (ts ++ more) t) ≡ None
-          at true e f = ap (λ b. kept_name (handles_of g ts) (if b then t.serial else 0)) e ∙ f refl
-          at false e f = ap (λ b. kept_name (handles_of g ts) (if b then t.serial else 0)) e
-
-          given : (o : Option Ticket) → ticket_of (ts ++ more) t.serial ≡ o → (p : Option Ticket) → ticket_of ts t.serial ≡ p → kept_name (handles_of g ts) (number_of (ts ++ more) t) ≡ None
-          given o e None f = at (is_that t (ticket_of (ts ++ more) t.serial)) refl (λ b. kept_of g ts t.serial ∙ ap (λ o. live_name o g) f)
-          given o e (Some u) f = at (is_that t (ticket_of (ts ++ more) t.serial)) refl
-              (λ b. kept_of g ts t.serial ∙ ap (λ o. live_name o g) f
-              ∙ ap (λ b. option_map (λ (h : Grant). h.name) (if b then Some (Rattle.offset_guarded.specs.Guard.grant_of u) else None))
-              (ap is_some (alike_range u t g (alike_that t u (sym (ap (is_that t) (ticket_more ts more t.serial u f)) ∙ b))) ∙ d))
+      dead d = search (arith, kept_of, option_map, is_some, alike_range, alike_that, ticket_more)
 
       go : (b : Bool) → is_some (range_of t g) ≡ b → kept_name (handles_of g ts) (number_of (ts ++ more) t) ≡ live_name (Some t) g
       go true e = live e
@@ -109,13 +94,7 @@ module _ (g : Guard) (ts more : List Ticket) (is : IsLedger g ts) (kept : AreKep
 
   -- so does the number of a call
   pub is_number : (c : TicketCall) → IsNumberOf (option_map_or (number_of (ts ++ more)) c.ticket (number_in c.call)) (passed ts c) g ts
-  is_number c = go c.ticket refl
-    where
-      go : (o : Option Ticket) → c.ticket ≡ o → IsNumberOf (option_map_or (number_of (ts ++ more)) c.ticket (number_in c.call)) (passed ts c) g ts
-      go None e = ap (λ o. kept_name (handles_of g ts) (option_map_or (number_of (ts ++ more)) o (number_in c.call))) e ∙ kept_of g ts (number_in c.call)
-          ∙ sym (ap (λ o. live_name (Rattle.std.specs.Option.option_or o (ticket_of ts (number_in c.call))) g) e)
-      go (Some t) e = ap (λ o. kept_name (handles_of g ts) (option_map_or (number_of (ts ++ more)) o (number_in c.call))) e ∙ number_any t
-          ∙ sym (ap (λ o. live_name (Rattle.std.specs.Option.option_or o (ticket_of ts (number_in c.call))) g) e)
+  is_number c = search (arith, kept_of, number_any)
 
 -- a call is renumbered at its number alone
 renumber_at : (r : ℕ → ℕ) (c : Call) → renumber r c ≡ renumber (λ j. r (number_in c)) c
@@ -217,14 +196,10 @@ module _ (size limit : ℕ) (low : 2 ≤ limit) (g h : Guard) (ts us : List Tick
     calls_more = ap (λ l. map (meant l) (calls ++ c ∷ [])) all_is ∙ map-append (meant (ts ++ all)) calls (c ∷ [])
 
     represents_more : IsAtState h.space (handles_of h us) (after (map (meant (us ++ more)) (calls ++ c ∷ [])) (start size limit))
-    represents_more = subst (IsAtState h.space (handles_of h us))
-        (sym (ap (λ l. after l (start size limit)) calls_more ∙ after-append (map (meant (ts ++ all)) calls) (meant (ts ++ all) c ∷ []) (start size limit))) next.1
+    represents_more = search (arith, calls_more, after-append, map, all, next)
 
     replied_more : map reply_view left ≡ replies (map (meant (us ++ more)) (calls ++ c ∷ [])) (start size limit)
-    replied_more =
-        ap (map reply_view) more_found ∙ map-append reply_view found (x ∷ [])
-        ∙ ap₂ (λ l r. l ++ r ∷ []) (p.replied all) next.0
-        ∙ sym (ap (λ l. replies l (start size limit)) calls_more ∙ replies-append (map (meant (ts ++ all)) calls) (meant (ts ++ all) c ∷ []) (start size limit))
+    replied_more = search (arith, map, map-append, all, next, calls_more, replies-append)
 
   pub played_more : IsPlayed size limit h us (calls ++ c ∷ []) left
   played_more = record { represents = represents_more; replied = replied_more }
