@@ -14,7 +14,7 @@ use Rattle.offset_script.proofs.Members.{IsIn, in_append, in_left, in_right}
 use Rattle.offset_script.proofs.Pairs.{Kind, Lives, Frees, Pair, pair, left_tag, right_tag, left, right, lefts, rights, AreAgreed, IsSameOrder, IsSamePlace, neither, both, same_free, same_total}
 use Rattle.offset_script.proofs.Pairs.{same_units, same_short, same_free_sizes, same_chosen, pair_free_block, lefts_free_block, rights_free_block, in_free_block}
 use Rattle.offset_script.proofs.Tests.{if_same}
-use Rattle.offset_script.proofs.Well.{found_at}
+use Rattle.offset_script.proofs.Found.{found_at}
 use Rattle.offset_calls.specs.declared.calls.Call.{Call}
 use Rattle.offset_calls.specs.declared.calls.Call.TheVariants as call
 use Rattle.offset_calls.specs.Calls.{Reply, Answer, Compacted, Offset, Refused_for, Outcome, starts_free, resize, resized, replies_only, number, move_of, moves, gathered, compact, offset_at, shortage}

@@ -21,7 +21,8 @@ use Rattle.offset_script.specs.Totals.{live}
 use Rattle.offset_script.proofs.Ends.{free_sizes_labels, name_append, or_none}
 use Rattle.offset_script.proofs.Labels.{names, tags}
 use Rattle.offset_script.proofs.Members.{IsIn}
-use Rattle.offset_script.proofs.Well.{IsWell, AreApart, apart_append, count, hit, count-append, ends_free, starts_free, well_leaves}
+use Rattle.offset_script.proofs.Lists.{AreApart, apart_append, count, hit, count-append, ends_free, starts_free}
+use Rattle.offset_script.proofs.Well.{IsWell, well_leaves}
 use Rattle.offset_calls.specs.Calls.{Move, moves, gathered, compact, number}
 use Rattle.offset_calls.specs.Steps.{AreNumbered}
 

@@ -24,7 +24,8 @@ use Rattle.offset_script.proofs.Ends.{free_sizes_labels, total_units}
 use Rattle.offset_script.proofs.Labels.{names}
 use Rattle.offset_script.proofs.Members.{IsIn, in_map}
 use Rattle.offset_script.proofs.Simulation as script
-use Rattle.offset_script.proofs.Well.{IsWell, well_quiet, well_step, not_chosen}
+use Rattle.offset_script.proofs.Found.{not_chosen}
+use Rattle.offset_script.proofs.Well.{IsWell, well_quiet, well_step}
 use Rattle.offset_calls.specs.declared.calls.Call.{Call}
 use Rattle.offset_calls.specs.declared.calls.Call.TheVariants as call
 use Rattle.offset_calls.specs.Calls.{Reply, Answer, Resized, Compacted, Offset, Refused_for, Outcome, can_shrink, can_grow, resize, resized, replies_only, shortage, reason, offset_at, step, after}

@@ -10,7 +10,8 @@ use Rattle.offset_script.proofs.Fresh.{IsOneFree, one_free, alike_fresh, raise_n
 use Rattle.offset_script.proofs.Members.{map_same}
 use Rattle.offset_script.proofs.Nests.{AreTraceless, traceless, alike_after, number_without_none}
 use Rattle.offset_script.proofs.Similar.{similar_refl}
-use Rattle.offset_script.proofs.Well.{IsWell, count, hit_self, well_start, well_after}
+use Rattle.offset_script.proofs.Lists.{count, hit_self}
+use Rattle.offset_script.proofs.Well.{IsWell, well_start, well_after}
 use Rattle.offset_calls.specs.declared.calls.Call.{Call}
 use Rattle.offset_calls.specs.declared.calls.Call.TheVariants as call
 use Rattle.offset_calls.specs.Calls.{Reply, Answer, Compacted, after, replies, step}

@@ -21,14 +21,15 @@ use Rattle.offset_script.proofs.Ends.{AreFree, free_named, free_tagged, apart_ta
 use Rattle.offset_script.proofs.Labels.{names, tags, map_three}
 use Rattle.offset_script.proofs.Members.{map_parts}
 use Rattle.offset_script.proofs.Tests.{same_some}
-use Rattle.offset_script.proofs.Well.{IsWell, AreApart, apart_parts, apart_append, apart_free_block, count, count-append, count_free_block, ends_free, few_free, free_part as plain_part, found_at}
-use Rattle.offset_script.proofs.Well.{number_of, start_is, start_of, well_leaves}
-use Rattle.offset_script.proofs.Well as well
+use Rattle.offset_script.proofs.Lists.{AreApart, apart_parts, apart_append, count, count-append, count_free_block, ends_free, few_free, number_of, start_is, start_of}
+use Rattle.offset_script.proofs.Found.{found_at}
+use Rattle.offset_script.proofs.Well.{IsWell, apart_free_block, free_part as plain_part, well_leaves}
+use Rattle.offset_script.proofs.Lists as lists
 use Rattle.offset_calls.specs.Calls.{starts_free, can_shrink, can_grow, resized}
 
 -- lists without a free block at their start
 
-starts_after : (bs : List machine.Block) → AreApart bs → well.starts_free (without_start bs) ≡ false
+starts_after : (bs : List machine.Block) → AreApart bs → lists.starts_free (without_start bs) ≡ false
 starts_after [] a = refl
 starts_after (b ∷ bs) a = search (arith, right_false)
 
@@ -54,7 +55,7 @@ well_resized s w k n p e fits = well_leaves s w blocks machine.Freed (omega (ari
       omega (arith, sizes, l, r, (plain_part left (stamp_of_call s)).3, ap length f.0, length-append p.before (p.block ∷ p.after)))
 ])
     (apart_append p.before _ parts.0 (
-      ap (λ t. is_free t && well.starts_free (machine.free_block left (stamp_of_call s) ++ without_start p.after)) tag,
+      ap (λ t. is_free t && lists.starts_free (machine.free_block left (stamp_of_call s) ++ without_start p.after)) tag,
       apart_free_block left (stamp_of_call s) (without_start p.after)
           (apart_without p.after parts.1.1) (starts_after p.after parts.1.1),
     )
@@ -80,13 +81,13 @@ well_resized s w k n p e fits = well_leaves s w blocks machine.Freed (omega (ari
     sizes : length blocks ≡ length p.before + suc (length (machine.free_block left (stamp_of_call s)) + length (without_start p.after))
     sizes = simp length-append
 
-    f : (s.blocks ≡ well.whole p) × (has_number k p.block.tag ≡ true) × (count (Live k) p.before ≡ 0)
+    f : (s.blocks ≡ lists.whole p) × (has_number k p.block.tag ≡ true) × (count (Live k) p.before ≡ 0)
     f = found_at k s.blocks p e
 
     tag : p.block.tag ≡ Live k
     tag = number_of k p.block.tag f.1
 
-    parts : AreApart p.before × (((is_free p.block.tag && well.starts_free p.after) ≡ false) × AreApart p.after) × ((ends_free p.before && is_free p.block.tag) ≡ false)
+    parts : AreApart p.before × (((is_free p.block.tag && lists.starts_free p.after) ≡ false) × AreApart p.after) × ((ends_free p.before && is_free p.block.tag) ≡ false)
     parts = apart_parts p.before (p.block ∷ p.after) (subst AreApart f.0 w.apart)
 
 -- a free block directly after, by names and by tags
@@ -182,7 +183,7 @@ module _ (v : View) (kept_name : ℕ → Option ℕ) (s : State) (w : IsWellForm
     split : s.blocks ≡ tags spot.before ++ (by_tag spot.label ∷ (tags back.0 ++ tags back.1))
     split = search (arith, tags, map-append, by_tag, back)
 
-    apart : AreApart (tags back.0) × AreApart (tags back.1) × ((ends_free (tags back.0) && well.starts_free (tags back.1)) ≡ false)
+    apart : AreApart (tags back.0) × AreApart (tags back.1) × ((ends_free (tags back.0) && lists.starts_free (tags back.1)) ≡ false)
     apart = apart_parts (tags back.0) (tags back.1) (apart_parts (tags spot.before) (by_tag spot.label ∷ (tags back.0 ++ tags back.1)) (subst AreApart split ws.apart)).1.1
 
     view_after : u.blocks ≡ names (spot.before ++ (new ++ back.1))
@@ -191,8 +192,8 @@ module _ (v : View) (kept_name : ℕ → Option ℕ) (s : State) (w : IsWellForm
     tags_after : tags (spot.before ++ (new ++ back.1)) ≡ tags spot.before ++ (machine.block n (Live k) ∷ (machine.free_block f.left (stamp_of_call s) ++ tags back.1))
     tags_after = map_three by_tag spot.before new back.1 ∙ ap (λ z. tags spot.before ++ (z ++ tags back.1)) (tags_new 0 0 x n k f.name f.left (stamp_of_padding s))
 
-    ends : (m : ℕ) → f.left ≡ m → well.starts_free (tags back.1) ≡ false
-    ends zero h = after_free back.0 (well.starts_free (tags back.1)) free apart.0 (let z = sizes in omega arith) apart.2
+    ends : (m : ℕ) → f.left ≡ m → lists.starts_free (tags back.1) ≡ false
+    ends zero h = after_free back.0 (lists.starts_free (tags back.1)) free apart.0 (let z = sizes in omega arith) apart.2
     ends (suc m) h =
         let a = subst AreApart (tags_after ∙ ap (λ l. tags spot.before ++ (machine.block n (Live k) ∷ (machine.free_block l (stamp_of_call s) ++ tags back.1))) h)
         (apart_tagged (spot.before ++ (new ++ back.1)) (subst IsApart view_after f.apart)) in

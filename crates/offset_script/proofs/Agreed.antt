@@ -16,8 +16,10 @@ use Rattle.offset_allocator.proofs.Reading.{size_at}
 use Rattle.offset_allocator.specs.Requests.{HasRoomFor, CanGrant, blocks_needed, units_needed}
 use Rattle.offset_allocator.specs.Relations.{SameSpace, Serves, Frees, Adds, CanExtend, Extends}
 use Rattle.offset_script.proofs.Agreement.{Label, by_name, by_tag, stamp_of, IsFalling, name_of, HasBlocksOf}
-use Rattle.offset_script.proofs.Well.{IsWell, found_at, not_found, number_of, not_there, count, count-append, hit, hit_self, apart_parts, end_of, start_of, coalesce_parts, chosen_at}
-use Rattle.offset_script.proofs.Well as well
+use Rattle.offset_script.proofs.Lists.{number_of, count, count-append, hit, hit_self, apart_parts, end_of, start_of, coalesce_parts}
+use Rattle.offset_script.proofs.Found.{found_at, not_found, chosen_at}
+use Rattle.offset_script.proofs.Well.{IsWell, not_there}
+use Rattle.offset_script.proofs.Lists as lists
 use Rattle.std.specs.List.{AllByRecursion}
 use Rattle.std.proofs.lemmas.List.{map-append, length-map, get_or-replicate, get_or_past, length-replicate}
 use Rattle.offset_allocator.proofs.Tallies.{tally_append}
@@ -191,13 +193,13 @@ module _ (v : View) (kept_name : ℕ → Option ℕ) (s : State) (w : IsWellForm
         parted : g.labels ≡ before ++ ((left ++ (old ++ right)) ++ after)
         parted = e ∙ ap₂ (λ y z. y ++ (old ++ z)) at_front at_back ∙ simp append_assoc
 
-        parts : (xs ys : List Label) → well.AreApart (tags (xs ++ ys)) → well.AreApart (tags xs) × well.AreApart (tags ys) × ((well.ends_free (tags xs) && well.starts_free (tags ys)) ≡ false)
-        parts xs ys h = apart_parts (tags xs) (tags ys) (subst well.AreApart (map-append by_tag xs ys) h)
+        parts : (xs ys : List Label) → lists.AreApart (tags (xs ++ ys)) → lists.AreApart (tags xs) × lists.AreApart (tags ys) × ((lists.ends_free (tags xs) && lists.starts_free (tags ys)) ≡ false)
+        parts xs ys h = apart_parts (tags xs) (tags ys) (subst lists.AreApart (map-append by_tag xs ys) h)
 
-        apart : well.AreApart (tags (left ++ (old ++ right)))
-        apart = (parts (left ++ (old ++ right)) after (parts before ((left ++ (old ++ right)) ++ after) (subst well.AreApart (g.state ∙ ap tags parted) ws.apart)).1).0
+        apart : lists.AreApart (tags (left ++ (old ++ right)))
+        apart = (parts (left ++ (old ++ right)) after (parts before ((left ++ (old ++ right)) ++ after) (subst lists.AreApart (g.state ∙ ap tags parted) ws.apart)).1).0
 
-        apart' : well.AreApart (tags before) × well.AreApart (tags (l ∷ after)) × ((well.ends_free (tags before) && true) ≡ false)
+        apart' : lists.AreApart (tags before) × lists.AreApart (tags (l ∷ after)) × ((lists.ends_free (tags before) && true) ≡ false)
         apart' = parts before (l ∷ after) (apart_tagged (before ++ (l ∷ after)) (subst named.IsApart (ap (λ (x : View). x.blocks) same ∙ sym (map-append by_name before (l ∷ after))) w'.apart))
 
         state : machine.coalesce (tags front) n (stamp_of_call s) (tags back) ≡ tags (before ++ (l ∷ after))

@@ -10,7 +10,7 @@ use Rattle.offset_script.specs.Machine as plain
 use Rattle.offset_allocator.specs.View.{Block, View, Place, Grant, place_of, one, times, count_named, bin_at, IsWellFormed}
 use Rattle.offset_allocator.specs.Relations.{Splits}
 use Rattle.offset_script.proofs.Agreement.{Label, by_name, by_tag, stamp_of, IsFalling}
-use Rattle.offset_script.proofs.Well.{chosen_at, not_chosen}
+use Rattle.offset_script.proofs.Found.{chosen_at, not_chosen}
 use Rattle.offset_allocator.proofs.ViewSteps.{place_here}
 use Rattle.offset_script.proofs.Members.{IsIn, in_right, map_split}
 use Rattle.offset_script.proofs.Labels.{names, tags, gives_parts, gives_all}

@@ -14,8 +14,9 @@ use Rattle.std.specs.List.{list_any}
 use Rattle.std.specs.Option.{option_map_or}
 use Rattle.offset_script.proofs.Pairs.{Kind, Lives, Frees, Pair, left_tag, right_tag, left, right, lefts, rights, same_free, same_short, same_free_sizes, same_refusal, IsSamePlace, neither, both}
 use Rattle.offset_script.proofs.Pairs.{same_place_of}
-use Rattle.offset_script.proofs.Well.{IsWell, AreFree, coalesced, apart_coalesce, count_coalesce, count, hit, hit_self, number_of, count-append, starts_free, AreApart, apart_parts, found_at}
-use Rattle.offset_script.proofs.Well.{not_found, well_start, well_after, well_step}
+use Rattle.offset_script.proofs.Lists.{AreFree, coalesced, apart_coalesce, count_coalesce, count, hit, hit_self, number_of, count-append, starts_free, AreApart, apart_parts}
+use Rattle.offset_script.proofs.Found.{found_at, not_found}
+use Rattle.offset_script.proofs.Well.{IsWell, well_start, well_after, well_step}
 use Rattle.offset_script.proofs.Similar.{HasSameNumber, ArePaired, paired}
 use Rattle.offset_script.proofs.Tests.{if_same}
 

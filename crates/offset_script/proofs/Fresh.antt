@@ -12,7 +12,8 @@ use Rattle.offset_script.proofs.Members.{IsIn, map_same}
 use Rattle.offset_script.proofs.Pairs.{Frees, Pair, pair, AreAgreed}
 use Rattle.offset_script.proofs.Alike.{IsAlike, IsMatched, alike_answers}
 use Rattle.offset_script.proofs.Nests.{number_without_none, number_without_past, number_without_future}
-use Rattle.offset_script.proofs.Well.{IsWell, AreApart, count, hit_self, well_start, well_after}
+use Rattle.offset_script.proofs.Lists.{AreApart, count, hit_self}
+use Rattle.offset_script.proofs.Well.{IsWell, well_start, well_after}
 
 -- one free block
 abbrev pub IsOneFree : List Block → Type 0

@@ -6,7 +6,7 @@ use Rattle.offset_script.specs.Machine.{Tag, Live, Free, is_free, stamp}
 use Rattle.offset_script.specs.Machine as plain
 use Rattle.offset_allocator.specs.View.{Block, View, times, count_named, bin_at, push_all, remove_all, IsWellFormed}
 use Rattle.offset_script.proofs.Agreement.{Label, by_name, by_tag, stamp_of, IsFalling}
-use Rattle.offset_script.proofs.Well.{count, hit, hit_self}
+use Rattle.offset_script.proofs.Lists.{count, hit, hit_self}
 use Rattle.offset_allocator.proofs.Tallies.{tally_three, listed_named, tally_append, hit_cases, one-same}
 use Rattle.offset_allocator.proofs.ViewOrders.{length_remove_all}
 use Rattle.offset_script.proofs.Falling.{falling_remove_all, falling_same, falling_put_all, IsRising}

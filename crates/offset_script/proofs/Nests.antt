@@ -16,7 +16,9 @@ use Rattle.offset_script.specs.Totals.{requested_units}
 use Rattle.offset_script.proofs.Members.{in_map}
 use Rattle.offset_script.proofs.Pairs.{Kind, Lives, Frees, left_tag, right_tag, left, right, lefts, rights}
 use Rattle.offset_script.proofs.Alike.{IsAlike, IsMatched, alike_answers}
-use Rattle.offset_script.proofs.Well.{IsWell, in_count, count, chosen_at, well_start, well_after, well_step}
+use Rattle.offset_script.proofs.Lists.{in_count, count}
+use Rattle.offset_script.proofs.Found.{chosen_at}
+use Rattle.offset_script.proofs.Well.{IsWell, well_start, well_after, well_step}
 use Rattle.offset_allocator.proofs.Classes.{fits_size}
 use Rattle.offset_script.proofs.Similar.{HasSameNumber, AreSimilar, similar_refl, similar_sym, similar_trans}
 use Rattle.offset_script.proofs.Restored.{IsRestored, restored}

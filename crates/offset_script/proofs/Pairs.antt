@@ -8,7 +8,7 @@ use Rattle.offset_allocator.specs.View.{max_size}
 use Rattle.offset_script.specs.Machine.{Tag, Live, Free, Block, block, is_free, has_number, stamp, total, free_sizes, Place, fits, is_taken_before, choose, chosen_place, prepend, place_of, free_block}
 use Rattle.offset_script.specs.Machine.{ends_live, coalesce, State, is_short_of}
 use Rattle.offset_script.proofs.Members.{IsIn, in_append, in_left, in_right, map_parts}
-use Rattle.offset_script.proofs.Well.{starts_free, ends_free, AreFree, IsEnd, IsStart, IsCoalesced, coalesced, coalesce_parts}
+use Rattle.offset_script.proofs.Lists.{starts_free, ends_free, AreFree, IsEnd, IsStart, IsCoalesced, coalesced, coalesce_parts}
 use Rattle.offset_script.proofs.Tests.{same_and, if_same}
 
 -- two blocks at one place: both live, with their numbers, or both free, with their stamps

@@ -9,8 +9,10 @@ use Rattle.offset_allocator.specs.Classes.{up, down}
 use Rattle.offset_script.specs.Machine.{Tag, Live, Free, Block, block, is_free, has_number, stamp, Place, fits, place_of, free_block, coalesce, State, stamp_of_call, stamp_of_padding}
 use Rattle.offset_script.proofs.Members.{IsIn, in_append, in_left, in_right, in_map, map_parts, map_first}
 use Rattle.offset_script.proofs.Pairs.{Kind, Lives, Frees, Pair, pair, left_tag, right_tag, left, right, lefts, rights, same_total, same_end, same_start, AreAgreed, AreAllAgreed, IsSameOrder}
-use Rattle.offset_script.proofs.Well.{IsWell, not_there, whole, count, hit, hit_self, in_count, count-append, count_free_block, starts_free, ends_free, AreApart, apart_parts, IsEnd, IsStart, end_of}
-use Rattle.offset_script.proofs.Well.{start_of, coalesce_parts, free_part, place_at, IsBest, granted_blocks}
+use Rattle.offset_script.proofs.Lists.{whole, count, hit, hit_self, in_count, count-append, count_free_block, starts_free, ends_free, AreApart, apart_parts, IsEnd, IsStart, end_of}
+use Rattle.offset_script.proofs.Well.{IsWell, not_there, free_part, granted_blocks}
+use Rattle.offset_script.proofs.Lists.{start_of, coalesce_parts}
+use Rattle.offset_script.proofs.Found.{place_at, IsBest}
 use Rattle.offset_script.proofs.Similar.{HasSameNumber, AreSimilar}
 
 same_hit : (k : ℕ) (q : Kind) → HasSameNumber q → hit (Live k) (left_tag q) ≡ hit (Live k) (right_tag q)

@@ -12,7 +12,9 @@ use Rattle.offset_script.specs.declared.scripts.Command.TheVariants as command
 use Rattle.offset_script.specs.Machine as machine
 use Rattle.offset_script.specs.Histories.{KeepsSpace}
 use Rattle.offset_script.specs.Totals.{requested_units, live, added_units, added_by}
-use Rattle.offset_script.proofs.Well.{whole, chosen_at, found_at, granted_blocks, total-append, AreFree, coalesced, free_part}
+use Rattle.offset_script.proofs.Lists.{whole, total-append, AreFree, coalesced}
+use Rattle.offset_script.proofs.Found.{chosen_at, found_at}
+use Rattle.offset_script.proofs.Well.{granted_blocks, free_part}
 use Rattle.offset_script.proofs.Nests.{does}
 use Rattle.offset_script.proofs.Tests.{if_both}
 
