@@ -1,8 +1,7 @@
 //! What engines do beside: requests of one alignment, handles that travel, and several spaces.
 
 ghost use Rattle.std.specs.Prelude.{ℕ, ◌≡◌, ◌≢◌, ◌↔◌, ◌+◌, ◌*◌, ◌/◌, ◌%◌, ◌<◌, ◌≤◌, None, false, IfSome, IsSome};
-ghost use Rattle.std.specs.Prelude.{IsTrue};
-ghost use Rattle.std.specs.Prelude.{length, slice_index_or};
+ghost use Rattle.std.specs.Prelude.{IsTrue, length, slice_index_or};
 ghost use Rattle.offset_allocator.specs.View.{View, largest_free};
 ghost use Rattle.offset_allocator.specs.Ranges.{IsLive, KeepsAll, KeepsOthers};
 ghost use Rattle.offset_allocator.specs.Relations.{Allocates, Frees};
