@@ -1,5 +1,6 @@
 -- What each call of the allocator leaves agrees with what the plain machine leaves, and the answers are the same.
-use Rattle.std.proofs.Common.{◌≡◌, ℕ, zero, suc, ◌+◌, ◌-◌, ◌<◌, ◌≤◌, Bool, true, false, not, ◌&&◌, ◌||◌, ◌⊎◌, List, [], ◌∷◌, ◌++◌, replicate, length, sum, Option, Some, None, nat_eq, nat_lt, nat_le}
+use Rattle.std.proofs.Common.{◌≡◌, ℕ, zero, suc, ◌+◌, ◌-◌, ◌<◌, ◌≤◌, Bool, true, false, not, ◌&&◌, ◌||◌, ◌⊎◌, List, [], ◌∷◌, ◌++◌, replicate, length}
+use Rattle.std.proofs.Common.{sum, Option, Some, None, nat_eq, nat_lt, nat_le}
 use Rattle.std.proofs.Common.{if◌then◌else◌, refl, sym, ap, ap₂, subst, ◌∙◌, inl, inr, arith, eq-eqb, ne_eqb, le-leb, le-ltb, leb-false, append_assoc, append-nil}
 use Rattle.offset_script.proofs.Tests.{same_some}
 use Rattle.std.specs.Option.{option_or}
@@ -85,7 +86,8 @@ new_labels front padding x n k rest left t = free_labels front padding t ++ live
 pub names_new : (front padding x n k rest left t : ℕ) → names (new_labels front padding x n k rest left t) ≡ free_part front padding ++ used_block x n ∷ free_part rest left
 names_new front padding x n k rest left t = search (arith, map-append, by_name, names_free_labels)
 
-pub tags_new : (front padding x n k rest left t : ℕ) → tags (new_labels front padding x n k rest left t) ≡ machine.free_block padding t ++ machine.block n (Live k) ∷ machine.free_block left (t + 1)
+pub tags_new : (front padding x n k rest left t : ℕ)
+    → tags (new_labels front padding x n k rest left t) ≡ machine.free_block padding t ++ machine.block n (Live k) ∷ machine.free_block left (t + 1)
 tags_new front padding x n k rest left t = search (arith, map-append, by_tag, tags_free_labels)
 
 pub name_new : (j front padding x n k rest left t : ℕ) → name_of j (new_labels front padding x n k rest left t) ≡ (if nat_eq j k then Some x else None)
@@ -135,7 +137,8 @@ module _ (v : View) (kept_name : ℕ → Option ℕ) (s : State) (w : IsWellForm
       state = state;
       limit = limit ∙ g.limit ∙ sym (ap (λ (x : View). x.max_allocs) same);
       newest = λ c. subst (λ o. IsFalling (λ x. stamp_of x (before ++ (new ++ after))) (bin_at o c)) (sym (ap (λ (x : View). x.order) same))
-          (newest_replaced v before old new after w (g.view ∙ ap names e) (λ x. subst (λ bs. named.count_named x bs ≤ 1) view (w'.distinct x)) (stamp_of_padding s) (low _ e) rises (newest_at _ e) c);
+          (newest_replaced v before old new after w (g.view ∙ ap names e) (λ x. subst (λ bs. named.count_named x bs ≤ 1) view (w'.distinct x)) (stamp_of_padding s)
+          (low _ e) rises (newest_at _ e) c);
       handles = handles;
     }
       where
@@ -177,7 +180,8 @@ module _ (v : View) (kept_name : ℕ → Option ℕ) (s : State) (w : IsWellForm
         handles j = search (arith, cases_eq, k, name_of, new, eq-eqb, name_append, first, name_new, left, ne_eqb, name_replaced, name_skip)
 
     -- what becomes free, between lists that end and start with free blocks
-    coalesced_agrees : (front before left old back right after : List Label) (x n size : ℕ) → g.labels ≡ front ++ (old ++ back) → front ≡ before ++ left → back ≡ right ++ after → AreFree left
+    coalesced_agrees : (front before left old back right after : List Label) (x n size : ℕ) → g.labels ≡ front ++ (old ++ back) → front ≡ before ++ left
+        → back ≡ right ++ after → AreFree left
         → AreFree right
         → SameSpace (record (replace v (names before) (names (left ++ (old ++ right))) (free_block x (total (tags left) + n + total (tags right)) ∷ []) (names after)) { size = size }) u
         → (kept_name' : ℕ → Option ℕ) → ((j : ℕ) → kept_name' j ≡ option_or (name_of j front) (name_of j back)) → (a : Answer)
@@ -193,14 +197,16 @@ module _ (v : View) (kept_name : ℕ → Option ℕ) (s : State) (w : IsWellForm
         parted : g.labels ≡ before ++ ((left ++ (old ++ right)) ++ after)
         parted = e ∙ ap₂ (λ y z. y ++ (old ++ z)) at_front at_back ∙ simp append_assoc
 
-        parts : (xs ys : List Label) → lists.AreApart (tags (xs ++ ys)) → lists.AreApart (tags xs) × lists.AreApart (tags ys) × ((lists.ends_free (tags xs) && lists.starts_free (tags ys)) ≡ false)
+        parts : (xs ys : List Label) → lists.AreApart (tags (xs ++ ys)) → lists.AreApart (tags xs) × lists.AreApart (tags ys)
+            × ((lists.ends_free (tags xs) && lists.starts_free (tags ys)) ≡ false)
         parts xs ys h = apart_parts (tags xs) (tags ys) (subst lists.AreApart (map-append by_tag xs ys) h)
 
         apart : lists.AreApart (tags (left ++ (old ++ right)))
         apart = (parts (left ++ (old ++ right)) after (parts before ((left ++ (old ++ right)) ++ after) (subst lists.AreApart (g.state ∙ ap tags parted) ws.apart)).1).0
 
         apart' : lists.AreApart (tags before) × lists.AreApart (tags (l ∷ after)) × ((lists.ends_free (tags before) && true) ≡ false)
-        apart' = parts before (l ∷ after) (apart_tagged (before ++ (l ∷ after)) (subst named.IsApart (ap (λ (x : View). x.blocks) same ∙ sym (map-append by_name before (l ∷ after))) w'.apart))
+        apart' = parts before (l ∷ after) (apart_tagged (before ++ (l ∷ after))
+            (subst named.IsApart (ap (λ (x : View). x.blocks) same ∙ sym (map-append by_name before (l ∷ after))) w'.apart))
 
         state : machine.coalesce (tags front) n (stamp_of_call s) (tags back) ≡ tags (before ++ (l ∷ after))
         state = search (arith, tags, map-append, by_tag, left, coalesce_parts, end_of, free_tagged, parts, apart, and_true, apart', start_of, l)
@@ -277,7 +283,8 @@ module _ (v : View) (kept_name : ℕ → Option ℕ) (s : State) (w : IsWellForm
 
       go : (b : Bool) → nat_lt max_size (n + align - 1) ≡ b → large b ≡ machine.request s 2 (n + align - 1) n (padding_to align)
       go true e = elim (machine.is_short_of 2 s) as (λ b. returns_only s machine.Refused ≡ (if b then returns_only s machine.Refused else returns_only s machine.Refused))
-          [ true ↦ refl | false ↦ refl ] ∙ ap (λ (o : Option machine.Place). if machine.is_short_of 2 s then returns_only s machine.Refused else machine.grant_or_refuse s n (padding_to align) o)
+          [ true ↦ refl | false ↦ refl ] ∙ ap (λ (o : Option machine.Place). if machine.is_short_of 2 s then returns_only s machine.Refused else
+          machine.grant_or_refuse s n (padding_to align) o)
           (sym (too_large (n + align - 1) (ltb-true max_size (n + align - 1) e) (chosen_place (n + align - 1) s.blocks) refl))
       go false e = refl
 
@@ -378,7 +385,8 @@ module _ (v : View) (kept_name : ℕ → Option ℕ) (s : State) (w : IsWellForm
   added_agrees : (more : ℕ) (u : View) → IsWellFormed u → Adds more v u → HasBlocksOf u kept_name (leaves s (machine.coalesce s.blocks more (stamp_of_call s) []) machine.Extended).state
   added_agrees more u w' f =
       subst (λ bs. HasBlocksOf u kept_name (leaves s (machine.coalesce bs more (stamp_of_call s) []) machine.Extended).state) (sym g.state)
-      (coalesced_agrees u w' g.labels p.0 p.1 [] [] [] [] f.name more (v.size + more) (sym (append-nil g.labels)) p.2 refl free tt same kept_name (λ j. g.handles j ∙ sym (or_none _)) machine.Extended)
+      (coalesced_agrees u w' g.labels p.0 p.1 [] [] [] [] f.name more (v.size + more) (sym (append-nil g.labels)) p.2 refl free tt same kept_name (λ j. g.handles j
+      ∙ sym (or_none _)) machine.Extended)
     where
       p : (xs : List Label) × (ys : List Label) × (g.labels ≡ xs ++ ys) × (names xs ≡ f.before) × (names ys ≡ f.last)
       p = map_parts by_name g.labels f.before f.last (sym g.view ∙ f.blocks)
@@ -450,7 +458,8 @@ pub agrees_kept : (v : View) (kept_name kept_name' : ℕ → Option ℕ) (s : St
 agrees_kept v kept_name kept_name' s e g = record { labels = g.labels; view = g.view; state = g.state; limit = g.limit; newest = g.newest; handles = λ k. e k ∙ g.handles k }
 
 -- one free block and no grants
-pub alone_agrees : (v : View) (x size stamp : ℕ) (kept_name : ℕ → Option ℕ) (s : State) → v.blocks ≡ free_block x size ∷ [] → v.order ≡ push_all (free_block x size ∷ []) (replicate 256 [])
+pub alone_agrees : (v : View) (x size stamp : ℕ) (kept_name : ℕ → Option ℕ) (s : State) → v.blocks ≡ free_block x size ∷ []
+    → v.order ≡ push_all (free_block x size ∷ []) (replicate 256 [])
     → s.limit ≡ v.max_allocs → s.blocks ≡ machine.block size (Free stamp) ∷ []
     → ((k : ℕ) → kept_name k ≡ None) → HasBlocksOf v kept_name s
 alone_agrees v x size stamp kept_name s blocks order limit state none = record {

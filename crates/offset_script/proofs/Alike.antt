@@ -1,5 +1,6 @@
 -- Two states that differ only in numbers, and in stamps of the same order in each class, return the same answers.
-use Rattle.std.proofs.Common.{◌≡◌, ℕ, zero, suc, ◌+◌, ◌-◌, ◌*◌, ◌<◌, ◌≤◌, true, ◌⊎◌, List, [], ◌∷◌, ◌++◌, map, Option, None, nat_eq, nat_lt, refl, sym, ap, ap₂, subst, subst₂}
+use Rattle.std.proofs.Common.{◌≡◌, ℕ, zero, suc, ◌+◌, ◌-◌, ◌*◌, ◌<◌, ◌≤◌, true, ◌⊎◌, List, [], ◌∷◌, ◌++◌, map, Option, None, nat_eq, nat_lt, refl, sym}
+use Rattle.std.proofs.Common.{ap, ap₂, subst, subst₂}
 use Rattle.std.proofs.Common.{⊎_elim, ◌∙◌, inl, inr, arith, lt-ltb, le-ltb, sum}
 use Rattle.offset_script.specs.declared.scripts.Command.{Command}
 use Rattle.offset_script.specs.declared.scripts.Command.TheVariants as command
@@ -109,7 +110,8 @@ pub same_quiet : (r : ℕ → ℕ) (d : ℕ) (s t : State) → IsAlike r d s t �
 same_quiet r d s t a x y e =
     record { answer = e; state = keeps_alike r d s t a a.pairs s.grants t.grants s.blocks t.blocks a.left_blocks a.right_blocks (λ q i. inl i) (omega arith) (omega arith) a.grants }
 
-pub same_leaves : (r : ℕ → ℕ) (d : ℕ) (s t : State) (a : IsAlike r d s t) (x y : Answer) (p : List Pair) (bs cs : List Block) → x ≡ raise_number d y → bs ≡ lefts p → cs ≡ rights p → IsLeft r d s t a p
+pub same_leaves : (r : ℕ → ℕ) (d : ℕ) (s t : State) (a : IsAlike r d s t) (x y : Answer) (p : List Pair) (bs cs : List Block) → x ≡ raise_number d y → bs ≡ lefts p
+    → cs ≡ rights p → IsLeft r d s t a p
     → IsSameOutcome r d (leaves s bs x) (leaves t cs y)
 same_leaves r d s t a x y p bs cs e on_left on_right each = record { answer = e; state = keeps_alike r d s t a p s.grants t.grants bs cs on_left on_right each (omega arith) (omega arith) a.grants }
 
@@ -121,7 +123,8 @@ fresh_kinds g h x y q (inr (inl e)) = subst (IsFreshKind g h x y) (sym e) (refl,
 fresh_kinds g h x y q (inr (inr e)) = subst (IsFreshKind g h x y) (sym e) (1, omega arith, omega arith, omega arith)
 
 left_granted : (r : ℕ → ℕ) (d : ℕ) (s t : State) (a : IsAlike r d s t) (ps : List Pair) (q : Pair) → a.pairs ≡ ps
-    → IsIn q ps ⊎ ((q.kind ≡ Frees (2 * (s.calls + 1)) (2 * (t.calls + 1))) ⊎ (q.kind ≡ Lives (s.grants + 1) (t.grants + 1)) ⊎ (q.kind ≡ Frees (2 * (s.calls + 1) + 1) (2 * (t.calls + 1) + 1)))
+    → IsIn q ps ⊎ ((q.kind ≡ Frees (2 * (s.calls + 1)) (2 * (t.calls + 1))) ⊎ (q.kind ≡ Lives (s.grants + 1) (t.grants + 1))
+    ⊎ (q.kind ≡ Frees (2 * (s.calls + 1) + 1) (2 * (t.calls + 1) + 1)))
     → IsIn q a.pairs ⊎ IsFreshKind s.grants t.grants s.calls t.calls q.kind
 left_granted r d s t a ps q e (inl i) = inl (subst (IsIn q) (sym e) i)
 left_granted r d s t a ps q e (inr f) = inr (fresh_kinds s.grants t.grants s.calls t.calls q f)
@@ -140,7 +143,8 @@ same_grant r d s t a n padding xs q ys e =
           (omega arith) (omega arith) (omega (arith, a.grants));
     }
 
-same_granted : (r : ℕ → ℕ) (d : ℕ) (s t : State) (a : IsAlike r d s t) (n needed : ℕ) (padding_at : ℕ → ℕ) (o o' : Option Place) → IsSamePlace (λ x. fits needed (left x) ≡ true) a.pairs o o'
+same_granted : (r : ℕ → ℕ) (d : ℕ) (s t : State) (a : IsAlike r d s t) (n needed : ℕ) (padding_at : ℕ → ℕ) (o o' : Option Place)
+    → IsSamePlace (λ x. fits needed (left x) ≡ true) a.pairs o o'
     → IsSameOutcome r d (grant_or_refuse s n padding_at o) (grant_or_refuse t n padding_at o')
 same_granted r d s t a n needed padding_at None None neither = same_quiet r d s t a _ _ refl
 same_granted r d s t a n needed padding_at o o' (both xs q ys e f) =

@@ -1,5 +1,6 @@
 -- How a run ends.
-use Rattle.std.proofs.Common.{◌≡◌, ℕ, zero, suc, ◌-◌, ◌<◌, ◌⊎◌, inl, inr, false, List, [], ◌∷◌, ◌++◌, length, take, drop, get_or, refl, Option, Some, None, Ok, Err, sym, ap, ◌∙◌, append_assoc, arith}
+use Rattle.std.proofs.Common.{◌≡◌, ℕ, zero, suc, ◌-◌, ◌<◌, ◌⊎◌, inl, inr, false, List, [], ◌∷◌, ◌++◌, length, take, drop, get_or, refl, Option, Some, None, Ok, Err}
+use Rattle.std.proofs.Common.{sym, ap, ◌∙◌, append_assoc, arith}
 use Rattle.std.proofs.Common.{take-append-drop, IfSome, flat_map}
 use Rattle.std.specs.Io.KnownBytes.{Appends}
 use Rattle.std.proofs.KnownBytes.{Appends-trans}
@@ -18,7 +19,8 @@ pub more_parts : (text front rest : List ℕ) (n : ℕ) → text ≡ front ++ re
 more_parts text front rest n h = rw take_rest (h ∙ ap (λ (l : List ℕ). front ++ l) (sym (take-append-drop n rest)) ∙ sym (append_assoc front (take n rest) (drop n rest)))
 
 -- several texts appended, split at the i-th
-coalesce_at : {X : Type 0} (text : X → List ℕ) (xs : List X) (i : ℕ) (d : X) → i < length xs → flat_map text xs ≡ flat_map text (take i xs) ++ (text (get_or xs i d) ++ flat_map text (drop (suc i) xs))
+coalesce_at : {X : Type 0} (text : X → List ℕ) (xs : List X) (i : ℕ) (d : X) → i < length xs
+    → flat_map text xs ≡ flat_map text (take i xs) ++ (text (get_or xs i d) ++ flat_map text (drop (suc i) xs))
 coalesce_at text [] i d h = absurd (omega arith)
 coalesce_at text (x ∷ xs) zero d h = refl
 coalesce_at text (x ∷ xs) (suc i) d h = ap (λ l. text x ++ l) (coalesce_at text xs i d (omega arith)) ∙ sym (append_assoc (text x) _ _)
@@ -34,7 +36,8 @@ piece_failed text xs i d old mid new h before sends = (
 )
 
 whole_or_long : (bytes text : List ℕ) (left : Option (List ℕ)) → HasText bytes (Some text) left
-    → ((left ≡ Some []) × (text ≡ bytes) × (length bytes < 1048577)) ⊎ ((left ≡ Some (drop 1048577 text)) × (meaning_of bytes ≡ Err scripts.TooLong) × (meaning_of text ≡ Err scripts.TooLong))
+    → ((left ≡ Some []) × (text ≡ bytes) × (length bytes < 1048577))
+    ⊎ ((left ≡ Some (drop 1048577 text)) × (meaning_of bytes ≡ Err scripts.TooLong) × (meaning_of text ≡ Err scripts.TooLong))
 whole_or_long bytes text None h = absurd h.takes
 whole_or_long bytes text (Some rest) h =
     elim (cases_lt (length bytes) 1048577) [

@@ -1,5 +1,6 @@
 -- Bins whose stamps fall, as names are pushed and removed.
-use Rattle.std.proofs.Common.{◌≡◌, ◌≢◌, ℕ, ◌+◌, ◌<◌, ◌≤◌, true, false, not, cond, ◌&&◌, List, [], ◌∷◌, length, nat_eq, if◌then◌else◌, refl, ◌∙◌, inl, inr, arith, ne_eqb}
+use Rattle.std.proofs.Common.{◌≡◌, ◌≢◌, ℕ, ◌+◌, ◌<◌, ◌≤◌, true, false, not, cond, ◌&&◌, List, [], ◌∷◌, length, nat_eq, if◌then◌else◌, refl, ◌∙◌, inl}
+use Rattle.std.proofs.Common.{inr, arith, ne_eqb}
 use Rattle.std.proofs.lemmas.Bool.{cases_eq, cond_both}
 use Rattle.offset_allocator.specs.Classes.{down}
 use Rattle.offset_allocator.specs.View.{Block, one, times, bin_at, push, without, remove, push_all, remove_all}
@@ -19,11 +20,13 @@ falling_without f x (y ∷ ys) h =
     ]
 
 -- bins without a name
-pub falling_remove : (f : ℕ → ℕ) (c x : ℕ) (order : List (List ℕ)) → length order ≡ 256 → c < 256 → ((d : ℕ) → IsFalling f (bin_at order d)) → (d : ℕ) → IsFalling f (bin_at (remove c x order) d)
+pub falling_remove : (f : ℕ → ℕ) (c x : ℕ) (order : List (List ℕ)) → length order ≡ 256 → c < 256 → ((d : ℕ) → IsFalling f (bin_at order d)) → (d : ℕ)
+    → IsFalling f (bin_at (remove c x order) d)
 falling_remove f c x order h b fall d = search (arith, cases_eq, names_same, falling_without, names_other)
 
 -- bins without the names of these blocks
-pub falling_remove_all : (f : ℕ → ℕ) (bs : List Block) (order : List (List ℕ)) → length order ≡ 256 → ((d : ℕ) → IsFalling f (bin_at order d)) → (d : ℕ) → IsFalling f (bin_at (remove_all bs order) d)
+pub falling_remove_all : (f : ℕ → ℕ) (bs : List Block) (order : List (List ℕ)) → length order ≡ 256 → ((d : ℕ) → IsFalling f (bin_at order d)) → (d : ℕ)
+    → IsFalling f (bin_at (remove_all bs order) d)
 falling_remove_all f [] order h fall = fall
 falling_remove_all f (b ∷ bs) order h fall = elim b.used as (λ u. (d : ℕ) → IsFalling f (bin_at (remove_all bs (if u then order else remove (down b.size) b.name order)) d)) [
   | true ↦ falling_remove_all f bs order h fall

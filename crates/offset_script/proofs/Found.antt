@@ -1,5 +1,6 @@
 -- The places that are found for the number of a grant, and chosen for a request.
-use Rattle.std.proofs.Common.{◌≡◌, ℕ, Bool, true, false, ◌&&◌, ◌||◌, List, [], ◌∷◌, ◌++◌, Option, Some, None, option_map, nat_eq, nat_lt, if◌then◌else◌, refl, sym, ap, subst, ◌∙◌, inl, inr, arith}
+use Rattle.std.proofs.Common.{◌≡◌, ℕ, Bool, true, false, ◌&&◌, ◌||◌, List, [], ◌∷◌, ◌++◌, Option, Some, None, option_map, nat_eq, nat_lt, if◌then◌else◌, refl, sym, ap}
+use Rattle.std.proofs.Common.{subst, ◌∙◌, inl, inr, arith}
 use Rattle.offset_allocator.proofs.ViewApart.{right_false}
 use Rattle.std.proofs.lemmas.Bool.{true≢false, and_parts}
 use Rattle.std.proofs.lemmas.Bool.Decides.{nat_tests}
@@ -51,7 +52,8 @@ abbrev IsChosenAt : ℕ → List Block → Option Place → Type 0
 IsChosenAt n bs None = (c : Block) → IsIn c bs → fits n c ≡ false
 IsChosenAt n bs (Some p) = (bs ≡ whole p) × (fits n p.block ≡ true) × IsBest n bs p.block
 
-order_transitive : (x y z s t u : ℕ) → (nat_lt x y || (nat_eq x y && nat_lt t s)) ≡ false → (nat_lt z y || (nat_eq z y && nat_lt t u)) ≡ true → (nat_lt x z || (nat_eq x z && nat_lt u s)) ≡ false
+order_transitive : (x y z s t u : ℕ) → (nat_lt x y || (nat_eq x y && nat_lt t s)) ≡ false → (nat_lt z y || (nat_eq z y && nat_lt t u)) ≡ true
+    → (nat_lt x z || (nat_eq x z && nat_lt u s)) ≡ false
 order_transitive x y z s t u f g = grind (arith, nat_tests)
 
 taken_transitive : (a b c : Block) → is_taken_before a b ≡ false → is_taken_before c b ≡ true → is_taken_before a c ≡ false
@@ -65,7 +67,8 @@ chosen_prepend : (n : ℕ) (b : Block) (bs : List Block) (d : Block) → (fits n
 chosen_prepend n b bs d f best c (inl e) g = subst (λ (x : Block). is_taken_before x d ≡ false) (sym e) (right_false (fits n b) _ f (subst (λ (x : Block). fits n x ≡ true) e g))
 chosen_prepend n b bs d f best c (inr i) g = best c i g
 
-choose_none : (n : ℕ) (b : Block) (bs : List Block) → ((c : Block) → IsIn c bs → fits n c ≡ false) → (x : Bool) → fits n b ≡ x → IsChosenAt n (b ∷ bs) (if x then Some (here b bs) else None)
+choose_none : (n : ℕ) (b : Block) (bs : List Block) → ((c : Block) → IsIn c bs → fits n c ≡ false) → (x : Bool) → fits n b ≡ x
+    → IsChosenAt n (b ∷ bs) (if x then Some (here b bs) else None)
 choose_none n b bs h true e = (refl, e, chosen_here n b bs e (λ c i g. absurd (true≢false (sym g ∙ h c i))))
 choose_none n b bs h false e = search (arith)
 

@@ -1,5 +1,6 @@
 -- A state without live blocks continues as a fresh one, and a fresh one that is extended as a larger one.
-use Rattle.std.proofs.Common.{◌≡◌, ℕ, zero, suc, ◌+◌, ◌-◌, ◌*◌, ◌<◌, ◌≤◌, false, List, [], ◌∷◌, length, IsTrue, nat_lt, refl, sym, ap, ap₂, subst, subst₂, le-ltb, ◌∙◌, inl, inr, arith}
+use Rattle.std.proofs.Common.{◌≡◌, ℕ, zero, suc, ◌+◌, ◌-◌, ◌*◌, ◌<◌, ◌≤◌, false, List, [], ◌∷◌, length, IsTrue, nat_lt, refl, sym, ap, ap₂, subst, subst₂}
+use Rattle.std.proofs.Common.{le-ltb, ◌∙◌, inl, inr, arith}
 use Rattle.std.proofs.lemmas.Bool.{true≢false}
 use Rattle.std.specs.List.{AllByRecursion}
 use Rattle.offset_allocator.specs.View.{max_size}
@@ -82,6 +83,7 @@ alone_is_fresh limit n x h cs =
 extended : (size more limit : ℕ) → nat_lt max_size (size + 0 + suc more) ≡ false → (step (command.Extend (suc more)) (start size limit)).state ≡ alone limit (size + suc more) 3
 extended size more limit e = search (arith)
 
-pub extended_law : (size more limit : ℕ) → size + more ≤ max_size → (cs : List Command) → answers cs (after (command.Extend more ∷ []) (start size limit)) ≡ answers cs (start (size + more) limit)
+pub extended_law : (size more limit : ℕ) → size + more ≤ max_size → (cs : List Command)
+    → answers cs (after (command.Extend more ∷ []) (start size limit)) ≡ answers cs (start (size + more) limit)
 extended_law size zero limit h cs = alone_is_fresh limit size 0 (omega arith) cs ∙ ap (λ n. answers cs (start n limit)) (let e : size ≡ size + 0 = omega arith in e)
 extended_law size (suc more) limit h cs = ap (answers cs) (extended size more limit (le-ltb max_size (size + 0 + suc more) (omega arith))) ∙ alone_is_fresh limit (size + suc more) 3 (omega arith) cs

@@ -146,7 +146,8 @@ start_is (b ∷ []) ys e = (ap (λ x. if x then ys else b ∷ ys) e.free.0, ap (
 start_is (b ∷ c ∷ gs) ys e = absurd (let l = e.few in omega arith)
 
 -- what becomes free coalesces with the free blocks before and after it
-pub coalesce_parts : (xs fs : List Block) (n s : ℕ) (gs ys : List Block) → IsEnd xs fs → IsStart gs ys → coalesce (xs ++ fs) n s (gs ++ ys) ≡ xs ++ block (total fs + n + total gs) (Free s) ∷ ys
+pub coalesce_parts : (xs fs : List Block) (n s : ℕ) (gs ys : List Block) → IsEnd xs fs → IsStart gs ys
+    → coalesce (xs ++ fs) n s (gs ++ ys) ≡ xs ++ block (total fs + n + total gs) (Free s) ∷ ys
 coalesce_parts xs fs n s gs ys e h = search (arith, end_is, start_is)
 
 ended : (bs : List Block) → (xs : List Block) × (fs : List Block) × (bs ≡ xs ++ fs) × IsEnd xs fs

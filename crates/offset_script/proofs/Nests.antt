@@ -1,5 +1,6 @@
 -- A nest leaves no trace.
-use Rattle.std.proofs.Common.{length, ◌≡◌, ◌≢◌, ℕ, ◌+◌, ◌-◌, ◌*◌, ◌<◌, ◌≤◌, Bool, true, false, ◌⊎◌, List, [], ◌∷◌, ◌++◌, Option, Some, None, nat_eq, nat_lt, nat_le, if◌then◌else◌, refl, sym, ap}
+use Rattle.std.proofs.Common.{length, ◌≡◌, ◌≢◌, ℕ, ◌+◌, ◌-◌, ◌*◌, ◌<◌, ◌≤◌, Bool, true, false, ◌⊎◌, List, [], ◌∷◌, ◌++◌, Option, Some, None, nat_eq}
+use Rattle.std.proofs.Common.{nat_lt, nat_le, if◌then◌else◌, refl, sym, ap}
 use Rattle.std.proofs.Common.{subst, ◌∙◌, inl, inr, arith, leb-false, le-leb, ne_eqb}
 use Rattle.std.proofs.lemmas.Bool.{cases_lt, lt-leb, and_parts}
 use Rattle.offset_script.specs.declared.scripts.Command.{Command}
@@ -63,7 +64,8 @@ Does c s o = IsOnly s o ⊎ (IsGranted (requested_units c) s o ⊎ IsReleased c 
 only : (c : Command) (s : State) (a : Answer) → IsQuiet a → Does c s (returns_only s a)
 only c s a q = inl (record { answer = a; quiet = q; is = refl })
 
-does_grant : (c : Command) (s : State) → length s.blocks + 1 < s.limit → (needed : ℕ) (padding_at : ℕ → ℕ) → ((o : ℕ) → padding_at o + requested_units c ≤ needed) → (p : Option Place)
+does_grant : (c : Command) (s : State) → length s.blocks + 1 < s.limit → (needed : ℕ) (padding_at : ℕ → ℕ)
+    → ((o : ℕ) → padding_at o + requested_units c ≤ needed) → (p : Option Place)
     → chosen_place needed s.blocks ≡ p → Does c s (grant_or_refuse s (requested_units c) padding_at p)
 does_grant c s room needed padding_at h None e = only c s machine.Refused tt
 does_grant c s room needed padding_at h (Some p) e = inr (inl (record {
@@ -174,7 +176,8 @@ traceless (history.paired {s = s} {c = c} {k = k} {inner = inner} {outer = outer
     subst (AreTraceless s) (sym (after-append inner (command.Free k ∷ outer) s1)) (traceless_trans s s3 (after outer s3) a b)
 
 -- numbers after grants that are left out
-pub number_without_cases : (g j k : ℕ) → ((k ≤ g) × (number_without g j k ≡ k)) ⊎ (((g < k) × (k ≤ g + j) × (number_without g j k ≡ 0)) ⊎ ((g + j < k) × (number_without g j k ≡ k - j)))
+pub number_without_cases : (g j k : ℕ) → ((k ≤ g) × (number_without g j k ≡ k))
+    ⊎ (((g < k) × (k ≤ g + j) × (number_without g j k ≡ 0)) ⊎ ((g + j < k) × (number_without g j k ≡ k - j)))
 number_without_cases g j k = search (arith, cases_lt, nat_le, lt-leb, le-leb)
 
 -- the same number, where no grants are left out
@@ -192,7 +195,8 @@ number_without_future g j k l = elim (number_without_cases g j k) [ inl h ↦ ab
 
 matched_kind : (s t : State) → IsWell s → IsWell t → (j : ℕ) (q : Kind) → HasSameNumber q → 1 ≤ count (left_tag q) t.blocks → 1 ≤ count (right_tag q) s.blocks
     → IsMatched (number_without s.grants j) (2 * (t.calls + 1)) (2 * (s.calls + 1)) q
-matched_kind s t w v j (Lives i i') e c d = λ k. let b = w.old (Live i') d in subst (λ x. nat_eq k x ≡ nat_eq (number_without s.grants j k) i') (sym e) (number_without_kept s.grants j i' k b.0 b.1)
+matched_kind s t w v j (Lives i i') e c d = λ k. let b = w.old (Live i') d in
+    subst (λ x. nat_eq k x ≡ nat_eq (number_without s.grants j k) i') (sym e) (number_without_kept s.grants j i' k b.0 b.1)
 matched_kind s t w v j (Frees x y) e c d = (v.old (Free x) c, w.old (Free y) d)
 
 pub alike_after : (s t : State) → IsWell s → IsWell t → AreTraceless s t → IsAlike (number_without s.grants (t.grants - s.grants)) (t.grants - s.grants) t s

@@ -1,5 +1,6 @@
 -- A release after a grant, with a nest between them, restores the block that was split, as the newest of its class.
-use Rattle.std.proofs.Common.{◌≡◌, ℕ, ◌+◌, ◌-◌, ◌<◌, ◌≤◌, true, false, ◌&&◌, ◌||◌, ◌⊎◌, List, [], ◌∷◌, ◌++◌, Some, nat_eq, nat_lt, nat_le, refl, sym, ap, ap₂, subst, subst₂, ◌∙◌, inl, inr, arith}
+use Rattle.std.proofs.Common.{◌≡◌, ℕ, ◌+◌, ◌-◌, ◌<◌, ◌≤◌, true, false, ◌&&◌, ◌||◌, ◌⊎◌, List, [], ◌∷◌, ◌++◌, Some, nat_eq, nat_lt, nat_le, refl, sym}
+use Rattle.std.proofs.Common.{ap, ap₂, subst, subst₂, ◌∙◌, inl, inr, arith}
 use Rattle.std.proofs.Common.{append_assoc, eqb-true, eq-eqb, lt-ltb, le-ltb}
 use Rattle.offset_allocator.proofs.ViewApart.{left_false, right_false}
 use Rattle.std.proofs.lemmas.List.{map-append}
@@ -111,12 +112,14 @@ free_stamp : (t : Tag) → is_free t ≡ true → t ≡ Free (stamp t)
 free_stamp (Free s) e = refl
 free_stamp (Live k) e = absurd (false≢true e)
 
-none_in_all : (s : State) → IsWell s → (k : ℕ) (xs : List Block) (b : Block) (ys : List Block) → s.blocks ≡ xs ++ b ∷ ys → s.grants < k → (before padding_bit : List Pair) (padding front : ℕ)
+none_in_all : (s : State) → IsWell s → (k : ℕ) (xs : List Block) (b : Block) (ys : List Block) → s.blocks ≡ xs ++ b ∷ ys → s.grants < k
+    → (before padding_bit : List Pair) (padding front : ℕ)
     → lefts before ≡ xs → lefts padding_bit ≡ free_block padding front
     → ((q : Pair) → IsIn q before → HasSameNumber q.kind) → ((q : Pair) → IsIn q padding_bit → HasSameNumber q.kind) → count (Live k) (rights before ++ rights padding_bit) ≡ 0
 none_in_all s w k xs b ys e l before padding_bit padding front on_before on_padding n m = search (arith, not_there, count, count_free_block, count-append, rights, same_count)
 
-pub restored : (s : State) → IsWell s → (p : Place) (needed n padding : ℕ) → s.blocks ≡ whole p → fits needed p.block ≡ true → IsBest needed s.blocks p.block → padding + n ≤ p.block.size
+pub restored : (s : State) → IsWell s → (p : Place) (needed n padding : ℕ) → s.blocks ≡ whole p → fits needed p.block ≡ true → IsBest needed s.blocks p.block
+    → padding + n ≤ p.block.size
     → (t : State) → IsWell t → AreSimilar (granted_blocks p n padding (stamp_of_padding s) (s.grants + 1) (stamp_of_call s)) t.blocks → IsRestored s t
 restored s w p needed n padding e f best enough t v m = record {
   place = record { before = rights a.0 ++ rights b.0; block = right c.0; after = rights d.0 ++ rights d.1 };
@@ -135,7 +138,8 @@ restored s w p needed n padding e f best enough t v m = record {
         × (lefts back ≡ free_block padding (stamp_of_padding s) ++ (block n (Live (s.grants + 1)) ∷ (rest ++ p.after)))
     a = map_parts left m.pairs p.before (free_block padding (stamp_of_padding s) ++ (block n (Live (s.grants + 1)) ∷ (rest ++ p.after))) (sym m.left_blocks)
 
-    b : (front : List Pair) × (back : List Pair) × (a.1 ≡ front ++ back) × (lefts front ≡ free_block padding (stamp_of_padding s)) × (lefts back ≡ block n (Live (s.grants + 1)) ∷ (rest ++ p.after))
+    b : (front : List Pair) × (back : List Pair) × (a.1 ≡ front ++ back) × (lefts front ≡ free_block padding (stamp_of_padding s))
+        × (lefts back ≡ block n (Live (s.grants + 1)) ∷ (rest ++ p.after))
     b = map_parts left a.1 (free_block padding (stamp_of_padding s)) (block n (Live (s.grants + 1)) ∷ (rest ++ p.after)) a.4
 
     c : (q : Pair) × (back : List Pair) × (b.1 ≡ q ∷ back) × (left q ≡ block n (Live (s.grants + 1))) × (lefts back ≡ rest ++ p.after)
@@ -185,7 +189,8 @@ restored s w p needed n padding e f best enough t v m = record {
         (λ q i. m.numbers q (old q (inl i))) (λ q i. m.numbers q (subst (IsIn q) (sym parts_whole) (in_right q a.0 (b.0 ++ (c.0 ∷ (d.0 ++ d.1))) (in_left q b.0 (c.0 ∷ (d.0 ++ d.1)) i))))
 
     below : (q : Pair) (y : ℕ) → IsIn q m.pairs → right_tag q.kind ≡ Free y → y < stamp_of_call t
-    below q y i k = let c = subst (λ x. 1 ≤ count x t.blocks) k (subst (λ bs. 1 ≤ count (right_tag q.kind) bs) (sym m.right_blocks) (in_count (right q) (rights m.pairs) (in_map right q m.pairs i))) in
+    below q y i k = let c = subst (λ x. 1 ≤ count x t.blocks) k
+        (subst (λ bs. 1 ≤ count (right_tag q.kind) bs) (sym m.right_blocks) (in_count (right q) (rights m.pairs) (in_map right q m.pairs i))) in
         let o = v.old (Free y) c in omega arith
 
     newest : (q : Pair) (x y : ℕ) → IsIn q a.0 ⊎ IsIn q d.1 → q.kind ≡ Frees x y → nat_eq (down q.size) (down z) ≡ true → (x < stamp p.block.tag) × (y < stamp_of_call t)

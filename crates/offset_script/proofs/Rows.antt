@@ -1,5 +1,5 @@
--- Commands that are a nest, and the collapse of three grants.
-use Rattle.std.proofs.Common.{◌≡◌, [], ◌∷◌, refl}
+-- Commands that are a nest, the collapse of three grants, and values of classes beyond 32 bits.
+use Rattle.std.proofs.Common.{◌≡◌, [], ◌∷◌, map, refl}
 use Rattle.offset_script.specs.declared.scripts.Command.TheVariants as command
 use Rattle.offset_allocator.specs.Classes.{value, up, down}
 use Rattle.offset_script.specs.Machine.{State, start, after}
@@ -12,7 +12,10 @@ before_nest = after (command.Alloc 10 ∷ command.Alloc 10 ∷ command.Alloc 10 
 
 is_nest : IsNest before_nest (command.Alloc 5 ∷ command.Alloc 7 ∷ command.Free 6 ∷ command.Free 5 ∷ [])
 unfolding before_nest value up down
-is_nest = history.paired {k = 5} {inner = command.Alloc 7 ∷ command.Free 6 ∷ []} {outer = []} tt (20, refl) (history.paired {k = 6} {inner = []} {outer = []} tt (0, refl) history.done history.done)
+is_nest = history.paired {k = 5} {inner = command.Alloc 7 ∷ command.Free 6 ∷ []} {outer = []} tt (
+  20,
+  refl,
+) (history.paired {k = 6} {inner = []} {outer = []} tt (0, refl) history.done history.done)
     history.done
 
 -- the collapse of three grants, and what their releases leave
@@ -20,3 +23,8 @@ collapsed : collapse (1 ∷ 2 ∷ 3 ∷ []) (outline (after (command.Alloc 10 �
     ≡ outline (after (command.Alloc 10 ∷ command.Alloc 10 ∷ command.Alloc 10 ∷ command.Alloc 10 ∷ releases (3 ∷ 1 ∷ 2 ∷ [])) (start 60 8)).blocks
 unfolding value up down
 collapsed = refl
+
+-- values of classes that no size has, of which calls return the low 32 bits
+values : map value (240 ∷ 247 ∷ 248 ∷ 255 ∷ []) ≡ 4294967296 ∷ 8053063680 ∷ 8589934592 ∷ 16106127360 ∷ []
+unfolding value
+values = refl

@@ -1,5 +1,6 @@
 -- The steps of a player are those of the plain machine, call by call.
-use Rattle.std.proofs.Common.{◌≡◌, ℕ, zero, suc, ◌+◌, ◌-◌, ◌%◌, ◌^◌, ◌<◌, ◌≤◌, Bool, List, [], ◌∷◌, ◌++◌, map, length, Option, Some, None, option_map, Result, Ok, Err, IfOk, slice_index_or, slice_set}
+use Rattle.std.proofs.Common.{◌≡◌, ℕ, zero, suc, ◌+◌, ◌-◌, ◌%◌, ◌^◌, ◌<◌, ◌≤◌, Bool, List, [], ◌∷◌, ◌++◌, map, length, Option, Some, None, option_map}
+use Rattle.std.proofs.Common.{Result, Ok, Err, IfOk, slice_index_or, slice_set}
 use Rattle.std.proofs.Common.{get_or, if◌then◌else◌, IsTrue, refl, sym, ap, ap₂, subst, subst₂, ◌∙◌, inl, inr, arith, eq-eqb, ne_eqb, add-one, length-append, append_assoc, append-nil}
 use Rattle.std.proofs.lemmas.List.{map-append, get_or-set_same, get_or-set_other, get_or_past, length-set}
 use Rattle.std.proofs.Math.ListN.{get_or-append}
@@ -117,7 +118,8 @@ module _ (v w : View) (hs left : List (Option Grant)) (a : Answer) (s : State) (
       freed k x e (let l = (kept_within hs (suc k) x e).1 in omega arith) f (but ∙ ap (λ i. slice_set hs i None) same) is
 
   -- a release by any number
-  release_step : (k : ℕ) (o : Option ℕ) → kept_name hs k ≡ o → IfNamed o (λ x. Frees x v w × (left ≡ slice_set hs (k - 1) None) × (a ≡ machine.Freed)) (Stays v hs w left × (a ≡ machine.Gone))
+  release_step : (k : ℕ) (o : Option ℕ) → kept_name hs k ≡ o
+      → IfNamed o (λ x. Frees x v w × (left ≡ slice_set hs (k - 1) None) × (a ≡ machine.Freed)) (Stays v hs w left × (a ≡ machine.Gone))
       → Follows (command.Free k) s w left a
   release_step k None e t =
       let r = gone_agrees v (kept_name hs) s p.formed ws p.agrees k e in
@@ -160,7 +162,8 @@ module _ (v w : View) (hs left : List (Option Grant)) (a : Answer) (s : State) (
 pub fresh_represents : (w : View) → IsWellFormed w → (size limit : ℕ) (hs : List (Option Grant)) → IsFresh size limit w → hs ≡ [] → IsAtState w hs (start size limit)
 fresh_represents w formed size limit hs f e = subst (λ l. IsAtState w l (start size limit)) (sym e) (record {
   formed = formed;
-  agrees = alone_agrees w f.name size 0 (kept_name []) (start size limit) (ap (λ (v : View). v.blocks) f.view) (ap (λ (v : View). v.order) f.view) (sym (ap (λ (v : View). v.max_allocs) f.view)) refl
+  agrees = alone_agrees w f.name size 0 (kept_name []) (start size limit) (ap (λ (v : View). v.blocks) f.view) (ap (λ (v : View). v.order) f.view)
+      (sym (ap (λ (v : View). v.max_allocs) f.view)) refl
       (none_kept [] (λ i l. refl));
   grants = refl;
 })
@@ -168,7 +171,8 @@ fresh_represents w formed size limit hs f e = subst (λ l. IsAtState w l (start 
 -- Runs, with one more step at their end.
 
 -- the steps of a run on a fresh space that lead to this view and these handles
-abbrev pub IsBegun : {C A : Type 0} → (C → View → List (Option Grant) → View → List (Option Grant) → A → Type 0) → (size limit : ℕ) → View → List (Option Grant) → List C → List A → Type 0
+abbrev pub IsBegun : {C A : Type 0} → (C → View → List (Option Grant) → View → List (Option Grant) → A → Type 0) → (size limit : ℕ) → View → List (Option Grant)
+    → List C → List A → Type 0
 IsBegun {C} {A} take size limit v handles before found = (u : View) × IsFresh size limit u
     × ((cs : List C) (others : List A) → IsRun take v handles cs others → IsRun take u [] (before ++ cs) (found ++ others))
 
@@ -181,7 +185,8 @@ module _ {C A : Type 0} (take : C → View → List (Option Grant) → View → 
       → IsBegun take size limit w left before' found'
   run_goes_on v w handles left before before' found found' c a r t formed e f = search (arith, append_assoc)
 
-  pub run_ends : (v : View) (handles : List (Option Grant)) (before cs : List C) (found : List A) → IsBegun take size limit v handles before found → before ≡ cs → AreOfARun take size limit cs found
+  pub run_ends : (v : View) (handles : List (Option Grant)) (before cs : List C) (found : List A) → IsBegun take size limit v handles before found → before ≡ cs
+      → AreOfARun take size limit cs found
   run_ends v handles before cs found r e = (r.0, r.1, subst₂ (IsRun take r.0 []) (append-nil before ∙ e) (append-nil found) (r.2 [] [] tt))
 
 -- The rows of a full report.

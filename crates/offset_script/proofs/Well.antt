@@ -1,5 +1,6 @@
 -- What holds of every state that the machine reaches.
-use Rattle.std.proofs.Common.{◌≡◌, ℕ, zero, suc, ◌+◌, ◌-◌, ◌<◌, ◌≤◌, true, false, ◌&&◌, ◌||◌, ◌⊎◌, List, [], ◌∷◌, ◌++◌, length, Option, Some, None, nat_lt, nat_le}
+use Rattle.std.proofs.Common.{◌≡◌, ℕ, zero, suc, ◌+◌, ◌-◌, ◌<◌, ◌≤◌, true, false, ◌&&◌, ◌||◌, ◌⊎◌, List, [], ◌∷◌, ◌++◌, length, Option, Some, None}
+use Rattle.std.proofs.Common.{nat_lt, nat_le}
 use Rattle.std.proofs.Common.{refl, sym, ap, subst, ◌∙◌, inl, inr, arith, leb-false, length-append}
 use Rattle.offset_allocator.proofs.ViewApart.{left_false, right_false}
 use Rattle.std.proofs.lemmas.Bool.{cases_lt, true≢false, and_parts, and_left, and_right, or_parts, and_cases, not-false}
@@ -100,14 +101,16 @@ length_coalesce xs n s ys =
     let l = c.end.few in
     (omega arith, omega (arith, ap length c.at_front, ap length c.at_back, length-append c.front c.last, length-append c.first c.back))
 
-well_granted : (s : State) → IsWell s → (needed n : ℕ) (padding_at : ℕ → ℕ) (spare : ℕ) → ((o x : ℕ) → length (free_block (padding_at o) x) + 1 ≤ spare) → length s.blocks + spare < s.limit
+well_granted : (s : State) → IsWell s → (needed n : ℕ) (padding_at : ℕ → ℕ) (spare : ℕ) → ((o x : ℕ) → length (free_block (padding_at o) x) + 1 ≤ spare)
+    → length s.blocks + spare < s.limit
     → (o : Option Place) → chosen_place needed s.blocks ≡ o → IsWell (grant_or_refuse s n padding_at o).state
 well_granted s w needed n padding_at spare enough room None e = well_quiet s w machine.Refused
 well_granted s w needed n padding_at spare enough room (Some p) e =
     let c = chosen_at needed s.blocks p e in
     well_grant s w n (padding_at (total p.before)) p c.0 (and_parts _ _ c.1).0 spare room (enough _ _)
 
-well_request : (s : State) → IsWell s → (spare needed n : ℕ) (padding_at : ℕ → ℕ) → ((o x : ℕ) → length (free_block (padding_at o) x) + 1 ≤ spare) → IsWell (request s spare needed n padding_at).state
+well_request : (s : State) → IsWell s → (spare needed n : ℕ) (padding_at : ℕ → ℕ) → ((o x : ℕ) → length (free_block (padding_at o) x) + 1 ≤ spare)
+    → IsWell (request s spare needed n padding_at).state
 well_request s w spare needed n padding_at enough = if_both (λ (o : Outcome). IsWell o.state) (is_short_of spare s) _ _ (λ e. well_quiet s w machine.Refused)
     (λ e. well_granted s w needed n padding_at spare enough (leb-false s.limit (length s.blocks + spare) e) (chosen_place needed s.blocks) refl)
 

@@ -1,4 +1,5 @@
-use Rattle.std.proofs.Common.{◌<◌, map, take, length, refl, sym, subst, arith, IsTrue, ◌≡◌, ℕ, zero, suc, ◌+◌, ◌≤◌, List, [], ◌∷◌, ◌++◌, drop, get_or, ap, ◌∙◌, add-one, append-nil, append_assoc}
+use Rattle.std.proofs.Common.{◌<◌, map, take, length, refl, sym, subst, arith, IsTrue, ◌≡◌, ℕ, zero, suc, ◌+◌, ◌≤◌, List, [], ◌∷◌, ◌++◌, drop, get_or, ap, ◌∙◌}
+use Rattle.std.proofs.Common.{add-one, append-nil, append_assoc}
 use Rattle.std.proofs.Common.{drop-cons}
 use Rattle.std.proofs.lemmas.List.{map-append, take_more, take_all, drop_all}
 use Rattle.std.proofs.lemmas.List.Elements.{All-get_or}
@@ -29,9 +30,11 @@ answers_more : (cs : List Command) (s : State) (i : ℕ) (d : Command) (found le
 answers_more cs s i d found left x all h f e so_far = search (arith, map, drop, take, map-append, append_assoc, after_more, add-one, drop-cons)
 
 -- where nothing is left, the answers so far are those to all
-answers_all : (cs : List Command) (s : State) (i : ℕ) (found : List program.Answer) (all : List Answer) → length cs ≤ i → map answer_view found ++ answers (drop i cs) (after (take i cs) s) ≡ all
+answers_all : (cs : List Command) (s : State) (i : ℕ) (found : List program.Answer) (all : List Answer) → length cs ≤ i
+    → map answer_view found ++ answers (drop i cs) (after (take i cs) s) ≡ all
     → map answer_view found ≡ all
-answers_all cs s i found all h so_far = sym (append-nil (map answer_view found)) ∙ ap (λ l. map answer_view found ++ l) (sym (ap (λ l. answers l (after (take i cs) s)) (drop_all i cs h))) ∙ so_far
+answers_all cs s i found all h so_far = sym (append-nil (map answer_view found))
+    ∙ ap (λ l. map answer_view found ++ l) (sym (ap (λ l. answers l (after (take i cs) s)) (drop_all i cs h))) ∙ so_far
 
 -- The laws over whole histories, of the answers to a list of commands.
 
