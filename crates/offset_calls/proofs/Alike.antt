@@ -1,5 +1,6 @@
 -- Two states that differ only in numbers, and in stamps of the same order in each class, give the same replies.
-use Rattle.std.proofs.Common.{◌≡◌, ℕ, ◌+◌, ◌-◌, ◌*◌, Bool, true, false, not, ◌&&◌, ◌||◌, ◌⊎◌, List, [], ◌∷◌, ◌++◌, map, sum, Option, Some, None, is_some, nat_eq, nat_le, if◌then◌else◌, refl, sym, ap}
+use Rattle.std.proofs.Common.{◌≡◌, ℕ, ◌+◌, ◌-◌, ◌*◌, Bool, true, false, not, ◌&&◌, ◌||◌, ◌⊎◌, List, [], ◌∷◌, ◌++◌, map, sum, Option, Some, None, is_some}
+use Rattle.std.proofs.Common.{nat_eq, nat_le, if◌then◌else◌, refl, sym, ap}
 use Rattle.std.proofs.Common.{ap₂, subst, subst₂, ◌∙◌, inl, inr, arith, eq-eqb, ne_eqb, le-leb}
 use Rattle.std.proofs.lemmas.Bool.{cases_eq, cases_lt, true≢false, false≢true, lt-leb}
 use Rattle.std.proofs.lemmas.List.{map-append}
@@ -174,7 +175,8 @@ module _ (r : ℕ → ℕ) (g d : ℕ) (back : (k : ℕ) → r (number_with g d 
       on_right = search (arith, map-append, right, rights, right_tag, pair_free_block, lefts, rights_free_block, same_free_start, rights_without)
 
   resize_same : (k n : ℕ) (can can' : machine.Place → Bool) (o o' : Option machine.Place) → place_of k s.blocks ≡ o → IsSamePlace (λ q. Unit {0}) a.pairs o o'
-      → ((xs : List Pair) (q : Pair) (ys : List Pair) → can (record { before = lefts xs; block = left q; after = lefts ys }) ≡ can' (record { before = rights xs; block = right q; after = rights ys }))
+      → ((xs : List Pair) (q : Pair) (ys : List Pair)
+      → can (record { before = lefts xs; block = left q; after = lefts ys }) ≡ can' (record { before = rights xs; block = right q; after = rights ys }))
       → AreSame r g d (resize can n s o) (resize can' n t o')
   resize_same k n can can' None None e neither same = quiet _ _ refl
   resize_same k n can can' o o' e (both xs q ys f u) same =
@@ -193,7 +195,8 @@ module _ (r : ℕ → ℕ) (g d : ℕ) (back : (k : ℕ) → r (number_with g d 
   moves_same from to [] h = refl
   moves_same from to (q ∷ ps) h = go (is_free (left_tag q.kind)) refl (nat_eq from to) refl (λ u. moves_same (from + q.size) u ps (λ x i. h x (inr i)))
     where
-      go : (x : Bool) → is_free (left_tag q.kind) ≡ x → (b : Bool) → nat_eq from to ≡ b → ((u : ℕ) → moves (from + q.size) u (lefts ps) ≡ map (raise_move g d) (moves (from + q.size) u (rights ps)))
+      go : (x : Bool) → is_free (left_tag q.kind) ≡ x → (b : Bool) → nat_eq from to ≡ b
+          → ((u : ℕ) → moves (from + q.size) u (lefts ps) ≡ map (raise_move g d) (moves (from + q.size) u (rights ps)))
           → moves from to (lefts (q ∷ ps)) ≡ map (raise_move g d) (moves from to (rights (q ∷ ps)))
       go true e b f ih = search (arith, lefts, left, map, rights, right, same_free)
       go false e b f ih =
@@ -251,7 +254,8 @@ module _ (r : ℕ → ℕ) (g d : ℕ) (back : (k : ℕ) → r (number_with g d 
   same_call (call.RefusalAligned n align) = quiet _ _ (ap₂ (λ x y. Refused_for (if nat_le align 1 then x else y)) (reason_same 1 n) (reason_same 2 (n + align - 1)))
 
 -- alike states give the same replies to any calls
-pub same_replies : (r : ℕ → ℕ) (g d : ℕ) → ((k : ℕ) → r (number_with g d k) ≡ k) → (cs : List Call) (s t : State) → IsAlike r d s t → replies cs s ≡ map (raise g d) (replies (map (renumber r) cs) t)
+pub same_replies : (r : ℕ → ℕ) (g d : ℕ) → ((k : ℕ) → r (number_with g d k) ≡ k) → (cs : List Call) (s t : State) → IsAlike r d s t
+    → replies cs s ≡ map (raise g d) (replies (map (renumber r) cs) t)
 same_replies r g d back [] s t a = refl
 same_replies r g d back (c ∷ cs) s t a = let o = same_call r g d back s t a c in ap₂ (λ x xs. x ∷ xs) o.reply (same_replies r g d back cs _ _ o.state)
 

@@ -1,5 +1,6 @@
 -- A compaction: what is left agrees with the plain machine, and the moves are the same.
-use Rattle.std.proofs.Common.{◌≡◌, ℕ, suc, ◌+◌, ◌≤◌, Bool, true, false, not, ◌&&◌, List, [], ◌∷◌, ◌++◌, length, replicate, sum, Option, Some, None, nat_eq, if◌then◌else◌, refl, sym, ap, ap₂, subst}
+use Rattle.std.proofs.Common.{◌≡◌, ℕ, suc, ◌+◌, ◌≤◌, Bool, true, false, not, ◌&&◌, List, [], ◌∷◌, ◌++◌, length, replicate, sum, Option, Some, None, nat_eq}
+use Rattle.std.proofs.Common.{if◌then◌else◌, refl, sym, ap, ap₂, subst}
 use Rattle.std.proofs.Common.{subst₂, ◌∙◌, inl, inr, arith, eq-eqb, ne_eqb, length-append}
 use Rattle.std.proofs.lemmas.Bool.{cases_eq, cases_lt, true≢false, false≢true}
 use Rattle.std.proofs.lemmas.List.{map-append, get_or_past, get_or-replicate, length-replicate}
@@ -75,7 +76,8 @@ live_names (l ∷ ls) = let ih = live_names ls in elim (is_free l.tag)
 
 live_tags : (ls : List Label) → tags (live_labels ls) ≡ live (tags ls)
 live_tags [] = refl
-live_tags (l ∷ ls) = let ih = live_tags ls in elim (is_free l.tag) as (λ x. tags (if x then live_labels ls else l ∷ live_labels ls) ≡ (if not x then by_tag l ∷ live (tags ls) else live (tags ls)))
+live_tags (l ∷ ls) = let ih = live_tags ls in
+    elim (is_free l.tag) as (λ x. tags (if x then live_labels ls else l ∷ live_labels ls) ≡ (if not x then by_tag l ∷ live (tags ls) else live (tags ls)))
     [ true ↦ ih | false ↦ ap (λ z. by_tag l ∷ z) ih ]
 
 no_number : (k : ℕ) (t : Tag) → is_free t ≡ true → has_number k t ≡ false
@@ -129,7 +131,8 @@ compact_agrees v kept_name s g u f = record {
   state = ap₂ (λ a b. a ++ b) (ap live g.state ∙ sym (live_tags g.labels)) (sym (gathered_tags f.name (stamp_of_call s) (free_sizes s.blocks)))
       ∙ sym (map-append by_tag (live_labels g.labels) (gathered_label f.name (stamp_of_call s) (free_sizes s.blocks)));
   limit = g.limit ∙ sym (ap (λ (x : View). x.max_allocs) f.view);
-  newest = λ c. subst (λ o. IsFalling (λ x. stamp_of x (live_labels g.labels ++ gathered_label f.name (stamp_of_call s) (free_sizes s.blocks))) (bin_at o c)) (sym (ap (λ (x : View). x.order) f.view))
+  newest = λ c. subst (λ o. IsFalling (λ x. stamp_of x (live_labels g.labels ++ gathered_label f.name (stamp_of_call s) (free_sizes s.blocks))) (bin_at o c))
+      (sym (ap (λ (x : View). x.order) f.view))
       (gathered_newest _ f.name (named.free_sizes v.blocks) c);
   handles = λ k. g.handles k ∙ sym (live_name_of k g.labels) ∙ sym (or_none (name_of k (live_labels g.labels)))
       ∙ ap (option_or (name_of k (live_labels g.labels))) (sym (gathered_name_of k f.name (stamp_of_call s) (free_sizes s.blocks)))

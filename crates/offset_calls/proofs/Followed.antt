@@ -1,5 +1,6 @@
 -- The steps of calls are those of the plain machine.
-use Rattle.std.proofs.Common.{◌≡◌, ◌≢◌, ◌⊎◌, ℕ, ◌+◌, ◌-◌, ◌≤◌, Bool, true, false, not, ◌&&◌, List, [], ◌∷◌, length, sum, Option, Some, None, is_some, IfSome, IsTrue, option_map, option_and_then}
+use Rattle.std.proofs.Common.{◌≡◌, ◌≢◌, ◌⊎◌, ℕ, ◌+◌, ◌-◌, ◌≤◌, Bool, true, false, not, ◌&&◌, List, [], ◌∷◌, length, sum, Option, Some, None, is_some}
+use Rattle.std.proofs.Common.{IfSome, IsTrue, option_map, option_and_then}
 use Rattle.std.proofs.Common.{nat_eq, nat_lt, nat_le, if◌then◌else◌, refl, sym, ap, ap₂, subst, ◌∙◌, inl, inr, arith, eq-eqb, ne_eqb, le-leb, leb-true, lt-ltb, le-ltb}
 use Rattle.std.proofs.lemmas.Bool.{cases_eq, cases_lt, true≢false, false≢true, and_parts, lt-leb}
 use Rattle.offset_allocator.proofs.Advice.{free_within}
@@ -45,7 +46,8 @@ resize_same can n s p e = ap (λ b. if b then replies_only s Resized else if can
 resize_done : (can : machine.Place → Bool) (n : ℕ) (s : State) (p : machine.Place) → n ≢ p.block.size → can p ≡ true → resize can n s (Some p) ≡ resized n s p
 resize_done can n s p d c = ap₂ (λ b x. if b then replies_only s Resized else if x then resized n s p else replies_only s (Answer machine.Refused)) (ne_eqb n p.block.size d) c
 
-resize_refused : (can : machine.Place → Bool) (n : ℕ) (s : State) (p : machine.Place) → n ≢ p.block.size → can p ≡ false → resize can n s (Some p) ≡ replies_only s (Answer machine.Refused)
+resize_refused : (can : machine.Place → Bool) (n : ℕ) (s : State) (p : machine.Place) → n ≢ p.block.size → can p ≡ false
+    → resize can n s (Some p) ≡ replies_only s (Answer machine.Refused)
 resize_refused can n s p d c = ap₂ (λ b x. if b then replies_only s Resized else if x then resized n s p else replies_only s (Answer machine.Refused)) (ne_eqb n p.block.size d) c
 
 abbrev reason_of : Bool → Bool → Refusal → Option Refusal
@@ -60,7 +62,8 @@ not_true false f = refl
 
 -- every state stays well-formed
 
-well_resize : (s : State) → IsWell s → (k n : ℕ) (can : machine.Place → Bool) → ((p : machine.Place) → n ≢ p.block.size → can p ≡ true → (starts_free p.after ≡ true) ⊎ (is_short_of 1 s ≡ false))
+well_resize : (s : State) → IsWell s → (k n : ℕ) (can : machine.Place → Bool)
+    → ((p : machine.Place) → n ≢ p.block.size → can p ≡ true → (starts_free p.after ≡ true) ⊎ (is_short_of 1 s ≡ false))
     → (o : Option machine.Place) → machine.place_of k s.blocks ≡ o → IsWell (resize can n s o).state
 well_resize s w k n can fit None e = well_quiet s w machine.Gone
 well_resize s w k n can fit (Some p) e = go (can p) refl
@@ -113,12 +116,14 @@ module _ (v w : View) (hs left : List (Option Grant)) (r : Reply) (s : State) (f
     resize_same_size : (can : machine.Place → Bool) → n ≡ size_of x v → SameSpace v w → left ≡ hs → r ≡ Resized → Follows (resize can n s (machine.place_of k s.blocks)) w left r
     resize_same_size can same space f is = stays _ Resized (ap (resize can n s) at ∙ resize_same can n s _ (same ∙ sized)) space f is
 
-    resize_refuses : (can : machine.Place → Bool) → n ≢ size_of x v → (can (plain_place (spot v (kept_name hs) s p.formed ws p.agrees k x e)) ≡ true → ⊥) → SameSpace v w → left ≡ hs
+    resize_refuses : (can : machine.Place → Bool) → n ≢ size_of x v → (can (plain_place (spot v (kept_name hs) s p.formed ws p.agrees k x e)) ≡ true → ⊥)
+        → SameSpace v w → left ≡ hs
         → r ≡ Answer machine.Refused
         → Follows (resize can n s (machine.place_of k s.blocks)) w left r
     resize_refuses can d none space f is = stays _ (Answer machine.Refused) (ap (resize can n s) at ∙ resize_refused can n s _ (λ z. d (z ∙ sym sized)) (not_true _ none)) space f is
 
-    resize_changes : (can : machine.Place → Bool) → n ≢ size_of x v → can (plain_place (spot v (kept_name hs) s p.formed ws p.agrees k x e)) ≡ true → Resizes x n v w → left ≡ hs → r ≡ Resized
+    resize_changes : (can : machine.Place → Bool) → n ≢ size_of x v → can (plain_place (spot v (kept_name hs) s p.formed ws p.agrees k x e)) ≡ true → Resizes x n v w
+        → left ≡ hs → r ≡ Resized
         → Follows (resize can n s (machine.place_of k s.blocks)) w left r
     resize_changes can d c t f is =
         subst (λ (o : Outcome). Follows o w left r) (sym (ap (resize can n s) at ∙ resize_done can n s _ (λ z. d (z ∙ sym sized)) c)) (
@@ -158,12 +163,14 @@ module _ (v w : View) (hs left : List (Option Grant)) (r : Reply) (s : State) (f
   shrink_step k n None e t = quiet _ (Answer machine.Gone) (ap (resize (can_shrink n s) n s) (gone_there k e)) t.0 t.1
   shrink_step k n (Some x) e t = shrinks k x n e t.0 t.1 t.2 t.3
 
-  grow_step : (k n : ℕ) (o : Option ℕ) → kept_name hs k ≡ o → IfNamed o (λ x. (done : Bool) × Grows x n v w done × (left ≡ hs) × (r ≡ (if done then Resized else Answer machine.Refused)))
+  grow_step : (k n : ℕ) (o : Option ℕ) → kept_name hs k ≡ o
+      → IfNamed o (λ x. (done : Bool) × Grows x n v w done × (left ≡ hs) × (r ≡ (if done then Resized else Answer machine.Refused)))
       (Stays v hs w left × (r ≡ Answer machine.Gone)) → Follows (step (call.Grow k n) s) w left r
   grow_step k n None e t = quiet _ (Answer machine.Gone) (ap (resize (can_grow n) n s) (gone_there k e)) t.0 t.1
   grow_step k n (Some x) e t = grows k x n e t.0 t.1 t.2 t.3
 
-  offset_step : (k : ℕ) (o : Option ℕ) → kept_name hs k ≡ o → IfNamed o (λ x. (o : ℕ) × (option_map (λ (q : Range). q.offset) (range_of x v) ≡ Some o) × (r ≡ Offset o)) (r ≡ Answer machine.Gone)
+  offset_step : (k : ℕ) (o : Option ℕ) → kept_name hs k ≡ o
+      → IfNamed o (λ x. (o : ℕ) × (option_map (λ (q : Range). q.offset) (range_of x v) ≡ Some o) × (r ≡ Offset o)) (r ≡ Answer machine.Gone)
       → r ≡ offset_at (machine.place_of k s.blocks)
   offset_step k None e t = t ∙ sym (ap offset_at (gone_there k e))
   offset_step k (Some x) e t = t.2 ∙ offset_found k x 0 e t.0 t.1
@@ -221,7 +228,8 @@ module _ (v w : View) (hs left : List (Option Grant)) (r : Reply) (s : State) (f
 
       is_short : (x : Refusal) → why ≡ Some x → HasRoomFor blocks v → here ≡ x → why ≡ reason blocks n s
       is_short x e room is =
-          e ∙ sym (ap (λ a. reason_of a (is_some (chosen_place n s.blocks)) here) (has_room v (kept_name hs) s p.formed ws p.agrees blocks room) ∙ ap₂ (reason_of false) (none room (some x e)) is)
+          e ∙ sym (ap (λ a. reason_of a (is_some (chosen_place n s.blocks)) here) (has_room v (kept_name hs) s p.formed ws p.agrees blocks room)
+          ∙ ap₂ (reason_of false) (none room (some x e)) is)
 
       go : (o : Option Refusal) → why ≡ o → why ≡ reason blocks n s
       go None e = let c = t.0.0 e in e ∙ sym (ap₂ (λ a b. reason_of a b here) (has_room v (kept_name hs) s p.formed ws p.agrees blocks c.0) (some_chosen n c.1))

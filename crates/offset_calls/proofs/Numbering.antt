@@ -1,5 +1,6 @@
 -- The moves of a compaction, and the numbers of the ranges that move.
-use Rattle.std.proofs.Common.{◌≡◌, ℕ, zero, suc, ◌+◌, ◌-◌, ◌<◌, ◌≤◌, Bool, true, false, List, [], ◌∷◌, ◌++◌, map, drop, length, reverse, slice_index_or, Option, Some, None}
+use Rattle.std.proofs.Common.{◌≡◌, ℕ, zero, suc, ◌+◌, ◌-◌, ◌<◌, ◌≤◌, Bool, true, false, List, [], ◌∷◌, ◌++◌, map, drop, length, reverse, slice_index_or, Option}
+use Rattle.std.proofs.Common.{Some, None}
 use Rattle.std.proofs.Common.{option_map, unwrap_or, if◌then◌else◌, refl, sym, ap, ap₂, subst, subst₂, ◌∙◌, inl, inr, arith, append_assoc, append-nil, length-append, eq-eqb, ne_eqb}
 use Rattle.std.proofs.lemmas.Bool.{cases_eq, cases_lt, false≢true}
 use Rattle.std.proofs.lemmas.List.{map-append, length-map, reverse-append, get_or_past}
@@ -70,7 +71,8 @@ are_more (n ∷ ms) [] m x a e f g = absurd a
 are_more (n ∷ ms) (y ∷ xs) m x a e f g = (a.0, a.1, a.2, are_more ms xs m x a.3 e f g)
 
 -- numbers whose names are those of the moves
-numbers_join : (handles : List (Option Grant)) (ks : List ℕ) (ms : List Moved) (xs : List Move) → map (kept_name handles) ks ≡ names_of xs → AreMoves ms xs → AreNumbered handles xs (joined ks ms)
+numbers_join : (handles : List (Option Grant)) (ks : List ℕ) (ms : List Moved) (xs : List Move) → map (kept_name handles) ks ≡ names_of xs → AreMoves ms xs
+    → AreNumbered handles xs (joined ks ms)
 numbers_join handles [] [] [] e a = tt
 numbers_join handles (k ∷ ks) [] [] e a = tt
 numbers_join handles ks [] (x ∷ xs) e a = absurd a
@@ -166,14 +168,16 @@ pub kept-listing : (v : View) (handles : List (Option Grant)) → AreKept v hand
 kept-listing v handles a = kept-reverse handles (placed 0 v.blocks) (kept-placed handles 0 v.blocks a)
 
 -- one more walked block
-pub walk_used : (handles : List (Option Grant)) (ks : List ℕ) (k : ℕ) (p : Placed) (ps : List Placed) (g : Grant) (all : List (Option ℕ)) → map (kept_name handles) ks ++ placed_names (p ∷ ps) ≡ all
+pub walk_used : (handles : List (Option Grant)) (ks : List ℕ) (k : ℕ) (p : Placed) (ps : List Placed) (g : Grant) (all : List (Option ℕ))
+    → map (kept_name handles) ks ++ placed_names (p ∷ ps) ≡ all
     → p.grant ≡ Some g → kept_name handles k ≡ Some g.name
     → map (kept_name handles) (ks ++ k ∷ []) ++ placed_names ps ≡ all
 walk_used handles ks k p ps g all e f h = search (arith, map-append, map, append_assoc)
 
 map-reverse : {A B : Type 0} (f : A → B) (xs : List A) → map f (reverse xs) ≡ reverse (map f xs)
 map-reverse f [] = refl
-map-reverse f (x ∷ xs) = ap (map f) (reverse-append (x ∷ []) xs) ∙ map-append f (reverse xs) (x ∷ []) ∙ ap (λ l. l ++ f x ∷ []) (map-reverse f xs) ∙ sym (reverse-append (f x ∷ []) (map f xs))
+map-reverse f (x ∷ xs) = ap (map f) (reverse-append (x ∷ []) xs) ∙ map-append f (reverse xs) (x ∷ []) ∙ ap (λ l. l ++ f x ∷ []) (map-reverse f xs)
+    ∙ sym (reverse-append (f x ∷ []) (map f xs))
 
 -- all are walked
 pub walk_ends : (handles : List (Option Grant)) (ks left : List ℕ) (v : View) → map (kept_name handles) ks ++ [] ≡ placed_names (listing v) → left ≡ reverse ks
@@ -181,12 +185,15 @@ pub walk_ends : (handles : List (Option Grant)) (ks left : List ℕ) (v : View) 
 walk_ends handles ks left v e f = search (arith, map, map-reverse, reverse, append-nil, walked_names)
 
 -- the moves that a closure has seen
-pub collected : {P S N : Type 0} (R : P → Move → P → Type 0) (xs : List Move) (p q : P) → FoldsTo R p xs q → (see : P → S) (place : P → N) (is_refused : S → Bool) (found : S → List Moved)
+pub collected : {P S N : Type 0} (R : P → Move → P → Type 0) (xs : List Move) (p q : P) → FoldsTo R p xs q
+    → (see : P → S) (place : P → N) (is_refused : S → Bool) (found : S → List Moved)
     → ((p : P) (x : Move) (q : P) → R p x q
-    → (is_refused (see q) ≡ false → (is_refused (see p) ≡ false) × (m : Moved) × (m.from ≡ x.from) × (m.to ≡ x.to) × (m.size ≡ x.size) × (found (see q) ≡ found (see p) ++ m ∷ []))
+    → (is_refused (see q) ≡ false → (is_refused (see p) ≡ false) × (m : Moved) × (m.from ≡ x.from) × (m.to ≡ x.to) × (m.size ≡ x.size)
+    × (found (see q) ≡ found (see p) ++ m ∷ []))
     × (place q ≡ place p))
     → (is_refused (see q) ≡ false → (is_refused (see p) ≡ false) × ((ys : List Move) → AreMoves (found (see p)) ys → AreMoves (found (see q)) (ys ++ xs))) × (place q ≡ place p)
-collected R [] p q e see place is_refused found each = (λ h. (ap (λ x. is_refused (see x)) e ∙ h, λ ys a. subst₂ AreMoves (ap (λ x. found (see x)) e) (sym (append-nil ys)) a), ap place (sym e))
+collected R [] p q e see place is_refused found each =
+    (λ h. (ap (λ x. is_refused (see x)) e ∙ h, λ ys a. subst₂ AreMoves (ap (λ x. found (see x)) e) (sym (append-nil ys)) a), ap place (sym e))
 collected R (x ∷ xs) p q f see place is_refused found each =
     let one = each p x f.0 f.1 in
     let rest = collected R xs f.0 q f.2 see place is_refused found each in (
@@ -201,7 +208,8 @@ collected R (x ∷ xs) p q f see place is_refused found each =
     )
 
 -- a number that is not among the first ones
-pub not_found : (handles : List (Option Grant)) (x : ℕ) → ((i : ℕ) → i < length handles → option_map (λ (h : Grant). h.name) (slice_index_or handles i None) ≡ Some x → ⊥) → (k : ℕ)
+pub not_found : (handles : List (Option Grant)) (x : ℕ)
+    → ((i : ℕ) → i < length handles → option_map (λ (h : Grant). h.name) (slice_index_or handles i None) ≡ Some x → ⊥) → (k : ℕ)
     → kept_name handles k ≡ Some x → ⊥
 not_found handles x none zero e = cc
 not_found handles x none (suc k) e = search (arith, cases_lt, length, option_map, get_or_past)

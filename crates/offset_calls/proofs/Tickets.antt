@@ -60,7 +60,8 @@ pub alike_range : (t u : Ticket) (g : Guard) → AreAlike t u → range_of t g �
 alike_range t u g a = ap₂ (λ x b. if b then named.range_of x g.space else None) a.0 (ap₂ (λ r c. nat_eq r g.realm && c) a.2 (ap₂ nat_eq a.1 (ap (λ x. serial_of x g) a.0)))
 
 -- the handle of a ticket that is freed is removed
-pub freed_handles : (g h : Guard) (t u : Ticket) (realm n : ℕ) (ts : List Ticket) (i : ℕ) → AreInOrder realm n ts → slice_get ts i ≡ Some u → AreAlike u t → KeepsOthers t g h → range_of t h ≡ None
+pub freed_handles : (g h : Guard) (t u : Ticket) (realm n : ℕ) (ts : List Ticket) (i : ℕ) → AreInOrder realm n ts → slice_get ts i ≡ Some u → AreAlike u t
+    → KeepsOthers t g h → range_of t h ≡ None
     → handles_of h ts ≡ slice_set (handles_of g ts) i None
 freed_handles g h t u realm n [] i o e a k gone = absurd (cc)
 freed_handles g h t u realm n (x ∷ ts) zero o e a k gone =
@@ -124,12 +125,13 @@ same_live g h same t = search (arith, is_some, nat_eq)
 
 -- a request
 pub stored : (n : ℕ) (g h : Guard) (ts us : List Ticket) (r : Option Ticket) (a : machine.Answer) → IsLedger g ts → IfSome r (Grants n g h) → (r ≡ None → IsSame g h) → IsStored r ts us a
-    → IsKept (option_map grant_of r) (handles_of g ts) (handles_of h us) a × IsLedger h us × IsGrown ts us
+    → IsKept (option_map grant_of r) (handles_of g ts) (handles_of h us) a × IsLedger h us × IsGrown ts us (Answer a) × (h.realm ≡ g.realm)
 stored n g h ts us None a is some none f = search (arith, same_handles, same_live, same_ledger)
 stored n g h ts us (Some t) a is some none f = (
   (ap (handles_of h) f.0 ∙ more_handles n g h ts t is some, f.1 ∙ ap (λ k. machine.Grant k t.offset) (sym (length-map us (handle_of h)))),
   subst (IsLedger h) (sym f.0) (more_ledger n g h ts t is some),
-  inr (t, f.0),
+  inr (t, f.0, ap Answer (f.1 ∙ ap (λ k. machine.Grant k t.offset) (ap length f.0 ∙ omega (arith, length-append ts (t ∷ []), is.all, some.serial)))),
+  some.realm.1,
 )
 
 -- the live name of a live ticket
@@ -141,7 +143,8 @@ pub alike : (t u : Ticket) (g : Guard) → IsLive t g → IsLive u g → u.name 
 alike t u g lt lu e = search (arith, live_fits)
 
 -- a release
-pub freed : (g h : Guard) (ts : List Ticket) (t : Ticket) (k : ℕ) → IsLedger g ts → IsNumberOf k (Some t) g ts → IsLive t g → Frees t.name g.space h.space → KeepsOthers t g h → range_of t h ≡ None
+pub freed : (g h : Guard) (ts : List Ticket) (t : Ticket) (k : ℕ) → IsLedger g ts → IsNumberOf k (Some t) g ts → IsLive t g → Frees t.name g.space h.space
+    → KeepsOthers t g h → range_of t h ≡ None
     → h ≡ record g { space = h.space }
     → Serves (call.Command (command.Free k)) g ts h ts (Answer machine.Freed)
 freed g h ts t k is is_number live frees others gone same = search (arith, if_some, same_ledger, live_named_by, kept_ticket, slice_set, freed_handles, alike)
@@ -168,6 +171,7 @@ refusal_serves g ts c k n v why is e f r = subst (λ c. Serves (renumber (λ j. 
   takes = ((refl, refl), (why, subst (λ v. IsReason 1 n v why) f r, refl));
   ledger = is;
   grown = inl refl;
+  realm = refl;
 })
 
 pub refusal_aligned_serves : (g : Guard) (ts : List Ticket) (c : Call) (k n align : ℕ) (v : View) (why : Option Refusal) → IsLedger g ts → c ≡ call.RefusalAligned n align → v ≡ g.space
@@ -177,6 +181,7 @@ refusal_aligned_serves g ts c k n align v why is e f r = subst (λ c. Serves (re
   takes = ((refl, refl), (why, subst (λ v. IsReason (blocks_needed align) (units_needed n align) v why) f r, refl));
   ledger = is;
   grown = inl refl;
+  realm = refl;
 })
 
 -- a full report

@@ -1,5 +1,6 @@
 -- Which tickets are live, and what a grant leaves of them.
-use Rattle.std.proofs.Common.{◌≡◌, ◌≢◌, ℕ, ◌+◌, ◌<◌, ◌≤◌, length, Bool, true, false, ◌&&◌, List, [], ◌∷◌, Option, Some, None, IsSome, nat_eq, option_map, slice_set, if◌then◌else◌, refl, sym}
+use Rattle.std.proofs.Common.{◌≡◌, ◌≢◌, ℕ, ◌+◌, ◌<◌, ◌≤◌, length, Bool, true, false, ◌&&◌, List, [], ◌∷◌, Option, Some, None, IsSome, nat_eq, option_map}
+use Rattle.std.proofs.Common.{slice_set, if◌then◌else◌, refl, sym}
 use Rattle.std.proofs.Common.{ap, ap₂, subst, ◌∙◌, inl, inr, arith, eq-eqb, ne_eqb}
 use Rattle.std.proofs.lemmas.Bool.{cases_eq, eqb-true, and_parts}
 use Rattle.std.proofs.lemmas.List.{get_or-set_same, get_or-set_other}
@@ -63,7 +64,8 @@ pub is_named : (x : ℕ) (v : View) → named.IsLive x v → 1 ≤ count_named x
 is_named x v h = elim (cases_eq (count_named x v.blocks) 0) [ inl e ↦ absurd (no_range x v e h) | inr n ↦ omega arith ]
 
 -- no ticket with a name above the largest is live
-pub no_such : (max : ℕ) (ticket : Ticket) (g : Guard) (v : View) (t : Table) (realm : ℕ) → guard v t realm ≡ g → v.max_allocs < max → IsWellFormed v → max ≤ ticket.name → IsLive ticket g → ⊥
+pub no_such : (max : ℕ) (ticket : Ticket) (g : Guard) (v : View) (t : Table) (realm : ℕ) → guard v t realm ≡ g → v.max_allocs < max → IsWellFormed v
+    → max ≤ ticket.name → IsLive ticket g → ⊥
 no_such max ticket g v t realm shows admitted w above h = no_range ticket.name v (w.below ticket.name (omega arith)) (live_name ticket (guard v t realm) (subst (IsLive ticket) (sym shows) h))
 
 -- the serials after one more

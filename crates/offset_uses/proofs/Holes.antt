@@ -1,5 +1,6 @@
 -- Free blocks, counted along a walk over the blocks.
-use Rattle.std.proofs.Common.{◌≡◌, ℕ, ◌+◌, ◌<◌, ◌≤◌, Bool, true, false, is_some, slice_index, slice_set, get_or-set_same, get_or-set_other, List, [], ◌∷◌, ◌++◌, length, reverse, nat_eq}
+use Rattle.std.proofs.Common.{◌≡◌, ℕ, ◌+◌, ◌<◌, ◌≤◌, Bool, true, false, is_some, slice_index, slice_set, get_or-set_same, get_or-set_other, List, [], ◌∷◌, ◌++◌, length}
+use Rattle.std.proofs.Common.{reverse, nat_eq}
 use Rattle.std.proofs.Common.{if◌then◌else◌, refl, ap, ◌∙◌, arith}
 use Rattle.std.proofs.lemmas.Bool.Decides.{eqb_tells}
 use Rattle.std.proofs.lemmas.List.{reverse-append}

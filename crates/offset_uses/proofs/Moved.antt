@@ -1,5 +1,6 @@
 -- What the copies of the moves leave under each handle.
-use Rattle.std.proofs.Common.{◌≡◌, ℕ, ◌+◌, ◌<◌, ◌≤◌, Bool, true, false, Option, Some, None, List, [], ◌∷◌, ◌++◌, length, slice_index_or, if◌then◌else◌, nat_eq, option_map, option_and_then, refl}
+use Rattle.std.proofs.Common.{◌≡◌, ℕ, ◌+◌, ◌<◌, ◌≤◌, Bool, true, false, Option, Some, None, List, [], ◌∷◌, ◌++◌, length, slice_index_or, if◌then◌else◌, nat_eq}
+use Rattle.std.proofs.Common.{option_map, option_and_then, refl}
 use Rattle.std.proofs.Common.{sym, ap, subst, ◌∙◌, inl, inr, arith}
 use Rattle.std.specs.Bool.{⊤}
 use Rattle.std.specs.List.{FoldsTo}
@@ -94,7 +95,8 @@ found_from x n o (b ∷ bs) l =
     ]
 
 -- what the bytes from an offset on are does not change what ranges there hold
-holds_from : (n : ℕ) (ws xs ys : List ℕ) (q r : Option Range) → ((i d : ℕ) → n ≤ i → slice_index_or xs i d ≡ slice_index_or ws i d) → IsFrom n q → HasSameBytes xs ys q r → HasSameBytes ws ys q r
+holds_from : (n : ℕ) (ws xs ys : List ℕ) (q r : Option Range) → ((i d : ℕ) → n ≤ i → slice_index_or xs i d ≡ slice_index_or ws i d) → IsFrom n q
+    → HasSameBytes xs ys q r → HasSameBytes ws ys q r
 holds_from n ws xs ys None None e l h = tt
 holds_from n ws xs ys None (Some s) e l h = h
 holds_from n ws xs ys (Some q) None e l h = h
@@ -103,19 +105,22 @@ holds_from n ws xs ys (Some q) (Some s) e l h = (h.0, λ i d m. h.1 i d m ∙ e 
 -- one move, or none where a block stays
 step : (from to : ℕ) (b : Block) (ws ys : List ℕ) (ms : List Move) → FoldsTo (λ xs (m : Move) zs. IsCopied m.from m.to m.size xs zs) ws (move_of from to b ++ ms) ys
     → to ≤ from → from + b.size ≤ length ws
-    → (xs : List ℕ) × (length xs ≡ length ws) × ((i d : ℕ) → i < to → slice_index_or xs i d ≡ slice_index_or ws i d) × ((i d : ℕ) → to + b.size ≤ i → slice_index_or xs i d ≡ slice_index_or ws i d)
+    → (xs : List ℕ) × (length xs ≡ length ws) × ((i d : ℕ) → i < to → slice_index_or xs i d ≡ slice_index_or ws i d)
+    × ((i d : ℕ) → to + b.size ≤ i → slice_index_or xs i d ≡ slice_index_or ws i d)
     × ((i d : ℕ) → i < b.size → slice_index_or xs (to + i) d ≡ slice_index_or ws (from + i) d) × FoldsTo (λ xs (m : Move) zs. IsCopied m.from m.to m.size xs zs) xs ms ys
 step from to b ws ys ms f l fits = search (arith, cases_eq, nat_eq, nat_tests, slice_index_or)
 
 -- the moves of blocks that begin at an offset, packed from another one on
-pub moved : (from to : ℕ) (bs : List Block) (ws ys : List ℕ) → FoldsTo (λ xs (m : Move) zs. IsCopied m.from m.to m.size xs zs) ws (moves from to bs) ys → to ≤ from → from + units bs ≤ length ws
+pub moved : (from to : ℕ) (bs : List Block) (ws ys : List ℕ) → FoldsTo (λ xs (m : Move) zs. IsCopied m.from m.to m.size xs zs) ws (moves from to bs) ys → to ≤ from
+    → from + units bs ≤ length ws
     → (length ys ≡ length ws) × ((i d : ℕ) → i < to → slice_index_or ys i d ≡ slice_index_or ws i d)
     × ((x y : ℕ) (ns : List ℕ) → count_named x bs ≤ 1 → HasSameBytes ws ys (found x from bs) (found x to (live bs ++ gathered y ns)))
 moved from to [] ws ys f l fits = search (arith, length, slice_index_or, found_gathered)
 moved from to (b ∷ bs) ws ys f l fits = go b.used refl (λ t xs. moved (from + b.size) t bs xs ys)
   where
     go : (u : Bool) → b.used ≡ u
-        → ((t : ℕ) (xs : List ℕ) → FoldsTo (λ xs (m : Move) zs. IsCopied m.from m.to m.size xs zs) xs (moves (from + b.size) t bs) ys → t ≤ from + b.size → (from + b.size) + units bs ≤ length xs
+        → ((t : ℕ) (xs : List ℕ) → FoldsTo (λ xs (m : Move) zs. IsCopied m.from m.to m.size xs zs) xs (moves (from + b.size) t bs) ys → t ≤ from + b.size
+        → (from + b.size) + units bs ≤ length xs
         → (length ys ≡ length xs) × ((i d : ℕ) → i < t → slice_index_or ys i d ≡ slice_index_or xs i d)
         × ((x y : ℕ) (ns : List ℕ) → count_named x bs ≤ 1 → HasSameBytes xs ys (found x (from + b.size) bs) (found x t (live bs ++ gathered y ns))))
         → (length ys ≡ length ws) × ((i d : ℕ) → i < to → slice_index_or ys i d ≡ slice_index_or ws i d)
@@ -148,12 +153,14 @@ pub copies_keep : (ms : List Move) (xs ys : List ℕ) → FoldsTo (λ xs (m : Mo
 copies_keep [] xs ys f = ap (λ (k : List ℕ). length k) (sym f)
 copies_keep (m ∷ ms) xs ys f = copies_keep ms f.0 ys f.2 ∙ (let c : IsCopied m.from m.to m.size xs f.0 = f.1 in c.len)
 
-pub compacted_holds : (v w : View) (xs ys : List ℕ) → IsWellFormed v → Compacts v w → v.size ≤ length xs → FoldsTo (λ xs (m : Move) zs. IsCopied m.from m.to m.size xs zs) xs (moves 0 0 v.blocks) ys
+pub compacted_holds : (v w : View) (xs ys : List ℕ) → IsWellFormed v → Compacts v w → v.size ≤ length xs
+    → FoldsTo (λ xs (m : Move) zs. IsCopied m.from m.to m.size xs zs) xs (moves 0 0 v.blocks) ys
     → (length ys ≡ length xs) × ((x : ℕ) → HasSameBytes xs ys (range_of x v) (range_of x w))
 compacted_holds v w xs ys well c fits f = search (arith, moved, range_found)
 
 -- calls of a closure, seen by what it borrowed: this is changed step by step, and stays the same reference
-pub calls_seen : {P A S N : Type 0} (R : P → A → P → Type 0) (T : S → A → S → Type 0) (see : P → S) (place : P → N) → ((p : P) (x : A) (q : P) → R p x q → T (see p) x (see q) × (place q ≡ place p))
+pub calls_seen : {P A S N : Type 0} (R : P → A → P → Type 0) (T : S → A → S → Type 0) (see : P → S) (place : P → N)
+    → ((p : P) (x : A) (q : P) → R p x q → T (see p) x (see q) × (place q ≡ place p))
     → (xs : List A) (p q : P) → FoldsTo R p xs q → FoldsTo T (see p) xs (see q) × (place q ≡ place p)
 calls_seen R T see place each [] p q e = (ap see e, ap place (sym e))
 calls_seen R T see place each (x ∷ xs) p q f =
