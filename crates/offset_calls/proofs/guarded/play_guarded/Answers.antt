@@ -17,7 +17,7 @@ loop-call-preserved g c =
     let within : i < length cs = omega arith in
     goes_on c.args.size c.args.max_allocs c.args.realm c.requires.low c.loop-call.desk.space c.reply.new.desk.space ts c.reply.new.desk.tickets.items cs i _
     c.loop-call.replies.items _ c.in_ok-reply.reply
-    c.loop-call.invariant.ledger c.loop-call.invariant.few c.loop-call.invariant.played c.loop-call.invariant.realm
+    c.loop-call.invariant.ledger c.loop-call.invariant.few c.loop-call.invariant.played c.loop-call.invariant.realm c.loop-call.invariant.granted
     (subst IsWellFormed c.allocator-in-loop-call.ensures c.is_well_formed-in-loop-call.ensures) within
     c.requires.valid c.in_ok-push.ensures.items c.deref.result.now c.passed-ticket.result c.deref.ensures.value c.passed-ticket.ensures c.in_ok-reply.ensures
 
