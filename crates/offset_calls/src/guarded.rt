@@ -96,7 +96,8 @@ pub fn play_guarded<NI: NodeIndex>(
     ensures tickets { IfOk result (λ p. AreInOrder realm 0 p.tickets.items) }
     ensures count { IfOk result (λ p. length p.tickets.items
         ≡ (after (map (meant p.tickets.items) calls.now) (start size max_allocs)).grants) }
-    ensures offsets { IfOk result (λ p. All (IsGrantOf (map reply_view p.replies.items)) p.tickets.items) }
+    ensures offsets { IfOk result (λ p.
+        All (IsGrantOf (map reply_view p.replies.items)) p.tickets.items) }
 {
     let mut desk: Desk<NI> = Desk {
         space: Guarded::with_max_allocs(alloc, size, max_allocs, realm)?,

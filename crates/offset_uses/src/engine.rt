@@ -48,7 +48,8 @@ pub fn upload_both(
         → IsTrue (is_power_of_two align) × IsTrue (is_power_of_two other_align) }
     ensures granted { IfSome result (λ r. (v : View) × Aligns size align heap.old v (Some r.0)
         × Aligns other_size other_align v heap.new (Some r.1)) }
-    ensures refused { result ≡ None → IsTrue (is_power_of_two align) → IsTrue (is_power_of_two other_align)
+    ensures refused { result ≡ None
+        → IsTrue (is_power_of_two align) → IsTrue (is_power_of_two other_align)
         → ((v : View) × Aligns size align heap.old v None)
         ⊎ ((v w : View) × (g : Grant) × Aligns size align heap.old v (Some g)
         × Aligns other_size other_align v w None) }
