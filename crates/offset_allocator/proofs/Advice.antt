@@ -1,5 +1,6 @@
 -- What the reasons of refusals advise: that `compact` makes room, or that a fresh space would not.
-use Rattle.std.proofs.Common.{◌≡◌, ◌≢◌, ◌↔◌, ℕ, suc, ◌+◌, ◌*◌, ◌^◌, ◌<◌, ◌≤◌, true, false, List, [], ◌∷◌, ◌++◌, length, sum, replicate, if◌then◌else◌, refl, sym, ap, subst, ◌∙◌, inl, inr, arith, length-append}
+use Rattle.std.proofs.Common.{◌≡◌, ◌≢◌, ◌↔◌, ℕ, suc, ◌+◌, ◌*◌, ◌^◌, ◌<◌, ◌≤◌, true, false, List, [], ◌∷◌, ◌++◌, length, sum, replicate}
+use Rattle.std.proofs.Common.{if◌then◌else◌, refl, sym, ap, subst, ◌∙◌, inl, inr, arith, length-append}
 use Rattle.std.specs.List.{AllByRecursion}
 use Rattle.std.proofs.lemmas.Bool.{cases_lt, cases_eq}
 use Rattle.std.proofs.lemmas.List.{length-replicate}
@@ -60,7 +61,8 @@ packed_fewer x bs = omega (arith, length-append (live bs) (gathered x (free_size
     parts [] = refl
     parts (b ∷ bs) =
         let ih = parts bs in
-        elim b.used as (λ u. length (if u then b ∷ live bs else live bs) + length (if u then free_sizes bs else b.size ∷ free_sizes bs) ≡ suc (length bs)) [ true ↦ omega (arith, ih) | false ↦ omega (arith, ih) ]
+        elim b.used as (λ u. length (if u then b ∷ live bs else live bs) + length (if u then free_sizes bs else b.size ∷ free_sizes bs) ≡ suc (length bs))
+        [ true ↦ omega (arith, ih) | false ↦ omega (arith, ih) ]
 
 module _ (v : View) (w : IsWellFormed v) (blocks n : ℕ) (room : HasRoomFor blocks v) where
   -- what compaction leaves

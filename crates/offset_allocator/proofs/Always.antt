@@ -1,5 +1,6 @@
 -- Sums and bounds of a well formed view.
-use Rattle.std.proofs.Common.{◌≡◌, ℕ, ◌+◌, ◌<◌, ◌≤◌, Bool, true, false, not, ◌&&◌, ◌↔◌, List, [], ◌∷◌, ◌++◌, length, sum, if◌then◌else◌, refl, sym, ap, ap₂, subst, ◌∙◌, arith, le-leb, true≢false}
+use Rattle.std.proofs.Common.{◌≡◌, ℕ, ◌+◌, ◌<◌, ◌≤◌, Bool, true, false, not, ◌&&◌, ◌↔◌, List, [], ◌∷◌, ◌++◌, length, sum, if◌then◌else◌, refl, sym, ap}
+use Rattle.std.proofs.Common.{ap₂, subst, ◌∙◌, arith, le-leb, true≢false}
 use Rattle.std.specs.List.{AllByRecursion}
 use Rattle.std.proofs.lemmas.List.Sums.{sum_by-cons}
 use Rattle.offset_allocator.specs.Classes.{value, up, down}
@@ -17,7 +18,8 @@ parted [] = refl
 parted (b ∷ bs) =
     let ih = parted bs in
     let e : sum (b.size ∷ free_sizes bs) ≡ b.size + sum (free_sizes bs) = sum_by-cons (λ n. n) b.size (free_sizes bs) in
-    elim b.used as (λ u. ((if u then b.size else 0) + used_units bs) + sum (if u then free_sizes bs else b.size ∷ free_sizes bs) ≡ b.size + units bs) [ true ↦ omega (arith, ih) | false ↦ omega (arith, e, ih) ]
+    elim b.used as (λ u. ((if u then b.size else 0) + used_units bs) + sum (if u then free_sizes bs else b.size ∷ free_sizes bs) ≡ b.size + units bs)
+    [ true ↦ omega (arith, ih) | false ↦ omega (arith, e, ih) ]
 
 pub adds_up : (v : View) → IsWellFormed v → used_units v.blocks + sum (free_sizes v.blocks) ≡ v.size
 adds_up v w = parted v.blocks ∙ w.whole

@@ -1,5 +1,6 @@
 -- The bins after a change of one of them.
-use Rattle.std.proofs.Common.{◌≡◌, ◌≢◌, ◌<◌, ◌≤◌, ◌+◌, ◌⊎◌, ℕ, List, [], ◌∷◌, ◌++◌, map, refl, sym, ap, subst, ◌∙◌, inl, inr, arith, length, drop, slice_index, slice_set}
+use Rattle.std.proofs.Common.{◌≡◌, ◌≢◌, ◌<◌, ◌≤◌, ◌+◌, ◌⊎◌, ℕ, List, [], ◌∷◌, ◌++◌, map, refl, sym, ap, subst, ◌∙◌, inl, inr, arith, length, drop}
+use Rattle.std.proofs.Common.{slice_index, slice_set}
 use Rattle.std.proofs.lemmas.Bool.{cases_eq}
 use Rattle.std.proofs.lemmas.List.{length-set, length-map, get_or-set_same, get_or-set_other, get_or-map, ext_get_or, set-get_or, set-set, set_comm}
 use Rattle.offset_allocator.specs.Cells.{Links}
@@ -8,7 +9,8 @@ use Rattle.offset_allocator.specs.Bins.{IsLinked, Among, flag, first_of, walk, H
 use Rattle.offset_allocator.proofs.Masks.{masked_same, flag_full}
 use Rattle.offset_allocator.proofs.Tallies.{hit_cases, one-same, times-join}
 use Rattle.offset_allocator.proofs.ViewOrders.{names_same, names_other, times_without_le, unlisted_removed}
-use Rattle.offset_allocator.proofs.Walks.{name_below, older_below, chain_fits, walk_is, IsLater, found, kept, led, not_first, first_same, newer_kept, next_among, older_kept, unlinked, without_first, without_later}
+use Rattle.offset_allocator.proofs.Walks.{name_below, older_below, chain_fits, walk_is, IsLater, found, kept, led, not_first, first_same, newer_kept, next_among, older_kept, unlinked, without_first}
+use Rattle.offset_allocator.proofs.Walks.{without_later}
 
 module _ {none : ℕ} {t : Links} {ls : List (List ℕ)} (k : HasBins none t ls) where
   pub single : (c : ℕ) → c < 256 → (x : ℕ) → times x (bin_at ls c) ≤ 1
@@ -30,8 +32,10 @@ module _ {none : ℕ} {t : Links} {ls : List (List ℕ)} (k : HasBins none t ls)
       ∙ walk_is none t k.names_small (length t.older) none (bin_at ls c) (omega (arith, k.older_len, fits c ch)) (k.chains c ch))
 
   -- class c has the names ys: only links of names that it has or had are written
-  relisted : (c : ℕ) → c < 256 → (t' : Links) (ys : List ℕ) → length t'.newer ≡ length t.newer → length t'.older ≡ length t.older → t'.heads ≡ slice_set t.heads c (first_of none ys) → IsLinked none t' none ys
-      → ((y : ℕ) → y < length t.newer → times y ys ≡ 0 → times y (bin_at ls c) ≡ 0 → (slice_index t'.newer y ≡ slice_index t.newer y) × (slice_index t'.older y ≡ slice_index t.older y))
+  relisted : (c : ℕ) → c < 256 → (t' : Links) (ys : List ℕ) → length t'.newer ≡ length t.newer → length t'.older ≡ length t.older
+      → t'.heads ≡ slice_set t.heads c (first_of none ys) → IsLinked none t' none ys
+      → ((y : ℕ) → y < length t.newer → times y ys ≡ 0 → times y (bin_at ls c) ≡ 0 → (slice_index t'.newer y ≡ slice_index t.newer y)
+      × (slice_index t'.older y ≡ slice_index t.older y))
       → ((y d : ℕ) → d < 256 → d ≢ c → times y ys + times y (bin_at ls d) ≤ 1) → HasBins none t' (slice_set ls c ys)
   relisted c ch t' ys nl ol hd chain same new =
       let ll = k.lists_len in
@@ -49,7 +53,8 @@ module _ {none : ℕ} {t : Links} {ls : List (List ℕ)} (k : HasBins none t ls)
         ];
         chains = λ d h. elim (cases_eq d c) [
           | inl e ↦ rw (here d e) chain
-          | inr n ↦ rw (other d n) (kept none t t' nl none (bin_at ls d) (λ y a. same y (name_below none t k.names_small none (bin_at ls d) (k.chains d h) y a) (omega (arith, new y d h n)) (omega (arith, k.once d c y h ch n))) (k.chains d h))
+          | inr n ↦ rw (other d n) (kept none t t' nl none (bin_at ls d) (λ y a. same y (name_below none t k.names_small none (bin_at ls d) (k.chains d h) y a) (omega (arith, new y d h n))
+              (omega (arith, k.once d c y h ch n))) (k.chains d h))
         ];
         once = λ d e x dh eh n. elim (cases_eq d c) [
           | inl p ↦ let m : e ≢ c = λ q. n (p ∙ sym q) in rw (here d p, other e m) (new x e eh m)
@@ -79,7 +84,8 @@ module _ {none : ℕ} {t : Links} {ls : List (List ℕ)} (k : HasBins none t ls)
     head_small = elim (cases_eq (slice_index t.heads c) none) [ inl e ↦ omega (arith, e) | inr n ↦ omega (arith, head_below n, k.names_small) ]
 
     pub without_head : bin_at ls c ≢ [] → without (slice_index t.heads c) (bin_at ls c) ≡ drop 1 (bin_at ls c)
-    without_head f = let e = (head f).0 in ap (without (slice_index t.heads c)) e ∙ without_first (slice_index t.heads c) (drop 1 (bin_at ls c)) (let o = ap (times (slice_index t.heads c)) e in omega (arith, single c ch (slice_index t.heads c)))
+    without_head f = let e = (head f).0 in ap (without (slice_index t.heads c)) e ∙ without_first (slice_index t.heads c) (drop 1 (bin_at ls c)) (let o = ap (times (slice_index t.heads c)) e in
+        omega (arith, single c ch (slice_index t.heads c)))
 
     -- whether names are left
     pub none_left : (xs : List ℕ) (b : ℕ) → IsLinked none t b xs → first_of none xs ≡ none → xs ≡ []
@@ -89,7 +95,8 @@ module _ {none : ℕ} {t : Links} {ls : List (List ℕ)} (k : HasBins none t ls)
     pub is_first : (x : ℕ) → Among x (bin_at ls c) → slice_index t.newer x ≡ none → (bin_at ls c ≢ []) × (slice_index t.heads c ≡ x)
     is_first x a e = elim (found none t k.names_small none x (bin_at ls c) (k.chains c ch) a) [
       | inl f ↦ (λ n. let q = ap (times x) n in omega arith, k.heads c ch ∙ ap (first_of none) f.1)
-      | inr f ↦ absurd (let l = name_below none t k.names_small none (bin_at ls c) (k.chains c ch) none (rw (f.is, e) (omega (arith, times-join none f.front (none ∷ x ∷ f.rest), one-same none))) in omega (arith, k.names_small))
+      | inr f ↦ absurd (let l = name_below none t k.names_small none (bin_at ls c) (k.chains c ch) none
+          (rw (f.is, e) (omega (arith, times-join none f.front (none ∷ x ∷ f.rest), one-same none))) in omega (arith, k.names_small))
     ]
 
     pub below : (x : ℕ) → Among x (bin_at ls c) → x < length t.newer
@@ -110,7 +117,8 @@ module _ {none : ℕ} {t : Links} {ls : List (List ℕ)} (k : HasBins none t ls)
         let w : ℕ = slice_index t.newer x in
         below w (omega (arith, ap (times w) f.is, times-join w f.front (w ∷ x ∷ f.rest), one-same w))
 
-    pub later_masked : (x : ℕ) {masks : List ℕ} {top : ℕ} → Among x (bin_at ls c) → slice_index t.newer x ≢ none → AreMasks ls masks top → AreMasks (slice_set ls c (without x (bin_at ls c))) masks top
+    pub later_masked : (x : ℕ) {masks : List ℕ} {top : ℕ} → Among x (bin_at ls c) → slice_index t.newer x ≢ none → AreMasks ls masks top
+        → AreMasks (slice_set ls c (without x (bin_at ls c))) masks top
     later_masked x a n m =
         let f = is_later x a n in
         let is = ap (without x) f.is ∙ without_later x (slice_index t.newer x) f.front f.rest (let o = ap (times x) f.is in omega (arith, single c ch x)) in
@@ -123,13 +131,15 @@ module _ {none : ℕ} {t : Links} {ls : List (List ℕ)} (k : HasBins none t ls)
     -- ---- changes
     module _ (t' : Links) where
       -- x becomes the first name of the class
-      pub pushed : (x : ℕ) → x < length t.newer → IsUnlisted x ls → t'.newer ≡ slice_set (slice_set t.newer x none) (slice_index t.heads c) x → t'.older ≡ slice_set t.older x (slice_index t.heads c) → t'.heads ≡ slice_set t.heads c x → HasBins none t' (slice_set ls c (x ∷ bin_at ls c))
+      pub pushed : (x : ℕ) → x < length t.newer → IsUnlisted x ls → t'.newer ≡ slice_set (slice_set t.newer x none) (slice_index t.heads c) x
+          → t'.older ≡ slice_set t.older x (slice_index t.heads c) → t'.heads ≡ slice_set t.heads c x → HasBins none t' (slice_set ls c (x ∷ bin_at ls c))
       pushed x l fresh newer older heads =
           let h : ℕ = slice_index t.heads c in
           let long : length t'.newer ≡ length t.newer = rw newer (length-set (slice_set t.newer x none) h x ∙ length-set t.newer x none) in
           let absent : times x (bin_at ls c) ≡ 0 = omega (arith, fresh c ch) in
           let ns = k.names_small in
-          let newer_kept : (y : ℕ) → y ≢ x → y ≢ h → slice_index t'.newer y ≡ slice_index t.newer y = λ y n m. rw newer (get_or-set_other (slice_set t.newer x none) h y x 0 m ∙ get_or-set_other t.newer x y none 0 n) in
+          let newer_kept : (y : ℕ) → y ≢ x → y ≢ h → slice_index t'.newer y ≡ slice_index t.newer y =
+          λ y n m. rw newer (get_or-set_other (slice_set t.newer x none) h y x 0 m ∙ get_or-set_other t.newer x y none 0 n) in
           let older_kept : (y : ℕ) → y ≢ x → slice_index t'.older y ≡ slice_index t.older y = λ y n. rw older (get_or-set_other t.older x y h 0 n) in
           let head = k.heads c ch in
           let apart : (y : ℕ) → Among y (bin_at ls c) → y ≢ x = λ y a e. let q = ap (λ i. times i (bin_at ls c)) e in omega arith in
@@ -138,27 +148,35 @@ module _ {none : ℕ} {t : Links} {ls : List (List ℕ)} (k : HasBins none t ls)
             omega arith,
             rw newer (get_or-set_other (slice_set t.newer x none) h x x 0 (not_head x l absent) ∙ get_or-set_same t.newer x none 0 l),
             rw older (get_or-set_same t.older x h 0 (omega (arith, k.older_len))) ∙ head,
-            led none t t' long none x (bin_at ls c) (single c ch) (linked_back (bin_at ls c) (k.chains c ch) head) (λ y a n. newer_kept y (apart y a) (λ e. n (e ∙ head))) (λ y a. older_kept y (apart y a)) (k.chains c ch),
+            led none t t' long none x (bin_at ls c) (single c ch) (linked_back (bin_at ls c) (k.chains c ch) head) (λ y a n. newer_kept y (apart y a) (λ e. n (e ∙ head)))
+                (λ y a. older_kept y (apart y a)) (k.chains c ch),
           )
           (λ y b u v. let n : y ≢ x = λ e. let q = ap (λ i. times i (x ∷ [])) e in omega (arith, one-same x) in (newer_kept y n (not_head y b v), older_kept y n))
-          (λ y d dh n. elim (hit_cases y x) [ inl i ↦ let q = ap (λ j. times j (bin_at ls d)) i.0 in let p = ap (λ j. times j (bin_at ls c)) i.0 in omega (arith, i.1, fresh d dh) | inr i ↦ omega (arith, i.1, k.once d c y dh ch n) ])
+          (λ y d dh n. elim (hit_cases y x) [
+            | inl i ↦ let q = ap (λ j. times j (bin_at ls d)) i.0 in let p = ap (λ j. times j (bin_at ls c)) i.0 in
+                omega (arith, i.1, fresh d dh)
+            | inr i ↦ omega (arith, i.1, k.once d c y dh ch n)
+          ])
         where
           linked_back : (xs : List ℕ) → IsLinked none t none xs → slice_index t.heads c ≡ first_of none xs → slice_index t'.newer (first_of none xs) ≡ x ⊎ (xs ≡ [])
           linked_back [] d e = inr refl
           linked_back (y ∷ xs) d e = inl (rw (newer, ← e) (get_or-set_same (slice_set t.newer x none) (slice_index t.heads c) x 0 (omega (arith, d.0, length-set t.newer x none))))
 
       -- the first name leaves
-      pub beheaded : (after : ℕ) → bin_at ls c ≢ [] → after ≡ slice_index t.older (slice_index t.heads c) → t'.newer ≡ slice_set t.newer after none → t'.older ≡ t.older → t'.heads ≡ slice_set t.heads c after → HasBins none t' (slice_set ls c (drop 1 (bin_at ls c)))
+      pub beheaded : (after : ℕ) → bin_at ls c ≢ [] → after ≡ slice_index t.older (slice_index t.heads c) → t'.newer ≡ slice_set t.newer after none → t'.older ≡ t.older
+          → t'.heads ≡ slice_set t.heads c after → HasBins none t' (slice_set ls c (drop 1 (bin_at ls c)))
       beheaded after full next newer older heads =
           let xs : List ℕ = drop 1 (bin_at ls c) in
           let h = head full in
           let first : after ≡ first_of none xs = next ∙ h.1.2 in
           let few : (y : ℕ) → times y xs ≤ times y (bin_at ls c) = λ y. let e = ap (times y) h.0 in omega arith in
           let long : length t'.newer ≡ length t.newer = rw newer (length-set t.newer after none) in
-          let newer_kept : (y : ℕ) → y ≢ first_of none xs → slice_index t'.newer y ≡ slice_index t.newer y = λ y n. rw newer (get_or-set_other t.newer after y none 0 (λ s. n (s ∙ first))) in
+          let newer_kept : (y : ℕ) → y ≢ first_of none xs → slice_index t'.newer y ≡ slice_index t.newer y =
+          λ y n. rw newer (get_or-set_other t.newer after y none 0 (λ s. n (s ∙ first))) in
           let ns = k.names_small in
           relisted c ch t' xs long (rw older) (rw first at heads)
-          (led none t t' long (slice_index t.heads c) none xs (λ y. omega (arith, few y, single c ch y)) (linked_back xs first (slice_index t.heads c) h.1.3) (λ y a n. newer_kept y n) (λ y a. rw older) h.1.3)
+          (led none t t' long (slice_index t.heads c) none xs (λ y. omega (arith, few y, single c ch y)) (linked_back xs first (slice_index t.heads c) h.1.3)
+          (λ y a n. newer_kept y n) (λ y a. rw older) h.1.3)
           (λ y b u v. (newer_kept y (not_first y xs (omega arith) u), rw older))
           (λ y e eh n. omega (arith, few y, k.once e c y eh ch n))
         where
@@ -167,7 +185,8 @@ module _ {none : ℕ} {t : Links} {ls : List (List ℕ)} (k : HasBins none t ls)
           linked_back (y ∷ xs) e b d = inl (rw (newer, ← e) (get_or-set_same t.newer after none 0 (omega (arith, d.0))))
 
       -- a later name leaves
-      pub left : (x before after : ℕ) → IsLater none t k.names_small x (bin_at ls c) → before ≡ slice_index t.newer x → after ≡ slice_index t.older x → t'.newer ≡ slice_set t.newer after before → t'.older ≡ slice_set t.older before after → t'.heads ≡ t.heads → HasBins none t' (slice_set ls c (without x (bin_at ls c)))
+      pub left : (x before after : ℕ) → IsLater none t k.names_small x (bin_at ls c) → before ≡ slice_index t.newer x → after ≡ slice_index t.older x
+          → t'.newer ≡ slice_set t.newer after before → t'.older ≡ slice_set t.older before after → t'.heads ≡ t.heads → HasBins none t' (slice_set ls c (without x (bin_at ls c)))
       left x before after f be af newer older heads =
           let w : ℕ = slice_index t.newer x in
           let ns = k.names_small in
@@ -177,12 +196,15 @@ module _ {none : ℕ} {t : Links} {ls : List (List ℕ)} (k : HasBins none t ls)
           let first : after ≡ first_of none f.rest = af ∙ rest_first f.front none chain in
           let newer' : t'.newer ≡ slice_set t.newer (first_of none f.rest) w = rw (← first, ← be) newer in
           let older' : t'.older ≡ slice_set t.older w (first_of none f.rest) = rw (← first, ← be) older in
-          let head : slice_index t.heads c ≡ first_of none (without x (bin_at ls c)) = k.heads c ch ∙ ap (first_of none) f.is ∙ first_same none w x f.rest f.front ∙ ap (first_of none) (sym is) in
+          let head : slice_index t.heads c ≡ first_of none (without x (bin_at ls c)) = k.heads c ch ∙ ap (first_of none) f.is ∙ first_same none w x f.rest f.front
+          ∙ ap (first_of none) (sym is) in
           relisted c ch t' (without x (bin_at ls c)) (rw newer (length-set t.newer after before)) (rw older (length-set t.older before after)) (heads ∙ sym (rw (← head) (set-get_or t.heads c 0)))
           (rw is (unlinked none t t' w x f.rest k.names_small k.older_len newer' older' none f.front o chain))
           (λ y l u v.
-          let z : times y f.front + (times y (w ∷ []) + times y f.rest) ≡ 0 = omega (arith, v, ap (times y) f.is, times-join y f.front (w ∷ x ∷ f.rest)) in
-          (newer_kept none t t' w x f.rest k.names_small k.older_len newer' older' y (not_first y f.rest (omega arith) (omega arith)), older_kept none t t' w x f.rest k.names_small k.older_len newer' older' y (λ e. let q = ap (λ i. times i (w ∷ [])) e in omega (arith, one-same w))))
+          let z : times y f.front + (times y (w ∷ []) + times y f.rest) ≡ 0 = omega (arith, v, ap (times y) f.is, times-join y f.front (w ∷ x ∷ f.rest)) in (
+            newer_kept none t t' w x f.rest k.names_small k.older_len newer' older' y (not_first y f.rest (omega arith) (omega arith)),
+            older_kept none t t' w x f.rest k.names_small k.older_len newer' older' y (λ e. let q = ap (λ i. times i (w ∷ [])) e in omega (arith, one-same w)),
+          ))
           (λ y d dh n. omega (arith, times_without_le x y (bin_at ls c), k.once d c y dh ch n))
         where
           rest_first : (l : List ℕ) (b : ℕ) → IsLinked none t b (l ++ slice_index t.newer x ∷ x ∷ f.rest) → slice_index t.older x ≡ first_of none f.rest
@@ -190,8 +212,10 @@ module _ {none : ℕ} {t : Links} {ls : List (List ℕ)} (k : HasBins none t ls)
           rest_first (y ∷ l) b d = rest_first l y d.3
 
 -- x takes the place of the first name: the links are those of a removal and a push
-pub exchanged : {none : ℕ} {t : Links} {ls : List (List ℕ)} (k : HasBins none t ls) (c : ℕ) → c < 256 → (t' : Links) (x after : ℕ) → x < length t.newer → IsUnlisted x ls → bin_at ls c ≢ [] → after ≡ slice_index t.older (slice_index t.heads c)
-    → t'.newer ≡ slice_set (slice_set t.newer x none) after x → t'.older ≡ slice_set t.older x after → t'.heads ≡ slice_set t.heads c x → HasBins none t' (push c x (remove c (slice_index t.heads c) ls))
+pub exchanged : {none : ℕ} {t : Links} {ls : List (List ℕ)} (k : HasBins none t ls) (c : ℕ) → c < 256 → (t' : Links) (x after : ℕ) → x < length t.newer → IsUnlisted x ls
+    → bin_at ls c ≢ [] → after ≡ slice_index t.older (slice_index t.heads c)
+    → t'.newer ≡ slice_set (slice_set t.newer x none) after x → t'.older ≡ slice_set t.older x after → t'.heads ≡ slice_set t.heads c x
+    → HasBins none t' (push c x (remove c (slice_index t.heads c) ls))
 exchanged {none} {t} {ls} k c ch t' x after l fresh full next newer older heads =
     let h = head k c ch full in
     let ns = k.names_small in
@@ -205,12 +229,14 @@ exchanged {none} {t} {ls} k c ch t' x after l fresh full next newer older heads 
     (rw first (newer ∙ sym (ap (λ (i : List ℕ). slice_set i after x) (set_comm t.newer after x none none apart) ∙ set-set (slice_set t.newer x none) after none x)))
     (rw first older) (heads ∙ sym (set-set t.heads c after x))
 
-pub exchange_masked : {ls : List (List ℕ)} {masks : List ℕ} {top : ℕ} → AreMasks ls masks top → length ls ≡ 256 → (c x y : ℕ) → c < 256 → bin_at ls c ≢ [] → AreMasks (push c x (remove c y ls)) masks top
+pub exchange_masked : {ls : List (List ℕ)} {masks : List ℕ} {top : ℕ} → AreMasks ls masks top → length ls ≡ 256 → (c x y : ℕ) → c < 256 → bin_at ls c ≢ []
+    → AreMasks (push c x (remove c y ls)) masks top
 exchange_masked {ls} m n c x y ch full = rw (set-set ls c (without y (bin_at ls c)) (x ∷ bin_at (remove c y ls) c)) (masked_same m n c ch _ (sym (flag_full _ full)))
 
 pub binned : {none : ℕ} {t : Links} {top : ℕ} {ls : List (List ℕ)} → HasBins none t ls → AreMasks ls t.masks top → IsBinned none t top × (bins_in none t ≡ ls)
 binned {none} {t} {top} {ls} k m = let e = shown k in (record { linked = subst (HasBins none t) (sym e) k; masked = subst (λ l. AreMasks l t.masks top) (sym e) m }, e)
 
 -- the clauses of a change of the bins
-pub changed : {none : ℕ} {t : Links} {top : ℕ} {ls : List (List ℕ)} {R C : Type 0} → HasBins none t ls → AreMasks ls t.masks top → R → C → record { held : IsBinned none t top; lists : bins_in none t ≡ ls; chain : R; accesses : C }
+pub changed : {none : ℕ} {t : Links} {top : ℕ} {ls : List (List ℕ)} {R C : Type 0} → HasBins none t ls → AreMasks ls t.masks top → R → C
+    → record { held : IsBinned none t top; lists : bins_in none t ≡ ls; chain : R; accesses : C }
 changed k m chain accesses = let b = binned k m in record { held = b.0; lists = b.1; chain = chain; accesses = accesses }

@@ -1,11 +1,13 @@
 -- What it leaves of the whole allocator to slide the live ranges to the front.
-use Rattle.std.proofs.Common.{◌≡◌, ℕ, suc, ◌+◌, ◌≤◌, Bool, true, false, not, ◌&&◌, Some, None, List, [], ◌∷◌, ◌++◌, length, replicate, sum, if◌then◌else◌, nat_eq, refl, sym, ap, ap₂, subst, ◌∙◌, inl, inr, arith, append-nil, length-append, eq-zero-or-pos}
+use Rattle.std.proofs.Common.{◌≡◌, ℕ, suc, ◌+◌, ◌≤◌, Bool, true, false, not, ◌&&◌, Some, None, List, [], ◌∷◌, ◌++◌, length, replicate, sum, if◌then◌else◌, nat_eq}
+use Rattle.std.proofs.Common.{refl, sym, ap, ap₂, subst, ◌∙◌, inl, inr, arith, append-nil, length-append, eq-zero-or-pos}
 use Rattle.std.specs.List.{AllByRecursion}
 use Rattle.std.proofs.lemmas.Bool.Decides.{nat_tests}
 use Rattle.std.proofs.lemmas.List.{length-replicate, ext_get_or}
 use Rattle.offset_allocator.specs.Classes.{down}
 use Rattle.offset_allocator.specs.Cells.{Cells, Room}
-use Rattle.offset_allocator.specs.View.{Block, View, Place, one, free_block, units, free_sizes, used_units, used_of, count_named, count_in_bin, bin_at, push, push_all, IsApart, IsWellFormed, starts_free}
+use Rattle.offset_allocator.specs.View.{Block, View, Place, one, free_block, units, free_sizes, used_units, used_of, count_named, count_in_bin, bin_at, push, push_all, IsApart, IsWellFormed}
+use Rattle.offset_allocator.specs.View.{starts_free}
 use Rattle.offset_allocator.specs.Compacting.{live, moves, move_of, first_free, gathered, Compacts}
 use Rattle.offset_allocator.specs.Relations.{SameSpace}
 use Rattle.offset_allocator.specs.Chain.{HasPlace, blocks}
@@ -45,7 +47,8 @@ live_whole (b ∷ bs) h = live_used b bs h.0 ∙ ap (λ l. b ∷ l) (live_whole 
 
 live_append : (bs cs : List Block) → live (bs ++ cs) ≡ live bs ++ live cs
 live_append [] cs = refl
-live_append (b ∷ bs) cs = let ih = live_append bs cs in elim b.used as (λ u. (if u then b ∷ live (bs ++ cs) else live (bs ++ cs)) ≡ (if u then b ∷ live bs else live bs) ++ live cs) [ true ↦ ap (λ l. b ∷ l) ih | false ↦ ih ]
+live_append (b ∷ bs) cs = let ih = live_append bs cs in
+    elim b.used as (λ u. (if u then b ∷ live (bs ++ cs) else live (bs ++ cs)) ≡ (if u then b ∷ live bs else live bs) ++ live cs) [ true ↦ ap (λ l. b ∷ l) ih | false ↦ ih ]
 
 none_listed : (bs : List Block) → AreUsed bs → (c x : ℕ) → count_in_bin c x bs ≡ 0
 none_listed [] h c x = refl
@@ -58,7 +61,8 @@ no_free_units (b ∷ bs) h = free_units-used b bs h.0 ∙ no_free_units bs h.1
 -- of all blocks, the live ones have the units that are not free, and are fewer where one is free
 live_units : (bs : List Block) → units bs ≡ units (live bs) + free_units bs
 live_units [] = refl
-live_units (b ∷ bs) = let ih = live_units bs in elim b.used as (λ u. b.size + units bs ≡ units (if u then b ∷ live bs else live bs) + ((if u then 0 else b.size) + free_units bs)) [ true ↦ omega arith | false ↦ omega arith ]
+live_units (b ∷ bs) = let ih = live_units bs in
+    elim b.used as (λ u. b.size + units bs ≡ units (if u then b ∷ live bs else live bs) + ((if u then 0 else b.size) + free_units bs)) [ true ↦ omega arith | false ↦ omega arith ]
 
 live_fewer : (bs : List Block) → length (live bs) ≤ length bs
 live_fewer [] = omega arith
@@ -151,7 +155,8 @@ sum_sizes bs = omega (arith, parted bs, all bs)
   where
     all : (bs : List Block) → used_units bs + free_units bs ≡ units bs
     all [] = refl
-    all (b ∷ bs) = let ih = all bs in elim b.used as (λ u. ((if u then b.size else 0) + used_units bs) + ((if u then 0 else b.size) + free_units bs) ≡ b.size + units bs) [ true ↦ omega arith | false ↦ omega arith ]
+    all (b ∷ bs) = let ih = all bs in elim b.used as (λ u. ((if u then b.size else 0) + used_units bs) + ((if u then 0 else b.size) + free_units bs) ≡ b.size + units bs)
+        [ true ↦ omega arith | false ↦ omega arith ]
 
 -- the live blocks stay
 pub compacts_live : (v w : View) → Compacts v w → live w.blocks ≡ live v.blocks
@@ -185,7 +190,8 @@ module _ (f : Fields) (s : AreSound f) where
     are_used = used_append p.before (live p.after) o.used (live_are_used p.after)
 
     -- what is left
-    module _ (d : Cells) (last count hole size : ℕ) (there : HasPlace d.room f.cells.room.reserved last count hole (record { before = o.place.before ++ live o.place.after; block = free_block hole size; after = [] })) where
+    module _ (d : Cells) (last count hole size : ℕ)
+        (there : HasPlace d.room f.cells.room.reserved last count hole (record { before = o.place.before ++ live o.place.after; block = free_block hole size; after = [] })) where
       module _ (sized : size ≡ o.place.block.size + free_units o.place.after) where
         abbrev left_view : View
         left_view = record v { blocks = packed_blocks ++ free_block hole size ∷ []; order = push (down size) hole (replicate 256 []) }
@@ -201,30 +207,63 @@ module _ (f : Fields) (s : AreSound f) where
             | inl z ↦ z
             | inr some ↦ absurd (omega (arith, there-below d.room _ last count y _ there.chain some, there.chain.within, s.memory))
           ];
-          whole = omega (arith, w.whole, ap units o.is, units-append p.before (p.block ∷ p.after), units-append packed_blocks (free_block hole size ∷ []), units-append p.before (live p.after), live_units p.after, sized);
+          whole = omega (
+            arith,
+            w.whole,
+            ap units o.is,
+            units-append p.before (p.block ∷ p.after),
+            units-append packed_blocks (free_block hole size ∷ []),
+            units-append p.before (live p.after),
+            live_units p.after,
+            sized,
+          );
           fits = w.fits;
           apart = apart_end packed_blocks (free_block hole size) are_used;
           classes = length_put (down size) hole (replicate 256 []) ∙ length-replicate {A = List ℕ} 256 [];
-          orders = λ k y. omega (arith, times_put_all (free_block hole size ∷ []) (replicate 256 []) (length-replicate {A = List ℕ} 256 []) k y, replicate_none y k, tally_append (share k y) packed_blocks (free_block hole size ∷ []), none_listed packed_blocks are_used k y);
+          orders = λ k y. omega (
+            arith,
+            times_put_all (free_block hole size ∷ []) (replicate 256 []) (length-replicate {A = List ℕ} 256 []) k y,
+            replicate_none y k,
+            tally_append (share k y) packed_blocks (free_block hole size ∷ []),
+            none_listed packed_blocks are_used k y,
+          );
           room = omega (arith, w.room, fewer, length-append packed_blocks (free_block hole size ∷ []));
           spare = omega (arith, w.room, fewer, used_at_most packed_blocks, tally_append (λ (b : Block). one b.used) packed_blocks (free_block hole size ∷ []));
         }
 
         compacted : (u : View) → SameSpace left_view u → Compacts v u
         compacted u same =
-            let gathers : gathered hole (free_sizes v.blocks) ≡ free_block hole size ∷ [] = ap (gathered hole) o.sizes ∙ ap (λ n. free_block hole n ∷ []) (omega (arith, sized, sum_sizes p.after)) in
+            let gathers : gathered hole (free_sizes v.blocks) ≡ free_block hole size ∷ [] = ap (gathered hole) o.sizes
+            ∙ ap (λ n. free_block hole n ∷ []) (omega (arith, sized, sum_sizes p.after)) in
             record {
               name = hole;
               below = omega (arith, there.below, there.chain.within, s.memory);
-              absent = ap (count_named hole) o.live ∙ omega (arith, each-le d.room _ last count _ there.chain hole, tally_append (λ (b : Block). one (nat_eq hole b.name)) packed_blocks (free_block hole size ∷ []), one-same hole);
+              absent = ap (count_named hole) o.live ∙ omega (
+                arith,
+                each-le d.room _ last count _ there.chain hole,
+                tally_append (λ (b : Block). one (nat_eq hole b.name)) packed_blocks (free_block hole size ∷ []),
+                one-same hole,
+              );
               view = same ∙ ap₂ (λ (bs g : List Block). record v { blocks = bs ++ g; order = push_all g (replicate 256 []); accesses = u.accesses }) (sym o.live) (sym gathers);
             }
 
         pub packs : {top accesses : ℕ} → IsBinned f.max d.links top → bins_in f.max d.links ≡ push (down size) hole (replicate 256 [])
-            → AreSound (record f { cells = d; last = last; count = count; top = top; accesses = accesses }) × Compacts (shown f) (shown (record f { cells = d; last = last; count = count; top = top; accesses = accesses }))
+            → AreSound (record f { cells = d; last = last; count = count; top = top; accesses = accesses })
+            × Compacts (shown f) (shown (record f { cells = d; last = last; count = count; top = top; accesses = accesses }))
         packs {top} {accesses} bins lists =
             let done = stepped f s left_view d f.free accesses left_well refl there.chain refl bins lists
-            (omega (arith, s.total, ap free_units o.is, free_units-append p.before (p.block ∷ p.after), no_free_units p.before o.used, free_units-free p.block p.after o.idle, free_units-append packed_blocks (free_block hole size ∷ []), no_free_units packed_blocks are_used, free_units-free (free_block hole size) [] refl, sized)) in
+            (omega (
+              arith,
+              s.total,
+              ap free_units o.is,
+              free_units-append p.before (p.block ∷ p.after),
+              no_free_units p.before o.used,
+              free_units-free p.block p.after o.idle,
+              free_units-append packed_blocks (free_block hole size ∷ []),
+              no_free_units packed_blocks are_used,
+              free_units-free (free_block hole size) [] refl,
+              sized,
+            )) in
             (done.0, compacted _ done.1)
 
   -- a space with none
@@ -237,5 +276,7 @@ module _ (f : Fields) (s : AreSound f) where
         name = t.0;
         below = omega (arith, t.1, s.memory);
         absent = ap (count_named t.0) whole ∙ t.2;
-        view = ap₂ (λ (bs : List Block) (o : List (List ℕ)). record v { blocks = bs; order = o; accesses = accesses }) (sym (append-nil v.blocks) ∙ ap₂ (λ (k l : List Block). k ++ l) (sym whole) (sym (ap (gathered _) r.sizes))) (none_filed ls v.blocks w.classes r.used (λ k y. w.orders k y) ∙ sym (ap (λ ns. push_all (gathered t.0 ns) (replicate 256 [])) r.sizes));
+        view = ap₂ (λ (bs : List Block) (o : List (List ℕ)). record v { blocks = bs; order = o; accesses = accesses }) (sym (append-nil v.blocks)
+            ∙ ap₂ (λ (k l : List Block). k ++ l) (sym whole) (sym (ap (gathered _) r.sizes))) (none_filed ls v.blocks w.classes r.used (λ k y. w.orders k y)
+            ∙ sym (ap (λ ns. push_all (gathered t.0 ns) (replicate 256 [])) r.sizes));
       }

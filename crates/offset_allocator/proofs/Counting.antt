@@ -1,5 +1,6 @@
 -- The names of a class are as many as its free blocks.
-use Rattle.std.proofs.Common.{◌≡◌, ◌≢◌, ℕ, zero, suc, ◌+◌, ◌*◌, ◌<◌, ◌≤◌, true, false, not, cond, ◌&&◌, List, [], ◌∷◌, length, sum, nat_eq, nat_lt, if◌then◌else◌, refl, sym, ap, inl, inr, arith, eq-eqb, ne_eqb}
+use Rattle.std.proofs.Common.{◌≡◌, ◌≢◌, ℕ, zero, suc, ◌+◌, ◌*◌, ◌<◌, ◌≤◌, true, false, not, cond, ◌&&◌, List, [], ◌∷◌, length, sum, nat_eq, nat_lt}
+use Rattle.std.proofs.Common.{if◌then◌else◌, refl, sym, ap, inl, inr, arith, eq-eqb, ne_eqb}
 use Rattle.std.proofs.lemmas.Bool.{cases_eq, cases_lt}
 use Rattle.std.proofs.lemmas.Bool.Decides.{nat_tests}
 use Rattle.std.proofs.lemmas.List.{get_or_past}
@@ -46,16 +47,17 @@ no_sizes (n ∷ ns) h = absurd (omega (arith, h (down n) (down_small n), self_co
 length_listed : (c : ℕ) (bs : List Block) (xs : List ℕ) → ((x : ℕ) → times x xs ≡ count_in_bin c x bs) → length xs ≡ count_of c (free_sizes bs)
 length_listed c [] [] h = refl
 length_listed c [] (x ∷ xs) h = absurd (omega (arith, h x, one-same x))
-length_listed c (b ∷ bs) xs h = elim b.used as (λ u. ((x : ℕ) → times x xs ≡ one (not u && (nat_eq c (down b.size) && nat_eq x b.name)) + count_in_bin c x bs) → length xs ≡ count_of c (if u then free_sizes bs else b.size ∷ free_sizes bs)) [
-  | true ↦ λ k. length_listed c bs xs (λ x. omega (arith, k x))
-  | false ↦ λ k. elim (cases_eq (down b.size) c) [
-    | inl e ↦
-        let named : (x : ℕ) → times x xs ≡ one (nat_eq x b.name) + count_in_bin c x bs = λ x. rw (eq-eqb c (down b.size) (sym e)) at (k x) in
-        let r = drop_one b.name xs (omega (arith, named b.name, one-same b.name)) in
-        rw (eq-eqb (down b.size) c e) (omega (arith, r.1, length_listed c bs r.0 (λ x. omega (arith, named x, r.2 x))))
-    | inr n ↦ rw (ne_eqb (down b.size) c n) (omega (arith, length_listed c bs xs (λ x. let j = rw (ne_eqb c (down b.size) (λ q. n (sym q))) at (k x) in omega arith)))
-  ]
-] h
+length_listed c (b ∷ bs) xs h = elim b.used as (λ u. ((x : ℕ) → times x xs ≡ one (not u && (nat_eq c (down b.size) && nat_eq x b.name)) + count_in_bin c x bs)
+    → length xs ≡ count_of c (if u then free_sizes bs else b.size ∷ free_sizes bs)) [
+      | true ↦ λ k. length_listed c bs xs (λ x. omega (arith, k x))
+      | false ↦ λ k. elim (cases_eq (down b.size) c) [
+        | inl e ↦
+            let named : (x : ℕ) → times x xs ≡ one (nat_eq x b.name) + count_in_bin c x bs = λ x. rw (eq-eqb c (down b.size) (sym e)) at (k x) in
+            let r = drop_one b.name xs (omega (arith, named b.name, one-same b.name)) in
+            rw (eq-eqb (down b.size) c e) (omega (arith, r.1, length_listed c bs r.0 (λ x. omega (arith, named x, r.2 x))))
+        | inr n ↦ rw (ne_eqb (down b.size) c n) (omega (arith, length_listed c bs xs (λ x. let j = rw (ne_eqb c (down b.size) (λ q. n (sym q))) at (k x) in omega arith)))
+      ]
+    ] h
 
 pub length_names : (v : View) → IsWellFormed v → (c : ℕ) → length (bin_at v.order c) ≡ count_of c (free_sizes v.blocks)
 length_names v w c = length_listed c v.blocks (bin_at v.order c) (w.orders c)

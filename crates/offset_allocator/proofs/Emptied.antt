@@ -1,6 +1,7 @@
 -- A space whose used blocks are freed one after the other, from its end on: each is the last block or the one before
 -- it, and where none is left the space is one free block.
-use Rattle.std.proofs.Common.{◌≡◌, ℕ, ◌+◌, ◌*◌, append_assoc, ◌<◌, ◌≤◌, Bool, true, false, not, List, [], ◌∷◌, ◌++◌, length, replicate, Option, Some, None, IfSome, nat_eq, refl, sym, ap, ap₂, subst, ◌∙◌, arith, inl, inr}
+use Rattle.std.proofs.Common.{◌≡◌, ℕ, ◌+◌, ◌*◌, append_assoc, ◌<◌, ◌≤◌, Bool, true, false, not, List, [], ◌∷◌, ◌++◌, length, replicate, Option, Some, None, IfSome}
+use Rattle.std.proofs.Common.{nat_eq, refl, sym, ap, ap₂, subst, ◌∙◌, arith, inl, inr}
 use Rattle.std.proofs.lemmas.List.{length-replicate, ext_get_or}
 use Rattle.std.proofs.lemmas.Bool.{cases_lt, false≢true, not-false}
 use Rattle.offset_allocator.specs.Classes.{down}
@@ -54,7 +55,8 @@ half_used (b ∷ d ∷ bs) a =
       | false ↦ λ e. let taken : d.used ≡ true = not-false d.used (rw e at a.0) in omega (arith, rest, ap one taken)
     ] refl
 
-pub emptied : (v : View) → IsWellFormed v → used_of v.blocks ≡ 0 → (x : ℕ) × (x < v.max_allocs) × (v ≡ record v { blocks = free_block x v.size ∷ []; order = push (down v.size) x (replicate 256 []) })
+pub emptied : (v : View) → IsWellFormed v → used_of v.blocks ≡ 0 → (x : ℕ) × (x < v.max_allocs)
+    × (v ≡ record v { blocks = free_block x v.size ∷ []; order = push (down v.size) x (replicate 256 []) })
 emptied v w u =
     let l = lone v.blocks w.some w.apart u in
     let x : ℕ = l.0.name in
@@ -65,16 +67,24 @@ emptied v w u =
       | inl b ↦ b
       | inr b ↦ absurd (omega (arith, w.below x b, ap (count_named x) l.1, one-same x))
     ] in
-    let order : v.order ≡ push (down n) x (replicate 256 []) = ext_get_or [] v.order _ (w.classes ∙ sym (length_put (down n) x (replicate 256 []) ∙ length-replicate {A = List ℕ} 256 [])) (λ c _. same_at v.order x n c (λ y. w.orders c y ∙ ap (count_in_bin c y) l.1)) in
-    (x, below, ap₂ (λ (bs : List Block) (o : List (List ℕ)). record v { blocks = bs; order = o }) l.1 order ∙ ap (λ (k : ℕ). record v { blocks = free_block x k ∷ []; order = push (down k) x (replicate 256 []) }) sized)
+    let order : v.order ≡ push (down n) x (replicate 256 []) =
+    ext_get_or [] v.order _ (w.classes ∙ sym (length_put (down n) x (replicate 256 []) ∙ length-replicate {A = List ℕ} 256 []))
+    (λ c _. same_at v.order x n c (λ y. w.orders c y ∙ ap (count_in_bin c y) l.1)) in (
+      x,
+      below,
+      ap₂ (λ (bs : List Block) (o : List (List ℕ)). record v { blocks = bs; order = o }) l.1 order
+          ∙ ap (λ (k : ℕ). record v { blocks = free_block x k ∷ []; order = push (down k) x (replicate 256 []) }) sized,
+    )
   where
-    same_at : (order : List (List ℕ)) (x n c : ℕ) → ((y : ℕ) → times y (bin_at order c) ≡ count_in_bin c y (free_block x n ∷ [])) → bin_at order c ≡ bin_at (push (down n) x (replicate 256 [])) c
+    same_at : (order : List (List ℕ)) (x n c : ℕ) → ((y : ℕ) → times y (bin_at order c) ≡ count_in_bin c y (free_block x n ∷ []))
+        → bin_at order c ≡ bin_at (push (down n) x (replicate 256 [])) c
     same_at order x n c h =
         let long = length-replicate {A = List ℕ} 256 [] in
         elim (hit_cases c (down n)) [
           | inl f ↦
               one_name x (bin_at order c) (λ y. h y ∙ (let k = hit_at c (down n) y x f.0 in omega arith))
-              ∙ sym (ap (bin_at (push (down n) x (replicate 256 []))) f.0 ∙ names_same (replicate 256 []) (down n) (x ∷ bin_at (replicate 256 []) (down n)) long (down_small n) ∙ ap (λ (l : List ℕ). x ∷ l) (none_at (down n)))
+              ∙ sym (ap (bin_at (push (down n) x (replicate 256 []))) f.0 ∙ names_same (replicate 256 []) (down n) (x ∷ bin_at (replicate 256 []) (down n)) long (down_small n)
+              ∙ ap (λ (l : List ℕ). x ∷ l) (none_at (down n)))
           | inr f ↦
               no_name (bin_at order c) (λ y. h y ∙ (let k = hit_other c (down n) y x f.0 in omega arith))
               ∙ sym (names_other (replicate 256 []) (down n) c (x ∷ bin_at (replicate 256 []) (down n)) f.0 ∙ none_at c)
@@ -104,7 +114,8 @@ module _ (bs : List Block) (last : ℕ) (ends : last_or None bs ≡ Some last) (
       let is : bs ≡ e2.front ++ (d ∷ b ∷ []) = end.is ∙ ap (λ (l : List Block). l ++ b ∷ []) e2.is ∙ append_assoc e2.front (d ∷ []) (b ∷ []) in
       let parts = apart_parts e2.front (d ∷ b ∷ []) (subst IsApart is apart) in
       let used : d.used ≡ true = not-false d.used (left_false (is_free d) (is_free b) parts.1.0 (ap not is_idle)) in
-      let absent : count_named x e2.front ≡ 0 = omega (arith, one-eq x d.name e2.name, each x, ap (count_named x) is, tally_append (λ (d : Block). one (nat_eq x d.name)) e2.front (d ∷ b ∷ [])) in
+      let absent : count_named x e2.front ≡ 0 =
+      omega (arith, one-eq x d.name e2.name, each x, ap (count_named x) is, tally_append (λ (d : Block). one (nat_eq x d.name)) e2.front (d ∷ b ∷ [])) in
       ap is_used_at (ap (place_of x) is ∙ place_here x e2.front d (b ∷ []) absent (sym e2.name)) ∙ used
 
   pub none_used : last_or None (ended bs last ends).front ≡ None → used_of bs ≡ 0

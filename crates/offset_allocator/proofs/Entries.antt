@@ -1,5 +1,6 @@
 -- Entries as a list of nodes.
-use Rattle.std.proofs.Common.{◌≡◌, ◌≢◌, ℕ, zero, suc, ◌-◌, [], ◌∷◌, ◌++◌, ◌<◌, ◌≤◌, Bool, true, false, List, length, map, set, get_or, refl, sym, ◌∙◌, ap, arith, eqb, eq-eqb, ne_eqb}
+use Rattle.std.proofs.Common.{◌≡◌, ◌≢◌, ℕ, zero, suc, ◌-◌, [], ◌∷◌, ◌++◌, ◌<◌, ◌≤◌, Bool, true, false, List, length, map, set, get_or, refl, sym, ◌∙◌, ap}
+use Rattle.std.proofs.Common.{arith, eqb, eq-eqb, ne_eqb}
 use Rattle.std.proofs.lemmas.List.{get_or_past, length-map, length-set, map-set, map-append, set-get_or}
 use Rattle.std.specs.Vec.{with_item}
 use Rattle.std.proofs.Math.Seq.{map-set_same}
@@ -70,7 +71,8 @@ module _ {A B : Type 0} (max : ℕ) (number : A → ℕ) (t : Inside A B) {c : C
   read_past x l = rw (← e) (ap (λ (v : Node). v.used) (get_or_past (nodes_of max number ns) x blank (omega (arith, l, length-nodes_of max number ns))))
 
   -- an entry written in what the chain of blocks sees: f is the change of the node
-  pub wrote-room : (x : ℕ) (n m : Entry A) (f : Node → Node) → x < length c.room.nodes → n ≡ get_or ns x n → node_of max number m ≡ f (node_of max number n) → number m.newer ≡ number n.newer → number m.older ≡ number n.older
+  pub wrote-room : (x : ℕ) (n m : Entry A) (f : Node → Node) → x < length c.room.nodes → n ≡ get_or ns x n → node_of max number m ≡ f (node_of max number n)
+      → number m.newer ≡ number n.newer → number m.older ≡ number n.older
       → seen (set ns x m) ≡ record c { room = put c.room x (f (node c.room x)) }
   unfolding node put
   wrote-room x n m f l at q newer older =
@@ -82,13 +84,17 @@ module _ {A B : Type 0} (max : ℕ) (number : A → ℕ) (t : Inside A B) {c : C
 
   -- the use of a node written
   pub wrote-used : (x : ℕ) (n : Entry A) (link : A) (used : Bool) → 1 ≤ max → x < length c.room.nodes → n ≡ get_or ns x n → number link ≡ mark_of max used
-      → seen (set ns x (record n { newer = link })) ≡ record c { room = put c.room x (record (node c.room x) { used = used }); links = record c.links { newer = set c.links.newer x (mark_of max used) } }
+      → seen (set ns x (record n { newer = link })) ≡ record c {
+        room = put c.room x (record (node c.room x) { used = used });
+        links = record c.links { newer = set c.links.newer x (mark_of max used) };
+      }
   unfolding node put
   wrote-used x n link used some l at q =
       let m : Entry A = record n { newer = link } in
       let was = entry_at max number ns x n (within x l) at in
       let flag : eqb (number link) (max - 1) ≡ used = ap (λ i. eqb i (max - 1)) q ∙ marked max used some in
-      let is : node_of max number m ≡ record (get_or (nodes_of max number ns) x blank) { used = used } = ap (λ (u : Bool). record (node_of max number n) { used = u }) flag ∙ ap (λ (v : Node). record v { used = used }) (sym was) in
+      let is : node_of max number m ≡ record (get_or (nodes_of max number ns) x blank) { used = used } = ap (λ (u : Bool). record (node_of max number n) { used = u }) flag
+      ∙ ap (λ (v : Node). record v { used = used }) (sym was) in
       let nodes = entry_set max number ns x m ∙ ap (set (nodes_of max number ns) x) is in
       let newer = map-set (λ (k : Entry A). number k.newer) ns x m ∙ ap (set (map (λ (k : Entry A). number k.newer) ns) x) q in
       let older = map-set_same (λ (k : Entry A). number k.older) ns x m n (ap (λ (k : Entry A). number k.older) at) in
@@ -101,7 +107,8 @@ module _ {A B : Type 0} (max : ℕ) (number : A → ℕ) (t : Inside A B) {c : C
       entry_set max number ns x m ∙ ap (set (nodes_of max number ns) x) (q ∙ sym was) ∙ set-get_or (nodes_of max number ns) x blank
 
   -- a link that is no mark, of a node that is not used
-  idle_still : (x : ℕ) (n : Entry A) (link : A) → x < length ns → n ≡ get_or ns x n → (node c.room x).used ≡ false → number link ≢ max - 1 → eqb (number link) (max - 1) ≡ eqb (number n.newer) (max - 1)
+  idle_still : (x : ℕ) (n : Entry A) (link : A) → x < length ns → n ≡ get_or ns x n → (node c.room x).used ≡ false → number link ≢ max - 1
+      → eqb (number link) (max - 1) ≡ eqb (number n.newer) (max - 1)
   unfolding node
   idle_still x n link l at idle ne = ne_eqb _ _ ne ∙ sym (ap (λ (v : Node). v.used) (sym (entry_at max number ns x n l at) ∙ ap (λ (v : Cells). get_or v.room.nodes x blank) e) ∙ idle)
 
@@ -115,7 +122,8 @@ module _ {A B : Type 0} (max : ℕ) (number : A → ℕ) (t : Inside A B) {c : C
       let older = map-set_same (λ (k : Entry A). number k.older) ns x m n (ap (λ (k : Entry A). number k.older) at) in
       rw (← e) (rw (nodes, newer, older) refl)
 
-  pub wrote-older : (x : ℕ) (n : Entry A) (link : A) → x < length c.links.older → n ≡ get_or ns x n → seen (set ns x (record n { older = link })) ≡ record c { links = record c.links { older = set c.links.older x (number link) } }
+  pub wrote-older : (x : ℕ) (n : Entry A) (link : A) → x < length c.links.older → n ≡ get_or ns x n
+      → seen (set ns x (record n { older = link })) ≡ record c { links = record c.links { older = set c.links.older x (number link) } }
   wrote-older x n link l at =
       let short : x < length ns = omega (arith, l, ap (λ (v : Cells). length v.links.older) e, length-map ns (λ (k : Entry A). number k.older)) in
       let m : Entry A = record n { older = link } in

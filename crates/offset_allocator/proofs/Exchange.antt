@@ -1,5 +1,6 @@
 -- Blocks in the middle of a chain make room for others.
-use Rattle.std.proofs.Common.{◌≡◌, ◌≢◌, ℕ, ◌+◌, ◌-◌, ◌<◌, ◌≤◌, ◌^◌, false, Option, None, Some, MatchOption, List, [], ◌∷◌, ◌++◌, length, get_or, take, set, refl, sym, ◌∙◌, ap, arith, inl, inr, length-append, nat_eq}
+use Rattle.std.proofs.Common.{◌≡◌, ◌≢◌, ℕ, ◌+◌, ◌-◌, ◌<◌, ◌≤◌, ◌^◌, false, Option, None, Some, MatchOption, List, [], ◌∷◌, ◌++◌, length, get_or, take}
+use Rattle.std.proofs.Common.{set, refl, sym, ◌∙◌, ap, arith, inl, inr, length-append, nat_eq}
 use Rattle.std.proofs.lemmas.List.{take_more, take_more_set}
 use Rattle.std.proofs.lemmas.Bool.{cases_eq, cases_lt}
 use Rattle.std.proofs.lemmas.Bool.Decides.{nat_tests}
@@ -18,11 +19,13 @@ pub there-below : (c : Room) (m last count x : ℕ) (bs : List Block) → IsChai
 there-below c m last count x bs h st = let e = h.each x in grind (arith, nat_tests)
 
 -- the name on top of the stack
-top_names : (c : Room) (count : ℕ) → 0 < count → count ≤ length c.spare → (k : ℕ) → times k (spares c count) ≡ times k (spares c (count - 1)) + one (nat_eq k (get_or c.spare (count - 1) 0))
+top_names : (c : Room) (count : ℕ) → 0 < count → count ≤ length c.spare → (k : ℕ)
+    → times k (spares c count) ≡ times k (spares c (count - 1)) + one (nat_eq k (get_or c.spare (count - 1) 0))
 unfolding spares
 top_names c count some l k =
     let same : count ≡ (count - 1) + 1 = omega arith in
-    ap (λ n. times k (take n c.spare)) same ∙ ap (times k) (take_more c.spare (count - 1) 0 (omega arith)) ∙ omega (arith, times-join k (take (count - 1) c.spare) (get_or c.spare (count - 1) 0 ∷ []))
+    ap (λ n. times k (take n c.spare)) same ∙ ap (times k) (take_more c.spare (count - 1) 0 (omega arith))
+    ∙ omega (arith, times-join k (take (count - 1) c.spare) (get_or c.spare (count - 1) 0 ∷ []))
 
 -- what is true of an unused name
 spare_new : (c : Room) (m last count : ℕ) (bs : List Block) → IsChain c m last count bs → (y : ℕ) → 1 ≤ times y (spares c count) → (count_named y bs ≡ 0) × (y < length c.nodes)
@@ -54,7 +57,8 @@ pub kept_names : (c e : Room) (count : ℕ) → e.spare ≡ c.spare → (k : ℕ
 unfolding spares
 kept_names c e count same k = ap (λ s. times k (take count s)) same
 
-pub pushed_names : (c e : Room) (count y : ℕ) → count < length c.spare → e.spare ≡ set c.spare count y → (k : ℕ) → times k (spares e (count + 1)) ≡ times k (spares c count) + one (nat_eq k y)
+pub pushed_names : (c e : Room) (count y : ℕ) → count < length c.spare → e.spare ≡ set c.spare count y → (k : ℕ)
+    → times k (spares e (count + 1)) ≡ times k (spares c count) + one (nat_eq k y)
 unfolding spares
 pushed_names c e count y l same k =
     ap (λ s. times k (take (count + 1) s)) same ∙ ap (times k) (take_more_set c.spare count y l) ∙ omega (arith, times-join k (take count c.spare) (y ∷ []))
@@ -68,7 +72,13 @@ pub record Wrote (c d : Room) (x : ℕ) (n : Node) : Type 0 where
   pub memory : d.reserved ≡ c.reserved
 
 pub wrote : {c d : Room} {x : ℕ} {n : Node} → d ≡ put c x n → x < length c.nodes → Wrote c d x n
-wrote {c} {d} {x} {n} e l = record { here = rw e (node-put c x n l); other = λ k ne. rw e (node-put_other c x n k ne); cells = rw e (length-put c x n); spare = rw e (spare-put c x n); memory = rw e (reserved-put c x n) }
+wrote {c} {d} {x} {n} e l = record {
+  here = rw e (node-put c x n l);
+  other = λ k ne. rw e (node-put_other c x n k ne);
+  cells = rw e (length-put c x n);
+  spare = rw e (spare-put c x n);
+  memory = rw e (reserved-put c x n);
+}
 
 -- a node with another link
 abbrev pub back_to : ℕ → Node → Node
@@ -141,7 +151,8 @@ module _ {c w d e : Room} {m last count count' : ℕ} {fs old new cs : List Bloc
   ends_are bs = last_or-append None fs (bs ++ cs) ∙ last_or-append (last_or None fs) bs cs
 
   module _ (link : Option ℕ) (f : Node → Node) (linked : IsRelinked link f w d) (beside : (z : ℕ) → link ≡ Some z → 1 ≤ count_named z fs + count_named z cs) where
-    finish : (last' : ℕ) → IsRow d None 0 fs (first_or (first_or None cs) new) → IsRow d (last_or (last_or None fs) new) (units fs + units new) cs None → last_or (last_or (last_or None fs) new) cs ≡ Some last' → units fs + (units new + units cs) < 2 ^ 32 → IsChain e m last' count' (fs ++ (new ++ cs))
+    finish : (last' : ℕ) → IsRow d None 0 fs (first_or (first_or None cs) new) → IsRow d (last_or (last_or None fs) new) (units fs + units new) cs None
+        → last_or (last_or (last_or None fs) new) cs ≡ Some last' → units fs + (units new + units cs) < 2 ^ 32 → IsChain e m last' count' (fs ++ (new ++ cs))
     finish last' before after ends fits =
         let zero_is : 0 + units fs ≡ units fs = omega arith in
         let middle = IsRow-kept w d (last_or None fs) (units fs) new (first_or None cs) (λ k l. relinked_other f w d link k linked (λ q. omega (arith, (apart k (beside k q)).1))) x.row in
@@ -153,11 +164,13 @@ module _ {c w d e : Room} {m last count count' : ℕ} {fs old new cs : List Bloc
           memory = x.memory ∙ h.memory;
           within = omega (arith, cells, h.within);
           stack = x.stack ∙ h.stack ∙ sym cells;
-          row = IsRow-kept d e None 0 _ None (λ k _. node_same d e k x.same) (IsRow-append d None 0 fs (new ++ cs) None (rw first_or-append before) (rw zero_is (IsRow-append d (last_or None fs) (units fs) new cs None middle after)));
+          row = IsRow-kept d e None 0 _ None (λ k _. node_same d e k x.same)
+              (IsRow-append d None 0 fs (new ++ cs) None (rw first_or-append before) (rw zero_is (IsRow-append d (last_or None fs) (units fs) new cs None middle after)));
           ends = ends_are new ∙ ends;
           each = λ k. rw cells (omega (arith, h.each k, x.names k, times-append k fs (old ++ cs), times-append k old cs, times-append k fs (new ++ cs), times-append k new cs));
           idle = λ k none.
-              let no : (count_named k new ≡ 0) × (count_named k fs + count_named k cs ≡ 0) = (omega (arith, times-append k fs (new ++ cs), times-append k new cs), omega (arith, times-append k fs (new ++ cs), times-append k new cs)) in
+              let no : (count_named k new ≡ 0) × (count_named k fs + count_named k cs ≡ 0) =
+              (omega (arith, times-append k fs (new ++ cs), times-append k new cs), omega (arith, times-append k fs (new ++ cs), times-append k new cs)) in
               ap (λ (v : Node). v.used) (node_same d e k x.same ∙ relinked_other f w d link k linked (λ q. omega (arith, beside k q, no.1))) ∙ elim (cases_eq (count_named k old) 0) [
                 | inl z ↦ ap (λ (v : Node). v.used) (x.others k z no.0) ∙ h.idle k (omega (arith, no.1, times-append k fs (old ++ cs), times-append k old cs))
                 | inr z ↦ x.gone k (omega arith) no.0
@@ -180,12 +193,15 @@ module _ {c w d e : Room} {m last count count' : ℕ} {fs old new cs : List Bloc
 
   -- the block after them is linked back to the last of the new ones, or this is the last of all
   pub link_back : (last' y : ℕ) → IsRelinked (first_or None cs) (back_to y) w d → last_or (last_or None fs) new ≡ Some y
-      → first_or (first_or None cs) new ≡ first_or (first_or None cs) old → units new ≡ units old → MatchOption (first_or None cs) (last' ≡ y) (λ _. last' ≡ last) → IsChain e m last' count' (fs ++ (new ++ cs))
+      → first_or (first_or None cs) new ≡ first_or (first_or None cs) old → units new ≡ units old → MatchOption (first_or None cs) (last' ≡ y) (λ _. last' ≡ last)
+      → IsChain e m last' count' (fs ++ (new ++ cs))
   link_back last' y linked final first even moved =
       let none : (k : ℕ) → 1 ≤ count_named k fs → first_or None cs ≢ Some k = λ k l q. omega (arith, once k, times-first k cs q) in
       finish (first_or None cs) (back_to y) linked (λ z q. omega (arith, times-first z cs q)) last'
       (rw first (IsRow-kept w d None 0 fs _ (λ k l. relinked_other (back_to y) w d (first_or None cs) k linked (none k l)) front))
-      (rw (final, even) (IsRow-moved w d _ (Some y) _ cs None (λ k. omega (arith, once k)) (λ z q. relinked_at (back_to y) w d (first_or None cs) z linked q (apart z (omega (arith, times-first z cs q))).2) (λ k l ne. relinked_other (back_to y) w d (first_or None cs) k linked ne) back))
+      (rw (final, even) (IsRow-moved w d _ (Some y) _ cs None (λ k. omega (arith, once k))
+      (λ z q. relinked_at (back_to y) w d (first_or None cs) z linked q (apart z (omega (arith, times-first z cs q))).2)
+      (λ k l ne. relinked_other (back_to y) w d (first_or None cs) k linked ne) back))
       (rw final (go cs moved (sym (ends_are old) ∙ h.ends)))
       (fits_still even)
     where
@@ -199,7 +215,8 @@ module _ {c w d e : Room} {m last count count' : ℕ} {fs old new cs : List Bloc
   link_on y linked first final even =
       let none : (k : ℕ) → 1 ≤ count_named k cs → last_or None fs ≢ Some k = λ k l q. omega (arith, once k, times-end k fs q) in
       finish (last_or None fs) (on_to y) linked (λ z q. omega (arith, times-end z fs q)) last
-      (rw first (IsRow-aimed w d None 0 fs _ (Some y) (λ k. omega (arith, once k)) (λ z q. relinked_at (on_to y) w d (last_or None fs) z linked q (apart z (omega (arith, times-end z fs q))).2) (λ k l ne. relinked_other (on_to y) w d (last_or None fs) k linked ne) front))
+      (rw first (IsRow-aimed w d None 0 fs _ (Some y) (λ k. omega (arith, once k)) (λ z q. relinked_at (on_to y) w d (last_or None fs) z linked q (apart z (omega (arith, times-end z fs q))).2)
+      (λ k l ne. relinked_other (on_to y) w d (last_or None fs) k linked ne) front))
       (rw (final, even) (IsRow-kept w d _ _ cs None (λ k l. relinked_other (on_to y) w d (last_or None fs) k linked (none k l)) back))
       (rw final (sym (ends_are old) ∙ h.ends))
       (fits_still even)

@@ -1,10 +1,12 @@
 -- What more units at the end leave of the whole allocator.
-use Rattle.std.proofs.Common.{◌≡◌, ◌↔◌, ℕ, ◌+◌, ◌-◌, ◌<◌, ◌≤◌, ◌^◌, Bool, true, false, not, ◌⊎◌, List, [], ◌∷◌, ◌++◌, length, refl, sym, ap, subst, ◌∙◌, inl, inr, arith, slice_set, append-nil}
+use Rattle.std.proofs.Common.{◌≡◌, ◌↔◌, ℕ, ◌+◌, ◌-◌, ◌<◌, ◌≤◌, ◌^◌, Bool, true, false, not, ◌⊎◌, List, [], ◌∷◌, ◌++◌, length, refl, sym, ap, subst}
+use Rattle.std.proofs.Common.{◌∙◌, inl, inr, arith, slice_set, append-nil}
 use Rattle.std.proofs.lemmas.Bool.{true≢false, false≢true}
 use Rattle.offset_allocator.specs.Classes.{down}
 use Rattle.offset_allocator.specs.Cells.{Cells, Room, Node, node}
 use Rattle.std.specs.List.{AllByRecursion}
-use Rattle.offset_allocator.specs.View.{Block, View, count_named, bin_at, count_in_bin, is_free, IsApart, IsWellFormed, IsNew, free_block, units, replace, remove_all, push, remove, without, times, ends_used}
+use Rattle.offset_allocator.specs.View.{Block, View, count_named, bin_at, count_in_bin, is_free, IsApart, IsWellFormed, IsNew, free_block, units, replace, remove_all, push, remove, without, times}
+use Rattle.offset_allocator.specs.View.{ends_used}
 use Rattle.offset_allocator.specs.Requests.{HasRoomFor}
 use Rattle.offset_allocator.specs.Ranges.{KeepsAll}
 use Rattle.offset_allocator.specs.Relations.{Adds, CanExtend, Extends}
@@ -116,7 +118,8 @@ module _ {it : Fields} {more : ℕ} {used : Bool} (r : Growth it more used) wher
       let new : Fields = record it { size = it.size + more; cells = d; last = last; count = count; top = top; free = it.free + more; accesses = k } in
       AreSound new × Adds more (shown it) (shown new) × KeepsAll (shown it) (shown new)
 
-  grown : (d : Cells) {last count top : ℕ} (k x : ℕ) (before old : List Block) → bs ≡ before ++ old → ends_free before ≡ false → AllByRecursion (λ b. b.used ≡ false) old → AllByRecursion (λ b. b.name ≡ x) old
+  grown : (d : Cells) {last count top : ℕ} (k x : ℕ) (before old : List Block) → bs ≡ before ++ old → ends_free before ≡ false → AllByRecursion (λ b. b.used ≡ false) old
+      → AllByRecursion (λ b. b.name ≡ x) old
       → (1 ≤ count_named x old) ⊎ IsNew x v → (1 ≤ length old) ⊎ (length bs + 1 < it.limit) → (old ≡ [] → IsNew x v)
       → IsChain d.room it.cells.room.reserved last count (before ++ free_block x (units old + more) ∷ []) → IsBinned it.max d.links top
       → bins_in it.max d.links ≡ push (down (units old + more)) x (remove_all old ls) → Grown d last count top k
@@ -125,27 +128,50 @@ module _ {it : Fields} {more : ℕ} {used : Bool} (r : Growth it more used) wher
       let well = well_added v w more x before old e closed name spare r.fits in
       let total = free_units-append before old in
       let left = stepped it s left_view d (it.free + more) k well refl chain refl bins lists
-      (free_units-append before (free_block x (units old + more) ∷ []) ∙ omega (arith, r.sound.total, ap free_units e, total, idle_units old idle, free_units-free (free_block x (units old + more)) [] refl)) in
-      let added : Adds more v (shown (record it { size = it.size + more; cells = d; last = last; count = count; top = top; free = it.free + more; accesses = k })) = record { before = before; last = old; blocks = e; free = idle; name = x; named = named; new = λ n. new n; view = left.1; apart = subst IsApart (sym (ap (λ (u : View). u.blocks) left.1)) well.apart } in
+      (free_units-append before (free_block x (units old + more) ∷ [])
+      ∙ omega (arith, r.sound.total, ap free_units e, total, idle_units old idle, free_units-free (free_block x (units old + more)) [] refl)) in
+      let added : Adds more v (shown (record it { size = it.size + more; cells = d; last = last; count = count; top = top; free = it.free + more; accesses = k })) =
+      record {
+        before = before;
+        last = old;
+        blocks = e;
+        free = idle;
+        name = x;
+        named = named;
+        new = λ n. new n;
+        view = left.1;
+        apart = subst IsApart (sym (ap (λ (u : View). u.blocks) left.1)) well.apart;
+      } in
       (left.0, added, adds_keep v _ w (well_same left_view _ left.1 well) more added)
 
 -- after a used block
 module _ {it : Fields} {more : ℕ} (r : Growth it more true) where
   pub split_fits : (y n : ℕ) → n ≡ (node it.cells.room it.last).size → units ((end r).front ++ record (end r).last { size = n } ∷ free_block y ((end r).last.size - n) ∷ []) + more < 2 ^ 32
-  split_fits y n e = omega (arith, e, size_at_end r, units_fit r, ap units (end r).is, units-append (end r).front ((end r).last ∷ []), units-append (end r).front (record (end r).last { size = n } ∷ free_block y ((end r).last.size - n) ∷ []))
+  split_fits y n e = omega (
+    arith,
+    e,
+    size_at_end r,
+    units_fit r,
+    ap units (end r).is,
+    units-append (end r).front ((end r).last ∷ []),
+    units-append (end r).front (record (end r).last { size = n } ∷ free_block y ((end r).last.size - n) ∷ []),
+  )
 
   pub append_unlisted : (y : ℕ) → count_named y ((end r).front ++ (end r).last ∷ []) ≡ 0 → IsUnlisted y (bins_in it.max it.cells.links)
   append_unlisted y e = unused_unlisted (shown it) (w r) y (ap (count_named y) (end r).is ∙ e)
 
   pub appended : (d : Cells) (k : ℕ) {last count top y n : ℕ} → HasRoomFor 1 (shown it) → n ≡ (node it.cells.room it.last).size
-      → IsChain d.room it.cells.room.reserved last count (((end r).front ++ record (end r).last { size = n } ∷ []) ++ free_block y (((end r).last.size - n) + more) ∷ []) → IsBinned it.max d.links top
-      → bins_in it.max d.links ≡ push (down more) y (bins_in it.max it.cells.links) → count_named y ((end r).front ++ (end r).last ∷ []) ≡ 0 → y < length it.cells.room.nodes → Grown r d last count top k
+      → IsChain d.room it.cells.room.reserved last count (((end r).front ++ record (end r).last { size = n } ∷ []) ++ free_block y (((end r).last.size - n) + more) ∷ [])
+      → IsBinned it.max d.links top
+      → bins_in it.max d.links ≡ push (down more) y (bins_in it.max it.cells.links) → count_named y ((end r).front ++ (end r).last ∷ []) ≡ 0 → y < length it.cells.room.nodes
+      → Grown r d last count top k
   appended d k {y = y} {n = n} room e chain bins eo new below =
       let whole : n ≡ (end r).last.size = e ∙ size_at_end r in
       let none : (end r).last.size - (end r).last.size ≡ 0 = omega arith in
       let sum : 0 + more ≡ more = omega arith in
       let unused : IsNew y (shown it) = record { below = omega (arith, below, r.sound.space.within, r.sound.memory); absent = ap (count_named y) (end r).is ∙ new } in
-      grown r d k y ((end r).front ++ (end r).last ∷ []) [] ((end r).is ∙ sym (append-nil _)) (ends_free_last (end r).front (end r).last ∙ ap not (b_used r)) tt tt (inr unused) (inr room) (λ _. unused)
+      grown r d k y ((end r).front ++ (end r).last ∷ []) [] ((end r).is ∙ sym (append-nil _)) (ends_free_last (end r).front (end r).last ∙ ap not (b_used r)) tt tt
+      (inr unused) (inr room) (λ _. unused)
       (rw (whole, none) at chain) bins (rw sum eo)
 
 -- the last block is free
@@ -168,12 +194,22 @@ module _ {it : Fields} {more : ℕ} (r : Growth it more false) where
       let l : List (List ℕ) = bins_in it.max it.cells.links in
       let bs : List Block = blocks it.cells.room it.last in
       let known = w r in
-      let split : (k y : ℕ) → count_in_bin k y bs ≡ count_in_bin k y (end r).front + count_in_bin k y ((end r).last ∷ []) = λ k y. ap (count_in_bin k y) (end r).is ∙ tally_append (share k y) (end r).front ((end r).last ∷ []) in
-      let left = times_remove_all ((end r).last ∷ []) l known.classes (λ k y. omega (arith, known.orders k y, known.distinct y, listed_named k y bs)) (λ k y. omega (arith, known.orders k y, split k y)) d it.last in
-      let alone : count_named it.last (end r).front ≡ 0 = omega (arith, known.distinct it.last, ap (count_named it.last) (end r).is, times-append it.last (end r).front ((end r).last ∷ []), one-eq it.last (end r).last.name (end r).name) in
-      let there : 1 ≤ times it.last (bin_at (remove_all ((end r).last ∷ []) l) d) = rw is_left at a in omega (arith, there, left, known.orders d it.last, split d it.last, listed_named d it.last (end r).front, alone)
+      let split : (k y : ℕ) → count_in_bin k y bs ≡ count_in_bin k y (end r).front + count_in_bin k y ((end r).last ∷ []) = λ k y. ap (count_in_bin k y) (end r).is
+      ∙ tally_append (share k y) (end r).front ((end r).last ∷ []) in
+      let left = times_remove_all ((end r).last ∷ []) l known.classes (λ k y. omega (arith, known.orders k y, known.distinct y, listed_named k y bs))
+      (λ k y. omega (arith, known.orders k y, split k y)) d it.last in
+      let alone : count_named it.last (end r).front ≡ 0 = omega (
+        arith,
+        known.distinct it.last,
+        ap (count_named it.last) (end r).is,
+        times-append it.last (end r).front ((end r).last ∷ []),
+        one-eq it.last (end r).last.name (end r).name,
+      ) in
+      let there : 1 ≤ times it.last (bin_at (remove_all ((end r).last ∷ []) l) d) = rw is_left at a in
+      omega (arith, there, left, known.orders d it.last, split d it.last, listed_named d it.last (end r).front, alone)
 
-  pub widened : (d : Cells) (k : ℕ) {count top : ℕ} → IsChain d.room it.cells.room.reserved it.last count ((end r).front ++ record (end r).last { size = (end r).last.size + more } ∷ []) → IsBinned it.max d.links top
+  pub widened : (d : Cells) (k : ℕ) {count top : ℕ} → IsChain d.room it.cells.room.reserved it.last count ((end r).front ++ record (end r).last { size = (end r).last.size + more } ∷ [])
+      → IsBinned it.max d.links top
       → bins_in it.max d.links ≡ push (down ((node it.cells.room it.last).size + more)) it.last widen_left → Grown r d it.last count top k
   widened d k chain bins eo =
       let size_is : (node it.cells.room it.last).size ≡ units ((end r).last ∷ []) = omega (arith, size_at_end r) in
@@ -186,7 +222,18 @@ module _ {it : Fields} {more : ℕ} (r : Growth it more false) where
 
 -- what was counted before changes nothing of it
 pub adds_counted : (more : ℕ) (v w : View) (accesses : ℕ) → Adds more (record v { accesses = accesses }) w → Adds more v w
-adds_counted more v w accesses g = record { before = g.before; last = g.last; blocks = g.blocks; free = g.free; name = g.name; named = g.named; new = λ n. let u = g.new n in record { below = u.below; absent = u.absent }; view = g.view; apart = g.apart }
+adds_counted more v w accesses g = record {
+  before = g.before;
+  last = g.last;
+  blocks = g.blocks;
+  free = g.free;
+  name = g.name;
+  named = g.named;
+  new = λ n. let u = g.new n in
+      record { below = u.below; absent = u.absent };
+  view = g.view;
+  apart = g.apart;
+}
 
 -- when it is done
 pub extends_done : (more : ℕ) (v w : View) (done : Bool) → Extends more v w done → (done ≡ true) ↔ (1 ≤ more → CanExtend more v)

@@ -1,5 +1,6 @@
 -- A table for each field as a list of nodes.
-use Rattle.std.proofs.Common.{◌≡◌, ◌≢◌, ℕ, zero, suc, ◌+◌, ◌-◌, [], ◌∷◌, ◌++◌, ◌<◌, ◌≤◌, List, length, map, set, get_or, refl, sym, ◌∙◌, ap, ap₂, arith, Bool, true, false, Option, Some, None, if◌then◌else◌, eqb, eq-eqb, ne_eqb}
+use Rattle.std.proofs.Common.{◌≡◌, ◌≢◌, ℕ, zero, suc, ◌+◌, ◌-◌, [], ◌∷◌, ◌++◌, ◌<◌, ◌≤◌, List, length, map, set, get_or, refl, sym, ◌∙◌, ap, ap₂}
+use Rattle.std.proofs.Common.{arith, Bool, true, false, Option, Some, None, if◌then◌else◌, eqb, eq-eqb, ne_eqb}
 use Rattle.std.proofs.lemmas.List.{get_or-set_same, get_or-set_other, length-map, length-append, length-set, map-append, map-set, set-get_or}
 use Rattle.std.specs.Prelude.{vec_capacity}
 use Rattle.offset_allocator.specs.Cells.{Cells, Node, blank, link_of, mark_of, node, put, AreShaped}
@@ -25,7 +26,8 @@ module _ {X : Type 0} where
   pub values_set : (f g : ℕ → X) (n x : ℕ) → ((i : ℕ) → i ≢ x → g i ≡ f i) → values g n ≡ set (values f n) x (g x)
   values_set f g zero x h = refl
   values_set f g (suc n) zero h = ap (λ (xs : List X). g 0 ∷ xs) (values_same (λ i. f (suc i)) (λ i. g (suc i)) n (λ i l. h (suc i) (λ e. absurd (omega (arith, e)))))
-  values_set f g (suc n) (suc x) h = ap₂ (λ (y : X) (xs : List X). y ∷ xs) (h 0 (λ e. absurd (omega (arith, e)))) (values_set (λ i. f (suc i)) (λ i. g (suc i)) n x (λ i ne. h (suc i) (λ e. ne (omega (arith, e)))))
+  values_set f g (suc n) (suc x) h = ap₂ (λ (y : X) (xs : List X). y ∷ xs) (h 0 (λ e. absurd (omega (arith, e))))
+      (values_set (λ i. f (suc i)) (λ i. g (suc i)) n x (λ i ne. h (suc i) (λ e. ne (omega (arith, e)))))
 
   pub values_more : (f : ℕ → X) (n : ℕ) → values f (suc n) ≡ values f n ++ f n ∷ []
   values_more f zero = refl
@@ -81,17 +83,32 @@ module _ (max : ℕ) where
   no_link = ap (λ (b : Bool). if b then None else Some max) (eq-eqb max max refl)
 
   -- a blank node more
-  pub pushed : (t u : FieldTables) → 1 ≤ max → length t.size ≡ length t.offset → length t.before ≡ length t.offset → length t.after ≡ length t.offset → length t.newer ≡ length t.offset
+  pub pushed : (t u : FieldTables) → 1 ≤ max → length t.size ≡ length t.offset → length t.before ≡ length t.offset → length t.after ≡ length t.offset
+      → length t.newer ≡ length t.offset
       → u.offset ≡ t.offset ++ 0 ∷ [] → u.size ≡ t.size ++ 0 ∷ [] → u.before ≡ t.before ++ max ∷ [] → u.after ≡ t.after ++ max ∷ [] → u.newer ≡ t.newer ++ max ∷ []
       → nodes_in max u ≡ nodes_in max t ++ blank ∷ []
   pushed t u some ls lb la ln o s b a n =
       let len : length u.offset ≡ length t.offset + 1 = ap (λ (l : List ℕ). length l) o ∙ length-append t.offset (0 ∷ []) in
-      let old : (i : ℕ) → i < length t.offset → node_in max u i ≡ node_in max t i = λ i l. rw (o, s, b, a, n, kept t.offset 0 i l, kept t.size 0 i (omega (arith, l, ls)), kept t.before max i (omega (arith, l, lb)), kept t.after max i (omega (arith, l, la)), kept t.newer max i (omega (arith, l, ln))) refl in
+      let old : (i : ℕ) → i < length t.offset → node_in max u i ≡ node_in max t i =
+      λ i l. rw (
+        o,
+        s,
+        b,
+        a,
+        n,
+        kept t.offset 0 i l,
+        kept t.size 0 i (omega (arith, l, ls)),
+        kept t.before max i (omega (arith, l, lb)),
+        kept t.after max i (omega (arith, l, la)),
+        kept t.newer max i (omega (arith, l, ln)),
+      ) refl in
       let used : eqb max (max - 1) ≡ false = ne_eqb max (max - 1) (λ e. omega (arith, e, some)) in
-      let new : node_in max u (length t.offset) ≡ blank = rw (o, s, b, a, n, added t.offset 0 _ refl, added t.size 0 _ ls, added t.before max _ lb, added t.after max _ la, added t.newer max _ ln, used, no_link) refl in
+      let new : node_in max u (length t.offset) ≡ blank =
+      rw (o, s, b, a, n, added t.offset 0 _ refl, added t.size 0 _ ls, added t.before max _ lb, added t.after max _ la, added t.newer max _ ln, used, no_link) refl in
       nodes_added t u len old ∙ ap (λ (v : Node). nodes_in max t ++ v ∷ []) new
 
-  pub first_node : (u : FieldTables) → 1 ≤ max → u.offset ≡ 0 ∷ [] → u.size ≡ 0 ∷ [] → u.before ≡ max ∷ [] → u.after ≡ max ∷ [] → u.newer ≡ max ∷ [] → nodes_in max u ≡ blank ∷ []
+  pub first_node : (u : FieldTables) → 1 ≤ max → u.offset ≡ 0 ∷ [] → u.size ≡ 0 ∷ [] → u.before ≡ max ∷ [] → u.after ≡ max ∷ [] → u.newer ≡ max ∷ []
+      → nodes_in max u ≡ blank ∷ []
   unfolding nodes_in
   first_node u some o s b a n = pushed (record { offset = []; size = []; before = []; after = []; newer = [] }) u some refl refl refl refl o s b a n
 
@@ -163,9 +180,11 @@ module _ {A B : Type 0} (max : ℕ) (number : A → ℕ) (t : Inside A B) {c : C
 
 -- other tables of the same lengths and memory
 pub level_kept : {A B : Type 0} (max : ℕ) (t u : Inside A B) → AreLevel max t
-    → length u.offset.items ≡ length t.offset.items → length u.size.items ≡ length t.size.items → length u.before.items ≡ length t.before.items → length u.after.items ≡ length t.after.items
+    → length u.offset.items ≡ length t.offset.items → length u.size.items ≡ length t.size.items → length u.before.items ≡ length t.before.items
+    → length u.after.items ≡ length t.after.items
     → length u.newer.items ≡ length t.newer.items → length u.older.items ≡ length t.older.items → length u.spare.items ≡ length t.spare.items
-    → vec_capacity u.offset ≡ vec_capacity t.offset → vec_capacity u.size ≡ vec_capacity t.size → vec_capacity u.before ≡ vec_capacity t.before → vec_capacity u.after ≡ vec_capacity t.after
+    → vec_capacity u.offset ≡ vec_capacity t.offset → vec_capacity u.size ≡ vec_capacity t.size → vec_capacity u.before ≡ vec_capacity t.before
+    → vec_capacity u.after ≡ vec_capacity t.after
     → vec_capacity u.newer ≡ vec_capacity t.newer → vec_capacity u.older ≡ vec_capacity t.older → vec_capacity u.spare ≡ vec_capacity t.spare
     → length u.heads ≡ length t.heads → length u.masks ≡ length t.masks → AreLevel max u
 level_kept max t u h o s b a n d p co cs cb ca cn cd cp hs ms = record {

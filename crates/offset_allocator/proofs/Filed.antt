@@ -20,7 +20,12 @@ share k y b = one (is_free b && (nat_eq k (down b.size) && nat_eq y b.name))
 pub counts_once : {c : Room} {m last count y : ℕ} {p : Place} → HasPlace c m last count y p → (node c y).used ≡ false → share (down (node c y).size) y p.block ≡ 1
 counts_once {c} {y = y} {p = p} h u =
     let at = at_place h in
-    rw (ap (λ (v : Node). v.size) at, ← ap (λ (v : Node). v.used) at, u, h.name) (elim (hit_cases (down p.block.size) (down p.block.size)) [ inl a ↦ elim (hit_cases y y) [ inl b ↦ both _ _ a.1 b.1 | inr b ↦ absurd (b.0 refl) ] | inr a ↦ absurd (a.0 refl) ])
+    rw (
+      ap (λ (v : Node). v.size) at,
+      ← ap (λ (v : Node). v.used) at,
+      u,
+      h.name,
+    ) (elim (hit_cases (down p.block.size) (down p.block.size)) [ inl a ↦ elim (hit_cases y y) [ inl b ↦ both _ _ a.1 b.1 | inr b ↦ absurd (b.0 refl) ] | inr a ↦ absurd (a.0 refl) ])
   where
     both : (a b : Bool) → one a ≡ 1 → one b ≡ 1 → one (a && b) ≡ 1
     both true b e f = f
@@ -49,7 +54,8 @@ module _ {c : Room} {m last count x : ℕ} {p : Place} (h : HasPlace c m last co
   -- a free block before it leaves its bin
   pub filed_before : length ls ≡ 256 → AreInBins (without_end p.before ++ p.after) (remove_all (free_end p.before) ls)
   filed_before long k y =
-      let parts : (k y : ℕ) → count_in_bin k y (p.before ++ p.after) ≡ (count_in_bin k y (without_end p.before) + count_in_bin k y (free_end p.before)) + count_in_bin k y p.after = λ k y. omega (arith, tally_append (share k y) p.before p.after, tally_end (share k y) p.before) in
+      let parts : (k y : ℕ) → count_in_bin k y (p.before ++ p.after) ≡ (count_in_bin k y (without_end p.before) + count_in_bin k y (free_end p.before)) + count_in_bin k y p.after =
+      λ k y. omega (arith, tally_append (share k y) p.before p.after, tally_end (share k y) p.before) in
       let left = times_remove_all (free_end p.before) ls long (λ k y. omega (arith, f k y, listed_named k y (p.before ++ p.after), few h y)) (λ k y. omega (arith, f k y, parts k y)) in
       omega (arith, f k y, parts k y, left k y, tally_append (share k y) (without_end p.before) p.after)
 
@@ -57,16 +63,26 @@ module _ {c : Room} {m last count x : ℕ} {p : Place} (h : HasPlace c m last co
 module _ {c : Room} {m last count x : ℕ} {p : Place} (h : HasPlace c m last count x p) (ls : List (List ℕ)) (f : AreInBins (p.before ++ p.after) ls) (long : length ls ≡ 256) where
   pub filed_after : AreInBins (p.before ++ without_start p.after) (remove_all (free_start p.after) ls)
   filed_after k y =
-      let parts : (k y : ℕ) → count_in_bin k y (p.before ++ p.after) ≡ count_in_bin k y p.before + (count_in_bin k y (free_start p.after) + count_in_bin k y (without_start p.after)) = λ k y. omega (arith, tally_append (share k y) p.before p.after, tally_start (share k y) p.after) in
+      let parts : (k y : ℕ) → count_in_bin k y (p.before ++ p.after) ≡ count_in_bin k y p.before + (count_in_bin k y (free_start p.after) + count_in_bin k y (without_start p.after)) =
+      λ k y. omega (arith, tally_append (share k y) p.before p.after, tally_start (share k y) p.after) in
       let left = times_remove_all (free_start p.after) ls long (λ k y. omega (arith, f k y, listed_named k y (p.before ++ p.after), few h y)) (λ k y. omega (arith, f k y, parts k y)) in
       omega (arith, f k y, parts k y, left k y, tally_append (share k y) p.before (without_start p.after))
 
   -- then a name that no block has is in no bin
   pub unlisted_after : (n : ℕ) → AreUnlisted (p.before ++ record p.block { size = n } ∷ without_start p.after) (remove_all (free_start p.after) ls)
-  unlisted_after n y e k b a = omega (arith, e, a, filed_after k y, listed_named k y (p.before ++ without_start p.after), times-append y p.before (without_start p.after), times-append y p.before (record p.block { size = n } ∷ without_start p.after))
+  unlisted_after n y e k b a = omega (
+    arith,
+    e,
+    a,
+    filed_after k y,
+    listed_named k y (p.before ++ without_start p.after),
+    times-append y p.before (without_start p.after),
+    times-append y p.before (record p.block { size = n } ∷ without_start p.after),
+  )
 
 -- the block after a block is the same, whatever became of those before it
-pub next_same : {c d : Room} {m last count last' count' x y : ℕ} {p q : Place} → HasPlace c m last count x p → HasPlace d m last' count' x q → p.after ≡ q.after → Some y ≡ (node c x).after → (Some y ≡ (node d x).after) × ((node d y).used ≡ (node c y).used)
+pub next_same : {c d : Room} {m last count last' count' x y : ℕ} {p q : Place} → HasPlace c m last count x p → HasPlace d m last' count' x q → p.after ≡ q.after
+    → Some y ≡ (node c x).after → (Some y ≡ (node d x).after) × ((node d y).used ≡ (node c y).used)
 next_same {c} {d} {x = x} {y = y} h g same e =
     let n = next_place h e in
     let e' : Some y ≡ (node d x).after = e ∙ ap (λ (v : Node). v.after) (at_place h) ∙ ap (first_or None) same ∙ sym (ap (λ (v : Node). v.after) (at_place g)) in

@@ -1,5 +1,6 @@
 -- The first and the last class that has a name, by the masks.
-use Rattle.std.proofs.Common.{◌≡◌, ◌≢◌, ◌<◌, ◌≤◌, ℕ, suc, ◌+◌, ◌-◌, ◌*◌, ◌/◌, ◌%◌, ◌^◌, List, [], ◌∷◌, bit_and, refl, sym, ap, ◌∙◌, inl, inr, arith, slice_index, w32, w64, ne_eqb, pow-suc, ⊎_elim}
+use Rattle.std.proofs.Common.{◌≡◌, ◌≢◌, ◌<◌, ◌≤◌, ℕ, suc, ◌+◌, ◌-◌, ◌*◌, ◌/◌, ◌%◌, ◌^◌, List, [], ◌∷◌, bit_and, refl, sym, ap, ◌∙◌, inl}
+use Rattle.std.proofs.Common.{inr, arith, slice_index, w32, w64, ne_eqb, pow-suc, ⊎_elim}
 use mir.Val.{bits}
 use Rattle.std.specs.Int.{bit_at, Width, trailing_zeros}
 use Rattle.std.specs.Int.Count.{count_trailing_zeros, count_leading_zeros}
@@ -27,7 +28,8 @@ module _ (w : Width) (n k : ℕ) (small : n < 2 ^ bits w) (within : k ≤ bits w
   pub none_from : bit_and n ((2 ^ bits w - 1) * 2 ^ k % 2 ^ bits w) ≡ 0 → (i : ℕ) → k ≤ i → i < bits w → bit_at n i ≡ 0
   none_from z i l h = sym (masked_from i l h) ∙ ap (λ x. bit_at x i) z ∙ bit_at-zero i
 
-  pub least_from : bit_and n ((2 ^ bits w - 1) * 2 ^ k % 2 ^ bits w) ≢ 0 → (t : ℕ) → t ≡ trailing_zeros w (bit_and n ((2 ^ bits w - 1) * 2 ^ k % 2 ^ bits w)) → (k ≤ t) × (t < bits w) × (bit_at n t ≡ 1) × ((i : ℕ) → k ≤ i → i < t → bit_at n i ≡ 0)
+  pub least_from : bit_and n ((2 ^ bits w - 1) * 2 ^ k % 2 ^ bits w) ≢ 0 → (t : ℕ) → t ≡ trailing_zeros w (bit_and n ((2 ^ bits w - 1) * 2 ^ k % 2 ^ bits w)) → (k ≤ t) × (t < bits w)
+      × (bit_at n t ≡ 1) × ((i : ℕ) → k ≤ i → i < t → bit_at n i ≡ 0)
   least_from z t e =
       let m : ℕ = bit_and n ((2 ^ bits w - 1) * 2 ^ k % 2 ^ bits w) in
       let p : 0 < m = omega arith in
@@ -59,7 +61,12 @@ module _ {ls : List (List ℕ)} {masks : List ℕ} {top : ℕ} (k : AreMasks ls 
 
   clear_word : (c : ℕ) → c < 256 → bit_at top (c / 64) ≡ 0 → bin_at ls c ≡ []
   clear_word c h z =
-      let e : slice_index masks (c / 64) ≡ 0 = elim (cases_eq (slice_index masks (c / 64)) 0) [ inl e ↦ e | inr n ↦ absurd (let m : mark (slice_index masks (c / 64)) ≡ 1 = rw (ne_eqb _ 0 n) in omega (arith, k.tops (c / 64) (omega arith))) ] in
+      let e : slice_index masks (c / 64) ≡ 0 =
+      elim (cases_eq (slice_index masks (c / 64)) 0) [
+        | inl e ↦ e
+        | inr n ↦ absurd (let m : mark (slice_index masks (c / 64)) ≡ 1 = rw (ne_eqb _ 0 n) in
+            omega (arith, k.tops (c / 64) (omega arith)))
+      ] in
       clear c h (rw e (bit_at-zero (c % 64)))
 
   full : (w t : ℕ) → w < 4 → t < 64 → bit_at (slice_index masks w) t ≡ 1 → bin_at ls (w * 64 + t) ≡ [] → ⊥
@@ -104,7 +111,8 @@ module _ {ls : List (List ℕ)} {masks : List ℕ} {top : ℕ} (k : AreMasks ls 
       ]
 
       module _ (y : ws ≢ 0) where
-        lowest : (c / 64 + 1 ≤ count_trailing_zeros 32 ws) × (count_trailing_zeros 32 ws < 32) × (bit_at top (count_trailing_zeros 32 ws) ≡ 1) × ((i : ℕ) → c / 64 + 1 ≤ i → i < count_trailing_zeros 32 ws → bit_at top i ≡ 0)
+        lowest : (c / 64 + 1 ≤ count_trailing_zeros 32 ws) × (count_trailing_zeros 32 ws < 32) × (bit_at top (count_trailing_zeros 32 ws) ≡ 1)
+            × ((i : ℕ) → c / 64 + 1 ≤ i → i < count_trailing_zeros 32 ws → bit_at top i ≡ 0)
         lowest = least_from w32 top (c / 64 + 1) top_low (omega arith) (rw we at y) (count_trailing_zeros 32 ws) (ap (count_trailing_zeros 32) we)
 
         pub word_below : count_trailing_zeros 32 ws < 4

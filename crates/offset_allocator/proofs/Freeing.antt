@@ -1,9 +1,11 @@
 -- What it leaves of the whole allocator to free a block.
-use Rattle.std.proofs.Common.{◌≡◌, ℕ, ◌+◌, ◌<◌, ◌^◌, Bool, true, false, not, ◌&&◌, List, [], ◌∷◌, ◌++◌, Option, Some, None, if◌then◌else◌, refl, sym, ap, ap₂, subst, ◌∙◌, arith, nat_eq}
+use Rattle.std.proofs.Common.{◌≡◌, ℕ, ◌+◌, ◌<◌, ◌^◌, Bool, true, false, not, ◌&&◌, List, [], ◌∷◌, ◌++◌, Option, Some, None, if◌then◌else◌, refl, sym, ap, ap₂}
+use Rattle.std.proofs.Common.{subst, ◌∙◌, arith, nat_eq}
 use Rattle.std.proofs.lemmas.Bool.{false≢true}
 use Rattle.offset_allocator.specs.Classes.{down}
 use Rattle.offset_allocator.specs.Cells.{Cells}
-use Rattle.offset_allocator.specs.View.{Block, View, Place, one, count_named, count_in_bin, IsWellFormed, units, place_of, is_used_at, free_end, without_end, free_start, without_start, remove_all, push, free_block, replace, IsApart, remove}
+use Rattle.offset_allocator.specs.View.{Block, View, Place, one, count_named, count_in_bin, IsWellFormed, units, place_of, is_used_at, free_end, without_end, free_start, without_start, remove_all}
+use Rattle.offset_allocator.specs.View.{push, free_block, replace, IsApart, remove}
 use Rattle.offset_allocator.specs.Chain.{IsChain, HasPlace, blocks}
 use Rattle.offset_allocator.specs.Bins.{bins_in, IsBinned}
 use Rattle.offset_allocator.specs.Soundness.{IsSound, view_of, free_units, AreInBins}
@@ -31,12 +33,14 @@ remove_used b zs o e = ap (λ (u : Bool). remove_all zs (if u then o else remove
 -- free blocks alone
 units_end : (l : List Block) → free_units (free_end l) ≡ units (free_end l)
 units_end [] = refl
-units_end (b ∷ []) = elim b.used as (λ u. b.used ≡ u → free_units (if not u then b ∷ [] else []) ≡ units (if not u then b ∷ [] else [])) [ true ↦ λ e. refl | false ↦ λ e. free_units-free b [] e ] refl
+units_end (b ∷ []) = elim b.used as (λ u. b.used ≡ u → free_units (if not u then b ∷ [] else []) ≡ units (if not u then b ∷ [] else []))
+    [ true ↦ λ e. refl | false ↦ λ e. free_units-free b [] e ] refl
 units_end (b ∷ d ∷ l) = units_end (d ∷ l)
 
 pub units_start : (l : List Block) → free_units (free_start l) ≡ units (free_start l)
 units_start [] = refl
-units_start (b ∷ l) = elim b.used as (λ u. b.used ≡ u → free_units (if not u then b ∷ [] else []) ≡ units (if not u then b ∷ [] else [])) [ true ↦ λ e. refl | false ↦ λ e. free_units-free b [] e ] refl
+units_start (b ∷ l) = elim b.used as (λ u. b.used ≡ u → free_units (if not u then b ∷ [] else []) ≡ units (if not u then b ∷ [] else []))
+    [ true ↦ λ e. refl | false ↦ λ e. free_units-free b [] e ] refl
 
 -- the handle names a used block, as the fields see it
 pub named_live : (u v : View) (x y : ℕ) → u ≡ v → y ≡ x → is_used_at (place_of y v.blocks) ≡ true → is_used_at (place_of x u.blocks) ≡ true
@@ -119,13 +123,15 @@ module _ {f : Fields} {x : ℕ} (r : Release f x) where
   abbrev pub left : List (List ℕ)
   left = remove_all (free_start at.place.after) (remove_all (free_end at.place.before) (bins_in f.max f.cells.links))
 
-  pub freed : (d : Cells) (last' count' top' acc' : ℕ) → IsChain d.room f.cells.room.reserved last' count' (without_end at.place.before ++ free_block at.place.block.name whole ∷ without_start at.place.after) → IsBinned max d.links top'
+  pub freed : (d : Cells) (last' count' top' acc' : ℕ)
+      → IsChain d.room f.cells.room.reserved last' count' (without_end at.place.before ++ free_block at.place.block.name whole ∷ without_start at.place.after) → IsBinned max d.links top'
       → bins_in f.max d.links ≡ push (down whole) x left
       → IsSound f.max f.size f.limit d last' count' top' (f.free + at.place.block.size) × Frees x (shown f) (view_of f.max f.size f.limit d last' acc')
   freed d last' count' top' acc' chain bins eo =
       let gone : List Block = free_end fs ++ (b ∷ free_start cs) in
       let sum : units gone ≡ (units (free_end fs) + b.size) + units (free_start cs) = tally_append (λ (d : Block). d.size) (free_end fs) (b ∷ free_start cs) ∙ omega arith in
-      let removes : remove_all gone ls ≡ remove_all (free_start cs) (remove_all (free_end fs) ls) = remove_all-append (free_end fs) (b ∷ free_start cs) ls ∙ remove_used b (free_start cs) (remove_all (free_end fs) ls) used in
+      let removes : remove_all gone ls ≡ remove_all (free_start cs) (remove_all (free_end fs) ls) = remove_all-append (free_end fs) (b ∷ free_start cs) ls
+      ∙ remove_used b (free_start cs) (remove_all (free_end fs) ls) used in
       let was = ap free_units at.stood ∙ free_units-append fs (b ∷ cs) ∙ ap (λ k. free_units fs + k) (free_units-used b cs used) in
       let freed : Block = free_block x (units gone) in
       let total = free_units-append (without_end fs) (freed ∷ without_start cs) ∙ ap (λ k. free_units (without_end fs) + k) (free_units-free freed (without_start cs) refl) in
@@ -144,7 +150,18 @@ module _ {f : Fields} {x : ℕ} (r : Release f x) where
         view = same;
         apart = subst IsApart (sym (ap (λ (u : View). u.blocks) same)) (apart_coalesced fs freed cs apart.0 apart.1.1);
       } in
-      let named : IsChain d.room f.cells.room.reserved last' count' (without_end fs ++ free_block x whole ∷ without_start cs) = subst (λ y. IsChain d.room f.cells.room.reserved last' count' (without_end fs ++ free_block y whole ∷ without_start cs)) at.held.name chain in
+      let named : IsChain d.room f.cells.room.reserved last' count' (without_end fs ++ free_block x whole ∷ without_start cs) =
+      subst (λ y. IsChain d.room f.cells.room.reserved last' count' (without_end fs ++ free_block y whole ∷ without_start cs)) at.held.name chain in
       let left = stepped f s left_view d (f.free + b.size) acc' (well_frees x v left_view w (frees left_view refl)) refl (rw sum named) refl bins (rw (removes, sum) eo)
-      (omega (arith, s.total, was, total, sum, units_end fs, units_start cs, tally_end (λ (d : Block). if d.used then 0 else d.size) fs, tally_start (λ (d : Block). if d.used then 0 else d.size) cs)) in
+      (omega (
+        arith,
+        s.total,
+        was,
+        total,
+        sum,
+        units_end fs,
+        units_start cs,
+        tally_end (λ (d : Block). if d.used then 0 else d.size) fs,
+        tally_start (λ (d : Block). if d.used then 0 else d.size) cs,
+      )) in
       (left.0, frees _ left.1)

@@ -1,5 +1,6 @@
 -- A fresh space.
-use Rattle.std.proofs.Common.{◌≡◌, ◌≢◌, ℕ, zero, suc, ◌+◌, ◌/◌, ◌%◌, ◌<◌, ◌≤◌, ◌^◌, false, None, List, [], ◌∷◌, length, get_or, replicate, refl, sym, ◌∙◌, ap, ap₂, subst, arith, inl, inr, slice_index}
+use Rattle.std.proofs.Common.{◌≡◌, ◌≢◌, ℕ, zero, suc, ◌+◌, ◌/◌, ◌%◌, ◌<◌, ◌≤◌, ◌^◌, false, None, List, [], ◌∷◌, length, get_or, replicate, refl, sym}
+use Rattle.std.proofs.Common.{◌∙◌, ap, ap₂, subst, arith, inl, inr, slice_index}
 use Rattle.std.proofs.lemmas.List.{length-replicate, get_or-replicate}
 use Rattle.std.proofs.lemmas.Nat.Bits.{bit_at-zero}
 use Rattle.std.proofs.lemmas.Bool.{cases_eq}
@@ -101,10 +102,12 @@ pub first_idle : {c : Room} {size : ℕ} → IsSpace c 0 0 → blocks c 0 ≡ fr
 first_idle {c} s e = ap (λ (n : Node). n.used) (rw e at s.row).0
 
 -- the fields of a fresh allocator
-pub started : (max m size : ℕ) (d : Cells) (top : ℕ) → 2 ≤ m → m + 1 < max → size ≤ 4294967295 → d.room.reserved ≡ m → IsSpace d.room 0 0 → blocks d.room 0 ≡ free_block 0 size ∷ [] → IsBinned max d.links top
+pub started : (max m size : ℕ) (d : Cells) (top : ℕ) → 2 ≤ m → m + 1 < max → size ≤ 4294967295 → d.room.reserved ≡ m → IsSpace d.room 0 0
+    → blocks d.room 0 ≡ free_block 0 size ∷ [] → IsBinned max d.links top
     → bins_in max d.links ≡ push (down size) 0 (replicate 256 []) → IsSound max size m d 0 0 top size × (view_of max size m d 0 0 ≡ fresh size m)
 started max m size d top two least sized memory space eb bins lists =
-    let ev : view_of max size m d 0 0 ≡ fresh size m = ap₂ (λ (b : List Block) (o : List (List ℕ)). let u : View = record { size = size; max_allocs = m; blocks = b; order = o; accesses = 0 } in u) eb lists in (
+    let ev : view_of max size m d 0 0 ≡ fresh size m =
+    ap₂ (λ (b : List Block) (o : List (List ℕ)). let u : View = record { size = size; max_allocs = m; blocks = b; order = o; accesses = 0 } in u) eb lists in (
       record {
         memory = memory;
         admitted = least;

@@ -1,5 +1,6 @@
 -- What a grant leaves of the whole allocator.
-use Rattle.std.proofs.Common.{◌≡◌, ℕ, zero, suc, ◌+◌, ◌-◌, ◌<◌, ◌≤◌, ◌^◌, List, [], ◌∷◌, ◌++◌, length, refl, sym, ap, ap₂, ◌∙◌, arith, slice_set, append_assoc, le-leb, nat_eq}
+use Rattle.std.proofs.Common.{◌≡◌, ℕ, zero, suc, ◌+◌, ◌-◌, ◌<◌, ◌≤◌, ◌^◌, List, [], ◌∷◌, ◌++◌, length, refl, sym, ap, ap₂, ◌∙◌, arith, slice_set}
+use Rattle.std.proofs.Common.{append_assoc, le-leb, nat_eq}
 use Rattle.offset_allocator.specs.Classes.{up, down}
 use Rattle.offset_allocator.specs.Cells.{Cells, Room}
 use Rattle.offset_allocator.specs.View.{Block, View, Place, Grant, one, count_named, bin_at, IsWellFormed, IsNew, free_part, used_block, units, replace, remove_all, push_all, remove, without}
@@ -87,16 +88,35 @@ module _ {f : Fields} {needed class x : ℕ} (call : Call f needed class x) wher
     units_free = omega (arith, free_enough, within 0)
 
     -- with room for the blocks that it adds; the tables that are left
-    module _ (k : ℕ) (room : length (shown f).blocks + k < f.limit) (some : 1 ≤ k) (two : (o : ℕ) → 1 ≤ padding_at o → 2 ≤ k) (d : Cells) (last count front rest : ℕ) (there : HasPlace d.room f.cells.room.reserved last count x (record { before = got.place.before ++ free_part front (padding_at (units got.place.before)); block = used_block got.place.block.name n; after = free_part rest (got.place.block.size - (padding_at (units got.place.before) + n)) ++ got.place.after })) where
+    module _ (k : ℕ) (room : length (shown f).blocks + k < f.limit) (some : 1 ≤ k) (two : (o : ℕ) → 1 ≤ padding_at o → 2 ≤ k) (d : Cells) (last count front rest : ℕ)
+        (there : HasPlace d.room f.cells.room.reserved last count x (record {
+          before = got.place.before ++ free_part front (padding_at (units got.place.before));
+          block = used_block got.place.block.name n;
+          after = free_part rest (got.place.block.size - (padding_at (units got.place.before) + n)) ++ got.place.after;
+        })) where
       abbrev parts : List Block
       parts = free_part front padding ++ (used_block p.block.name n ∷ free_part rest left)
 
-      names : (y : ℕ) → (count_named y p.before + count_named y (free_part front padding)) + (count_named y (used_block p.block.name n ∷ []) + (count_named y (free_part rest left) + count_named y p.after)) ≤ 1
-      names y = omega (arith, each-le d.room _ last count _ there.chain y, times-append y (p.before ++ free_part front padding) (used_block p.block.name n ∷ (free_part rest left ++ p.after)), times-append y p.before (free_part front padding), times-append y (free_part rest left) p.after)
+      names : (y : ℕ) → (count_named y p.before + count_named y (free_part front padding)) + (count_named y
+          (used_block p.block.name n ∷ []) + (count_named y (free_part rest left) + count_named y p.after)) ≤ 1
+      names y = omega (
+        arith,
+        each-le d.room _ last count _ there.chain y,
+        times-append y (p.before ++ free_part front padding) (used_block p.block.name n ∷ (free_part rest left ++ p.after)),
+        times-append y p.before (free_part front padding),
+        times-append y (free_part rest left) p.after,
+      )
 
       unused : (y : ℕ) → 1 ≤ count_named y (free_part front padding) + count_named y (free_part rest left) → IsNew y v
       unused y l =
-          let some : 1 ≤ count_named y ((p.before ++ free_part front padding) ++ used_block p.block.name n ∷ (free_part rest left ++ p.after)) = omega (arith, l, times-append y (p.before ++ free_part front padding) (used_block p.block.name n ∷ (free_part rest left ++ p.after)), times-append y p.before (free_part front padding), times-append y (free_part rest left) p.after) in
+          let some : 1 ≤ count_named y ((p.before ++ free_part front padding) ++ used_block p.block.name n ∷ (free_part rest left ++ p.after)) =
+          omega (
+            arith,
+            l,
+            times-append y (p.before ++ free_part front padding) (used_block p.block.name n ∷ (free_part rest left ++ p.after)),
+            times-append y p.before (free_part front padding),
+            times-append y (free_part rest left) p.after,
+          ) in
           record {
             below = omega (arith, there-below d.room _ last count y _ there.chain some, there.chain.within, call.sound.memory);
             absent = ap (count_named y) got.stood ∙ omega (arith, l, names y, times-append y p.before (p.block ∷ p.after));
@@ -133,9 +153,11 @@ module _ {f : Fields} {needed class x : ℕ} (call : Call f needed class x) wher
       }
 
       pub granted : {top accesses : ℕ} → IsBinned f.max d.links top
-          → bins_in f.max d.links ≡ push_all (free_part front (padding_at (units got.place.before)) ++ (used_block x n ∷ free_part rest (got.place.block.size - (padding_at (units got.place.before) + n)))) (popped f class x)
+          → bins_in f.max d.links ≡ push_all (free_part front
+          (padding_at (units got.place.before)) ++ (used_block x n ∷ free_part rest (got.place.block.size - (padding_at (units got.place.before) + n)))) (popped f class x)
           → AreSound (record f { cells = d; last = last; count = count; top = top; free = f.free - n; accesses = accesses })
-          × Splits needed n padding_at (shown f) (shown (record f { cells = d; last = last; count = count; top = top; free = f.free - n; accesses = accesses })) (record { name = x; offset = units got.place.before + padding_at (units got.place.before) })
+          × Splits needed n padding_at (shown f) (shown (record f { cells = d; last = last; count = count; top = top; free = f.free - n; accesses = accesses }))
+          (record { name = x; offset = units got.place.before + padding_at (units got.place.before) })
       unfolding split
       granted {top} {accesses} bins lists =
           let flat : (p.before ++ free_part front padding) ++ (used_block p.block.name n ∷ (free_part rest left ++ p.after)) ≡ p.before ++ (parts ++ p.after) = simp append_assoc in
@@ -143,5 +165,14 @@ module _ {f : Fields} {needed class x : ℕ} (call : Call f needed class x) wher
           let units_are = ap free_units flat ∙ free_units-append p.before (parts ++ p.after) in
           let parts_are = ap free_units (append_assoc (free_part front padding) (used_block p.block.name n ∷ free_part rest left) p.after) in
           let done = stepped f call.sound left_view d (f.free - n) accesses well refl there.chain flat bins (rw (removed, got.name) lists)
-          (omega (arith, units_are, parts_are, free_part_units front padding (used_block p.block.name n ∷ (free_part rest left ++ p.after)), free_units-used (used_block p.block.name n) (free_part rest left ++ p.after) refl, free_part_units rest left p.after, had_free, whole_fits)) in
+          (omega (
+            arith,
+            units_are,
+            parts_are,
+            free_part_units front padding (used_block p.block.name n ∷ (free_part rest left ++ p.after)),
+            free_units-used (used_block p.block.name n) (free_part rest left ++ p.after) refl,
+            free_part_units rest left p.after,
+            had_free,
+            whole_fits,
+          )) in
           (done.0, split _ done.1)

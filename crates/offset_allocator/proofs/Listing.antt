@@ -1,5 +1,6 @@
 -- The last of the first blocks of a space, and the list of what an iterator has left.
-use Rattle.std.proofs.Common.{◌≡◌, ℕ, suc, ◌+◌, ◌-◌, ◌<◌, ◌≤◌, Bool, None, Some, List, [], ◌∷◌, ◌++◌, length, take, drop, reverse, refl, sym, ap, ap₂, subst, ◌∙◌, arith, if◌then◌else◌}
+use Rattle.std.proofs.Common.{◌≡◌, ℕ, suc, ◌+◌, ◌-◌, ◌<◌, ◌≤◌, Bool, None, Some, List, [], ◌∷◌, ◌++◌, length, take, drop, reverse, refl, sym, ap, ap₂, subst}
+use Rattle.std.proofs.Common.{◌∙◌, arith, if◌then◌else◌}
 use Rattle.std.proofs.lemmas.List.{length_push, length-take-le, take-take, take-append-le, take_all, take-append-drop, append_assoc, reverse-append, length-reverse}
 use Rattle.offset_allocator.specs.Cells.{Room, Node, node}
 use Rattle.offset_allocator.specs.View.{View, Block, units, count_named}
@@ -71,7 +72,8 @@ none_left k bs e = ap (λ (l : List Block). reverse (placed 0 l)) (last_none (ta
 abbrev placed_node : ℕ → Node → Placed
 placed_node x n = record { offset = n.offset; size = n.size; grant = if n.used then Some (record { name = x; offset = n.offset }) else None }
 
-pub node_placed : (x : ℕ) (n : Node) (offset size : ℕ) (used : Bool) → offset ≡ n.offset → size ≡ n.size → used ≡ n.used → placed_node x n ≡ record { offset = offset; size = size; grant = if used then Some (record { name = x; offset = offset }) else None }
+pub node_placed : (x : ℕ) (n : Node) (offset size : ℕ) (used : Bool) → offset ≡ n.offset → size ≡ n.size → used ≡ n.used
+    → placed_node x n ≡ record { offset = offset; size = size; grant = if used then Some (record { name = x; offset = offset }) else None }
 node_placed x n offset size used e f g = rw (e, f, g)
 
 -- the last of the first k blocks is read from the node of x
@@ -90,11 +92,16 @@ module _ (it : Fields) (s : AreSound it) (k x : ℕ) where
       let n = node_at c d.front d.block d.after x (subst (λ l. IsRow c None 0 l None) d.is s.space.row) d.named in
       let there : 1 ≤ count_named x bs = omega (arith, ap (count_named x) d.is, times-append x d.front (d.block ∷ d.after), one-eq x d.block.name d.named) in
       let at : placed_node x (node c x) ≡ placed_at (units d.front) d.block =
-      ap (placed_node x) n ∙ ap (λ (i : ℕ). record { offset = units d.front; size = d.block.size; grant = if d.block.used then Some (record { name = i; offset = units d.front }) else None }) (sym d.named) in
+      ap (placed_node x) n ∙ ap (λ (i : ℕ). record {
+        offset = units d.front;
+        size = d.block.size;
+        grant = if d.block.used then Some (record { name = i; offset = units d.front }) else None;
+      }) (sym d.named) in
       record {
         below = there-below c _ _ _ x bs s.space there;
         some = d.some;
-        block = ap (λ (l : List Block). reverse (placed 0 l)) d.taken ∙ listing-push d.front d.block ∙ ap₂ (λ (p : Placed) (l : List Block). p ∷ reverse (placed 0 l)) (sym at) (sym d.before);
+        block = ap (λ (l : List Block). reverse (placed 0 l)) d.taken ∙ listing-push d.front d.block
+            ∙ ap₂ (λ (p : Placed) (l : List Block). p ∷ reverse (placed 0 l)) (sym at) (sym d.before);
         before = ap (last_or None) d.before ∙ sym (ap (λ (n : Node). n.before) n);
       }
 

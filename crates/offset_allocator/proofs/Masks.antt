@@ -1,5 +1,6 @@
 -- The masks after a change of one bin.
-use Rattle.std.proofs.Common.{◌≡◌, ◌≢◌, ◌<◌, ℕ, ◌*◌, ◌/◌, ◌%◌, ◌^◌, List, [], ◌∷◌, refl, sym, ap, ◌∙◌, inl, inr, arith, length, slice_index, slice_set, bit_and, bit_or, w32, w64, ne_eqb, length-set, get_or-set_same, get_or-set_other}
+use Rattle.std.proofs.Common.{◌≡◌, ◌≢◌, ◌<◌, ℕ, ◌*◌, ◌/◌, ◌%◌, ◌^◌, List, [], ◌∷◌, refl, sym, ap, ◌∙◌, inl, inr, arith, length, slice_index, slice_set}
+use Rattle.std.proofs.Common.{bit_and, bit_or, w32, w64, ne_eqb, length-set, get_or-set_same, get_or-set_other}
 use Rattle.std.specs.Int.{bit_at, bit_not}
 use Rattle.std.proofs.lemmas.Nat.{or_lt, one_shl, and_le_l, pow_below}
 use Rattle.std.proofs.lemmas.Nat.Bits.{bit_at_set_same, bit_at_set_other, bit_at_clear_same, bit_at_clear_other, bit_at-zero}
@@ -42,7 +43,8 @@ module _ {ls : List (List ℕ)} {masks : List ℕ} {top : ℕ} (k : AreMasks ls 
         bits = λ d h. elim (cases_eq (d / 64) (c / 64)) [
           | inl q ↦ elim (cases_eq (d % 64) (c % 64)) [
             | inl r ↦ rw (at (d / 64) q, r) (here ∙ sym (flag_at d (omega arith)))
-            | inr n ↦ rw (at (d / 64) q) (others (d % 64) (omega arith) n ∙ ap (λ i. bit_at (slice_index masks i) (d % 64)) (sym q) ∙ k.bits d h ∙ sym (flag_other d (λ s. n (ap (λ i. i % 64) s))))
+            | inr n ↦ rw (at (d / 64) q) (others (d % 64) (omega arith) n ∙ ap (λ i. bit_at (slice_index masks i) (d % 64)) (sym q) ∙ k.bits d h
+                ∙ sym (flag_other d (λ s. n (ap (λ i. i % 64) s))))
           ]
           | inr n ↦ rw (off (d / 64) n) (k.bits d h ∙ sym (flag_other d (λ s. n (ap (λ i. i / 64) s))))
         ];
@@ -68,7 +70,8 @@ module _ {ls : List (List ℕ)} {masks : List ℕ} {top : ℕ} (k : AreMasks ls 
         (λ w l n. bit_at_set_other w32 top (c / 64) (omega arith) w n)
 
     module _ (f : flag ys ≡ 0) (u : ℕ) (ue : u ≡ bit_and v (bit_not w64 (1 * 2 ^ (c % 64) % 18446744073709551616))) where
-      cleared : (top' : ℕ) → top' < 16 → bit_at top' (c / 64) ≡ mark u → ((w : ℕ) → w < 4 → w ≢ c / 64 → bit_at top' w ≡ bit_at top w) → AreMasks (slice_set ls c ys) (slice_set masks (c / 64) u) top'
+      cleared : (top' : ℕ) → top' < 16 → bit_at top' (c / 64) ≡ mark u → ((w : ℕ) → w < 4 → w ≢ c / 64 → bit_at top' w ≡ bit_at top w)
+          → AreMasks (slice_set ls c ys) (slice_set masks (c / 64) u) top'
       cleared top' ts mine rest =
           masked_after u top' (omega (arith, small, and_le_l v (bit_not w64 (1 * 2 ^ (c % 64) % 18446744073709551616)))) ts (rw ue (bit_at_clear_same w64 v (c % 64) (omega arith) ∙ sym f))
           (λ i l n. rw ue (bit_at_clear_other w64 v (c % 64) (omega arith) i l n ∙ ap (λ x. bit_at x i) ve)) mine rest

@@ -1,5 +1,6 @@
 -- What holds after the live ranges are packed, and of the moves that pack them.
-use Rattle.std.proofs.Common.{◌≡◌, ◌↔◌, ℕ, ◌+◌, ◌≤◌, Bool, true, false, Option, Some, None, List, [], ◌∷◌, ◌++◌, sum, if◌then◌else◌, nat_eq, option_map, option_and_then, refl, sym, ap, subst, ◌∙◌, inl, inr, arith}
+use Rattle.std.proofs.Common.{◌≡◌, ◌↔◌, ℕ, ◌+◌, ◌≤◌, Bool, true, false, Option, Some, None, List, [], ◌∷◌, ◌++◌, sum, if◌then◌else◌, nat_eq, option_map}
+use Rattle.std.proofs.Common.{option_and_then, refl, sym, ap, subst, ◌∙◌, inl, inr, arith}
 use Rattle.std.specs.List.{AllByRecursion}
 use Rattle.std.proofs.lemmas.Bool.{cases_eq}
 use Rattle.std.proofs.lemmas.Bool.Decides.{nat_tests}
@@ -29,16 +30,19 @@ held_is : (x : ℕ) (bs : List Block) → units_at (place_of x bs) ≡ held x bs
 held_is x [] = refl
 held_is x (b ∷ bs) =
     let ih = held_is x bs in
-    let later : (o : Option Place) → units_at (option_map (λ (p : Place). record p { before = b ∷ p.before }) o) ≡ units_at o = λ o. elim o as (λ q. units_at (option_map (λ (p : Place). record p { before = b ∷ p.before }) q) ≡ units_at q) [
+    let later : (o : Option Place) → units_at (option_map (λ (p : Place). record p { before = b ∷ p.before }) o) ≡ units_at o =
+    λ o. elim o as (λ q. units_at (option_map (λ (p : Place). record p { before = b ∷ p.before }) q) ≡ units_at q) [
       | None ↦ refl
       | Some p ↦ both p.block.used p
     ] in
-    elim (nat_eq x b.name) as (λ t. units_at (if t then Some (record { before = []; block = b; after = bs }) else option_map (λ (p : Place). record p { before = b ∷ p.before }) (place_of x bs)) ≡ (if t then (if b.used then Some b.size else None) else held x bs)) [
+    elim (nat_eq x b.name) as (λ t. units_at (if t then Some (record { before = []; block = b; after = bs }) else option_map (λ (p : Place). record p { before = b ∷ p.before })
+    (place_of x bs)) ≡ (if t then (if b.used then Some b.size else None) else held x bs)) [
       | true ↦ here b.used
       | false ↦ later (place_of x bs) ∙ ih
     ]
   where
-    both : (u : Bool) (p : Place) → option_map (λ (r : Range). r.size) (if u then Some (record { offset = units (b ∷ p.before); size = p.block.size }) else None) ≡ option_map (λ (r : Range). r.size) (if u then Some (record { offset = units p.before; size = p.block.size }) else None)
+    both : (u : Bool) (p : Place) → option_map (λ (r : Range). r.size) (if u then Some (record { offset = units (b ∷ p.before); size = p.block.size }) else None) ≡ option_map
+        (λ (r : Range). r.size) (if u then Some (record { offset = units p.before; size = p.block.size }) else None)
     both true p = refl
     both false p = refl
 
@@ -47,7 +51,8 @@ held_is x (b ∷ bs) =
     here false = refl
 
 held_other : (x : ℕ) (b : Block) (bs : List Block) → one (nat_eq x b.name) ≡ 0 → held x (b ∷ bs) ≡ held x bs
-held_other x b bs e = elim (nat_eq x b.name) as (λ t. one t ≡ 0 → (if t then (if b.used then Some b.size else None) else held x bs) ≡ held x bs) [ true ↦ λ q. absurd (omega (arith, q)) | false ↦ λ q. refl ] e
+held_other x b bs e = elim (nat_eq x b.name) as (λ t. one t ≡ 0 → (if t then (if b.used then Some b.size else None) else held x bs) ≡ held x bs)
+    [ true ↦ λ q. absurd (omega (arith, q)) | false ↦ λ q. refl ] e
 
 held_here : (x : ℕ) (b : Block) (bs : List Block) → x ≡ b.name → held x (b ∷ bs) ≡ (if b.used then Some b.size else None)
 held_here x b bs e = let t : nat_eq x b.name ≡ true = grind (arith, nat_tests) in ap (λ (t : Bool). if t then (if b.used then Some b.size else None) else held x bs) t
@@ -97,7 +102,8 @@ largest_gathered x (n ∷ ns) = let e : sum (n ∷ ns) ≡ n + sum ns = sum_by-c
 
 pub compacted_grants : (v w : View) (n : ℕ) → IsWellFormed w → 1 ≤ n → Compacts v w → CanGrant 1 n w ↔ (HasRoomFor 1 w × (n ≤ value (down (sum (free_sizes v.blocks)))))
 compacted_grants v w n well some c =
-    let is : largest (free_sizes w.blocks) ≡ value (down (sum (free_sizes v.blocks))) = ap (λ (u : View). largest (free_sizes u.blocks)) c.view ∙ ap largest (sizes_live (live v.blocks) (live_are_used v.blocks) (gathered c.name (free_sizes v.blocks))) ∙ largest_gathered c.name (free_sizes v.blocks) in (
+    let is : largest (free_sizes w.blocks) ≡ value (down (sum (free_sizes v.blocks))) = ap (λ (u : View). largest (free_sizes u.blocks)) c.view
+    ∙ ap largest (sizes_live (live v.blocks) (live_are_used v.blocks) (gathered c.name (free_sizes v.blocks))) ∙ largest_gathered c.name (free_sizes v.blocks) in (
       λ h. (h.0, let small : n ≤ 4294967295 = omega (arith, fit_small n w well h.1, well.fits) in omega (arith, (fits_exactly w well n small well.fits some).0 h.1, is)),
       λ h. (h.0, (fits_exactly w well n (largest_small w well well.fits n some (omega (arith, h.1, is))) well.fits some).1 (omega (arith, h.1, is))),
     )
@@ -109,7 +115,8 @@ later n from to (b ∷ bs) l =
     let ih = later n (from + b.size) (to + b.size) bs (omega (arith, l)) in
     let other = later n (from + b.size) to bs (omega (arith, l)) in
     elim b.used as (λ u. AllByRecursion (λ (k : Move). n ≤ k.from) (if u then move_of from to b ++ moves (from + b.size) (to + b.size) bs else moves (from + b.size) to bs)) [
-      | true ↦ elim (nat_eq from to) as (λ t. AllByRecursion (λ (k : Move). n ≤ k.from) ((if t then [] else record { name = b.name; from = from; to = to; size = b.size } ∷ []) ++ moves (from + b.size) (to + b.size) bs)) [ true ↦ ih | false ↦ (l, ih) ]
+      | true ↦ elim (nat_eq from to) as (λ t. AllByRecursion (λ (k : Move). n ≤ k.from)
+          ((if t then [] else record { name = b.name; from = from; to = to; size = b.size } ∷ []) ++ moves (from + b.size) (to + b.size) bs)) [ true ↦ ih | false ↦ (l, ih) ]
       | false ↦ other
     ]
 
@@ -121,8 +128,11 @@ safe from to (b ∷ bs) l =
     let rest = later (to + b.size) (from + b.size) (to + b.size) bs (omega (arith, l)) in
     elim b.used as (λ u. AreSafe (if u then move_of from to b ++ moves (from + b.size) (to + b.size) bs else moves (from + b.size) to bs)) [
       | true ↦ elim (cases_eq from to) [
-        | inl e ↦ let t : nat_eq from to ≡ true = grind (arith, nat_tests) in subst (λ (t : Bool). AreSafe ((if t then [] else record { name = b.name; from = from; to = to; size = b.size } ∷ []) ++ moves (from + b.size) (to + b.size) bs)) (sym t) ih
-        | inr e ↦ let t : nat_eq from to ≡ false = grind (arith, nat_tests) in subst (λ (t : Bool). AreSafe ((if t then [] else record { name = b.name; from = from; to = to; size = b.size } ∷ []) ++ moves (from + b.size) (to + b.size) bs)) (sym t) (omega (arith, l, e), rest, ih)
+        | inl e ↦ let t : nat_eq from to ≡ true = grind (arith, nat_tests) in
+            subst (λ (t : Bool). AreSafe ((if t then [] else record { name = b.name; from = from; to = to; size = b.size } ∷ []) ++ moves (from + b.size) (to + b.size) bs)) (sym t) ih
+        | inr e ↦ let t : nat_eq from to ≡ false = grind (arith, nat_tests) in
+            subst (λ (t : Bool). AreSafe ((if t then [] else record { name = b.name; from = from; to = to; size = b.size } ∷ []) ++ moves (from + b.size) (to + b.size) bs)) (sym t)
+            (omega (arith, l, e), rest, ih)
       ]
       | false ↦ other
     ]

@@ -1,5 +1,6 @@
 -- Blocks that are split, and the bins of their parts.
-use Rattle.std.proofs.Common.{◌≡◌, ◌≢◌, ℕ, zero, suc, ◌-◌, ◌<◌, List, [], ◌∷◌, ◌++◌, length, refl, sym, ap, ◌∙◌, subst, arith, inl, inr, append-nil, get_or-set_same, get_or-set_other}
+use Rattle.std.proofs.Common.{◌≡◌, ◌≢◌, ℕ, zero, suc, ◌-◌, ◌<◌, List, [], ◌∷◌, ◌++◌, length, refl, sym, ap, ◌∙◌, subst, arith, inl, inr, append-nil}
+use Rattle.std.proofs.Common.{get_or-set_same, get_or-set_other}
 use Rattle.std.proofs.lemmas.Bool.{cases_eq}
 use Rattle.offset_allocator.specs.Cells.{Room}
 use Rattle.offset_allocator.specs.Classes.{down}
@@ -21,11 +22,13 @@ unlisted_put y x c ls n ch ne u d dh a =
 
 -- padding of no units is no block, nor is a remainder of no units
 module _ {c : Room} {m last count x : ℕ} {p : Place} where
-  pub no_padding : (y n : ℕ) → HasPlace c m last count x p → n ≡ 0 → HasPlace c m last count x (record { before = p.before ++ free_part y n; block = record p.block { size = p.block.size - n }; after = p.after })
+  pub no_padding : (y n : ℕ) → HasPlace c m last count x p → n ≡ 0
+      → HasPlace c m last count x (record { before = p.before ++ free_part y n; block = record p.block { size = p.block.size - n }; after = p.after })
   no_padding y zero h e = let same : p.block.size - 0 ≡ p.block.size = omega arith in rw (append-nil, same) h
   no_padding y (suc n) h e = absurd (omega arith)
 
-  pub no_remainder : (y n k : ℕ) → HasPlace c m last count x p → n ≡ 0 → k ≡ p.block.size → HasPlace c m last count x (record p { block = record p.block { size = k }; after = free_part y n ++ p.after })
+  pub no_remainder : (y n k : ℕ) → HasPlace c m last count x p → n ≡ 0 → k ≡ p.block.size
+      → HasPlace c m last count x (record p { block = record p.block { size = k }; after = free_part y n ++ p.after })
   no_remainder y zero k h e q = rw q h
   no_remainder y (suc n) k h e q = absurd (omega arith)
 
@@ -39,15 +42,32 @@ pushed_parts y zero x k zs ls = refl
 pushed_parts y (suc n) x k zs ls = refl
 
 -- the block that padding is split off is in no bin still
-pub padded_unlisted : {c : Room} {m last count x : ℕ} (fs : List Block) {cs : List Block} {b : Block} (y n : ℕ) (ls : List (List ℕ)) → length ls ≡ 256 → HasPlace c m last count x (record { before = fs ++ free_part y n; block = b; after = cs }) → IsUnlisted x ls → IsUnlisted x (push_all (free_part y n) ls)
+pub padded_unlisted : {c : Room} {m last count x : ℕ} (fs : List Block) {cs : List Block} {b : Block} (y n : ℕ) (ls : List (List ℕ)) → length ls ≡ 256
+    → HasPlace c m last count x (record { before = fs ++ free_part y n; block = b; after = cs }) → IsUnlisted x ls → IsUnlisted x (push_all (free_part y n) ls)
 padded_unlisted fs y zero ls long h u = u
 padded_unlisted {c} {m} {last} {count} {x} fs {cs} {b} y (suc n) ls long h u =
     unlisted_put x y (down (suc n)) ls long (down_small (suc n))
-    (λ q. omega (arith, each-le c m last count _ h.chain x, times-append x (fs ++ free_block y (suc n) ∷ []) (b ∷ cs), times-append x fs (free_block y (suc n) ∷ []), one-eq x y (sym q), one-eq x b.name h.name)) u
+    (λ q. omega (
+      arith,
+      each-le c m last count _ h.chain x,
+      times-append x (fs ++ free_block y (suc n) ∷ []) (b ∷ cs),
+      times-append x fs (free_block y (suc n) ∷ []),
+      one-eq x y (sym q),
+      one-eq x b.name h.name,
+    )) u
 
 -- the name of the padding is in its bin, and no other one is that was in none
-pub unlisted_part : (fs cs : List Block) (b d : Block) (y n : ℕ) (ls : List (List ℕ)) → d.name ≡ b.name → length ls ≡ 256 → AreUnlisted (fs ++ b ∷ cs) ls → AreUnlisted ((fs ++ free_part y n) ++ d ∷ cs) (push_all (free_part y n) ls)
-unlisted_part fs cs b d y zero ls same long u k z = u k (omega (arith, z, times-append k (fs ++ []) (d ∷ cs), times-append k fs [], times-append k fs (b ∷ cs), ap (λ i. count_named k (record { name = i; size = 0; used = b.used } ∷ [])) same))
+pub unlisted_part : (fs cs : List Block) (b d : Block) (y n : ℕ) (ls : List (List ℕ)) → d.name ≡ b.name → length ls ≡ 256 → AreUnlisted (fs ++ b ∷ cs) ls
+    → AreUnlisted ((fs ++ free_part y n) ++ d ∷ cs) (push_all (free_part y n) ls)
+unlisted_part fs cs b d y zero ls same long u k z =
+    u k (omega (
+      arith,
+      z,
+      times-append k (fs ++ []) (d ∷ cs),
+      times-append k fs [],
+      times-append k fs (b ∷ cs),
+      ap (λ i. count_named k (record { name = i; size = 0; used = b.used } ∷ [])) same,
+    ))
 unlisted_part fs cs b d y (suc n) ls same long u k z =
     let all = times-append k (fs ++ free_block y (suc n) ∷ []) (d ∷ cs) in
     let front = times-append k fs (free_block y (suc n) ∷ []) in

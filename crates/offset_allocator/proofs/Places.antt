@@ -1,5 +1,6 @@
 -- A block at its place, and the blocks beside it.
-use Rattle.std.proofs.Common.{◌≡◌, ℕ, ◌+◌, ◌<◌, ◌^◌, true, false, Option, None, Some, IfSome, List, [], ◌∷◌, ◌++◌, length, refl, sym, ◌∙◌, ap, arith, append_assoc, length-append}
+use Rattle.std.proofs.Common.{◌≡◌, ℕ, ◌+◌, ◌<◌, ◌^◌, true, false, Option, None, Some, IfSome, List, [], ◌∷◌, ◌++◌, length, refl, sym, ◌∙◌, ap, arith, append_assoc}
+use Rattle.std.proofs.Common.{length-append}
 use Rattle.offset_allocator.specs.Classes.{down}
 use Rattle.offset_allocator.specs.Cells.{Room, Node, node}
 use Rattle.offset_allocator.specs.Chain.{first_or, last_or, IsChain, IsSpace, HasPlace, blocks, coalesced_before, coalesced_after}
@@ -21,11 +22,13 @@ pub located : {c : Room} {last count x : ℕ} {p : Place} → IsSpace c last cou
 located {c} {last} {count} {x} {p} h e = let a = place_at x (blocks c last) p e in placed (rw a.0 at h) (sym a.1)
 
 -- the last block of a space
-pub end_place : {c : Room} {last count : ℕ} (h : IsSpace c last count) → HasPlace c c.reserved last count last (record { before = (ended (blocks c last) last h.ends).front; block = (ended (blocks c last) last h.ends).last; after = [] })
+pub end_place : {c : Room} {last count : ℕ} (h : IsSpace c last count)
+    → HasPlace c c.reserved last count last (record { before = (ended (blocks c last) last h.ends).front; block = (ended (blocks c last) last h.ends).last; after = [] })
 end_place {c} {last} h = let f = ended (blocks c last) last h.ends in placed (rw f.is at h) f.name
 
 -- a block with no other after it is the last one
-pub last_place : {c : Room} {m last count x : ℕ} (fs : List Block) (b d : Block) → HasPlace c m last count x (record { before = fs; block = b; after = d ∷ [] }) → HasPlace c m last count last (record { before = fs ++ b ∷ []; block = d; after = [] })
+pub last_place : {c : Room} {m last count x : ℕ} (fs : List Block) (b d : Block) → HasPlace c m last count x (record { before = fs; block = b; after = d ∷ [] })
+    → HasPlace c m last count last (record { before = fs ++ b ∷ []; block = d; after = [] })
 last_place fs b d h = let e = sym (last_or-append None fs (b ∷ d ∷ [])) ∙ h.chain.ends in placed (rw append_assoc h.chain) (cc)
 
 -- the node of a block
@@ -36,12 +39,14 @@ pub at_place : {c : Room} {m last count x : ℕ} {p : Place} → HasPlace c m la
 at_place {c} {x = x} {p = p} h = node_at c p.before p.block p.after x h.chain.row h.name
 
 -- a free block beside a block
-pub next_idle : {c : Room} {m last count x y n : ℕ} {fs cs : List Block} {b : Block} → HasPlace c m last count x (record { before = fs; block = b; after = free_block y n ∷ cs }) → (node c y).used ≡ false
+pub next_idle : {c : Room} {m last count x y n : ℕ} {fs cs : List Block} {b : Block} → HasPlace c m last count x (record { before = fs; block = b; after = free_block y n ∷ cs })
+    → (node c y).used ≡ false
 next_idle {c} {m} {last} {count} {x} {y} {n} {fs} {cs} {b} h =
     let there : HasPlace c m last count y (record { before = fs ++ b ∷ []; block = free_block y n; after = cs }) = placed (rw append_assoc h.chain) refl in
     ap (λ (v : Node). v.used) (at_place there)
 
-pub previous_idle : (y n : ℕ) (fs : List Block) {c : Room} {m last count x : ℕ} {cs : List Block} {b : Block} → HasPlace c m last count x (record { before = fs ++ free_block y n ∷ []; block = b; after = cs }) → (node c y).used ≡ false
+pub previous_idle : (y n : ℕ) (fs : List Block) {c : Room} {m last count x : ℕ} {cs : List Block} {b : Block}
+    → HasPlace c m last count x (record { before = fs ++ free_block y n ∷ []; block = b; after = cs }) → (node c y).used ≡ false
 previous_idle y n fs {c} {m} {last} {count} {x} {cs} {b} h =
     let there : HasPlace c m last count y (record { before = fs; block = free_block y n; after = b ∷ cs }) = placed (rw append_assoc at h.chain) refl in
     ap (λ (v : Node). v.used) (at_place there)
@@ -137,8 +142,11 @@ free_after h e u =
     let n = next_place h e in
     let at = at_place n.place in
     let idle : n.block.used ≡ false = sym (ap (λ (v : Node). v.used) at) ∙ u in
-    let is : free_start (n.block ∷ n.rest) ≡ n.block ∷ [] = rw idle refl in
-    (ap (λ l. units (free_start l)) n.is ∙ ap units is ∙ omega (arith, ap (λ (v : Node). v.size) at), λ ls. ap (λ l. remove_all (free_start l) ls) n.is ∙ ap (λ l. remove_all l ls) is ∙ rw (idle, n.place.name, ← ap (λ (v : Node). v.size) at) refl)
+    let is : free_start (n.block ∷ n.rest) ≡ n.block ∷ [] = rw idle refl in (
+      ap (λ l. units (free_start l)) n.is ∙ ap units is ∙ omega (arith, ap (λ (v : Node). v.size) at),
+      λ ls. ap (λ l. remove_all (free_start l) ls) n.is ∙ ap (λ l. remove_all l ls) is
+          ∙ rw (idle, n.place.name, ← ap (λ (v : Node). v.size) at) refl,
+    )
 
 pub after_fits : {c : Room} {m last count x y : ℕ} {p : Place} → HasPlace c m last count x p → Some y ≡ (node c x).after → (node c x).size + (node c y).size < 2 ^ 32
 after_fits {p = p} h e =

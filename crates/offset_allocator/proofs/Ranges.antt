@@ -1,5 +1,6 @@
 -- What each call leaves of the ranges of live handles.
-use Rattle.std.proofs.Common.{◌≡◌, ◌≢◌, ℕ, IfSome, zero, suc, ◌+◌, ◌≤◌, Bool, true, false, ◌&&◌, List, [], ◌∷◌, ◌++◌, Option, Some, None, nat_eq, if◌then◌else◌, refl, sym, ap, subst, ◌∙◌, inl, inr, arith, append_assoc, add-zero, add_assoc, eq-eqb, ne_eqb}
+use Rattle.std.proofs.Common.{◌≡◌, ◌≢◌, ℕ, IfSome, zero, suc, ◌+◌, ◌≤◌, Bool, true, false, ◌&&◌, List, [], ◌∷◌, ◌++◌, Option, Some, None, nat_eq}
+use Rattle.std.proofs.Common.{if◌then◌else◌, refl, sym, ap, subst, ◌∙◌, inl, inr, arith, append_assoc, add-zero, add_assoc, eq-eqb, ne_eqb}
 use Rattle.std.proofs.lemmas.Bool.{false≢true, and_right}
 use Rattle.offset_allocator.specs.View.{Block, View, Place, Grant, one, units, count_named, used_block, free_block, free_part, IsWellFormed, place_of}
 use Rattle.offset_allocator.specs.Ranges.{Range, range_of, AreDisjoint, Grants, KeepsAll, KeepsOthers, KeepsRanges}
@@ -29,7 +30,8 @@ past x offset [] cs h = rw (add-zero offset)
 past x offset (b ∷ bs) cs h = pass x offset b (bs ++ cs) h.0 ∙ past x (offset + b.size) bs cs h.1 ∙ rw (add_assoc offset b.size (units bs)) refl
 
 -- blocks of the same units in the place of others
-swapped : (x offset : ℕ) (fs old new cs : List Block) → units new ≡ units old → HasNone x old → HasNone x new → range_from x offset (fs ++ (new ++ cs)) ≡ range_from x offset (fs ++ (old ++ cs))
+swapped : (x offset : ℕ) (fs old new cs : List Block) → units new ≡ units old → HasNone x old → HasNone x new
+    → range_from x offset (fs ++ (new ++ cs)) ≡ range_from x offset (fs ++ (old ++ cs))
 swapped x offset [] old new cs e h k = past x offset new cs k ∙ ap (λ n. range_from x (offset + n) cs) e ∙ sym (past x offset old cs h)
 swapped x offset (f ∷ fs) old new cs e h k = ap (λ r. if f.used && nat_eq x f.name then Some (record { offset = offset; size = f.size }) else r) (swapped x (offset + f.size) fs old new cs e h k)
 
@@ -49,7 +51,8 @@ none_append x [] cs h k = k
 none_append x (b ∷ bs) cs h k = (h.0, none_append x bs cs h.1 k)
 
 -- a name that is there once is nowhere beside its block
-pub beside : (x : ℕ) (before : List Block) (b : Block) (after : List Block) → x ≡ b.name → count_named x (before ++ b ∷ after) ≤ 1 → (count_named x before ≡ 0) × (count_named x after ≡ 0)
+pub beside : (x : ℕ) (before : List Block) (b : Block) (after : List Block) → x ≡ b.name → count_named x (before ++ b ∷ after) ≤ 1 → (count_named x before ≡ 0)
+    × (count_named x after ≡ 0)
 beside x before b after e most = elim (hit_cases x b.name) [
   | inl h ↦ let t = tally_append (λ (b : Block). one (nat_eq x b.name)) before (b ∷ after) in let k = h.1 in (omega arith, omega arith)
   | inr h ↦ absurd (h.0 e)
@@ -79,7 +82,9 @@ placed x before b after e most =
     zeroed : 0 + units before ≡ units before
     zeroed = omega arith
 
-    either : (u : Bool) → range_from x (0 + units before + b.size) after ≡ None → (if u && true then Some (record { offset = 0 + units before; size = b.size }) else range_from x (0 + units before + b.size) after) ≡ (if u then Some (record { offset = units before; size = b.size }) else None)
+    either : (u : Bool) → range_from x (0 + units before + b.size) after ≡ None
+        → (if u && true then Some (record { offset = 0 + units before; size = b.size }) else range_from x (0 + units before + b.size) after) ≡ (if u then Some
+        (record { offset = units before; size = b.size }) else None)
     either true f = ap (λ (o : ℕ). Some (record { offset = o; size = b.size })) zeroed
     either false f = f
 
@@ -97,8 +102,11 @@ beyond : (x offset : ℕ) (bs : List Block) (r : Range) → range_from x offset 
 beyond x offset [] r e = absurd (cc)
 beyond x offset (b ∷ bs) r e = either (b.used && nat_eq x b.name) (beyond x (offset + b.size) bs r) e
   where
-    either : (t : Bool) → (range_from x (offset + b.size) bs ≡ Some r → (offset + b.size ≤ r.offset) × (r.offset + r.size ≤ offset + b.size + units bs)) → (if t then Some (record { offset = offset; size = b.size }) else range_from x (offset + b.size) bs) ≡ Some r → (offset ≤ r.offset) × (r.offset + r.size ≤ offset + (b.size + units bs))
-    either true later e = let q : (let z : Range = record { offset = offset; size = b.size } in z) ≡ r = cc in let o = ap (λ (z : Range). z.offset) q in let n = ap (λ (z : Range). z.size) q in (omega arith, omega arith)
+    either : (t : Bool) → (range_from x (offset + b.size) bs ≡ Some r → (offset + b.size ≤ r.offset) × (r.offset + r.size ≤ offset + b.size + units bs))
+        → (if t then Some (record { offset = offset; size = b.size }) else range_from x (offset + b.size) bs) ≡ Some r → (offset ≤ r.offset)
+        × (r.offset + r.size ≤ offset + (b.size + units bs))
+    either true later e = let q : (let z : Range = record { offset = offset; size = b.size } in z) ≡ r = cc in let o = ap (λ (z : Range). z.offset) q in
+        let n = ap (λ (z : Range). z.size) q in (omega arith, omega arith)
     either false later e = let ih = later e in let a = ih.0 in let z = ih.1 in (omega arith, omega arith)
 
 both : (x y : ℕ) (u : Bool) (z : ℕ) → x ≢ y → (u && nat_eq x z) ≡ true → (u && nat_eq y z) ≡ true → ⊥
@@ -177,7 +185,8 @@ module _ {needed n : ℕ} {padding_at : ℕ → ℕ} {v w : View} {g : Grant} (s
   not_live : range_of x v ≡ None
   not_live =
       range_is x v f ∙ ap (range_from x 0) s.blocks
-      ∙ nothing x 0 (s.before ++ s.block ∷ s.after) (none_append x s.before (s.block ∷ s.after) (none_named x s.before alone.0) (none_append x (s.block ∷ []) s.after (none_idle x s.block s.free) (none_named x s.after alone.1)))
+      ∙ nothing x 0 (s.before ++ s.block ∷ s.after)
+      (none_append x s.before (s.block ∷ s.after) (none_named x s.before alone.0) (none_append x (s.block ∷ []) s.after (none_idle x s.block s.free) (none_named x s.after alone.1)))
 
   range : range_of x w ≡ Some (record { offset = units s.before + s.padding; size = n })
   range =
@@ -228,14 +237,17 @@ module _ (x : ℕ) (v w : View) (k : IsWellFormed v) (after : IsWellFormed w) (f
       let all = ap (count_named x) f.blocks ∙ tally_append (λ (b : Block). one (nat_eq x b.name)) f.before (old ++ f.after) in
       let middle = tally_append (λ (b : Block). one (nat_eq x b.name)) old f.after in
       let inner = tally_append (λ (b : Block). one (nat_eq x b.name)) f.left (f.block ∷ f.right) in
-      remade x ∙ nothing x 0 _ (none_append x f.before (freed ∷ f.after) (none_named x f.before (omega (arith, k.distinct x, all, middle, inner, here))) (none_append x (freed ∷ []) f.after (none_idle x freed refl) (none_named x f.after (omega (arith, k.distinct x, all, middle, inner, here)))))
+      remade x ∙ nothing x 0 _ (none_append x f.before (freed ∷ f.after) (none_named x f.before (omega (arith, k.distinct x, all, middle, inner, here)))
+      (none_append x (freed ∷ []) f.after (none_idle x freed refl) (none_named x f.after (omega (arith, k.distinct x, all, middle, inner, here)))))
 
   pub frees_others : KeepsOthers x v w
   frees_others y d =
       let idle = idle_parts f.left f.right f.free in
       remade y
       ∙ swapped y 0 f.before old (freed ∷ []) f.after (omega arith)
-      (none_append y f.left (f.block ∷ f.right) (none_idle_all y f.left idle.0) (none_append y (f.block ∷ []) f.right ((ap (λ t. f.block.used && t) (ne_eqb y f.block.name (λ k. d (k ∙ sym (sym f.named)))) ∙ and_right f.block.used false refl, tt)) (none_idle_all y f.right idle.1)))
+      (none_append y f.left (f.block ∷ f.right) (none_idle_all y f.left idle.0)
+      (none_append y (f.block ∷ []) f.right ((ap (λ t. f.block.used && t) (ne_eqb y f.block.name (λ k. d (k ∙ sym (sym f.named)))) ∙ and_right f.block.used false refl, tt))
+      (none_idle_all y f.right idle.1)))
       (none_idle y freed refl)
       ∙ sym (ap (range_from y 0) f.blocks) ∙ sym (range_is y v k)
 
@@ -266,7 +278,8 @@ module _ (x n : ℕ) (v w : View) (k : IsWellFormed v) (after : IsWellFormed w) 
 
   pub resizes_units : HasUnits x n v w
   resizes_units r e =
-      let was = range_is x v k ∙ ap (range_from x 0) s.blocks ∙ placed x s.before s.block (s.next ++ s.after) (sym s.named) (omega (arith, k.distinct x, ap (count_named x) s.blocks)) ∙ ap (λ (u : Bool). if u then Some (record { offset = units s.before; size = s.block.size }) else None) s.used in
+      let was = range_is x v k ∙ ap (range_from x 0) s.blocks ∙ placed x s.before s.block (s.next ++ s.after) (sym s.named) (omega (arith, k.distinct x, ap (count_named x) s.blocks))
+      ∙ ap (λ (u : Bool). if u then Some (record { offset = units s.before; size = s.block.size }) else None) s.used in
       let now = refitted x ∙ placed x s.before (used_block x n) (free_part s.name s.left ++ s.after) refl (omega (arith, after.distinct x, ap (λ (u : View). count_named x u.blocks) s.view)) in
       let same : (let q : Range = record { offset = units s.before; size = s.block.size } in q) ≡ r = cc in
       now ∙ ap (λ (q : Range). Some (record { offset = q.offset; size = n })) same
@@ -275,6 +288,7 @@ module _ (x n : ℕ) (v w : View) (k : IsWellFormed v) (after : IsWellFormed w) 
   resizes_others y d =
       refitted y
       ∙ swapped y 0 s.before gone made s.after (omega (arith, s.whole, (part_sums s.name s.left).1))
-      (none_append y (s.block ∷ []) s.next ((ap (λ t. s.block.used && t) (ne_eqb y s.block.name (λ e. d (e ∙ s.named))) ∙ and_right s.block.used false refl, tt)) (none_idle_all y s.next s.free))
+      (none_append y (s.block ∷ []) s.next ((ap (λ t. s.block.used && t) (ne_eqb y s.block.name (λ e. d (e ∙ s.named))) ∙ and_right s.block.used false refl, tt))
+      (none_idle_all y s.next s.free))
       (none_append y (used_block x n ∷ []) (free_part s.name s.left) ((ne_eqb y x d, tt)) (none_free y s.name s.left))
       ∙ sym (ap (range_from y 0) s.blocks) ∙ sym (range_is y v k)

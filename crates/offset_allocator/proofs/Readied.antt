@@ -1,5 +1,6 @@
 -- Nodes that are made before names are taken.
-use Rattle.std.proofs.Common.{◌≡◌, ◌<◌, ◌≤◌, ◌+◌, ℕ, zero, suc, List, [], ◌∷◌, ◌++◌, None, refl, sym, ap, ◌∙◌, inl, inr, arith, length, length-append, length-set, get_or, take, set}
+use Rattle.std.proofs.Common.{◌≡◌, ◌<◌, ◌≤◌, ◌+◌, ℕ, zero, suc, List, [], ◌∷◌, ◌++◌, None, refl, sym, ap, ◌∙◌, inl, inr, arith, length, length-append, length-set}
+use Rattle.std.proofs.Common.{get_or, take, set}
 use Rattle.std.proofs.lemmas.Bool.{cases_eq}
 use Rattle.std.proofs.lemmas.Bool.Decides.{nat_tests}
 use Rattle.std.proofs.lemmas.List.{take_more_set}
@@ -54,7 +55,8 @@ pub chain_more : {c d : Room} {m last count : ℕ} {bs : List Block} → IsChain
 chain_more {c} {d} {m} {last} {count} {bs} h e room =
     let at : (k : ℕ) → node d k ≡ node c k = λ k. rw e (node-with_node c count k) in
     let long : length d.nodes ≡ length c.nodes + 1 = rw e (length-with_node c count) in
-    let spare : length d.spare ≡ length c.spare + 1 = rw (e, spare-with_node) (length-set (c.spare ++ length c.nodes ∷ []) count (length c.nodes) ∙ length-append c.spare (length c.nodes ∷ [])) in
+    let spare : length d.spare ≡ length c.spare + 1 =
+    rw (e, spare-with_node) (length-set (c.spare ++ length c.nodes ∷ []) count (length c.nodes) ∙ length-append c.spare (length c.nodes ∷ [])) in
     let few = h.full in
     record {
       memory = rw e (reserved-with_node c count) ∙ h.memory;
@@ -78,7 +80,8 @@ pub has_memory : {c : Room} {m last count names : ℕ} {bs : List Block} → IsC
 has_memory h l few = omega (arith, h.full, l, few)
 
 -- one node was made
-pub readied : {max count : ℕ} {c d : Cells} → AreShaped max c → length c.room.nodes < c.room.reserved → d.room ≡ with_node c.room count → d.links.newer ≡ c.links.newer ++ max ∷ [] → d.links.older ≡ c.links.older ++ max ∷ [] → d.links.heads ≡ c.links.heads → d.links.masks ≡ c.links.masks
+pub readied : {max count : ℕ} {c d : Cells} → AreShaped max c → length c.room.nodes < c.room.reserved → d.room ≡ with_node c.room count → d.links.newer ≡ c.links.newer ++ max ∷ []
+    → d.links.older ≡ c.links.older ++ max ∷ [] → d.links.heads ≡ c.links.heads → d.links.masks ≡ c.links.masks
     → Readies max c d count (count + 1)
 readied {max} {count} {c} {d} s room e newer older heads masks = record {
   chain = λ m last bs h. chain_more h e (omega (arith, room, h.memory));
@@ -90,7 +93,12 @@ pub not_readied : {max count : ℕ} {c : Cells} → Readies max c c count count
 not_readied = record { chain = λ m last bs h. h; node = λ x. refl; bins = λ top b. (b, refl) }
 
 pub readied_twice : {max count count' count'' : ℕ} {c d e : Cells} → Readies max c d count count' → Readies max d e count' count'' → Readies max c e count count''
-readied_twice a b = record { chain = λ m last bs h. b.chain m last bs (a.chain m last bs h); node = λ x. b.node x ∙ a.node x; bins = λ top h. let x = a.bins top h in let y = b.bins top x.0 in (y.0, y.1 ∙ x.1) }
+readied_twice a b = record {
+  chain = λ m last bs h. b.chain m last bs (a.chain m last bs h);
+  node = λ x. b.node x ∙ a.node x;
+  bins = λ top h. let x = a.bins top h in
+      let y = b.bins top x.0 in (y.0, y.1 ∙ x.1);
+}
 
 -- the fields then
 abbrev pub with_made : Fields → Cells → ℕ → Fields

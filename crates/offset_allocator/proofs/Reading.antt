@@ -1,5 +1,6 @@
 -- What a read of cells says of the view.
-use Rattle.std.proofs.Common.{◌≡◌, ℕ, ◌<◌, inl, inr, length, arith, Bool, is_some, true, false, Option, None, Some, option_and_then, option_map, unwrap_or, if◌then◌else◌, refl, sym, ap, subst, ◌∙◌}
+use Rattle.std.proofs.Common.{◌≡◌, ℕ, ◌<◌, inl, inr, length, arith, Bool, is_some, true, false, Option, None, Some, option_and_then, option_map, unwrap_or, if◌then◌else◌, refl, sym}
+use Rattle.std.proofs.Common.{ap, subst, ◌∙◌}
 use Rattle.std.proofs.lemmas.Bool.{cases_lt, false≢true}
 use Rattle.offset_allocator.specs.Cells.{Room, Node, node}
 use Rattle.offset_allocator.specs.View.{View, Place, units, place_of, is_used_at}
@@ -34,7 +35,8 @@ range_some (Some p) = elim p.block.used as (λ u. is_some {T = Range} (if u then
 
 range_units : (o : Option Place) → units_in (range_at o) ≡ size_at o
 range_units None = refl
-range_units (Some p) = elim p.block.used as (λ u. units_in (if u then Some (record { offset = units p.before; size = p.block.size }) else None) ≡ (if u then p.block.size else 0)) [ true ↦ refl | false ↦ refl ]
+range_units (Some p) = elim p.block.used as (λ u. units_in (if u then Some (record { offset = units p.before; size = p.block.size }) else None) ≡ (if u then p.block.size else 0))
+    [ true ↦ refl | false ↦ refl ]
 
 module _ (x : ℕ) (v : View) where
   pub live_is : is_some {T = Range} (range_of x v) ≡ is_used_at (place_of x v.blocks)
@@ -94,7 +96,9 @@ module _ (it : Fields) (x : ℕ) (s : AreSound it) where
     live_within = omega (arith, live_below, s.space.within, s.memory)
 
     pub live_size : (node it.cells.room x).size ≡ size_of x v
-    live_size = size_read it.cells.room it.last it.count x s.space (used_read it.cells.room it.last it.count x s.space ∙ used) ∙ ap (λ (u : View). size_at (place_of x u.blocks)) e ∙ sym (size_is x v)
+    live_size = size_read it.cells.room it.last it.count x s.space (used_read it.cells.room it.last it.count x s.space ∙ used)
+        ∙ ap (λ (u : View). size_at (place_of x u.blocks)) e ∙ sym (size_is x v)
 
     pub live_offset : Some (node it.cells.room x).offset ≡ option_map (λ (r : Range). r.offset) (range_of x v)
-    live_offset = sym (offset_read it.cells.room it.last it.count x s.space (used_read it.cells.room it.last it.count x s.space ∙ used)) ∙ ap (λ (u : View). option_map (λ (r : Range). r.offset) (range_of x u)) e
+    live_offset = sym (offset_read it.cells.room it.last it.count x s.space (used_read it.cells.room it.last it.count x s.space ∙ used))
+        ∙ ap (λ (u : View). option_map (λ (r : Range). r.offset) (range_of x u)) e

@@ -14,7 +14,8 @@ free_units_sum : (bs : List Block) → (free_units bs ≡ sum (free_sizes bs)) �
 free_units_sum [] = (refl, omega arith)
 free_units_sum (b ∷ bs) =
     let ih = free_units_sum bs in
-    elim b.used as (λ u. ((if u then 0 else b.size) + free_units bs ≡ sum (if u then free_sizes bs else b.size ∷ free_sizes bs)) × ((if u then 0 else b.size) + free_units bs ≤ b.size + units bs)) [
+    elim b.used as (λ u. ((if u then 0 else b.size) + free_units bs ≡ sum (if u then free_sizes bs else b.size ∷ free_sizes bs))
+    × ((if u then 0 else b.size) + free_units bs ≤ b.size + units bs)) [
       | true ↦ (omega (arith, ih.0), omega (arith, ih.1))
       | false ↦ (ap (λ n. b.size + n) ih.0 ∙ sym (sum_by-cons (λ (n : ℕ). n) b.size (free_sizes bs)), omega (arith, ih.1))
     ]

@@ -30,12 +30,14 @@ two_free : (b c : Block) (bs : List Block) → b.used ≡ false → c.used ≡ f
 two_free b c bs e f a = true≢false (ap₂ (λ (x y : Bool). not x && not y) (sym e) (sym f) ∙ a.0)
 
 -- free blocks after a list that ends in none are its free end
-pub end_is : (before left : List Block) → AllByRecursion (λ b. b.used ≡ false) left → IsApart (before ++ left) → ends_free before ≡ false → (free_end (before ++ left) ≡ left) × (without_end (before ++ left) ≡ before)
+pub end_is : (before left : List Block) → AllByRecursion (λ b. b.used ≡ false) left → IsApart (before ++ left) → ends_free before ≡ false → (free_end (before ++ left) ≡ left)
+    × (without_end (before ++ left) ≡ before)
 end_is before [] i a e = let n = no_end before e in (ap free_end (append-nil before) ∙ n.0, ap without_end (append-nil before) ∙ n.1)
 end_is before (b ∷ []) i a e = end_free before b i.0
 end_is before (b ∷ c ∷ left) i a e = absurd (two_free b c left i.0 i.1.0 (apart_parts before (b ∷ c ∷ left) a).1)
 
-pub start_is : (right after : List Block) → AllByRecursion (λ b. b.used ≡ false) right → IsApart (right ++ after) → starts_free after ≡ false → (free_start (right ++ after) ≡ right) × (without_start (right ++ after) ≡ after)
+pub start_is : (right after : List Block) → AllByRecursion (λ b. b.used ≡ false) right → IsApart (right ++ after) → starts_free after ≡ false → (free_start (right ++ after) ≡ right)
+    × (without_start (right ++ after) ≡ after)
 start_is [] after i a e = no_start after e
 start_is (b ∷ []) after i a e = (ap (λ (u : Bool). if not u then b ∷ [] else []) i.0, ap (λ (u : Bool). if not u then after else b ∷ after) i.0)
 start_is (b ∷ c ∷ right) after i a e = absurd (two_free b c (right ++ after) i.0 i.1.0 a)

@@ -1,9 +1,11 @@
 -- A block that is resized with the free block after it: what that leaves of a view, and of the whole allocator.
 use Rattle.std.specs.Prelude.{IsSome}
-use Rattle.std.proofs.Common.{◌≡◌, ◌≢◌, ◌↔◌, ℕ, zero, suc, ◌+◌, ◌-◌, ◌<◌, ◌≤◌, Bool, true, false, ◌⊎◌, List, [], ◌∷◌, ◌++◌, length, Option, Some, None, is_some, nat_eq, refl, sym, ap, ap₂, subst, ◌∙◌, inl, inr, arith, length-append, eq-zero-or-pos, eq-eqb, ne_eqb, if◌then◌else◌}
+use Rattle.std.proofs.Common.{◌≡◌, ◌≢◌, ◌↔◌, ℕ, zero, suc, ◌+◌, ◌-◌, ◌<◌, ◌≤◌, Bool, true, false, ◌⊎◌, List, [], ◌∷◌, ◌++◌, length, Option, Some}
+use Rattle.std.proofs.Common.{None, is_some, nat_eq, refl, sym, ap, ap₂, subst, ◌∙◌, inl, inr, arith, length-append, eq-zero-or-pos, eq-eqb, ne_eqb, if◌then◌else◌}
 use Rattle.std.proofs.lemmas.Bool.{false≢true, true≢false, and_right, cases_eq}
 use Rattle.offset_allocator.specs.Cells.{Cells, Node}
-use Rattle.offset_allocator.specs.View.{Block, View, Place, one, units, count_named, used_of, used_block, IsApart, IsWellFormed, IsNew, free_start, without_start, free_part, remove_all, push_all, replace}
+use Rattle.offset_allocator.specs.View.{Block, View, Place, one, units, count_named, used_of, used_block, IsApart, IsWellFormed, IsNew, free_start, without_start, free_part, remove_all, push_all}
+use Rattle.offset_allocator.specs.View.{replace}
 use Rattle.offset_allocator.specs.Requests.{HasRoomFor}
 use Rattle.offset_allocator.specs.Ranges.{range_of, size_of, KeepsOthers}
 use Rattle.offset_allocator.specs.Relations.{SameSpace}
@@ -41,7 +43,8 @@ module _ {x n : ℕ} {v u : View} (r : Resizes x n v u) (k : IsWellFormed v) whe
   parts = used_block x n ∷ rest
 
   count_of : (y : ℕ) → count_named y v.blocks ≡ count_named y r.before + ((one (nat_eq y x) + count_named y r.next) + count_named y r.after)
-  count_of y = ap (count_named y) r.blocks ∙ tally_three (λ (b : Block). one (nat_eq y b.name)) r.before old r.after ∙ ap (λ i. count_named y r.before + ((one (nat_eq y i) + count_named y r.next) + count_named y r.after)) r.named
+  count_of y = ap (count_named y) r.blocks ∙ tally_three (λ (b : Block). one (nat_eq y b.name)) r.before old r.after
+      ∙ ap (λ i. count_named y r.before + ((one (nat_eq y i) + count_named y r.next) + count_named y r.after)) r.named
 
   distinct_parts : (y : ℕ) → count_named y parts ≤ 1
   distinct_parts y = elim (part_named r.name r.left y) [
@@ -73,7 +76,15 @@ module _ {x n : ℕ} {v u : View} (r : Resizes x n v u) (k : IsWellFormed v) whe
           | inl l ↦ omega (arith, l, k.room, old_length, new_length, (part_sums r.name r.left).0)
           | inr l ↦ omega (arith, l, old_length, new_length, (part_sums r.name r.left).0)
         ];
-        spare = omega (arith, k.spare, ap used_of r.blocks, tally_three (λ (b : Block). one b.used) r.before old r.after, tally_three (λ (b : Block). one b.used) r.before parts r.after, ap one r.used, (part_sums r.name r.left).2);
+        spare = omega (
+          arith,
+          k.spare,
+          ap used_of r.blocks,
+          tally_three (λ (b : Block). one b.used) r.before old r.after,
+          tally_three (λ (b : Block). one b.used) r.before parts r.after,
+          ap one r.used,
+          (part_sums r.name r.left).2,
+        );
       })
       (omega (arith, r.whole, (part_sums r.name r.left).1)) k.fits)
     where
@@ -108,13 +119,18 @@ module _ {f : Fields} {x : ℕ} (call : Release f x) where
   split = (at call).stood ∙ ap (λ l. p.before ++ p.block ∷ l) (start_parts p.after)
 
   had_free : f.free ≡ free_units p.before + (units next + free_units after)
-  had_free = sym call.sound.total ∙ ap free_units split ∙ free_units-append p.before (p.block ∷ (next ++ after)) ∙ ap (λ k. free_units p.before + k) (free_units-used p.block (next ++ after) (used call) ∙ free_units-append next after ∙ ap (λ k. k + free_units after) (units_start p.after))
+  had_free = sym call.sound.total ∙ ap free_units split ∙ free_units-append p.before (p.block ∷ (next ++ after))
+      ∙ ap (λ k. free_units p.before + k) (free_units-used p.block (next ++ after) (used call) ∙ free_units-append next after ∙ ap (λ k. k + free_units after) (units_start p.after))
 
   pub free_beside : units (free_start (at call).place.after) ≤ f.free
   free_beside = omega (arith, had_free)
 
   module _ (n : ℕ) (enough : n ≤ both) (room : (1 ≤ length (free_start (at call).place.after)) ⊎ HasRoomFor 1 (shown f))
-      (d : Cells) (last count name : ℕ) (there : HasPlace d.room f.cells.room.reserved last count x (record { before = (at call).place.before; block = record (at call).place.block { size = n }; after = free_part name (both - n) ++ without_start (at call).place.after })) where
+      (d : Cells) (last count name : ℕ) (there : HasPlace d.room f.cells.room.reserved last count x (record {
+        before = (at call).place.before;
+        block = record (at call).place.block { size = n };
+        after = free_part name (both - n) ++ without_start (at call).place.after;
+      })) where
     abbrev left : ℕ
     left = both - n
 
@@ -131,7 +147,8 @@ module _ {f : Fields} {x : ℕ} (call : Release f x) where
     counted : (y : ℕ) → count_named y v.blocks ≡ count_named y p.before + (one (nat_eq y p.block.name) + (count_named y next + count_named y after))
     counted y = ap (count_named y) split ∙ tally_three (λ (b : Block). one (nat_eq y b.name)) p.before (p.block ∷ next) after ∙ omega arith
 
-    now : (y : ℕ) → count_named y (p.before ++ record p.block { size = n } ∷ (free_part name left ++ after)) ≡ count_named y p.before + (one (nat_eq y p.block.name) + (count_named y (free_part name left) + count_named y after))
+    now : (y : ℕ) → count_named y (p.before ++ record p.block { size = n } ∷ (free_part name left ++ after)) ≡ count_named y
+        p.before + (one (nat_eq y p.block.name) + (count_named y (free_part name left) + count_named y after))
     now y = tally_three (λ (b : Block). one (nat_eq y b.name)) p.before (record p.block { size = n } ∷ free_part name left) after ∙ omega arith
 
     named : 1 ≤ left → (1 ≤ count_named name next) ⊎ IsNew name v
@@ -185,7 +202,8 @@ module _ {f : Fields} {x : ℕ} (call : Release f x) where
         (done.0, resizes _ done.1)
 
   -- whether a free block is after it
-  pub next_some : (o : Option ℕ) → IsFreeAfter f.cells.room x o → (is_some o ≡ true → 1 ≤ length (free_start (at call).place.after)) × (is_some o ≡ false → free_start (at call).place.after ≡ [])
+  pub next_some : (o : Option ℕ) → IsFreeAfter f.cells.room x o → (is_some o ≡ true → 1 ≤ length (free_start (at call).place.after))
+      × (is_some o ≡ false → free_start (at call).place.after ≡ [])
   next_some None h = (λ e. absurd (false≢true e), λ _. h _ _ _ _ (at call).held)
   next_some (Some y) h =
       let n = next_place (at call).held h.0 in
@@ -205,16 +223,25 @@ module _ {f : Fields} {x : ℕ} (call : Release f x) where
   next_there = ap free_beyond (at call).is
 
   -- no block may take the units that are given back
-  pub resizes_full : (n accesses : ℕ) → n < (at call).place.block.size → free_start (at call).place.after ≡ [] → f.limit ≤ length (shown f).blocks + 1 → ResizesTo x n (shown f) (shown (record f { accesses = accesses })) false
+  pub resizes_full : (n accesses : ℕ) → n < (at call).place.block.size → free_start (at call).place.after ≡ [] → f.limit ≤ length (shown f).blocks + 1
+      → ResizesTo x n (shown f) (shown (record f { accesses = accesses })) false
   resizes_full n accesses l e full = (λ c. elim (c.1 (omega (arith, l, size_there))) [ inl some ↦ some (next_there ∙ e) | inr room ↦ omega (arith, room, full) ], refl)
 
   -- the free block after it has too few units
   pub resizes_short : (n accesses : ℕ) → both < n → ResizesTo x n (shown f) (shown (record f { accesses = accesses })) false
   resizes_short n accesses l = (λ c. omega (arith, c.0, l, size_there, ap units next_there), refl)
 
-  pub resizes_done : (n : ℕ) (u : View) → n ≢ (at call).place.block.size → n ≤ both → (1 ≤ length (free_start (at call).place.after)) ⊎ HasRoomFor 1 (shown f) → Resizes x n (shown f) u → ResizesTo x n (shown f) u true
+  pub resizes_done : (n : ℕ) (u : View) → n ≢ (at call).place.block.size → n ≤ both → (1 ≤ length (free_start (at call).place.after)) ⊎ HasRoomFor 1 (shown f)
+      → Resizes x n (shown f) u → ResizesTo x n (shown f) u true
   resizes_done n u ne m room r =
-      inr (λ e. ne (e ∙ size_there), (omega (arith, m, size_there, ap units next_there), λ _. elim room [ inl some ↦ inl (λ e. omega (arith, some, ap length (sym next_there ∙ e))) | inr o ↦ inr o ]), r)
+      inr (
+        λ e. ne (e ∙ size_there),
+        (
+          omega (arith, m, size_there, ap units next_there),
+          λ _. elim room [ inl some ↦ inl (λ e. omega (arith, some, ap length (sym next_there ∙ e))) | inr o ↦ inr o ],
+        ),
+        r,
+      )
 
 -- blocks of some units are some
 pub some_units : (bs : List Block) → 1 ≤ units bs → 1 ≤ length bs

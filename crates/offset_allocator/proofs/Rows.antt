@@ -1,5 +1,6 @@
 -- Rows of linked nodes: split, appended, and left alone by writes elsewhere.
-use Rattle.std.proofs.Common.{◌≡◌, ◌≢◌, ℕ, zero, suc, ◌+◌, ◌≤◌, Option, None, Some, List, [], ◌∷◌, ◌++◌, length, refl, sym, ◌∙◌, ap, arith, add_assoc, zero-add, add-zero, inl, inr}
+use Rattle.std.proofs.Common.{◌≡◌, ◌≢◌, ℕ, zero, suc, ◌+◌, ◌≤◌, Option, None, Some, List, [], ◌∷◌, ◌++◌, length, refl, sym, ◌∙◌, ap, arith, add_assoc, zero-add}
+use Rattle.std.proofs.Common.{add-zero, inl, inr}
 use Rattle.std.proofs.lemmas.Bool.{cases_eq}
 use Rattle.offset_allocator.specs.Cells.{Room, node}
 use Rattle.offset_allocator.specs.Chain.{first_or, last_or, IsRow, walk}
@@ -42,17 +43,21 @@ pub IsRow-back : (c : Room) (p : Option ℕ) (o : ℕ) (fs bs : List Block) (q :
 IsRow-back c p o [] bs q h = rw (add-zero o) h
 IsRow-back c p o (a ∷ fs) bs q h = rw (← add_assoc o a.size (units fs)) (IsRow-back c (Some a.name) (o + a.size) fs bs q h.1)
 
-pub IsRow-append : (c : Room) (p : Option ℕ) (o : ℕ) (fs bs : List Block) (q : Option ℕ) → IsRow c p o fs (first_or q bs) → IsRow c (last_or p fs) (o + units fs) bs q → IsRow c p o (fs ++ bs) q
+pub IsRow-append : (c : Room) (p : Option ℕ) (o : ℕ) (fs bs : List Block) (q : Option ℕ) → IsRow c p o fs (first_or q bs)
+    → IsRow c (last_or p fs) (o + units fs) bs q → IsRow c p o (fs ++ bs) q
 IsRow-append c p o [] bs q g h = rw (add-zero o) at h
 IsRow-append c p o (a ∷ fs) bs q g h =
     (rw (first_or-append q fs bs) g.0, IsRow-append c (Some a.name) (o + a.size) fs bs q g.1 (rw (← add_assoc o a.size (units fs)) at h))
 
 -- the node of a block of a row
-pub node_at : (c : Room) (fs : List Block) (b : Block) (cs : List Block) (x : ℕ) → IsRow c None 0 (fs ++ b ∷ cs) None → b.name ≡ x → node c x ≡ record { offset = units fs; size = b.size; used = b.used; before = last_or None fs; after = first_or None cs }
-node_at c fs b cs x row e = ap (λ (i : ℕ). node c i) (sym e) ∙ (IsRow-back c None 0 fs (b ∷ cs) None row).0 ∙ ap (λ (o : ℕ). record { offset = o; size = b.size; used = b.used; before = last_or None fs; after = first_or None cs }) (omega arith)
+pub node_at : (c : Room) (fs : List Block) (b : Block) (cs : List Block) (x : ℕ) → IsRow c None 0 (fs ++ b ∷ cs) None → b.name ≡ x
+    → node c x ≡ record { offset = units fs; size = b.size; used = b.used; before = last_or None fs; after = first_or None cs }
+node_at c fs b cs x row e = ap (λ (i : ℕ). node c i) (sym e) ∙ (IsRow-back c None 0 fs (b ∷ cs) None row).0
+    ∙ ap (λ (o : ℕ). record { offset = o; size = b.size; used = b.used; before = last_or None fs; after = first_or None cs }) (omega arith)
 
 -- writes at other names leave a row
-pub IsRow-kept : (c d : Room) (p : Option ℕ) (o : ℕ) (bs : List Block) (q : Option ℕ) → ((k : ℕ) → 1 ≤ count_named k bs → node d k ≡ node c k) → IsRow c p o bs q → IsRow d p o bs q
+pub IsRow-kept : (c d : Room) (p : Option ℕ) (o : ℕ) (bs : List Block) (q : Option ℕ) → ((k : ℕ) → 1 ≤ count_named k bs → node d k ≡ node c k)
+    → IsRow c p o bs q → IsRow d p o bs q
 IsRow-kept c d p o [] q same h = tt
 IsRow-kept c d p o (b ∷ bs) q same h = (
   same b.name (omega (arith, one-same b.name)) ∙ h.0,
@@ -60,7 +65,9 @@ IsRow-kept c d p o (b ∷ bs) q same h = (
 )
 
 -- a row whose first node is linked back to another
-pub IsRow-moved : (c d : Room) (p p' : Option ℕ) (o : ℕ) (bs : List Block) (q : Option ℕ) → ((k : ℕ) → count_named k bs ≤ 1) → ((z : ℕ) → first_or None bs ≡ Some z → node d z ≡ record (node c z) { before = p' }) → ((k : ℕ) → 1 ≤ count_named k bs → first_or None bs ≢ Some k → node d k ≡ node c k) → IsRow c p o bs q → IsRow d p' o bs q
+pub IsRow-moved : (c d : Room) (p p' : Option ℕ) (o : ℕ) (bs : List Block) (q : Option ℕ) → ((k : ℕ) → count_named k bs ≤ 1)
+    → ((z : ℕ) → first_or None bs ≡ Some z → node d z ≡ record (node c z) { before = p' })
+    → ((k : ℕ) → 1 ≤ count_named k bs → first_or None bs ≢ Some k → node d k ≡ node c k) → IsRow c p o bs q → IsRow d p' o bs q
 IsRow-moved c d p p' o [] q once head others h = tt
 IsRow-moved c d p p' o (b ∷ bs) q once head others h = (
   rw h.0 at (head b.name refl),
@@ -68,7 +75,9 @@ IsRow-moved c d p p' o (b ∷ bs) q once head others h = (
 )
 
 -- a row whose last node is linked on to another
-pub IsRow-aimed : (c d : Room) (p : Option ℕ) (o : ℕ) (bs : List Block) (q q' : Option ℕ) → ((k : ℕ) → count_named k bs ≤ 1) → ((z : ℕ) → last_or None bs ≡ Some z → node d z ≡ record (node c z) { after = q' }) → ((k : ℕ) → 1 ≤ count_named k bs → last_or None bs ≢ Some k → node d k ≡ node c k) → IsRow c p o bs q → IsRow d p o bs q'
+pub IsRow-aimed : (c d : Room) (p : Option ℕ) (o : ℕ) (bs : List Block) (q q' : Option ℕ) → ((k : ℕ) → count_named k bs ≤ 1)
+    → ((z : ℕ) → last_or None bs ≡ Some z → node d z ≡ record (node c z) { after = q' }) → ((k : ℕ) → 1 ≤ count_named k bs → last_or None bs ≢ Some k → node d k ≡ node c k)
+    → IsRow c p o bs q → IsRow d p o bs q'
 IsRow-aimed c d p o [] q q' once end others h = tt
 IsRow-aimed c d p o (b ∷ []) q q' once end others h = (rw h.0 at (end b.name refl), tt)
 IsRow-aimed c d p o (b ∷ b' ∷ bs) q q' once end others h = (
@@ -77,7 +86,8 @@ IsRow-aimed c d p o (b ∷ b' ∷ bs) q q' once end others h = (
 )
 
 -- the walk back from the end of a row is the row
-pub walk-row : (c : Room) (p : Option ℕ) (o : ℕ) (bs : List Block) (q : Option ℕ) (f : ℕ) (rest : List Block) → IsRow c p o bs q → walk c (length bs + f) (last_or p bs) rest ≡ walk c f p (bs ++ rest)
+pub walk-row : (c : Room) (p : Option ℕ) (o : ℕ) (bs : List Block) (q : Option ℕ) (f : ℕ) (rest : List Block) → IsRow c p o bs q
+    → walk c (length bs + f) (last_or p bs) rest ≡ walk c f p (bs ++ rest)
 walk-row c p o [] q f rest h = rw (zero-add f)
 walk-row c p o (b ∷ bs) q f rest h =
     let e : length (b ∷ bs) + f ≡ length bs + suc f = omega arith in

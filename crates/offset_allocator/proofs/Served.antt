@@ -1,5 +1,6 @@
 -- What contracts say of a request, from the relation that says it all.
-use Rattle.std.proofs.Common.{◌≡◌, ◌↔◌, ℕ, ◌+◌, ◌%◌, ◌<◌, ◌≤◌, Bool, length, Option, Some, None, IsSome, IfSome, if◌then◌else◌, refl, sym, ap, ap₂, subst, ◌∙◌, inl, inr, arith, le-leb}
+use Rattle.std.proofs.Common.{◌≡◌, ◌↔◌, ℕ, ◌+◌, ◌%◌, ◌<◌, ◌≤◌, Bool, length, Option, Some, None, IsSome, IfSome, if◌then◌else◌, refl, sym, ap, ap₂, subst}
+use Rattle.std.proofs.Common.{◌∙◌, inl, inr, arith, le-leb}
 use Rattle.std.proofs.lemmas.Bool.{cases_lt, false≢true, lt-leb}
 use Rattle.offset_allocator.specs.Classes.{down}
 use Rattle.offset_allocator.specs.View.{View, Grant, units, count_named, place_of, IsWellFormed, free_sizes, largest_free, padding_to, max_size}
@@ -70,7 +71,8 @@ module _ (blocks needed n : ℕ) (padding_at : ℕ → ℕ) (v w : View) (known 
     grants (Some g) a = split_grants a.1 known (well_served g a)
 
 -- what was counted changes nothing of a split, nor does other padding of the same units
-pub split_as : {needed n : ℕ} {padding_at : ℕ → ℕ} {v w : View} {g : Grant} → Splits needed n padding_at v w g → (a b : ℕ) (padded_at : ℕ → ℕ) → ((o : ℕ) → padding_at o ≡ padded_at o) → Splits needed n padded_at (record v { accesses = a }) (record w { accesses = b }) g
+pub split_as : {needed n : ℕ} {padding_at : ℕ → ℕ} {v w : View} {g : Grant} → Splits needed n padding_at v w g → (a b : ℕ) (padded_at : ℕ → ℕ)
+    → ((o : ℕ) → padding_at o ≡ padded_at o) → Splits needed n padded_at (record v { accesses = a }) (record w { accesses = b }) g
 split_as {w = w} s a b padded_at alike = record {
   before = s.before;
   block = s.block;
@@ -94,7 +96,8 @@ split_as {w = w} s a b padded_at alike = record {
   view = ap (λ (x : View). record x { accesses = b }) s.view;
 }
 
-pub serves_counted : (blocks needed n : ℕ) (padding_at : ℕ → ℕ) (v w : View) (accesses : ℕ) (r : Option Grant) → Serves blocks needed n padding_at (record v { accesses = accesses }) w r → Serves blocks needed n padding_at v w r
+pub serves_counted : (blocks needed n : ℕ) (padding_at : ℕ → ℕ) (v w : View) (accesses : ℕ) (r : Option Grant) → Serves blocks needed n padding_at (record v { accesses = accesses }) w r
+    → Serves blocks needed n padding_at v w r
 serves_counted blocks needed n padding_at v w accesses None a = a
 serves_counted blocks needed n padding_at v w accesses (Some g) a = (a.0, split_as a.1 v.accesses w.accesses padding_at (λ o. refl))
 

@@ -1,5 +1,6 @@
 -- A free block that moves to the end of the space: used blocks pass it, and free ones are coalesced with it.
-use Rattle.std.proofs.Common.{◌≡◌, ◌≢◌, ℕ, inl, inr, ◌+◌, ◌-◌, ◌≤◌, Bool, true, false, Some, None, List, [], ◌∷◌, ◌++◌, length, if◌then◌else◌, refl, sym, ap, ap₂, subst, ◌*◌, ◌∙◌, arith, append_assoc, append-nil}
+use Rattle.std.proofs.Common.{◌≡◌, ◌≢◌, ℕ, inl, inr, ◌+◌, ◌-◌, ◌≤◌, Bool, true, false, Some, None, List, [], ◌∷◌, ◌++◌, length, if◌then◌else◌, refl, sym}
+use Rattle.std.proofs.Common.{ap, ap₂, subst, ◌*◌, ◌∙◌, arith, append_assoc, append-nil}
 use Rattle.std.specs.List.{FoldsTo}
 use Rattle.std.proofs.lemmas.Bool.{cases_eq}
 use Rattle.std.proofs.lemmas.Bool.Decides.{nat_tests}
@@ -36,7 +37,10 @@ module _ {d : Room} {m last count y : ℕ} (p : Place) (b : Block) (bs : List Bl
       let e = end_free p.before p.block idle in
       (ap (λ (v : Node). v.offset) (at_place h) ∙ ap units e.1, ap (λ (v : Node). v.size) (at_place h) ∙ ap (λ l. units l + b.size) e.0 ∙ omega arith)
 
-  pub passed : (z n : ℕ) → n ≡ b.size → HasPlace d m last count y (record (joined p b bs) { block = record (joined p b bs).block { size = n }; after = free_block z ((joined p b bs).block.size - n) ∷ (joined p b bs).after })
+  pub passed : (z n : ℕ) → n ≡ b.size → HasPlace d m last count y (record (joined p b bs) {
+    block = record (joined p b bs).block { size = n };
+    after = free_block z ((joined p b bs).block.size - n) ∷ (joined p b bs).after;
+  })
       → HasPlace d m last count z (record { before = p.before ++ b ∷ []; block = free_block z p.block.size; after = bs })
   passed z n same h =
       let e = end_free p.before p.block idle in
@@ -51,7 +55,8 @@ absorbed p b bs idle e h =
     rw (idle, one) at (rw e at h)
 
 -- a walk back from the last block
-pub walked : {c : Room} {last count x : ℕ} (h : IsSpace c last count) (front rest : List Block) → blocks c last ≡ front ++ rest → (e : last_or None front ≡ Some x) → HasPlace c c.reserved last count x (record { before = (ended front x e).front; block = (ended front x e).last; after = rest })
+pub walked : {c : Room} {last count x : ℕ} (h : IsSpace c last count) (front rest : List Block) → blocks c last ≡ front ++ rest → (e : last_or None front ≡ Some x)
+    → HasPlace c c.reserved last count x (record { before = (ended front x e).front; block = (ended front x e).last; after = rest })
 walked {x = x} h front rest is e = let f = ended front x e in placed (rw append_assoc at (rw f.is at (rw is at h))) f.name
 
 pub first_used : (b : Block) (bs : List Block) → b.used ≡ true → first_free (b ∷ bs) ≡ first_free bs
@@ -73,7 +78,8 @@ pub record IsSliding {F : Type 0} (R : F → Move → F → Type 0) (m : ℕ) (p
   pub kept : place.before ++ live place.after ≡ p.before ++ live p.after
   pub free : place.block.size + free_units place.after ≡ p.block.size + free_units p.after
   -- the calls that are still to come end what the calls of p are
-  pub calls : (h : F) → FoldsTo R g (moves (units place.before + place.block.size) (units place.before) place.after) h → FoldsTo R f (moves (units p.before + p.block.size) (units p.before) p.after) h
+  pub calls : (h : F) → FoldsTo R g (moves (units place.before + place.block.size) (units place.before) place.after) h
+      → FoldsTo R f (moves (units p.before + p.block.size) (units p.before) p.after) h
   pub bounded : used + 20 * length place.after ≤ accesses + 20 * length p.after
 
 pub live_used : (b : Block) (bs : List Block) → b.used ≡ true → live (b ∷ bs) ≡ b ∷ live bs
@@ -92,7 +98,8 @@ folds_append : {P A : Type 0} (R : P → A → P → Type 0) (xs ys : List A) (p
 folds_append R [] ys p q r e f = subst (λ s. FoldsTo R s ys r) (sym e) f
 folds_append R (x ∷ xs) ys p q r e f = (e.0, e.1, folds_append R xs ys e.0 q r e.2 f)
 
-module _ {F : Type 0} {R : F → Move → F → Type 0} {m : ℕ} {p : Place} {f : F} {accesses : ℕ} {t : Cells} {last count hole size : ℕ} {g : F} {used : ℕ} (s : IsSliding R m p f accesses t last count hole size g used) where
+module _ {F : Type 0} {R : F → Move → F → Type 0} {m : ℕ} {p : Place} {f : F} {accesses : ℕ} {t : Cells} {last count hole size : ℕ} {g : F} {used : ℕ}
+    (s : IsSliding R m p f accesses t last count hole size g used) where
   abbrev q : Place
   q = s.place
 
@@ -108,8 +115,10 @@ module _ {F : Type 0} {R : F → Move → F → Type 0} {m : ℕ} {p : Place} {f
     sized = s.sized;
     kept = append_assoc q.before (b ∷ []) (live bs) ∙ ap (λ l. q.before ++ l) (sym (ap live e ∙ live_used b bs live_b)) ∙ s.kept;
     free = omega (arith, s.free, ap free_units e, free_units-used b bs live_b);
-    calls = λ h k. s.calls h (subst (λ l. FoldsTo R g l h) (sym (ap (moves (units q.before + q.block.size) (units q.before)) e ∙ moves_used (units q.before + q.block.size) (units q.before) b bs live_b))
-        (folds_append R (move_of (units q.before + q.block.size) (units q.before) b) (moves ((units q.before + q.block.size) + b.size) (units q.before + b.size) bs) g g' h (subst (λ n. FoldsTo R g (move_of (units q.before + n) (units q.before) b) g') s.sized call)
+    calls = λ h k. s.calls h (subst (λ l. FoldsTo R g l h)
+        (sym (ap (moves (units q.before + q.block.size) (units q.before)) e ∙ moves_used (units q.before + q.block.size) (units q.before) b bs live_b))
+        (folds_append R (move_of (units q.before + q.block.size) (units q.before) b) (moves ((units q.before + q.block.size) + b.size) (units q.before + b.size) bs) g g' h
+        (subst (λ n. FoldsTo R g (move_of (units q.before + n) (units q.before) b) g') s.sized call)
         (subst (λ l. FoldsTo R g' l h) (ap₂ (λ i j. moves i j bs) from to) k)));
     bounded = omega (arith, s.bounded, more, ap (λ (l : List Block). length l) e);
   }
@@ -132,7 +141,8 @@ module _ {F : Type 0} {R : F → Move → F → Type 0} {m : ℕ} {p : Place} {f
     sized = omega (arith, size_is, s.sized);
     kept = ap (λ l. q.before ++ l) (sym (ap live e ∙ live_idle b bs idle_b)) ∙ s.kept;
     free = omega (arith, s.free, ap free_units e, free_units-free b bs idle_b);
-    calls = λ h k. s.calls h (subst (λ l. FoldsTo R g l h) (sym (ap (moves (units q.before + q.block.size) (units q.before)) e ∙ moves_idle (units q.before + q.block.size) (units q.before) b bs idle_b))
+    calls = λ h k. s.calls h (subst (λ l. FoldsTo R g l h)
+        (sym (ap (moves (units q.before + q.block.size) (units q.before)) e ∙ moves_idle (units q.before + q.block.size) (units q.before) b bs idle_b))
         (subst (λ i. FoldsTo R g (moves i (units q.before) bs) h) from k));
     bounded = omega (arith, s.bounded, more, ap (λ (l : List Block). length l) e);
   }

@@ -28,11 +28,32 @@ AreSound it = IsSound it.max it.size it.limit it.cells it.last it.count it.top i
 
 -- the fields of an allocator
 abbrev pub fields_of : {A B C : Type 0} → (A → Cells) → ℕ → Inside A B C → Fields
-fields_of cells max a = record { max = max; size = a.size; limit = a.max_allocs; cells = cells a.store.tables; last = a.store.last; count = a.store.spare_count; top = a.store.top_mask; free = a.free_total; accesses = a.store.accesses }
+fields_of cells max a = record {
+  max = max;
+  size = a.size;
+  limit = a.max_allocs;
+  cells = cells a.store.tables;
+  last = a.store.last;
+  count = a.store.spare_count;
+  top = a.store.top_mask;
+  free = a.free_total;
+  accesses = a.store.accesses;
+}
 
 -- whatever was counted
 pub well_counted : (v : View) (k : ℕ) → IsWellFormed v → IsWellFormed (record v { accesses = k })
-well_counted v k w = record { some = w.some; distinct = w.distinct; below = w.below; whole = w.whole; fits = w.fits; apart = w.apart; classes = w.classes; orders = w.orders; room = w.room; spare = w.spare }
+well_counted v k w = record {
+  some = w.some;
+  distinct = w.distinct;
+  below = w.below;
+  whole = w.whole;
+  fits = w.fits;
+  apart = w.apart;
+  classes = w.classes;
+  orders = w.orders;
+  room = w.room;
+  spare = w.spare;
+}
 
 pub well_same : (v w : View) → SameSpace v w → IsWellFormed v → IsWellFormed w
 well_same v w e k = subst IsWellFormed (sym e) (well_counted v w.accesses k)

@@ -1,5 +1,6 @@
 -- What a split leaves is well formed.
-use Rattle.std.proofs.Common.{◌≡◌, ℕ, zero, suc, ◌+◌, ◌<◌, ◌≤◌, true, false, not, ◌⊎◌, List, [], ◌∷◌, ◌++◌, length, nat_eq, refl, sym, ap, subst, ◌∙◌, inl, inr, arith, length-append, append_assoc}
+use Rattle.std.proofs.Common.{◌≡◌, ℕ, zero, suc, ◌+◌, ◌<◌, ◌≤◌, true, false, not, ◌⊎◌, List, [], ◌∷◌, ◌++◌, length, nat_eq, refl, sym, ap, subst, ◌∙◌, inl}
+use Rattle.std.proofs.Common.{inr, arith, length-append, append_assoc}
 use Rattle.offset_allocator.specs.View.{Block, View, Grant, one, used_block, count_named, used_of, IsApart, IsWellFormed, IsNew, free_part, replace}
 use Rattle.offset_allocator.specs.Relations.{Splits}
 use Rattle.offset_allocator.proofs.Sound.{well_same}
@@ -17,7 +18,8 @@ used_most [] = omega arith
 used_most (b ∷ bs) = let ih = used_most bs in elim b.used as (λ u. one u + used_of bs ≤ suc (length bs)) [ true ↦ omega arith | false ↦ omega arith ]
 
 -- its name, where it has units, is new
-part_name : (v : View) (y n : ℕ) → (1 ≤ n → IsNew y v) → (x : ℕ) → (count_named x (free_part y n) ≡ 0) ⊎ ((x ≡ y) × (1 ≤ n) × (count_named x (free_part y n) ≡ 1) × IsNew x v)
+part_name : (v : View) (y n : ℕ) → (1 ≤ n → IsNew y v) → (x : ℕ) → (count_named x (free_part y n) ≡ 0)
+    ⊎ ((x ≡ y) × (1 ≤ n) × (count_named x (free_part y n) ≡ 1) × IsNew x v)
 part_name v y zero new x = inl refl
 part_name v y (suc n) new x = elim (hit_cases x y) [
   | inl h ↦ inr (h.0, omega arith, omega (arith, h.1), subst (λ z. IsNew z v) (sym h.0) (new (omega arith)))
@@ -42,11 +44,18 @@ module _ {needed n : ℕ} {padding_at : ℕ → ℕ} {v u : View} {g : Grant} (s
         some = omega (arith, lengths);
         distinct = distinct;
         names = names;
-        apart = subst IsApart (sym (simp append_assoc)) (apart_granted s.before s.block s.after s.padding_name s.padding s.block.name n s.remainder_name s.remainder (ap not s.free) (subst IsApart s.blocks w.apart));
+        apart = subst IsApart (sym (simp append_assoc)) (apart_granted s.before s.block s.after s.padding_name s.padding s.block.name n s.remainder_name s.remainder (ap not s.free)
+            (subst IsApart s.blocks w.apart));
         room = omega (arith, room, parts, old_length, new_length, (part_sums s.remainder_name s.remainder).0);
         spare = omega (arith, room, parts, used_new, old_length, (part_sums s.remainder_name s.remainder).2, (part_sums s.padding_name s.padding).2, used_most s.before, used_most s.after);
       })
-      (omega (arith, s.whole, tally_append (λ (b : Block). b.size) padding (used_block s.block.name n ∷ remainder), (part_sums s.remainder_name s.remainder).1, (part_sums s.padding_name s.padding).1))
+      (omega (
+        arith,
+        s.whole,
+        tally_append (λ (b : Block). b.size) padding (used_block s.block.name n ∷ remainder),
+        (part_sums s.remainder_name s.remainder).1,
+        (part_sums s.padding_name s.padding).1,
+      ))
       w.fits)
     where
       lengths : length new ≡ length padding + suc (length remainder)
@@ -59,7 +68,8 @@ module _ {needed n : ℕ} {padding_at : ℕ → ℕ} {v u : View} {g : Grant} (s
       new_length = length-append s.before (new ++ s.after) ∙ ap (λ m. length s.before + m) (length-append new s.after ∙ ap (λ m. m + length s.after) lengths)
 
       used_new : used_of (s.before ++ (new ++ s.after)) ≡ used_of s.before + ((used_of padding + suc (used_of remainder)) + used_of s.after)
-      used_new = tally_three (λ (b : Block). one b.used) s.before new s.after ∙ ap (λ m. used_of s.before + (m + used_of s.after)) (tally_append (λ (b : Block). one b.used) padding (used_block s.block.name n ∷ remainder) ∙ omega arith)
+      used_new = tally_three (λ (b : Block). one b.used) s.before new s.after
+          ∙ ap (λ m. used_of s.before + (m + used_of s.after)) (tally_append (λ (b : Block). one b.used) padding (used_block s.block.name n ∷ remainder) ∙ omega arith)
 
       names_new : (x : ℕ) → count_named x new ≡ count_named x padding + (one (nat_eq x s.block.name) + count_named x remainder)
       names_new x = tally_append (λ (b : Block). one (nat_eq x b.name)) padding (used_block s.block.name n ∷ remainder)

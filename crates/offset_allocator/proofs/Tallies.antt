@@ -1,5 +1,6 @@
 -- Sums over lists, and a test of names as a number.
-use Rattle.std.proofs.Common.{◌≡◌, ◌≢◌, ℕ, zero, suc, ◌+◌, ◌≤◌, length, ◌⊎◌, true, false, ◌&&◌, List, [], ◌∷◌, ◌++◌, nat_eq, refl, ap, ◌∙◌, inl, inr, arith, eq-eqb, ne_eqb}
+use Rattle.std.proofs.Common.{◌≡◌, ◌≢◌, ℕ, zero, suc, ◌+◌, ◌≤◌, length, ◌⊎◌, true, false, ◌&&◌, List, [], ◌∷◌, ◌++◌, nat_eq, refl, ap, ◌∙◌, inl, inr}
+use Rattle.std.proofs.Common.{arith, eq-eqb, ne_eqb}
 use Rattle.std.proofs.lemmas.Bool.{cases_eq}
 use Rattle.offset_allocator.specs.Classes.{down}
 use Rattle.offset_allocator.specs.View.{Block, tally, one, is_free, units, times, count_named, count_in_bin, used_of, free_part}
@@ -43,7 +44,8 @@ part_sums y (suc n) = (omega arith, omega arith, omega arith)
 -- a free block of a name is a block of that name
 pub listed_named : (c x : ℕ) (bs : List Block) → count_in_bin c x bs ≤ count_named x bs
 listed_named c x [] = omega arith
-listed_named c x (b ∷ bs) = let ih = listed_named c x bs in elim (is_free b) as (λ p. one (p && (nat_eq c (down b.size) && nat_eq x b.name)) + count_in_bin c x bs ≤ one (nat_eq x b.name) + count_named x bs) [
-  | true ↦ elim (nat_eq c (down b.size)) as (λ q. one (q && nat_eq x b.name) + count_in_bin c x bs ≤ one (nat_eq x b.name) + count_named x bs) [ true ↦ omega arith | false ↦ omega arith ]
-  | false ↦ omega arith
-]
+listed_named c x (b ∷ bs) = let ih = listed_named c x bs in
+    elim (is_free b) as (λ p. one (p && (nat_eq c (down b.size) && nat_eq x b.name)) + count_in_bin c x bs ≤ one (nat_eq x b.name) + count_named x bs) [
+      | true ↦ elim (nat_eq c (down b.size)) as (λ q. one (q && nat_eq x b.name) + count_in_bin c x bs ≤ one (nat_eq x b.name) + count_named x bs) [ true ↦ omega arith | false ↦ omega arith ]
+      | false ↦ omega arith
+    ]

@@ -1,5 +1,6 @@
 -- Bins and the nodes that are used: a name in a bin is that of a node that is not, and a name in none may be marked.
-use Rattle.std.proofs.Common.{◌≡◌, ◌≢◌, ◌<◌, ◌≤◌, ◌+◌, ◌-◌, ℕ, false, List, [], ◌∷◌, ◌++◌, sym, ap, subst, ◌∙◌, inl, inr, arith, length, length-append, length-set, slice_index, slice_set, get_or-set_other, ne_eqb}
+use Rattle.std.proofs.Common.{◌≡◌, ◌≢◌, ◌<◌, ◌≤◌, ◌+◌, ◌-◌, ℕ, false, List, [], ◌∷◌, ◌++◌, sym, ap, subst, ◌∙◌, inl, inr, arith, length, length-append}
+use Rattle.std.proofs.Common.{length-set, slice_index, slice_set, get_or-set_other, ne_eqb}
 use Rattle.std.proofs.lemmas.Bool.{cases_eq}
 use Rattle.std.proofs.lemmas.List.{get_or_append_left}
 use Rattle.offset_allocator.specs.Cells.{Cells, Links, node, AreShaped}
@@ -43,14 +44,16 @@ removed_unlisted {ls = ls} k c ch x there d dh a = elim (cases_eq d c) [
 
 -- the links of names that the lists have stay
 module _ (none : ℕ) (t t' : Links) (long : length t.newer ≤ length t'.newer) where
-  stays : (b : ℕ) (xs : List ℕ) → ((y : ℕ) → Among y xs → y < length t.newer → (slice_index t'.newer y ≡ slice_index t.newer y) × (slice_index t'.older y ≡ slice_index t.older y)) → IsLinked none t b xs → IsLinked none t' b xs
+  stays : (b : ℕ) (xs : List ℕ) → ((y : ℕ) → Among y xs → y < length t.newer → (slice_index t'.newer y ≡ slice_index t.newer y) × (slice_index t'.older y ≡ slice_index t.older y))
+      → IsLinked none t b xs → IsLinked none t' b xs
   stays b [] h d = tt
   stays b (x ∷ xs) h d =
       let e = h x (omega (arith, one-same x)) d.0 in
       (omega (arith, d.0, long), e.0 ∙ d.1, e.1 ∙ d.2, stays x xs (λ y a l. h y (omega (arith, a)) l) d.3)
 
   pub linked_still : {ls : List (List ℕ)} → HasBins none t ls → length t'.older ≡ length t'.newer → length t'.newer ≤ none → t'.heads ≡ t.heads
-      → ((c y : ℕ) → c < 256 → Among y (bin_at ls c) → y < length t.newer → (slice_index t'.newer y ≡ slice_index t.newer y) × (slice_index t'.older y ≡ slice_index t.older y)) → HasBins none t' ls
+      → ((c y : ℕ) → c < 256 → Among y (bin_at ls c) → y < length t.newer → (slice_index t'.newer y ≡ slice_index t.newer y) × (slice_index t'.older y ≡ slice_index t.older y))
+      → HasBins none t' ls
   linked_still k older small heads h = record {
     older_len = older;
     names_small = small;
@@ -62,7 +65,8 @@ module _ (none : ℕ) (t t' : Links) (long : length t.newer ≤ length t'.newer)
   }
 
 -- what a node that is in no bin is linked to does not matter
-pub binned_marked : {max : ℕ} {t t' : Links} {top : ℕ} (x v : ℕ) → IsBinned max t top → IsUnlisted x (bins_in max t) → t' ≡ record t { newer = slice_set t.newer x v } → IsBinned max t' top × (bins_in max t' ≡ bins_in max t)
+pub binned_marked : {max : ℕ} {t t' : Links} {top : ℕ} (x v : ℕ) → IsBinned max t top → IsUnlisted x (bins_in max t) → t' ≡ record t { newer = slice_set t.newer x v }
+    → IsBinned max t' top × (bins_in max t' ≡ bins_in max t)
 binned_marked {max} {t} {t'} x v b fresh e =
     let k = b.linked in
     let newer : t'.newer ≡ slice_set t.newer x v = ap (λ (i : Links). i.newer) e in
@@ -73,7 +77,8 @@ binned_marked {max} {t} {t'} x v b fresh e =
     (rw (ap (λ (i : Links). i.masks) e) b.masked)
 
 -- one more node
-pub binned_more : {max : ℕ} {t t' : Links} {top : ℕ} (v w : ℕ) → IsBinned max t top → length t.newer < max → t'.newer ≡ t.newer ++ v ∷ [] → t'.older ≡ t.older ++ w ∷ [] → t'.heads ≡ t.heads → t'.masks ≡ t.masks → IsBinned max t' top × (bins_in max t' ≡ bins_in max t)
+pub binned_more : {max : ℕ} {t t' : Links} {top : ℕ} (v w : ℕ) → IsBinned max t top → length t.newer < max → t'.newer ≡ t.newer ++ v ∷ [] → t'.older ≡ t.older ++ w ∷ []
+    → t'.heads ≡ t.heads → t'.masks ≡ t.masks → IsBinned max t' top × (bins_in max t' ≡ bins_in max t)
 binned_more {max} {t} {t'} v w b room newer older heads masks =
     let k = b.linked in
     let long : length t'.newer ≡ length t.newer + 1 = rw newer (length-append t.newer (v ∷ [])) in

@@ -1,5 +1,6 @@
 -- When a request is granted, and how well what it takes fits.
-use Rattle.std.proofs.Common.{◌≡◌, ℕ, ◌*◌, ◌^◌, ◌<◌, ◌≤◌, true, not, ◌⊎◌, ◌↔◌, List, [], ◌∷◌, ◌++◌, refl, sym, ap, subst, ◌∙◌, inl, inr, arith, eq-eqb, le_trans}
+use Rattle.std.proofs.Common.{◌≡◌, ℕ, ◌*◌, ◌^◌, ◌<◌, ◌≤◌, true, not, ◌⊎◌, ◌↔◌, List, [], ◌∷◌, ◌++◌, refl, sym, ap, subst, ◌∙◌, inl, inr, arith}
+use Rattle.std.proofs.Common.{eq-eqb, le_trans}
 use Rattle.std.specs.List.{AllByRecursion}
 use Rattle.std.proofs.lemmas.Bool.{cases_lt, true≢false, cond_both}
 use Rattle.offset_allocator.specs.Classes.{value, up, down}
@@ -15,7 +16,8 @@ HasName b (c ∷ bs) = (b ≡ c) ⊎ HasName b bs
 
 pub there_listed : (b : Block) (bs : List Block) → HasName b bs → is_free b ≡ true → 1 ≤ count_in_bin (down b.size) b.name bs
 there_listed b [] i f = absurd i
-there_listed b (c ∷ bs) (inl e) f = subst (λ (d : Block). 1 ≤ count_in_bin (down b.size) b.name (d ∷ bs)) e (rw (f, eq-eqb (down b.size) (down b.size) refl, eq-eqb b.name b.name refl) (omega arith))
+there_listed b (c ∷ bs) (inl e) f = subst (λ (d : Block). 1 ≤ count_in_bin (down b.size) b.name (d ∷ bs)) e
+    (rw (f, eq-eqb (down b.size) (down b.size) refl, eq-eqb b.name b.name refl) (omega arith))
 there_listed b (c ∷ bs) (inr i) f = let ih = there_listed b bs i f in omega arith
 
 -- what holds of each free block in a list holds of their sizes
@@ -27,7 +29,8 @@ all_free P (b ∷ bs) h = cond_both b.used (free_sizes bs) (b.size ∷ free_size
 
 pub reported : (n : ℕ) (bs : List Block) → 1 ≤ n → n ≤ largest (free_sizes bs) → (b : Block) × (HasName b bs) × (is_free b ≡ true) × (n ≤ value (down b.size))
 reported n [] l = λ h. absurd (omega arith)
-reported n (b ∷ bs) l = cond_both b.used (free_sizes bs) (b.size ∷ free_sizes bs) (λ ns. n ≤ largest ns → (c : Block) × (HasName c (b ∷ bs)) × (is_free c ≡ true) × (n ≤ value (down c.size)))
+reported n (b ∷ bs) l = cond_both b.used (free_sizes bs) (b.size ∷ free_sizes bs) (λ ns. n ≤ largest ns → (c : Block) × (HasName c (b ∷ bs)) × (is_free c ≡ true)
+    × (n ≤ value (down c.size)))
     (λ e h. let r = reported n bs l h in (r.0, inr r.1, r.2, r.3))
     (λ e h. elim (cases_lt (value (down b.size)) n) [
       | inl m ↦ let r = reported n bs l (omega arith) in (r.0, inr r.1, r.2, r.3)
@@ -64,11 +67,13 @@ module _ (v : View) (w : IsWellFormed v) (n : ℕ) (small : n ≤ 4294967295) (s
   there b i f e = let l = there_listed b v.blocks i f in let o = w.orders (down b.size) b.name in let z = ap (times b.name) e in omega arith
 
   -- the block that is taken is of the smallest class from up n on that has one
-  pub near_best_fit : (b : Block) → HasName b v.blocks → ((c : ℕ) → up n ≤ c → c < down b.size → bin_at v.order c ≡ []) → AllByRecursion (λ t. 9 * n ≤ 8 * t → 8 * b.size ≤ 9 * t) (free_sizes v.blocks)
-  near_best_fit b i smallest = all_free (λ z. 9 * n ≤ 8 * z → 8 * b.size ≤ 9 * z) v.blocks (λ d j f l. near_best b.size d.size (fits_word b i) (fits_word d j) (elim (cases_lt (down d.size) (down b.size)) [
-    | inl m ↦ absurd (there d j f (smallest (down d.size) (serves n d.size word (fits_word d j) l) m))
-    | inr m ↦ m
-  ]))
+  pub near_best_fit : (b : Block) → HasName b v.blocks → ((c : ℕ) → up n ≤ c → c < down b.size → bin_at v.order c ≡ [])
+      → AllByRecursion (λ t. 9 * n ≤ 8 * t → 8 * b.size ≤ 9 * t) (free_sizes v.blocks)
+  near_best_fit b i smallest = all_free (λ z. 9 * n ≤ 8 * z
+      → 8 * b.size ≤ 9 * z) v.blocks (λ d j f l. near_best b.size d.size (fits_word b i) (fits_word d j) (elim (cases_lt (down d.size) (down b.size)) [
+        | inl m ↦ absurd (there d j f (smallest (down d.size) (serves n d.size word (fits_word d j) l) m))
+        | inr m ↦ m
+      ]))
 
   pub good_refusal : (HasFit n v → ⊥) → IsGoodRefusal n (free_sizes v.blocks)
   good_refusal none = all_free (λ z. 8 * z < 9 * n) v.blocks (λ b i f. elim (cases_lt (8 * b.size) (9 * n)) [

@@ -1,11 +1,13 @@
 -- A request that is granted, and released at once, leaves no trace.
-use Rattle.std.proofs.Common.{◌≡◌, ℕ, zero, suc, ◌<◌, ◌≤◌, Bool, true, false, not, ◌&&◌, List, [], ◌∷◌, ◌++◌, length, Some, slice_set, refl, sym, ap, ap₂, subst, ◌∙◌, arith, append_assoc}
+use Rattle.std.proofs.Common.{◌≡◌, ℕ, zero, suc, ◌<◌, ◌≤◌, Bool, true, false, not, ◌&&◌, List, [], ◌∷◌, ◌++◌, length, Some, slice_set, refl, sym, ap, ap₂, subst}
+use Rattle.std.proofs.Common.{◌∙◌, arith, append_assoc}
 use Rattle.offset_allocator.proofs.Served.{split_as, well_served}
 use Rattle.offset_allocator.proofs.Walks.{without_first}
 use Rattle.std.proofs.lemmas.List.{set-get_or}
 use Rattle.offset_allocator.specs.Classes.{down}
 use Rattle.std.specs.List.{AllByRecursion}
-use Rattle.offset_allocator.specs.View.{Block, View, Place, Grant, used_block, free_block, units, times, count_named, starts_free, IsApart, bin_at, push, without, remove, push_all, remove_all, replace, free_start, without_start, free_end, without_end, free_part, IsWellFormed, place_of}
+use Rattle.offset_allocator.specs.View.{Block, View, Place, Grant, used_block, free_block, units, times, count_named, starts_free, IsApart, bin_at, push, without, remove, push_all, remove_all}
+use Rattle.offset_allocator.specs.View.{replace, free_start, without_start, free_end, without_end, free_part, IsWellFormed, place_of}
 use Rattle.offset_allocator.specs.Relations.{SameSpace, Splits, Frees, Allocates}
 use Rattle.offset_allocator.proofs.Ranges.{beside}
 use Rattle.offset_allocator.proofs.Released.{idle_parts, end_is, start_is}
@@ -39,12 +41,14 @@ part_start : (x n : ℕ) (bs : List Block) → starts_free bs ≡ false → (fre
 part_start x zero bs e = no_start bs e
 part_start x (suc n) bs e = (refl, refl)
 
-orders_back : (x n : ℕ) (order : List (List ℕ)) → length order ≡ 256 → (1 ≤ n → times x (bin_at order (down n)) ≡ 0) → remove_all (free_part x n) (push_all (free_part x n) order) ≡ order
+orders_back : (x n : ℕ) (order : List (List ℕ)) → length order ≡ 256 → (1 ≤ n → times x (bin_at order (down n)) ≡ 0)
+    → remove_all (free_part x n) (push_all (free_part x n) order) ≡ order
 orders_back x zero order h e = refl
 orders_back x (suc n) order h e = remove_put (down (suc n)) x order h (down_small (suc n)) (e (omega arith))
 
 -- a name of a well-formed space is at one place
-one_place : (v : View) → IsWellFormed v → (x : ℕ) (fs gs cs ds : List Block) (b d : Block) → v.blocks ≡ fs ++ (b ∷ cs) → v.blocks ≡ gs ++ (d ∷ ds) → b.name ≡ x → d.name ≡ x → (fs ≡ gs) × (b ≡ d) × (cs ≡ ds)
+one_place : (v : View) → IsWellFormed v → (x : ℕ) (fs gs cs ds : List Block) (b d : Block) → v.blocks ≡ fs ++ (b ∷ cs) → v.blocks ≡ gs ++ (d ∷ ds) → b.name ≡ x → d.name ≡ x
+    → (fs ≡ gs) × (b ≡ d) × (cs ≡ ds)
 one_place v w x fs gs cs ds b d e f p q =
     let at : (hs es : List Block) (c : Block) → v.blocks ≡ hs ++ (c ∷ es) → c.name ≡ x → place_of x v.blocks ≡ Some (record { before = hs; block = c; after = es }) = λ hs es c g r.
     ap (place_of x) g ∙ place_here x hs c es (beside x hs c es (sym r) (omega (arith, w.distinct x, ap (count_named x) g))).0 (sym r) in
@@ -73,11 +77,13 @@ module _ (n : ℕ) (v w u : View) (g : Grant) (known : IsWellFormed v) (left : I
 
   -- what the grant leaves
   split : w ≡ record v { blocks = s.before ++ (used_block x n ∷ (remainder ++ s.after)); order = push_all remainder order; accesses = w.accesses }
-  split = s.view ∙ ap₂ (λ (l : List Block) (b : Block). record (replace v s.before (b ∷ []) (l ++ (used_block x n ∷ remainder)) s.after) { accesses = w.accesses }) (ap (free_part s.padding_name) s.padded) old
+  split = s.view ∙ ap₂ (λ (l : List Block) (b : Block). record (replace v s.before (b ∷ []) (l ++ (used_block x n ∷ remainder)) s.after) { accesses = w.accesses })
+      (ap (free_part s.padding_name) s.padded) old
 
   -- the release takes the block as the grant left it
   here : (s.before ≡ f.before ++ f.left) × (used_block x n ≡ f.block) × (remainder ++ s.after ≡ f.right ++ f.after)
-  here = one_place w left x s.before (f.before ++ f.left) (remainder ++ s.after) (f.right ++ f.after) (used_block x n) f.block (ap (λ (z : View). z.blocks) split) (f.blocks ∙ simp append_assoc) refl (f.named ∙ named)
+  here = one_place w left x s.before (f.before ++ f.left) (remainder ++ s.after) (f.right ++ f.after) (used_block x n) f.block (ap (λ (z : View). z.blocks) split) (f.blocks
+      ∙ simp append_assoc) refl (f.named ∙ named)
 
   -- nothing free was beside the block
   parts : IsApart s.before × IsApart (s.block ∷ s.after) × ((ends_free s.before && not s.block.used) ≡ false)
@@ -114,7 +120,13 @@ module _ (n : ℕ) (v w u : View) (g : Grant) (known : IsWellFormed v) (left : I
   older_absent = omega (arith, once, ap (times x) s.newest, one-same x)
 
   rest_absent : 1 ≤ s.remainder → times s.remainder_name (bin_at order (down s.remainder)) ≡ 0
-  rest_absent l = omega (arith, times_remove (down size) x (down s.remainder) s.remainder_name v.order known.classes (down_small size) once, known.orders (down s.remainder) s.remainder_name, listed_named (down s.remainder) s.remainder_name v.blocks, (s.remainder_new l).absent)
+  rest_absent l = omega (
+    arith,
+    times_remove (down size) x (down s.remainder) s.remainder_name v.order known.classes (down_small size) once,
+    known.orders (down s.remainder) s.remainder_name,
+    listed_named (down s.remainder) s.remainder_name v.blocks,
+    (s.remainder_new l).absent,
+  )
 
   sized : units (used_block x n ∷ remainder) ≡ size
   sized = omega (arith, s.whole, s.padded, (part_sums s.remainder_name s.remainder).1)
@@ -122,13 +134,15 @@ module _ (n : ℕ) (v w u : View) (g : Grant) (known : IsWellFormed v) (left : I
   pub undone : SameSpace v u
   undone =
       f.view
-      ∙ ap₂ (λ (l r : List Block). record (replace w f.before (l ++ (f.block ∷ r)) (free_block g.name (units (l ++ (f.block ∷ r))) ∷ []) f.after) { accesses = u.accesses }) left_end.0 right_start.0
+      ∙ ap₂ (λ (l r : List Block). record (replace w f.before (l ++ (f.block ∷ r)) (free_block g.name (units (l ++ (f.block ∷ r))) ∷ []) f.after)
+      { accesses = u.accesses }) left_end.0 right_start.0
       ∙ ap₂ (λ (l r : List Block). record (replace w l (f.block ∷ remainder) (free_block g.name (units (f.block ∷ remainder)) ∷ []) r) { accesses = u.accesses }) left_end.1 right_start.1
       ∙ ap₂ (λ (i : ℕ) (b : Block). record (replace w s.before (b ∷ remainder) (free_block i (units (b ∷ remainder)) ∷ []) s.after) { accesses = u.accesses }) named (sym here.1)
       ∙ ap (λ (z : View). record (replace z s.before (used_block x n ∷ remainder) (free_block x (units (used_block x n ∷ remainder)) ∷ []) s.after) { accesses = u.accesses }) split
       ∙ ap (λ m. record v { blocks = s.before ++ (free_block x m ∷ s.after); order = push (down m) x (remove_all remainder (push_all remainder order)); accesses = u.accesses }) sized
       ∙ ap₂ (λ bs o. record v { blocks = bs; order = o; accesses = u.accesses }) (ap (λ b. s.before ++ (b ∷ s.after)) (sym old) ∙ sym s.blocks)
-      (ap (push (down size) x) (orders_back s.remainder_name s.remainder order (length_remove (down size) x v.order ∙ known.classes) rest_absent) ∙ put_remove (down size) x s.older v.order known.classes (down_small size) s.newest older_absent)
+      (ap (push (down size) x) (orders_back s.remainder_name s.remainder order (length_remove (down size) x v.order ∙ known.classes) rest_absent)
+      ∙ put_remove (down size) x s.older v.order known.classes (down_small size) s.newest older_absent)
 
 -- the same, for contracts
 pub is_undone : (n : ℕ) (v : View) → IsWellFormed v → (w u : View) (g : Grant) → Allocates n v w (Some g) → Frees g.name w u → SameSpace v u

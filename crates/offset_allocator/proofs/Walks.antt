@@ -1,5 +1,6 @@
 -- Names linked back and forth: what a change of the links leaves of them.
-use Rattle.std.proofs.Common.{◌≡◌, ◌≢◌, ◌<◌, ◌≤◌, ◌+◌, ◌⊎◌, ℕ, zero, suc, List, [], ◌∷◌, ◌++◌, refl, sym, ap, ◌∙◌, inl, inr, arith, length, drop, nat_eq, slice_index, slice_set, eq-eqb, ne_eqb, length-set, get_or-set_same, get_or-set_other}
+use Rattle.std.proofs.Common.{◌≡◌, ◌≢◌, ◌<◌, ◌≤◌, ◌+◌, ◌⊎◌, ℕ, zero, suc, List, [], ◌∷◌, ◌++◌, refl, sym, ap, ◌∙◌, inl, inr, arith, length, drop}
+use Rattle.std.proofs.Common.{nat_eq, slice_index, slice_set, eq-eqb, ne_eqb, length-set, get_or-set_same, get_or-set_other}
 use Rattle.std.proofs.lemmas.Bool.{cases_eq}
 use Rattle.offset_allocator.specs.Cells.{Links}
 use Rattle.offset_allocator.specs.View.{one, times, without}
@@ -23,7 +24,12 @@ length_below (suc m) xs o l = elim (cases_eq (times m xs) 0) [
   | inl z ↦ let ih = length_below m xs o (λ x a. let b = l x a in elim (cases_eq x m) [ inl e ↦ let q = ap (λ y. times y xs) e in absurd (omega arith) | inr n ↦ omega arith ]) in omega arith
   | inr s ↦
       let r = drop_one m xs (omega arith) in
-      let ih = length_below m r.0 (λ x. omega (arith, r.2 x, o x)) (λ x a. elim (hit_cases x m) [ inl h ↦ absurd (let q = ap (λ y. times y xs) h.0 in omega (arith, o x, r.2 x, h.1)) | inr h ↦ let b = l x (omega (arith, r.2 x)) in let n = h.0 in omega arith ]) in
+      let ih = length_below m r.0 (λ x. omega (arith, r.2 x, o x))
+      (λ x a. elim (hit_cases x m) [
+        | inl h ↦ absurd (let q = ap (λ y. times y xs) h.0 in omega (arith, o x, r.2 x, h.1))
+        | inr h ↦ let b = l x (omega (arith, r.2 x)) in
+            let n = h.0 in omega arith
+      ]) in
       omega (arith, r.1)
 ]
 
@@ -109,12 +115,15 @@ module _ (none : ℕ) (t : Links) (small : length t.newer ≤ none) where
 
 -- ---- a chain under other links
 module _ (none : ℕ) (t t' : Links) (even : length t'.newer ≡ length t.newer) where
-  pub kept : (b : ℕ) (xs : List ℕ) → ((y : ℕ) → Among y xs → (slice_index t'.newer y ≡ slice_index t.newer y) × (slice_index t'.older y ≡ slice_index t.older y)) → IsLinked none t b xs → IsLinked none t' b xs
+  pub kept : (b : ℕ) (xs : List ℕ) → ((y : ℕ) → Among y xs → (slice_index t'.newer y ≡ slice_index t.newer y) × (slice_index t'.older y ≡ slice_index t.older y))
+      → IsLinked none t b xs → IsLinked none t' b xs
   kept b [] s c = tt
   kept b (x ∷ xs) s c = let e = s x (omega (arith, one-same x)) in (omega (arith, c.0), e.0 ∙ c.1, e.1 ∙ c.2, kept x xs (λ y a. s y (omega arith)) c.3)
 
   -- another name, or none, before the first
-  pub led : (b b' : ℕ) (xs : List ℕ) → ((x : ℕ) → times x xs ≤ 1) → slice_index t'.newer (first_of none xs) ≡ b' ⊎ (xs ≡ []) → ((y : ℕ) → Among y xs → y ≢ first_of none xs → slice_index t'.newer y ≡ slice_index t.newer y) → ((y : ℕ) → Among y xs → slice_index t'.older y ≡ slice_index t.older y) → IsLinked none t b xs → IsLinked none t' b' xs
+  pub led : (b b' : ℕ) (xs : List ℕ) → ((x : ℕ) → times x xs ≤ 1) → slice_index t'.newer (first_of none xs) ≡ b' ⊎ (xs ≡ [])
+      → ((y : ℕ) → Among y xs → y ≢ first_of none xs → slice_index t'.newer y ≡ slice_index t.newer y) → ((y : ℕ) → Among y xs → slice_index t'.older y ≡ slice_index t.older y)
+      → IsLinked none t b xs → IsLinked none t' b' xs
   led b b' [] o f n s c = tt
   led b b' (x ∷ xs) o f n s c = (
     omega (arith, c.0),
@@ -133,7 +142,8 @@ first_same none w x cs [] = refl
 first_same none w x cs (y ∷ l) = refl
 
 -- x leaves: the names beside it, w and the first of cs, are linked to each other
-module _ (none : ℕ) (t t' : Links) (w x : ℕ) (cs : List ℕ) (small : length t.newer ≤ none) (even : length t.older ≡ length t.newer) (newer : t'.newer ≡ slice_set t.newer (first_of none cs) w) (older : t'.older ≡ slice_set t.older w (first_of none cs)) where
+module _ (none : ℕ) (t t' : Links) (w x : ℕ) (cs : List ℕ) (small : length t.newer ≤ none) (even : length t.older ≡ length t.newer)
+    (newer : t'.newer ≡ slice_set t.newer (first_of none cs) w) (older : t'.older ≡ slice_set t.older w (first_of none cs)) where
   pub newer_kept : (y : ℕ) → y ≢ first_of none cs → slice_index t'.newer y ≡ slice_index t.newer y
   newer_kept y n = rw newer (get_or-set_other t.newer (first_of none cs) y w 0 n)
 
@@ -170,10 +180,12 @@ pub record IsTail (none : ℕ) (t : Links) (name n total : ℕ) : Type 0 where
   pub is : name ≡ first_of none names
   pub counted : n + length names ≡ total
 
-pub tail_next : {none : ℕ} {t : Links} {name n total : ℕ} → IsTail none t name n total → name ≢ none → (name < length t.newer) × (n < total) × IsTail none t (slice_index t.older name) (n + 1) total
+pub tail_next : {none : ℕ} {t : Links} {name n total : ℕ} → IsTail none t name n total → name ≢ none → (name < length t.newer) × (n < total)
+    × IsTail none t (slice_index t.older name) (n + 1) total
 tail_next {none} {t} {name} {n} {total} s ne = go s.names s.before s.chain s.is s.counted
   where
-    go : (xs : List ℕ) (b : ℕ) → IsLinked none t b xs → name ≡ first_of none xs → n + length xs ≡ total → (name < length t.newer) × (n < total) × IsTail none t (slice_index t.older name) (n + 1) total
+    go : (xs : List ℕ) (b : ℕ) → IsLinked none t b xs → name ≡ first_of none xs → n + length xs ≡ total → (name < length t.newer) × (n < total)
+        × IsTail none t (slice_index t.older name) (n + 1) total
     go [] b c e l = absurd (ne e)
     go (x ∷ xs) b c e l = (omega (arith, c.0), omega arith, record { before = x; names = xs; chain = c.3; is = ap (slice_index t.older) e ∙ c.2; counted = omega arith })
 

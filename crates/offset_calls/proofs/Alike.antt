@@ -1,5 +1,6 @@
 -- Two states that differ only in numbers, and in stamps of the same order in each class, give the same replies.
-use Rattle.std.proofs.Common.{◌≡◌, ℕ, ◌+◌, ◌-◌, ◌*◌, Bool, true, false, not, ◌&&◌, ◌||◌, ◌⊎◌, List, [], ◌∷◌, ◌++◌, map, sum, Option, Some, None, is_some, nat_eq, nat_le, if◌then◌else◌, refl, sym, ap}
+use Rattle.std.proofs.Common.{◌≡◌, ℕ, ◌+◌, ◌-◌, ◌*◌, Bool, true, false, not, ◌&&◌, ◌||◌, ◌⊎◌, List, [], ◌∷◌, ◌++◌, map, sum, Option, Some, None, is_some}
+use Rattle.std.proofs.Common.{nat_eq, nat_le, if◌then◌else◌, refl, sym, ap}
 use Rattle.std.proofs.Common.{ap₂, subst, subst₂, ◌∙◌, inl, inr, arith, eq-eqb, ne_eqb, le-leb}
 use Rattle.std.proofs.lemmas.Bool.{cases_eq, cases_lt, true≢false, false≢true, lt-leb}
 use Rattle.std.proofs.lemmas.List.{map-append}
@@ -14,7 +15,7 @@ use Rattle.offset_script.proofs.Members.{IsIn, in_append, in_left, in_right}
 use Rattle.offset_script.proofs.Pairs.{Kind, Lives, Frees, Pair, pair, left_tag, right_tag, left, right, lefts, rights, AreAgreed, IsSameOrder, IsSamePlace, neither, both, same_free, same_total}
 use Rattle.offset_script.proofs.Pairs.{same_units, same_short, same_free_sizes, same_chosen, pair_free_block, lefts_free_block, rights_free_block, in_free_block}
 use Rattle.offset_script.proofs.Tests.{if_same}
-use Rattle.offset_script.proofs.Well.{found_at}
+use Rattle.offset_script.proofs.Found.{found_at}
 use Rattle.offset_calls.specs.declared.calls.Call.{Call}
 use Rattle.offset_calls.specs.declared.calls.Call.TheVariants as call
 use Rattle.offset_calls.specs.Calls.{Reply, Answer, Compacted, Offset, Refused_for, Outcome, starts_free, resize, resized, replies_only, number, move_of, moves, gathered, compact, offset_at, shortage}
@@ -37,9 +38,7 @@ lefts_without (q ∷ ps) = elim (is_free (left_tag q.kind)) as (λ x. lefts (if 
 
 rights_without : (ps : List Pair) → rights (without_pairs ps) ≡ without_start (rights ps)
 rights_without [] = refl
-rights_without (q ∷ ps) =
-    elim (is_free (left_tag q.kind)) as (λ x. rights (if x then ps else q ∷ ps) ≡ (if x then rights ps else right q ∷ rights ps)) [ true ↦ refl | false ↦ refl ]
-    ∙ ap (λ x. if x then rights ps else right q ∷ rights ps) (same_free q.kind)
+rights_without (q ∷ ps) = search (arith, left_tag, rights, right, same_free)
 
 in_without : (q : Pair) (ps : List Pair) → IsIn q (without_pairs ps) → IsIn q ps
 in_without q [] i = i
@@ -77,11 +76,7 @@ in_live q (p ∷ ps) i = go (is_free (left_tag p.kind)) refl (λ j. in_live q ps
   where
     go : (x : Bool) → is_free (left_tag p.kind) ≡ x → (IsIn q (live_pairs ps) → IsIn q ps) → IsIn q (p ∷ ps)
     go true e ih = inr (ih (subst (λ x. IsIn q (if x then live_pairs ps else p ∷ live_pairs ps)) e i))
-    go false e ih = first (subst (λ x. IsIn q (if x then live_pairs ps else p ∷ live_pairs ps)) e i)
-      where
-        first : IsIn q (p ∷ live_pairs ps) → IsIn q (p ∷ ps)
-        first (inl e) = inl e
-        first (inr j) = inr (ih j)
+    go false e ih = search (arith)
 
 -- the free block of a compaction
 abbrev pair_gathered : ℕ → ℕ → List ℕ → List Pair
@@ -106,11 +101,7 @@ order_left : (k l : Kind) (i j : ℕ) → k ≡ Lives i j → IsSameOrder k l
 order_left k l i j e = subst (λ x. IsSameOrder x l) (sym e) tt
 
 order_right : (k l : Kind) (i j : ℕ) → l ≡ Lives i j → IsSameOrder k l
-order_right k l i j e = subst (IsSameOrder k) (sym e) (go k)
-  where
-    go : (k : Kind) → IsSameOrder k (Lives i j)
-    go (Lives a b) = tt
-    go (Frees a b) = tt
+order_right k l i j e = search (arith)
 
 live_kind : (k : ℕ) (q : Kind) → has_number k (left_tag q) ≡ true → (i : ℕ) × (j : ℕ) × (q ≡ Lives i j)
 live_kind k (Lives i j) e = (i, j, refl)
@@ -177,16 +168,15 @@ module _ (r : ℕ → ℕ) (g d : ℕ) (back : (k : ℕ) → r (number_with g d 
     where
       on_left : lefts (xs ++ (pair n q.kind ∷ (pair_free_block (q.size + free_start (lefts ys) - n) (Frees (2 * (s.calls + 1) + 1) (2 * (t.calls + 1) + 1)) ++ without_pairs ys)))
           ≡ lefts xs ++ (machine.block n (left_tag q.kind) ∷ (free_block (q.size + free_start (lefts ys) - n) (stamp_of_call s) ++ without_start (lefts ys)))
-      on_left = map-append left xs _ ∙ ap (λ z. lefts xs ++ (machine.block n (left_tag q.kind) ∷ z))
-          (map-append left (pair_free_block (q.size + free_start (lefts ys) - n) _) (without_pairs ys) ∙ ap₂ (λ x y. x ++ y) (lefts_free_block _ _ _) (lefts_without ys))
+      on_left = search (arith, map-append, left, lefts, left_tag, pair_free_block, lefts_free_block, lefts_without)
 
       on_right : rights (xs ++ (pair n q.kind ∷ (pair_free_block (q.size + free_start (lefts ys) - n) (Frees (2 * (s.calls + 1) + 1) (2 * (t.calls + 1) + 1)) ++ without_pairs ys)))
           ≡ rights xs ++ (machine.block n (right_tag q.kind) ∷ (free_block (q.size + free_start (rights ys) - n) (stamp_of_call t) ++ without_start (rights ys)))
-      on_right = map-append right xs _ ∙ ap (λ z. rights xs ++ (machine.block n (right_tag q.kind) ∷ z)) (map-append right (pair_free_block (q.size + free_start (lefts ys) - n) _) (without_pairs ys)
-          ∙ ap₂ (λ x y. x ++ y) (rights_free_block _ _ _ ∙ ap (λ f. free_block (q.size + f - n) (stamp_of_call t)) (same_free_start ys)) (rights_without ys))
+      on_right = search (arith, map-append, right, rights, right_tag, pair_free_block, lefts, rights_free_block, same_free_start, rights_without)
 
   resize_same : (k n : ℕ) (can can' : machine.Place → Bool) (o o' : Option machine.Place) → place_of k s.blocks ≡ o → IsSamePlace (λ q. Unit {0}) a.pairs o o'
-      → ((xs : List Pair) (q : Pair) (ys : List Pair) → can (record { before = lefts xs; block = left q; after = lefts ys }) ≡ can' (record { before = rights xs; block = right q; after = rights ys }))
+      → ((xs : List Pair) (q : Pair) (ys : List Pair)
+      → can (record { before = lefts xs; block = left q; after = lefts ys }) ≡ can' (record { before = rights xs; block = right q; after = rights ys }))
       → AreSame r g d (resize can n s o) (resize can' n t o')
   resize_same k n can can' None None e neither same = quiet _ _ refl
   resize_same k n can can' o o' e (both xs q ys f u) same =
@@ -199,21 +189,16 @@ module _ (r : ℕ → ℕ) (g d : ℕ) (back : (k : ℕ) → r (number_with g d 
     where
       go : (k : Kind) → IsMatched r (2 * (s.calls + 1)) (2 * (t.calls + 1)) k → is_free (left_tag k) ≡ false → number (left_tag k) ≡ number_with g d (number (right_tag k))
       go (Frees x y) m f = absurd (true≢false f)
-      go (Lives x y) m f = elim (cases_eq (number_with g d y) x) [
-        | inl e ↦ sym e
-        | inr n ↦ absurd (true≢false (sym (eq-eqb (r (number_with g d y)) y (back y)) ∙ sym (m (number_with g d y)) ∙ ne_eqb (number_with g d y) x n))
-      ]
+      go (Lives x y) m f = search (arith, cases_eq, true≢false, eq-eqb, ne_eqb)
 
   moves_same : (from to : ℕ) (ps : List Pair) → ((q : Pair) → IsIn q ps → IsIn q a.pairs) → moves from to (lefts ps) ≡ map (raise_move g d) (moves from to (rights ps))
   moves_same from to [] h = refl
   moves_same from to (q ∷ ps) h = go (is_free (left_tag q.kind)) refl (nat_eq from to) refl (λ u. moves_same (from + q.size) u ps (λ x i. h x (inr i)))
     where
-      go : (x : Bool) → is_free (left_tag q.kind) ≡ x → (b : Bool) → nat_eq from to ≡ b → ((u : ℕ) → moves (from + q.size) u (lefts ps) ≡ map (raise_move g d) (moves (from + q.size) u (rights ps)))
+      go : (x : Bool) → is_free (left_tag q.kind) ≡ x → (b : Bool) → nat_eq from to ≡ b
+          → ((u : ℕ) → moves (from + q.size) u (lefts ps) ≡ map (raise_move g d) (moves (from + q.size) u (rights ps)))
           → moves from to (lefts (q ∷ ps)) ≡ map (raise_move g d) (moves from to (rights (q ∷ ps)))
-      go true e b f ih =
-          ap (λ x. if x then moves (from + q.size) to (lefts ps) else move_of from to (left q) ++ moves (from + q.size) (to + q.size) (lefts ps)) e ∙ ih to
-          ∙ sym (ap (λ x. map (raise_move g d) (if x then moves (from + q.size) to (rights ps) else move_of from to (right q) ++ moves (from + q.size) (to + q.size) (rights ps)))
-          (sym (same_free q.kind) ∙ e))
+      go true e b f ih = search (arith, lefts, left, map, rights, right, same_free)
       go false e b f ih =
           ap (λ x. if x then moves (from + q.size) to (lefts ps) else move_of from to (left q) ++ moves (from + q.size) (to + q.size) (lefts ps)) e
           ∙ ap₂ (λ x y. x ++ y) (one b f) (ih (to + q.size)) ∙ sym (map-append (raise_move g d) (move_of from to (right q)) (moves (from + q.size) (to + q.size) (rights ps)))
@@ -221,8 +206,7 @@ module _ (r : ℕ → ℕ) (g d : ℕ) (back : (k : ℕ) → r (number_with g d 
           (sym (same_free q.kind) ∙ e))
         where
           one : (b : Bool) → nat_eq from to ≡ b → move_of from to (left q) ≡ map (raise_move g d) (move_of from to (right q))
-          one true f = ap (λ b. if b then [] else record { number = number (left_tag q.kind); from = from; to = to; size = q.size } ∷ []) f
-              ∙ sym (ap (λ b. map (raise_move g d) (if b then [] else record { number = number (right_tag q.kind); from = from; to = to; size = q.size } ∷ [])) f)
+          one true f = search (arith, left_tag, map, right_tag)
           one false f = ap (λ b. if b then [] else record { number = number (left_tag q.kind); from = from; to = to; size = q.size } ∷ []) f
               ∙ ap (λ (k : ℕ). record { number = k; from = from; to = to; size = q.size } ∷ []) (number_back q (h q (inl refl)) e)
               ∙ sym (ap (λ b. map (raise_move g d) (if b then [] else record { number = number (right_tag q.kind); from = from; to = to; size = q.size } ∷ [])) f)
@@ -270,14 +254,11 @@ module _ (r : ℕ → ℕ) (g d : ℕ) (back : (k : ℕ) → r (number_with g d 
   same_call (call.RefusalAligned n align) = quiet _ _ (ap₂ (λ x y. Refused_for (if nat_le align 1 then x else y)) (reason_same 1 n) (reason_same 2 (n + align - 1)))
 
 -- alike states give the same replies to any calls
-pub same_replies : (r : ℕ → ℕ) (g d : ℕ) → ((k : ℕ) → r (number_with g d k) ≡ k) → (cs : List Call) (s t : State) → IsAlike r d s t → replies cs s ≡ map (raise g d) (replies (map (renumber r) cs) t)
+pub same_replies : (r : ℕ → ℕ) (g d : ℕ) → ((k : ℕ) → r (number_with g d k) ≡ k) → (cs : List Call) (s t : State) → IsAlike r d s t
+    → replies cs s ≡ map (raise g d) (replies (map (renumber r) cs) t)
 same_replies r g d back [] s t a = refl
 same_replies r g d back (c ∷ cs) s t a = let o = same_call r g d back s t a c in ap₂ (λ x xs. x ∷ xs) o.reply (same_replies r g d back cs _ _ o.state)
 
 -- numbers with further grants, and without them
 pub number_back_again : (g j k : ℕ) → number_without g j (number_with g j k) ≡ k
-number_back_again g j k = elim (cases_lt g k) [
-  | inl l ↦ ap (λ b. number_without g j (if b then k else k + j)) (lt-leb k g l)
-      ∙ ap₂ (λ x y. if x then k + j else if y then 0 else (k + j) - j) (lt-leb (k + j) g (omega arith)) (lt-leb (k + j) (g + j) (omega arith)) ∙ (let e : (k + j) - j ≡ k = omega arith in e)
-  | inr l ↦ ap (λ b. number_without g j (if b then k else k + j)) (le-leb k g l) ∙ ap (λ x. if x then k else if nat_le k (g + j) then 0 else k - j) (le-leb k g l)
-]
+number_back_again g j k = search (arith, cases_lt, lt-leb, le-leb, nat_le)

@@ -1,11 +1,12 @@
 -- Calls on a guarded allocator, played one after the other: whatever tickets they pass.
-use Rattle.std.proofs.Common.{◌≡◌, ℕ, zero, suc, ◌+◌, ◌<◌, ◌≤◌, Bool, true, false, ◌&&◌, List, [], ◌∷◌, ◌++◌, length, map, take, All, get_or, Option, Some, None, IsTrue, is_some, nat_eq, slice_get}
+use Rattle.std.proofs.Common.{◌≡◌, ℕ, zero, suc, ◌+◌, ◌<◌, ◌≤◌, Bool, true, false, ◌&&◌, List, [], ◌∷◌, ◌++◌, length, map, take, All, get_or, Option, Some, None}
+use Rattle.std.proofs.Common.{IsTrue, is_some, nat_eq, slice_get}
 use Rattle.std.proofs.Common.{option_map, if◌then◌else◌, refl, sym, ap, ap₂, subst, ◌∙◌, inl, inr, arith, eq-eqb, ne_eqb, append-nil, append_assoc, length-append}
 use Rattle.std.specs.List.{AllByRecursion}
 use Rattle.std.specs.Option.{option_map_or}
 use Rattle.std.proofs.lemmas.Bool.{cases_eq, eqb-true, and_parts, false≢true}
-use Rattle.std.proofs.lemmas.List.{map-append, take_more}
-use Rattle.std.proofs.lemmas.List.Elements.{All-get_or}
+use Rattle.std.proofs.lemmas.List.{length-map, map-append, take_more}
+use Rattle.std.proofs.lemmas.List.Elements.{All-append, All-get_or, Contains-append_left, Contains-append_right}
 use Rattle.offset_allocator.specs.View.{Block, Grant, Place, IsWellFormed, is_used_at, place_of}
 use Rattle.offset_allocator.specs.Relations.{IsFresh}
 use Rattle.offset_allocator.proofs.Reading.{live_used}
@@ -22,10 +23,10 @@ use Rattle.offset_calls.specs.declared.calls.Call.{Call}
 use Rattle.offset_calls.specs.declared.calls.Call.TheVariants as call
 use Rattle.offset_calls.specs.declared.calls.Reply as program
 use Rattle.offset_calls.specs.declared.guarded.TicketCall.{TicketCall}
-use Rattle.offset_calls.specs.Calls.{after, is_valid, replies, reply_view, step}
+use Rattle.offset_calls.specs.Calls.{Reply, after, is_valid, replies, reply_view, step}
 use Rattle.offset_calls.specs.Histories.{renumber}
 use Rattle.offset_calls.specs.Steps.{AreKept}
-use Rattle.offset_calls.specs.Tickets.{IsGrown, IsLedger, Serves, IsNumberOf, handle_of, handles_of, is_that, live_name, meant, number_in, number_of, passed, ticket_of}
+use Rattle.offset_calls.specs.Tickets.{IsGrantOf, IsGrown, IsLedger, Serves, IsNumberOf, handle_of, handles_of, is_that, live_name, meant, number_in, number_of, passed, ticket_of}
 use Rattle.offset_calls.proofs.Compacted.{all_kept}
 use Rattle.offset_calls.proofs.Followed.{follows, well_calls}
 use Rattle.offset_calls.proofs.Tickets.{alike, alike_range, kept_of, kept_serial, kept_ticket, live_named_by}
@@ -47,7 +48,8 @@ is_used_after b None = refl
 is_used_after b (Some p) = refl
 
 -- a live name is kept for some number
-live_kept : (hs : List (Option Grant)) (x : ℕ) (bs : List Block) → AllByRecursion (λ (b : Block). b.used ≡ true → (k : ℕ) × (kept_name hs k ≡ Some b.name)) bs → is_used_at (place_of x bs) ≡ true
+live_kept : (hs : List (Option Grant)) (x : ℕ) (bs : List Block) → AllByRecursion (λ (b : Block). b.used ≡ true → (k : ℕ) × (kept_name hs k ≡ Some b.name)) bs
+    → is_used_at (place_of x bs) ≡ true
     → (k : ℕ) × (kept_name hs k ≡ Some x)
 live_kept hs x [] a h = absurd (false≢true h)
 live_kept hs x (b ∷ bs) a h = elim (cases_eq x b.name) [
@@ -69,10 +71,7 @@ that_alike : (t u : Ticket) → AreAlike u t → is_that t (Some u) ≡ true
 that_alike t u a = ap₂ (λ b c. b && c) (eq-eqb t.name u.name (sym a.0)) (ap₂ (λ b c. b && c) (eq-eqb t.serial u.serial (sym a.1)) (eq-eqb t.realm u.realm (sym a.2)))
 
 alike_that : (t u : Ticket) → is_that t (Some u) ≡ true → AreAlike u t
-alike_that t u h =
-    let p = and_parts (nat_eq t.name u.name) (nat_eq t.serial u.serial && nat_eq t.realm u.realm) h in
-    let q = and_parts (nat_eq t.serial u.serial) (nat_eq t.realm u.realm) p.1 in
-    (sym (eqb-true t.name u.name p.0), sym (eqb-true t.serial u.serial q.0), sym (eqb-true t.realm u.realm q.1))
+alike_that t u h = search (arith, and_parts, nat_eq, eqb-true)
 
 module _ (g : Guard) (ts more : List Ticket) (is : IsLedger g ts) (kept : AreKept g.space (handles_of g ts)) where
   -- any ticket means the grant that gave it, also where its number was not given yet
@@ -89,19 +88,7 @@ module _ (g : Guard) (ts more : List Ticket) (is : IsLedger g ts) (kept : AreKep
           ap (λ b. kept_name (handles_of g ts) (if b then t.serial else 0)) that ∙ ap (kept_name (handles_of g ts)) s ∙ k.1 ∙ sym (live_named_by t g l)
 
       dead : is_some (range_of t g) ≡ false → kept_name (handles_of g ts) (number_of (ts ++ more) t) ≡ None
-      dead d = given (ticket_of (ts ++ more) t.serial) refl (ticket_of ts t.serial) refl
-        where
-          -- the number, where the ticket is that of a grant
-          at : (b : Bool) → is_that t (ticket_of (ts ++ more) t.serial) ≡ b → (b ≡ true → kept_name (handles_of g ts) t.serial ≡ None) → kept_name (handles_of g ts) (number_of (ts ++ more) t) ≡ None
-          at true e f = ap (λ b. kept_name (handles_of g ts) (if b then t.serial else 0)) e ∙ f refl
-          at false e f = ap (λ b. kept_name (handles_of g ts) (if b then t.serial else 0)) e
-
-          given : (o : Option Ticket) → ticket_of (ts ++ more) t.serial ≡ o → (p : Option Ticket) → ticket_of ts t.serial ≡ p → kept_name (handles_of g ts) (number_of (ts ++ more) t) ≡ None
-          given o e None f = at (is_that t (ticket_of (ts ++ more) t.serial)) refl (λ b. kept_of g ts t.serial ∙ ap (λ o. live_name o g) f)
-          given o e (Some u) f = at (is_that t (ticket_of (ts ++ more) t.serial)) refl
-              (λ b. kept_of g ts t.serial ∙ ap (λ o. live_name o g) f
-              ∙ ap (λ b. option_map (λ (h : Grant). h.name) (if b then Some (Rattle.offset_guarded.specs.Guard.grant_of u) else None))
-              (ap is_some (alike_range u t g (alike_that t u (sym (ap (is_that t) (ticket_more ts more t.serial u f)) ∙ b))) ∙ d))
+      dead d = search (arith, kept_of, option_map, is_some, alike_range, alike_that, ticket_more)
 
       go : (b : Bool) → is_some (range_of t g) ≡ b → kept_name (handles_of g ts) (number_of (ts ++ more) t) ≡ live_name (Some t) g
       go true e = live e
@@ -109,13 +96,7 @@ module _ (g : Guard) (ts more : List Ticket) (is : IsLedger g ts) (kept : AreKep
 
   -- so does the number of a call
   pub is_number : (c : TicketCall) → IsNumberOf (option_map_or (number_of (ts ++ more)) c.ticket (number_in c.call)) (passed ts c) g ts
-  is_number c = go c.ticket refl
-    where
-      go : (o : Option Ticket) → c.ticket ≡ o → IsNumberOf (option_map_or (number_of (ts ++ more)) c.ticket (number_in c.call)) (passed ts c) g ts
-      go None e = ap (λ o. kept_name (handles_of g ts) (option_map_or (number_of (ts ++ more)) o (number_in c.call))) e ∙ kept_of g ts (number_in c.call)
-          ∙ sym (ap (λ o. live_name (Rattle.std.specs.Option.option_or o (ticket_of ts (number_in c.call))) g) e)
-      go (Some t) e = ap (λ o. kept_name (handles_of g ts) (option_map_or (number_of (ts ++ more)) o (number_in c.call))) e ∙ number_any t
-          ∙ sym (ap (λ o. live_name (Rattle.std.specs.Option.option_or o (ticket_of ts (number_in c.call))) g) e)
+  is_number c = search (arith, kept_of, number_any)
 
 -- a call is renumbered at its number alone
 renumber_at : (r : ℕ → ℕ) (c : Call) → renumber r c ≡ renumber (λ j. r (number_in c)) c
@@ -158,7 +139,8 @@ pub record IsPlayed (size limit : ℕ) (g : Guard) (ts : List Ticket) (calls : L
   pub represents : (more : List Ticket) → IsAtState g.space (handles_of g ts) (after (map (meant (ts ++ more)) calls) (start size limit))
   pub replied : (more : List Ticket) → map reply_view found ≡ replies (map (meant (ts ++ more)) calls) (start size limit)
 
-pub starts : (size limit : ℕ) (g : Guard) (ts : List Ticket) (found : List program.Reply) → IsWellFormed g.space → IsFresh size limit g.space → ts ≡ [] → found ≡ [] → IsPlayed size limit g ts [] found
+pub starts : (size limit : ℕ) (g : Guard) (ts : List Ticket) (found : List program.Reply) → IsWellFormed g.space → IsFresh size limit g.space → ts ≡ [] → found ≡ []
+    → IsPlayed size limit g ts [] found
 starts size limit g ts found w f e none = record {
   represents = λ more. fresh_represents g.space w size limit (handles_of g ts) f (ap (map (handle_of g)) e);
   replied = λ more. ap (map reply_view) none;
@@ -179,13 +161,26 @@ replies-append [] ys s = refl
 replies-append (c ∷ xs) ys s = ap (λ l. (step c s).reply ∷ l) (replies-append xs ys (step c s).state)
 
 -- later tickets, from before the call on
-later : (ts us more : List Ticket) → IsGrown ts us → (all : List Ticket) × (us ++ more ≡ ts ++ all)
-later ts us more (inl e) = (more, ap (λ l. l ++ more) e)
-later ts us more (inr e) = (e.0 ∷ more, ap (λ l. l ++ more) e.1 ∙ append_assoc ts (e.0 ∷ []) more)
+later : (ts us more : List Ticket) (r : Reply) → IsGrown ts us r → (all : List Ticket) × (us ++ more ≡ ts ++ all)
+later ts us more r (inl e) = (more, ap (λ l. l ++ more) e)
+later ts us more r (inr e) = (e.0 ∷ more, ap (λ l. l ++ more) e.1 ∙ append_assoc ts (e.0 ∷ []) more)
 
-pub few_more : (ts us : List Ticket) (i : ℕ) → IsGrown ts us → length ts ≤ i → length us ≤ i + 1
-few_more ts us i (inl e) h = let l = ap length e in omega arith
-few_more ts us i (inr e) h = let l = ap length e.1 in omega (arith, length-append ts (e.0 ∷ []))
+pub few_more : (ts us : List Ticket) (r : Reply) (i : ℕ) → IsGrown ts us r → length ts ≤ i → length us ≤ i + 1
+few_more ts us r i (inl e) h = let l = ap length e in omega arith
+few_more ts us r i (inr e) h = let l = ap length e.1 in omega (arith, length-append ts (e.0 ∷ []))
+
+-- each ticket is that of a grant which is replied
+pub more_granted : (ts us : List Ticket) (rs : List Reply) (r : Reply) → IsGrown ts us r → All (IsGrantOf rs) ts → All (IsGrantOf (rs ++ r ∷ [])) us
+more_granted ts us rs r (inl e) h = subst (All (IsGrantOf (rs ++ r ∷ []))) (sym e) (λ k d l. Contains-append_left rs (r ∷ []) _ (h k d l))
+more_granted ts us rs r (inr e) h = subst (All (IsGrantOf (rs ++ r ∷ []))) (sym e.1)
+    (All-append (IsGrantOf (rs ++ r ∷ [])) ts (e.0 ∷ []) (λ k d l. Contains-append_left rs (r ∷ []) _ (h k d l)) one)
+  where
+    one : All (IsGrantOf (rs ++ r ∷ [])) (e.0 ∷ [])
+    one zero d l = Contains-append_right rs (r ∷ []) _ (0, omega arith, e.2)
+    one (suc k) d l = absurd (omega arith)
+
+pub none_granted : (ts : List Ticket) (rs : List Reply) → ts ≡ [] → All (IsGrantOf rs) ts
+none_granted ts rs e k d l = absurd (let n = ap length e in omega arith)
 
 module _ (size limit : ℕ) (low : 2 ≤ limit) (g h : Guard) (ts us : List Ticket) (calls : List TicketCall) (c : TicketCall) (found left : List program.Reply) (x : program.Reply)
     (is : IsLedger g ts) (p : IsPlayed size limit g ts calls found) (formed : IsWellFormed h.space) (valid : IsTrue (is_valid c.call)) (more_found : left ≡ found ++ x ∷ [])
@@ -196,11 +191,11 @@ module _ (size limit : ℕ) (low : 2 ≤ limit) (g h : Guard) (ts us : List Tick
   module _ (more : List Ticket) where
     -- the tickets given from before the call on
     all : List Ticket
-    all = (later ts us more served.grown).0
+    all = (later ts us more (reply_view x) served.grown).0
 
     all_is : us ++ more ≡ ts ++ all
     unfolding all
-    all_is = (later ts us more served.grown).1
+    all_is = (later ts us more (reply_view x) served.grown).1
 
     -- the plain machine takes the call that this one means
     next : (reply_view x ≡ (step (meant (ts ++ all) c) (after (map (meant (ts ++ all)) calls) (start size limit))).reply)
@@ -217,38 +212,50 @@ module _ (size limit : ℕ) (low : 2 ≤ limit) (g h : Guard) (ts us : List Tick
     calls_more = ap (λ l. map (meant l) (calls ++ c ∷ [])) all_is ∙ map-append (meant (ts ++ all)) calls (c ∷ [])
 
     represents_more : IsAtState h.space (handles_of h us) (after (map (meant (us ++ more)) (calls ++ c ∷ [])) (start size limit))
-    represents_more = subst (IsAtState h.space (handles_of h us))
-        (sym (ap (λ l. after l (start size limit)) calls_more ∙ after-append (map (meant (ts ++ all)) calls) (meant (ts ++ all) c ∷ []) (start size limit))) next.1
+    represents_more = search (arith, calls_more, after-append, map, all, next)
 
     replied_more : map reply_view left ≡ replies (map (meant (us ++ more)) (calls ++ c ∷ [])) (start size limit)
-    replied_more =
-        ap (map reply_view) more_found ∙ map-append reply_view found (x ∷ [])
-        ∙ ap₂ (λ l r. l ++ r ∷ []) (p.replied all) next.0
-        ∙ sym (ap (λ l. replies l (start size limit)) calls_more ∙ replies-append (map (meant (ts ++ all)) calls) (meant (ts ++ all) c ∷ []) (start size limit))
+    replied_more = search (arith, map, map-append, all, next, calls_more, replies-append)
 
   pub played_more : IsPlayed size limit h us (calls ++ c ∷ []) left
   played_more = record { represents = represents_more; replied = replied_more }
 
 -- a loop over calls: one more
-pub goes_on : (size limit : ℕ) → 2 ≤ limit → (g h : Guard) (ts us : List Ticket) (calls : List TicketCall) (i : ℕ) (d : TicketCall) (found left : List program.Reply) (x : program.Reply)
-    → IsLedger g ts → length ts ≤ i → IsPlayed size limit g ts (take i calls) found
+pub goes_on : (size limit realm : ℕ) → 2 ≤ limit
+    → (g h : Guard) (ts us : List Ticket) (calls : List TicketCall) (i : ℕ) (d : TicketCall) (found left : List program.Reply) (x : program.Reply)
+    → IsLedger g ts → length ts ≤ i → IsPlayed size limit g ts (take i calls) found → g.realm ≡ realm → All (IsGrantOf (map reply_view found)) ts
     → IsWellFormed h.space → i < length calls → All (λ c. IsTrue (is_valid c.call)) calls → left ≡ found ++ x ∷ []
     → (now : List Ticket) (o : Option Ticket) → now ≡ ts → o ≡ passed now (get_or calls i d)
     → ((k : ℕ) → IsNumberOf k o g ts → Serves (renumber (λ j. k) (get_or calls i d).call) g ts h us (reply_view x))
-    → record { ledger : IsLedger h us; few : length us ≤ i + 1; played : IsPlayed size limit h us (take (i + 1) calls) left }
-goes_on size limit low g h ts us calls i d found left x is few p formed within valid e now o same is_passed each =
+    → record {
+      ledger : IsLedger h us;
+      few : length us ≤ i + 1;
+      played : IsPlayed size limit h us (take (i + 1) calls) left;
+      realm : h.realm ≡ realm;
+      granted : All (IsGrantOf (map reply_view left)) us;
+    }
+goes_on size limit realm low g h ts us calls i d found left x is few p same_realm granted formed within valid e now o same is_passed each =
     let serves : (k : ℕ) → IsNumberOf k (passed ts (get_or calls i d)) g ts → Serves (renumber (λ j. k) (get_or calls i d).call) g ts h us (reply_view x) =
     λ k is_number. each k (subst (λ o. IsNumberOf k o g ts) (sym (is_passed ∙ ap (λ l. passed l (get_or calls i d)) same)) is_number) in
     let v = All-get_or (λ c. IsTrue (is_valid c.call)) calls i d within valid in
     let s = served size limit low g h ts us (take i calls) (get_or calls i d) found left x is p formed v e serves in
     record {
       ledger = s.ledger;
-      few = few_more ts us i s.grown few;
+      few = few_more ts us (reply_view x) i s.grown few;
       played = subst (λ cs. IsPlayed size limit h us cs left) (sym (take_more calls i d within))
           (played_more size limit low g h ts us (take i calls) (get_or calls i d) found left x is p formed v e serves);
+      realm = s.realm ∙ same_realm;
+      granted = subst (λ rs. All (IsGrantOf rs) us) (sym (ap (map reply_view) e ∙ map-append reply_view found (x ∷ [])))
+          (more_granted ts us (map reply_view found) (reply_view x) s.grown granted);
     }
 
 -- all calls are played
 pub ends : (size limit : ℕ) (g : Guard) (ts : List Ticket) (before calls : List TicketCall) (found : List program.Reply) → IsPlayed size limit g ts before found → before ≡ calls
     → map reply_view found ≡ replies (map (meant ts) calls) (start size limit)
 ends size limit g ts before calls found p e = p.replied [] ∙ ap₂ (λ l cs. replies (map (meant l) cs) (start size limit)) (append-nil ts) e
+
+-- and there is a ticket for each grant
+pub all_granted : (size limit : ℕ) (g : Guard) (ts : List Ticket) (before calls : List TicketCall) (found : List program.Reply) → IsPlayed size limit g ts before found → before ≡ calls
+    → length ts ≡ (after (map (meant ts) calls) (start size limit)).grants
+all_granted size limit g ts before calls found p e =
+    sym (length-map ts (handle_of g)) ∙ (p.represents []).grants ∙ ap₂ (λ l cs. (after (map (meant l) cs) (start size limit)).grants) (append-nil ts) e

@@ -1,5 +1,6 @@
 -- A compaction: what is left agrees with the plain machine, and the moves are the same.
-use Rattle.std.proofs.Common.{◌≡◌, ℕ, suc, ◌+◌, ◌≤◌, Bool, true, false, not, ◌&&◌, List, [], ◌∷◌, ◌++◌, length, replicate, sum, Option, Some, None, nat_eq, if◌then◌else◌, refl, sym, ap, ap₂, subst}
+use Rattle.std.proofs.Common.{◌≡◌, ℕ, suc, ◌+◌, ◌≤◌, Bool, true, false, not, ◌&&◌, List, [], ◌∷◌, ◌++◌, length, replicate, sum, Option, Some, None, nat_eq}
+use Rattle.std.proofs.Common.{if◌then◌else◌, refl, sym, ap, ap₂, subst}
 use Rattle.std.proofs.Common.{subst₂, ◌∙◌, inl, inr, arith, eq-eqb, ne_eqb, length-append}
 use Rattle.std.proofs.lemmas.Bool.{cases_eq, cases_lt, true≢false, false≢true}
 use Rattle.std.proofs.lemmas.List.{map-append, get_or_past, get_or-replicate, length-replicate}
@@ -21,7 +22,8 @@ use Rattle.offset_script.specs.Totals.{live}
 use Rattle.offset_script.proofs.Ends.{free_sizes_labels, name_append, or_none}
 use Rattle.offset_script.proofs.Labels.{names, tags}
 use Rattle.offset_script.proofs.Members.{IsIn}
-use Rattle.offset_script.proofs.Well.{IsWell, AreApart, apart_append, count, hit, count-append, ends_free, starts_free, well_leaves}
+use Rattle.offset_script.proofs.Lists.{AreApart, apart_append, count, hit, count-append, ends_free, starts_free}
+use Rattle.offset_script.proofs.Well.{IsWell, well_leaves}
 use Rattle.offset_calls.specs.Calls.{Move, moves, gathered, compact, number}
 use Rattle.offset_calls.specs.Steps.{AreNumbered}
 
@@ -43,11 +45,7 @@ apart_cons b bs e a = (ap (λ x. x && starts_free bs) e, a)
 
 apart_live : (bs : List machine.Block) → AreApart (live bs)
 apart_live [] = tt
-apart_live (b ∷ bs) = go (is_free b.tag) refl (apart_live bs)
-  where
-    go : (x : Bool) → is_free b.tag ≡ x → AreApart (live bs) → AreApart (live (b ∷ bs))
-    go true e ih = subst (λ x. AreApart (if not x then b ∷ live bs else live bs)) (sym e) ih
-    go false e ih = subst (λ x. AreApart (if not x then b ∷ live bs else live bs)) (sym e) (apart_cons b (live bs) e ih)
+apart_live (b ∷ bs) = search (arith, (apart_live bs), not, apart_cons)
 
 ends_cons : (b : machine.Block) (bs : List machine.Block) → is_free b.tag ≡ false → ends_free bs ≡ false → ends_free (b ∷ bs) ≡ false
 ends_cons b [] e f = e
@@ -55,22 +53,12 @@ ends_cons b (c ∷ bs) e f = f
 
 ends_of_live : (bs : List machine.Block) → ends_free (live bs) ≡ false
 ends_of_live [] = refl
-ends_of_live (b ∷ bs) = go (is_free b.tag) refl (ends_of_live bs)
-  where
-    go : (x : Bool) → is_free b.tag ≡ x → ends_free (live bs) ≡ false → ends_free (live (b ∷ bs)) ≡ false
-    go true e ih = ap (λ x. ends_free (if not x then b ∷ live bs else live bs)) e ∙ ih
-    go false e ih = ap (λ x. ends_free (if not x then b ∷ live bs else live bs)) e ∙ ends_cons b (live bs) e ih
+ends_of_live (b ∷ bs) = search (arith, (ends_of_live bs), ends_free, not, ends_cons)
 
 -- what a compaction leaves is well-formed
 well_gathered : (s : State) → IsWell s → (ns : List ℕ) → free_sizes s.blocks ≡ ns → IsWell (machine.leaves s (live s.blocks ++ gathered (stamp_of_call s) ns) machine.Freed).state
-well_gathered s w [] e = well_leaves s w _ machine.Freed (let l = length_live s.blocks in let o = w.some in let h = ap length e in omega (arith, l, o, h, length-append (live s.blocks) []))
-    (let l = length_live s.blocks in let r = w.room in omega (arith, l, r, length-append (live s.blocks) []))
-    (apart_append (live s.blocks) [] (apart_live s.blocks) tt (ap (λ x. x && false) (ends_of_live s.blocks)))
-    (λ t. let l = count_live t s.blocks in omega (arith, l, count-append t (live s.blocks) []))
-well_gathered s w (n ∷ ns) e = well_leaves s w _ machine.Freed (omega (arith, length-append (live s.blocks) (gathered (stamp_of_call s) (n ∷ ns))))
-    (let l = length_live s.blocks in let r = w.room in let h = ap length e in omega (arith, l, r, h, length-append (live s.blocks) (gathered (stamp_of_call s) (n ∷ ns))))
-    (apart_append (live s.blocks) (gathered (stamp_of_call s) (n ∷ ns)) (apart_live s.blocks) (refl, tt) (ap (λ x. x && true) (ends_of_live s.blocks)))
-    (λ t. let l = count_live t s.blocks in omega (arith, l, count-append t (live s.blocks) (gathered (stamp_of_call s) (n ∷ ns))))
+well_gathered s w [] e = search (arith, well_leaves, length_live, length, length-append, apart_append, apart_live, ends_of_live, count_live, count-append)
+well_gathered s w (n ∷ ns) e = search (arith, well_leaves, length-append, length_live, length, apart_append, apart_live, ends_of_live, count_live, count-append)
 
 pub well_compact : (s : State) → IsWell s → IsWell (compact s).state
 well_compact s w = well_gathered s w (free_sizes s.blocks) refl
@@ -88,7 +76,8 @@ live_names (l ∷ ls) = let ih = live_names ls in elim (is_free l.tag)
 
 live_tags : (ls : List Label) → tags (live_labels ls) ≡ live (tags ls)
 live_tags [] = refl
-live_tags (l ∷ ls) = let ih = live_tags ls in elim (is_free l.tag) as (λ x. tags (if x then live_labels ls else l ∷ live_labels ls) ≡ (if not x then by_tag l ∷ live (tags ls) else live (tags ls)))
+live_tags (l ∷ ls) = let ih = live_tags ls in
+    elim (is_free l.tag) as (λ x. tags (if x then live_labels ls else l ∷ live_labels ls) ≡ (if not x then by_tag l ∷ live (tags ls) else live (tags ls)))
     [ true ↦ ih | false ↦ ap (λ z. by_tag l ∷ z) ih ]
 
 no_number : (k : ℕ) (t : Tag) → is_free t ≡ true → has_number k t ≡ false
@@ -97,11 +86,7 @@ no_number k (Free s) e = refl
 
 live_name_of : (k : ℕ) (ls : List Label) → name_of k (live_labels ls) ≡ name_of k ls
 live_name_of k [] = refl
-live_name_of k (l ∷ ls) = go (is_free l.tag) refl (live_name_of k ls)
-  where
-    go : (x : Bool) → is_free l.tag ≡ x → name_of k (live_labels ls) ≡ name_of k ls → name_of k (live_labels (l ∷ ls)) ≡ name_of k (l ∷ ls)
-    go true e ih = ap (λ x. name_of k (if x then live_labels ls else l ∷ live_labels ls)) e ∙ ih ∙ sym (ap (λ b. if b then Some l.name else name_of k ls) (no_number k l.tag e))
-    go false e ih = ap (λ x. name_of k (if x then live_labels ls else l ∷ live_labels ls)) e ∙ ap (λ o. if has_number k l.tag then Some l.name else o) ih
+live_name_of k (l ∷ ls) = search (arith, (live_name_of k ls), name_of, no_number)
 
 -- the label of the free block
 abbrev gathered_label : ℕ → ℕ → List ℕ → List Label
@@ -146,7 +131,8 @@ compact_agrees v kept_name s g u f = record {
   state = ap₂ (λ a b. a ++ b) (ap live g.state ∙ sym (live_tags g.labels)) (sym (gathered_tags f.name (stamp_of_call s) (free_sizes s.blocks)))
       ∙ sym (map-append by_tag (live_labels g.labels) (gathered_label f.name (stamp_of_call s) (free_sizes s.blocks)));
   limit = g.limit ∙ sym (ap (λ (x : View). x.max_allocs) f.view);
-  newest = λ c. subst (λ o. IsFalling (λ x. stamp_of x (live_labels g.labels ++ gathered_label f.name (stamp_of_call s) (free_sizes s.blocks))) (bin_at o c)) (sym (ap (λ (x : View). x.order) f.view))
+  newest = λ c. subst (λ o. IsFalling (λ x. stamp_of x (live_labels g.labels ++ gathered_label f.name (stamp_of_call s) (free_sizes s.blocks))) (bin_at o c))
+      (sym (ap (λ (x : View). x.order) f.view))
       (gathered_newest _ f.name (named.free_sizes v.blocks) c);
   handles = λ k. g.handles k ∙ sym (live_name_of k g.labels) ∙ sym (or_none (name_of k (live_labels g.labels)))
       ∙ ap (option_or (name_of k (live_labels g.labels))) (sym (gathered_name_of k f.name (stamp_of_call s) (free_sizes s.blocks)))
@@ -161,14 +147,7 @@ compact_agrees v kept_name s g u f = record {
 -- a name of a grant is that of a block
 name_there : (j x : ℕ) (ls : List Label) → name_of j ls ≡ Some x → 1 ≤ count_named x (names ls)
 name_there j x [] e = absurd (cc)
-name_there j x (l ∷ ls) e = go (has_number j l.tag) refl (name_there j x ls)
-  where
-    go : (b : Bool) → has_number j l.tag ≡ b → (name_of j ls ≡ Some x → 1 ≤ count_named x (names ls)) → 1 ≤ count_named x (names (l ∷ ls))
-    go true h ih =
-        let f : Some l.name ≡ Some x = sym (ap (λ b. if b then Some l.name else name_of j ls) h) ∙ e in
-        let n : l.name ≡ x = cc in
-        elim (hit_cases x l.name) [ inl i ↦ omega (arith, i.1) | inr i ↦ absurd (i.0 (sym n)) ]
-    go false h ih = let r = ih (sym (ap (λ b. if b then Some l.name else name_of j ls) h) ∙ e) in omega arith
+name_there j x (l ∷ ls) e = search (arith, (name_there j x ls), name_of, names, hit_cases)
 
 label_there : (l : Label) (ls : List Label) → IsIn l ls → 1 ≤ count_named l.name (names ls)
 label_there l [] i = absurd i
@@ -201,8 +180,7 @@ only_number j k (m ∷ ls) l few e i t = go (has_number j m.tag) refl i (λ f e 
 -- the name of a live label is found
 pub name_found : (k : ℕ) (ls : List Label) (l : Label) → count (Live k) (tags ls) ≤ 1 → IsIn l ls → l.tag ≡ Live k → name_of k ls ≡ Some l.name
 name_found k [] l few i t = absurd i
-name_found k (m ∷ ls) l few (inl f) t = ap (λ b. if b then Some m.name else name_of k ls) (ap (has_number k) (sym (ap (λ (l : Label). l.tag) f) ∙ t) ∙ eq-eqb k k refl)
-    ∙ ap Some (sym (ap (λ (l : Label). l.name) f))
+name_found k (m ∷ ls) l few (inl f) t = search (arith, name_of, eq-eqb)
 name_found k (m ∷ ls) l few (inr f) t = go (has_number k m.tag) refl (λ few. name_found k ls l few f t)
   where
     there : (l : Label) (ls : List Label) → IsIn l ls → l.tag ≡ Live k → 1 ≤ count (Live k) (tags ls)
@@ -219,8 +197,7 @@ name_found k (m ∷ ls) l few (inr f) t = go (has_number k m.tag) refl (λ few. 
     go false h ih = ap (λ b. if b then Some m.name else name_of k ls) h ∙ ih (omega (arith, few))
 
 same_move : (m : Move) (k from to size : ℕ) → m.number ≡ k → m.from ≡ from → m.to ≡ to → m.size ≡ size → m ≡ record { number = k; from = from; to = to; size = size }
-same_move m k from to size e f g h =
-    ap₂ (λ (a b : ℕ). record { number = a; from = b; to = m.to; size = m.size }) e f ∙ ap₂ (λ (a b : ℕ). record { number = k; from = from; to = a; size = b }) g h
+same_move m k from to size e f g h = search (arith)
 
 -- the moves of a block and those after it
 abbrev named_step : ℕ → ℕ → Label → List Label → Bool → Bool → List named_moves.Move
@@ -249,8 +226,7 @@ moves_agree handles from to (l ∷ ls) ms h a = go l.tag refl (nat_eq from to) r
     go : (t : Tag) → l.tag ≡ t → (b : Bool) → nat_eq from to ≡ b → (ms : List Move) → AreNumbered handles (named_step from to l ls (not (is_free l.tag)) (nat_eq from to)) ms
         → ((t : ℕ) (r : List Move) → AreNumbered handles (named_moves.moves (from + l.size) t (names ls)) r → r ≡ moves (from + l.size) t (tags ls))
         → ms ≡ plain_step from to l ls l.tag (nat_eq from to)
-    go (Free s) t b e ms a ih = ih to ms (subst (λ y. AreNumbered handles (named_step from to l ls (not (is_free y)) (nat_eq from to)) ms) t a)
-        ∙ sym (ap (λ y. plain_step from to l ls y (nat_eq from to)) t)
+    go (Free s) t b e ms a ih = search (arith, not, nat_eq)
     go (Live k) t true e ms a ih = ih (to + l.size) ms (subst₂ (λ y b. AreNumbered handles (named_step from to l ls (not (is_free y)) b) ms) t e a) ∙ sym (ap₂ (plain_step from to l ls) t e)
     go (Live k) t false e ms a ih = first k t ms (ih (to + l.size)) (subst₂ (λ y b. AreNumbered handles (named_step from to l ls (not (is_free y)) b) ms) t e a)
         ∙ sym (ap₂ (plain_step from to l ls) t e)

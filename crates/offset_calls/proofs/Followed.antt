@@ -1,5 +1,6 @@
 -- The steps of calls are those of the plain machine.
-use Rattle.std.proofs.Common.{◌≡◌, ◌≢◌, ◌⊎◌, ◌||◌, ℕ, ◌+◌, ◌-◌, ◌≤◌, Bool, true, false, not, ◌&&◌, List, [], ◌∷◌, length, sum, Option, Some, None, is_some, IfSome, IsTrue, option_map, option_and_then}
+use Rattle.std.proofs.Common.{◌≡◌, ◌≢◌, ◌⊎◌, ℕ, ◌+◌, ◌-◌, ◌≤◌, Bool, true, false, not, ◌&&◌, List, [], ◌∷◌, length, sum, Option, Some, None, is_some}
+use Rattle.std.proofs.Common.{IfSome, IsTrue, option_map, option_and_then}
 use Rattle.std.proofs.Common.{nat_eq, nat_lt, nat_le, if◌then◌else◌, refl, sym, ap, ap₂, subst, ◌∙◌, inl, inr, arith, eq-eqb, ne_eqb, le-leb, leb-true, lt-ltb, le-ltb}
 use Rattle.std.proofs.lemmas.Bool.{cases_eq, cases_lt, true≢false, false≢true, and_parts, lt-leb}
 use Rattle.offset_allocator.proofs.Advice.{free_within}
@@ -8,7 +9,7 @@ use Rattle.offset_allocator.proofs.Tallies.{hit_cases}
 use Rattle.offset_allocator.specs.declared.reports.Refusal.{Refusal}
 use Rattle.offset_allocator.specs.declared.reports.Refusal.TheVariants.{Nodes, TooLarge, Space, Fragmented}
 use Rattle.offset_allocator.specs.Classes.{value, up, down}
-use Rattle.offset_allocator.specs.View.{Block, View, Grant, Place, one, times, count_in_bin, bin_at, units, IsWellFormed}
+use Rattle.offset_allocator.specs.View.{View, Grant, Place, times, count_in_bin, bin_at, units, IsWellFormed}
 use Rattle.offset_allocator.specs.View as named
 use Rattle.offset_allocator.specs.Requests.{HasRoomFor, IsWhy, block_needed, blocks_needed, units_needed}
 use Rattle.offset_allocator.specs.Ranges.{Range, range_of, size_of}
@@ -24,7 +25,8 @@ use Rattle.offset_script.proofs.Ends.{free_sizes_labels, total_units}
 use Rattle.offset_script.proofs.Labels.{names}
 use Rattle.offset_script.proofs.Members.{IsIn, in_map}
 use Rattle.offset_script.proofs.Simulation as script
-use Rattle.offset_script.proofs.Well.{IsWell, well_quiet, well_step, not_chosen}
+use Rattle.offset_script.proofs.Found.{not_chosen}
+use Rattle.offset_script.proofs.Well.{IsWell, well_quiet, well_step}
 use Rattle.offset_calls.specs.declared.calls.Call.{Call}
 use Rattle.offset_calls.specs.declared.calls.Call.TheVariants as call
 use Rattle.offset_calls.specs.Calls.{Reply, Answer, Resized, Compacted, Offset, Refused_for, Outcome, can_shrink, can_grow, resize, resized, replies_only, shortage, reason, offset_at, step, after}
@@ -44,7 +46,8 @@ resize_same can n s p e = ap (λ b. if b then replies_only s Resized else if can
 resize_done : (can : machine.Place → Bool) (n : ℕ) (s : State) (p : machine.Place) → n ≢ p.block.size → can p ≡ true → resize can n s (Some p) ≡ resized n s p
 resize_done can n s p d c = ap₂ (λ b x. if b then replies_only s Resized else if x then resized n s p else replies_only s (Answer machine.Refused)) (ne_eqb n p.block.size d) c
 
-resize_refused : (can : machine.Place → Bool) (n : ℕ) (s : State) (p : machine.Place) → n ≢ p.block.size → can p ≡ false → resize can n s (Some p) ≡ replies_only s (Answer machine.Refused)
+resize_refused : (can : machine.Place → Bool) (n : ℕ) (s : State) (p : machine.Place) → n ≢ p.block.size → can p ≡ false
+    → resize can n s (Some p) ≡ replies_only s (Answer machine.Refused)
 resize_refused can n s p d c = ap₂ (λ b x. if b then replies_only s Resized else if x then resized n s p else replies_only s (Answer machine.Refused)) (ne_eqb n p.block.size d) c
 
 abbrev reason_of : Bool → Bool → Refusal → Option Refusal
@@ -59,7 +62,8 @@ not_true false f = refl
 
 -- every state stays well-formed
 
-well_resize : (s : State) → IsWell s → (k n : ℕ) (can : machine.Place → Bool) → ((p : machine.Place) → n ≢ p.block.size → can p ≡ true → (starts_free p.after ≡ true) ⊎ (is_short_of 1 s ≡ false))
+well_resize : (s : State) → IsWell s → (k n : ℕ) (can : machine.Place → Bool)
+    → ((p : machine.Place) → n ≢ p.block.size → can p ≡ true → (starts_free p.after ≡ true) ⊎ (is_short_of 1 s ≡ false))
     → (o : Option machine.Place) → machine.place_of k s.blocks ≡ o → IsWell (resize can n s o).state
 well_resize s w k n can fit None e = well_quiet s w machine.Gone
 well_resize s w k n can fit (Some p) e = go (can p) refl
@@ -75,26 +79,10 @@ well_resize s w k n can fit (Some p) e = go (can p) refl
         other false c d = subst (λ (o : Outcome). IsWell o.state) (sym (resize_refused can n s p d c)) (well_quiet s w machine.Gone)
 
 shrink_fits : (s : State) (n : ℕ) (p : machine.Place) → n ≢ p.block.size → can_shrink n s p ≡ true → (starts_free p.after ≡ true) ⊎ (is_short_of 1 s ≡ false)
-shrink_fits s n p d c = go (nat_le n p.block.size) (starts_free p.after) (is_short_of 1 s) refl refl c
-  where
-    go : (a b x : Bool) → starts_free p.after ≡ b → is_short_of 1 s ≡ x → (a && (b || not x)) ≡ true → (starts_free p.after ≡ true) ⊎ (is_short_of 1 s ≡ false)
-    go a true x e f h = inl e
-    go a false false e f h = inr f
-    go true false true e f h = absurd (false≢true h)
-    go false false true e f h = absurd (false≢true h)
+shrink_fits s n p d c = search (arith, nat_le, not, false≢true)
 
 grow_fits : (s : State) (n : ℕ) (p : machine.Place) → n ≢ p.block.size → can_grow n p ≡ true → (starts_free p.after ≡ true) ⊎ (is_short_of 1 s ≡ false)
-grow_fits s n p d c = inl (free p.after (bound p.after))
-  where
-    parts : (nat_le p.block.size n ≡ true) × (nat_le n (p.block.size + machine.free_start p.after) ≡ true)
-    parts = and_parts (nat_le p.block.size n) (nat_le n (p.block.size + machine.free_start p.after)) c
-
-    bound : (bs : List machine.Block) → 1 ≤ machine.free_start p.after
-    bound bs = let l = leb-true p.block.size n parts.0 in let m = leb-true n (p.block.size + machine.free_start p.after) parts.1 in omega arith
-
-    free : (bs : List machine.Block) → 1 ≤ machine.free_start bs → starts_free bs ≡ true
-    free [] h = absurd (omega arith)
-    free (b ∷ bs) h = elim (is_free b.tag) as (λ x. 1 ≤ (if x then b.size else 0) → x ≡ true) [ true ↦ λ h. refl | false ↦ λ h. absurd (omega arith) ] h
+grow_fits s n p d c = search (arith, nat_le, and_parts, leb-true)
 
 pub well_call : (c : Call) (s : State) → IsWell s → IsWell (step c s).state
 well_call (call.Command c) s w = well_step c s w
@@ -112,14 +100,7 @@ well_calls (c ∷ cs) s w = well_calls cs _ (well_call c s w)
 module _ (v w : View) (hs left : List (Option Grant)) (r : Reply) (s : State) (formed : IsWellFormed w) (ws : IsWell s) (p : IsAtState v hs s) where
   -- a call that leaves all as it is
   stays : (o : Outcome) (x : Reply) → o ≡ replies_only s x → SameSpace v w → left ≡ hs → r ≡ x → Follows o w left r
-  stays o x e same f is = subst (λ (o : Outcome). Follows o w left r) (sym e) (
-    is,
-    subst (λ l. IsAtState w l (replies_only s x).state) (sym f) (record {
-      formed = formed;
-      agrees = agrees_but v w (kept_name hs) _ same (agrees_quiet v (kept_name hs) s p.agrees machine.Gone);
-      grants = p.grants;
-    }),
-  )
+  stays o x e same f is = search (arith, agrees_but, agrees_quiet)
 
   quiet : (o : Outcome) (x : Reply) → o ≡ replies_only s x → Stays v hs w left → r ≡ x → Follows o w left r
   quiet o x e e' is = stays o x e (e'.0 ∙ ap (λ (z : View). record v { accesses = z.accesses }) (sym e'.0)) e'.1 is
@@ -135,12 +116,14 @@ module _ (v w : View) (hs left : List (Option Grant)) (r : Reply) (s : State) (f
     resize_same_size : (can : machine.Place → Bool) → n ≡ size_of x v → SameSpace v w → left ≡ hs → r ≡ Resized → Follows (resize can n s (machine.place_of k s.blocks)) w left r
     resize_same_size can same space f is = stays _ Resized (ap (resize can n s) at ∙ resize_same can n s _ (same ∙ sized)) space f is
 
-    resize_refuses : (can : machine.Place → Bool) → n ≢ size_of x v → (can (plain_place (spot v (kept_name hs) s p.formed ws p.agrees k x e)) ≡ true → ⊥) → SameSpace v w → left ≡ hs
+    resize_refuses : (can : machine.Place → Bool) → n ≢ size_of x v → (can (plain_place (spot v (kept_name hs) s p.formed ws p.agrees k x e)) ≡ true → ⊥)
+        → SameSpace v w → left ≡ hs
         → r ≡ Answer machine.Refused
         → Follows (resize can n s (machine.place_of k s.blocks)) w left r
     resize_refuses can d none space f is = stays _ (Answer machine.Refused) (ap (resize can n s) at ∙ resize_refused can n s _ (λ z. d (z ∙ sym sized)) (not_true _ none)) space f is
 
-    resize_changes : (can : machine.Place → Bool) → n ≢ size_of x v → can (plain_place (spot v (kept_name hs) s p.formed ws p.agrees k x e)) ≡ true → Resizes x n v w → left ≡ hs → r ≡ Resized
+    resize_changes : (can : machine.Place → Bool) → n ≢ size_of x v → can (plain_place (spot v (kept_name hs) s p.formed ws p.agrees k x e)) ≡ true → Resizes x n v w
+        → left ≡ hs → r ≡ Resized
         → Follows (resize can n s (machine.place_of k s.blocks)) w left r
     resize_changes can d c t f is =
         subst (λ (o : Outcome). Follows o w left r) (sym (ap (resize can n s) at ∙ resize_done can n s _ (λ z. d (z ∙ sym sized)) c)) (
@@ -165,16 +148,10 @@ module _ (v w : View) (hs left : List (Option Grant)) (r : Reply) (s : State) (f
     -- where the range begins
     range_found : range_of x v
         ≡ Some (record { offset = units (names (spot v (kept_name hs) s p.formed ws p.agrees k x e).before); size = (spot v (kept_name hs) s p.formed ws p.agrees k x e).label.size })
-    range_found =
-        let sp = spot v (kept_name hs) s p.formed ws p.agrees k x e in
-        ap (option_and_then (λ (p : Place). if p.block.used then Some (record { offset = units p.before; size = p.block.size }) else None)) (found v (kept_name hs) s p.formed ws p.agrees k x e).named
-        ∙ ap (λ t. range_if (not (is_free t)) (units (names sp.before)) sp.label.size) (found v (kept_name hs) s p.formed ws p.agrees k x e).tag
+    range_found = search (arith, spot, option_and_then, found, not, names)
 
     offset_found : (o : ℕ) → option_map (λ (q : Range). q.offset) (range_of x v) ≡ Some o → Offset o ≡ offset_at (machine.place_of k s.blocks)
-    offset_found o h =
-        let f : Some (units (names (spot v (kept_name hs) s p.formed ws p.agrees k x e).before)) ≡ Some o = sym (ap (option_map (λ (q : Range). q.offset)) range_found) ∙ h in
-        let n : units (names (spot v (kept_name hs) s p.formed ws p.agrees k x e).before) ≡ o = cc in
-        ap Offset (sym n ∙ sym (total_units (spot v (kept_name hs) s p.formed ws p.agrees k x e).before)) ∙ sym (ap offset_at at)
+    offset_found o h = search (arith, names, spot, option_map, range_found, total_units, at)
 
   -- by the number of a grant
   gone_there : (k : ℕ) → kept_name hs k ≡ None → machine.place_of k s.blocks ≡ None
@@ -186,12 +163,14 @@ module _ (v w : View) (hs left : List (Option Grant)) (r : Reply) (s : State) (f
   shrink_step k n None e t = quiet _ (Answer machine.Gone) (ap (resize (can_shrink n s) n s) (gone_there k e)) t.0 t.1
   shrink_step k n (Some x) e t = shrinks k x n e t.0 t.1 t.2 t.3
 
-  grow_step : (k n : ℕ) (o : Option ℕ) → kept_name hs k ≡ o → IfNamed o (λ x. (done : Bool) × Grows x n v w done × (left ≡ hs) × (r ≡ (if done then Resized else Answer machine.Refused)))
+  grow_step : (k n : ℕ) (o : Option ℕ) → kept_name hs k ≡ o
+      → IfNamed o (λ x. (done : Bool) × Grows x n v w done × (left ≡ hs) × (r ≡ (if done then Resized else Answer machine.Refused)))
       (Stays v hs w left × (r ≡ Answer machine.Gone)) → Follows (step (call.Grow k n) s) w left r
   grow_step k n None e t = quiet _ (Answer machine.Gone) (ap (resize (can_grow n) n s) (gone_there k e)) t.0 t.1
   grow_step k n (Some x) e t = grows k x n e t.0 t.1 t.2 t.3
 
-  offset_step : (k : ℕ) (o : Option ℕ) → kept_name hs k ≡ o → IfNamed o (λ x. (o : ℕ) × (option_map (λ (q : Range). q.offset) (range_of x v) ≡ Some o) × (r ≡ Offset o)) (r ≡ Answer machine.Gone)
+  offset_step : (k : ℕ) (o : Option ℕ) → kept_name hs k ≡ o
+      → IfNamed o (λ x. (o : ℕ) × (option_map (λ (q : Range). q.offset) (range_of x v) ≡ Some o) × (r ≡ Offset o)) (r ≡ Answer machine.Gone)
       → r ≡ offset_at (machine.place_of k s.blocks)
   offset_step k None e t = t ∙ sym (ap offset_at (gone_there k e))
   offset_step k (Some x) e t = t.2 ∙ offset_found k x 0 e t.0 t.1
@@ -201,18 +180,7 @@ module _ (v w : View) (hs left : List (Option Grant)) (r : Reply) (s : State) (f
   -- a name in a bin is that of a free block of its class
   listed : (c x : ℕ) (ls : List Label) → 1 ≤ count_in_bin c x (names ls) → (l : Label) × IsIn l ls × (is_free l.tag ≡ true) × (c ≡ down l.size)
   listed c x [] h = absurd (omega arith)
-  listed c x (l ∷ ls) h = go (is_free l.tag) refl (listed c x ls)
-    where
-      later : ((m : Label) × IsIn m ls × (is_free m.tag ≡ true) × (c ≡ down m.size)) → (m : Label) × IsIn m (l ∷ ls) × (is_free m.tag ≡ true) × (c ≡ down m.size)
-      later q = (q.0, inr q.1, q.2, q.3)
-
-      go : (b : Bool) → is_free l.tag ≡ b → (1 ≤ count_in_bin c x (names ls) → (m : Label) × IsIn m ls × (is_free m.tag ≡ true) × (c ≡ down m.size))
-          → (m : Label) × IsIn m (l ∷ ls) × (is_free m.tag ≡ true) × (c ≡ down m.size)
-      go false f ih = later (ih (let z = ap (λ b. one (not (not b) && (nat_eq c (down l.size) && nat_eq x l.name))) f in omega arith))
-      go true f ih = elim (cases_eq c (down l.size)) [
-        | inl e ↦ (l, inl refl, f, e)
-        | inr d ↦ later (ih (let z = ap₂ (λ b y. one (not (not b) && (y && nat_eq x l.name))) f (ne_eqb c (down l.size) d) in omega arith))
-      ]
+  listed c x (l ∷ ls) h = search (arith, (listed c x ls), names, not, nat_eq, cases_eq, ne_eqb)
 
   some_chosen : (n : ℕ) → (c : ℕ) × (up n ≤ c) × (bin_at v.order c ≢ []) → is_some (chosen_place n s.blocks) ≡ true
   some_chosen n h = go (chosen_place n s.blocks) refl
@@ -260,7 +228,8 @@ module _ (v w : View) (hs left : List (Option Grant)) (r : Reply) (s : State) (f
 
       is_short : (x : Refusal) → why ≡ Some x → HasRoomFor blocks v → here ≡ x → why ≡ reason blocks n s
       is_short x e room is =
-          e ∙ sym (ap (λ a. reason_of a (is_some (chosen_place n s.blocks)) here) (has_room v (kept_name hs) s p.formed ws p.agrees blocks room) ∙ ap₂ (reason_of false) (none room (some x e)) is)
+          e ∙ sym (ap (λ a. reason_of a (is_some (chosen_place n s.blocks)) here) (has_room v (kept_name hs) s p.formed ws p.agrees blocks room)
+          ∙ ap₂ (reason_of false) (none room (some x e)) is)
 
       go : (o : Option Refusal) → why ≡ o → why ≡ reason blocks n s
       go None e = let c = t.0.0 e in e ∙ sym (ap₂ (λ a b. reason_of a b here) (has_room v (kept_name hs) s p.formed ws p.agrees blocks c.0) (some_chosen n c.1))

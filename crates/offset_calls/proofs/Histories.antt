@@ -1,5 +1,5 @@
 -- The laws over whole histories of calls.
-use Rattle.std.proofs.Common.{◌≡◌, ℕ, ◌+◌, ◌-◌, ◌≤◌, List, [], ◌∷◌, ◌++◌, map, if◌then◌else◌, refl, ap, ◌∙◌, inl, inr, arith, le-leb}
+use Rattle.std.proofs.Common.{◌≡◌, ℕ, ◌+◌, ◌-◌, ◌≤◌, List, [], ◌∷◌, ◌++◌, map, refl, ap, ◌∙◌, arith, le-leb}
 use Rattle.std.proofs.lemmas.Bool.{cases_lt, lt-leb}
 use Rattle.offset_script.specs.declared.scripts.Command.{Command}
 use Rattle.offset_script.specs.declared.scripts.Command.TheVariants as command
@@ -10,7 +10,8 @@ use Rattle.offset_script.proofs.Fresh.{IsOneFree, one_free, alike_fresh, raise_n
 use Rattle.offset_script.proofs.Members.{map_same}
 use Rattle.offset_script.proofs.Nests.{AreTraceless, traceless, alike_after, number_without_none}
 use Rattle.offset_script.proofs.Similar.{similar_refl}
-use Rattle.offset_script.proofs.Well.{IsWell, count, hit_self, well_start, well_after}
+use Rattle.offset_script.proofs.Lists.{count, hit_self}
+use Rattle.offset_script.proofs.Well.{IsWell, well_start, well_after}
 use Rattle.offset_calls.specs.declared.calls.Call.{Call}
 use Rattle.offset_calls.specs.declared.calls.Call.TheVariants as call
 use Rattle.offset_calls.specs.Calls.{Reply, Answer, Compacted, after, replies, step}
@@ -30,22 +31,15 @@ fresh_law size limit h cs none =
 
 -- what leaves no trace
 traceless_replies : (s t : State) → IsWell s → IsWell t → AreTraceless s t → (next : List Call) → replies next t ≡ replies_renumbered s t next
-traceless_replies s t w v m next = same_replies (number_without s.grants (t.grants - s.grants)) s.grants (t.grants - s.grants) (number_back_again s.grants (t.grants - s.grants)) next t s
-    (alike_after s t w v m)
+traceless_replies s t w v m next = search (arith, same_replies, number_back_again, alike_after)
 
 pub nest_law : (size limit : ℕ) → 2 ≤ limit → (cs : List Call) (nest : List Command) → let s = after cs (start size limit) in
     IsNest s nest → (next : List Call) → replies next (machine.after nest s) ≡ replies_renumbered s (machine.after nest s) next
-nest_law size limit h cs nest n =
-    let s = after cs (start size limit) in
-    let w : IsWell s = well_calls cs (start size limit) (well_start size limit h) in
-    λ next. traceless_replies s (machine.after nest s) w (well_after nest s w) (traceless n w) next
+nest_law size limit h cs nest n = search (arith, well_calls, well_start, traceless_replies, well_after, traceless)
 
 -- no grants are left out
 with_none : (g k : ℕ) → number_with g 0 k ≡ k
-with_none g k = elim (cases_lt g k) [
-  | inl l ↦ ap (λ b. if b then k else k + 0) (lt-leb k g l) ∙ (let e : k + 0 ≡ k = omega arith in e)
-  | inr l ↦ ap (λ b. if b then k else k + 0) (le-leb k g l)
-]
+with_none g k = search (arith, cases_lt, lt-leb, le-leb)
 
 raised_none : (g : ℕ) (r : Reply) → raise g 0 r ≡ r
 raised_none g (Answer a) = ap Answer (raise_none a)

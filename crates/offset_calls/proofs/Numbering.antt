@@ -1,5 +1,6 @@
 -- The moves of a compaction, and the numbers of the ranges that move.
-use Rattle.std.proofs.Common.{◌≡◌, ℕ, zero, suc, ◌+◌, ◌-◌, ◌<◌, ◌≤◌, Bool, true, false, List, [], ◌∷◌, ◌++◌, map, drop, length, reverse, slice_index_or, Option, Some, None, IsSome}
+use Rattle.std.proofs.Common.{◌≡◌, ℕ, zero, suc, ◌+◌, ◌-◌, ◌<◌, ◌≤◌, Bool, true, false, List, [], ◌∷◌, ◌++◌, map, drop, length, reverse, slice_index_or, Option}
+use Rattle.std.proofs.Common.{Some, None}
 use Rattle.std.proofs.Common.{option_map, unwrap_or, if◌then◌else◌, refl, sym, ap, ap₂, subst, subst₂, ◌∙◌, inl, inr, arith, append_assoc, append-nil, length-append, eq-eqb, ne_eqb}
 use Rattle.std.proofs.lemmas.Bool.{cases_eq, cases_lt, false≢true}
 use Rattle.std.proofs.lemmas.List.{map-append, length-map, reverse-append, get_or_past}
@@ -32,9 +33,7 @@ all_move from to [] l = refl
 all_move from to (b ∷ bs) l = go b.used refl (λ t h. all_move (from + b.size) t bs h)
   where
     go : (u : Bool) → b.used ≡ u → ((t : ℕ) → t < from + b.size → live_names bs ≡ names_of (moves (from + b.size) t bs)) → live_names (b ∷ bs) ≡ names_of (moves from to (b ∷ bs))
-    go true u ih = ap (map (λ (b : Block). Some b.name)) (live_used b bs u) ∙ ap (λ l. Some b.name ∷ l) (ih (to + b.size) (omega (arith, l)))
-        ∙ sym (ap names_of (moves_used from to b bs u ∙ ap (λ t. (if t then [] else record { name = b.name; from = from; to = to; size = b.size } ∷ []) ++ moves (from + b.size) (to + b.size) bs)
-        (ne_eqb from to (omega (arith, l)))))
+    go true u ih = search (arith, map, live_used, moves_used, ne_eqb)
     go false u ih = ap (map (λ (b : Block). Some b.name)) (live_idle b bs u) ∙ ih to (omega (arith, l)) ∙ sym (ap names_of (moves_idle from to b bs u))
 
 last_move : (from to : ℕ) (bs : List Block) → to ≤ from → IsLast bs (moves from to bs)
@@ -72,7 +71,8 @@ are_more (n ∷ ms) [] m x a e f g = absurd a
 are_more (n ∷ ms) (y ∷ xs) m x a e f g = (a.0, a.1, a.2, are_more ms xs m x a.3 e f g)
 
 -- numbers whose names are those of the moves
-numbers_join : (handles : List (Option Grant)) (ks : List ℕ) (ms : List Moved) (xs : List Move) → map (kept_name handles) ks ≡ names_of xs → AreMoves ms xs → AreNumbered handles xs (joined ks ms)
+numbers_join : (handles : List (Option Grant)) (ks : List ℕ) (ms : List Moved) (xs : List Move) → map (kept_name handles) ks ≡ names_of xs → AreMoves ms xs
+    → AreNumbered handles xs (joined ks ms)
 numbers_join handles [] [] [] e a = tt
 numbers_join handles (k ∷ ks) [] [] e a = tt
 numbers_join handles ks [] (x ∷ xs) e a = absurd a
@@ -96,17 +96,7 @@ module _ (handles : List (Option Grant)) (ks : List ℕ) (ms : List Moved) (v : 
   numbers_parts = last_move 0 0 v.blocks (omega arith)
 
   numbers_length : length ks ≡ length numbers_parts.first + length ms
-  numbers_length =
-      let l = ap length (e ∙ numbers_parts.is) in
-      omega (
-        arith,
-        l,
-        length-map ks (kept_name handles),
-        length-append numbers_parts.first (names_of (moves 0 0 v.blocks)),
-        length-map (moves 0 0 v.blocks) (λ (m : Move). Some m.name),
-        are_length ms
-            (moves 0 0 v.blocks) a,
-      )
+  numbers_length = search (arith, length, numbers_parts, length-map, length-append, are_length)
 
   -- there are enough numbers
   pub numbers_suffice : length ms ≤ length ks
@@ -114,9 +104,7 @@ module _ (handles : List (Option Grant)) (ks : List ℕ) (ms : List Moved) (v : 
 
   -- and the last ones are those of the moves
   pub numbers_are : AreNumbered handles (moves 0 0 v.blocks) (joined (drop (length ks - length ms) ks) ms)
-  numbers_are = numbers_join handles (drop (length ks - length ms) ks) ms (moves 0 0 v.blocks)
-      (drop_map (kept_name handles) (length ks - length ms) ks ∙ ap (drop (length ks - length ms)) (e ∙ numbers_parts.is)
-      ∙ drop_front numbers_parts.first (names_of (moves 0 0 v.blocks)) (length ks - length ms) (omega (arith, numbers_length))) a
+  numbers_are = search (arith, numbers_join, drop, length, drop_map, numbers_parts, drop_front, numbers_length)
 
 -- the names of the used ones of blocks at their places
 abbrev pub placed_name : Option Grant → List (Option ℕ)
@@ -145,13 +133,7 @@ placed_names-reverse (p ∷ ps) =
 
 placed_names-live : (o : ℕ) (bs : List Block) → placed_names (placed o bs) ≡ live_names bs
 placed_names-live o [] = refl
-placed_names-live o (b ∷ bs) = go b.used refl (placed_names-live (o + b.size) bs)
-  where
-    go : (u : Bool) → b.used ≡ u → placed_names (placed (o + b.size) bs) ≡ live_names bs → placed_names (placed o (b ∷ bs)) ≡ live_names (b ∷ bs)
-    go true u ih = ap (λ (v : Bool). placed_name (if v then Some (record { name = b.name; offset = o }) else None) ++ placed_names (placed (o + b.size) bs)) u ∙ ap (λ l. Some b.name ∷ l) ih
-        ∙ sym (ap (map (λ (b : Block). Some b.name)) (live_used b bs u))
-    go false u ih = ap (λ (v : Bool). placed_name (if v then Some (record { name = b.name; offset = o }) else None) ++ placed_names (placed (o + b.size) bs)) u ∙ ih
-        ∙ sym (ap (map (λ (b : Block). Some b.name)) (live_idle b bs u))
+placed_names-live o (b ∷ bs) = search (arith, (placed_names-live (o + b.size) bs), map, live_used, live_idle)
 
 -- the names of a walk from the end of the space to its start, in the other order
 pub walked_names : (bs : List Block) → reverse (placed_names (reverse (placed 0 bs))) ≡ live_names bs
@@ -179,41 +161,39 @@ kept-placed handles o [] a = tt
 kept-placed handles o (b ∷ bs) a = (go b.used refl, kept-placed handles (o + b.size) bs a.1)
   where
     go : (u : Bool) → b.used ≡ u → (g : Grant) → grant_if b.used b.name o ≡ Some g → (k : ℕ) × (kept_name handles k ≡ Some g.name)
-    go true u g e =
-        let r = a.0 u in
-        let f : grant_if true b.name o ≡ Some g = sym (ap (λ v. grant_if v b.name o) u) ∙ e in
-        (r.0, r.1 ∙ ap (option_map (λ (g : Grant). g.name)) f)
+    go true u g e = search (arith, option_map)
     go false u g e = absurd (let f : grant_if false b.name o ≡ Some g = sym (ap (λ v. grant_if v b.name o) u) ∙ e in cc)
 
 pub kept-listing : (v : View) (handles : List (Option Grant)) → AreKept v handles → AreAllKept handles (listing v)
 kept-listing v handles a = kept-reverse handles (placed 0 v.blocks) (kept-placed handles 0 v.blocks a)
 
 -- one more walked block
-pub walk_used : (handles : List (Option Grant)) (ks : List ℕ) (k : ℕ) (p : Placed) (ps : List Placed) (g : Grant) (all : List (Option ℕ)) → map (kept_name handles) ks ++ placed_names (p ∷ ps) ≡ all
+pub walk_used : (handles : List (Option Grant)) (ks : List ℕ) (k : ℕ) (p : Placed) (ps : List Placed) (g : Grant) (all : List (Option ℕ))
+    → map (kept_name handles) ks ++ placed_names (p ∷ ps) ≡ all
     → p.grant ≡ Some g → kept_name handles k ≡ Some g.name
     → map (kept_name handles) (ks ++ k ∷ []) ++ placed_names ps ≡ all
-walk_used handles ks k p ps g all e f h =
-    ap (λ l. l ++ placed_names ps) (map-append (kept_name handles) ks (k ∷ []) ∙ ap (λ o. map (kept_name handles) ks ++ o ∷ []) h)
-    ∙ append_assoc (map (kept_name handles) ks) (Some g.name ∷ []) (placed_names ps)
-    ∙ sym (ap (λ o. map (kept_name handles) ks ++ (placed_name o ++ placed_names ps)) f) ∙ e
+walk_used handles ks k p ps g all e f h = search (arith, map-append, map, append_assoc)
 
 map-reverse : {A B : Type 0} (f : A → B) (xs : List A) → map f (reverse xs) ≡ reverse (map f xs)
 map-reverse f [] = refl
-map-reverse f (x ∷ xs) = ap (map f) (reverse-append (x ∷ []) xs) ∙ map-append f (reverse xs) (x ∷ []) ∙ ap (λ l. l ++ f x ∷ []) (map-reverse f xs) ∙ sym (reverse-append (f x ∷ []) (map f xs))
+map-reverse f (x ∷ xs) = ap (map f) (reverse-append (x ∷ []) xs) ∙ map-append f (reverse xs) (x ∷ []) ∙ ap (λ l. l ++ f x ∷ []) (map-reverse f xs)
+    ∙ sym (reverse-append (f x ∷ []) (map f xs))
 
 -- all are walked
 pub walk_ends : (handles : List (Option Grant)) (ks left : List ℕ) (v : View) → map (kept_name handles) ks ++ [] ≡ placed_names (listing v) → left ≡ reverse ks
     → map (kept_name handles) left ≡ live_names v.blocks
-walk_ends handles ks left v e f =
-    ap (map (kept_name handles)) f ∙ map-reverse (kept_name handles) ks ∙ ap reverse (sym (append-nil (map (kept_name handles) ks)) ∙ e) ∙ walked_names v.blocks
+walk_ends handles ks left v e f = search (arith, map, map-reverse, reverse, append-nil, walked_names)
 
 -- the moves that a closure has seen
-pub collected : {P S N : Type 0} (R : P → Move → P → Type 0) (xs : List Move) (p q : P) → FoldsTo R p xs q → (see : P → S) (place : P → N) (is_refused : S → Bool) (found : S → List Moved)
+pub collected : {P S N : Type 0} (R : P → Move → P → Type 0) (xs : List Move) (p q : P) → FoldsTo R p xs q
+    → (see : P → S) (place : P → N) (is_refused : S → Bool) (found : S → List Moved)
     → ((p : P) (x : Move) (q : P) → R p x q
-    → (is_refused (see q) ≡ false → (is_refused (see p) ≡ false) × (m : Moved) × (m.from ≡ x.from) × (m.to ≡ x.to) × (m.size ≡ x.size) × (found (see q) ≡ found (see p) ++ m ∷ []))
+    → (is_refused (see q) ≡ false → (is_refused (see p) ≡ false) × (m : Moved) × (m.from ≡ x.from) × (m.to ≡ x.to) × (m.size ≡ x.size)
+    × (found (see q) ≡ found (see p) ++ m ∷ []))
     × (place q ≡ place p))
     → (is_refused (see q) ≡ false → (is_refused (see p) ≡ false) × ((ys : List Move) → AreMoves (found (see p)) ys → AreMoves (found (see q)) (ys ++ xs))) × (place q ≡ place p)
-collected R [] p q e see place is_refused found each = (λ h. (ap (λ x. is_refused (see x)) e ∙ h, λ ys a. subst₂ AreMoves (ap (λ x. found (see x)) e) (sym (append-nil ys)) a), ap place (sym e))
+collected R [] p q e see place is_refused found each =
+    (λ h. (ap (λ x. is_refused (see x)) e ∙ h, λ ys a. subst₂ AreMoves (ap (λ x. found (see x)) e) (sym (append-nil ys)) a), ap place (sym e))
 collected R (x ∷ xs) p q f see place is_refused found each =
     let one = each p x f.0 f.1 in
     let rest = collected R xs f.0 q f.2 see place is_refused found each in (
@@ -228,19 +208,13 @@ collected R (x ∷ xs) p q f see place is_refused found each =
     )
 
 -- a number that is not among the first ones
-pub not_found : (handles : List (Option Grant)) (x : ℕ) → ((i : ℕ) → i < length handles → option_map (λ (h : Grant). h.name) (slice_index_or handles i None) ≡ Some x → ⊥) → (k : ℕ)
+pub not_found : (handles : List (Option Grant)) (x : ℕ)
+    → ((i : ℕ) → i < length handles → option_map (λ (h : Grant). h.name) (slice_index_or handles i None) ≡ Some x → ⊥) → (k : ℕ)
     → kept_name handles k ≡ Some x → ⊥
 not_found handles x none zero e = cc
-not_found handles x none (suc k) e = elim (cases_lt k (length handles)) [
-  | inl l ↦ none k l e
-  | inr m ↦ let n = sym e ∙ ap (option_map (λ (h : Grant). h.name)) (get_or_past handles k None m) in cc
-]
+not_found handles x none (suc k) e = search (arith, cases_lt, length, option_map, get_or_past)
 
 -- where a live name begins
 pub offset_is : (x o : ℕ) (v : View) (r : Option ℕ) → IsLive x v → r ≡ option_map (λ (q : Range). q.offset) (range_of x v) → o ≡ unwrap_or r 0
     → option_map (λ (q : Range). q.offset) (range_of x v) ≡ Some o
-offset_is x o v r l e f = go (range_of x v) refl
-  where
-    go : (q : Option Range) → range_of x v ≡ q → option_map (λ (q : Range). q.offset) (range_of x v) ≡ Some o
-    go None h = absurd (false≢true (subst IsSome h l))
-    go (Some q) h = ap (option_map (λ (q : Range). q.offset)) h ∙ ap Some (sym (f ∙ ap (λ z. unwrap_or z 0) (e ∙ ap (option_map (λ (q : Range). q.offset)) h)))
+offset_is x o v r l e f = search (arith, option_map, false≢true, unwrap_or)

@@ -1,6 +1,7 @@
 -- A range that shrinks or grows: what is left agrees with the plain machine.
-use Rattle.std.proofs.Common.{◌≡◌, ◌≢◌, ℕ, zero, suc, ◌+◌, ◌-◌, ◌<◌, ◌≤◌, Bool, true, false, not, ◌&&◌, ◌||◌, ◌⊎◌, List, [], ◌∷◌, ◌++◌, length, Option, Some, None, nat_eq, nat_le, if◌then◌else◌, refl}
-use Rattle.std.proofs.Common.{sym, ap, ap₂, subst, subst₂, ◌∙◌, inl, inr, arith, le-leb, leb-true, leb-false, append-nil, length-append}
+use Rattle.std.proofs.Common.{◌≡◌, ◌≢◌, ℕ, zero, suc, ◌+◌, ◌-◌, ◌<◌, ◌≤◌, Bool, true, false, not, ◌&&◌, ◌||◌, ◌⊎◌, List, [], ◌∷◌, ◌++◌, length}
+use Rattle.std.proofs.Common.{Option, Some, None, nat_eq, nat_le, if◌then◌else◌, refl}
+use Rattle.std.proofs.Common.{sym, ap, ap₂, subst, ◌∙◌, inl, inr, arith, le-leb, leb-true, leb-false, append-nil, length-append}
 use Rattle.std.proofs.lemmas.Bool.{false≢true, and_parts, and_right}
 use Rattle.std.proofs.lemmas.List.{map-append}
 use Rattle.std.specs.List.{AllByRecursion}
@@ -21,20 +22,17 @@ use Rattle.offset_script.proofs.Ends.{AreFree, free_named, free_tagged, apart_ta
 use Rattle.offset_script.proofs.Labels.{names, tags, map_three}
 use Rattle.offset_script.proofs.Members.{map_parts}
 use Rattle.offset_script.proofs.Tests.{same_some}
-use Rattle.offset_script.proofs.Well.{IsWell, AreApart, apart_parts, apart_append, apart_free_block, count, count-append, count_free_block, ends_free, few_free, free_part as plain_part, found_at}
-use Rattle.offset_script.proofs.Well.{number_of, start_is, start_of, well_leaves}
-use Rattle.offset_script.proofs.Well as well
+use Rattle.offset_script.proofs.Lists.{AreApart, apart_parts, apart_append, count, count-append, count_free_block, ends_free, few_free, number_of, start_is, start_of}
+use Rattle.offset_script.proofs.Found.{found_at}
+use Rattle.offset_script.proofs.Well.{IsWell, apart_free_block, free_part as plain_part, well_leaves}
+use Rattle.offset_script.proofs.Lists as lists
 use Rattle.offset_calls.specs.Calls.{starts_free, can_shrink, can_grow, resized}
 
 -- lists without a free block at their start
 
-starts_after : (bs : List machine.Block) → AreApart bs → well.starts_free (without_start bs) ≡ false
+starts_after : (bs : List machine.Block) → AreApart bs → lists.starts_free (without_start bs) ≡ false
 starts_after [] a = refl
-starts_after (b ∷ bs) a = go (is_free b.tag) refl
-  where
-    go : (x : Bool) → is_free b.tag ≡ x → well.starts_free (without_start (b ∷ bs)) ≡ false
-    go true e = ap (λ x. well.starts_free (if x then bs else b ∷ bs)) e ∙ right_false (is_free b.tag) (well.starts_free bs) a.0 e
-    go false e = ap (λ x. well.starts_free (if x then bs else b ∷ bs)) e ∙ e
+starts_after (b ∷ bs) a = search (arith, right_false)
 
 apart_without : (bs : List machine.Block) → AreApart bs → AreApart (without_start bs)
 apart_without [] a = a
@@ -46,8 +44,7 @@ count_without t (b ∷ bs) = elim (is_free b.tag) as (λ x. count t (if x then b
 
 length_without : (bs : List machine.Block) → (length (without_start bs) ≤ length bs) × (starts_free bs ≡ true → length (without_start bs) + 1 ≡ length bs)
 length_without [] = (omega arith, λ e. absurd (false≢true e))
-length_without (b ∷ bs) = elim (is_free b.tag) as (λ x. (length (if x then bs else b ∷ bs) ≤ suc (length bs)) × (x ≡ true → length (if x then bs else b ∷ bs) + 1 ≡ suc (length bs)))
-    [ true ↦ (omega arith, λ e. omega arith) | false ↦ (omega arith, λ e. absurd (false≢true e)) ]
+length_without (b ∷ bs) = search (arith, length, false≢true)
 
 -- what a resized range leaves is well-formed
 pub well_resized : (s : State) → IsWell s → (k n : ℕ) (p : machine.Place) → machine.place_of k s.blocks ≡ Some p → (starts_free p.after ≡ true) ⊎ (is_short_of 1 s ≡ false)
@@ -59,7 +56,7 @@ well_resized s w k n p e fits = well_leaves s w blocks machine.Freed (omega (ari
       omega (arith, sizes, l, r, (plain_part left (stamp_of_call s)).3, ap length f.0, length-append p.before (p.block ∷ p.after)))
 ])
     (apart_append p.before _ parts.0 (
-      ap (λ t. is_free t && well.starts_free (machine.free_block left (stamp_of_call s) ++ without_start p.after)) tag,
+      ap (λ t. is_free t && lists.starts_free (machine.free_block left (stamp_of_call s) ++ without_start p.after)) tag,
       apart_free_block left (stamp_of_call s) (without_start p.after)
           (apart_without p.after parts.1.1) (starts_after p.after parts.1.1),
     )
@@ -85,13 +82,13 @@ well_resized s w k n p e fits = well_leaves s w blocks machine.Freed (omega (ari
     sizes : length blocks ≡ length p.before + suc (length (machine.free_block left (stamp_of_call s)) + length (without_start p.after))
     sizes = simp length-append
 
-    f : (s.blocks ≡ well.whole p) × (has_number k p.block.tag ≡ true) × (count (Live k) p.before ≡ 0)
+    f : (s.blocks ≡ lists.whole p) × (has_number k p.block.tag ≡ true) × (count (Live k) p.before ≡ 0)
     f = found_at k s.blocks p e
 
     tag : p.block.tag ≡ Live k
     tag = number_of k p.block.tag f.1
 
-    parts : AreApart p.before × (((is_free p.block.tag && well.starts_free p.after) ≡ false) × AreApart p.after) × ((ends_free p.before && is_free p.block.tag) ≡ false)
+    parts : AreApart p.before × (((is_free p.block.tag && lists.starts_free p.after) ≡ false) × AreApart p.after) × ((ends_free p.before && is_free p.block.tag) ≡ false)
     parts = apart_parts p.before (p.block ∷ p.after) (subst AreApart f.0 w.apart)
 
 -- a free block directly after, by names and by tags
@@ -101,11 +98,7 @@ free_some (l ∷ ls) e f = absurd (let h : (by_name l ∷ []) ≡ [] = sym (ap (
 
 some_free : (ls : List Label) → named.free_start (names ls) ≢ [] → starts_free (tags ls) ≡ true
 some_free [] f = absurd (f refl)
-some_free (l ∷ ls) f = go (is_free l.tag) refl
-  where
-    go : (x : Bool) → is_free l.tag ≡ x → is_free l.tag ≡ true
-    go true e = e
-    go false e = absurd (f (ap (λ x. if not (not x) then by_name l ∷ [] else []) e))
+some_free (l ∷ ls) f = search (arith, f, not, by_name)
 
 free_units : (ls : List Label) → units (named.free_start (names ls)) ≡ free_start (tags ls)
 free_units [] = refl
@@ -153,10 +146,7 @@ module _ (v : View) (kept_name : ℕ → Option ℕ) (s : State) (w : IsWellForm
       go false true f h p = absurd (false≢true p)
 
   pub can_grow_is : (n : ℕ) → CanGrow x n v → can_grow n (plain_place spot) ≡ true
-  can_grow_is n c =
-      let u = ap units after_found ∙ free_units spot.after in
-      let z = size_found in
-      ap₂ (λ a b. a && b) (le-leb spot.label.size n (let l = c.0 in omega arith)) (le-leb n (spot.label.size + free_start (tags spot.after)) (let l = c.1 in omega arith))
+  can_grow_is n c = search (arith, after_found, free_units, size_found, le-leb, tags)
 
   pub grow_can : (n : ℕ) → can_grow n (plain_place spot) ≡ true → CanGrow x n v
   grow_can n c =
@@ -189,16 +179,12 @@ module _ (v : View) (kept_name : ℕ → Option ℕ) (s : State) (w : IsWellForm
     sizes = f.whole ∙ ap units (ap₂ (λ (b : Block) bs. b ∷ bs) (sym (ap (λ (p : Place). p.block) place)) (sym back.3)) ∙ (let t = total_units back.0 in omega arith)
 
     same : SameSpace (replace v (names spot.before) (by_name spot.label ∷ names back.0) (names new) (names back.1)) u
-    same =
-        subst₂ (λ y z. SameSpace (replace v y (by_name spot.label ∷ names back.0) (names new) z) u) (sym (ap (λ (p : Place). p.before) place)) (sym back.4)
-        (subst₂ (λ y z. SameSpace (replace v f.before y z f.after) u) (ap₂ (λ (b : Block) bs. b ∷ bs) (sym (ap (λ (p : Place). p.block) place)) (sym back.3))
-        (sym (names_new 0 0 x n k f.name f.left (stamp_of_padding s))) f.view)
+    same = search (arith, by_name, names, back, place, f, names_new)
 
     split : s.blocks ≡ tags spot.before ++ (by_tag spot.label ∷ (tags back.0 ++ tags back.1))
-    split = g.state ∙ ap tags found.split ∙ map-append by_tag spot.before (spot.label ∷ spot.after)
-        ∙ ap (λ z. tags spot.before ++ (by_tag spot.label ∷ z)) (ap tags back.2 ∙ map-append by_tag back.0 back.1)
+    split = search (arith, tags, map-append, by_tag, back)
 
-    apart : AreApart (tags back.0) × AreApart (tags back.1) × ((ends_free (tags back.0) && well.starts_free (tags back.1)) ≡ false)
+    apart : AreApart (tags back.0) × AreApart (tags back.1) × ((ends_free (tags back.0) && lists.starts_free (tags back.1)) ≡ false)
     apart = apart_parts (tags back.0) (tags back.1) (apart_parts (tags spot.before) (by_tag spot.label ∷ (tags back.0 ++ tags back.1)) (subst AreApart split ws.apart)).1.1
 
     view_after : u.blocks ≡ names (spot.before ++ (new ++ back.1))
@@ -207,8 +193,8 @@ module _ (v : View) (kept_name : ℕ → Option ℕ) (s : State) (w : IsWellForm
     tags_after : tags (spot.before ++ (new ++ back.1)) ≡ tags spot.before ++ (machine.block n (Live k) ∷ (machine.free_block f.left (stamp_of_call s) ++ tags back.1))
     tags_after = map_three by_tag spot.before new back.1 ∙ ap (λ z. tags spot.before ++ (z ++ tags back.1)) (tags_new 0 0 x n k f.name f.left (stamp_of_padding s))
 
-    ends : (m : ℕ) → f.left ≡ m → well.starts_free (tags back.1) ≡ false
-    ends zero h = after_free back.0 (well.starts_free (tags back.1)) free apart.0 (let z = sizes in omega arith) apart.2
+    ends : (m : ℕ) → f.left ≡ m → lists.starts_free (tags back.1) ≡ false
+    ends zero h = after_free back.0 (lists.starts_free (tags back.1)) free apart.0 (let z = sizes in omega arith) apart.2
     ends (suc m) h =
         let a = subst AreApart (tags_after ∙ ap (λ l. tags spot.before ++ (machine.block n (Live k) ∷ (machine.free_block l (stamp_of_call s) ++ tags back.1))) h)
         (apart_tagged (spot.before ++ (new ++ back.1)) (subst IsApart view_after f.apart)) in
@@ -221,11 +207,7 @@ module _ (v : View) (kept_name : ℕ → Option ℕ) (s : State) (w : IsWellForm
         (ap without_start h ∙ r.0, ap free_start h ∙ r.1)
 
     state : (resized n s (plain_place spot)).state.blocks ≡ tags (spot.before ++ (new ++ back.1))
-    state =
-        ap₂ (λ (m : ℕ) z. tags spot.before ++ (machine.block n spot.label.tag ∷ (machine.free_block m (stamp_of_call s) ++ z)))
-        (let z = sizes in let y = start.1 in let h : spot.label.size + free_start (tags spot.after) - n ≡ f.left = omega arith in h) start.0
-        ∙ ap (λ t. tags spot.before ++ (machine.block n t ∷ (machine.free_block f.left (stamp_of_call s) ++ tags back.1))) found.tag
-        ∙ sym tags_after
+    state = search (arith, tags, sizes, start, f, back, tags_after)
 
     old_name : (j : ℕ) → name_of j (spot.label ∷ back.0) ≡ (if nat_eq j k then Some x else None)
     old_name j = ap (λ t. if has_number j t then Some spot.label.name else name_of j back.0) found.tag ∙ ap₂ (λ a o. if nat_eq j k then Some a else o) name (name_free j back.0 free)

@@ -1,5 +1,6 @@
 -- Releases in a row: the reply to the call after them.
-use Rattle.std.proofs.Common.{◌≡◌, ℕ, ◌+◌, ◌-◌, ◌≤◌, Bool, not, ◌&&◌, ◌||◌, List, [], ◌∷◌, ◌++◌, sum, Option, Some, None, is_some, nat_eq, nat_le, if◌then◌else◌, refl, sym, ap, ap₂, subst₂, ◌∙◌, inl}
+use Rattle.std.proofs.Common.{◌≡◌, ℕ, ◌+◌, ◌-◌, ◌≤◌, Bool, not, ◌&&◌, ◌||◌, List, [], ◌∷◌, ◌++◌, sum, Option, Some, None, is_some, nat_eq, nat_le}
+use Rattle.std.proofs.Common.{if◌then◌else◌, refl, sym, ap, ap₂, subst₂, ◌∙◌, inl}
 use Rattle.std.proofs.Common.{inr}
 use Rattle.offset_allocator.specs.declared.reports.Refusal.TheVariants.{Nodes}
 use Rattle.offset_script.specs.Histories.{IsCollapse, collapse, outline, releases}
@@ -40,7 +41,8 @@ module _ (s t : State) (a : IsSameSpace s t) where
       (same_place_of k k a.blocks.pairs (λ q i. same_number k q.kind (a.blocks.numbers q i)))
 
   resize_reply : (n : ℕ) (can can' : machine.Place → Bool) (o o' : Option machine.Place) → IsSamePlace (λ q. Unit {0}) a.blocks.pairs o o'
-      → ((xs : List Pair) (q : Pair) (ys : List Pair) → can (record { before = lefts xs; block = left q; after = lefts ys }) ≡ can' (record { before = rights xs; block = right q; after = rights ys }))
+      → ((xs : List Pair) (q : Pair) (ys : List Pair)
+      → can (record { before = lefts xs; block = left q; after = lefts ys }) ≡ can' (record { before = rights xs; block = right q; after = rights ys }))
       → without_offset (resize can n s o).reply ≡ without_offset (resize can' n t o').reply
   resize_reply n can can' None None neither same = refl
   resize_reply n can can' o o' (both xs q ys e f) same = if_same (λ (x y : Outcome). without_offset x.reply ≡ without_offset y.reply) (nat_eq n q.size) (nat_eq n q.size) _ _ _ _ refl (λ z. refl)
@@ -67,7 +69,8 @@ module _ (s t : State) (a : IsSameSpace s t) where
   next_reply (call.Refusal n) = ap Refused_for (reason_reply 1 n)
   next_reply (call.RefusalAligned n align) = ap₂ (λ x y. Refused_for (if nat_le align 1 then x else y)) (reason_reply 1 n) (reason_reply 2 (n + align - 1))
 
-pub rows_space : (size limit : ℕ) → 2 ≤ limit → (cs : List Call) (ks : List ℕ) → let s = after cs (start size limit) in outline (machine.after (releases ks) s).blocks ≡ collapse ks (outline s.blocks)
+pub rows_space : (size limit : ℕ) → 2 ≤ limit → (cs : List Call) (ks : List ℕ) → let s = after cs (start size limit) in
+    outline (machine.after (releases ks) s).blocks ≡ collapse ks (outline s.blocks)
 rows_space size limit h cs ks = releases_outline ks (after cs (start size limit)) (well_calls cs (start size limit) (well_start size limit h))
 
 pub rows_next : (size limit : ℕ) → 2 ≤ limit → (cs : List Call) (ks : List ℕ) (t : State) → let s = after cs (start size limit) in
@@ -75,4 +78,8 @@ pub rows_next : (size limit : ℕ) → 2 ≤ limit → (cs : List Call) (ks : Li
 rows_next size limit h cs ks t is =
     let s = after cs (start size limit) in
     let scalars = releases_scalars ks s in
-    next_reply (machine.after (releases ks) s) t (record { limit = scalars.0 ∙ sym is.limit; grants = scalars.1 ∙ sym is.grants; blocks = paired _ _ (rows_space size limit h cs ks ∙ sym is.blocks) })
+    next_reply (machine.after (releases ks) s) t (record {
+      limit = scalars.0 ∙ sym is.limit;
+      grants = scalars.1 ∙ sym is.grants;
+      blocks = paired _ _ (rows_space size limit h cs ks ∙ sym is.blocks);
+    })

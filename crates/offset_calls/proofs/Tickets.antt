@@ -1,14 +1,13 @@
 -- The handles of tickets, and what each call leaves of them.
-use Rattle.std.proofs.Common.{◌≡◌, ◌≢◌, ℕ, zero, suc, ◌+◌, ◌-◌, ◌<◌, Bool, true, false, ◌&&◌, List, [], ◌∷◌, ◌++◌, length, Option, Some, None, IsSome, IfSome, is_some, nat_eq, slice_get}
+use Rattle.std.proofs.Common.{◌≡◌, ◌≢◌, ℕ, zero, suc, ◌+◌, ◌<◌, Bool, ◌&&◌, List, [], ◌∷◌, ◌++◌, length, Option, Some, None, IfSome, is_some, nat_eq, slice_get}
 use Rattle.std.proofs.Common.{slice_index_or, slice_set, option_map, if◌then◌else◌, refl, sym, ap, ap₂, subst, ◌∙◌, inl, inr, arith, length-append}
 use Rattle.std.proofs.lemmas.Bool.{false≢true}
 use Rattle.std.proofs.lemmas.List.{map-append, length-map}
 use Rattle.offset_allocator.specs.View.{Grant, View, free_sizes}
-use Rattle.offset_allocator.specs.Ranges.{Range}
 use Rattle.offset_allocator.specs.Ranges as named
 use Rattle.offset_guarded.specs.declared.ticket.Ticket.{Ticket}
 use Rattle.offset_guarded.specs.Guard.{Guard, AreAlike, Grants, IsLive, IsSame, KeepsAll, KeepsLive, KeepsOthers, KeepsSerials, KeepsSizes, grant_of, range_of, serial_of}
-use Rattle.offset_guarded.proofs.Guards.{live_fits, live_name as live_named}
+use Rattle.offset_guarded.proofs.Guards.{live_fits}
 use Rattle.offset_allocator.specs.Reports.{rows_below}
 use Rattle.offset_allocator.specs.Relations.{Extends, Frees, Resets}
 use Rattle.offset_script.specs.declared.scripts.Command.{Command}
@@ -61,16 +60,15 @@ pub alike_range : (t u : Ticket) (g : Guard) → AreAlike t u → range_of t g �
 alike_range t u g a = ap₂ (λ x b. if b then named.range_of x g.space else None) a.0 (ap₂ (λ r c. nat_eq r g.realm && c) a.2 (ap₂ nat_eq a.1 (ap (λ x. serial_of x g) a.0)))
 
 -- the handle of a ticket that is freed is removed
-pub freed_handles : (g h : Guard) (t u : Ticket) (realm n : ℕ) (ts : List Ticket) (i : ℕ) → AreInOrder realm n ts → slice_get ts i ≡ Some u → AreAlike u t → KeepsOthers t g h → range_of t h ≡ None
+pub freed_handles : (g h : Guard) (t u : Ticket) (realm n : ℕ) (ts : List Ticket) (i : ℕ) → AreInOrder realm n ts → slice_get ts i ≡ Some u → AreAlike u t
+    → KeepsOthers t g h → range_of t h ≡ None
     → handles_of h ts ≡ slice_set (handles_of g ts) i None
 freed_handles g h t u realm n [] i o e a k gone = absurd (cc)
 freed_handles g h t u realm n (x ∷ ts) zero o e a k gone =
     let same : x ≡ u = cc in
     ap₂ (λ b l. handle_if b x ∷ l) (ap is_some (ap (λ x. range_of x h) same ∙ alike_range u t h a ∙ gone))
     (other_handles g h t realm (n + 1) ts o.2 k (λ i l d. let s = o.0 in let z = ap (λ (t : Ticket). t.serial) same in let y = a.1 in omega arith))
-freed_handles g h t u realm n (x ∷ ts) (suc i) o e a k gone =
-    ap₂ (λ b l. handle_if b x ∷ l) (ap is_some (k x (λ b. let s = o.0 in let r = (in_order realm (n + 1) ts o.2 i u e).0 in let y = a.1 in let z = b.1 in absurd (omega arith))))
-    (freed_handles g h t u realm (n + 1) ts i o.2 e a k gone)
+freed_handles g h t u realm n (x ∷ ts) (suc i) o e a k gone = search (arith, (freed_handles g h t u realm (n + 1) ts i o.2 e a k gone), is_some, in_order)
 
 -- one more ticket has one more handle
 pub more_handles : (size : ℕ) (g h : Guard) (ts : List Ticket) (t : Ticket) → IsLedger g ts → Grants size g h t → handles_of h (ts ++ t ∷ []) ≡ handles_of g ts ++ Some (grant_of t) ∷ []
@@ -79,10 +77,7 @@ more_handles size g h ts t is n =
     ∙ ap₂ (λ b l. l ++ handle_if b t ∷ []) (ap is_some n.range) (other_handles g h t g.realm 0 ts is.order n.others (λ i l d. let s = n.serial in let a = is.all in omega arith))
 
 pub more_ledger : (size : ℕ) (g h : Guard) (ts : List Ticket) (t : Ticket) → IsLedger g ts → Grants size g h t → IsLedger h (ts ++ t ∷ [])
-more_ledger size g h ts t is n = record {
-  order = subst (λ r. AreInOrder r 0 (ts ++ t ∷ [])) (sym n.realm.1) (order-append g.realm 0 ts t is.order (let s = n.serial in let a = is.all in omega arith) n.realm.0);
-  all = let s = n.serial in let v = n.given in let a = is.all in omega (arith, length-append ts (t ∷ []));
-}
+more_ledger size g h ts t is n = search (arith, order-append, length-append)
 
 -- at the start there is none
 pub no_tickets : (g : Guard) (ts : List Ticket) → ts ≡ [] → g.given ≡ 0 → IsLedger g ts
@@ -106,22 +101,11 @@ kept_of g ts (suc k) = at ts k
 
 -- a number with a kept name is that of a live ticket with this name
 pub kept_ticket : (g : Guard) (ts : List Ticket) (k x : ℕ) → kept_name (handles_of g ts) k ≡ Some x → (u : Ticket) × (ticket_of ts k ≡ Some u) × (u.name ≡ x) × IsLive u g
-kept_ticket g ts k x e = go (ticket_of ts k) refl
-  where
-    is_name : (b : Bool) (u : Ticket) → option_map (λ (h : Grant). h.name) (handle_if b u) ≡ Some x → (u.name ≡ x) × (b ≡ true)
-    is_name true u e = (cc, refl)
-    is_name false u e = absurd (cc)
-
-    go : (o : Option Ticket) → ticket_of ts k ≡ o → (u : Ticket) × (ticket_of ts k ≡ Some u) × (u.name ≡ x) × IsLive u g
-    go None f = absurd (let z = sym e ∙ kept_of g ts k ∙ ap (λ o. live_name o g) f in cc)
-    go (Some u) f = let r = is_name (is_some (range_of u g)) u (sym (ap (λ o. live_name o g) f) ∙ sym (kept_of g ts k) ∙ e) in (u, f, r.0, r.1)
+kept_ticket g ts k x e = search (arith, option_map, kept_of, is_some)
 
 -- and this name is live
 pub kept_live : (g : Guard) (ts : List Ticket) (k x : ℕ) → kept_name (handles_of g ts) k ≡ Some x → named.range_of x g.space ≡ None → ⊥
-kept_live g ts k x e none =
-    let u = kept_ticket g ts k x e in
-    let l : IsSome (named.range_of u.0.name g.space) = live_named u.0 g u.3 in
-    false≢true (sym (ap is_some (ap (λ x. named.range_of x g.space) u.2 ∙ none)) ∙ l)
+kept_live g ts k x e none = search (arith, kept_ticket, false≢true, is_some)
 
 -- it is the serial of that ticket
 pub kept_serial : (g : Guard) (ts : List Ticket) (k x : ℕ) → IsLedger g ts → kept_name (handles_of g ts) k ≡ Some x → serial_of x g ≡ k
@@ -137,21 +121,17 @@ kept_serial g ts (suc k) x is e =
 
 -- a refusal leaves all tickets as they were
 same_live : (g h : Guard) → IsSame g h → KeepsLive g h
-same_live g h same t = ap is_some (ap₂ (λ b r. if b then r else None)
-    (ap₂ (λ r s. nat_eq t.realm r && nat_eq t.serial s) same.1.realm (same.1.cells t.name)) (ap (named.range_of t.name) same.0))
+same_live g h same t = search (arith, is_some, nat_eq)
 
 -- a request
 pub stored : (n : ℕ) (g h : Guard) (ts us : List Ticket) (r : Option Ticket) (a : machine.Answer) → IsLedger g ts → IfSome r (Grants n g h) → (r ≡ None → IsSame g h) → IsStored r ts us a
-    → IsKept (option_map grant_of r) (handles_of g ts) (handles_of h us) a × IsLedger h us × IsGrown ts us
-stored n g h ts us None a is some none f = (
-  (ap (handles_of h) f.0 ∙ same_handles g h ts (same_live g h (none refl)), f.1),
-  subst (IsLedger h) (sym f.0) (same_ledger g h ts is (none refl).1.realm (none refl).1.given),
-  inl f.0,
-)
+    → IsKept (option_map grant_of r) (handles_of g ts) (handles_of h us) a × IsLedger h us × IsGrown ts us (Answer a) × (h.realm ≡ g.realm)
+stored n g h ts us None a is some none f = search (arith, same_handles, same_live, same_ledger)
 stored n g h ts us (Some t) a is some none f = (
   (ap (handles_of h) f.0 ∙ more_handles n g h ts t is some, f.1 ∙ ap (λ k. machine.Grant k t.offset) (sym (length-map us (handle_of h)))),
   subst (IsLedger h) (sym f.0) (more_ledger n g h ts t is some),
-  inr (t, f.0),
+  inr (t, f.0, ap Answer (f.1 ∙ ap (λ k. machine.Grant k t.offset) (ap length f.0 ∙ omega (arith, length-append ts (t ∷ []), is.all, some.serial)))),
+  some.realm.1,
 )
 
 -- the live name of a live ticket
@@ -160,62 +140,29 @@ live_named_by t g h = ap (λ b. option_map (λ (h : Grant). h.name) (handle_if b
 
 -- two live tickets with one name are of one grant
 pub alike : (t u : Ticket) (g : Guard) → IsLive t g → IsLive u g → u.name ≡ t.name → AreAlike u t
-alike t u g lt lu e =
-    let ft = live_fits t g lt in
-    let fu = live_fits u g lu in
-    (e, fu.1 ∙ ap (λ x. serial_of x g) e ∙ sym ft.1, fu.0 ∙ sym ft.0)
+alike t u g lt lu e = search (arith, live_fits)
 
 -- a release
-pub freed : (g h : Guard) (ts : List Ticket) (t : Ticket) (k : ℕ) → IsLedger g ts → IsNumberOf k (Some t) g ts → IsLive t g → Frees t.name g.space h.space → KeepsOthers t g h → range_of t h ≡ None
+pub freed : (g h : Guard) (ts : List Ticket) (t : Ticket) (k : ℕ) → IsLedger g ts → IsNumberOf k (Some t) g ts → IsLive t g → Frees t.name g.space h.space
+    → KeepsOthers t g h → range_of t h ≡ None
     → h ≡ record g { space = h.space }
     → Serves (call.Command (command.Free k)) g ts h ts (Answer machine.Freed)
-freed g h ts t k is is_number live frees others gone same = record {
-  takes = (machine.Freed, if_some (kept_name (handles_of g ts) k) t.name _ _ named_k (frees, left k u.1, refl), refl);
-  ledger = same_ledger g h ts is (ap (λ (g : Guard). g.realm) same) (ap (λ (g : Guard). g.given) same);
-  grown = inl refl;
-}
-  where
-    named_k : kept_name (handles_of g ts) k ≡ Some t.name
-    named_k = is_number ∙ live_named_by t g live
-
-    u : (u : Ticket) × (ticket_of ts k ≡ Some u) × (u.name ≡ t.name) × IsLive u g
-    u = kept_ticket g ts k t.name named_k
-
-    left : (k : ℕ) → ticket_of ts k ≡ Some u.0 → handles_of h ts ≡ slice_set (handles_of g ts) (k - 1) None
-    left zero e = absurd (cc)
-    left (suc i) e = freed_handles g h t u.0 g.realm 0 ts i is.order e (alike t u.0 g live u.3 u.2) others gone
-        ∙ ap (λ j. slice_set (handles_of g ts) j None) (let f : i ≡ suc i - 1 = omega arith in f)
+freed g h ts t k is is_number live frees others gone same = search (arith, if_some, same_ledger, live_named_by, kept_ticket, slice_set, freed_handles, alike)
 
 -- a reset
 pub emptied : (g h : Guard) (ts : List Ticket) → IsLedger g ts → Resets g.space h.space → ((t : Ticket) → range_of t h ≡ None) → h ≡ record g { space = h.space }
     → Serves (call.Command command.Reset) g ts h ts (Answer machine.Reset)
-emptied g h ts is resets gone same = record {
-  takes = (machine.Reset, (resets, length-map ts (handle_of h) ∙ sym (length-map ts (handle_of g)), λ k. kept_of h ts k ∙ none (ticket_of ts k), refl), refl);
-  ledger = same_ledger g h ts is (ap (λ (g : Guard). g.realm) same) (ap (λ (g : Guard). g.given) same);
-  grown = inl refl;
-}
-  where
-    none : (o : Option Ticket) → live_name o h ≡ None
-    none None = refl
-    none (Some t) = ap (λ b. option_map (λ (h : Grant). h.name) (handle_if b t)) (ap is_some (gone t))
+emptied g h ts is resets gone same = search (arith, length-map, kept_of, same_ledger, option_map, is_some)
 
 -- an extension
 pub extended : (more : ℕ) (g h : Guard) (ts : List Ticket) (done : Bool) (a : machine.Answer) → IsLedger g ts → Extends more g.space h.space done → KeepsAll g h → KeepsSerials g h
     → a ≡ (if done then machine.Extended else machine.Refused)
     → Serves (call.Command (command.Extend more)) g ts h ts (Answer a)
-extended more g h ts done a is extends keeps same e = record {
-  takes = (a, (done, extends, same_handles g h ts (λ t. ap is_some (keeps t)), e), refl);
-  ledger = same_ledger g h ts is same.realm same.given;
-  grown = inl refl;
-}
+extended more g h ts done a is extends keeps same e = search (arith, same_handles, is_some, same_ledger)
 
 -- where sizes stay, tickets do
 pub sizes_live : (g h : Guard) → KeepsSizes g h → KeepsLive g h
-sizes_live g h same t = sym (some_size (range_of t h)) ∙ ap is_some (same t) ∙ some_size (range_of t g)
-  where
-    some_size : (o : Option Range) → is_some (option_map (λ (r : Range). r.size) o) ≡ is_some o
-    some_size None = refl
-    some_size (Some r) = refl
+sizes_live g h same t = search (arith, is_some, option_map)
 
 -- why a request is refused
 pub refusal_serves : (g : Guard) (ts : List Ticket) (c : Call) (k n : ℕ) (v : View) (why : Option Refusal) → IsLedger g ts → c ≡ call.Refusal n → v ≡ g.space → IsReason 1 n v why
@@ -224,6 +171,7 @@ refusal_serves g ts c k n v why is e f r = subst (λ c. Serves (renumber (λ j. 
   takes = ((refl, refl), (why, subst (λ v. IsReason 1 n v why) f r, refl));
   ledger = is;
   grown = inl refl;
+  realm = refl;
 })
 
 pub refusal_aligned_serves : (g : Guard) (ts : List Ticket) (c : Call) (k n align : ℕ) (v : View) (why : Option Refusal) → IsLedger g ts → c ≡ call.RefusalAligned n align → v ≡ g.space
@@ -233,13 +181,10 @@ refusal_aligned_serves g ts c k n align v why is e f r = subst (λ c. Serves (re
   takes = ((refl, refl), (why, subst (λ v. IsReason (blocks_needed align) (units_needed n align) v why) f r, refl));
   ledger = is;
   grown = inl refl;
+  realm = refl;
 })
 
 -- a full report
 pub full_serves : (g : Guard) (ts : List Ticket) (c : Command) (k : ℕ) (v : View) (a : machine.Answer) → IsLedger g ts → c ≡ command.Full → v ≡ g.space
     → a ≡ machine.Full (rows_below 256 (free_sizes v.blocks)) → Serves (call.Command (script.renumber (λ j. k) c)) g ts g ts (Answer a)
-full_serves g ts c k v a is e f r = subst (λ c. Serves (call.Command (script.renumber (λ j. k) c)) g ts g ts (Answer a)) (sym e) (record {
-  takes = (a, ((refl, refl), r ∙ ap (λ (v : View). machine.Full (rows_below 256 (free_sizes v.blocks))) f), refl);
-  ledger = is;
-  grown = inl refl;
-})
+full_serves g ts c k v a is e f r = search (arith)

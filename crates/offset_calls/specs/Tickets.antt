@@ -1,6 +1,7 @@
 -- Calls on a guarded allocator: the tickets of its grants, and what a call that passes any ticket means.
 use Rattle.std.specs.Prelude.{◌≡◌, ℕ, zero, suc, ◌+◌, Bool, false, ◌&&◌, ◌⊎◌, List, [], ◌∷◌, ◌++◌, length, map, Option, Some, None, is_some, nat_eq, slice_get, option_map, option_and_then}
 use Rattle.std.specs.Prelude.{if◌then◌else◌}
+use Rattle.std.specs.List.{Contains}
 use Rattle.std.specs.Option.{option_map_or, option_or}
 use Rattle.offset_allocator.specs.View.{Grant}
 use Rattle.offset_guarded.specs.declared.ticket.Ticket.{Ticket}
@@ -12,7 +13,7 @@ use Rattle.offset_script.specs.Machine as machine
 use Rattle.offset_calls.specs.declared.calls.Call.{Call}
 use Rattle.offset_calls.specs.declared.calls.Call.TheVariants as call
 use Rattle.offset_calls.specs.declared.guarded.TicketCall.{TicketCall}
-use Rattle.offset_calls.specs.Calls.{Reply}
+use Rattle.offset_calls.specs.Calls.{Answer, Reply}
 use Rattle.offset_calls.specs.Histories.{renumber}
 use Rattle.offset_calls.specs.Steps.{Takes}
 
@@ -54,6 +55,10 @@ number_in other = 0
 abbrev pub passed : List Ticket → TicketCall → Option Ticket
 passed ts c = option_or c.ticket (ticket_of ts (number_in c.call))
 
+-- one of the replies is the grant of this ticket, with its number and its offset
+abbrev pub IsGrantOf : List Reply → Ticket → Type 0
+IsGrantOf rs t = Contains rs (Answer (machine.Grant t.serial t.offset))
+
 -- ---- tickets that are kept
 
 -- the handle of a live ticket
@@ -82,16 +87,17 @@ live_name o g = option_and_then (λ (t : Ticket). option_map (λ (h : Grant). h.
 abbrev pub IsNumberOf : ℕ → Option Ticket → Guard → List Ticket → Type 0
 IsNumberOf k o g ts = kept_name (handles_of g ts) k ≡ live_name o g
 
--- there is at most one more ticket
-abbrev pub IsGrown : List Ticket → List Ticket → Type 0
-IsGrown ts us = (us ≡ ts) ⊎ ((t : Ticket) × (us ≡ ts ++ t ∷ []))
+-- there is at most one more ticket: that of the grant which the reply reports
+abbrev pub IsGrown : List Ticket → List Ticket → Reply → Type 0
+IsGrown ts us r = (us ≡ ts) ⊎ ((t : Ticket) × (us ≡ ts ++ t ∷ []) × (r ≡ Answer (machine.Grant t.serial t.offset)))
 
 -- the step of a call from one guarded allocator to the next, with this reply: before it the tickets of the grants so
--- far are those in `ts`, and after it those in `us`
+-- far are those in `ts`, and after it those in `us`; the realm stays
 pub record Serves (c : Call) (g : Guard) (ts : List Ticket) (h : Guard) (us : List Ticket) (r : Reply) : Type 0 where
   pub takes : Takes c g.space (handles_of g ts) h.space (handles_of h us) r
   pub ledger : IsLedger h us
-  pub grown : IsGrown ts us
+  pub grown : IsGrown ts us r
+  pub realm : h.realm ≡ g.realm
 
 -- the answer to a request with this result; the ticket of a grant is kept
 abbrev pub IsStored : Option Ticket → List Ticket → List Ticket → machine.Answer → Type 0

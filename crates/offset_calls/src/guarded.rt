@@ -1,10 +1,10 @@
 //! Plays calls on a guarded allocator. Each call may pass any ticket.
 
-ghost use Rattle.std.specs.Prelude.{◌≡◌, ◌+◌, ◌<◌, ◌≤◌, All, IfOk, IsTrue, Some, map};
+ghost use Rattle.std.specs.Prelude.{◌≡◌, ◌+◌, ◌<◌, ◌≤◌, All, IfOk, IsTrue, Some, length, map};
 ghost use Rattle.offset_guarded.specs.declared.ticket.Ticket.{Ticket};
 ghost use Rattle.offset_script.specs.Machine.{start};
-ghost use Rattle.offset_calls.specs.Calls.{is_valid, replies, reply_view};
-ghost use Rattle.offset_calls.specs.Tickets.{meant, number_in, passed, ticket_of};
+ghost use Rattle.offset_calls.specs.Calls.{after, is_valid, replies, reply_view};
+ghost use Rattle.offset_calls.specs.Tickets.{AreInOrder, IsGrantOf, meant, number_in, passed, ticket_of};
 
 use crate::calls::{Call, Reply};
 use crate::desk::{Desk, reply};
@@ -89,8 +89,15 @@ pub fn play_guarded<NI: NodeIndex>(
     requires valid { All (λ c. IsTrue (is_valid c.call)) calls.now }
     // The replies are those of the plain machine to these calls, from one free block of `size` units, where each ticket
     // means the number of the grant that gave it, or no grant.
-    ensures { IfOk result (λ p. map reply_view p.replies.items
+    ensures replies { IfOk result (λ p. map reply_view p.replies.items
         ≡ replies (map (meant p.tickets.items) calls.now) (start size max_allocs)) }
+    // There is a ticket for each grant. They have this realm, in order the serials from 1 on, and each the offset that
+    // is replied.
+    ensures tickets { IfOk result (λ p. AreInOrder realm 0 p.tickets.items) }
+    ensures count { IfOk result (λ p. length p.tickets.items
+        ≡ (after (map (meant p.tickets.items) calls.now) (start size max_allocs)).grants) }
+    ensures offsets { IfOk result (λ p.
+        All (IsGrantOf (map reply_view p.replies.items)) p.tickets.items) }
 {
     let mut desk: Desk<NI> = Desk {
         space: Guarded::with_max_allocs(alloc, size, max_allocs, realm)?,

@@ -1,5 +1,6 @@
 -- Which tickets are live, and what a grant leaves of them.
-use Rattle.std.proofs.Common.{◌≡◌, ◌≢◌, ℕ, ◌+◌, ◌<◌, ◌≤◌, length, Bool, true, false, ◌&&◌, List, [], ◌∷◌, Option, Some, None, IsSome, nat_eq, option_map, slice_set, if◌then◌else◌, refl, sym}
+use Rattle.std.proofs.Common.{◌≡◌, ◌≢◌, ℕ, ◌+◌, ◌<◌, ◌≤◌, length, Bool, true, false, ◌&&◌, List, [], ◌∷◌, Option, Some, None, IsSome, nat_eq, option_map}
+use Rattle.std.proofs.Common.{slice_set, if◌then◌else◌, refl, sym}
 use Rattle.std.proofs.Common.{ap, ap₂, subst, ◌∙◌, inl, inr, arith, eq-eqb, ne_eqb}
 use Rattle.std.proofs.lemmas.Bool.{cases_eq, eqb-true, and_parts}
 use Rattle.std.proofs.lemmas.List.{get_or-set_same, get_or-set_other}
@@ -42,12 +43,7 @@ no_realm t g n = ap (λ b. b && nat_eq t.serial (serial_of t.name g)) (ne_eqb t.
 
 -- a live ticket fits
 pub live_fits : (t : Ticket) (g : Guard) → IsLive t g → (t.realm ≡ g.realm) × (t.serial ≡ serial_of t.name g)
-live_fits t g h = let p = and_parts (nat_eq t.realm g.realm) (nat_eq t.serial (serial_of t.name g)) (fits_if (fits t g) (named.range_of t.name g.space) h) in
-    (eqb-true t.realm g.realm p.0, eqb-true t.serial (serial_of t.name g) p.1)
-  where
-    fits_if : (b : Bool) (o : Option Range) → IsSome (range_if b o) → b ≡ true
-    fits_if true o h = refl
-    fits_if false o h = cc
+live_fits t g h = search (arith, and_parts, nat_eq, eqb-true)
 
 -- a live ticket has a live name
 pub live_name : (t : Ticket) (g : Guard) → IsLive t g → named.IsLive t.name g.space
@@ -68,25 +64,19 @@ pub is_named : (x : ℕ) (v : View) → named.IsLive x v → 1 ≤ count_named x
 is_named x v h = elim (cases_eq (count_named x v.blocks) 0) [ inl e ↦ absurd (no_range x v e h) | inr n ↦ omega arith ]
 
 -- no ticket with a name above the largest is live
-pub no_such : (max : ℕ) (ticket : Ticket) (g : Guard) (v : View) (t : Table) (realm : ℕ) → guard v t realm ≡ g → v.max_allocs < max → IsWellFormed v → max ≤ ticket.name → IsLive ticket g → ⊥
+pub no_such : (max : ℕ) (ticket : Ticket) (g : Guard) (v : View) (t : Table) (realm : ℕ) → guard v t realm ≡ g → v.max_allocs < max → IsWellFormed v
+    → max ≤ ticket.name → IsLive ticket g → ⊥
 no_such max ticket g v t realm shows admitted w above h = no_range ticket.name v (w.below ticket.name (omega arith)) (live_name ticket (guard v t realm) (subst (IsLive ticket) (sym shows) h))
 
 -- the serials after one more
 pub cell_set : (cells : List ℕ) (name s x : ℕ) → name < length cells → cell x (slice_set cells name s) ≡ (if nat_eq x name then s else cell x cells)
-cell_set cells name s x l = elim (cases_eq x name) [
-  | inl e ↦ rw (eq-eqb x name e) (ap (λ i. cell i (slice_set cells name s)) e ∙ get_or-set_same cells name s 0 l)
-  | inr n ↦ rw (ne_eqb x name n) (get_or-set_other cells name x s 0 n)
-]
+cell_set cells name s x l = search (arith, cases_eq, eq-eqb, slice_set, get_or-set_same, ne_eqb, get_or-set_other)
 
 -- the serials after the next one is given to the name y, from cells that are those of t
 pub cell_given : (made next t : Table) (y name x : ℕ) → next ≡ record made { cells = slice_set made.cells y (made.given + 1); given = made.given + 1 } → y ≡ name → y < length made.cells
     → made.given ≡ t.given → cell x made.cells ≡ cell x t.cells
     → cell x next.cells ≡ (if nat_eq x name then t.given + 1 else cell x t.cells)
-cell_given made next t y name x e same l given cells =
-    ap (λ (t : Table). cell x t.cells) e
-    ∙ cell_set made.cells y (made.given + 1) x l
-    ∙ ap (λ k. if nat_eq x k then made.given + 1 else cell x made.cells) same
-    ∙ ap₂ (λ a b. if nat_eq x name then a + 1 else b) given cells
+cell_given made next t y name x e same l given cells = search (arith, cell_set, nat_eq)
 
 -- a request leaves the node limit
 pub same_limit : (n align : ℕ) (v w : View) (h : Grant) → Aligns n align v w (Some h) → w.max_allocs ≡ v.max_allocs
@@ -105,48 +95,23 @@ module _ (max n realm : ℕ) (v w : View) (t u : Table) (h : Grant) (is : IsGuar
 
   -- the fields agree after the grant
   pub issued : w.max_allocs ≡ v.max_allocs → u.room ≡ t.room → IsGuarded max w u
-  issued limit room = record {
-    live = λ x l. elim (cases_eq x h.name) [
-      | inl e ↦ let c = here x e in omega arith
-      | inr n ↦ let c = there x n in let o = is.live x (subst IsSome (g.others x n) l) in omega arith
-    ];
-    given = λ x. elim (cases_eq x h.name) [
-      | inl e ↦ let c = here x e in omega arith
-      | inr n ↦ let c = there x n in let o = is.given x in omega arith
-    ];
-    memory = let m = is.memory in omega arith;
-    admitted = let m = is.admitted in omega arith;
-  }
+  issued limit room = search (arith, cases_eq, here, there)
 
   -- the ticket of the grant
   abbrev ticket : Ticket
   ticket = record { offset = h.offset; name = h.name; serial = t.given + 1; realm = realm }
 
   no_other : (z : Ticket) → (AreAlike z ticket → ⊥) → z.name ≡ h.name → fits z (guard w u realm) ≡ false
-  no_other z d e = elim (cases_eq z.serial (t.given + 1)) [
-    | inr n ↦ no_serial z (guard w u realm) (λ q. n (q ∙ here z.name e))
-    | inl s ↦ no_realm z (guard w u realm) (λ r. d (e, s, r))
-  ]
+  no_other z d e = search (arith, cases_eq, no_serial, here, no_realm)
 
   pub others : KeepsOthers ticket (guard v t realm) (guard w u realm)
-  others z d = elim (cases_eq z.name h.name) [
-    | inl e ↦ ap (λ b. range_if b (named.range_of z.name w)) (no_other z d e) ∙ sym (none_if (fits z (guard v t realm)) (named.range_of z.name v) (ap (λ x. named.range_of x v) e ∙ g.not_live))
-    | inr m ↦ ap₂ (λ s r. range_if (nat_eq z.realm realm && nat_eq z.serial s) r) (there z.name m) (g.others z.name m)
-  ]
+  others z d = search (arith, cases_eq, no_other, none_if, nat_eq, there)
 
   fit : fits ticket (guard w u realm) ≡ true
   fit = ap₂ (λ a b. a && b) (eq-eqb realm realm refl) (eq-eqb (t.given + 1) (cell h.name u.cells) (sym (here h.name refl)))
 
   pub granted : Grants n (guard v t realm) (guard w u realm) ticket
-  granted = record {
-    serial = refl;
-    given = given;
-    realm = (refl, refl);
-    not_live = none_if (fits ticket (guard v t realm)) (named.range_of h.name v) g.not_live;
-    range = ap (λ b. range_if b (named.range_of h.name w)) fit ∙ g.range;
-    space = g;
-    others = others;
-  }
+  granted = search (arith, none_if, fit, others)
 
   pub granted_as : (g : Guard) (z : Ticket) → guard v t realm ≡ g → z ≡ ticket → Grants n g (guard w u realm) z
   granted_as g z shows same = subst (λ g. Grants n g (guard w u realm) z) shows (subst (λ z. Grants n (guard v t realm) (guard w u realm) z) (sym same) granted)

@@ -4,7 +4,9 @@ use Rattle.std.proofs.Common.{ne_eqb, eq-eqb, append-nil}
 use Rattle.offset_allocator.specs.View.{one}
 use Rattle.std.proofs.lemmas.Bool.{cases_eq, true≢false, false≢true}
 use Rattle.offset_script.specs.Machine.{Tag, Live, Free, Block, block, is_free, has_number, total, Place, place_of, free_block, coalesce}
-use Rattle.offset_script.proofs.Well.{count, hit, whole, found_at, count-append, number_hit, granted_blocks, total-append, AreFree, coalesced}
+use Rattle.offset_script.proofs.Lists.{count, hit, whole, count-append, total-append, AreFree, coalesced}
+use Rattle.offset_script.proofs.Found.{found_at, number_hit}
+use Rattle.offset_script.proofs.Well.{granted_blocks}
 use Rattle.offset_lives.specs.Lives.{range_of}
 
 -- the first of two options that is not `None`

@@ -10,7 +10,9 @@ use Rattle.offset_script.specs.Machine.{stamp_of_call, stamp_of_padding, is_shor
 use Rattle.offset_script.specs.Machine as machine
 use Rattle.offset_script.specs.Histories.{KeepsSpace}
 use Rattle.offset_script.specs.Totals.{requested_units}
-use Rattle.offset_script.proofs.Well.{IsWell, not_there, count, whole, chosen_at, count-append, not_found}
+use Rattle.offset_script.proofs.Lists.{count, whole, count-append}
+use Rattle.offset_script.proofs.Found.{chosen_at, not_found}
+use Rattle.offset_script.proofs.Well.{IsWell, not_there}
 use Rattle.offset_script.proofs.Nests.{IsQuiet, does, IsGranted}
 use Rattle.offset_lives.specs.Lives.{Life, life_of_answer, lives_from, lives_of, range_of, blocks_after, is_on, IsSeen}
 use Rattle.offset_lives.specs.Lives as lives

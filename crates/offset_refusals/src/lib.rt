@@ -34,8 +34,8 @@ pub extern "C" fn offset_calls(alloc: Global, text: &[u8], cells: &mut [u64]) ->
     code(allocators::make_and_call(alloc, text, &mut cells.iter_mut()))
 }
 
-/// Makes an allocator so, then twice makes 3,000 requests and a reset, and puts the numbers of grants, and the report in
-/// the end, into the cells.
+/// Makes an allocator so, then twice makes 3,000 requests and a reset, and puts the numbers of grants, and the report
+/// in the end, into the cells.
 #[unsafe(no_mangle)]
 pub extern "C" fn offset_fill(alloc: Global, text: &[u8], cells: &mut [u64]) -> u32 {
     code(allocators::make_and_fill(alloc, text, &mut cells.iter_mut()))

@@ -1,6 +1,7 @@
 -- What each call of the allocator leaves agrees with what the plain machine leaves, and the answers are the same.
-use Rattle.std.proofs.Common.{◌≡◌, ℕ, zero, suc, ◌+◌, ◌-◌, ◌<◌, ◌≤◌, Bool, true, false, not, ◌&&◌, ◌||◌, ◌⊎◌, List, [], ◌∷◌, ◌++◌, replicate, length, sum, Option, Some, None, nat_eq, nat_lt, nat_le}
-use Rattle.std.proofs.Common.{if◌then◌else◌, refl, sym, ap, ap₂, subst, subst₂, ◌∙◌, inl, inr, arith, eq-eqb, ne_eqb, le-leb, le-ltb, leb-false, append_assoc, append-nil}
+use Rattle.std.proofs.Common.{◌≡◌, ℕ, zero, suc, ◌+◌, ◌-◌, ◌<◌, ◌≤◌, Bool, true, false, not, ◌&&◌, ◌||◌, ◌⊎◌, List, [], ◌∷◌, ◌++◌, replicate, length}
+use Rattle.std.proofs.Common.{sum, Option, Some, None, nat_eq, nat_lt, nat_le}
+use Rattle.std.proofs.Common.{if◌then◌else◌, refl, sym, ap, ap₂, subst, ◌∙◌, inl, inr, arith, eq-eqb, ne_eqb, le-leb, le-ltb, leb-false, append_assoc, append-nil}
 use Rattle.offset_script.proofs.Tests.{same_some}
 use Rattle.std.specs.Option.{option_or}
 use Rattle.offset_allocator.proofs.ViewApart.{and_true}
@@ -16,8 +17,10 @@ use Rattle.offset_allocator.proofs.Reading.{size_at}
 use Rattle.offset_allocator.specs.Requests.{HasRoomFor, CanGrant, blocks_needed, units_needed}
 use Rattle.offset_allocator.specs.Relations.{SameSpace, Serves, Frees, Adds, CanExtend, Extends}
 use Rattle.offset_script.proofs.Agreement.{Label, by_name, by_tag, stamp_of, IsFalling, name_of, HasBlocksOf}
-use Rattle.offset_script.proofs.Well.{IsWell, found_at, not_found, number_of, not_there, count, count-append, hit, hit_self, apart_parts, end_of, start_of, coalesce_parts, chosen_at}
-use Rattle.offset_script.proofs.Well as well
+use Rattle.offset_script.proofs.Lists.{number_of, count, count-append, hit, hit_self, apart_parts, end_of, start_of, coalesce_parts}
+use Rattle.offset_script.proofs.Found.{found_at, not_found, chosen_at}
+use Rattle.offset_script.proofs.Well.{IsWell, not_there}
+use Rattle.offset_script.proofs.Lists as lists
 use Rattle.std.specs.List.{AllByRecursion}
 use Rattle.std.proofs.lemmas.List.{map-append, length-map, get_or-replicate, get_or_past, length-replicate}
 use Rattle.offset_allocator.proofs.Tallies.{tally_append}
@@ -81,18 +84,14 @@ abbrev pub new_labels : (front padding x n k rest left t : ℕ) → List Label
 new_labels front padding x n k rest left t = free_labels front padding t ++ live_label x n k ∷ free_labels rest left (t + 1)
 
 pub names_new : (front padding x n k rest left t : ℕ) → names (new_labels front padding x n k rest left t) ≡ free_part front padding ++ used_block x n ∷ free_part rest left
-names_new front padding x n k rest left t = map-append by_name (free_labels front padding t) _
-    ∙ ap₂ (λ a b. a ++ used_block x n ∷ b) (names_free_labels front padding t) (names_free_labels rest left (t + 1))
+names_new front padding x n k rest left t = search (arith, map-append, by_name, names_free_labels)
 
-pub tags_new : (front padding x n k rest left t : ℕ) → tags (new_labels front padding x n k rest left t) ≡ machine.free_block padding t ++ machine.block n (Live k) ∷ machine.free_block left (t + 1)
-tags_new front padding x n k rest left t = map-append by_tag (free_labels front padding t) _
-    ∙ ap₂ (λ a b. a ++ machine.block n (Live k) ∷ b) (tags_free_labels front padding t) (tags_free_labels rest left (t + 1))
+pub tags_new : (front padding x n k rest left t : ℕ)
+    → tags (new_labels front padding x n k rest left t) ≡ machine.free_block padding t ++ machine.block n (Live k) ∷ machine.free_block left (t + 1)
+tags_new front padding x n k rest left t = search (arith, map-append, by_tag, tags_free_labels)
 
 pub name_new : (j front padding x n k rest left t : ℕ) → name_of j (new_labels front padding x n k rest left t) ≡ (if nat_eq j k then Some x else None)
-name_new j front padding x n k rest left t =
-    name_append j (free_labels front padding t) (live_label x n k ∷ free_labels rest left (t + 1))
-    ∙ ap (λ o. option_or o (name_of j (live_label x n k ∷ free_labels rest left (t + 1)))) (name_free_labels j front padding t)
-    ∙ ap (λ o. if nat_eq j k then Some x else o) (name_free_labels j rest left (t + 1))
+name_new j front padding x n k rest left t = search (arith, name_append, name_of, name_free_labels, nat_eq)
 
 rises_remainder : (x n t u : ℕ) → t ≤ u → AreRising t (free_labels x n u)
 rises_remainder x zero t u l = tt
@@ -104,9 +103,7 @@ rises_new front (suc padding) x n k rest left t = (λ e. absurd (true≢false e)
 
 -- other names of grants stay
 pub name_replaced : (j : ℕ) (before old new after : List Label) → name_of j old ≡ name_of j new → name_of j (before ++ (old ++ after)) ≡ name_of j (before ++ (new ++ after))
-name_replaced j before old new after e =
-    name_append j before (old ++ after) ∙ ap (option_or (name_of j before)) (name_append j old after ∙ ap (λ o. option_or o (name_of j after)) e ∙ sym (name_append j new after))
-    ∙ sym (name_append j before (new ++ after))
+name_replaced j before old new after e = search (arith, name_append, name_of)
 
 -- a request has the same answer, and what it leaves agrees
 pub record IsMatch (u : View) (kept_name : ℕ → Option ℕ) (grants : ℕ) (r : Option Grant) (p : machine.Outcome) : Type 0 where
@@ -123,9 +120,7 @@ module _ (v : View) (kept_name : ℕ → Option ℕ) (s : State) (w : IsWellForm
   labelled = record { view = g.view; newest = g.newest }
 
   low : (ls : List Label) → g.labels ≡ ls → (x : ℕ) → stamp_of x ls < stamp_of_padding s
-  low ls e = subst (λ ls. (x : ℕ) → stamp_of x ls < stamp_of_padding s) e
-      (stamps_below (stamp_of_padding s) g.labels (λ x. subst (λ bs. named.count_named x bs ≤ 1) g.view (w.distinct x))
-      (λ x b. subst (λ bs. count (Free x) bs ≡ 0) g.state (not_there s ws (Free x) (λ o. absurd (omega arith)))) (omega arith))
+  low ls e = search (arith, stamp_of, stamps_below, count, not_there)
 
   newest_at : (ls : List Label) → g.labels ≡ ls → (c : ℕ) → IsFalling (λ x. stamp_of x ls) (bin_at v.order c)
   newest_at ls e = subst (λ ls. (c : ℕ) → IsFalling (λ x. stamp_of x ls) (bin_at v.order c)) e g.newest
@@ -142,7 +137,8 @@ module _ (v : View) (kept_name : ℕ → Option ℕ) (s : State) (w : IsWellForm
       state = state;
       limit = limit ∙ g.limit ∙ sym (ap (λ (x : View). x.max_allocs) same);
       newest = λ c. subst (λ o. IsFalling (λ x. stamp_of x (before ++ (new ++ after))) (bin_at o c)) (sym (ap (λ (x : View). x.order) same))
-          (newest_replaced v before old new after w (g.view ∙ ap names e) (λ x. subst (λ bs. named.count_named x bs ≤ 1) view (w'.distinct x)) (stamp_of_padding s) (low _ e) rises (newest_at _ e) c);
+          (newest_replaced v before old new after w (g.view ∙ ap names e) (λ x. subst (λ bs. named.count_named x bs ≤ 1) view (w'.distinct x)) (stamp_of_padding s)
+          (low _ e) rises (newest_at _ e) c);
       handles = handles;
     }
       where
@@ -181,20 +177,11 @@ module _ (v : View) (kept_name : ℕ → Option ℕ) (s : State) (w : IsWellForm
             ))
 
         handles : (j : ℕ) → with_name k sp.label.name kept_name j ≡ name_of j (sp.before ++ (new ++ sp.after))
-        handles j = elim (cases_eq j k) [
-          | inl i ↦ subst (λ k'. with_name k sp.label.name kept_name k' ≡ name_of k' (sp.before ++ (new ++ sp.after))) (sym i)
-              (rw (eq-eqb k k refl)
-              (sym (name_append k sp.before (new ++ sp.after)
-              ∙ ap₂ option_or first
-              (name_append k new sp.after ∙ ap (λ o. option_or o (name_of k sp.after))
-              (name_new k front padding sp.label.name n k rest left (stamp_of_padding s) ∙ ap (λ (b : Bool). if b then Some sp.label.name else None) (eq-eqb k k refl))))))
-          | inr i ↦ rw (ne_eqb j k i)
-              (g.handles j ∙ ap (name_of j) e ∙ name_replaced j sp.before (sp.label ∷ []) new sp.after
-              (name_skip j sp.label [] f ∙ sym (name_new j front padding sp.label.name n k rest left (stamp_of_padding s) ∙ ap (λ (b : Bool). if b then Some sp.label.name else None) (ne_eqb j k i))))
-        ]
+        handles j = search (arith, cases_eq, k, name_of, new, eq-eqb, name_append, first, name_new, left, ne_eqb, name_replaced, name_skip)
 
     -- what becomes free, between lists that end and start with free blocks
-    coalesced_agrees : (front before left old back right after : List Label) (x n size : ℕ) → g.labels ≡ front ++ (old ++ back) → front ≡ before ++ left → back ≡ right ++ after → AreFree left
+    coalesced_agrees : (front before left old back right after : List Label) (x n size : ℕ) → g.labels ≡ front ++ (old ++ back) → front ≡ before ++ left
+        → back ≡ right ++ after → AreFree left
         → AreFree right
         → SameSpace (record (replace v (names before) (names (left ++ (old ++ right))) (free_block x (total (tags left) + n + total (tags right)) ∷ []) (names after)) { size = size }) u
         → (kept_name' : ℕ → Option ℕ) → ((j : ℕ) → kept_name' j ≡ option_or (name_of j front) (name_of j back)) → (a : Answer)
@@ -210,20 +197,19 @@ module _ (v : View) (kept_name : ℕ → Option ℕ) (s : State) (w : IsWellForm
         parted : g.labels ≡ before ++ ((left ++ (old ++ right)) ++ after)
         parted = e ∙ ap₂ (λ y z. y ++ (old ++ z)) at_front at_back ∙ simp append_assoc
 
-        parts : (xs ys : List Label) → well.AreApart (tags (xs ++ ys)) → well.AreApart (tags xs) × well.AreApart (tags ys) × ((well.ends_free (tags xs) && well.starts_free (tags ys)) ≡ false)
-        parts xs ys h = apart_parts (tags xs) (tags ys) (subst well.AreApart (map-append by_tag xs ys) h)
+        parts : (xs ys : List Label) → lists.AreApart (tags (xs ++ ys)) → lists.AreApart (tags xs) × lists.AreApart (tags ys)
+            × ((lists.ends_free (tags xs) && lists.starts_free (tags ys)) ≡ false)
+        parts xs ys h = apart_parts (tags xs) (tags ys) (subst lists.AreApart (map-append by_tag xs ys) h)
 
-        apart : well.AreApart (tags (left ++ (old ++ right)))
-        apart = (parts (left ++ (old ++ right)) after (parts before ((left ++ (old ++ right)) ++ after) (subst well.AreApart (g.state ∙ ap tags parted) ws.apart)).1).0
+        apart : lists.AreApart (tags (left ++ (old ++ right)))
+        apart = (parts (left ++ (old ++ right)) after (parts before ((left ++ (old ++ right)) ++ after) (subst lists.AreApart (g.state ∙ ap tags parted) ws.apart)).1).0
 
-        apart' : well.AreApart (tags before) × well.AreApart (tags (l ∷ after)) × ((well.ends_free (tags before) && true) ≡ false)
-        apart' = parts before (l ∷ after) (apart_tagged (before ++ (l ∷ after)) (subst named.IsApart (ap (λ (x : View). x.blocks) same ∙ sym (map-append by_name before (l ∷ after))) w'.apart))
+        apart' : lists.AreApart (tags before) × lists.AreApart (tags (l ∷ after)) × ((lists.ends_free (tags before) && true) ≡ false)
+        apart' = parts before (l ∷ after) (apart_tagged (before ++ (l ∷ after))
+            (subst named.IsApart (ap (λ (x : View). x.blocks) same ∙ sym (map-append by_name before (l ∷ after))) w'.apart))
 
         state : machine.coalesce (tags front) n (stamp_of_call s) (tags back) ≡ tags (before ++ (l ∷ after))
-        state = ap₂ (λ y z. machine.coalesce y n (stamp_of_call s) z) (ap tags at_front ∙ map-append by_tag before left) (ap tags at_back ∙ map-append by_tag right after)
-            ∙ coalesce_parts (tags before) (tags left) n (stamp_of_call s) (tags right) (tags after) (end_of _ _ (free_tagged left fl) (parts left (old ++ right) apart).0 (and_true _ apart'.2))
-            (start_of _ _ (free_tagged right fr) (parts old right (parts left (old ++ right) apart).1).1 apart'.1.0)
-            ∙ sym (map-append by_tag before (l ∷ after))
+        state = search (arith, tags, map-append, by_tag, left, coalesce_parts, end_of, free_tagged, parts, apart, and_true, apart', start_of, l)
 
   pub same_length : length v.blocks ≡ length s.blocks
   same_length = ap length g.view ∙ (length-map g.labels by_name ∙ sym (length-map g.labels by_tag)) ∙ sym (ap length g.state)
@@ -241,19 +227,12 @@ module _ (v : View) (kept_name : ℕ → Option ℕ) (s : State) (w : IsWellForm
   module _ (blocks needed n : ℕ) (padding_at : ℕ → ℕ) (u : View) (w' : IsWellFormed u) where
     -- a request that is refused
     refused_is : (CanGrant blocks needed v → ⊥) → machine.request s blocks needed n padding_at ≡ returns_only s machine.Refused
-    refused_is none = go (machine.is_short_of blocks s) refl
-      where
-        go : (b : Bool) → machine.is_short_of blocks s ≡ b → (if b then returns_only s machine.Refused else machine.grant_or_refuse s n padding_at (chosen_place needed s.blocks))
-            ≡ returns_only s machine.Refused
-        go true e = refl
-        go false e = ap (machine.grant_or_refuse s n padding_at) (ap (chosen_place needed) g.state ∙ none_chosen v w g.labels labelled needed (λ h. none (room_for blocks e, h)))
+    refused_is none = search (arith, none_chosen, labelled, room_for)
 
     -- a request that is granted, of a block at a place
     granted_is : HasRoomFor blocks v → (padding : ℕ) (sp : Spot) → chosen_place needed (tags g.labels) ≡ Some (plain_place sp) → padding ≡ padding_at (units (names sp.before))
         → machine.request s blocks needed n padding_at ≡ machine.grant s n padding (plain_place sp)
-    granted_is room padding sp at e =
-        ap (λ (b : Bool). if b then returns_only s machine.Refused else machine.grant_or_refuse s n padding_at (chosen_place needed s.blocks)) (has_room blocks room)
-        ∙ ap (machine.grant_or_refuse s n padding_at) (ap (chosen_place needed) g.state ∙ at) ∙ ap (λ m. machine.grant s n m (plain_place sp)) (ap padding_at (total_units sp.before) ∙ sym e)
+    granted_is room padding sp at e = search (arith, has_room, plain_place, total_units)
 
     -- what a grant says of the place of the block that is split
     abbrev IsGrantAt : Grant → (padding remainder front rest : ℕ) → Place → Type 0
@@ -278,13 +257,7 @@ module _ (v : View) (kept_name : ℕ → Option ℕ) (s : State) (w : IsWellForm
   -- an aligned request
   request_alike : (blocks blocks' needed needed' n : ℕ) (padding_at padding_at' : ℕ → ℕ) → blocks ≡ blocks' → needed ≡ needed' → ((o : ℕ) → padding_at o ≡ padding_at' o)
       → machine.request s blocks needed n padding_at ≡ machine.request s blocks' needed' n padding_at'
-  request_alike blocks blocks' needed needed' n padding_at padding_at' e f h =
-      ap₂ (λ b m. machine.request s b m n padding_at) e f ∙ ap (λ (o : machine.Outcome). if machine.is_short_of blocks' s then returns_only s machine.Refused else o)
-      (go (chosen_place needed' s.blocks))
-    where
-      go : (o : Option machine.Place) → machine.grant_or_refuse s n padding_at o ≡ machine.grant_or_refuse s n padding_at' o
-      go None = refl
-      go (Some p) = ap (λ m. machine.grant s n m p) (h (total p.before))
+  request_alike blocks blocks' needed needed' n padding_at padding_at' e f h = search (arith)
 
   too_large : (n : ℕ) → max_size < n → (o : Option machine.Place) → chosen_place n s.blocks ≡ o → o ≡ None
   too_large n l None e = refl
@@ -310,14 +283,14 @@ module _ (v : View) (kept_name : ℕ → Option ℕ) (s : State) (w : IsWellForm
 
       go : (b : Bool) → nat_lt max_size (n + align - 1) ≡ b → large b ≡ machine.request s 2 (n + align - 1) n (padding_to align)
       go true e = elim (machine.is_short_of 2 s) as (λ b. returns_only s machine.Refused ≡ (if b then returns_only s machine.Refused else returns_only s machine.Refused))
-          [ true ↦ refl | false ↦ refl ] ∙ ap (λ (o : Option machine.Place). if machine.is_short_of 2 s then returns_only s machine.Refused else machine.grant_or_refuse s n (padding_to align) o)
+          [ true ↦ refl | false ↦ refl ] ∙ ap (λ (o : Option machine.Place). if machine.is_short_of 2 s then returns_only s machine.Refused else
+          machine.grant_or_refuse s n (padding_to align) o)
           (sym (too_large (n + align - 1) (ltb-true max_size (n + align - 1) e) (chosen_place (n + align - 1) s.blocks) refl))
       go false e = refl
 
   pub aligned_agrees : (n align : ℕ) → 1 ≤ align → (u : View) → IsWellFormed u → (r : Option Grant) → Serves (blocks_needed align) (units_needed n align) n (padding_to align) v u r
       → IsMatch u kept_name s.grants r (step (command.Align n align) s)
-  aligned_agrees n align some u w' r e = subst (IsMatch u kept_name s.grants r) (sym (aligned_is n align some))
-      (serve_agrees (blocks_needed align) (units_needed n align) n (padding_to align) u w' r e)
+  aligned_agrees n align some u w' r e = search (arith, aligned_is, serve_agrees)
 
   -- a live grant, whose block has the name x
   pub record LiveAt (k x : ℕ) : Type 0 where
@@ -341,25 +314,15 @@ module _ (v : View) (kept_name : ℕ → Option ℕ) (s : State) (w : IsWellForm
       )
 
   pub live_at : (k x : ℕ) → kept_name k ≡ Some x → LiveAt k x
-  live_at k x e = go (machine.place_of k s.blocks) refl
-    where
-      go : (o : Option machine.Place) → machine.place_of k s.blocks ≡ o → LiveAt k x
-      go None f = absurd (let n = sym (g.handles k ∙ name_none k g.labels (ap (count (Live k)) (sym g.state) ∙ not_found k s.blocks f)) ∙ e in cc)
-      go (Some p) f = let r = live_spot k p f in let n = sym r.1 ∙ e in subst (LiveAt k) (cc) r.2
+  live_at k x e = search (arith, k, name_none, count, not_found, live_spot)
 
   -- a grant that is not live
   pub none_there : (k : ℕ) → kept_name k ≡ None → machine.place_of k s.blocks ≡ None
-  none_there k e = go (machine.place_of k s.blocks) refl
-    where
-      go : (o : Option machine.Place) → machine.place_of k s.blocks ≡ o → machine.place_of k s.blocks ≡ None
-      go None f = f
-      go (Some p) f = absurd (let n = sym (live_spot k p f).1 ∙ e in cc)
+  none_there k e = search (arith, k, live_spot)
 
   pub gone_agrees : (k : ℕ) → kept_name k ≡ None → ((step (command.Free k) s).answer ≡ machine.Gone) × HasBlocksOf v kept_name (step (command.Free k) s).state
       × ((step (command.Free k) s).state.grants ≡ s.grants)
-  gone_agrees k e = subst
-      (λ (o : Option machine.Place). ((machine.release s o).answer ≡ machine.Gone) × HasBlocksOf v kept_name (machine.release s o).state × ((machine.release s o).state.grants ≡ s.grants))
-      (sym (none_there k e)) (refl, agrees_quiet v kept_name s g machine.Gone, refl)
+  gone_agrees k e = search (arith, none_there, k, agrees_quiet)
 
   pub size_gone_agrees : (k : ℕ) → kept_name k ≡ None → (step (command.Size k) s).answer ≡ machine.Gone
   size_gone_agrees k e = ap machine.size_at (none_there k e)
@@ -410,40 +373,20 @@ module _ (v : View) (kept_name : ℕ → Option ℕ) (s : State) (w : IsWellForm
       sizes = omega (arith, tally_append (λ (b : Block). b.size) (names front.1) (by_name sp.label ∷ names back.0), total_units front.1, total_units back.0)
 
       same : SameSpace (replace v (names front.0) (names (front.1 ++ (sp.label ∷ back.0))) (free_block x (total (tags front.1) + sp.label.size + total (tags back.0)) ∷ []) (names back.1)) u
-      same =
-          subst (λ z. SameSpace (replace v (names front.0) z (free_block x (total (tags front.1) + sp.label.size + total (tags back.0)) ∷ []) (names back.1)) u)
-          (sym (map-append by_name front.1 (sp.label ∷ back.0)))
-          (subst (λ m. SameSpace (replace v (names front.0) (names front.1 ++ (by_name sp.label ∷ names back.0)) (free_block x m ∷ []) (names back.1)) u) sizes
-          (subst₂ (λ y z. SameSpace (replace v y (names front.1 ++ (by_name sp.label ∷ names back.0)) (free_block x (units (names front.1 ++ (by_name sp.label ∷ names back.0))) ∷ []) z) u)
-          (sym front.3) (sym back.4)
-          (subst (λ m. SameSpace (replace v f.before m (free_block x (units m) ∷ []) f.after) u)
-          (sym (ap₂ (λ y z. y ++ (by_name sp.label ∷ z)) front.4 back.3 ∙ ap (λ (b : Block). f.left ++ (b ∷ f.right)) (ap (λ (p : Place). p.block) place))) f.view)))
+      same = search (arith, names, front, tags, sp, back, map-append, by_name, sizes, place)
 
       later : name_of k sp.after ≡ None
-      later = name_none k sp.after
-          (omega (
-            arith,
-            ws.once (Live k),
-            ap (count (Live k)) (g.state ∙ ap tags l.split ∙ map-append by_tag sp.before (sp.label ∷ sp.after)),
-            count-append (Live k) (tags sp.before)
-                (tags (sp.label ∷ sp.after)),
-            ap (hit (Live k)) l.tag,
-            hit_self (Live k),
-          ))
+      later = search (arith, name_none, k, sp, count, tags, l, map-append, by_tag, count-append, hit, hit_self)
 
       handles : (j : ℕ) → without_name k kept_name j ≡ option_or (name_of j sp.before) (name_of j sp.after)
-      handles j = elim (cases_eq j k) [
-        | inl i ↦ rw (eq-eqb j k i) (sym (ap (λ z. option_or (name_of z sp.before) (name_of z sp.after)) i ∙ ap₂ option_or l.first later))
-        | inr i ↦ rw (ne_eqb j k i) (g.handles j ∙ ap (name_of j) l.split ∙ name_append j sp.before (sp.label ∷ sp.after)
-            ∙ ap (option_or (name_of j sp.before))
-            (ap (λ t. if has_number j t then Some sp.label.name else name_of j sp.after) l.tag ∙ ap (λ (b : Bool). if b then Some sp.label.name else name_of j sp.after) (ne_eqb j k i)))
-      ]
+      handles j = search (arith, cases_eq, k, eq-eqb, name_of, sp, l, later, ne_eqb, name_append)
 
   -- more units at the end
   added_agrees : (more : ℕ) (u : View) → IsWellFormed u → Adds more v u → HasBlocksOf u kept_name (leaves s (machine.coalesce s.blocks more (stamp_of_call s) []) machine.Extended).state
   added_agrees more u w' f =
       subst (λ bs. HasBlocksOf u kept_name (leaves s (machine.coalesce bs more (stamp_of_call s) []) machine.Extended).state) (sym g.state)
-      (coalesced_agrees u w' g.labels p.0 p.1 [] [] [] [] f.name more (v.size + more) (sym (append-nil g.labels)) p.2 refl free tt same kept_name (λ j. g.handles j ∙ sym (or_none _)) machine.Extended)
+      (coalesced_agrees u w' g.labels p.0 p.1 [] [] [] [] f.name more (v.size + more) (sym (append-nil g.labels)) p.2 refl free tt same kept_name (λ j. g.handles j
+      ∙ sym (or_none _)) machine.Extended)
     where
       p : (xs : List Label) × (ys : List Label) × (g.labels ≡ xs ++ ys) × (names xs ≡ f.before) × (names ys ≡ f.last)
       p = map_parts by_name g.labels f.before f.last (sym g.view ∙ f.blocks)
@@ -455,9 +398,7 @@ module _ (v : View) (kept_name : ℕ → Option ℕ) (s : State) (w : IsWellForm
       sizes = omega (arith, total_units p.1)
 
       same : SameSpace (record (replace v (names p.0) (names (p.1 ++ [])) (free_block f.name (total (tags p.1) + more + 0) ∷ []) []) { size = v.size + more }) u
-      same =
-          subst₂ (λ z m. SameSpace (record (replace v (names p.0) z (free_block f.name m ∷ []) []) { size = v.size + more }) u) (ap names (sym (append-nil p.1))) sizes
-          (subst₂ (λ y z. SameSpace (record (replace v y z (free_block f.name (units z + more) ∷ []) []) { size = v.size + more }) u) (sym p.3) (sym p.4) f.view)
+      same = search (arith, names, p, append-nil, sizes)
 
   -- when the machine refuses to extend
   abbrev is_refused : ℕ → Bool
@@ -487,12 +428,7 @@ module _ (v : View) (kept_name : ℕ → Option ℕ) (s : State) (w : IsWellForm
       go : (b : Bool) → machine.ends_live s.blocks ≡ b → (b && machine.is_short_of 1 s) ≡ false
           → HasRoomFor 1 v ⊎ ((before : List Block) × (last : Block) × (v.blocks ≡ before ++ last ∷ []) × (last.used ≡ false))
       go true f h = inl (room_for 1 h)
-      go false f h =
-          let r = last_free g.labels (let a = w.some in let b = ap length g.view in let d = length-map g.labels by_name in omega arith) (sym (ap machine.ends_live g.state) ∙ f) in
-          inr (names r.0, by_name r.1, g.view ∙ ap names r.2 ∙ map-append by_name r.0 (r.1 ∷ []), ap not r.3)
-
-  abbrev outcome : ℕ → Bool → machine.Outcome
-  outcome more b = if b then returns_only s machine.Refused else leaves s (machine.coalesce s.blocks (suc more) (stamp_of_call s) []) machine.Extended
+      go false f h = search (arith, last_free, length, length-map, by_name, names, map-append, not)
 
   pub extend_agrees : (more : ℕ) (u : View) (done : Bool) → IsWellFormed u → Extends more v u done
       → ((step (command.Extend more) s).answer ≡ (if done then machine.Extended else machine.Refused)) × HasBlocksOf u kept_name (step (command.Extend more) s).state
@@ -501,15 +437,8 @@ module _ (v : View) (kept_name : ℕ → Option ℕ) (s : State) (w : IsWellForm
   extend_agrees zero u true w' (inr h) = absurd (let l = h.0 in omega arith)
   extend_agrees zero u false w' h = absurd (let l = h.0 in omega arith)
   extend_agrees (suc more) u true w' (inl z) = absurd (let l = z.0 in omega arith)
-  extend_agrees (suc more) u true w' (inr h) = subst (λ (o : machine.Outcome). (o.answer ≡ machine.Extended) × HasBlocksOf u kept_name o.state × (o.state.grants ≡ s.grants))
-      (sym (ap (outcome more) (extendable (suc more) h.1))) (refl, added_agrees (suc more) u w' h.2, refl)
-  extend_agrees (suc more) u false w' h = subst (λ (o : machine.Outcome). (o.answer ≡ machine.Refused) × HasBlocksOf u kept_name o.state × (o.state.grants ≡ s.grants))
-      (sym (ap (outcome more) (refused (is_refused (suc more)) refl)))
-      (refl, agrees_but v u kept_name _ h.2 (agrees_quiet v kept_name s g machine.Refused), refl)
-    where
-      refused : (b : Bool) → is_refused (suc more) ≡ b → is_refused (suc more) ≡ true
-      refused true e = e
-      refused false e = absurd (h.1 (can_extend (suc more) e))
+  extend_agrees (suc more) u true w' (inr h) = search (arith, extendable, added_agrees)
+  extend_agrees (suc more) u false w' h = search (arith, agrees_but, agrees_quiet, can_extend)
 
   -- questions
   same_sizes : machine.free_sizes s.blocks ≡ named.free_sizes v.blocks
@@ -529,7 +458,8 @@ pub agrees_kept : (v : View) (kept_name kept_name' : ℕ → Option ℕ) (s : St
 agrees_kept v kept_name kept_name' s e g = record { labels = g.labels; view = g.view; state = g.state; limit = g.limit; newest = g.newest; handles = λ k. e k ∙ g.handles k }
 
 -- one free block and no grants
-pub alone_agrees : (v : View) (x size stamp : ℕ) (kept_name : ℕ → Option ℕ) (s : State) → v.blocks ≡ free_block x size ∷ [] → v.order ≡ push_all (free_block x size ∷ []) (replicate 256 [])
+pub alone_agrees : (v : View) (x size stamp : ℕ) (kept_name : ℕ → Option ℕ) (s : State) → v.blocks ≡ free_block x size ∷ []
+    → v.order ≡ push_all (free_block x size ∷ []) (replicate 256 [])
     → s.limit ≡ v.max_allocs → s.blocks ≡ machine.block size (Free stamp) ∷ []
     → ((k : ℕ) → kept_name k ≡ None) → HasBlocksOf v kept_name s
 alone_agrees v x size stamp kept_name s blocks order limit state none = record {

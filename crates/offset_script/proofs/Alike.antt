@@ -1,13 +1,14 @@
 -- Two states that differ only in numbers, and in stamps of the same order in each class, return the same answers.
-use Rattle.std.proofs.Common.{◌≡◌, ℕ, zero, suc, ◌+◌, ◌-◌, ◌*◌, ◌<◌, ◌≤◌, true, false, ◌⊎◌, List, [], ◌∷◌, ◌++◌, map, Option, None, nat_eq, nat_lt, if◌then◌else◌, refl, sym, ap, ap₂, subst, subst₂}
+use Rattle.std.proofs.Common.{◌≡◌, ℕ, zero, suc, ◌+◌, ◌-◌, ◌*◌, ◌<◌, ◌≤◌, true, ◌⊎◌, List, [], ◌∷◌, ◌++◌, map, Option, None, nat_eq, nat_lt, refl, sym}
+use Rattle.std.proofs.Common.{ap, ap₂, subst, subst₂}
 use Rattle.std.proofs.Common.{⊎_elim, ◌∙◌, inl, inr, arith, lt-ltb, le-ltb, sum}
 use Rattle.offset_script.specs.declared.scripts.Command.{Command}
 use Rattle.offset_script.specs.declared.scripts.Command.TheVariants as command
 use Rattle.offset_script.specs.Machine.{Free, Block, block, has_number, total, Place, fits, chosen_place, place_of, coalesce, State, Answer, Outcome, step, answers, after, request, grant}
-use Rattle.offset_script.specs.Machine.{grant_or_refuse, is_short_of, returns_only, leaves, release, size_at, report, reset, extend, stamp_of_call, free_sizes}
+use Rattle.offset_script.specs.Machine.{grant_or_refuse, returns_only, leaves, release, size_at, report, reset, extend, stamp_of_call}
 use Rattle.offset_allocator.specs.View.{padding_to}
 use Rattle.offset_script.specs.Machine as machine
-use Rattle.offset_allocator.specs.Reports.{largest, rows_below}
+use Rattle.offset_allocator.specs.Reports.{rows_below}
 use Rattle.offset_script.proofs.Members.{IsIn, in_left, in_right}
 use Rattle.offset_script.proofs.Pairs.{Kind, Lives, Frees, Pair, pair, left_tag, right_tag, left, right, lefts, rights, AreAgreed, AreAllAgreed, IsSameOrder, IsSamePlace, neither, both, same_total}
 use Rattle.offset_script.proofs.Pairs.{same_short, same_units, same_free_sizes, same_refusal, both_coalesced, same_place_of, same_chosen, pairs_granted, in_granted, lefts_granted, rights_granted}
@@ -40,10 +41,7 @@ IsFreshKind g h x y (Lives j j') = (j ≡ g + 1) × (j' ≡ h + 1)
 IsFreshKind g h x y (Frees s s') = (e : ℕ) × (e < 2) × (s ≡ 2 * (x + 1) + e) × (s' ≡ 2 * (y + 1) + e)
 
 fresh_order : (x y s u t v a b : ℕ) → s ≡ 2 * (x + 1) + a → u ≡ 2 * (y + 1) + a → t ≡ 2 * (x + 1) + b → v ≡ 2 * (y + 1) + b → nat_lt s t ≡ nat_lt u v
-fresh_order x y s u t v a b m m' n n' = elim (cases_lt a b) [
-  | inl h ↦ lt-ltb s t (omega arith) ∙ sym (lt-ltb u v (omega arith))
-  | inr h ↦ le-ltb s t (omega arith) ∙ sym (le-ltb u v (omega arith))
-]
+fresh_order x y s u t v a b m m' n n' = search (arith, cases_lt, lt-ltb, le-ltb)
 
 old_before_fresh : (r : ℕ → ℕ) (g h x y : ℕ) (a b : Kind) → IsMatched r (2 * (x + 1)) (2 * (y + 1)) a → IsFreshKind g h x y b → IsSameOrder a b
 old_before_fresh r g h x y (Lives i j) b m n = tt
@@ -64,10 +62,7 @@ both_fresh g h x y (Frees s u) (Frees t v) m n = fresh_order x y s u t v m.0 n.0
 pub matched_in_new : (r : ℕ → ℕ) (d g h x y : ℕ) → g ≡ h + d → ((k : ℕ) → k ≤ g → r k ≤ h) → ((k : ℕ) → g < k → r k + d ≡ k)
     → (a : Kind) → IsMatched r (2 * (x + 1)) (2 * (y + 1)) a ⊎ IsFreshKind g h x y a → IsMatched r (2 * (x + 1 + 1)) (2 * (y + 1 + 1)) a
 matched_in_new r d g h x y e past future (Lives j j') (inl m) = m
-matched_in_new r d g h x y e past future (Lives j j') (inr m) = λ k. elim (cases_lt g k) [
-  | inl l ↦ let f = future k l in grind (arith, nat_tests)
-  | inr l ↦ let f = past k l in grind (arith, nat_tests)
-]
+matched_in_new r d g h x y e past future (Lives j j') (inr m) = search (arith, cases_lt, nat_tests)
 matched_in_new r d g h x y e past future (Frees s u) (inl m) = omega arith
 matched_in_new r d g h x y e past future (Frees s u) (inr m) = omega arith
 
@@ -88,10 +83,7 @@ either r d s t a q (inl i) = inl (a.matched q i)
 either r d s t a q (inr f) = inr f
 
 pub past_in_new : (r : ℕ → ℕ) (d x y g h k : ℕ) → ((k : ℕ) → k ≤ x → r k ≤ y) → ((k : ℕ) → x < k → r k + d ≡ k) → y ≤ h → g ≡ h + d → k ≤ g → r k ≤ h
-past_in_new r d x y g h k past future from e l = elim (cases_lt x k) [
-  | inl m ↦ let f = future k m in omega arith
-  | inr m ↦ let f = past k m in omega arith
-]
+past_in_new r d x y g h k past future from e l = search (arith, cases_lt)
 
 -- A call that leaves such pairs keeps the states alike.
 pub keeps_alike : (r : ℕ → ℕ) (d : ℕ) (s t : State) → (a : IsAlike r d s t) → (p : List Pair) (g h : ℕ) (bs cs : List Block) → bs ≡ lefts p → cs ≡ rights p → IsLeft r d s t a p
@@ -118,7 +110,8 @@ pub same_quiet : (r : ℕ → ℕ) (d : ℕ) (s t : State) → IsAlike r d s t �
 same_quiet r d s t a x y e =
     record { answer = e; state = keeps_alike r d s t a a.pairs s.grants t.grants s.blocks t.blocks a.left_blocks a.right_blocks (λ q i. inl i) (omega arith) (omega arith) a.grants }
 
-pub same_leaves : (r : ℕ → ℕ) (d : ℕ) (s t : State) (a : IsAlike r d s t) (x y : Answer) (p : List Pair) (bs cs : List Block) → x ≡ raise_number d y → bs ≡ lefts p → cs ≡ rights p → IsLeft r d s t a p
+pub same_leaves : (r : ℕ → ℕ) (d : ℕ) (s t : State) (a : IsAlike r d s t) (x y : Answer) (p : List Pair) (bs cs : List Block) → x ≡ raise_number d y → bs ≡ lefts p
+    → cs ≡ rights p → IsLeft r d s t a p
     → IsSameOutcome r d (leaves s bs x) (leaves t cs y)
 same_leaves r d s t a x y p bs cs e on_left on_right each = record { answer = e; state = keeps_alike r d s t a p s.grants t.grants bs cs on_left on_right each (omega arith) (omega arith) a.grants }
 
@@ -130,7 +123,8 @@ fresh_kinds g h x y q (inr (inl e)) = subst (IsFreshKind g h x y) (sym e) (refl,
 fresh_kinds g h x y q (inr (inr e)) = subst (IsFreshKind g h x y) (sym e) (1, omega arith, omega arith, omega arith)
 
 left_granted : (r : ℕ → ℕ) (d : ℕ) (s t : State) (a : IsAlike r d s t) (ps : List Pair) (q : Pair) → a.pairs ≡ ps
-    → IsIn q ps ⊎ ((q.kind ≡ Frees (2 * (s.calls + 1)) (2 * (t.calls + 1))) ⊎ (q.kind ≡ Lives (s.grants + 1) (t.grants + 1)) ⊎ (q.kind ≡ Frees (2 * (s.calls + 1) + 1) (2 * (t.calls + 1) + 1)))
+    → IsIn q ps ⊎ ((q.kind ≡ Frees (2 * (s.calls + 1)) (2 * (t.calls + 1))) ⊎ (q.kind ≡ Lives (s.grants + 1) (t.grants + 1))
+    ⊎ (q.kind ≡ Frees (2 * (s.calls + 1) + 1) (2 * (t.calls + 1) + 1)))
     → IsIn q a.pairs ⊎ IsFreshKind s.grants t.grants s.calls t.calls q.kind
 left_granted r d s t a ps q e (inl i) = inl (subst (IsIn q) (sym e) i)
 left_granted r d s t a ps q e (inr f) = inr (fresh_kinds s.grants t.grants s.calls t.calls q f)
@@ -149,7 +143,8 @@ same_grant r d s t a n padding xs q ys e =
           (omega arith) (omega arith) (omega (arith, a.grants));
     }
 
-same_granted : (r : ℕ → ℕ) (d : ℕ) (s t : State) (a : IsAlike r d s t) (n needed : ℕ) (padding_at : ℕ → ℕ) (o o' : Option Place) → IsSamePlace (λ x. fits needed (left x) ≡ true) a.pairs o o'
+same_granted : (r : ℕ → ℕ) (d : ℕ) (s t : State) (a : IsAlike r d s t) (n needed : ℕ) (padding_at : ℕ → ℕ) (o o' : Option Place)
+    → IsSamePlace (λ x. fits needed (left x) ≡ true) a.pairs o o'
     → IsSameOutcome r d (grant_or_refuse s n padding_at o) (grant_or_refuse t n padding_at o')
 same_granted r d s t a n needed padding_at None None neither = same_quiet r d s t a _ _ refl
 same_granted r d s t a n needed padding_at o o' (both xs q ys e f) =
@@ -197,12 +192,7 @@ same_size r d s t a None None neither = refl
 same_size r d s t a o o' (both xs q ys e f) = refl
 
 same_report : (r : ℕ → ℕ) (d : ℕ) (s t : State) (a : IsAlike r d s t) → report s ≡ raise_number d (report t)
-same_report r d s t a =
-    elim (is_short_of 1 s)
-    as (λ b. (if b then machine.Report 0 0 else machine.Report (sum (free_sizes s.blocks)) (largest (free_sizes s.blocks)))
-    ≡ raise_number d (if b then machine.Report 0 0 else machine.Report (sum (free_sizes s.blocks)) (largest (free_sizes s.blocks)))) [ true ↦ refl | false ↦ refl ]
-    ∙ ap₂ (λ b l. raise_number d (if b then machine.Report 0 0 else machine.Report (sum l) (largest l))) (same_short s t a.pairs a.limit a.left_blocks a.right_blocks 1)
-    (same_free_sizes s t a.pairs a.limit a.left_blocks a.right_blocks)
+same_report r d s t a = search (arith, sum, same_short, same_free_sizes)
 
 same_reset : (r : ℕ → ℕ) (d : ℕ) (s t : State) (a : IsAlike r d s t) → IsSameOutcome r d (reset s) (reset t)
 same_reset r d s t a =

@@ -46,6 +46,4 @@ answers-append (x ∷ xs) ys s = ap (λ l. (step x s).answer ∷ l) (answers-app
 
 pub question_law : (size limit : ℕ) → 2 ≤ limit → (before : List Command) (q : Command) (rest : List Command) → IsQuestion q
     → let s = after before (start size limit) in answers (before ++ q ∷ rest) (start size limit) ≡ answers before (start size limit) ++ ((step q s).answer ∷ answers rest s)
-question_law size limit h before q rest asks =
-    let s = after before (start size limit) in
-    answers-append before (q ∷ rest) (start size limit) ∙ ap (λ l. answers before (start size limit) ++ ((step q s).answer ∷ l)) (after_question size limit h before q asks rest)
+question_law size limit h before q rest asks = search (arith, answers-append, after_question)

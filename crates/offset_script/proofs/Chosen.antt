@@ -1,5 +1,6 @@
 -- The plain machine chooses the block that a grant splits: the newest of the smallest class that fits.
-use Rattle.std.proofs.Common.{◌≡◌, ◌≢◌, ℕ, ◌<◌, ◌≤◌, true, false, not, ◌&&◌, List, [], ◌∷◌, ◌++◌, Option, Some, None, nat_eq, nat_lt, nat_le, refl, sym, ap, ap₂, subst, ◌∙◌, inl, inr, arith, eq-eqb}
+use Rattle.std.proofs.Common.{◌≡◌, ◌≢◌, ℕ, ◌<◌, ◌≤◌, true, false, not, List, [], ◌∷◌, ◌++◌, Option, Some, None, nat_eq, nat_lt, nat_le, refl, sym, ap, ap₂, subst}
+use Rattle.std.proofs.Common.{◌∙◌, inl, inr, arith, eq-eqb}
 use Rattle.std.proofs.Common.{le-leb, lt-ltb, leb-true}
 use Rattle.offset_script.proofs.Tests.{same_some}
 use Rattle.std.proofs.lemmas.List.{map-append}
@@ -7,10 +8,10 @@ use Rattle.std.proofs.lemmas.Bool.{cases_eq, cases_lt, true≢false, and_parts, 
 use Rattle.offset_allocator.specs.Classes.{up, down}
 use Rattle.offset_script.specs.Machine.{is_free, stamp, fits, is_taken_before, chosen_place}
 use Rattle.offset_script.specs.Machine as plain
-use Rattle.offset_allocator.specs.View.{Block, View, Place, Grant, place_of, one, times, count_named, count_in_bin, bin_at, IsWellFormed}
+use Rattle.offset_allocator.specs.View.{Block, View, Place, Grant, place_of, one, times, count_named, bin_at, IsWellFormed}
 use Rattle.offset_allocator.specs.Relations.{Splits}
 use Rattle.offset_script.proofs.Agreement.{Label, by_name, by_tag, stamp_of, IsFalling}
-use Rattle.offset_script.proofs.Well.{chosen_at, not_chosen}
+use Rattle.offset_script.proofs.Found.{chosen_at, not_chosen}
 use Rattle.offset_allocator.proofs.ViewSteps.{place_here}
 use Rattle.offset_script.proofs.Members.{IsIn, in_right, map_split}
 use Rattle.offset_script.proofs.Labels.{names, tags, gives_parts, gives_all}
@@ -84,13 +85,7 @@ place_of_spot v w s e = ap (place_of s.label.name) (e ∙ names_whole s) ∙ pla
 
 -- a free block is listed in its class
 listed_spot : (v : View) → IsWellFormed v → (s : Spot) → v.blocks ≡ names (whole s) → is_free s.label.tag ≡ true → 1 ≤ times s.label.name (bin_at v.order (down s.label.size))
-listed_spot v w s e f =
-    let parts = ap (count_in_bin (down s.label.size) s.label.name) (e ∙ names_whole s)
-    ∙ tally_append (λ (b : Block). one (not b.used && (nat_eq (down s.label.size) (down b.size) && nat_eq s.label.name b.name))) (names s.before) (by_name s.label ∷ names s.after) in
-    let o = w.orders (down s.label.size) s.label.name in
-    let here : one (not (not (is_free s.label.tag)) && (nat_eq (down s.label.size) (down s.label.size) && nat_eq s.label.name s.label.name)) ≡ 1 =
-    rw (f, eq-eqb (down s.label.size) (down s.label.size) refl, eq-eqb s.label.name s.label.name refl) refl in
-    omega (arith, parts, o, here)
+listed_spot v w s e f = search (arith, names_whole, tally_append, not, nat_eq, names, by_name, eq-eqb)
 
 -- the stamp of the name at a spot
 spot_stamp : (v : View) → IsWellFormed v → (s : Spot) → v.blocks ≡ names (whole s) → stamp_of s.label.name (whole s) ≡ stamp s.label.tag
@@ -150,18 +145,7 @@ module _ (v : View) (w : IsWellFormed v) (ls : List Label) (a : IsLabelled v ls)
         listed = listed_spot v w l (a.view ∙ ap names el) fl
 
         newer : s.label.name ≢ l.label.name → down s.label.size ≡ down l.label.size → stamp l.label.tag < stamp s.label.tag
-        newer d e =
-            let order = ap (bin_at v.order) (sym e ∙ class) ∙ t.newest in
-            let falls = subst (IsFalling (λ x. stamp_of x ls)) t.newest (a.newest (down t.block.size)) in
-            let there : 1 ≤ times l.label.name t.older = elim (hit_cases l.label.name t.block.name) [
-              | inl i ↦ absurd (d (name ∙ sym i.0))
-              | inr i ↦ let k = i.1 in let h = listed in let c = ap (times l.label.name) order in omega arith
-            ] in
-            let lower = falls.0 l.label.name there in
-            let ss = ap (stamp_of s.label.name) es ∙ spot_stamp v w s (a.view ∙ ap names es) in
-            let sl = ap (stamp_of l.label.name) el ∙ spot_stamp v w l (a.view ∙ ap names el) in
-            let sq = ap (λ x. stamp_of x ls) name in
-            omega arith
+        newer d e = search (arith, class, stamp_of, hit_cases, name, listed, spot_stamp, names)
 
     -- the machine chooses it
     pub record Choice : Type 0 where

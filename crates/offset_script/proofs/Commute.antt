@@ -1,23 +1,23 @@
 -- Releases in a row leave the same space in any order.
-use Rattle.std.proofs.Common.{◌≡◌, ℕ, zero, suc, ◌+◌, ◌-◌, Bool, true, false, ◌&&◌, ◌||◌, ◌≤◌, List, [], ◌∷◌, ◌++◌, sum, Option, Some, None, is_some, nat_eq, nat_lt, nat_le, if◌then◌else◌, refl, sym}
+use Rattle.std.proofs.Common.{◌≡◌, ℕ, zero, suc, ◌+◌, Bool, true, false, ◌&&◌, ◌||◌, ◌≤◌, List, [], ◌∷◌, ◌++◌, sum, Option, Some, None, is_some, nat_eq, nat_lt}
+use Rattle.std.proofs.Common.{nat_le, if◌then◌else◌, refl, sym}
 use Rattle.std.proofs.Common.{ap, ap₂, subst, subst₂, ◌∙◌, arith, eq-eqb, eqb-true, append_assoc}
 use Rattle.std.proofs.lemmas.List.{map-append}
 use Rattle.std.proofs.lemmas.Bool.{true≢false, false≢true, false_from_ne_true}
 use Rattle.offset_script.specs.declared.scripts.Command.{Command}
 use Rattle.offset_script.specs.declared.scripts.Command.TheVariants as command
-use Rattle.offset_allocator.specs.Classes.{up, down}
-use Rattle.offset_allocator.specs.Reports.{largest, rows_below}
-use Rattle.offset_allocator.specs.View.{max_size, padding_to}
-use Rattle.offset_script.specs.Machine.{Tag, Live, Free, Block, block, is_free, has_number, total, Place, here, prepend, fits, is_taken_before, choose, chosen_place, place_of, ends_live, coalesce}
-use Rattle.offset_script.specs.Machine.{State, Outcome, start, step, after, request, grant_or_refuse, is_short_of, returns_only, leaves, release, size_at, stamp_of_call}
+use Rattle.offset_allocator.specs.Reports.{rows_below}
+use Rattle.offset_script.specs.Machine.{Tag, Live, Free, Block, block, is_free, has_number, total, Place, here, fits, choose, chosen_place, place_of, coalesce}
+use Rattle.offset_script.specs.Machine.{State, start, step, after, request, grant_or_refuse, release, size_at, stamp_of_call}
 use Rattle.offset_script.specs.Machine as machine
 use Rattle.offset_script.specs.Histories.{holder, outline, widen, collapse, without_offset, releases, IsCollapse}
 use Rattle.std.specs.List.{list_any}
 use Rattle.std.specs.Option.{option_map_or}
 use Rattle.offset_script.proofs.Pairs.{Kind, Lives, Frees, Pair, left_tag, right_tag, left, right, lefts, rights, same_free, same_short, same_free_sizes, same_refusal, IsSamePlace, neither, both}
 use Rattle.offset_script.proofs.Pairs.{same_place_of}
-use Rattle.offset_script.proofs.Well.{IsWell, AreFree, coalesced, apart_coalesce, count_coalesce, count, hit, hit_self, number_of, count-append, starts_free, AreApart, apart_parts, found_at}
-use Rattle.offset_script.proofs.Well.{not_found, well_start, well_after, well_step}
+use Rattle.offset_script.proofs.Lists.{AreFree, coalesced, apart_coalesce, count_coalesce, count, hit, hit_self, number_of, count-append, starts_free, AreApart, apart_parts}
+use Rattle.offset_script.proofs.Found.{found_at, not_found}
+use Rattle.offset_script.proofs.Well.{IsWell, well_start, well_after, well_step}
 use Rattle.offset_script.proofs.Similar.{HasSameNumber, ArePaired, paired}
 use Rattle.offset_script.proofs.Tests.{if_same}
 
@@ -32,19 +32,11 @@ collapse_block ks n h o = if option_map_or (λ k. list_any (nat_eq k) ks) h true
 -- collapsing twice
 widen-widen : (n m : ℕ) (o : Outline) → widen n (widen m o) ≡ widen (n + m) o
 widen-widen n m [] = refl
-widen-widen n m (b ∷ o) = go b.0 b.1
-  where
-    go : (x : ℕ) (h : Option ℕ) → widen n (widen m ((x, h) ∷ o)) ≡ widen (n + m) ((x, h) ∷ o)
-    go x None = ap (λ y. (y, None) ∷ o) (let e : n + (m + x) ≡ (n + m) + x = omega arith in e)
-    go x (Some k) = refl
+widen-widen n m (b ∷ o) = search (arith)
 
 collapse-widen : (ks : List ℕ) (n : ℕ) (o : Outline) → collapse ks (widen n o) ≡ widen n (collapse ks o)
 collapse-widen ks n [] = refl
-collapse-widen ks n (b ∷ o) = go b.0 b.1
-  where
-    go : (x : ℕ) (h : Option ℕ) → collapse ks (widen n ((x, h) ∷ o)) ≡ widen n (collapse ks ((x, h) ∷ o))
-    go x None = sym (widen-widen n x (collapse ks o))
-    go x (Some k) = refl
+collapse-widen ks n (b ∷ o) = search (arith, widen-widen)
 
 or_nothing : (b : Bool) → (b || false) ≡ b
 or_nothing true = refl
@@ -52,12 +44,7 @@ or_nothing false = refl
 
 collapse_block_more : (k : ℕ) (ks : List ℕ) (n : ℕ) (h : Option ℕ) (o p : Outline) → collapse ks o ≡ p → collapse ks (collapse_block (k ∷ []) n h o) ≡ collapse_block (k ∷ ks) n h p
 collapse_block_more k ks n None o p ih = collapse-widen ks n o ∙ ap (widen n) ih
-collapse_block_more k ks n (Some j) o p ih =
-    elim (nat_eq j k || false) as (λ x. collapse ks (if x then widen n o else (n, Some j) ∷ o) ≡ (if x then collapse ks (widen n o) else collapse ks ((n, Some j) ∷ o))) [ true ↦ refl | false ↦ refl ]
-    ∙ ap (λ x. if nat_eq j k || false then x else collapse_block ks n (Some j) (collapse ks o)) (collapse-widen ks n o)
-    ∙ ap₂ (λ x q. if x then widen n q else (if list_any (nat_eq j) ks then widen n q else (n, Some j) ∷ q)) (or_nothing (nat_eq j k)) ih
-    ∙ elim (nat_eq j k) as (λ x. (if x then widen n p else (if list_any (nat_eq j) ks then widen n p else (n, Some j) ∷ p)) ≡ (if x || list_any (nat_eq j) ks then widen n p else (n, Some j) ∷ p))
-    [ true ↦ refl | false ↦ refl ]
+collapse_block_more k ks n (Some j) o p ih = search (arith, nat_eq, collapse-widen, or_nothing)
 
 collapse_one_more : (k : ℕ) (ks : List ℕ) (o : Outline) → collapse ks (collapse (k ∷ []) o) ≡ collapse (k ∷ ks) o
 collapse_one_more k ks [] = refl
@@ -69,11 +56,7 @@ no_hit t j e c z = let h : hit (Live j) t ≡ 1 = ap (hit (Live j)) e ∙ hit_se
 
 widen_apart : (n : ℕ) (bs : List Block) → starts_free bs ≡ false → widen n (outline bs) ≡ (n, None) ∷ outline bs
 widen_apart n [] e = refl
-widen_apart n (b ∷ bs) e = go b.size b.tag e
-  where
-    go : (m : ℕ) (t : Tag) → is_free t ≡ false → widen n (outline (block m t ∷ bs)) ≡ (n, None) ∷ outline (block m t ∷ bs)
-    go m (Live j) e = refl
-    go m (Free s) e = absurd (true≢false e)
+widen_apart n (b ∷ bs) e = search (arith, true≢false)
 
 -- a block that is not released stays
 stays : (ks : List ℕ) (n : ℕ) (t : Tag) (bs : List Block) → ((j : ℕ) → t ≡ Live j → list_any (nat_eq j) ks ≡ false) → (is_free t && starts_free bs) ≡ false
@@ -81,7 +64,8 @@ stays : (ks : List ℕ) (n : ℕ) (t : Tag) (bs : List Block) → ((j : ℕ) →
 stays ks n (Live j) bs h a = ap (λ b. if b then widen n (outline bs) else (n, Some j) ∷ outline bs) (h j refl)
 stays ks n (Free s) bs h a = widen_apart n bs a
 
-not_among : (ks : List ℕ) (b : Block) (bs : List Block) → ((j : ℕ) → list_any (nat_eq j) ks ≡ true → count (Live j) (b ∷ bs) ≡ 0) → (j : ℕ) → b.tag ≡ Live j → list_any (nat_eq j) ks ≡ false
+not_among : (ks : List ℕ) (b : Block) (bs : List Block) → ((j : ℕ) → list_any (nat_eq j) ks ≡ true → count (Live j) (b ∷ bs) ≡ 0) → (j : ℕ) → b.tag ≡ Live j
+    → list_any (nat_eq j) ks ≡ false
 not_among ks b bs h j e = false_from_ne_true (list_any (nat_eq j) ks) (λ f. no_hit b.tag j e (count (Live j) bs) (h j f))
 
 unchanged : (ks : List ℕ) (bs : List Block) → AreApart bs → ((j : ℕ) → list_any (nat_eq j) ks ≡ true → count (Live j) bs ≡ 0) → collapse ks (outline bs) ≡ outline bs
@@ -98,13 +82,13 @@ free_holder (Free s) e = refl
 -- free blocks after units that are free, and before them
 free_after : (ks : List ℕ) (n : ℕ) (gs : List Block) (o : Outline) → AreFree gs → widen n (collapse ks (outline gs ++ o)) ≡ widen (n + total gs) (collapse ks o)
 free_after ks n [] o f = ap (λ m. widen m (collapse ks o)) (omega arith)
-free_after ks n (b ∷ gs) o f = ap (λ h. widen n (collapse_block ks b.size h (collapse ks (outline gs ++ o)))) (free_holder b.tag f.0) ∙ widen-widen n b.size _ ∙ free_after ks (n + b.size) gs o f.1
+free_after ks n (b ∷ gs) o f = ap (λ h. widen n (collapse_block ks b.size h (collapse ks (outline gs ++ o)))) (free_holder b.tag f.0) ∙ widen-widen n b.size _
+    ∙ free_after ks (n + b.size) gs o f.1
     ∙ ap (λ m. widen m (collapse ks o)) (omega arith)
 
 free_before : (ks : List ℕ) (n : ℕ) (fs : List Block) (o p : Outline) → AreFree fs → collapse ks o ≡ widen n p → collapse ks (outline fs ++ o) ≡ widen (total fs + n) p
 free_before ks n [] o p f e = e ∙ ap (λ m. widen m p) (omega arith)
-free_before ks n (b ∷ fs) o p f e = ap (λ h. collapse_block ks b.size h (collapse ks (outline fs ++ o))) (free_holder b.tag f.0) ∙ ap (widen b.size) (free_before ks n fs o p f.1 e)
-    ∙ widen-widen b.size (total fs + n) p ∙ ap (λ m. widen m p) (omega arith)
+free_before ks n (b ∷ fs) o p f e = search (arith, (free_before ks n fs o p f.1 e), free_holder, widen-widen)
 
 -- a collapse goes by the collapse of what comes last
 collapse_same : (ks : List ℕ) (o p q : Outline) → collapse ks p ≡ collapse ks q → collapse ks (o ++ p) ≡ collapse ks (o ++ q)
@@ -168,16 +152,11 @@ pub record IsSameSpace (s t : State) : Type 0 where
 -- whether a request is granted goes by the sizes
 some_chosen : (n : ℕ) (b : Block) (bs : List Block) (o : Option Place) → is_some (choose n b bs o) ≡ (fits n b || is_some o)
 some_chosen n b bs None = elim (fits n b) as (λ x. is_some (if x then Some (here b bs) else None) ≡ (x || false)) [ true ↦ refl | false ↦ refl ]
-some_chosen n b bs (Some p) = elim (fits n b) as (λ x. is_some (if x && is_taken_before b p.block then Some (here b bs) else Some (prepend b p)) ≡ (x || true)) [
-  | true ↦ elim (is_taken_before b p.block) as (λ y. is_some (if y then Some (here b bs) else Some (prepend b p)) ≡ true) [ true ↦ refl | false ↦ refl ]
-  | false ↦ refl
-]
+some_chosen n b bs (Some p) = search (arith, is_some)
 
 pub some_same : (n : ℕ) (p : List Pair) → is_some (chosen_place n (lefts p)) ≡ is_some (chosen_place n (rights p))
 some_same n [] = refl
-some_same n (q ∷ p) = some_chosen n (left q) (lefts p) (chosen_place n (lefts p))
-    ∙ ap₂ (λ x y. (x && nat_le (up n) (down q.size)) || y) (same_free q.kind) (some_same n p)
-    ∙ sym (some_chosen n (right q) (rights p) (chosen_place n (rights p)))
+some_same n (q ∷ p) = search (arith, (some_same n p), some_chosen, left, lefts, nat_le, same_free, right, rights)
 
 same_granted : (s t : State) → s.grants ≡ t.grants → (n : ℕ) (padding_at : ℕ → ℕ) (o p : Option Place) → is_some o ≡ is_some p
     → without_offset (grant_or_refuse s n padding_at o).answer ≡ without_offset (grant_or_refuse t n padding_at p).answer
@@ -188,11 +167,7 @@ same_granted s t g n padding_at (Some o) (Some p) e = ap (λ k. machine.Grant (k
 
 same_request : (s t : State) → IsSameSpace s t → (spare needed n : ℕ) (padding_at : ℕ → ℕ)
     → without_offset (request s spare needed n padding_at).answer ≡ without_offset (request t spare needed n padding_at).answer
-same_request s t a spare needed n padding_at = if_same (λ (o p : Outcome). without_offset o.answer ≡ without_offset p.answer) (is_short_of spare s) (is_short_of spare t)
-    (returns_only s machine.Refused) (returns_only t machine.Refused) (grant_or_refuse s n padding_at (chosen_place needed s.blocks)) (grant_or_refuse t n padding_at (chosen_place needed t.blocks))
-    (same_short s t a.blocks.pairs a.limit a.blocks.left_blocks a.blocks.right_blocks spare) (λ e. refl)
-    (same_granted s t a.grants n padding_at _ _
-    (ap (λ bs. is_some (chosen_place needed bs)) a.blocks.left_blocks ∙ some_same needed a.blocks.pairs ∙ ap (λ bs. is_some (chosen_place needed bs)) (sym a.blocks.right_blocks)))
+same_request s t a spare needed n padding_at = search (arith, if_same, same_short, same_granted, is_some, some_same)
 
 pub same_number : (k : ℕ) (q : Kind) → HasSameNumber q → has_number k (left_tag q) ≡ has_number k (right_tag q)
 same_number k (Lives i j) e = ap (nat_eq k) e
@@ -211,34 +186,22 @@ same_place s t a k = subst₂ (λ x y. (without_offset (release s (place_of k x)
 
 same_extend : (s t : State) → IsSameSpace s t → (more : ℕ) → without_offset (step (command.Extend more) s).answer ≡ without_offset (step (command.Extend more) t).answer
 same_extend s t a zero = refl
-same_extend s t a (suc more) = if_same (λ (o p : Outcome). without_offset o.answer ≡ without_offset p.answer) (nat_lt max_size (total s.blocks + suc more) || (ends_live s.blocks && is_short_of 1 s))
-    (nat_lt max_size (total t.blocks + suc more) || (ends_live t.blocks && is_short_of 1 t)) (returns_only s machine.Refused) (returns_only t machine.Refused)
-    (leaves s (coalesce s.blocks (suc more) (stamp_of_call s) []) machine.Extended) (leaves t (coalesce t.blocks (suc more) (stamp_of_call t) []) machine.Extended)
-    (same_refusal s t a.blocks.pairs a.limit a.blocks.left_blocks a.blocks.right_blocks (suc more)) (λ e. refl) refl
+same_extend s t a (suc more) = search (arith, if_same, nat_lt, same_refusal)
 
 pub same_next : (s t : State) → IsSameSpace s t → (c : Command) → without_offset (step c s).answer ≡ without_offset (step c t).answer
 same_next s t a (command.Alloc n) = same_request s t a 1 n n (λ offset. 0)
 same_next s t a (command.Free k) = (same_place s t a k).0
 same_next s t a (command.Size k) = ap without_offset (same_place s t a k).1
-same_next s t a command.Report = ap₂ (λ b l. without_offset (if b then machine.Report 0 0 else machine.Report (sum l) (largest l)))
-    (same_short s t a.blocks.pairs a.limit a.blocks.left_blocks a.blocks.right_blocks 1) (same_free_sizes s t a.blocks.pairs a.limit a.blocks.left_blocks a.blocks.right_blocks)
+same_next s t a command.Report = search (arith, sum, same_short, same_free_sizes)
 same_next s t a command.Full = ap (λ l. machine.Full (rows_below 256 l)) (same_free_sizes s t a.blocks.pairs a.limit a.blocks.left_blocks a.blocks.right_blocks)
 same_next s t a command.Reset = refl
-same_next s t a (command.Align n align) = if_same (λ (o p : Outcome). without_offset o.answer ≡ without_offset p.answer) (nat_le align 1) (nat_le align 1) (step (command.Alloc n) s)
-    (step (command.Alloc n) t) (if nat_lt max_size (n + align - 1) then returns_only s machine.Refused else request s 2 (n + align - 1) n (padding_to align))
-    (if nat_lt max_size (n + align - 1) then returns_only t machine.Refused else request t 2 (n + align - 1) n (padding_to align))
-    refl (λ e. same_request s t a 1 n n (λ offset. 0))
-    (if_same (λ (o p : Outcome). without_offset o.answer ≡ without_offset p.answer) (nat_lt max_size (n + align - 1)) (nat_lt max_size (n + align - 1)) (returns_only s machine.Refused)
-    (returns_only t machine.Refused) (request s 2 (n + align - 1) n (padding_to align)) (request t 2 (n + align - 1) n (padding_to align)) refl (λ e. refl)
-    (same_request s t a 2 (n + align - 1) n (padding_to align)))
+same_next s t a (command.Align n align) = search (arith, if_same, nat_le, nat_lt, same_request)
 same_next s t a (command.Extend more) = same_extend s t a more
 
-pub commute_space : (size limit : ℕ) → 2 ≤ limit → (cs : List Command) (ks : List ℕ) → let s = after cs (start size limit) in outline (after (releases ks) s).blocks ≡ collapse ks (outline s.blocks)
+pub commute_space : (size limit : ℕ) → 2 ≤ limit → (cs : List Command) (ks : List ℕ) → let s = after cs (start size limit) in
+    outline (after (releases ks) s).blocks ≡ collapse ks (outline s.blocks)
 commute_space size limit h cs ks = releases_outline ks (after cs (start size limit)) (well_after cs (start size limit) (well_start size limit h))
 
 pub commute_next : (size limit : ℕ) → 2 ≤ limit → (cs : List Command) (ks : List ℕ) (t : State) → let s = after cs (start size limit) in
     IsCollapse ks s t → (c : Command) → without_offset (step c (after (releases ks) s)).answer ≡ without_offset (step c t).answer
-commute_next size limit h cs ks t is =
-    let s = after cs (start size limit) in
-    let scalars = releases_scalars ks s in
-    same_next (after (releases ks) s) t (record { limit = scalars.0 ∙ sym is.limit; grants = scalars.1 ∙ sym is.grants; blocks = paired _ _ (commute_space size limit h cs ks ∙ sym is.blocks) })
+commute_next size limit h cs ks t is = search (arith, releases_scalars, same_next, paired, commute_space)

@@ -1,5 +1,6 @@
 -- How a run ends.
-use Rattle.std.proofs.Common.{◌≡◌, ℕ, zero, suc, ◌-◌, ◌<◌, ◌⊎◌, inl, inr, false, List, [], ◌∷◌, ◌++◌, length, take, drop, get_or, refl, Option, Some, None, Ok, Err, sym, ap, ◌∙◌, append_assoc, arith}
+use Rattle.std.proofs.Common.{◌≡◌, ℕ, zero, suc, ◌-◌, ◌<◌, ◌⊎◌, inl, inr, false, List, [], ◌∷◌, ◌++◌, length, take, drop, get_or, refl, Option, Some, None, Ok, Err}
+use Rattle.std.proofs.Common.{sym, ap, ◌∙◌, append_assoc, arith}
 use Rattle.std.proofs.Common.{take-append-drop, IfSome, flat_map}
 use Rattle.std.specs.Io.KnownBytes.{Appends}
 use Rattle.std.proofs.KnownBytes.{Appends-trans}
@@ -18,7 +19,8 @@ pub more_parts : (text front rest : List ℕ) (n : ℕ) → text ≡ front ++ re
 more_parts text front rest n h = rw take_rest (h ∙ ap (λ (l : List ℕ). front ++ l) (sym (take-append-drop n rest)) ∙ sym (append_assoc front (take n rest) (drop n rest)))
 
 -- several texts appended, split at the i-th
-coalesce_at : {X : Type 0} (text : X → List ℕ) (xs : List X) (i : ℕ) (d : X) → i < length xs → flat_map text xs ≡ flat_map text (take i xs) ++ (text (get_or xs i d) ++ flat_map text (drop (suc i) xs))
+coalesce_at : {X : Type 0} (text : X → List ℕ) (xs : List X) (i : ℕ) (d : X) → i < length xs
+    → flat_map text xs ≡ flat_map text (take i xs) ++ (text (get_or xs i d) ++ flat_map text (drop (suc i) xs))
 coalesce_at text [] i d h = absurd (omega arith)
 coalesce_at text (x ∷ xs) zero d h = refl
 coalesce_at text (x ∷ xs) (suc i) d h = ap (λ l. text x ++ l) (coalesce_at text xs i d (omega arith)) ∙ sym (append_assoc (text x) _ _)
@@ -34,7 +36,8 @@ piece_failed text xs i d old mid new h before sends = (
 )
 
 whole_or_long : (bytes text : List ℕ) (left : Option (List ℕ)) → HasText bytes (Some text) left
-    → ((left ≡ Some []) × (text ≡ bytes) × (length bytes < 1048577)) ⊎ ((left ≡ Some (drop 1048577 text)) × (meaning_of bytes ≡ Err scripts.TooLong) × (meaning_of text ≡ Err scripts.TooLong))
+    → ((left ≡ Some []) × (text ≡ bytes) × (length bytes < 1048577))
+    ⊎ ((left ≡ Some (drop 1048577 text)) × (meaning_of bytes ≡ Err scripts.TooLong) × (meaning_of text ≡ Err scripts.TooLong))
 whole_or_long bytes text None h = absurd h.takes
 whole_or_long bytes text (Some rest) h =
     elim (cases_lt (length bytes) 1048577) [
@@ -53,15 +56,11 @@ script_failed bytes f None left h fails = tt
 script_failed bytes scripts.Memory (Some text) left h fails = tt
 script_failed bytes scripts.TooLong (Some text) left h fails =
     elim (whole_or_long bytes text left h) [ inl w ↦ (rw (drop_all 1048577 text (omega (arith, w.2, ap length w.1))) w.0, ap meaning_of w.1 ∙ fails) | inr l ↦ (l.0, l.2) ]
-script_failed bytes (scripts.BadHeader n) (Some text) left h fails =
-    elim (whole_or_long bytes text left h) [ inl w ↦ (w.0, ap meaning_of w.1 ∙ fails) | inr l ↦ absurd (let e = sym l.1 ∙ fails in cc) ]
-script_failed bytes (scripts.BadLimit n) (Some text) left h fails =
-    elim (whole_or_long bytes text left h) [ inl w ↦ (w.0, ap meaning_of w.1 ∙ fails) | inr l ↦ absurd (let e = sym l.1 ∙ fails in cc) ]
-script_failed bytes (scripts.BadCommand n) (Some text) left h fails =
-    elim (whole_or_long bytes text left h) [ inl w ↦ (w.0, ap meaning_of w.1 ∙ fails) | inr l ↦ absurd (let e = sym l.1 ∙ fails in cc) ]
+script_failed bytes (scripts.BadHeader n) (Some text) left h fails = search (arith, whole_or_long)
+script_failed bytes (scripts.BadLimit n) (Some text) left h fails = search (arith, whole_or_long)
+script_failed bytes (scripts.BadCommand n) (Some text) left h fails = search (arith, whole_or_long)
 
 pub script_read : (bytes : List ℕ) (script : Script) (from left : Option (List ℕ)) → HasText bytes from left → meaning_of bytes ≡ Ok (view script)
     → IfSome from (λ text. IsScriptOf (Ok script) text left)
 script_read bytes script None left h means = tt
-script_read bytes script (Some text) left h means =
-    elim (whole_or_long bytes text left h) [ inl w ↦ (w.0, ap meaning_of w.1 ∙ means) | inr l ↦ absurd (let e = sym l.1 ∙ means in cc) ]
+script_read bytes script (Some text) left h means = search (arith, whole_or_long)

@@ -1,5 +1,6 @@
 -- Labels by names and by tags: what is free, sums, and the names of grants.
-use Rattle.std.proofs.Common.{◌≡◌, ℕ, ◌+◌, ◌≤◌, true, false, not, ◌&&◌, List, [], ◌∷◌, ◌++◌, length, Option, Some, None, if◌then◌else◌, refl, ap, subst, subst₂, ◌∙◌, arith}
+use Rattle.std.proofs.Common.{◌≡◌, ℕ, ◌+◌, ◌≤◌, true, false, not, ◌&&◌, List, [], ◌∷◌, ◌++◌, length, Option, Some, None, if◌then◌else◌, refl, ap, subst, subst₂}
+use Rattle.std.proofs.Common.{◌∙◌, arith}
 use Rattle.std.specs.Option.{option_or}
 use Rattle.std.proofs.lemmas.Bool.{false≢true, not-false}
 use Rattle.offset_script.specs.Machine.{Tag, Live, Free, is_free, has_number, total}
@@ -7,8 +8,8 @@ use Rattle.offset_script.specs.Machine as plain
 use Rattle.offset_allocator.specs.View as named
 use Rattle.offset_allocator.specs.View.{units}
 use Rattle.offset_script.proofs.Agreement.{Label, name_of}
-use Rattle.offset_script.proofs.Well.{count, hit_number}
-use Rattle.offset_script.proofs.Well as well
+use Rattle.offset_script.proofs.Lists.{count, hit_number}
+use Rattle.offset_script.proofs.Lists as lists
 use Rattle.offset_script.proofs.Labels.{names, tags}
 use Rattle.std.specs.List.{AllByRecursion}
 use Rattle.offset_script.proofs.Tests.{not_not}
@@ -24,12 +25,12 @@ free_named [] (y ∷ ys) f = (tt, (not-false _ f.0, (free_named [] ys f.1).1))
 free_named (x ∷ xs) ys f = let r = free_named xs ys f.1 in ((not-false _ f.0, r.0), r.1)
 
 -- by tags
-pub free_tagged : (ls : List Label) → AreFree ls → well.AreFree (tags ls)
+pub free_tagged : (ls : List Label) → AreFree ls → lists.AreFree (tags ls)
 free_tagged [] f = tt
 free_tagged (l ∷ ls) f = (f.0, free_tagged ls f.1)
 
 -- free neighbours, by names and by tags
-pub apart_tagged : (ls : List Label) → named.IsApart (names ls) → well.AreApart (tags ls)
+pub apart_tagged : (ls : List Label) → named.IsApart (names ls) → lists.AreApart (tags ls)
 apart_tagged [] a = tt
 apart_tagged (l ∷ []) a = (subst (λ x. (x && false) ≡ false) (not_not (is_free l.tag)) a.0, tt)
 apart_tagged (l ∷ m ∷ ls) a = (subst₂ (λ x y. (x && y) ≡ false) (not_not (is_free l.tag)) (not_not (is_free m.tag)) a.0, apart_tagged (m ∷ ls) a.1)

@@ -1,5 +1,6 @@
 -- Bins whose stamps fall, as names are pushed and removed.
-use Rattle.std.proofs.Common.{◌≡◌, ◌≢◌, ℕ, ◌+◌, ◌<◌, ◌≤◌, true, false, not, cond, ◌&&◌, List, [], ◌∷◌, length, nat_eq, if◌then◌else◌, refl, sym, ap, subst, ◌∙◌, inl, inr, arith, ne_eqb}
+use Rattle.std.proofs.Common.{◌≡◌, ◌≢◌, ℕ, ◌+◌, ◌<◌, ◌≤◌, true, false, not, cond, ◌&&◌, List, [], ◌∷◌, length, nat_eq, if◌then◌else◌, refl, ◌∙◌, inl}
+use Rattle.std.proofs.Common.{inr, arith, ne_eqb}
 use Rattle.std.proofs.lemmas.Bool.{cases_eq, cond_both}
 use Rattle.offset_allocator.specs.Classes.{down}
 use Rattle.offset_allocator.specs.View.{Block, one, times, bin_at, push, without, remove, push_all, remove_all}
@@ -19,14 +20,13 @@ falling_without f x (y ∷ ys) h =
     ]
 
 -- bins without a name
-pub falling_remove : (f : ℕ → ℕ) (c x : ℕ) (order : List (List ℕ)) → length order ≡ 256 → c < 256 → ((d : ℕ) → IsFalling f (bin_at order d)) → (d : ℕ) → IsFalling f (bin_at (remove c x order) d)
-falling_remove f c x order h b fall d = elim (cases_eq d c) [
-  | inl e ↦ subst (λ i. IsFalling f (bin_at (remove c x order) i)) (sym e) (subst (IsFalling f) (sym (names_same order c _ h b)) (falling_without f x _ (fall c)))
-  | inr n ↦ subst (IsFalling f) (sym (names_other order c d _ n)) (fall d)
-]
+pub falling_remove : (f : ℕ → ℕ) (c x : ℕ) (order : List (List ℕ)) → length order ≡ 256 → c < 256 → ((d : ℕ) → IsFalling f (bin_at order d)) → (d : ℕ)
+    → IsFalling f (bin_at (remove c x order) d)
+falling_remove f c x order h b fall d = search (arith, cases_eq, names_same, falling_without, names_other)
 
 -- bins without the names of these blocks
-pub falling_remove_all : (f : ℕ → ℕ) (bs : List Block) (order : List (List ℕ)) → length order ≡ 256 → ((d : ℕ) → IsFalling f (bin_at order d)) → (d : ℕ) → IsFalling f (bin_at (remove_all bs order) d)
+pub falling_remove_all : (f : ℕ → ℕ) (bs : List Block) (order : List (List ℕ)) → length order ≡ 256 → ((d : ℕ) → IsFalling f (bin_at order d)) → (d : ℕ)
+    → IsFalling f (bin_at (remove_all bs order) d)
 falling_remove_all f [] order h fall = fall
 falling_remove_all f (b ∷ bs) order h fall = elim b.used as (λ u. (d : ℕ) → IsFalling f (bin_at (remove_all bs (if u then order else remove (down b.size) b.name order)) d)) [
   | true ↦ falling_remove_all f bs order h fall
@@ -56,17 +56,10 @@ falling_put_all f t (b ∷ bs) order h fall low rise =
     (λ e. let r = rise.1 e in falling_put_all f (f b.name + 1) bs _ (length_put _ _ order ∙ h) (put r.0) (low' r.0) r.1)
   where
     put : t ≤ f b.name → (d : ℕ) → IsFalling f (bin_at (push (down b.size) b.name order) d)
-    put l d = elim (cases_eq d (down b.size)) [
-      | inl e ↦ subst (λ i. IsFalling f (bin_at (push (down b.size) b.name order) i)) (sym e)
-          (subst (IsFalling f) (sym (names_same order (down b.size) _ h (down_small b.size))) (λ y m. let k = low (down b.size) y m in omega arith, fall (down b.size)))
-      | inr n ↦ subst (IsFalling f) (sym (names_other order (down b.size) d _ n)) (fall d)
-    ]
+    put l d = search (arith, cases_eq, names_same, down_small, names_other)
 
     none : (d y : ℕ) → y ≢ b.name → hit d (down b.size) y b.name ≡ 0
     none d y n = rw (ne_eqb y b.name n) (elim (nat_eq d (down b.size)) as (λ v. one (v && false) ≡ 0) [ true ↦ refl | false ↦ refl ])
 
     low' : t ≤ f b.name → (d y : ℕ) → 1 ≤ times y (bin_at (push (down b.size) b.name order) d) → f y < f b.name + 1
-    low' a d y m = let p = times_put (down b.size) b.name d y order h (down_small b.size) in elim (hit_cases y b.name) [
-      | inl k ↦ let g = ap f k.0 in omega arith
-      | inr k ↦ let z = none d y k.0 in let l = low d y (omega arith) in omega arith
-    ]
+    low' a d y m = search (arith, times_put, down_small, hit_cases, none)

@@ -39,21 +39,14 @@ more_lines : (line next : List ℕ) (more : List (List ℕ)) (n : ℕ)
     → filter (λ l. not (is_skipped l.text)) (numbered_from n (lines_of (line ∷ next ∷ more)))
     ≡ cond (is_skipped line) (filter (λ l. not (is_skipped l.text)) (numbered_from (n + 1) (lines_of (next ∷ more))))
     (record { number = n; text = line } ∷ filter (λ l. not (is_skipped l.text)) (numbered_from (n + 1) (lines_of (next ∷ more))))
-more_lines line next more n =
-    elim (is_skipped line)
-    as (λ b. cond (not b) (record { number = n; text = line } ∷ filter (λ l. not (is_skipped l.text)) (numbered_from (n + 1) (lines_of (next ∷ more))))
-    (filter (λ l. not (is_skipped l.text)) (numbered_from (n + 1) (lines_of (next ∷ more))))
-    ≡ cond b (filter (λ l. not (is_skipped l.text)) (numbered_from (n + 1) (lines_of (next ∷ more))))
-    (record { number = n; text = line } ∷ filter (λ l. not (is_skipped l.text)) (numbered_from (n + 1) (lines_of (next ∷ more))))) [ true ↦ refl | false ↦ refl ]
+more_lines line next more n = search (arith, not)
 
 pub significant_step : (n : ℕ) (text line : List ℕ) (after : Option (List ℕ)) → parts 10 text ≡ line ∷ option_map_or (parts 10) after []
     → significant_from n text ≡ cond (is_skipped line) (significant_from (n + ends_in after) (rest_of after))
     (record { number = n; text = line } ∷ significant_from (n + ends_in after) (rest_of after))
 unfolding significant_from
 significant_step n text line None h = rw h (last_lines line n)
-significant_step n text line (Some rest) h =
-    let s = some_part (λ b. eqb b 10) rest in
-    rw (h, s.2) (more_lines line s.0 s.1 n)
+significant_step n text line (Some rest) h = search (arith, some_part, eqb, more_lines)
 
 pub ends_step : (text line : List ℕ) (after : Option (List ℕ)) → parts 10 text ≡ line ∷ option_map_or (parts 10) after [] → line_ends text ≡ ends_in after + line_ends (rest_of after)
 ends_step text line None h = omega (arith, length-slice_split (λ b. eqb b 10) text, ap length h)

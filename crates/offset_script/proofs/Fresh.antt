@@ -1,10 +1,10 @@
 -- A state without live blocks continues as a fresh one, and a fresh one that is extended as a larger one.
-use Rattle.std.proofs.Common.{◌≡◌, ℕ, zero, suc, ◌+◌, ◌-◌, ◌*◌, ◌<◌, ◌≤◌, true, false, ◌&&◌, ◌||◌, List, [], ◌∷◌, length, IsTrue, nat_lt, if◌then◌else◌, refl, sym, ap, ap₂, subst, subst₂, le-ltb, ◌∙◌}
-use Rattle.std.proofs.Common.{inl, inr, arith}
+use Rattle.std.proofs.Common.{◌≡◌, ℕ, zero, suc, ◌+◌, ◌-◌, ◌*◌, ◌<◌, ◌≤◌, false, List, [], ◌∷◌, length, IsTrue, nat_lt, refl, sym, ap, ap₂, subst, subst₂}
+use Rattle.std.proofs.Common.{le-ltb, ◌∙◌, inl, inr, arith}
 use Rattle.std.proofs.lemmas.Bool.{true≢false}
 use Rattle.std.specs.List.{AllByRecursion}
 use Rattle.offset_allocator.specs.View.{max_size}
-use Rattle.offset_script.specs.Machine.{Tag, Live, Free, Block, block, is_free, total, State, Answer, start, step, answers, after, returns_only, leaves}
+use Rattle.offset_script.specs.Machine.{Tag, Live, Free, Block, block, is_free, total, State, Answer, start, step, answers, after}
 use Rattle.offset_script.specs.declared.scripts.Command.{Command}
 use Rattle.offset_script.specs.declared.scripts.Command.TheVariants as command
 use Rattle.offset_script.specs.Machine as machine
@@ -13,7 +13,8 @@ use Rattle.offset_script.proofs.Members.{IsIn, map_same}
 use Rattle.offset_script.proofs.Pairs.{Frees, Pair, pair, AreAgreed}
 use Rattle.offset_script.proofs.Alike.{IsAlike, IsMatched, alike_answers}
 use Rattle.offset_script.proofs.Nests.{number_without_none, number_without_past, number_without_future}
-use Rattle.offset_script.proofs.Well.{IsWell, AreApart, count, hit_self, well_start, well_after}
+use Rattle.offset_script.proofs.Lists.{AreApart, count, hit_self}
+use Rattle.offset_script.proofs.Well.{IsWell, well_start, well_after}
 
 -- one free block
 abbrev pub IsOneFree : List Block → Type 0
@@ -26,10 +27,7 @@ free_tag (Live k) h = absurd (grind (arith, h))
 pub one_free : (bs : List Block) → 1 ≤ length bs → AreApart bs → AllByRecursion (λ b. IsTrue (is_free b.tag)) bs → IsOneFree bs
 one_free [] some a f = absurd (omega arith)
 one_free (b ∷ []) some a f = let t = free_tag b.tag f.0 in (b.size, t.0, ap (λ t. block b.size t ∷ []) t.1)
-one_free (b ∷ c ∷ bs) some a f =
-    let t = free_tag b.tag f.0 in
-    let u = free_tag c.tag f.1.0 in
-    absurd (true≢false (ap (λ t. is_free t && true) (sym t.1) ∙ ap (λ u. is_free b.tag && is_free u) (sym u.1) ∙ a.0))
+one_free (b ∷ c ∷ bs) some a f = search (arith, free_tag, true≢false)
 
 pub alike_fresh : (s : State) (n x g : ℕ) → g ≡ s.grants → s.blocks ≡ block n (Free x) ∷ [] → x < 2 * (s.calls + 1) → IsAlike (number_without 0 g) g s (start (total s.blocks) s.limit)
 alike_fresh s n x g same e h = record {
@@ -83,10 +81,9 @@ alone_is_fresh limit n x h cs =
     ∙ ap₂ (λ l m. answers l (start m limit)) (map_same (renumber (number_without 0 0)) (renumber_same _ (number_without_none 0)) cs) (let e : n + 0 ≡ n = omega arith in e)
 
 extended : (size more limit : ℕ) → nat_lt max_size (size + 0 + suc more) ≡ false → (step (command.Extend (suc more)) (start size limit)).state ≡ alone limit (size + suc more) 3
-extended size more limit e =
-    ap (λ b. (if b || false then returns_only (start size limit) machine.Refused else leaves (start size limit) (block (size + suc more + 0) (Free 3) ∷ []) machine.Extended).state) e
-    ∙ ap (λ n. alone limit n 3) (let h : size + suc more + 0 ≡ size + suc more = omega arith in h)
+extended size more limit e = search (arith)
 
-pub extended_law : (size more limit : ℕ) → size + more ≤ max_size → (cs : List Command) → answers cs (after (command.Extend more ∷ []) (start size limit)) ≡ answers cs (start (size + more) limit)
+pub extended_law : (size more limit : ℕ) → size + more ≤ max_size → (cs : List Command)
+    → answers cs (after (command.Extend more ∷ []) (start size limit)) ≡ answers cs (start (size + more) limit)
 extended_law size zero limit h cs = alone_is_fresh limit size 0 (omega arith) cs ∙ ap (λ n. answers cs (start n limit)) (let e : size ≡ size + 0 = omega arith in e)
 extended_law size (suc more) limit h cs = ap (answers cs) (extended size more limit (le-ltb max_size (size + 0 + suc more) (omega arith))) ∙ alone_is_fresh limit (size + suc more) 3 (omega arith) cs

@@ -1,14 +1,13 @@
 -- Blocks with both their names and their tags.
-use Rattle.std.proofs.Common.{◌≡◌, ℕ, ◌+◌, ◌<◌, ◌≤◌, true, false, not, ◌&&◌, ◌⊎◌, List, [], ◌∷◌, ◌++◌, map, nat_eq, if◌then◌else◌, refl, sym, ap, subst, ◌∙◌, inl, inr, arith, eq-eqb, ne_eqb}
-use Rattle.std.proofs.Common.{append_assoc}
+use Rattle.std.proofs.Common.{◌≡◌, ℕ, ◌+◌, ◌<◌, ◌≤◌, true, false, not, ◌⊎◌, List, [], ◌∷◌, ◌++◌, map, nat_eq, refl, sym, ap, subst, ◌∙◌, inl, inr, arith}
+use Rattle.std.proofs.Common.{eq-eqb, ne_eqb, append_assoc}
 use Rattle.std.proofs.lemmas.List.{map-append}
 use Rattle.std.proofs.lemmas.Bool.{cases_lt, not-true, not-false}
-use Rattle.offset_allocator.specs.Classes.{down}
 use Rattle.offset_script.specs.Machine.{Tag, Live, Free, is_free, stamp}
 use Rattle.offset_script.specs.Machine as plain
-use Rattle.offset_allocator.specs.View.{Block, View, one, times, count_named, count_in_bin, bin_at, push_all, remove_all, IsWellFormed}
+use Rattle.offset_allocator.specs.View.{Block, View, times, count_named, bin_at, push_all, remove_all, IsWellFormed}
 use Rattle.offset_script.proofs.Agreement.{Label, by_name, by_tag, stamp_of, IsFalling}
-use Rattle.offset_script.proofs.Well.{count, hit, hit_self}
+use Rattle.offset_script.proofs.Lists.{count, hit, hit_self}
 use Rattle.offset_allocator.proofs.Tallies.{tally_three, listed_named, tally_append, hit_cases, one-same}
 use Rattle.offset_allocator.proofs.ViewOrders.{length_remove_all}
 use Rattle.offset_script.proofs.Falling.{falling_remove_all, falling_same, falling_put_all, IsRising}
@@ -45,12 +44,7 @@ gives_parts f [] ys g = (tt, g)
 gives_parts f (x ∷ xs) ys g = let r = gives_parts f xs ys g.1 in ((g.0, r.0), r.1)
 
 stamp_at : (before : List Label) (l : Label) (after : List Label) → count_named l.name (names (before ++ l ∷ after)) ≤ 1 → stamp_of l.name (before ++ l ∷ after) ≡ stamp l.tag
-stamp_at before l after most =
-    let k = one-same l.name in
-    let n = ap (count_named l.name) (map-append by_name before (l ∷ after)) ∙ tally_append (λ (b : Block). one (nat_eq l.name b.name)) (names before) (names (l ∷ after)) in
-    let a = stamp_none l.name before (omega arith) in
-    let b = stamp_none l.name after (omega arith) in
-    tally_append (λ (m : Label). if nat_eq l.name m.name then stamp m.tag else 0) before (l ∷ after) ∙ rw (eq-eqb l.name l.name refl) (omega arith)
+stamp_at before l after most = search (arith, one-same, map-append, by_name, tally_append, nat_eq, stamp_none, eq-eqb)
 
 gives_from : (before ls : List Label) → ((x : ℕ) → count_named x (names (before ++ ls)) ≤ 1) → HasStamps (λ x. stamp_of x (before ++ ls)) ls
 gives_from before [] most = tt
@@ -70,7 +64,8 @@ stamp_or_zero : (t : Tag) → (stamp t ≡ 0) ⊎ ((s : ℕ) × (t ≡ Free s))
 stamp_or_zero (Live k) = inl refl
 stamp_or_zero (Free s) = inr (s, refl)
 
-pub stamps_below : (t : ℕ) (ls : List Label) → ((x : ℕ) → count_named x (names ls) ≤ 1) → ((x : ℕ) → t ≤ x → count (Free x) (tags ls) ≡ 0) → 1 ≤ t → (x : ℕ) → stamp_of x ls < t
+pub stamps_below : (t : ℕ) (ls : List Label) → ((x : ℕ) → count_named x (names ls) ≤ 1) → ((x : ℕ) → t ≤ x → count (Free x) (tags ls) ≡ 0) → 1 ≤ t
+    → (x : ℕ) → stamp_of x ls < t
 stamps_below t [] most low pos x = omega arith
 stamps_below t (l ∷ ls) most low pos x = elim (hit_cases x l.name) [
   | inl i ↦
@@ -98,7 +93,8 @@ rises_named f t (l ∷ ls) g r = (
 )
 
 -- new blocks in place of old ones, where the new stamps are above the old
-pub newest_replaced : (v : View) (before old new after : List Label) → IsWellFormed v → v.blocks ≡ names (before ++ (old ++ after)) → ((x : ℕ) → count_named x (names (before ++ (new ++ after))) ≤ 1)
+pub newest_replaced : (v : View) (before old new after : List Label) → IsWellFormed v → v.blocks ≡ names (before ++ (old ++ after))
+    → ((x : ℕ) → count_named x (names (before ++ (new ++ after))) ≤ 1)
     → (t : ℕ) → ((x : ℕ) → stamp_of x (before ++ (old ++ after)) < t) → AreRising t new
     → ((c : ℕ) → IsFalling (λ x. stamp_of x (before ++ (old ++ after))) (bin_at v.order c))
     → (c : ℕ) → IsFalling (λ x. stamp_of x (before ++ (new ++ after))) (bin_at (push_all (names new) (remove_all (names old) v.order)) c)
@@ -117,23 +113,4 @@ newest_replaced v before old new after w e distinct t low rises newest = falling
     parted = e ∙ map_three by_name before old after
 
     same : (d y : ℕ) → 1 ≤ times y (bin_at (remove_all (names old) v.order) d) → f y ≡ f' y
-    same d y m =
-        let r = orders_replaced v (names before) (names old) [] (names after) w parted d y in
-        let o = w.orders d y in
-        let listed_parts = ap (count_in_bin d y) parted ∙ tally_three (λ (b : Block). one (not b.used && (nat_eq d (down b.size) && nat_eq y b.name))) (names before) (names old) (names after) in
-        let named_parts = ap (count_named y) parted ∙ tally_three (λ (b : Block). one (nat_eq y b.name)) (names before) (names old) (names after) in
-        let most = w.distinct y in
-        let b = listed_named d y (names before) in
-        let a = listed_named d y (names after) in
-        let gone : count_named y (names old) ≡ 0 = omega arith in
-        let new_parts = ap (count_named y) (map_three by_name before new after) ∙ tally_three (λ (b : Block). one (nat_eq y b.name)) (names before) (names new) (names after) in
-        let once = distinct y in
-        let absent : count_named y (names new) ≡ 0 = omega arith in
-        omega (
-          arith,
-          tally_three (λ (l : Label). if nat_eq y l.name then stamp l.tag else 0) before old after,
-          tally_three (λ (l : Label). if nat_eq y l.name then stamp l.tag else 0) before new
-              after,
-          stamp_none y old gone,
-          stamp_none y new absent,
-        )
+    same d y m = search (arith, orders_replaced, parted, tally_three, not, nat_eq, listed_named, map_three, by_name, stamp_none)

@@ -1,5 +1,6 @@
 -- A nest leaves no trace.
-use Rattle.std.proofs.Common.{length, ◌≡◌, ◌≢◌, ℕ, ◌+◌, ◌-◌, ◌*◌, ◌<◌, ◌≤◌, Bool, true, false, ◌⊎◌, List, [], ◌∷◌, ◌++◌, Option, Some, None, nat_eq, nat_lt, nat_le, if◌then◌else◌, refl, sym, ap}
+use Rattle.std.proofs.Common.{length, ◌≡◌, ◌≢◌, ℕ, ◌+◌, ◌-◌, ◌*◌, ◌<◌, ◌≤◌, Bool, true, false, ◌⊎◌, List, [], ◌∷◌, ◌++◌, Option, Some, None, nat_eq}
+use Rattle.std.proofs.Common.{nat_lt, nat_le, if◌then◌else◌, refl, sym, ap}
 use Rattle.std.proofs.Common.{subst, ◌∙◌, inl, inr, arith, leb-false, le-leb, ne_eqb}
 use Rattle.std.proofs.lemmas.Bool.{cases_lt, lt-leb, and_parts}
 use Rattle.offset_script.specs.declared.scripts.Command.{Command}
@@ -16,7 +17,9 @@ use Rattle.offset_script.specs.Totals.{requested_units}
 use Rattle.offset_script.proofs.Members.{in_map}
 use Rattle.offset_script.proofs.Pairs.{Kind, Lives, Frees, left_tag, right_tag, left, right, lefts, rights}
 use Rattle.offset_script.proofs.Alike.{IsAlike, IsMatched, alike_answers}
-use Rattle.offset_script.proofs.Well.{IsWell, in_count, count, chosen_at, well_start, well_after, well_step}
+use Rattle.offset_script.proofs.Lists.{in_count, count}
+use Rattle.offset_script.proofs.Found.{chosen_at}
+use Rattle.offset_script.proofs.Well.{IsWell, well_start, well_after, well_step}
 use Rattle.offset_allocator.proofs.Classes.{fits_size}
 use Rattle.offset_script.proofs.Similar.{HasSameNumber, AreSimilar, similar_refl, similar_sym, similar_trans}
 use Rattle.offset_script.proofs.Restored.{IsRestored, restored}
@@ -61,7 +64,8 @@ Does c s o = IsOnly s o ⊎ (IsGranted (requested_units c) s o ⊎ IsReleased c 
 only : (c : Command) (s : State) (a : Answer) → IsQuiet a → Does c s (returns_only s a)
 only c s a q = inl (record { answer = a; quiet = q; is = refl })
 
-does_grant : (c : Command) (s : State) → length s.blocks + 1 < s.limit → (needed : ℕ) (padding_at : ℕ → ℕ) → ((o : ℕ) → padding_at o + requested_units c ≤ needed) → (p : Option Place)
+does_grant : (c : Command) (s : State) → length s.blocks + 1 < s.limit → (needed : ℕ) (padding_at : ℕ → ℕ)
+    → ((o : ℕ) → padding_at o + requested_units c ≤ needed) → (p : Option Place)
     → chosen_place needed s.blocks ≡ p → Does c s (grant_or_refuse s (requested_units c) padding_at p)
 does_grant c s room needed padding_at h None e = only c s machine.Refused tt
 does_grant c s room needed padding_at h (Some p) e = inr (inl (record {
@@ -77,9 +81,7 @@ does_grant c s room needed padding_at h (Some p) e = inr (inl (record {
 
 does_request : (c : Command) (s : State) (spare : ℕ) → 1 ≤ spare → (needed : ℕ) (padding_at : ℕ → ℕ) → ((o : ℕ) → padding_at o + requested_units c ≤ needed)
     → Does c s (request s spare needed (requested_units c) padding_at)
-does_request c s spare some needed padding_at h = if_both (Does c s) (is_short_of spare s) (returns_only s machine.Refused)
-    (grant_or_refuse s (requested_units c) padding_at (chosen_place needed s.blocks)) (λ e. only c s machine.Refused tt)
-    (λ e. does_grant c s (let l = leb-false s.limit (length s.blocks + spare) e in omega arith) needed padding_at h (chosen_place needed s.blocks) refl)
+does_request c s spare some needed padding_at h = search (arith, if_both, needed, only, does_grant, leb-false, length)
 
 does_release : (s : State) (k : ℕ) (o : Option Place) → place_of k s.blocks ≡ o → Does (command.Free k) s (release s o)
 does_release s k None e = only (command.Free k) s machine.Gone tt
@@ -174,25 +176,16 @@ traceless (history.paired {s = s} {c = c} {k = k} {inner = inner} {outer = outer
     subst (AreTraceless s) (sym (after-append inner (command.Free k ∷ outer) s1)) (traceless_trans s s3 (after outer s3) a b)
 
 -- numbers after grants that are left out
-pub number_without_cases : (g j k : ℕ) → ((k ≤ g) × (number_without g j k ≡ k)) ⊎ (((g < k) × (k ≤ g + j) × (number_without g j k ≡ 0)) ⊎ ((g + j < k) × (number_without g j k ≡ k - j)))
-number_without_cases g j k = elim (cases_lt g k) [
-  | inl l ↦ elim (cases_lt (g + j) k) [
-    | inl m ↦ inr (inr (m, ap (λ b. if b then k else if nat_le k (g + j) then 0 else k - j) (lt-leb k g l) ∙ ap (λ b. if b then 0 else k - j) (lt-leb k (g + j) m)))
-    | inr m ↦ inr (inl (l, m, ap (λ b. if b then k else if nat_le k (g + j) then 0 else k - j) (lt-leb k g l) ∙ ap (λ b. if b then 0 else k - j) (le-leb k (g + j) m)))
-  ]
-  | inr l ↦ inl (l, ap (λ b. if b then k else if nat_le k (g + j) then 0 else k - j) (le-leb k g l))
-]
+pub number_without_cases : (g j k : ℕ) → ((k ≤ g) × (number_without g j k ≡ k))
+    ⊎ (((g < k) × (k ≤ g + j) × (number_without g j k ≡ 0)) ⊎ ((g + j < k) × (number_without g j k ≡ k - j)))
+number_without_cases g j k = search (arith, cases_lt, nat_le, lt-leb, le-leb)
 
 -- the same number, where no grants are left out
 pub number_without_none : (g k : ℕ) → number_without g 0 k ≡ k
 number_without_none g k = elim (number_without_cases g 0 k) [ inl h ↦ h.1 | inr (inl h) ↦ absurd (omega arith) | inr (inr h) ↦ h.1 ∙ omega arith ]
 
 number_without_kept : (g j i k : ℕ) → 1 ≤ i → i ≤ g → nat_eq k i ≡ nat_eq (number_without g j k) i
-number_without_kept g j i k one most = elim (number_without_cases g j k) [
-  | inl h ↦ ap (λ x. nat_eq x i) (sym h.1)
-  | inr (inl h) ↦ ne_eqb k i (λ e. omega arith) ∙ sym (ne_eqb (number_without g j k) i (λ e. omega arith))
-  | inr (inr h) ↦ ne_eqb k i (λ e. omega arith) ∙ sym (ne_eqb (number_without g j k) i (λ e. omega arith))
-]
+number_without_kept g j i k one most = search (arith, number_without_cases, nat_eq, ne_eqb)
 
 pub number_without_past : (g j k : ℕ) → k ≤ g + j → number_without g j k ≤ g
 number_without_past g j k l = elim (number_without_cases g j k) [ inl h ↦ omega arith | inr (inl h) ↦ omega arith | inr (inr h) ↦ absurd (omega arith) ]
@@ -202,7 +195,8 @@ number_without_future g j k l = elim (number_without_cases g j k) [ inl h ↦ ab
 
 matched_kind : (s t : State) → IsWell s → IsWell t → (j : ℕ) (q : Kind) → HasSameNumber q → 1 ≤ count (left_tag q) t.blocks → 1 ≤ count (right_tag q) s.blocks
     → IsMatched (number_without s.grants j) (2 * (t.calls + 1)) (2 * (s.calls + 1)) q
-matched_kind s t w v j (Lives i i') e c d = λ k. let b = w.old (Live i') d in subst (λ x. nat_eq k x ≡ nat_eq (number_without s.grants j k) i') (sym e) (number_without_kept s.grants j i' k b.0 b.1)
+matched_kind s t w v j (Lives i i') e c d = λ k. let b = w.old (Live i') d in
+    subst (λ x. nat_eq k x ≡ nat_eq (number_without s.grants j k) i') (sym e) (number_without_kept s.grants j i' k b.0 b.1)
 matched_kind s t w v j (Frees x y) e c d = (v.old (Free x) c, w.old (Free y) d)
 
 pub alike_after : (s t : State) → IsWell s → IsWell t → AreTraceless s t → IsAlike (number_without s.grants (t.grants - s.grants)) (t.grants - s.grants) t s

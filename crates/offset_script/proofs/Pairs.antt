@@ -1,5 +1,6 @@
 -- Two lists of blocks of the same sizes, both live or both free at each place, seen as one list of pairs.
-use Rattle.std.proofs.Common.{◌≡◌, ℕ, zero, suc, ◌+◌, ◌-◌, true, not, ◌&&◌, ◌||◌, ◌⊎◌, List, [], ◌∷◌, ◌++◌, map, length, Option, Some, None, option_map, nat_eq, nat_lt, nat_le, if◌then◌else◌, refl}
+use Rattle.std.proofs.Common.{◌≡◌, ℕ, zero, suc, ◌+◌, ◌-◌, true, not, ◌&&◌, ◌||◌, ◌⊎◌, List, [], ◌∷◌, ◌++◌, map, length, Option, Some, None, option_map, nat_eq}
+use Rattle.std.proofs.Common.{nat_lt, nat_le, if◌then◌else◌, refl}
 use Rattle.std.proofs.Common.{sym, ap, ap₂, subst, subst₂, ◌∙◌, inl, inr, arith, eq-eqb, eqb-true}
 use Rattle.std.proofs.lemmas.List.{map-append, length-map}
 use Rattle.std.proofs.lemmas.Bool.{false≢true, and_parts}
@@ -8,7 +9,7 @@ use Rattle.offset_allocator.specs.View.{max_size}
 use Rattle.offset_script.specs.Machine.{Tag, Live, Free, Block, block, is_free, has_number, stamp, total, free_sizes, Place, fits, is_taken_before, choose, chosen_place, prepend, place_of, free_block}
 use Rattle.offset_script.specs.Machine.{ends_live, coalesce, State, is_short_of}
 use Rattle.offset_script.proofs.Members.{IsIn, in_append, in_left, in_right, map_parts}
-use Rattle.offset_script.proofs.Well.{starts_free, ends_free, AreFree, IsEnd, IsStart, IsCoalesced, coalesced, coalesce_parts}
+use Rattle.offset_script.proofs.Lists.{starts_free, ends_free, AreFree, IsEnd, IsStart, IsCoalesced, coalesced, coalesce_parts}
 use Rattle.offset_script.proofs.Tests.{same_and, if_same}
 
 -- two blocks at one place: both live, with their numbers, or both free, with their stamps
@@ -156,7 +157,8 @@ pub data IsSamePlace (P : Pair → Type 0) (p : List Pair) : Option Place → Op
   both : (xs : List Pair) (q : Pair) (ys : List Pair) → p ≡ xs ++ q ∷ ys → P q
       → IsSamePlace P p (Some (record { before = lefts xs; block = left q; after = lefts ys })) (Some (record { before = rights xs; block = right q; after = rights ys }))
 
-same_later : (P : Pair → Type 0) (q : Pair) (p : List Pair) (o o' : Option Place) → IsSamePlace P p o o' → IsSamePlace P (q ∷ p) (option_map (prepend (left q)) o) (option_map (prepend (right q)) o')
+same_later : (P : Pair → Type 0) (q : Pair) (p : List Pair) (o o' : Option Place) → IsSamePlace P p o o'
+    → IsSamePlace P (q ∷ p) (option_map (prepend (left q)) o) (option_map (prepend (right q)) o')
 same_later P q p None None neither = neither
 same_later P q p o o' (both xs x ys e f) = both (q ∷ xs) x ys (ap (λ l. q ∷ l) e) f
 

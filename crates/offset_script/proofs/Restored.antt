@@ -1,16 +1,19 @@
 -- A release after a grant, with a nest between them, restores the block that was split, as the newest of its class.
-use Rattle.std.proofs.Common.{◌≡◌, ℕ, ◌+◌, ◌-◌, ◌<◌, ◌≤◌, true, false, ◌&&◌, ◌||◌, ◌⊎◌, List, [], ◌∷◌, ◌++◌, Some, nat_eq, nat_lt, nat_le, refl, sym, ap, ap₂, subst, subst₂, ◌∙◌, inl, inr, arith}
+use Rattle.std.proofs.Common.{◌≡◌, ℕ, ◌+◌, ◌-◌, ◌<◌, ◌≤◌, true, false, ◌&&◌, ◌||◌, ◌⊎◌, List, [], ◌∷◌, ◌++◌, Some, nat_eq, nat_lt, nat_le, refl, sym}
+use Rattle.std.proofs.Common.{ap, ap₂, subst, subst₂, ◌∙◌, inl, inr, arith}
 use Rattle.std.proofs.Common.{append_assoc, eqb-true, eq-eqb, lt-ltb, le-ltb}
 use Rattle.offset_allocator.proofs.ViewApart.{left_false, right_false}
 use Rattle.std.proofs.lemmas.List.{map-append}
 use Rattle.std.proofs.lemmas.Bool.{cases_eq, false≢true, and_parts}
 use Rattle.std.proofs.lemmas.Bool.Decides.{nat_tests}
 use Rattle.offset_allocator.specs.Classes.{up, down}
-use Rattle.offset_script.specs.Machine.{Tag, Live, Free, Block, block, is_free, has_number, stamp, total, Place, fits, place_of, free_block, coalesce, State, stamp_of_call, stamp_of_padding}
+use Rattle.offset_script.specs.Machine.{Tag, Live, Free, Block, block, is_free, has_number, stamp, Place, fits, place_of, free_block, coalesce, State, stamp_of_call, stamp_of_padding}
 use Rattle.offset_script.proofs.Members.{IsIn, in_append, in_left, in_right, in_map, map_parts, map_first}
 use Rattle.offset_script.proofs.Pairs.{Kind, Lives, Frees, Pair, pair, left_tag, right_tag, left, right, lefts, rights, same_total, same_end, same_start, AreAgreed, AreAllAgreed, IsSameOrder}
-use Rattle.offset_script.proofs.Well.{IsWell, not_there, whole, count, hit, hit_self, in_count, count-append, count_free_block, starts_free, ends_free, AreApart, apart_parts, IsEnd, IsStart, end_of}
-use Rattle.offset_script.proofs.Well.{start_of, coalesce_parts, free_part, place_at, IsBest, granted_blocks}
+use Rattle.offset_script.proofs.Lists.{whole, count, hit, hit_self, in_count, count-append, count_free_block, starts_free, ends_free, AreApart, apart_parts, IsEnd, IsStart, end_of}
+use Rattle.offset_script.proofs.Well.{IsWell, not_there, free_part, granted_blocks}
+use Rattle.offset_script.proofs.Lists.{start_of, coalesce_parts}
+use Rattle.offset_script.proofs.Found.{place_at, IsBest}
 use Rattle.offset_script.proofs.Similar.{HasSameNumber, AreSimilar}
 
 same_hit : (k : ℕ) (q : Kind) → HasSameNumber q → hit (Live k) (left_tag q) ≡ hit (Live k) (right_tag q)
@@ -57,14 +60,10 @@ older s w p n u e tag f best z t i same =
         omega (arith, own, l, o, ap (count (Free t)) e, count-append (Free t) p.before (p.block ∷ p.after))
 
 rights_parts : (xs fs : List Pair) (l : Pair) (rs ys : List Pair) → rights (xs ++ (fs ++ (l ∷ (rs ++ ys)))) ≡ (rights xs ++ rights fs) ++ right l ∷ (rights rs ++ rights ys)
-rights_parts xs fs l rs ys = map-append right xs _ ∙ ap (λ z. rights xs ++ z) (map-append right fs _ ∙ ap (λ z. rights fs ++ right l ∷ z) (map-append right rs ys))
-    ∙ sym (append_assoc (rights xs) (rights fs) _)
+rights_parts xs fs l rs ys = search (arith, map-append, right, rights, append_assoc)
 
 live_number : (q : Kind) (k : ℕ) → left_tag q ≡ Live k → HasSameNumber q → has_number k (right_tag q) ≡ true
-live_number (Lives i j) k e m = eq-eqb k j (number i k e ∙ m)
-  where
-    number : (i k : ℕ) → Live i ≡ Live k → k ≡ i
-    number i k e = cc
+live_number (Lives i j) k e m = search (arith, eq-eqb)
 live_number (Frees s u) k e m = absurd (grind (arith, e))
 
 -- The pairs before the grant and after the release: the others, and the block itself with its old stamp and its new
@@ -113,27 +112,14 @@ free_stamp : (t : Tag) → is_free t ≡ true → t ≡ Free (stamp t)
 free_stamp (Free s) e = refl
 free_stamp (Live k) e = absurd (false≢true e)
 
-none_in_all : (s : State) → IsWell s → (k : ℕ) (xs : List Block) (b : Block) (ys : List Block) → s.blocks ≡ xs ++ b ∷ ys → s.grants < k → (before padding_bit : List Pair) (padding front : ℕ)
+none_in_all : (s : State) → IsWell s → (k : ℕ) (xs : List Block) (b : Block) (ys : List Block) → s.blocks ≡ xs ++ b ∷ ys → s.grants < k
+    → (before padding_bit : List Pair) (padding front : ℕ)
     → lefts before ≡ xs → lefts padding_bit ≡ free_block padding front
     → ((q : Pair) → IsIn q before → HasSameNumber q.kind) → ((q : Pair) → IsIn q padding_bit → HasSameNumber q.kind) → count (Live k) (rights before ++ rights padding_bit) ≡ 0
-none_in_all s w k xs b ys e l before padding_bit padding front on_before on_padding n m =
-    let all = not_there s w (Live k) (λ o. absurd (let m = o.1 in omega arith)) in
-    let free : count (Live k) (free_block padding front) ≤ 0 = count_free_block (Live k) padding front in
-    omega (
-      arith,
-      all,
-      free,
-      ap (count (Live k)) e,
-      count-append (Live k) xs (b ∷ ys),
-      count-append (Live k) (rights before) (rights padding_bit),
-      same_count k before n,
-      same_count k padding_bit m,
-      ap
-          (count (Live k)) on_before,
-      ap (count (Live k)) on_padding,
-    )
+none_in_all s w k xs b ys e l before padding_bit padding front on_before on_padding n m = search (arith, not_there, count, count_free_block, count-append, rights, same_count)
 
-pub restored : (s : State) → IsWell s → (p : Place) (needed n padding : ℕ) → s.blocks ≡ whole p → fits needed p.block ≡ true → IsBest needed s.blocks p.block → padding + n ≤ p.block.size
+pub restored : (s : State) → IsWell s → (p : Place) (needed n padding : ℕ) → s.blocks ≡ whole p → fits needed p.block ≡ true → IsBest needed s.blocks p.block
+    → padding + n ≤ p.block.size
     → (t : State) → IsWell t → AreSimilar (granted_blocks p n padding (stamp_of_padding s) (s.grants + 1) (stamp_of_call s)) t.blocks → IsRestored s t
 restored s w p needed n padding e f best enough t v m = record {
   place = record { before = rights a.0 ++ rights b.0; block = right c.0; after = rights d.0 ++ rights d.1 };
@@ -152,7 +138,8 @@ restored s w p needed n padding e f best enough t v m = record {
         × (lefts back ≡ free_block padding (stamp_of_padding s) ++ (block n (Live (s.grants + 1)) ∷ (rest ++ p.after)))
     a = map_parts left m.pairs p.before (free_block padding (stamp_of_padding s) ++ (block n (Live (s.grants + 1)) ∷ (rest ++ p.after))) (sym m.left_blocks)
 
-    b : (front : List Pair) × (back : List Pair) × (a.1 ≡ front ++ back) × (lefts front ≡ free_block padding (stamp_of_padding s)) × (lefts back ≡ block n (Live (s.grants + 1)) ∷ (rest ++ p.after))
+    b : (front : List Pair) × (back : List Pair) × (a.1 ≡ front ++ back) × (lefts front ≡ free_block padding (stamp_of_padding s))
+        × (lefts back ≡ block n (Live (s.grants + 1)) ∷ (rest ++ p.after))
     b = map_parts left a.1 (free_block padding (stamp_of_padding s)) (block n (Live (s.grants + 1)) ∷ (rest ++ p.after)) a.4
 
     c : (q : Pair) × (back : List Pair) × (b.1 ≡ q ∷ back) × (left q ≡ block n (Live (s.grants + 1))) × (lefts back ≡ rest ++ p.after)
@@ -192,9 +179,7 @@ restored s w p needed n padding e f best enough t v m = record {
         (start_of (free_block (z - (padding + n)) (stamp_of_call s)) p.after (free_part _ _).0 (free_part _ _).1 (right_false (is_free p.block.tag) (starts_free p.after) apart.1.0 free)))
 
     right_side : coalesce (rights a.0 ++ rights b.0) c.0.size (stamp_of_call t) (rights d.0 ++ rights d.1) ≡ rights a.0 ++ block z (Free (stamp_of_call t)) ∷ rights d.1
-    right_side = coalesce_parts (rights a.0) (rights b.0) c.0.size (stamp_of_call t) (rights d.0) (rights d.1) ends starts
-        ∙ ap (λ x. rights a.0 ++ block x (Free (stamp_of_call t)) ∷ rights d.1) (let l : c.0.size ≡ n = ap (λ (b : Block). b.size) c.3 in
-        omega (arith, l, same_total b.0, ap total b.3, (free_part padding (stamp_of_padding s)).2, same_total d.0, ap total d.3, (free_part (z - (padding + n)) (stamp_of_call s)).2))
+    right_side = search (arith, coalesce_parts, rights, a, b, c, d, ends, starts, same_total, free_part, z)
 
     left_side : lefts a.0 ++ block z (Free (stamp p.block.tag)) ∷ lefts d.1 ≡ s.blocks
     left_side = ap₂ (λ x y. x ++ block z (Free (stamp p.block.tag)) ∷ y) a.3 d.4 ∙ ap (λ x. p.before ++ block z x ∷ p.after) (sym tag) ∙ sym e
@@ -204,7 +189,8 @@ restored s w p needed n padding e f best enough t v m = record {
         (λ q i. m.numbers q (old q (inl i))) (λ q i. m.numbers q (subst (IsIn q) (sym parts_whole) (in_right q a.0 (b.0 ++ (c.0 ∷ (d.0 ++ d.1))) (in_left q b.0 (c.0 ∷ (d.0 ++ d.1)) i))))
 
     below : (q : Pair) (y : ℕ) → IsIn q m.pairs → right_tag q.kind ≡ Free y → y < stamp_of_call t
-    below q y i k = let c = subst (λ x. 1 ≤ count x t.blocks) k (subst (λ bs. 1 ≤ count (right_tag q.kind) bs) (sym m.right_blocks) (in_count (right q) (rights m.pairs) (in_map right q m.pairs i))) in
+    below q y i k = let c = subst (λ x. 1 ≤ count x t.blocks) k
+        (subst (λ bs. 1 ≤ count (right_tag q.kind) bs) (sym m.right_blocks) (in_count (right q) (rights m.pairs) (in_map right q m.pairs i))) in
         let o = v.old (Free y) c in omega arith
 
     newest : (q : Pair) (x y : ℕ) → IsIn q a.0 ⊎ IsIn q d.1 → q.kind ≡ Frees x y → nat_eq (down q.size) (down z) ≡ true → (x < stamp p.block.tag) × (y < stamp_of_call t)

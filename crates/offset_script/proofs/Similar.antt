@@ -70,11 +70,7 @@ module _ (bs cs : List Block) (e : outline bs ≡ outline cs) (i : ℕ) where
   size_same = ap (λ (x : ℕ × Option ℕ). x.0) shape_same
 
   free_same : is_free (at i bs).tag ≡ is_free (at i cs).tag
-  free_same = held (at i bs).tag ∙ ap (λ (x : ℕ × Option ℕ). is_none x.1) shape_same ∙ sym (held (at i cs).tag)
-    where
-      held : (t : Tag) → is_free t ≡ is_none (holder t)
-      held (Live k) = refl
-      held (Free s) = refl
+  free_same = search (arith, is_none, shape_same)
 
 -- pairs by their places
 abbrev pair_at : ℕ → List Pair → Pair
@@ -121,7 +117,8 @@ module _ (bs cs : List Block) (p : List Pair) (l : bs ≡ lefts p) (r : cs ≡ r
   right_at i = ap (at i) r ∙ get_or-map right p i (pair 0 (Lives 0 0))
 
   order_at : (i j : ℕ) → nat_lt (stamp (at i bs).tag) (stamp (at j bs).tag) ≡ nat_lt (stamp (at i cs).tag) (stamp (at j cs).tag) → IsInOrder (pair_at i p).kind (pair_at j p).kind
-  order_at i j h = sym (ap₂ (λ (x y : Block). nat_lt (stamp x.tag) (stamp y.tag)) (left_at i) (left_at j)) ∙ h ∙ ap₂ (λ (x y : Block). nat_lt (stamp x.tag) (stamp y.tag)) (right_at i) (right_at j)
+  order_at i j h = sym (ap₂ (λ (x y : Block). nat_lt (stamp x.tag) (stamp y.tag)) (left_at i) (left_at j)) ∙ h
+      ∙ ap₂ (λ (x y : Block). nat_lt (stamp x.tag) (stamp y.tag)) (right_at i) (right_at j)
 
 ordered : (bs cs : List Block) → AreSimilar bs cs → IsOrdered bs cs
 ordered bs cs m = record {
@@ -153,7 +150,8 @@ similar bs cs m = record {
     agreed i j e =
         let l = left_at bs cs p.pairs p.left_blocks p.right_blocks in
         same_order _ _ (λ f g. order_at bs cs p.pairs p.left_blocks p.right_blocks i j
-        (m.order i j (ap (λ (b : Block). is_free b.tag) (l i) ∙ f) (ap (λ (b : Block). is_free b.tag) (l j) ∙ g) (ap₂ (λ (x y : Block). nat_eq (down x.size) (down y.size)) (l i) (l j) ∙ e)))
+        (m.order i j (ap (λ (b : Block). is_free b.tag) (l i) ∙ f) (ap (λ (b : Block). is_free b.tag) (l j)
+        ∙ g) (ap₂ (λ (x y : Block). nat_eq (down x.size) (down y.size)) (l i) (l j) ∙ e)))
 
 pub similar_refl : (bs : List Block) → AreSimilar bs bs
 similar_refl bs = similar bs bs (record { same = refl; order = λ i j f g e. refl })

@@ -1,5 +1,6 @@
 -- The steps of a player are those of the plain machine, call by call.
-use Rattle.std.proofs.Common.{◌≡◌, ℕ, zero, suc, ◌+◌, ◌-◌, ◌%◌, ◌^◌, ◌<◌, ◌≤◌, Bool, List, [], ◌∷◌, ◌++◌, map, length, Option, Some, None, option_map, Result, Ok, Err, IfOk, slice_index_or, slice_set}
+use Rattle.std.proofs.Common.{◌≡◌, ℕ, zero, suc, ◌+◌, ◌-◌, ◌%◌, ◌^◌, ◌<◌, ◌≤◌, Bool, List, [], ◌∷◌, ◌++◌, map, length, Option, Some, None, option_map}
+use Rattle.std.proofs.Common.{Result, Ok, Err, IfOk, slice_index_or, slice_set}
 use Rattle.std.proofs.Common.{get_or, if◌then◌else◌, IsTrue, refl, sym, ap, ap₂, subst, subst₂, ◌∙◌, inl, inr, arith, eq-eqb, ne_eqb, add-one, length-append, append_assoc, append-nil}
 use Rattle.std.proofs.lemmas.List.{map-append, get_or-set_same, get_or-set_other, get_or_past, length-set}
 use Rattle.std.proofs.Math.ListN.{get_or-append}
@@ -16,7 +17,7 @@ use Rattle.offset_script.specs.Machine.{State, Answer, step, start, row_view}
 use Rattle.offset_script.specs.Machine as machine
 use Rattle.offset_allocator.specs.View.{View, Grant, free_sizes, IsWellFormed}
 use Rattle.offset_script.specs.Steps.{kept_name, Takes, IsRun, AreOfARun, IsKept, IfNamed, Stays, AreLive}
-use Rattle.offset_script.proofs.Agreement.{HasBlocksOf, IsAtState}
+use Rattle.offset_script.proofs.Agreement.{IsAtState}
 use Rattle.offset_allocator.specs.Relations.{IsFresh, Frees, Extends, Resets}
 use Rattle.offset_script.proofs.Well.{IsWell}
 use Rattle.offset_script.proofs.Agreed.{with_name, without_name, IsMatch, serve_agrees, aligned_agrees, extend_agrees, free_agrees, live_agrees, gone_agrees, size_gone_agrees, size_agrees}
@@ -48,11 +49,7 @@ kept_push hs h (suc k) = elim (cases_eq k (length hs)) [
 -- a handle is removed
 pub kept_set : (hs : List (Option Grant)) (k : ℕ) → k < length hs → (j : ℕ) → kept_name (slice_set hs k None) j ≡ without_name (suc k) (kept_name hs) j
 kept_set hs k l zero = rw (ne_eqb 0 (suc k) (omega arith)) refl
-kept_set hs k l (suc j) = elim (cases_eq j k) [
-  | inl e ↦ ap (option_map handle_name) (ap (λ i. get_or (slice_set hs k None) i None) e ∙ get_or-set_same hs k None None l)
-      ∙ sym (ap (λ (b : Bool). if b then None else kept_name hs (suc j)) (eq-eqb (suc j) (suc k) (ap suc e)))
-  | inr n ↦ ap (option_map handle_name) (get_or-set_other hs k j None None n) ∙ sym (ap (λ (b : Bool). if b then None else kept_name hs (suc j)) (ne_eqb (suc j) (suc k) (omega arith)))
-]
+kept_set hs k l (suc j) = search (arith, cases_eq, option_map, get_or, slice_set, get_or-set_same, eq-eqb, get_or-set_other, ne_eqb)
 
 -- a clause of what a call returned, from another
 pub if_ok : {A E : Type 0} {P Q : A → Type 0} (r : Result A E) → ((a : A) → P a → Q a) → IfOk r P → IfOk r Q
@@ -62,10 +59,7 @@ if_ok (Err e) f p = tt
 -- only numbers from 1 to that of the last handle have one
 kept_within : (hs : List (Option Grant)) (k x : ℕ) → kept_name hs k ≡ Some x → (1 ≤ k) × (k - 1 < length hs)
 kept_within hs zero x e = absurd (cc)
-kept_within hs (suc k) x e = elim (cases_lt k (length hs)) [
-  | inl l ↦ (omega arith, omega arith)
-  | inr m ↦ absurd (let n = sym e ∙ ap (option_map handle_name) (get_or_past hs k None m) in cc)
-]
+kept_within hs (suc k) x e = search (arith, cases_lt, length, option_map, get_or_past)
 
 -- where no handle is left, no name is kept
 none_kept : (hs : List (Option Grant)) → ((i : ℕ) → i < length hs → slice_index_or hs i None ≡ None) → (k : ℕ) → kept_name hs k ≡ None
@@ -97,35 +91,12 @@ Follows c s w left a = (a ≡ (step c s).answer) × IsAtState w left (step c s).
 module _ (v w : View) (hs left : List (Option Grant)) (a : Answer) (s : State) (formed : IsWellFormed w) (ws : IsWell s) (p : IsAtState v hs s) where
   -- a request, whose grant is kept
   requested : (c : Command) (r : Option Grant) → IsMatch w (kept_name hs) s.grants r (step c s) → IsKept r hs left a → Follows c s w left a
-  requested c None m k = (
-    k.1 ∙ sym m.answer,
-    record {
-      formed = formed;
-      agrees = agrees_kept w (kept_name hs) (kept_name left) (step c s).state (λ j. ap (λ l. kept_name l j) k.0) m.agrees;
-      grants = ap length k.0 ∙ p.grants ∙ sym m.grants_after;
-    },
-  )
-  requested c (Some h) m k =
-      let count : length left ≡ s.grants + 1 = ap length k.0 ∙ length-append hs (Some h ∷ []) ∙ ap (λ n. n + 1) p.grants in (
-        k.1 ∙ ap (λ n. machine.Grant n h.offset) count ∙ sym m.answer,
-        record {
-          formed = formed;
-          agrees = agrees_kept w (with_name (s.grants + 1) h.name (kept_name hs)) (kept_name left) (step c s).state
-              (λ j. ap (λ l. kept_name l j) k.0 ∙ kept_push hs h j ∙ ap (λ n. with_name (n + 1) h.name (kept_name hs) j) p.grants) m.agrees;
-          grants = count ∙ sym m.grants_after;
-        },
-      )
+  requested c None m k = search (arith, agrees_kept, length)
+  requested c (Some h) m k = search (arith, length, length-append, agrees_kept, with_name, kept_push)
 
   -- a question leaves all as it is
   asked : (c : Command) → (step c s).state ≡ record s { calls = s.calls + 1 } → Stays v hs w left → a ≡ (step c s).answer → Follows c s w left a
-  asked c same e found = (
-    found,
-    subst₂ (λ u l. IsAtState u l (step c s).state) (sym e.0) (sym e.1) (record {
-      formed = p.formed;
-      agrees = subst (HasBlocksOf v (kept_name hs)) (sym same) (agrees_quiet v (kept_name hs) s p.agrees machine.Gone);
-      grants = p.grants ∙ ap (λ (t : State). t.grants) (sym same);
-    }),
-  )
+  asked c same e found = search (arith, agrees_quiet)
 
   -- a release of a live grant, whose handle is removed
   freed : (k x : ℕ) → kept_name hs (suc k) ≡ Some x → k < length hs → Frees x v w → left ≡ slice_set hs k None → a ≡ machine.Freed → Follows (command.Free (suc k)) s w left a
@@ -147,7 +118,8 @@ module _ (v w : View) (hs left : List (Option Grant)) (a : Answer) (s : State) (
       freed k x e (let l = (kept_within hs (suc k) x e).1 in omega arith) f (but ∙ ap (λ i. slice_set hs i None) same) is
 
   -- a release by any number
-  release_step : (k : ℕ) (o : Option ℕ) → kept_name hs k ≡ o → IfNamed o (λ x. Frees x v w × (left ≡ slice_set hs (k - 1) None) × (a ≡ machine.Freed)) (Stays v hs w left × (a ≡ machine.Gone))
+  release_step : (k : ℕ) (o : Option ℕ) → kept_name hs k ≡ o
+      → IfNamed o (λ x. Frees x v w × (left ≡ slice_set hs (k - 1) None) × (a ≡ machine.Freed)) (Stays v hs w left × (a ≡ machine.Gone))
       → Follows (command.Free k) s w left a
   release_step k None e t =
       let r = gone_agrees v (kept_name hs) s p.formed ws p.agrees k e in
@@ -190,7 +162,8 @@ module _ (v w : View) (hs left : List (Option Grant)) (a : Answer) (s : State) (
 pub fresh_represents : (w : View) → IsWellFormed w → (size limit : ℕ) (hs : List (Option Grant)) → IsFresh size limit w → hs ≡ [] → IsAtState w hs (start size limit)
 fresh_represents w formed size limit hs f e = subst (λ l. IsAtState w l (start size limit)) (sym e) (record {
   formed = formed;
-  agrees = alone_agrees w f.name size 0 (kept_name []) (start size limit) (ap (λ (v : View). v.blocks) f.view) (ap (λ (v : View). v.order) f.view) (sym (ap (λ (v : View). v.max_allocs) f.view)) refl
+  agrees = alone_agrees w f.name size 0 (kept_name []) (start size limit) (ap (λ (v : View). v.blocks) f.view) (ap (λ (v : View). v.order) f.view)
+      (sym (ap (λ (v : View). v.max_allocs) f.view)) refl
       (none_kept [] (λ i l. refl));
   grants = refl;
 })
@@ -198,7 +171,8 @@ fresh_represents w formed size limit hs f e = subst (λ l. IsAtState w l (start 
 -- Runs, with one more step at their end.
 
 -- the steps of a run on a fresh space that lead to this view and these handles
-abbrev pub IsBegun : {C A : Type 0} → (C → View → List (Option Grant) → View → List (Option Grant) → A → Type 0) → (size limit : ℕ) → View → List (Option Grant) → List C → List A → Type 0
+abbrev pub IsBegun : {C A : Type 0} → (C → View → List (Option Grant) → View → List (Option Grant) → A → Type 0) → (size limit : ℕ) → View → List (Option Grant)
+    → List C → List A → Type 0
 IsBegun {C} {A} take size limit v handles before found = (u : View) × IsFresh size limit u
     × ((cs : List C) (others : List A) → IsRun take v handles cs others → IsRun take u [] (before ++ cs) (found ++ others))
 
@@ -209,15 +183,10 @@ module _ {C A : Type 0} (take : C → View → List (Option Grant) → View → 
   pub run_goes_on : (v w : View) (handles left : List (Option Grant)) (before before' : List C) (found found' : List A) (c : C) (a : A)
       → IsBegun take size limit v handles before found → take c v handles w left a → IsWellFormed w → before' ≡ before ++ c ∷ [] → found' ≡ found ++ a ∷ []
       → IsBegun take size limit w left before' found'
-  run_goes_on v w handles left before before' found found' c a r t formed e f = (
-    r.0,
-    r.1,
-    λ cs others rest.
-        subst₂ (IsRun take r.0 []) (sym (ap (λ l. l ++ cs) e ∙ append_assoc before (c ∷ []) cs)) (sym (ap (λ l. l ++ others) f ∙ append_assoc found (a ∷ []) others))
-        (r.2 (c ∷ cs) (a ∷ others) (w, left, t, formed, rest)),
-  )
+  run_goes_on v w handles left before before' found found' c a r t formed e f = search (arith, append_assoc)
 
-  pub run_ends : (v : View) (handles : List (Option Grant)) (before cs : List C) (found : List A) → IsBegun take size limit v handles before found → before ≡ cs → AreOfARun take size limit cs found
+  pub run_ends : (v : View) (handles : List (Option Grant)) (before cs : List C) (found : List A) → IsBegun take size limit v handles before found → before ≡ cs
+      → AreOfARun take size limit cs found
   run_ends v handles before cs found r e = (r.0, r.1, subst₂ (IsRun take r.0 []) (append-nil before ∙ e) (append-nil found) (r.2 [] [] tt))
 
 -- The rows of a full report.
@@ -250,7 +219,4 @@ rows_more c v report d left rows r full l e f h pos =
 pub rows_same : (c : ℕ) (v : View) (report : StorageReportFull) (d : StorageReportFullRegion) (rows : List FullRow) → IsFullReport report v → c < 256
     → map row_view rows ≡ rows_below c (free_sizes v.blocks) → (slice_index_or report.free_regions c d).count ≤ 0
     → map row_view rows ≡ rows_below (c + 1) (free_sizes v.blocks)
-rows_same c v report d rows full l e nothing =
-    let count = ap (λ (x : StorageReportFullRegion). x.count) (full c d l) in
-    let none : count_of c (free_sizes v.blocks) ≡ 0 = omega arith in
-    rw add-one (e ∙ sym (ap (λ n. rows_below c (free_sizes v.blocks) ++ row c n) none ∙ append-nil _))
+rows_same c v report d rows full l e nothing = search (arith, add-one, append-nil)

@@ -18,7 +18,8 @@ if_both P true x y f g = f refl
 if_both P false x y f g = g refl
 
 -- what relates the cases of equal tests
-pub if_same : {A B : Type 0} (R : A → B → Type 0) (b c : Bool) (x : A) (x' : B) (y : A) (y' : B) → b ≡ c → (b ≡ true → R x x') → R y y' → R (if b then x else y) (if c then x' else y')
+pub if_same : {A B : Type 0} (R : A → B → Type 0) (b c : Bool) (x : A) (x' : B) (y : A) (y' : B) → b ≡ c → (b ≡ true → R x x') → R y y'
+    → R (if b then x else y) (if c then x' else y')
 if_same R true true x x' y y' e f g = f refl
 if_same R false false x x' y y' e f g = g
 if_same R true false x x' y y' e f g = absurd (true≢false e)

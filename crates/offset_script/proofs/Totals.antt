@@ -1,10 +1,11 @@
 -- The sums of sizes, and the numbers of live blocks, that every call keeps.
-use Rattle.std.proofs.Common.{◌≡◌, ℕ, zero, suc, ◌+◌, ◌-◌, ◌≤◌, true, false, not, cond, ◌&&◌, ◌||◌, List, [], ◌∷◌, ◌++◌, length, nat_le, nat_lt, if◌then◌else◌, refl, sym, ap, subst, ◌∙◌, inl, inr}
+use Rattle.std.proofs.Common.{◌≡◌, ℕ, zero, suc, ◌+◌, ◌≤◌, true, false, not, cond, ◌&&◌, ◌||◌, List, [], ◌∷◌, ◌++◌, length, nat_le, nat_lt, if◌then◌else◌}
+use Rattle.std.proofs.Common.{refl, sym, ap, subst, ◌∙◌, inl, inr}
 use Rattle.std.proofs.Common.{arith, le-leb, length-append, sum}
 use Rattle.std.proofs.lemmas.List.Elements.{filter-append}
 use Rattle.std.proofs.lemmas.List.Sums.{sum_by-cons}
-use Rattle.offset_allocator.specs.View.{max_size, padding_to}
-use Rattle.offset_script.specs.Machine.{Live, Free, Block, block, is_free, total, free_sizes, Place, chosen_place, free_block, ends_live, coalesce, State, Outcome, start, step, after, is_short_of}
+use Rattle.offset_allocator.specs.View.{max_size}
+use Rattle.offset_script.specs.Machine.{Free, Block, block, is_free, total, free_sizes, Place, chosen_place, free_block, ends_live, coalesce, State, Outcome, start, step, after, is_short_of}
 use Rattle.offset_script.specs.Machine.{returns_only, leaves, request, grant_or_refuse, stamp_of_call, stamp_of_padding}
 use Rattle.offset_allocator.specs.Reports.{largest}
 use Rattle.offset_script.specs.declared.scripts.Command.{Command}
@@ -12,7 +13,9 @@ use Rattle.offset_script.specs.declared.scripts.Command.TheVariants as command
 use Rattle.offset_script.specs.Machine as machine
 use Rattle.offset_script.specs.Histories.{KeepsSpace}
 use Rattle.offset_script.specs.Totals.{requested_units, live, added_units, added_by}
-use Rattle.offset_script.proofs.Well.{whole, chosen_at, found_at, granted_blocks, total-append, AreFree, coalesced, free_part}
+use Rattle.offset_script.proofs.Lists.{whole, total-append, AreFree, coalesced}
+use Rattle.offset_script.proofs.Found.{chosen_at, found_at}
+use Rattle.offset_script.proofs.Well.{granted_blocks, free_part}
 use Rattle.offset_script.proofs.Nests.{does}
 use Rattle.offset_script.proofs.Tests.{if_both}
 
@@ -31,16 +34,7 @@ total_coalesce xs n s ys =
     )
 
 total_granted : (p : Place) (n padding front k rest : ℕ) → padding + n ≤ p.block.size → total (granted_blocks p n padding front k rest) ≡ total (whole p)
-total_granted p n padding front k rest h =
-    omega (
-      arith,
-      total-append p.before (p.block ∷ p.after),
-      total-append p.before (free_block padding front ++ (block n (Live k) ∷ (free_block (p.block.size - (padding + n)) rest ++ p.after))),
-      total-append (free_block padding front) (block n (Live k) ∷ (free_block (p.block.size - (padding + n)) rest ++ p.after)),
-      total-append (free_block (p.block.size - (padding + n)) rest) p.after,
-      (free_part padding front).2,
-      (free_part (p.block.size - (padding + n)) rest).2,
-    )
+total_granted p n padding front k rest h = search (arith, total-append, free_part)
 
 -- how many blocks are live
 abbrev live_blocks : List Block → ℕ
@@ -81,16 +75,7 @@ live_coalesce xs n s ys =
     )
 
 live_granted : (p : Place) (n padding front k rest : ℕ) → live_blocks (granted_blocks p n padding front k rest) ≡ live_blocks p.before + (1 + live_blocks p.after)
-live_granted p n padding front k rest =
-    omega (
-      arith,
-      live-append p.before (free_block padding front ++ (block n (Live k) ∷ (free_block (p.block.size - (padding + n)) rest ++ p.after))),
-      live-append (free_block padding front)
-          (block n (Live k) ∷ (free_block (p.block.size - (padding + n)) rest ++ p.after)),
-      live-append (free_block (p.block.size - (padding + n)) rest) p.after,
-      live_free_block padding front,
-      live_free_block (p.block.size - (padding + n)) rest,
-    )
+live_granted p n padding front k rest = search (arith, live-append, live_free_block)
 
 -- a command that keeps the space keeps the sum
 total_kept : (c : Command) (s : State) → KeepsSpace c → total (step c s).state.blocks ≡ total s.blocks
@@ -202,11 +187,7 @@ pub full_refuses : (s : State) (n : ℕ) → s.limit ≤ length s.blocks + 1 →
 full_refuses s n h = refused s 1 n n (λ offset. 0) (omega arith) h
 
 pub full_refuses_aligned : (s : State) (n align : ℕ) → s.limit ≤ length s.blocks + 1 → (step (command.Align n align) s).answer ≡ machine.Refused
-full_refuses_aligned s n align h = if_both (λ (o : Outcome). o.answer ≡ machine.Refused) (nat_le align 1) (step (command.Alloc n) s)
-    (if nat_lt max_size (n + align - 1) then returns_only s machine.Refused else request s 2 (n + align - 1) n (padding_to align))
-    (λ e. full_refuses s n h)
-    (λ e. if_both (λ (o : Outcome). o.answer ≡ machine.Refused) (nat_lt max_size (n + align - 1)) (returns_only s machine.Refused) (request s 2 (n + align - 1) n (padding_to align)) (λ f. refl)
-    (λ f. refused s 2 (n + align - 1) n (padding_to align) (omega arith) h))
+full_refuses_aligned s n align h = search (arith, if_both, nat_le, nat_lt, full_refuses, refused)
 
 pub full_report : (s : State) → s.limit ≤ length s.blocks + 1 → (step command.Report s).answer ≡ machine.Report 0 0
 full_report s h = ap (λ b. if b then machine.Report 0 0 else machine.Report (sum (free_sizes s.blocks)) (largest (free_sizes s.blocks))) (short_too s 1 (omega arith) h)

@@ -2,8 +2,7 @@
 
 ghost use Rattle.std.specs.Prelude.{◌≡◌, IfSome, IsTrue};
 ghost use Rattle.offset_script.specs.Grammar.{plain_command, number_command, pair_command, command_of, width_of};
-ghost use Rattle.offset_script.specs.Grammar.{header_of};
-ghost use Rattle.offset_script.specs.Grammar.{has_valid_alignment, is_admitted, meaning_of};
+ghost use Rattle.offset_script.specs.Grammar.{header_of, has_valid_alignment, is_admitted, meaning_of};
 ghost use Rattle.offset_script.specs.Running.{IsParsed};
 
 use crate::faults::ScriptFault;

@@ -1,5 +1,6 @@
 -- Free blocks, counted along a walk over the blocks.
-use Rattle.std.proofs.Common.{◌≡◌, ℕ, ◌+◌, ◌<◌, ◌≤◌, Bool, true, false, is_some, inl, inr, slice_index, slice_set, sym, get_or-set_same, get_or-set_other, List, [], ◌∷◌, ◌++◌, length, reverse, nat_eq}
+use Rattle.std.proofs.Common.{◌≡◌, ℕ, ◌+◌, ◌<◌, ◌≤◌, Bool, true, false, is_some, slice_index, slice_set, get_or-set_same, get_or-set_other, List, [], ◌∷◌, ◌++◌, length}
+use Rattle.std.proofs.Common.{reverse, nat_eq}
 use Rattle.std.proofs.Common.{if◌then◌else◌, refl, ap, ◌∙◌, arith}
 use Rattle.std.proofs.lemmas.Bool.Decides.{eqb_tells}
 use Rattle.std.proofs.lemmas.List.{reverse-append}
@@ -61,27 +62,9 @@ count_most c (b ∷ bs) =
 pub counted_hole : (ns : List ℕ) (p : Placed) (ps : List Placed) (k : ℕ) (total : ℕ → ℕ) → length ns ≡ 256 → k ≡ down p.size → is_some {T = Grant} p.grant ≡ false
     → ((c : ℕ) → c < 256 → slice_index ns c + holes c (p ∷ ps) ≡ total c)
     → (c : ℕ) → c < 256 → slice_index (slice_set ns k (slice_index ns k + 1)) c + holes c ps ≡ total c
-counted_hole ns p ps k total len e none so_far c l =
-    let is : hole c p ≡ class_hole (down p.size) c = ap (λ (u : Bool). if u then 0 else class_hole (down p.size) c) none in
-    let whole = so_far c l in
-    elim (eqb_tells (down p.size) c) [
-      | inl h ↦
-          let one : class_hole (down p.size) c ≡ 1 = ap one_if h.0 in
-          let same : c ≡ k = sym (e ∙ h.1) in
-          let long : k < length ns = omega (arith, same, l, len) in
-          let new : slice_index (slice_set ns k (slice_index ns k + 1)) c ≡ slice_index ns k + 1 =
-          ap (slice_index (slice_set ns k (slice_index ns k + 1))) same ∙ get_or-set_same ns k (slice_index ns k + 1) 0 long in
-          omega (arith, whole, is, one, new, ap (slice_index ns) same)
-      | inr h ↦
-          let none : class_hole (down p.size) c ≡ 0 = ap one_if h.0 in
-          let old : slice_index (slice_set ns k (slice_index ns k + 1)) c ≡ slice_index ns c = get_or-set_other ns k c (slice_index ns k + 1) 0 (λ q. h.1 (sym e ∙ sym q)) in
-          omega (arith, whole, is, none, old)
-    ]
+counted_hole ns p ps k total len e none so_far c l = search (arith, eqb_tells, length, slice_index, slice_set, get_or-set_same, get_or-set_other)
 
 -- so that count is at most the total
 pub hole_fits : (ns : List ℕ) (p : Placed) (ps : List Placed) (k : ℕ) (total : ℕ → ℕ) → length ns ≡ 256 → k ≡ down p.size → is_some {T = Grant} p.grant ≡ false
     → ((c : ℕ) → c < 256 → slice_index ns c + holes c (p ∷ ps) ≡ total c) → slice_index ns k + 1 ≤ total k
-hole_fits ns p ps k total len e none so_far =
-    let small : k < 256 = omega (arith, e, down_small p.size) in
-    let long : k < length ns = omega (arith, small, len) in
-    omega (arith, counted_hole ns p ps k total len e none so_far k small, get_or-set_same ns k (slice_index ns k + 1) 0 long)
+hole_fits ns p ps k total len e none so_far = search (arith, down_small, length, counted_hole, get_or-set_same, slice_index)

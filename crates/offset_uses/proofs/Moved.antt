@@ -1,11 +1,12 @@
 -- What the copies of the moves leave under each handle.
-use Rattle.std.proofs.Common.{◌≡◌, ℕ, ◌+◌, ◌-◌, ◌<◌, ◌≤◌, Bool, true, false, Option, Some, None, List, [], ◌∷◌, ◌++◌, length, slice_index_or, if◌then◌else◌, nat_eq, option_map, option_and_then, refl}
+use Rattle.std.proofs.Common.{◌≡◌, ℕ, ◌+◌, ◌<◌, ◌≤◌, Bool, true, false, Option, Some, None, List, [], ◌∷◌, ◌++◌, length, slice_index_or, if◌then◌else◌, nat_eq}
+use Rattle.std.proofs.Common.{option_map, option_and_then, refl}
 use Rattle.std.proofs.Common.{sym, ap, subst, ◌∙◌, inl, inr, arith}
 use Rattle.std.specs.Bool.{⊤}
 use Rattle.std.specs.List.{FoldsTo}
 use Rattle.std.proofs.lemmas.Bool.{cases_eq}
 use Rattle.std.proofs.lemmas.Bool.Decides.{nat_tests}
-use Rattle.offset_allocator.specs.View.{Block, View, Place, one, place_of, count_named, free_sizes, units, IsWellFormed}
+use Rattle.offset_allocator.specs.View.{Block, View, Place, one, place_of, count_named, units, IsWellFormed}
 use Rattle.offset_allocator.specs.Ranges.{Range, range_of}
 use Rattle.offset_allocator.specs.Compacting.{Move, live, moves, move_of, gathered, Compacts}
 use Rattle.offset_allocator.proofs.Sliding.{live_used, live_idle, moves_used, moves_idle}
@@ -62,8 +63,7 @@ range_found x v = go (place_of x v.blocks) ∙ found_is x 0 v.blocks
     go (Some p) = both p.block.used p
 
 found_other : (x o : ℕ) (b : Block) (bs : List Block) → one (nat_eq x b.name) ≡ 0 → found x o (b ∷ bs) ≡ found x (o + b.size) bs
-found_other x o b bs e = elim (nat_eq x b.name) as (λ t. one t ≡ 0 → (if t then (if b.used then range_from o b.size else no_range) else found x (o + b.size) bs) ≡ found x (o + b.size) bs)
-    [ true ↦ λ q. absurd (omega (arith, q)) | false ↦ λ q. refl ] e
+found_other x o b bs e = search (arith, nat_eq)
 
 found_here : (x o : ℕ) (b : Block) (bs : List Block) → x ≡ b.name → found x o (b ∷ bs) ≡ (if b.used then range_from o b.size else no_range)
 found_here x o b bs e = let t : nat_eq x b.name ≡ true = grind (arith, nat_tests) in ap (λ (t : Bool). if t then (if b.used then range_from o b.size else no_range) else found x (o + b.size) bs) t
@@ -95,7 +95,8 @@ found_from x n o (b ∷ bs) l =
     ]
 
 -- what the bytes from an offset on are does not change what ranges there hold
-holds_from : (n : ℕ) (ws xs ys : List ℕ) (q r : Option Range) → ((i d : ℕ) → n ≤ i → slice_index_or xs i d ≡ slice_index_or ws i d) → IsFrom n q → HasSameBytes xs ys q r → HasSameBytes ws ys q r
+holds_from : (n : ℕ) (ws xs ys : List ℕ) (q r : Option Range) → ((i d : ℕ) → n ≤ i → slice_index_or xs i d ≡ slice_index_or ws i d) → IsFrom n q
+    → HasSameBytes xs ys q r → HasSameBytes ws ys q r
 holds_from n ws xs ys None None e l h = tt
 holds_from n ws xs ys None (Some s) e l h = h
 holds_from n ws xs ys (Some q) None e l h = h
@@ -104,40 +105,22 @@ holds_from n ws xs ys (Some q) (Some s) e l h = (h.0, λ i d m. h.1 i d m ∙ e 
 -- one move, or none where a block stays
 step : (from to : ℕ) (b : Block) (ws ys : List ℕ) (ms : List Move) → FoldsTo (λ xs (m : Move) zs. IsCopied m.from m.to m.size xs zs) ws (move_of from to b ++ ms) ys
     → to ≤ from → from + b.size ≤ length ws
-    → (xs : List ℕ) × (length xs ≡ length ws) × ((i d : ℕ) → i < to → slice_index_or xs i d ≡ slice_index_or ws i d) × ((i d : ℕ) → to + b.size ≤ i → slice_index_or xs i d ≡ slice_index_or ws i d)
+    → (xs : List ℕ) × (length xs ≡ length ws) × ((i d : ℕ) → i < to → slice_index_or xs i d ≡ slice_index_or ws i d)
+    × ((i d : ℕ) → to + b.size ≤ i → slice_index_or xs i d ≡ slice_index_or ws i d)
     × ((i d : ℕ) → i < b.size → slice_index_or xs (to + i) d ≡ slice_index_or ws (from + i) d) × FoldsTo (λ xs (m : Move) zs. IsCopied m.from m.to m.size xs zs) xs ms ys
-step from to b ws ys ms f l fits = elim (cases_eq from to) [
-  | inl e ↦
-      let t : nat_eq from to ≡ true = grind (arith, nat_tests) in
-      let g : FoldsTo (λ xs (m : Move) zs. IsCopied m.from m.to m.size xs zs) ws ms ys =
-      subst (λ (t : Bool). FoldsTo (λ xs (m : Move) zs. IsCopied m.from m.to m.size xs zs) ws ((if t then [] else record { name = b.name; from = from; to = to; size = b.size } ∷ []) ++ ms) ys) t f
-      in
-      (ws, refl, (λ i d m. refl), (λ i d m. refl), (λ i d m. ap (λ n. slice_index_or ws (n + i) d) (sym e)), g)
-  | inr e ↦
-      let t : nat_eq from to ≡ false = grind (arith, nat_tests) in
-      let g : FoldsTo (λ xs (m : Move) zs. IsCopied m.from m.to m.size xs zs) ws (record { name = b.name; from = from; to = to; size = b.size } ∷ ms) ys =
-      subst (λ (t : Bool). FoldsTo (λ xs (m : Move) zs. IsCopied m.from m.to m.size xs zs) ws ((if t then [] else record { name = b.name; from = from; to = to; size = b.size } ∷ []) ++ ms) ys) t f
-      in
-      let c : IsCopied from to b.size ws g.0 = g.1 in (
-        g.0,
-        c.len,
-        (λ i d m. c.below l fits i d m),
-        (λ i d m. c.after l fits i d m),
-        (λ i d m. c.copied l fits (to + i) d (omega arith) (omega (arith, m)) ∙ (let n : from + ((to + i) - to) ≡ from + i = omega arith in ap (λ k. slice_index_or ws k d) n)),
-        g.2,
-      )
-]
+step from to b ws ys ms f l fits = search (arith, cases_eq, nat_eq, nat_tests, slice_index_or)
 
 -- the moves of blocks that begin at an offset, packed from another one on
-pub moved : (from to : ℕ) (bs : List Block) (ws ys : List ℕ) → FoldsTo (λ xs (m : Move) zs. IsCopied m.from m.to m.size xs zs) ws (moves from to bs) ys → to ≤ from → from + units bs ≤ length ws
+pub moved : (from to : ℕ) (bs : List Block) (ws ys : List ℕ) → FoldsTo (λ xs (m : Move) zs. IsCopied m.from m.to m.size xs zs) ws (moves from to bs) ys → to ≤ from
+    → from + units bs ≤ length ws
     → (length ys ≡ length ws) × ((i d : ℕ) → i < to → slice_index_or ys i d ≡ slice_index_or ws i d)
     × ((x y : ℕ) (ns : List ℕ) → count_named x bs ≤ 1 → HasSameBytes ws ys (found x from bs) (found x to (live bs ++ gathered y ns)))
-moved from to [] ws ys f l fits =
-    (sym (ap (λ (k : List ℕ). length k) f), (λ i d m. ap (λ k. slice_index_or k i d) (sym f)), λ x y ns m. subst (λ q. HasSameBytes ws ys None q) (sym (found_gathered x to y ns)) tt)
+moved from to [] ws ys f l fits = search (arith, length, slice_index_or, found_gathered)
 moved from to (b ∷ bs) ws ys f l fits = go b.used refl (λ t xs. moved (from + b.size) t bs xs ys)
   where
     go : (u : Bool) → b.used ≡ u
-        → ((t : ℕ) (xs : List ℕ) → FoldsTo (λ xs (m : Move) zs. IsCopied m.from m.to m.size xs zs) xs (moves (from + b.size) t bs) ys → t ≤ from + b.size → (from + b.size) + units bs ≤ length xs
+        → ((t : ℕ) (xs : List ℕ) → FoldsTo (λ xs (m : Move) zs. IsCopied m.from m.to m.size xs zs) xs (moves (from + b.size) t bs) ys → t ≤ from + b.size
+        → (from + b.size) + units bs ≤ length xs
         → (length ys ≡ length xs) × ((i d : ℕ) → i < t → slice_index_or ys i d ≡ slice_index_or xs i d)
         × ((x y : ℕ) (ns : List ℕ) → count_named x bs ≤ 1 → HasSameBytes xs ys (found x (from + b.size) bs) (found x t (live bs ++ gathered y ns))))
         → (length ys ≡ length ws) × ((i d : ℕ) → i < to → slice_index_or ys i d ≡ slice_index_or ws i d)
@@ -163,36 +146,21 @@ moved from to (b ∷ bs) ws ys f l fits = go b.used refl (λ t xs. moved (from +
                 (subst (λ q. HasSameBytes ws ys (found x (from + b.size) bs) q) (sym (found_other x to b (live bs ++ gathered y ns) h.1)) later)
           ]),
         )
-    go false u rest =
-        let r = rest to ws (subst (λ (ms : List Move). FoldsTo (λ xs (m : Move) zs. IsCopied m.from m.to m.size xs zs) ws ms ys) (moves_idle from to b bs u) f) (omega (arith, l)) (omega (arith, fits))
-        in (
-          r.0,
-          r.1,
-          λ x y ns m. subst (λ (k : List Block). HasSameBytes ws ys (found x from (b ∷ bs)) (found x to (k ++ gathered y ns))) (sym (live_idle b bs u)) (elim (hit_cases x b.name) [
-            | inl h ↦
-                let was : found x from (b ∷ bs) ≡ None = found_here x from b bs h.0 ∙ ap (λ (v : Bool). if v then range_from from b.size else no_range) u in
-                subst (λ q. HasSameBytes ws ys q (found x to (live bs ++ gathered y ns))) (sym was)
-                (subst (λ q. HasSameBytes ws ys None q) (sym (found_absent x to y ns bs (omega (arith, m, h.1)))) tt)
-            | inr h ↦ subst (λ q. HasSameBytes ws ys q (found x to (live bs ++ gathered y ns))) (sym (found_other x from b bs h.1)) (r.2 x y ns (omega (arith, m)))
-          ]),
-        )
+    go false u rest = search (arith, moves_idle, live_idle, hit_cases, found_here, found_absent, found_other)
 
 -- copies keep the length
 pub copies_keep : (ms : List Move) (xs ys : List ℕ) → FoldsTo (λ xs (m : Move) zs. IsCopied m.from m.to m.size xs zs) xs ms ys → length ys ≡ length xs
 copies_keep [] xs ys f = ap (λ (k : List ℕ). length k) (sym f)
 copies_keep (m ∷ ms) xs ys f = copies_keep ms f.0 ys f.2 ∙ (let c : IsCopied m.from m.to m.size xs f.0 = f.1 in c.len)
 
-pub compacted_holds : (v w : View) (xs ys : List ℕ) → IsWellFormed v → Compacts v w → v.size ≤ length xs → FoldsTo (λ xs (m : Move) zs. IsCopied m.from m.to m.size xs zs) xs (moves 0 0 v.blocks) ys
+pub compacted_holds : (v w : View) (xs ys : List ℕ) → IsWellFormed v → Compacts v w → v.size ≤ length xs
+    → FoldsTo (λ xs (m : Move) zs. IsCopied m.from m.to m.size xs zs) xs (moves 0 0 v.blocks) ys
     → (length ys ≡ length xs) × ((x : ℕ) → HasSameBytes xs ys (range_of x v) (range_of x w))
-compacted_holds v w xs ys well c fits f =
-    let m = moved 0 0 v.blocks xs ys f (omega arith) (omega (arith, well.whole, fits)) in (
-      m.0,
-      λ x. subst (λ q. HasSameBytes xs ys q (range_of x w)) (sym (range_found x v))
-          (subst (λ q. HasSameBytes xs ys (found x 0 v.blocks) q) (sym (range_found x w ∙ ap (λ (u : View). found x 0 u.blocks) c.view)) (m.2 x c.name (free_sizes v.blocks) (well.distinct x))),
-    )
+compacted_holds v w xs ys well c fits f = search (arith, moved, range_found)
 
 -- calls of a closure, seen by what it borrowed: this is changed step by step, and stays the same reference
-pub calls_seen : {P A S N : Type 0} (R : P → A → P → Type 0) (T : S → A → S → Type 0) (see : P → S) (place : P → N) → ((p : P) (x : A) (q : P) → R p x q → T (see p) x (see q) × (place q ≡ place p))
+pub calls_seen : {P A S N : Type 0} (R : P → A → P → Type 0) (T : S → A → S → Type 0) (see : P → S) (place : P → N)
+    → ((p : P) (x : A) (q : P) → R p x q → T (see p) x (see q) × (place q ≡ place p))
     → (xs : List A) (p q : P) → FoldsTo R p xs q → FoldsTo T (see p) xs (see q) × (place q ≡ place p)
 calls_seen R T see place each [] p q e = (ap see e, ap place (sym e))
 calls_seen R T see place each (x ∷ xs) p q f =

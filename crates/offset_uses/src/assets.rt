@@ -2,7 +2,8 @@
 
 ghost use Rattle.std.specs.Prelude.{◌≡◌, Some, None, IfSome};
 ghost use Rattle.offset_guarded.specs.declared.ticket.Ticket.{Ticket};
-ghost use Rattle.offset_guarded.specs.Guard.{AreAlike, KeepsOthers, IsLive, range_of};
+ghost use Rattle.offset_guarded.specs.Guard.{AreAlike, Guard, KeepsOthers, IsLive, range_of};
+ghost use Rattle.offset_uses.specs.Assets.{Loads, Unloads};
 
 use offset_guarded::{Guarded, Ticket};
 
@@ -11,6 +12,7 @@ pub fn unload(assets: &mut Guarded, ticket: Ticket)
     ensures gone { range_of ticket assets.new ≡ None }
     ensures others { KeepsOthers ticket assets.old assets.new }
     ensures again { range_of ticket assets.old ≡ None → assets.new ≡ assets.old }
+    ensures step { Unloads ticket assets.old assets.new }
 {
     let _ = assets.free(ticket);
 }
@@ -22,6 +24,7 @@ pub fn reload(assets: &mut Guarded, ticket: Ticket, size: u32) -> Option<Ticket>
         range_of t assets.new ≡ Some (record { offset = t.offset; size = size })) }
     ensures others { (u : Ticket) → (AreAlike u ticket → ⊥) → IsLive u assets.old
         → range_of u assets.new ≡ range_of u assets.old }
+    ensures step { (g : Guard) × Unloads ticket assets.old g × Loads size g assets.new result }
 {
     unload(assets, ticket);
     assets.allocate(size)

@@ -6,7 +6,7 @@ ghost use Rattle.std.specs.Prelude.{IfSome, IfOk, IfErr, IsOk, IsSome, IsTrue, l
 ghost use Rattle.std.specs.Int.{is_power_of_two};
 ghost use Rattle.offset_allocator.specs.View.{used_units, largest_free};
 ghost use Rattle.offset_allocator.specs.Ranges.{Range, range_of, size_of, KeepsAll, KeepsOthers, IsLive};
-ghost use Rattle.offset_allocator.specs.Relations.{Allocates, Frees, SameSpace, Resets};
+ghost use Rattle.offset_allocator.specs.Relations.{Aligns, Allocates, Frees, SameSpace, Resets};
 ghost use Rattle.offset_allocator.specs.Requests.{CanGrant, IsWhy};
 ghost use Rattle.offset_allocator.specs.Resizing.{CanShrink, CanGrow, HasUnits};
 ghost use Rattle.offset_allocator.specs.Compacting.{Compacts, KeepsSizes};
@@ -72,6 +72,8 @@ pub fn upload(heap: &mut Allocator, size: u32, align: u32) -> Option<Allocation>
     ensures refused { result ≡ None → KeepsAll heap.old heap.new }
     ensures granted { IsTrue (is_power_of_two align)
         → (IsSome result ↔ CanGrant (min align 2) (size + align - 1) heap.old) }
+    ensures power { IsSome result → IsTrue (is_power_of_two align) }
+    ensures step { IsTrue (is_power_of_two align) → Aligns size align heap.old heap.new result }
     ensures size { heap.new.size ≡ heap.old.size }
 {
     if !align.is_power_of_two() {

@@ -1,11 +1,11 @@
 //! What engines do beside: requests of one alignment, handles that travel, and several spaces.
 
-ghost use Rattle.std.specs.Prelude.{ℕ, ◌≡◌, ◌≢◌, ◌↔◌, ◌+◌, ◌*◌, ◌/◌, ◌%◌, ◌<◌, ◌≤◌, None, false, IfSome, IsSome};
-ghost use Rattle.std.specs.Prelude.{IsTrue};
-ghost use Rattle.std.specs.Prelude.{length, slice_index_or};
-ghost use Rattle.offset_allocator.specs.View.{View, largest_free};
+ghost use Rattle.std.specs.Prelude.{ℕ, ◌≡◌, ◌≢◌, ◌↔◌, ◌⊎◌, ◌+◌, ◌*◌, ◌/◌, ◌%◌, ◌<◌, ◌≤◌, Some, None, false, IfSome};
+ghost use Rattle.std.specs.Prelude.{IsSome, IsTrue, length, slice_index_or};
+ghost use Rattle.std.specs.Int.{is_power_of_two};
+ghost use Rattle.offset_allocator.specs.View.{View, Grant, largest_free};
 ghost use Rattle.offset_allocator.specs.Ranges.{IsLive, KeepsAll, KeepsOthers};
-ghost use Rattle.offset_allocator.specs.Relations.{Allocates, Frees};
+ghost use Rattle.offset_allocator.specs.Relations.{Aligns, Allocates, Frees};
 ghost use Rattle.offset_uses.specs.Grants.{IsGrantOf};
 
 use crate::daily::{give_back, upload};
@@ -30,6 +30,9 @@ pub fn upload_units(heap: &mut Allocator, bytes: u32) -> Option<(Allocation, u64
 }
 
 /// Two uploads of different alignments, both or neither.
+///
+/// It returns the two handles, or `None` where an alignment is no power of two, the first request is refused, or the
+/// second after it. Then no live range has changed.
 pub fn upload_both(
     heap: &mut Allocator,
     size: u32,
@@ -41,6 +44,16 @@ pub fn upload_both(
     ensures second { IfSome result (λ r. IsGrantOf other_size r.1 heap.new) }
     ensures aligned { IfSome result (λ r. (r.0.offset % align ≡ 0) × (r.1.offset % other_align ≡ 0)) }
     ensures differ { IfSome result (λ r. r.0.name ≢ r.1.name) }
+    ensures powers { IsSome result
+        → IsTrue (is_power_of_two align) × IsTrue (is_power_of_two other_align) }
+    ensures granted { IfSome result (λ r. (v : View) × Aligns size align heap.old v (Some r.0)
+        × Aligns other_size other_align v heap.new (Some r.1)) }
+    ensures refused { result ≡ None
+        → IsTrue (is_power_of_two align) → IsTrue (is_power_of_two other_align)
+        → ((v : View) × Aligns size align heap.old v None)
+        ⊎ ((v w : View) × (g : Grant) × Aligns size align heap.old v (Some g)
+        × Aligns other_size other_align v w None) }
+    ensures kept { result ≡ None → KeepsAll heap.old heap.new }
 {
     let one = upload(heap, size, align)?;
     match upload(heap, other_size, other_align) {

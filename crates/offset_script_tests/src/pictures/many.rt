@@ -29,14 +29,14 @@ const PICTURES: [Picture; 4] = [
         ],
         counts: &[(RECTANGLE, 2)],
     },
-    // The first grant is live to the end, and ends the plot at unit 1,000,000. All others are one unit each, less than a
-    // thousandth of a pixel high, and at the same height: from 156.7 to 156.8, drawn 0.3 pixels high. With 41,999 calls
-    // one call takes 0.025 pixels.
+    // The first grant is live to the end, and ends the plot at unit 1,000,000. All others are one unit each, less than
+    // a thousandth of a pixel high, and at the same height: from 156.7 to 156.8, drawn 0.3 pixels high. With 41,999
+    // calls one call takes 0.025 pixels.
     //
     // Grants 2 to 20,001 are live for one call each, in calls 2 to 40,001: from 120.05, and so from 120, to 1120.025,
     // and so to 1120.1. Grant 20,002 is live for 100 calls from call 40,002 on: from 1120.05, and so from 1120, to
-    // 1122.55, and so to 1122.6. It touches those before, and is of another age. Grant 20,003 is inside it, for 40 calls
-    // from call 40,010 on.
+    // 1122.55, and so to 1122.6. It touches those before, and is of another age. Grant 20,003 is inside it, for 40
+    // calls from call 40,010 on.
     Picture {
         script: &[
             Lines(1, "space 1000000 nodes 16 index 32\nalloc 983040\n"),
@@ -58,9 +58,9 @@ const PICTURES: [Picture; 4] = [
         ],
         counts: &[(RECTANGLE, 3)],
     },
-    // Each call takes a twentieth of a pixel: 20,999 calls. Two states lie within one tenth of a pixel. Calls 2 and 3 are
-    // at 120.1 and 120.15: fewer units are free for one call. Call 4,000 is at 320, and calls 4,002 and 4,003 are at
-    // 320.1 and 320.15: more units are free for one call. Calls 6,000 to 6,002 are at 420, 420.05 and 420.1.
+    // Each call takes a twentieth of a pixel: 20,999 calls. Two states lie within one tenth of a pixel. Calls 2 and 3
+    // are at 120.1 and 120.15: fewer units are free for one call. Call 4,000 is at 320, and calls 4,002 and 4,003 are
+    // at 320.1 and 320.15: more units are free for one call. Calls 6,000 to 6,002 are at 420, 420.05 and 420.1.
     Picture {
         script: &[
             Lines(1, "space 100 nodes 16 index 32\nreport\nalloc 60\nfree 1\n"),

@@ -80,7 +80,8 @@ fn stops_at_a_failed_or_empty_write(rt: HostRuntime) {
     }
 }
 
-// The last read is the one that finds the end. Reading stops one byte after the largest length, in pieces of any length.
+// The last read is the one that finds the end. Reading stops one byte after the largest length, in pieces of any
+// length.
 #[test]
 fn reads_in_pieces(rt: HostRuntime) {
     let long = vec![in rt.alloc(); b'#'; 1_048_577 + 5].expect(&rt, "memory");

@@ -12,8 +12,16 @@ use Rattle.offset_allocator.proofs.AllocatorOf.append.Goals.{After-ready, After-
 use Rattle.offset_allocator.proofs.AllocatorOf.append.Given.{Over}
 
 -- what the call knows of the fields
-pre : (g : Over) (c : After-ready g) → Growth (with_made (fields_of g.T.Tables.cells g.T.Index.NodeIndex.MAX c.self.inside) (g.T.Tables.cells c.ready.new.tables) c.ready.new.spare_count) c.args.more true
-pre g c = record { sound = made (fields_of g.T.Tables.cells g.T.Index.NodeIndex.MAX c.self.inside) c.self.invariant c.ready.ensures.readies; some = c.requires.more; fits = rw (← c.self.view_is) at c.requires.fits; ends = ap (λ (u : View). ends_used u.blocks) (made_shown (fields_of g.T.Tables.cells g.T.Index.NodeIndex.MAX c.self.inside) c.self.invariant c.ready.ensures.readies ∙ c.self.view_is) ∙ c.requires.used }
+pre : (g : Over) (c : After-ready g) → Growth (with_made (fields_of g.T.Tables.cells g.T.Index.NodeIndex.MAX c.self.inside) (g.T.Tables.cells c.ready.new.tables)
+    c.ready.new.spare_count) c.args.more true
+pre g c = record {
+  sound = made (fields_of g.T.Tables.cells g.T.Index.NodeIndex.MAX c.self.inside) c.self.invariant c.ready.ensures.readies;
+  some = c.requires.more;
+  fits = rw (← c.self.view_is) at c.requires.fits;
+  ends =
+      ap (λ (u : View). ends_used u.blocks) (made_shown (fields_of g.T.Tables.cells g.T.Index.NodeIndex.MAX c.self.inside) c.self.invariant c.ready.ensures.readies
+      ∙ c.self.view_is) ∙ c.requires.used;
+}
 
 pub ready-requires-clause-memory : goal.ready-requires-clause-memory
 ready-requires-clause-memory g c = (_, _, _, c.self.invariant.space, omega (arith, rw (← c.self.view_is) at c.requires.enough, c.self.invariant.memory))
@@ -28,7 +36,13 @@ pub split-name-requires-clause-place : goal.split-name-requires-clause-place
 split-name-requires-clause-place g c = (_, _, end_place (made (fields_of g.T.Tables.cells g.T.Index.NodeIndex.MAX c.self.inside) c.self.invariant c.ready.ensures.readies).space)
 
 pub grow-requires-clause-place : goal.grow-requires-clause-place
-grow-requires-clause-place g c = (_, _, _, _, last_place _ _ _ (c.split-name.ensures.place _ _ (end_place (made (fields_of g.T.Tables.cells g.T.Index.NodeIndex.MAX c.self.inside) c.self.invariant c.ready.ensures.readies).space)))
+grow-requires-clause-place g c = (
+  _,
+  _,
+  _,
+  _,
+  last_place _ _ _ (c.split-name.ensures.place _ _ (end_place (made (fields_of g.T.Tables.cells g.T.Index.NodeIndex.MAX c.self.inside) c.self.invariant c.ready.ensures.readies).space)),
+)
 
 pub grow-requires-clause-fits : goal.grow-requires-clause-fits
 grow-requires-clause-fits g c =
@@ -56,18 +70,26 @@ push-requires-clause-unlisted g c =
 pub overflow_add-self-2 : goal.overflow_add-self-2
 overflow_add-self-2 g c = omega (arith, free_fits (pre g (goal.at.overflow_add-self-2 g c).After-ready))
 
-done : (g : Over) (c : After-push g) (r : Growth (with_made (fields_of g.T.Tables.cells g.T.Index.NodeIndex.MAX c.self.inside) (g.T.Tables.cells c.ready.new.tables) c.ready.new.spare_count) c.args.more true) (k : ℕ) → Grown r (g.T.Tables.cells c.push.new.store.tables) c.push.new.store.last c.push.new.store.spare_count c.push.new.store.top_mask k
+done : (g : Over) (c : After-push g) (r : Growth (with_made (fields_of g.T.Tables.cells g.T.Index.NodeIndex.MAX c.self.inside) (g.T.Tables.cells c.ready.new.tables) c.ready.new.spare_count)
+    c.args.more true) (k : ℕ) → Grown r (g.T.Tables.cells c.push.new.store.tables) c.push.new.store.last c.push.new.store.spare_count c.push.new.store.top_mask k
 done g c r k =
     let held = end_held r refl in
     let grown = c.grow.ensures.place _ _ _ _ (last_place _ _ _ (c.split-name.ensures.place _ _ held)) in
-    rw (c.push.ensures.chain.1, c.push.ensures.chain.2) (appended r (g.T.Tables.cells c.push.new.store.tables) k (rw (← (made_shown (fields_of g.T.Tables.cells g.T.Index.NodeIndex.MAX c.self.inside) c.self.invariant c.ready.ensures.readies ∙ c.self.view_is)) at c.requires.enough) c.size-whole.ensures.size (rw c.push.ensures.chain.0 grown.chain) c.push.ensures.held
+    rw (c.push.ensures.chain.1, c.push.ensures.chain.2)
+    (appended r (g.T.Tables.cells c.push.new.store.tables) k
+    (rw (← (made_shown (fields_of g.T.Tables.cells g.T.Index.NodeIndex.MAX c.self.inside) c.self.invariant c.ready.ensures.readies ∙ c.self.view_is)) at c.requires.enough)
+    c.size-whole.ensures.size (rw c.push.ensures.chain.0 grown.chain) c.push.ensures.held
     (rw (c.grow.ensures.links, c.split-name.ensures.bins.0, c.uint_to_float_round_down.ensures.is) at c.push.ensures.lists) (c.split-name.ensures.fresh _ _ held) c.split-name.ensures.below)
 
 pub invariant_of-self : goal.invariant_of-self
 invariant_of-self g c = let at = goal.at.invariant_of-self g c in (done g at.After-push (pre g at.After-ready) 0).0
 
 pub returns-clause-step : goal.returns-clause-step
-returns-clause-step g c = let at = goal.at.returns-clause-step g c in rw (← (made_shown (fields_of g.T.Tables.cells g.T.Index.NodeIndex.MAX c.self.inside) c.self.invariant c.ready.ensures.readies ∙ c.self.view_is)) (done g at.After-push (pre g at.After-ready) c.push.new.store.accesses).1
+returns-clause-step g c = let at = goal.at.returns-clause-step g c in
+    rw (← (made_shown (fields_of g.T.Tables.cells g.T.Index.NodeIndex.MAX c.self.inside) c.self.invariant c.ready.ensures.readies ∙ c.self.view_is))
+    (done g at.After-push (pre g at.After-ready) c.push.new.store.accesses).1
 
 pub returns-clause-kept : goal.returns-clause-kept
-returns-clause-kept g c = let at = goal.at.returns-clause-kept g c in rw (← (made_shown (fields_of g.T.Tables.cells g.T.Index.NodeIndex.MAX c.self.inside) c.self.invariant c.ready.ensures.readies ∙ c.self.view_is)) (done g at.After-push (pre g at.After-ready) c.push.new.store.accesses).2
+returns-clause-kept g c = let at = goal.at.returns-clause-kept g c in
+    rw (← (made_shown (fields_of g.T.Tables.cells g.T.Index.NodeIndex.MAX c.self.inside) c.self.invariant c.ready.ensures.readies ∙ c.self.view_is))
+    (done g at.After-push (pre g at.After-ready) c.push.new.store.accesses).2

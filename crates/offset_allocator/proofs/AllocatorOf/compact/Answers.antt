@@ -64,14 +64,22 @@ pub push-requires-clause-unlisted : goal.push-requires-clause-unlisted
 push-requires-clause-unlisted g c = empty_unlisted c.slide-hole.result.0 (ap (λ (k : Links). bins_in g.T.Index.NodeIndex.MAX k) c.slide-hole.ensures.bins.0 ∙ c.empty.ensures.lists)
 
 -- the fields that are left, and what they show
-done : (g : Over) (c : After-push g) (k : ℕ) (f : Fields) → f ≡ record (fields_of g.T.Tables.cells g.T.Index.NodeIndex.MAX c.self.inside) { cells = (g.T.Tables.cells c.push.new.store.tables); last = c.push.new.store.last; count = c.push.new.store.spare_count; top = c.push.new.store.top_mask; accesses = k }
+done : (g : Over) (c : After-push g) (k : ℕ) (f : Fields) → f ≡ record (fields_of g.T.Tables.cells g.T.Index.NodeIndex.MAX c.self.inside) {
+  cells = (g.T.Tables.cells c.push.new.store.tables);
+  last = c.push.new.store.last;
+  count = c.push.new.store.spare_count;
+  top = c.push.new.store.top_mask;
+  accesses = k;
+}
     → AreSound f × Compacts (shown (fields_of g.T.Tables.cells g.T.Index.NodeIndex.MAX c.self.inside)) (shown f)
 done g c k f is =
     let old : Fields = fields_of g.T.Tables.cells g.T.Index.NodeIndex.MAX c.self.inside in
     let o : IsFirst (blocks (g.T.Tables.cells c.self.inside.store.tables).room c.self.inside.store.last) c.in-Some.first = first_is _ _ (sym c.first_free.ensures.first ∙ c.in-Some.is) in
     let e = c.slide-hole.ensures.place _ _ (kept_place c.empty.ensures.chain (first_held old c.self.invariant o refl)) o.idle in
-    let empty : bins_in g.T.Index.NodeIndex.MAX (g.T.Tables.cells c.slide-hole.new.store.tables).links ≡ replicate 256 [] = ap (λ (k : Links). bins_in g.T.Index.NodeIndex.MAX k) c.slide-hole.ensures.bins.0 ∙ c.empty.ensures.lists in
-    rw is (packs old c.self.invariant o (g.T.Tables.cells c.push.new.store.tables) _ _ c.slide-hole.result.0 c.slide-hole.result.1 (kept_place c.push.ensures.chain e.0) e.1 {accesses = k} c.push.ensures.held (rw (c.uint_to_float_round_down.ensures.is, empty) at c.push.ensures.lists))
+    let empty : bins_in g.T.Index.NodeIndex.MAX (g.T.Tables.cells c.slide-hole.new.store.tables).links ≡ replicate 256 [] =
+    ap (λ (k : Links). bins_in g.T.Index.NodeIndex.MAX k) c.slide-hole.ensures.bins.0 ∙ c.empty.ensures.lists in
+    rw is (packs old c.self.invariant o (g.T.Tables.cells c.push.new.store.tables) _ _ c.slide-hole.result.0 c.slide-hole.result.1 (kept_place c.push.ensures.chain e.0) e.1 {accesses = k}
+    c.push.ensures.held (rw (c.uint_to_float_round_down.ensures.is, empty) at c.push.ensures.lists))
 
 pub invariant_of-self-2 : goal.invariant_of-self-2
 invariant_of-self-2 g c = (done g (goal.at.invariant_of-self-2 g c).After-push 0 _ refl).0
@@ -89,7 +97,8 @@ returns-clause-moved g c =
     let e = c.slide-hole.ensures.place _ _ (kept_place c.empty.ensures.chain (first_held f c.self.invariant o refl)) o.idle in
     let from : 0 + (units p.before + p.block.size) ≡ units p.before + p.block.size = omega arith in
     let to : 0 + units p.before ≡ units p.before = omega arith in
-    let same : moves 0 0 c.args.self.now.blocks ≡ moves (units p.before + p.block.size) (units p.before) p.after = ap (λ (u : View). moves 0 0 u.blocks) (sym c.self.view_is) ∙ o.moves 0 ∙ ap₂ (λ j k. moves j k p.after) from to in
+    let same : moves 0 0 c.args.self.now.blocks ≡ moves (units p.before + p.block.size) (units p.before) p.after = ap (λ (u : View). moves 0 0 u.blocks) (sym c.self.view_is) ∙ o.moves 0
+    ∙ ap₂ (λ j k. moves j k p.after) from to in
     rw same e.2
 
 pub returns-clause-accesses : goal.returns-clause-accesses
@@ -98,7 +107,8 @@ returns-clause-accesses g c =
     let o : IsFirst (blocks (g.T.Tables.cells c.self.inside.store.tables).room c.self.inside.store.last) c.in-Some.first = first_is _ _ (sym c.first_free.ensures.first ∙ c.in-Some.is) in
     let p : Place = o.place in
     let e = c.slide-hole.ensures.place _ _ (kept_place c.empty.ensures.chain (first_held f c.self.invariant o refl)) o.idle in
-    let long : length (blocks (g.T.Tables.cells c.self.inside.store.tables).room c.self.inside.store.last) ≡ length p.before + suc (length p.after) = ap (λ (l : List Block). length l) o.is ∙ length-append p.before (p.block ∷ p.after) in
+    let long : length (blocks (g.T.Tables.cells c.self.inside.store.tables).room c.self.inside.store.last) ≡ length p.before + suc (length p.after) = ap (λ (l : List Block). length l) o.is
+    ∙ length-append p.before (p.block ∷ p.after) in
     let same : length (blocks (g.T.Tables.cells c.self.inside.store.tables).room c.self.inside.store.last) ≡ length c.args.self.now.blocks = ap (λ (u : View). length u.blocks) c.self.view_is in
     let counted : c.self.inside.store.accesses ≡ c.args.self.now.accesses = ap (λ (u : View). u.accesses) c.self.view_is in (
       omega (arith, same, counted, c.first_free.ensures.accesses, c.size-units.ensures.accesses, c.empty.ensures.accesses, c.slide-hole.ensures.accesses_min, c.push.ensures.accesses.0),
@@ -113,7 +123,13 @@ returns-in_default-clause-accesses g c =
 
 pub returns-clause-step : goal.returns-clause-step
 returns-clause-step g c =
-    let P : View → Type 0 = λ u. Compacts u (shown (record (fields_of g.T.Tables.cells g.T.Index.NodeIndex.MAX c.self.inside) { cells = (g.T.Tables.cells c.push.new.store.tables); last = c.push.new.store.last; count = c.push.new.store.spare_count; top = c.push.new.store.top_mask; accesses = c.push.new.store.accesses })) in
+    let P : View → Type 0 = λ u. Compacts u (shown (record (fields_of g.T.Tables.cells g.T.Index.NodeIndex.MAX c.self.inside) {
+      cells = (g.T.Tables.cells c.push.new.store.tables);
+      last = c.push.new.store.last;
+      count = c.push.new.store.spare_count;
+      top = c.push.new.store.top_mask;
+      accesses = c.push.new.store.accesses;
+    })) in
     subst P c.self.view_is (done g (goal.at.returns-clause-step g c).After-push c.push.new.store.accesses _ refl).1
 
 pub returns-in_default-clause-sizes : goal.returns-in_default-clause-sizes
@@ -121,12 +137,19 @@ returns-in_default-clause-sizes g c =
     let f : Fields = fields_of g.T.Tables.cells g.T.Index.NodeIndex.MAX c.self.inside in
     let left : View = shown (record f { accesses = c.first_free.new.count }) in
     let P : View → Type 0 = λ u. KeepsSizes u left in
-    subst P c.self.view_is (compacts_sizes (shown f) left (known_sound f c.self.invariant (shown f) refl).0 (stays_packed f c.self.invariant c.first_free.new.count (sym c.first_free.ensures.first ∙ c.in_default.is)))
+    subst P c.self.view_is (compacts_sizes (shown f) left (known_sound f c.self.invariant (shown f) refl).0
+    (stays_packed f c.self.invariant c.first_free.new.count (sym c.first_free.ensures.first ∙ c.in_default.is)))
 
 pub returns-clause-sizes : goal.returns-clause-sizes
 returns-clause-sizes g c =
     let f : Fields = fields_of g.T.Tables.cells g.T.Index.NodeIndex.MAX c.self.inside in
-    let left : View = shown (record f { cells = (g.T.Tables.cells c.push.new.store.tables); last = c.push.new.store.last; count = c.push.new.store.spare_count; top = c.push.new.store.top_mask; accesses = c.push.new.store.accesses }) in
+    let left : View = shown (record f {
+      cells = (g.T.Tables.cells c.push.new.store.tables);
+      last = c.push.new.store.last;
+      count = c.push.new.store.spare_count;
+      top = c.push.new.store.top_mask;
+      accesses = c.push.new.store.accesses;
+    }) in
     let P : View → Type 0 = λ u. KeepsSizes u left in
     subst P c.self.view_is (compacts_sizes (shown f) left (known_sound f c.self.invariant (shown f) refl).0 (done g (goal.at.returns-clause-sizes g c).After-push c.push.new.store.accesses _ refl).1)
 

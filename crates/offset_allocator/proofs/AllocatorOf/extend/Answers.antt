@@ -19,7 +19,8 @@ returns-then-more-self-clause-step g c = (omega arith, λ h. absurd (let l = h.0
 
 -- what is read is whether the last block is used
 read : (g : Over) (c : After-is_used-used g) → ends_used (blocks (g.T.Tables.cells c.self.inside.store.tables).room c.self.inside.store.last) ≡ c.is_used-used.result
-read g c = sym (used_at_end (fields_of g.T.Tables.cells g.T.Index.NodeIndex.MAX c.self.inside) c.args.more c.self.invariant) ∙ used_read _ _ _ _ c.self.invariant.space ∙ sym (c.is_used-used.ensures.used _ _ c.self.invariant.space)
+read g c = sym (used_at_end (fields_of g.T.Tables.cells g.T.Index.NodeIndex.MAX c.self.inside) c.args.more c.self.invariant) ∙ used_read _ _ _ _ c.self.invariant.space
+    ∙ sym (c.is_used-used.ensures.used _ _ c.self.invariant.space)
 
 pub widen-requires-clause-free : goal.widen-requires-clause-free
 widen-requires-clause-free g c = read g (goal.at.widen-requires-clause-free g c).After-is_used-used ∙ c.if-not-used.true
@@ -34,19 +35,32 @@ pub returns-then-left-lt2-clause-step : goal.returns-then-left-lt2-clause-step
 returns-then-left-lt2-clause-step g c =
     let f : Fields = fields_of g.T.Tables.cells g.T.Index.NodeIndex.MAX c.self.inside in
     let P : View → Type 0 = λ u. Extends c.args.more u (shown (record f { accesses = c.is_used-used.new.count })) false in
-    subst P c.self.view_is (omega arith, cannot_append f c.args.more c.self.invariant (read g (goal.at.returns-then-left-lt2-clause-step g c).After-is_used-used ∙ c.if-not-used.false) (omega (arith, c.names_left-left.ensures, ap (λ (u : View). length u.blocks) c.self.view_is, ap (λ (u : View). u.max_allocs) c.self.view_is)), refl)
+    subst P c.self.view_is (
+      omega arith,
+      cannot_append f c.args.more c.self.invariant (read g (goal.at.returns-then-left-lt2-clause-step g c).After-is_used-used
+          ∙ c.if-not-used.false) (omega (arith, c.names_left-left.ensures, ap (λ (u : View). length u.blocks) c.self.view_is, ap (λ (u : View). u.max_allocs) c.self.view_is)),
+      refl,
+    )
 
 pub returns-then-not-used-clause-step : goal.returns-then-not-used-clause-step
 returns-then-not-used-clause-step g c =
     let f : Fields = fields_of g.T.Tables.cells g.T.Index.NodeIndex.MAX c.self.inside in
     let P : View → Type 0 = λ u. Extends c.args.more u c.widen.new.self true in
-    subst P c.self.view_is (inr (omega arith, can_widen f c.args.more c.self.invariant (omega arith) (read g (goal.at.returns-then-not-used-clause-step g c).After-is_used-used ∙ c.if-not-used.true), adds_counted c.args.more (shown f) c.widen.new.self c.is_used-used.new.count c.widen.ensures.step))
+    subst P c.self.view_is (inr (
+      omega arith,
+      can_widen f c.args.more c.self.invariant (omega arith) (read g (goal.at.returns-then-not-used-clause-step g c).After-is_used-used ∙ c.if-not-used.true),
+      adds_counted c.args.more (shown f) c.widen.new.self c.is_used-used.new.count c.widen.ensures.step,
+    ))
 
 pub returns-clause-step : goal.returns-clause-step
 returns-clause-step g c =
     let f : Fields = fields_of g.T.Tables.cells g.T.Index.NodeIndex.MAX c.self.inside in
     let P : View → Type 0 = λ u. Extends c.args.more u c.append.new.self true in
-    subst P c.self.view_is (inr (omega arith, (omega arith, inl (omega (arith, c.names_left-left.ensures, ap (λ (u : View). length u.blocks) c.self.view_is, ap (λ (u : View). u.max_allocs) c.self.view_is))), adds_counted c.args.more (shown f) c.append.new.self c.is_used-used.new.count c.append.ensures.step))
+    subst P c.self.view_is (inr (
+      omega arith,
+      (omega arith, inl (omega (arith, c.names_left-left.ensures, ap (λ (u : View). length u.blocks) c.self.view_is, ap (λ (u : View). u.max_allocs) c.self.view_is))),
+      adds_counted c.args.more (shown f) c.append.new.self c.is_used-used.new.count c.append.ensures.step,
+    ))
 
 pub returns-then-more-self-clause-done : goal.returns-then-more-self-clause-done
 returns-then-more-self-clause-done g c = extends_done c.args.more c.args.self.now c.args.self.now false (returns-then-more-self-clause-step g c)

@@ -19,10 +19,12 @@ pub ready_for-requires-clause-memory : goal.ready_for-requires-clause-memory
 ready_for-requires-clause-memory g c = (_, _, _, c.self.invariant.space, omega (arith, c.min.ensures, rw (← c.self.view_is) at c.requires.enough, c.self.invariant.memory))
 
 -- what the contract asks of the view, said of the fields
-call : (g : Over) (c : After-pop-name g) → Call (with_made (fields_of g.T.Tables.cells g.T.Index.NodeIndex.MAX c.self.inside) (g.T.Tables.cells c.ready_for.new.tables) c.ready_for.new.spare_count) (units_needed c.args.size c.args.align) c.args.class c.pop-name.result
+call : (g : Over) (c : After-pop-name g) → Call (with_made (fields_of g.T.Tables.cells g.T.Index.NodeIndex.MAX c.self.inside) (g.T.Tables.cells c.ready_for.new.tables) c.ready_for.new.spare_count)
+    (units_needed c.args.size c.args.align) c.args.class c.pop-name.result
 call g c = record {
   sound = made (fields_of g.T.Tables.cells g.T.Index.NodeIndex.MAX c.self.inside) c.self.invariant c.ready_for.ensures.readies;
-  smallest = subst (λ (u : View). IsSmallestFrom (up (units_needed c.args.size c.args.align)) u.order c.args.class) (sym (made_shown (fields_of g.T.Tables.cells g.T.Index.NodeIndex.MAX c.self.inside) c.self.invariant c.ready_for.ensures.readies ∙ c.self.view_is)) c.requires.smallest;
+  smallest = subst (λ (u : View). IsSmallestFrom (up (units_needed c.args.size c.args.align)) u.order c.args.class)
+      (sym (made_shown (fields_of g.T.Tables.cells g.T.Index.NodeIndex.MAX c.self.inside) c.self.invariant c.ready_for.ensures.readies ∙ c.self.view_is)) c.requires.smallest;
   older = _;
   newest = c.pop-name.ensures.first;
 }
@@ -39,7 +41,8 @@ pop-name-requires-clause-held g c = (c.ready_for.ensures.readies.bins _ c.self.i
 
 pub pop-name-requires-clause-some : goal.pop-name-requires-clause-some
 pop-name-requires-clause-some g c =
-    (subst (λ (u : View). IsSmallestFrom (up (units_needed c.args.size c.args.align)) u.order c.args.class) (sym (made_shown (fields_of g.T.Tables.cells g.T.Index.NodeIndex.MAX c.self.inside) c.self.invariant c.ready_for.ensures.readies ∙ c.self.view_is)) c.requires.smallest).2
+    (subst (λ (u : View). IsSmallestFrom (up (units_needed c.args.size c.args.align)) u.order c.args.class)
+    (sym (made_shown (fields_of g.T.Tables.cells g.T.Index.NodeIndex.MAX c.self.inside) c.self.invariant c.ready_for.ensures.readies ∙ c.self.view_is)) c.requires.smallest).2
 
 pub offset-offset-requires : goal.offset-offset-requires
 offset-offset-requires g c = (kept_place c.pop-name.ensures.chain (held (call g (goal.at.offset-offset-requires g c).After-pop-name) refl)).below
@@ -48,8 +51,10 @@ pub size-whole-requires : goal.size-whole-requires
 size-whole-requires g c = (kept_place c.pop-name.ensures.chain (held (call g (goal.at.size-whole-requires g c).After-pop-name) refl)).below
 
 -- the block holds the padding and the units
-fits : (g : Over) (c : After-size-whole g) → Call (with_made (fields_of g.T.Tables.cells g.T.Index.NodeIndex.MAX c.self.inside) (g.T.Tables.cells c.ready_for.new.tables) c.ready_for.new.spare_count) (units_needed c.args.size c.args.align) c.args.class c.pop-name.result → padding_to c.args.align c.offset-offset.result + c.args.size ≤ c.size-whole.result
-fits g c p = rw (c.offset-offset.ensures.offset, c.size-whole.ensures.size, at_place (kept_place c.pop-name.ensures.chain (held p refl))) (whole_fits p c.args.size (padding_to c.args.align) (λ o. within c.args.size c.args.align o c.requires.some))
+fits : (g : Over) (c : After-size-whole g) → Call (with_made (fields_of g.T.Tables.cells g.T.Index.NodeIndex.MAX c.self.inside) (g.T.Tables.cells c.ready_for.new.tables) c.ready_for.new.spare_count)
+    (units_needed c.args.size c.args.align) c.args.class c.pop-name.result → padding_to c.args.align c.offset-offset.result + c.args.size ≤ c.size-whole.result
+fits g c p = rw (c.offset-offset.ensures.offset, c.size-whole.ensures.size, at_place (kept_place c.pop-name.ensures.chain (held p refl)))
+    (whole_fits p c.args.size (padding_to c.args.align) (λ o. within c.args.size c.args.align o c.requires.some))
 
 pub overflow_sub-whole : goal.overflow_sub-whole
 overflow_sub-whole g c = let at = goal.at.overflow_sub-whole g c in fits g at.After-size-whole (call g at.After-pop-name)
@@ -79,20 +84,35 @@ overflow_sub-self g c = units_free (call g (goal.at.overflow_sub-self g c).After
 pub overflow_add-start : goal.overflow_add-start
 overflow_add-start g c =
     let p = call g (goal.at.overflow_add-start g c).After-pop-name in
-    let small : c.offset-offset.result + padding_to c.args.align c.offset-offset.result < 2 ^ 32 = rw (c.offset-offset.ensures.offset, at_place (kept_place c.pop-name.ensures.chain (held p refl))) (padding_fits p c.args.size (padding_to c.args.align) (λ o. within c.args.size c.args.align o c.requires.some)) in
+    let small : c.offset-offset.result + padding_to c.args.align c.offset-offset.result < 2 ^ 32 =
+    rw (c.offset-offset.ensures.offset, at_place (kept_place c.pop-name.ensures.chain (held p refl)))
+    (padding_fits p c.args.size (padding_to c.args.align) (λ o. within c.args.size c.args.align o c.requires.some)) in
     omega (arith, small)
 
 -- the fields that are left, and what was split
-done : (g : Over) (c : After-divide g) → Call (with_made (fields_of g.T.Tables.cells g.T.Index.NodeIndex.MAX c.self.inside) (g.T.Tables.cells c.ready_for.new.tables) c.ready_for.new.spare_count) (units_needed c.args.size c.args.align) c.args.class c.pop-name.result → (k : ℕ) (f : Fields) → f ≡ record (fields_of g.T.Tables.cells g.T.Index.NodeIndex.MAX c.self.inside) { cells = (g.T.Tables.cells c.divide.new.store.tables); last = c.divide.new.store.last; count = c.divide.new.store.spare_count; top = c.divide.new.store.top_mask; free = c.self.inside.free_total - c.args.size; accesses = k }
-    → AreSound f × Splits (units_needed c.args.size c.args.align) c.args.size (padding_to c.args.align) (shown (with_made (fields_of g.T.Tables.cells g.T.Index.NodeIndex.MAX c.self.inside) (g.T.Tables.cells c.ready_for.new.tables) c.ready_for.new.spare_count)) (shown f) (record { name = c.pop-name.result; offset = c.offset-offset.result + padding_to c.args.align c.offset-offset.result })
+done : (g : Over) (c : After-divide g) → Call (with_made (fields_of g.T.Tables.cells g.T.Index.NodeIndex.MAX c.self.inside) (g.T.Tables.cells c.ready_for.new.tables) c.ready_for.new.spare_count)
+    (units_needed c.args.size c.args.align) c.args.class c.pop-name.result → (k : ℕ) (f : Fields)
+    → f ≡ record (fields_of g.T.Tables.cells g.T.Index.NodeIndex.MAX c.self.inside) {
+      cells = (g.T.Tables.cells c.divide.new.store.tables);
+      last = c.divide.new.store.last;
+      count = c.divide.new.store.spare_count;
+      top = c.divide.new.store.top_mask;
+      free = c.self.inside.free_total - c.args.size;
+      accesses = k;
+    }
+    → AreSound f × Splits (units_needed c.args.size c.args.align) c.args.size (padding_to c.args.align)
+    (shown (with_made (fields_of g.T.Tables.cells g.T.Index.NodeIndex.MAX c.self.inside) (g.T.Tables.cells c.ready_for.new.tables) c.ready_for.new.spare_count)) (shown f)
+    (record { name = c.pop-name.result; offset = c.offset-offset.result + padding_to c.args.align c.offset-offset.result })
 done g c p k f e =
     let h = kept_place c.pop-name.ensures.chain (held p refl) in
     let at = at_place h in
     let oe = c.offset-offset.ensures.offset ∙ ap (λ (v : Node). v.offset) at in
     let we = c.size-whole.ensures.size ∙ ap (λ (v : Node). v.size) at in
     let place = c.divide.ensures.place _ _ h in
-    let room = subst (HasRoomFor (blocks_needed c.args.align)) (sym (made_shown (fields_of g.T.Tables.cells g.T.Index.NodeIndex.MAX c.self.inside) c.self.invariant c.ready_for.ensures.readies ∙ c.self.view_is)) c.requires.enough in
-    rw (e, oe) (granted p c.args.size (padding_to c.args.align) (λ o. within c.args.size c.args.align o c.requires.some) (blocks_needed c.args.align) room (omega (arith, c.requires.some)) (two c.args.align) _ _ _ _ _ (rw (oe, we) at place) c.divide.ensures.held (rw (oe, we, c.pop-name.ensures.lists) at c.divide.ensures.lists))
+    let room = subst (HasRoomFor (blocks_needed c.args.align)) (sym (made_shown (fields_of g.T.Tables.cells g.T.Index.NodeIndex.MAX c.self.inside) c.self.invariant c.ready_for.ensures.readies
+    ∙ c.self.view_is)) c.requires.enough in
+    rw (e, oe) (granted p c.args.size (padding_to c.args.align) (λ o. within c.args.size c.args.align o c.requires.some) (blocks_needed c.args.align) room (omega (arith, c.requires.some))
+    (two c.args.align) _ _ _ _ _ (rw (oe, we) at place) c.divide.ensures.held (rw (oe, we, c.pop-name.ensures.lists) at c.divide.ensures.lists))
 
 pub invariant_of-self : goal.invariant_of-self
 invariant_of-self g c = let at = goal.at.invariant_of-self g c in (done g at.After-divide (call g at.After-pop-name) 0 _ refl).0
@@ -100,7 +120,8 @@ invariant_of-self g c = let at = goal.at.invariant_of-self g c in (done g at.Aft
 pub returns-clause-step : goal.returns-clause-step
 returns-clause-step g c =
     let at = goal.at.returns-clause-step g c in
-    rw (c.handle_of.ensures, ← (made_shown (fields_of g.T.Tables.cells g.T.Index.NodeIndex.MAX c.self.inside) c.self.invariant c.ready_for.ensures.readies ∙ c.self.view_is)) (done g at.After-divide (call g at.After-pop-name) c.divide.new.store.accesses _ refl).1
+    rw (c.handle_of.ensures, ← (made_shown (fields_of g.T.Tables.cells g.T.Index.NodeIndex.MAX c.self.inside) c.self.invariant c.ready_for.ensures.readies ∙ c.self.view_is))
+    (done g at.After-divide (call g at.After-pop-name) c.divide.new.store.accesses _ refl).1
 
 pub overflow_add-padding : goal.overflow_add-padding
 overflow_add-padding g c = let l = within c.args.size c.args.align c.offset-offset.result c.requires.some in omega (arith, l, c.requires.fits)

@@ -15,12 +15,15 @@ use Rattle.offset_allocator.proofs.AllocatorOf.grow_in_place.Given.{Over}
 
 -- where the block is, and its size
 block : (g : Over) (c : After-self g) → Release (fields_of g.T.Tables.cells g.T.Index.NodeIndex.MAX c.self.inside) c.number-name.result
-block g c = let e : c.number-name.result ≡ c.args.allocation.name = cc in record { sound = c.self.invariant; live = named_live _ _ _ _ c.self.view_is (sym e) (live_used c.args.allocation.name c.args.self.now c.requires.live) }
+block g c = let e : c.number-name.result ≡ c.args.allocation.name = cc in
+    record { sound = c.self.invariant; live = named_live _ _ _ _ c.self.view_is (sym e) (live_used c.args.allocation.name c.args.self.now c.requires.live) }
 
-size : (g : Over) (c : After-size-old_size g) (r : Release (fields_of g.T.Tables.cells g.T.Index.NodeIndex.MAX c.self.inside) c.number-name.result) → size_of c.number-name.result (shown (fields_of g.T.Tables.cells g.T.Index.NodeIndex.MAX c.self.inside)) ≡ c.size-old_size.result
+size : (g : Over) (c : After-size-old_size g) (r : Release (fields_of g.T.Tables.cells g.T.Index.NodeIndex.MAX c.self.inside) c.number-name.result)
+    → size_of c.number-name.result (shown (fields_of g.T.Tables.cells g.T.Index.NodeIndex.MAX c.self.inside)) ≡ c.size-old_size.result
 size g c r = size_there r ∙ sym (c.size-old_size.ensures.size ∙ ap (λ (v : Node). v.size) (at_place (at r).held))
 
-there : (g : Over) (c : After-size-old_size g) (r : Release (fields_of g.T.Tables.cells g.T.Index.NodeIndex.MAX c.self.inside) c.number-name.result) → size_of c.args.allocation.name c.args.self.now ≡ c.size-old_size.result
+there : (g : Over) (c : After-size-old_size g) (r : Release (fields_of g.T.Tables.cells g.T.Index.NodeIndex.MAX c.self.inside) c.number-name.result)
+    → size_of c.args.allocation.name c.args.self.now ≡ c.size-old_size.result
 there g c r =
     let e : c.number-name.result ≡ c.args.allocation.name = cc in
     let P : ℕ → View → Type 0 = λ i u. size_of i u ≡ c.size-old_size.result in
@@ -49,9 +52,11 @@ returns-clause-step g c =
     let here = goal.at.returns-clause-step g c in
     let e : c.number-name.result ≡ c.args.allocation.name = cc in
     let P : ℕ → View → Type 0 = λ i u. ResizesTo i c.args.size u c.resize_to.new.self c.resize_to.result in
-    let step = resized_counted c.number-name.result c.args.size (shown (fields_of g.T.Tables.cells g.T.Index.NodeIndex.MAX c.self.inside)) c.resize_to.new.self c.size-old_size.new.count c.resize_to.result c.resize_to.ensures.step in
+    let step = resized_counted c.number-name.result c.args.size (shown (fields_of g.T.Tables.cells g.T.Index.NodeIndex.MAX c.self.inside)) c.resize_to.new.self c.size-old_size.new.count
+    c.resize_to.result c.resize_to.ensures.step in
     let side = there g here.After-size-old_size (block g here.After-self) in
-    grows_of c.args.allocation.name c.args.size c.args.self.now c.resize_to.new.self c.resize_to.result (omega (arith, side, c.if-size-old_size.false)) (subst (λ i. P i c.args.self.now) e (subst (P c.number-name.result) c.self.view_is step))
+    grows_of c.args.allocation.name c.args.size c.args.self.now c.resize_to.new.self c.resize_to.result (omega (arith, side, c.if-size-old_size.false))
+    (subst (λ i. P i c.args.self.now) e (subst (P c.number-name.result) c.self.view_is step))
 
 pub returns-clause-done : goal.returns-clause-done
 returns-clause-done g c = grows_can c.args.allocation.name c.args.size c.args.self.now c.resize_to.new.self c.resize_to.result (returns-clause-step g c)

@@ -19,10 +19,14 @@ release : (g : Over) (c : After-self g) → Release (fields_of g.T.Tables.cells 
 release g c = record { sound = c.self.invariant; live = named_live _ _ _ _ c.self.view_is refl (live_used c.args.name c.args.self.now c.requires.live) }
 
 -- the block once it is free, and the bins as they were
-marked : (g : Over) (c : After-mark g) (r : Release (fields_of g.T.Tables.cells g.T.Index.NodeIndex.MAX c.self.inside) c.args.name) → HasPlace (g.T.Tables.cells c.mark.new.tables).room (g.T.Tables.cells c.self.inside.store.tables).room.reserved c.self.inside.store.last c.self.inside.store.spare_count c.args.name (record (at r).place { block = record (at r).place.block { used = false } })
+marked : (g : Over) (c : After-mark g) (r : Release (fields_of g.T.Tables.cells g.T.Index.NodeIndex.MAX c.self.inside) c.args.name)
+    → HasPlace (g.T.Tables.cells c.mark.new.tables).room (g.T.Tables.cells c.self.inside.store.tables).room.reserved c.self.inside.store.last c.self.inside.store.spare_count c.args.name
+    (record (at r).place { block = record (at r).place.block { used = false } })
 marked g c r = c.mark.ensures.place _ _ _ _ (at r).held
 
-bins : (g : Over) (c : After-mark g) (r : Release (fields_of g.T.Tables.cells g.T.Index.NodeIndex.MAX c.self.inside) c.args.name) → IsBinned g.T.Index.NodeIndex.MAX (g.T.Tables.cells c.mark.new.tables).links c.self.inside.store.top_mask × (bins_in g.T.Index.NodeIndex.MAX (g.T.Tables.cells c.mark.new.tables).links ≡ bins_in g.T.Index.NodeIndex.MAX (g.T.Tables.cells c.self.inside.store.tables).links)
+bins : (g : Over) (c : After-mark g) (r : Release (fields_of g.T.Tables.cells g.T.Index.NodeIndex.MAX c.self.inside) c.args.name)
+    → IsBinned g.T.Index.NodeIndex.MAX (g.T.Tables.cells c.mark.new.tables).links c.self.inside.store.top_mask
+    × (bins_in g.T.Index.NodeIndex.MAX (g.T.Tables.cells c.mark.new.tables).links ≡ bins_in g.T.Index.NodeIndex.MAX (g.T.Tables.cells c.self.inside.store.tables).links)
 bins g c r = c.mark.ensures.bins _ (unlisted (at r).held _ (filed r)) c.self.invariant.bins
 
 -- the fields that the release leaves, with any number of accesses counted

@@ -32,7 +32,9 @@ size : (g : Over) (c : After-ready g) → c.args.old_size ≡ (at (block g c)).p
 size g c = c.requires.old_size ∙ ap (λ (u : View). size_of c.args.name u) (sym (same_view g c)) ∙ size_there (block g c)
 
 -- the units of the free block after it
-more : (g : Over) (c : After-units_after-more g) (r : Release (with_made (fields_of g.T.Tables.cells g.T.Index.NodeIndex.MAX c.self.inside) (g.T.Tables.cells c.ready.new.tables) c.ready.new.spare_count) c.args.name) → c.units_after-more.result ≡ units (free_start (at r).place.after)
+more : (g : Over) (c : After-units_after-more g)
+    (r : Release (with_made (fields_of g.T.Tables.cells g.T.Index.NodeIndex.MAX c.self.inside) (g.T.Tables.cells c.ready.new.tables) c.ready.new.spare_count) c.args.name)
+    → c.units_after-more.result ≡ units (free_start (at r).place.after)
 more g c r = c.units_after-more.ensures.units _ _ _ _ (at r).held
 
 pub ready-requires-clause-memory : goal.ready-requires-clause-memory
@@ -49,11 +51,14 @@ pub returns-then-size-old_size-2-clause-step : goal.returns-then-size-old_size-2
 returns-then-size-old_size-2-clause-step g c =
     let here = goal.at.returns-then-size-old_size-2-clause-step g c in
     let r = block g here.After-ready in
-    subst (λ (u : View). ResizesTo c.args.name c.args.size u (shown (record (with_made (fields_of g.T.Tables.cells g.T.Index.NodeIndex.MAX c.self.inside) (g.T.Tables.cells c.ready.new.tables) c.ready.new.spare_count) { accesses = c.units_after-more.new.count })) false) (same_view g here.After-ready)
+    subst (λ (u : View). ResizesTo c.args.name c.args.size u
+    (shown (record (with_made (fields_of g.T.Tables.cells g.T.Index.NodeIndex.MAX c.self.inside) (g.T.Tables.cells c.ready.new.tables) c.ready.new.spare_count)
+    { accesses = c.units_after-more.new.count })) false) (same_view g here.After-ready)
     (resizes_short r c.args.size c.units_after-more.new.count (omega (arith, size g here.After-ready, more g here.After-units_after-more r, c.if-size-old_size-2.true)))
 
 pub returns-then-size-old_size-2-clause-same : goal.returns-then-size-old_size-2-clause-same
-returns-then-size-old_size-2-clause-same g c e = ap (λ (u : View). record u { accesses = c.units_after-more.new.count }) (same_view g (goal.at.returns-then-size-old_size-2-clause-same g c).After-ready)
+returns-then-size-old_size-2-clause-same g c e =
+    ap (λ (u : View). record u { accesses = c.units_after-more.new.count }) (same_view g (goal.at.returns-then-size-old_size-2-clause-same g c).After-ready)
 
 pub returns-then-size-old_size-2-clause-others : goal.returns-then-size-old_size-2-clause-others
 returns-then-size-old_size-2-clause-others g c y ne = ap (range_of y) (returns-then-size-old_size-2-clause-same g c refl)
@@ -64,9 +69,18 @@ returns-then-left-lt2-clause-step g c =
     let here = goal.at.returns-then-left-lt2-clause-step g c in
     let r = block g here.After-ready in
     let none = (next_some r _ c.free_after-next.ensures.free).1 c.if-is_none.ensures in
-    let less : c.args.size < (at r).place.block.size = omega (arith, size g here.After-ready, more g here.After-units_after-more r, ap units none, c.if-size-old_size.false, c.if-size-old_size-2.false) in
-    subst (λ (u : View). ResizesTo c.args.name c.args.size u (shown (record (with_made (fields_of g.T.Tables.cells g.T.Index.NodeIndex.MAX c.self.inside) (g.T.Tables.cells c.ready.new.tables) c.ready.new.spare_count) { accesses = c.units_after-more.new.count })) false) (same_view g here.After-ready)
-    (resizes_full r c.args.size c.units_after-more.new.count less none (omega (arith, c.names_left-left.ensures, c.if-left-lt2.true, ap (λ (u : View). length u.blocks) (same_view g here.After-ready), ap (λ (u : View). u.max_allocs) c.self.view_is)))
+    let less : c.args.size < (at r).place.block.size =
+    omega (arith, size g here.After-ready, more g here.After-units_after-more r, ap units none, c.if-size-old_size.false, c.if-size-old_size-2.false) in
+    subst (λ (u : View). ResizesTo c.args.name c.args.size u
+    (shown (record (with_made (fields_of g.T.Tables.cells g.T.Index.NodeIndex.MAX c.self.inside) (g.T.Tables.cells c.ready.new.tables) c.ready.new.spare_count)
+    { accesses = c.units_after-more.new.count })) false) (same_view g here.After-ready)
+    (resizes_full r c.args.size c.units_after-more.new.count less none (omega (
+      arith,
+      c.names_left-left.ensures,
+      c.if-left-lt2.true,
+      ap (λ (u : View). length u.blocks) (same_view g here.After-ready),
+      ap (λ (u : View). u.max_allocs) c.self.view_is,
+    )))
 
 pub returns-then-left-lt2-clause-same : goal.returns-then-left-lt2-clause-same
 returns-then-left-lt2-clause-same g c e = ap (λ (u : View). record u { accesses = c.units_after-more.new.count }) (same_view g (goal.at.returns-then-left-lt2-clause-same g c).After-ready)
@@ -111,16 +125,28 @@ after g c k = record (with_made (fields_of g.T.Tables.cells g.T.Index.NodeIndex.
   accesses = k;
 }
 
-room : (g : Over) (c : After-resize g) (r : Release (with_made (fields_of g.T.Tables.cells g.T.Index.NodeIndex.MAX c.self.inside) (g.T.Tables.cells c.ready.new.tables) c.ready.new.spare_count) c.args.name) → (1 ≤ length (free_start (at r).place.after)) ⊎ HasRoomFor 1 (shown (with_made (fields_of g.T.Tables.cells g.T.Index.NodeIndex.MAX c.self.inside) (g.T.Tables.cells c.ready.new.tables) c.ready.new.spare_count))
+room : (g : Over) (c : After-resize g) (r : Release (with_made (fields_of g.T.Tables.cells g.T.Index.NodeIndex.MAX c.self.inside) (g.T.Tables.cells c.ready.new.tables) c.ready.new.spare_count)
+    c.args.name) → (1 ≤ length (free_start (at r).place.after))
+    ⊎ HasRoomFor 1 (shown (with_made (fields_of g.T.Tables.cells g.T.Index.NodeIndex.MAX c.self.inside) (g.T.Tables.cells c.ready.new.tables) c.ready.new.spare_count))
 room g c r = elim c.else-is_none.branch [
-  | else-is_none-via-then-is_none+else-left-lt2 w ↦ inr (omega (arith, c.names_left-left.ensures, w.if-left-lt2.false, ap (λ (u : View). length u.blocks) (made_shown (fields_of g.T.Tables.cells g.T.Index.NodeIndex.MAX c.self.inside) c.self.invariant c.ready.ensures.readies ∙ c.self.view_is), ap (λ (u : View). u.max_allocs) c.self.view_is))
+  | else-is_none-via-then-is_none+else-left-lt2 w ↦ inr
+      (omega (
+        arith,
+        c.names_left-left.ensures,
+        w.if-left-lt2.false,
+        ap (λ (u : View). length u.blocks) (made_shown (fields_of g.T.Tables.cells g.T.Index.NodeIndex.MAX c.self.inside) c.self.invariant c.ready.ensures.readies ∙ c.self.view_is),
+        ap (λ (u : View). u.max_allocs) c.self.view_is,
+      ))
   | else-is_none-via-else-is_none w ↦ inl ((next_some r _ c.free_after-next.ensures.free).0 w.if-is_none.ensures)
 ]
 
-done : (g : Over) (c : After-resize g) (r : Release (with_made (fields_of g.T.Tables.cells g.T.Index.NodeIndex.MAX c.self.inside) (g.T.Tables.cells c.ready.new.tables) c.ready.new.spare_count) c.args.name) → c.args.old_size ≡ (at r).place.block.size → c.units_after-more.result ≡ units (free_start (at r).place.after) → (k : ℕ)
-    → AreSound (after g c k) × Resizes c.args.name c.args.size (shown (with_made (fields_of g.T.Tables.cells g.T.Index.NodeIndex.MAX c.self.inside) (g.T.Tables.cells c.ready.new.tables) c.ready.new.spare_count)) (shown (after g c k))
+done : (g : Over) (c : After-resize g) (r : Release (with_made (fields_of g.T.Tables.cells g.T.Index.NodeIndex.MAX c.self.inside) (g.T.Tables.cells c.ready.new.tables) c.ready.new.spare_count)
+    c.args.name) → c.args.old_size ≡ (at r).place.block.size → c.units_after-more.result ≡ units (free_start (at r).place.after) → (k : ℕ)
+    → AreSound (after g c k) × Resizes c.args.name c.args.size
+    (shown (with_made (fields_of g.T.Tables.cells g.T.Index.NodeIndex.MAX c.self.inside) (g.T.Tables.cells c.ready.new.tables) c.ready.new.spare_count)) (shown (after g c k))
 done g c r size more k =
-    resized r c.args.size (omega (arith, size, more, c.if-size-old_size-2.false)) (room g c r) _ _ _ c.resize.result (c.resize.ensures.place _ _ (at r).held) k _ c.resize.ensures.held (c.resize.ensures.lists _ _ (at r).held) (omega (arith, size, more, free_beside r, c.if-size-old_size-2.false))
+    resized r c.args.size (omega (arith, size, more, c.if-size-old_size-2.false)) (room g c r) _ _ _ c.resize.result (c.resize.ensures.place _ _ (at r).held) k _ c.resize.ensures.held
+    (c.resize.ensures.lists _ _ (at r).held) (omega (arith, size, more, free_beside r, c.if-size-old_size-2.false))
 
 pub invariant_of-self-2 : goal.invariant_of-self-2
 invariant_of-self-2 g c =
@@ -136,11 +162,17 @@ returns-clause-step g c =
     let e = size g here.After-ready in
     let m = more g here.After-units_after-more r in
     subst (λ (u : View). ResizesTo c.args.name c.args.size u new true) (same_view g here.After-ready)
-    (resizes_done r c.args.size new (λ z. absurd (c.if-size-old_size.false (z ∙ sym e))) (omega (arith, e, m, c.if-size-old_size-2.false)) (room g here.After-resize r) (done g here.After-resize r e m c.resize.new.store.accesses).1)
+    (resizes_done r c.args.size new (λ z. absurd (c.if-size-old_size.false (z ∙ sym e))) (omega (arith, e, m, c.if-size-old_size-2.false)) (room g here.After-resize r)
+    (done g here.After-resize r e m c.resize.new.store.accesses).1)
 
 -- the views before and after it are well formed
-well : (g : Over) (c : After-resize g) (r : Release (with_made (fields_of g.T.Tables.cells g.T.Index.NodeIndex.MAX c.self.inside) (g.T.Tables.cells c.ready.new.tables) c.ready.new.spare_count) c.args.name) → c.args.old_size ≡ (at r).place.block.size → c.units_after-more.result ≡ units (free_start (at r).place.after) → IsWellFormed c.args.self.now × IsWellFormed (shown (after g c c.resize.new.store.accesses))
-well g c r size more = ((known_sound (fields_of g.T.Tables.cells g.T.Index.NodeIndex.MAX c.self.inside) c.self.invariant c.args.self.now c.self.view_is).0, (known_sound (after g c c.resize.new.store.accesses) (done g c r size more 0).0 _ refl).0)
+well : (g : Over) (c : After-resize g) (r : Release (with_made (fields_of g.T.Tables.cells g.T.Index.NodeIndex.MAX c.self.inside) (g.T.Tables.cells c.ready.new.tables) c.ready.new.spare_count)
+    c.args.name) → c.args.old_size ≡ (at r).place.block.size → c.units_after-more.result ≡ units (free_start (at r).place.after) → IsWellFormed c.args.self.now
+    × IsWellFormed (shown (after g c c.resize.new.store.accesses))
+well g c r size more = (
+  (known_sound (fields_of g.T.Tables.cells g.T.Index.NodeIndex.MAX c.self.inside) c.self.invariant c.args.self.now c.self.view_is).0,
+  (known_sound (after g c c.resize.new.store.accesses) (done g c r size more 0).0 _ refl).0,
+)
 
 pub returns-clause-range : goal.returns-clause-range
 returns-clause-range g c h =

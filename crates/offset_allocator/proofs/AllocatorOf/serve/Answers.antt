@@ -27,8 +27,17 @@ pub returns-in-Some-clause-step : goal.returns-in-Some-clause-step
 returns-in-Some-clause-step g c =
     let f : Fields = fields_of g.T.Tables.cells g.T.Index.NodeIndex.MAX c.self.inside in
     let P : View → Type 0 = λ u. Aligns c.args.size c.args.align u c.grant.new.self (Some c.grant.result) in
-    subst P c.self.view_is (serves_counted (blocks_needed c.args.align) (units_needed c.args.size c.args.align) c.args.size (padding_to c.args.align) (shown f) c.grant.new.self c.find_at_or_above.new.count (Some c.grant.result)
-    (omega (arith, c.has_names.ensures.0 (grind (arith, c.if-not-has_names.false)), c.min.ensures, ap (λ (u : View). length u.blocks) c.self.view_is, ap (λ (u : View). u.max_allocs) c.self.view_is), c.grant.ensures.step))
+    subst P c.self.view_is (serves_counted (blocks_needed c.args.align) (units_needed c.args.size c.args.align) c.args.size (padding_to c.args.align) (shown f) c.grant.new.self
+    c.find_at_or_above.new.count (Some c.grant.result) (
+      omega (
+        arith,
+        c.has_names.ensures.0 (grind (arith, c.if-not-has_names.false)),
+        c.min.ensures,
+        ap (λ (u : View). length u.blocks) c.self.view_is,
+        ap (λ (u : View). u.max_allocs) c.self.view_is,
+      ),
+      c.grant.ensures.step,
+    ))
 
 pub invariant_of-self : goal.invariant_of-self
 invariant_of-self g c = c.self.invariant

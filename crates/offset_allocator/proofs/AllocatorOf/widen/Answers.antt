@@ -43,10 +43,12 @@ push-requires-clause-unlisted g c =
 pub overflow_add-self-2 : goal.overflow_add-self-2
 overflow_add-self-2 g c = omega (arith, free_fits (pre g (goal.at.overflow_add-self-2 g c).After-self))
 
-done : (g : Over) (c : After-push g) (r : Growth (fields_of g.T.Tables.cells g.T.Index.NodeIndex.MAX c.self.inside) c.args.more false) (k : ℕ) → Grown r (g.T.Tables.cells c.push.new.store.tables) c.push.new.store.last c.push.new.store.spare_count c.push.new.store.top_mask k
+done : (g : Over) (c : After-push g) (r : Growth (fields_of g.T.Tables.cells g.T.Index.NodeIndex.MAX c.self.inside) c.args.more false) (k : ℕ)
+    → Grown r (g.T.Tables.cells c.push.new.store.tables) c.push.new.store.last c.push.new.store.spare_count c.push.new.store.top_mask k
 done g c r k =
     let grown = c.grow.ensures.place _ _ _ _ (end_held r c.remove.ensures.chain.0) in
-    rw (c.push.ensures.chain.1, c.push.ensures.chain.2, c.remove.ensures.chain.1, c.remove.ensures.chain.2) (widened r (g.T.Tables.cells c.push.new.store.tables) k (rw c.push.ensures.chain.0 grown.chain) c.push.ensures.held
+    rw (c.push.ensures.chain.1, c.push.ensures.chain.2, c.remove.ensures.chain.1, c.remove.ensures.chain.2)
+    (widened r (g.T.Tables.cells c.push.new.store.tables) k (rw c.push.ensures.chain.0 grown.chain) c.push.ensures.held
     (rw (c.grow.ensures.links, c.remove.ensures.lists, c.uint_to_float_round_down.ensures.is, c.size-size.ensures.size) at c.push.ensures.lists))
 
 pub invariant_of-self : goal.invariant_of-self

@@ -23,7 +23,11 @@ returns-then-next-MAX g c =
     let e = rw c.set_head.ensures.cells at c.clear_bit.ensures.rest in
     rw w (changed (beheaded k c.args.class c.requires.classed (g.T.Tables.cells c.clear_bit.new.store.tables).links _ c.requires.some c.requires.after
     (rw e (sym (set_past _ _ _ (omega (arith, k.names_small))))) (rw e) (rw (e, c.number-next.ensures.number)))
-    (rw none (c.clear_bit.ensures.masked _ k.lists_len (rw c.set_head.ensures.cells c.requires.held.masked))) (rw e, c.clear_bit.ensures.chain.1, c.clear_bit.ensures.chain.2) (omega arith, omega arith))
+    (rw none (c.clear_bit.ensures.masked _ k.lists_len (rw c.set_head.ensures.cells c.requires.held.masked))) (
+      rw e,
+      c.clear_bit.ensures.chain.1,
+      c.clear_bit.ensures.chain.2,
+    ) (omega arith, omega arith))
 
 pub returns-else-next-MAX : goal.returns-else-next-MAX
 returns-else-next-MAX g c =
@@ -33,4 +37,5 @@ returns-else-next-MAX g c =
     let e = rw c.set_head.ensures.cells at c.set_newer.ensures.cells in
     rw w (changed (beheaded k c.args.class c.requires.classed (g.T.Tables.cells c.set_newer.new.self).links _ c.requires.some c.requires.after
     (rw (e, c.number-next.ensures.number, c.no_link.ensures.number)) (rw e) (rw (e, c.number-next.ensures.number)))
-    (rw e (masked_same c.requires.held.masked k.lists_len c.args.class c.requires.classed _ (flag_full _ (λ z. let q = c.requires.after ∙ h.1.2 ∙ ap (first_of g.T.Index.NodeIndex.MAX) z in absurd (omega arith)) ∙ sym (flag_full _ c.requires.some)))) (rw e, refl, refl) (omega arith, omega arith))
+    (rw e (masked_same c.requires.held.masked k.lists_len c.args.class c.requires.classed _ (flag_full _ (λ z. let q = c.requires.after ∙ h.1.2 ∙ ap (first_of g.T.Index.NodeIndex.MAX) z in
+    absurd (omega arith)) ∙ sym (flag_full _ c.requires.some)))) (rw e, refl, refl) (omega arith, omega arith))

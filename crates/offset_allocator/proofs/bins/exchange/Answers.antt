@@ -15,14 +15,16 @@ older-after-requires g c = omega (arith, below c.requires.held.linked _ (down_sm
 
 pub link_newer-requires-clause-named : goal.link_newer-requires-clause-named
 link_newer-requires-clause-named g c n =
-    rw (c.set_links.ensures.cells, c.set_head.ensures.cells, length-set, c.older-after.ensures.cell) (older_in c.requires.held.linked _ (down_small c.args.size) _ c.requires.listed (λ e. n (c.older-after.ensures.cell ∙ e)))
+    rw (c.set_links.ensures.cells, c.set_head.ensures.cells, length-set, c.older-after.ensures.cell)
+    (older_in c.requires.held.linked _ (down_small c.args.size) _ c.requires.listed (λ e. n (c.older-after.ensures.cell ∙ e)))
 
 pub set_links-requires-clause-link : goal.set_links-requires-clause-link
 set_links-requires-clause-link g c = no_mark c.shape.ensures (g.T.Index.NodeIndex.number c.no_link.result) (λ n. absurd (n c.no_link.ensures.number))
 
 pub link_newer-requires-clause-idle : goal.link_newer-requires-clause-idle
 link_newer-requires-clause-idle g c n =
-    rw (c.set_links.ensures.cells, c.set_head.ensures.cells, c.older-after.ensures.cell) (after_idle c.shape.ensures c.requires.held.linked _ (down_small c.args.size) _ c.requires.listed (λ e. n (c.older-after.ensures.cell ∙ e)))
+    rw (c.set_links.ensures.cells, c.set_head.ensures.cells, c.older-after.ensures.cell)
+    (after_idle c.shape.ensures c.requires.held.linked _ (down_small c.args.size) _ c.requires.listed (λ e. n (c.older-after.ensures.cell ∙ e)))
 
 pub link_newer-requires-clause-link : goal.link_newer-requires-clause-link
 link_newer-requires-clause-link g c = no_mark c.shape.ensures (g.T.Index.NodeIndex.number c.link_to.result) (λ n. omega (arith, c.link_to.ensures.number, c.requires.named))
@@ -39,7 +41,8 @@ returns-then-class-uint_to_float_round_down g c =
     let f = is_first k _ (down_small c.args.size) _ c.requires.listed (sym c.newer-before.ensures.cell ∙ z) in
     let e = rw (c.set_links.ensures.cells, c.set_head.ensures.cells) at c.link_newer.ensures.cells in
     let next = rw (← f.1) at (c.older-after.ensures.cell) in
-    rw same (changed (rw f.1 at (exchanged k _ (down_small c.args.size) (g.T.Tables.cells c.link_newer.new.tables).links c.args.name _ (omega (arith, c.requires.named, c.shape.ensures.newer)) c.requires.unlisted f.0 next
+    rw same (changed (rw f.1 at (exchanged k _ (down_small c.args.size) (g.T.Tables.cells c.link_newer.new.tables).links c.args.name _
+    (omega (arith, c.requires.named, c.shape.ensures.newer)) c.requires.unlisted f.0 next
     (rw (e, c.no_link.ensures.number, c.link_to.ensures.number))
     (rw e)
     (rw (e, same))))

@@ -31,11 +31,13 @@ pub link_newer-requires-clause-named : goal.link_newer-requires-clause-named
 link_newer-requires-clause-named g c n = rw c.older-after.ensures.cell (older_in c.requires.held.linked _ (down_small c.args.size) _ c.requires.listed (λ e. n (c.older-after.ensures.cell ∙ e)))
 
 pub link_newer-requires-clause-idle : goal.link_newer-requires-clause-idle
-link_newer-requires-clause-idle g c n = rw c.older-after.ensures.cell (after_idle c.shape.ensures c.requires.held.linked _ (down_small c.args.size) _ c.requires.listed (λ e. n (c.older-after.ensures.cell ∙ e)))
+link_newer-requires-clause-idle g c n = rw c.older-after.ensures.cell
+    (after_idle c.shape.ensures c.requires.held.linked _ (down_small c.args.size) _ c.requires.listed (λ e. n (c.older-after.ensures.cell ∙ e)))
 
 pub link_newer-requires-clause-link : goal.link_newer-requires-clause-link
 link_newer-requires-clause-link g c =
-    no_mark c.shape.ensures (g.T.Index.NodeIndex.number c.args.before) (λ n. omega (arith, c.requires.before, c.shape.ensures.newer, newer_in c.requires.held.linked _ (down_small c.args.size) _ c.requires.listed (λ e. n (c.requires.before ∙ e))))
+    no_mark c.shape.ensures (g.T.Index.NodeIndex.number c.args.before)
+    (λ n. omega (arith, c.requires.before, c.shape.ensures.newer, newer_in c.requires.held.linked _ (down_small c.args.size) _ c.requires.listed (λ e. n (c.requires.before ∙ e))))
 
 pub set_older-requires : goal.set_older-requires
 set_older-requires g c =
@@ -47,6 +49,7 @@ returns-else-number-MAX g c =
     let k = c.requires.held.linked in
     let n : slice_index (g.T.Tables.cells c.args.store.now.tables).links.newer c.args.name ≢ g.T.Index.NodeIndex.MAX = λ e. absurd (omega (arith, c.requires.before)) in
     let e = rw c.link_newer.ensures.cells at c.set_older.ensures.cells in
-    changed (left k _ (down_small c.args.size) (g.T.Tables.cells c.set_older.new.self).links _ _ _ (is_later k _ (down_small c.args.size) _ c.requires.listed n) c.requires.before c.older-after.ensures.cell
+    changed (left k _ (down_small c.args.size) (g.T.Tables.cells c.set_older.new.self).links _ _ _ (is_later k _ (down_small c.args.size) _ c.requires.listed n)
+    c.requires.before c.older-after.ensures.cell
     (rw e) (rw (e, c.number-else-number-MAX.ensures.number)) (rw e))
     (rw e (later_masked k _ (down_small c.args.size) _ c.requires.listed n c.requires.held.masked)) (rw e, refl, refl) (omega arith, omega arith)

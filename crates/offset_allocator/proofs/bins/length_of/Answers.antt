@@ -5,7 +5,14 @@ use Rattle.offset_allocator.proofs.bins.length_of.Goals as goal
 
 pub loop-name-init : goal.loop-name-init
 loop-name-init g c = record {
-  tail = record { before = g.T.Index.NodeIndex.MAX; names = _; chain = c.requires.linked.chains c.args.class c.requires.classed; is = c.head-name.ensures.cell ∙ c.requires.linked.heads c.args.class c.requires.classed; counted = omega arith };
+  tail = record {
+    before = g.T.Index.NodeIndex.MAX;
+    names = _;
+    chain = c.requires.linked.chains c.args.class c.requires.classed;
+    is = c.head-name.ensures.cell
+        ∙ c.requires.linked.heads c.args.class c.requires.classed;
+    counted = omega arith;
+  };
   accesses = omega arith;
 }
 

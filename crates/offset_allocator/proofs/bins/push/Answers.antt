@@ -17,7 +17,11 @@ set_links-requires-clause-link g c = no_mark c.shape.ensures (g.T.Index.NodeInde
 pub set_newer-requires-clause-idle : goal.set_newer-requires-clause-idle
 set_newer-requires-clause-idle g c =
     let h = c.head-newest.ensures.cell in
-    rw (c.set_links.ensures.cells, c.set_head.ensures.cells, h) (listed_idle c.shape.ensures c.requires.held.linked c.args.class c.requires.classed _ (head_among c.requires.held.linked c.args.class c.requires.classed (λ e. absurd (omega arith))))
+    rw (
+      c.set_links.ensures.cells,
+      c.set_head.ensures.cells,
+      h,
+    ) (listed_idle c.shape.ensures c.requires.held.linked c.args.class c.requires.classed _ (head_among c.requires.held.linked c.args.class c.requires.classed (λ e. absurd (omega arith))))
 
 pub set_newer-requires-clause-link : goal.set_newer-requires-clause-link
 set_newer-requires-clause-link g c = no_mark c.shape.ensures (g.T.Index.NodeIndex.number c.link_to-link.result) (λ n. omega (arith, c.link_to-link.ensures.number, c.requires.named))
@@ -32,7 +36,11 @@ returns-then-newest-MAX g c =
     (rw (e, c.no_link.ensures.number) (sym (set_past _ _ _ (omega (arith, k.names_small, length-set (g.T.Tables.cells c.args.store.now.tables).links.newer c.args.name g.T.Index.NodeIndex.MAX)))))
     (rw (e, kept, h))
     (rw e))
-    (rw e (masked_set c.requires.held.masked k.lists_len c.args.class c.requires.classed _ _ (c.mask-mask.ensures.cell ∙ rw (c.set_links.ensures.cells, c.set_head.ensures.cells)) refl)) (rw e, refl, refl) (omega arith, omega arith)
+    (rw e (masked_set c.requires.held.masked k.lists_len c.args.class c.requires.classed _ _ (c.mask-mask.ensures.cell ∙ rw (c.set_links.ensures.cells, c.set_head.ensures.cells)) refl)) (
+      rw e,
+      refl,
+      refl,
+    ) (omega arith, omega arith)
 
 pub returns-else-newest-MAX : goal.returns-else-newest-MAX
 returns-else-newest-MAX g c =
@@ -44,4 +52,9 @@ returns-else-newest-MAX g c =
     (rw (e, c.no_link.ensures.number, h, c.link_to-link.ensures.number))
     (rw (e, kept, h))
     (rw e))
-    (rw e (masked_same c.requires.held.masked k.lists_len c.args.class c.requires.classed _ (sym (flag_full _ (λ z. let q = h ∙ k.heads c.args.class c.requires.classed ∙ ap (first_of g.T.Index.NodeIndex.MAX) z in absurd (omega arith)))))) (rw e, refl, refl) (omega arith, omega arith)
+    (rw e (masked_same c.requires.held.masked k.lists_len c.args.class c.requires.classed _
+    (sym (flag_full _ (λ z. let q = h ∙ k.heads c.args.class c.requires.classed ∙ ap (first_of g.T.Index.NodeIndex.MAX) z in absurd (omega arith)))))) (
+      rw e,
+      refl,
+      refl,
+    ) (omega arith, omega arith)

@@ -19,7 +19,8 @@ link_to-requires g c = omega (arith, c.shape.ensures.limit, (next_place c.requir
 pub set_spare-requires : goal.set_spare-requires
 set_spare-requires g c =
     let room : Cells → Room = λ v. v.room in
-    let same = ap (λ (l : List ℕ). length l) (relinked_spare (back_to c.args.name) _ _ _ c.point_back.ensures.cells ∙ ap (λ (r : Room). r.spare) (ap room c.set_end.ensures.cells) ∙ spare-put _ _ _) in
+    let same = ap (λ (l : List ℕ). length l) (relinked_spare (back_to c.args.name) _ _ _ c.point_back.ensures.cells
+    ∙ ap (λ (r : Room). r.spare) (ap room c.set_end.ensures.cells) ∙ spare-put _ _ _) in
     omega (arith, same, spare_room c.requires.place.2)
 
 pub returns-clause-place : goal.returns-clause-place

@@ -22,7 +22,8 @@ link_to-requires g c = omega (arith, c.shape.ensures.limit, (previous_place c.re
 pub set_spare-requires : goal.set_spare-requires
 set_spare-requires g c =
     let room : Cells → Room = λ v. v.room in
-    let same = ap (λ (l : List ℕ). length l) (relinked_spare (on_to c.args.name) _ _ _ c.point_on.ensures.cells ∙ ap (λ (r : Room). r.spare) (ap room c.set_start.ensures.cells) ∙ spare-put _ _ _) in
+    let same = ap (λ (l : List ℕ). length l) (relinked_spare (on_to c.args.name) _ _ _ c.point_on.ensures.cells
+    ∙ ap (λ (r : Room). r.spare) (ap room c.set_start.ensures.cells) ∙ spare-put _ _ _) in
     omega (arith, same, spare_room c.requires.place.2)
 
 pub returns-clause-place : goal.returns-clause-place

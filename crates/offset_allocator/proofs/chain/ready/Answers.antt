@@ -13,7 +13,8 @@ add-requires-clause-place g c = omega (arith, c.requires.memory.3.full)
 pub returns-then-spare_count-names-clause-readies : goal.returns-then-spare_count-names-clause-readies
 returns-then-spare_count-names-clause-readies g c =
     let r = c.requires.memory in
-    readied c.shape.ensures (omega (arith, has_memory r.3 r.4 c.if-spare_count-names.true, r.3.memory)) c.add.ensures.room c.add.ensures.newer c.add.ensures.older c.add.ensures.heads c.add.ensures.masks
+    readied c.shape.ensures (omega (arith, has_memory r.3 r.4 c.if-spare_count-names.true, r.3.memory)) c.add.ensures.room c.add.ensures.newer c.add.ensures.older
+    c.add.ensures.heads c.add.ensures.masks
 
 pub returns-else-spare_count-names-clause-readies : goal.returns-else-spare_count-names-clause-readies
 returns-else-spare_count-names-clause-readies g c = not_readied

@@ -32,7 +32,8 @@ point_on-requires-clause-name g c =
 pub returns-clause-place : goal.returns-clause-place
 returns-clause-place g c m p h =
     let room : Cells → Room = λ v. v.room in
-    split_before_place h c.requires.spare (c.number-front.ensures.number ∙ c.spare.ensures.cell) (omega (arith, c.requires.within, c.size-size.ensures.cell)) c.offset-offset.ensures.cell c.size-size.ensures.cell c.before-link.ensures.cell c.link_to-on.ensures c.link_to-back.ensures
+    split_before_place h c.requires.spare (c.number-front.ensures.number ∙ c.spare.ensures.cell) (omega (arith, c.requires.within, c.size-size.ensures.cell)) c.offset-offset.ensures.cell
+    c.size-size.ensures.cell c.before-link.ensures.cell c.link_to-on.ensures c.link_to-back.ensures
     (ap room c.set_block.ensures.cells) (ap room c.set_start.ensures.cells) c.point_on.ensures.cells
 
 pub returns-clause-fresh : goal.returns-clause-fresh

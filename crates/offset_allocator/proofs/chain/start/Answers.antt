@@ -15,7 +15,9 @@ set_block-requires-clause-idle g c = bare_idle c.requires.bare 0
 
 done : (g : Over) (c : goal.After-set_block g) → IsChain (g.T.Tables.cells c.set_block.new.self).room c.args.max_allocs 0 0 (free_block 0 c.args.size ∷ [])
 done g c =
-    let written : Option ℕ → Option ℕ → Cells = λ b a. record (g.T.Tables.cells c.args.tables.now) { room = put (g.T.Tables.cells c.args.tables.now).room 0 (record { offset = 0; size = c.args.size; used = false; before = b; after = a }) } in
+    let written : Option ℕ → Option ℕ → Cells =
+    λ b a. record (g.T.Tables.cells c.args.tables.now)
+    { room = put (g.T.Tables.cells c.args.tables.now).room 0 (record { offset = 0; size = c.args.size; used = false; before = b; after = a }) } in
     let rm = ap (λ (v : Cells). v.room) (c.set_block.ensures.cells ∙ ap₂ written c.no_link.ensures.link c.no_link-2.ensures.link) in
     start-chain c.requires.bare c.args.size (omega (arith, bare_length c.requires.bare, c.shape.ensures.within, c.requires.bare.reserved)) (omega arith) (g.T.Tables.cells c.set_block.new.self).room rm
 

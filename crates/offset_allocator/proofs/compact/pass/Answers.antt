@@ -29,7 +29,14 @@ pub split-requires-clause-size : goal.split-requires-clause-size
 split-requires-clause-size g c =
     let h = c.requires.place.2 in
     let n = next_place h c.requires.next in
-    omega (arith, (joined_node c.requires.place.1 n.block n.rest c.requires.place.3 (c.coalesce_before.ensures.place _ _ n.place)).1, c.requires.size, c.requires.more, ap (λ (v : Node). v.size) (at_place h), ap (λ (v : Node). v.size) (at_place n.place))
+    omega (
+      arith,
+      (joined_node c.requires.place.1 n.block n.rest c.requires.place.3 (c.coalesce_before.ensures.place _ _ n.place)).1,
+      c.requires.size,
+      c.requires.more,
+      ap (λ (v : Node). v.size) (at_place h),
+      ap (λ (v : Node). v.size) (at_place n.place),
+    )
 
 pub returns-clause-place : goal.returns-clause-place
 returns-clause-place g c m p b bs h idle e =

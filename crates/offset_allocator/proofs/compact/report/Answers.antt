@@ -4,5 +4,17 @@ use Rattle.offset_allocator.proofs.compact.report.Goals as goal
 
 pub returns-clause-called : goal.returns-clause-called
 returns-clause-called g c used =
-    rw (moved_one c.args.from c.args.to (record { name = c.args.name; size = c.args.size; used = used }) (omega arith))
-    (_, (record { name = c.to_name.result; from = c.args.from; to = c.args.to; size = c.args.size; index = record {} }, record { name = c.to_name.ensures ∙ c.from_u32.ensures.kept (omega arith); from = refl; to = refl; size = refl }, c.moved.ensures), refl)
+    rw (moved_one c.args.from c.args.to (record { name = c.args.name; size = c.args.size; used = used }) (omega arith)) (
+      _,
+      (
+        record { name = c.to_name.result; from = c.args.from; to = c.args.to; size = c.args.size; index = record {} },
+        record {
+          name = c.to_name.ensures ∙ c.from_u32.ensures.kept (omega arith);
+          from = refl;
+          to = refl;
+          size = refl;
+        },
+        c.moved.ensures,
+      ),
+      refl,
+    )

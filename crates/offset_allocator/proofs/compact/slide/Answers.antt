@@ -43,7 +43,8 @@ pub pass-hole-requires-clause-size : goal.pass-hole-requires-clause-size
 pass-hole-requires-clause-size g c = let s = c.loop-next.invariant.at _ _ c.requires.place.2 c.requires.place.3 in s.sized ∙ sym (ap (λ (v : Node). v.size) (at_place s.there))
 
 pub overflow_add-to : goal.overflow_add-to
-overflow_add-to g c = let s = c.loop-next.invariant.at _ _ c.requires.place.2 c.requires.place.3 in omega (arith, c.offset-to.ensures.offset, ap (λ (v : Node). v.offset) (at_place s.there), s.sized, end_fits s.there)
+overflow_add-to g c = let s = c.loop-next.invariant.at _ _ c.requires.place.2 c.requires.place.3 in
+    omega (arith, c.offset-to.ensures.offset, ap (λ (v : Node). v.offset) (at_place s.there), s.sized, end_fits s.there)
 
 pub report-requires-clause-named : goal.report-requires-clause-named
 report-requires-clause-named g c =
@@ -57,7 +58,17 @@ loop-next-smaller-then-is_used g c =
     let n = next_place s.there (sym c.in-Some.is ∙ c.after.ensures.after) in
     let p : Place = c.requires.place.1 in
     let all : length p.after ≤ length (g.T.Tables.cells c.args.store.now.tables).room.nodes = omega (arith, c.requires.place.2.chain.full, length-append p.before (p.block ∷ p.after)) in
-    omega (arith, s.bounded, ap (λ (l : List Block). length l) n.is, all, c.after.ensures.accesses, c.size-more.ensures.accesses, c.is_used.ensures.accesses, c.offset-to.ensures.accesses, c.pass-hole.ensures.accesses.0)
+    omega (
+      arith,
+      s.bounded,
+      ap (λ (l : List Block). length l) n.is,
+      all,
+      c.after.ensures.accesses,
+      c.size-more.ensures.accesses,
+      c.is_used.ensures.accesses,
+      c.offset-to.ensures.accesses,
+      c.pass-hole.ensures.accesses.0,
+    )
 
 pub loop-next-preserved-then-is_used : goal.loop-next-preserved-then-is_used
 loop-next-preserved-then-is_used g c = record {
@@ -71,7 +82,8 @@ loop-next-preserved-then-is_used g c = record {
       let to : c.offset-to.result ≡ units s.place.before = c.offset-to.ensures.offset ∙ ap (λ (v : Node). v.offset) (at_place s.there) in
       let size : c.size-more.result ≡ n.block.size = c.size-more.ensures.size ∙ ap (λ (v : Node). v.size) (at_place n.place) in
       slid_past s n.block n.rest _ _ _ _ _ _ used n.is (c.pass-hole.ensures.place _ _ _ _ s.there s.idle n.is)
-      (subst (λ (l : List Move). FoldsTo (IsCalledWith g.T.Index.NonMax.NodeIndexNonMax.number (λ f range h. goal.F-step g f range tt h)) c.loop-next.moved l c.report.new.moved) (same_move c.offset-to.result (units s.place.before) c.loop-next.size c.in-Some.next c.size-more.result n.block to (sym n.place.name) size) (c.report.ensures.called n.block.used))
+      (subst (λ (l : List Move). FoldsTo (IsCalledWith g.T.Index.NonMax.NodeIndexNonMax.number (λ f range h. goal.F-step g f range tt h)) c.loop-next.moved l c.report.new.moved)
+      (same_move c.offset-to.result (units s.place.before) c.loop-next.size c.in-Some.next c.size-more.result n.block to (sym n.place.name) size) (c.report.ensures.called n.block.used))
       (omega (arith, c.after.ensures.accesses, c.size-more.ensures.accesses, c.is_used.ensures.accesses, c.offset-to.ensures.accesses, c.pass-hole.ensures.accesses.1));
 }
 

@@ -9,5 +9,6 @@ offset-requires g c = live_below (fields_of g.T.Tables.cells g.T.Index.NodeIndex
 
 pub returns-then-uses-clause-offset : goal.returns-then-uses-clause-offset
 returns-then-uses-clause-offset g c =
-    ap Some c.offset.ensures.offset ∙ live_offset (fields_of g.T.Tables.cells g.T.Index.NodeIndex.MAX c.allocator.inside) _ c.allocator.invariant _ c.allocator.view_is (c.if-uses.ensures.live.0 refl)
+    ap Some c.offset.ensures.offset ∙ live_offset (fields_of g.T.Tables.cells g.T.Index.NodeIndex.MAX c.allocator.inside) _ c.allocator.invariant _ c.allocator.view_is
+    (c.if-uses.ensures.live.0 refl)
     ∙ ap (λ (i : ℕ). option_map (λ (r : Range). r.offset) (range_of i c.args.allocator.now)) (c.number-name.ensures.number ∙ c.of_nonmax.ensures.number ∙ c.name.ensures)

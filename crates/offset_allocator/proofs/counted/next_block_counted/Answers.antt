@@ -10,7 +10,8 @@ use Rattle.offset_allocator.proofs.counted.next_block_counted.Goals.{then-is_use
 use Rattle.offset_allocator.proofs.counted.next_block_counted.Goals as goal
 
 pub is_used-requires : goal.is_used-requires
-is_used-requires g c = (read_is (fields_of g.T.Tables.cells g.T.Index.NodeIndex.MAX c.allocator.inside) c.allocator.invariant _ _ _ c.allocator.view_is c.blocks-2.invariant.0 (c.blocks-2.invariant.1 ∙ c.in_ok-name.was)).below
+is_used-requires g c = (read_is (fields_of g.T.Tables.cells g.T.Index.NodeIndex.MAX c.allocator.inside) c.allocator.invariant _ _ _ c.allocator.view_is c.blocks-2.invariant.0
+    (c.blocks-2.invariant.1 ∙ c.in_ok-name.was)).below
 
 pub returns-in_err-name-clause-yields : goal.returns-in_err-name-clause-yields
 returns-in_err-name-clause-yields g c =
@@ -18,27 +19,33 @@ returns-in_err-name-clause-yields g c =
     subst (λ (r : Option (Block _ _ _)). YieldsFirstBy as_placed (λ rest. rest) c.args.blocks.now r c.args.blocks.now) (sym c.from_residual.ensures) (e, e)
 
 pub offset-offset-requires : goal.offset-offset-requires
-offset-offset-requires g c = (read_is (fields_of g.T.Tables.cells g.T.Index.NodeIndex.MAX c.allocator.inside) c.allocator.invariant _ _ _ c.allocator.view_is c.blocks-2.invariant.0 (c.blocks-2.invariant.1 ∙ c.in_ok-name.was)).below
+offset-offset-requires g c = (read_is (fields_of g.T.Tables.cells g.T.Index.NodeIndex.MAX c.allocator.inside) c.allocator.invariant _ _ _ c.allocator.view_is c.blocks-2.invariant.0
+    (c.blocks-2.invariant.1 ∙ c.in_ok-name.was)).below
 
 pub size-size-requires : goal.size-size-requires
-size-size-requires g c = (read_is (fields_of g.T.Tables.cells g.T.Index.NodeIndex.MAX c.allocator.inside) c.allocator.invariant _ _ _ c.allocator.view_is c.blocks-2.invariant.0 (c.blocks-2.invariant.1 ∙ c.in_ok-name.was)).below
+size-size-requires g c = (read_is (fields_of g.T.Tables.cells g.T.Index.NodeIndex.MAX c.allocator.inside) c.allocator.invariant _ _ _ c.allocator.view_is c.blocks-2.invariant.0
+    (c.blocks-2.invariant.1 ∙ c.in_ok-name.was)).below
 
 pub before-blocks-inside-requires : goal.before-blocks-inside-requires
-before-blocks-inside-requires g c = (read_is (fields_of g.T.Tables.cells g.T.Index.NodeIndex.MAX c.allocator.inside) c.allocator.invariant _ _ _ c.allocator.view_is c.blocks-2.invariant.0 (c.blocks-2.invariant.1 ∙ c.in_ok-name.was)).below
+before-blocks-inside-requires g c = (read_is (fields_of g.T.Tables.cells g.T.Index.NodeIndex.MAX c.allocator.inside) c.allocator.invariant _ _ _ c.allocator.view_is c.blocks-2.invariant.0
+    (c.blocks-2.invariant.1 ∙ c.in_ok-name.was)).below
 
 pub invariant_of-blocks : goal.invariant_of-blocks
 invariant_of-blocks g c =
-    let r = read_is (fields_of g.T.Tables.cells g.T.Index.NodeIndex.MAX c.allocator.inside) c.allocator.invariant _ _ _ c.allocator.view_is c.blocks-2.invariant.0 (c.blocks-2.invariant.1 ∙ c.in_ok-name.was) in
+    let r = read_is (fields_of g.T.Tables.cells g.T.Index.NodeIndex.MAX c.allocator.inside) c.allocator.invariant _ _ _ c.allocator.view_is c.blocks-2.invariant.0
+    (c.blocks-2.invariant.1 ∙ c.in_ok-name.was) in
     (omega (arith, c.blocks-2.invariant.0), r.before ∙ sym c.before-blocks-inside.ensures.before)
 
 pub returns-clause-yields : goal.returns-clause-yields
 returns-clause-yields g c =
-    let r = read_is (fields_of g.T.Tables.cells g.T.Index.NodeIndex.MAX c.allocator.inside) c.allocator.invariant _ _ _ c.allocator.view_is c.blocks-2.invariant.0 (c.blocks-2.invariant.1 ∙ c.in_ok-name.was) in
+    let r = read_is (fields_of g.T.Tables.cells g.T.Index.NodeIndex.MAX c.allocator.inside) c.allocator.invariant _ _ _ c.allocator.view_is c.blocks-2.invariant.0
+    (c.blocks-2.invariant.1 ∙ c.in_ok-name.was) in
     let P : Option Grant → Placed = λ h. record { offset = c.offset-offset.result; size = c.size-size.result; grant = h } in
     let grant_if : Bool → Option Grant = λ b. if b then Some (record { name = c.in_ok-name.name; offset = c.offset-offset.result }) else None in
     let grant : grant_if c.is_used.result ≡ c.if-is_used.allocation = elim c.if-is_used.branch [
       | then-is_used w ↦ ap grant_if w.if-is_used.true ∙ ap (λ (h : Grant). Some h) (sym w.handle_of.ensures) ∙ sym w.allocation-is
       | else-is_used w ↦ ap grant_if w.if-is_used.false ∙ sym w.allocation-is
     ] in
-    let block = node_placed c.in_ok-name.name (node (g.T.Tables.cells c.allocator.inside.store.tables).room c.in_ok-name.name) _ _ _ c.offset-offset.ensures.offset c.size-size.ensures.size c.is_used.ensures.cell ∙ ap P grant in
+    let block = node_placed c.in_ok-name.name (node (g.T.Tables.cells c.allocator.inside.store.tables).room c.in_ok-name.name) _ _ _ c.offset-offset.ensures.offset c.size-size.ensures.size
+    c.is_used.ensures.cell ∙ ap P grant in
     sym c.blocks-2.view_is ∙ r.block ∙ ap (λ (p : Placed). p ∷ left (c.blocks-2.inside.left - 1) c.blocks-2.inside.allocator.now.blocks) block

@@ -35,8 +35,10 @@ enough n s k d h e f l =
 pub returns-then-units-clause-why : goal.returns-then-units-clause-why
 returns-then-units-clause-why g c =
     let known = known_sound (fields_of g.T.Tables.cells g.T.Index.NodeIndex.MAX c.allocator.inside) c.allocator.invariant c.args.allocator.now c.allocator.view_is in
-    let some = not_zero c.args.align c.requires.power in
-    (omega (arith, c.names_left.ensures, c.min-blocks.ensures, c.if-names_left-blocks.false), omega (arith, known.0.fits, past_words (units_needed c.args.size c.args.align) (omega (arith, some, c.if-units.true))))
+    let some = not_zero c.args.align c.requires.power in (
+      omega (arith, c.names_left.ensures, c.min-blocks.ensures, c.if-names_left-blocks.false),
+      omega (arith, known.0.fits, past_words (units_needed c.args.size c.args.align) (omega (arith, some, c.if-units.true))),
+    )
 
 pub returns-then-units-clause-granted : goal.returns-then-units-clause-granted
 returns-then-units-clause-granted g c =
@@ -50,7 +52,11 @@ returns-then-largest-smallest-clause-why g c =
       omega (arith, c.names_left.ensures, c.min-blocks.ensures, c.if-names_left-blocks.false),
       elim (cases_lt c.args.allocator.now.size (value (up (units_needed c.args.size c.args.align)))) [
         | inl l ↦ l
-        | inr l ↦ absurd (omega (arith, c.if-largest-smallest.true, (c.uint_to_float_round_down-largest.ensures.largest c.uint_to_float_round_up-smallest.result).1 (omega (arith, l, size, ap value low))))
+        | inr l ↦ absurd (omega (
+          arith,
+          c.if-largest-smallest.true,
+          (c.uint_to_float_round_down-largest.ensures.largest c.uint_to_float_round_up-smallest.result).1 (omega (arith, l, size, ap value low)),
+        ))
       ],
     )
 
@@ -66,8 +72,14 @@ pub returns-in-Some-clause-granted : goal.returns-in-Some-clause-granted
 returns-in-Some-clause-granted g c =
     let low = low_is c.args.size c.args.align _ (not_zero c.args.align c.requires.power) c.uint_to_float_round_up-smallest.ensures.is in
     let P : View → Type 0 = λ u. CanGrant (blocks_needed c.args.align) (units_needed c.args.size c.args.align) u in
-    let some = c.in-Some.ensures.smallest in
-    (λ e. subst P c.allocator.view_is (is_open (fields_of g.T.Tables.cells g.T.Index.NodeIndex.MAX c.allocator.inside) c.allocator.invariant _ 0 c.allocator.view_is c.names_left.ensures (omega (arith, c.min-blocks.ensures)), (c.in-Some.field-0, omega (arith, some.0), some.2)), λ h. refl)
+    let some = c.in-Some.ensures.smallest in (
+      λ e. subst P c.allocator.view_is (
+        is_open (fields_of g.T.Tables.cells g.T.Index.NodeIndex.MAX c.allocator.inside) c.allocator.invariant _ 0 c.allocator.view_is c.names_left.ensures
+            (omega (arith, c.min-blocks.ensures)),
+        (c.in-Some.field-0, omega (arith, some.0), some.2),
+      ),
+      λ h. refl,
+    )
 
 -- where no bin from the class on has a block
 refused : goal.returns-then-uint_to_float_round_down-max-clause-granted
@@ -75,7 +87,8 @@ refused g c =
     let low = low_is c.args.size c.args.align _ (not_zero c.args.align c.requires.power) c.uint_to_float_round_up-smallest.ensures.is in
     let classes = c.allocator.invariant.well.classes in
     let P : View → Type 0 = λ u. CanGrant (blocks_needed c.args.align) (units_needed c.args.size c.args.align) u → ⊥ in
-    let none = subst P c.allocator.view_is (λ h. elim (cases_lt h.1.0 256) [ inl l ↦ h.1.2 (c.in-None.ensures.smallest h.1.0 (omega (arith, h.1.1)) l) | inr l ↦ h.1.2 (get_or_past _ h.1.0 [] (omega arith)) ]) in
+    let none = subst P c.allocator.view_is (λ h. elim (cases_lt h.1.0 256)
+    [ inl l ↦ h.1.2 (c.in-None.ensures.smallest h.1.0 (omega (arith, h.1.1)) l) | inr l ↦ h.1.2 (get_or_past _ h.1.0 [] (omega arith)) ]) in
     (λ e. absurd (cc), λ h. absurd (none h))
 
 pub returns-then-uint_to_float_round_down-max-clause-granted : goal.returns-then-uint_to_float_round_down-max-clause-granted
@@ -88,7 +101,9 @@ returns-then-uint_to_float_round_down-max-clause-why g c =
     let low = low_is c.args.size c.args.align _ (not_zero c.args.align c.requires.power) c.uint_to_float_round_up-smallest.ensures.is in
     let free = total_is f c.allocator.invariant 0 0 ∙ ap (λ (v : View). sum (free_sizes v.blocks)) c.allocator.view_is in
     let size = ap (λ (v : View). v.size) c.allocator.view_is in
-    let total = few (units_needed c.args.size c.args.align) c.allocator.inside.free_total c.uint_to_float_round_up-smallest.result c.uint_to_float_round_down.result (omega (arith, free, free_within c.args.allocator.now known.0, known.0.fits)) low c.uint_to_float_round_down.ensures.is (omega (arith, c.max.ensures, c.if-uint_to_float_round_down-max.true)) in (
+    let total = few (units_needed c.args.size c.args.align) c.allocator.inside.free_total c.uint_to_float_round_up-smallest.result c.uint_to_float_round_down.result
+    (omega (arith, free, free_within c.args.allocator.now known.0, known.0.fits)) low c.uint_to_float_round_down.ensures.is
+    (omega (arith, c.max.ensures, c.if-uint_to_float_round_down-max.true)) in (
       omega (arith, c.names_left.ensures, c.min-blocks.ensures, c.if-names_left-blocks.false),
       omega (arith, (c.uint_to_float_round_down-largest.ensures.largest c.uint_to_float_round_up-smallest.result).0 (omega (arith, c.if-largest-smallest.false)), size, ap value low),
       omega (arith, total, free),
@@ -100,7 +115,8 @@ returns-else-uint_to_float_round_down-max-clause-granted g c =
     let low = low_is c.args.size c.args.align _ (not_zero c.args.align c.requires.power) c.uint_to_float_round_up-smallest.ensures.is in
     let classes = c.allocator.invariant.well.classes in
     let P : View → Type 0 = λ u. CanGrant (blocks_needed c.args.align) (units_needed c.args.size c.args.align) u → ⊥ in
-    let none = subst P c.allocator.view_is (λ h. elim (cases_lt h.1.0 256) [ inl l ↦ h.1.2 (c.in-None.ensures.smallest h.1.0 (omega (arith, h.1.1)) l) | inr l ↦ h.1.2 (get_or_past _ h.1.0 [] (omega arith)) ]) in
+    let none = subst P c.allocator.view_is (λ h. elim (cases_lt h.1.0 256)
+    [ inl l ↦ h.1.2 (c.in-None.ensures.smallest h.1.0 (omega (arith, h.1.1)) l) | inr l ↦ h.1.2 (get_or_past _ h.1.0 [] (omega arith)) ]) in
     (λ e. absurd (cc), λ h. absurd (none h))
 
 pub returns-else-uint_to_float_round_down-max-clause-why : goal.returns-else-uint_to_float_round_down-max-clause-why
@@ -109,7 +125,9 @@ returns-else-uint_to_float_round_down-max-clause-why g c =
     let known = known_sound f c.allocator.invariant c.args.allocator.now c.allocator.view_is in
     let low = low_is c.args.size c.args.align _ (not_zero c.args.align c.requires.power) c.uint_to_float_round_up-smallest.ensures.is in
     let free = total_is f c.allocator.invariant 0 0 ∙ ap (λ (v : View). sum (free_sizes v.blocks)) c.allocator.view_is in
-    let total = enough (units_needed c.args.size c.args.align) c.allocator.inside.free_total c.uint_to_float_round_up-smallest.result c.uint_to_float_round_down.result (omega (arith, free, free_within c.args.allocator.now known.0, known.0.fits)) low c.uint_to_float_round_down.ensures.is (omega (arith, c.max.ensures, c.if-uint_to_float_round_down-max.false)) in (
+    let total = enough (units_needed c.args.size c.args.align) c.allocator.inside.free_total c.uint_to_float_round_up-smallest.result c.uint_to_float_round_down.result
+    (omega (arith, free, free_within c.args.allocator.now known.0, known.0.fits)) low c.uint_to_float_round_down.ensures.is
+    (omega (arith, c.max.ensures, c.if-uint_to_float_round_down-max.false)) in (
       omega (arith, c.names_left.ensures, c.min-blocks.ensures, c.if-names_left-blocks.false),
       omega (arith, total, free),
       λ h. let e = (returns-else-uint_to_float_round_down-max-clause-granted g c).1 h in absurd (cc),

@@ -10,7 +10,8 @@ use Rattle.offset_allocator.proofs.counted.storage_report_counted.Goals.{in-None
 use Rattle.offset_allocator.proofs.counted.storage_report_counted.Goals as goal
 
 -- where two names are left, the report is of the free blocks
-open_report : (it : Fields) → AreSound it → length (shown it).blocks + 1 < it.limit → (r : ℕ) → r ≡ largest (free_sizes (shown it).blocks) → (it.free ≡ total_free (shown it)) × (r ≡ largest_free (shown it))
+open_report : (it : Fields) → AreSound it → length (shown it).blocks + 1 < it.limit → (r : ℕ) → r ≡ largest (free_sizes (shown it).blocks) → (it.free ≡ total_free (shown it))
+    × (r ≡ largest_free (shown it))
 open_report it s room r e =
     let short : is_full (shown it) ≡ false = grind (arith, nat_tests) in
     (rw short (total_is it s 1 1), rw short e)
@@ -23,7 +24,8 @@ returns-clause-report g c =
     let P : View → Type 0 = λ u. (c.allocator.inside.free_total ≡ total_free u) × (c.match-largest.largest_free_region ≡ largest_free u) in
     subst P c.allocator.view_is (open_report f s (is_open f s 1 0 c.allocator.view_is c.names_left.ensures (omega arith)) c.match-largest.largest_free_region (elim c.match-largest.branch [
       | in-None w ↦ w.largest_free_region-is ∙ sym (largest_none (shown f) well w.in-None.ensures.largest)
-      | in-Some w ↦ let l = largest_some (shown f) well w.in-Some.class w.in-Some.ensures.largest in omega (arith, l.0, l.1, total_is f s 1 1, w.largest_free_region-is, w.float_to_uint-largest_free_region.ensures.is)
+      | in-Some w ↦ let l = largest_some (shown f) well w.in-Some.class w.in-Some.ensures.largest in
+          omega (arith, l.0, l.1, total_is f s 1 1, w.largest_free_region-is, w.float_to_uint-largest_free_region.ensures.is)
     ]))
 
 pub returns-clause-accesses_min : goal.returns-clause-accesses_min

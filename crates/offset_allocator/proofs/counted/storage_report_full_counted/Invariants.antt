@@ -9,7 +9,11 @@ use Rattle.offset_allocator.proofs.counted.storage_report_full_counted.Given as 
 abbrev pub invariant-loop-class : goal.invariant-loop-class
 invariant-loop-class g l = record {
   wide : length l.report.free_regions ≡ 256;
-  filled : (k : ℕ) (d : StorageReportFullRegion) → k < l.class → slice_index_or l.report.free_regions k d ≡ record { size = value k % 2 ^ 32; count = length (bin_at (bins_in g.T.Index.NodeIndex.MAX (g.T.Tables.cells l.allocator-inside.store.tables).links) k) };
+  filled : (k : ℕ) (d : StorageReportFullRegion) → k < l.class
+      → slice_index_or l.report.free_regions k d ≡ record {
+        size = value k % 2 ^ 32;
+        count = length (bin_at (bins_in g.T.Index.NodeIndex.MAX (g.T.Tables.cells l.allocator-inside.store.tables).links) k);
+      };
   grows : l.fn.count + l.class ≤ l.count;
   accesses : l.count ≤ l.fn.count + l.class + names_below l.class (bins_in g.T.Index.NodeIndex.MAX (g.T.Tables.cells l.allocator-inside.store.tables).links);
 }

@@ -51,7 +51,14 @@ returns-in_default-free_before-clause-place g c m p h =
 
 pub returns-in_default-free_before-clause-lists : goal.returns-in_default-free_before-clause-lists
 returns-in_default-free_before-clause-lists g c m p h =
-    rw (c.push.ensures.chain.0, c.push.ensures.lists, c.uint_to_float_round_down.ensures.is, ← c.requires.size, c.in_default-free_before.ensures.free _ _ _ _ h, c.in_default.ensures.free _ _ _ _ h) refl
+    rw (
+      c.push.ensures.chain.0,
+      c.push.ensures.lists,
+      c.uint_to_float_round_down.ensures.is,
+      ← c.requires.size,
+      c.in_default-free_before.ensures.free _ _ _ _ h,
+      c.in_default.ensures.free _ _ _ _ h,
+    ) refl
 
 -- a free block beside it
 pub exchange-requires-clause-listed : goal.exchange-requires-clause-listed
@@ -61,7 +68,8 @@ exchange-requires-clause-listed g c =
       | in-Some w ↦
           let merged = w.with_before-size.ensures.place _ _ h in
           let same = next_same h merged refl w.in-Some.ensures.free.0 in
-          rw (w.store-is, w.gone-is, w.coalesce_after.ensures.bins.0, w.with_before-size.ensures.lists _ _ h, w.size-more.ensures.size) (next_filed merged _ (filed_before h _ c.requires.place.3 c.requires.held.linked.lists_len) same.0 (same.1 ∙ w.in-Some.ensures.free.1))
+          rw (w.store-is, w.gone-is, w.coalesce_after.ensures.bins.0, w.with_before-size.ensures.lists _ _ h, w.size-more.ensures.size)
+          (next_filed merged _ (filed_before h _ c.requires.place.3 c.requires.held.linked.lists_len) same.0 (same.1 ∙ w.in-Some.ensures.free.1))
       | in_default+in-Some-free_before w ↦
           let before = w.in-Some-free_before.ensures.free in
           rw (w.store-is, w.gone-is, w.coalesce_before.ensures.bins.0, w.size-more-in-Some-free_before.ensures.size) (previous_filed h _ c.requires.place.3 before.0 before.1)
@@ -84,7 +92,8 @@ pub exchange-requires-clause-unlisted : goal.exchange-requires-clause-unlisted
 exchange-requires-clause-unlisted g c =
     let h = c.requires.place.2 in
     elim c.match-free_after.branch [
-      | in-Some w ↦ rw (w.store-is, w.coalesce_after.ensures.bins.0, w.with_before-size.ensures.lists _ _ h) (unlisted (w.with_before-size.ensures.place _ _ h) _ (filed_before h _ c.requires.place.3 c.requires.held.linked.lists_len))
+      | in-Some w ↦ rw (w.store-is, w.coalesce_after.ensures.bins.0, w.with_before-size.ensures.lists _ _ h)
+          (unlisted (w.with_before-size.ensures.place _ _ h) _ (filed_before h _ c.requires.place.3 c.requires.held.linked.lists_len))
       | in_default+in-Some-free_before w ↦ rw (w.store-is, w.coalesce_before.ensures.bins.0) (unlisted h _ c.requires.place.3)
     ]
 
@@ -101,14 +110,36 @@ returns-clause-lists g c m p h = elim c.match-free_after.branch [
       let same = next_same h merged refl w.in-Some.ensures.free.0 in
       let gone = free_after merged same.0 (same.1 ∙ w.in-Some.ensures.free.1) in
       let left = w.coalesce_after.ensures.place _ _ merged in
-      let whole : w.with_before-size.result + w.size-more.result ≡ (node (g.T.Tables.cells w.coalesce_after.new.store.tables).room c.args.name).size = omega (arith, w.size-more.ensures.size, w.with_before-size.ensures.size, gone.0, ap (λ (v : Node). v.size) (at_place left), ap (λ (v : Node). v.size) (at_place merged)) in
-      rw (c.exchange.ensures.chain.0, c.exchange.ensures.lists, c.uint_to_float_round_down-2.ensures.is, w.store-is, w.gone-is, whole, w.coalesce_after.ensures.bins.0, w.with_before-size.ensures.lists _ _ h, w.size-more.ensures.size) (ap (push _ c.args.name) (sym (gone.1 _)))
+      let whole : w.with_before-size.result + w.size-more.result ≡ (node (g.T.Tables.cells w.coalesce_after.new.store.tables).room c.args.name).size =
+      omega (arith, w.size-more.ensures.size, w.with_before-size.ensures.size, gone.0, ap (λ (v : Node). v.size) (at_place left), ap (λ (v : Node). v.size) (at_place merged)) in
+      rw (
+        c.exchange.ensures.chain.0,
+        c.exchange.ensures.lists,
+        c.uint_to_float_round_down-2.ensures.is,
+        w.store-is,
+        w.gone-is,
+        whole,
+        w.coalesce_after.ensures.bins.0,
+        w.with_before-size.ensures.lists _ _ h,
+        w.size-more.ensures.size,
+      ) (ap (push _ c.args.name) (sym (gone.1 _)))
   | in_default+in-Some-free_before w ↦
       let before = w.in-Some-free_before.ensures.free in
       let gone = free_before h before.0 before.1 in
       let left = w.coalesce_before.ensures.place _ _ h in
-      let whole : w.size-more-in-Some-free_before.result + c.args.size ≡ (node (g.T.Tables.cells w.coalesce_before.new.store.tables).room c.args.name).size = omega (arith, w.size-more-in-Some-free_before.ensures.size, c.requires.size, gone.0, ap (λ (v : Node). v.size) (at_place left), ap (λ (v : Node). v.size) (at_place h)) in
-      rw (c.exchange.ensures.chain.0, c.exchange.ensures.lists, c.uint_to_float_round_down-2.ensures.is, w.store-is, w.gone-is, whole, w.coalesce_before.ensures.bins.0, w.size-more-in-Some-free_before.ensures.size, w.in_default.ensures.free _ _ _ _ h) (ap (push _ c.args.name) (sym (gone.1 _)))
+      let whole : w.size-more-in-Some-free_before.result + c.args.size ≡ (node (g.T.Tables.cells w.coalesce_before.new.store.tables).room c.args.name).size =
+      omega (arith, w.size-more-in-Some-free_before.ensures.size, c.requires.size, gone.0, ap (λ (v : Node). v.size) (at_place left), ap (λ (v : Node). v.size) (at_place h)) in
+      rw (
+        c.exchange.ensures.chain.0,
+        c.exchange.ensures.lists,
+        c.uint_to_float_round_down-2.ensures.is,
+        w.store-is,
+        w.gone-is,
+        whole,
+        w.coalesce_before.ensures.bins.0,
+        w.size-more-in-Some-free_before.ensures.size,
+        w.in_default.ensures.free _ _ _ _ h,
+      ) (ap (push _ c.args.name) (sym (gone.1 _)))
 ]
 
 pub free_after-requires : goal.free_after-requires

@@ -16,10 +16,14 @@ pub mark-requires : goal.mark-requires
 mark-requires g c = (c.split_padding-front.ensures.place _ _ c.requires.place.2).below
 
 -- the bins once the block is used
-marked : (g : Over) (c : After-mark g) → IsBinned g.T.Index.NodeIndex.MAX (g.T.Tables.cells c.mark.new.tables).links c.split_padding-front.new.store.top_mask × (bins_in g.T.Index.NodeIndex.MAX (g.T.Tables.cells c.mark.new.tables).links ≡ push_all (free_part c.split_padding-front.result c.args.padding) (bins_in g.T.Index.NodeIndex.MAX (g.T.Tables.cells c.args.store.now.tables).links))
+marked : (g : Over) (c : After-mark g) → IsBinned g.T.Index.NodeIndex.MAX (g.T.Tables.cells c.mark.new.tables).links c.split_padding-front.new.store.top_mask
+    × (bins_in g.T.Index.NodeIndex.MAX (g.T.Tables.cells c.mark.new.tables).links ≡ push_all (free_part c.split_padding-front.result c.args.padding)
+    (bins_in g.T.Index.NodeIndex.MAX (g.T.Tables.cells c.args.store.now.tables).links))
 marked g c =
     let front = c.split_padding-front.ensures in
-    let fresh : IsUnlisted c.args.name (bins_in g.T.Index.NodeIndex.MAX (g.T.Tables.cells c.split_padding-front.new.store.tables).links) = rw front.lists (padded_unlisted c.requires.place.1.before c.split_padding-front.result c.args.padding _ c.requires.held.linked.lists_len (front.place _ _ c.requires.place.2) c.requires.unlisted) in
+    let fresh : IsUnlisted c.args.name (bins_in g.T.Index.NodeIndex.MAX (g.T.Tables.cells c.split_padding-front.new.store.tables).links) =
+    rw front.lists (padded_unlisted c.requires.place.1.before c.split_padding-front.result c.args.padding _ c.requires.held.linked.lists_len
+    (front.place _ _ c.requires.place.2) c.requires.unlisted) in
     let b = c.mark.ensures.bins _ fresh front.held in
     (b.0, b.1 ∙ front.lists)
 
@@ -34,8 +38,13 @@ split_remainder-rest-requires-clause-spare g c = elim (eq-zero-or-pos c.args.pad
 
 pub split_remainder-rest-requires-clause-place : goal.split_remainder-rest-requires-clause-place
 split_remainder-rest-requires-clause-place g c =
-    let r = c.requires.place in
-    (_, _, c.mark.ensures.place _ _ _ _ (c.split_padding-front.ensures.place _ _ r.2), rw (marked g (goal.at.split_remainder-rest-requires-clause-place g c).After-mark).1 (unlisted_part r.1.before r.1.after r.1.block _ c.split_padding-front.result c.args.padding _ refl c.requires.held.linked.lists_len r.3))
+    let r = c.requires.place in (
+      _,
+      _,
+      c.mark.ensures.place _ _ _ _ (c.split_padding-front.ensures.place _ _ r.2),
+      rw (marked g (goal.at.split_remainder-rest-requires-clause-place g c).After-mark).1
+          (unlisted_part r.1.before r.1.after r.1.block _ c.split_padding-front.result c.args.padding _ refl c.requires.held.linked.lists_len r.3),
+    )
 
 pub split_remainder-rest-requires-clause-whole : goal.split_remainder-rest-requires-clause-whole
 split_remainder-rest-requires-clause-whole g c =
@@ -50,9 +59,17 @@ pub split_remainder-rest-requires-clause-offset : goal.split_remainder-rest-requ
 split_remainder-rest-requires-clause-offset g c =
     let h = c.requires.place.2 in
     let now = at_place (c.mark.ensures.place _ _ _ _ (c.split_padding-front.ensures.place _ _ h)) in
-    omega (arith, c.requires.start, ap (λ (v : Node). v.offset) (at_place h), ap (λ (v : Node). v.offset) now, units-append c.requires.place.1.before (free_part c.split_padding-front.result c.args.padding), (part_sums c.split_padding-front.result c.args.padding).1)
+    omega (
+      arith,
+      c.requires.start,
+      ap (λ (v : Node). v.offset) (at_place h),
+      ap (λ (v : Node). v.offset) now,
+      units-append c.requires.place.1.before (free_part c.split_padding-front.result c.args.padding),
+      (part_sums c.split_padding-front.result c.args.padding).1,
+    )
 
 pub returns-clause-lists : goal.returns-clause-lists
 returns-clause-lists g c =
     let rest : List Block = free_part c.split_remainder-rest.result c.args.left in
-    c.split_remainder-rest.ensures.lists ∙ ap (push_all rest) (marked g (goal.at.returns-clause-lists g c).After-mark).1 ∙ sym (pushed_parts c.split_padding-front.result c.args.padding c.args.name c.args.size rest (bins_in g.T.Index.NodeIndex.MAX (g.T.Tables.cells c.args.store.now.tables).links))
+    c.split_remainder-rest.ensures.lists ∙ ap (push_all rest) (marked g (goal.at.returns-clause-lists g c).After-mark).1
+    ∙ sym (pushed_parts c.split_padding-front.result c.args.padding c.args.name c.args.size rest (bins_in g.T.Index.NodeIndex.MAX (g.T.Tables.cells c.args.store.now.tables).links))

@@ -9,7 +9,8 @@ use Rattle.offset_allocator.proofs.neighbours.resize.Goals.{After-with_after-who
 use Rattle.offset_allocator.proofs.neighbours.resize.Given.{Over}
 
 -- the size of the whole block
-whole : (g : Over) (c : After-with_after-whole g) (p : Place) {m : ℕ} → HasPlace (g.T.Tables.cells c.args.store.now.tables).room m c.args.store.now.last c.args.store.now.spare_count c.args.name p → c.with_after-whole.result ≡ p.block.size + units (free_start p.after)
+whole : (g : Over) (c : After-with_after-whole g) (p : Place) {m : ℕ} → HasPlace (g.T.Tables.cells c.args.store.now.tables).room m c.args.store.now.last c.args.store.now.spare_count c.args.name p
+    → c.with_after-whole.result ≡ p.block.size + units (free_start p.after)
 whole g c p h = c.with_after-whole.ensures.size ∙ ap (λ (v : Node). v.size) (at_place (c.with_after-whole.ensures.place _ _ h))
 
 pub offset-offset-requires : goal.offset-offset-requires
@@ -24,7 +25,12 @@ split_remainder-requires-clause-place g c =
     (_, _, c.with_after-whole.ensures.place _ _ r.2, rw (c.with_after-whole.ensures.lists _ _ r.2) (unlisted_after r.2 _ r.3 c.requires.held.linked.lists_len _))
 
 pub split_remainder-requires-clause-whole : goal.split_remainder-requires-clause-whole
-split_remainder-requires-clause-whole g c = omega (arith, whole g (goal.at.split_remainder-requires-clause-whole g c).After-with_after-whole _ c.requires.place.2, c.requires.place.4, c.with_after-whole.ensures.size)
+split_remainder-requires-clause-whole g c = omega (
+  arith,
+  whole g (goal.at.split_remainder-requires-clause-whole g c).After-with_after-whole _ c.requires.place.2,
+  c.requires.place.4,
+  c.with_after-whole.ensures.size,
+)
 
 pub returns-clause-place : goal.returns-clause-place
 returns-clause-place g c m p h =

@@ -25,7 +25,14 @@ pub returns-in-Some-clause-size : goal.returns-in-Some-clause-size
 returns-in-Some-clause-size g c =
     let h = c.requires.place.2 in
     let left = c.coalesce_before.ensures.place _ _ (kept_place c.remove.ensures.chain h) in
-    omega (arith, c.size-more.ensures.size, c.requires.size, (free_before h c.in-Some.ensures.free.0 c.in-Some.ensures.free.1).0, ap (λ (v : Node). v.size) (at_place left), ap (λ (v : Node). v.size) (at_place h))
+    omega (
+      arith,
+      c.size-more.ensures.size,
+      c.requires.size,
+      (free_before h c.in-Some.ensures.free.0 c.in-Some.ensures.free.1).0,
+      ap (λ (v : Node). v.size) (at_place left),
+      ap (λ (v : Node). v.size) (at_place h),
+    )
 
 pub returns-clause-place : goal.returns-clause-place
 returns-clause-place g c m p h = kept_before h (c.in_default.ensures.free _ _ _ _ h)

@@ -21,8 +21,10 @@ push-requires-clause-unlisted g c = empty_unlisted 0 (rw c.start.ensures.links c
 pub returns-clause-started : goal.returns-clause-started
 returns-clause-started g c =
     let empty : bins_in g.T.Index.NodeIndex.MAX (g.T.Tables.cells c.start.new.tables).links ≡ replicate 256 [] = rw c.start.ensures.links c.requires.empty in
-    let order = c.push.ensures.lists ∙ ap (λ (o : List (List ℕ)). push c.uint_to_float_round_down.result 0 o) empty ∙ ap (λ (k : ℕ). push k 0 (replicate 256 [])) c.uint_to_float_round_down.ensures.is in
-    let done = started g.T.Index.NodeIndex.MAX c.args.max_allocs c.args.size (g.T.Tables.cells c.push.new.store.tables) c.push.new.store.top_mask (omega arith) (omega arith) (omega arith) (rw c.push.ensures.chain.0 c.start.ensures.reserved) (rw c.push.ensures.chain.0 c.start.ensures.space) (rw c.push.ensures.chain.0 c.start.ensures.blocks) c.push.ensures.held order in
+    let order = c.push.ensures.lists ∙ ap (λ (o : List (List ℕ)). push c.uint_to_float_round_down.result 0 o) empty
+    ∙ ap (λ (k : ℕ). push k 0 (replicate 256 [])) c.uint_to_float_round_down.ensures.is in
+    let done = started g.T.Index.NodeIndex.MAX c.args.max_allocs c.args.size (g.T.Tables.cells c.push.new.store.tables) c.push.new.store.top_mask (omega arith) (omega arith) (omega arith)
+    (rw c.push.ensures.chain.0 c.start.ensures.reserved) (rw c.push.ensures.chain.0 c.start.ensures.space) (rw c.push.ensures.chain.0 c.start.ensures.blocks) c.push.ensures.held order in
     record { sound = done.0; view = done.1 }
 
 pub push-requires-clause-held : goal.push-requires-clause-held

@@ -8,5 +8,5 @@ returns g c = if_ok c.keep.result
     (λ a k.
     let s = stored c.args.size c.args.desk.now.space c.allocate-granted.new.self c.args.desk.now.tickets.items c.keep.new.tickets.items c.allocate-granted.result _ c.requires.ledger
     c.allocate-granted.ensures.grants c.allocate-granted.ensures.same k in
-    record { takes = (_, (_, c.allocate-granted.ensures.step c.requires.left, s.0), refl); ledger = s.1; grown = s.2 })
+    record { takes = (_, (_, c.allocate-granted.ensures.step c.requires.left, s.0), refl); ledger = s.1; grown = s.2; realm = s.3 })
     c.keep.ensures

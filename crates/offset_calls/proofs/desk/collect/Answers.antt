@@ -8,7 +8,8 @@ pub returns-clause-moves : goal.returns-clause-moves
 returns-clause-moves g c =
     let ran = collected _ _ _ _ c.compact.ensures.moved (λ q. q.0.now) (λ q. q.0.ghost_name) (λ m. m.is_refused) (λ m. m.found.items)
     (λ p x q k.
-    let s : q.0.now.is_refused ≡ false → (p.0.now.is_refused ≡ false) × (q.0.now.found.items ≡ p.0.now.found.items ++ record { number = 0; from = k.0.from; to = k.0.to; size = k.0.size } ∷ []) =
+    let s : q.0.now.is_refused ≡ false → (p.0.now.is_refused ≡ false)
+    × (q.0.now.found.items ≡ p.0.now.found.items ++ record { number = 0; from = k.0.from; to = k.0.to; size = k.0.size } ∷ []) =
     search rules in
     let n : q.0.ghost_name ≡ p.0.ghost_name = search rules in
     ((λ h. let r = s h in (r.0, _, k.1.from, k.1.to, k.1.size, r.1)), n)) in

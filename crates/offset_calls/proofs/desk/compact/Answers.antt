@@ -27,4 +27,5 @@ returns g c = record {
   ledger = same_ledger c.args.desk.now.space c.collect.new.space c.args.desk.now.tickets.items c.requires.ledger (ap (λ (g : Guard). g.realm) c.collect.ensures.serials)
       (ap (λ (g : Guard). g.given) c.collect.ensures.serials);
   grown = inl refl;
+  realm = ap (λ (g : Guard). g.realm) c.collect.ensures.serials;
 }

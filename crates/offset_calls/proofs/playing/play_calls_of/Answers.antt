@@ -1,4 +1,5 @@
-use Rattle.std.proofs.Common.{◌≡◌, ◌+◌, ◌<◌, ◌≤◌, ℕ, List, [], ◌∷◌, ◌++◌, map, take, drop, length, get_or, refl, sym, ap, ap₂, subst, ◌∙◌, arith, IsTrue, add-one, append-nil, append_assoc, drop-cons}
+use Rattle.std.proofs.Common.{◌≡◌, ◌+◌, ◌<◌, ◌≤◌, ℕ, List, [], ◌∷◌, ◌++◌, map, take, drop, length, get_or, refl, sym, ap, subst, ◌∙◌, arith, IsTrue, add-one}
+use Rattle.std.proofs.Common.{append-nil, append_assoc, drop-cons}
 use Rattle.std.proofs.lemmas.List.{map-append, take_more, take_all, drop_all}
 use Rattle.std.proofs.lemmas.List.Elements.{All-get_or}
 use Rattle.offset_script.specs.Machine.{State, start}
@@ -27,11 +28,7 @@ after_more cs s i d h = ap (λ l. after l s) (take_more cs i d h) ∙ after-appe
 replies_more : (cs : List Call) (s : State) (i : ℕ) (d : Call) (found left : List program.Reply) (x : program.Reply) (all : List Reply) → i < length cs → left ≡ found ++ x ∷ []
     → reply_view x ≡ (step (get_or cs i d) (after (take i cs) s)).reply → map reply_view found ++ replies (drop i cs) (after (take i cs) s) ≡ all
     → map reply_view left ++ replies (drop (i + 1) cs) (after (take (i + 1) cs) s) ≡ all
-replies_more cs s i d found left x all h f e so_far =
-    ap (λ l. map reply_view l ++ replies (drop (i + 1) cs) (after (take (i + 1) cs) s)) f
-    ∙ ap (λ l. l ++ replies (drop (i + 1) cs) (after (take (i + 1) cs) s)) (map-append reply_view found (x ∷ [])) ∙ append_assoc (map reply_view found) _ _
-    ∙ ap (λ l. map reply_view found ++ l) (ap₂ (λ y t. y ∷ replies (drop (i + 1) cs) t) e (after_more cs s i d h) ∙ rw add-one (sym (ap (λ l. replies l (after (take i cs) s)) (drop-cons cs i d h))))
-    ∙ so_far
+replies_more cs s i d found left x all h f e so_far = search (arith, map, drop, take, map-append, append_assoc, after_more, add-one, drop-cons)
 
 -- where nothing is left, the replies so far are those to all
 replies_all : (cs : List Call) (s : State) (i : ℕ) (found : List program.Reply) (all : List Reply) → length cs ≤ i → map reply_view found ++ replies (drop i cs) (after (take i cs) s) ≡ all
@@ -47,11 +44,7 @@ reply-requires-clause-kept g c =
     all_kept _ _ _ r.formed (well_calls (take c.loop-call.call-index c.args.calls.now) _ (well_start c.args.size c.args.max_allocs c.requires.low)) r.agrees
 
 pub loop-call-init : goal.loop-call-init
-loop-call-init g c = record {
-  represents = fresh_represents _ c.is_well_formed.ensures _ _ _ c.in_ok-player.ensures.0 c.in_ok-player.ensures.1;
-  run = run_begins Takes _ _ _ _ _ c.in_ok-player.ensures.0 c.in_ok-player.ensures.1 (ap (map reply_view) c.new-found.ensures.items);
-  so_far = ap (λ l. map reply_view l ++ replies c.args.calls.now (start c.args.size c.args.max_allocs)) c.new-found.ensures.items;
-}
+loop-call-init g c = search (arith, fresh_represents, run_begins, map)
 
 pub loop-call-preserved : goal.loop-call-preserved
 loop-call-preserved g c =
@@ -71,11 +64,4 @@ loop-call-preserved g c =
     }
 
 pub returns : goal.returns
-returns g c =
-    let cs = c.args.calls.now in
-    let s = start c.args.size c.args.max_allocs in
-    let found = c.loop-call.found.items in
-    record {
-      replies = replies_all cs s c.loop-call.call-index found (replies cs s) (omega arith) c.loop-call.invariant.so_far;
-      run = run_ends Takes _ _ _ _ _ _ _ c.loop-call.invariant.run (take_all c.loop-call.call-index cs (omega arith));
-    }
+returns g c = search (arith, replies_all, run_ends, take_all)

@@ -1,4 +1,5 @@
-use Rattle.std.proofs.Common.{◌<◌, map, take, length, refl, sym, subst, arith, IsTrue, ◌≡◌, ℕ, zero, suc, ◌+◌, ◌≤◌, List, [], ◌∷◌, ◌++◌, drop, get_or, ap, ap₂, ◌∙◌, add-one, append-nil, append_assoc}
+use Rattle.std.proofs.Common.{◌<◌, map, take, length, refl, sym, subst, arith, IsTrue, ◌≡◌, ℕ, zero, suc, ◌+◌, ◌≤◌, List, [], ◌∷◌, ◌++◌, drop, get_or, ap, ◌∙◌}
+use Rattle.std.proofs.Common.{add-one, append-nil, append_assoc}
 use Rattle.std.proofs.Common.{drop-cons}
 use Rattle.std.proofs.lemmas.List.{map-append, take_more, take_all, drop_all}
 use Rattle.std.proofs.lemmas.List.Elements.{All-get_or}
@@ -9,7 +10,7 @@ use Rattle.offset_script.proofs.Agreement.{IsAtState}
 use Rattle.offset_script.proofs.Simulation.{all_live, follows, fresh_represents, run_begins, run_goes_on, run_ends}
 use Rattle.offset_script.proofs.Well.{well_start, well_after}
 use Rattle.offset_script.specs.declared.scripts.Command.{Command}
-use Rattle.offset_script.specs.Histories.{HasFreshRestarts, HasTracelessNests, HasCommutingRows, answers_renumbered, releases, without_offset}
+use Rattle.offset_script.specs.Histories.{HasFreshRestarts, HasTracelessNests, HasCommutingRows}
 use Rattle.offset_script.specs.declared.answers.Answer as program
 use Rattle.offset_script.proofs.Fresh.{fresh_law}
 use Rattle.offset_script.proofs.Nests.{after-append, nest_law}
@@ -26,16 +27,14 @@ after_more cs s i d h = ap (λ l. after l s) (take_more cs i d h) ∙ after-appe
 answers_more : (cs : List Command) (s : State) (i : ℕ) (d : Command) (found left : List program.Answer) (x : program.Answer) (all : List Answer) → i < length cs → left ≡ found ++ x ∷ []
     → answer_view x ≡ (step (get_or cs i d) (after (take i cs) s)).answer → map answer_view found ++ answers (drop i cs) (after (take i cs) s) ≡ all
     → map answer_view left ++ answers (drop (i + 1) cs) (after (take (i + 1) cs) s) ≡ all
-answers_more cs s i d found left x all h f e so_far =
-    ap (λ l. map answer_view l ++ answers (drop (i + 1) cs) (after (take (i + 1) cs) s)) f
-    ∙ ap (λ l. l ++ answers (drop (i + 1) cs) (after (take (i + 1) cs) s)) (map-append answer_view found (x ∷ [])) ∙ append_assoc (map answer_view found) _ _
-    ∙ ap (λ l. map answer_view found ++ l) (ap₂ (λ y t. y ∷ answers (drop (i + 1) cs) t) e (after_more cs s i d h) ∙ rw add-one (sym (ap (λ l. answers l (after (take i cs) s)) (drop-cons cs i d h))))
-    ∙ so_far
+answers_more cs s i d found left x all h f e so_far = search (arith, map, drop, take, map-append, append_assoc, after_more, add-one, drop-cons)
 
 -- where nothing is left, the answers so far are those to all
-answers_all : (cs : List Command) (s : State) (i : ℕ) (found : List program.Answer) (all : List Answer) → length cs ≤ i → map answer_view found ++ answers (drop i cs) (after (take i cs) s) ≡ all
+answers_all : (cs : List Command) (s : State) (i : ℕ) (found : List program.Answer) (all : List Answer) → length cs ≤ i
+    → map answer_view found ++ answers (drop i cs) (after (take i cs) s) ≡ all
     → map answer_view found ≡ all
-answers_all cs s i found all h so_far = sym (append-nil (map answer_view found)) ∙ ap (λ l. map answer_view found ++ l) (sym (ap (λ l. answers l (after (take i cs) s)) (drop_all i cs h))) ∙ so_far
+answers_all cs s i found all h so_far = sym (append-nil (map answer_view found))
+    ∙ ap (λ l. map answer_view found ++ l) (sym (ap (λ l. answers l (after (take i cs) s)) (drop_all i cs h))) ∙ so_far
 
 -- The laws over whole histories, of the answers to a list of commands.
 
@@ -54,31 +53,16 @@ answers_past [] ys s = refl
 answers_past (x ∷ xs) ys s = answers_past xs ys (step x s).state
 
 nests : (size limit : ℕ) (cs : List Command) (found : List Answer) → 2 ≤ limit → found ≡ answers cs (start size limit) → HasTracelessNests size limit cs found
-nests size limit cs found h e before nest rest parts n =
-    let s = start size limit in
-    ap (drop (length (before ++ nest))) (e ∙ ap (λ c. answers c s) parts)
-    ∙ answers_past (before ++ nest) rest s
-    ∙ subst (λ t. answers rest t ≡ answers_renumbered (after before s) t rest) (sym (after-append before nest s)) (nest_law size limit h before nest n rest)
+nests size limit cs found h e before nest rest parts n = search (arith, drop, length, answers_past, after-append, nest_law)
 
 rows : (size limit : ℕ) (cs : List Command) (found : List Answer) → 2 ≤ limit → found ≡ answers cs (start size limit) → HasCommutingRows size limit cs found
-rows size limit cs found h e before ks c rest parts t is =
-    let s = start size limit in
-    ap (λ l. map without_offset (take 1 l)) (ap (drop (length (before ++ releases ks))) (e ∙ ap (λ c. answers c s) parts) ∙ answers_past (before ++ releases ks) (c ∷ rest) s)
-    ∙ ap (λ (u : State). without_offset (step c u).answer ∷ []) (after-append before (releases ks) s)
-    ∙ ap (λ a. a ∷ []) (commute_next size limit h before ks t is c)
+rows size limit cs found h e before ks c rest parts t is = search (arith, map, take, drop, length, answers_past, after-append, commute_next)
 
 pub call-requires : goal.call-requires
-call-requires g c = record {
-  live = all_live _ _ _ (well_after (take c.loop-command.command-index c.args.commands.now) _ (well_start c.args.size c.args.max_allocs c.requires.low)) c.loop-command.invariant.represents;
-  power = All-get_or (λ c. IsTrue (has_valid_alignment c)) c.args.commands.now c.loop-command.command-index _ (omega arith) c.requires.powers;
-}
+call-requires g c = search (arith, all_live, well_after, take, well_start)
 
 pub loop-command-init : goal.loop-command-init
-loop-command-init g c = record {
-  represents = fresh_represents _ c.is_well_formed.ensures _ _ _ c.in_ok-player.ensures.0 c.in_ok-player.ensures.1;
-  run = run_begins Takes _ _ _ _ _ c.in_ok-player.ensures.0 c.in_ok-player.ensures.1 (ap (map answer_view) c.new-found.ensures.items);
-  so_far = ap (λ l. map answer_view l ++ answers c.args.commands.now (start c.args.size c.args.max_allocs)) c.new-found.ensures.items;
-}
+loop-command-init g c = search (arith, fresh_represents, run_begins, map)
 
 pub loop-command-preserved : goal.loop-command-preserved
 loop-command-preserved g c =
@@ -98,15 +82,4 @@ loop-command-preserved g c =
     }
 
 pub returns : goal.returns
-returns g c =
-    let cs = c.args.commands.now in
-    let s = start c.args.size c.args.max_allocs in
-    let found = c.loop-command.found.items in
-    let all : map answer_view found ≡ answers cs s = answers_all cs s c.loop-command.command-index found (answers cs s) (omega arith) c.loop-command.invariant.so_far in
-    record {
-      answers = all;
-      run = run_ends Takes _ _ _ _ _ _ _ c.loop-command.invariant.run (take_all c.loop-command.command-index cs (omega arith));
-      fresh = fresh c.args.size c.args.max_allocs cs (map answer_view found) c.requires.low all;
-      rows = rows c.args.size c.args.max_allocs cs (map answer_view found) c.requires.low all;
-      nests = nests c.args.size c.args.max_allocs cs (map answer_view found) c.requires.low all;
-    }
+returns g c = search (arith, map, answers_all, run_ends, take_all, fresh, rows, nests)

@@ -1,6 +1,6 @@
-use Rattle.std.proofs.Common.{◌+◌, ◌==◌, sym, ◌≡◌, ℕ, ◌<◌, ◌≤◌, Bool, true, false, cond, ltb, List, [], ◌∷◌, length, take, drop, Some, None, refl, ap, ◌∙◌, arith, ltb-true, ltb-false}
+use Rattle.std.proofs.Common.{◌+◌, ◌==◌, sym, ◌≡◌, ℕ, ◌<◌, Bool, true, false, cond, ltb, List, [], ◌∷◌, length, take, drop, Some, None, refl, arith, ltb-true, ltb-false}
 use Rattle.std.proofs.lemmas.List.{take_rest}
-use Rattle.std.specs.List.{slice_split, position_or_len, position}
+use Rattle.std.specs.List.{slice_split, position}
 use Rattle.std.proofs.lemmas.List.Sums.{fails_before_first}
 use Rattle.std.proofs.lemmas.List.Splits.{slice_split_none, slice_split_first}
 use Rattle.offset_script.proofs.tokens.split_once.Goals as goal
@@ -15,21 +15,13 @@ unchosen true x e = absurd cc
 unchosen false x e = refl
 
 found_parts : (p : ℕ → Bool) (xs : List ℕ) (i : ℕ) → position p xs ≡ Some i → (slice_split p xs ≡ take i xs ∷ slice_split p (drop (i + 1) xs)) × (i < length xs)
-found_parts p xs i e =
-    let c = cond_some (ltb (position_or_len p xs) (length xs)) (position_or_len p xs) i e in
-    let lt : position_or_len p xs < length xs = ltb-true _ _ c.0 in
-    let is : position_or_len p xs ≡ i = c.1 in
-    (slice_split_first p xs 0 lt ∙ ap (λ (k : ℕ). take k xs ∷ slice_split p (drop (k + 1) xs)) is, omega arith)
+found_parts p xs i e = search (arith, cond_some, ltb, length, ltb-true, slice_split_first, take, drop)
 
 only_part : (p : ℕ → Bool) (xs : List ℕ) → position p xs ≡ None → slice_split p xs ≡ xs ∷ []
-only_part p xs e =
-    let le : length xs ≤ position_or_len p xs = ltb-false _ _ (unchosen (ltb (position_or_len p xs) (length xs)) (position_or_len p xs) e) in
-    slice_split_none p xs (λ k d lt. fails_before_first p xs k d (omega arith))
+only_part p xs e = search (arith, length, ltb-false, unchosen, ltb, slice_split_none, fails_before_first)
 
 pub returns-in-None-clause-parts : goal.returns-in-None-clause-parts
 returns-in-None-clause-parts c = only_part (λ b. b == c.args.at) c.args.text.now (sym c.in-None.ensures)
 
 pub returns-in-Some-clause-parts : goal.returns-in-Some-clause-parts
-returns-in-Some-clause-parts c =
-    let f = found_parts (λ b. b == c.args.at) c.args.text.now c.in-Some.i (sym c.in-Some.ensures) in
-    rw (take_rest c.args.text.now (c.in-Some.i + 1)) f.0
+returns-in-Some-clause-parts c = search (arith, found_parts, take_rest)

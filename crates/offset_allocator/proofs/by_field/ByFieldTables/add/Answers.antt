@@ -13,7 +13,14 @@ returns-clause-room g c =
     let t = c.self.inside in
     let h = c.self.invariant in
     let some : 1 ≤ max = omega (arith, h.limit) in
-    let nodes = pushed max (field_tables number t) (field_tables number (record t { offset = c.push_within.new.values; size = c.push_within-2.new.values; before = c.push_within-3.new.values; after = c.push_within-4.new.values; newer = c.push_within-5.new.values })) some
+    let nodes = pushed max (field_tables number t)
+    (field_tables number (record t {
+      offset = c.push_within.new.values;
+      size = c.push_within-2.new.values;
+      before = c.push_within-3.new.values;
+      after = c.push_within-4.new.values;
+      newer = c.push_within-5.new.values;
+    })) some
     h.size (length-map t.before.items number ∙ h.before) (length-map t.after.items number ∙ h.after) (length-map t.newer.items number ∙ h.newer)
     c.push_within.ensures.items c.push_within-2.ensures.items
     (linked number _ _ _ max c.push_within-3.ensures.items c.no_link.ensures.number)

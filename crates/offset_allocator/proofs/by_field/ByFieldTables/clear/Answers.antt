@@ -8,7 +8,8 @@ returns-clause-room g c =
     let max : ℕ = g.NI.NodeIndex.MAX in
     let number = g.NI.NodeIndex.number in
     record {
-      nodes = first_node max _ (omega (arith, c.self.invariant.limit)) (c.push_within.ensures.items ∙ ap (λ (l : List ℕ). l ++ 0 ∷ []) c.clear.ensures.items) (c.push_within-2.ensures.items ∙ ap (λ (l : List ℕ). l ++ 0 ∷ []) c.clear-2.ensures.items)
+      nodes = first_node max _ (omega (arith, c.self.invariant.limit)) (c.push_within.ensures.items ∙ ap (λ (l : List ℕ). l ++ 0 ∷ []) c.clear.ensures.items) (c.push_within-2.ensures.items
+          ∙ ap (λ (l : List ℕ). l ++ 0 ∷ []) c.clear-2.ensures.items)
           (alone number _ _ _ max c.push_within-3.ensures.items c.clear-3.ensures.items c.no_link.ensures.number)
           (alone number _ _ _ max c.push_within-4.ensures.items c.clear-4.ensures.items c.no_link-2.ensures.number)
           (alone number _ _ _ max c.push_within-5.ensures.items c.clear-5.ensures.items c.no_link-3.ensures.number);

@@ -15,8 +15,10 @@ returns-clause-cells g c =
     let short = within _ _ t c.self.view_is x c.requires in
     let u : FieldTables = record fs { before = map g.NI.NodeIndex.number (set t.before.items x c.args.link) } in
     let off : (i : ℕ) → i ≢ x → node_in max u i ≡ node_in max fs i = λ i ne. rw (other g.NI.NodeIndex.number t.before.items x c.args.link i ne) refl in
-    let is : node_in max u x ≡ record (node_in max fs x) { before = link_of max (g.NI.NodeIndex.number c.args.link) } = rw (at g.NI.NodeIndex.number t.before.items x c.args.link (omega (arith, short, h.before))) refl in
+    let is : node_in max u x ≡ record (node_in max fs x) { before = link_of max (g.NI.NodeIndex.number c.args.link) } =
+    rw (at g.NI.NodeIndex.number t.before.items x c.args.link (omega (arith, short, h.before))) refl in
     wrote-room _ _ t c.self.view_is u x (λ (n : Node). record n { before = link_of max (g.NI.NodeIndex.number c.args.link) }) c.requires refl refl off is
 
 pub invariant_of-self : goal.invariant_of-self
-invariant_of-self g c = level_kept _ c.self.inside _ c.self.invariant refl refl (length-set c.self.inside.before.items c.args.name c.args.link) refl refl refl refl refl refl refl refl refl refl refl refl refl
+invariant_of-self g c = level_kept _ c.self.inside _ c.self.invariant refl refl (length-set c.self.inside.before.items c.args.name c.args.link) refl refl refl refl refl refl refl
+    refl refl refl refl refl refl

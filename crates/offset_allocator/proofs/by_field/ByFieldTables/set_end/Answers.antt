@@ -14,9 +14,12 @@ returns-clause-cells g c =
     let fs : FieldTables = field_tables g.NI.NodeIndex.number t in
     let short = within _ _ t c.self.view_is x c.requires in
     let u : FieldTables = record fs { size = set t.size.items x c.args.size; after = map g.NI.NodeIndex.number (set t.after.items x c.args.link) } in
-    let off : (i : ℕ) → i ≢ x → node_in max u i ≡ node_in max fs i = λ i ne. rw (get_or-set_other t.size.items x i c.args.size 0 ne, other g.NI.NodeIndex.number t.after.items x c.args.link i ne) refl in
-    let is : node_in max u x ≡ record (node_in max fs x) { size = c.args.size; after = link_of max (g.NI.NodeIndex.number c.args.link) } = rw (get_or-set_same t.size.items x c.args.size 0 (omega (arith, short, h.size)), at g.NI.NodeIndex.number t.after.items x c.args.link (omega (arith, short, h.after))) refl in
+    let off : (i : ℕ) → i ≢ x → node_in max u i ≡ node_in max fs i =
+    λ i ne. rw (get_or-set_other t.size.items x i c.args.size 0 ne, other g.NI.NodeIndex.number t.after.items x c.args.link i ne) refl in
+    let is : node_in max u x ≡ record (node_in max fs x) { size = c.args.size; after = link_of max (g.NI.NodeIndex.number c.args.link) } =
+    rw (get_or-set_same t.size.items x c.args.size 0 (omega (arith, short, h.size)), at g.NI.NodeIndex.number t.after.items x c.args.link (omega (arith, short, h.after))) refl in
     wrote-room _ _ t c.self.view_is u x (λ (n : Node). record n { size = c.args.size; after = link_of max (g.NI.NodeIndex.number c.args.link) }) c.requires refl refl off is
 
 pub invariant_of-self : goal.invariant_of-self
-invariant_of-self g c = level_kept _ c.self.inside _ c.self.invariant refl (length-set c.self.inside.size.items c.args.name c.args.size) refl (length-set c.self.inside.after.items c.args.name c.args.link) refl refl refl refl refl refl refl refl refl refl refl refl
+invariant_of-self g c = level_kept _ c.self.inside _ c.self.invariant refl (length-set c.self.inside.size.items c.args.name c.args.size) refl
+    (length-set c.self.inside.after.items c.args.name c.args.link) refl refl refl refl refl refl refl refl refl refl refl refl

@@ -9,11 +9,27 @@ pub returns-clause-cells : goal.returns-clause-cells
 returns-clause-cells g c =
     let t = c.self.inside in
     let even = length-map t.newer.items g.NI.NodeIndex.number ∙ c.self.invariant.newer in
-    let named : c.args.name < length c.args.self.now.room.nodes = omega (arith, c.requires.name, ap (λ (v : Cells). length v.links.newer) c.self.view_is, ap (λ (v : Cells). length v.room.nodes) c.self.view_is, length-map t.newer.items g.NI.NodeIndex.number, length-nodes_in g.NI.NodeIndex.MAX (field_tables g.NI.NodeIndex.number t), c.self.invariant.newer) in
+    let named : c.args.name < length c.args.self.now.room.nodes =
+    omega (
+      arith,
+      c.requires.name,
+      ap (λ (v : Cells). length v.links.newer) c.self.view_is,
+      ap (λ (v : Cells). length v.room.nodes) c.self.view_is,
+      length-map t.newer.items g.NI.NodeIndex.number,
+      length-nodes_in g.NI.NodeIndex.MAX (field_tables g.NI.NodeIndex.number t),
+      c.self.invariant.newer,
+    ) in
     let newer = map-set g.NI.NodeIndex.number t.newer.items c.args.name c.args.newer in
     let older = map-set g.NI.NodeIndex.number t.older.items c.args.name c.args.older in
-    rw (newer, older) (wrote-newer _ _ t c.self.view_is c.args.name (g.NI.NodeIndex.number c.args.newer) (set (map g.NI.NodeIndex.number t.older.items) c.args.name (g.NI.NodeIndex.number c.args.older)) named even c.requires.idle c.requires.link)
-    ∙ ap (λ (l : List ℕ). record c.args.self.now { links = record c.args.self.now.links { newer = set c.args.self.now.links.newer c.args.name (g.NI.NodeIndex.number c.args.newer); older = set l c.args.name (g.NI.NodeIndex.number c.args.older) } }) (ap (λ (v : Cells). v.links.older) c.self.view_is)
+    rw (newer, older) (wrote-newer _ _ t c.self.view_is c.args.name (g.NI.NodeIndex.number c.args.newer)
+    (set (map g.NI.NodeIndex.number t.older.items) c.args.name (g.NI.NodeIndex.number c.args.older)) named even c.requires.idle c.requires.link)
+    ∙ ap (λ (l : List ℕ). record c.args.self.now {
+      links = record c.args.self.now.links {
+        newer = set c.args.self.now.links.newer c.args.name (g.NI.NodeIndex.number c.args.newer);
+        older = set l c.args.name (g.NI.NodeIndex.number c.args.older);
+      };
+    }) (ap (λ (v : Cells). v.links.older) c.self.view_is)
 
 pub invariant_of-self : goal.invariant_of-self
-invariant_of-self g c = level_kept _ c.self.inside _ c.self.invariant refl refl refl refl (length-set c.self.inside.newer.items c.args.name c.args.newer) (length-set c.self.inside.older.items c.args.name c.args.older) refl refl refl refl refl refl refl refl refl refl
+invariant_of-self g c = level_kept _ c.self.inside _ c.self.invariant refl refl refl refl (length-set c.self.inside.newer.items c.args.name c.args.newer)
+    (length-set c.self.inside.older.items c.args.name c.args.older) refl refl refl refl refl refl refl refl refl refl

@@ -7,4 +7,5 @@ pub returns-clause-cells : goal.returns-clause-cells
 returns-clause-cells g c = rw (← c.self.view_is) (simp map-set)
 
 pub invariant_of-self : goal.invariant_of-self
-invariant_of-self g c = level_kept _ c.self.inside _ c.self.invariant refl refl refl refl refl (length-set c.self.inside.older.items c.args.name c.args.link) refl refl refl refl refl refl refl refl refl refl
+invariant_of-self g c = level_kept _ c.self.inside _ c.self.invariant refl refl refl refl refl (length-set c.self.inside.older.items c.args.name c.args.link) refl refl refl refl
+    refl refl refl refl refl refl

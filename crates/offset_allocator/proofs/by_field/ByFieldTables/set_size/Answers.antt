@@ -19,4 +19,5 @@ returns-clause-cells g c =
     wrote-room _ _ t c.self.view_is u x (λ (n : Node). record n { size = c.args.size }) c.requires refl refl off is
 
 pub invariant_of-self : goal.invariant_of-self
-invariant_of-self g c = level_kept _ c.self.inside _ c.self.invariant refl (length-set c.self.inside.size.items c.args.name c.args.size) refl refl refl refl refl refl refl refl refl refl refl refl refl refl
+invariant_of-self g c = level_kept _ c.self.inside _ c.self.invariant refl (length-set c.self.inside.size.items c.args.name c.args.size) refl refl refl refl refl refl refl refl
+    refl refl refl refl refl refl

@@ -14,9 +14,17 @@ returns-clause-cells g c =
     let fs : FieldTables = field_tables g.NI.NodeIndex.number t in
     let short = within _ _ t c.self.view_is x c.requires in
     let u : FieldTables = record fs { offset = set t.offset.items x c.args.offset; size = set t.size.items x c.args.size; before = map g.NI.NodeIndex.number (set t.before.items x c.args.link) } in
-    let off : (i : ℕ) → i ≢ x → node_in max u i ≡ node_in max fs i = λ i ne. rw (get_or-set_other t.offset.items x i c.args.offset 0 ne, get_or-set_other t.size.items x i c.args.size 0 ne, other g.NI.NodeIndex.number t.before.items x c.args.link i ne) refl in
-    let is : node_in max u x ≡ record (node_in max fs x) { offset = c.args.offset; size = c.args.size; before = link_of max (g.NI.NodeIndex.number c.args.link) } = rw (get_or-set_same t.offset.items x c.args.offset 0 short, get_or-set_same t.size.items x c.args.size 0 (omega (arith, short, h.size)), at g.NI.NodeIndex.number t.before.items x c.args.link (omega (arith, short, h.before))) refl in
-    wrote-room _ _ t c.self.view_is u x (λ (n : Node). record n { offset = c.args.offset; size = c.args.size; before = link_of max (g.NI.NodeIndex.number c.args.link) }) c.requires (length-set t.offset.items x c.args.offset) refl off is
+    let off : (i : ℕ) → i ≢ x → node_in max u i ≡ node_in max fs i =
+    λ i ne. rw (get_or-set_other t.offset.items x i c.args.offset 0 ne, get_or-set_other t.size.items x i c.args.size 0 ne, other g.NI.NodeIndex.number t.before.items x c.args.link i ne) refl in
+    let is : node_in max u x ≡ record (node_in max fs x) { offset = c.args.offset; size = c.args.size; before = link_of max (g.NI.NodeIndex.number c.args.link) } =
+    rw (
+      get_or-set_same t.offset.items x c.args.offset 0 short,
+      get_or-set_same t.size.items x c.args.size 0 (omega (arith, short, h.size)),
+      at g.NI.NodeIndex.number t.before.items x c.args.link (omega (arith, short, h.before)),
+    ) refl in
+    wrote-room _ _ t c.self.view_is u x (λ (n : Node). record n { offset = c.args.offset; size = c.args.size; before = link_of max (g.NI.NodeIndex.number c.args.link) }) c.requires
+    (length-set t.offset.items x c.args.offset) refl off is
 
 pub invariant_of-self : goal.invariant_of-self
-invariant_of-self g c = level_kept _ c.self.inside _ c.self.invariant (length-set c.self.inside.offset.items c.args.name c.args.offset) (length-set c.self.inside.size.items c.args.name c.args.size) (length-set c.self.inside.before.items c.args.name c.args.link) refl refl refl refl refl refl refl refl refl refl refl refl refl
+invariant_of-self g c = level_kept _ c.self.inside _ c.self.invariant (length-set c.self.inside.offset.items c.args.name c.args.offset) (length-set c.self.inside.size.items c.args.name c.args.size)
+    (length-set c.self.inside.before.items c.args.name c.args.link) refl refl refl refl refl refl refl refl refl refl refl refl refl

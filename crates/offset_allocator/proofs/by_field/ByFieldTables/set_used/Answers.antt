@@ -12,4 +12,5 @@ returns-clause-cells g c =
     rw newer (wrote-used _ _ t c.self.view_is c.args.name c.args.used (omega (arith, h.limit)) c.requires even)
 
 pub invariant_of-self : goal.invariant_of-self
-invariant_of-self g c = level_kept _ c.self.inside _ c.self.invariant refl refl refl refl (length-set c.self.inside.newer.items c.args.name c.mark.result) refl refl refl refl refl refl refl refl refl refl refl
+invariant_of-self g c = level_kept _ c.self.inside _ c.self.invariant refl refl refl refl (length-set c.self.inside.newer.items c.args.name c.mark.result) refl refl refl refl refl
+    refl refl refl refl refl refl

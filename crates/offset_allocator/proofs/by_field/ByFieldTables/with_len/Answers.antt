@@ -8,7 +8,8 @@ returns-clause-room g c =
     let max : ℕ = g.NI.NodeIndex.MAX in
     let number = g.NI.NodeIndex.number in
     record {
-      nodes = first_node max _ (omega (arith, c.requires.limit)) (c.push_within.ensures.items ∙ ap (λ (l : List ℕ). l ++ 0 ∷ []) c.in_ok-offset.ensures.empty) (c.push_within-2.ensures.items ∙ ap (λ (l : List ℕ). l ++ 0 ∷ []) c.in_ok-size.ensures.empty)
+      nodes = first_node max _ (omega (arith, c.requires.limit)) (c.push_within.ensures.items ∙ ap (λ (l : List ℕ). l ++ 0 ∷ []) c.in_ok-offset.ensures.empty) (c.push_within-2.ensures.items
+          ∙ ap (λ (l : List ℕ). l ++ 0 ∷ []) c.in_ok-size.ensures.empty)
           (alone number _ _ _ max c.push_within-3.ensures.items c.in_ok-before.ensures.empty c.no_link.ensures.number)
           (alone number _ _ _ max c.push_within-4.ensures.items c.in_ok-after.ensures.empty c.no_link-2.ensures.number)
           (alone number _ _ _ max c.push_within-5.ensures.items c.in_ok-newer.ensures.empty c.no_link-3.ensures.number);

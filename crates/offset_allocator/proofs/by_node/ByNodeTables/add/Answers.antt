@@ -17,9 +17,12 @@ returns-clause-room g c =
     let max : ℕ = g.NI.NodeIndex.MAX in
     let number = g.NI.NodeIndex.number in
     let ns = c.self.inside.nodes.items in
-    let nodes : nodes_of max number c.push_within.new.values.items ≡ nodes_of max number ns ++ _ ∷ [] = ap (nodes_of max number) c.push_within.ensures.items ∙ entry_added max number ns c.blank.result ∙ ap (λ (n : Node). nodes_of max number ns ++ n ∷ []) c.blank.ensures.node in
-    let named : number c.link_to-name.result ≡ length (nodes_of max number ns) = omega (arith, c.link_to-name.ensures.number, length-nodes_of max number ns, c.len.ensures, c.self.inside.nodes.ok.0) in
+    let nodes : nodes_of max number c.push_within.new.values.items ≡ nodes_of max number ns ++ _ ∷ [] = ap (nodes_of max number) c.push_within.ensures.items
+    ∙ entry_added max number ns c.blank.result ∙ ap (λ (n : Node). nodes_of max number ns ++ n ∷ []) c.blank.ensures.node in
+    let named : number c.link_to-name.result ≡ length (nodes_of max number ns) =
+    omega (arith, c.link_to-name.ensures.number, length-nodes_of max number ns, c.len.ensures, c.self.inside.nodes.ok.0) in
     let items : map number c.push_within-2.new.values.items ≡ map number c.self.inside.spare.items ++ length (nodes_of max number ns) ∷ [] =
-    ap (map number) c.push_within-2.ensures.items ∙ map-append number c.self.inside.spare.items (c.link_to-name.result ∷ []) ∙ ap (λ (i : ℕ). map number c.self.inside.spare.items ++ i ∷ []) named in
+    ap (map number) c.push_within-2.ensures.items ∙ map-append number c.self.inside.spare.items (c.link_to-name.result ∷ [])
+    ∙ ap (λ (i : ℕ). map number c.self.inside.spare.items ++ i ∷ []) named in
     let spare = map-set number c.push_within-2.new.values.items c.args.place c.link_to-name.result ∙ ap₂ (λ (l : List ℕ) (i : ℕ). set l c.args.place i) items named in
     rw (← c.self.view_is) (rw (nodes, spare, c.push_within.ensures.memory) refl)

@@ -4,7 +4,8 @@ use Rattle.offset_allocator.proofs.Entries.{wrote-room, even_set}
 use Rattle.offset_allocator.proofs.by_node.ByNodeTables.set_before.Goals as goal
 
 pub returns-clause-cells : goal.returns-clause-cells
-returns-clause-cells g c = wrote-room _ _ c.self.inside c.self.view_is c.args.name c.index_mut.result.now _ (λ (n : Node). record n { before = link_of g.NI.NodeIndex.MAX (g.NI.NodeIndex.number c.args.link) }) c.requires c.index_mut.ensures.value refl refl refl
+returns-clause-cells g c = wrote-room _ _ c.self.inside c.self.view_is c.args.name c.index_mut.result.now _
+    (λ (n : Node). record n { before = link_of g.NI.NodeIndex.MAX (g.NI.NodeIndex.number c.args.link) }) c.requires c.index_mut.ensures.value refl refl refl
 
 pub invariant_of-self : goal.invariant_of-self
 invariant_of-self g c = even_set _ c.self.inside c.self.invariant c.args.name _

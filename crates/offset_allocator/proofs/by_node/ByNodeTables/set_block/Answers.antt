@@ -5,7 +5,13 @@ use Rattle.offset_allocator.proofs.by_node.ByNodeTables.set_block.Goals as goal
 
 pub returns-clause-cells : goal.returns-clause-cells
 returns-clause-cells g c =
-    let written : Bool → Node = λ u. record { offset = c.args.offset; size = c.args.size; used = u; before = link_of g.NI.NodeIndex.MAX (g.NI.NodeIndex.number c.args.before); after = link_of g.NI.NodeIndex.MAX (g.NI.NodeIndex.number c.args.after) } in
+    let written : Bool → Node = λ u. record {
+      offset = c.args.offset;
+      size = c.args.size;
+      used = u;
+      before = link_of g.NI.NodeIndex.MAX (g.NI.NodeIndex.number c.args.before);
+      after = link_of g.NI.NodeIndex.MAX (g.NI.NodeIndex.number c.args.after);
+    } in
     wrote-room _ _ c.self.inside c.self.view_is c.args.name c.index_mut-node.result.now _ (λ (n : Node). written n.used) c.requires.name c.index_mut-node.ensures.value refl refl refl
     ∙ ap (λ (u : Bool). record c.args.self.now { room = put c.args.self.now.room c.args.name (written u) }) c.requires.idle
 
