@@ -1,6 +1,7 @@
 //! A bin for each size class: the names of its free blocks, in a list of links between the nodes, with a two-level
 //! mask.
-ghost use Rattle.std.specs.Prelude.{◌≡◌, ◌+◌, ◌-◌, ◌<◌, ◌≤◌, ◌≢◌, ℕ, false, List, [], ◌∷◌, slice_index, slice_set, length, replicate, MatchOption};
+ghost use Rattle.std.specs.Prelude.{◌≡◌, ◌+◌, ◌-◌, ◌<◌, ◌≤◌, ◌≢◌, ℕ, false, List, [], ◌∷◌, slice_index, slice_set};
+ghost use Rattle.std.specs.Prelude.{length, replicate, MatchOption};
 ghost use Rattle.offset_allocator.specs.Accesses.{Costs};
 ghost use Rattle.offset_allocator.specs.Cells.{AreEmpty, node};
 ghost use Rattle.offset_allocator.specs.Classes.{down};
@@ -109,7 +110,8 @@ pub(crate) fn push<T: Tables>(store: &mut Store<T>, name: u32, class: u32)
 // Clears the bit of a class, whose bin is empty now.
 fn clear_bit<T: Tables>(store: &mut Store<T>, class: u32)
     requires classed { class < 256 }
-    ensures masked { (ls : List (List ℕ)) → length ls ≡ 256 → AreMasks ls (T.cells store.old.tables).links.masks store.old.top_mask
+    ensures masked { (ls : List (List ℕ)) → length ls ≡ 256
+        → AreMasks ls (T.cells store.old.tables).links.masks store.old.top_mask
         → AreMasks (slice_set ls class []) (T.cells store.new.tables).links.masks store.new.top_mask }
     ensures chain { SameChain T.cells store.old store.new }
     ensures rest { T.cells store.new.tables ≡ record (T.cells store.old.tables) {
@@ -136,7 +138,8 @@ fn clear_bit<T: Tables>(store: &mut Store<T>, class: u32)
 fn link_newer<T: Tables>(tables: &mut T, at: T::Index, to: T::Index, count: &mut Accesses)
     requires limit { length (T.cells tables.old).links.newer ≤ T.Index.MAX }
     requires named { T.Index.number at ≢ T.Index.MAX → T.Index.number at < length (T.cells tables.old).links.newer }
-    requires idle { T.Index.number at ≢ T.Index.MAX → (node (T.cells tables.old).room (T.Index.number at)).used ≡ false }
+    requires idle { T.Index.number at ≢ T.Index.MAX
+        → (node (T.cells tables.old).room (T.Index.number at)).used ≡ false }
     requires link { T.Index.number to ≢ T.Index.MAX - 1 }
     ensures cells { T.cells tables.new ≡ record (T.cells tables.old) {
       links = record (T.cells tables.old).links
@@ -159,7 +162,8 @@ fn behead<T: Tables>(store: &mut Store<T>, class: u32, after: T::Index)
         (slice_index (T.cells store.old.tables).links.heads class) }
     ensures held { AreBinned T.cells T.Index.MAX store.new }
     ensures lists { bins_of T.cells T.Index.MAX store.new
-        ≡ remove class (slice_index (T.cells store.old.tables).links.heads class) (bins_of T.cells T.Index.MAX store.old) }
+        ≡ remove class (slice_index (T.cells store.old.tables).links.heads class)
+        (bins_of T.cells T.Index.MAX store.old) }
     ensures chain { SameChain T.cells store.old store.new }
     ensures accesses { Costs 1 3 store.old.accesses store.new.accesses }
 {
@@ -185,7 +189,8 @@ fn leave<T: Tables>(store: &mut Store<T>, name: u32, before: T::Index, size: u32
     requires listed { Among name (bin_at (bins_of T.cells T.Index.MAX store.old) (down size)) }
     requires before { T.Index.number before ≡ slice_index (T.cells store.old.tables).links.newer name }
     ensures held { AreBinned T.cells T.Index.MAX store.new }
-    ensures lists { bins_of T.cells T.Index.MAX store.new ≡ remove (down size) name (bins_of T.cells T.Index.MAX store.old) }
+    ensures lists { bins_of T.cells T.Index.MAX store.new ≡ remove (down size) name
+        (bins_of T.cells T.Index.MAX store.old) }
     ensures chain { SameChain T.cells store.old store.new }
     ensures accesses { Costs 2 4 store.old.accesses store.new.accesses }
 {
@@ -211,7 +216,8 @@ pub(crate) fn remove<T: Tables>(store: &mut Store<T>, name: u32, size: u32)
     requires held { AreBinned T.cells T.Index.MAX store.old }
     requires listed { Among name (bin_at (bins_of T.cells T.Index.MAX store.old) (down size)) }
     ensures held { AreBinned T.cells T.Index.MAX store.new }
-    ensures lists { bins_of T.cells T.Index.MAX store.new ≡ remove (down size) name (bins_of T.cells T.Index.MAX store.old) }
+    ensures lists { bins_of T.cells T.Index.MAX store.new ≡ remove (down size) name
+        (bins_of T.cells T.Index.MAX store.old) }
     ensures chain { SameChain T.cells store.old store.new }
     ensures accesses { Costs 3 5 store.old.accesses store.new.accesses }
 {
@@ -230,7 +236,8 @@ pub(crate) fn exchange<T: Tables>(store: &mut Store<T>, gone: u32, size: u32, na
     requires classed { class < 256 }
     requires unlisted { IsUnlisted name (bins_of T.cells T.Index.MAX store.old) }
     ensures held { AreBinned T.cells T.Index.MAX store.new }
-    ensures lists { bins_of T.cells T.Index.MAX store.new ≡ push class name (remove (down size) gone (bins_of T.cells T.Index.MAX store.old)) }
+    ensures lists { bins_of T.cells T.Index.MAX store.new
+        ≡ push class name (remove (down size) gone (bins_of T.cells T.Index.MAX store.old)) }
     ensures chain { SameChain T.cells store.old store.new }
     ensures accesses { Costs 5 11 store.old.accesses store.new.accesses }
 {
@@ -261,7 +268,8 @@ pub(crate) fn pop<T: Tables>(store: &mut Store<T>, class: u32) -> u32
     ensures first { bin_at (bins_of T.cells T.Index.MAX store.old) class
         ≡ result ∷ without result (bin_at (bins_of T.cells T.Index.MAX store.old) class) }
     ensures held { AreBinned T.cells T.Index.MAX store.new }
-    ensures lists { bins_of T.cells T.Index.MAX store.new ≡ remove class result (bins_of T.cells T.Index.MAX store.old) }
+    ensures lists { bins_of T.cells T.Index.MAX store.new ≡ remove class result
+        (bins_of T.cells T.Index.MAX store.old) }
     ensures chain { SameChain T.cells store.old store.new }
     ensures accesses { Costs 3 6 store.old.accesses store.new.accesses }
 {

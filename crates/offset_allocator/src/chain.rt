@@ -187,7 +187,8 @@ pub(crate) fn coalesce_after<T: Tables>(store: &mut Store<T>, name: u32, followi
     requires place { (m : ℕ) × (p : Place) × IsPlaceIn T.cells store.old m name p }
     requires next { Some following ≡ (node (T.cells store.old.tables).room name).after }
     requires free { (node (T.cells store.old.tables).room following).used ≡ false }
-    requires total { total ≡ (node (T.cells store.old.tables).room name).size + (node (T.cells store.old.tables).room following).size }
+    requires total { total ≡ (node (T.cells store.old.tables).room name).size
+        + (node (T.cells store.old.tables).room following).size }
     ensures place { (m : ℕ) (p : Place) → IsPlaceIn T.cells store.old m name p
         → IsPlaceIn T.cells store.new m name (coalesced_after p) }
     ensures bins { SameBins T.cells store.old store.new }
@@ -217,7 +218,8 @@ pub(crate) fn coalesce_before<T: Tables>(store: &mut Store<T>, previous: u32, na
     requires place { (m : ℕ) × (p : Place) × IsPlaceIn T.cells store.old m name p }
     requires previous { Some previous ≡ (node (T.cells store.old.tables).room name).before }
     requires free { (node (T.cells store.old.tables).room previous).used ≡ false }
-    requires total { total ≡ (node (T.cells store.old.tables).room previous).size + (node (T.cells store.old.tables).room name).size }
+    requires total { total ≡ (node (T.cells store.old.tables).room previous).size
+        + (node (T.cells store.old.tables).room name).size }
     ensures place { (m : ℕ) (p : Place) → IsPlaceIn T.cells store.old m name p
         → IsPlaceIn T.cells store.new m name (coalesced_before p) }
     ensures bins { SameBins T.cells store.old store.new }

@@ -6,7 +6,8 @@ ghost use Rattle.offset_allocator.specs.Cells.{node};
 ghost use Rattle.offset_allocator.specs.View.{Place, Block, free_block, free_sizes, units};
 ghost use Rattle.offset_allocator.specs.Chain.{IsSpace, HasPlace, blocks};
 ghost use Rattle.offset_allocator.specs.Soundness.{free_units};
-ghost use Rattle.offset_allocator.specs.Compacting.{live, moves, move_of, Compacts, KeepsSizes, IsCalledWith, first_free};
+ghost use Rattle.offset_allocator.specs.Compacting.{live, moves, move_of, Compacts, KeepsSizes, IsCalledWith};
+ghost use Rattle.offset_allocator.specs.Compacting.{first_free};
 ghost use Rattle.offset_allocator.specs.Store.{IsPlaceIn, SameBins};
 
 use crate::accesses::Accesses;
@@ -72,7 +73,8 @@ fn pass<T: Tables>(
     requires size { size ≡ (node (T.cells store.old.tables).room hole).size }
     requires next { Some next ≡ (node (T.cells store.old.tables).room hole).after }
     requires more { more ≡ (node (T.cells store.old.tables).room next).size }
-    ensures place { (m : ℕ) (p : Place) (b : Block) (bs : List Block) → IsPlaceIn T.cells store.old m hole p → p.block.used
+    ensures place { (m : ℕ) (p : Place) (b : Block) (bs : List Block)
+        → IsPlaceIn T.cells store.old m hole p → p.block.used
         ≡ false → p.after ≡ b ∷ bs → IsPlaceIn T.cells store.new m result (record {
           before = p.before ++ b ∷ [];
           block = free_block result p.block.size;

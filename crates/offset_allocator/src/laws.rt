@@ -1,11 +1,13 @@
 //! Laws: that a grant can be undone, and what holds of every allocator. Except `undo`, their functions do nothing. With
 //! them are the calls that leave an allocator as it is, with a count of their accesses.
-ghost use Rattle.std.specs.Prelude.{◌≡◌, ◌≢◌, ◌<◌, ◌≤◌, ◌+◌, ◌%◌, ◌↔◌, ℕ, List, ◌++◌, false, IsTrue, Some, length, sum, if◌then◌else◌};
+ghost use Rattle.std.specs.Prelude.{◌≡◌, ◌≢◌, ◌<◌, ◌≤◌, ◌+◌, ◌%◌, ◌↔◌, ℕ, List, ◌++◌, false, IsTrue, Some, length};
+ghost use Rattle.std.specs.Prelude.{sum, if◌then◌else◌};
 ghost use Rattle.std.specs.Int.{IsPowerOfTwo};
 ghost use Rattle.std.specs.List.{AllByRecursion};
 ghost use Rattle.offset_allocator.specs.Accesses.{Costs};
 ghost use Rattle.offset_allocator.specs.Classes.{value, up, down};
-ghost use Rattle.offset_allocator.specs.View.{View, Block, Grant, IsWellFormed, free_sizes, tally, one, total_free, largest_free, padding_to};
+ghost use Rattle.offset_allocator.specs.View.{View, Block, Grant, IsWellFormed, free_sizes, tally, one, total_free};
+ghost use Rattle.offset_allocator.specs.View.{largest_free, padding_to};
 ghost use Rattle.offset_allocator.specs.Ranges.{Range, range_of, AreDisjoint};
 ghost use Rattle.offset_allocator.specs.Relations.{IsAlignment, SameSpace, Allocates, Frees, IsFresh};
 ghost use Rattle.offset_allocator.specs.Requests.{CanGrant, HasRoomFor, IsWhy};

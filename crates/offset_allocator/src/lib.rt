@@ -14,13 +14,16 @@
 //! ```
 #![tactic(auto)]
 
-ghost use Rattle.std.specs.Prelude.{ℕ, ◌≡◌, ◌↔◌, ◌+◌, ◌-◌, ◌*◌, ◌/◌, ◌%◌, ◌<◌, ◌≤◌, nat_lt, if◌then◌else◌, min, None, false, true, IsTrue, IsSome, IfSome, IfOk, length, option_map};
+ghost use Rattle.std.specs.Prelude.{ℕ, ◌≡◌, ◌↔◌, ◌+◌, ◌-◌, ◌*◌, ◌/◌, ◌%◌, ◌<◌, ◌≤◌, nat_lt, if◌then◌else◌, min, None};
+ghost use Rattle.std.specs.Prelude.{false, true, IsTrue, IsSome, IfSome, IfOk, length, option_map};
 ghost use Rattle.offset_allocator.specs.Accesses.{Costs};
 ghost use Rattle.offset_allocator.specs.Ranges.{Range, range_of, size_of, Grants, IsLive, KeepsAll, KeepsOthers};
 ghost use Rattle.offset_allocator.specs.Reports.{IsGoodRefusal};
 ghost use Rattle.offset_allocator.specs.View.{count_named, is_full, free_sizes, largest_free, used_of};
-ghost use Rattle.offset_allocator.specs.Relations.{Allocates, Aligns, Frees, Extends, CanExtend, IsAlignment, SameSpace, IsSplitNearBest, IsFresh, Resets};
-ghost use Rattle.offset_allocator.specs.Requests.{IsReport, IsFullReport, CanGrant, IsWhy, HasRoomFor, blocks_needed, units_needed};
+ghost use Rattle.offset_allocator.specs.Relations.{Allocates, Aligns, Frees, Extends, CanExtend, IsAlignment};
+ghost use Rattle.offset_allocator.specs.Relations.{SameSpace, IsSplitNearBest, IsFresh, Resets};
+ghost use Rattle.offset_allocator.specs.Requests.{IsReport, IsFullReport, CanGrant, IsWhy, HasRoomFor, blocks_needed};
+ghost use Rattle.offset_allocator.specs.Requests.{units_needed};
 ghost use Rattle.offset_allocator.specs.Listing.{listing};
 
 mod accesses;
@@ -86,14 +89,16 @@ impl<T: Tables> Model for AllocatorOf<T> {
 
     ghost Value = { View };
 
-    ghost view = { λ a. view_of T.Index.MAX a.size a.max_allocs (T.cells a.store.tables) a.store.last a.store.accesses };
+    ghost view = { λ a. view_of T.Index.MAX a.size a.max_allocs (T.cells a.store.tables)
+        a.store.last a.store.accesses };
 
-    ghost invariant = { λ a. IsSound T.Index.MAX a.size a.max_allocs (T.cells a.store.tables) a.store.last a.store.spare_count a.store.top_mask a.free_total };
+    ghost invariant = { λ a. IsSound T.Index.MAX a.size a.max_allocs (T.cells a.store.tables)
+        a.store.last a.store.spare_count a.store.top_mask a.free_total };
 }
 
 impl<T: Tables> AllocatorOf<T> {
-    /// A space of `size` units, all free, with the smaller of 131072 and `T::Index::MAX - 2` as the node limit. A node costs
-    /// as much as in `with_max_allocs`.
+    /// A space of `size` units, all free, with the smaller of 131072 and `T::Index::MAX - 2` as the node limit. A node
+    /// costs as much as in `with_max_allocs`.
     ///
     /// An error is returned only where an allocation failed; then nothing is made.
     pub fn new(alloc: Global, size: u32) -> Result<Self, AllocError>

@@ -16,7 +16,8 @@ pub(crate) fn point_back<T: Tables>(
     name: u32,
     count: &mut Accesses,
 )
-    requires link { IfSome (link_of T.Index.MAX (T.Index.number link)) (λ after. after < length (T.cells tables.old).room.nodes) }
+    requires link { IfSome (link_of T.Index.MAX (T.Index.number link))
+        (λ after. after < length (T.cells tables.old).room.nodes) }
     requires name { name < length (T.cells tables.old).room.nodes }
     ensures nodes { length (T.cells tables.new).room.nodes ≡ length (T.cells tables.old).room.nodes }
     ensures cells { MatchOption (link_of T.Index.MAX (T.Index.number link)) ((T.cells tables.new).room
@@ -24,7 +25,8 @@ pub(crate) fn point_back<T: Tables>(
         ≡ put (T.cells tables.old).room after (record (node (T.cells tables.old).room after) { before = Some name })) }
     ensures links { (T.cells tables.new).links ≡ (T.cells tables.old).links }
     ensures accesses { Costs 0 1 count.old count.new }
-    ensures last { MatchOption (link_of T.Index.MAX (T.Index.number link)) (last.new ≡ name) (λ _. last.new ≡ last.old) }
+    ensures last { MatchOption (link_of T.Index.MAX (T.Index.number link))
+        (last.new ≡ name) (λ _. last.new ≡ last.old) }
 {
     match linked(link) {
         Some(after) => {
@@ -38,7 +40,8 @@ pub(crate) fn point_back<T: Tables>(
 /// Sets the link on of the node that `link` names, if any.
 #[tactic(auto, using(crate::proofs::Nodes::lengths))]
 pub(crate) fn point_on<T: Tables>(tables: &mut T, link: T::Index, name: u32, count: &mut Accesses)
-    requires link { IfSome (link_of T.Index.MAX (T.Index.number link)) (λ before. before < length (T.cells tables.old).room.nodes) }
+    requires link { IfSome (link_of T.Index.MAX (T.Index.number link))
+        (λ before. before < length (T.cells tables.old).room.nodes) }
     requires name { name < length (T.cells tables.old).room.nodes }
     ensures nodes { length (T.cells tables.new).room.nodes ≡ length (T.cells tables.old).room.nodes }
     ensures cells { MatchOption (link_of T.Index.MAX (T.Index.number link)) ((T.cells tables.new).room

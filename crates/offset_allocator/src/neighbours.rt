@@ -1,10 +1,12 @@
 //! A block and its neighbours: coalesces it with the free ones, splits it into padding, grant and remainder, or resizes
 //! it into the free block after it. Each changes both halves of a store.
-ghost use Rattle.std.specs.Prelude.{ℕ, ◌≡◌, ◌+◌, ◌≤◌, ◌++◌, [], Some, false, length, MatchOption, ◌-◌, ◌<◌, IsSome, ◌∷◌};
+ghost use Rattle.std.specs.Prelude.{ℕ, ◌≡◌, ◌+◌, ◌≤◌, ◌++◌, [], Some, false, length, MatchOption, ◌-◌, ◌<◌, IsSome};
+ghost use Rattle.std.specs.Prelude.{◌∷◌};
 ghost use Rattle.offset_allocator.specs.Accesses.{Costs};
 ghost use Rattle.offset_allocator.specs.Classes.{down};
 ghost use Rattle.offset_allocator.specs.Cells.{node};
-ghost use Rattle.offset_allocator.specs.View.{Place, free_end, free_start, push, remove_all, free_part, without_start, used_block, units, push_all};
+ghost use Rattle.offset_allocator.specs.View.{Place, free_end, free_start, push, remove_all, free_part};
+ghost use Rattle.offset_allocator.specs.View.{without_start, used_block, units, push_all};
 ghost use Rattle.offset_allocator.specs.Chain.{HasPlace, IsFreeAfter, coalesced_before, coalesced_after};
 ghost use Rattle.offset_allocator.specs.Soundness.{AreInBins, AreUnlisted};
 ghost use Rattle.offset_allocator.specs.Store.{IsPlaceIn, AreBinned, bins_of};
@@ -20,7 +22,8 @@ use crate::{bins, chain};
 #[inline(always)]
 fn free_before<T: Tables>(tables: &T, name: u32, count: &mut Accesses) -> Option<u32>
     requires place { (m last spare : ℕ) × (p : Place) × HasPlace (T.cells tables.now).room m last spare name p }
-    ensures free { MatchOption result ((m last spare : ℕ) (p : Place) → HasPlace (T.cells tables.now).room m last spare name p
+    ensures free { MatchOption result ((m last spare : ℕ) (p : Place)
+        → HasPlace (T.cells tables.now).room m last spare name p
         → free_end p.before ≡ []) (λ x. (Some x ≡ (node (T.cells tables.now).room name).before)
         × ((node (T.cells tables.now).room x).used ≡ false)) }
     ensures accesses { Costs 1 2 count.old count.new }
@@ -182,7 +185,8 @@ fn split_padding<T: Tables>(store: &mut Store<T>, name: u32, units: u32) -> u32
           after = p.after;
         }) }
     ensures held { AreBinned T.cells T.Index.MAX store.new }
-    ensures lists { bins_of T.cells T.Index.MAX store.new ≡ push_all (free_part result units) (bins_of T.cells T.Index.MAX store.old) }
+    ensures lists { bins_of T.cells T.Index.MAX store.new
+        ≡ push_all (free_part result units) (bins_of T.cells T.Index.MAX store.old) }
     ensures nodes { length (T.cells store.new.tables).room.nodes ≡ length (T.cells store.old.tables).room.nodes }
     ensures spares { store.old.spare_count ≤ store.new.spare_count + 1 }
     ensures spares_kept { units ≡ 0 → store.old.spare_count ≤ store.new.spare_count }
@@ -218,7 +222,8 @@ fn split_remainder<T: Tables>(
           after = free_part result left ++ p.after;
         }) }
     ensures held { AreBinned T.cells T.Index.MAX store.new }
-    ensures lists { bins_of T.cells T.Index.MAX store.new ≡ push_all (free_part result left) (bins_of T.cells T.Index.MAX store.old) }
+    ensures lists { bins_of T.cells T.Index.MAX store.new
+        ≡ push_all (free_part result left) (bins_of T.cells T.Index.MAX store.old) }
     ensures nodes { length (T.cells store.new.tables).room.nodes ≡ length (T.cells store.old.tables).room.nodes }
     ensures accesses { Costs 0 16 store.old.accesses store.new.accesses }
     ensures accesses_min { 0 < left → store.old.accesses + 13 ≤ store.new.accesses }

@@ -1,5 +1,6 @@
 //! The steps of the public calls. Each method leaves an allocator whose blocks and bins agree.
-ghost use Rattle.std.specs.Prelude.{◌≡◌, ◌↔◌, ◌+◌, ◌-◌, ◌*◌, ◌<◌, ◌≤◌, [], ◌∷◌, length, replicate, None, false, true, IsTrue, IsSome, IfSome};
+ghost use Rattle.std.specs.Prelude.{◌≡◌, ◌↔◌, ◌+◌, ◌-◌, ◌*◌, ◌<◌, ◌≤◌, [], ◌∷◌, length, replicate, None, false, true};
+ghost use Rattle.std.specs.Prelude.{IsTrue, IsSome, IfSome};
 ghost use Rattle.offset_allocator.specs.Accesses.{Costs};
 ghost use Rattle.offset_allocator.specs.Classes.{up};
 ghost use Rattle.offset_allocator.specs.Cells.{IsBare};

@@ -1,8 +1,10 @@
 //! The tables, whatever their layout in memory: no other module reads or writes their cells. A function on single cells
 //! counts each that it touches; `with_len` and `clear` make new tables, and count none.
 
-ghost use Rattle.std.specs.Prelude.{◌≡◌, ◌≢◌, ◌+◌, ◌-◌, ◌<◌, ◌≤◌, false, Some, [], ◌∷◌, ◌++◌, length, slice_set, slice_index, IfOk};
-ghost use Rattle.offset_allocator.specs.Cells.{Cells, AreEmpty, AreShaped, IsBare, link_of, mark_of, node, put, with_node, with_spare};
+ghost use Rattle.std.specs.Prelude.{◌≡◌, ◌≢◌, ◌+◌, ◌-◌, ◌<◌, ◌≤◌, false, Some, [], ◌∷◌, ◌++◌, length, slice_set};
+ghost use Rattle.std.specs.Prelude.{slice_index, IfOk};
+ghost use Rattle.offset_allocator.specs.Cells.{Cells, AreEmpty, AreShaped, IsBare, link_of, mark_of, node, put};
+ghost use Rattle.offset_allocator.specs.Cells.{with_node, with_spare};
 
 use crate::accesses::Accesses;
 use crate::index::NodeIndex;
@@ -91,7 +93,8 @@ pub trait Tables: Drop {
         ensures cells { cells self.new ≡ record (cells self.old) {
           room = put (cells self.old).room name
               (record (node (cells self.old).room name) { used = used });
-          links = record (cells self.old).links { newer = slice_set (cells self.old).links.newer name (mark_of Self.Index.MAX used) };
+          links = record (cells self.old).links
+              { newer = slice_set (cells self.old).links.newer name (mark_of Self.Index.MAX used) };
         } }
         ensures accesses { count.new ≡ count.old + 1 };
 
@@ -173,7 +176,8 @@ pub trait Tables: Drop {
         requires { name < length (cells self.old).room.nodes }
         ensures cells { cells self.new ≡ record (cells self.old) {
           room = put (cells self.old).room name
-              (record (node (cells self.old).room name) { size = size; after = link_of Self.Index.MAX (Self.Index.number link) });
+              (record (node (cells self.old).room name)
+              { size = size; after = link_of Self.Index.MAX (Self.Index.number link) });
         } }
         ensures accesses { count.new ≡ count.old + 2 };
 
@@ -186,7 +190,8 @@ pub trait Tables: Drop {
     /// Writes an entry of the stack of unused names.
     fn set_spare(&mut self, place: u32, name: Self::Index, count: &mut Accesses)
         requires { place < length (cells self.old).room.spare }
-        ensures cells { cells self.new ≡ record (cells self.old) { room = with_spare (cells self.old).room place (Self.Index.number name) } }
+        ensures cells { cells self.new ≡ record (cells self.old)
+            { room = with_spare (cells self.old).room place (Self.Index.number name) } }
         ensures accesses { count.new ≡ count.old + 1 };
 
     /// The link to the next newer node of a node's class.
