@@ -1,8 +1,8 @@
 """The mutants: edits of a crate's sources that the prover has to refuse.
 
-An edit is a file `NAME.edit`. Its first line is a sentence that says what the wrong body does. After it are lines
-`file: PATH`, `old: TEXT` and `new: TEXT`: the one occurrence of the old text in that file becomes the new one, and
-further pairs change what the earlier ones made.
+An edit is a file `NAME.edit`. Its first line, a comment that begins with `# `, is a sentence that says what the wrong
+body does. After it are lines `file: PATH`, `old: TEXT` and `new: TEXT`: the one occurrence of the old text in that file
+becomes the new one, and further pairs change what the earlier ones made.
 """
 import difflib
 import re
@@ -27,7 +27,7 @@ class Edit:
         self.name = path.stem
         self.label = f"{crate}/{self.name}"
         self.lines = path.read_text(encoding="utf-8").split("\n")
-        self.sentence = self.lines[0]
+        self.sentence = self.lines[0].removeprefix("# ")
         self.where = "gate" if is_in_gate else "`mutants/run`"
 
     def texts(self):
@@ -59,8 +59,8 @@ class Edit:
 
     def problems(self):
         said = self.sentence
-        if not said.endswith(".") or said.startswith(("file:", "old:", "new:")):
-            yield f"{self.label}: its first line is no sentence that says what the wrong body does"
+        if not self.lines[0].startswith("# ") or not said.endswith("."):
+            yield f"{self.label}: its first line is no comment with a sentence that says what the wrong body does"
         elif "`" not in said or "|" in said or len(said) > LONGEST:
             yield f"{self.label}: its sentence names no function in backticks, has a `|`, or is longer than {LONGEST}"
         try:
