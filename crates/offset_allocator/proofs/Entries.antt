@@ -2,7 +2,7 @@
 use Rattle.std.proofs.Common.{◌≡◌, ◌≢◌, ℕ, zero, suc, ◌-◌, [], ◌∷◌, ◌++◌, ◌<◌, ◌≤◌, Bool, true, false, List, length, map, set, get_or, refl, sym, ◌∙◌, ap}
 use Rattle.std.proofs.Common.{arith, eqb, eq-eqb, ne_eqb}
 use Rattle.std.proofs.lemmas.List.{get_or_past, length-map, length-set, map-set, map-append, set-get_or}
-use Rattle.std.specs.Vec.{with_item}
+use Rattle.std.specs.Vec.{vec_len, vec_capacity, with_item}
 use Rattle.std.proofs.Math.Seq.{map-set_same}
 use Rattle.offset_allocator.specs.Cells.{Cells, Node, blank, mark_of, node, put, AreShaped}
 use Rattle.offset_allocator.specs.Layouts.{node_of, nodes_of, cells_by_node, AreEven}
@@ -60,6 +60,29 @@ module _ {A B : Type 0} (max : ℕ) (number : A → ℕ) (t : Inside A B) {c : C
 
   pub within-links : (x : ℕ) → x < length c.links.newer → x < length ns
   within-links x l = omega (arith, l, ap (λ (v : Cells). length v.links.newer) e, length-map ns (λ (k : Entry A). number k.newer))
+
+  pub within-older : (x : ℕ) → x < length c.links.older → x < length ns
+  within-older x l = omega (arith, l, ap (λ (v : Cells). length v.links.older) e, length-map ns (λ (k : Entry A). number k.older))
+
+  -- the same as bounds of a read or a write
+  pub bound : (x : ℕ) → x < length c.room.nodes → x < vec_len t.nodes
+  bound x l = omega (arith, within x l, t.nodes.ok.0)
+
+  pub bound-links : (x : ℕ) → x < length c.links.newer → x < vec_len t.nodes
+  bound-links x l = omega (arith, within-links x l, t.nodes.ok.0)
+
+  pub bound-older : (x : ℕ) → x < length c.links.older → x < vec_len t.nodes
+  bound-older x l = omega (arith, within-older x l, t.nodes.ok.0)
+
+  pub bound-spare : (x : ℕ) → x < length c.room.spare → x < vec_len t.spare
+  bound-spare x l = omega (arith, l, ap (λ (v : Cells). length v.room.spare) e, length-map t.spare.items number, t.spare.ok.0)
+
+  -- one more node has room
+  pub room_left : length c.room.nodes < c.room.reserved → vec_len t.nodes < vec_capacity t.nodes
+  room_left l = omega (arith, l, ap (λ (v : Cells). length v.room.nodes) e, ap (λ (v : Cells). v.room.reserved) e, length-nodes_of max number ns, t.nodes.ok.0)
+
+  pub spare_left : AreEven max t → length c.room.nodes < c.room.reserved → vec_len t.spare < vec_capacity t.spare
+  spare_left h l = omega (arith, room_left l, h.spare, h.memory, t.nodes.ok.0, t.spare.ok.0)
 
   pub read : (x : ℕ) (n : Entry A) → x < length c.room.nodes → n ≡ get_or ns x n → node c.room x ≡ node_of max number n
   unfolding node
@@ -125,7 +148,7 @@ module _ {A B : Type 0} (max : ℕ) (number : A → ℕ) (t : Inside A B) {c : C
   pub wrote-older : (x : ℕ) (n : Entry A) (link : A) → x < length c.links.older → n ≡ get_or ns x n
       → seen (set ns x (record n { older = link })) ≡ record c { links = record c.links { older = set c.links.older x (number link) } }
   wrote-older x n link l at =
-      let short : x < length ns = omega (arith, l, ap (λ (v : Cells). length v.links.older) e, length-map ns (λ (k : Entry A). number k.older)) in
+      let short = within-older x l in
       let m : Entry A = record n { older = link } in
       let nodes = kept x n m short at refl in
       let newer = map-set_same (λ (k : Entry A). number k.newer) ns x m n (ap (λ (k : Entry A). number k.newer) at) in
@@ -168,4 +191,16 @@ even_set max t h x m = let l = length-set t.nodes.items x m in record {
   within = rw l h.within;
   memory = h.memory;
   limit = h.limit;
+}
+
+-- other tables of the same lengths and memory
+pub even_kept : {A B : Type 0} (max : ℕ) (t u : Inside A B) → AreEven max t → length u.nodes.items ≡ length t.nodes.items → length u.spare.items ≡ length t.spare.items
+    → vec_capacity u.nodes ≡ vec_capacity t.nodes → vec_capacity u.spare ≡ vec_capacity t.spare → length u.heads ≡ length t.heads → length u.masks ≡ length t.masks → AreEven max u
+even_kept max t u h n s cn cs hs ms = record {
+  spare = s ∙ h.spare ∙ sym n;
+  heads = hs ∙ h.heads;
+  masks = ms ∙ h.masks;
+  within = omega (arith, n, cn, h.within);
+  memory = cs ∙ h.memory ∙ sym cn;
+  limit = omega (arith, cn, h.limit);
 }

@@ -1,8 +1,8 @@
 -- A table for each field as a list of nodes.
 use Rattle.std.proofs.Common.{◌≡◌, ◌≢◌, ℕ, zero, suc, ◌+◌, ◌-◌, [], ◌∷◌, ◌++◌, ◌<◌, ◌≤◌, List, length, map, set, get_or, refl, sym, ◌∙◌, ap, ap₂}
-use Rattle.std.proofs.Common.{arith, Bool, true, false, Option, Some, None, if◌then◌else◌, eqb, eq-eqb, ne_eqb}
-use Rattle.std.proofs.lemmas.List.{get_or-set_same, get_or-set_other, length-map, length-append, length-set, map-append, map-set, set-get_or}
-use Rattle.std.specs.Prelude.{vec_capacity}
+use Rattle.std.proofs.Common.{arith, Bool, false, Some, None, if◌then◌else◌, eqb, eq-eqb, ne_eqb}
+use Rattle.std.proofs.lemmas.List.{get_or-set_same, get_or-set_other, length-map, length-append, map-append, map-set, set-get_or}
+use Rattle.std.specs.Prelude.{vec_len, vec_capacity}
 use Rattle.offset_allocator.specs.Cells.{Cells, Node, blank, link_of, mark_of, node, put, AreShaped}
 use Rattle.offset_allocator.specs.Layouts.{FieldTables, node_in, nodes_in, values, field_tables, cells_by_field, AreLevel}
 use Rattle.offset_allocator.proofs.Entries.{marked}
@@ -116,6 +116,10 @@ module _ (max : ℕ) where
 pub linked : {A : Type 0} (number : A → ℕ) (l m : List A) (a : A) (k : ℕ) → m ≡ l ++ a ∷ [] → number a ≡ k → map number m ≡ map number l ++ k ∷ []
 linked number l m a k e q = ap (map number) e ∙ map-append number l (a ∷ []) ∙ ap (λ (i : ℕ). map number l ++ i ∷ []) q
 
+-- two tables with one entry more
+pub longer : {A B : Type 0} (l m : List A) (a : A) (k n : List B) (b : B) → m ≡ l ++ a ∷ [] → n ≡ k ++ b ∷ [] → length l ≡ length k → length m ≡ length n
+longer l m a k n b e q same = ap length e ∙ length-append l (a ∷ []) ∙ ap (λ (i : ℕ). i + 1) same ∙ sym (ap length q ∙ length-append k (b ∷ []))
+
 -- a link alone in a table
 pub alone : {A : Type 0} (number : A → ℕ) (l m : List A) (a : A) (k : ℕ) → m ≡ l ++ a ∷ [] → l ≡ [] → number a ≡ k → map number m ≡ k ∷ []
 alone number l m a k e none q = linked number l m a k e q ∙ ap (λ i. map number i ++ k ∷ []) none
@@ -134,6 +138,35 @@ module _ {A B : Type 0} (max : ℕ) (number : A → ℕ) (t : Inside A B) {c : C
   -- a name below the number of nodes is below the tables' length
   pub within : (x : ℕ) → x < length c.room.nodes → x < length t.offset.items
   within x l = omega (arith, l, ap (λ (v : Cells). length v.room.nodes) e, length-nodes_in max fs)
+
+  -- the same as bounds of a read or a write of each table
+  pub bound-offset : (x : ℕ) → x < length c.room.nodes → x < vec_len t.offset
+  bound-offset x l = omega (arith, within x l, t.offset.ok.0)
+
+  pub bound-size : AreLevel max t → (x : ℕ) → x < length c.room.nodes → x < vec_len t.size
+  bound-size h x l = omega (arith, within x l, h.size, t.size.ok.0)
+
+  pub bound-before : AreLevel max t → (x : ℕ) → x < length c.room.nodes → x < vec_len t.before
+  bound-before h x l = omega (arith, within x l, h.before, t.before.ok.0)
+
+  pub bound-after : AreLevel max t → (x : ℕ) → x < length c.room.nodes → x < vec_len t.after
+  bound-after h x l = omega (arith, within x l, h.after, t.after.ok.0)
+
+  pub bound-used : AreLevel max t → (x : ℕ) → x < length c.room.nodes → x < vec_len t.newer
+  bound-used h x l = omega (arith, within x l, h.newer, t.newer.ok.0)
+
+  pub bound-newer : (x : ℕ) → x < length c.links.newer → x < vec_len t.newer
+  bound-newer x l = omega (arith, l, ap (λ (v : Cells). length v.links.newer) e, length-map t.newer.items number, t.newer.ok.0)
+
+  pub bound-older : (x : ℕ) → x < length c.links.older → x < vec_len t.older
+  bound-older x l = omega (arith, l, ap (λ (v : Cells). length v.links.older) e, length-map t.older.items number, t.older.ok.0)
+
+  pub bound-spare : (x : ℕ) → x < length c.room.spare → x < vec_len t.spare
+  bound-spare x l = omega (arith, l, ap (λ (v : Cells). length v.room.spare) e, length-map t.spare.items number, t.spare.ok.0)
+
+  -- one more node has room
+  pub room_left : length c.room.nodes < c.room.reserved → vec_len t.offset < vec_capacity t.offset
+  room_left l = omega (arith, l, ap (λ (v : Cells). length v.room.nodes) e, ap (λ (v : Cells). v.room.reserved) e, length-nodes_in max fs, t.offset.ok.0)
 
   pub read : (x : ℕ) → x < length c.room.nodes → node c.room x ≡ node_in max fs x
   unfolding node

@@ -1,7 +1,7 @@
 use Rattle.std.proofs.Common.{◌∙◌, ap, sym, arith}
 use Rattle.std.proofs.lemmas.List.{get_or-map}
 use Rattle.offset_allocator.specs.Cells.{link_of}
-use Rattle.offset_allocator.proofs.Fields.{read, within}
+use Rattle.offset_allocator.proofs.Fields.{read, within, bound-before}
 use Rattle.offset_allocator.proofs.by_field.ByFieldTables.before.Goals as goal
 
 pub returns-clause-cell : goal.returns-clause-cell
@@ -10,3 +10,6 @@ returns-clause-cell g c =
     let short = within _ _ t c.self.view_is c.args.name c.requires in
     ap (link_of g.NI.NodeIndex.MAX) (ap g.NI.NodeIndex.number c.index.ensures ∙ sym (get_or-map g.NI.NodeIndex.number t.before.items c.args.name _ 0 (omega (arith, short, c.self.invariant.before))))
     ∙ sym (ap (λ v. v.before) (read _ _ t c.self.view_is c.args.name c.requires))
+
+pub index-requires : goal.index-requires
+index-requires g c = bound-before _ _ c.self.inside c.self.view_is c.self.invariant c.args.name c.requires

@@ -1,6 +1,6 @@
 use Rattle.std.proofs.Common.{◌∙◌, ap, sym}
 use Rattle.std.proofs.lemmas.Grind.{get_or_default_zero}
-use Rattle.offset_allocator.proofs.Fields.{read, within}
+use Rattle.offset_allocator.proofs.Fields.{read, within, bound-offset}
 use Rattle.offset_allocator.proofs.by_field.ByFieldTables.offset.Goals as goal
 
 pub returns-clause-cell : goal.returns-clause-cell
@@ -8,3 +8,6 @@ returns-clause-cell g c =
     let t = c.self.inside in
     c.index.ensures ∙ get_or_default_zero t.offset.items c.args.name _ (within _ _ t c.self.view_is c.args.name c.requires)
     ∙ sym (ap (λ v. v.offset) (read _ _ t c.self.view_is c.args.name c.requires))
+
+pub index-requires : goal.index-requires
+index-requires g c = bound-offset _ _ c.self.inside c.self.view_is c.args.name c.requires

@@ -1,8 +1,8 @@
-use Rattle.std.proofs.Common.{◌≡◌, ◌≢◌, ◌∙◌, ℕ, Bool, map, set, refl, ap, arith}
-use Rattle.std.proofs.lemmas.List.{get_or-set_same, get_or-set_other, length-set}
-use Rattle.offset_allocator.specs.Cells.{Node, node, put, link_of}
+use Rattle.std.proofs.Common.{◌≡◌, ◌≢◌, ℕ, map, set, refl, arith}
+use Rattle.std.proofs.lemmas.List.{length-set}
+use Rattle.offset_allocator.specs.Cells.{Node, link_of}
 use Rattle.offset_allocator.specs.Layouts.{FieldTables, node_in, field_tables}
-use Rattle.offset_allocator.proofs.Fields.{other, at, within, wrote-room, level_kept}
+use Rattle.offset_allocator.proofs.Fields.{other, at, within, wrote-room, level_kept, bound-after}
 use Rattle.offset_allocator.proofs.by_field.ByFieldTables.set_after.Goals as goal
 
 pub returns-clause-cells : goal.returns-clause-cells
@@ -22,3 +22,6 @@ returns-clause-cells g c =
 pub invariant_of-self : goal.invariant_of-self
 invariant_of-self g c = level_kept _ c.self.inside _ c.self.invariant refl refl refl (length-set c.self.inside.after.items c.args.name c.args.link) refl refl refl refl refl refl
     refl refl refl refl refl refl
+
+pub index_mut-requires : goal.index_mut-requires
+index_mut-requires g c = bound-after _ _ c.self.inside c.self.view_is c.self.invariant c.args.name c.requires

@@ -2,7 +2,7 @@ use Rattle.std.proofs.Common.{◌<◌, ◌∙◌, ℕ, List, ap, length, map, se
 use Rattle.std.proofs.lemmas.List.{length-map, length-set, map-set}
 use Rattle.offset_allocator.specs.Cells.{Cells}
 use Rattle.offset_allocator.specs.Layouts.{field_tables}
-use Rattle.offset_allocator.proofs.Fields.{length-nodes_in, wrote-newer, level_kept}
+use Rattle.offset_allocator.proofs.Fields.{length-nodes_in, wrote-newer, level_kept, bound-newer}
 use Rattle.offset_allocator.proofs.by_field.ByFieldTables.set_links.Goals as goal
 
 pub returns-clause-cells : goal.returns-clause-cells
@@ -33,3 +33,11 @@ returns-clause-cells g c =
 pub invariant_of-self : goal.invariant_of-self
 invariant_of-self g c = level_kept _ c.self.inside _ c.self.invariant refl refl refl refl (length-set c.self.inside.newer.items c.args.name c.args.newer)
     (length-set c.self.inside.older.items c.args.name c.args.older) refl refl refl refl refl refl refl refl refl refl
+
+pub index_mut-requires : goal.index_mut-requires
+index_mut-requires g c = bound-newer _ _ c.self.inside c.self.view_is c.args.name c.requires.name
+
+pub index_mut-requires-2 : goal.index_mut-requires-2
+index_mut-requires-2 g c =
+    let t = c.self.inside in
+    omega (arith, bound-newer _ _ t c.self.view_is c.args.name c.requires.name, c.self.invariant.newer, c.self.invariant.older, t.newer.ok.0, t.older.ok.0)

@@ -1,6 +1,6 @@
 use Rattle.std.proofs.Common.{refl}
 use Rattle.std.proofs.lemmas.List.{length-set, map-set}
-use Rattle.offset_allocator.proofs.Fields.{level_kept}
+use Rattle.offset_allocator.proofs.Fields.{level_kept, bound-older}
 use Rattle.offset_allocator.proofs.by_field.ByFieldTables.set_older.Goals as goal
 
 pub returns-clause-cells : goal.returns-clause-cells
@@ -9,3 +9,6 @@ returns-clause-cells g c = rw (← c.self.view_is) (simp map-set)
 pub invariant_of-self : goal.invariant_of-self
 invariant_of-self g c = level_kept _ c.self.inside _ c.self.invariant refl refl refl refl refl (length-set c.self.inside.older.items c.args.name c.args.link) refl refl refl refl
     refl refl refl refl refl refl
+
+pub index_mut-requires : goal.index_mut-requires
+index_mut-requires g c = bound-older _ _ c.self.inside c.self.view_is c.args.name c.requires

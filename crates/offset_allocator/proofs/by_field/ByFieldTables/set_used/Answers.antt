@@ -1,6 +1,6 @@
 use Rattle.std.proofs.Common.{◌∙◌, ap, map, set, arith, refl}
 use Rattle.std.proofs.lemmas.List.{length-map, length-set, map-set}
-use Rattle.offset_allocator.proofs.Fields.{wrote-used, level_kept}
+use Rattle.offset_allocator.proofs.Fields.{wrote-used, level_kept, bound-used}
 use Rattle.offset_allocator.proofs.by_field.ByFieldTables.set_used.Goals as goal
 
 pub returns-clause-cells : goal.returns-clause-cells
@@ -14,3 +14,6 @@ returns-clause-cells g c =
 pub invariant_of-self : goal.invariant_of-self
 invariant_of-self g c = level_kept _ c.self.inside _ c.self.invariant refl refl refl refl (length-set c.self.inside.newer.items c.args.name c.mark.result) refl refl refl refl refl
     refl refl refl refl refl refl
+
+pub index_mut-requires : goal.index_mut-requires
+index_mut-requires g c = bound-used _ _ c.self.inside c.self.view_is c.self.invariant c.args.name c.requires

@@ -1,6 +1,6 @@
 use Rattle.std.proofs.Common.{◌∙◌, ap, sym, arith}
 use Rattle.std.proofs.lemmas.Grind.{get_or_default_zero}
-use Rattle.offset_allocator.proofs.Fields.{read, within}
+use Rattle.offset_allocator.proofs.Fields.{read, within, bound-size}
 use Rattle.offset_allocator.proofs.by_field.ByFieldTables.size.Goals as goal
 
 pub returns-clause-cell : goal.returns-clause-cell
@@ -8,3 +8,6 @@ returns-clause-cell g c =
     let t = c.self.inside in
     c.index.ensures ∙ get_or_default_zero t.size.items c.args.name _ (omega (arith, within _ _ t c.self.view_is c.args.name c.requires, c.self.invariant.size))
     ∙ sym (ap (λ v. v.size) (read _ _ t c.self.view_is c.args.name c.requires))
+
+pub index-requires : goal.index-requires
+index-requires g c = bound-size _ _ c.self.inside c.self.view_is c.self.invariant c.args.name c.requires

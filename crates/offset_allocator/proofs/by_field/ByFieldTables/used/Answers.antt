@@ -1,6 +1,6 @@
 use Rattle.std.proofs.Common.{◌∙◌, ap, sym, arith}
 use Rattle.std.proofs.lemmas.List.{get_or-map}
-use Rattle.offset_allocator.proofs.Fields.{read, within}
+use Rattle.offset_allocator.proofs.Fields.{read, within, bound-used}
 use Rattle.offset_allocator.proofs.by_field.ByFieldTables.used.Goals as goal
 
 pub returns-clause-cell : goal.returns-clause-cell
@@ -9,3 +9,6 @@ returns-clause-cell g c =
     let short = within _ _ t c.self.view_is c.args.name c.requires in
     let newer = ap g.NI.NodeIndex.number c.index.ensures ∙ sym (get_or-map g.NI.NodeIndex.number t.newer.items c.args.name _ 0 (omega (arith, short, c.self.invariant.newer))) in
     rw (c.number.ensures.number, c.MAX.ensures, newer) (sym (ap (λ v. v.used) (read _ _ t c.self.view_is c.args.name c.requires)))
+
+pub index-requires : goal.index-requires
+index-requires g c = bound-used _ _ c.self.inside c.self.view_is c.self.invariant c.args.name c.requires

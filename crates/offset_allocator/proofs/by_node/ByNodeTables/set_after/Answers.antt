@@ -1,6 +1,6 @@
 use Rattle.std.proofs.Common.{refl}
 use Rattle.offset_allocator.specs.Cells.{Node, link_of}
-use Rattle.offset_allocator.proofs.Entries.{wrote-room, even_set}
+use Rattle.offset_allocator.proofs.Entries.{wrote-room, even_set, bound}
 use Rattle.offset_allocator.proofs.by_node.ByNodeTables.set_after.Goals as goal
 
 pub returns-clause-cells : goal.returns-clause-cells
@@ -9,3 +9,6 @@ returns-clause-cells g c = wrote-room _ _ c.self.inside c.self.view_is c.args.na
 
 pub invariant_of-self : goal.invariant_of-self
 invariant_of-self g c = even_set _ c.self.inside c.self.invariant c.args.name _
+
+pub index_mut-requires : goal.index_mut-requires
+index_mut-requires g c = bound _ _ c.self.inside c.self.view_is c.args.name c.requires

@@ -1,6 +1,6 @@
 use Rattle.std.proofs.Common.{◌∙◌, Bool, ap, refl}
 use Rattle.offset_allocator.specs.Cells.{Node, put, link_of}
-use Rattle.offset_allocator.proofs.Entries.{wrote-room, even_set}
+use Rattle.offset_allocator.proofs.Entries.{wrote-room, even_set, bound}
 use Rattle.offset_allocator.proofs.by_node.ByNodeTables.set_block.Goals as goal
 
 pub returns-clause-cells : goal.returns-clause-cells
@@ -17,3 +17,6 @@ returns-clause-cells g c =
 
 pub invariant_of-self : goal.invariant_of-self
 invariant_of-self g c = even_set _ c.self.inside c.self.invariant c.args.name _
+
+pub index_mut-node-requires : goal.index_mut-node-requires
+index_mut-node-requires g c = bound _ _ c.self.inside c.self.view_is c.args.name c.requires.name

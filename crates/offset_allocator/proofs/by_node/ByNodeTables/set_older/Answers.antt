@@ -1,4 +1,4 @@
-use Rattle.offset_allocator.proofs.Entries.{wrote-older, even_set}
+use Rattle.offset_allocator.proofs.Entries.{wrote-older, even_set, bound-older}
 use Rattle.offset_allocator.proofs.by_node.ByNodeTables.set_older.Goals as goal
 
 pub returns-clause-cells : goal.returns-clause-cells
@@ -6,3 +6,6 @@ returns-clause-cells g c = wrote-older _ _ c.self.inside c.self.view_is c.args.n
 
 pub invariant_of-self : goal.invariant_of-self
 invariant_of-self g c = even_set _ c.self.inside c.self.invariant c.args.name _
+
+pub index_mut-requires : goal.index_mut-requires
+index_mut-requires g c = bound-older _ _ c.self.inside c.self.view_is c.args.name c.requires

@@ -1,5 +1,5 @@
 use Rattle.std.proofs.Common.{arith}
-use Rattle.offset_allocator.proofs.Entries.{wrote-used, even_set}
+use Rattle.offset_allocator.proofs.Entries.{wrote-used, even_set, bound}
 use Rattle.offset_allocator.proofs.by_node.ByNodeTables.set_used.Goals as goal
 
 pub returns-clause-cells : goal.returns-clause-cells
@@ -9,3 +9,6 @@ returns-clause-cells g c =
 
 pub invariant_of-self : goal.invariant_of-self
 invariant_of-self g c = even_set _ c.self.inside c.self.invariant c.args.name _
+
+pub index_mut-requires : goal.index_mut-requires
+index_mut-requires g c = bound _ _ c.self.inside c.self.view_is c.args.name c.requires
