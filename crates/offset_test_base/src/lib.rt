@@ -2,6 +2,7 @@
 #![tactic(auto)]
 
 pub mod devices;
+pub mod flat;
 pub mod groups;
 pub mod living;
 pub mod runs;

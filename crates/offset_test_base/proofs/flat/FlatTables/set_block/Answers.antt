@@ -1,0 +1,52 @@
+use Rattle.std.proofs.Common.{◌∙◌, Bool, ap, arith, length}
+use Rattle.offset_allocator.specs.Cells.{Cells, link_of, node, put}
+use Rattle.offset_test_base.proofs.OneVector.{length-changed, twice}
+use Rattle.offset_test_base.proofs.flat.FlatTables.set_block.Goals as goal
+
+pub set_size-requires : goal.set_size-requires
+set_size-requires c =
+    let one = length-changed c.args.self.now c.args.name (λ n. record n { offset = c.args.offset }) in
+    omega (arith, c.requires.name, ap (λ (v : Cells). length v.room.nodes) c.set_offset.ensures.cells, one)
+
+pub set_before-requires : goal.set_before-requires
+set_before-requires c =
+    let one = length-changed c.args.self.now c.args.name (λ n. record n { offset = c.args.offset }) in
+    let two = length-changed c.set_offset.new.self c.args.name (λ n. record n { size = c.args.size }) in
+    omega (arith, c.requires.name, ap (λ (v : Cells). length v.room.nodes) c.set_offset.ensures.cells, one, ap (λ (v : Cells). length v.room.nodes) c.set_size.ensures.cells, two)
+
+pub set_after-requires : goal.set_after-requires
+set_after-requires c =
+    let one = length-changed c.args.self.now c.args.name (λ n. record n { offset = c.args.offset }) in
+    let two = length-changed c.set_offset.new.self c.args.name (λ n. record n { size = c.args.size }) in
+    let three = length-changed c.set_size.new.self c.args.name (λ n. record n { before = link_of 4294967295 c.args.before }) in
+    omega (
+      arith,
+      c.requires.name,
+      ap (λ (v : Cells). length v.room.nodes) c.set_offset.ensures.cells,
+      one,
+      ap (λ (v : Cells). length v.room.nodes) c.set_size.ensures.cells,
+      two,
+      ap (λ (v : Cells). length v.room.nodes) c.set_before.ensures.cells,
+      three,
+    )
+
+pub returns-clause-cells : goal.returns-clause-cells
+returns-clause-cells c =
+    let old = c.args.self.now in
+    let x = c.args.name in
+    let two = twice old c.set_offset.new.self c.set_size.new.self x (λ n. record n { offset = c.args.offset })
+    (λ n. record n { size = c.args.size }) c.requires.name c.set_offset.ensures.cells c.set_size.ensures.cells in
+    let three = twice old c.set_size.new.self c.set_before.new.self x (λ n. record n { offset = c.args.offset; size = c.args.size })
+    (λ n. record n { before = link_of 4294967295 c.args.before }) c.requires.name two c.set_before.ensures.cells in
+    twice old c.set_before.new.self c.set_after.new.self x
+    (λ n. record n { offset = c.args.offset; size = c.args.size; before = link_of 4294967295 c.args.before })
+    (λ n. record n { after = link_of 4294967295 c.args.after }) c.requires.name three c.set_after.ensures.cells
+    ∙ ap (λ (k : Bool). record old {
+      room = put old.room x (record (node old.room x) {
+        used = k;
+        offset = c.args.offset;
+        size = c.args.size;
+        before = link_of 4294967295 c.args.before;
+        after = link_of 4294967295 c.args.after;
+      });
+    }) c.requires.idle
