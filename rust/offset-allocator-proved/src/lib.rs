@@ -89,8 +89,8 @@ pub struct AllocatorOf<T: Tables> {
 }
 
 impl<T: Tables> AllocatorOf<T> {
-    /// A space of `size` units, all free, with the smaller of 131072 and `T::Index::MAX - 2` as the node limit. A node costs
-    /// as much as in `with_max_allocs`.
+    /// A space of `size` units, all free, with the smaller of 131072 and `T::Index::MAX - 2` as the node limit. A node
+    /// costs as much as in `with_max_allocs`.
     ///
     /// An error is returned only where an allocation failed; then nothing is made.
     pub fn new(alloc: Global, size: u32) -> Result<Self, AllocError> {
