@@ -6,7 +6,9 @@ use release_queue::{Arena, Range};
 use std::sync::atomic::{AtomicU32, Ordering::SeqCst};
 use std::sync::mpsc::channel;
 
-const UNITS: u32 = 1 << 14;
+// Eight threads hold at most 240 ranges, each of at most 100 units, so at most 241 free blocks are beside them. One of
+// these has at least 104 units, of a class whose blocks all have 100: so no request is refused for ever.
+const UNITS: u32 = 1 << 16;
 const THREADS: u32 = 8;
 
 /// Numbers whose order depends on the seed.
