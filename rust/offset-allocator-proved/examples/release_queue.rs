@@ -70,7 +70,10 @@ impl Drop for Range {
 fn main() -> Result<(), AllocError> {
     const THREADS: u32 = 8;
     const RANGES: u32 = 80_000;
-    let mut arena = Arena::new(1 << 16, 4096)?;
+    // large enough that no request waits for a range which a worker keeps: at most 160 of 300 units, and 161 free blocks of
+    // less than 320
+    const UNITS: u32 = 1 << 17;
+    let mut arena = Arena::new(UNITS, 4096)?;
     std::thread::scope(|scope| {
         let mut workers = Vec::new();
         for _ in 0..THREADS {
@@ -100,7 +103,7 @@ fn main() -> Result<(), AllocError> {
     });
     arena.drain();
     let report = arena.space().storage_report();
-    assert_eq!((arena.space().block_count(), report.total_free_space), (1, 1 << 16));
+    assert_eq!((arena.space().block_count(), report.total_free_space), (1, UNITS));
     println!("{RANGES} ranges were released by {THREADS} threads, and all units are free");
     Ok(())
 }

@@ -6,7 +6,10 @@ use release_queue::{Arena, Range};
 use std::sync::atomic::{AtomicU32, Ordering::SeqCst};
 use std::sync::mpsc::channel;
 
-const UNITS: u32 = 1 << 14;
+// A worker releases a range only when it gets another, so a request must be granted once all have taken what was sent. Then
+// at most 240 ranges of 100 units are live. A request of 100 is refused only where each free block, of at most 241, has less
+// than 104 units: so in less than 50,000 units.
+const UNITS: u32 = 1 << 16;
 const THREADS: u32 = 8;
 
 /// Numbers whose order depends on the seed.
