@@ -1,126 +1,49 @@
-"""Measures the workloads of the programs in the folder $1, and writes RESULTS.md and plot.svg into the folder $2.
-With $3 it measures only the workloads with this text in their names, and writes no file. With a further word `counts`
-it takes no times, which then are those of nothing: 1 nanosecond."""
-import math, os, re, signal, subprocess, sys, tempfile
-from concurrent.futures import ThreadPoolExecutor
+"""Prints what bench/run has measured with the programs in the folder $1, and writes it into RESULTS.md and plot.svg. With $2
+it measures the workloads with this text in their names itself, and writes no file; with a further word `counts` it takes
+no times."""
+import math, sys
 from typing import NamedTuple
+from measures import BESIDE, COMPACTED, HERE, LIMITS, PREFIXES, RESIDENT, SIDES, WAYS, check, counts, saved, times, works
 
-OUT, HERE = sys.argv[1:3]
-PART = sys.argv[3] if len(sys.argv) > 3 else ""
-TIMED = sys.argv[4:] != ["counts"]
-# the program for times, the one for counts, and that with other call sites
-MEASURE, PLAIN, SITES = f"{OUT}/measure", f"{OUT}/measure_plain", f"{OUT}/measure_sites"
-# the sides, and the prefix of their measured functions
-SIDES = {"original": "original", "ours": "offset", "erased": "erased", "c": "tuned"}
-# the sides with tables of their own, the prefix of each, and the side that it is compared with
-BESIDE = {"by field": ("by_field", "ours"), "guarded": ("guarded", "erased"), "ours guarded": ("offset_guarded", "ours")}
-PREFIXES = {**SIDES, **{side: prefix for side, (prefix, _) in BESIDE.items()}}
-# in how many rounds the sides are timed
-ROUNDS = int(os.environ.get("ROUNDS", 9))
-# the ways to compact a space, with the prefix `compacting` of their measured functions
-WAYS = ("compact", "reset", "free")
-# callgrind counts each byte that a `rep stosb` of memset writes as an instruction, so memset must use vectors
-COUNTED = {**os.environ, "GLIBC_TUNABLES": "glibc.cpu.x86_rep_stosb_threshold=4000000000"}
-# each table has pages of its own, which nothing has touched before
-APART = {**os.environ, "GLIBC_TUNABLES": "glibc.malloc.mmap_threshold=131072"}
-# tables are in huge pages, where the system allows it
-HUGE = {**os.environ, "GLIBC_TUNABLES": "glibc.malloc.hugetlb=1"}
-# what malloc holds is counted
-HEAP = {**os.environ, "LD_PRELOAD": f"{OUT}/heap.so"}
-# the data cache that is simulated: its level, its bytes, its ways, and the bytes of a line
-LEVEL, CACHE = 1, "32768,8,64"
 # Larger ratios are bold: ours to the original's time, to its instructions, to C's; erased to the original's time, to its
 # instructions. Some workloads have others of the first two.
 REACH = (0.70, 0.60, 1.05, 0.85, 0.68)
 REACH_TIME = {"u16": 0.68, "a million live": 0.88, "10,000,000 nodes": 0.95}
 REACH_INSTRUCTIONS = {"frames of 60,000": 0.68}
+# the time of ours in a whole run, with the construction
+REACH_WHOLE = {"random, 10,000,000 nodes": 0.80}
 # the instructions of a construction or a reset; the cache misses of a step; of the resident bytes, those for each node
 # that was ever used, and all others
 REACH_COST = 2000
 REACH_MISSES = {"random, 60k live": 3.4, "random, a million live": 2.0}
 REACH_NODE, REACH_MORE = 28, 65_536
-# the time of the guarded side, in parts of the erased one's
+# the time with tickets, in parts of that with handles
 REACH_GUARDED = 1.10
 # workloads whose construction takes about as long as their steps
 LONG = ("random, a million live", "random, 10,000,000 nodes")
-# the workload whose memory is measured, and the node limits with which it is
-RESIDENT, LIMITS = "random, 1k live", (131_072, 10_000_000)
-
-
-def lines(*words, program=MEASURE, env=None):
-    out = subprocess.run([program, *words], check=True, capture_output=True, text=True, env=env).stdout
-    return [line.split("\t") for line in out.splitlines()]
-
-
-def counted(function, *words, program=PLAIN):
-    """The instructions and the cache misses of the program with these words: inside the measured function, and in all."""
-    with tempfile.NamedTemporaryFile() as file:
-        command = ["valgrind", "--tool=callgrind", "--cache-sim=yes", f"--D{LEVEL}={CACHE}", "--callgrind-out-file=" + file.name,
-                   program, *words]
-        subprocess.run(command, check=True, capture_output=True, env=COUNTED)
-        report = subprocess.run(["callgrind_annotate", "--inclusive=yes", "--threshold=100", "--show=Ir,D1mr,D1mw", file.name],
-                                check=True, capture_output=True, text=True).stdout
-    count = r" *([\d,]+)(?: \([ \d.]+%\))? +"
-    rows = re.findall(rf"^{count * 3}(?:\S*:(\w+)(?: \[.*)?|(PROGRAM TOTALS))$", report, re.M)
-    found = {}
-    for *counts, called, total in reversed(rows):
-        instructions, read, written = (int(count.replace(",", "")) for count in counts)
-        found[called or total] = instructions, read + written
-    # a run without constructions calls nothing
-    return found.get(function, (0, 0)), found["PROGRAM TOTALS"]
-
-
-def a_step(name, side, function, steps, program=PLAIN):
-    """The instructions and the cache misses of a step, without the construction of the tables, each computed in two ways,
-    which have to agree."""
-    runs = zip(*(counted(f"{PREFIXES[side]}_{function}", "play", name, side, what, program=program) for what in ("all", "none")))
-    inside, whole = ([a - b for a, b in zip(*both)] for both in runs)
-    # they differ by what is loaded at a first call, and by the loop that constructs tables
-    for one, other, most in zip(inside, whole, (50_000, 500)):
-        assert abs(other - one) < most + other / 500, f"{name}, {side}: {inside} inside the calls, {whole} in all"
-    return [count / steps for count in inside]
-
-
-def refusals(name, sides, seconds=0):
-    """The number of requests that these sides refuse, after a check that their answers are equal and no live ranges
-    overlap. None where a run takes more than these seconds; 0 means no bound."""
-    command = [MEASURE, "check", str(seconds), name, *sides]
-    ended = subprocess.run(command, capture_output=True, text=True)
-    if ended.returncode == -signal.SIGPROF:
-        return None
-    assert ended.returncode == 0, ended.stderr
-    return int(ended.stdout)
-
-
-def heap_bytes(name, side, *nodes):
-    """The bytes of a side after construction, and the most that a run adds, counted in two ways that have to agree."""
-    out = subprocess.run([MEASURE, "heap", name, side, *map(str, nodes)], env=HEAP, check=True, capture_output=True, text=True).stdout
-    made, made_again, more, more_again = map(int, out.split())
-    for one, other in ((made, made_again), (more, more_again)):
-        # a block with its own pages has a longer header
-        assert abs(one - other) <= 4096 + one / 100, f"{name}, {side}: {one} bytes, or {other}"
-    return made, more
 
 
 class Beside(NamedTuple):
-    """A side in parts of the one that it is compared with: the time of a step, its instructions, and its cache misses;
-    and its nanoseconds."""
+    """A side in parts of the one that it is compared with: the time of a step, its instructions, its cache misses, and the
+    bytes that the library holds; and its nanoseconds."""
     time: float
     instructions: float
     misses: float
+    bytes: float
     ns: float
 
 
 class Row(NamedTuple):
     """The measurements of a workload. Of a step on each side: the nanoseconds of the fastest run, those with the
-    construction, those without aligned branches, the instructions, the cache misses, and in each round the nanoseconds;
-    the instructions with other call sites; and the sides with tables of their own."""
+    construction, those without aligned branches, those with huge pages, the instructions, the cache misses, and in each
+    round the nanoseconds; the instructions with other call sites; and the sides with tables of their own."""
     name: str
     kind: str
     nodes: int
     ns: list
     whole: list
     plain: list
+    huge: list
     instructions: list
     misses: list
     rounds: list
@@ -128,67 +51,31 @@ class Row(NamedTuple):
     beside: dict
 
 
-def timed(name, program, env=None, sides=SIDES):
-    """Of each side the nanoseconds of a step, those with the construction, and those of each round."""
-    if not TIMED:
-        return [1.0] * len(sides), [1.0] * len(sides), []
-    rows = [[float(x) for x in row] for row in lines("time", name, *sides, program=program, env=env)]
-    ns, _processor, whole, *rounds = map(list, zip(*rows))
-    return ns, whole, rounds
+def measured(work, timed, counted):
+    """The row of a workload."""
+    name = work.name
+    nothing = {side: [math.nan] * 3 for side in PREFIXES}
+    found = {what: timed.get(what, nothing) for what in ("sides", "plain", "huge")}
+    steps = counted["steps"][name]
+    ns, whole = ([found["sides"][side][k] for side in SIDES] for k in (0, 2))
+    # a side that takes long is left out of further rounds
+    rounds = list(zip(*(found["sides"][side][3:] for side in SIDES)))
+    instructions, misses = ([steps[side][k] for side in SIDES] for k in (0, 1))
+    held = {side: sum(both) for side, both in counted.get("bytes", {}).get(name, {}).items()}
 
+    def parts(side, base):
+        values = [[found["sides"][of][0], *steps[of], held.get(of, math.nan)] for of in (side, base)]
+        return Beside(*(a / b if b else math.nan for a, b in zip(*values)), values[0][0])
 
-def in_parallel(work, jobs):
-    with ThreadPoolExecutor(os.cpu_count()) as pool:
-        return dict(zip(jobs, pool.map(lambda job: work(*job), jobs)))
-
-
-def measurements(part=""):
-    """A row for each workload with this text in its name."""
-    work = [row for row in lines("list") if part in row[0]]
-    with ThreadPoolExecutor(os.cpu_count()) as pool:
-        list(pool.map(lambda row: refusals(row[0], PREFIXES), work))
-    # a single step takes too short a time
-    nothing = ([math.nan] * len(PREFIXES), [math.nan] * len(PREFIXES), [])
-    times = {name: timed(name, MEASURE, sides=PREFIXES) if kind != "last" else nothing for name, *_, kind in work}
-    shown = lambda name, kind: kind == "steps" and not name.startswith("growth")
-    plain = {name: timed(name, PLAIN)[0] for name, *_, kind in work if shown(name, kind)}
-    counts = in_parallel(a_step, [(name, side, function, int(count)) for name, _nodes, _space, count, function, _kind in work for side in PREFIXES])
-    sites = in_parallel(a_step, [(name, side, function, int(count), SITES) for name, _nodes, _space, count, function, kind in work
-                                 for side in ("original", "erased") if shown(name, kind)])
-    for name, nodes, _space, count, function, kind in work:
-        ns, whole, rounds = times[name]
-        instructions, misses = map(list, zip(*(counts[name, side, function, int(count)] for side in PREFIXES)))
-        found = {side: row for side, *row in zip(PREFIXES, ns, instructions, misses)}
-        parts = lambda side, base: Beside(*(a / b if b else math.nan for a, b in zip(found[side], found[base])), found[side][0])
-        beside = {side: parts(side, base) for side, (_, base) in BESIDE.items()}
-        others = {job[1]: found[0] for job, found in sites.items() if job[0] == name}
-        ns, whole, instructions, misses, *rounds = (row[:len(SIDES)] for row in (ns, whole, instructions, misses, *rounds))
-        yield Row(name, kind, int(nodes), ns, whole, plain.get(name), instructions, misses, rounds, others, beside)
-
-
-def resident():
-    """Of each side the bytes that become resident, with each node limit, and those that ours may take. Whatever a run
-    touches stays resident until its end."""
-    used = int(lines("nodes", RESIDENT)[0][0])
-    for limit in LIMITS:
-        found = []
-        for side in SIDES:
-            touched, most = map(int, lines("resident", RESIDENT, side, str(limit), env=APART)[0])
-            # the system may miss up to 32 pages of each processor
-            assert abs(touched - most) < 131_072 * (os.cpu_count() + 1), f"{side}: {touched} bytes touched, {most} resident"
-            found.append(touched)
-        yield limit, found, REACH_NODE * used + REACH_MORE
-
-
-def compacting():
-    """Of the ways to compact a space, for a number of live ranges: nanoseconds and instructions a range."""
-    for live in (1_000, 60_000):
-        ns = [float(row[0]) for row in lines("compacting", str(live))] if TIMED else [1.0] * len(WAYS)
-        yield live, ns, [counted(f"compacting_{way}", "compacting", str(live), way)[0][0] / live for way in WAYS]
+    beside = {side: parts(side, base) for side, (_, base) in BESIDE.items()}
+    plain, huge = ([found[what][side][0] for side in SIDES] for what in ("plain", "huge"))
+    sites = {side: count for side, (count, _misses) in counted.get("sites", {}).get(name, {}).items()}
+    return Row(name, work.kind, work.nodes, ns, whole, plain, huge, instructions, misses, rounds, sites, beside)
 
 
 def number(x):
-    return f"{x:,.0f}" if x >= 1000 else f"{x:.1f}"
+    """Nothing where it was not measured."""
+    return "" if math.isnan(x) else f"{x:,.0f}" if x >= 1000 else f"{x:.1f}"
 
 
 def ratios(row):
@@ -207,9 +94,10 @@ def reach(row):
     return found
 
 
-def cell(value, most, text="{:.2f}"):
-    shown = text.format(value)
-    return shown if value <= most else f"**{shown}**"
+def cell(value, most=math.inf, text="{:.2f}"):
+    """Bold where it is more than this. Nothing where it was not measured."""
+    shown = "" if math.isnan(value) else text.format(value)
+    return f"**{shown}**" if value > most else shown
 
 
 def table(rows):
@@ -249,7 +137,7 @@ def plain_table(rows):
     yield "|---|" + "---:|" * 6
     for row in rows:
         ns = row.plain
-        yield f"| {row.name} | " + " | ".join([*map(number, ns), f"{ns[1] / ns[0]:.2f}", f"{ns[2] / ns[0]:.2f}"]) + " |"
+        yield f"| {row.name} | " + " | ".join([*map(number, ns), cell(ns[1] / ns[0]), cell(ns[2] / ns[0])]) + " |"
 
 
 def sites_table(rows):
@@ -268,7 +156,8 @@ def whole_table(rows):
     yield "|---|" + "---:|" * 6
     for row in rows:
         ns = row.whole
-        yield f"| {row.name} | " + " | ".join([*map(number, ns), f"{ns[1] / ns[0]:.2f}", f"{ns[2] / ns[0]:.2f}"]) + " |"
+        ours = cell(ns[1] / ns[0], REACH_WHOLE.get(row.name, math.inf))
+        yield f"| {row.name} | " + " | ".join([*map(number, ns), ours, cell(ns[2] / ns[0])]) + " |"
 
 
 def huge_table(rows):
@@ -276,15 +165,15 @@ def huge_table(rows):
     yield "| workload | ns: original | ours | erased | C | with/without: original | ours | erased | C |"
     yield "|---|" + "---:|" * 8
     for row in rows:
-        ns = timed(row.name, MEASURE, HUGE)[0]
-        yield f"| {row.name} | " + " | ".join([*map(number, ns), *(f"{a / b:.2f}" for a, b in zip(ns, row.ns))]) + " |"
+        ns = row.huge
+        yield f"| {row.name} | " + " | ".join([*map(number, ns), *(cell(a / b) for a, b in zip(ns, row.ns))]) + " |"
 
 
-def threads_table():
+def threads_table(threads):
     yield "| | ns a step, over all threads |"
     yield "|---|---:|"
-    for way, ns in lines("threads") if TIMED else []:
-        yield f"| {way} | {number(float(ns))} |"
+    for way, ns in threads:
+        yield f"| {way} | {number(ns)} |"
 
 
 def costs_table(rows):
@@ -292,18 +181,18 @@ def costs_table(rows):
     yield "| | ns: original | ours | erased | C | instructions: original | ours | erased | C |"
     yield "|---|" + "---:|" * 8
     for row in rows:
-        ns = ["" if math.isnan(x) else number(x) for x in row.ns]
+        ns = [number(x) for x in row.ns]
         # with grants the reach would be another
         most = math.inf if row.kind == "used" else REACH_COST
         count = [cell(x, most if side in ("ours", "erased") else math.inf, "{:,.0f}") for side, x in zip(SIDES, row.instructions)]
         yield f"| {row.name} | " + " | ".join(ns + count) + " |"
 
 
-def resident_table(found):
+def resident_table(found, most):
     yield "| node limit | original | ours | erased | C |"
     yield "|---|" + "---:|" * 4
-    for limit, row, most in found:
-        cells = [cell(x, most if side in ("ours", "erased") else math.inf, "{:,.0f}") for side, x in zip(SIDES, row)]
+    for limit, row in found.items():
+        cells = [cell(x, most if side in ("ours", "erased") else math.inf, "{:,.0f}") for side, x in row.items()]
         yield f"| {limit:,} | " + " | ".join(cells) + " |"
 
 
@@ -312,13 +201,8 @@ def compacting_table(rows):
            "| compact/reset: time | instructions | compact/free: time | instructions |")
     yield "|---|" + "---:|" * 10
     for live, ns, count in rows:
-        ratios = [f"{x[0] / x[k]:.2f}" for k in (1, 2) for x in (ns, count)]
+        ratios = [cell(x[0] / x[k]) for k in (1, 2) for x in (ns, count)]
         yield f"| {live:,} | " + " | ".join([*map(number, ns + count), *ratios]) + " |"
-
-
-def part(value, most=math.inf):
-    """A ratio, or nothing where there is none."""
-    return "" if math.isnan(value) else cell(value, most)
 
 
 def by_field_table(rows):
@@ -327,21 +211,16 @@ def by_field_table(rows):
     yield "|---|" + "---:|" * 4
     for row in rows:
         found = row.beside["by field"]
-        ns = "" if math.isnan(found.ns) else number(found.ns)
-        yield f"| {row.name} | {ns} | {part(found.time)} | {part(found.instructions)} | {part(found.misses)} |"
+        yield f"| {row.name} | {number(found.ns)} | {cell(found.time)} | {cell(found.instructions)} | {cell(found.misses)} |"
 
 
 def guarded_table(rows):
     """The sides with tickets, in parts of those with handles."""
     yield "| workload | ns: guarded | erased: time | instructions | cache misses | bytes | ours: time | instructions | cache misses |"
     yield "|---|" + "---:|" * 8
-    names = [row.name for row in rows if row.kind == "steps"]
-    bytes_of = in_parallel(lambda name, side: sum(heap_bytes(name, side)), [(name, side) for name in names for side in ("erased", "guarded")])
     for row in rows:
         erased, ours = row.beside["guarded"], row.beside["ours guarded"]
-        ns = "" if math.isnan(erased.ns) else number(erased.ns)
-        more = part(bytes_of[row.name, "guarded"] / bytes_of[row.name, "erased"]) if row.name in names else ""
-        cells = [ns, part(erased.time, REACH_GUARDED), part(erased.instructions), part(erased.misses), more, *map(part, ours[:3])]
+        cells = [number(erased.ns), cell(erased.time, REACH_GUARDED), *map(cell, erased[1:4]), cell(ours.time, REACH_GUARDED), *map(cell, ours[1:3])]
         yield f"| {row.name} | " + " | ".join(cells) + " |"
 
 
@@ -430,19 +309,77 @@ def plot(work, growth):
     return page(760, size, "Time and instructions a step: ours, the original's, and that of C", parts)
 
 
+def aims(rows, resident, most):
+    """Each aim, what it allows, and what was found for it: each value with its place."""
+    for what, limit, values in every_aim(rows, resident, most):
+        yield what, limit, [(value, where) for value, where in values if not math.isnan(value)]
+
+
+def every_aim(rows, resident, most):
+    steps = [row for row in rows if row.kind == "steps"]
+    named = lambda words: [row for row in steps if words in row.name]
+    usual = lambda special: [row for row in steps if not any(words in row.name for words in special)]
+    ratio = lambda rows, k: [(ratios(row)[k], row.name) for row in rows]
+    cost = lambda kind: [(row.instructions[k], f"{row.name}, {side}") for row in rows if row.kind == kind for k, side in ((1, "ours"), (2, "erased"))]
+    yield "instructions of a construction", REACH_COST, cost("make")
+    yield "instructions of a reset with 10 live ranges", REACH_COST, cost("last")
+    if resident:
+        found = [(row[side], f"{limit:,} nodes, {side}") for limit, row in resident.items() for side in ("ours", "erased")]
+        yield f"resident bytes, *{RESIDENT}*", most, found
+    yield "time, ours/original", REACH[0], ratio(usual(REACH_TIME), 0)
+    for words, limit in REACH_TIME.items():
+        yield f"the same, *{words}*", limit, ratio(named(words), 0)
+    for words, limit in REACH_WHOLE.items():
+        yield f"the same with the construction, *{words}*", limit, [(row.whole[1] / row.whole[0], row.name) for row in named(words)]
+    yield "instructions, ours/original", REACH[1], ratio(usual(REACH_INSTRUCTIONS), 1)
+    for words, limit in REACH_INSTRUCTIONS.items():
+        yield f"the same, *{words}*", limit, ratio(named(words), 1)
+    yield "instructions, ours/C", REACH[2], ratio(steps, 2)
+    yield "time, erased/original", REACH[3], ratio(steps, 3)
+    yield "instructions, erased/original, two call sites beside one, random steps", REACH[4], ratio(named("random, "), 4)
+    yield "the same, all others", REACH[4], ratio([row for row in steps if "random, " not in row.name], 4)
+    for words, limit in REACH_MISSES.items():
+        yield f"first-level misses a step, *{words}*", limit, [(row.misses[1], row.name) for row in named(words)]
+    for side, base in (("guarded", "erased"), ("ours guarded", "ours")):
+        yield f"time with tickets beside handles, {base}", REACH_GUARDED, [(row.beside[side].time, row.name) for row in rows]
+
+
+def aims_table(found):
+    yield "| | aim: at most | the most | where | above the aim |"
+    yield "|---|---:|---:|---|---:|"
+    for what, most, values in found:
+        if values:
+            worst, where = max(values)
+            text = "{:,.0f}" if most >= 100 else "{:.2f}"
+            above = sum(value > most for value, _ in values)
+            yield f"| {what} | {text.format(most)} | {cell(worst, most, text)} | {where} | {above} of {len(values)} |"
+
+
 def main():
-    rows = list(measurements(PART))
+    part = sys.argv[2] if len(sys.argv) > 2 else ""
+    if part:
+        check(part)
+        timed = {"work": {}, "threads": [], "compacting": {}, "rounds": 0} if sys.argv[3:] == ["counts"] else times(part)
+        counted = counts(part)
+    else:
+        timed, counted = saved("times"), saved("counts")
+        # whose answers are equal
+        saved("check")
+    some = timed["rounds"] > 0
+    rows = [measured(work, timed["work"].get(work.name, {}), counted) for work in works(part)]
     steps = [row for row in rows if row.kind == "steps"]
     growth = [row for row in steps if row.name.startswith("growth")]
     work = [row for row in steps if row not in growth]
     costs = [row for row in rows if row.kind != "steps"]
     large = [row for row in steps if row.nodes >= 262_144 or row.name == "random, 60k live"]
-    missed = sum(r > m for row in steps for r, m in zip(ratios(row), reach(row)))
+    resident = {limit: counted["resident"][str(limit)] for limit in LIMITS} if "resident" in counted else {}
+    most = REACH_NODE * counted["nodes"][RESIDENT]["least"] + REACH_MORE if resident else 0
     special = ", ".join(f"{most:.2f} for *{words}*" for words, most in REACH_TIME.items())
     special_count = ", ".join(f"{most:.2f} for *{words}*" for words, most in REACH_INSTRUCTIONS.items())
+    found = list(aims(rows, resident, most))
     head = [
         "# Results", "",
-        f"Times are the fastest of {ROUNDS} runs, or of {min(ROUNDS, 3)} where a run takes a fifth of a second, in nanoseconds; "
+        f"Times are the fastest of {timed['rounds']} runs, or of {min(timed['rounds'], 3)} where a run takes a fifth of a second, in nanoseconds; "
         "instructions are counted by callgrind. Both are per step, without the construction of the tables.",
         "All sides returned the same offsets and refusals, and no live ranges overlap or leave the space. In bold: more than "
         f"{REACH[0]:.2f} of the original's time ({special}), {REACH[1]:.2f} of its instructions ({special_count}), or "
@@ -451,7 +388,11 @@ def main():
         "Times are those of code in which no branch crosses 32 bytes, on each side; instructions are counted without that, since "
         "it takes further ones. The erased side has two call sites of each function, the others one.", "",
     ]
-    shown = [*head, *table(work), "", "## Over the size of the tables", "",
+    if "seconds" in timed:
+        head += [f"All times were taken in {timed['seconds'] / 60:.0f} minutes, the sides in turn ({timed['processor']}). Meanwhile other programs took "
+                 f"{timed['others']:.2f} of a processor, and the host {timed['steal']:.2f}.", ""]
+    shown = [*head, "## Aims", "", "In bold: above the aim. [README.md](README.md#where-it-falls-short-and-why) has the reasons.", "",
+             *aims_table(found), "", "## A step", "", *table(work), "", "## Over the size of the tables", "",
              "Random steps with a quarter of the nodes live.", "", *table(growth), "",
              "## What an allocator costs", "",
              "Each allocator is made and dropped before the next; with 10 grants between, these are counted with it. A reset of 10 "
@@ -463,18 +404,19 @@ def main():
              "The erased side with tickets, in parts of it with handles, and ours likewise. The bytes are those that the library "
              "holds; besides, the caller keeps 24 bytes for a ticket, and 8 for a handle. In bold: more than "
              f"{REACH_GUARDED:.2f} of the time. [README.md](README.md#tickets) has the reasons.", "", *guarded_table(rows), ""]
-    if not PART or PART in RESIDENT:
+    if resident:
         shown += ["## Resident memory", "",
                   f"The bytes that become resident in a run of *{RESIDENT}*, those of the player included. In bold: more than "
-                  f"{REACH_NODE} for each node that was ever used, and {REACH_MORE:,}.", "", *resident_table(resident()), ""]
+                  f"{REACH_NODE} for each node that was ever used, and {REACH_MORE:,}.", "", *resident_table(resident, most), ""]
+    whole = " and ".join(f"{limit:.2f} of the original's in *{name}*" for name, limit in REACH_WHOLE.items())
     shown += ["## With the construction", "",
-              "The time of a whole run, a step: with the construction of the tables, and their end.", "",
+              f"The time of a whole run, a step: with the construction of the tables, and their end. In bold: more than {whole}.", "",
               *whole_table([row for row in steps if row.name in LONG]), "",
               "## Huge pages", "",
               "The times with `GLIBC_TUNABLES=glibc.malloc.hugetlb=1`: the C library asks for huge pages, for each large table.", "",
               *huge_table([row for row in large if row.name.startswith("random")]), "",
               "## Without aligned branches", "",
-              "The times where branches may cross 32 bytes, on each side but the peers: as compilers place them.", "", *plain_table(work), "",
+              "The times where branches may cross 32 bytes, on each side: as compilers place them.", "", *plain_table(work), "",
               "## One call site or two", "",
               "Instructions of a step. A function with one call site is compiled into it.", "", *sites_table(work), "",
               "## Cache misses", "",
@@ -483,24 +425,25 @@ def main():
               *misses_table(steps), "",
               "## The best and the worst run", "",
               "With large tables: the time of each run in parts of the original's in the same round. A round is left out in which "
-              "a run without steps took longer than the one with them.", "", *rounds_table(large if TIMED else [])]
-    if not PART or PART in "threads":
+              "a run without steps took longer than the one with them.", "", *rounds_table(large if some else [])]
+    if timed["threads"]:
         shown += ["", "## Threads", "",
                   "The erased side, with 1,000 live ranges a thread, and sizes as in *random*: nanoseconds of a step, divided by the "
                   "threads. In the last row each range is handed to another thread, which sends it back through a queue when it is "
-                  "released; the owner drains its queue every 64 requests.", "", *threads_table()]
-    if not PART or PART in "compact":
+                  "released; the owner drains its queue every 64 requests.", "", *threads_table(timed["threads"])]
+    if "compacting" in counted:
+        compacting = [(live, timed["compacting"].get(str(live), [math.nan] * len(WAYS)), [counted["compacting"][str(live)][way] for way in WAYS])
+                      for live in COMPACTED]
         shown += ["", "## Compact", "",
                   "The erased side: `compact`, and what leaves the same ranges without it: a reset of the space, or a release of "
                   "each range, and then a request for each in space order. Per live range.", "",
-                  *compacting_table(compacting())]
-    if not PART and TIMED:
-        with open(f"{HERE}/RESULTS.md", "w") as file:
-            file.write("\n".join(shown) + "\n")
-        with open(f"{HERE}/plot.svg", "w") as file:
-            file.write(plot(work, growth))
+                  *compacting_table(compacting)]
+    if not part:
+        (HERE / "RESULTS.md").write_text("\n".join(shown) + "\n")
+        (HERE / "plot.svg").write_text(plot(work, growth))
     print("\n".join(shown))
-    print(f"{len(rows)} workloads, equal answers; {missed} of {len(REACH) * len(steps)} figures miss their reach")
+    missed = sum(value > most for _what, most, values in found for value, _ in values)
+    print(f"{len(rows)} workloads, equal answers; {missed} of {sum(len(values) for *_, values in found)} figures miss their aim")
 
 
 if __name__ == "__main__":

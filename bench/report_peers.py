@@ -1,41 +1,29 @@
-"""Measures the linked peers beside the original and ours, and writes PEERS.md and peers.svg into the folder $2."""
-import math, os, pathlib
-from concurrent.futures import ThreadPoolExecutor
-from report import COLOURS, HERE, heap_bytes, lines, number, page, refusals, spread, text
+"""Prints what bench/run has measured of the linked peers, beside the original and ours, with the programs in the folder $1,
+and writes it into PEERS.md and peers.svg."""
+import math, sys
+from measures import CAP, HERE, LIVE, PARTS, PEERS_BESIDE, peers, saved, traces, works
+from report import COLOURS, number, page, spread, text
 
-# the seconds that a run may take
-CAP = 5
 # how much the time by the clock and that of the processor may differ
 NEAR = 0.05
-# the sides that are built of each peer
-PARTS = {"vma": ["vma", "vma_min"], "u_mm": ["u_mm"], "util_vma": ["util_vma"]}
 NAMES = {"original": "original", "ours": "ours", "vma": "VMA", "vma_min": "VMA, least memory", "u_mm": "u_mm", "util_vma": "util_vma_heap"}
 COLOURS = {**COLOURS, "vma": "#d68910", "vma_min": "#7e5109", "u_mm": "#8e44ad", "util_vma": "#148f77"}
-# workloads by their number of live ranges
-LIVE = {1_000: "random, 1k live", 16_000: "random, 16k live", 60_000: "random, 60k live"}
-
-with open(f"{HERE}/out/peers.txt") as file:
-    VERSIONS = dict(line.rstrip("\n").split("\t") for line in file)
-PEERS = [part for name in VERSIONS for part in PARTS[name]]
-SIDES = ["original", "ours", *PEERS]
+VERSIONS, PEERS = peers()
+SIDES = [*PEERS_BESIDE, *PEERS]
 
 
 def measurements():
     """For each workload of steps: its name, nodes and steps, the refusals of each side, and the nanoseconds a step by the
-    clock and of the processor: None where it takes too long."""
-    # peers have no reset, and no tables to construct
-    work = [
-        (name, int(nodes), int(count))
-        for name, nodes, _space, count, _function, kind in lines("list")
-        if kind in ("steps", "used") and "reset" not in name
-    ]
-    jobs = [(name, side) for name, *_ in work for side in SIDES]
-    with ThreadPoolExecutor(os.cpu_count()) as pool:
-        refused = dict(zip(jobs, pool.map(lambda job: refusals(job[0], [job[1]], CAP), jobs)))
-    for name, nodes, count in work:
-        ended = [side for side in SIDES if refused[name, side] is not None]
-        rows = [[float(x) for x in row] for row in lines("time", name, *ended)]
-        yield name, nodes, count, {side: refused[name, side] for side in SIDES}, {side: row[:2] for side, row in zip(ended, rows)}
+    clock and of the processor: none where it takes too long."""
+    refused, timed = saved("check"), saved("times")["work"]
+    for work in works():
+        if work.peers:
+            name, times = work.name, timed[work.name]["peers"]
+            # the answers of the original are those of ours
+            counts = {"original": refused[name]["ours"], **refused[name]}
+            if set(times) != {side for side, count in counts.items() if count is not None}:
+                sys.exit(f"{name}: bench/run --check found later that other peers take too long: run bench/run --times")
+            yield name, work.nodes, work.count, counts, {side: row[:2] for side, row in times.items()}
 
 
 def busy(times, side):
@@ -52,7 +40,19 @@ def time_cells(row, side):
         bound = CAP * 1e9 / count
         return f"over {math.floor(bound):,}", f"over {math.floor(bound / original)}"
     marks = ["~" if busy(times, side) else "", "~" if busy(times, side) or busy(times, "original") else ""]
-    return marks[0] + number(times[side][0]), f"{marks[1]}{times[side][0] / original:.2f}"
+    bold = "**" if is_ahead(row, side) else ""
+    return marks[0] + number(times[side][0]), f"{bold}{marks[1]}{times[side][0] / original:.2f}{bold}"
+
+
+def is_ahead(row, side):
+    """Whether a peer takes less time than ours."""
+    return side in PEERS and side in row[4] and row[4][side][0] < row[4]["ours"][0]
+
+
+def ahead(rows):
+    """How many of the times of peers are less than ours, in words."""
+    found = sum(is_ahead(row, side) for row in rows for side in PEERS)
+    return f"{found or 'none'} of {len(rows) * len(PEERS)}"
 
 
 def times_table(rows):
@@ -68,22 +68,20 @@ def refusals_table(rows):
     yield "| workload | " + " | ".join(NAMES[s] for s in SIDES[1:]) + " |"
     yield "|---|" + "---:|" * len(SIDES[1:])
     for name, _nodes, _count, refused, _times in rows:
-        assert refused["ours"] == refused["original"]
         if any(refused.values()):
             cells = ["" if refused[side] is None else f"{refused[side]:,}" for side in SIDES[1:]]
             yield f"| {name} | " + " | ".join(cells) + " |"
 
 
-def memory(rows):
+def memory():
     """For each row of the table its side and name, the bytes after construction, and those at each number of ranges."""
-    ended = {(name, side) for name, _nodes, _count, _refused, times in rows for side in times}
-    nodes = {name: int(lines("nodes", name)[0][0]) for name in LIVE.values()}
+    counted = saved("counts")
     for side in SIDES:
-        made = heap_bytes(LIVE[1_000], side)[0]
-        yield side, NAMES[side], made, [sum(heap_bytes(name, side)) if (name, side) in ended else None for name in LIVE.values()]
-        if side in ("original", "ours"):
-            limits = ", ".join(f"{n:,}" for n in nodes.values())
-            yield side, f"{NAMES[side]}, with {limits} nodes", None, [sum(heap_bytes(name, side, nodes[name])) for name in LIVE.values()]
+        found = [counted["heap"][name].get(side) for name in LIVE.values()]
+        yield side, NAMES[side], found[0][0], [sum(both) if both else None for both in found]
+        if side in PEERS_BESIDE:
+            limits = ", ".join(f"{counted['nodes'][name]['least']:,}" for name in LIVE.values())
+            yield side, f"{NAMES[side]}, with {limits} nodes", None, [sum(counted["tight"][name][side]) for name in LIVE.values()]
 
 
 def memory_table(found):
@@ -98,8 +96,9 @@ def recorded_table():
     """The most bytes with each recorded program."""
     yield "| | " + " | ".join(NAMES[s] for s in SIDES) + " |"
     yield "|---|" + "---:|" * len(SIDES)
-    for path in sorted(pathlib.Path(HERE, "traces").glob("*.script")):
-        yield f"| {path.stem} | " + " | ".join(f"{sum(heap_bytes(path.stem, side)):,}" for side in SIDES) + " |"
+    counted = saved("counts")["recorded"]
+    for name in traces():
+        yield f"| {name} | " + " | ".join(f"{sum(counted[name][side]):,}" for side in SIDES) + " |"
 
 
 def most_of(rows, side):
@@ -129,7 +128,9 @@ def plot(growth):
     lives = [nodes // 4 for _name, nodes, *_ in growth]
     all_ns = [row[4][side][0] for row in growth for side in row[4]]
     low, high = 10 ** math.floor(math.log10(min(all_ns))), max(CAP * 1000, *all_ns)
-    x = lambda live: left + width * math.log10(live / lives[0]) / math.log10(lives[-1] / lives[0])
+    # the axis begins at a power of ten, as its lines are
+    first = 10 ** math.floor(math.log10(lives[0]))
+    x = lambda live: left + width * math.log10(live / first) / math.log10(lives[-1] / first)
     y = lambda ns: top + height * (1 - math.log10(ns / low) / math.log10(high / low))
     yield text(left, 22, "nanoseconds a step, over live ranges (both axes are logarithmic)", size=13)
     for decade in range(round(math.log10(low)), 5):
@@ -138,7 +139,7 @@ def plot(growth):
             if low <= ns <= high:
                 yield f'<line x1="{left}" y1="{y(ns):.1f}" x2="{left + width}" y2="{y(ns):.1f}" stroke="{"#bbb" if digit == 1 else "#e5e5e5"}"/>'
                 yield text(left - 6, y(ns) + 4, f"{ns:,}", "end", 11)
-    for live in (20, 100, 1_000, 10_000, 100_000):
+    for live in (10 ** e for e in range(round(math.log10(first)), math.floor(math.log10(lives[-1])) + 1)):
         yield f'<line x1="{x(live):.1f}" y1="{top}" x2="{x(live):.1f}" y2="{top + height}" stroke="#e5e5e5"/>'
         yield text(x(live), top + height + 18, f"{live:,}", "middle", 11)
     yield text(left + width / 2, top + height + 38, "live ranges", "middle", 12)
@@ -164,7 +165,7 @@ def main():
     rows = [row for row in all_rows if not row[0].startswith("make")]
     made = [row for row in all_rows if row not in rows]
     growth = [row for row in rows if row[0].startswith("growth")]
-    found = list(memory(rows))
+    found = list(memory())
     versions = "; ".join(f"{' and '.join(NAMES[part] for part in PARTS[name])}: {version}" for name, version in VERSIONS.items())
     shown = [
         "# Beside what an engine would use instead", "",
@@ -173,7 +174,8 @@ def main():
         "The bytes of ours and of the original are those of a table just large enough.", "",
         "## Time", "",
         f"Nanoseconds a step. *Over*: the run takes more than {CAP} seconds, and so more than this a step. Marked by ~: the time by "
-        f"the clock and that of the processor differ by more than {100 * NEAR:.0f}%.", "",
+        f"the clock and that of the processor differ by more than {100 * NEAR:.0f}%. In bold: a peer that takes less time than ours: "
+        f"{ahead(rows)}.", "",
         *times_table(rows), "",
         "Nanoseconds of an allocator that is made, grants 10 ranges, and is dropped. The node limit is that of ours and of the original.", "",
         *times_table(made), "",
@@ -181,10 +183,8 @@ def main():
         "## Memory", "", "The most bytes that `malloc` holds at any time, its headers included, divided by the live ranges. Empty: the run takes too long.", "", *memory_table(found), "",
         "The most bytes with each recorded program. Ours and the original have the node limit of its script.", "", *recorded_table(),
     ]
-    with open(f"{HERE}/PEERS.md", "w") as file:
-        file.write("\n".join(shown) + "\n")
-    with open(f"{HERE}/peers.svg", "w") as file:
-        file.write(page(760, 500, "Nanoseconds a step over live ranges, of ours, the original and three peers", plot(growth)))
+    (HERE / "PEERS.md").write_text("\n".join(shown) + "\n")
+    (HERE / "peers.svg").write_text(page(760, 500, "Nanoseconds a step over live ranges, of ours, the original and three peers", plot(growth)))
     print("\n".join(shown))
     marked = sum(busy(row[4], side) for row in all_rows for side in row[4])
     print(f"{len(PEERS)} peers, ranges apart; {marked} of {sum(len(row[4]) for row in all_rows)} times are those of a busy machine")

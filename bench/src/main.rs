@@ -75,26 +75,34 @@ fn processor() -> f64 {
     time[0] as f64 * 1e9 + time[1] as f64
 }
 
-/// The nanoseconds of a run, by the clock and of the processor.
-fn time_run(w: &Workload, side: &Side, none: bool) -> [f64; 2] {
+/// The nanoseconds of a run, by the clock and of the processor, and its checksum.
+fn time_run(w: &Workload, side: &Side, none: bool) -> ([f64; 2], u64) {
     let (start, spent) = (Instant::now(), processor());
-    std::hint::black_box(run(w, side, none));
-    [start.elapsed().as_nanos() as f64, processor() - spent]
+    let sum = std::hint::black_box(run(w, side, none));
+    ([start.elapsed().as_nanos() as f64, processor() - spent], sum)
 }
 
 /// Nanoseconds a step: of the fastest run by the clock, of the processor, and by the clock with the construction; and of
-/// each run by the clock. The sides take turns.
+/// each run by the clock. The sides take turns. Those that must have the same answers have equal checksums in each run.
 fn times(w: &Workload, sides: &[Side]) -> Vec<([f64; 3], Vec<f64>)> {
     let mut fastest = vec![[[f64::MAX; 2]; 2]; sides.len()];
     let mut runs = vec![Vec::new(); sides.len()];
     let a_step = |[all, none]: [[f64; 2]; 2], by: usize| (all[by] - none[by]) / w.count() as f64;
+    let mut sums = [None; 2];
     let rounds = std::env::var("ROUNDS").map_or(ROUNDS, |rounds| rounds.parse().unwrap());
     for _ in 0..rounds {
         for (s, side) in sides.iter().enumerate() {
             if runs[s].len() >= LONG_RUNS && fastest[s][0][0] >= LONG {
                 continue;
             }
-            let taken = [false, true].map(|none| time_run(w, side, none));
+            let taken = [false, true].map(|none| {
+                let (taken, sum) = time_run(w, side, none);
+                if side.make.is_some() {
+                    let known = *sums[usize::from(none)].get_or_insert(sum);
+                    assert_eq!(sum, known, "{}: the answers of {} and {} differ", w.name, side.name, sides[0].name);
+                }
+                taken
+            });
             runs[s].push(a_step(taken, 0));
             for (best, taken) in fastest[s].iter_mut().zip(taken) {
                 *best = [best[0].min(taken[0]), best[1].min(taken[1])];

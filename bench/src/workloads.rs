@@ -183,7 +183,7 @@ pub fn all(only: Option<&str>) -> Vec<Workload> {
             found.push(Workload { name: name.to_string(), width, space, nodes, work: work() });
         }
     };
-    for name in traces::names() {
+    for name in traces::names().into_iter().filter(|name| only.map_or(true, |only| only == name)) {
         let trace = traces::read(&name);
         add(&name, Bits32, trace.space, trace.nodes, &|| recorded(&name));
     }

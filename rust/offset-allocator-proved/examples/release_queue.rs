@@ -70,8 +70,8 @@ impl Drop for Range {
 fn main() -> Result<(), AllocError> {
     const THREADS: u32 = 8;
     const RANGES: u32 = 80_000;
-    // The workers hold at most 160 ranges, each of at most 300 units, so at most 161 free blocks are beside them. One of
-    // these has at least 320 units, of a class whose blocks all have 300: so no request is refused for ever.
+    // large enough that no request waits for a range which a worker keeps: at most 160 of 300 units, and 161 free blocks of
+    // less than 320
     const UNITS: u32 = 1 << 17;
     let mut arena = Arena::new(UNITS, 4096)?;
     std::thread::scope(|scope| {

@@ -6,8 +6,9 @@ use release_queue::{Arena, Range};
 use std::sync::atomic::{AtomicU32, Ordering::SeqCst};
 use std::sync::mpsc::channel;
 
-// Eight threads hold at most 240 ranges, each of at most 100 units, so at most 241 free blocks are beside them. One of
-// these has at least 104 units, of a class whose blocks all have 100: so no request is refused for ever.
+// A worker releases a range only when it gets another, so a request must be granted once all have taken what was sent. Then
+// at most 240 ranges of 100 units are live. A request of 100 is refused only where each free block, of at most 241, has less
+// than 104 units: so in less than 50,000 units.
 const UNITS: u32 = 1 << 16;
 const THREADS: u32 = 8;
 
