@@ -2,7 +2,7 @@
 
 use crate::asserts::{assert_same, assert_same_at, assert_that, assert_that_at};
 use offset_allocator::Refusal::{Fragmented, Nodes, Space};
-use offset_allocator::{Accesses, Allocation, Allocator, NodeIndex, Refusal};
+use offset_allocator::{Accesses, Allocation, Allocator, AllocatorOf, ByNode, Refusal, Tables};
 use offset_script::{Answer, Command};
 use offset_test_base::tiny::Tiny;
 use offset_uses::daily::{
@@ -229,7 +229,10 @@ const CASES: [Case; 14] = [
 ];
 
 // The range and its size, or `None` where the request is refused, or a promise is none.
-fn make_request(space: &mut Allocator, request: Request) -> Option<(Allocation, u32)> {
+fn make_request<T: Tables>(
+    space: &mut AllocatorOf<T>,
+    request: Request,
+) -> Option<(Allocation<T::Index>, u32)> {
     match request {
         Plain(size) => Some((space.allocate(size)?, size)),
         Promised(size) => {
@@ -252,11 +255,11 @@ fn make_request(space: &mut Allocator, request: Request) -> Option<(Allocation, 
 }
 
 // Makes a use of a range.
-fn use_range(
+fn use_range<T: Tables>(
     rt: &impl Abort,
     at: &(&'static str, usize),
-    space: &mut Allocator,
-    range: Allocation,
+    space: &mut AllocatorOf<T>,
+    range: Allocation<T::Index>,
     step: Use,
 ) {
     match step {
@@ -277,11 +280,11 @@ fn use_range(
 }
 
 // Looks at a space.
-fn observe(
+fn observe<T: Tables>(
     rt: &impl Abort,
     alloc: Global,
     at: &(&'static str, usize),
-    space: &Allocator,
+    space: &AllocatorOf<T>,
     step: Use,
 ) {
     match step {
@@ -314,12 +317,12 @@ fn observe(
 }
 
 // Makes a use of a space.
-fn use_space(
+fn use_space<T: Tables>(
     rt: &impl Abort,
     alloc: Global,
     at: &(&'static str, usize),
-    space: &mut Allocator,
-    ranges: &mut Vec<Allocation>,
+    space: &mut AllocatorOf<T>,
+    ranges: &mut Vec<Allocation<T::Index>>,
     step: Use,
 ) {
     match step {
@@ -352,7 +355,7 @@ fn use_space(
 fn one_space_is_used(rt: HostRuntime) {
     for case in &CASES {
         assert_that_at(&rt, &case.name, 2 <= case.limit && case.limit <= 1_000);
-        let made = Allocator::with_max_allocs(rt.alloc(), case.size, case.limit);
+        let made = Allocator::<u32>::with_max_allocs(rt.alloc(), case.size, case.limit);
         let mut space = made.expect(&rt, "memory");
         let mut ranges = Vec::new(rt.alloc());
         for (place, step) in case.uses.iter().enumerate() {
@@ -364,7 +367,7 @@ fn one_space_is_used(rt: HostRuntime) {
 
 #[test]
 fn a_tenant_stays_within_its_quota(rt: HostRuntime) {
-    let mut space = Allocator::new(rt.alloc(), 100).expect(&rt, "memory");
+    let mut space = Allocator::<u32>::new(rt.alloc(), 100).expect(&rt, "memory");
     let mut near = Tenant { quota: 20, held: 0 };
     let mut far = Tenant { quota: 50, held: 0 };
     assert_that(&rt, charge(&mut space, &mut near, 15).is_some());
@@ -380,8 +383,8 @@ fn a_tenant_stays_within_its_quota(rt: HostRuntime) {
     );
 }
 
-fn expect_frame<NI: NodeIndex>(rt: &impl Abort, alloc: Global) {
-    let mut space = Allocator::<NI>::new(alloc, 100).expect(rt, "memory");
+fn expect_frame<T: Tables>(rt: &impl Abort, alloc: Global) {
+    let mut space = AllocatorOf::<T>::new(alloc, 100).expect(rt, "memory");
     let mut count = Accesses::new();
     assert_same(rt, &frame(&mut space, 40, &mut count), &Some(60));
     assert_same(rt, &frame(&mut space, 97, &mut count), &None);
@@ -390,9 +393,9 @@ fn expect_frame<NI: NodeIndex>(rt: &impl Abort, alloc: Global) {
 
 #[test]
 fn a_frame_leaves_the_space_as_it_was(rt: HostRuntime) {
-    expect_frame::<u32>(&rt, rt.alloc());
-    expect_frame::<u16>(&rt, rt.alloc());
-    expect_frame::<Tiny>(&rt, rt.alloc());
+    expect_frame::<ByNode<u32>>(&rt, rt.alloc());
+    expect_frame::<ByNode<u16>>(&rt, rt.alloc());
+    expect_frame::<ByNode<Tiny>>(&rt, rt.alloc());
 }
 
 #[test]
@@ -415,8 +418,8 @@ fn both_widths_give_equal_answers(rt: HostRuntime) {
 
 #[test]
 fn a_mesh_is_in_both_buffers_or_in_none(rt: HostRuntime) {
-    let mut vertices = Allocator::new(rt.alloc(), 100).expect(&rt, "memory");
-    let mut indices = Allocator::new(rt.alloc(), 10).expect(&rt, "memory");
+    let mut vertices = Allocator::<u32>::new(rt.alloc(), 100).expect(&rt, "memory");
+    let mut indices = Allocator::<u32>::new(rt.alloc(), 10).expect(&rt, "memory");
     assert_that(&rt, insert(&mut vertices, &mut indices, 60, 20).is_none());
     assert_same(&rt, &vertices.storage_report().total_free_space, &100);
     let (first, second) = insert(&mut vertices, &mut indices, 60, 10).expect(&rt, "room");
@@ -427,7 +430,7 @@ fn a_mesh_is_in_both_buffers_or_in_none(rt: HostRuntime) {
 
 #[test]
 fn data_is_moved_with_its_range(rt: HostRuntime) {
-    let mut space = Allocator::new(rt.alloc(), 96).expect(&rt, "memory");
+    let mut space = Allocator::<u32>::new(rt.alloc(), 96).expect(&rt, "memory");
     let mut buffer = [0u32; 96];
     for unit in 0..96u32 {
         buffer[unit as usize] = unit;
@@ -454,8 +457,8 @@ fn data_is_moved_with_its_range(rt: HostRuntime) {
 #[test]
 fn a_ring_frees_the_frame_before_the_last(rt: HostRuntime) {
     let mut ring = Ring {
-        even: Allocator::new(rt.alloc(), 100).expect(&rt, "memory"),
-        odd: Allocator::new(rt.alloc(), 100).expect(&rt, "memory"),
+        even: Allocator::<u32>::new(rt.alloc(), 100).expect(&rt, "memory"),
+        odd: Allocator::<u32>::new(rt.alloc(), 100).expect(&rt, "memory"),
         is_odd: false,
     };
     assert_that(&rt, ring.take(60).is_some());
@@ -470,7 +473,9 @@ fn a_ring_frees_the_frame_before_the_last(rt: HostRuntime) {
 // Units of 256 bytes need no padding: a heap of 4,096 of them grants 4,096 requests. By bytes, 15 of 16 are granted.
 #[test]
 fn all_units_are_granted(rt: HostRuntime) {
-    let mut heap = Allocator::with_max_allocs(rt.alloc(), 4_096, 4_098).expect(&rt, "memory");
+    let mut heap = Allocator::<u32>::with_max_allocs(rt.alloc(), 4_096, 4_098).expect(
+        &rt, "memory",
+    );
     for k in 0..4_096u64 {
         let bytes = if k % 2 == 0 { 256 } else { 1 };
         let (_, first) = upload_units(&mut heap, bytes).expect(&rt, "room");
@@ -488,7 +493,7 @@ fn all_units_are_granted(rt: HostRuntime) {
 
 #[test]
 fn handles_come_back(rt: HostRuntime) {
-    let mut space = Allocator::new(rt.alloc(), 100).expect(&rt, "memory");
+    let mut space = Allocator::<u32>::new(rt.alloc(), 100).expect(&rt, "memory");
     let first = space.allocate(10).expect(&rt, "room");
     let second = space.allocate(20).expect(&rt, "room");
     assert_that(&rt, restored(second) == second);
@@ -504,7 +509,7 @@ fn handles_come_back(rt: HostRuntime) {
 fn spaces_are_in_a_vec(rt: HostRuntime) {
     let mut slabs = Vec::new(rt.alloc());
     for size in [10u32, 100] {
-        let slab = Allocator::new(rt.alloc(), size).expect(&rt, "memory");
+        let slab = Allocator::<u32>::new(rt.alloc(), size).expect(&rt, "memory");
         assert_that(&rt, slabs.push(slab).is_ok());
     }
     assert_that(&rt, take_from(&mut slabs, 0, 50).is_none());
@@ -514,7 +519,7 @@ fn spaces_are_in_a_vec(rt: HostRuntime) {
 
 #[test]
 fn a_packed_place_is_granted(rt: HostRuntime) {
-    let mut space = Allocator::new(rt.alloc(), 96).expect(&rt, "memory");
+    let mut space = Allocator::<u32>::new(rt.alloc(), 96).expect(&rt, "memory");
     let mut buffer = [7u32; 96];
     let first = space.allocate(24).expect(&rt, "room");
     assert_that(&rt, space.allocate(48).is_some());
@@ -567,7 +572,9 @@ fn put_used_units(text: &mut String, count: u32) -> Result<(), AllocError> {
 
 #[test]
 fn a_dump_has_a_line_for_each_of_many_blocks(rt: HostRuntime) {
-    let mut heap = Allocator::with_max_allocs(rt.alloc(), 4_000, 5_000).expect(&rt, "memory");
+    let mut heap = Allocator::<u32>::with_max_allocs(rt.alloc(), 4_000, 5_000).expect(
+        &rt, "memory",
+    );
     for _ in 0..4_000u32 {
         assert_that(&rt, heap.allocate(1).is_some());
     }

@@ -13,17 +13,17 @@ ghost use Rattle.offset_allocator.specs.Compacting.{Compacts, KeepsSizes};
 ghost use Rattle.offset_uses.specs.Grants.{HasTooFewUnits, IsGrantOf};
 ghost use Rattle.offset_uses.specs.Pool.{HasSameBytes, IsCopied};
 
-use offset_allocator::{Allocation, Allocator, Move, Refusal, laws};
+use offset_allocator::{Allocation, Allocator, AllocatorOf, Move, Refusal, Tables, laws};
 
 /// Allocates a mesh: a range of vertices and a range of indices, in two buffers, both or neither.
 ///
 /// It returns the two handles, or `None` where either request is refused. Then no live range has changed.
-pub fn insert(
-    vertices: &mut Allocator,
-    indices: &mut Allocator,
+pub fn insert<T: Tables>(
+    vertices: &mut AllocatorOf<T>,
+    indices: &mut AllocatorOf<T>,
     vertex_count: u32,
     index_count: u32,
-) -> Option<(Allocation, Allocation)>
+) -> Option<(Allocation<T::Index>, Allocation<T::Index>)>
     ensures vertices { IfSome result (λ mesh. IsGrantOf vertex_count mesh.0 vertices.new) }
     ensures indices { IfSome result (λ mesh. IsGrantOf index_count mesh.1 indices.new) }
     ensures others { IfSome result (λ mesh. KeepsOthers mesh.0.name vertices.old vertices.new
@@ -47,7 +47,7 @@ pub fn insert(
 }
 
 /// Frees a range if its handle is live. It returns whether it was.
-pub fn give_back(space: &mut Allocator, allocation: Allocation) -> bool
+pub fn give_back<T: Tables>(space: &mut AllocatorOf<T>, allocation: Allocation<T::Index>) -> bool
     ensures live { IsTrue result ↔ IsLive allocation.name space.old }
     ensures freed { IsTrue result → Frees allocation.name space.old space.new }
     ensures same { result ≡ false → space.new ≡ space.old }
@@ -64,7 +64,11 @@ pub fn give_back(space: &mut Allocator, allocation: Allocation) -> bool
 /// Allocates a range of bytes at a multiple of `align`, which a graphics device prescribes.
 ///
 /// It returns `None` where `align` is no power of two, or the request is refused. Then no live range has changed.
-pub fn upload(heap: &mut Allocator, size: u32, align: u32) -> Option<Allocation>
+pub fn upload<T: Tables>(
+    heap: &mut AllocatorOf<T>,
+    size: u32,
+    align: u32,
+) -> Option<Allocation<T::Index>>
     ensures aligned { IfSome result (λ h. h.offset % align ≡ 0) }
     ensures range { IfSome result (λ h. IsGrantOf size h heap.new) }
     ensures fresh { IfSome result (λ h. range_of h.name heap.old ≡ None) }
@@ -83,7 +87,7 @@ pub fn upload(heap: &mut Allocator, size: u32, align: u32) -> Option<Allocation>
 }
 
 // Whether a request is refused since more units are needed, in the space or free.
-fn lacks_units(space: &Allocator, size: u32) -> bool
+fn lacks_units<T: Tables>(space: &AllocatorOf<T>, size: u32) -> bool
     ensures { IsTrue result ↔ HasTooFewUnits size space.now }
 {
     laws::refusals_advise(space);
@@ -101,7 +105,11 @@ fn lacks_units(space: &Allocator, size: u32) -> bool
 /// The error says why the request is refused, and so what is left to do: where the space is fragmented, `compact` it;
 /// where no node is left, use another space. Then no live range has changed. Where too few units are free, or the space
 /// is too small, it has grown once, whatever is returned, if it can have that many more.
-pub fn place(space: &mut Allocator, size: u32, more: u32) -> Result<Allocation, Refusal>
+pub fn place<T: Tables>(
+    space: &mut AllocatorOf<T>,
+    size: u32,
+    more: u32,
+) -> Result<Allocation<T::Index>, Refusal>
     ensures range { IfOk result (λ h. IsGrantOf size h space.new) }
     ensures why { IfErr result (IsWhy 1 size space.new) }
     ensures grown { HasTooFewUnits size space.old → space.old.size + more ≤ 4294967295
@@ -175,7 +183,11 @@ pub fn place_packed(
 
 /// The byte at which the vertices of a mesh begin, with `stride` bytes each, as a draw call needs it, or `None` where
 /// the mesh's handle is not live.
-pub fn first_byte(vertices: &Allocator, mesh: Allocation, stride: u32) -> Option<u64>
+pub fn first_byte<T: Tables>(
+    vertices: &AllocatorOf<T>,
+    mesh: Allocation<T::Index>,
+    stride: u32,
+) -> Option<u64>
     ensures live { IsSome result ↔ IsLive mesh.name vertices.now }
     ensures byte { (r : Range) → range_of mesh.name vertices.now ≡ Some r
         → result ≡ Some (r.offset * stride) }
@@ -187,7 +199,11 @@ pub fn first_byte(vertices: &Allocator, mesh: Allocation, stride: u32) -> Option
 /// Changes the number of vertices of a mesh in place: it gives the last ones back, or takes those that are free
 /// directly after it. The handle has to be live. It returns whether the mesh has `size` vertices then; if not, nothing
 /// has changed.
-pub fn resize(vertices: &mut Allocator, mesh: Allocation, size: u32) -> bool
+pub fn resize<T: Tables>(
+    vertices: &mut AllocatorOf<T>,
+    mesh: Allocation<T::Index>,
+    size: u32,
+) -> bool
     requires live { IsLive mesh.name vertices.old }
     ensures shrunk { size < size_of mesh.name vertices.old
         → (IsTrue result ↔ CanShrink mesh.name size vertices.old) }
@@ -207,7 +223,7 @@ pub fn resize(vertices: &mut Allocator, mesh: Allocation, size: u32) -> bool
 
 /// The number of units in live ranges, or `None` where the node limit is reached (`is_full`), since the report is 0, 0
 /// then.
-pub fn granted_units(space: &Allocator) -> Option<u32>
+pub fn granted_units<T: Tables>(space: &AllocatorOf<T>) -> Option<u32>
     ensures granted { IfSome result (λ n. n ≡ used_units space.now.blocks) }
     ensures full { result ≡ None ↔ (length space.now.blocks + 1 ≡ space.now.max_allocs) }
 {

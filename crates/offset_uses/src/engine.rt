@@ -9,14 +9,17 @@ ghost use Rattle.offset_allocator.specs.Relations.{Aligns, Allocates, Frees};
 ghost use Rattle.offset_uses.specs.Grants.{IsGrantOf};
 
 use crate::daily::{give_back, upload};
-use offset_allocator::{Allocation, Allocator};
+use offset_allocator::{Allocation, Allocator, AllocatorOf, NodeIndex, Tables};
 
 /// Allocates bytes at a multiple of 256, of a heap that counts in units of 256 bytes. It returns the handle and the
 /// first byte, or `None` where the request is refused; then no live range has changed.
 ///
 /// No padding is needed, where `allocate_aligned` needs up to 255 bytes a range: a fresh heap of 4,096 units grants
 /// 4,096 requests for 256 bytes.
-pub fn upload_units(heap: &mut Allocator, bytes: u32) -> Option<(Allocation, u64)>
+pub fn upload_units<T: Tables>(
+    heap: &mut AllocatorOf<T>,
+    bytes: u32,
+) -> Option<(Allocation<T::Index>, u64)>
     ensures aligned { IfSome result (λ r. r.1 % 256 ≡ 0) }
     ensures first { IfSome result (λ r. r.1 ≡ 256 * r.0.offset) }
     ensures range { IfSome result (λ r. IsGrantOf ((bytes + 255) / 256) r.0 heap.new) }
@@ -33,13 +36,13 @@ pub fn upload_units(heap: &mut Allocator, bytes: u32) -> Option<(Allocation, u64
 ///
 /// It returns the two handles, or `None` where an alignment is no power of two, the first request is refused, or the
 /// second after it. Then no live range has changed.
-pub fn upload_both(
-    heap: &mut Allocator,
+pub fn upload_both<T: Tables>(
+    heap: &mut AllocatorOf<T>,
     size: u32,
     align: u32,
     other_size: u32,
     other_align: u32,
-) -> Option<(Allocation, Allocation)>
+) -> Option<(Allocation<T::Index>, Allocation<T::Index>)>
     ensures first { IfSome result (λ r. IsGrantOf size r.0 heap.new) }
     ensures second { IfSome result (λ r. IsGrantOf other_size r.1 heap.new) }
     ensures aligned { IfSome result (λ r. (r.0.offset % align ≡ 0) × (r.1.offset % other_align ≡ 0)) }
@@ -66,7 +69,7 @@ pub fn upload_both(
 }
 
 /// A handle as two numbers, for a file or another language, and made of them again: it is the same.
-pub fn restored(mesh: Allocation) -> Allocation
+pub fn restored<NI: NodeIndex>(mesh: Allocation<NI>) -> Allocation<NI>
     ensures { result ≡ mesh }
 {
     let (offset, name) = mesh.to_parts();
@@ -86,7 +89,11 @@ pub fn free_named(space: &mut Allocator, name: u32) -> bool
 }
 
 /// Allocates in one of several spaces, or returns `None` where there is no such space or it refuses the request.
-pub fn take_from(slabs: &mut Vec<Allocator>, place: usize, size: u32) -> Option<Allocation>
+pub fn take_from<T: Tables>(
+    slabs: &mut Vec<AllocatorOf<T>>,
+    place: usize,
+    size: u32,
+) -> Option<Allocation<T::Index>>
     ensures len { length slabs.new.items ≡ length slabs.old.items }
     ensures none { length slabs.old.items ≤ place → result ≡ None }
     ensures step { (v : View) → place < length slabs.old.items

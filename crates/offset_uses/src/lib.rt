@@ -19,7 +19,7 @@ pub mod in_memory;
 pub mod pool;
 pub mod walking;
 
-use offset_allocator::{Accesses, Allocation, Allocator, NodeIndex, laws};
+use offset_allocator::{Accesses, Allocation, AllocatorOf, Tables, laws};
 use offset_script::{Answer, Command, play};
 use std::alloc::{AllocError, Global};
 
@@ -27,11 +27,11 @@ use std::alloc::{AllocError, Global};
 ///
 /// It returns the two handles, or `None` where the first request is refused, or the second after it. Then the buffer is
 /// as it was, down to the order of its bins.
-pub fn place_mesh(
-    vertices: &mut Allocator,
+pub fn place_mesh<T: Tables>(
+    vertices: &mut AllocatorOf<T>,
     outer: u32,
     inner: u32,
-) -> Option<(Allocation, Allocation)>
+) -> Option<(Allocation<T::Index>, Allocation<T::Index>)>
     ensures outer { IfSome result (λ hulls. IsGrantOf outer hulls.0 vertices.new) }
     ensures inner { IfSome result (λ hulls. IsGrantOf inner hulls.1 vertices.new) }
     ensures apart { IfSome result (λ hulls.
@@ -58,7 +58,11 @@ pub fn place_mesh(
 }
 
 /// States that the ranges of two live meshes, whose handles have different names, share no vertex. It changes nothing.
-pub fn are_apart(vertices: &Allocator, one: Allocation, other: Allocation)
+pub fn are_apart<T: Tables>(
+    vertices: &AllocatorOf<T>,
+    one: Allocation<T::Index>,
+    other: Allocation<T::Index>,
+)
     requires distinct { one.name ≢ other.name }
     ensures { (r s : Range) → range_of one.name vertices.now ≡ Some r
         → range_of other.name vertices.now ≡ Some s → AreDisjoint r s }
@@ -69,7 +73,7 @@ pub fn are_apart(vertices: &Allocator, one: Allocation, other: Allocation)
 /// Allocates `n` vertices, which the report has just promised.
 ///
 /// It returns the handle; it cannot fail.
-pub fn place_promised(vertices: &mut Allocator, n: u32) -> Allocation
+pub fn place_promised<T: Tables>(vertices: &mut AllocatorOf<T>, n: u32) -> Allocation<T::Index>
     requires some { 1 ≤ n }
     requires promised { n ≤ largest_free vertices.old }
     ensures step { Allocates n vertices.old vertices.new (Some result) }
@@ -84,7 +88,10 @@ pub fn place_promised(vertices: &mut Allocator, n: u32) -> Allocation
 ///
 /// It returns the handle and the number of vertices, or `None` where the report promises none; then the space is as it
 /// was.
-pub fn place_what_fits(vertices: &mut Allocator, n: u32) -> Option<(Allocation, u32)>
+pub fn place_what_fits<T: Tables>(
+    vertices: &mut AllocatorOf<T>,
+    n: u32,
+) -> Option<(Allocation<T::Index>, u32)>
     requires some { 1 ≤ n }
     ensures range { IfSome result (λ got. IsGrantOf got.1 got.0 vertices.new) }
     ensures most { IfSome result (λ got. got.1 ≡ min n (largest_free vertices.old)) }
@@ -105,7 +112,11 @@ pub fn place_what_fits(vertices: &mut Allocator, n: u32) -> Option<(Allocation, 
 ///
 /// It returns `None` where the space cannot grow or the second request is refused. In the second case the space has
 /// grown.
-pub fn allocate_or_grow(space: &mut Allocator, n: u32, more: u32) -> Option<Allocation>
+pub fn allocate_or_grow<T: Tables>(
+    space: &mut AllocatorOf<T>,
+    n: u32,
+    more: u32,
+) -> Option<Allocation<T::Index>>
     ensures range { IfSome result (λ h. IsGrantOf n h space.new) }
     ensures at_once { 1 ≤ n → n ≤ largest_free space.old
         → IsSome result × Allocates n space.old space.new result }
@@ -128,7 +139,7 @@ pub fn allocate_or_grow(space: &mut Allocator, n: u32, more: u32) -> Option<Allo
 /// Allocates a uniform buffer at a multiple of 256 units, as graphics devices require.
 ///
 /// It returns `None` unless two more blocks may exist and `n + 255` is at most the reported largest free region.
-pub fn place_uniforms(heap: &mut Allocator, n: u32) -> Option<Allocation>
+pub fn place_uniforms<T: Tables>(heap: &mut AllocatorOf<T>, n: u32) -> Option<Allocation<T::Index>>
     ensures step { Aligns n 256 heap.old heap.new result }
     ensures aligned { IfSome result (λ h. h.offset % 256 ≡ 0) }
     ensures granted { IsSome result
@@ -152,7 +163,11 @@ pub struct Tenant {
 ///
 /// It returns `None` where they exceed the quota or the space refuses them. Then the tenant and the space are as they
 /// were.
-pub fn charge(space: &mut Allocator, tenant: &mut Tenant, n: u32) -> Option<Allocation>
+pub fn charge<T: Tables>(
+    space: &mut AllocatorOf<T>,
+    tenant: &mut Tenant,
+    n: u32,
+) -> Option<Allocation<T::Index>>
     requires within { tenant.old.held ≤ tenant.old.quota }
     ensures step { MatchOption result (SameSpace space.old space.new)
         (λ h. Allocates n space.old space.new (Some h)) }
@@ -177,7 +192,11 @@ pub fn charge(space: &mut Allocator, tenant: &mut Tenant, n: u32) -> Option<Allo
 
 /// Frees a tenant's range, and subtracts its units from those that the tenant holds. The handle has to be live, and the
 /// tenant has to hold at least the units of its range.
-pub fn refund(space: &mut Allocator, tenant: &mut Tenant, allocation: Allocation)
+pub fn refund<T: Tables>(
+    space: &mut AllocatorOf<T>,
+    tenant: &mut Tenant,
+    allocation: Allocation<T::Index>,
+)
     requires live { IsLive allocation.name space.old }
     requires held { size_of allocation.name space.old ≤ tenant.old.held }
     ensures quota { tenant.new.quota ≡ tenant.old.quota }
@@ -195,7 +214,7 @@ pub fn refund(space: &mut Allocator, tenant: &mut Tenant, allocation: Allocation
 /// It returns the free units that the report has while they are granted (0 at the node limit), or `None` where the
 /// request is refused. The space is then as it was, after at most 192 accesses to its tables, and at most 8 for the
 /// report, which `count` counts; where it is granted at least 16, and at least 1 where units are left.
-pub fn frame<NI: NodeIndex>(space: &mut Allocator<NI>, n: u32, count: &mut Accesses) -> Option<u32>
+pub fn frame<T: Tables>(space: &mut AllocatorOf<T>, n: u32, count: &mut Accesses) -> Option<u32>
     ensures granted { 1 ≤ n → (IsSome result ↔ (n ≤ largest_free space.old)) }
     ensures can_grant { IsSome result ↔ CanGrant 1 n space.old }
     ensures beside { IfSome result (λ left. (w : View) × (g : Grant) × Allocates n space.old w (Some g)

@@ -8,11 +8,11 @@ ghost use Rattle.offset_allocator.specs.Listing.{as_placed, listing};
 ghost use Rattle.offset_uses.specs.Walking.{block_line};
 
 use offset_allocator::small_float::uint_to_float_round_down;
-use offset_allocator::{Allocator, Block};
+use offset_allocator::{AllocatorOf, Block, NodeIndex, Tables};
 use std::alloc::{AllocError, Global};
 
 /// Counts the free blocks of each of the 256 size classes, without the report.
-pub fn count_holes(space: &Allocator) -> [u32; 256]
+pub fn count_holes<T: Tables>(space: &AllocatorOf<T>) -> [u32; 256]
     ensures { (c : ℕ) → c < 256 → slice_index result c ≡ count_of c (free_sizes space.now.blocks) }
 {
     // no class has more free blocks than there are blocks, so each count fits
@@ -27,7 +27,7 @@ pub fn count_holes(space: &Allocator) -> [u32; 256]
 }
 
 // Appends the line of a block, with its line end.
-fn put_block(text: &mut String, block: &Block) -> Result<(), AllocError>
+fn put_block<NI: NodeIndex>(text: &mut String, block: &Block<NI>) -> Result<(), AllocError>
     ensures { OnOk result
         (string_bytes text.new ≡ string_bytes text.old ++ block_line (as_placed block.now)) }
 {
@@ -42,7 +42,7 @@ fn put_block(text: &mut String, block: &Block) -> Result<(), AllocError>
 /// Writes the blocks of a heap as text, from its end to its start: a line for each, such as `at 16 size 8 used`.
 ///
 /// It returns the text, or `AllocError` where an allocation fails.
-pub fn dump(heap: &Allocator, alloc: Global) -> Result<String, AllocError>
+pub fn dump<T: Tables>(heap: &AllocatorOf<T>, alloc: Global) -> Result<String, AllocError>
     ensures { IfOk result (λ text. string_bytes text ≡ flat_map block_line (listing heap.now)) }
 {
     let mut text = String::new(alloc);

@@ -4,7 +4,7 @@ use super::steps::Limit::{Few, Limited};
 use super::steps::Step::{Frees, FreesAltered, Gone, Grants, Lives};
 use super::steps::{Case, Step, expect_all, follow, make_allocator};
 use crate::asserts::{assert_same, assert_that};
-use offset_allocator::{Allocation, Allocator, NodeIndex};
+use offset_allocator::{Allocation, AllocatorOf, ByNode, Tables};
 use std::alloc::Global;
 use std::process::Abort;
 
@@ -54,9 +54,9 @@ fn handles_that_are_stale_or_altered(rt: HostRuntime) {
 }
 
 // The handles of a space with many nodes.
-fn of_another_space<NI: NodeIndex>(rt: &impl Abort, alloc: Global) -> Vec<Allocation<NI>> {
+fn of_another_space<T: Tables>(rt: &impl Abort, alloc: Global) -> Vec<Allocation<T::Index>> {
     let mut handles = Vec::new(alloc);
-    let space = make_allocator::<NI>(alloc, 198, Limited(200)).expect(rt, "memory");
+    let space = make_allocator::<T>(alloc, 198, Limited(200)).expect(rt, "memory");
     if let Some(mut space) = space {
         for _ in 0..198u32 {
             if let Some(handle) = space.allocate(1) {
@@ -69,10 +69,10 @@ fn of_another_space<NI: NodeIndex>(rt: &impl Abort, alloc: Global) -> Vec<Alloca
 }
 
 // The number of live handles. Each of them has this size; all others have size 0.
-fn count_live<NI: NodeIndex>(
+fn count_live<T: Tables>(
     rt: &impl Abort,
-    allocator: &Allocator<NI>,
-    handles: &[Allocation<NI>],
+    allocator: &AllocatorOf<T>,
+    handles: &[Allocation<T::Index>],
     size: u32,
 ) -> u32 {
     let mut count = 0u32;
@@ -87,9 +87,9 @@ fn count_live<NI: NodeIndex>(
     count
 }
 
-fn expect_foreign<NI: NodeIndex>(rt: &impl Abort, alloc: Global) {
-    let handles = of_another_space::<NI>(rt, alloc);
-    let made = make_allocator::<NI>(alloc, 64, Limited(4)).expect(rt, "memory");
+fn expect_foreign<T: Tables>(rt: &impl Abort, alloc: Global) {
+    let handles = of_another_space::<T>(rt, alloc);
+    let made = make_allocator::<T>(alloc, 64, Limited(4)).expect(rt, "memory");
     let mut space = made.expect(rt, "a lawful limit");
     assert_same(rt, &count_live(rt, &space, &handles, 0), &0);
     follow(
@@ -104,6 +104,6 @@ fn expect_foreign<NI: NodeIndex>(rt: &impl Abort, alloc: Global) {
 
 #[test]
 fn handles_of_another_space(rt: HostRuntime) {
-    expect_foreign::<u32>(&rt, rt.alloc());
-    expect_foreign::<u16>(&rt, rt.alloc());
+    expect_foreign::<ByNode<u32>>(&rt, rt.alloc());
+    expect_foreign::<ByNode<u16>>(&rt, rt.alloc());
 }

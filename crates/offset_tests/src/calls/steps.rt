@@ -4,7 +4,9 @@ use crate::asserts::{assert_same_at, assert_that_at, text_of};
 use offset_allocator::laws::{
     allocation_offset_counted, next_block_counted, refusal_aligned_counted, refusal_counted, undo,
 };
-use offset_allocator::{Accesses, Allocation, Allocator, Block, Move, NodeIndex, Refusal};
+use offset_allocator::{
+    Accesses, Allocation, AllocatorOf, Block, ByNode, Move, NodeIndex, Refusal, Tables,
+};
 use offset_test_base::tiny::Tiny;
 use std::alloc::{AllocError, Global};
 use std::process::Abort;
@@ -62,33 +64,33 @@ pub enum Step {
 /// A step of a table: the name of the table, and how many steps come before it.
 pub type Place = (&'static str, usize);
 
-fn release<NI: NodeIndex>(
+fn release<T: Tables>(
     rt: &impl Abort,
     at: &Place,
-    allocator: &mut Allocator<NI>,
-    handle: Allocation<NI>,
+    allocator: &mut AllocatorOf<T>,
+    handle: Allocation<T::Index>,
 ) {
     assert_that_at(rt, at, allocator.is_live(handle));
     allocator.free(handle);
     expect_gone(rt, at, allocator, handle);
 }
 
-fn expect_gone<NI: NodeIndex>(
+fn expect_gone<T: Tables>(
     rt: &impl Abort,
     at: &Place,
-    allocator: &Allocator<NI>,
-    handle: Allocation<NI>,
+    allocator: &AllocatorOf<T>,
+    handle: Allocation<T::Index>,
 ) {
     assert_that_at(rt, at, !allocator.is_live(handle));
     assert_same_at(rt, at, &allocator.allocation_size(handle), &0);
     assert_same_at(rt, at, &allocator.allocation_offset(handle), &None);
 }
 
-fn expect_live<NI: NodeIndex>(
+fn expect_live<T: Tables>(
     rt: &impl Abort,
     at: &Place,
-    allocator: &Allocator<NI>,
-    handle: Allocation<NI>,
+    allocator: &AllocatorOf<T>,
+    handle: Allocation<T::Index>,
     size: u32,
 ) {
     assert_that_at(rt, at, allocator.is_live(handle));
@@ -96,11 +98,11 @@ fn expect_live<NI: NodeIndex>(
 }
 
 // The public offset of a handle is a copy, and its name counts alone.
-fn expect_beginning<NI: NodeIndex>(
+fn expect_beginning<T: Tables>(
     rt: &impl Abort,
     at: &Place,
-    allocator: &Allocator<NI>,
-    handle: Allocation<NI>,
+    allocator: &AllocatorOf<T>,
+    handle: Allocation<T::Index>,
     offset: u32,
 ) {
     let wanted = Some(offset);
@@ -113,11 +115,11 @@ fn expect_beginning<NI: NodeIndex>(
 }
 
 // Checks the result of a shrink or a growth, and the size that the handle has then.
-fn expect_resized<NI: NodeIndex>(
+fn expect_resized<T: Tables>(
     rt: &impl Abort,
     at: &Place,
-    allocator: &mut Allocator<NI>,
-    handle: Allocation<NI>,
+    allocator: &mut AllocatorOf<T>,
+    handle: Allocation<T::Index>,
     step: &Step,
 ) {
     assert_that_at(rt, at, allocator.is_live(handle));
@@ -131,11 +133,11 @@ fn expect_resized<NI: NodeIndex>(
     expect_live(rt, at, allocator, handle, if done { size } else { before });
 }
 
-fn expect_counts<NI: NodeIndex>(
+fn expect_counts<T: Tables>(
     rt: &impl Abort,
     alloc: Global,
     at: &Place,
-    allocator: &Allocator<NI>,
+    allocator: &AllocatorOf<T>,
     wanted: &[(usize, u32, u32)],
 ) {
     let report = allocator.storage_report_full();
@@ -151,19 +153,19 @@ fn expect_counts<NI: NodeIndex>(
     assert_same_at(rt, at, &found.as_slice(), &wanted);
 }
 
-fn request<NI: NodeIndex>(
+fn request<T: Tables>(
     rt: &impl Abort,
     at: &Place,
-    allocator: &mut Allocator<NI>,
+    allocator: &mut AllocatorOf<T>,
     size: u32,
     align: u32,
-) -> Option<Allocation<NI>> {
+) -> Option<Allocation<T::Index>> {
     assert_that_at(rt, at, align.is_power_of_two());
     allocator.allocate_aligned(size, align)
 }
 
 // Why a request is refused, if all calls that say so agree; `None` also where the alignment is no power of two.
-fn refusal<NI: NodeIndex>(allocator: &Allocator<NI>, size: u32, align: u32) -> Option<Refusal> {
+fn refusal<T: Tables>(allocator: &AllocatorOf<T>, size: u32, align: u32) -> Option<Refusal> {
     if !align.is_power_of_two() {
         return None;
     }
@@ -198,16 +200,16 @@ fn is_wanted<NI: NodeIndex>(
     range.allocation() == after && (range.from, range.to, range.size) == (*from, *to, *size)
 }
 
-fn expect_moves<NI: NodeIndex>(
+fn expect_moves<T: Tables>(
     rt: &impl Abort,
     at: &Place,
-    allocator: &mut Allocator<NI>,
-    handles: &[Allocation<NI>],
+    allocator: &mut AllocatorOf<T>,
+    handles: &[Allocation<T::Index>],
     wanted: &[(usize, u32, u32, u32)],
 ) {
     let mut count = 0usize;
     let mut first_wrong = None;
-    allocator.compact(&mut |range: Move<NI>| {
+    allocator.compact(&mut |range: Move<T::Index>| {
         if first_wrong.is_none() && !is_wanted(&range, handles, wanted.get(count)) {
             first_wrong = Some((count, range.from, range.to, range.size));
         }
@@ -242,11 +244,11 @@ fn is_wanted_block<NI: NodeIndex>(
 }
 
 // Each block is yielded by the walk, by a copy, which goes on from where it was made, and by a counted copy.
-fn expect_walk<NI: NodeIndex>(
+fn expect_walk<T: Tables>(
     rt: &impl Abort,
     at: &Place,
-    allocator: &Allocator<NI>,
-    handles: &[Allocation<NI>],
+    allocator: &AllocatorOf<T>,
+    handles: &[Allocation<T::Index>],
     wanted: &[(u32, u32, Option<usize>)],
 ) {
     let mut count = Accesses::new();
@@ -277,12 +279,12 @@ fn expect_walk<NI: NodeIndex>(
     );
 }
 
-fn keep<NI: NodeIndex>(
+fn keep<T: Tables>(
     rt: &impl Abort,
     at: &Place,
-    allocator: &Allocator<NI>,
-    handles: &mut Vec<Allocation<NI>>,
-    granted: Option<Allocation<NI>>,
+    allocator: &AllocatorOf<T>,
+    handles: &mut Vec<Allocation<T::Index>>,
+    granted: Option<Allocation<T::Index>>,
     size: u32,
     offset: u32,
 ) {
@@ -307,11 +309,11 @@ fn grant_of<NI: NodeIndex>(
 }
 
 // Takes a step on the handle of a grant.
-fn step_on_grant<NI: NodeIndex>(
+fn step_on_grant<T: Tables>(
     rt: &impl Abort,
     at: &Place,
-    allocator: &mut Allocator<NI>,
-    mut handle: Allocation<NI>,
+    allocator: &mut AllocatorOf<T>,
+    mut handle: Allocation<T::Index>,
     step: &Step,
 ) {
     match step {
@@ -330,12 +332,12 @@ fn step_on_grant<NI: NodeIndex>(
 }
 
 // Takes a step that changes nothing, and is not on the handle of a grant.
-fn observe<NI: NodeIndex>(
+fn observe<T: Tables>(
     rt: &impl Abort,
     alloc: Global,
     at: &Place,
-    allocator: &Allocator<NI>,
-    handles: &[Allocation<NI>],
+    allocator: &AllocatorOf<T>,
+    handles: &[Allocation<T::Index>],
     step: &Step,
 ) {
     match step {
@@ -376,12 +378,12 @@ fn observe<NI: NodeIndex>(
     }
 }
 
-fn take<NI: NodeIndex>(
+fn take<T: Tables>(
     rt: &impl Abort,
     alloc: Global,
     at: &Place,
-    allocator: &mut Allocator<NI>,
-    handles: &mut Vec<Allocation<NI>>,
+    allocator: &mut AllocatorOf<T>,
+    handles: &mut Vec<Allocation<T::Index>>,
     step: &Step,
 ) {
     match step {
@@ -425,11 +427,11 @@ fn take<NI: NodeIndex>(
 }
 
 /// Makes the calls in order.
-pub fn follow<NI: NodeIndex>(
+pub fn follow<T: Tables>(
     rt: &impl Abort,
     alloc: Global,
     name: &'static str,
-    allocator: &mut Allocator<NI>,
+    allocator: &mut AllocatorOf<T>,
     steps: &[Step],
 ) {
     let mut handles = Vec::new(alloc);
@@ -452,31 +454,31 @@ pub enum Limit {
 }
 
 /// A new allocator, or `None` where its index type does not admit the limit.
-pub fn make_allocator<NI: NodeIndex>(
+pub fn make_allocator<T: Tables>(
     alloc: Global,
     size: u32,
     limit: Limit,
-) -> Result<Option<Allocator<NI>>, AllocError> {
+) -> Result<Option<AllocatorOf<T>>, AllocError> {
     let is_admitted = match limit {
-        Limit::Ample => NI::MAX > 100,
+        Limit::Ample => T::Index::MAX > 100,
         Limit::Few => true,
-        Limit::Least => NI::MAX <= 100,
+        Limit::Least => T::Index::MAX <= 100,
         Limit::Limited(limit) => {
-            if limit < 2 || limit >= NI::MAX - 1 {
+            if limit < 2 || limit >= T::Index::MAX - 1 {
                 return Ok(None);
             }
-            return Ok(Some(Allocator::with_max_allocs(alloc, size, limit)?));
+            return Ok(Some(AllocatorOf::with_max_allocs(alloc, size, limit)?));
         }
     };
     if is_admitted {
-        Ok(Some(Allocator::new(alloc, size)?))
+        Ok(Some(AllocatorOf::new(alloc, size)?))
     } else {
         Ok(None)
     }
 }
 
 // Makes the calls on a new allocator, if its index type admits it. It returns whether there were any.
-fn follow_by<NI: NodeIndex>(
+fn follow_by<T: Tables>(
     rt: &impl Abort,
     alloc: Global,
     name: &'static str,
@@ -484,7 +486,7 @@ fn follow_by<NI: NodeIndex>(
     limit: Limit,
     steps: &[Step],
 ) -> bool {
-    match make_allocator::<NI>(alloc, size, limit).expect(rt, "memory") {
+    match make_allocator::<T>(alloc, size, limit).expect(rt, "memory") {
         None => false,
         Some(mut allocator) => {
             follow(rt, alloc, name, &mut allocator, steps);
@@ -502,9 +504,9 @@ pub fn expect(
     limit: Limit,
     steps: &[Step],
 ) {
-    let wide = follow_by::<u32>(rt, alloc, name, size, limit, steps);
-    let narrow = follow_by::<u16>(rt, alloc, name, size, limit, steps);
-    let third = follow_by::<Tiny>(rt, alloc, name, size, limit, steps);
+    let wide = follow_by::<ByNode<u32>>(rt, alloc, name, size, limit, steps);
+    let narrow = follow_by::<ByNode<u16>>(rt, alloc, name, size, limit, steps);
+    let third = follow_by::<ByNode<Tiny>>(rt, alloc, name, size, limit, steps);
     assert_that_at(
         rt,
         &("no allocator, or no calls", name),

@@ -5,8 +5,8 @@ use super::steps::Step::{Grants, Shows};
 use super::steps::{Case, expect_all, make_allocator};
 use crate::asserts::{assert_text, assert_that, text_of};
 use offset_allocator::{
-    NodeIndex, NonMaxU16, NonMaxU32, Refusal, StorageReport, StorageReportFull,
-    StorageReportFullRegion,
+    ByNode, NonMaxU16, NonMaxU32, Refusal, StorageReport, StorageReportFull,
+    StorageReportFullRegion, Tables,
 };
 use offset_test_base::tiny::Tiny;
 use std::alloc::{AllocError, Global};
@@ -102,8 +102,8 @@ fn names_and_reasons_have_a_text(rt: HostRuntime) {
 }
 
 // Of two ranges of one allocator. The text has the offset and the node index, which is one of three.
-fn expect_handles<NI: NodeIndex>(rt: &impl Abort, alloc: Global) {
-    let made = make_allocator::<NI>(alloc, 17, Limited(4)).expect(rt, "memory");
+fn expect_handles<T: Tables>(rt: &impl Abort, alloc: Global) {
+    let made = make_allocator::<T>(alloc, 17, Limited(4)).expect(rt, "memory");
     let mut space = made.expect(rt, "a lawful limit");
     let first = space.allocate(5).expect(rt, "room");
     let second = space.allocate(6).expect(rt, "room");
@@ -126,7 +126,7 @@ fn expect_handles<NI: NodeIndex>(rt: &impl Abort, alloc: Global) {
 
 #[test]
 fn handles_have_a_text_and_are_compared(rt: HostRuntime) {
-    expect_handles::<u32>(&rt, rt.alloc());
-    expect_handles::<u16>(&rt, rt.alloc());
-    expect_handles::<Tiny>(&rt, rt.alloc());
+    expect_handles::<ByNode<u32>>(&rt, rt.alloc());
+    expect_handles::<ByNode<u16>>(&rt, rt.alloc());
+    expect_handles::<ByNode<Tiny>>(&rt, rt.alloc());
 }

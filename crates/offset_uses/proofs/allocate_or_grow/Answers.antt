@@ -4,7 +4,7 @@ use Rattle.offset_uses.proofs.allocate_or_grow.Goals as goal
 
 -- three steps, each of which keeps all live ranges
 pub returns-then-extend-clause-kept : goal.returns-then-extend-clause-kept
-returns-then-extend-clause-kept c x r e =
+returns-then-extend-clause-kept g c x r e =
     let second = c.allocate-then-extend.ensures in
     let first = c.allocate.ensures in
     call_keeps _ _ _ _ second.grants second.same x r (c.extend.ensures.kept x ∙ call_keeps _ _ _ _ first.grants first.same x r e)

@@ -6,18 +6,18 @@ use Rattle.offset_uses.proofs.daily.lacks_units.Goals as goal
 
 -- a request that is granted lacks nothing
 pub returns-in-None : goal.returns-in-None
-returns-in-None c =
-    let g : CanGrant 1 c.args.size c.args.space.now = c.in-None.ensures.granted.0 refl in (
+returns-in-None g c =
+    let w : CanGrant 1 c.args.size c.args.space.now = c.in-None.ensures.granted.0 refl in (
       λ e. absurd (false≢true e),
       λ h. absurd (elim h [
-        | inl s ↦ c.refusals_advise.ensures.none 1 c.args.size Space s g
-        | inr t ↦ c.refusals_advise.ensures.none 1 c.args.size TooLarge t g
+        | inl s ↦ c.refusals_advise.ensures.none 1 c.args.size Space s w
+        | inr t ↦ c.refusals_advise.ensures.none 1 c.args.size TooLarge t w
       ]),
     )
 
 -- one that is refused as fragmented has no other reason
 pub returns-in-Some-Fragmented : goal.returns-in-Some-Fragmented
-returns-in-Some-Fragmented c =
+returns-in-Some-Fragmented g c =
     let why = subst (IsWhy 1 c.args.size c.args.space.now) c.in-Some-Fragmented.field-0-is c.in-Some-Fragmented.ensures.why in (
       λ e. absurd (false≢true e),
       λ h. absurd (elim h [
