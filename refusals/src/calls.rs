@@ -18,10 +18,50 @@ calls! {
     LIMITED offset_with_max_allocs "with_max_allocs"
     CALLS offset_calls "with_max_allocs and 1,000 calls"
     FILL offset_fill "with_max_allocs and twice 3,000 requests and a reset"
-    PARSE offset_parse "parse"
     PLAY offset_play "play"
+    NEW_BY_FIELD offset_new_by_field "new by field"
+    LIMITED_BY_FIELD offset_with_max_allocs_by_field "with_max_allocs by field"
+    CALLS_BY_FIELD offset_calls_by_field "with_max_allocs and 1,000 calls by field"
+    FILL_BY_FIELD offset_fill_by_field "with_max_allocs and twice 3,000 requests and a reset by field"
+    PLAY_BY_FIELD offset_play_by_field "play by field"
+    PARSE offset_parse "parse"
     RUN offset_run "run"
 }
+
+/// The calls on a layout, and the bytes of each of its tables, by the number of nodes and the bytes of an index.
+#[derive(Clone, Copy)]
+pub struct Layout {
+    pub new: Call,
+    pub limited: Call,
+    pub calls: Call,
+    pub fill: Call,
+    pub play: Call,
+    pub tables: fn(usize, usize) -> Vec<usize>,
+}
+
+/// The nodes, each with its offset, its size, its two neighbours and its two links; and the stack of unused nodes.
+pub const BY_NODE: Layout = Layout {
+    new: NEW,
+    limited: LIMITED,
+    calls: CALLS,
+    fill: FILL,
+    play: PLAY,
+    tables: |nodes, index| vec![(4 + 4 + 4 * index) * nodes, index * nodes],
+};
+
+/// A table for each of these fields, and the stack.
+pub const BY_FIELD: Layout = Layout {
+    new: NEW_BY_FIELD,
+    limited: LIMITED_BY_FIELD,
+    calls: CALLS_BY_FIELD,
+    fill: FILL_BY_FIELD,
+    play: PLAY_BY_FIELD,
+    tables: |nodes, index| {
+        [4, 4, index, index, index, index, index]
+            .map(|cell| cell * nodes)
+            .to_vec()
+    },
+};
 
 /// The results that are expected; there are others.
 pub const ANSWERED: u32 = 0;

@@ -24,12 +24,9 @@ const FAULT: &[u64] = &[3, 5];
 /// table.
 const REQUESTS_ALL_FIRST: bool = true;
 
-/// The bytes of each request that a constructor makes: the nodes, each with its offset, its size, its two neighbours
-/// and its two links; and the stack of unused nodes. An index has `bits` bits.
-fn table_requests(nodes: usize, bits: usize) -> Vec<usize> {
-    let index = bits / 8;
-    let node = 4 + 4 + 4 * index;
-    let tables = [node * nodes, index * nodes];
+/// The bytes of each request that a constructor makes. An index has `bits` bits.
+fn table_requests(layout: Layout, nodes: usize, bits: usize) -> Vec<usize> {
+    let tables = (layout.tables)(nodes, bits / 8);
     let all = REQUESTS_ALL_FIRST.then(|| tables.iter().sum());
     all.into_iter().chain(tables).collect()
 }
@@ -100,46 +97,61 @@ impl Check {
     }
 
     /// An allocator for a script that has no commands, 1,000 calls on it, and the script itself.
-    fn allocator(&mut self, nodes: usize, bits: usize, size: u64, report: &[u64]) {
+    fn allocator(&mut self, layout: Layout, nodes: usize, bits: usize, size: u64, report: &[u64]) {
         let header = &format!("space {size} nodes {nodes} index {bits}");
-        for call in [LIMITED, CALLS, PLAY] {
-            self.expect_requests(call, header, &table_requests(nodes, bits));
+        for call in [layout.limited, layout.calls, layout.play] {
+            self.expect_requests(call, header, &table_requests(layout, nodes, bits));
         }
-        let made = self.fail_each(LIMITED, header, 0, &outcome(ANSWERED, report));
+        let made = self.fail_each(layout.limited, header, 0, &outcome(ANSWERED, report));
         let wanted = self.with_ample_memory(CALLS, header);
-        let called = self.fail_each(CALLS, header, 0, &wanted);
+        let called = self.fail_each(layout.calls, header, 0, &wanted);
         self.must(
             called == made,
-            CALLS,
+            layout.calls,
             header,
             format!("{called} requests, not {made}"),
         );
-        let played = self.fail_each(PLAY, header, 0, &outcome(ANSWERED, &[]));
+        let played = self.fail_each(layout.play, header, 0, &outcome(ANSWERED, &[]));
         self.must(
             played >= made,
-            PLAY,
+            layout.play,
             header,
             format!("{played} requests, below {made}"),
         );
     }
 
     /// An allocator for a script that has no commands, filled and reset twice: no reset makes a request.
-    fn filled(&mut self, nodes: usize, bits: usize, wanted: &[u64]) {
+    fn filled(&mut self, layout: Layout, nodes: usize, bits: usize, wanted: &[u64]) {
         let header = &format!("space 5000 nodes {nodes} index {bits}");
-        self.expect_requests(FILL, header, &table_requests(nodes, bits));
-        let made = self.fail_each(LIMITED, header, 0, &outcome(ANSWERED, &[5000, 4608]));
-        let filled = self.fail_each(FILL, header, 0, &outcome(ANSWERED, wanted));
+        self.expect_requests(layout.fill, header, &table_requests(layout, nodes, bits));
+        let made = self.fail_each(layout.limited, header, 0, &outcome(ANSWERED, &[5000, 4608]));
+        let filled = self.fail_each(layout.fill, header, 0, &outcome(ANSWERED, wanted));
         self.must(
             filled == made,
-            FILL,
+            layout.fill,
             header,
             format!("{filled} requests, not {made}"),
         );
     }
 
+    /// Constructors with `new` and by node limits, of which `most` is the largest that is tried.
+    fn constructors(&mut self, layout: Layout, bits: usize, most: usize) {
+        let header = format!("space 100 nodes 4 index {bits}");
+        self.expect_requests(layout.new, &header, &table_requests(layout, most, bits));
+        self.fail_each(layout.new, &header, 0, &outcome(ANSWERED, &[100, 96]));
+        self.allocator(layout, 4, bits, 100, &[100, 96]);
+        self.allocator(layout, 2, bits, 100, &[0, 0]);
+        self.allocator(layout, 100, bits, 1000, &[1000, 960]);
+        self.allocator(layout, most, bits, 100, &[100, 96]);
+        // at most 2,998 ranges are live under a limit of 3,000
+        self.filled(layout, 3000, bits, &[2998, 2998, 5000, 4608]);
+        self.filled(layout, most, bits, &[3000, 3000, 5000, 4608]);
+    }
+
     fn script(&mut self, text: &str, script: &Outcome, answers: &Outcome, written: &Outcome) {
         let first = self.fail_each(PARSE, text, 0, script);
         self.fail_each(PLAY, text, first, answers);
+        self.fail_each(PLAY_BY_FIELD, text, first, answers);
         self.fail_each(RUN, text, 0, written);
     }
 }
@@ -147,16 +159,10 @@ impl Check {
 fn main() {
     let mut check = Check::default();
     for (bits, most) in [(16, 65_533), (32, 131_072)] {
+        for layout in [BY_NODE, BY_FIELD] {
+            check.constructors(layout, bits, most);
+        }
         let header = format!("space 100 nodes 4 index {bits}");
-        check.expect_requests(NEW, &header, &table_requests(most, bits));
-        check.fail_each(NEW, &header, 0, &outcome(ANSWERED, &[100, 96]));
-        check.allocator(4, bits, 100, &[100, 96]);
-        check.allocator(2, bits, 100, &[0, 0]);
-        check.allocator(100, bits, 1000, &[1000, 960]);
-        check.allocator(most, bits, 100, &[100, 96]);
-        // at most 2,998 ranges are live under a limit of 3,000
-        check.filled(3000, bits, &[2998, 2998, 5000, 4608]);
-        check.filled(most, bits, &[3000, 3000, 5000, 4608]);
         let script = outcome(ANSWERED, &[&[100, 4, bits as u64], SCRIPT].concat());
         let written: Vec<u64> = WRITTEN.bytes().map(u64::from).collect();
         let (answers, written) = (outcome(ANSWERED, ANSWERS), outcome(ANSWERED, &written));

@@ -5,15 +5,15 @@ use offset_allocator::laws::{
     undo,
 };
 use offset_allocator::{
-    Accesses, Allocation, Allocator, NodeIndex, StorageReport, StorageReportFull,
+    Accesses, Allocation, AllocatorOf, StorageReport, StorageReportFull, Tables,
 };
 use offset_test_base::living::living_calls;
 
-fn request_aligned<NI: NodeIndex>(
-    allocator: &mut Allocator<NI>,
+fn request_aligned<T: Tables>(
+    allocator: &mut AllocatorOf<T>,
     size: u32,
     align: u32,
-) -> Option<Allocation<NI>> {
+) -> Option<Allocation<T::Index>> {
     if align.is_power_of_two() {
         allocator.allocate_aligned(size, align)
     } else {
@@ -27,7 +27,7 @@ const NONE: u32 = 100_000;
 const GONE: u32 = 200_000;
 
 // Frees a handle if it is live. It returns the size of its range, or `GONE`.
-fn release<NI: NodeIndex>(allocator: &mut Allocator<NI>, handle: Allocation<NI>) -> u32 {
+fn release<T: Tables>(allocator: &mut AllocatorOf<T>, handle: Allocation<T::Index>) -> u32 {
     if allocator.is_live(handle) {
         let size = allocator.allocation_size(handle);
         allocator.free(handle);
@@ -38,9 +38,9 @@ fn release<NI: NodeIndex>(allocator: &mut Allocator<NI>, handle: Allocation<NI>)
 }
 
 // Frees the kept handle, or makes a request where none is kept. It returns the size, the offset, `GONE` or `NONE`.
-fn grant_or_release<NI: NodeIndex>(
-    allocator: &mut Allocator<NI>,
-    kept: &mut Option<Allocation<NI>>,
+fn grant_or_release<T: Tables>(
+    allocator: &mut AllocatorOf<T>,
+    kept: &mut Option<Allocation<T::Index>>,
     kind: u32,
     size: u32,
 ) -> u32 {
@@ -73,16 +73,16 @@ fn fold(short: &StorageReport, full: &StorageReportFull, class: usize) -> u32 {
         .wrapping_add(full.free_regions[class % 256].count)
 }
 
-fn report<NI: NodeIndex>(allocator: &Allocator<NI>, class: usize) -> u32 {
+fn report<T: Tables>(allocator: &AllocatorOf<T>, class: usize) -> u32 {
     let short = allocator.storage_report();
     let full = allocator.storage_report_full();
     fold(&short, &full, class)
 }
 
 // The same by the counted calls, with the size of the kept handle where it is live.
-fn report_counted<NI: NodeIndex>(
-    allocator: &Allocator<NI>,
-    kept: Option<Allocation<NI>>,
+fn report_counted<T: Tables>(
+    allocator: &AllocatorOf<T>,
+    kept: Option<Allocation<T::Index>>,
     class: usize,
 ) -> u32 {
     let mut count = Accesses::new();
@@ -98,9 +98,9 @@ fn report_counted<NI: NodeIndex>(
 }
 
 // Makes one call. It returns the result as a number.
-fn call<NI: NodeIndex>(
-    allocator: &mut Allocator<NI>,
-    kept: &mut Option<Allocation<NI>>,
+fn call<T: Tables>(
+    allocator: &mut AllocatorOf<T>,
+    kept: &mut Option<Allocation<T::Index>>,
     kind: u32,
     number: u32,
 ) -> u32 {
@@ -121,9 +121,9 @@ fn call<NI: NodeIndex>(
 }
 
 /// Makes 1,000 calls of every kind, and returns a checksum of their results. It keeps the handles in `kept`.
-pub fn mixed_calls<NI: NodeIndex>(
-    allocator: &mut Allocator<NI>,
-    kept: &mut [Option<Allocation<NI>>],
+pub fn mixed_calls<T: Tables>(
+    allocator: &mut AllocatorOf<T>,
+    kept: &mut [Option<Allocation<T::Index>>],
 ) -> u64 {
     let mut state = 1u64;
     let mut sum = 0u64;

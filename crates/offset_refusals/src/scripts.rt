@@ -3,8 +3,9 @@
 use crate::cell_writer::CellWriter;
 use crate::numbers::{Cells, put_answers, put_fault, put_script};
 use crate::outcomes::Failure;
+use offset_allocator::{NodeIndex, Tables};
 use offset_script::{
-    FromRead, IndexWidth, IntoWrite, RunFault, Script, ScriptFault, parse, play, run,
+    Answer, FromRead, IndexWidth, IntoWrite, RunFault, Script, ScriptFault, parse, play_of, run,
 };
 use std::alloc::Global;
 
@@ -31,13 +32,25 @@ pub fn parse_text(alloc: Global, text: &[u8], cells: &mut Cells<'_>) -> Result<(
     }
 }
 
+// The answers to the commands of a script on a layout.
+fn played<T: Tables>(alloc: Global, script: &Script) -> Result<Vec<Answer>, Failure> {
+    let limit = script.max_allocs;
+    if limit >= T::Index::MAX - 1 {
+        return Err(Failure::Unfit);
+    }
+    Ok(play_of::<T>(alloc, script.size, limit, &script.commands)?)
+}
+
 /// Plays the commands of a script, and puts their answers into the cells.
-pub fn play_text(alloc: Global, text: &[u8], cells: &mut Cells<'_>) -> Result<(), Failure> {
+pub fn play_text<T16: Tables, T32: Tables>(
+    alloc: Global,
+    text: &[u8],
+    cells: &mut Cells<'_>,
+) -> Result<(), Failure> {
     let script = script(alloc, text)?;
-    let (size, limit) = (script.size, script.max_allocs);
     let answers = match script.index {
-        IndexWidth::Bits16 => play::<u16>(alloc, size, limit, &script.commands)?,
-        IndexWidth::Bits32 => play::<u32>(alloc, size, limit, &script.commands)?,
+        IndexWidth::Bits16 => played::<T16>(alloc, &script)?,
+        IndexWidth::Bits32 => played::<T32>(alloc, &script)?,
     };
     put_answers(cells, &answers);
     Ok(())

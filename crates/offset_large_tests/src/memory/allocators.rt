@@ -3,6 +3,7 @@
 use super::attempts::{Attempt, Outcome, right_if};
 use super::ladder::{COARSE, FINE, Steps, expect_refusals};
 use offset_allocator::{AllocatorOf, ByField, ByNode, NodeIndex, Tables};
+use offset_test_base::flat::Flat;
 use offset_test_base::tiny::Tiny;
 use std::alloc::{AllocError, Global};
 use std::marker::PhantomData;
@@ -51,6 +52,7 @@ fn small_allocators(rt: HostRuntime) {
         expect_constructor::<ByNode<u32>>(&rt, rt.alloc(), FINE, limit);
         expect_constructor::<ByField<u16>>(&rt, rt.alloc(), FINE, limit);
         expect_constructor::<ByField<u32>>(&rt, rt.alloc(), FINE, limit);
+        expect_constructor::<Flat>(&rt, rt.alloc(), FINE, limit);
     }
     for limit in [None, Some(4)] {
         expect_constructor::<ByNode<Tiny>>(&rt, rt.alloc(), FINE, limit);
@@ -58,9 +60,21 @@ fn small_allocators(rt: HostRuntime) {
     }
 }
 
-// In a process of their own, since larger steps are no neighbours in the memory that smaller ones have left.
+// Each layout in a process of its own: in the memory that a ladder has left, the steps of the next one are no neighbours,
+// and the piece that they make is not large enough for these tables.
 #[test]
-fn large_allocators(rt: HostRuntime) {
+fn large_allocators_by_node(rt: HostRuntime) {
     expect_constructor::<ByNode<u16>>(&rt, rt.alloc(), COARSE, None);
     expect_constructor::<ByNode<u32>>(&rt, rt.alloc(), COARSE, None);
+}
+
+#[test]
+fn large_allocators_by_field(rt: HostRuntime) {
+    expect_constructor::<ByField<u16>>(&rt, rt.alloc(), COARSE, None);
+    expect_constructor::<ByField<u32>>(&rt, rt.alloc(), COARSE, None);
+}
+
+#[test]
+fn large_allocators_in_one_vector(rt: HostRuntime) {
+    expect_constructor::<Flat>(&rt, rt.alloc(), COARSE, None);
 }

@@ -6,6 +6,7 @@ use crate::asserts::{assert_same, assert_that};
 use offset_allocator::laws::undo;
 use offset_allocator::{Allocation, AllocatorOf, ByField, ByNode, NodeIndex, Tables};
 use offset_script::play_of;
+use offset_test_base::flat::Flat;
 use offset_test_base::living::living_calls;
 use offset_test_base::tiny::Tiny;
 use std::alloc::{AllocError, Global};
@@ -120,9 +121,8 @@ fn checksum<T: Tables>(
     sum
 }
 
-// The C library keeps a freed block of up to 1,032 bytes for requests of its size. With this many nodes the use flags,
-// a byte each, take more. With fewer, two kept blocks, the flags and the heads of the bins, would split the
-// memory in which the next allocator is made.
+// The C library keeps a freed block of up to 1,032 bytes for requests of its size. With this many nodes each table takes
+// more. With fewer, kept blocks would split the memory in which the next allocator is made.
 const NODES: u32 = 2_000;
 
 fn construct<T: Tables>(alloc: Global) -> Result<AllocatorOf<T>, AllocError> {
@@ -133,15 +133,23 @@ fn construct<T: Tables>(alloc: Global) -> Result<AllocatorOf<T>, AllocError> {
     }
 }
 
-fn construct_and_call(alloc: Global) -> Result<u64, AllocError> {
-    let mut kept: [Option<Allocation<u32>>; 16] = [None; 16];
-    let mut allocator = construct::<ByNode<u32>>(alloc)?;
-    Ok(checksum(&mut allocator, &mut kept))
+// A place for each of 16 handles.
+fn no_handles<T: Tables>(rt: &impl Abort, alloc: Global) -> Vec<Option<Allocation<T::Index>>> {
+    vec![in alloc; None; 16].expect(rt, "memory")
+}
+
+fn construct_and_call<T: Tables>(
+    alloc: Global,
+    kept: &mut [Option<Allocation<T::Index>>],
+) -> Result<u64, AllocError> {
+    kept.fill(None);
+    let mut allocator = construct::<T>(alloc)?;
+    Ok(checksum(&mut allocator, kept))
 }
 
 // The calls return the same as before where not one byte is left.
 fn expect_results<T: Tables>(rt: &impl Abort, alloc: Global) {
-    let mut kept = vec![in alloc; None; 16].expect(rt, "memory");
+    let mut kept = no_handles::<T>(rt, alloc);
     let mut allocator = AllocatorOf::<T>::new(alloc, 1_000).expect(rt, "memory");
     let wanted = checksum(&mut allocator, &mut kept);
     kept.fill(None);
@@ -158,45 +166,62 @@ fn calls_need_no_memory(rt: HostRuntime) {
     expect_results::<ByNode<Tiny>>(&rt, rt.alloc());
     expect_results::<ByField<u32>>(&rt, rt.alloc());
     expect_results::<ByField<Tiny>>(&rt, rt.alloc());
+    expect_results::<Flat>(&rt, rt.alloc());
 }
 
 const ROOM: usize = 1 << 30;
 
 // All free memory is in one piece. A request that took any of it, or a small one that was freed at once, would have
 // split that piece.
+fn expect_untouched<T: Tables>(rt: &impl Abort, alloc: Global) {
+    let mut kept = no_handles::<T>(rt, alloc);
+    let wanted = construct_and_call::<T>(alloc, &mut kept).expect(rt, "memory");
+    kept.fill(None);
+    let mut allocator = construct::<T>(alloc).expect(rt, "memory");
+    let _rest = all_memory_but(alloc, ROOM).expect(rt, "memory");
+    assert_same(rt, &checksum(&mut allocator, &mut kept), &wanted);
+    assert_that(rt, Vec::<u8>::with_capacity(alloc, ROOM).is_ok());
+    assert_that(rt, Vec::<u8>::with_capacity(alloc, 16).is_ok());
+    assert_that(rt, Vec::<u8>::with_capacity(alloc, ROOM).is_err());
+}
+
 #[test]
 fn calls_leave_all_memory_as_it_was(rt: HostRuntime) {
-    let wanted = construct_and_call(rt.alloc()).expect(&rt, "memory");
-    let mut kept: [Option<Allocation<u32>>; 16] = [None; 16];
-    let mut allocator = construct::<ByNode<u32>>(rt.alloc()).expect(&rt, "memory");
-    let _rest = all_memory_but(rt.alloc(), ROOM).expect(&rt, "memory");
-    assert_same(&rt, &checksum(&mut allocator, &mut kept), &wanted);
-    assert_that(&rt, Vec::<u8>::with_capacity(rt.alloc(), ROOM).is_ok());
-    assert_that(&rt, Vec::<u8>::with_capacity(rt.alloc(), 16).is_ok());
-    assert_that(&rt, Vec::<u8>::with_capacity(rt.alloc(), ROOM).is_err());
+    expect_untouched::<ByNode<u32>>(&rt, rt.alloc());
+    expect_untouched::<ByField<u32>>(&rt, rt.alloc());
+    expect_untouched::<Flat>(&rt, rt.alloc());
 }
 
 // Makes an allocator and the calls. They fail exactly where the construction alone fails, and else return the same as
 // with ample memory.
 #[derive(Drop)]
-struct WithCalls {
+struct WithCalls<T: Tables> {
     wanted: u64,
+    kept: Vec<Option<Allocation<T::Index>>>,
 }
 
-impl Attempt for WithCalls {
+impl<T: Tables> Attempt for WithCalls<T> {
     fn outcome(&mut self, alloc: Global) -> Outcome {
-        let is_made = construct::<ByNode<u32>>(alloc).is_ok();
-        match construct_and_call(alloc) {
+        let is_made = construct::<T>(alloc).is_ok();
+        match construct_and_call::<T>(alloc, &mut self.kept) {
             Err(_) => refused_if(!is_made),
             Ok(sum) => right_if(is_made && sum == self.wanted),
         }
     }
 }
 
+fn expect_only_construction_fails<T: Tables>(rt: &impl Abort, alloc: Global) {
+    let mut kept = no_handles::<T>(rt, alloc);
+    let wanted = construct_and_call::<T>(alloc, &mut kept).expect(rt, "memory");
+    let mut with_calls: WithCalls<T> = WithCalls { wanted, kept };
+    expect_refusals(rt, alloc, FINE, &mut with_calls, 1);
+}
+
 #[test]
 fn calls_fail_only_in_construction(rt: HostRuntime) {
-    let wanted = construct_and_call(rt.alloc()).expect(&rt, "memory");
-    expect_refusals(&rt, rt.alloc(), FINE, &mut WithCalls { wanted }, 1);
+    expect_only_construction_fails::<ByNode<u32>>(&rt, rt.alloc());
+    expect_only_construction_fails::<ByField<u32>>(&rt, rt.alloc());
+    expect_only_construction_fails::<Flat>(&rt, rt.alloc());
 }
 
 // Plays a script without commands. It fails wherever a construction fails.
@@ -229,6 +254,7 @@ fn expect_an_allocator<T: Tables>(rt: &impl Abort, alloc: Global) {
 fn playing_makes_an_allocator(rt: HostRuntime) {
     expect_an_allocator::<ByNode<u32>>(&rt, rt.alloc());
     expect_an_allocator::<ByField<u32>>(&rt, rt.alloc());
+    expect_an_allocator::<Flat>(&rt, rt.alloc());
 }
 
 // With 2,000 live ranges more than one node in 128 is in use, and `reset` goes over whole tables.
@@ -258,5 +284,6 @@ fn a_reset_of_many_ranges_needs_no_memory(rt: HostRuntime) {
         expect_reset::<ByNode<u32>>(&rt, rt.alloc(), room);
         expect_reset::<ByNode<u16>>(&rt, rt.alloc(), room);
         expect_reset::<ByField<u32>>(&rt, rt.alloc(), room);
+        expect_reset::<Flat>(&rt, rt.alloc(), room);
     }
 }

@@ -2,14 +2,17 @@
 
 use super::attempts::{Attempt, Outcome, refused_if, right_if};
 use super::ladder::{FINE, expect_refusals};
-use crate::asserts::assert_that;
+use offset_allocator::{ByField, ByNode, NodeIndex, Tables};
 use offset_script::{
-    Answer, Command, FromRead, IndexWidth, IntoWrite, RunFault, Script, ScriptFault, parse, play,
-    run, run_program,
+    Answer, Command, FromRead, IndexWidth, IntoWrite, RunFault, Script, ScriptFault, parse,
+    play_of, run, run_program,
 };
-use std::alloc::Global;
+use offset_test_base::flat::Flat;
+use std::alloc::{AllocError, Global};
 use std::io;
 use std::io::Write;
+use std::marker::PhantomData;
+use std::process::Abort;
 
 const TEXT: &[u8] =
     b"space 100 nodes 4 index 32\nalloc 10\nalloc 10\nfree 1\nalloc 10\nreport\nfull\n";
@@ -147,11 +150,12 @@ impl Attempt for RunsProgram {
     }
 }
 
-// Plays a parsed script, and compares the answers with those of ample memory.
+// Plays a parsed script on a layout, and compares the answers with those of ample memory.
 #[derive(Drop)]
-struct Plays {
+struct Plays<T: Tables> {
     script: Script,
     wanted: Vec<Answer>,
+    layout: PhantomData<T>,
 }
 
 fn is_same(found: &Answer, wanted: &Answer) -> bool {
@@ -181,14 +185,17 @@ fn are_same(found: &[Answer], wanted: &[Answer]) -> bool {
             .all(|(found, wanted)| is_same(found, wanted))
 }
 
-impl Attempt for Plays {
+fn played<T: Tables>(alloc: Global, script: &Script) -> Result<Vec<Answer>, AllocError> {
+    if script.max_allocs < T::Index::MAX - 1 {
+        play_of::<T>(alloc, script.size, script.max_allocs, &script.commands)
+    } else {
+        Err(AllocError)
+    }
+}
+
+impl<T: Tables> Attempt for Plays<T> {
     fn outcome(&mut self, alloc: Global) -> Outcome {
-        match play::<u32>(
-            alloc,
-            self.script.size,
-            self.script.max_allocs,
-            &self.script.commands,
-        ) {
+        match played::<T>(alloc, &self.script) {
             Err(_) => Outcome::Refused,
             Ok(found) => right_if(are_same(&found, &self.wanted)),
         }
@@ -208,12 +215,20 @@ fn running_reports_out_of_memory(rt: HostRuntime) {
     expect_refusals(&rt, rt.alloc(), FINE, &mut RunsProgram, 1);
 }
 
+fn expect_playing<T: Tables>(rt: &impl Abort, alloc: Global) {
+    let script = parse(alloc, TEXT).expect(rt, "a script");
+    let wanted = played::<T>(alloc, &script).expect(rt, "memory");
+    let mut plays: Plays<T> = Plays {
+        script,
+        wanted,
+        layout: PhantomData,
+    };
+    expect_refusals(rt, alloc, FINE, &mut plays, 1);
+}
+
 #[test]
 fn playing_reports_out_of_memory(rt: HostRuntime) {
-    let alloc = rt.alloc();
-    let script = parse(alloc, TEXT).expect(&rt, "a script");
-    assert_that(&rt, script.max_allocs < 100);
-    let played = play::<u32>(alloc, script.size, script.max_allocs, &script.commands);
-    let wanted = played.expect(&rt, "memory");
-    expect_refusals(&rt, alloc, FINE, &mut Plays { script, wanted }, 1);
+    expect_playing::<ByNode<u32>>(&rt, rt.alloc());
+    expect_playing::<ByField<u32>>(&rt, rt.alloc());
+    expect_playing::<Flat>(&rt, rt.alloc());
 }
