@@ -172,8 +172,7 @@ def counted(function, *words, program=PLAIN):
     for *counts, called, total in reversed(rows):
         instructions, read, written = (int(count.replace(",", "")) for count in counts)
         found[called or total] = instructions, read + written
-    # a run without constructions calls nothing
-    return found.get(function, (0, 0)), found["PROGRAM TOTALS"]
+    return found[function], found["PROGRAM TOTALS"]
 
 
 def a_step(work, side, program=PLAIN):

@@ -41,7 +41,7 @@ const LONG_RUNS: usize = 3;
 const LONG: f64 = 0.2e9;
 
 /// One run on a side. With `none` it leaves out what is measured: all steps, so that it only constructs the tables, or the
-/// last one, or all allocators.
+/// last one, or all allocators but the first, whose calls load what they need.
 fn run(w: &Workload, side: &Side, none: bool) -> u64 {
     let play = |slots, steps: &[Step], count| unsafe { side.play[w.width as usize](w.space, w.nodes, slots, steps.as_ptr(), count) };
     match &w.work {
@@ -51,13 +51,13 @@ fn run(w: &Workload, side: &Side, none: bool) -> u64 {
         }
         Work::Used { times, slots, steps } => {
             let count = if none { 0 } else { *times };
-            (0..count).fold(0, |sum, _| sum + play(*slots, steps, steps.len()))
+            (0..=count).fold(0, |sum, _| sum + play(*slots, steps, steps.len()))
         }
         Work::Last { slots, steps } => play(*slots, steps, steps.len() - usize::from(none)),
         Work::Make { times } => {
             let make = side.make.unwrap_or_else(|| panic!("{} has no tables to construct", side.name));
             let count = if none { 0 } else { *times };
-            (0..count).fold(0, |sum, _| sum + unsafe { make[w.width as usize](w.space, w.nodes) })
+            (0..=count).fold(0, |sum, _| sum + unsafe { make[w.width as usize](w.space, w.nodes) })
         }
     }
 }

@@ -1,4 +1,4 @@
-//! An allocator a thread, or one for all behind a lock, or releases through a queue that the owner drains. All on the
+//! An allocator a thread, or one for all under a lock, or releases through a queue that the owner drains. All on the
 //! erased side, with 1,000 live ranges a thread.
 use crate::workloads::Random;
 use offset_allocator_proved::{Allocation, Allocator, Global};
@@ -63,7 +63,7 @@ fn own(threads: usize) -> f64 {
     })
 }
 
-/// With this many spaces, each behind its own lock. Thread `t` uses space `t % spaces`.
+/// With this many spaces, each under its own lock. Thread `t` uses space `t % spaces`.
 fn locked(threads: usize, spaces: usize) -> f64 {
     let spaces: Vec<Mutex<Allocator>> = (0..spaces).map(|_| Mutex::new(space())).collect();
     timed(threads, || {

@@ -26,6 +26,11 @@ pub fn names() -> Vec<String> {
     found
 }
 
+/// This name, if it is one of them.
+pub fn name(name: &str) -> Option<String> {
+    std::path::Path::new(FOLDER).join(format!("{name}.script")).exists().then(|| name.to_string())
+}
+
 pub fn read(name: &str) -> Trace {
     let text = std::fs::read_to_string(format!("{FOLDER}/{name}.script")).unwrap();
     let number = |word: &str| word.parse::<u32>().unwrap_or_else(|_| panic!("{name}: a number: {word}"));

@@ -21,7 +21,7 @@ pub struct Step {
 
 // Plays the steps on a new space, and returns a checksum of their results, or 0 where the space cannot be made.
 fn play<S: Space>(alloc: Global, size: u32, max_allocs: u32, slots: usize, steps: &[Step]) -> u64 {
-    let Some(mut space) = S::make(alloc, size, max_allocs) else {
+    let Ok(mut space) = S::make(alloc, size, max_allocs) else {
         return 0;
     };
     let Ok(mut slots) = Vec::from_elem(alloc, S::empty(), slots) else {
@@ -44,8 +44,8 @@ fn play<S: Space>(alloc: Global, size: u32, max_allocs: u32, slots: usize, steps
 // Makes a space, and returns what is free then, or 0 where it cannot be made.
 fn make<S: Space>(alloc: Global, size: u32, max_allocs: u32) -> u64 {
     match S::make(alloc, size, max_allocs) {
-        None => 0,
-        Some(space) => u64::from(space.free_units()),
+        Err(_) => 0,
+        Ok(space) => u64::from(space.free_units()),
     }
 }
 

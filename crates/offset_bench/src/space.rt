@@ -2,7 +2,7 @@
 
 use offset_allocator::{Allocation, AllocatorOf, NodeIndex, Tables};
 use offset_guarded::{Guarded, Ticket};
-use std::alloc::Global;
+use std::alloc::{AllocError, Global};
 
 /// A space, whose grants the caller keeps in slots.
 pub(crate) trait Space: Drop {
@@ -12,8 +12,8 @@ pub(crate) trait Space: Drop {
     /// A slot with no grant.
     fn empty() -> Self::Slot;
 
-    /// A new space, or `None` where the node limit is not admitted, or an allocation fails.
-    fn make(alloc: Global, size: u32, max_allocs: u32) -> Option<Self>;
+    /// A new space, or an error where the node limit is not admitted, or an allocation fails.
+    fn make(alloc: Global, size: u32, max_allocs: u32) -> Result<Self, AllocError>;
 
     /// Takes a step on a slot: a request of this size where it is empty, else the release of its grant. It returns the
     /// offset of a grant, 2^32 for a refusal, and 2^33 for a release.
@@ -34,11 +34,11 @@ impl<T: Tables> Space for AllocatorOf<T> {
         (0, u32::MAX)
     }
 
-    fn make(alloc: Global, size: u32, max_allocs: u32) -> Option<Self> {
+    fn make(alloc: Global, size: u32, max_allocs: u32) -> Result<Self, AllocError> {
         if max_allocs < 2 || max_allocs >= T::Index::MAX - 1 {
-            return None;
+            return Err(AllocError);
         }
-        AllocatorOf::with_max_allocs(alloc, size, max_allocs).ok()
+        AllocatorOf::with_max_allocs(alloc, size, max_allocs)
     }
 
     fn take(&mut self, slot: &mut (u32, u32), size: u32) -> u64 {
@@ -83,11 +83,11 @@ impl<NI: NodeIndex> Space for Guarded<NI> {
         }
     }
 
-    fn make(alloc: Global, size: u32, max_allocs: u32) -> Option<Self> {
+    fn make(alloc: Global, size: u32, max_allocs: u32) -> Result<Self, AllocError> {
         if max_allocs < 2 || max_allocs >= NI::MAX - 1 {
-            return None;
+            return Err(AllocError);
         }
-        Guarded::with_max_allocs(alloc, size, max_allocs, 1).ok()
+        Guarded::with_max_allocs(alloc, size, max_allocs, 1)
     }
 
     fn take(&mut self, slot: &mut Ticket, size: u32) -> u64 {
