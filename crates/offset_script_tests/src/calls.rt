@@ -4,6 +4,7 @@ use crate::asserts::{assert_same, assert_text, assert_that};
 use offset_allocator::{ByField, ByNode, NodeIndex, Tables};
 use offset_calls::{Call, are_valid, play_calls_of};
 use offset_script::Command;
+use offset_test_base::flat::Flat;
 use offset_test_base::tiny::Tiny;
 use std::alloc::Global;
 use std::process::Abort;
@@ -170,6 +171,7 @@ fn resizes_and_compacts(rt: HostRuntime) {
         expect_replies::<ByNode<u16>>(&rt, rt.alloc(), &list);
         expect_replies::<ByField<u32>>(&rt, rt.alloc(), &list);
         expect_replies::<ByField<u16>>(&rt, rt.alloc(), &list);
+        expect_replies::<Flat>(&rt, rt.alloc(), &list);
         if list.limit <= 5 {
             expect_replies::<ByNode<Tiny>>(&rt, rt.alloc(), &list);
             expect_replies::<ByField<Tiny>>(&rt, rt.alloc(), &list);

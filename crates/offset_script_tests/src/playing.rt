@@ -3,6 +3,7 @@
 use crate::asserts::{assert_same, assert_that};
 use offset_allocator::{ByField, ByNode, NodeIndex, Tables};
 use offset_script::{FromRead, IntoWrite, Script, play_of, run};
+use offset_test_base::flat::Flat;
 use offset_test_base::tiny::Tiny;
 use std::alloc::Global;
 use std::process::Abort;
@@ -38,6 +39,7 @@ pub fn expect_answers(rt: &impl Abort, alloc: Global, script: &Script, wanted: &
     expect_with::<ByNode<u16>>(rt, alloc, script, wanted);
     expect_with::<ByField<u32>>(rt, alloc, script, wanted);
     expect_with::<ByField<u16>>(rt, alloc, script, wanted);
+    expect_with::<Flat>(rt, alloc, script, wanted);
     if script.max_allocs <= 5 {
         expect_with::<ByNode<Tiny>>(rt, alloc, script, wanted);
         expect_with::<ByField<Tiny>>(rt, alloc, script, wanted);
