@@ -36,7 +36,7 @@ flag (x ∷ xs) = 1
 abbrev pub mark : ℕ → ℕ
 mark w = if nat_eq w 0 then 0 else 1
 
--- bit c of the masks says whether class c has a name, and bit w of the top mask whether mask w has a bit
+-- bit c of the masks says whether the bin of class c has a name, and bit w of the top mask whether mask w has a bit
 pub record AreMasks (ls : List (List ℕ)) (masks : List ℕ) (top : ℕ) : Type 0 where
   pub masks_len : length masks ≡ 4
   pub bits : (c : ℕ) → c < 256 → bit_at (slice_index masks (c / 64)) (c % 64) ≡ flag (bin_at ls c)

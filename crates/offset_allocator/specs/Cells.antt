@@ -32,7 +32,7 @@ pub record Cells : Type 0 where
 abbrev pub link_bytes : ℕ → ℕ
 link_bytes max = if nat_lt max 256 then 1 else if nat_lt max 65536 then 2 else 4
 
--- the node of a name past the tables
+-- a new node: of no units, linked to none; `node` gives it for a name past the tables too
 abbrev pub blank : Node
 blank = record { offset = 0; size = 0; used = false; before = None; after = None }
 
@@ -61,8 +61,8 @@ link_of max n = if eqb n max then None else Some n
 abbrev pub mark_of : ℕ → Bool → ℕ
 mark_of max used = if used then max - 1 else max
 
--- the tables have one length, of names below the mark and within the memory, and there are a head for each class and 4
--- masks; the links to newer nodes say which nodes are used
+-- the tables have one length, at most the memory, which is below the largest number; there are a head for each class
+-- and 4 masks; the links to newer nodes say which nodes are used
 pub record AreShaped (max : ℕ) (c : Cells) : Type 0 where
   pub spare : length c.room.spare ≡ length c.room.nodes
   pub newer : length c.links.newer ≡ length c.room.nodes
@@ -80,7 +80,7 @@ pub record IsBare (m : ℕ) (c : Room) : Type 0 where
   pub spare : c.spare ≡ 0 ∷ []
   pub reserved : c.reserved ≡ m
 
--- no class has a name
+-- no bin has a name
 pub record AreEmpty (max : ℕ) (k : Links) : Type 0 where
   pub heads : k.heads ≡ replicate 256 max
   pub masks : k.masks ≡ replicate 4 0

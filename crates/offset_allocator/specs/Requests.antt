@@ -38,8 +38,7 @@ units_needed size align = size + align - 1
 abbrev pub CanGrant : ℕ → ℕ → View → Type 0
 CanGrant blocks units v = HasRoomFor blocks v × ((c : ℕ) × (up units ≤ c) × (bin_at v.order c ≢ []))
 
--- the units that a free block has to have at least so that it is of a class that is large enough; one at least, since
--- free units are meant
+-- the smallest size of a free block that the request may take: that of a class large enough, and at least one unit
 abbrev pub block_needed : ℕ → ℕ
 block_needed units = max 1 (value (up units))
 

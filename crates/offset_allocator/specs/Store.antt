@@ -6,7 +6,7 @@ use Rattle.offset_allocator.specs.View.{Place}
 use Rattle.offset_allocator.specs.Chain.{HasPlace}
 use Rattle.offset_allocator.specs.Bins.{IsBinned, bins_in}
 
--- the store, of m nodes, holds a chain with the block x at a place
+-- the store, with memory for m nodes, holds a chain with the block x at a place
 abbrev pub IsPlaceIn : {A B C : Type 0} → (A → Cells) → Store A B C → ℕ → ℕ → Place → Type 0
 IsPlaceIn cells s m x p = HasPlace (cells s.tables).room m s.last s.spare_count x p
 

@@ -57,7 +57,7 @@ pub(crate) fn largest<T: Tables>(tables: &T, top_mask: u32, count: &mut Accesses
     Some(word * 64 + (63 - tables.mask(word, count).leading_zeros()))
 }
 
-/// The number of the names of a class.
+/// How many names are in the bin of a class.
 pub(crate) fn length_of<T: Tables>(tables: &T, class: u32, count: &mut Accesses) -> u32
     requires linked { HasBins T.Index.MAX (T.cells tables.now).links (bins_in T.Index.MAX (T.cells tables.now).links) }
     requires classed { class < 256 }
@@ -134,7 +134,7 @@ fn clear_bit<T: Tables>(store: &mut Store<T>, class: u32)
     }
 }
 
-// Links the node that a link names, if any, to a next newer one.
+// Makes `to` the link to a newer node of the node that `at` names, if any.
 fn link_newer<T: Tables>(tables: &mut T, at: T::Index, to: T::Index, count: &mut Accesses)
     requires limit { length (T.cells tables.old).links.newer ≤ T.Index.MAX }
     requires named { T.Index.number at ≢ T.Index.MAX → T.Index.number at < length (T.cells tables.old).links.newer }

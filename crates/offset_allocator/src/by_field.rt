@@ -9,7 +9,7 @@ use crate::tables::Tables;
 use std::alloc::{AllocError, Global};
 use std::marker::Model;
 
-/// A table for each field of a node. A used block is in no class: its link to a newer node is the number below the
+/// A table for each field of a node. A used block is in no bin: its link to a newer node is the number below the
 /// largest, which names none.
 #[derive(Drop)]
 pub struct ByField<NI: NodeIndex> {

@@ -11,9 +11,9 @@ use crate::tables::Tables;
 use std::alloc::{AllocError, Global};
 use std::marker::Model;
 
-/// A block's offset and size, the links to its neighbours in space, and the links to the next nodes of its size class.
-/// A link is the number of a node, or the largest number of its type, which names none. A used block is in no class:
-/// its link to a newer node is the number below the largest, which names none either.
+/// A block's offset and size, the links to its neighbours in space, and the links to the next nodes of its bin. A link
+/// is the number of a node, or the largest number of its type, which names none. A used block is in no bin: its link to
+/// a newer node is the number below the largest, which names none either.
 #[derive(Clone, Copy)]
 pub(crate) struct Node<NI> {
     pub(crate) offset: u32,
@@ -96,6 +96,7 @@ impl<NI: NodeIndex> Tables for ByNode<NI> {
 
     #[inline(always)]
     fn add(&mut self, place: u32, count: &mut Accesses) {
+        // six cells of the node, and two of the stack
         count.tick();
         count.tick();
         count.tick();

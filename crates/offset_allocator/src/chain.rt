@@ -58,7 +58,7 @@ pub(crate) fn is_used<T: Tables>(tables: &T, name: u32, count: &mut Accesses) ->
     tables.used(name, count)
 }
 
-/// Whether any name is that of a used block. It counts one access for a name that no node has, too.
+/// Whether a name, whichever it is, is that of a used block. It counts one access for a name that no node has, too.
 pub(crate) fn is_live<T: Tables>(tables: &T, name: u32, count: &mut Accesses) -> bool
     ensures live { (last spare : ℕ) → IsSpace (T.cells tables.now).room last spare → result
         ≡ is_used_at (place_of name (blocks (T.cells tables.now).room last)) }
@@ -112,7 +112,7 @@ pub(crate) fn ready<T: Tables>(
     }
 }
 
-/// Makes nodes, so that at least 1 or 2 names are unused.
+/// Makes nodes, so that at least `names` names, 1 or 2, are unused.
 #[inline(always)]
 pub(crate) fn ready_for<T: Tables>(
     tables: &mut T,
@@ -134,8 +134,8 @@ pub(crate) fn ready_for<T: Tables>(
     }
 }
 
-/// Splits a block, of this offset and size, after `kept` units. The remainder becomes a free block directly after it,
-/// under the name that is returned.
+/// Splits a block, of this offset and size, which the caller has read, after `kept` units. The remainder becomes a free
+/// block directly after it, under the name that is returned.
 #[tactic(auto, using(crate::proofs::Nodes::lengths))]
 pub(crate) fn split<T: Tables>(
     store: &mut Store<T>,

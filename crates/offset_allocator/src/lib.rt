@@ -1,9 +1,10 @@
 //! Ranges of one contiguous space of `size` units, handed out and taken back with a bounded number of accesses to table
 //! cells. The space itself is never touched.
 //!
-//! A *block* is a run of units, used (granted; its name is then live) or free; no two free blocks are neighbours. Each
-//! block has a *node* of the tables, whose index is the block's *name*. A *size class* is a range of sizes, and its
-//! *bin* the list of its free blocks, most recently freed first.
+//! A *block* is a run of units, used or free; no two free blocks are neighbours. Each block has a *node* of the tables,
+//! whose index is the block's *name*; the range of a used block, and its name, are *live*. A *size class* is a range of
+//! sizes, and its *bin* the list of the free blocks of that class, the newest first: that which became free, or got its
+//! present size, last.
 //!
 //! ```
 //! let mut vertices = Allocator::<u32>::new(alloc, 1 << 20)?;
@@ -64,7 +65,7 @@ use std::marker::Model;
 use store::Store;
 pub use tables::Tables;
 
-/// The allocator of one space, with one table of nodes: the layout that takes the least time.
+/// The allocator of one space, with one table of nodes: a block's cells are in one or two cache lines.
 pub type Allocator<NI = u32> = AllocatorOf<ByNode<NI>>;
 
 /// The blocks of such an allocator.
@@ -110,8 +111,8 @@ impl<T: Tables> AllocatorOf<T> {
     /// A space of `size` units, all free, with `max_allocs` as the node limit: at most `max_allocs - 1` blocks exist at
     /// a time, free ones included. A request is granted only while at most `max_allocs - 2` exist, and makes one of
     /// them live: so at most `max_allocs - 2` grants are live. The limit is 2 to `T::Index::MAX - 2`: 65533 for `u16`,
-    /// 4294967293 for `u32`. It reserves 28 bytes a node with `u32`, 18 with `u16`, all of them here; those of a node
-    /// are written when its name is used for the first time.
+    /// 4294967293 for `u32`. By node and by field it reserves 28 bytes a node with `u32`, 18 with `u16`, all of them
+    /// here; those of a node are written when its name is used for the first time.
     ///
     /// An error is returned only where an allocation failed; then nothing is made.
     pub fn with_max_allocs(alloc: Global, size: u32, max_allocs: u32) -> Result<Self, AllocError>
@@ -182,8 +183,7 @@ impl<T: Tables> AllocatorOf<T> {
         self.store.tables.len() - self.store.spare_count
     }
 
-    /// The number of nodes that were made: each block's name is below it. It never becomes smaller except by `reset`,
-    /// and one call makes at most 2.
+    /// The number of nodes that were made: each block's name is below it. Only `reset` makes it smaller.
     pub fn node_count(&self) -> u32
         ensures names { (x : ℕ) → 1 ≤ count_named x self.now.blocks → x < result }
         ensures limit { result ≤ self.now.max_allocs }
@@ -200,9 +200,9 @@ impl<T: Tables> AllocatorOf<T> {
         self.block_count() == self.max_allocs - 1
     }
 
-    /// Grants a range of `size` units, and returns its handle. It takes the first `size` units of the most recently
-    /// freed block in the smallest non-empty size class whose blocks all fit; what remains of the block stays free,
-    /// directly after the range.
+    /// Grants a range of `size` units, and returns its handle. It takes the first `size` units of the newest block in
+    /// the first bin that is not empty of those whose blocks all fit; what remains of the block stays free, directly
+    /// after the range.
     ///
     /// `None` is returned where `max_allocs - 1` blocks exist, even for an exact fit, and where no free block is of
     /// such a class; then nothing changes. A request of at least one unit is granted exactly when it is at most the

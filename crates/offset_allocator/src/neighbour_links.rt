@@ -37,7 +37,7 @@ pub(crate) fn point_back<T: Tables>(
     }
 }
 
-/// Sets the link on of the node that `link` names, if any.
+/// Makes `name` the block after the one that `link` names, if any.
 #[tactic(auto, using(crate::proofs::Nodes::lengths))]
 pub(crate) fn point_on<T: Tables>(tables: &mut T, link: T::Index, name: u32, count: &mut Accesses)
     requires link { IfSome (link_of T.Index.MAX (T.Index.number link))

@@ -10,8 +10,8 @@ use crate::accesses::Accesses;
 use crate::index::NodeIndex;
 use std::alloc::{AllocError, Global};
 
-/// The nodes that were made, the stack of unused names, the newest node of each size class, and the masks of the
-/// classes. A node is made when its name is needed for the first time; the memory for all is reserved before.
+/// The nodes that were made, the stack of unused names, the newest name of each bin, and the masks of the bins. A node
+/// is made when its name is needed for the first time; the memory for all is reserved before.
 ///
 /// A layout is lawful that keeps these contracts: a cell has what was last written, the others stay, and each access is
 /// counted.
@@ -29,7 +29,7 @@ pub trait Tables: Drop {
         ensures room { IfOk result (λ t. IsBare len (cells t).room) }
         ensures links { IfOk result (λ t. AreEmpty Self.Index.MAX (cells t).links) };
 
-    /// Leaves one node, which is blank, and the memory. The classes may still name others: `bins::empty` has to follow.
+    /// Leaves one node, which is blank, and the memory. The bins may still name others: `bins::empty` has to follow.
     fn clear(&mut self)
         requires { 0 < (cells self.old).room.reserved }
         ensures room { IsBare (cells self.old).room.reserved (cells self.new).room }
@@ -51,7 +51,7 @@ pub trait Tables: Drop {
         ensures masks { (cells self.new).links.masks ≡ (cells self.old).links.masks }
         ensures accesses { count.new ≡ count.old + 8 };
 
-    /// The tables keep their lengths.
+    /// The tables have their lengths, and links say which nodes are used. A step of proofs, which does nothing.
     fn shape(&self)
         ensures { AreShaped Self.Index.MAX (cells self.now) };
 
@@ -87,7 +87,7 @@ pub trait Tables: Drop {
         ensures cell { result ≡ (node (cells self.now).room name).used }
         ensures accesses { count.new ≡ count.old + 1 };
 
-    /// Writes whether a node is used. It is in no class.
+    /// Writes whether a node is used. It is in no bin.
     fn set_used(&mut self, name: u32, used: bool, count: &mut Accesses)
         requires { name < length (cells self.old).room.nodes }
         ensures cells { cells self.new ≡ record (cells self.old) {
@@ -194,13 +194,13 @@ pub trait Tables: Drop {
             { room = with_spare (cells self.old).room place (Self.Index.number name) } }
         ensures accesses { count.new ≡ count.old + 1 };
 
-    /// The link to the next newer node of a node's class.
+    /// The link to the next newer node of a node's bin.
     fn newer(&self, name: u32, count: &mut Accesses) -> Self::Index
         requires { name < length (cells self.now).links.newer }
         ensures cell { Self.Index.number result ≡ slice_index (cells self.now).links.newer name }
         ensures accesses { count.new ≡ count.old + 1 };
 
-    /// Writes the link to the next newer node of a node's class. The node is not used.
+    /// Writes the link to the next newer node of a node's bin. The node is not used.
     fn set_newer(&mut self, name: u32, link: Self::Index, count: &mut Accesses)
         requires name { name < length (cells self.old).links.newer }
         requires idle { (node (cells self.old).room name).used ≡ false }
@@ -211,13 +211,13 @@ pub trait Tables: Drop {
         } }
         ensures accesses { count.new ≡ count.old + 1 };
 
-    /// The link to the next older node of a node's class.
+    /// The link to the next older node of a node's bin.
     fn older(&self, name: u32, count: &mut Accesses) -> Self::Index
         requires { name < length (cells self.now).links.older }
         ensures cell { Self.Index.number result ≡ slice_index (cells self.now).links.older name }
         ensures accesses { count.new ≡ count.old + 1 };
 
-    /// Writes the link to the next older node of a node's class.
+    /// Writes the link to the next older node of a node's bin.
     fn set_older(&mut self, name: u32, link: Self::Index, count: &mut Accesses)
         requires { name < length (cells self.old).links.older }
         ensures cells { cells self.new ≡ record (cells self.old) {
@@ -226,7 +226,7 @@ pub trait Tables: Drop {
         } }
         ensures accesses { count.new ≡ count.old + 1 };
 
-    /// Writes both links of a node in its class. The node is not used.
+    /// Writes both links of a node in its bin. The node is not used.
     fn set_links(&mut self, name: u32, newer: Self::Index, older: Self::Index, count: &mut Accesses)
         requires name { name < length (cells self.old).links.newer }
         requires idle { (node (cells self.old).room name).used ≡ false }
@@ -239,13 +239,13 @@ pub trait Tables: Drop {
         } }
         ensures accesses { count.new ≡ count.old + 2 };
 
-    /// The name of the newest node of a class, or `MAX`.
+    /// The newest name of a bin, or `MAX`.
     fn head(&self, class: u32, count: &mut Accesses) -> u32
         requires { class < length (cells self.now).links.heads }
         ensures cell { result ≡ slice_index (cells self.now).links.heads class }
         ensures accesses { count.new ≡ count.old + 1 };
 
-    /// Writes the name of the newest node of a class, or `MAX`.
+    /// Writes the newest name of a bin, or `MAX`.
     fn set_head(&mut self, class: u32, name: u32, count: &mut Accesses)
         requires { class < length (cells self.old).links.heads }
         ensures cells { cells self.new ≡ record (cells self.old) {

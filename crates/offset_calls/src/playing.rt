@@ -239,7 +239,7 @@ pub fn play_calls_of<T: Tables>(
     Ok(found)
 }
 
-/// `play_calls_of` by node: the layout that takes the least time. The limit has to be 2 to `NI::MAX - 2`.
+/// `play_calls_of` by node, as `Allocator` is. The limit has to be 2 to `NI::MAX - 2`.
 pub fn play_calls<NI: NodeIndex>(
     alloc: Global,
     size: u32,

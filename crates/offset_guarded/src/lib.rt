@@ -1,8 +1,9 @@
 //! An allocator of ranges whose handles cannot be stale.
 //!
 //! A handle of `offset_allocator` is the name of a node, so one whose range was freed is live again where a newer grant
-//! has its name. A `Ticket` has a serial too, which no other grant ever has: so it is live exactly until the grant that
-//! gave it is freed or reset. Every call takes any ticket, and one that is not live changes nothing.
+//! has its name. A `Ticket` has a serial too, which no other grant of that `Guarded` ever has: so it is live exactly
+//! until the grant that gave it is freed or reset. Every call takes any ticket, and one that is not live changes
+//! nothing.
 //!
 //! ```
 //! let mut vertices = Guarded::<u32>::new(alloc, 1 << 20, 1)?;
@@ -74,7 +75,7 @@ impl<NI: NodeIndex> Guarded<NI> {
 
     /// A space of `size` units, all free, with `max_allocs` as the node limit, and a realm. The limit is 2 to
     /// `NI::MAX - 2`. It reserves what an `Allocator` does and 8 bytes a node, all of them here; those of a node are
-    /// written when it is made.
+    /// written by the first call after it was made that may make nodes.
     ///
     /// An error is returned only where an allocation failed; then nothing is made.
     pub fn with_max_allocs(
@@ -198,8 +199,8 @@ impl<NI: NodeIndex> Guarded<NI> {
     /// Frees the range of a ticket, as `Allocator::free` does, and returns `true`; or `false` where the ticket is not
     /// live, and then nothing changes.
     ///
-    /// It reads one serial, and makes at most 136 accesses to the tables of the allocator: 8 to see whether the name is
-    /// live, and 128 to free it.
+    /// It reads at most one serial, and makes at most 136 accesses to the tables of the allocator: 8 to see whether the
+    /// name is live, and 128 to free it.
     #[inline(always)]
     pub fn free(&mut self, ticket: Ticket) -> bool
         // It is done exactly when the ticket is live.

@@ -38,7 +38,7 @@ pub(crate) fn largest<T: Tables>(tables: &T, top_mask: u32, count: &mut Accesses
     Some(word * 64 + (63 - tables.mask(word, count).leading_zeros()))
 }
 
-/// The number of the names of a class.
+/// How many names are in the bin of a class.
 pub(crate) fn length_of<T: Tables>(tables: &T, class: u32, count: &mut Accesses) -> u32 {
     let mut names = 0;
     let mut name = tables.head(class, count);
@@ -89,7 +89,7 @@ fn clear_bit<T: Tables>(store: &mut Store<T>, class: u32) {
     }
 }
 
-// Links the node that a link names, if any, to a next newer one.
+// Makes `to` the link to a newer node of the node that `at` names, if any.
 fn link_newer<T: Tables>(tables: &mut T, at: T::Index, to: T::Index, count: &mut Accesses) {
     if number(at) != T::Index::MAX {
         tables.set_newer(number(at), to, count);

@@ -9,7 +9,7 @@ use crate::index::{NodeIndex, link_to, mark, no_link, number};
 use crate::tables::Tables;
 use crate::memory::{AllocError, Global};
 
-/// A table for each field of a node. A used block is in no class: its link to a newer node is the number below the
+/// A table for each field of a node. A used block is in no bin: its link to a newer node is the number below the
 /// largest, which names none.
 pub struct ByField<NI: NodeIndex> {
     offset: Vec<u32>,

@@ -20,7 +20,7 @@ fn table_bytes<NI: NodeIndex>(nodes: u32) -> usize {
 }
 
 /// Allocates the bytes of all tables in one piece and frees them: a system that promises more memory than it has would
-/// grant each table, and end the program when they are written.
+/// grant each table, and end the program when they are written; the one request for all bytes it refuses.
 pub(crate) fn probe<NI: NodeIndex>(alloc: Global, nodes: u32) -> Result<(), AllocError> {
     let _all: Vec<u8> = reserved(alloc, table_bytes::<NI>(nodes))?;
     Ok(())

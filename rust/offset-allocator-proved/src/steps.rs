@@ -111,8 +111,8 @@ impl<T: Tables> AllocatorOf<T> {
         }
     }
 
-    /// Frees the block of a name. It is inlined into `free` and into `free_all`: so `free` shares no code with `reset`,
-    /// and a caller's only call of `free` can be inlined.
+    /// Frees the block of a name. It is inlined into both its callers, so that a program's only call of `free` can be
+    /// inlined whole.
     #[inline(always)]
     pub(crate) fn release(&mut self, name: u32) {
         let size = chain::size(&self.store.tables, name, &mut self.store.accesses);

@@ -7,8 +7,8 @@ use crate::accesses::Accesses;
 use crate::index::NodeIndex;
 use crate::memory::{AllocError, Global};
 
-/// The nodes that were made, the stack of unused names, the newest node of each size class, and the masks of the
-/// classes. A node is made when its name is needed for the first time; the memory for all is reserved before.
+/// The nodes that were made, the stack of unused names, the newest name of each bin, and the masks of the bins. A node
+/// is made when its name is needed for the first time; the memory for all is reserved before.
 ///
 /// A layout is lawful that keeps these contracts: a cell has what was last written, the others stay, and each access is
 /// counted.
@@ -19,7 +19,7 @@ pub trait Tables: Sized {
     /// Tables with one node, which is blank, and memory for `len`.
     fn with_len(alloc: Global, len: u32) -> Result<Self, AllocError>;
 
-    /// Leaves one node, which is blank, and the memory. The classes may still name others: `bins::empty` has to follow.
+    /// Leaves one node, which is blank, and the memory. The bins may still name others: `bins::empty` has to follow.
     fn clear(&mut self);
 
     /// The number of nodes that were made.
@@ -28,7 +28,7 @@ pub trait Tables: Sized {
     /// Makes one more node, which is blank, and puts its name at a place of the stack of unused names.
     fn add(&mut self, place: u32, count: &mut Accesses);
 
-    /// The tables keep their lengths.
+    /// The tables have their lengths, and links say which nodes are used. A step of proofs, which does nothing.
     fn shape(&self);
 
     /// The link to a node.
@@ -46,7 +46,7 @@ pub trait Tables: Sized {
     /// Whether a node is used.
     fn used(&self, name: u32, count: &mut Accesses) -> bool;
 
-    /// Writes whether a node is used. It is in no class.
+    /// Writes whether a node is used. It is in no bin.
     fn set_used(&mut self, name: u32, used: bool, count: &mut Accesses);
 
     /// The link to the node before a node in space.
@@ -91,25 +91,25 @@ pub trait Tables: Sized {
     /// Writes an entry of the stack of unused names.
     fn set_spare(&mut self, place: u32, name: Self::Index, count: &mut Accesses);
 
-    /// The link to the next newer node of a node's class.
+    /// The link to the next newer node of a node's bin.
     fn newer(&self, name: u32, count: &mut Accesses) -> Self::Index;
 
-    /// Writes the link to the next newer node of a node's class. The node is not used.
+    /// Writes the link to the next newer node of a node's bin. The node is not used.
     fn set_newer(&mut self, name: u32, link: Self::Index, count: &mut Accesses);
 
-    /// The link to the next older node of a node's class.
+    /// The link to the next older node of a node's bin.
     fn older(&self, name: u32, count: &mut Accesses) -> Self::Index;
 
-    /// Writes the link to the next older node of a node's class.
+    /// Writes the link to the next older node of a node's bin.
     fn set_older(&mut self, name: u32, link: Self::Index, count: &mut Accesses);
 
-    /// Writes both links of a node in its class. The node is not used.
+    /// Writes both links of a node in its bin. The node is not used.
     fn set_links(&mut self, name: u32, newer: Self::Index, older: Self::Index, count: &mut Accesses);
 
-    /// The name of the newest node of a class, or `MAX`.
+    /// The newest name of a bin, or `MAX`.
     fn head(&self, class: u32, count: &mut Accesses) -> u32;
 
-    /// Writes the name of the newest node of a class, or `MAX`.
+    /// Writes the newest name of a bin, or `MAX`.
     fn set_head(&mut self, class: u32, name: u32, count: &mut Accesses);
 
     /// A word of the masks: bit `c % 64` of word `c / 64` says whether the bin of class c is not empty.

@@ -180,7 +180,7 @@ pub fn play_of<T: Tables>(
     Ok(found)
 }
 
-/// `play_of` by node: the layout that takes the least time. The limit has to be 2 to `NI::MAX - 2`.
+/// `play_of` by node, as `Allocator` is. The limit has to be 2 to `NI::MAX - 2`.
 #[track_caller]
 pub fn play<NI: NodeIndex>(
     alloc: Global,
