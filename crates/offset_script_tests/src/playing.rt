@@ -33,7 +33,8 @@ fn expect_with<T: Tables>(rt: &impl Abort, alloc: Global, script: &Script, wante
     assert_same(rt, &found.as_str(), &wanted);
 }
 
-/// Expects these answers to a script by each layout, with both index types, and a third where it admits the limit.
+/// Expects these answers to a script by each layout: the library's two with both index types, and with a third where it
+/// admits the limit.
 pub fn expect_answers(rt: &impl Abort, alloc: Global, script: &Script, wanted: &str) {
     expect_with::<ByNode<u32>>(rt, alloc, script, wanted);
     expect_with::<ByNode<u16>>(rt, alloc, script, wanted);
