@@ -74,10 +74,24 @@ def traces():
     return sorted(path.stem for path in (HERE / "traces").glob("*.script"))
 
 
-def in_parallel(jobs):
-    """What each job returns, by its key. They begin in this order."""
+def in_parallel(jobs, kept=None):
+    """What each job returns, by its key. They begin in this order. What one returned is added to the file `kept`, if one is
+    given; a job that is there is not begun again."""
+    known = {}
+    if kept and kept.exists():
+        known = {tuple(key): value for key, value in map(json.loads, kept.read_text().splitlines())}
+
+    def keep(key, job):
+        if key in known:
+            return known[key]
+        found = job[0](*job[1:])
+        if kept:
+            with open(kept, "a") as file:
+                file.write(json.dumps([key, found]) + "\n")
+        return found
+
     with ThreadPoolExecutor(os.cpu_count()) as pool:
-        begun = {key: pool.submit(*job) for key, job in jobs.items()}
+        begun = {key: pool.submit(keep, key, job) for key, job in jobs.items()}
         try:
             return {key: job.result() for key, job in begun.items()}
         except BaseException:
@@ -190,7 +204,8 @@ def a_step(work, side, program=PLAIN):
 def heap_bytes(name, side, *nodes):
     """The bytes of a side after construction, and the most that a run adds, counted in two ways that have to agree."""
     out = subprocess.run([MEASURE, "heap", name, side, *map(str, nodes)], env=HEAP, check=True, capture_output=True, text=True).stdout
-    made, made_again, more, more_again = map(int, out.split())
+    # the last may be negative, where a run returns what was held before
+    made, made_again, more, more_again = (int(x) - (int(x) >> 63 << 64) for x in out.split())
     for one, other in ((made, made_again), (more, more_again)):
         # a block with its own pages has a longer header
         assert abs(one - other) <= 4096 + one / 100, f"{name}, {side}: {one} bytes, or {other}"
@@ -214,7 +229,7 @@ def compacted(live, way):
     return counted(f"compacting_{way}", "compacting", str(live), way)[0][0] / live
 
 
-def counts(part="", refused=None):
+def counts(part="", refused=None, kept=None):
     found = works(part)
     jobs = {}
     for work in sorted(found, key=lambda work: -work.count):
@@ -241,7 +256,9 @@ def counts(part="", refused=None):
                 jobs["tight", name, side] = heap_bytes, name, side, nodes[name]
         jobs.update({("recorded", name, side): (heap_bytes, name, side) for name in traces() for side in sides})
     counted = {}
-    for (what, of, by), count in in_parallel(jobs).items():
+    # the short ones first
+    jobs = dict(sorted(jobs.items(), key=lambda job: job[0][0] in ("steps", "sites")))
+    for (what, of, by), count in in_parallel(jobs, kept).items():
         counted.setdefault(what, {}).setdefault(of, {})[by] = count
     return counted
 
@@ -277,7 +294,9 @@ def main():
     elif phase == "times":
         found = times(refused=saved("check"))
     else:
-        found = counts(refused=saved("check") if peers()[1] else None)
+        # what a run that was ended has counted of this build is not counted again
+        kept = pathlib.Path(OUT, f"counts_{of}.lines")
+        found = counts(refused=saved("check") if peers()[1] else None, kept=kept)
     assert build() == of, "the programs have changed meanwhile"
     path.write_text(json.dumps({"build": of, "found": found}))
     print(f"{phase}: {time.time() - began:.0f} s")
