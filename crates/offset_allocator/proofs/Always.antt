@@ -1,11 +1,11 @@
 -- Sums and bounds of a well formed view.
-use Rattle.std.proofs.Common.{◌≡◌, ℕ, ◌+◌, ◌<◌, ◌≤◌, Bool, true, false, not, ◌&&◌, ◌↔◌, List, [], ◌∷◌, ◌++◌, length, sum, if◌then◌else◌, refl, sym, ap}
+use Rattle.std.proofs.Common.{◌≡◌, ℕ, ◌+◌, ◌*◌, ◌<◌, ◌≤◌, Bool, true, false, not, ◌&&◌, ◌↔◌, List, [], ◌∷◌, ◌++◌, length, sum, if◌then◌else◌, refl, sym, ap}
 use Rattle.std.proofs.Common.{ap₂, subst, ◌∙◌, arith, le-leb, true≢false}
 use Rattle.std.specs.List.{AllByRecursion}
 use Rattle.std.proofs.lemmas.List.Sums.{sum_by-cons}
 use Rattle.offset_allocator.specs.Classes.{value, up, down}
 use Rattle.offset_allocator.specs.Reports.{largest}
-use Rattle.offset_allocator.specs.View.{Block, View, used_units, total_free, largest_free, units, free_sizes, free_block, IsApart, IsWellFormed, max_size}
+use Rattle.offset_allocator.specs.View.{Block, View, used_units, used_of, one, starts_free, total_free, largest_free, units, free_sizes, free_block, IsApart, IsWellFormed, max_size}
 use Rattle.offset_allocator.specs.Relations.{IsFresh}
 use Rattle.offset_allocator.specs.Requests.{CanGrant}
 use Rattle.offset_allocator.proofs.Taken.{fitting}
@@ -36,6 +36,17 @@ alone_if (b ∷ c ∷ run) after a f = absurd (true≢false (ap₂ (λ (x y : Bo
 
 pub no_neighbours : (v : View) → IsWellFormed v → (before run after : List Block) → v.blocks ≡ before ++ (run ++ after) → AllByRecursion (λ b. b.used ≡ false) run → length run ≤ 1
 no_neighbours v w before run after e f = alone_if run after (apart_after_one before (run ++ after) (subst IsApart e w.apart)) f
+
+-- free blocks are few: at most one more than the used ones, and no more where the first block is used
+few : (bs : List Block) → IsApart bs → length bs + one (not (starts_free bs)) ≤ 2 * used_of bs + 1
+few [] a = omega arith
+few (b ∷ bs) a =
+    let ih = few bs a.1 in
+    elim b.used as (λ u. (not u && starts_free bs) ≡ false → length (b ∷ bs) + one (not (not u)) ≤ 2 * (one u + used_of bs) + 1)
+    [ true ↦ λ e. omega (arith, ih) | false ↦ λ e. omega (arith, ih, ap (λ (x : Bool). one (not x)) e) ] a.0
+
+pub few_blocks : (v : View) → IsWellFormed v → length v.blocks ≤ 2 * used_of v.blocks + 1
+few_blocks v w = let h = few v.blocks w.apart in omega (arith, h)
 
 -- a full space
 pub reports_nothing : (v : View) → v.max_allocs ≤ length v.blocks + 1 → (total_free v ≡ 0) × (largest_free v ≡ 0)

@@ -1,13 +1,13 @@
 //! Laws: that a grant can be undone, and what holds of every allocator. Except `undo`, their functions do nothing. With
 //! them are the calls that leave an allocator as it is, with a count of their accesses.
-ghost use Rattle.std.specs.Prelude.{◌≡◌, ◌≢◌, ◌<◌, ◌≤◌, ◌+◌, ◌%◌, ◌↔◌, ℕ, List, ◌++◌, false, IsTrue, Some, length};
+ghost use Rattle.std.specs.Prelude.{◌≡◌, ◌≢◌, ◌<◌, ◌≤◌, ◌+◌, ◌*◌, ◌%◌, ◌↔◌, ℕ, List, ◌++◌, false, IsTrue, Some, length};
 ghost use Rattle.std.specs.Prelude.{sum, if◌then◌else◌};
 ghost use Rattle.std.specs.Int.{IsPowerOfTwo};
 ghost use Rattle.std.specs.List.{AllByRecursion};
 ghost use Rattle.offset_allocator.specs.Accesses.{Costs};
 ghost use Rattle.offset_allocator.specs.Classes.{value, up, down};
 ghost use Rattle.offset_allocator.specs.View.{View, Block, Grant, IsWellFormed, free_sizes, tally, one, total_free};
-ghost use Rattle.offset_allocator.specs.View.{largest_free, padding_to};
+ghost use Rattle.offset_allocator.specs.View.{largest_free, padding_to, used_of};
 ghost use Rattle.offset_allocator.specs.Ranges.{Range, range_of, AreDisjoint};
 ghost use Rattle.offset_allocator.specs.Relations.{IsAlignment, SameSpace, Allocates, Frees, IsFresh};
 ghost use Rattle.offset_allocator.specs.Requests.{CanGrant, HasRoomFor, IsWhy};
@@ -115,6 +115,16 @@ pub fn no_free_neighbours<T: Tables>(allocator: &AllocatorOf<T>)
 /// At most `max_allocs - 2` ranges are live.
 pub fn few_are_live<T: Tables>(allocator: &AllocatorOf<T>)
     ensures { tally (λ b. one b.used) allocator.now.blocks + 2 ≤ allocator.now.max_allocs }
+{
+    allocator.formed();
+}
+
+/// There is at most one free block more than there are live ranges. So with a limit of `2 * l + 2` there is room for
+/// every request, aligned or not, while fewer than `l` ranges are live.
+pub fn blocks_are_few<T: Tables>(allocator: &AllocatorOf<T>)
+    ensures count { length allocator.now.blocks ≤ 2 * used_of allocator.now.blocks + 1 }
+    ensures room { (l : ℕ) → used_of allocator.now.blocks < l → 2 * l + 2 ≤ allocator.now.max_allocs
+        → HasRoomFor 2 allocator.now }
 {
     allocator.formed();
 }

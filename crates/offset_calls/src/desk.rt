@@ -15,15 +15,15 @@ ghost use Rattle.offset_calls.specs.Tickets.{IsLedger, IsStored, Serves, IsNumbe
 
 use crate::calls::{Call, Reply};
 use crate::playing::{Moves, numbered, resized};
-use offset_allocator::{Move, NodeIndex};
-use offset_guarded::{Guarded, Ticket};
+use offset_allocator::{Move, NodeIndex, Tables};
+use offset_guarded::{GuardedOf, Ticket};
 use offset_script::{Answer, Command, full_answer};
 use std::alloc::{AllocError, Global};
 
 // A guarded allocator, with the tickets of all grants so far.
 #[derive(Drop)]
-pub(crate) struct Desk<NI: NodeIndex> {
-    pub(crate) space: Guarded<NI>,
+pub(crate) struct Desk<T: Tables> {
+    pub(crate) space: GuardedOf<T>,
     pub(crate) tickets: Vec<Ticket>,
 }
 
@@ -44,7 +44,7 @@ fn keep(tickets: &mut Vec<Ticket>, granted: Option<Ticket>) -> Result<Answer, Al
 }
 
 // The answer to `alloc`.
-fn allocate<NI: NodeIndex>(desk: &mut Desk<NI>, size: u32) -> Result<Answer, AllocError>
+fn allocate<T: Tables>(desk: &mut Desk<T>, size: u32) -> Result<Answer, AllocError>
     requires ledger { IsLedger desk.old.space desk.old.tickets.items }
     requires left { HasSerialLeft desk.old.space }
     ensures { IfOk result (λ a. Serves (Call.Command (Command.Alloc size))
@@ -55,8 +55,8 @@ fn allocate<NI: NodeIndex>(desk: &mut Desk<NI>, size: u32) -> Result<Answer, All
 }
 
 // The answer to `align`.
-fn allocate_aligned<NI: NodeIndex>(
-    desk: &mut Desk<NI>,
+fn allocate_aligned<T: Tables>(
+    desk: &mut Desk<T>,
     size: u32,
     align: u32,
 ) -> Result<Answer, AllocError>
@@ -71,7 +71,7 @@ fn allocate_aligned<NI: NodeIndex>(
 }
 
 // The answer to `free`.
-fn release<NI: NodeIndex>(space: &mut Guarded<NI>, ticket: Option<Ticket>) -> Answer
+fn release<T: Tables>(space: &mut GuardedOf<T>, ticket: Option<Ticket>) -> Answer
     ensures { (ts : List Ticket) (k : ℕ) → IsLedger space.old ts → IsNumberOf k ticket space.old ts
         → Serves (Call.Command (Command.Free k)) space.old ts space.new ts (plain.Answer (answer_view result)) }
 {
@@ -86,7 +86,7 @@ fn release<NI: NodeIndex>(space: &mut Guarded<NI>, ticket: Option<Ticket>) -> An
 }
 
 // The answer to `size`.
-fn size_of<NI: NodeIndex>(space: &Guarded<NI>, ticket: Option<Ticket>) -> Answer
+fn size_of<T: Tables>(space: &GuardedOf<T>, ticket: Option<Ticket>) -> Answer
     ensures { (ts : List Ticket) (k : ℕ) → IsLedger space.now ts → IsNumberOf k ticket space.now ts
         → Serves (Call.Command (Command.Size k)) space.now ts space.now ts (plain.Answer (answer_view result)) }
 {
@@ -100,7 +100,7 @@ fn size_of<NI: NodeIndex>(space: &Guarded<NI>, ticket: Option<Ticket>) -> Answer
 }
 
 // The reply to `Offset`.
-fn offset_of<NI: NodeIndex>(space: &Guarded<NI>, ticket: Option<Ticket>) -> Reply
+fn offset_of<T: Tables>(space: &GuardedOf<T>, ticket: Option<Ticket>) -> Reply
     ensures { (ts : List Ticket) (k : ℕ) → IsLedger space.now ts → IsNumberOf k ticket space.now ts
         → Serves (Call.Offset k) space.now ts space.now ts (reply_view result) }
 {
@@ -114,7 +114,7 @@ fn offset_of<NI: NodeIndex>(space: &Guarded<NI>, ticket: Option<Ticket>) -> Repl
 }
 
 // The answer to `reset`.
-fn reset<NI: NodeIndex>(space: &mut Guarded<NI>) -> Answer
+fn reset<T: Tables>(space: &mut GuardedOf<T>) -> Answer
     ensures { (ts : List Ticket) → IsLedger space.old ts
         → Serves (Call.Command Command.Reset) space.old ts space.new ts (plain.Answer (answer_view result)) }
 {
@@ -123,7 +123,7 @@ fn reset<NI: NodeIndex>(space: &mut Guarded<NI>) -> Answer
 }
 
 // The answer to `extend`.
-fn extend<NI: NodeIndex>(space: &mut Guarded<NI>, more: u32) -> Answer
+fn extend<T: Tables>(space: &mut GuardedOf<T>, more: u32) -> Answer
     ensures { (ts : List Ticket) → IsLedger space.old ts
         → Serves (Call.Command (Command.Extend more)) space.old ts space.new ts (plain.Answer (answer_view result)) }
 {
@@ -135,7 +135,7 @@ fn extend<NI: NodeIndex>(space: &mut Guarded<NI>, more: u32) -> Answer
 }
 
 // The reply to `Shrink`.
-fn shrink<NI: NodeIndex>(space: &mut Guarded<NI>, ticket: Option<Ticket>, size: u32) -> Reply
+fn shrink<T: Tables>(space: &mut GuardedOf<T>, ticket: Option<Ticket>, size: u32) -> Reply
     ensures { (ts : List Ticket) (k : ℕ) → IsLedger space.old ts → IsNumberOf k ticket space.old ts
         → Serves (Call.Shrink k size) space.old ts space.new ts (reply_view result) }
 {
@@ -149,7 +149,7 @@ fn shrink<NI: NodeIndex>(space: &mut Guarded<NI>, ticket: Option<Ticket>, size: 
 }
 
 // The reply to `Grow`.
-fn grow<NI: NodeIndex>(space: &mut Guarded<NI>, ticket: Option<Ticket>, size: u32) -> Reply
+fn grow<T: Tables>(space: &mut GuardedOf<T>, ticket: Option<Ticket>, size: u32) -> Reply
     ensures { (ts : List Ticket) (k : ℕ) → IsLedger space.old ts → IsNumberOf k ticket space.old ts
         → Serves (Call.Grow k size) space.old ts space.new ts (reply_view result) }
 {
@@ -163,7 +163,7 @@ fn grow<NI: NodeIndex>(space: &mut Guarded<NI>, ticket: Option<Ticket>, size: u3
 }
 
 // The numbers of the live ranges, which are their serials, in space order.
-fn numbers_of_live<NI: NodeIndex>(alloc: Global, desk: &Desk<NI>) -> Result<Vec<u64>, AllocError>
+fn numbers_of_live<T: Tables>(alloc: Global, desk: &Desk<T>) -> Result<Vec<u64>, AllocError>
     requires ledger { IsLedger desk.now.space desk.now.tickets.items }
     requires kept { AreKept desk.now.space.space (handles_of desk.now.space desk.now.tickets.items) }
     ensures { IfOk result (λ ks.
@@ -185,8 +185,8 @@ fn numbers_of_live<NI: NodeIndex>(alloc: Global, desk: &Desk<NI>) -> Result<Vec<
     Ok(numbers)
 }
 
-// Compacts a space, and collects the moves.
-fn collect<NI: NodeIndex>(space: &mut Guarded<NI>, seen: &mut Moves)
+// Compacts a space, and collects the moves. Its index type is a parameter too, which keeps the proof short.
+fn collect<NI: NodeIndex, T: Tables<Index = NI>>(space: &mut GuardedOf<T>, seen: &mut Moves)
     requires { seen.old.found.items ≡ [] }
     ensures moves { seen.new.is_refused ≡ false
         → AreMoves seen.new.found.items (moves 0 0 space.old.space.blocks) }
@@ -198,7 +198,7 @@ fn collect<NI: NodeIndex>(space: &mut Guarded<NI>, seen: &mut Moves)
 }
 
 // The reply to `Compact`. All ranges after the first one that moves are moved too.
-fn compact<NI: NodeIndex>(alloc: Global, desk: &mut Desk<NI>) -> Result<Reply, AllocError>
+fn compact<T: Tables>(alloc: Global, desk: &mut Desk<T>) -> Result<Reply, AllocError>
     requires ledger { IsLedger desk.old.space desk.old.tickets.items }
     requires kept { AreKept desk.old.space.space (handles_of desk.old.space desk.old.tickets.items) }
     ensures { IfOk result (λ r. Serves Call.Compact desk.old.space desk.old.tickets.items
@@ -217,9 +217,9 @@ fn compact<NI: NodeIndex>(alloc: Global, desk: &mut Desk<NI>) -> Result<Reply, A
 }
 
 // The answer to a command that passes this ticket.
-fn answer<NI: NodeIndex>(
+fn answer<T: Tables>(
     alloc: Global,
-    desk: &mut Desk<NI>,
+    desk: &mut Desk<T>,
     command: Command,
     ticket: Option<Ticket>,
 ) -> Result<Answer, AllocError>
@@ -243,9 +243,9 @@ fn answer<NI: NodeIndex>(
 }
 
 // The reply to a call that passes this ticket.
-pub(crate) fn reply<NI: NodeIndex>(
+pub(crate) fn reply<T: Tables>(
     alloc: Global,
-    desk: &mut Desk<NI>,
+    desk: &mut Desk<T>,
     call: Call,
     ticket: Option<Ticket>,
 ) -> Result<Reply, AllocError>

@@ -8,9 +8,9 @@ ghost use Rattle.offset_calls.specs.Tickets.{AreInOrder, IsGrantOf, meant, numbe
 
 use crate::calls::{Call, Reply};
 use crate::desk::{Desk, reply};
-use offset_allocator::NodeIndex;
+use offset_allocator::Tables;
 use offset_allocator::laws::is_well_formed;
-use offset_guarded::{Guarded, Ticket};
+use offset_guarded::{GuardedOf, Ticket};
 use offset_script::Command;
 use std::alloc::{AllocError, Global};
 
@@ -73,8 +73,8 @@ fn passed(tickets: &[Ticket], call: &TicketCall) -> Option<Ticket>
 /// replies in order, one for each, and the tickets of the grants.
 ///
 /// The calls may pass any tickets: live ones, those of ranges that were freed or reset, altered ones, random numbers.
-/// The limit has to be 2 to `NI::MAX - 2`, and each alignment a power of two. It fails only where an allocation fails.
-pub fn play_guarded<NI: NodeIndex>(
+/// The limit has to be 2 to `T::Index::MAX - 2`, and each alignment a power of two. It fails only where an allocation fails.
+pub fn play_guarded<T: Tables>(
     alloc: Global,
     size: u32,
     max_allocs: u32,
@@ -84,7 +84,7 @@ pub fn play_guarded<NI: NodeIndex>(
     // The node limit is at least 2.
     requires low { 2 ≤ max_allocs }
     // The index type admits the node limit.
-    requires high { max_allocs + 1 < NI.MAX }
+    requires high { max_allocs + 1 < T.Index.MAX }
     // Each alignment is a power of two.
     requires valid { All (λ c. IsTrue (is_valid c.call)) calls.now }
     // The replies are those of the plain machine to these calls, from one free block of `size` units, where each ticket
@@ -99,8 +99,8 @@ pub fn play_guarded<NI: NodeIndex>(
     ensures offsets { IfOk result (λ p.
         All (IsGrantOf (map reply_view p.replies.items)) p.tickets.items) }
 {
-    let mut desk: Desk<NI> = Desk {
-        space: Guarded::with_max_allocs(alloc, size, max_allocs, realm)?,
+    let mut desk: Desk<T> = Desk {
+        space: GuardedOf::with_max_allocs(alloc, size, max_allocs, realm)?,
         tickets: Vec::new(alloc),
     };
     // A step of the proof, which does nothing, here and below.

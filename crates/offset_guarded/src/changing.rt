@@ -8,11 +8,11 @@ ghost use Rattle.offset_allocator.specs.Compacting.{Compacts, IsCalledWith, move
 ghost use Rattle.offset_guarded.specs.Guard.{HasUnits, IsLive, IsSame, KeepsAll, KeepsLive, KeepsOthers, KeepsSerials};
 ghost use Rattle.offset_guarded.specs.Guard.{KeepsSizes};
 
-use crate::Guarded;
+use crate::GuardedOf;
 use crate::ticket::Ticket;
-use offset_allocator::{Move, NodeIndex};
+use offset_allocator::{Move, Tables};
 
-impl<NI: NodeIndex> Guarded<NI> {
+impl<T: Tables> GuardedOf<T> {
     /// Makes the range of a ticket smaller in place, as `Allocator::shrink` does, and returns whether it did; or `None`
     /// where the ticket is not live, and then nothing changes.
     pub fn shrink(&mut self, ticket: Ticket, size: u32) -> Option<bool>
@@ -85,11 +85,11 @@ impl<NI: NodeIndex> Guarded<NI> {
 
     /// Slides every live range to the front of the space, as `Allocator::compact` does. Every ticket stays live, with
     /// its size; `offset_of` returns where its range begins.
-    pub fn compact<F: FnMut(Move<NI>)>(&mut self, moved: &mut F)
+    pub fn compact<F: FnMut(Move<T::Index>)>(&mut self, moved: &mut F)
         requires callable { F.IsAlwaysCallable moved.old }
         ensures sizes { KeepsSizes self.old self.new }
         // The closure is called with the moves, in space order.
-        ensures moved { FoldsTo (IsCalledWith NI.NonMax.number (λ f range g. F.step f range tt g)) moved.old
+        ensures moved { FoldsTo (IsCalledWith T.Index.NonMax.number (λ f range g. F.step f range tt g)) moved.old
             (moves 0 0 self.old.space.blocks) moved.new }
         ensures step { Compacts self.old.space self.new.space }
         ensures serials { self.new ≡ record self.old { space = self.new.space } }

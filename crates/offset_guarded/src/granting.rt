@@ -8,19 +8,19 @@ ghost use Rattle.offset_allocator.specs.Relations.{Aligns, Allocates, IsAlignmen
 ghost use Rattle.offset_allocator.specs.Requests.{CanGrant, blocks_needed, units_needed};
 ghost use Rattle.offset_guarded.specs.Guard.{Grants, IsLive, IsSame, IsWhy, cell, grant_of, last_serial, HasSerialLeft};
 
-use crate::Guarded;
+use crate::GuardedOf;
 use crate::refusal::Refusal;
 use crate::serials::Serials;
 use crate::ticket::Ticket;
-use offset_allocator::{Allocation, Allocator, NodeIndex};
+use offset_allocator::{Allocation, AllocatorOf, Tables};
 
 // Gives the next serial to a grant.
 #[inline(always)]
-fn ticket_for<NI: NodeIndex>(
-    space: &Allocator<NI>,
+fn ticket_for<T: Tables>(
+    space: &AllocatorOf<T>,
     serials: &mut Serials,
     realm: u32,
-    handle: Allocation<NI>,
+    handle: Allocation<T::Index>,
 ) -> Ticket
     requires live { named.IsLive handle.name space.now }
     requires room { space.now.max_allocs ≤ serials.old.room }
@@ -46,7 +46,7 @@ fn ticket_for<NI: NodeIndex>(
     }
 }
 
-impl<NI: NodeIndex> Guarded<NI> {
+impl<T: Tables> GuardedOf<T> {
     /// Grants a range of `size` units, and returns its ticket: of the range that `Allocator::allocate` grants, with the
     /// next serial.
     ///

@@ -29,24 +29,27 @@ mod serials;
 mod ticket;
 
 use offset_allocator::laws::is_well_formed;
-use offset_allocator::{Allocation, Allocator, NodeIndex};
+use offset_allocator::{Allocation, AllocatorOf, ByNode, NodeIndex, Tables};
 pub use refusal::Refusal;
 use serials::Serials;
 use std::alloc::{AllocError, Global};
 use std::marker::Model;
 pub use ticket::Ticket;
 
+/// The allocator of one space, with tickets in place of handles, and one table of nodes.
+pub type Guarded<NI = u32> = GuardedOf<ByNode<NI>>;
+
 /// The allocator of one space, with tickets in place of handles.
 ///
-/// It holds an `Allocator`, and a table with the serial that each name was last granted with.
+/// It holds an `AllocatorOf`, and a table with the serial that each name was last granted with.
 #[derive(Drop)]
-pub struct Guarded<NI: NodeIndex = u32> {
-    space: Allocator<NI>,
+pub struct GuardedOf<T: Tables> {
+    space: AllocatorOf<T>,
     serials: Serials,
     realm: u32,
 }
 
-impl<NI: NodeIndex> Model for Guarded<NI> {
+impl<T: Tables> Model for GuardedOf<T> {
     ghost use Rattle.offset_guarded.specs.Guard.{Guard, IsGuarded};
 
     ghost Value = { Guard };
@@ -58,23 +61,23 @@ impl<NI: NodeIndex> Model for Guarded<NI> {
       realm = a.realm;
     } };
 
-    ghost invariant = { λ a. IsGuarded NI.MAX a.space a.serials };
+    ghost invariant = { λ a. IsGuarded T.Index.MAX a.space a.serials };
 }
 
-impl<NI: NodeIndex> Guarded<NI> {
-    /// A space of `size` units, all free, with the smaller of 131072 and `NI::MAX - 2` as the node limit. The realm is
+impl<T: Tables> GuardedOf<T> {
+    /// A space of `size` units, all free, with the smaller of 131072 and `T::Index::MAX - 2` as the node limit. The realm is
     /// kept in its tickets: a ticket of another realm is never live here.
     ///
     /// An error is returned only where an allocation failed; then nothing is made.
     pub fn new(alloc: Global, size: u32, realm: u32) -> Result<Self, AllocError>
-        ensures space { IfOk result (λ g. IsFresh size (min 131072 (NI.MAX - 2)) g.space) }
+        ensures space { IfOk result (λ g. IsFresh size (min 131072 (T.Index.MAX - 2)) g.space) }
         ensures serials { IfOk result (λ g. (g.given ≡ 0) × (g.serials ≡ []) × (g.realm ≡ realm)) }
     {
-        Self::with_max_allocs(alloc, size, 131072u32.min(NI::MAX - 2), realm)
+        Self::with_max_allocs(alloc, size, 131072u32.min(T::Index::MAX - 2), realm)
     }
 
     /// A space of `size` units, all free, with `max_allocs` as the node limit, and a realm. The limit is 2 to
-    /// `NI::MAX - 2`. It reserves what an `Allocator` does and 8 bytes a node, all of them here; those of a node are
+    /// `T::Index::MAX - 2`. It reserves what an `Allocator` does and 8 bytes a node, all of them here; those of a node are
     /// written by the first call after it was made that may make nodes.
     ///
     /// An error is returned only where an allocation failed; then nothing is made.
@@ -85,14 +88,14 @@ impl<NI: NodeIndex> Guarded<NI> {
         realm: u32,
     ) -> Result<Self, AllocError>
         requires limit_min { 2 ≤ max_allocs }
-        requires limit_max { max_allocs + 1 < NI.MAX }
+        requires limit_max { max_allocs + 1 < T.Index.MAX }
         ensures space { IfOk result (λ g. IsFresh size max_allocs g.space) }
         ensures serials { IfOk result (λ g. (g.given ≡ 0) × (g.serials ≡ []) × (g.realm ≡ realm)) }
     {
         // before the space, which requests all its memory at once: so both are known to fit together
         let serials = Serials::with_room(alloc, max_allocs)?;
-        let space = Allocator::with_max_allocs(alloc, size, max_allocs)?;
-        Ok(Guarded {
+        let space = AllocatorOf::with_max_allocs(alloc, size, max_allocs)?;
+        Ok(GuardedOf {
             space,
             serials,
             realm,
@@ -100,7 +103,7 @@ impl<NI: NodeIndex> Guarded<NI> {
     }
 
     /// The allocator, to read: its reports, its blocks, its sizes, and why it refuses a request.
-    pub fn allocator(&self) -> &Allocator<NI>
+    pub fn allocator(&self) -> &AllocatorOf<T>
         ensures { result.now ≡ self.now.space }
     {
         &self.space
@@ -122,7 +125,7 @@ impl<NI: NodeIndex> Guarded<NI> {
 
     // The handle of a live ticket.
     #[inline(always)]
-    fn handle(&self, ticket: Ticket) -> Option<Allocation<NI>>
+    fn handle(&self, ticket: Ticket) -> Option<Allocation<T::Index>>
         ensures live { IsSome result ↔ IsLive ticket self.now }
         ensures range { IfSome result (λ h. (h.name ≡ ticket.name)
             × (range_of ticket self.now ≡ named.range_of ticket.name self.now.space)) }
@@ -173,7 +176,7 @@ impl<NI: NodeIndex> Guarded<NI> {
 
     /// The ticket of a live handle of the allocator, as its `blocks` and the moves of `compact` have them, or `None`
     /// where the handle is not live.
-    pub fn ticket(&self, handle: Allocation<NI>) -> Option<Ticket>
+    pub fn ticket(&self, handle: Allocation<T::Index>) -> Option<Ticket>
         ensures { MatchOption result (named.range_of handle.name self.now.space ≡ None)
             (λ t. (t ≡ record {
               offset = t.offset;

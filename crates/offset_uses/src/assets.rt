@@ -5,10 +5,11 @@ ghost use Rattle.offset_guarded.specs.declared.ticket.Ticket.{Ticket};
 ghost use Rattle.offset_guarded.specs.Guard.{AreAlike, Guard, KeepsOthers, IsLive, range_of};
 ghost use Rattle.offset_uses.specs.Assets.{Loads, Unloads};
 
-use offset_guarded::{Guarded, Ticket};
+use offset_allocator::Tables;
+use offset_guarded::{GuardedOf, Ticket};
 
 /// Frees the range of an asset. It may be called any number of times, and at any time later: nothing else is touched.
-pub fn unload(assets: &mut Guarded, ticket: Ticket)
+pub fn unload<T: Tables>(assets: &mut GuardedOf<T>, ticket: Ticket)
     ensures gone { range_of ticket assets.new ≡ None }
     ensures others { KeepsOthers ticket assets.old assets.new }
     ensures again { range_of ticket assets.old ≡ None → assets.new ≡ assets.old }
@@ -19,7 +20,7 @@ pub fn unload(assets: &mut Guarded, ticket: Ticket)
 
 /// Gives an asset a new range of `size` units in place of its old one, which may be gone. It returns the new ticket, or
 /// `None` where the request is refused; the old range is freed then too.
-pub fn reload(assets: &mut Guarded, ticket: Ticket, size: u32) -> Option<Ticket>
+pub fn reload<T: Tables>(assets: &mut GuardedOf<T>, ticket: Ticket, size: u32) -> Option<Ticket>
     ensures range { IfSome result (λ t.
         range_of t assets.new ≡ Some (record { offset = t.offset; size = size })) }
     ensures others { (u : Ticket) → (AreAlike u ticket → ⊥) → IsLive u assets.old

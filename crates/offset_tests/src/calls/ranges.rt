@@ -2,7 +2,7 @@
 //! fields are.
 
 use crate::asserts::{assert_same, assert_text, assert_that, assert_that_at, text_of};
-use offset_allocator::{Allocation, Allocator, Block, Move};
+use offset_allocator::{Allocation, AllocatorOf, Block, ByNode, Move, NodeIndex, Tables};
 use std::alloc::{AllocError, Global};
 use std::process::Abort;
 
@@ -12,7 +12,12 @@ fn with_number(alloc: Global, start: &str, number: usize, end: &str) -> Result<S
 }
 
 // The name in the text of a handle, which has this offset.
-fn name_of(rt: &impl Abort, alloc: Global, handle: Allocation<u32>, offset: usize) -> usize {
+fn name_of<NI: NodeIndex>(
+    rt: &impl Abort,
+    alloc: Global,
+    handle: Allocation<NI>,
+    offset: usize,
+) -> usize {
     let text = text_of(rt, alloc, &handle);
     let start = with_number(alloc, "Allocation { offset: ", offset, ", metadata: ");
     let name = text
@@ -22,14 +27,19 @@ fn name_of(rt: &impl Abort, alloc: Global, handle: Allocation<u32>, offset: usiz
     name.parse::<u32>().expect(rt, "a number") as usize
 }
 
+// A new space of this size and limit.
+fn made<T: Tables>(rt: &impl Abort, alloc: Global, size: u32, limit: u32) -> AllocatorOf<T> {
+    assert_that(rt, 2 <= limit && limit < T::Index::MAX - 1);
+    AllocatorOf::with_max_allocs(alloc, size, limit).expect(rt, "memory")
+}
+
 // More ranges than a number of one, two or three digits can name.
 const COUNT: u32 = 1_200;
 
 // A space of `COUNT` ranges of one unit and one free unit. Its handles, in space order, have different names, below the
 // node limit.
-fn units(rt: &impl Abort, alloc: Global) -> Allocator<u32> {
-    let made = Allocator::<u32>::with_max_allocs(alloc, COUNT + 1, 2_000);
-    let mut space = made.expect(rt, "memory");
+fn units<T: Tables>(rt: &impl Abort, alloc: Global) -> AllocatorOf<T> {
+    let mut space = made::<T>(rt, alloc, COUNT + 1, 2_000);
     let mut is_seen = [false; 2_000];
     for offset in 0..COUNT {
         let handle = space.allocate(1).expect(rt, "room");
@@ -42,46 +52,43 @@ fn units(rt: &impl Abort, alloc: Global) -> Allocator<u32> {
 }
 
 // What is left of the walk: as a number, and as a text.
-#[test]
-fn many_ranges_have_names_and_are_counted(rt: HostRuntime) {
-    let space = units(&rt, rt.alloc());
+fn many_ranges_have_names_and_are_counted<T: Tables>(rt: &impl Abort, alloc: Global) {
+    let space = units::<T>(rt, alloc);
     let mut blocks = space.blocks();
     for left in [1_201usize, 1_200, 1_199] {
-        assert_same(&rt, &blocks.len(), &left);
-        assert_same(&rt, &blocks.size_hint(), &(left, Some(left)));
-        let wanted = with_number(rt.alloc(), "Blocks { remaining: ", left, " }");
-        assert_text(&rt, rt.alloc(), &blocks, &wanted.expect(&rt, "memory"));
-        assert_that(&rt, blocks.next().is_some());
+        assert_same(rt, &blocks.len(), &left);
+        assert_same(rt, &blocks.size_hint(), &(left, Some(left)));
+        let wanted = with_number(alloc, "Blocks { remaining: ", left, " }");
+        assert_text(rt, alloc, &blocks, &wanted.expect(rt, "memory"));
+        assert_that(rt, blocks.next().is_some());
     }
 }
 
-#[test]
-fn a_free_block_has_a_text(rt: HostRuntime) {
-    let space = Allocator::<u32>::with_max_allocs(rt.alloc(), 100, 8).expect(&rt, "memory");
+fn a_free_block_has_a_text<T: Tables>(rt: &impl Abort, alloc: Global) {
+    let space = made::<T>(rt, alloc, 100, 8);
     let mut blocks = space.blocks();
-    assert_text(&rt, rt.alloc(), &blocks, "Blocks { remaining: 1 }");
+    assert_text(rt, alloc, &blocks, "Blocks { remaining: 1 }");
     let wanted = "Some(Block { offset: 0, size: 100, allocation: None })";
-    assert_text(&rt, rt.alloc(), &blocks.next(), wanted);
+    assert_text(rt, alloc, &blocks.next(), wanted);
 }
 
 // The last block is one of 64 units from 30 on, used under a name.
-#[test]
-fn used_blocks_have_a_text_and_differ_in_each_field(rt: HostRuntime) {
-    let mut space = Allocator::<u32>::with_max_allocs(rt.alloc(), 94, 8).expect(&rt, "memory");
-    let other = space.allocate(30).expect(&rt, "room");
-    let handle = space.allocate(64).expect(&rt, "room");
-    let block = space.blocks().next().expect(&rt, "a block");
+fn used_blocks_have_a_text_and_differ_in_each_field<T: Tables>(rt: &impl Abort, alloc: Global) {
+    let mut space = made::<T>(rt, alloc, 94, 8);
+    let other = space.allocate(30).expect(rt, "room");
+    let handle = space.allocate(64).expect(rt, "room");
+    let block = space.blocks().next().expect(rt, "a block");
     let start =
         "Block { offset: 30, size: 64, allocation: Some(Allocation { offset: 30, metadata: ";
-    let name = name_of(&rt, rt.alloc(), handle, 30);
-    let wanted = with_number(rt.alloc(), start, name, " }) }").expect(&rt, "memory");
-    assert_text(&rt, rt.alloc(), &block, &wanted);
+    let name = name_of(rt, alloc, handle, 30);
+    let wanted = with_number(alloc, start, name, " }) }").expect(rt, "memory");
+    assert_text(rt, alloc, &block, &wanted);
     let same = Block {
         offset: 30,
         size: 64,
         allocation: Some(handle),
     };
-    assert_that(&rt, block == same);
+    assert_that(rt, block == same);
     for (offset, size, allocation) in [
         (31, 64, Some(handle)),
         (286, 64, Some(handle)),
@@ -95,37 +102,36 @@ fn used_blocks_have_a_text_and_differ_in_each_field(rt: HostRuntime) {
             size,
             allocation,
         };
-        assert_that_at(&rt, &(block, changed), block != changed);
+        assert_that_at(rt, &(block, changed), block != changed);
     }
 }
 
 // The last move of a compaction.
-fn last_move(rt: &impl Abort, space: &mut Allocator) -> Move {
+fn last_move<T: Tables>(rt: &impl Abort, space: &mut AllocatorOf<T>) -> Move<T::Index> {
     let mut last = None;
-    space.compact(&mut |range: Move| last = Some(range));
+    space.compact(&mut |range: Move<T::Index>| last = Some(range));
     last.expect(rt, "a move")
 }
 
 // Of a range of 20 units, which moves from 10 to 0. The text begins with its name, its offsets and its size.
-#[test]
-fn a_move_has_a_text(rt: HostRuntime) {
-    let mut space = Allocator::<u32>::with_max_allocs(rt.alloc(), 100, 8).expect(&rt, "memory");
-    let first = space.allocate(10).expect(&rt, "room");
-    let second = space.allocate(20).expect(&rt, "room");
-    assert_that(&rt, space.is_live(first));
+fn a_move_has_a_text<T: Tables>(rt: &impl Abort, alloc: Global) {
+    let mut space = made::<T>(rt, alloc, 100, 8);
+    let first = space.allocate(10).expect(rt, "room");
+    let second = space.allocate(20).expect(rt, "room");
+    assert_that(rt, space.is_live(first));
     space.free(first);
-    let range = last_move(&rt, &mut space);
-    let text = text_of(&rt, rt.alloc(), &range);
-    let name = name_of(&rt, rt.alloc(), second, 10);
+    let range = last_move(rt, &mut space);
+    let text = text_of(rt, alloc, &range);
+    let name = name_of(rt, alloc, second, 10);
     let end = ", from: 10, to: 0, size: 20";
-    let wanted = with_number(rt.alloc(), "Move { name: ", name, end).expect(&rt, "memory");
-    assert_that_at(&rt, &text, text.starts_with(wanted.as_str()));
+    let wanted = with_number(alloc, "Move { name: ", name, end).expect(rt, "memory");
+    assert_that_at(rt, &text, text.starts_with(wanted.as_str()));
 }
 
 // The first move of a compaction.
-fn first_move(rt: &impl Abort, space: &mut Allocator) -> Move {
+fn first_move<T: Tables>(rt: &impl Abort, space: &mut AllocatorOf<T>) -> Move<T::Index> {
     let mut first = None;
-    space.compact(&mut |range: Move| {
+    space.compact(&mut |range: Move<T::Index>| {
         if first.is_none() {
             first = Some(range);
         }
@@ -134,29 +140,28 @@ fn first_move(rt: &impl Abort, space: &mut Allocator) -> Move {
 }
 
 // Of units 1 and 2, once the second range is moved to unit 0, and later the third one.
-#[test]
-fn moves_differ_in_each_field(rt: HostRuntime) {
-    let mut space = Allocator::<u32>::with_max_allocs(rt.alloc(), 5, 8).expect(&rt, "memory");
-    let first = space.allocate(1).expect(&rt, "room");
-    let second = space.allocate(2).expect(&rt, "room");
-    assert_that(&rt, space.allocate(2).is_some());
-    assert_that(&rt, space.is_live(first));
+fn moves_differ_in_each_field<T: Tables>(rt: &impl Abort, alloc: Global) {
+    let mut space = made::<T>(rt, alloc, 5, 8);
+    let first = space.allocate(1).expect(rt, "room");
+    let second = space.allocate(2).expect(rt, "room");
+    assert_that(rt, space.allocate(2).is_some());
+    assert_that(rt, space.is_live(first));
     space.free(first);
-    let range = first_move(&rt, &mut space);
-    assert_that(&rt, space.allocate(1).is_some());
-    assert_that(&rt, space.is_live(second));
+    let range = first_move(rt, &mut space);
+    assert_that(rt, space.allocate(1).is_some());
+    assert_that(rt, space.is_live(second));
     space.free(second);
-    let first = space.allocate(1).expect(&rt, "room");
-    let _ = first_move(&rt, &mut space);
-    assert_that(&rt, space.is_live(first));
+    let first = space.allocate(1).expect(rt, "room");
+    let _ = first_move(rt, &mut space);
+    assert_that(rt, space.is_live(first));
     space.free(first);
-    let of_another = first_move(&rt, &mut space);
+    let of_another = first_move(rt, &mut space);
     for found in [range, of_another] {
-        assert_same(&rt, &(found.from, found.to, found.size), &(1, 0, 2));
+        assert_same(rt, &(found.from, found.to, found.size), &(1, 0, 2));
     }
     let same = range;
-    assert_that(&rt, range == same);
-    assert_that(&rt, range != of_another);
+    assert_that(rt, range == same);
+    assert_that(rt, range != of_another);
     for (from, to, size) in [
         (2u32, 0u32, 2u32),
         (257, 0, 2),
@@ -169,6 +174,15 @@ fn moves_differ_in_each_field(rt: HostRuntime) {
         changed.from = from;
         changed.to = to;
         changed.size = size;
-        assert_that_at(&rt, &(range, changed), range != changed);
+        assert_that_at(rt, &(range, changed), range != changed);
     }
+}
+
+#[test]
+fn ranges_and_moves(rt: HostRuntime) {
+    many_ranges_have_names_and_are_counted::<ByNode<u32>>(&rt, rt.alloc());
+    a_free_block_has_a_text::<ByNode<u32>>(&rt, rt.alloc());
+    used_blocks_have_a_text_and_differ_in_each_field::<ByNode<u32>>(&rt, rt.alloc());
+    a_move_has_a_text::<ByNode<u32>>(&rt, rt.alloc());
+    moves_differ_in_each_field::<ByNode<u32>>(&rt, rt.alloc());
 }

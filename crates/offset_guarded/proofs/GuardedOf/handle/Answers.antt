@@ -1,10 +1,10 @@
 use Rattle.std.proofs.lemmas.Bool.{false≢true}
 use Rattle.offset_guarded.proofs.Guards.{no_such}
-use Rattle.offset_guarded.proofs.Guarded.handle.Goals as goal
+use Rattle.offset_guarded.proofs.GuardedOf.handle.Goals as goal
 
 pub returns-in_default-clause-live : goal.returns-in_default-clause-live
 returns-in_default-clause-live g c = (
   λ e. absurd (false≢true e),
-  λ h. absurd (no_such g.NI.NodeIndex.MAX c.args.ticket _ c.self.inside.space c.self.inside.serials c.self.inside.realm c.self.view_is c.self.invariant.admitted c.is_well_formed.ensures
+  λ h. absurd (no_such g.T.Index.NodeIndex.MAX c.args.ticket _ c.self.inside.space c.self.inside.serials c.self.inside.realm c.self.view_is c.self.invariant.admitted c.is_well_formed.ensures
       c.in_default.ensures h),
 )

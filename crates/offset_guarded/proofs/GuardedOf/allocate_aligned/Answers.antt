@@ -1,7 +1,7 @@
 use Rattle.std.proofs.Common.{refl}
 use Rattle.offset_allocator.specs.Requests.{blocks_needed, units_needed}
 use Rattle.offset_guarded.proofs.Guards.{can_grant, granted_as, issued, same_limit}
-use Rattle.offset_guarded.proofs.Guarded.allocate_aligned.Goals as goal
+use Rattle.offset_guarded.proofs.GuardedOf.allocate_aligned.Goals as goal
 
 pub invariant_of-self-in-Some : goal.invariant_of-self-in-Some
 invariant_of-self-in-Some g c =
@@ -14,5 +14,5 @@ returns-in-Some-clause-can_grant g c = can_grant (blocks_needed c.args.align) (u
 
 pub returns-in-Some-clause-grants : goal.returns-in-Some-clause-grants
 returns-in-Some-clause-grants g c =
-    granted_as g.NI.NodeIndex.MAX c.args.size c.self.inside.realm c.self.inside.space c.allocate_aligned.new.self c.self.inside.serials c.ticket_for.new.serials c.in-Some.handle
+    granted_as g.T.Index.NodeIndex.MAX c.args.size c.self.inside.realm c.self.inside.space c.allocate_aligned.new.self c.self.inside.serials c.ticket_for.new.serials c.in-Some.handle
     c.self.invariant c.in-Some.ensures.grants c.ticket_for.ensures.cells c.ticket_for.ensures.given _ _ c.self.view_is c.ticket_for.ensures.ticket
