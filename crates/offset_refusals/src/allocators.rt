@@ -13,15 +13,15 @@ fn put_report_of<T: Tables>(cells: &mut Cells<'_>, allocator: AllocatorOf<T>) {
 }
 
 /// Makes an allocator by `new`, and puts its report into the cells.
-pub fn make_default<T16: Tables, T32: Tables>(
+pub fn make_default<Narrow: Tables, Wide: Tables>(
     alloc: Global,
     text: &[u8],
     cells: &mut Cells<'_>,
 ) -> Result<(), Failure> {
     let script = script(alloc, text)?;
     match script.index {
-        IndexWidth::Bits16 => put_report_of(cells, AllocatorOf::<T16>::new(alloc, script.size)?),
-        IndexWidth::Bits32 => put_report_of(cells, AllocatorOf::<T32>::new(alloc, script.size)?),
+        IndexWidth::Bits16 => put_report_of(cells, AllocatorOf::<Narrow>::new(alloc, script.size)?),
+        IndexWidth::Bits32 => put_report_of(cells, AllocatorOf::<Wide>::new(alloc, script.size)?),
     }
     Ok(())
 }
@@ -36,21 +36,21 @@ fn limited<T: Tables>(alloc: Global, script: &Script) -> Result<AllocatorOf<T>, 
 }
 
 /// Makes an allocator by `with_max_allocs`, and puts its report into the cells.
-pub fn make_limited<T16: Tables, T32: Tables>(
+pub fn make_limited<Narrow: Tables, Wide: Tables>(
     alloc: Global,
     text: &[u8],
     cells: &mut Cells<'_>,
 ) -> Result<(), Failure> {
     let script = script(alloc, text)?;
     match script.index {
-        IndexWidth::Bits16 => put_report_of(cells, limited::<T16>(alloc, &script)?),
-        IndexWidth::Bits32 => put_report_of(cells, limited::<T32>(alloc, &script)?),
+        IndexWidth::Bits16 => put_report_of(cells, limited::<Narrow>(alloc, &script)?),
+        IndexWidth::Bits32 => put_report_of(cells, limited::<Wide>(alloc, &script)?),
     }
     Ok(())
 }
 
 /// Makes an allocator by `with_max_allocs`, makes 1,000 calls, and puts a checksum of their results into the cells.
-pub fn make_and_call<T16: Tables<Index = u16>, T32: Tables<Index = u32>>(
+pub fn make_and_call<Narrow: Tables<Index = u16>, Wide: Tables<Index = u32>>(
     alloc: Global,
     text: &[u8],
     cells: &mut Cells<'_>,
@@ -60,11 +60,11 @@ pub fn make_and_call<T16: Tables<Index = u16>, T32: Tables<Index = u32>>(
     let sum = match script.index {
         IndexWidth::Bits16 => {
             let mut kept: [Option<Allocation<u16>>; 16] = [None; 16];
-            mixed_calls(&mut limited::<T16>(alloc, &script)?, &mut kept)
+            mixed_calls(&mut limited::<Narrow>(alloc, &script)?, &mut kept)
         }
         IndexWidth::Bits32 => {
             let mut kept: [Option<Allocation<u32>>; 16] = [None; 16];
-            mixed_calls(&mut limited::<T32>(alloc, &script)?, &mut kept)
+            mixed_calls(&mut limited::<Wide>(alloc, &script)?, &mut kept)
         }
     };
     put(cells, sum);
@@ -94,15 +94,15 @@ fn fill_twice<T: Tables>(cells: &mut Cells<'_>, mut allocator: AllocatorOf<T>) {
 
 /// Makes an allocator by `with_max_allocs`, twice makes 3,000 requests and a reset, and puts the numbers of grants, and
 /// the report in the end, into the cells.
-pub fn make_and_fill<T16: Tables, T32: Tables>(
+pub fn make_and_fill<Narrow: Tables, Wide: Tables>(
     alloc: Global,
     text: &[u8],
     cells: &mut Cells<'_>,
 ) -> Result<(), Failure> {
     let script = script(alloc, text)?;
     match script.index {
-        IndexWidth::Bits16 => fill_twice(cells, limited::<T16>(alloc, &script)?),
-        IndexWidth::Bits32 => fill_twice(cells, limited::<T32>(alloc, &script)?),
+        IndexWidth::Bits16 => fill_twice(cells, limited::<Narrow>(alloc, &script)?),
+        IndexWidth::Bits32 => fill_twice(cells, limited::<Wide>(alloc, &script)?),
     }
     Ok(())
 }

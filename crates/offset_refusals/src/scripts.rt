@@ -42,15 +42,15 @@ fn played<T: Tables>(alloc: Global, script: &Script) -> Result<Vec<Answer>, Fail
 }
 
 /// Plays the commands of a script, and puts their answers into the cells.
-pub fn play_text<T16: Tables, T32: Tables>(
+pub fn play_text<Narrow: Tables, Wide: Tables>(
     alloc: Global,
     text: &[u8],
     cells: &mut Cells<'_>,
 ) -> Result<(), Failure> {
     let script = script(alloc, text)?;
     let answers = match script.index {
-        IndexWidth::Bits16 => played::<T16>(alloc, &script)?,
-        IndexWidth::Bits32 => played::<T32>(alloc, &script)?,
+        IndexWidth::Bits16 => played::<Narrow>(alloc, &script)?,
+        IndexWidth::Bits32 => played::<Wide>(alloc, &script)?,
     };
     put_answers(cells, &answers);
     Ok(())

@@ -2,11 +2,11 @@
 
 //! Calls that give a range another size, the space another size, and the ranges other places.
 
-use crate::Guarded;
+use crate::GuardedOf;
 use crate::ticket::Ticket;
-use offset_allocator::{Move, NodeIndex};
+use offset_allocator::{Move, Tables};
 
-impl<NI: NodeIndex> Guarded<NI> {
+impl<T: Tables> GuardedOf<T> {
     /// Makes the range of a ticket smaller in place, as `Allocator::shrink` does, and returns whether it did; or `None`
     /// where the ticket is not live, and then nothing changes.
     pub fn shrink(&mut self, ticket: Ticket, size: u32) -> Option<bool> {
@@ -42,7 +42,7 @@ impl<NI: NodeIndex> Guarded<NI> {
 
     /// Slides every live range to the front of the space, as `Allocator::compact` does. Every ticket stays live, with
     /// its size; `offset_of` returns where its range begins.
-    pub fn compact<F: FnMut(Move<NI>)>(&mut self, moved: &mut F) {
+    pub fn compact<F: FnMut(Move<T::Index>)>(&mut self, moved: &mut F) {
         self.space.compact(moved);
     }
 }

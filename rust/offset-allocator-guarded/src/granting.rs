@@ -2,19 +2,19 @@
 
 //! Grants, each with the next serial, and why one is refused.
 
-use crate::Guarded;
+use crate::GuardedOf;
 use crate::refusal::Refusal;
 use crate::serials::Serials;
 use crate::ticket::Ticket;
-use offset_allocator::{Allocation, Allocator, NodeIndex};
+use offset_allocator::{Allocation, AllocatorOf, Tables};
 
 // Gives the next serial to a grant.
 #[inline(always)]
-fn ticket_for<NI: NodeIndex>(
-    space: &Allocator<NI>,
+fn ticket_for<T: Tables>(
+    space: &AllocatorOf<T>,
     serials: &mut Serials,
     realm: u32,
-    handle: Allocation<NI>,
+    handle: Allocation<T::Index>,
 ) -> Ticket {
     serials.cover(space.node_count());
     let (offset, name) = handle.to_parts();
@@ -26,7 +26,7 @@ fn ticket_for<NI: NodeIndex>(
     }
 }
 
-impl<NI: NodeIndex> Guarded<NI> {
+impl<T: Tables> GuardedOf<T> {
     /// Grants a range of `size` units, and returns its ticket: of the range that `Allocator::allocate` grants, with the
     /// next serial.
     ///

@@ -36,31 +36,34 @@ mod serials;
 mod ticket;
 
 use offset_allocator::laws::is_well_formed;
-use offset_allocator::{Allocation, Allocator, NodeIndex};
+use offset_allocator::{Allocation, AllocatorOf, ByNode, NodeIndex, Tables};
 pub use refusal::Refusal;
 use serials::Serials;
 pub use ticket::Ticket;
 
+/// The allocator of one space, with tickets in place of handles, and one table of nodes.
+pub type Guarded<NI = u32> = GuardedOf<ByNode<NI>>;
+
 /// The allocator of one space, with tickets in place of handles.
 ///
-/// It holds an `Allocator`, and a table with the serial that each name was last granted with.
-pub struct Guarded<NI: NodeIndex = u32> {
-    space: Allocator<NI>,
+/// It holds an `AllocatorOf`, and a table with the serial that each name was last granted with.
+pub struct GuardedOf<T: Tables> {
+    space: AllocatorOf<T>,
     serials: Serials,
     realm: u32,
 }
 
-impl<NI: NodeIndex> Guarded<NI> {
-    /// A space of `size` units, all free, with the smaller of 131072 and `NI::MAX - 2` as the node limit. The realm is
+impl<T: Tables> GuardedOf<T> {
+    /// A space of `size` units, all free, with the smaller of 131072 and `T::Index::MAX - 2` as the node limit. The realm is
     /// kept in its tickets: a ticket of another realm is never live here.
     ///
     /// An error is returned only where an allocation failed; then nothing is made.
     pub fn new(alloc: Global, size: u32, realm: u32) -> Result<Self, AllocError> {
-        Self::with_max_allocs(alloc, size, 131072u32.min(NI::MAX - 2), realm)
+        Self::with_max_allocs(alloc, size, 131072u32.min(T::Index::MAX - 2), realm)
     }
 
     /// A space of `size` units, all free, with `max_allocs` as the node limit, and a realm. The limit is 2 to
-    /// `NI::MAX - 2`. It reserves what an `Allocator` does and 8 bytes a node, all of them here; those of a node are
+    /// `T::Index::MAX - 2`. It reserves what an `Allocator` does and 8 bytes a node, all of them here; those of a node are
     /// written by the first call after it was made that may make nodes.
     ///
     /// An error is returned only where an allocation failed; then nothing is made.
@@ -72,11 +75,11 @@ impl<NI: NodeIndex> Guarded<NI> {
         realm: u32,
     ) -> Result<Self, AllocError> {
         assert!(2 <= max_allocs, "max_allocs must be at least 2");
-        assert!(max_allocs < NI::MAX - 1, "max_allocs must be at most NI::MAX - 2");
+        assert!(max_allocs < T::Index::MAX - 1, "max_allocs must be at most NI::MAX - 2");
         // before the space, which requests all its memory at once: so both are known to fit together
         let serials = Serials::with_room(alloc, max_allocs)?;
-        let space = Allocator::with_max_allocs(alloc, size, max_allocs)?;
-        Ok(Guarded {
+        let space = AllocatorOf::with_max_allocs(alloc, size, max_allocs)?;
+        Ok(GuardedOf {
             space,
             serials,
             realm,
@@ -84,7 +87,7 @@ impl<NI: NodeIndex> Guarded<NI> {
     }
 
     /// The allocator, to read: its reports, its blocks, its sizes, and why it refuses a request.
-    pub fn allocator(&self) -> &Allocator<NI> {
+    pub fn allocator(&self) -> &AllocatorOf<T> {
         &self.space
     }
 
@@ -100,7 +103,7 @@ impl<NI: NodeIndex> Guarded<NI> {
 
     // The handle of a live ticket.
     #[inline(always)]
-    fn handle(&self, ticket: Ticket) -> Option<Allocation<NI>> {
+    fn handle(&self, ticket: Ticket) -> Option<Allocation<T::Index>> {
         if ticket.realm != self.realm || ticket.serial != self.serials.at(ticket.name) {
             return None;
         }
@@ -141,7 +144,7 @@ impl<NI: NodeIndex> Guarded<NI> {
 
     /// The ticket of a live handle of the allocator, as its `blocks` and the moves of `compact` have them, or `None`
     /// where the handle is not live.
-    pub fn ticket(&self, handle: Allocation<NI>) -> Option<Ticket> {
+    pub fn ticket(&self, handle: Allocation<T::Index>) -> Option<Ticket> {
         let (_, name) = handle.to_parts();
         match self.space.allocation_offset(handle) {
             None => None,
