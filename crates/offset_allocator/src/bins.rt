@@ -86,12 +86,9 @@ pub(crate) fn push<T: Tables>(store: &mut Store<T>, name: u32, class: u32)
     ensures chain { SameChain T.cells store.old store.new }
     ensures accesses { Costs 5 6 store.old.accesses store.new.accesses }
 {
-    let Store {
-        tables,
-        top_mask,
-        accesses: count,
-        ..
-    } = store;
+    let tables = &mut store.tables;
+    let top_mask = &mut store.top_mask;
+    let count = &mut store.accesses;
     tables.shape();
     let link = link_to(name);
     let newest = tables.head(class, count);
@@ -120,12 +117,9 @@ fn clear_bit<T: Tables>(store: &mut Store<T>, class: u32)
     } }
     ensures accesses { Costs 0 2 store.old.accesses store.new.accesses }
 {
-    let Store {
-        tables,
-        top_mask,
-        accesses: count,
-        ..
-    } = store;
+    let tables = &mut store.tables;
+    let top_mask = &mut store.top_mask;
+    let count = &mut store.accesses;
     let word = class / 64;
     let rest = tables.mask(word, count) & !(1 << (class % 64));
     tables.set_mask(word, rest, count);
@@ -167,11 +161,8 @@ fn behead<T: Tables>(store: &mut Store<T>, class: u32, after: T::Index)
     ensures chain { SameChain T.cells store.old store.new }
     ensures accesses { Costs 1 3 store.old.accesses store.new.accesses }
 {
-    let Store {
-        tables,
-        accesses: count,
-        ..
-    } = store;
+    let tables = &mut store.tables;
+    let count = &mut store.accesses;
     tables.shape();
     let next = number(after);
     tables.set_head(class, next, count);
@@ -194,11 +185,8 @@ fn leave<T: Tables>(store: &mut Store<T>, name: u32, before: T::Index, size: u32
     ensures chain { SameChain T.cells store.old store.new }
     ensures accesses { Costs 2 4 store.old.accesses store.new.accesses }
 {
-    let Store {
-        tables,
-        accesses: count,
-        ..
-    } = store;
+    let tables = &mut store.tables;
+    let count = &mut store.accesses;
     tables.shape();
     let after = tables.older(name, count);
     if number(before) == T::Index::MAX {
@@ -245,11 +233,8 @@ pub(crate) fn exchange<T: Tables>(store: &mut Store<T>, gone: u32, size: u32, na
     let before = store.tables.newer(gone, &mut store.accesses);
     if number(before) == T::Index::MAX && class == uint_to_float_round_down(size) {
         // the bin is empty neither before nor after, so the masks stay
-        let Store {
-            tables,
-            accesses: count,
-            ..
-        } = store;
+        let tables = &mut store.tables;
+        let count = &mut store.accesses;
         let after = tables.older(gone, count);
         tables.set_head(class, name, count);
         tables.set_links(name, no_link(), after, count);
@@ -273,11 +258,8 @@ pub(crate) fn pop<T: Tables>(store: &mut Store<T>, class: u32) -> u32
     ensures chain { SameChain T.cells store.old store.new }
     ensures accesses { Costs 3 6 store.old.accesses store.new.accesses }
 {
-    let Store {
-        tables,
-        accesses: count,
-        ..
-    } = store;
+    let tables = &mut store.tables;
+    let count = &mut store.accesses;
     let name = tables.head(class, count);
     let after = tables.older(name, count);
     behead(store, class, after);
@@ -301,12 +283,9 @@ pub(crate) fn empty<T: Tables>(store: &mut Store<T>)
     ensures chain { SameChain T.cells store.old store.new }
     ensures accesses { store.new.accesses ≡ store.old.accesses + 260 }
 {
-    let Store {
-        tables,
-        top_mask,
-        accesses: count,
-        ..
-    } = store;
+    let tables = &mut store.tables;
+    let top_mask = &mut store.top_mask;
+    let count = &mut store.accesses;
     tables.shape();
     for class in 0..256 {
         tables.set_head(class, T::Index::MAX, count);

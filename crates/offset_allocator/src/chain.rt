@@ -162,21 +162,16 @@ pub(crate) fn split<T: Tables>(
     ensures below { result < length (T.cells store.old.tables).room.nodes }
     ensures accesses { Costs 8 9 store.old.accesses store.new.accesses }
 {
-    let Store {
-        tables,
-        last,
-        spare_count,
-        accesses: count,
-        ..
-    } = store;
-    *spare_count -= 1;
-    let rest = number(tables.spare(*spare_count, count));
+    let tables = &mut store.tables;
+    let count = &mut store.accesses;
+    store.spare_count -= 1;
+    let rest = number(tables.spare(store.spare_count, count));
     let next = tables.after(name, count);
     let back = tables.link_to(name);
     let on = tables.link_to(rest);
     tables.set_block(rest, offset + kept, size - kept, back, next, count);
     tables.set_end(name, kept, on, count);
-    point_back(tables, last, next, rest, count);
+    point_back(tables, &mut store.last, next, rest, count);
     rest
 }
 
@@ -196,19 +191,14 @@ pub(crate) fn coalesce_after<T: Tables>(store: &mut Store<T>, name: u32, followi
     ensures spares { store.new.spare_count ≡ store.old.spare_count + 1 }
     ensures accesses { Costs 4 5 store.old.accesses store.new.accesses }
 {
-    let Store {
-        tables,
-        last,
-        spare_count,
-        accesses: count,
-        ..
-    } = store;
+    let tables = &mut store.tables;
+    let count = &mut store.accesses;
     tables.shape();
     let next = tables.after(following, count);
     tables.set_end(name, total, next, count);
-    point_back(tables, last, next, name, count);
-    tables.set_spare(*spare_count, link_to(following), count);
-    *spare_count += 1;
+    point_back(tables, &mut store.last, next, name, count);
+    tables.set_spare(store.spare_count, link_to(following), count);
+    store.spare_count += 1;
 }
 
 /// Coalesces the free block `previous` into the block directly after it; `total` is the size of both. The name
@@ -227,19 +217,15 @@ pub(crate) fn coalesce_before<T: Tables>(store: &mut Store<T>, previous: u32, na
     ensures spares { store.new.spare_count ≡ store.old.spare_count + 1 }
     ensures accesses { Costs 6 7 store.old.accesses store.new.accesses }
 {
-    let Store {
-        tables,
-        spare_count,
-        accesses: count,
-        ..
-    } = store;
+    let tables = &mut store.tables;
+    let count = &mut store.accesses;
     tables.shape();
     let offset = tables.offset(previous, count);
     let link = tables.before(previous, count);
     tables.set_start(name, offset, total, link, count);
     point_on(tables, link, name, count);
-    tables.set_spare(*spare_count, link_to(previous), count);
-    *spare_count += 1;
+    tables.set_spare(store.spare_count, link_to(previous), count);
+    store.spare_count += 1;
 }
 
 /// Makes a block, which is in no bin, used or free.
@@ -277,14 +263,10 @@ pub(crate) fn split_before<T: Tables>(store: &mut Store<T>, name: u32, cut: u32)
     ensures below { result < length (T.cells store.old.tables).room.nodes }
     ensures accesses { Costs 11 12 store.old.accesses store.new.accesses }
 {
-    let Store {
-        tables,
-        spare_count,
-        accesses: count,
-        ..
-    } = store;
-    *spare_count -= 1;
-    let front = number(tables.spare(*spare_count, count));
+    let tables = &mut store.tables;
+    let count = &mut store.accesses;
+    store.spare_count -= 1;
+    let front = number(tables.spare(store.spare_count, count));
     let offset = tables.offset(name, count);
     let size = tables.size(name, count);
     let link = tables.before(name, count);

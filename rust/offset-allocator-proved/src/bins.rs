@@ -52,12 +52,9 @@ pub(crate) fn length_of<T: Tables>(tables: &T, class: u32, count: &mut Accesses)
 /// Pushes a name onto a bin.
 #[inline(always)]
 pub(crate) fn push<T: Tables>(store: &mut Store<T>, name: u32, class: u32) {
-    let Store {
-        tables,
-        top_mask,
-        accesses: count,
-        ..
-    } = store;
+    let tables = &mut store.tables;
+    let top_mask = &mut store.top_mask;
+    let count = &mut store.accesses;
     tables.shape();
     let link = link_to(name);
     let newest = tables.head(class, count);
@@ -75,12 +72,9 @@ pub(crate) fn push<T: Tables>(store: &mut Store<T>, name: u32, class: u32) {
 
 // Clears the bit of a class, whose bin is empty now.
 fn clear_bit<T: Tables>(store: &mut Store<T>, class: u32) {
-    let Store {
-        tables,
-        top_mask,
-        accesses: count,
-        ..
-    } = store;
+    let tables = &mut store.tables;
+    let top_mask = &mut store.top_mask;
+    let count = &mut store.accesses;
     let word = class / 64;
     let rest = tables.mask(word, count) & !(1 << (class % 64));
     tables.set_mask(word, rest, count);
@@ -99,11 +93,8 @@ fn link_newer<T: Tables>(tables: &mut T, at: T::Index, to: T::Index, count: &mut
 // Removes the newest name of a class from its bin. `after` is the link to the next older one.
 #[inline(always)]
 fn behead<T: Tables>(store: &mut Store<T>, class: u32, after: T::Index) {
-    let Store {
-        tables,
-        accesses: count,
-        ..
-    } = store;
+    let tables = &mut store.tables;
+    let count = &mut store.accesses;
     tables.shape();
     let next = number(after);
     tables.set_head(class, next, count);
@@ -117,11 +108,8 @@ fn behead<T: Tables>(store: &mut Store<T>, class: u32, after: T::Index) {
 // Removes a name from the bin of this size. `before` is the link to the next newer one.
 #[inline(always)]
 fn leave<T: Tables>(store: &mut Store<T>, name: u32, before: T::Index, size: u32) {
-    let Store {
-        tables,
-        accesses: count,
-        ..
-    } = store;
+    let tables = &mut store.tables;
+    let count = &mut store.accesses;
     tables.shape();
     let after = tables.older(name, count);
     if number(before) == T::Index::MAX {
@@ -148,11 +136,8 @@ pub(crate) fn exchange<T: Tables>(store: &mut Store<T>, gone: u32, size: u32, na
     let before = store.tables.newer(gone, &mut store.accesses);
     if number(before) == T::Index::MAX && class == uint_to_float_round_down(size) {
         // the bin is empty neither before nor after, so the masks stay
-        let Store {
-            tables,
-            accesses: count,
-            ..
-        } = store;
+        let tables = &mut store.tables;
+        let count = &mut store.accesses;
         let after = tables.older(gone, count);
         tables.set_head(class, name, count);
         tables.set_links(name, no_link(), after, count);
@@ -165,11 +150,8 @@ pub(crate) fn exchange<T: Tables>(store: &mut Store<T>, gone: u32, size: u32, na
 
 /// Pops the newest name of a bin.
 pub(crate) fn pop<T: Tables>(store: &mut Store<T>, class: u32) -> u32 {
-    let Store {
-        tables,
-        accesses: count,
-        ..
-    } = store;
+    let tables = &mut store.tables;
+    let count = &mut store.accesses;
     let name = tables.head(class, count);
     let after = tables.older(name, count);
     behead(store, class, after);
@@ -184,12 +166,9 @@ pub(crate) fn start<T: Tables>(tables: &T) -> u32 {
 
 /// Removes all names from all bins, whatever these hold, by one write for each.
 pub(crate) fn empty<T: Tables>(store: &mut Store<T>) {
-    let Store {
-        tables,
-        top_mask,
-        accesses: count,
-        ..
-    } = store;
+    let tables = &mut store.tables;
+    let top_mask = &mut store.top_mask;
+    let count = &mut store.accesses;
     tables.shape();
     for class in 0..256 {
         tables.set_head(class, T::Index::MAX, count);
