@@ -66,6 +66,11 @@ coalesced_before p = record { before = without_end p.before; block = record p.bl
 abbrev pub coalesced_after : Place → Place
 coalesced_after p = record { before = p.before; block = record p.block { size = p.block.size + units (free_start p.after) }; after = without_start p.after }
 
+-- the name is that of the free block directly before the block named x, and there is a name where one is
+abbrev pub IsFreeBefore : Room → ℕ → Option ℕ → Type 0
+IsFreeBefore c x None = (m last count : ℕ) (p : Place) → HasPlace c m last count x p → free_end p.before ≡ []
+IsFreeBefore c x (Some y) = (Some y ≡ (node c x).before) × ((node c y).used ≡ false)
+
 -- the name is that of the free block directly after the block named x, and there is a name where one is
 abbrev pub IsFreeAfter : Room → ℕ → Option ℕ → Type 0
 IsFreeAfter c x None = (m last count : ℕ) (p : Place) → HasPlace c m last count x p → free_start p.after ≡ []

@@ -1,13 +1,11 @@
-//! A block and its neighbours: coalesces it with the free ones, splits it into padding, grant and remainder, or resizes
-//! it into the free block after it. Each changes both halves of a store.
-ghost use Rattle.std.specs.Prelude.{ℕ, ◌≡◌, ◌+◌, ◌≤◌, ◌++◌, [], Some, false, length, MatchOption, ◌-◌, ◌<◌, IsSome};
-ghost use Rattle.std.specs.Prelude.{◌∷◌};
+//! A block and its neighbours: it is coalesced with the free ones, divided or resized, in both halves of a store.
+ghost use Rattle.std.specs.Prelude.{ℕ, ◌≡◌, ◌+◌, ◌≤◌, ◌++◌, ◌∷◌, Some, false, length, ◌-◌, ◌<◌, IsSome};
 ghost use Rattle.offset_allocator.specs.Accesses.{Costs};
 ghost use Rattle.offset_allocator.specs.Classes.{down};
 ghost use Rattle.offset_allocator.specs.Cells.{node};
 ghost use Rattle.offset_allocator.specs.View.{Place, free_end, free_start, push, remove_all, free_part};
 ghost use Rattle.offset_allocator.specs.View.{without_start, used_block, units, push_all};
-ghost use Rattle.offset_allocator.specs.Chain.{HasPlace, IsFreeAfter, coalesced_before, coalesced_after};
+ghost use Rattle.offset_allocator.specs.Chain.{HasPlace, IsFreeAfter, IsFreeBefore, coalesced_before, coalesced_after};
 ghost use Rattle.offset_allocator.specs.Soundness.{AreInBins, AreUnlisted};
 ghost use Rattle.offset_allocator.specs.Store.{IsPlaceIn, AreBinned, bins_of};
 ghost use Rattle.offset_allocator.specs.Bins.{IsUnlisted};
@@ -22,10 +20,7 @@ use crate::{bins, chain};
 #[inline(always)]
 fn free_before<T: Tables>(tables: &T, name: u32, count: &mut Accesses) -> Option<u32>
     requires place { (m last spare : ℕ) × (p : Place) × HasPlace (T.cells tables.now).room m last spare name p }
-    ensures free { MatchOption result ((m last spare : ℕ) (p : Place)
-        → HasPlace (T.cells tables.now).room m last spare name p
-        → free_end p.before ≡ []) (λ x. (Some x ≡ (node (T.cells tables.now).room name).before)
-        × ((node (T.cells tables.now).room x).used ≡ false)) }
+    ensures free { IsFreeBefore (T.cells tables.now).room name result }
     ensures accesses { Costs 1 2 count.old count.new }
 {
     if let Some(previous) = chain::before(tables, name, count) {
@@ -71,8 +66,7 @@ pub(crate) fn units_after<T: Tables>(
     }
 }
 
-// If a free block is directly before a block of this size, it leaves its bin and is coalesced into the block. The size
-// of the whole is returned.
+// A free block directly before a block leaves its bin and is coalesced into it. The size of the whole is returned.
 #[inline(always)]
 fn with_before<T: Tables>(store: &mut Store<T>, name: u32, size: u32) -> u32
     requires place { (m : ℕ) × (p : Place) × IsPlaceIn T.cells store.old m name p
@@ -98,8 +92,7 @@ fn with_before<T: Tables>(store: &mut Store<T>, name: u32, size: u32) -> u32
     size
 }
 
-// If a free block, of the name `next`, is directly after a block of this size, it leaves its bin and is coalesced into
-// the block. The size of the whole is returned.
+// The free block `next`, if any, directly after a block leaves its bin and is coalesced into it, likewise.
 #[inline(always)]
 fn with_after<T: Tables>(store: &mut Store<T>, name: u32, size: u32, next: Option<u32>) -> u32
     requires place { (m : ℕ) × (p : Place) × IsPlaceIn T.cells store.old m name p
@@ -147,11 +140,8 @@ pub(crate) fn coalesce<T: Tables>(store: &mut Store<T>, name: u32, size: u32)
     ensures accesses { Costs 7 34 store.old.accesses store.new.accesses }
 {
     // `gone` is the neighbour that is coalesced last: it is in its bin until the exchange
-    let (gone, more, whole) = if let Some(following) = free_after(
-        &store.tables,
-        name,
-        &mut store.accesses,
-    ) {
+    let next = free_after(&store.tables, name, &mut store.accesses);
+    let (gone, more, whole) = if let Some(following) = next {
         let size = with_before(store, name, size);
         let more = chain::size(&store.tables, following, &mut store.accesses);
         let whole = size + more;
@@ -200,8 +190,7 @@ fn split_padding<T: Tables>(store: &mut Store<T>, name: u32, units: u32) -> u32
     front
 }
 
-// Splits a block, of this offset, after `size` units. The units that are left become a free block in its bin, under the
-// name that is returned. Where none are left, nothing changes, and the name returned is that of the block.
+// Splits a block, of this offset, after `size` units, likewise: the units that are left become a free block in its bin.
 #[inline(always)]
 fn split_remainder<T: Tables>(
     store: &mut Store<T>,

@@ -1,7 +1,6 @@
 // Printed by rust/erase from crates/offset_allocator/src/neighbours.rt: change it there.
 
-//! A block and its neighbours: coalesces it with the free ones, splits it into padding, grant and remainder, or resizes
-//! it into the free block after it. Each changes both halves of a store.
+//! A block and its neighbours: it is coalesced with the free ones, divided or resized, in both halves of a store.
 
 use crate::accesses::Accesses;
 use crate::small_float::uint_to_float_round_down;
@@ -45,8 +44,7 @@ pub(crate) fn units_after<T: Tables>(
     }
 }
 
-// If a free block is directly before a block of this size, it leaves its bin and is coalesced into the block. The size
-// of the whole is returned.
+// A free block directly before a block leaves its bin and is coalesced into it. The size of the whole is returned.
 #[inline(always)]
 fn with_before<T: Tables>(store: &mut Store<T>, name: u32, size: u32) -> u32 {
     if let Some(previous) = free_before(&store.tables, name, &mut store.accesses) {
@@ -59,8 +57,7 @@ fn with_before<T: Tables>(store: &mut Store<T>, name: u32, size: u32) -> u32 {
     size
 }
 
-// If a free block, of the name `next`, is directly after a block of this size, it leaves its bin and is coalesced into
-// the block. The size of the whole is returned.
+// The free block `next`, if any, directly after a block leaves its bin and is coalesced into it, likewise.
 #[inline(always)]
 fn with_after<T: Tables>(store: &mut Store<T>, name: u32, size: u32, next: Option<u32>) -> u32 {
     match next {
@@ -80,11 +77,8 @@ fn with_after<T: Tables>(store: &mut Store<T>, name: u32, size: u32, next: Optio
 #[inline(always)]
 pub(crate) fn coalesce<T: Tables>(store: &mut Store<T>, name: u32, size: u32) {
     // `gone` is the neighbour that is coalesced last: it is in its bin until the exchange
-    let (gone, more, whole) = if let Some(following) = free_after(
-        &store.tables,
-        name,
-        &mut store.accesses,
-    ) {
+    let next = free_after(&store.tables, name, &mut store.accesses);
+    let (gone, more, whole) = if let Some(following) = next {
         let size = with_before(store, name, size);
         let more = chain::size(&store.tables, following, &mut store.accesses);
         let whole = size + more;
@@ -114,8 +108,7 @@ fn split_padding<T: Tables>(store: &mut Store<T>, name: u32, units: u32) -> u32 
     front
 }
 
-// Splits a block, of this offset, after `size` units. The units that are left become a free block in its bin, under the
-// name that is returned. Where none are left, nothing changes, and the name returned is that of the block.
+// Splits a block, of this offset, after `size` units, likewise: the units that are left become a free block in its bin.
 #[inline(always)]
 fn split_remainder<T: Tables>(
     store: &mut Store<T>,

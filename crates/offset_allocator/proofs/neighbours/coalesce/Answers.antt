@@ -64,7 +64,7 @@ returns-in_default-free_before-clause-lists g c m p h =
 pub exchange-requires-clause-listed : goal.exchange-requires-clause-listed
 exchange-requires-clause-listed g c =
     let h = c.requires.place.2 in
-    elim c.match-free_after.branch [
+    elim c.match-next.branch [
       | in-Some w ↦
           let merged = w.with_before-size.ensures.place _ _ h in
           let same = next_same h merged refl w.in-Some.ensures.free.0 in
@@ -76,14 +76,14 @@ exchange-requires-clause-listed g c =
     ]
 
 pub exchange-requires-clause-classed : goal.exchange-requires-clause-classed
-exchange-requires-clause-classed g c = let s = down_small c.match-free_after.gone.2 in omega (arith, s, c.uint_to_float_round_down-2.ensures.is)
+exchange-requires-clause-classed g c = let s = down_small c.match-next.gone.2 in omega (arith, s, c.uint_to_float_round_down-2.ensures.is)
 
 pub exchange-requires-clause-idle : goal.exchange-requires-clause-idle
 exchange-requires-clause-idle g c =
     let h = c.requires.place.2 in
     let used = λ (v : Node). v.used in
     let idle = sym (ap used (at_place h)) ∙ c.requires.idle in
-    elim c.match-free_after.branch [
+    elim c.match-next.branch [
       | in-Some w ↦ rw w.store-is (ap used (at_place (w.coalesce_after.ensures.place _ _ (w.with_before-size.ensures.place _ _ h))) ∙ idle)
       | in_default+in-Some-free_before w ↦ rw w.store-is (ap used (at_place (w.coalesce_before.ensures.place _ _ h)) ∙ idle)
     ]
@@ -91,20 +91,20 @@ exchange-requires-clause-idle g c =
 pub exchange-requires-clause-unlisted : goal.exchange-requires-clause-unlisted
 exchange-requires-clause-unlisted g c =
     let h = c.requires.place.2 in
-    elim c.match-free_after.branch [
+    elim c.match-next.branch [
       | in-Some w ↦ rw (w.store-is, w.coalesce_after.ensures.bins.0, w.with_before-size.ensures.lists _ _ h)
           (unlisted (w.with_before-size.ensures.place _ _ h) _ (filed_before h _ c.requires.place.3 c.requires.held.linked.lists_len))
       | in_default+in-Some-free_before w ↦ rw (w.store-is, w.coalesce_before.ensures.bins.0) (unlisted h _ c.requires.place.3)
     ]
 
 pub returns-clause-place : goal.returns-clause-place
-returns-clause-place g c m p h = elim c.match-free_after.branch [
+returns-clause-place g c m p h = elim c.match-next.branch [
   | in-Some w ↦ kept_place c.exchange.ensures.chain (rw w.store-is (w.coalesce_after.ensures.place _ _ (w.with_before-size.ensures.place _ _ h)))
   | in_default+in-Some-free_before w ↦ kept_place c.exchange.ensures.chain (rw w.store-is (kept_after (w.coalesce_before.ensures.place _ _ h) (w.in_default.ensures.free _ _ _ _ h)))
 ]
 
 pub returns-clause-lists : goal.returns-clause-lists
-returns-clause-lists g c m p h = elim c.match-free_after.branch [
+returns-clause-lists g c m p h = elim c.match-next.branch [
   | in-Some w ↦
       let merged = w.with_before-size.ensures.place _ _ h in
       let same = next_same h merged refl w.in-Some.ensures.free.0 in
@@ -142,8 +142,8 @@ returns-clause-lists g c m p h = elim c.match-free_after.branch [
       ) (ap (push _ c.args.name) (sym (gone.1 _)))
 ]
 
-pub free_after-requires : goal.free_after-requires
-free_after-requires g c = record { place = (_, _, _, _, c.requires.place.2) }
+pub free_after-next-requires : goal.free_after-next-requires
+free_after-next-requires g c = record { place = (_, _, _, _, c.requires.place.2) }
 
 pub free_before-requires : goal.free_before-requires
 free_before-requires g c = record { place = (_, _, _, _, c.requires.place.2) }
@@ -170,7 +170,7 @@ pub returns-clause-held : goal.returns-clause-held
 returns-clause-held g c = c.exchange.ensures.held
 
 pub exchange-requires-clause-held : goal.exchange-requires-clause-held
-exchange-requires-clause-held g c = elim c.match-free_after.branch [
+exchange-requires-clause-held g c = elim c.match-next.branch [
   | in-Some w ↦ rw (w.store-is, w.coalesce_after.ensures.bins.0, w.coalesce_after.ensures.bins.1) w.with_before-size.ensures.held
   | in_default+in-Some-free_before w ↦ rw (w.store-is, w.coalesce_before.ensures.bins.0, w.coalesce_before.ensures.bins.1) c.requires.held
 ]
