@@ -9,7 +9,7 @@ use Rattle.offset_allocator.proofs.bins.behead.Goals as goal
 pub set_newer-requires-clause-idle : goal.set_newer-requires-clause-idle
 set_newer-requires-clause-idle g c =
     let k = c.requires.held.linked in
-    rw (c.set_head.ensures.cells, c.number-next.ensures.number) (second_idle c.shape.ensures k c.args.class c.requires.classed c.requires.some c.requires.after (λ e. absurd (omega arith)))
+    rw (c.set_head.ensures.cells, c.number-next.ensures.number) (second_idle c.shape.ensures k c.args.class c.requires.classed c.requires.some c.requires.older (λ e. absurd (omega arith)))
 
 pub set_newer-requires-clause-link : goal.set_newer-requires-clause-link
 set_newer-requires-clause-link g c = no_mark c.shape.ensures (g.T.Index.NodeIndex.number c.no_link.result) (λ n. absurd (n c.no_link.ensures.number))
@@ -19,9 +19,9 @@ returns-then-next-MAX g c =
     let k = c.requires.held.linked in
     let h = head k c.args.class c.requires.classed c.requires.some in
     let w = without_head k c.args.class c.requires.classed c.requires.some in
-    let none = none_left k c.args.class c.requires.classed _ _ h.1.3 (sym (c.requires.after ∙ h.1.2) ∙ omega arith) in
+    let none = none_left k c.args.class c.requires.classed _ _ h.1.3 (sym (c.requires.older ∙ h.1.2) ∙ omega arith) in
     let e = rw c.set_head.ensures.cells at c.clear_bit.ensures.rest in
-    rw w (changed (beheaded k c.args.class c.requires.classed (g.T.Tables.cells c.clear_bit.new.store.tables).links _ c.requires.some c.requires.after
+    rw w (changed (beheaded k c.args.class c.requires.classed (g.T.Tables.cells c.clear_bit.new.store.tables).links _ c.requires.some c.requires.older
     (rw e (sym (set_past _ _ _ (omega (arith, k.names_small))))) (rw e) (rw (e, c.number-next.ensures.number)))
     (rw none (c.clear_bit.ensures.masked _ k.lists_len (rw c.set_head.ensures.cells c.requires.held.masked))) (
       rw e,
@@ -35,7 +35,7 @@ returns-else-next-MAX g c =
     let h = head k c.args.class c.requires.classed c.requires.some in
     let w = without_head k c.args.class c.requires.classed c.requires.some in
     let e = rw c.set_head.ensures.cells at c.set_newer.ensures.cells in
-    rw w (changed (beheaded k c.args.class c.requires.classed (g.T.Tables.cells c.set_newer.new.self).links _ c.requires.some c.requires.after
+    rw w (changed (beheaded k c.args.class c.requires.classed (g.T.Tables.cells c.set_newer.new.self).links _ c.requires.some c.requires.older
     (rw (e, c.number-next.ensures.number, c.no_link.ensures.number)) (rw e) (rw (e, c.number-next.ensures.number)))
-    (rw e (masked_same c.requires.held.masked k.lists_len c.args.class c.requires.classed _ (flag_full _ (λ z. let q = c.requires.after ∙ h.1.2 ∙ ap (first_of g.T.Index.NodeIndex.MAX) z in
+    (rw e (masked_same c.requires.held.masked k.lists_len c.args.class c.requires.classed _ (flag_full _ (λ z. let q = c.requires.older ∙ h.1.2 ∙ ap (first_of g.T.Index.NodeIndex.MAX) z in
     absurd (omega arith)) ∙ sym (flag_full _ c.requires.some)))) (rw e, refl, refl) (omega arith, omega arith))

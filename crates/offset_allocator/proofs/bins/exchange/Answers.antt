@@ -7,24 +7,24 @@ use Rattle.offset_allocator.proofs.ViewOrders.{unlisted_removed}
 use Rattle.offset_allocator.proofs.Uses.{after_idle, no_mark}
 use Rattle.offset_allocator.proofs.bins.exchange.Goals as goal
 
-pub newer-before-requires : goal.newer-before-requires
-newer-before-requires g c = below c.requires.held.linked _ (down_small c.args.size) _ c.requires.listed
+pub newer-newer-requires : goal.newer-newer-requires
+newer-newer-requires g c = below c.requires.held.linked _ (down_small c.args.size) _ c.requires.listed
 
-pub older-after-requires : goal.older-after-requires
-older-after-requires g c = omega (arith, below c.requires.held.linked _ (down_small c.args.size) _ c.requires.listed, c.requires.held.linked.older_len)
+pub older-older-requires : goal.older-older-requires
+older-older-requires g c = omega (arith, below c.requires.held.linked _ (down_small c.args.size) _ c.requires.listed, c.requires.held.linked.older_len)
 
 pub link_newer-requires-clause-named : goal.link_newer-requires-clause-named
 link_newer-requires-clause-named g c n =
-    rw (c.set_links.ensures.cells, c.set_head.ensures.cells, length-set, c.older-after.ensures.cell)
-    (older_in c.requires.held.linked _ (down_small c.args.size) _ c.requires.listed (λ e. n (c.older-after.ensures.cell ∙ e)))
+    rw (c.set_links.ensures.cells, c.set_head.ensures.cells, length-set, c.older-older.ensures.cell)
+    (older_in c.requires.held.linked _ (down_small c.args.size) _ c.requires.listed (λ e. n (c.older-older.ensures.cell ∙ e)))
 
 pub set_links-requires-clause-link : goal.set_links-requires-clause-link
 set_links-requires-clause-link g c = no_mark c.shape.ensures (g.T.Index.NodeIndex.number c.no_link.result) (λ n. absurd (n c.no_link.ensures.number))
 
 pub link_newer-requires-clause-idle : goal.link_newer-requires-clause-idle
 link_newer-requires-clause-idle g c n =
-    rw (c.set_links.ensures.cells, c.set_head.ensures.cells, c.older-after.ensures.cell)
-    (after_idle c.shape.ensures c.requires.held.linked _ (down_small c.args.size) _ c.requires.listed (λ e. n (c.older-after.ensures.cell ∙ e)))
+    rw (c.set_links.ensures.cells, c.set_head.ensures.cells, c.older-older.ensures.cell)
+    (after_idle c.shape.ensures c.requires.held.linked _ (down_small c.args.size) _ c.requires.listed (λ e. n (c.older-older.ensures.cell ∙ e)))
 
 pub link_newer-requires-clause-link : goal.link_newer-requires-clause-link
 link_newer-requires-clause-link g c = no_mark c.shape.ensures (g.T.Index.NodeIndex.number c.link_to.result) (λ n. omega (arith, c.link_to.ensures.number, c.requires.named))
@@ -37,10 +37,10 @@ pub returns-then-class-uint_to_float_round_down : goal.returns-then-class-uint_t
 returns-then-class-uint_to_float_round_down g c =
     let k = c.requires.held.linked in
     let same : c.args.class ≡ down c.args.size = c.if-class-uint_to_float_round_down.true ∙ c.uint_to_float_round_down.ensures.is in
-    let z : g.T.Index.NodeIndex.number c.newer-before.result ≡ g.T.Index.NodeIndex.MAX = omega arith in
-    let f = is_first k _ (down_small c.args.size) _ c.requires.listed (sym c.newer-before.ensures.cell ∙ z) in
+    let z : g.T.Index.NodeIndex.number c.newer-newer.result ≡ g.T.Index.NodeIndex.MAX = omega arith in
+    let f = is_first k _ (down_small c.args.size) _ c.requires.listed (sym c.newer-newer.ensures.cell ∙ z) in
     let e = rw (c.set_links.ensures.cells, c.set_head.ensures.cells) at c.link_newer.ensures.cells in
-    let next = rw (← f.1) at (c.older-after.ensures.cell) in
+    let next = rw (← f.1) at (c.older-older.ensures.cell) in
     rw same (changed (rw f.1 at (exchanged k _ (down_small c.args.size) (g.T.Tables.cells c.link_newer.new.tables).links c.args.name _
     (omega (arith, c.requires.named, c.shape.ensures.newer)) c.requires.unlisted f.0 next
     (rw (e, c.no_link.ensures.number, c.link_to.ensures.number))

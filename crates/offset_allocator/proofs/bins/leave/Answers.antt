@@ -4,8 +4,8 @@ use Rattle.offset_allocator.proofs.Classes.{down_small}
 use Rattle.offset_allocator.proofs.Uses.{after_idle, no_mark}
 use Rattle.offset_allocator.proofs.bins.leave.Goals as goal
 
-pub older-after-requires : goal.older-after-requires
-older-after-requires g c = omega (arith, below c.requires.held.linked _ (down_small c.args.size) _ c.requires.listed, c.requires.held.linked.older_len)
+pub older-older-requires : goal.older-older-requires
+older-older-requires g c = omega (arith, below c.requires.held.linked _ (down_small c.args.size) _ c.requires.listed, c.requires.held.linked.older_len)
 
 -- the newest name
 pub behead-requires-clause-classed : goal.behead-requires-clause-classed
@@ -13,43 +13,43 @@ behead-requires-clause-classed g c = omega (arith, down_small c.args.size, c.uin
 
 pub behead-requires-clause-some : goal.behead-requires-clause-some
 behead-requires-clause-some g c =
-    let z : slice_index (g.T.Tables.cells c.args.store.now.tables).links.newer c.args.name ≡ g.T.Index.NodeIndex.MAX = omega (arith, c.requires.before) in
+    let z : slice_index (g.T.Tables.cells c.args.store.now.tables).links.newer c.args.name ≡ g.T.Index.NodeIndex.MAX = omega (arith, c.requires.newer) in
     rw c.uint_to_float_round_down.ensures.is ((is_first c.requires.held.linked _ (down_small c.args.size) _ c.requires.listed z).0)
 
-pub behead-requires-clause-after : goal.behead-requires-clause-after
-behead-requires-clause-after g c =
-    let z : slice_index (g.T.Tables.cells c.args.store.now.tables).links.newer c.args.name ≡ g.T.Index.NodeIndex.MAX = omega (arith, c.requires.before) in
-    rw (c.uint_to_float_round_down.ensures.is, (is_first c.requires.held.linked _ (down_small c.args.size) _ c.requires.listed z).1) c.older-after.ensures.cell
+pub behead-requires-clause-older : goal.behead-requires-clause-older
+behead-requires-clause-older g c =
+    let z : slice_index (g.T.Tables.cells c.args.store.now.tables).links.newer c.args.name ≡ g.T.Index.NodeIndex.MAX = omega (arith, c.requires.newer) in
+    rw (c.uint_to_float_round_down.ensures.is, (is_first c.requires.held.linked _ (down_small c.args.size) _ c.requires.listed z).1) c.older-older.ensures.cell
 
 pub returns-then-number-MAX-clause-lists : goal.returns-then-number-MAX-clause-lists
 returns-then-number-MAX-clause-lists g c =
-    let z : slice_index (g.T.Tables.cells c.args.store.now.tables).links.newer c.args.name ≡ g.T.Index.NodeIndex.MAX = omega (arith, c.requires.before) in
+    let z : slice_index (g.T.Tables.cells c.args.store.now.tables).links.newer c.args.name ≡ g.T.Index.NodeIndex.MAX = omega (arith, c.requires.newer) in
     rw (c.behead.ensures.lists, c.uint_to_float_round_down.ensures.is, (is_first c.requires.held.linked _ (down_small c.args.size) _ c.requires.listed z).1) refl
 
 -- a later name
 pub link_newer-requires-clause-named : goal.link_newer-requires-clause-named
-link_newer-requires-clause-named g c n = rw c.older-after.ensures.cell (older_in c.requires.held.linked _ (down_small c.args.size) _ c.requires.listed (λ e. n (c.older-after.ensures.cell ∙ e)))
+link_newer-requires-clause-named g c n = rw c.older-older.ensures.cell (older_in c.requires.held.linked _ (down_small c.args.size) _ c.requires.listed (λ e. n (c.older-older.ensures.cell ∙ e)))
 
 pub link_newer-requires-clause-idle : goal.link_newer-requires-clause-idle
-link_newer-requires-clause-idle g c n = rw c.older-after.ensures.cell
-    (after_idle c.shape.ensures c.requires.held.linked _ (down_small c.args.size) _ c.requires.listed (λ e. n (c.older-after.ensures.cell ∙ e)))
+link_newer-requires-clause-idle g c n = rw c.older-older.ensures.cell
+    (after_idle c.shape.ensures c.requires.held.linked _ (down_small c.args.size) _ c.requires.listed (λ e. n (c.older-older.ensures.cell ∙ e)))
 
 pub link_newer-requires-clause-link : goal.link_newer-requires-clause-link
 link_newer-requires-clause-link g c =
-    no_mark c.shape.ensures (g.T.Index.NodeIndex.number c.args.before)
-    (λ n. omega (arith, c.requires.before, c.shape.ensures.newer, newer_in c.requires.held.linked _ (down_small c.args.size) _ c.requires.listed (λ e. n (c.requires.before ∙ e))))
+    no_mark c.shape.ensures (g.T.Index.NodeIndex.number c.args.newer)
+    (λ n. omega (arith, c.requires.newer, c.shape.ensures.newer, newer_in c.requires.held.linked _ (down_small c.args.size) _ c.requires.listed (λ e. n (c.requires.newer ∙ e))))
 
 pub set_older-requires : goal.set_older-requires
 set_older-requires g c =
-    let l = newer_in c.requires.held.linked _ (down_small c.args.size) _ c.requires.listed (λ e. absurd (omega (arith, c.requires.before))) in
-    rw c.link_newer.ensures.cells (omega (arith, l, c.requires.before, c.requires.held.linked.older_len))
+    let l = newer_in c.requires.held.linked _ (down_small c.args.size) _ c.requires.listed (λ e. absurd (omega (arith, c.requires.newer))) in
+    rw c.link_newer.ensures.cells (omega (arith, l, c.requires.newer, c.requires.held.linked.older_len))
 
 pub returns-else-number-MAX : goal.returns-else-number-MAX
 returns-else-number-MAX g c =
     let k = c.requires.held.linked in
-    let n : slice_index (g.T.Tables.cells c.args.store.now.tables).links.newer c.args.name ≢ g.T.Index.NodeIndex.MAX = λ e. absurd (omega (arith, c.requires.before)) in
+    let n : slice_index (g.T.Tables.cells c.args.store.now.tables).links.newer c.args.name ≢ g.T.Index.NodeIndex.MAX = λ e. absurd (omega (arith, c.requires.newer)) in
     let e = rw c.link_newer.ensures.cells at c.set_older.ensures.cells in
     changed (left k _ (down_small c.args.size) (g.T.Tables.cells c.set_older.new.self).links _ _ _ (is_later k _ (down_small c.args.size) _ c.requires.listed n)
-    c.requires.before c.older-after.ensures.cell
+    c.requires.newer c.older-older.ensures.cell
     (rw e) (rw (e, c.number-else-number-MAX.ensures.number)) (rw e))
     (rw e (later_masked k _ (down_small c.args.size) _ c.requires.listed n c.requires.held.masked)) (rw e, refl, refl) (omega arith, omega arith)

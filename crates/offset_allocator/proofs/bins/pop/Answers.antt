@@ -1,8 +1,8 @@
 use Rattle.offset_allocator.proofs.Binned.{head, without_head}
 use Rattle.offset_allocator.proofs.bins.pop.Goals as goal
 
-pub behead-requires-clause-after : goal.behead-requires-clause-after
-behead-requires-clause-after g c = rw (← (c.head-name.ensures.cell)) c.older-after.ensures.cell
+pub behead-requires-clause-older : goal.behead-requires-clause-older
+behead-requires-clause-older g c = rw (← (c.head-name.ensures.cell)) c.older-older.ensures.cell
 
 pub returns-clause-first : goal.returns-clause-first
 returns-clause-first g c =

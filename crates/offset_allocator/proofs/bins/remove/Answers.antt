@@ -2,5 +2,5 @@ use Rattle.offset_allocator.proofs.Binned.{below}
 use Rattle.offset_allocator.proofs.Classes.{down_small}
 use Rattle.offset_allocator.proofs.bins.remove.Goals as goal
 
-pub newer-before-requires : goal.newer-before-requires
-newer-before-requires g c = below c.requires.held.linked _ (down_small c.args.size) _ c.requires.listed
+pub newer-newer-requires : goal.newer-newer-requires
+newer-newer-requires g c = below c.requires.held.linked _ (down_small c.args.size) _ c.requires.listed
