@@ -11,7 +11,7 @@ use Rattle.offset_allocator.specs.Classes.{value, up, down}
 use Rattle.offset_allocator.specs.View.{Block, View, free_sizes, bin_at, push, push_all, IsWellFormed}
 use Rattle.offset_allocator.specs.Relations.{IsFresh}
 use Rattle.offset_allocator.specs.Compacting.{Compacts, live, gathered}
-use Rattle.offset_allocator.specs.Requests.{CanGrant, HasRoomFor, IsWhy, block_needed}
+use Rattle.offset_allocator.specs.Requests.{CanGrant, HasRoomFor, IsWhy, size_needed}
 use Rattle.offset_allocator.proofs.Always.{adds_up}
 use Rattle.offset_allocator.proofs.Classes.{down_law, down_small, value_down, value_grows, up_reached}
 use Rattle.offset_allocator.proofs.Counting.{value_within_free}
@@ -73,14 +73,14 @@ module _ (v : View) (w : IsWellFormed v) (blocks n : ℕ) (room : HasRoomFor blo
     bins_are : u.order ≡ push_all (gathered c.name (free_sizes v.blocks)) (replicate 256 [])
     bins_are = ap (λ (x : View). x.order) c.view
 
-    makes_room : (ns : List ℕ) → free_sizes v.blocks ≡ ns → block_needed n ≤ sum (free_sizes v.blocks) → HasFit n u
+    makes_room : (ns : List ℕ) → free_sizes v.blocks ≡ ns → size_needed n ≤ sum (free_sizes v.blocks) → HasFit n u
     makes_room [] e l = absurd (omega (arith, l, ap sum e))
     makes_room (m ∷ ns) e l =
         let s : m + sum ns ≡ sum (free_sizes v.blocks) = sym (ap sum e ∙ sum_by-cons (λ (k : ℕ). k) m ns) in
         let t = alone_serves c.name (m + sum ns) n (omega (arith, s, free_within v w, w.fits)) (omega (arith, s, l)) in
         (down (m + sum ns), t.0, subst (λ o. bin_at o (down (m + sum ns)) ≢ []) (sym (bins_are ∙ ap (λ k. push_all (gathered c.name k) (replicate 256 [])) e)) t.1)
 
-    needs_room : (CanGrant blocks n v → ⊥) → HasFit n u → (ns : List ℕ) → free_sizes v.blocks ≡ ns → block_needed n ≤ sum (free_sizes v.blocks)
+    needs_room : (CanGrant blocks n v → ⊥) → HasFit n u → (ns : List ℕ) → free_sizes v.blocks ≡ ns → size_needed n ≤ sum (free_sizes v.blocks)
     needs_room none h [] e = absurd (h.2 (ap (λ o. bin_at o h.0) (bins_are ∙ ap (λ k. push_all (gathered c.name k) (replicate 256 [])) e) ∙ none_at h.0))
     needs_room none h (m ∷ ns) e =
         let s : m + sum ns ≡ sum (free_sizes v.blocks) = sym (ap sum e ∙ sum_by-cons (λ (k : ℕ). k) m ns) in

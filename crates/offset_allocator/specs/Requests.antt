@@ -39,16 +39,16 @@ abbrev pub CanGrant : ℕ → ℕ → View → Type 0
 CanGrant blocks units v = HasRoomFor blocks v × ((c : ℕ) × (up units ≤ c) × (bin_at v.order c ≢ []))
 
 -- the smallest size of a free block that the request may take: that of a class large enough, and at least one unit
-abbrev pub block_needed : ℕ → ℕ
-block_needed units = max 1 (value (up units))
+abbrev pub size_needed : ℕ → ℕ
+size_needed units = max 1 (value (up units))
 
 -- why such a request is refused: too few nodes; the class of the whole space is not large enough; that of all free units
 -- together is not; or it is, but no free block is of a class that is large enough
 abbrev pub IsWhy : ℕ → ℕ → View → Refusal → Type 0
 IsWhy blocks units v Nodes = v.max_allocs ≤ length v.blocks + blocks
 IsWhy blocks units v TooLarge = HasRoomFor blocks v × (v.size < value (up units))
-IsWhy blocks units v Space = HasRoomFor blocks v × (value (up units) ≤ v.size) × (sum (free_sizes v.blocks) < block_needed units) × (CanGrant blocks units v → ⊥)
-IsWhy blocks units v Fragmented = HasRoomFor blocks v × (block_needed units ≤ sum (free_sizes v.blocks)) × (CanGrant blocks units v → ⊥)
+IsWhy blocks units v Space = HasRoomFor blocks v × (value (up units) ≤ v.size) × (sum (free_sizes v.blocks) < size_needed units) × (CanGrant blocks units v → ⊥)
+IsWhy blocks units v Fragmented = HasRoomFor blocks v × (size_needed units ≤ sum (free_sizes v.blocks)) × (CanGrant blocks units v → ⊥)
 
 -- the text of a reason
 abbrev pub refusal_words : Refusal → List ℕ

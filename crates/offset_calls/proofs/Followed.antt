@@ -11,7 +11,7 @@ use Rattle.offset_allocator.specs.declared.reports.Refusal.TheVariants.{Nodes, T
 use Rattle.offset_allocator.specs.Classes.{value, up, down}
 use Rattle.offset_allocator.specs.View.{View, Grant, Place, times, count_in_bin, bin_at, units, IsWellFormed}
 use Rattle.offset_allocator.specs.View as named
-use Rattle.offset_allocator.specs.Requests.{HasRoomFor, IsWhy, block_needed, blocks_needed, units_needed}
+use Rattle.offset_allocator.specs.Requests.{HasRoomFor, IsWhy, size_needed, blocks_needed, units_needed}
 use Rattle.offset_allocator.specs.Ranges.{Range, range_of, size_of}
 use Rattle.offset_allocator.specs.Relations.{SameSpace}
 use Rattle.offset_allocator.specs.Resizing.{Shrinks, Grows, Resizes}
@@ -237,19 +237,19 @@ module _ (v w : View) (hs left : List (Option Grant)) (r : Reply) (s : State) (f
       go (Some TooLarge) e =
           let h = is_why TooLarge e in
           is_short TooLarge e h.0
-          (ap (λ b. if b then TooLarge else if nat_lt (sum (free_sizes s.blocks)) (block_needed n) then Space else Fragmented)
+          (ap (λ b. if b then TooLarge else if nat_lt (sum (free_sizes s.blocks)) (size_needed n) then Space else Fragmented)
           (lt-ltb (total s.blocks) (value (up n)) (let f = size_is in let l = h.1 in omega arith)))
       go (Some Space) e =
           let h = is_why Space e in
           is_short Space e h.0 (ap₂ (λ a b. if a then TooLarge else if b then Space else Fragmented)
           (le-ltb (total s.blocks) (value (up n)) (let f = size_is in let l = h.1 in omega arith))
-          (lt-ltb (sum (free_sizes s.blocks)) (block_needed n) (let f = same_free in let l = h.2 in omega arith)))
+          (lt-ltb (sum (free_sizes s.blocks)) (size_needed n) (let f = same_free in let l = h.2 in omega arith)))
       go (Some Fragmented) e =
           let h = is_why Fragmented e in
           let l = free_within v p.formed in
           is_short Fragmented e h.0 (ap₂ (λ a b. if a then TooLarge else if b then Space else Fragmented)
           (le-ltb (total s.blocks) (value (up n)) (let f = size_is in let m = h.1 in omega arith))
-          (le-ltb (sum (free_sizes s.blocks)) (block_needed n) (let f = same_free in let m = h.1 in omega arith)))
+          (le-ltb (sum (free_sizes s.blocks)) (size_needed n) (let f = same_free in let m = h.1 in omega arith)))
 
   aligned_reason : (n align : ℕ) → 1 ≤ align → reason (blocks_needed align) (units_needed n align) s ≡ (if nat_le align 1 then reason 1 n s else reason 2 (n + align - 1) s)
   aligned_reason n align some = elim (cases_lt 1 align) [

@@ -4,7 +4,7 @@ use Rattle.std.proofs.lemmas.List.{get_or_past}
 use Rattle.offset_allocator.specs.View.{View, free_sizes, IsWellFormed}
 use Rattle.offset_allocator.specs.Classes.{value, up, down}
 use Rattle.offset_allocator.proofs.Sound.{Fields, fields_of, known_sound}
-use Rattle.offset_allocator.specs.Requests.{CanGrant, block_needed, blocks_needed, units_needed}
+use Rattle.offset_allocator.specs.Requests.{CanGrant, size_needed, blocks_needed, units_needed}
 use Rattle.offset_allocator.proofs.Advice.{free_within, too_small}
 use Rattle.offset_allocator.proofs.Classes.{past_words, down_law, value_small, below_value_up}
 use Rattle.offset_allocator.proofs.Counting.{value_within_free}
@@ -17,8 +17,8 @@ low_is : (n align k : ℕ) → 1 ≤ align → k ≡ up (n + (align - 1)) → k 
 low_is n align k l e = let same : n + (align - 1) ≡ units_needed n align = omega arith in e ∙ ap up same
 
 -- the class of some units is below that of the request, and of one unit: then the units are too few
-few : (n s k d : ℕ) → s < 2 ^ 32 → k ≡ up n → d ≡ down s → d < max k 1 → s < block_needed n
-few n s k d h e f l = elim (cases_lt s (block_needed n)) [
+few : (n s k d : ℕ) → s < 2 ^ 32 → k ≡ up n → d ≡ down s → d < max k 1 → s < size_needed n
+few n s k d h e f l = elim (cases_lt s (size_needed n)) [
   | inl m ↦ m
   | inr m ↦
       let a = (down_law s k h).1 (omega (arith, m, ap value e)) in
@@ -26,7 +26,7 @@ few n s k d h e f l = elim (cases_lt s (block_needed n)) [
       absurd (omega (arith, a, b, f, l))
 ]
 
-enough : (n s k d : ℕ) → s < 2 ^ 32 → k ≡ up n → d ≡ down s → max k 1 ≤ d → block_needed n ≤ s
+enough : (n s k d : ℕ) → s < 2 ^ 32 → k ≡ up n → d ≡ down s → max k 1 ≤ d → size_needed n ≤ s
 enough n s k d h e f l =
     let a = (down_law s k h).0 (omega (arith, f, l)) in
     let b = (down_law s 1 h).0 (omega (arith, f, l)) in
