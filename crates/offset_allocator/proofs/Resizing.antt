@@ -1,8 +1,8 @@
 -- A block that is resized with the free block after it: what that leaves of a view, and of the whole allocator.
 use Rattle.std.specs.Prelude.{IsSome}
 use Rattle.std.proofs.Common.{◌≡◌, ◌≢◌, ◌↔◌, ℕ, zero, suc, ◌+◌, ◌-◌, ◌<◌, ◌≤◌, Bool, true, false, ◌⊎◌, List, [], ◌∷◌, ◌++◌, length, Option, Some}
-use Rattle.std.proofs.Common.{None, is_some, nat_eq, refl, sym, ap, ap₂, subst, ◌∙◌, inl, inr, arith, length-append, eq-zero-or-pos, eq-eqb, ne_eqb, if◌then◌else◌}
-use Rattle.std.proofs.lemmas.Bool.{false≢true, true≢false, and_right, cases_eq}
+use Rattle.std.proofs.Common.{None, is_some, nat_eq, refl, sym, ap, ap₂, subst, ◌∙◌, inl, inr, arith, length-append, eq-zero-or-pos, if◌then◌else◌}
+use Rattle.std.proofs.lemmas.Bool.{false≢true, true≢false, and_right}
 use Rattle.offset_allocator.specs.Cells.{Cells, Node}
 use Rattle.offset_allocator.specs.View.{Block, View, Place, one, units, count_named, used_of, used_block, IsApart, IsWellFormed, IsNew, free_start, without_start, free_part, remove_all, push_all}
 use Rattle.offset_allocator.specs.View.{replace}

@@ -4,7 +4,6 @@ use Rattle.std.proofs.Common.{nat_eq, nat_le, if◌then◌else◌, refl, sym, ap
 use Rattle.std.proofs.Common.{ap₂, subst, subst₂, ◌∙◌, inl, inr, arith, eq-eqb, ne_eqb, le-leb}
 use Rattle.std.proofs.lemmas.Bool.{cases_eq, cases_lt, true≢false, false≢true, lt-leb}
 use Rattle.std.proofs.lemmas.List.{map-append}
-use Rattle.offset_allocator.specs.declared.reports.Refusal.{Refusal}
 use Rattle.offset_allocator.specs.declared.reports.Refusal.TheVariants.{Nodes}
 use Rattle.offset_script.specs.Histories.{number_without}
 use Rattle.offset_script.specs.Machine.{State, is_free, has_number, total, free_sizes, place_of, chosen_place, is_short_of, free_start, without_start, free_block, stamp_of_call, fits}
@@ -19,7 +18,7 @@ use Rattle.offset_script.proofs.Found.{found_at}
 use Rattle.offset_calls.specs.declared.calls.Call.{Call}
 use Rattle.offset_calls.specs.declared.calls.Call.TheVariants as call
 use Rattle.offset_calls.specs.Calls.{Reply, Answer, Compacted, Offset, Refused_for, Outcome, starts_free, resize, resized, replies_only, number, move_of, moves, gathered, compact, offset_at, shortage}
-use Rattle.offset_calls.specs.Calls.{reason, step, after, replies}
+use Rattle.offset_calls.specs.Calls.{reason, step, replies}
 use Rattle.offset_calls.specs.Histories.{renumber, number_with, raise_move, raise}
 
 -- the same reply, except for numbers, and states that are alike again

@@ -1,5 +1,5 @@
 -- Laws over whole histories of calls.
-use Rattle.std.specs.Prelude.{ℕ, ◌+◌, ◌-◌, List, [], map, nat_le, if◌then◌else◌}
+use Rattle.std.specs.Prelude.{ℕ, ◌+◌, ◌-◌, List, map, nat_le, if◌then◌else◌}
 use Rattle.offset_script.specs.Histories.{number_without, raise_number}
 use Rattle.offset_script.specs.Histories as script
 use Rattle.offset_script.specs.Machine.{State}

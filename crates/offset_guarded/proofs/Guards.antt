@@ -12,7 +12,7 @@ use Rattle.offset_allocator.specs.Requests.{CanGrant}
 use Rattle.offset_allocator.proofs.Reading.{range_at}
 use Rattle.offset_allocator.proofs.Tallies.{hit_cases}
 use Rattle.offset_guarded.specs.declared.ticket.Ticket.{Ticket}
-use Rattle.offset_guarded.specs.Guard.{Guard, Table, Grants, AreAlike, IsGuarded, IsLive, KeepsOthers, last_serial, cell, fits, range_of, serial_of}
+use Rattle.offset_guarded.specs.Guard.{Guard, Table, Grants, AreAlike, IsGuarded, IsLive, KeepsOthers, last_serial, cell, fits, serial_of}
 
 -- what the fields show
 abbrev pub guard : View → Table → ℕ → Guard

@@ -6,7 +6,7 @@ use Rattle.std.proofs.lemmas.Bool.{true≢false, and_parts}
 use Rattle.std.proofs.lemmas.Bool.Decides.{nat_tests}
 use Rattle.offset_allocator.specs.Classes.{down}
 use Rattle.offset_allocator.specs.View.{one}
-use Rattle.offset_script.specs.Machine.{Tag, Live, Free, Block, block, has_number, stamp, Place, here, prepend, fits, is_taken_before, choose, chosen_place, place_of, after}
+use Rattle.offset_script.specs.Machine.{Tag, Live, Free, Block, has_number, stamp, Place, here, prepend, fits, is_taken_before, choose, chosen_place, place_of}
 use Rattle.offset_script.proofs.Members.{IsIn}
 use Rattle.offset_script.proofs.Lists.{hit, count, whole, hit_number}
 

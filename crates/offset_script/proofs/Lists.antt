@@ -5,7 +5,7 @@ use Rattle.offset_allocator.proofs.ViewApart.{left_false, right_false}
 use Rattle.std.proofs.lemmas.Bool.{cases_eq, true≢false, false≢true, and_left, and_right}
 use Rattle.std.specs.List.{AllByRecursion}
 use Rattle.offset_allocator.specs.View.{one}
-use Rattle.offset_script.specs.Machine.{Tag, Live, Free, Block, block, is_free, has_number, total, Place, free_block, free_start, without_start, free_end, without_end, coalesce, start, after}
+use Rattle.offset_script.specs.Machine.{Tag, Live, Free, Block, block, is_free, has_number, total, Place, free_block, free_start, without_start, free_end, without_end, coalesce}
 use Rattle.offset_script.proofs.Members.{IsIn}
 use Rattle.offset_allocator.proofs.Tallies.{hit_cases, one-same}
 
