@@ -90,13 +90,13 @@ fn link_newer<T: Tables>(tables: &mut T, at: T::Index, to: T::Index, count: &mut
     }
 }
 
-// Removes the newest name of a class from its bin. `after` is the link to the next older one.
+// Removes the newest name of a class from its bin. `older` is the link to the next older one.
 #[inline(always)]
-fn behead<T: Tables>(store: &mut Store<T>, class: u32, after: T::Index) {
+fn behead<T: Tables>(store: &mut Store<T>, class: u32, older: T::Index) {
     let tables = &mut store.tables;
     let count = &mut store.accesses;
     tables.shape();
-    let next = number(after);
+    let next = number(older);
     tables.set_head(class, next, count);
     if next == T::Index::MAX {
         clear_bit(store, class);
@@ -105,27 +105,27 @@ fn behead<T: Tables>(store: &mut Store<T>, class: u32, after: T::Index) {
     }
 }
 
-// Removes a name from the bin of this size. `before` is the link to the next newer one.
+// Removes a name from the bin of this size. `newer` is the link to the next newer one.
 #[inline(always)]
-fn leave<T: Tables>(store: &mut Store<T>, name: u32, before: T::Index, size: u32) {
+fn leave<T: Tables>(store: &mut Store<T>, name: u32, newer: T::Index, size: u32) {
     let tables = &mut store.tables;
     let count = &mut store.accesses;
     tables.shape();
-    let after = tables.older(name, count);
-    if number(before) == T::Index::MAX {
+    let older = tables.older(name, count);
+    if number(newer) == T::Index::MAX {
         // only the newest name has to find its class
-        behead(store, uint_to_float_round_down(size), after);
+        behead(store, uint_to_float_round_down(size), older);
     } else {
-        link_newer(tables, after, before, count);
-        tables.set_older(number(before), after, count);
+        link_newer(tables, older, newer, count);
+        tables.set_older(number(newer), older, count);
     }
 }
 
 /// Removes a name from the bin of this size.
 #[inline(always)]
 pub(crate) fn remove<T: Tables>(store: &mut Store<T>, name: u32, size: u32) {
-    let before = store.tables.newer(name, &mut store.accesses);
-    leave(store, name, before, size);
+    let newer = store.tables.newer(name, &mut store.accesses);
+    leave(store, name, newer, size);
 }
 
 /// Removes `gone`, the name of a block of `size` units, from its bin, and pushes `name` onto the bin of `class`. Where
@@ -133,17 +133,17 @@ pub(crate) fn remove<T: Tables>(store: &mut Store<T>, name: u32, size: u32) {
 #[inline(always)]
 pub(crate) fn exchange<T: Tables>(store: &mut Store<T>, gone: u32, size: u32, name: u32, class: u32) {
     store.tables.shape();
-    let before = store.tables.newer(gone, &mut store.accesses);
-    if number(before) == T::Index::MAX && class == uint_to_float_round_down(size) {
+    let newer = store.tables.newer(gone, &mut store.accesses);
+    if number(newer) == T::Index::MAX && class == uint_to_float_round_down(size) {
         // the bin is empty neither before nor after, so the masks stay
         let tables = &mut store.tables;
         let count = &mut store.accesses;
-        let after = tables.older(gone, count);
+        let older = tables.older(gone, count);
         tables.set_head(class, name, count);
-        tables.set_links(name, no_link(), after, count);
-        link_newer(tables, after, link_to(name), count);
+        tables.set_links(name, no_link(), older, count);
+        link_newer(tables, older, link_to(name), count);
     } else {
-        leave(store, gone, before, size);
+        leave(store, gone, newer, size);
         push(store, name, class);
     }
 }
@@ -153,8 +153,8 @@ pub(crate) fn pop<T: Tables>(store: &mut Store<T>, class: u32) -> u32 {
     let tables = &mut store.tables;
     let count = &mut store.accesses;
     let name = tables.head(class, count);
-    let after = tables.older(name, count);
-    behead(store, class, after);
+    let older = tables.older(name, count);
+    behead(store, class, older);
     name
 }
 
