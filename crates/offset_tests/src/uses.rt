@@ -2,7 +2,9 @@
 
 use crate::asserts::{assert_same, assert_same_at, assert_that, assert_that_at};
 use offset_allocator::Refusal::{Fragmented, Nodes, Space};
-use offset_allocator::{Accesses, Allocation, Allocator, AllocatorOf, ByNode, Refusal, Tables};
+use offset_allocator::{
+    Accesses, Allocation, Allocator, AllocatorOf, ByNode, NodeIndex, Refusal, Tables,
+};
 use offset_script::{Answer, Command};
 use offset_test_base::tiny::Tiny;
 use offset_uses::daily::{
@@ -290,16 +292,9 @@ fn observe<T: Tables>(
     match step {
         Is(size, total, largest) => {
             let report = space.storage_report();
-            assert_same_at(
-                rt,
-                at,
-                &(
-                    space.size(),
-                    report.total_free_space,
-                    report.largest_free_region,
-                ),
-                &(size, total, largest),
-            );
+            assert_same_at(rt, at, &space.size(), &size);
+            assert_same_at(rt, at, &report.total_free_space, &total);
+            assert_same_at(rt, at, &report.largest_free_region, &largest);
         }
         GrantedUnits(count) => assert_same_at(rt, at, &granted_units(space), &count),
         Holes(wanted) => {
@@ -351,36 +346,62 @@ fn use_space<T: Tables>(
     }
 }
 
-#[test]
-fn one_space_is_used(rt: HostRuntime) {
-    for case in &CASES {
-        assert_that_at(&rt, &case.name, 2 <= case.limit && case.limit <= 1_000);
-        let made = Allocator::<u32>::with_max_allocs(rt.alloc(), case.size, case.limit);
-        let mut space = made.expect(&rt, "memory");
-        let mut ranges = Vec::new(rt.alloc());
-        for (place, step) in case.uses.iter().enumerate() {
-            let at = (case.name, place);
-            use_space(&rt, rt.alloc(), &at, &mut space, &mut ranges, *step);
-        }
+fn expect_uses<T: Tables>(rt: &impl Abort, alloc: Global, case: &Case) {
+    assert_that_at(rt, &case.name, 2 <= case.limit && case.limit <= 1_000);
+    assert_that_at(rt, &case.name, case.limit < T::Index::MAX - 1);
+    let made = AllocatorOf::<T>::with_max_allocs(alloc, case.size, case.limit);
+    let mut space = made.expect(rt, "memory");
+    let mut ranges = Vec::new(alloc);
+    for (place, step) in case.uses.iter().enumerate() {
+        let at = (case.name, place);
+        use_space(rt, alloc, &at, &mut space, &mut ranges, *step);
     }
 }
 
 #[test]
-fn a_tenant_stays_within_its_quota(rt: HostRuntime) {
-    let mut space = Allocator::<u32>::new(rt.alloc(), 100).expect(&rt, "memory");
+fn one_space_is_used(rt: HostRuntime) {
+    for case in &CASES {
+        expect_uses::<ByNode<u32>>(&rt, rt.alloc(), case);
+        expect_uses::<ByNode<u16>>(&rt, rt.alloc(), case);
+    }
+}
+
+// A new space of this size.
+fn made<T: Tables>(rt: &impl Abort, alloc: Global, size: u32) -> AllocatorOf<T> {
+    AllocatorOf::new(alloc, size).expect(rt, "memory")
+}
+
+// A grant of this size.
+fn granted<T: Tables>(
+    rt: &impl Abort,
+    space: &mut AllocatorOf<T>,
+    size: u32,
+) -> Allocation<T::Index> {
+    space.allocate(size).expect(rt, "room")
+}
+
+fn expect_free<T: Tables>(rt: &impl Abort, space: &AllocatorOf<T>, units: u32) {
+    assert_same(rt, &space.storage_report().total_free_space, &units);
+}
+
+fn expect_quotas<T: Tables>(rt: &impl Abort, alloc: Global) {
+    let mut space = made::<T>(rt, alloc, 100);
     let mut near = Tenant { quota: 20, held: 0 };
     let mut far = Tenant { quota: 50, held: 0 };
-    assert_that(&rt, charge(&mut space, &mut near, 15).is_some());
-    assert_that(&rt, charge(&mut space, &mut far, 50).is_some());
-    assert_that(&rt, charge(&mut space, &mut near, 6).is_none());
-    assert_same(&rt, &(near.held, far.held), &(15, 50));
-    let allocation = charge(&mut space, &mut near, 5).expect(&rt, "room");
+    assert_that(rt, charge(&mut space, &mut near, 15).is_some());
+    assert_that(rt, charge(&mut space, &mut far, 50).is_some());
+    assert_that(rt, charge(&mut space, &mut near, 6).is_none());
+    assert_same(rt, &near.held, &15);
+    assert_same(rt, &far.held, &50);
+    let allocation = charge(&mut space, &mut near, 5).expect(rt, "room");
     refund(&mut space, &mut near, allocation);
-    assert_same(
-        &rt,
-        &(near.held, space.storage_report().total_free_space),
-        &(15, 35),
-    );
+    assert_same(rt, &near.held, &15);
+    expect_free(rt, &space, 35);
+}
+
+#[test]
+fn a_tenant_stays_within_its_quota(rt: HostRuntime) {
+    expect_quotas::<ByNode<u32>>(&rt, rt.alloc());
 }
 
 fn expect_frame<T: Tables>(rt: &impl Abort, alloc: Global) {
@@ -416,151 +437,214 @@ fn both_widths_give_equal_answers(rt: HostRuntime) {
     }
 }
 
+fn expect_mesh<T: Tables>(rt: &impl Abort, alloc: Global) {
+    let mut vertices = made::<T>(rt, alloc, 100);
+    let mut indices = made::<T>(rt, alloc, 10);
+    assert_that(rt, insert(&mut vertices, &mut indices, 60, 20).is_none());
+    expect_free(rt, &vertices, 100);
+    let (first, second) = insert(&mut vertices, &mut indices, 60, 10).expect(rt, "room");
+    assert_same(rt, &first.offset, &0);
+    assert_same(rt, &second.offset, &0);
+    assert_that(rt, insert(&mut vertices, &mut indices, 1, 1).is_none());
+    expect_free(rt, &vertices, 40);
+}
+
 #[test]
 fn a_mesh_is_in_both_buffers_or_in_none(rt: HostRuntime) {
-    let mut vertices = Allocator::<u32>::new(rt.alloc(), 100).expect(&rt, "memory");
-    let mut indices = Allocator::<u32>::new(rt.alloc(), 10).expect(&rt, "memory");
-    assert_that(&rt, insert(&mut vertices, &mut indices, 60, 20).is_none());
-    assert_same(&rt, &vertices.storage_report().total_free_space, &100);
-    let (first, second) = insert(&mut vertices, &mut indices, 60, 10).expect(&rt, "room");
-    assert_same(&rt, &(first.offset, second.offset), &(0, 0));
-    assert_that(&rt, insert(&mut vertices, &mut indices, 1, 1).is_none());
-    assert_same(&rt, &vertices.storage_report().total_free_space, &40);
+    expect_mesh::<ByNode<u32>>(&rt, rt.alloc());
+}
+
+// Four ranges of 24 units fill the space. The second and the fourth stay live, and their handles are returned.
+fn fragment<T: Tables>(
+    rt: &impl Abort,
+    space: &mut AllocatorOf<T>,
+) -> (Allocation<T::Index>, Allocation<T::Index>) {
+    let first = granted(rt, space, 24);
+    let second = granted(rt, space, 24);
+    let third = granted(rt, space, 24);
+    let fourth = granted(rt, space, 24);
+    assert_that(rt, give_back(space, first));
+    assert_that(rt, give_back(space, third));
+    assert_same(rt, &space.refusal(40), &Some(Refusal::Fragmented));
+    (second, fourth)
+}
+
+fn expect_packed<T: Tables>(
+    rt: &impl Abort,
+    space: &mut AllocatorOf<T>,
+    second: Allocation<T::Index>,
+    fourth: Allocation<T::Index>,
+) {
+    assert_same(rt, &space.allocation_offset(second), &Some(0));
+    assert_same(rt, &space.allocation_offset(fourth), &Some(24));
+    assert_same(rt, &granted(rt, space, 40).offset, &48);
 }
 
 #[test]
 fn data_is_moved_with_its_range(rt: HostRuntime) {
-    let mut space = Allocator::<u32>::new(rt.alloc(), 96).expect(&rt, "memory");
+    let mut space: Allocator = made(&rt, rt.alloc(), 96);
     let mut buffer = [0u32; 96];
     for unit in 0..96u32 {
         buffer[unit as usize] = unit;
     }
-    let first = space.allocate(24).expect(&rt, "room");
-    let second = space.allocate(24).expect(&rt, "room");
-    let third = space.allocate(24).expect(&rt, "room");
-    let fourth = space.allocate(24).expect(&rt, "room");
-    assert_that(&rt, give_back(&mut space, first));
-    assert_that(&rt, give_back(&mut space, third));
-    assert_same(&rt, &space.refusal(40), &Some(Refusal::Fragmented));
+    let (second, fourth) = fragment(&rt, &mut space);
     defragment(&mut space, &mut buffer);
-    assert_same(&rt, &space.allocation_offset(second), &Some(0));
-    assert_same(&rt, &space.allocation_offset(fourth), &Some(24));
-    assert_same(
-        &rt,
-        &(buffer[0], buffer[23], buffer[24], buffer[47]),
-        &(24, 47, 72, 95),
-    );
-    let range = space.allocate(40).expect(&rt, "room");
-    assert_same(&rt, &range.offset, &48);
+    for (unit, wanted) in [(0usize, 24u32), (23, 47), (24, 72), (47, 95)] {
+        assert_same_at(&rt, &unit, &buffer[unit], &wanted);
+    }
+    expect_packed(&rt, &mut space, second, fourth);
+}
+
+// Where a range of the ring begins.
+fn taken(ring: &mut Ring, size: u32) -> Option<u32> {
+    Some(ring.take(size)?.offset)
+}
+
+fn new_ring(rt: &impl Abort, alloc: Global) -> Ring {
+    Ring {
+        even: made(rt, alloc, 100),
+        odd: made(rt, alloc, 100),
+        is_odd: false,
+    }
 }
 
 #[test]
 fn a_ring_frees_the_frame_before_the_last(rt: HostRuntime) {
-    let mut ring = Ring {
-        even: Allocator::<u32>::new(rt.alloc(), 100).expect(&rt, "memory"),
-        odd: Allocator::<u32>::new(rt.alloc(), 100).expect(&rt, "memory"),
-        is_odd: false,
-    };
-    assert_that(&rt, ring.take(60).is_some());
+    let mut ring = new_ring(&rt, rt.alloc());
+    assert_that(&rt, taken(&mut ring, 60).is_some());
     ring.begin();
-    assert_that(&rt, ring.take(60).is_some());
-    assert_that(&rt, ring.take(60).is_none());
+    assert_that(&rt, taken(&mut ring, 60).is_some());
+    assert_that(&rt, taken(&mut ring, 60).is_none());
     ring.begin();
-    let range = ring.take(60).expect(&rt, "room");
-    assert_same(&rt, &range.offset, &0);
+    assert_same(&rt, &taken(&mut ring, 60), &Some(0));
 }
 
-// Units of 256 bytes need no padding: a heap of 4,096 of them grants 4,096 requests. By bytes, 15 of 16 are granted.
-#[test]
-fn all_units_are_granted(rt: HostRuntime) {
-    let mut heap = Allocator::<u32>::with_max_allocs(rt.alloc(), 4_096, 4_098).expect(
-        &rt, "memory",
-    );
+// A space with this node limit.
+fn limited<T: Tables>(rt: &impl Abort, alloc: Global, size: u32, limit: u32) -> AllocatorOf<T> {
+    assert_that(rt, 2 <= limit && limit < T::Index::MAX - 1);
+    AllocatorOf::with_max_allocs(alloc, size, limit).expect(rt, "memory")
+}
+
+// Units of 256 bytes need no padding: a heap of 4,096 of them grants 4,096 requests.
+fn expect_units<T: Tables>(rt: &impl Abort, alloc: Global) {
+    let mut heap = limited::<T>(rt, alloc, 4_096, 4_098);
     for k in 0..4_096u64 {
         let bytes = if k % 2 == 0 { 256 } else { 1 };
-        let (_, first) = upload_units(&mut heap, bytes).expect(&rt, "room");
-        assert_same_at(&rt, &k, &first, &(256 * k));
+        let (_, first) = upload_units(&mut heap, bytes).expect(rt, "room");
+        assert_same_at(rt, &k, &first, &(256 * k));
     }
-    assert_that(&rt, upload_units(&mut heap, 1).is_none());
-    let mut bytes = Allocator::<u32>::with_max_allocs(rt.alloc(), 1 << 20, 100).expect(
-        &rt, "memory",
-    );
+    assert_that(rt, upload_units(&mut heap, 1).is_none());
+}
+
+// By bytes, 15 of 16 are granted.
+fn expect_padding<T: Tables>(rt: &impl Abort, alloc: Global) {
+    let mut bytes = limited::<T>(rt, alloc, 1 << 20, 100);
     for k in 0..16u32 {
         let granted = bytes.allocate_aligned(1 << 16, 256).is_some();
-        assert_same_at(&rt, &k, &granted, &(k < 15));
+        assert_same_at(rt, &k, &granted, &(k < 15));
     }
+}
+
+#[test]
+fn all_units_are_granted(rt: HostRuntime) {
+    expect_units::<ByNode<u32>>(&rt, rt.alloc());
+    expect_padding::<ByNode<u32>>(&rt, rt.alloc());
+}
+
+// The second of two ranges, of which the first stays live.
+fn second_of_two<T: Tables>(
+    rt: &impl Abort,
+    space: &mut AllocatorOf<T>,
+) -> (Allocation<T::Index>, Allocation<T::Index>) {
+    let first = granted(rt, space, 10);
+    let second = granted(rt, space, 20);
+    assert_that(rt, restored(second) == second);
+    assert_same(rt, &second.to_parts().0, &10);
+    (first, second)
+}
+
+fn is_freed(space: &mut Allocator, name: u32) -> bool {
+    free_named(space, name)
+}
+
+fn expect_only<T: Tables>(rt: &impl Abort, space: &AllocatorOf<T>, first: Allocation<T::Index>) {
+    assert_that(rt, space.is_live(first));
+    expect_free(rt, space, 90);
 }
 
 #[test]
 fn handles_come_back(rt: HostRuntime) {
-    let mut space = Allocator::<u32>::new(rt.alloc(), 100).expect(&rt, "memory");
-    let first = space.allocate(10).expect(&rt, "room");
-    let second = space.allocate(20).expect(&rt, "room");
-    assert_that(&rt, restored(second) == second);
-    assert_same(&rt, &second.to_parts().0, &10);
-    assert_that(&rt, free_named(&mut space, second.to_parts().1));
-    assert_that(&rt, !free_named(&mut space, second.to_parts().1));
-    assert_that(&rt, !free_named(&mut space, 4_294_967_295));
-    assert_that(&rt, space.is_live(first));
-    assert_same(&rt, &space.storage_report().total_free_space, &90);
+    let mut space: Allocator = made(&rt, rt.alloc(), 100);
+    let (first, second) = second_of_two(&rt, &mut space);
+    let (_, name) = second.to_parts();
+    assert_that(&rt, is_freed(&mut space, name));
+    assert_that(&rt, !is_freed(&mut space, name));
+    assert_that(&rt, !is_freed(&mut space, 4_294_967_295));
+    expect_only(&rt, &space, first);
+}
+
+fn expect_slabs<T: Tables>(rt: &impl Abort, alloc: Global) {
+    let mut slabs = Vec::new(alloc);
+    for size in [10u32, 100] {
+        assert_that(rt, slabs.push(made::<T>(rt, alloc, size)).is_ok());
+    }
+    assert_that(rt, take_from(&mut slabs, 0, 50).is_none());
+    assert_that(rt, take_from(&mut slabs, 1, 50).is_some());
+    assert_that(rt, take_from(&mut slabs, 2, 5).is_none());
 }
 
 #[test]
 fn spaces_are_in_a_vec(rt: HostRuntime) {
-    let mut slabs = Vec::new(rt.alloc());
-    for size in [10u32, 100] {
-        let slab = Allocator::<u32>::new(rt.alloc(), size).expect(&rt, "memory");
-        assert_that(&rt, slabs.push(slab).is_ok());
+    expect_slabs::<ByNode<u32>>(&rt, rt.alloc());
+}
+
+// 48 units are live, from 24 on, and the 24 units before them and after them are free.
+fn surround<T: Tables>(rt: &impl Abort, space: &mut AllocatorOf<T>) {
+    let first = granted(rt, space, 24);
+    let _middle = granted(rt, space, 48);
+    assert_that(rt, give_back(space, first));
+}
+
+// Where the place begins.
+fn packed(space: &mut Allocator, buffer: &mut [u32], size: u32) -> Result<u32, Refusal> {
+    match place_packed(space, buffer, size) {
+        Ok(range) => Ok(range.offset),
+        Err(why) => Err(why),
     }
-    assert_that(&rt, take_from(&mut slabs, 0, 50).is_none());
-    assert_that(&rt, take_from(&mut slabs, 1, 50).is_some());
-    assert_that(&rt, take_from(&mut slabs, 2, 5).is_none());
 }
 
 #[test]
 fn a_packed_place_is_granted(rt: HostRuntime) {
-    let mut space = Allocator::<u32>::new(rt.alloc(), 96).expect(&rt, "memory");
+    let mut space: Allocator = made(&rt, rt.alloc(), 96);
     let mut buffer = [7u32; 96];
-    let first = space.allocate(24).expect(&rt, "room");
-    assert_that(&rt, space.allocate(48).is_some());
-    assert_that(&rt, give_back(&mut space, first));
-    assert_that(
-        &rt,
-        place_packed(&mut space, &mut buffer, 49) == Err(Refusal::Space),
-    );
-    assert_that(
-        &rt,
-        place_packed(&mut space, &mut buffer, 97) == Err(Refusal::TooLarge),
-    );
-    match place_packed(&mut space, &mut buffer, 48) {
-        Ok(range) => assert_same(&rt, &range.offset, &48),
-        Err(_) => assert_that(&rt, false),
+    surround(&rt, &mut space);
+    for (size, why) in [(49, Refusal::Space), (97, Refusal::TooLarge)] {
+        let found = packed(&mut space, &mut buffer, size);
+        assert_same_at(&rt, &size, &found, &Err(why));
     }
+    assert_same(&rt, &packed(&mut space, &mut buffer, 48), &Ok(48));
 }
 
 // The example of `docs/USING.md`.
+fn ten_lines_of<T: Tables>(rt: &impl Abort, alloc: Global) {
+    let mut vertices = made::<T>(rt, alloc, 1 << 20);
+    let report = vertices.storage_report();
+    assert_same(rt, &report.total_free_space, &1048576);
+    assert_same(rt, &report.largest_free_region, &1048576);
+    let mesh = vertices.allocate(3000).expect(rt, "room");
+    assert_same(rt, &mesh.offset, &0);
+    assert_same(rt, &vertices.allocation_size(mesh), &3000);
+    assert_same(rt, &vertices.refusal(1 << 20), &Some(Refusal::Space));
+    let aligned = vertices.allocate_aligned(100, 256).expect(rt, "room");
+    assert_same(rt, &(aligned.offset % 256), &0);
+    assert_that(rt, vertices.is_live(mesh));
+    vertices.free(mesh);
+    assert_that(rt, !vertices.is_live(mesh));
+}
+
 #[test]
 fn ten_lines(rt: HostRuntime) {
-    let alloc = rt.alloc();
-    let mut vertices = Allocator::<u32>::new(alloc, 1 << 20).expect(&rt, "memory");
-    let report = vertices.storage_report();
-    assert_same(
-        &rt,
-        &(report.total_free_space, report.largest_free_region),
-        &(1048576, 1048576),
-    );
-    let mesh = vertices.allocate(3000).expect(&rt, "room");
-    assert_same(
-        &rt,
-        &(mesh.offset, vertices.allocation_size(mesh)),
-        &(0, 3000),
-    );
-    assert_same(&rt, &vertices.refusal(1 << 20), &Some(Refusal::Space));
-    let aligned = vertices.allocate_aligned(100, 256).expect(&rt, "room");
-    assert_same(&rt, &(aligned.offset % 256), &0);
-    assert_that(&rt, vertices.is_live(mesh));
-    vertices.free(mesh);
-    assert_that(&rt, !vertices.is_live(mesh));
+    ten_lines_of::<ByNode<u32>>(&rt, rt.alloc());
 }
 
 fn put_used_units(text: &mut String, count: u32) -> Result<(), AllocError> {
@@ -570,16 +654,18 @@ fn put_used_units(text: &mut String, count: u32) -> Result<(), AllocError> {
     Ok(())
 }
 
+fn expect_dump<T: Tables>(rt: &impl Abort, alloc: Global) {
+    let mut heap = limited::<T>(rt, alloc, 4_000, 5_000);
+    for _ in 0..4_000u32 {
+        assert_that(rt, heap.allocate(1).is_some());
+    }
+    let mut wanted = String::new(alloc);
+    put_used_units(&mut wanted, 4_000).expect(rt, "memory");
+    let text = dump(&heap, alloc).expect(rt, "memory");
+    assert_that(rt, text == wanted);
+}
+
 #[test]
 fn a_dump_has_a_line_for_each_of_many_blocks(rt: HostRuntime) {
-    let mut heap = Allocator::<u32>::with_max_allocs(rt.alloc(), 4_000, 5_000).expect(
-        &rt, "memory",
-    );
-    for _ in 0..4_000u32 {
-        assert_that(&rt, heap.allocate(1).is_some());
-    }
-    let mut wanted = String::new(rt.alloc());
-    put_used_units(&mut wanted, 4_000).expect(&rt, "memory");
-    let text = dump(&heap, rt.alloc()).expect(&rt, "memory");
-    assert_that(&rt, text == wanted);
+    expect_dump::<ByNode<u32>>(&rt, rt.alloc());
 }

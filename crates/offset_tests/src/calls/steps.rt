@@ -197,7 +197,7 @@ fn is_wanted<NI: NodeIndex>(
     };
     let mut after = *handle;
     after.offset = *to;
-    range.allocation() == after && (range.from, range.to, range.size) == (*from, *to, *size)
+    range.allocation() == after && range.from == *from && range.to == *to && range.size == *size
 }
 
 fn expect_moves<T: Tables>(
@@ -240,7 +240,7 @@ fn is_wanted_block<NI: NodeIndex>(
             }
         },
     };
-    has_handle && (block.offset, block.size) == (offset, size)
+    has_handle && block.offset == offset && block.size == size
 }
 
 // Each block is yielded by the walk, by a copy, which goes on from where it was made, and by a counted copy.
@@ -255,12 +255,10 @@ fn expect_walk<T: Tables>(
     let mut blocks = allocator.blocks();
     let mut left = wanted.len();
     for block in wanted {
-        assert_same_at(
-            rt,
-            at,
-            &(blocks.len(), blocks.size_hint()),
-            &(left, (left, Some(left))),
-        );
+        let (least, most) = blocks.size_hint();
+        assert_same_at(rt, at, &blocks.len(), &left);
+        assert_same_at(rt, at, &least, &left);
+        assert_same_at(rt, at, &most, &Some(left));
         let mut copy = blocks.clone().expect(rt, "memory");
         assert_same_at(rt, at, &copy.len(), &left);
         assert_that_at(rt, at, is_wanted_block(copy.next(), handles, block));
@@ -348,25 +346,14 @@ fn observe<T: Tables>(
             assert_same_at(rt, at, &refusal(allocator, *size, *align), &Some(*why));
         }
         Step::Is(size, blocks, full) => {
-            assert_same_at(
-                rt,
-                at,
-                &(
-                    allocator.size(),
-                    allocator.block_count(),
-                    allocator.is_full(),
-                ),
-                &(*size, *blocks, *full),
-            );
+            assert_same_at(rt, at, &allocator.size(), size);
+            assert_same_at(rt, at, &allocator.block_count(), blocks);
+            assert_same_at(rt, at, &allocator.is_full(), full);
         }
         Step::Reports(total, largest) => {
             let report = allocator.storage_report();
-            assert_same_at(
-                rt,
-                at,
-                &(report.total_free_space, report.largest_free_region),
-                &(*total, *largest),
-            );
+            assert_same_at(rt, at, &report.total_free_space, total);
+            assert_same_at(rt, at, &report.largest_free_region, largest);
         }
         Step::Counts(wanted) => expect_counts(rt, alloc, at, allocator, wanted),
         Step::Walks(wanted) => expect_walk(rt, at, allocator, handles, wanted),
