@@ -230,29 +230,47 @@ const CASES: [Case; 14] = [
     },
 ];
 
+// A promise is made only where it can be kept.
+fn promised<T: Tables>(
+    space: &mut AllocatorOf<T>,
+    size: u32,
+) -> Option<(Allocation<T::Index>, u32)> {
+    if size < 1 || size > space.storage_report().largest_free_region {
+        return None;
+    }
+    Some((place_promised(space, size), size))
+}
+
+fn what_fits<T: Tables>(
+    space: &mut AllocatorOf<T>,
+    most: u32,
+) -> Option<(Allocation<T::Index>, u32)> {
+    if most < 1 {
+        return None;
+    }
+    place_what_fits(space, most)
+}
+
+fn with_size<NI: NodeIndex>(
+    range: Option<Allocation<NI>>,
+    size: u32,
+) -> Option<(Allocation<NI>, u32)> {
+    Some((range?, size))
+}
+
 // The range and its size, or `None` where the request is refused, or a promise is none.
 fn make_request<T: Tables>(
     space: &mut AllocatorOf<T>,
     request: Request,
 ) -> Option<(Allocation<T::Index>, u32)> {
     match request {
-        Plain(size) => Some((space.allocate(size)?, size)),
-        Promised(size) => {
-            if size < 1 || size > space.storage_report().largest_free_region {
-                return None;
-            }
-            Some((place_promised(space, size), size))
-        }
-        WhatFits(most) => {
-            if most < 1 {
-                return None;
-            }
-            place_what_fits(space, most)
-        }
-        OrGrow(size, more) => Some((allocate_or_grow(space, size, more)?, size)),
-        Place(size, more) => Some((place(space, size, more).ok()?, size)),
-        Uniforms(size) => Some((place_uniforms(space, size)?, size)),
-        Upload(size, align) => Some((upload(space, size, align)?, size)),
+        Plain(size) => with_size(space.allocate(size), size),
+        Promised(size) => promised(space, size),
+        WhatFits(most) => what_fits(space, most),
+        OrGrow(size, more) => with_size(allocate_or_grow(space, size, more), size),
+        Place(size, more) => with_size(place(space, size, more).ok(), size),
+        Uniforms(size) => with_size(place_uniforms(space, size), size),
+        Upload(size, align) => with_size(upload(space, size, align), size),
     }
 }
 
@@ -454,19 +472,20 @@ fn a_mesh_is_in_both_buffers_or_in_none(rt: HostRuntime) {
     expect_mesh::<ByNode<u32>>(&rt, rt.alloc());
 }
 
-// Four ranges of 24 units fill the space. The second and the fourth stay live, and their handles are returned.
-fn fragment<T: Tables>(
+// A space that four ranges of 24 units filled, and the second and the fourth of them, which stay live.
+fn fragmented<T: Tables>(
     rt: &impl Abort,
-    space: &mut AllocatorOf<T>,
-) -> (Allocation<T::Index>, Allocation<T::Index>) {
-    let first = granted(rt, space, 24);
-    let second = granted(rt, space, 24);
-    let third = granted(rt, space, 24);
-    let fourth = granted(rt, space, 24);
-    assert_that(rt, give_back(space, first));
-    assert_that(rt, give_back(space, third));
+    alloc: Global,
+) -> (AllocatorOf<T>, Allocation<T::Index>, Allocation<T::Index>) {
+    let mut space = made::<T>(rt, alloc, 96);
+    let first = granted(rt, &mut space, 24);
+    let second = granted(rt, &mut space, 24);
+    let third = granted(rt, &mut space, 24);
+    let fourth = granted(rt, &mut space, 24);
+    assert_that(rt, give_back(&mut space, first));
+    assert_that(rt, give_back(&mut space, third));
     assert_same(rt, &space.refusal(40), &Some(Refusal::Fragmented));
-    (second, fourth)
+    (space, second, fourth)
 }
 
 fn expect_packed<T: Tables>(
@@ -480,18 +499,28 @@ fn expect_packed<T: Tables>(
     assert_same(rt, &granted(rt, space, 40).offset, &48);
 }
 
-#[test]
-fn data_is_moved_with_its_range(rt: HostRuntime) {
-    let mut space: Allocator = made(&rt, rt.alloc(), 96);
+// Each unit has its number.
+fn numbered() -> [u32; 96] {
     let mut buffer = [0u32; 96];
     for unit in 0..96u32 {
         buffer[unit as usize] = unit;
     }
-    let (second, fourth) = fragment(&rt, &mut space);
+    buffer
+}
+
+fn expect_moved(rt: &impl Abort, buffer: &[u32; 96]) {
+    assert_same(rt, &buffer[0], &24);
+    assert_same(rt, &buffer[23], &47);
+    assert_same(rt, &buffer[24], &72);
+    assert_same(rt, &buffer[47], &95);
+}
+
+#[test]
+fn data_is_moved_with_its_range(rt: HostRuntime) {
+    let mut buffer = numbered();
+    let (mut space, second, fourth) = fragmented::<ByNode<u32>>(&rt, rt.alloc());
     defragment(&mut space, &mut buffer);
-    for (unit, wanted) in [(0usize, 24u32), (23, 47), (24, 72), (47, 95)] {
-        assert_same_at(&rt, &unit, &buffer[unit], &wanted);
-    }
+    expect_moved(&rt, &buffer);
     expect_packed(&rt, &mut space, second, fourth);
 }
 
@@ -545,24 +574,31 @@ fn expect_padding<T: Tables>(rt: &impl Abort, alloc: Global) {
     }
 }
 
+fn expect_units_and_padding<T: Tables>(rt: &impl Abort, alloc: Global) {
+    expect_units::<T>(rt, alloc);
+    expect_padding::<T>(rt, alloc);
+}
+
 #[test]
 fn all_units_are_granted(rt: HostRuntime) {
-    expect_units::<ByNode<u32>>(&rt, rt.alloc());
-    expect_padding::<ByNode<u32>>(&rt, rt.alloc());
+    expect_units_and_padding::<ByNode<u32>>(&rt, rt.alloc());
 }
 
-// The second of two ranges, of which the first stays live.
-fn second_of_two<T: Tables>(
+// A space with two ranges, the handle of the first one, and the name of the second one.
+fn with_two<T: Tables>(
     rt: &impl Abort,
-    space: &mut AllocatorOf<T>,
-) -> (Allocation<T::Index>, Allocation<T::Index>) {
-    let first = granted(rt, space, 10);
-    let second = granted(rt, space, 20);
+    alloc: Global,
+) -> (AllocatorOf<T>, Allocation<T::Index>, u32) {
+    let mut space = made::<T>(rt, alloc, 100);
+    let first = granted(rt, &mut space, 10);
+    let second = granted(rt, &mut space, 20);
     assert_that(rt, restored(second) == second);
-    assert_same(rt, &second.to_parts().0, &10);
-    (first, second)
+    let (offset, name) = second.to_parts();
+    assert_same(rt, &offset, &10);
+    (space, first, name)
 }
 
+// With no clauses, so that each call has a short proof.
 fn is_freed(space: &mut Allocator, name: u32) -> bool {
     free_named(space, name)
 }
@@ -574,9 +610,7 @@ fn expect_only<T: Tables>(rt: &impl Abort, space: &AllocatorOf<T>, first: Alloca
 
 #[test]
 fn handles_come_back(rt: HostRuntime) {
-    let mut space: Allocator = made(&rt, rt.alloc(), 100);
-    let (first, second) = second_of_two(&rt, &mut space);
-    let (_, name) = second.to_parts();
+    let (mut space, first, name) = with_two::<ByNode<u32>>(&rt, rt.alloc());
     assert_that(&rt, is_freed(&mut space, name));
     assert_that(&rt, !is_freed(&mut space, name));
     assert_that(&rt, !is_freed(&mut space, 4_294_967_295));
@@ -598,11 +632,13 @@ fn spaces_are_in_a_vec(rt: HostRuntime) {
     expect_slabs::<ByNode<u32>>(&rt, rt.alloc());
 }
 
-// 48 units are live, from 24 on, and the 24 units before them and after them are free.
-fn surround<T: Tables>(rt: &impl Abort, space: &mut AllocatorOf<T>) {
-    let first = granted(rt, space, 24);
-    let _middle = granted(rt, space, 48);
-    assert_that(rt, give_back(space, first));
+// A space whose first 24 units and last 24 units are free, with a range between them.
+fn with_a_middle<T: Tables>(rt: &impl Abort, alloc: Global) -> AllocatorOf<T> {
+    let mut space = made::<T>(rt, alloc, 96);
+    let first = granted(rt, &mut space, 24);
+    let _middle = granted(rt, &mut space, 48);
+    assert_that(rt, give_back(&mut space, first));
+    space
 }
 
 // Where the place begins.
@@ -615,9 +651,8 @@ fn packed(space: &mut Allocator, buffer: &mut [u32], size: u32) -> Result<u32, R
 
 #[test]
 fn a_packed_place_is_granted(rt: HostRuntime) {
-    let mut space: Allocator = made(&rt, rt.alloc(), 96);
+    let mut space = with_a_middle::<ByNode<u32>>(&rt, rt.alloc());
     let mut buffer = [7u32; 96];
-    surround(&rt, &mut space);
     for (size, why) in [(49, Refusal::Space), (97, Refusal::TooLarge)] {
         let found = packed(&mut space, &mut buffer, size);
         assert_same_at(&rt, &size, &found, &Err(why));
