@@ -299,6 +299,17 @@ fn use_range<T: Tables>(
     }
 }
 
+fn expect_holes(
+    rt: &impl Abort,
+    at: &(&'static str, usize),
+    holes: &[u32; 256],
+    wanted: &[(usize, u32)],
+) {
+    for (class, count) in wanted {
+        assert_same_at(rt, at, &holes.get(*class), &Some(count));
+    }
+}
+
 // Looks at a space.
 fn observe<T: Tables>(
     rt: &impl Abort,
@@ -315,12 +326,7 @@ fn observe<T: Tables>(
             assert_same_at(rt, at, &report.largest_free_region, &largest);
         }
         GrantedUnits(count) => assert_same_at(rt, at, &granted_units(space), &count),
-        Holes(wanted) => {
-            let holes = count_holes(space);
-            for (class, count) in wanted {
-                assert_same_at(rt, at, &holes.get(*class), &Some(count));
-            }
-        }
+        Holes(wanted) => expect_holes(rt, at, &count_holes(space), wanted),
         Dumps(wanted) => {
             let text = dump(space, alloc).expect(rt, "memory");
             assert_same_at(rt, at, &text.as_str(), &wanted);

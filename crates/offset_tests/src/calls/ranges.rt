@@ -37,6 +37,13 @@ fn made<T: Tables>(rt: &impl Abort, alloc: Global, size: u32, limit: u32) -> All
 // More ranges than a number of one, two or three digits can name.
 const COUNT: u32 = 1_200;
 
+// A name that is below the node limit, and was not seen before.
+fn see(rt: &impl Abort, is_seen: &mut [bool; 2_000], name: usize) {
+    assert_that_at(rt, &name, name < 2_000);
+    assert_that_at(rt, &name, !is_seen[name]);
+    is_seen[name] = true;
+}
+
 // A space of `COUNT` ranges of one unit and one free unit. Its handles, in space order, have different names, below the
 // node limit.
 fn units<T: Tables>(rt: &impl Abort, alloc: Global) -> AllocatorOf<T> {
@@ -45,9 +52,7 @@ fn units<T: Tables>(rt: &impl Abort, alloc: Global) -> AllocatorOf<T> {
     for offset in 0..COUNT {
         let handle = space.allocate(1).expect(rt, "room");
         let name = name_of(rt, alloc, handle, offset as usize);
-        assert_that_at(rt, &name, name < 2_000);
-        assert_that_at(rt, &name, !is_seen[name]);
-        is_seen[name] = true;
+        see(rt, &mut is_seen, name);
     }
     space
 }
