@@ -2,7 +2,9 @@
 
 use crate::asserts::{assert_same, assert_same_at, assert_that, assert_that_at};
 use offset_allocator::Refusal::{Fragmented, Nodes, Space};
-use offset_allocator::{Accesses, Allocation, Allocator, AllocatorOf, ByNode, Refusal, Tables};
+use offset_allocator::{
+    Accesses, Allocation, Allocator, AllocatorOf, ByNode, NodeIndex, Refusal, Tables,
+};
 use offset_script::{Answer, Command};
 use offset_test_base::tiny::Tiny;
 use offset_uses::daily::{
@@ -228,29 +230,47 @@ const CASES: [Case; 14] = [
     },
 ];
 
+// A promise is made only where it can be kept.
+fn promised<T: Tables>(
+    space: &mut AllocatorOf<T>,
+    size: u32,
+) -> Option<(Allocation<T::Index>, u32)> {
+    if size < 1 || size > space.storage_report().largest_free_region {
+        return None;
+    }
+    Some((place_promised(space, size), size))
+}
+
+fn what_fits<T: Tables>(
+    space: &mut AllocatorOf<T>,
+    most: u32,
+) -> Option<(Allocation<T::Index>, u32)> {
+    if most < 1 {
+        return None;
+    }
+    place_what_fits(space, most)
+}
+
+fn with_size<NI: NodeIndex>(
+    range: Option<Allocation<NI>>,
+    size: u32,
+) -> Option<(Allocation<NI>, u32)> {
+    Some((range?, size))
+}
+
 // The range and its size, or `None` where the request is refused, or a promise is none.
 fn make_request<T: Tables>(
     space: &mut AllocatorOf<T>,
     request: Request,
 ) -> Option<(Allocation<T::Index>, u32)> {
     match request {
-        Plain(size) => Some((space.allocate(size)?, size)),
-        Promised(size) => {
-            if size < 1 || size > space.storage_report().largest_free_region {
-                return None;
-            }
-            Some((place_promised(space, size), size))
-        }
-        WhatFits(most) => {
-            if most < 1 {
-                return None;
-            }
-            place_what_fits(space, most)
-        }
-        OrGrow(size, more) => Some((allocate_or_grow(space, size, more)?, size)),
-        Place(size, more) => Some((place(space, size, more).ok()?, size)),
-        Uniforms(size) => Some((place_uniforms(space, size)?, size)),
-        Upload(size, align) => Some((upload(space, size, align)?, size)),
+        Plain(size) => with_size(space.allocate(size), size),
+        Promised(size) => promised(space, size),
+        WhatFits(most) => what_fits(space, most),
+        OrGrow(size, more) => with_size(allocate_or_grow(space, size, more), size),
+        Place(size, more) => with_size(place(space, size, more).ok(), size),
+        Uniforms(size) => with_size(place_uniforms(space, size), size),
+        Upload(size, align) => with_size(upload(space, size, align), size),
     }
 }
 
@@ -279,6 +299,17 @@ fn use_range<T: Tables>(
     }
 }
 
+fn expect_holes(
+    rt: &impl Abort,
+    at: &(&'static str, usize),
+    holes: &[u32; 256],
+    wanted: &[(usize, u32)],
+) {
+    for (class, count) in wanted {
+        assert_same_at(rt, at, &holes.get(*class), &Some(count));
+    }
+}
+
 // Looks at a space.
 fn observe<T: Tables>(
     rt: &impl Abort,
@@ -290,24 +321,12 @@ fn observe<T: Tables>(
     match step {
         Is(size, total, largest) => {
             let report = space.storage_report();
-            assert_same_at(
-                rt,
-                at,
-                &(
-                    space.size(),
-                    report.total_free_space,
-                    report.largest_free_region,
-                ),
-                &(size, total, largest),
-            );
+            assert_same_at(rt, at, &space.size(), &size);
+            assert_same_at(rt, at, &report.total_free_space, &total);
+            assert_same_at(rt, at, &report.largest_free_region, &largest);
         }
         GrantedUnits(count) => assert_same_at(rt, at, &granted_units(space), &count),
-        Holes(wanted) => {
-            let holes = count_holes(space);
-            for (class, count) in wanted {
-                assert_same_at(rt, at, &holes.get(*class), &Some(count));
-            }
-        }
+        Holes(wanted) => expect_holes(rt, at, &count_holes(space), wanted),
         Dumps(wanted) => {
             let text = dump(space, alloc).expect(rt, "memory");
             assert_same_at(rt, at, &text.as_str(), &wanted);
@@ -351,36 +370,62 @@ fn use_space<T: Tables>(
     }
 }
 
-#[test]
-fn one_space_is_used(rt: HostRuntime) {
-    for case in &CASES {
-        assert_that_at(&rt, &case.name, 2 <= case.limit && case.limit <= 1_000);
-        let made = Allocator::<u32>::with_max_allocs(rt.alloc(), case.size, case.limit);
-        let mut space = made.expect(&rt, "memory");
-        let mut ranges = Vec::new(rt.alloc());
-        for (place, step) in case.uses.iter().enumerate() {
-            let at = (case.name, place);
-            use_space(&rt, rt.alloc(), &at, &mut space, &mut ranges, *step);
-        }
+fn expect_uses<T: Tables>(rt: &impl Abort, alloc: Global, case: &Case) {
+    assert_that_at(rt, &case.name, 2 <= case.limit && case.limit <= 1_000);
+    assert_that_at(rt, &case.name, case.limit < T::Index::MAX - 1);
+    let made = AllocatorOf::<T>::with_max_allocs(alloc, case.size, case.limit);
+    let mut space = made.expect(rt, "memory");
+    let mut ranges = Vec::new(alloc);
+    for (place, step) in case.uses.iter().enumerate() {
+        let at = (case.name, place);
+        use_space(rt, alloc, &at, &mut space, &mut ranges, *step);
     }
 }
 
 #[test]
-fn a_tenant_stays_within_its_quota(rt: HostRuntime) {
-    let mut space = Allocator::<u32>::new(rt.alloc(), 100).expect(&rt, "memory");
+fn one_space_is_used(rt: HostRuntime) {
+    for case in &CASES {
+        expect_uses::<ByNode<u32>>(&rt, rt.alloc(), case);
+        expect_uses::<ByNode<u16>>(&rt, rt.alloc(), case);
+    }
+}
+
+// A new space of this size.
+fn made<T: Tables>(rt: &impl Abort, alloc: Global, size: u32) -> AllocatorOf<T> {
+    AllocatorOf::new(alloc, size).expect(rt, "memory")
+}
+
+// A grant of this size.
+fn granted<T: Tables>(
+    rt: &impl Abort,
+    space: &mut AllocatorOf<T>,
+    size: u32,
+) -> Allocation<T::Index> {
+    space.allocate(size).expect(rt, "room")
+}
+
+fn expect_free<T: Tables>(rt: &impl Abort, space: &AllocatorOf<T>, units: u32) {
+    assert_same(rt, &space.storage_report().total_free_space, &units);
+}
+
+fn expect_quotas<T: Tables>(rt: &impl Abort, alloc: Global) {
+    let mut space = made::<T>(rt, alloc, 100);
     let mut near = Tenant { quota: 20, held: 0 };
     let mut far = Tenant { quota: 50, held: 0 };
-    assert_that(&rt, charge(&mut space, &mut near, 15).is_some());
-    assert_that(&rt, charge(&mut space, &mut far, 50).is_some());
-    assert_that(&rt, charge(&mut space, &mut near, 6).is_none());
-    assert_same(&rt, &(near.held, far.held), &(15, 50));
-    let allocation = charge(&mut space, &mut near, 5).expect(&rt, "room");
+    assert_that(rt, charge(&mut space, &mut near, 15).is_some());
+    assert_that(rt, charge(&mut space, &mut far, 50).is_some());
+    assert_that(rt, charge(&mut space, &mut near, 6).is_none());
+    assert_same(rt, &near.held, &15);
+    assert_same(rt, &far.held, &50);
+    let allocation = charge(&mut space, &mut near, 5).expect(rt, "room");
     refund(&mut space, &mut near, allocation);
-    assert_same(
-        &rt,
-        &(near.held, space.storage_report().total_free_space),
-        &(15, 35),
-    );
+    assert_same(rt, &near.held, &15);
+    expect_free(rt, &space, 35);
+}
+
+#[test]
+fn a_tenant_stays_within_its_quota(rt: HostRuntime) {
+    expect_quotas::<ByNode<u32>>(&rt, rt.alloc());
 }
 
 fn expect_frame<T: Tables>(rt: &impl Abort, alloc: Global) {
@@ -416,151 +461,231 @@ fn both_widths_give_equal_answers(rt: HostRuntime) {
     }
 }
 
-#[test]
-fn a_mesh_is_in_both_buffers_or_in_none(rt: HostRuntime) {
-    let mut vertices = Allocator::<u32>::new(rt.alloc(), 100).expect(&rt, "memory");
-    let mut indices = Allocator::<u32>::new(rt.alloc(), 10).expect(&rt, "memory");
-    assert_that(&rt, insert(&mut vertices, &mut indices, 60, 20).is_none());
-    assert_same(&rt, &vertices.storage_report().total_free_space, &100);
-    let (first, second) = insert(&mut vertices, &mut indices, 60, 10).expect(&rt, "room");
-    assert_same(&rt, &(first.offset, second.offset), &(0, 0));
-    assert_that(&rt, insert(&mut vertices, &mut indices, 1, 1).is_none());
-    assert_same(&rt, &vertices.storage_report().total_free_space, &40);
+fn expect_mesh<T: Tables>(rt: &impl Abort, alloc: Global) {
+    let mut vertices = made::<T>(rt, alloc, 100);
+    let mut indices = made::<T>(rt, alloc, 10);
+    assert_that(rt, insert(&mut vertices, &mut indices, 60, 20).is_none());
+    expect_free(rt, &vertices, 100);
+    let (first, second) = insert(&mut vertices, &mut indices, 60, 10).expect(rt, "room");
+    assert_same(rt, &first.offset, &0);
+    assert_same(rt, &second.offset, &0);
+    assert_that(rt, insert(&mut vertices, &mut indices, 1, 1).is_none());
+    expect_free(rt, &vertices, 40);
 }
 
 #[test]
-fn data_is_moved_with_its_range(rt: HostRuntime) {
-    let mut space = Allocator::<u32>::new(rt.alloc(), 96).expect(&rt, "memory");
+fn a_mesh_is_in_both_buffers_or_in_none(rt: HostRuntime) {
+    expect_mesh::<ByNode<u32>>(&rt, rt.alloc());
+}
+
+// A space that four ranges of 24 units filled, and the second and the fourth of them, which stay live.
+fn fragmented<T: Tables>(
+    rt: &impl Abort,
+    alloc: Global,
+) -> (AllocatorOf<T>, Allocation<T::Index>, Allocation<T::Index>) {
+    let mut space = made::<T>(rt, alloc, 96);
+    let first = granted(rt, &mut space, 24);
+    let second = granted(rt, &mut space, 24);
+    let third = granted(rt, &mut space, 24);
+    let fourth = granted(rt, &mut space, 24);
+    assert_that(rt, give_back(&mut space, first));
+    assert_that(rt, give_back(&mut space, third));
+    assert_same(rt, &space.refusal(40), &Some(Refusal::Fragmented));
+    (space, second, fourth)
+}
+
+fn expect_packed<T: Tables>(
+    rt: &impl Abort,
+    space: &mut AllocatorOf<T>,
+    second: Allocation<T::Index>,
+    fourth: Allocation<T::Index>,
+) {
+    assert_same(rt, &space.allocation_offset(second), &Some(0));
+    assert_same(rt, &space.allocation_offset(fourth), &Some(24));
+    assert_same(rt, &granted(rt, space, 40).offset, &48);
+}
+
+// Each unit has its number.
+fn numbered() -> [u32; 96] {
     let mut buffer = [0u32; 96];
     for unit in 0..96u32 {
         buffer[unit as usize] = unit;
     }
-    let first = space.allocate(24).expect(&rt, "room");
-    let second = space.allocate(24).expect(&rt, "room");
-    let third = space.allocate(24).expect(&rt, "room");
-    let fourth = space.allocate(24).expect(&rt, "room");
-    assert_that(&rt, give_back(&mut space, first));
-    assert_that(&rt, give_back(&mut space, third));
-    assert_same(&rt, &space.refusal(40), &Some(Refusal::Fragmented));
+    buffer
+}
+
+fn expect_moved(rt: &impl Abort, buffer: &[u32; 96]) {
+    assert_same(rt, &buffer[0], &24);
+    assert_same(rt, &buffer[23], &47);
+    assert_same(rt, &buffer[24], &72);
+    assert_same(rt, &buffer[47], &95);
+}
+
+#[test]
+fn data_is_moved_with_its_range(rt: HostRuntime) {
+    let mut buffer = numbered();
+    let (mut space, second, fourth) = fragmented::<ByNode<u32>>(&rt, rt.alloc());
     defragment(&mut space, &mut buffer);
-    assert_same(&rt, &space.allocation_offset(second), &Some(0));
-    assert_same(&rt, &space.allocation_offset(fourth), &Some(24));
-    assert_same(
-        &rt,
-        &(buffer[0], buffer[23], buffer[24], buffer[47]),
-        &(24, 47, 72, 95),
-    );
-    let range = space.allocate(40).expect(&rt, "room");
-    assert_same(&rt, &range.offset, &48);
+    expect_moved(&rt, &buffer);
+    expect_packed(&rt, &mut space, second, fourth);
+}
+
+// Where a range of the ring begins.
+fn taken(ring: &mut Ring, size: u32) -> Option<u32> {
+    Some(ring.take(size)?.offset)
+}
+
+fn new_ring(rt: &impl Abort, alloc: Global) -> Ring {
+    Ring {
+        even: made(rt, alloc, 100),
+        odd: made(rt, alloc, 100),
+        is_odd: false,
+    }
 }
 
 #[test]
 fn a_ring_frees_the_frame_before_the_last(rt: HostRuntime) {
-    let mut ring = Ring {
-        even: Allocator::<u32>::new(rt.alloc(), 100).expect(&rt, "memory"),
-        odd: Allocator::<u32>::new(rt.alloc(), 100).expect(&rt, "memory"),
-        is_odd: false,
-    };
-    assert_that(&rt, ring.take(60).is_some());
+    let mut ring = new_ring(&rt, rt.alloc());
+    assert_that(&rt, taken(&mut ring, 60).is_some());
     ring.begin();
-    assert_that(&rt, ring.take(60).is_some());
-    assert_that(&rt, ring.take(60).is_none());
+    assert_that(&rt, taken(&mut ring, 60).is_some());
+    assert_that(&rt, taken(&mut ring, 60).is_none());
     ring.begin();
-    let range = ring.take(60).expect(&rt, "room");
-    assert_same(&rt, &range.offset, &0);
+    assert_same(&rt, &taken(&mut ring, 60), &Some(0));
 }
 
-// Units of 256 bytes need no padding: a heap of 4,096 of them grants 4,096 requests. By bytes, 15 of 16 are granted.
-#[test]
-fn all_units_are_granted(rt: HostRuntime) {
-    let mut heap = Allocator::<u32>::with_max_allocs(rt.alloc(), 4_096, 4_098).expect(
-        &rt, "memory",
-    );
+// A space with this node limit.
+fn limited<T: Tables>(rt: &impl Abort, alloc: Global, size: u32, limit: u32) -> AllocatorOf<T> {
+    assert_that(rt, 2 <= limit && limit < T::Index::MAX - 1);
+    AllocatorOf::with_max_allocs(alloc, size, limit).expect(rt, "memory")
+}
+
+// Units of 256 bytes need no padding: a heap of 4,096 of them grants 4,096 requests.
+fn expect_units<T: Tables>(rt: &impl Abort, alloc: Global) {
+    let mut heap = limited::<T>(rt, alloc, 4_096, 4_098);
     for k in 0..4_096u64 {
         let bytes = if k % 2 == 0 { 256 } else { 1 };
-        let (_, first) = upload_units(&mut heap, bytes).expect(&rt, "room");
-        assert_same_at(&rt, &k, &first, &(256 * k));
+        let (_, first) = upload_units(&mut heap, bytes).expect(rt, "room");
+        assert_same_at(rt, &k, &first, &(256 * k));
     }
-    assert_that(&rt, upload_units(&mut heap, 1).is_none());
-    let mut bytes = Allocator::<u32>::with_max_allocs(rt.alloc(), 1 << 20, 100).expect(
-        &rt, "memory",
-    );
+    assert_that(rt, upload_units(&mut heap, 1).is_none());
+}
+
+// By bytes, 15 of 16 are granted.
+fn expect_padding<T: Tables>(rt: &impl Abort, alloc: Global) {
+    let mut bytes = limited::<T>(rt, alloc, 1 << 20, 100);
     for k in 0..16u32 {
         let granted = bytes.allocate_aligned(1 << 16, 256).is_some();
-        assert_same_at(&rt, &k, &granted, &(k < 15));
+        assert_same_at(rt, &k, &granted, &(k < 15));
     }
+}
+
+fn expect_units_and_padding<T: Tables>(rt: &impl Abort, alloc: Global) {
+    expect_units::<T>(rt, alloc);
+    expect_padding::<T>(rt, alloc);
+}
+
+#[test]
+fn all_units_are_granted(rt: HostRuntime) {
+    expect_units_and_padding::<ByNode<u32>>(&rt, rt.alloc());
+}
+
+// A space with two ranges, the handle of the first one, and the name of the second one.
+fn with_two<T: Tables>(
+    rt: &impl Abort,
+    alloc: Global,
+) -> (AllocatorOf<T>, Allocation<T::Index>, u32) {
+    let mut space = made::<T>(rt, alloc, 100);
+    let first = granted(rt, &mut space, 10);
+    let second = granted(rt, &mut space, 20);
+    assert_that(rt, restored(second) == second);
+    let (offset, name) = second.to_parts();
+    assert_same(rt, &offset, &10);
+    (space, first, name)
+}
+
+// With no clauses, so that each call has a short proof.
+fn is_freed(space: &mut Allocator, name: u32) -> bool {
+    free_named(space, name)
+}
+
+fn expect_only<T: Tables>(rt: &impl Abort, space: &AllocatorOf<T>, first: Allocation<T::Index>) {
+    assert_that(rt, space.is_live(first));
+    expect_free(rt, space, 90);
 }
 
 #[test]
 fn handles_come_back(rt: HostRuntime) {
-    let mut space = Allocator::<u32>::new(rt.alloc(), 100).expect(&rt, "memory");
-    let first = space.allocate(10).expect(&rt, "room");
-    let second = space.allocate(20).expect(&rt, "room");
-    assert_that(&rt, restored(second) == second);
-    assert_same(&rt, &second.to_parts().0, &10);
-    assert_that(&rt, free_named(&mut space, second.to_parts().1));
-    assert_that(&rt, !free_named(&mut space, second.to_parts().1));
-    assert_that(&rt, !free_named(&mut space, 4_294_967_295));
-    assert_that(&rt, space.is_live(first));
-    assert_same(&rt, &space.storage_report().total_free_space, &90);
+    let (mut space, first, name) = with_two::<ByNode<u32>>(&rt, rt.alloc());
+    assert_that(&rt, is_freed(&mut space, name));
+    assert_that(&rt, !is_freed(&mut space, name));
+    assert_that(&rt, !is_freed(&mut space, 4_294_967_295));
+    expect_only(&rt, &space, first);
+}
+
+fn expect_slabs<T: Tables>(rt: &impl Abort, alloc: Global) {
+    let mut slabs = Vec::new(alloc);
+    for size in [10u32, 100] {
+        assert_that(rt, slabs.push(made::<T>(rt, alloc, size)).is_ok());
+    }
+    assert_that(rt, take_from(&mut slabs, 0, 50).is_none());
+    assert_that(rt, take_from(&mut slabs, 1, 50).is_some());
+    assert_that(rt, take_from(&mut slabs, 2, 5).is_none());
 }
 
 #[test]
 fn spaces_are_in_a_vec(rt: HostRuntime) {
-    let mut slabs = Vec::new(rt.alloc());
-    for size in [10u32, 100] {
-        let slab = Allocator::<u32>::new(rt.alloc(), size).expect(&rt, "memory");
-        assert_that(&rt, slabs.push(slab).is_ok());
+    expect_slabs::<ByNode<u32>>(&rt, rt.alloc());
+}
+
+// A space whose first 24 units and last 24 units are free, with a range between them.
+fn with_a_middle<T: Tables>(rt: &impl Abort, alloc: Global) -> AllocatorOf<T> {
+    let mut space = made::<T>(rt, alloc, 96);
+    let first = granted(rt, &mut space, 24);
+    let _middle = granted(rt, &mut space, 48);
+    assert_that(rt, give_back(&mut space, first));
+    space
+}
+
+// Where the place begins.
+fn packed(space: &mut Allocator, buffer: &mut [u32], size: u32) -> Result<u32, Refusal> {
+    match place_packed(space, buffer, size) {
+        Ok(range) => Ok(range.offset),
+        Err(why) => Err(why),
     }
-    assert_that(&rt, take_from(&mut slabs, 0, 50).is_none());
-    assert_that(&rt, take_from(&mut slabs, 1, 50).is_some());
-    assert_that(&rt, take_from(&mut slabs, 2, 5).is_none());
 }
 
 #[test]
 fn a_packed_place_is_granted(rt: HostRuntime) {
-    let mut space = Allocator::<u32>::new(rt.alloc(), 96).expect(&rt, "memory");
+    let mut space = with_a_middle::<ByNode<u32>>(&rt, rt.alloc());
     let mut buffer = [7u32; 96];
-    let first = space.allocate(24).expect(&rt, "room");
-    assert_that(&rt, space.allocate(48).is_some());
-    assert_that(&rt, give_back(&mut space, first));
-    assert_that(
-        &rt,
-        place_packed(&mut space, &mut buffer, 49) == Err(Refusal::Space),
-    );
-    assert_that(
-        &rt,
-        place_packed(&mut space, &mut buffer, 97) == Err(Refusal::TooLarge),
-    );
-    match place_packed(&mut space, &mut buffer, 48) {
-        Ok(range) => assert_same(&rt, &range.offset, &48),
-        Err(_) => assert_that(&rt, false),
+    for (size, why) in [(49, Refusal::Space), (97, Refusal::TooLarge)] {
+        let found = packed(&mut space, &mut buffer, size);
+        assert_same_at(&rt, &size, &found, &Err(why));
     }
+    assert_same(&rt, &packed(&mut space, &mut buffer, 48), &Ok(48));
 }
 
 // The example of `docs/USING.md`.
+fn ten_lines_of<T: Tables>(rt: &impl Abort, alloc: Global) {
+    let mut vertices = made::<T>(rt, alloc, 1 << 20);
+    let report = vertices.storage_report();
+    assert_same(rt, &report.total_free_space, &1048576);
+    assert_same(rt, &report.largest_free_region, &1048576);
+    let mesh = vertices.allocate(3000).expect(rt, "room");
+    assert_same(rt, &mesh.offset, &0);
+    assert_same(rt, &vertices.allocation_size(mesh), &3000);
+    assert_same(rt, &vertices.refusal(1 << 20), &Some(Refusal::Space));
+    let aligned = vertices.allocate_aligned(100, 256).expect(rt, "room");
+    assert_same(rt, &(aligned.offset % 256), &0);
+    assert_that(rt, vertices.is_live(mesh));
+    vertices.free(mesh);
+    assert_that(rt, !vertices.is_live(mesh));
+}
+
 #[test]
 fn ten_lines(rt: HostRuntime) {
-    let alloc = rt.alloc();
-    let mut vertices = Allocator::<u32>::new(alloc, 1 << 20).expect(&rt, "memory");
-    let report = vertices.storage_report();
-    assert_same(
-        &rt,
-        &(report.total_free_space, report.largest_free_region),
-        &(1048576, 1048576),
-    );
-    let mesh = vertices.allocate(3000).expect(&rt, "room");
-    assert_same(
-        &rt,
-        &(mesh.offset, vertices.allocation_size(mesh)),
-        &(0, 3000),
-    );
-    assert_same(&rt, &vertices.refusal(1 << 20), &Some(Refusal::Space));
-    let aligned = vertices.allocate_aligned(100, 256).expect(&rt, "room");
-    assert_same(&rt, &(aligned.offset % 256), &0);
-    assert_that(&rt, vertices.is_live(mesh));
-    vertices.free(mesh);
-    assert_that(&rt, !vertices.is_live(mesh));
+    ten_lines_of::<ByNode<u32>>(&rt, rt.alloc());
 }
 
 fn put_used_units(text: &mut String, count: u32) -> Result<(), AllocError> {
@@ -570,16 +695,18 @@ fn put_used_units(text: &mut String, count: u32) -> Result<(), AllocError> {
     Ok(())
 }
 
+fn expect_dump<T: Tables>(rt: &impl Abort, alloc: Global) {
+    let mut heap = limited::<T>(rt, alloc, 4_000, 5_000);
+    for _ in 0..4_000u32 {
+        assert_that(rt, heap.allocate(1).is_some());
+    }
+    let mut wanted = String::new(alloc);
+    put_used_units(&mut wanted, 4_000).expect(rt, "memory");
+    let text = dump(&heap, alloc).expect(rt, "memory");
+    assert_that(rt, text == wanted);
+}
+
 #[test]
 fn a_dump_has_a_line_for_each_of_many_blocks(rt: HostRuntime) {
-    let mut heap = Allocator::<u32>::with_max_allocs(rt.alloc(), 4_000, 5_000).expect(
-        &rt, "memory",
-    );
-    for _ in 0..4_000u32 {
-        assert_that(&rt, heap.allocate(1).is_some());
-    }
-    let mut wanted = String::new(rt.alloc());
-    put_used_units(&mut wanted, 4_000).expect(&rt, "memory");
-    let text = dump(&heap, rt.alloc()).expect(&rt, "memory");
-    assert_that(&rt, text == wanted);
+    expect_dump::<ByNode<u32>>(&rt, rt.alloc());
 }

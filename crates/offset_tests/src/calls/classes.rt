@@ -8,8 +8,12 @@ use offset_allocator::ext::min_allocator_size;
 use offset_allocator::small_float::{
     float_to_uint, uint_to_float_round_down, uint_to_float_round_up,
 };
-use offset_allocator::{Allocator, StorageReportFull, StorageReportFullRegion};
+use offset_allocator::{
+    AllocatorOf, ByNode, NodeIndex, StorageReportFull, StorageReportFullRegion, Tables,
+};
 use offset_test_base::groups::value_of;
+use std::alloc::Global;
+use std::process::Abort;
 
 // Sizes, each with the smallest size of a fresh space that grants it.
 const SMALLEST_SIZES: [(u32, u32); 43] = [
@@ -92,22 +96,39 @@ fn small_float_float_to_uint(rt: HostRuntime) {
     }
 }
 
+fn full_report<T: Tables>(rt: &impl Abort, alloc: Global) -> StorageReportFull {
+    assert_that(rt, 2 < T::Index::MAX - 1);
+    let space = AllocatorOf::<T>::with_max_allocs(alloc, 100, 2).expect(rt, "memory");
+    space.storage_report_full()
+}
+
 // The values of the largest classes lose their high bits.
-#[test]
-fn reports_have_the_values_of_all_classes(rt: HostRuntime) {
-    let space = Allocator::<u32>::with_max_allocs(rt.alloc(), 100, 2).expect(&rt, "memory");
-    let report = space.storage_report_full();
-    let default = StorageReportFull::default();
-    let region = StorageReportFullRegion::default();
-    assert_same(&rt, &(region.size, region.count), &(0, 0));
+fn expect_values(rt: &impl Abort, report: &StorageReportFull) {
     for class in 0..256u32 {
         let value = value_of(class as usize) % 4_294_967_296;
-        assert_same_at(&rt, &class, &u64::from(float_to_uint(class)), &value);
+        assert_same_at(rt, &class, &u64::from(float_to_uint(class)), &value);
         let region = report.free_regions[class as usize];
-        assert_same_at(&rt, &class, &u64::from(region.size), &value);
-        let region = default.free_regions[class as usize];
-        assert_same_at(&rt, &class, &(region.size, region.count), &(0, 0));
+        assert_same_at(rt, &class, &u64::from(region.size), &value);
     }
+}
+
+// A default report has no size and no block.
+fn expect_defaults(rt: &impl Abort) {
+    let region = StorageReportFullRegion::default();
+    assert_same(rt, &region.size, &0);
+    assert_same(rt, &region.count, &0);
+    let report = StorageReportFull::default();
+    for class in 0..256usize {
+        let region = report.free_regions[class];
+        assert_same_at(rt, &class, &region.size, &0);
+        assert_same_at(rt, &class, &region.count, &0);
+    }
+}
+
+#[test]
+fn reports_have_the_values_of_all_classes(rt: HostRuntime) {
+    expect_values(&rt, &full_report::<ByNode<u32>>(&rt, rt.alloc()));
+    expect_defaults(&rt);
 }
 
 // A space of the smallest size grants the request, also with a limit of three nodes.

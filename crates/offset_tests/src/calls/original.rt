@@ -110,6 +110,9 @@ const ANEW: [Step; 14] = [
     Grants(4_194_304, 158_334_976),
 ];
 
+// After all grants are freed.
+const AT_LAST: [Step; 3] = [Reports(SPACE, SPACE), Grants(SPACE, 0), Frees(261)];
+
 // The number of the live grant that begins at this piece, or `None` where the piece is within a larger grant.
 fn grant_at(place: usize) -> Option<usize> {
     match place {
@@ -123,20 +126,30 @@ fn grant_at(place: usize) -> Option<usize> {
     }
 }
 
-fn zero_fragmentation_steps(alloc: Global) -> Result<Vec<Step>, AllocError> {
-    let mut steps = Vec::new(alloc);
+// Grants of all pieces, in order.
+fn grant_pieces(steps: &mut Vec<Step>) -> Result<(), AllocError> {
     for place in 0..256u32 {
         steps.push(Grants(PIECE, place * PIECE))?;
     }
-    steps.extend_from_slice(&ANEW)?;
+    Ok(())
+}
+
+// Frees of all live grants, in the order of their places.
+fn free_pieces(steps: &mut Vec<Step>) -> Result<(), AllocError> {
     for place in 0..256usize {
         if let Some(number) = grant_at(place) {
             steps.push(Frees(number))?;
         }
     }
-    for step in [Reports(SPACE, SPACE), Grants(SPACE, 0), Frees(261)] {
-        steps.push(step)?;
-    }
+    Ok(())
+}
+
+fn zero_fragmentation_steps(alloc: Global) -> Result<Vec<Step>, AllocError> {
+    let mut steps = Vec::new(alloc);
+    grant_pieces(&mut steps)?;
+    steps.extend_from_slice(&ANEW)?;
+    free_pieces(&mut steps)?;
+    steps.extend_from_slice(&AT_LAST)?;
     Ok(steps)
 }
 

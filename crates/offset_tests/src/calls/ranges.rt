@@ -4,6 +4,7 @@
 use crate::asserts::{assert_same, assert_text, assert_that, assert_that_at, text_of};
 use offset_allocator::{Allocation, AllocatorOf, Block, ByNode, Move, NodeIndex, Tables};
 use std::alloc::{AllocError, Global};
+use std::fmt::Debug;
 use std::process::Abort;
 
 // A text with a number in it.
@@ -36,6 +37,13 @@ fn made<T: Tables>(rt: &impl Abort, alloc: Global, size: u32, limit: u32) -> All
 // More ranges than a number of one, two or three digits can name.
 const COUNT: u32 = 1_200;
 
+// A name that is below the node limit, and was not seen before.
+fn see(rt: &impl Abort, is_seen: &mut [bool; 2_000], name: usize) {
+    assert_that_at(rt, &name, name < 2_000);
+    assert_that_at(rt, &name, !is_seen[name]);
+    is_seen[name] = true;
+}
+
 // A space of `COUNT` ranges of one unit and one free unit. Its handles, in space order, have different names, below the
 // node limit.
 fn units<T: Tables>(rt: &impl Abort, alloc: Global) -> AllocatorOf<T> {
@@ -44,9 +52,7 @@ fn units<T: Tables>(rt: &impl Abort, alloc: Global) -> AllocatorOf<T> {
     for offset in 0..COUNT {
         let handle = space.allocate(1).expect(rt, "room");
         let name = name_of(rt, alloc, handle, offset as usize);
-        assert_that_at(rt, &(name, offset), name < 2_000);
-        assert_that_at(rt, &(name, offset), !is_seen[name]);
-        is_seen[name] = true;
+        see(rt, &mut is_seen, name);
     }
     space
 }
@@ -57,14 +63,19 @@ fn many_ranges_have_names_and_are_counted<T: Tables>(rt: &impl Abort, alloc: Glo
     let mut blocks = space.blocks();
     for left in [1_201usize, 1_200, 1_199] {
         assert_same(rt, &blocks.len(), &left);
-        assert_same(rt, &blocks.size_hint(), &(left, Some(left)));
+        let (least, most) = blocks.size_hint();
+        assert_same(rt, &least, &left);
+        assert_same(rt, &most, &Some(left));
         let wanted = with_number(alloc, "Blocks { remaining: ", left, " }");
         assert_text(rt, alloc, &blocks, &wanted.expect(rt, "memory"));
         assert_that(rt, blocks.next().is_some());
     }
 }
 
-fn a_free_block_has_a_text<T: Tables>(rt: &impl Abort, alloc: Global) {
+fn a_free_block_has_a_text<T: Tables>(rt: &impl Abort, alloc: Global)
+where
+    T::Index: Debug,
+{
     let space = made::<T>(rt, alloc, 100, 8);
     let mut blocks = space.blocks();
     assert_text(rt, alloc, &blocks, "Blocks { remaining: 1 }");
@@ -72,8 +83,48 @@ fn a_free_block_has_a_text<T: Tables>(rt: &impl Abort, alloc: Global) {
     assert_text(rt, alloc, &blocks.next(), wanted);
 }
 
+// A block differs from one with these fields.
+fn expect_other_block<NI: NodeIndex + Debug + PartialEq>(
+    rt: &impl Abort,
+    block: Block<NI>,
+    offset: u32,
+    size: u32,
+    allocation: Option<Allocation<NI>>,
+) {
+    let changed = Block {
+        offset,
+        size,
+        allocation,
+    };
+    assert_that_at(rt, &changed, block != changed);
+}
+
+// Of a block of 64 units from 30 on.
+fn expect_block_compared<NI: NodeIndex + Debug + PartialEq>(
+    rt: &impl Abort,
+    block: Block<NI>,
+    handle: Allocation<NI>,
+    other: Allocation<NI>,
+) {
+    let same = Block {
+        offset: 30,
+        size: 64,
+        allocation: Some(handle),
+    };
+    assert_that(rt, block == same);
+    expect_other_block(rt, block, 31, 64, Some(handle));
+    expect_other_block(rt, block, 286, 64, Some(handle));
+    expect_other_block(rt, block, 30, 65, Some(handle));
+    expect_other_block(rt, block, 30, 320, Some(handle));
+    expect_other_block(rt, block, 30, 64, None);
+    expect_other_block(rt, block, 30, 64, Some(other));
+}
+
 // The last block is one of 64 units from 30 on, used under a name.
-fn used_blocks_have_a_text_and_differ_in_each_field<T: Tables>(rt: &impl Abort, alloc: Global) {
+fn used_blocks_have_a_text_and_differ_in_each_field<T: Tables>(rt: &impl Abort, alloc: Global)
+where
+    T::Index: Debug + PartialEq,
+{
     let mut space = made::<T>(rt, alloc, 94, 8);
     let other = space.allocate(30).expect(rt, "room");
     let handle = space.allocate(64).expect(rt, "room");
@@ -83,27 +134,7 @@ fn used_blocks_have_a_text_and_differ_in_each_field<T: Tables>(rt: &impl Abort, 
     let name = name_of(rt, alloc, handle, 30);
     let wanted = with_number(alloc, start, name, " }) }").expect(rt, "memory");
     assert_text(rt, alloc, &block, &wanted);
-    let same = Block {
-        offset: 30,
-        size: 64,
-        allocation: Some(handle),
-    };
-    assert_that(rt, block == same);
-    for (offset, size, allocation) in [
-        (31, 64, Some(handle)),
-        (286, 64, Some(handle)),
-        (30, 65, Some(handle)),
-        (30, 320, Some(handle)),
-        (30, 64, None),
-        (30, 64, Some(other)),
-    ] {
-        let changed = Block {
-            offset,
-            size,
-            allocation,
-        };
-        assert_that_at(rt, &(block, changed), block != changed);
-    }
+    expect_block_compared(rt, block, handle, other);
 }
 
 // The last move of a compaction.
@@ -114,7 +145,10 @@ fn last_move<T: Tables>(rt: &impl Abort, space: &mut AllocatorOf<T>) -> Move<T::
 }
 
 // Of a range of 20 units, which moves from 10 to 0. The text begins with its name, its offsets and its size.
-fn a_move_has_a_text<T: Tables>(rt: &impl Abort, alloc: Global) {
+fn a_move_has_a_text<T: Tables>(rt: &impl Abort, alloc: Global)
+where
+    T::Index: Debug,
+{
     let mut space = made::<T>(rt, alloc, 100, 8);
     let first = space.allocate(10).expect(rt, "room");
     let second = space.allocate(20).expect(rt, "room");
@@ -139,26 +173,65 @@ fn first_move<T: Tables>(rt: &impl Abort, space: &mut AllocatorOf<T>) -> Move<T:
     first.expect(rt, "a move")
 }
 
-// Of units 1 and 2, once the second range is moved to unit 0, and later the third one.
-fn moves_differ_in_each_field<T: Tables>(rt: &impl Abort, alloc: Global) {
+// A grant of this size.
+fn granted<T: Tables>(
+    rt: &impl Abort,
+    space: &mut AllocatorOf<T>,
+    size: u32,
+) -> Allocation<T::Index> {
+    space.allocate(size).expect(rt, "room")
+}
+
+// Frees a live range.
+fn freed<T: Tables>(rt: &impl Abort, space: &mut AllocatorOf<T>, handle: Allocation<T::Index>) {
+    assert_that(rt, space.is_live(handle));
+    space.free(handle);
+}
+
+// Two moves of units 1 and 2 to the start: of the second range, and later of the third one.
+fn two_moves<T: Tables>(rt: &impl Abort, alloc: Global) -> (Move<T::Index>, Move<T::Index>) {
     let mut space = made::<T>(rt, alloc, 5, 8);
-    let first = space.allocate(1).expect(rt, "room");
-    let second = space.allocate(2).expect(rt, "room");
-    assert_that(rt, space.allocate(2).is_some());
-    assert_that(rt, space.is_live(first));
-    space.free(first);
+    let first = granted(rt, &mut space, 1);
+    let second = granted(rt, &mut space, 2);
+    let _third = granted(rt, &mut space, 2);
+    freed(rt, &mut space, first);
     let range = first_move(rt, &mut space);
-    assert_that(rt, space.allocate(1).is_some());
-    assert_that(rt, space.is_live(second));
-    space.free(second);
-    let first = space.allocate(1).expect(rt, "room");
+    let _unit = granted(rt, &mut space, 1);
+    freed(rt, &mut space, second);
+    let first = granted(rt, &mut space, 1);
     let _ = first_move(rt, &mut space);
-    assert_that(rt, space.is_live(first));
-    space.free(first);
-    let of_another = first_move(rt, &mut space);
-    for found in [range, of_another] {
-        assert_same(rt, &(found.from, found.to, found.size), &(1, 0, 2));
-    }
+    freed(rt, &mut space, first);
+    (range, first_move(rt, &mut space))
+}
+
+fn expect_units_1_and_2<NI: NodeIndex>(rt: &impl Abort, range: Move<NI>) {
+    assert_same(rt, &range.from, &1);
+    assert_same(rt, &range.to, &0);
+    assert_same(rt, &range.size, &2);
+}
+
+// A move differs from one with these fields.
+fn expect_other_move<NI: NodeIndex + Debug + PartialEq>(
+    rt: &impl Abort,
+    range: Move<NI>,
+    from: u32,
+    to: u32,
+    size: u32,
+) {
+    let mut changed = range;
+    changed.from = from;
+    changed.to = to;
+    changed.size = size;
+    assert_that_at(rt, &changed, range != changed);
+}
+
+fn moves_differ_in_each_field<T: Tables>(rt: &impl Abort, alloc: Global)
+where
+    T::Index: Debug + PartialEq,
+{
+    let (range, of_another) = two_moves::<T>(rt, alloc);
+    expect_units_1_and_2(rt, range);
+    expect_units_1_and_2(rt, of_another);
     let same = range;
     assert_that(rt, range == same);
     assert_that(rt, range != of_another);
@@ -170,11 +243,7 @@ fn moves_differ_in_each_field<T: Tables>(rt: &impl Abort, alloc: Global) {
         (1, 0, 3),
         (1, 0, 258),
     ] {
-        let mut changed = range;
-        changed.from = from;
-        changed.to = to;
-        changed.size = size;
-        assert_that_at(rt, &(range, changed), range != changed);
+        expect_other_move(rt, range, from, to, size);
     }
 }
 

@@ -5,7 +5,8 @@ use offset_allocator::laws::{
     allocation_offset_counted, next_block_counted, refusal_aligned_counted, refusal_counted, undo,
 };
 use offset_allocator::{
-    Accesses, Allocation, AllocatorOf, Block, ByNode, Move, NodeIndex, Refusal, Tables,
+    Accesses, Allocation, AllocatorOf, Block, ByNode, Move, NodeIndex, Refusal,
+    StorageReportFullRegion, Tables,
 };
 use offset_test_base::tiny::Tiny;
 use std::alloc::{AllocError, Global};
@@ -133,24 +134,40 @@ fn expect_resized<T: Tables>(
     expect_live(rt, at, allocator, handle, if done { size } else { before });
 }
 
+// A class with free blocks is the wanted one.
+fn expect_class(
+    rt: &impl Abort,
+    at: &Place,
+    class: usize,
+    region: StorageReportFullRegion,
+    wanted: Option<&(usize, u32, u32)>,
+) {
+    match wanted {
+        None => assert_that_at(rt, at, false),
+        Some((number, size, count)) => {
+            assert_same_at(rt, at, &class, number);
+            assert_same_at(rt, at, &region.size, size);
+            assert_same_at(rt, at, &region.count, count);
+        }
+    }
+}
+
 fn expect_counts<T: Tables>(
     rt: &impl Abort,
-    alloc: Global,
     at: &Place,
     allocator: &AllocatorOf<T>,
     wanted: &[(usize, u32, u32)],
 ) {
     let report = allocator.storage_report_full();
-    let mut found = Vec::new(alloc);
+    let mut found = 0usize;
     for class in 0..256usize {
         let region = report.free_regions[class];
         if region.count > 0 {
-            found
-                .push((class, region.size, region.count))
-                .expect(rt, "memory");
+            expect_class(rt, at, class, region, wanted.get(found));
+            found = found.saturating_add(1);
         }
     }
-    assert_same_at(rt, at, &found.as_slice(), &wanted);
+    assert_same_at(rt, at, &found, &wanted.len());
 }
 
 fn request<T: Tables>(
@@ -164,21 +181,23 @@ fn request<T: Tables>(
     allocator.allocate_aligned(size, align)
 }
 
-// Why a request is refused, if all calls that say so agree; `None` also where the alignment is no power of two.
-fn refusal<T: Tables>(allocator: &AllocatorOf<T>, size: u32, align: u32) -> Option<Refusal> {
-    if !align.is_power_of_two() {
-        return None;
-    }
-    let mut count = Accesses::new();
+// Why a request is refused. All calls that say so have to agree.
+fn refusal<T: Tables>(
+    rt: &impl Abort,
+    at: &Place,
+    allocator: &AllocatorOf<T>,
+    size: u32,
+    align: u32,
+) -> Option<Refusal> {
+    assert_that_at(rt, at, align.is_power_of_two());
     let why = allocator.refusal_aligned(size, align);
-    if why != refusal_aligned_counted(allocator, size, align, &mut count) {
-        return None;
-    }
-    if align == 1 && why != allocator.refusal(size) {
-        return None;
-    }
-    if align == 1 && why != refusal_counted(allocator, size, &mut count) {
-        return None;
+    let mut count = Accesses::new();
+    let counted = refusal_aligned_counted(allocator, size, align, &mut count);
+    assert_same_at(rt, at, &counted, &why);
+    if align == 1 {
+        assert_same_at(rt, at, &allocator.refusal(size), &why);
+        let counted = refusal_counted(allocator, size, &mut count);
+        assert_same_at(rt, at, &counted, &why);
     }
     why
 }
@@ -197,7 +216,7 @@ fn is_wanted<NI: NodeIndex>(
     };
     let mut after = *handle;
     after.offset = *to;
-    range.allocation() == after && (range.from, range.to, range.size) == (*from, *to, *size)
+    range.allocation() == after && range.from == *from && range.to == *to && range.size == *size
 }
 
 fn expect_moves<T: Tables>(
@@ -219,6 +238,27 @@ fn expect_moves<T: Tables>(
     assert_same_at(rt, at, &count, &wanted.len());
 }
 
+// Whether a block has the handle of a grant, at this offset, or none where it is free.
+fn has_handle<NI: NodeIndex>(
+    found: Option<Allocation<NI>>,
+    handles: &[Allocation<NI>],
+    number: Option<usize>,
+    offset: u32,
+) -> bool {
+    let Some(number) = number else {
+        return found.is_none();
+    };
+    let Some(found) = found else {
+        return false;
+    };
+    let Some(handle) = handles.get(number) else {
+        return false;
+    };
+    let mut now = *handle;
+    now.offset = offset;
+    found == now
+}
+
 // Whether a block is the wanted one: with this offset, this size, and the handle of this grant.
 fn is_wanted_block<NI: NodeIndex>(
     block: Option<Block<NI>>,
@@ -229,18 +269,9 @@ fn is_wanted_block<NI: NodeIndex>(
         return false;
     };
     let (offset, size, number) = *wanted;
-    let has_handle = match number {
-        None => block.allocation.is_none(),
-        Some(number) => match handles.get(number) {
-            None => false,
-            Some(handle) => {
-                let mut now = *handle;
-                now.offset = offset;
-                block.allocation == Some(now)
-            }
-        },
-    };
-    has_handle && (block.offset, block.size) == (offset, size)
+    block.offset == offset
+        && block.size == size
+        && has_handle(block.allocation, handles, number, offset)
 }
 
 // Each block is yielded by the walk, by a copy, which goes on from where it was made, and by a counted copy.
@@ -255,12 +286,10 @@ fn expect_walk<T: Tables>(
     let mut blocks = allocator.blocks();
     let mut left = wanted.len();
     for block in wanted {
-        assert_same_at(
-            rt,
-            at,
-            &(blocks.len(), blocks.size_hint()),
-            &(left, (left, Some(left))),
-        );
+        let (least, most) = blocks.size_hint();
+        assert_same_at(rt, at, &blocks.len(), &left);
+        assert_same_at(rt, at, &least, &left);
+        assert_same_at(rt, at, &most, &Some(left));
         let mut copy = blocks.clone().expect(rt, "memory");
         assert_same_at(rt, at, &copy.len(), &left);
         assert_that_at(rt, at, is_wanted_block(copy.next(), handles, block));
@@ -342,33 +371,27 @@ fn observe<T: Tables>(
 ) {
     match step {
         Step::Lacks(size, why) => {
-            assert_same_at(rt, at, &refusal(allocator, *size, 1), &Some(*why));
+            assert_same_at(rt, at, &refusal(rt, at, allocator, *size, 1), &Some(*why));
         }
         Step::LacksAligned(size, align, why) => {
-            assert_same_at(rt, at, &refusal(allocator, *size, *align), &Some(*why));
-        }
-        Step::Is(size, blocks, full) => {
             assert_same_at(
                 rt,
                 at,
-                &(
-                    allocator.size(),
-                    allocator.block_count(),
-                    allocator.is_full(),
-                ),
-                &(*size, *blocks, *full),
+                &refusal(rt, at, allocator, *size, *align),
+                &Some(*why),
             );
+        }
+        Step::Is(size, blocks, full) => {
+            assert_same_at(rt, at, &allocator.size(), size);
+            assert_same_at(rt, at, &allocator.block_count(), blocks);
+            assert_same_at(rt, at, &allocator.is_full(), full);
         }
         Step::Reports(total, largest) => {
             let report = allocator.storage_report();
-            assert_same_at(
-                rt,
-                at,
-                &(report.total_free_space, report.largest_free_region),
-                &(*total, *largest),
-            );
+            assert_same_at(rt, at, &report.total_free_space, total);
+            assert_same_at(rt, at, &report.largest_free_region, largest);
         }
-        Step::Counts(wanted) => expect_counts(rt, alloc, at, allocator, wanted),
+        Step::Counts(wanted) => expect_counts(rt, at, allocator, wanted),
         Step::Walks(wanted) => expect_walk(rt, at, allocator, handles, wanted),
         Step::Shows(wanted) => {
             let text = text_of(rt, alloc, allocator);
@@ -388,7 +411,7 @@ fn take<T: Tables>(
 ) {
     match step {
         Step::Grants(size, offset) => {
-            assert_same_at(rt, at, &refusal(allocator, *size, 1), &None);
+            assert_same_at(rt, at, &refusal(rt, at, allocator, *size, 1), &None);
             let granted = allocator.allocate(*size);
             keep(rt, at, allocator, handles, granted, *size, *offset);
         }
