@@ -24,13 +24,3 @@ pub fn assert_that_at<A: Debug>(rt: &impl Abort, at: &A, is_so: bool)
 pub fn assert_same<T: PartialEq + Debug>(rt: &impl Abort, found: &T, wanted: &T) {
     assert_eq!(rt; found, wanted);
 }
-
-/// Ends the test where these values differ, and says at what.
-pub fn assert_same_at<A: Debug, T: PartialEq + Debug>(
-    rt: &impl Abort,
-    at: &A,
-    found: &T,
-    wanted: &T,
-) {
-    assert_eq!(rt; found, wanted, "at {at:?}");
-}

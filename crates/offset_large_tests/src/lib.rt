@@ -6,4 +6,6 @@ mod asserts;
 #[cfg(test)]
 mod large;
 #[cfg(test)]
+mod layouts;
+#[cfg(test)]
 mod memory;

@@ -1,8 +1,8 @@
 //! Large spaces, and large limits.
 
-use crate::asserts::{assert_same, assert_same_at, assert_that, assert_that_at};
-use offset_allocator::{Allocation, Allocator, NodeIndex};
-use offset_test_base::tiny::Tiny;
+use crate::asserts::{assert_same, assert_that, assert_that_at};
+use crate::layouts::{ALL, EACH, Expectation, Layout, check_at, check_each};
+use offset_allocator::{Allocation, AllocatorOf, NodeIndex, Tables};
 use std::alloc::Global;
 use std::process::Abort;
 
@@ -17,37 +17,50 @@ const SIZES: [(u32, u32); 7] = [
     (4_294_967_295, 4_026_531_840),
 ];
 
-fn expect_space<NI: NodeIndex>(rt: &impl Abort, alloc: Global, size: u32, largest: u32) {
-    let mut allocator = Allocator::<NI>::new(alloc, size).expect(rt, "memory");
+// An allocator of this size with the node limit of `new`.
+fn made<T: Tables>(rt: &impl Abort, alloc: Global, size: u32) -> AllocatorOf<T> {
+    AllocatorOf::new(alloc, size).expect(rt, "memory")
+}
+
+// An allocator of this size with this node limit.
+fn made_with<T: Tables>(rt: &impl Abort, alloc: Global, size: u32, limit: u32) -> AllocatorOf<T> {
+    assert_that(rt, 2 <= limit && limit < T::Index::MAX - 1);
+    AllocatorOf::with_max_allocs(alloc, size, limit).expect(rt, "memory")
+}
+
+fn expect_space<T: Tables>(rt: &impl Abort, alloc: Global, size: u32, largest: u32) {
+    let mut allocator = made::<T>(rt, alloc, size);
     let report = allocator.storage_report();
-    assert_same_at(
-        rt,
-        &("a space of", size),
-        &(report.total_free_space, report.largest_free_region),
-        &(size, largest),
-    );
+    assert_same(rt, &report.total_free_space, &size);
+    assert_same(rt, &report.largest_free_region, &largest);
     match allocator.allocate(largest) {
         None => assert_that_at(rt, &("refused", largest), false),
         Some(handle) => assert_same(rt, &handle.offset, &0),
     }
 }
 
-#[test]
-fn makes_large_spaces(rt: HostRuntime) {
-    for (size, largest) in SIZES {
-        expect_space::<u32>(&rt, rt.alloc(), size, largest);
-        expect_space::<u16>(&rt, rt.alloc(), size, largest);
-        expect_space::<Tiny>(&rt, rt.alloc(), size, largest);
+struct Spaces;
+
+impl Expectation for Spaces {
+    fn check<T: Tables>(&self, rt: &impl Abort, alloc: Global) {
+        for (size, largest) in SIZES {
+            expect_space::<T>(rt, alloc, size, largest);
+        }
     }
 }
 
+#[test]
+fn makes_large_spaces(rt: HostRuntime) {
+    check_each(&rt, rt.alloc(), &ALL, &Spaces);
+}
+
 // Each request takes the next unit.
-fn take_units<NI: NodeIndex>(
+fn take_units<T: Tables>(
     rt: &impl Abort,
     alloc: Global,
-    allocator: &mut Allocator<NI>,
+    allocator: &mut AllocatorOf<T>,
     count: u32,
-) -> Vec<Allocation<NI>> {
+) -> Vec<Allocation<T::Index>> {
     let mut handles = Vec::new(alloc);
     for offset in 0..count {
         match allocator.allocate(1) {
@@ -61,10 +74,10 @@ fn take_units<NI: NodeIndex>(
     handles
 }
 
-fn free_all<NI: NodeIndex>(
+fn free_all<T: Tables>(
     rt: &impl Abort,
-    allocator: &mut Allocator<NI>,
-    handles: &[Allocation<NI>],
+    allocator: &mut AllocatorOf<T>,
+    handles: &[Allocation<T::Index>],
 ) {
     for handle in handles {
         assert_that(rt, allocator.is_live(*handle));
@@ -75,62 +88,85 @@ fn free_all<NI: NodeIndex>(
 }
 
 // Grants as many units as the limit admits; one more request is refused.
-fn expect_full<NI: NodeIndex>(
+fn expect_full<T: Tables>(
     rt: &impl Abort,
     alloc: Global,
-    allocator: &mut Allocator<NI>,
+    allocator: &mut AllocatorOf<T>,
     limit: u32,
-) -> Vec<Allocation<NI>> {
+) -> Vec<Allocation<T::Index>> {
     let handles = take_units(rt, alloc, allocator, limit.saturating_sub(2));
     assert_that_at(rt, &("limit", limit), allocator.allocate(1).is_none());
     handles
 }
 
-fn expect_free<NI: NodeIndex>(rt: &impl Abort, allocator: &Allocator<NI>) {
+fn expect_free<T: Tables>(rt: &impl Abort, allocator: &AllocatorOf<T>) {
     let report = allocator.storage_report();
     assert_same(rt, &report.total_free_space, &4_294_967_295);
     assert_same(rt, &report.largest_free_region, &4_026_531_840);
 }
 
-// Fills a space up to its limit twice, and frees it one by one and by a reset.
-fn expect_limit<NI: NodeIndex>(rt: &impl Abort, alloc: Global, limit: u32) {
-    assert_that(rt, 2 <= limit && limit < NI::MAX - 1);
-    let made = Allocator::<NI>::with_max_allocs(alloc, 4_294_967_295, limit);
-    let mut space = made.expect(rt, "memory");
-    let handles = expect_full(rt, alloc, &mut space, limit);
-    free_all(rt, &mut space, &handles);
-    expect_free(rt, &space);
-    let _handles = expect_full(rt, alloc, &mut space, limit);
-    space.reset();
-    expect_free(rt, &space);
+// Spaces with this node limit.
+#[derive(Drop)]
+struct Limit {
+    limit: u32,
+}
+
+impl Expectation for Limit {
+    // Fills a space up to its limit twice, and frees it one by one and by a reset.
+    fn check<T: Tables>(&self, rt: &impl Abort, alloc: Global) {
+        let mut space = made_with::<T>(rt, alloc, 4_294_967_295, self.limit);
+        let handles = expect_full(rt, alloc, &mut space, self.limit);
+        free_all(rt, &mut space, &handles);
+        expect_free(rt, &space);
+        let _handles = expect_full(rt, alloc, &mut space, self.limit);
+        space.reset();
+        expect_free(rt, &space);
+    }
 }
 
 #[test]
 fn grants_as_many_as_a_large_limit_admits(rt: HostRuntime) {
-    expect_limit::<u16>(&rt, rt.alloc(), 65_533);
-    expect_limit::<u32>(&rt, rt.alloc(), 131_073);
-    expect_limit::<u32>(&rt, rt.alloc(), 300_000);
+    check_at(&rt, rt.alloc(), Layout::ByNode16, &Limit { limit: 65_533 });
+    for limit in [131_073, 300_000] {
+        check_each(&rt, rt.alloc(), &EACH, &Limit { limit });
+    }
 }
 
-fn expect_new<NI: NodeIndex>(rt: &impl Abort, alloc: Global, limit: u32) {
-    let mut space = Allocator::<NI>::new(alloc, 4_294_967_295).expect(rt, "memory");
-    let _handles = expect_full(rt, alloc, &mut space, limit);
+// Spaces that `new` makes, with this node limit.
+#[derive(Drop)]
+struct LimitOfNew {
+    limit: u32,
+}
+
+impl Expectation for LimitOfNew {
+    fn check<T: Tables>(&self, rt: &impl Abort, alloc: Global) {
+        let mut space = made::<T>(rt, alloc, 4_294_967_295);
+        let _handles = expect_full(rt, alloc, &mut space, self.limit);
+    }
 }
 
 // By `new` a space has 131,072 nodes, or as many as the narrow index type admits.
 #[test]
 fn grants_as_many_as_the_limit_of_new_admits(rt: HostRuntime) {
-    expect_new::<u32>(&rt, rt.alloc(), 131_072);
-    expect_new::<u16>(&rt, rt.alloc(), 65_533);
+    check_each(&rt, rt.alloc(), &EACH, &LimitOfNew { limit: 131_072 });
+    let narrow = LimitOfNew { limit: 65_533 };
+    check_at(&rt, rt.alloc(), Layout::ByNode16, &narrow);
 }
 
-// The tables take 174 megabytes.
+struct ManyNodes;
+
+impl Expectation for ManyNodes {
+    // The tables take 174 megabytes.
+    fn check<T: Tables>(&self, rt: &impl Abort, alloc: Global) {
+        let mut allocator = made_with::<T>(rt, alloc, 1_000, 6_000_000);
+        assert_same(rt, &allocator.max_allocs(), &6_000_000);
+        let first = allocator.allocate(10).expect(rt, "room");
+        assert_same(rt, &first.offset, &0);
+        assert_same(rt, &allocator.storage_report().total_free_space, &990);
+    }
+}
+
 #[test]
 fn makes_a_space_of_six_million_nodes(rt: HostRuntime) {
-    let made = Allocator::<u32>::with_max_allocs(rt.alloc(), 1_000, 6_000_000);
-    let mut allocator = made.expect(&rt, "memory");
-    assert_same(&rt, &allocator.max_allocs(), &6_000_000);
-    let first = allocator.allocate(10).expect(&rt, "room");
-    assert_same(&rt, &first.offset, &0);
-    assert_same(&rt, &allocator.storage_report().total_free_space, &990);
+    check_at(&rt, rt.alloc(), Layout::ByNode32, &ManyNodes);
 }

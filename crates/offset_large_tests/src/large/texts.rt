@@ -40,11 +40,14 @@ pub fn put_lines(text: &mut String, line: &str, times: u32) -> Result<(), AllocE
     Ok(())
 }
 
+fn put_unit(answers: &mut String, number: u64, offset: u32) -> Result<(), AllocError> {
+    writeln!(answers, "grant {number} at {offset}")
+}
+
 // Appends the answers to this many requests of one unit each in a fresh space.
 fn put_units(answers: &mut String, grants: u32) -> Result<(), AllocError> {
     for offset in 0..grants {
-        let number = u64::from(offset) + 1;
-        writeln!(answers, "grant {number} at {offset}")?;
+        put_unit(answers, u64::from(offset) + 1, offset)?;
     }
     Ok(())
 }
@@ -70,7 +73,9 @@ pub fn expect_answers(rt: &impl Abort, alloc: Global, text: &str, wanted: &str) 
 pub fn expect_answers_of<R: Read + Drop>(rt: &impl Abort, alloc: Global, text: R, wanted: &str) {
     let mut output = IntoWrite::new(Vec::new(alloc));
     let result = run(alloc, &mut FromRead::new(text), &mut output);
-    assert_same(rt, &result, &Ok(()));
+    if let Err(fault) = result {
+        assert_that_at(rt, &fault, false);
+    }
     let written = output.into_inner();
     assert_same(rt, &written.len(), &wanted.len());
     assert_that_at(

@@ -2,9 +2,8 @@
 
 use super::attempts::{Attempt, Outcome, right_if};
 use super::ladder::{COARSE, FINE, Steps, expect_refusals};
-use offset_allocator::{AllocatorOf, ByField, ByNode, NodeIndex, Tables};
-use offset_test_base::flat::Flat;
-use offset_test_base::tiny::Tiny;
+use crate::layouts::{ALL, Expectation, Layout, check_at, check_each};
+use offset_allocator::{AllocatorOf, NodeIndex, Tables};
 use std::alloc::{AllocError, Global};
 use std::marker::PhantomData;
 use std::process::Abort;
@@ -45,36 +44,45 @@ fn expect_constructor<T: Tables>(rt: &impl Abort, alloc: Global, steps: Steps, l
     expect_refusals(rt, alloc, steps, &mut constructor, 1);
 }
 
-#[test]
-fn small_allocators(rt: HostRuntime) {
-    for limit in [Some(4), Some(100)] {
-        expect_constructor::<ByNode<u16>>(&rt, rt.alloc(), FINE, limit);
-        expect_constructor::<ByNode<u32>>(&rt, rt.alloc(), FINE, limit);
-        expect_constructor::<ByField<u16>>(&rt, rt.alloc(), FINE, limit);
-        expect_constructor::<ByField<u32>>(&rt, rt.alloc(), FINE, limit);
-        expect_constructor::<Flat>(&rt, rt.alloc(), FINE, limit);
-    }
-    for limit in [None, Some(4)] {
-        expect_constructor::<ByNode<Tiny>>(&rt, rt.alloc(), FINE, limit);
-        expect_constructor::<ByField<Tiny>>(&rt, rt.alloc(), FINE, limit);
+struct Small;
+
+impl Expectation for Small {
+    // With a limit of 4 and one of 100, or with none where the index type admits no 100 nodes.
+    fn check<T: Tables>(&self, rt: &impl Abort, alloc: Global) {
+        expect_constructor::<T>(rt, alloc, FINE, Some(4));
+        let larger = if T::Index::MAX > 101 { Some(100) } else { None };
+        expect_constructor::<T>(rt, alloc, FINE, larger);
     }
 }
 
-// Each layout in a process of its own: in the memory that a ladder has left, the steps of the next one are no neighbours,
-// and the piece that they make is not large enough for these tables.
+#[test]
+fn small_allocators(rt: HostRuntime) {
+    check_each(&rt, rt.alloc(), &ALL, &Small);
+}
+
+struct Large;
+
+impl Expectation for Large {
+    fn check<T: Tables>(&self, rt: &impl Abort, alloc: Global) {
+        expect_constructor::<T>(rt, alloc, COARSE, None);
+    }
+}
+
+// Each layout in a process of its own: in the memory that a ladder has left, the steps of the next one are no
+// neighbours, and the piece that they make is not large enough for these tables.
 #[test]
 fn large_allocators_by_node(rt: HostRuntime) {
-    expect_constructor::<ByNode<u16>>(&rt, rt.alloc(), COARSE, None);
-    expect_constructor::<ByNode<u32>>(&rt, rt.alloc(), COARSE, None);
+    let widths = [Layout::ByNode16, Layout::ByNode32];
+    check_each(&rt, rt.alloc(), &widths, &Large);
 }
 
 #[test]
 fn large_allocators_by_field(rt: HostRuntime) {
-    expect_constructor::<ByField<u16>>(&rt, rt.alloc(), COARSE, None);
-    expect_constructor::<ByField<u32>>(&rt, rt.alloc(), COARSE, None);
+    let widths = [Layout::ByField16, Layout::ByField32];
+    check_each(&rt, rt.alloc(), &widths, &Large);
 }
 
 #[test]
 fn large_allocators_in_one_vector(rt: HostRuntime) {
-    expect_constructor::<Flat>(&rt, rt.alloc(), COARSE, None);
+    check_at(&rt, rt.alloc(), Layout::Flat, &Large);
 }

@@ -1,6 +1,7 @@
 //! Calls of which an allocation may fail, and the taking of all memory that a process can have.
 
 use std::alloc::{AllocError, Global};
+use std::process::Abort;
 
 /// The outcome of calls of which an allocation may fail.
 #[derive(Clone, Copy, PartialEq, Debug)]
@@ -51,8 +52,8 @@ fn smaller(size: usize) -> usize {
     }
 }
 
-/// Takes all memory that is left.
-pub fn all_memory(alloc: Global) -> Result<Vec<Vec<u8>>, AllocError> {
+// Takes all memory that is left.
+fn all_memory(alloc: Global) -> Result<Vec<Vec<u8>>, AllocError> {
     let mut blocks = Vec::with_capacity(alloc, BLOCKS)?;
     let mut size = 1usize << 46;
     for _ in 0..BLOCKS {
@@ -67,8 +68,18 @@ pub fn all_memory(alloc: Global) -> Result<Vec<Vec<u8>>, AllocError> {
     Ok(blocks)
 }
 
-/// Takes all memory except `room` bytes in one piece.
-pub fn all_memory_but(alloc: Global, room: usize) -> Result<Vec<Vec<u8>>, AllocError> {
+// Takes all memory except `room` bytes in one piece.
+fn all_memory_but(alloc: Global, room: usize) -> Result<Vec<Vec<u8>>, AllocError> {
     let _room = Vec::<u8>::with_capacity(alloc, room)?;
     all_memory(alloc)
+}
+
+/// Takes all memory except `room` bytes in one piece, or ends the test.
+pub fn take_all_but(rt: &impl Abort, alloc: Global, room: usize) -> Vec<Vec<u8>> {
+    all_memory_but(alloc, room).expect(rt, "memory")
+}
+
+/// Whether this many bytes are left in one piece.
+pub fn has(alloc: Global, bytes: usize) -> bool {
+    Vec::<u8>::with_capacity(alloc, bytes).is_ok()
 }

@@ -1,14 +1,13 @@
 //! After construction, the calls of an allocator request no memory.
 
-use super::attempts::{Attempt, Outcome, all_memory, all_memory_but, refused_if, right_if};
+use super::attempts::{Attempt, Outcome, has, refused_if, right_if, take_all_but};
 use super::ladder::{FINE, expect_refusals};
 use crate::asserts::{assert_same, assert_that};
+use crate::layouts::{ALL, EACH, Expectation, Layout, check_at, check_each};
 use offset_allocator::laws::undo;
-use offset_allocator::{Allocation, AllocatorOf, ByField, ByNode, NodeIndex, Tables};
+use offset_allocator::{Allocation, AllocatorOf, NodeIndex, Tables};
 use offset_script::play_of;
-use offset_test_base::flat::Flat;
 use offset_test_base::living::living_calls;
-use offset_test_base::tiny::Tiny;
 use std::alloc::{AllocError, Global};
 use std::marker::PhantomData;
 use std::process::Abort;
@@ -26,19 +25,7 @@ fn request<T: Tables>(
     if kind % 2 == 0 {
         allocator.allocate(size)
     } else {
-        request_aligned(allocator, size, 8)
-    }
-}
-
-fn request_aligned<T: Tables>(
-    allocator: &mut AllocatorOf<T>,
-    size: u32,
-    align: u32,
-) -> Option<Allocation<T::Index>> {
-    if align.is_power_of_two() {
-        allocator.allocate_aligned(size, align)
-    } else {
-        None
+        allocator.allocate_aligned(size, 8)
     }
 }
 
@@ -103,11 +90,13 @@ fn call<T: Tables>(
     }
 }
 
-// Makes 1,000 calls of every kind, and returns a checksum of their results. It keeps the handles in `kept`.
+// Makes 1,000 calls of every kind, and returns a checksum of their results. It keeps the handles in `kept`, which are
+// none at first.
 fn checksum<T: Tables>(
     allocator: &mut AllocatorOf<T>,
     kept: &mut [Option<Allocation<T::Index>>],
 ) -> u64 {
+    kept.fill(None);
     let mut state = 1u64;
     let mut sum = 0u64;
     for _ in 0..1_000u32 {
@@ -121,8 +110,13 @@ fn checksum<T: Tables>(
     sum
 }
 
-// The C library keeps a freed block of up to 1,032 bytes for requests of its size. With this many nodes each table takes
-// more. With fewer, kept blocks would split the memory in which the next allocator is made.
+// A place for each of 16 handles.
+fn no_handles<T: Tables>(rt: &impl Abort, alloc: Global) -> Vec<Option<Allocation<T::Index>>> {
+    vec![in alloc; None; 16].expect(rt, "memory")
+}
+
+// The C library keeps a freed block of up to 1,032 bytes for requests of its size. With this many nodes each table
+// takes more. With fewer, kept blocks would split the memory in which the next allocator is made.
 const NODES: u32 = 2_000;
 
 fn construct<T: Tables>(alloc: Global) -> Result<AllocatorOf<T>, AllocError> {
@@ -133,63 +127,65 @@ fn construct<T: Tables>(alloc: Global) -> Result<AllocatorOf<T>, AllocError> {
     }
 }
 
-// A place for each of 16 handles.
-fn no_handles<T: Tables>(rt: &impl Abort, alloc: Global) -> Vec<Option<Allocation<T::Index>>> {
-    vec![in alloc; None; 16].expect(rt, "memory")
+// Makes an allocator, or ends the test.
+fn made<T: Tables>(rt: &impl Abort, alloc: Global) -> AllocatorOf<T> {
+    construct(alloc).expect(rt, "memory")
+}
+
+// The same with the node limit of `new`.
+fn made_by_new<T: Tables>(rt: &impl Abort, alloc: Global, size: u32) -> AllocatorOf<T> {
+    AllocatorOf::new(alloc, size).expect(rt, "memory")
 }
 
 fn construct_and_call<T: Tables>(
     alloc: Global,
     kept: &mut [Option<Allocation<T::Index>>],
 ) -> Result<u64, AllocError> {
-    kept.fill(None);
     let mut allocator = construct::<T>(alloc)?;
     Ok(checksum(&mut allocator, kept))
 }
 
-// The calls return the same as before where not one byte is left.
-fn expect_results<T: Tables>(rt: &impl Abort, alloc: Global) {
-    let mut kept = no_handles::<T>(rt, alloc);
-    let mut allocator = AllocatorOf::<T>::new(alloc, 1_000).expect(rt, "memory");
-    let wanted = checksum(&mut allocator, &mut kept);
-    kept.fill(None);
-    let mut allocator = AllocatorOf::<T>::new(alloc, 1_000).expect(rt, "memory");
-    let _rest = all_memory(alloc).expect(rt, "memory");
-    assert_that(rt, Vec::<u8>::with_capacity(alloc, 1).is_err());
-    assert_same(rt, &checksum(&mut allocator, &mut kept), &wanted);
+struct Results;
+
+impl Expectation for Results {
+    // The calls return the same as before where not one byte is left.
+    fn check<T: Tables>(&self, rt: &impl Abort, alloc: Global) {
+        let mut kept = no_handles::<T>(rt, alloc);
+        let wanted = checksum(&mut made_by_new::<T>(rt, alloc, 1_000), &mut kept);
+        let mut allocator = made_by_new::<T>(rt, alloc, 1_000);
+        let _rest = take_all_but(rt, alloc, 0);
+        assert_that(rt, !has(alloc, 1));
+        assert_same(rt, &checksum(&mut allocator, &mut kept), &wanted);
+    }
 }
 
 #[test]
 fn calls_need_no_memory(rt: HostRuntime) {
-    expect_results::<ByNode<u32>>(&rt, rt.alloc());
-    expect_results::<ByNode<u16>>(&rt, rt.alloc());
-    expect_results::<ByNode<Tiny>>(&rt, rt.alloc());
-    expect_results::<ByField<u32>>(&rt, rt.alloc());
-    expect_results::<ByField<Tiny>>(&rt, rt.alloc());
-    expect_results::<Flat>(&rt, rt.alloc());
+    check_each(&rt, rt.alloc(), &ALL, &Results);
 }
 
 const ROOM: usize = 1 << 30;
 
-// All free memory is in one piece. A request that took any of it, or a small one that was freed at once, would have
-// split that piece.
-fn expect_untouched<T: Tables>(rt: &impl Abort, alloc: Global) {
-    let mut kept = no_handles::<T>(rt, alloc);
-    let wanted = construct_and_call::<T>(alloc, &mut kept).expect(rt, "memory");
-    kept.fill(None);
-    let mut allocator = construct::<T>(alloc).expect(rt, "memory");
-    let _rest = all_memory_but(alloc, ROOM).expect(rt, "memory");
-    assert_same(rt, &checksum(&mut allocator, &mut kept), &wanted);
-    assert_that(rt, Vec::<u8>::with_capacity(alloc, ROOM).is_ok());
-    assert_that(rt, Vec::<u8>::with_capacity(alloc, 16).is_ok());
-    assert_that(rt, Vec::<u8>::with_capacity(alloc, ROOM).is_err());
+struct Untouched;
+
+impl Expectation for Untouched {
+    // All free memory is in one piece. A request that took any of it, or a small one that was freed at once, would have
+    // split that piece.
+    fn check<T: Tables>(&self, rt: &impl Abort, alloc: Global) {
+        let mut kept = no_handles::<T>(rt, alloc);
+        let wanted = checksum(&mut made::<T>(rt, alloc), &mut kept);
+        let mut allocator = made::<T>(rt, alloc);
+        let _rest = take_all_but(rt, alloc, ROOM);
+        assert_same(rt, &checksum(&mut allocator, &mut kept), &wanted);
+        assert_that(rt, has(alloc, ROOM));
+        assert_that(rt, has(alloc, 16));
+        assert_that(rt, !has(alloc, ROOM));
+    }
 }
 
 #[test]
 fn calls_leave_all_memory_as_it_was(rt: HostRuntime) {
-    expect_untouched::<ByNode<u32>>(&rt, rt.alloc());
-    expect_untouched::<ByField<u32>>(&rt, rt.alloc());
-    expect_untouched::<Flat>(&rt, rt.alloc());
+    check_each(&rt, rt.alloc(), &EACH, &Untouched);
 }
 
 // Makes an allocator and the calls. They fail exactly where the construction alone fails, and else return the same as
@@ -210,18 +206,20 @@ impl<T: Tables> Attempt for WithCalls<T> {
     }
 }
 
-fn expect_only_construction_fails<T: Tables>(rt: &impl Abort, alloc: Global) {
-    let mut kept = no_handles::<T>(rt, alloc);
-    let wanted = construct_and_call::<T>(alloc, &mut kept).expect(rt, "memory");
-    let mut with_calls: WithCalls<T> = WithCalls { wanted, kept };
-    expect_refusals(rt, alloc, FINE, &mut with_calls, 1);
+struct OnlyConstructionFails;
+
+impl Expectation for OnlyConstructionFails {
+    fn check<T: Tables>(&self, rt: &impl Abort, alloc: Global) {
+        let mut kept = no_handles::<T>(rt, alloc);
+        let wanted = checksum(&mut made::<T>(rt, alloc), &mut kept);
+        let mut with_calls: WithCalls<T> = WithCalls { wanted, kept };
+        expect_refusals(rt, alloc, FINE, &mut with_calls, 1);
+    }
 }
 
 #[test]
 fn calls_fail_only_in_construction(rt: HostRuntime) {
-    expect_only_construction_fails::<ByNode<u32>>(&rt, rt.alloc());
-    expect_only_construction_fails::<ByField<u32>>(&rt, rt.alloc());
-    expect_only_construction_fails::<Flat>(&rt, rt.alloc());
+    check_each(&rt, rt.alloc(), &EACH, &OnlyConstructionFails);
 }
 
 // Plays a script without commands. It fails wherever a construction fails.
@@ -243,47 +241,53 @@ impl<T: Tables> Attempt for WithoutCommands<T> {
     }
 }
 
-fn expect_an_allocator<T: Tables>(rt: &impl Abort, alloc: Global) {
-    let mut without_commands: WithoutCommands<T> = WithoutCommands {
-        layout: PhantomData,
-    };
-    expect_refusals(rt, alloc, FINE, &mut without_commands, 1);
+struct AnAllocator;
+
+impl Expectation for AnAllocator {
+    fn check<T: Tables>(&self, rt: &impl Abort, alloc: Global) {
+        let mut without_commands: WithoutCommands<T> = WithoutCommands {
+            layout: PhantomData,
+        };
+        expect_refusals(rt, alloc, FINE, &mut without_commands, 1);
+    }
 }
 
 #[test]
 fn playing_makes_an_allocator(rt: HostRuntime) {
-    expect_an_allocator::<ByNode<u32>>(&rt, rt.alloc());
-    expect_an_allocator::<ByField<u32>>(&rt, rt.alloc());
-    expect_an_allocator::<Flat>(&rt, rt.alloc());
+    check_each(&rt, rt.alloc(), &EACH, &AnAllocator);
 }
 
-// With 2,000 live ranges more than one node in 128 is in use, and `reset` goes over whole tables.
-fn expect_reset<T: Tables>(rt: &impl Abort, alloc: Global, room: usize) {
-    let mut allocator = AllocatorOf::<T>::new(alloc, 1_000_000).expect(rt, "memory");
-    for _ in 0..2_000u32 {
-        assert_that(rt, allocator.allocate(1).is_some());
+// A reset where this much memory is left.
+#[derive(Drop)]
+struct Reset {
+    room: usize,
+}
+
+impl Expectation for Reset {
+    // With 2,000 live ranges more than one node in 128 is in use, and `reset` goes over whole tables.
+    fn check<T: Tables>(&self, rt: &impl Abort, alloc: Global) {
+        let mut allocator = made_by_new::<T>(rt, alloc, 1_000_000);
+        for _ in 0..2_000u32 {
+            assert_that(rt, allocator.allocate(1).is_some());
+        }
+        let _rest = take_all_but(rt, alloc, self.room);
+        allocator.reset();
+        if self.room > 0 {
+            assert_that(rt, has(alloc, self.room));
+            assert_that(rt, has(alloc, 16));
+            assert_that(rt, !has(alloc, self.room));
+        }
+        let report = allocator.storage_report();
+        assert_same(rt, &report.total_free_space, &1_000_000);
+        assert_same(rt, &report.largest_free_region, &983_040);
     }
-    let _rest = all_memory_but(alloc, room).expect(rt, "memory");
-    allocator.reset();
-    if room > 0 {
-        assert_that(rt, Vec::<u8>::with_capacity(alloc, room).is_ok());
-        assert_that(rt, Vec::<u8>::with_capacity(alloc, 16).is_ok());
-        assert_that(rt, Vec::<u8>::with_capacity(alloc, room).is_err());
-    }
-    let report = allocator.storage_report();
-    assert_same(
-        rt,
-        &(report.total_free_space, report.largest_free_region),
-        &(1_000_000, 983_040),
-    );
 }
 
 #[test]
 fn a_reset_of_many_ranges_needs_no_memory(rt: HostRuntime) {
     for room in [0, ROOM] {
-        expect_reset::<ByNode<u32>>(&rt, rt.alloc(), room);
-        expect_reset::<ByNode<u16>>(&rt, rt.alloc(), room);
-        expect_reset::<ByField<u32>>(&rt, rt.alloc(), room);
-        expect_reset::<Flat>(&rt, rt.alloc(), room);
+        let reset = Reset { room };
+        check_each(&rt, rt.alloc(), &EACH, &reset);
+        check_at(&rt, rt.alloc(), Layout::ByNode16, &reset);
     }
 }

@@ -1,26 +1,33 @@
 //! After construction, the calls of a guarded allocator request no memory.
 
-use super::attempts::{Attempt, Outcome, all_memory, refused_if, right_if};
+use super::attempts::{Attempt, Outcome, has, refused_if, right_if, take_all_but};
 use super::ladder::{FINE, expect_refusals};
 use crate::asserts::{assert_same, assert_that};
-use offset_allocator::NodeIndex;
-use offset_guarded::{Guarded, Ticket};
+use crate::layouts::{EACH, Expectation, Layout, check_at, check_each};
+use offset_allocator::{NodeIndex, Tables};
+use offset_guarded::{GuardedOf, Ticket};
 use std::alloc::{AllocError, Global};
+use std::marker::PhantomData;
 use std::process::Abort;
 
 const NODES: u32 = 2_000;
 
-fn construct<NI: NodeIndex>(alloc: Global) -> Result<Guarded<NI>, AllocError> {
-    if NODES < NI::MAX - 1 {
-        Guarded::with_max_allocs(alloc, 1_000, NODES, 1)
+fn construct<T: Tables>(alloc: Global) -> Result<GuardedOf<T>, AllocError> {
+    if NODES < T::Index::MAX - 1 {
+        GuardedOf::with_max_allocs(alloc, 1_000, NODES, 1)
     } else {
-        Guarded::new(alloc, 1_000, 1)
+        GuardedOf::new(alloc, 1_000, 1)
     }
 }
 
+// Makes a guarded allocator, or ends the test.
+fn made<T: Tables>(rt: &impl Abort, alloc: Global) -> GuardedOf<T> {
+    construct(alloc).expect(rt, "memory")
+}
+
 // Makes one call. It returns the result as a number.
-fn call<NI: NodeIndex>(
-    space: &mut Guarded<NI>,
+fn call<T: Tables>(
+    space: &mut GuardedOf<T>,
     kept: &mut Option<Ticket>,
     kind: u32,
     number: u32,
@@ -41,10 +48,8 @@ fn call<NI: NodeIndex>(
             10 => u64::from(space.shrink(ticket, number / 2) == Some(true)),
             11 => u64::from(space.grow_in_place(ticket, number) == Some(true)),
             12 => u64::from(space.extend(number)),
-            13 => space.size_of(ticket).map_or(0, |size| u64::from(size)),
-            14 => space
-                .offset_of(ticket)
-                .map_or(0, |offset| u64::from(offset)),
+            13 => u64::from(space.size_of(ticket).unwrap_or(0)),
+            14 => u64::from(space.offset_of(ticket).unwrap_or(0)),
             _ => {
                 *kept = None;
                 if number % 8 == 0 {
@@ -57,7 +62,7 @@ fn call<NI: NodeIndex>(
 }
 
 // Makes 1,000 calls of every kind, and returns a checksum of their results.
-fn checksum<NI: NodeIndex>(space: &mut Guarded<NI>) -> u64 {
+fn checksum<T: Tables>(space: &mut GuardedOf<T>) -> u64 {
     let mut kept: [Option<Ticket>; 16] = [None; 16];
     let mut state = 1u64;
     let mut sum = 0u64;
@@ -77,46 +82,62 @@ fn checksum<NI: NodeIndex>(space: &mut Guarded<NI>) -> u64 {
     sum
 }
 
-fn construct_and_call(alloc: Global) -> Result<u64, AllocError> {
-    let mut space = construct::<u32>(alloc)?;
+fn construct_and_call<T: Tables>(alloc: Global) -> Result<u64, AllocError> {
+    let mut space = construct::<T>(alloc)?;
     Ok(checksum(&mut space))
 }
 
-// The calls return the same as before where not one byte is left.
-fn expect_results<NI: NodeIndex>(rt: &impl Abort, alloc: Global) {
-    let mut space = construct::<NI>(alloc).expect(rt, "memory");
-    let wanted = checksum(&mut space);
-    let mut space = construct::<NI>(alloc).expect(rt, "memory");
-    let _rest = all_memory(alloc).expect(rt, "memory");
-    assert_that(rt, Vec::<u8>::with_capacity(alloc, 1).is_err());
-    assert_same(rt, &checksum(&mut space), &wanted);
+struct Results;
+
+impl Expectation for Results {
+    // The calls return the same as before where not one byte is left.
+    fn check<T: Tables>(&self, rt: &impl Abort, alloc: Global) {
+        let wanted = checksum(&mut made::<T>(rt, alloc));
+        let mut space = made::<T>(rt, alloc);
+        let _rest = take_all_but(rt, alloc, 0);
+        assert_that(rt, !has(alloc, 1));
+        assert_same(rt, &checksum(&mut space), &wanted);
+    }
 }
 
 #[test]
 fn guarded_calls_need_no_memory(rt: HostRuntime) {
-    expect_results::<u32>(&rt, rt.alloc());
-    expect_results::<u16>(&rt, rt.alloc());
+    check_each(&rt, rt.alloc(), &EACH, &Results);
+    check_at(&rt, rt.alloc(), Layout::ByNode16, &Results);
 }
 
 // Makes a guarded allocator and the calls. They fail exactly where the construction alone fails, and else return the
 // same as with ample memory.
 #[derive(Drop)]
-struct WithTickets {
+struct WithTickets<T: Tables> {
     wanted: u64,
+    layout: PhantomData<T>,
 }
 
-impl Attempt for WithTickets {
+impl<T: Tables> Attempt for WithTickets<T> {
     fn outcome(&mut self, alloc: Global) -> Outcome {
-        let is_made = construct::<u32>(alloc).is_ok();
-        match construct_and_call(alloc) {
+        let is_made = construct::<T>(alloc).is_ok();
+        match construct_and_call::<T>(alloc) {
             Err(_) => refused_if(!is_made),
             Ok(sum) => right_if(is_made && sum == self.wanted),
         }
     }
 }
 
+struct OnlyConstructionFails;
+
+impl Expectation for OnlyConstructionFails {
+    fn check<T: Tables>(&self, rt: &impl Abort, alloc: Global) {
+        let wanted = checksum(&mut made::<T>(rt, alloc));
+        let mut with_tickets: WithTickets<T> = WithTickets {
+            wanted,
+            layout: PhantomData,
+        };
+        expect_refusals(rt, alloc, FINE, &mut with_tickets, 1);
+    }
+}
+
 #[test]
 fn guarded_calls_fail_only_in_construction(rt: HostRuntime) {
-    let wanted = construct_and_call(rt.alloc()).expect(&rt, "memory");
-    expect_refusals(&rt, rt.alloc(), FINE, &mut WithTickets { wanted }, 1);
+    check_each(&rt, rt.alloc(), &EACH, &OnlyConstructionFails);
 }

@@ -4,7 +4,7 @@
 //! two further requests. Only small requests after a large one may be missed, where memory that the attempt itself
 //! freed is enough for them.
 
-use super::attempts::{Attempt, Outcome, all_memory};
+use super::attempts::{Attempt, Outcome, take_all_but};
 use crate::asserts::{assert_same, assert_that_at};
 use std::alloc::{AllocError, Global};
 use std::process::Abort;
@@ -82,7 +82,7 @@ pub fn expect_refusals<A: Attempt>(
     least: u32,
 ) {
     let mut ladder = Ladder::new(alloc, steps).expect(rt, "memory");
-    let _rest = all_memory(alloc).expect(rt, "memory");
+    let _rest = take_all_but(rt, alloc, 0);
     let mut refusals = 0u32;
     for _ in 0..steps.count {
         match attempt.outcome(alloc) {

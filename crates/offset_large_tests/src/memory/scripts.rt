@@ -2,12 +2,12 @@
 
 use super::attempts::{Attempt, Outcome, refused_if, right_if};
 use super::ladder::{FINE, expect_refusals};
-use offset_allocator::{ByField, ByNode, NodeIndex, Tables};
+use crate::layouts::{EACH, Expectation, check_each};
+use offset_allocator::{NodeIndex, Tables};
 use offset_script::{
     Answer, Command, FromRead, IndexWidth, IntoWrite, RunFault, Script, ScriptFault, parse,
     play_of, run, run_program,
 };
-use offset_test_base::flat::Flat;
 use std::alloc::{AllocError, Global};
 use std::io;
 use std::io::Write;
@@ -215,20 +215,22 @@ fn running_reports_out_of_memory(rt: HostRuntime) {
     expect_refusals(&rt, rt.alloc(), FINE, &mut RunsProgram, 1);
 }
 
-fn expect_playing<T: Tables>(rt: &impl Abort, alloc: Global) {
-    let script = parse(alloc, TEXT).expect(rt, "a script");
-    let wanted = played::<T>(alloc, &script).expect(rt, "memory");
-    let mut plays: Plays<T> = Plays {
-        script,
-        wanted,
-        layout: PhantomData,
-    };
-    expect_refusals(rt, alloc, FINE, &mut plays, 1);
+struct PlayingReports;
+
+impl Expectation for PlayingReports {
+    fn check<T: Tables>(&self, rt: &impl Abort, alloc: Global) {
+        let script = parse(alloc, TEXT).expect(rt, "a script");
+        let wanted = played::<T>(alloc, &script).expect(rt, "memory");
+        let mut plays: Plays<T> = Plays {
+            script,
+            wanted,
+            layout: PhantomData,
+        };
+        expect_refusals(rt, alloc, FINE, &mut plays, 1);
+    }
 }
 
 #[test]
 fn playing_reports_out_of_memory(rt: HostRuntime) {
-    expect_playing::<ByNode<u32>>(&rt, rt.alloc());
-    expect_playing::<ByField<u32>>(&rt, rt.alloc());
-    expect_playing::<Flat>(&rt, rt.alloc());
+    check_each(&rt, rt.alloc(), &EACH, &PlayingReports);
 }

@@ -1,8 +1,29 @@
 //! A constructor takes no more memory than its tables need.
 
-use super::attempts::all_memory_but;
+use super::attempts::take_all_but;
 use crate::asserts::assert_that;
-use offset_allocator::Allocator;
+use crate::layouts::{Expectation, Layout, check_at};
+use offset_allocator::{AllocatorOf, NodeIndex, Tables};
+use std::alloc::Global;
+use std::process::Abort;
+
+// Whether an allocator with this node limit can be made where this much memory is left.
+#[derive(Drop)]
+struct Construction {
+    limit: u32,
+    room: usize,
+    is_made: bool,
+}
+
+impl Expectation for Construction {
+    fn check<T: Tables>(&self, rt: &impl Abort, alloc: Global) {
+        let limit = self.limit;
+        assert_that(rt, 2 <= limit && limit < T::Index::MAX - 1);
+        let _rest = take_all_but(rt, alloc, self.room);
+        let made = AllocatorOf::<T>::with_max_allocs(alloc, 100, limit);
+        assert_that(rt, made.is_ok() == self.is_made);
+    }
+}
 
 const NODES: u32 = 4_000_000;
 
@@ -14,9 +35,12 @@ const SLACK: usize = 2_000_000;
 
 #[test]
 fn takes_no_more_than_its_tables_need(rt: HostRuntime) {
-    let _rest = all_memory_but(rt.alloc(), BYTES + SLACK).expect(&rt, "memory");
-    let made = Allocator::<u32>::with_max_allocs(rt.alloc(), 100, NODES);
-    assert_that(&rt, made.is_ok());
+    let construction = Construction {
+        limit: NODES,
+        room: BYTES + SLACK,
+        is_made: true,
+    };
+    check_at(&rt, rt.alloc(), Layout::ByNode32, &construction);
 }
 
 // With 16 bits a node takes 16 bytes, and its entry in the stack 2. The C library requests at least 1 MiB at a time for
@@ -27,14 +51,20 @@ const SLACK_16: usize = 1_100_000;
 
 #[test]
 fn takes_less_than_twice_what_its_tables_need_with_16_bits(rt: HostRuntime) {
-    let _rest = all_memory_but(rt.alloc(), BYTES_16 + SLACK_16).expect(&rt, "memory");
-    let made = Allocator::<u16>::with_max_allocs(rt.alloc(), 100, 65_533);
-    assert_that(&rt, made.is_ok());
+    let construction = Construction {
+        limit: 65_533,
+        room: BYTES_16 + SLACK_16,
+        is_made: true,
+    };
+    check_at(&rt, rt.alloc(), Layout::ByNode16, &construction);
 }
 
 #[test]
 fn needs_memory_for_each_table(rt: HostRuntime) {
-    let _rest = all_memory_but(rt.alloc(), BYTES - SLACK).expect(&rt, "memory");
-    let made = Allocator::<u32>::with_max_allocs(rt.alloc(), 100, NODES);
-    assert_that(&rt, made.is_err());
+    let construction = Construction {
+        limit: NODES,
+        room: BYTES - SLACK,
+        is_made: false,
+    };
+    check_at(&rt, rt.alloc(), Layout::ByNode32, &construction);
 }
