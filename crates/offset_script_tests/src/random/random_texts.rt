@@ -154,38 +154,63 @@ fn put_line(text: &mut Vec<u8>, numbers: &mut Numbers) -> Result<(), AllocError>
     }
 }
 
+fn put_byte(text: &mut Vec<u8>, numbers: &mut Numbers) -> Result<(), AllocError> {
+    match BYTES.get(numbers.place(BYTES.len())) {
+        None => Ok(()),
+        Some(byte) => Ok(text.push(*byte)?),
+    }
+}
+
+// All but the first byte.
+fn without_first(text: &[u8]) -> &[u8] {
+    match text.split_first() {
+        None => text,
+        Some((_byte, others)) => others,
+    }
+}
+
 // The text with one byte removed, replaced or inserted.
 fn change(alloc: Global, text: &[u8], numbers: &mut Numbers) -> Result<Vec<u8>, AllocError> {
     let (before, after) = text.split_at(numbers.place(text.len()).min(text.len()));
     let kind = numbers.place(3);
     let mut changed = before.to_vec(alloc)?;
-    if kind > 0
-        && let Some(byte) = BYTES.get(numbers.place(BYTES.len()))
-    {
-        changed.push(*byte)?;
+    if kind > 0 {
+        put_byte(&mut changed, numbers)?;
     }
-    match after.split_first() {
-        Some((_byte, others)) if kind < 2 => changed.extend_from_slice(others)?,
-        _ => changed.extend_from_slice(after)?,
-    }
+    let kept = if kind < 2 {
+        without_first(after)
+    } else {
+        after
+    };
+    changed.extend_from_slice(kept)?;
     Ok(changed)
+}
+
+fn put_skipped(text: &mut Vec<u8>, numbers: &mut Numbers) -> Result<(), AllocError> {
+    for _ in 0..numbers.place(3) {
+        text.extend_from_slice(b"# c\n\n")?;
+    }
+    Ok(())
+}
+
+fn put_lines(text: &mut Vec<u8>, numbers: &mut Numbers) -> Result<(), AllocError> {
+    for _ in 0..numbers.place(16) {
+        text.push(b'\n')?;
+        put_line(text, numbers)?;
+    }
+    if numbers.place(4) > 0 {
+        text.push(b'\n')?;
+    }
+    Ok(())
 }
 
 // The random text of this number.
 fn random_text(alloc: Global, number: u64) -> Result<Vec<u8>, AllocError> {
     let mut numbers = Numbers::new(number);
     let mut text = Vec::new(alloc);
-    for _ in 0..numbers.place(3) {
-        text.extend_from_slice(b"# c\n\n")?;
-    }
+    put_skipped(&mut text, &mut numbers)?;
     put_header(&mut text, &mut numbers)?;
-    for _ in 0..numbers.place(16) {
-        text.push(b'\n')?;
-        put_line(&mut text, &mut numbers)?;
-    }
-    if numbers.place(4) > 0 {
-        text.push(b'\n')?;
-    }
+    put_lines(&mut text, &mut numbers)?;
     for _ in 0..numbers.place(3) {
         text = change(alloc, &text, &mut numbers)?;
     }

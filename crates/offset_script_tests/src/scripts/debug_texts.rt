@@ -3,6 +3,8 @@
 use crate::asserts::{assert_same, assert_text};
 use offset_allocator::StorageReport;
 use offset_script::{Answer, Command, FullRow, IndexWidth, RunFault, ScriptFault};
+use std::alloc::Global;
+use std::process::Abort;
 
 const COMMANDS: [(Command, &str); 8] = [
     (Command::Alloc(1), "Alloc(1)"),
@@ -109,12 +111,16 @@ const FAULTS: [(RunFault, &str, &str, u8); 8] = [
     (RunFault::Write, "Write", "write failed", 4),
 ];
 
+fn expect_line(rt: &impl Abort, alloc: Global, fault: &RunFault, line: &str) {
+    let found = format!(in alloc; "{fault}").expect(rt, "memory");
+    assert_same(rt, &found.as_str(), &line);
+}
+
 #[test]
 fn prints_faults(rt: HostRuntime) {
     for (fault, text, line, status) in &FAULTS {
         assert_text(&rt, rt.alloc(), fault, text);
-        let found = format!(in rt.alloc(); "{fault}").expect(&rt, "memory");
-        assert_same(&rt, &found.as_str(), line);
+        expect_line(&rt, rt.alloc(), fault, line);
         assert_same(&rt, &fault.status(), status);
     }
 }

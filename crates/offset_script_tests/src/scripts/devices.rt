@@ -1,9 +1,11 @@
 //! Runs over readers and writers that fail, that stop, and that give or take small pieces.
 
 use crate::asserts::assert_same_at;
-use offset_script::{FromRead, IntoWrite, RunFault, ScriptFault, run};
+use crate::playing::run_result;
+use offset_script::{FromRead, IntoWrite, RunFault, ScriptFault};
 use offset_test_base::devices::{Reader, Writer};
 use std::alloc::Global;
+use std::process::Abort;
 
 const TEXT: &[u8] = b"space 10 nodes 4 index 32\nalloc 10\nfree 1\n";
 
@@ -19,64 +21,58 @@ fn run_over(
 ) -> (Result<(), RunFault>, Reader<'_>, Writer) {
     let mut input = FromRead::new(reader);
     let mut output = IntoWrite::new(writer);
-    let result = run(alloc, &mut input, &mut output);
+    let result = run_result(alloc, &mut input, &mut output);
     (result, input.into_inner(), output.into_inner())
+}
+
+// A run over this reader ends so, at the read of this number.
+fn expect_stop(rt: &impl Abort, alloc: Global, reader: Reader<'_>, stop: u32, wanted: RunFault) {
+    let (result, reader, writer) = run_over(alloc, reader, Writer::new(alloc, 1));
+    assert_same_at(rt, &stop, &result, &Err(wanted));
+    assert_same_at(rt, &wanted, &reader.reads, &stop);
+    assert_same_at(rt, &stop, &writer.writes, &0);
+    assert_same_at(rt, &stop, &writer.flushes, &0);
 }
 
 // Each read gives one byte, and one of them fails once, or gives 0 bytes, which is the end of the text, even where more
 // would follow. Nothing is read after it, and nothing written.
 #[test]
 fn stops_at_a_failed_or_empty_read(rt: HostRuntime) {
-    for (fails, below, wanted) in [
-        (true, 44u32, RunFault::Read),
-        (false, 26, RunFault::Script(ScriptFault::BadHeader(1))),
-    ] {
-        for stop in 1..below {
-            let mut reader = Reader::new(TEXT, 1);
-            if fails {
-                reader.fails_at = stop;
-            } else {
-                reader.empty_at = stop;
-            }
-            let (result, reader, writer) = run_over(rt.alloc(), reader, Writer::new(rt.alloc(), 1));
-            assert_same_at(&rt, &stop, &result, &Err(wanted));
-            assert_same_at(
-                &rt,
-                &(fails, stop),
-                &(reader.reads, writer.writes, writer.flushes),
-                &(stop, 0, 0),
-            );
-        }
+    for stop in 1..44u32 {
+        let mut reader = Reader::new(TEXT, 1);
+        reader.fails_at = stop;
+        expect_stop(&rt, rt.alloc(), reader, stop, RunFault::Read);
     }
+    for stop in 1..26u32 {
+        let mut reader = Reader::new(TEXT, 1);
+        reader.empty_at = stop;
+        let wanted = RunFault::Script(ScriptFault::BadHeader(1));
+        expect_stop(&rt, rt.alloc(), reader, stop, wanted);
+    }
+}
+
+// A run to this writer fails, at the write of this number, after those that took this many bytes.
+fn expect_failed_write(rt: &impl Abort, alloc: Global, writer: Writer, stop: u32, before: usize) {
+    let fails = writer.fails_at > 0;
+    let (result, _reader, writer) = run_over(alloc, Reader::new(TEXT, 4096), writer);
+    let (start, _rest) = ANSWERS.split_at_checked(before).expect(rt, "a beginning");
+    assert_same_at(rt, &(fails, stop), &result, &Err(RunFault::Write));
+    assert_same_at(rt, &(fails, stop), &writer.taken.as_slice(), &start);
+    assert_same_at(rt, &(fails, stop), &writer.writes, &stop);
+    assert_same_at(rt, &(fails, stop), &writer.flushes, &0);
 }
 
 // Each write takes one byte, and one of them fails once, or takes 0 bytes, which is a failure, even where more would be
 // taken. Nothing is written after it, and it is not flushed.
 #[test]
 fn stops_at_a_failed_or_empty_write(rt: HostRuntime) {
-    for fails in [true, false] {
-        for stop in 1..20u32 {
-            let mut writer = Writer::new(rt.alloc(), 1);
-            if fails {
-                writer.fails_at = stop;
-            } else {
-                writer.empty_at = stop;
-            }
-            let (result, _reader, writer) = run_over(rt.alloc(), Reader::new(TEXT, 4096), writer);
-            assert_same_at(&rt, &(fails, stop), &result, &Err(RunFault::Write));
-            assert_same_at(
-                &rt,
-                &(fails, stop),
-                &writer.taken.as_slice(),
-                &(&ANSWERS[..stop as usize - 1]),
-            );
-            assert_same_at(
-                &rt,
-                &(fails, stop),
-                &(writer.writes, writer.flushes),
-                &(stop, 0),
-            );
-        }
+    for stop in 1..20u32 {
+        let mut failing = Writer::new(rt.alloc(), 1);
+        failing.fails_at = stop;
+        expect_failed_write(&rt, rt.alloc(), failing, stop, stop as usize - 1);
+        let mut empty = Writer::new(rt.alloc(), 1);
+        empty.empty_at = stop;
+        expect_failed_write(&rt, rt.alloc(), empty, stop, stop as usize - 1);
     }
 }
 
@@ -128,11 +124,8 @@ fn flushes_once_and_last(rt: HostRuntime) {
         };
         assert_same_at(&rt, &(text, piece), &result, &wanted);
         assert_same_at(&rt, &(text, piece), &writer.taken.as_slice(), &answers);
-        assert_same_at(
-            &rt,
-            &(text, piece),
-            &(writer.writes, writer.flushes, writer.flushed),
-            &(writes, 1, Some(answers.len())),
-        );
+        assert_same_at(&rt, &(text, piece), &writer.writes, &writes);
+        assert_same_at(&rt, &(text, piece), &writer.flushes, &1);
+        assert_same_at(&rt, &(text, piece), &writer.flushed, &Some(answers.len()));
     }
 }
