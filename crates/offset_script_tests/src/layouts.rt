@@ -3,7 +3,7 @@
 
 use crate::calls::{List, expect_replies};
 use crate::playing::expect_with;
-use offset_allocator::{ByField, ByNode, Tables};
+use offset_allocator::{ByField, ByNode, NodeIndex, Tables};
 use offset_script::Script;
 use offset_test_base::flat::Flat;
 use offset_test_base::tiny::Tiny;
@@ -33,16 +33,19 @@ fn limit_of(trial: Trial<'_>) -> u32 {
     }
 }
 
+// Expects the same of the library's two layouts with one index type.
+fn expect_of_both<NI: NodeIndex>(rt: &impl Abort, alloc: Global, trial: Trial<'_>) {
+    expect_of::<ByNode<NI>>(rt, alloc, trial);
+    expect_of::<ByField<NI>>(rt, alloc, trial);
+}
+
 /// Expects the same of each layout: of the library's two with both index types, and with a third where it admits the
 /// limit, and of one more.
 pub fn expect_of_each(rt: &impl Abort, alloc: Global, trial: Trial<'_>) {
-    expect_of::<ByNode<u32>>(rt, alloc, trial);
-    expect_of::<ByNode<u16>>(rt, alloc, trial);
-    expect_of::<ByField<u32>>(rt, alloc, trial);
-    expect_of::<ByField<u16>>(rt, alloc, trial);
+    expect_of_both::<u32>(rt, alloc, trial);
+    expect_of_both::<u16>(rt, alloc, trial);
     expect_of::<Flat>(rt, alloc, trial);
     if limit_of(trial) <= 5 {
-        expect_of::<ByNode<Tiny>>(rt, alloc, trial);
-        expect_of::<ByField<Tiny>>(rt, alloc, trial);
+        expect_of_both::<Tiny>(rt, alloc, trial);
     }
 }

@@ -86,3 +86,10 @@ pub fn expect_picture(rt: &impl Abort, alloc: Global, row: &Picture) {
         expect_count(rt, &picture, word, *wanted);
     }
 }
+
+/// Expects the texts of each of these pictures.
+pub fn expect_pictures(rt: &impl Abort, alloc: Global, rows: &[Picture]) {
+    for row in rows {
+        expect_picture(rt, alloc, row);
+    }
+}

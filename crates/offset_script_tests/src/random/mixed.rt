@@ -85,6 +85,17 @@ fn put_line(text: &mut String, command: Command) -> Result<(), AllocError> {
     }
 }
 
+fn next_command(mix: Mix, number: u32, grants: u64) -> Command {
+    match mix {
+        Mix::Plain => plain_command(number % 8, number / 8, grants),
+        Mix::Whole => whole_command(number % 16, number / 16, grants),
+    }
+}
+
+fn put_header(text: &mut String, size: u32, limit: u32) -> Result<(), AllocError> {
+    writeln!(text, "space {size} nodes {limit} index 16")
+}
+
 // Writes the text of a script, and returns the slow model's answers. The model counts the grants that a command may
 // name.
 fn mixed_script(
@@ -94,16 +105,12 @@ fn mixed_script(
     limit: u32,
     mix: Mix,
 ) -> Result<Vec<Answer>, AllocError> {
-    writeln!(text, "space {size} nodes {limit} index 16")?;
+    put_header(text, size, limit)?;
     let mut space = Space::new(alloc, size, limit)?;
     let mut numbers = Numbers::new(1);
     let mut answers = Vec::new(alloc);
     for _ in 0..LENGTH {
-        let number = numbers.advance();
-        let command = match mix {
-            Mix::Plain => plain_command(number % 8, number / 8, space.grants),
-            Mix::Whole => whole_command(number % 16, number / 16, space.grants),
-        };
+        let command = next_command(mix, numbers.advance(), space.grants);
         put_line(text, command)?;
         answers.push(space.answer(alloc, command)?)?;
     }

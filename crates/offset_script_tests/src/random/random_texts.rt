@@ -245,29 +245,49 @@ impl Tally {
     }
 }
 
+// `parse` returns this script, or this fault.
+fn expect_parsed(
+    rt: &impl Abort,
+    alloc: Global,
+    number: u64,
+    text: &[u8],
+    meaning: &Result<Reading, ScriptFault>,
+) {
+    match meaning {
+        Ok(reading) => match parse(alloc, text) {
+            Ok(script) => assert_that_at(rt, &number, is_same(&script, reading)),
+            Err(_) => assert_that_at(rt, &number, false),
+        },
+        Err(wanted) => match parse(alloc, text) {
+            Ok(_) => assert_that_at(rt, &number, false),
+            Err(found) => assert_same_at(rt, &number, &found, wanted),
+        },
+    }
+}
+
+// Tables of more nodes would take gigabytes.
+fn is_large(meaning: &Result<Reading, ScriptFault>) -> bool {
+    match meaning {
+        Ok(reading) => reading.limit > 65_533,
+        Err(_) => false,
+    }
+}
+
+fn expect_outcome(rt: &impl Abort, alloc: Global, number: u64, text: &[u8]) {
+    let wanted = run_slowly(alloc, text).expect(rt, "memory");
+    let found = outcome(rt, alloc, text);
+    assert_same_at(rt, &number, &found.as_str(), &wanted.as_str());
+}
+
 // `parse` returns the script, or the fault, that the slow model finds, and a run writes what the model writes.
 fn expect_meaning(rt: &impl Abort, alloc: Global, number: u64, tally: &mut Tally) {
     let text = random_text(alloc, number).expect(rt, "memory");
     let meaning = read_slowly(alloc, &text);
     tally.count(&meaning);
-    match (parse(alloc, &text), meaning) {
-        (Err(found), Err(wanted)) => assert_same_at(rt, &number, &found, &wanted),
-        (Ok(script), Ok(reading)) => {
-            assert_that_at(rt, &number, is_same(&script, &reading));
-            // Tables of more nodes would take gigabytes.
-            if reading.limit > 65_533 {
-                return;
-            }
-        }
-        _ => assert_that_at(rt, &number, false),
+    expect_parsed(rt, alloc, number, &text, &meaning);
+    if !is_large(&meaning) {
+        expect_outcome(rt, alloc, number, &text);
     }
-    let wanted = run_slowly(alloc, &text).expect(rt, "memory");
-    assert_same_at(
-        rt,
-        &number,
-        &outcome(rt, alloc, &text).as_str(),
-        &wanted.as_str(),
-    );
 }
 
 #[test]

@@ -216,23 +216,27 @@ fn put_answer(text: &mut String, answer: &Answer) -> Result<(), AllocError> {
     }
 }
 
+fn fault_line(alloc: Global, line: u32, fault: &str) -> Result<String, AllocError> {
+    format!(in alloc; "line {line}: {fault}, status 2")
+}
+
+fn answers_of(alloc: Global, reading: &Reading) -> Result<String, AllocError> {
+    let mut answers = String::new(alloc);
+    let mut space = Space::new(alloc, reading.size, reading.limit)?;
+    for command in &reading.commands {
+        put_answer(&mut answers, &space.answer(alloc, *command)?)?;
+    }
+    Ok(answers)
+}
+
 /// Runs a text by the slow model. It returns what a run writes, or the line of the fault with the status.
 pub fn run_slowly(alloc: Global, text: &[u8]) -> Result<String, AllocError> {
     match read_slowly(alloc, text) {
         Err(ScriptFault::Memory) => Err(AllocError),
-        Err(ScriptFault::TooLong) => format!(in alloc; "too long, status 2"),
-        Err(ScriptFault::BadHeader(line)) => format!(in alloc; "line {line}: bad header, status 2"),
-        Err(ScriptFault::BadLimit(line)) => format!(in alloc; "line {line}: bad limit, status 2"),
-        Err(ScriptFault::BadCommand(line)) => format!(in alloc;
-            "line {line}: bad command, status 2"
-        ),
-        Ok(reading) => {
-            let mut answers = String::new(alloc);
-            let mut space = Space::new(alloc, reading.size, reading.limit)?;
-            for command in &reading.commands {
-                put_answer(&mut answers, &space.answer(alloc, *command)?)?;
-            }
-            Ok(answers)
-        }
+        Err(ScriptFault::TooLong) => String::from_str(alloc, "too long, status 2"),
+        Err(ScriptFault::BadHeader(line)) => fault_line(alloc, line, "bad header"),
+        Err(ScriptFault::BadLimit(line)) => fault_line(alloc, line, "bad limit"),
+        Err(ScriptFault::BadCommand(line)) => fault_line(alloc, line, "bad command"),
+        Ok(reading) => answers_of(alloc, &reading),
     }
 }

@@ -53,6 +53,18 @@ const ANSWERS: [(Answer, &str); 8] = [
     (Answer::Extended, "Extended"),
 ];
 
+fn expect_full_texts(rt: &impl Abort, alloc: Global) {
+    let none = Answer::Full(Vec::new(alloc));
+    assert_text(rt, alloc, &none, "Full([])");
+    let full = Answer::Full(ROWS.to_vec(alloc).expect(rt, "memory"));
+    assert_text(
+        rt,
+        alloc,
+        &full,
+        "Full([FullRow { class: 35, size: 88, count: 1 }, FullRow { class: 239, size: 4026531840, count: 2 }])",
+    );
+}
+
 #[test]
 fn prints_commands_and_answers(rt: HostRuntime) {
     for (command, wanted) in &COMMANDS {
@@ -63,15 +75,7 @@ fn prints_commands_and_answers(rt: HostRuntime) {
     for (answer, wanted) in &ANSWERS {
         assert_text(&rt, rt.alloc(), answer, wanted);
     }
-    let none = Answer::Full(Vec::new(rt.alloc()));
-    assert_text(&rt, rt.alloc(), &none, "Full([])");
-    let full = Answer::Full(ROWS.to_vec(rt.alloc()).expect(&rt, "memory"));
-    assert_text(
-        &rt,
-        rt.alloc(),
-        &full,
-        "Full([FullRow { class: 35, size: 88, count: 1 }, FullRow { class: 239, size: 4026531840, count: 2 }])",
-    );
+    expect_full_texts(&rt, rt.alloc());
 }
 
 // Each fault with its text, its line and its status.
