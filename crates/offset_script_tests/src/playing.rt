@@ -3,7 +3,9 @@
 use crate::asserts::{assert_same, assert_that};
 use crate::layouts::{Trial, expect_of_each};
 use offset_allocator::{NodeIndex, Tables};
-use offset_script::{FromRead, IntoWrite, RunFault, Script, Sink, Source, parse, play_of, run};
+use offset_script::{
+    FromRead, IntoWrite, RunFault, Script, Sink, Source, parse, play_of, play_script, run,
+};
 use std::alloc::Global;
 use std::process::Abort;
 
@@ -31,6 +33,12 @@ pub fn outcome(rt: &impl Abort, alloc: Global, text: &[u8]) -> String {
 /// The script of a text.
 pub fn script_of(rt: &impl Abort, alloc: Global, text: &[u8]) -> Script {
     parse(alloc, text).expect(rt, "a script")
+}
+
+/// The answers to a script by `play_script`, as text.
+pub fn answers_of(rt: &impl Abort, alloc: Global, script: &Script) -> String {
+    let answers = play_script(alloc, script).expect(rt, "memory");
+    format!(in alloc; "{answers:?}").expect(rt, "memory")
 }
 
 /// The answers to a script by one layout, as text.

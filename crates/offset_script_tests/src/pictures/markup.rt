@@ -109,6 +109,16 @@ impl<'a> Elements<'a> {
         }
         Ok(!self.open.is_empty() || data.trim().is_empty())
     }
+
+    // Takes all tags of a text and the texts between them, and returns whether they are right.
+    fn take_all(&mut self, alloc: Global, text: &'a str) -> Result<bool, AllocError> {
+        for piece in text.split("<").skip(1) {
+            if !self.take_piece(alloc, piece)? {
+                return Ok(false);
+            }
+        }
+        Ok(true)
+    }
 }
 
 // Whether a text is one element, with its elements closed in turn, and no bare `&`, `<` or `>` in text or attributes.
@@ -121,12 +131,8 @@ fn is_well_formed(alloc: Global, text: &str) -> Result<bool, AllocError> {
         open: Vec::new(alloc),
         roots: 0,
     };
-    for piece in text.split("<").skip(1) {
-        if !elements.take_piece(alloc, piece)? {
-            return Ok(false);
-        }
-    }
-    Ok(elements.open.is_empty() && elements.roots == 1)
+    let is_right = elements.take_all(alloc, text)?;
+    Ok(is_right && elements.open.is_empty() && elements.roots == 1)
 }
 
 fn expect_check(rt: &impl Abort, alloc: Global, text: &str, wanted: bool) {
@@ -134,32 +140,35 @@ fn expect_check(rt: &impl Abort, alloc: Global, text: &str, wanted: bool) {
     assert_same_at(rt, &text, &found, &wanted);
 }
 
+// Texts, and whether they are well-formed.
+const CHECKS: [(&str, bool); 20] = [
+    ("<a/>", true),
+    ("<a b='c' d='e'>f<g/>h</a>\n", true),
+    ("<a>", false),
+    ("<a></b>", false),
+    ("<a><b></a></b>", false),
+    ("<a/><a/>", false),
+    ("<a/>b", false),
+    ("b<a/>", false),
+    ("<a>&amp;b&lt;&gt;</a>", true),
+    ("<a>&</a>", false),
+    ("<a>&amp</a>", false),
+    ("<a>&amp;&b;</a>", false),
+    ("<a>></a>", false),
+    ("<a b=c/>", false),
+    ("<a b='c/>", false),
+    ("<a b='c'd='e'/>", false),
+    ("<a b='c' b='d'/>", false),
+    ("<a b='c''/>", false),
+    ("<a", false),
+    ("", false),
+];
+
 // The other tests of this file rely on this check.
 #[test]
 fn the_check_of_markup_works(rt: HostRuntime) {
-    for (text, want) in [
-        ("<a/>", true),
-        ("<a b='c' d='e'>f<g/>h</a>\n", true),
-        ("<a>", false),
-        ("<a></b>", false),
-        ("<a><b></a></b>", false),
-        ("<a/><a/>", false),
-        ("<a/>b", false),
-        ("b<a/>", false),
-        ("<a>&amp;b&lt;&gt;</a>", true),
-        ("<a>&</a>", false),
-        ("<a>&amp</a>", false),
-        ("<a>&amp;&b;</a>", false),
-        ("<a>></a>", false),
-        ("<a b=c/>", false),
-        ("<a b='c/>", false),
-        ("<a b='c'd='e'/>", false),
-        ("<a b='c' b='d'/>", false),
-        ("<a b='c''/>", false),
-        ("<a", false),
-        ("", false),
-    ] {
-        expect_check(&rt, rt.alloc(), text, want);
+    for (text, wanted) in &CHECKS {
+        expect_check(&rt, rt.alloc(), text, *wanted);
     }
 }
 

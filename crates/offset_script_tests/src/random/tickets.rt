@@ -3,7 +3,7 @@ ghost use Rattle.std.specs.Prelude.{◌<◌};
 
 use super::numbers::Numbers;
 use crate::asserts::{assert_same, assert_that};
-use offset_allocator::{ByNode, Tables};
+use offset_allocator::{ByNode, NodeIndex, Tables};
 use offset_guarded::{GuardedOf, Ticket};
 use std::alloc::Global;
 use std::process::Abort;
@@ -152,6 +152,24 @@ fn resize<T: Tables>(
     }
 }
 
+// The ticket of a request, aligned or not.
+fn request<T: Tables>(space: &mut GuardedOf<T>, size: u32, is_aligned: bool) -> Option<Ticket> {
+    if is_aligned {
+        space.allocate_aligned(size, 8)
+    } else {
+        space.allocate(size)
+    }
+}
+
+fn extend<T: Tables>(space: &mut GuardedOf<T>, more: u32) {
+    let _done = space.extend(more);
+}
+
+fn reset<T: Tables>(space: &mut GuardedOf<T>, plain: &mut Plain) {
+    space.reset();
+    plain.live.clear();
+}
+
 fn step<T: Tables>(
     rt: &impl Abort,
     space: &mut GuardedOf<T>,
@@ -161,8 +179,8 @@ fn step<T: Tables>(
     let number = numbers.advance();
     let size = number / 32 % 40 + 1;
     match number % 32 {
-        0..=9 => keep(rt, plain, space.allocate(size), size),
-        10 => keep(rt, plain, space.allocate_aligned(size, 8), size),
+        0..=9 => keep(rt, plain, request(space, size, false), size),
+        10 => keep(rt, plain, request(space, size, true), size),
         11..=24 => {
             let ticket = recent_ticket(numbers, plain);
             free(rt, space, plain, ticket)
@@ -175,13 +193,10 @@ fn step<T: Tables>(
             let ticket = old_ticket(numbers, plain);
             free(rt, space, plain, ticket)
         }
-        30 => {
-            let _done = space.extend(number / 32 % 4);
-        }
+        30 => extend(space, number / 32 % 4),
         _ => {
             if number / 32 % 16 == 0 {
-                space.reset();
-                plain.live.clear();
+                reset(space, plain)
             }
         }
     }
@@ -235,12 +250,18 @@ fn expect_plain<T: Tables>(rt: &impl Abort, alloc: Global, state: u64)
     }
 }
 
+fn expect_plain_by_node<NI: NodeIndex>(rt: &impl Abort, alloc: Global, state: u64)
+    requires { 71 < NI.MAX }
+{
+    expect_plain::<ByNode<NI>>(rt, alloc, state);
+}
+
 #[test]
 fn tickets_of_32_bits_touch_no_other_range(rt: HostRuntime) {
-    expect_plain::<ByNode<u32>>(&rt, rt.alloc(), 1);
+    expect_plain_by_node::<u32>(&rt, rt.alloc(), 1);
 }
 
 #[test]
 fn tickets_of_16_bits_touch_no_other_range(rt: HostRuntime) {
-    expect_plain::<ByNode<u16>>(&rt, rt.alloc(), 2);
+    expect_plain_by_node::<u16>(&rt, rt.alloc(), 2);
 }

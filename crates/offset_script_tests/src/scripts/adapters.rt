@@ -243,7 +243,13 @@ const CALLS: [Calls; 8] = [
     },
 ];
 
-fn expect_call<K: Sink>(rt: &impl Abort, output: &mut K, name: &str, text: &[u8], call: &Call) {
+fn expect_call(
+    rt: &impl Abort,
+    output: &mut IntoWrite<Writer>,
+    name: &str,
+    text: &[u8],
+    call: &Call,
+) {
     match call {
         Call::Push(wanted) => assert_same_at(rt, &name, &output.push(text), wanted),
         Call::Flush(wanted) => assert_same_at(rt, &name, &output.flush(), wanted),

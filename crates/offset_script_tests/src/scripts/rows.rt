@@ -1,8 +1,7 @@
 //! Scripts with their answers, read and written in pieces of several lengths, and played on each layout.
 
 use crate::asserts::assert_same_at;
-use crate::playing::{answers_with, expect_answers, run_result, script_of};
-use offset_allocator::ByNode;
+use crate::playing::{answers_of, expect_answers, run_result, script_of};
 use offset_script::{FromRead, IntoWrite};
 use offset_test_base::devices::{Reader, Writer};
 use std::alloc::Global;
@@ -202,20 +201,25 @@ fn expect_in_pieces(rt: &impl Abort, alloc: Global, text: &str, wanted: &str) {
     }
 }
 
+// Expects the answers of a row with this index width.
+fn expect_row(rt: &impl Abort, alloc: Global, row: &(&str, &str, &str), bits: u32) {
+    let (header, lines, wanted) = row;
+    let text = text_of(rt, alloc, header, bits, lines);
+    expect_in_pieces(rt, alloc, &text, wanted);
+}
+
 #[test]
 fn plays_scripts(rt: HostRuntime) {
-    for (header, lines, wanted) in &ROWS {
-        for bits in [16u32, 32] {
-            let text = text_of(&rt, rt.alloc(), header, bits, lines);
-            expect_in_pieces(&rt, rt.alloc(), &text, wanted);
-        }
+    for row in &ROWS {
+        expect_row(&rt, rt.alloc(), row, 16);
+        expect_row(&rt, rt.alloc(), row, 32);
     }
 }
 
-// Expects the same answers to a script by each layout.
+// Expects the same answers to a script by each layout. `play_script` plays it by node.
 fn expect_same_answers(rt: &impl Abort, alloc: Global, text: &str) {
     let script = script_of(rt, alloc, text.as_bytes());
-    let wanted = answers_with::<ByNode<u32>>(rt, alloc, &script);
+    let wanted = answers_of(rt, alloc, &script);
     expect_answers(rt, alloc, &script, &wanted);
 }
 
