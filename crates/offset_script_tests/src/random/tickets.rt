@@ -152,13 +152,12 @@ fn resize<T: Tables>(
     }
 }
 
-// The ticket of a request, aligned or not.
-fn request<T: Tables>(space: &mut GuardedOf<T>, size: u32, is_aligned: bool) -> Option<Ticket> {
-    if is_aligned {
-        space.allocate_aligned(size, 8)
-    } else {
-        space.allocate(size)
-    }
+fn allocate<T: Tables>(space: &mut GuardedOf<T>, size: u32) -> Option<Ticket> {
+    space.allocate(size)
+}
+
+fn allocate_aligned<T: Tables>(space: &mut GuardedOf<T>, size: u32) -> Option<Ticket> {
+    space.allocate_aligned(size, 8)
 }
 
 fn extend<T: Tables>(space: &mut GuardedOf<T>, more: u32) {
@@ -179,8 +178,8 @@ fn step<T: Tables>(
     let number = numbers.advance();
     let size = number / 32 % 40 + 1;
     match number % 32 {
-        0..=9 => keep(rt, plain, request(space, size, false), size),
-        10 => keep(rt, plain, request(space, size, true), size),
+        0..=9 => keep(rt, plain, allocate(space, size), size),
+        10 => keep(rt, plain, allocate_aligned(space, size), size),
         11..=24 => {
             let ticket = recent_ticket(numbers, plain);
             free(rt, space, plain, ticket)
