@@ -1,20 +1,19 @@
 //! Lists of calls, with replies computed by hand, for each layout and index type.
 
 use crate::asserts::{assert_same, assert_text, assert_that};
-use offset_allocator::{ByField, ByNode, NodeIndex, Tables};
-use offset_calls::{Call, are_valid, play_calls_of};
+use crate::layouts::{Trial, expect_of_each};
+use offset_allocator::{NodeIndex, Tables};
+use offset_calls::{Call, Reply, are_valid, play_calls_of};
 use offset_script::Command;
-use offset_test_base::flat::Flat;
-use offset_test_base::tiny::Tiny;
 use std::alloc::Global;
 use std::process::Abort;
 
-// A space and its limit, and calls on it with the texts of their replies.
+/// A space and its limit, and calls on it with the texts of their replies.
 #[derive(Clone, Copy)]
-struct List {
-    size: u32,
-    limit: u32,
-    rows: &'static [(Call, &'static str)],
+pub struct List {
+    pub size: u32,
+    pub limit: u32,
+    pub rows: &'static [(Call, &'static str)],
 }
 
 // Resizes and compactions.
@@ -153,28 +152,31 @@ fn calls_of(rt: &impl Abort, alloc: Global, list: &List) -> Vec<Call> {
     calls
 }
 
-fn expect_replies<T: Tables>(rt: &impl Abort, alloc: Global, list: &List) {
-    assert_that(rt, 2 <= list.limit && list.limit < T::Index::MAX - 1);
+// The replies of one layout.
+fn replies_of<T: Tables>(rt: &impl Abort, alloc: Global, list: &List) -> Vec<Reply> {
+    assert_that(rt, 2 <= list.limit);
+    assert_that(rt, list.limit < T::Index::MAX - 1);
     let calls = calls_of(rt, alloc, list);
     assert_that(rt, are_valid(&calls));
-    let replies = play_calls_of::<T>(alloc, list.size, list.limit, &calls).expect(rt, "memory");
+    play_calls_of::<T>(alloc, list.size, list.limit, &calls).expect(rt, "memory")
+}
+
+fn expect_texts(rt: &impl Abort, alloc: Global, replies: &[Reply], list: &List) {
     assert_same(rt, &replies.len(), &list.rows.len());
     for (reply, (_, wanted)) in replies.iter().zip(list.rows.iter()) {
         assert_text(rt, alloc, reply, wanted);
     }
 }
 
+/// Expects the replies of one layout.
+pub fn expect_replies<T: Tables>(rt: &impl Abort, alloc: Global, list: &List) {
+    let replies = replies_of::<T>(rt, alloc, list);
+    expect_texts(rt, alloc, &replies, list);
+}
+
 #[test]
 fn resizes_and_compacts(rt: HostRuntime) {
     for list in [RESIZES, AT_THE_LIMIT, OF_NO_UNITS] {
-        expect_replies::<ByNode<u32>>(&rt, rt.alloc(), &list);
-        expect_replies::<ByNode<u16>>(&rt, rt.alloc(), &list);
-        expect_replies::<ByField<u32>>(&rt, rt.alloc(), &list);
-        expect_replies::<ByField<u16>>(&rt, rt.alloc(), &list);
-        expect_replies::<Flat>(&rt, rt.alloc(), &list);
-        if list.limit <= 5 {
-            expect_replies::<ByNode<Tiny>>(&rt, rt.alloc(), &list);
-            expect_replies::<ByField<Tiny>>(&rt, rt.alloc(), &list);
-        }
+        expect_of_each(&rt, rt.alloc(), Trial::Replies(&list));
     }
 }

@@ -6,6 +6,8 @@ mod asserts;
 #[cfg(test)]
 mod calls;
 #[cfg(test)]
+mod layouts;
+#[cfg(test)]
 mod pictures;
 #[cfg(test)]
 mod playing;

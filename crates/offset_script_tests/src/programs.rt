@@ -3,7 +3,7 @@
 
 use crate::asserts::{assert_same, assert_same_at, assert_that};
 use offset_lives::draw_program;
-use offset_script::{FromRead, IntoWrite, run_program};
+use offset_script::{FromRead, IntoWrite, Sink, Source, run_program};
 use offset_test_base::devices::{Reader, Writer};
 use std::alloc::Global;
 use std::process::Abort;
@@ -14,6 +14,20 @@ const TEXT: &[u8] = b"space 10 nodes 4 index 32\nalloc 10\nfree 1\n";
 enum Program {
     Run,
     Draw,
+}
+
+// The status of a program, of which no more is asked: proofs with devices of given types are short by it.
+fn status_of<S: Source, K: Sink, E: Sink>(
+    program: Program,
+    alloc: Global,
+    input: &mut S,
+    output: &mut K,
+    errors: &mut E,
+) -> u8 {
+    match program {
+        Program::Run => run_program(alloc, input, output, errors),
+        Program::Draw => draw_program(alloc, "A script", input, output, errors),
+    }
 }
 
 // The status of a program over these devices, and the output and the errors that it leaves.
@@ -27,10 +41,7 @@ fn run_over(
     let mut input = FromRead::new(input);
     let mut output = IntoWrite::new(output);
     let mut errors = IntoWrite::new(errors);
-    let status = match program {
-        Program::Run => run_program(alloc, &mut input, &mut output, &mut errors),
-        Program::Draw => draw_program(alloc, "A script", &mut input, &mut output, &mut errors),
-    };
+    let status = status_of(program, alloc, &mut input, &mut output, &mut errors);
     (status, output.into_inner(), errors.into_inner())
 }
 
@@ -68,75 +79,80 @@ const FAULTS: [(&[u8], u8, &[u8]); 9] = [
     ),
 ];
 
+// A program ends so on a text, and writes the line in pieces of this length.
+fn expect_line(
+    rt: &impl Abort,
+    alloc: Global,
+    program: Program,
+    piece: usize,
+    (text, status, line): (&[u8], u8, &[u8]),
+) {
+    let (found, output, errors) = run_over(
+        program,
+        alloc,
+        Reader::new(text, 4096),
+        Writer::new(alloc, 4096),
+        Writer::new(alloc, piece),
+    );
+    assert_same_at(rt, &line, &found, &status);
+    assert_same_at(rt, &line, &output.writes, &0);
+    assert_same_at(rt, &line, &output.flushes, &0);
+    assert_same_at(rt, &piece, &errors.taken.as_slice(), &line);
+    assert_same_at(rt, &line, &errors.flushes, &1);
+    assert_same_at(rt, &line, &errors.flushed, &Some(line.len()));
+}
+
 // Either program ends so on a text, and writes the line in pieces of any length.
-fn expect_fault(rt: &impl Abort, alloc: Global, text: &[u8], status: u8, line: &[u8]) {
-    for (program, piece) in [
-        (Program::Run, 1usize),
-        (Program::Run, 4096),
-        (Program::Draw, 1),
-        (Program::Draw, 4096),
-    ] {
-        let (found, output, errors) = run_over(
-            program,
-            alloc,
-            Reader::new(text, 4096),
-            Writer::new(alloc, 4096),
-            Writer::new(alloc, piece),
-        );
-        assert_same_at(
-            rt,
-            &line,
-            &(found, output.writes, output.flushes),
-            &(status, 0, 0),
-        );
-        assert_same_at(rt, &piece, &errors.taken.as_slice(), &line);
-        assert_same_at(
-            rt,
-            &line,
-            &(errors.flushes, errors.flushed),
-            &(1, Some(line.len())),
-        );
+fn expect_fault(rt: &impl Abort, alloc: Global, fault: (&[u8], u8, &[u8])) {
+    for program in [Program::Run, Program::Draw] {
+        expect_line(rt, alloc, program, 1, fault);
+        expect_line(rt, alloc, program, 4096, fault);
     }
 }
 
 #[test]
 fn a_fault_ends_with_its_status_and_its_line(rt: HostRuntime) {
-    for (text, status, line) in &FAULTS {
-        expect_fault(&rt, rt.alloc(), text, *status, line);
+    for fault in &FAULTS {
+        expect_fault(&rt, rt.alloc(), *fault);
     }
     let long = vec![in rt.alloc(); b'#'; 1_048_577].expect(&rt, "memory");
-    expect_fault(&rt, rt.alloc(), &long, 2, b"too long\n");
+    expect_fault(&rt, rt.alloc(), (&long, 2, b"too long\n"));
+}
+
+// What a program writes on a good text. It flushes once, after all of it.
+fn output_of(
+    rt: &impl Abort,
+    alloc: Global,
+    program: Program,
+    read: usize,
+    written: usize,
+) -> Vec<u8> {
+    let (status, output, errors) = run_over(
+        program,
+        alloc,
+        Reader::new(TEXT, read),
+        Writer::new(alloc, written),
+        Writer::new(alloc, written),
+    );
+    assert_same_at(rt, &read, &status, &0);
+    assert_same_at(rt, &read, &output.flushes, &1);
+    assert_same_at(rt, &read, &output.flushed, &Some(output.taken.len()));
+    assert_same_at(rt, &read, &errors.writes, &0);
+    assert_same_at(rt, &read, &errors.flushes, &0);
+    output.taken
 }
 
 #[test]
 fn a_good_program_ends_with_0_and_no_line(rt: HostRuntime) {
-    for (program, read, written) in [
-        (Program::Run, 4096usize, 4096usize),
-        (Program::Draw, 7, 1000),
-    ] {
-        let (status, output, errors) = run_over(
-            program,
-            rt.alloc(),
-            Reader::new(TEXT, read),
-            Writer::new(rt.alloc(), written),
-            Writer::new(rt.alloc(), written),
-        );
-        let taken = output.taken.as_slice();
-        assert_same_at(
-            &rt,
-            &read,
-            &(status, output.flushes, output.flushed),
-            &(0, 1, Some(taken.len())),
-        );
-        assert_same_at(&rt, &read, &(errors.writes, errors.flushes), &(0, 0));
-        match program {
-            Program::Run => assert_same(&rt, &taken, &b"grant 1 at 0\nfreed\n".as_slice()),
-            Program::Draw => {
-                assert_that(&rt, taken.starts_with(b"<svg "));
-                assert_that(&rt, taken.ends_with(b"</svg>\n"));
-            }
-        }
-    }
+    let answers = output_of(&rt, rt.alloc(), Program::Run, 4096, 4096);
+    assert_same(
+        &rt,
+        &answers.as_slice(),
+        &b"grant 1 at 0\nfreed\n".as_slice(),
+    );
+    let picture = output_of(&rt, rt.alloc(), Program::Draw, 7, 1000);
+    assert_that(&rt, picture.starts_with(b"<svg "));
+    assert_that(&rt, picture.ends_with(b"</svg>\n"));
 }
 
 // A read, a write or a flush that fails, how the output begins, and the line that names the fault.
@@ -200,64 +216,62 @@ const FAILURES: [Failure; 5] = [
     },
 ];
 
+fn expect_failure(rt: &impl Abort, alloc: Global, row: &Failure) {
+    let mut input = Reader::new(TEXT, 4096);
+    input.fails_at = row.read;
+    let mut output = Writer::new(alloc, row.piece);
+    output.fails_at = row.write;
+    output.fails_flush = row.fails_flush;
+    let errors = Writer::new(alloc, 4096);
+    let (status, output, errors) = run_over(row.program, alloc, input, output, errors);
+    assert_same_at(rt, &row.start, &status, &4);
+    assert_same_at(rt, &row.start, &output.flushes, &u32::from(row.fails_flush));
+    assert_same_at(rt, &row.start, &errors.taken.as_slice(), &row.line);
+    assert_that(rt, output.taken.starts_with(row.start));
+    if !row.fails_flush {
+        assert_same_at(rt, &row.start, &output.taken.len(), &row.start.len());
+        assert_same_at(rt, &row.start, &output.writes, &row.write);
+    }
+}
+
 // Nothing follows a failed read or write, and all of the picture comes before the flush.
 #[test]
 fn a_device_that_fails_ends_with_4_and_its_line(rt: HostRuntime) {
     for row in &FAILURES {
-        let mut input = Reader::new(TEXT, 4096);
-        input.fails_at = row.read;
-        let mut output = Writer::new(rt.alloc(), row.piece);
-        output.fails_at = row.write;
-        output.fails_flush = row.fails_flush;
-        let errors = Writer::new(rt.alloc(), 4096);
-        let (status, output, errors) = run_over(row.program, rt.alloc(), input, output, errors);
-        assert_same_at(
-            &rt,
-            &row.start,
-            &(status, output.flushes),
-            &(4, u32::from(row.fails_flush)),
-        );
-        assert_same_at(&rt, &row.start, &errors.taken.as_slice(), &row.line);
-        assert_that(&rt, output.taken.starts_with(row.start));
-        if !row.fails_flush {
-            assert_same_at(
-                &rt,
-                &row.start,
-                &(output.taken.len(), output.writes),
-                &(row.start.len(), row.write),
-            );
-        }
+        expect_failure(&rt, rt.alloc(), row);
     }
+}
+
+// A text whose fault this line names.
+const FAULTY: &[u8] = b"\n\n\n\n\n\n\n\n\n\n\nalloc 1";
+
+const LINE: &[u8] = b"line 12: bad header\n";
+
+// The status of a fault, where the write of this number fails, and the beginning of the line that is written before.
+fn expect_status(rt: &impl Abort, alloc: Global, program: Program, fails_at: u32, before: usize) {
+    let mut errors = Writer::new(alloc, 1);
+    errors.fails_at = fails_at;
+    errors.fails_flush = true;
+    let (status, output, errors) = run_over(
+        program,
+        alloc,
+        Reader::new(FAULTY, 4096),
+        Writer::new(alloc, 4096),
+        errors,
+    );
+    assert_same_at(rt, &fails_at, &status, &2);
+    assert_same_at(rt, &fails_at, &output.writes, &0);
+    assert_same_at(rt, &fails_at, &errors.flushes, &u32::from(fails_at == 21));
+    let (start, _rest) = LINE.split_at_checked(before).expect(rt, "a beginning");
+    assert_same_at(rt, &fails_at, &errors.taken.as_slice(), &start);
 }
 
 // Each write of the line takes one byte, and one of the writes fails, or the flush does.
 #[test]
 fn errors_that_fail_change_no_status(rt: HostRuntime) {
-    const LINE: &[u8] = b"line 12: bad header\n";
     for program in [Program::Run, Program::Draw] {
         for fails_at in 1..22u32 {
-            let mut errors = Writer::new(rt.alloc(), 1);
-            errors.fails_at = fails_at;
-            errors.fails_flush = true;
-            let (status, output, errors) = run_over(
-                program,
-                rt.alloc(),
-                Reader::new(b"\n\n\n\n\n\n\n\n\n\n\nalloc 1", 4096),
-                Writer::new(rt.alloc(), 4096),
-                errors,
-            );
-            assert_same_at(
-                &rt,
-                &fails_at,
-                &(status, output.writes, errors.flushes),
-                &(2, 0, u32::from(fails_at == 21)),
-            );
-            assert_same_at(
-                &rt,
-                &fails_at,
-                &errors.taken.as_slice(),
-                &(&LINE[..fails_at as usize - 1]),
-            );
+            expect_status(&rt, rt.alloc(), program, fails_at, fails_at as usize - 1);
         }
     }
 }

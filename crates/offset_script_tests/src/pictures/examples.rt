@@ -6,9 +6,12 @@
 
 use super::support::Part::Lines;
 use super::support::{
-    GRANT_TITLE, Picture, RECTANGLE, count, expect_picture, picture_of, titled_picture_of,
+    GRANT_TITLE, Picture, RECTANGLE, count, expect_picture, expect_pictures, picture_of,
+    titled_picture_of,
 };
 use crate::asserts::{assert_same, assert_same_at, assert_that, assert_that_at};
+use std::alloc::{AllocError, Global};
+use std::process::Abort;
 
 // The stored run of `offset_picture`. With 9 calls, each takes 105 pixels. The highest unit is 192, and a twentieth
 // above it the space has ended, at 200: a unit is 2 pixels high in the upper plot, and 0.75 in the lower one.
@@ -275,12 +278,8 @@ const EXTREMES: [Picture; 8] = [
 #[test]
 fn draws_examples_computed_by_hand(rt: HostRuntime) {
     expect_picture(&rt, rt.alloc(), &STORED);
-    for row in &EXAMPLES {
-        expect_picture(&rt, rt.alloc(), row);
-    }
-    for row in &EXTREMES {
-        expect_picture(&rt, rt.alloc(), row);
-    }
+    expect_pictures(&rt, rt.alloc(), &EXAMPLES);
+    expect_pictures(&rt, rt.alloc(), &EXTREMES);
 }
 
 // Titles, and how they are written. A space is in place of what XML 1.0 forbids, and of line ends and tabs.
@@ -296,24 +295,28 @@ const TITLES: [(&str, &str); 6] = [
     ),
 ];
 
+// What a picture begins with, and its heading.
+fn start_and_heading(alloc: Global, wanted: &str) -> Result<(String, String), AllocError> {
+    let start = format!(in alloc;
+        "<svg xmlns='http://www.w3.org/2000/svg' width='1200' height='840' viewBox='0 0 1200 840' role='img'>\n<title>{wanted}</title>\n"
+    )?;
+    let heading = format!(in alloc; "<text class='big' x='24' y='28'>{wanted}</text>\n")?;
+    Ok((start, heading))
+}
+
+fn expect_title(rt: &impl Abort, alloc: Global, title: &str, wanted: &str) {
+    let script = [Lines(1, "space 100 nodes 16 index 32\n")];
+    let picture = titled_picture_of(rt, alloc, title, &script);
+    let (start, heading) = start_and_heading(alloc, wanted).expect(rt, "memory");
+    assert_that_at(rt, &title, picture.starts_with(&start));
+    assert_same_at(rt, &title, &count(&picture, &heading), &1);
+}
+
 // The title comes first, and once more as the heading.
 #[test]
 fn a_picture_begins_with_its_title(rt: HostRuntime) {
     for (title, wanted) in TITLES {
-        let picture = titled_picture_of(
-            &rt,
-            rt.alloc(),
-            title,
-            &[Lines(1, "space 100 nodes 16 index 32\n")],
-        );
-        let start = format!(in rt.alloc();
-            "<svg xmlns='http://www.w3.org/2000/svg' width='1200' height='840' viewBox='0 0 1200 840' role='img'>\n<title>{wanted}</title>\n"
-        ).expect(&rt, "memory");
-        let heading = format!(in rt.alloc();
-            "<text class='big' x='24' y='28'>{wanted}</text>\n"
-        ).expect(&rt, "memory");
-        assert_that_at(&rt, &title, picture.starts_with(&start));
-        assert_same_at(&rt, &title, &count(&picture, &heading), &1);
+        expect_title(&rt, rt.alloc(), title, wanted);
     }
 }
 
@@ -335,20 +338,21 @@ const AGES: [(u32, &str); 14] = [
     (10_001, "<g class='age8'>\n<rect "),
 ];
 
+fn expect_age(rt: &impl Abort, alloc: Global, calls: u32, group: &str) {
+    let script = [
+        Lines(1, "space 100 nodes 16 index 32\nalloc 1\n"),
+        Lines(calls.saturating_sub(1), "report\n"),
+        Lines(1, "free 1\n"),
+    ];
+    let picture = picture_of(rt, alloc, &script);
+    assert_same_at(rt, &calls, &count(&picture, GRANT_TITLE), &1);
+    assert_same_at(rt, &calls, &count(&picture, group), &1);
+}
+
 #[test]
 fn each_age_ends_at_its_bound(rt: HostRuntime) {
     for (calls, group) in AGES {
-        let picture = picture_of(
-            &rt,
-            rt.alloc(),
-            &[
-                Lines(1, "space 100 nodes 16 index 32\nalloc 1\n"),
-                Lines(calls.saturating_sub(1), "report\n"),
-                Lines(1, "free 1\n"),
-            ],
-        );
-        assert_same_at(&rt, &calls, &count(&picture, GRANT_TITLE), &1);
-        assert_same_at(&rt, &calls, &count(&picture, group), &1);
+        expect_age(&rt, rt.alloc(), calls, group);
     }
 }
 

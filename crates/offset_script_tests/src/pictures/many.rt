@@ -1,7 +1,7 @@
 //! Pictures of many grants, and of many calls.
 
 use super::support::Part::{Lines, Lives};
-use super::support::{GRANT_TITLE, Picture, RECTANGLE, count, expect_picture, picture_of};
+use super::support::{GRANT_TITLE, Picture, RECTANGLE, count, expect_pictures, picture_of};
 use crate::asserts::{assert_same, assert_that_at};
 
 const PICTURES: [Picture; 4] = [
@@ -84,9 +84,7 @@ const PICTURES: [Picture; 4] = [
 
 #[test]
 fn draws_many_grants(rt: HostRuntime) {
-    for row in &PICTURES {
-        expect_picture(&rt, rt.alloc(), row);
-    }
+    expect_pictures(&rt, rt.alloc(), &PICTURES);
 }
 
 // Each is a fiftieth of a pixel high, and so they are merged.

@@ -1,9 +1,9 @@
 //! What the tests of pictures share.
 
 use crate::asserts::assert_same_at;
+use crate::playing::script_of;
 use offset_lives::picture;
-use offset_script::parse;
-use std::alloc::Global;
+use std::alloc::{AllocError, Global};
 use std::process::Abort;
 
 /// A part of a script.
@@ -27,24 +27,36 @@ pub fn picture_of(rt: &impl Abort, alloc: Global, parts: &[Part]) -> String {
     titled_picture_of(rt, alloc, "A script", parts)
 }
 
-/// The picture of a script with a title.
-pub fn titled_picture_of(rt: &impl Abort, alloc: Global, title: &str, parts: &[Part]) -> String {
+fn put_lines(text: &mut String, times: u32, lines: &str) -> Result<(), AllocError> {
+    for _ in 0..times {
+        text.push_str(lines)?;
+    }
+    Ok(())
+}
+
+fn put_lives(text: &mut String, units: u32, first: u32, below: u32) -> Result<(), AllocError> {
+    for number in first..below {
+        writeln!(text, "alloc {units}\nfree {number}")?;
+    }
+    Ok(())
+}
+
+// The text of a script of these parts.
+fn text_of(alloc: Global, parts: &[Part]) -> Result<String, AllocError> {
     let mut text = String::new(alloc);
     for part in parts {
-        match *part {
-            Part::Lines(times, lines) => {
-                for _ in 0..times {
-                    text.push_str(lines).expect(rt, "memory");
-                }
-            }
-            Part::Lives(units, first, below) => {
-                for number in first..below {
-                    writeln!(text, "alloc {units}\nfree {number}").expect(rt, "memory");
-                }
-            }
+        match part {
+            Part::Lines(times, lines) => put_lines(&mut text, *times, lines)?,
+            Part::Lives(units, first, below) => put_lives(&mut text, *units, *first, *below)?,
         }
     }
-    let script = parse(alloc, text.as_bytes()).expect(rt, "a script");
+    Ok(text)
+}
+
+/// The picture of a script with a title.
+pub fn titled_picture_of(rt: &impl Abort, alloc: Global, title: &str, parts: &[Part]) -> String {
+    let text = text_of(alloc, parts).expect(rt, "memory");
+    let script = script_of(rt, alloc, text.as_bytes());
     picture(alloc, title, &script).expect(rt, "memory")
 }
 
@@ -59,13 +71,25 @@ pub const RECTANGLE: &str = "<rect x=";
 /// What the title of a grant begins with.
 pub const GRANT_TITLE: &str = "<title>grant ";
 
+// Expects that a picture has a word so often.
+fn expect_count(rt: &impl Abort, picture: &str, word: &str, wanted: usize) {
+    assert_same_at(rt, &(word, picture), &count(picture, word), &wanted);
+}
+
 /// Expects the texts of a picture.
 pub fn expect_picture(rt: &impl Abort, alloc: Global, row: &Picture) {
     let picture = picture_of(rt, alloc, row.script);
     for word in row.once {
-        assert_same_at(rt, &(word, &picture), &count(&picture, word), &1);
+        expect_count(rt, &picture, word, 1);
     }
     for (word, wanted) in row.counts {
-        assert_same_at(rt, &(word, &picture), &count(&picture, word), wanted);
+        expect_count(rt, &picture, word, *wanted);
+    }
+}
+
+/// Expects the texts of each of these pictures.
+pub fn expect_pictures(rt: &impl Abort, alloc: Global, rows: &[Picture]) {
+    for row in rows {
+        expect_picture(rt, alloc, row);
     }
 }

@@ -2,8 +2,8 @@
 
 use super::numbers::Numbers;
 use super::slow::Space;
-use crate::playing::expect_answers;
-use offset_script::{Answer, Command, parse};
+use crate::playing::{expect_answers, script_of};
+use offset_script::{Answer, Command};
 use std::alloc::{AllocError, Global};
 use std::process::Abort;
 
@@ -68,17 +68,32 @@ fn whole_command(kind: u32, number: u32, grants: u64) -> Command {
     }
 }
 
+fn put_number(text: &mut String, word: &str, number: u32) -> Result<(), AllocError> {
+    writeln!(text, "{word} {number}")
+}
+
 fn put_line(text: &mut String, command: Command) -> Result<(), AllocError> {
     match command {
-        Command::Alloc(size) => writeln!(text, "alloc {size}"),
-        Command::Free(number) => writeln!(text, "free {number}"),
-        Command::Size(number) => writeln!(text, "size {number}"),
-        Command::Report => writeln!(text, "report"),
-        Command::Full => writeln!(text, "full"),
-        Command::Reset => writeln!(text, "reset"),
+        Command::Alloc(size) => put_number(text, "alloc", size),
+        Command::Free(number) => put_number(text, "free", number),
+        Command::Size(number) => put_number(text, "size", number),
+        Command::Report => text.push_str("report\n"),
+        Command::Full => text.push_str("full\n"),
+        Command::Reset => text.push_str("reset\n"),
         Command::Align(size, align) => writeln!(text, "align {size} {align}"),
-        Command::Extend(more) => writeln!(text, "extend {more}"),
+        Command::Extend(more) => put_number(text, "extend", more),
     }
+}
+
+fn next_command(mix: Mix, number: u32, grants: u64) -> Command {
+    match mix {
+        Mix::Plain => plain_command(number % 8, number / 8, grants),
+        Mix::Whole => whole_command(number % 16, number / 16, grants),
+    }
+}
+
+fn put_header(text: &mut String, size: u32, limit: u32) -> Result<(), AllocError> {
+    writeln!(text, "space {size} nodes {limit} index 16")
 }
 
 // Writes the text of a script, and returns the slow model's answers. The model counts the grants that a command may
@@ -90,16 +105,12 @@ fn mixed_script(
     limit: u32,
     mix: Mix,
 ) -> Result<Vec<Answer>, AllocError> {
-    writeln!(text, "space {size} nodes {limit} index 16")?;
+    put_header(text, size, limit)?;
     let mut space = Space::new(alloc, size, limit)?;
     let mut numbers = Numbers::new(1);
     let mut answers = Vec::new(alloc);
     for _ in 0..LENGTH {
-        let number = numbers.advance();
-        let command = match mix {
-            Mix::Plain => plain_command(number % 8, number / 8, space.grants),
-            Mix::Whole => whole_command(number % 16, number / 16, space.grants),
-        };
+        let command = next_command(mix, numbers.advance(), space.grants);
         put_line(text, command)?;
         answers.push(space.answer(alloc, command)?)?;
     }
@@ -109,7 +120,7 @@ fn mixed_script(
 fn expect_mixed(rt: &impl Abort, alloc: Global, size: u32, limit: u32, mix: Mix) {
     let mut text = String::new(alloc);
     let answers = mixed_script(alloc, &mut text, size, limit, mix).expect(rt, "memory");
-    let script = parse(alloc, text.as_bytes()).expect(rt, "a script");
+    let script = script_of(rt, alloc, text.as_bytes());
     let wanted = format!(in alloc; "{answers:?}").expect(rt, "memory");
     expect_answers(rt, alloc, &script, &wanted);
 }

@@ -154,38 +154,63 @@ fn put_line(text: &mut Vec<u8>, numbers: &mut Numbers) -> Result<(), AllocError>
     }
 }
 
+fn put_byte(text: &mut Vec<u8>, numbers: &mut Numbers) -> Result<(), AllocError> {
+    match BYTES.get(numbers.place(BYTES.len())) {
+        None => Ok(()),
+        Some(byte) => Ok(text.push(*byte)?),
+    }
+}
+
+// All but the first byte.
+fn without_first(text: &[u8]) -> &[u8] {
+    match text.split_first() {
+        None => text,
+        Some((_byte, others)) => others,
+    }
+}
+
 // The text with one byte removed, replaced or inserted.
 fn change(alloc: Global, text: &[u8], numbers: &mut Numbers) -> Result<Vec<u8>, AllocError> {
     let (before, after) = text.split_at(numbers.place(text.len()).min(text.len()));
     let kind = numbers.place(3);
     let mut changed = before.to_vec(alloc)?;
-    if kind > 0
-        && let Some(byte) = BYTES.get(numbers.place(BYTES.len()))
-    {
-        changed.push(*byte)?;
+    if kind > 0 {
+        put_byte(&mut changed, numbers)?;
     }
-    match after.split_first() {
-        Some((_byte, others)) if kind < 2 => changed.extend_from_slice(others)?,
-        _ => changed.extend_from_slice(after)?,
-    }
+    let kept = if kind < 2 {
+        without_first(after)
+    } else {
+        after
+    };
+    changed.extend_from_slice(kept)?;
     Ok(changed)
+}
+
+fn put_skipped(text: &mut Vec<u8>, numbers: &mut Numbers) -> Result<(), AllocError> {
+    for _ in 0..numbers.place(3) {
+        text.extend_from_slice(b"# c\n\n")?;
+    }
+    Ok(())
+}
+
+fn put_lines(text: &mut Vec<u8>, numbers: &mut Numbers) -> Result<(), AllocError> {
+    for _ in 0..numbers.place(16) {
+        text.push(b'\n')?;
+        put_line(text, numbers)?;
+    }
+    if numbers.place(4) > 0 {
+        text.push(b'\n')?;
+    }
+    Ok(())
 }
 
 // The random text of this number.
 fn random_text(alloc: Global, number: u64) -> Result<Vec<u8>, AllocError> {
     let mut numbers = Numbers::new(number);
     let mut text = Vec::new(alloc);
-    for _ in 0..numbers.place(3) {
-        text.extend_from_slice(b"# c\n\n")?;
-    }
+    put_skipped(&mut text, &mut numbers)?;
     put_header(&mut text, &mut numbers)?;
-    for _ in 0..numbers.place(16) {
-        text.push(b'\n')?;
-        put_line(&mut text, &mut numbers)?;
-    }
-    if numbers.place(4) > 0 {
-        text.push(b'\n')?;
-    }
+    put_lines(&mut text, &mut numbers)?;
     for _ in 0..numbers.place(3) {
         text = change(alloc, &text, &mut numbers)?;
     }
@@ -220,29 +245,49 @@ impl Tally {
     }
 }
 
+// `parse` returns this script, or this fault.
+fn expect_parsed(
+    rt: &impl Abort,
+    alloc: Global,
+    number: u64,
+    text: &[u8],
+    meaning: &Result<Reading, ScriptFault>,
+) {
+    match meaning {
+        Ok(reading) => match parse(alloc, text) {
+            Ok(script) => assert_that_at(rt, &number, is_same(&script, reading)),
+            Err(_) => assert_that_at(rt, &number, false),
+        },
+        Err(wanted) => match parse(alloc, text) {
+            Ok(_) => assert_that_at(rt, &number, false),
+            Err(found) => assert_same_at(rt, &number, &found, wanted),
+        },
+    }
+}
+
+// Tables of more nodes would take gigabytes.
+fn is_large(meaning: &Result<Reading, ScriptFault>) -> bool {
+    match meaning {
+        Ok(reading) => reading.limit > 65_533,
+        Err(_) => false,
+    }
+}
+
+fn expect_outcome(rt: &impl Abort, alloc: Global, number: u64, text: &[u8]) {
+    let wanted = run_slowly(alloc, text).expect(rt, "memory");
+    let found = outcome(rt, alloc, text);
+    assert_same_at(rt, &number, &found.as_str(), &wanted.as_str());
+}
+
 // `parse` returns the script, or the fault, that the slow model finds, and a run writes what the model writes.
 fn expect_meaning(rt: &impl Abort, alloc: Global, number: u64, tally: &mut Tally) {
     let text = random_text(alloc, number).expect(rt, "memory");
     let meaning = read_slowly(alloc, &text);
     tally.count(&meaning);
-    match (parse(alloc, &text), meaning) {
-        (Err(found), Err(wanted)) => assert_same_at(rt, &number, &found, &wanted),
-        (Ok(script), Ok(reading)) => {
-            assert_that_at(rt, &number, is_same(&script, &reading));
-            // Tables of more nodes would take gigabytes.
-            if reading.limit > 65_533 {
-                return;
-            }
-        }
-        _ => assert_that_at(rt, &number, false),
+    expect_parsed(rt, alloc, number, &text, &meaning);
+    if !is_large(&meaning) {
+        expect_outcome(rt, alloc, number, &text);
     }
-    let wanted = run_slowly(alloc, &text).expect(rt, "memory");
-    assert_same_at(
-        rt,
-        &number,
-        &outcome(rt, alloc, &text).as_str(),
-        &wanted.as_str(),
-    );
 }
 
 #[test]

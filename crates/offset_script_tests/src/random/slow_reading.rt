@@ -1,7 +1,7 @@
 //! A slow reader of texts: it compares each line with the spellings of a header or of the commands.
 
 use super::slow::Space;
-use offset_script::{Answer, Command, IndexWidth, ScriptFault};
+use offset_script::{Answer, Command, FullRow, IndexWidth, ScriptFault};
 use std::alloc::{AllocError, Global};
 
 const LARGEST: u64 = 4_294_967_295;
@@ -37,9 +37,14 @@ fn number_at(text: &[u8]) -> Option<(u32, &[u8])> {
     Some((number as u32, rest))
 }
 
+// The number that follows the start of a text, and the text after its digits.
+fn number_past<'a>(text: &'a [u8], start: &[u8]) -> Option<(u32, &'a [u8])> {
+    number_at(text.strip_prefix(start)?)
+}
+
 // The number that all of a text after its start spells.
 fn number_after(line: &[u8], start: &[u8]) -> Option<u32> {
-    let (number, rest) = number_at(line.strip_prefix(start)?)?;
+    let (number, rest) = number_past(line, start)?;
     if rest.is_empty() { Some(number) } else { None }
 }
 
@@ -53,7 +58,7 @@ fn is_power(number: u32) -> bool {
 }
 
 fn align_of(line: &[u8]) -> Option<Command> {
-    let (size, rest) = number_at(line.strip_prefix(b"align ".as_slice())?)?;
+    let (size, rest) = number_past(line, b"align ")?;
     let align = number_after(rest, b" ")?;
     if is_power(align) {
         Some(Command::Align(size, align))
@@ -62,17 +67,25 @@ fn align_of(line: &[u8]) -> Option<Command> {
     }
 }
 
+fn is_word(line: &[u8], word: &[u8]) -> bool {
+    line == word
+}
+
+// A command of one word.
+fn word_of(line: &[u8]) -> Option<Command> {
+    if is_word(line, b"report") {
+        Some(Command::Report)
+    } else if is_word(line, b"full") {
+        Some(Command::Full)
+    } else if is_word(line, b"reset") {
+        Some(Command::Reset)
+    } else {
+        None
+    }
+}
+
 // Each spelling is tried, and at most one fits.
 fn command_of(line: &[u8]) -> Option<Command> {
-    for (word, command) in [
-        (b"report".as_slice(), Command::Report),
-        (b"full".as_slice(), Command::Full),
-        (b"reset".as_slice(), Command::Reset),
-    ] {
-        if line == word {
-            return Some(command);
-        }
-    }
     if let Some(size) = number_after(line, b"alloc ") {
         return Some(Command::Alloc(size));
     }
@@ -85,19 +98,26 @@ fn command_of(line: &[u8]) -> Option<Command> {
     if let Some(more) = number_after(line, b"extend ") {
         return Some(Command::Extend(more));
     }
-    align_of(line)
+    match align_of(line) {
+        None => word_of(line),
+        Some(command) => Some(command),
+    }
+}
+
+fn index_of(text: &[u8]) -> Option<IndexWidth> {
+    if is_word(text, b" index 16") {
+        Some(IndexWidth::Bits16)
+    } else if is_word(text, b" index 32") {
+        Some(IndexWidth::Bits32)
+    } else {
+        None
+    }
 }
 
 fn header_of(alloc: Global, line: &[u8]) -> Option<Reading> {
-    let (size, rest) = number_at(line.strip_prefix(b"space ".as_slice())?)?;
-    let (limit, rest) = number_at(rest.strip_prefix(b" nodes ".as_slice())?)?;
-    let index = if rest == b" index 16".as_slice() {
-        IndexWidth::Bits16
-    } else if rest == b" index 32".as_slice() {
-        IndexWidth::Bits32
-    } else {
-        return None;
-    };
+    let (size, rest) = number_past(line, b"space ")?;
+    let (limit, rest) = number_past(rest, b" nodes ")?;
+    let index = index_of(rest)?;
     Some(Reading {
         size,
         limit,
@@ -166,51 +186,57 @@ pub fn read_slowly(alloc: Global, text: &[u8]) -> Result<Reading, ScriptFault> {
     }
 }
 
+fn put_rows(text: &mut String, rows: &[FullRow]) -> Result<(), AllocError> {
+    writeln!(text, "full {}", rows.len())?;
+    for row in rows {
+        writeln!(
+            text,
+            "class {} size {} count {}",
+            row.class, row.size, row.count
+        )?;
+    }
+    Ok(())
+}
+
 fn put_answer(text: &mut String, answer: &Answer) -> Result<(), AllocError> {
     match answer {
         Answer::Grant { number, offset } => writeln!(text, "grant {number} at {offset}"),
-        Answer::Refused => writeln!(text, "none"),
-        Answer::Freed => writeln!(text, "freed"),
-        Answer::Gone => writeln!(text, "gone"),
+        Answer::Refused => text.push_str("none\n"),
+        Answer::Freed => text.push_str("freed\n"),
+        Answer::Gone => text.push_str("gone\n"),
         Answer::Size(size) => writeln!(text, "size {size}"),
         Answer::Report(report) => writeln!(
             text,
             "free {} largest {}",
             report.total_free_space, report.largest_free_region
         ),
-        Answer::Full(rows) => {
-            writeln!(text, "full {}", rows.len())?;
-            for row in rows {
-                writeln!(
-                    text,
-                    "class {} size {} count {}",
-                    row.class, row.size, row.count
-                )?;
-            }
-            Ok(())
-        }
-        Answer::Reset => writeln!(text, "reset"),
-        Answer::Extended => writeln!(text, "extended"),
+        Answer::Full(rows) => put_rows(text, rows),
+        Answer::Reset => text.push_str("reset\n"),
+        Answer::Extended => text.push_str("extended\n"),
     }
+}
+
+fn fault_line(alloc: Global, line: u32, fault: &str) -> Result<String, AllocError> {
+    format!(in alloc; "line {line}: {fault}, status 2")
+}
+
+fn answers_of(alloc: Global, reading: &Reading) -> Result<String, AllocError> {
+    let mut answers = String::new(alloc);
+    let mut space = Space::new(alloc, reading.size, reading.limit)?;
+    for command in &reading.commands {
+        put_answer(&mut answers, &space.answer(alloc, *command)?)?;
+    }
+    Ok(answers)
 }
 
 /// Runs a text by the slow model. It returns what a run writes, or the line of the fault with the status.
 pub fn run_slowly(alloc: Global, text: &[u8]) -> Result<String, AllocError> {
     match read_slowly(alloc, text) {
         Err(ScriptFault::Memory) => Err(AllocError),
-        Err(ScriptFault::TooLong) => format!(in alloc; "too long, status 2"),
-        Err(ScriptFault::BadHeader(line)) => format!(in alloc; "line {line}: bad header, status 2"),
-        Err(ScriptFault::BadLimit(line)) => format!(in alloc; "line {line}: bad limit, status 2"),
-        Err(ScriptFault::BadCommand(line)) => format!(in alloc;
-            "line {line}: bad command, status 2"
-        ),
-        Ok(reading) => {
-            let mut answers = String::new(alloc);
-            let mut space = Space::new(alloc, reading.size, reading.limit)?;
-            for command in &reading.commands {
-                put_answer(&mut answers, &space.answer(alloc, *command)?)?;
-            }
-            Ok(answers)
-        }
+        Err(ScriptFault::TooLong) => String::from_str(alloc, "too long, status 2"),
+        Err(ScriptFault::BadHeader(line)) => fault_line(alloc, line, "bad header"),
+        Err(ScriptFault::BadLimit(line)) => fault_line(alloc, line, "bad limit"),
+        Err(ScriptFault::BadCommand(line)) => fault_line(alloc, line, "bad command"),
+        Ok(reading) => answers_of(alloc, &reading),
     }
 }

@@ -3,8 +3,8 @@ ghost use Rattle.std.specs.Prelude.{◌<◌};
 
 use super::numbers::Numbers;
 use crate::asserts::{assert_same, assert_that};
-use offset_allocator::NodeIndex;
-use offset_guarded::{Guarded, Ticket};
+use offset_allocator::{ByNode, NodeIndex, Tables};
+use offset_guarded::{GuardedOf, Ticket};
 use std::alloc::Global;
 use std::process::Abort;
 
@@ -40,9 +40,12 @@ impl Plain {
         None
     }
 
-    fn range(&self, ticket: Ticket) -> Option<Live> {
+    fn size_of(&self, ticket: Ticket) -> Option<u32> {
         let place = self.place(ticket)?;
-        self.live.get(place).copied()
+        match self.live.get(place) {
+            None => None,
+            Some(live) => Some(live.size),
+        }
     }
 }
 
@@ -119,12 +122,7 @@ fn keep(rt: &impl Abort, plain: &mut Plain, granted: Option<Ticket>, size: u32) 
     }
 }
 
-fn free<NI: NodeIndex>(
-    rt: &impl Abort,
-    space: &mut Guarded<NI>,
-    plain: &mut Plain,
-    ticket: Ticket,
-) {
+fn free<T: Tables>(rt: &impl Abort, space: &mut GuardedOf<T>, plain: &mut Plain, ticket: Ticket) {
     let place = plain.place(ticket);
     assert_same(rt, &space.free(ticket), &place.is_some());
     if let Some(place) = place.filter(|place| *place < plain.live.len()) {
@@ -132,9 +130,9 @@ fn free<NI: NodeIndex>(
     }
 }
 
-fn resize<NI: NodeIndex>(
+fn resize<T: Tables>(
     rt: &impl Abort,
-    space: &mut Guarded<NI>,
+    space: &mut GuardedOf<T>,
     plain: &mut Plain,
     ticket: Ticket,
     size: u32,
@@ -146,24 +144,42 @@ fn resize<NI: NodeIndex>(
         space.grow_in_place(ticket, size)
     };
     assert_same(rt, &done.is_some(), &place.is_some());
-    if let Some(live) = place.and_then(|place| plain.live.get_mut(place)) {
-        if done == Some(true) {
-            live.size = size;
-        }
+    if let Some(place) = place
+        && done == Some(true)
+        && let Some(live) = plain.live.get_mut(place)
+    {
+        live.size = size;
     }
 }
 
-fn step<NI: NodeIndex>(
+fn allocate<T: Tables>(space: &mut GuardedOf<T>, size: u32) -> Option<Ticket> {
+    space.allocate(size)
+}
+
+fn allocate_aligned<T: Tables>(space: &mut GuardedOf<T>, size: u32) -> Option<Ticket> {
+    space.allocate_aligned(size, 8)
+}
+
+fn extend<T: Tables>(space: &mut GuardedOf<T>, more: u32) {
+    let _done = space.extend(more);
+}
+
+fn reset<T: Tables>(space: &mut GuardedOf<T>, plain: &mut Plain) {
+    space.reset();
+    plain.live.clear();
+}
+
+fn step<T: Tables>(
     rt: &impl Abort,
-    space: &mut Guarded<NI>,
+    space: &mut GuardedOf<T>,
     plain: &mut Plain,
     numbers: &mut Numbers,
 ) {
     let number = numbers.advance();
     let size = number / 32 % 40 + 1;
     match number % 32 {
-        0..=9 => keep(rt, plain, space.allocate(size), size),
-        10 => keep(rt, plain, space.allocate_aligned(size, 8), size),
+        0..=9 => keep(rt, plain, allocate(space, size), size),
+        10 => keep(rt, plain, allocate_aligned(space, size), size),
         11..=24 => {
             let ticket = recent_ticket(numbers, plain);
             free(rt, space, plain, ticket)
@@ -176,58 +192,75 @@ fn step<NI: NodeIndex>(
             let ticket = old_ticket(numbers, plain);
             free(rt, space, plain, ticket)
         }
-        30 => {
-            let _done = space.extend(number / 32 % 4);
-        }
+        30 => extend(space, number / 32 % 4),
         _ => {
             if number / 32 % 16 == 0 {
-                space.reset();
-                plain.live.clear();
+                reset(space, plain)
             }
         }
     }
 }
 
-// Every live range is where the list has it, and there is no other.
-fn expect_same<NI: NodeIndex>(rt: &impl Abort, space: &Guarded<NI>, plain: &Plain) {
-    for live in &plain.live {
-        assert_same(rt, &space.offset_of(live.ticket), &Some(live.offset));
-        assert_same(rt, &space.size_of(live.ticket), &Some(live.size));
-    }
+// The number of used blocks.
+fn used_blocks<T: Tables>(space: &GuardedOf<T>) -> usize {
     let mut used = 0usize;
     for block in space.allocator().blocks() {
         if block.allocation.is_some() {
             used = used.wrapping_add(1);
         }
     }
-    assert_same(rt, &used, &plain.live.len());
+    used
 }
 
-fn expect_plain<NI: NodeIndex>(rt: &impl Abort, alloc: Global, state: u64)
-    requires { 71 < NI.MAX }
+// Every live range is where the list has it, and there is no other.
+fn expect_same<T: Tables>(rt: &impl Abort, space: &GuardedOf<T>, plain: &Plain) {
+    for live in &plain.live {
+        assert_same(rt, &space.offset_of(live.ticket), &Some(live.offset));
+        assert_same(rt, &space.size_of(live.ticket), &Some(live.size));
+    }
+    assert_same(rt, &used_blocks(space), &plain.live.len());
+}
+
+// The next step on both, and any ticket after it.
+fn expect_step<T: Tables>(
+    rt: &impl Abort,
+    space: &mut GuardedOf<T>,
+    plain: &mut Plain,
+    numbers: &mut Numbers,
+) {
+    step(rt, space, plain, numbers);
+    let ticket = any_ticket(numbers, &plain.given);
+    assert_same(rt, &space.size_of(ticket), &plain.size_of(ticket));
+    expect_same(rt, space, plain);
+}
+
+fn expect_plain<T: Tables>(rt: &impl Abort, alloc: Global, state: u64)
+    requires { 71 < T.Index.MAX }
 {
     let mut numbers = Numbers::new(state);
-    let space = Guarded::<NI>::with_max_allocs(alloc, 1_000, 70, REALM);
+    let space = GuardedOf::<T>::with_max_allocs(alloc, 1_000, 70, REALM);
     let mut space = space.expect(rt, "memory");
     let mut plain = Plain {
         live: Vec::new(alloc),
         given: Vec::new(alloc),
     };
     for _ in 0..STEPS {
-        step(rt, &mut space, &mut plain, &mut numbers);
-        let ticket = any_ticket(&mut numbers, &plain.given);
-        let wanted = plain.range(ticket).map(|live| live.size);
-        assert_same(rt, &space.size_of(ticket), &wanted);
-        expect_same(rt, &space, &plain);
+        expect_step(rt, &mut space, &mut plain, &mut numbers);
     }
+}
+
+fn expect_plain_by_node<NI: NodeIndex>(rt: &impl Abort, alloc: Global, state: u64)
+    requires { 71 < NI.MAX }
+{
+    expect_plain::<ByNode<NI>>(rt, alloc, state);
 }
 
 #[test]
 fn tickets_of_32_bits_touch_no_other_range(rt: HostRuntime) {
-    expect_plain::<u32>(&rt, rt.alloc(), 1);
+    expect_plain_by_node::<u32>(&rt, rt.alloc(), 1);
 }
 
 #[test]
 fn tickets_of_16_bits_touch_no_other_range(rt: HostRuntime) {
-    expect_plain::<u16>(&rt, rt.alloc(), 2);
+    expect_plain_by_node::<u16>(&rt, rt.alloc(), 2);
 }

@@ -3,6 +3,8 @@
 use crate::asserts::{assert_same_at, assert_that_at};
 use offset_script::{FromRead, IntoWrite, Sink, Source};
 use offset_test_base::devices::{Reader, Writer};
+use std::alloc::Global;
+use std::process::Abort;
 
 // Calls of `pull` on a reader whose text is the first `length` letters.
 struct Pulls {
@@ -60,28 +62,50 @@ const PULLS: [Pulls; 4] = [
     },
 ];
 
+// The letters that rows take a beginning of.
+fn letters(rt: &impl Abort, alloc: Global) -> Vec<u8> {
+    let mut letters = vec![in alloc; b'a'; 100_000].expect(rt, "memory");
+    letters[..7].copy_from_slice(b"abcdefg");
+    letters
+}
+
+fn beginning<'a>(rt: &impl Abort, letters: &'a [u8], length: usize) -> &'a [u8] {
+    let (text, _) = letters.split_at_checked(length).expect(rt, "letters");
+    text
+}
+
+// Pulls once, into a buffer of this length.
+fn expect_pull<S: Source>(
+    rt: &impl Abort,
+    alloc: Global,
+    input: &mut S,
+    name: &str,
+    (length, wanted, start): (usize, Option<usize>, &[u8]),
+) {
+    let mut buf = vec![in alloc; 0u8; length].expect(rt, "memory");
+    assert_same_at(rt, &name, &input.pull(&mut buf), &wanted);
+    assert_that_at(rt, &name, buf.starts_with(start));
+}
+
+fn expect_pulls(rt: &impl Abort, alloc: Global, text: &[u8], row: &Pulls) {
+    let mut reader = Reader::new(text, row.piece);
+    reader.fails_at = row.fails_at;
+    reader.empty_at = row.empty_at;
+    let mut input = FromRead::new(reader);
+    for call in row.calls {
+        expect_pull(rt, alloc, &mut input, row.name, *call);
+    }
+    let reader = input.into_inner();
+    assert_same_at(rt, &row.name, &reader.reads, &row.reads);
+    assert_same_at(rt, &row.name, &reader.text.len(), &row.left);
+}
+
 #[test]
 fn each_pull_is_one_read(rt: HostRuntime) {
-    let mut letters = vec![in rt.alloc(); b'a'; 100_000].expect(&rt, "memory");
-    letters[..7].copy_from_slice(b"abcdefg");
+    let letters = letters(&rt, rt.alloc());
     for row in &PULLS {
-        let (text, _) = letters.split_at_checked(row.length).expect(&rt, "letters");
-        let mut reader = Reader::new(text, row.piece);
-        reader.fails_at = row.fails_at;
-        reader.empty_at = row.empty_at;
-        let mut input = FromRead::new(reader);
-        for (length, wanted, start) in row.calls {
-            let mut buf = vec![in rt.alloc(); 0u8; *length].expect(&rt, "memory");
-            assert_same_at(&rt, &row.name, &input.pull(&mut buf), wanted);
-            assert_that_at(&rt, &row.name, buf.starts_with(start));
-        }
-        let reader = input.into_inner();
-        assert_same_at(
-            &rt,
-            &row.name,
-            &(reader.reads, reader.text.len()),
-            &(row.reads, row.left),
-        );
+        let text = beginning(&rt, &letters, row.length);
+        expect_pulls(&rt, rt.alloc(), text, row);
     }
 }
 
@@ -219,36 +243,46 @@ const CALLS: [Calls; 8] = [
     },
 ];
 
+fn expect_call(
+    rt: &impl Abort,
+    output: &mut IntoWrite<Writer>,
+    name: &str,
+    text: &[u8],
+    call: &Call,
+) {
+    match call {
+        Call::Push(wanted) => assert_same_at(rt, &name, &output.push(text), wanted),
+        Call::Flush(wanted) => assert_same_at(rt, &name, &output.flush(), wanted),
+    }
+}
+
+// The writer after the calls of a row.
+fn writer_after(rt: &impl Abort, alloc: Global, text: &[u8], row: &Calls) -> Writer {
+    let mut writer = Writer::new(alloc, row.piece);
+    writer.fails_at = row.fails_at;
+    writer.empty_at = row.empty_at;
+    writer.fails_flush = row.fails_flush;
+    let mut output = IntoWrite::new(writer);
+    for call in row.calls {
+        expect_call(rt, &mut output, row.name, text, call);
+    }
+    output.into_inner()
+}
+
+fn expect_calls(rt: &impl Abort, alloc: Global, letters: &[u8], row: &Calls) {
+    let text = beginning(rt, letters, row.length);
+    let writer = writer_after(rt, alloc, text, row);
+    assert_that_at(rt, &row.name, letters.starts_with(&writer.taken));
+    assert_same_at(rt, &row.name, &writer.taken.len(), &row.taken);
+    assert_same_at(rt, &row.name, &writer.flushed, &row.flushed);
+    assert_same_at(rt, &row.name, &writer.writes, &row.writes);
+    assert_same_at(rt, &row.name, &writer.flushes, &row.flushes);
+}
+
 #[test]
 fn each_push_is_one_write_and_each_flush_one_flush(rt: HostRuntime) {
-    let mut letters = vec![in rt.alloc(); b'a'; 100_000].expect(&rt, "memory");
-    letters[..7].copy_from_slice(b"abcdefg");
+    let letters = letters(&rt, rt.alloc());
     for row in &CALLS {
-        let (text, _) = letters.split_at_checked(row.length).expect(&rt, "letters");
-        let mut writer = Writer::new(rt.alloc(), row.piece);
-        writer.fails_at = row.fails_at;
-        writer.empty_at = row.empty_at;
-        writer.fails_flush = row.fails_flush;
-        let mut output = IntoWrite::new(writer);
-        for call in row.calls {
-            match call {
-                Call::Push(wanted) => assert_same_at(&rt, &row.name, &output.push(text), wanted),
-                Call::Flush(wanted) => assert_same_at(&rt, &row.name, &output.flush(), wanted),
-            }
-        }
-        let writer = output.into_inner();
-        assert_that_at(&rt, &row.name, letters.starts_with(&writer.taken));
-        assert_same_at(
-            &rt,
-            &row.name,
-            &(writer.taken.len(), writer.flushed),
-            &(row.taken, row.flushed),
-        );
-        assert_same_at(
-            &rt,
-            &row.name,
-            &(writer.writes, writer.flushes),
-            &(row.writes, row.flushes),
-        );
+        expect_calls(&rt, rt.alloc(), &letters, row);
     }
 }

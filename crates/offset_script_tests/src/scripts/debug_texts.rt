@@ -3,6 +3,8 @@
 use crate::asserts::{assert_same, assert_text};
 use offset_allocator::StorageReport;
 use offset_script::{Answer, Command, FullRow, IndexWidth, RunFault, ScriptFault};
+use std::alloc::Global;
+use std::process::Abort;
 
 const COMMANDS: [(Command, &str); 8] = [
     (Command::Alloc(1), "Alloc(1)"),
@@ -51,6 +53,18 @@ const ANSWERS: [(Answer, &str); 8] = [
     (Answer::Extended, "Extended"),
 ];
 
+fn expect_full_texts(rt: &impl Abort, alloc: Global) {
+    let none = Answer::Full(Vec::new(alloc));
+    assert_text(rt, alloc, &none, "Full([])");
+    let full = Answer::Full(ROWS.to_vec(alloc).expect(rt, "memory"));
+    assert_text(
+        rt,
+        alloc,
+        &full,
+        "Full([FullRow { class: 35, size: 88, count: 1 }, FullRow { class: 239, size: 4026531840, count: 2 }])",
+    );
+}
+
 #[test]
 fn prints_commands_and_answers(rt: HostRuntime) {
     for (command, wanted) in &COMMANDS {
@@ -61,15 +75,7 @@ fn prints_commands_and_answers(rt: HostRuntime) {
     for (answer, wanted) in &ANSWERS {
         assert_text(&rt, rt.alloc(), answer, wanted);
     }
-    let none = Answer::Full(Vec::new(rt.alloc()));
-    assert_text(&rt, rt.alloc(), &none, "Full([])");
-    let full = Answer::Full(ROWS.to_vec(rt.alloc()).expect(&rt, "memory"));
-    assert_text(
-        &rt,
-        rt.alloc(),
-        &full,
-        "Full([FullRow { class: 35, size: 88, count: 1 }, FullRow { class: 239, size: 4026531840, count: 2 }])",
-    );
+    expect_full_texts(&rt, rt.alloc());
 }
 
 // Each fault with its text, its line and its status.
@@ -109,12 +115,16 @@ const FAULTS: [(RunFault, &str, &str, u8); 8] = [
     (RunFault::Write, "Write", "write failed", 4),
 ];
 
+fn expect_line(rt: &impl Abort, alloc: Global, fault: &RunFault, line: &str) {
+    let found = format!(in alloc; "{fault}").expect(rt, "memory");
+    assert_same(rt, &found.as_str(), &line);
+}
+
 #[test]
 fn prints_faults(rt: HostRuntime) {
     for (fault, text, line, status) in &FAULTS {
         assert_text(&rt, rt.alloc(), fault, text);
-        let found = format!(in rt.alloc(); "{fault}").expect(&rt, "memory");
-        assert_same(&rt, &found.as_str(), line);
+        expect_line(&rt, rt.alloc(), fault, line);
         assert_same(&rt, &fault.status(), status);
     }
 }

@@ -2,7 +2,8 @@
 ghost use Rattle.std.specs.Prelude.{Some};
 
 use crate::asserts::assert_same_at;
-use offset_script::{FromRead, RunFault, Sink, run};
+use crate::playing::run_result;
+use offset_script::{FromRead, RunFault, Sink};
 
 // Holds the bytes that it took, at most two of each push. It takes none where it has `room` for none.
 #[derive(Drop)]
@@ -62,7 +63,7 @@ fn runs_to_a_plain_sink(rt: HostRuntime) {
             fails_flush,
             failed: false,
         };
-        let result = run(rt.alloc(), &mut FromRead::new(SCRIPT), &mut output);
+        let result = run_result(rt.alloc(), &mut FromRead::new(SCRIPT), &mut output);
         assert_same_at(&rt, &room, &result, &wanted);
         assert_same_at(&rt, &room, &output.taken.as_slice(), &answers);
         assert_same_at(&rt, &room, &output.flushes, &flushes);

@@ -1,9 +1,8 @@
 //! Scripts with their answers, read and written in pieces of several lengths, and played on each layout.
 
 use crate::asserts::assert_same_at;
-use crate::playing::{answers_with, expect_answers};
-use offset_allocator::ByNode;
-use offset_script::{FromRead, IntoWrite, parse, run};
+use crate::playing::{answers_of, expect_answers, run_result, script_of};
+use offset_script::{FromRead, IntoWrite};
 use offset_test_base::devices::{Reader, Writer};
 use std::alloc::Global;
 use std::process::Abort;
@@ -189,38 +188,58 @@ fn text_of(rt: &impl Abort, alloc: Global, header: &str, bits: u32, lines: &str)
 fn expect_written(rt: &impl Abort, alloc: Global, text: &str, piece: usize, wanted: &str) {
     let mut input = FromRead::new(Reader::new(text.as_bytes(), piece));
     let mut output = IntoWrite::new(Writer::new(alloc, piece));
-    let result = run(alloc, &mut input, &mut output);
+    let result = run_result(alloc, &mut input, &mut output);
     assert_same_at(rt, &(text, piece), &result, &Ok(()));
     let written = String::from_utf8(output.into_inner().taken).expect(rt, "a text");
     assert_same_at(rt, &(text, piece), &written.as_str(), &wanted);
 }
 
+// Expects these answers of a script, in pieces of each length.
+fn expect_in_pieces(rt: &impl Abort, alloc: Global, text: &str, wanted: &str) {
+    for piece in [1usize, 2, 4096] {
+        expect_written(rt, alloc, text, piece, wanted);
+    }
+}
+
+// Expects the answers of a row with this index width.
+fn expect_row(rt: &impl Abort, alloc: Global, row: &(&str, &str, &str), bits: u32) {
+    let (header, lines, wanted) = row;
+    let text = text_of(rt, alloc, header, bits, lines);
+    expect_in_pieces(rt, alloc, &text, wanted);
+}
+
 #[test]
 fn plays_scripts(rt: HostRuntime) {
-    for (header, lines, wanted) in &ROWS {
-        for bits in [16u32, 32] {
-            let text = text_of(&rt, rt.alloc(), header, bits, lines);
-            for piece in [1usize, 2, 4096] {
-                expect_written(&rt, rt.alloc(), &text, piece, wanted);
-            }
-        }
+    for row in &ROWS {
+        expect_row(&rt, rt.alloc(), row, 16);
+        expect_row(&rt, rt.alloc(), row, 32);
     }
+}
+
+// Expects the same answers to a script by each layout. `play_script` plays it by node.
+fn expect_same_answers(rt: &impl Abort, alloc: Global, text: &str) {
+    let script = script_of(rt, alloc, text.as_bytes());
+    let wanted = answers_of(rt, alloc, &script);
+    expect_answers(rt, alloc, &script, &wanted);
+}
+
+// A script whose limit each index type admits.
+fn expect_small_answers(rt: &impl Abort, alloc: Global) {
+    let text = b"space 40 nodes 5 index 16\nalloc 10\nalloc 10\nalloc 10\nalloc 10\n".as_slice();
+    let script = script_of(rt, alloc, text);
+    expect_answers(
+        rt,
+        alloc,
+        &script,
+        "[Grant { number: 1, offset: 0 }, Grant { number: 2, offset: 10 }, Grant { number: 3, offset: 20 }, Refused]",
+    );
 }
 
 #[test]
 fn all_layouts_return_the_same_answers(rt: HostRuntime) {
     for (header, lines, _wanted) in &ROWS {
         let text = text_of(&rt, rt.alloc(), header, 32, lines);
-        let script = parse(rt.alloc(), text.as_bytes()).expect(&rt, "a script");
-        let wanted = answers_with::<ByNode<u32>>(&rt, rt.alloc(), &script);
-        expect_answers(&rt, rt.alloc(), &script, &wanted);
+        expect_same_answers(&rt, rt.alloc(), &text);
     }
-    let text = b"space 40 nodes 5 index 16\nalloc 10\nalloc 10\nalloc 10\nalloc 10\n".as_slice();
-    let script = parse(rt.alloc(), text).expect(&rt, "a script");
-    expect_answers(
-        &rt,
-        rt.alloc(),
-        &script,
-        "[Grant { number: 1, offset: 0 }, Grant { number: 2, offset: 10 }, Grant { number: 3, offset: 20 }, Refused]",
-    );
+    expect_small_answers(&rt, rt.alloc());
 }

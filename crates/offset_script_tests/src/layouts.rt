@@ -1,0 +1,51 @@
+//! What every layout is to answer. One list of the layouts serves both scripts and calls: the proof goes over it anew
+//! wherever it stands.
+
+use crate::calls::{List, expect_replies};
+use crate::playing::expect_with;
+use offset_allocator::{ByField, ByNode, NodeIndex, Tables};
+use offset_script::Script;
+use offset_test_base::flat::Flat;
+use offset_test_base::tiny::Tiny;
+use std::alloc::Global;
+use std::process::Abort;
+
+/// What is played on each layout.
+#[derive(Clone, Copy)]
+pub enum Trial<'a> {
+    /// A script, and its answers as text.
+    Answers(&'a Script, &'a str),
+    /// Calls, and the texts of their replies.
+    Replies(&'a List),
+}
+
+fn expect_of<T: Tables>(rt: &impl Abort, alloc: Global, trial: Trial<'_>) {
+    match trial {
+        Trial::Answers(script, wanted) => expect_with::<T>(rt, alloc, script, wanted),
+        Trial::Replies(list) => expect_replies::<T>(rt, alloc, list),
+    }
+}
+
+fn limit_of(trial: Trial<'_>) -> u32 {
+    match trial {
+        Trial::Answers(script, _) => script.max_allocs,
+        Trial::Replies(list) => list.limit,
+    }
+}
+
+// Expects the same of the library's two layouts with one index type.
+fn expect_of_both<NI: NodeIndex>(rt: &impl Abort, alloc: Global, trial: Trial<'_>) {
+    expect_of::<ByNode<NI>>(rt, alloc, trial);
+    expect_of::<ByField<NI>>(rt, alloc, trial);
+}
+
+/// Expects the same of each layout: of the library's two with both index types, and with a third where it admits the
+/// limit, and of one more.
+pub fn expect_of_each(rt: &impl Abort, alloc: Global, trial: Trial<'_>) {
+    expect_of_both::<u32>(rt, alloc, trial);
+    expect_of_both::<u16>(rt, alloc, trial);
+    expect_of::<Flat>(rt, alloc, trial);
+    if limit_of(trial) <= 5 {
+        expect_of_both::<Tiny>(rt, alloc, trial);
+    }
+}
