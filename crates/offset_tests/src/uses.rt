@@ -478,7 +478,7 @@ fn a_mesh_is_in_both_buffers_or_in_none(rt: HostRuntime) {
     expect_mesh::<ByNode<u32>>(&rt, rt.alloc());
 }
 
-// A space that four ranges of 24 units filled, and the second and the fourth of them, which stay live.
+// A space that four ranges of 24 units filled, and the second and the fourth, which stay live.
 fn fragmented<T: Tables>(
     rt: &impl Abort,
     alloc: Global,
