@@ -1,5 +1,5 @@
-//! What every layout is to answer. One list of the layouts serves both scripts and calls: the proof goes over it anew
-//! wherever it stands.
+//! What every layout is to answer. The layouts are named here alone, for scripts and for calls: the
+//! proof of a call takes seconds for each of them.
 
 use crate::calls::{List, expect_replies};
 use crate::playing::expect_with;
@@ -39,8 +39,8 @@ fn expect_of_both<NI: NodeIndex>(rt: &impl Abort, alloc: Global, trial: Trial<'_
     expect_of::<ByField<NI>>(rt, alloc, trial);
 }
 
-/// Expects the same of each layout: of the library's two with both index types, and with a third where it admits the
-/// limit, and of one more.
+/// Expects the same of each layout: of the library's two with both index types, and with a third
+/// where it admits the limit, and of one more layout.
 pub fn expect_of_each(rt: &impl Abort, alloc: Global, trial: Trial<'_>) {
     expect_of_both::<u32>(rt, alloc, trial);
     expect_of_both::<u16>(rt, alloc, trial);

@@ -9,7 +9,7 @@ use offset_script::{
 use std::alloc::Global;
 use std::process::Abort;
 
-/// The result of a run, of which no more is asked: proofs with devices of given types are short by it.
+/// The result of a run. It promises no more, which keeps the proofs of its callers short.
 pub fn run_result<S: Source, K: Sink>(
     alloc: Global,
     input: &mut S,

@@ -16,7 +16,7 @@ enum Program {
     Draw,
 }
 
-// The status of a program, of which no more is asked: proofs with devices of given types are short by it.
+// The status of a program. It promises no more, which keeps the proof of its caller short.
 fn status_of<S: Source, K: Sink, E: Sink>(
     program: Program,
     alloc: Global,
@@ -247,7 +247,7 @@ const FAULTY: &[u8] = b"\n\n\n\n\n\n\n\n\n\n\nalloc 1";
 
 const LINE: &[u8] = b"line 12: bad header\n";
 
-// The status of a fault, where the write of this number fails, and the beginning of the line that is written before.
+// The status stays, where the write of this number fails, and this many bytes are written before.
 fn expect_status(rt: &impl Abort, alloc: Global, program: Program, fails_at: u32, before: usize) {
     let mut errors = Writer::new(alloc, 1);
     errors.fails_at = fails_at;
