@@ -128,7 +128,7 @@ impl Expectation for Limit {
 fn grants_as_many_as_a_large_limit_admits(rt: HostRuntime) {
     check_at(&rt, rt.alloc(), Layout::ByNode16, &Limit { limit: 65_533 });
     for limit in [131_073, 300_000] {
-        check_each(&rt, rt.alloc(), &EACH, &Limit { limit });
+        check_at(&rt, rt.alloc(), Layout::ByNode32, &Limit { limit });
     }
 }
 
