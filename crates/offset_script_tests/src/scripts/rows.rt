@@ -12,7 +12,9 @@ const RELEASED: &str =
     "grant 1 at 0\ngrant 2 at 10\ngrant 3 at 20\ngrant 4 at 30\nfreed\nfreed\nfreed\nfull 2\nclass 18 size 20 count 1\nclass 23 size 30 count 1\n";
 
 // A header without its index width, the lines after it, and the answers.
-const ROWS: [(&str, &str, &str); 31] = [
+type Row = (&'static str, &'static str, &'static str);
+
+const ROWS: [Row; 31] = [
     (
         "space 100 nodes 16 index",
         "\nalloc 10\nalloc 20\n",
@@ -202,18 +204,22 @@ fn expect_in_pieces(rt: &impl Abort, alloc: Global, text: &str, wanted: &str) {
 }
 
 // Expects the answers of a row with this index width.
-fn expect_row(rt: &impl Abort, alloc: Global, row: &(&str, &str, &str), bits: u32) {
+fn expect_row(rt: &impl Abort, alloc: Global, row: &Row, bits: u32) {
     let (header, lines, wanted) = row;
     let text = text_of(rt, alloc, header, bits, lines);
     expect_in_pieces(rt, alloc, &text, wanted);
 }
 
+fn expect_rows(rt: &impl Abort, alloc: Global, rows: &[Row]) {
+    for row in rows {
+        expect_row(rt, alloc, row, 16);
+        expect_row(rt, alloc, row, 32);
+    }
+}
+
 #[test]
 fn plays_scripts(rt: HostRuntime) {
-    for row in &ROWS {
-        expect_row(&rt, rt.alloc(), row, 16);
-        expect_row(&rt, rt.alloc(), row, 32);
-    }
+    expect_rows(&rt, rt.alloc(), &ROWS);
 }
 
 // Expects the same answers to a script by each layout. `play_script` plays it by node.
@@ -235,11 +241,15 @@ fn expect_small_answers(rt: &impl Abort, alloc: Global) {
     );
 }
 
+fn expect_same_answers_of_each(rt: &impl Abort, alloc: Global, rows: &[Row]) {
+    for (header, lines, _wanted) in rows {
+        let text = text_of(rt, alloc, header, 32, lines);
+        expect_same_answers(rt, alloc, &text);
+    }
+}
+
 #[test]
 fn all_layouts_return_the_same_answers(rt: HostRuntime) {
-    for (header, lines, _wanted) in &ROWS {
-        let text = text_of(&rt, rt.alloc(), header, 32, lines);
-        expect_same_answers(&rt, rt.alloc(), &text);
-    }
+    expect_same_answers_of_each(&rt, rt.alloc(), &ROWS);
     expect_small_answers(&rt, rt.alloc());
 }
