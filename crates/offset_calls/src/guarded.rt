@@ -73,7 +73,8 @@ fn passed(tickets: &[Ticket], call: &TicketCall) -> Option<Ticket>
 /// replies in order, one for each, and the tickets of the grants.
 ///
 /// The calls may pass any tickets: live ones, those of ranges that were freed or reset, altered ones, random numbers.
-/// The limit has to be 2 to `T::Index::MAX - 2`, and each alignment a power of two. It fails only where an allocation fails.
+/// The limit has to be 2 to `T::Index::MAX - 2`, and each alignment a power of two. It fails only where an allocation
+/// fails.
 pub fn play_guarded<T: Tables>(
     alloc: Global,
     size: u32,

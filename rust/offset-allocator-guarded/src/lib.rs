@@ -54,8 +54,8 @@ pub struct GuardedOf<T: Tables> {
 }
 
 impl<T: Tables> GuardedOf<T> {
-    /// A space of `size` units, all free, with the smaller of 131072 and `T::Index::MAX - 2` as the node limit. The realm is
-    /// kept in its tickets: a ticket of another realm is never live here.
+    /// A space of `size` units, all free, with the smaller of 131072 and `T::Index::MAX - 2` as the node limit. The
+    /// realm is kept in its tickets: a ticket of another realm is never live here.
     ///
     /// An error is returned only where an allocation failed; then nothing is made.
     pub fn new(alloc: Global, size: u32, realm: u32) -> Result<Self, AllocError> {
@@ -63,8 +63,8 @@ impl<T: Tables> GuardedOf<T> {
     }
 
     /// A space of `size` units, all free, with `max_allocs` as the node limit, and a realm. The limit is 2 to
-    /// `T::Index::MAX - 2`. It reserves what an `Allocator` does and 8 bytes a node, all of them here; those of a node are
-    /// written by the first call after it was made that may make nodes.
+    /// `T::Index::MAX - 2`. It reserves what an `AllocatorOf<T>` does and 8 bytes a node, all of them here; those of a
+    /// node are written by the first call after it was made that may make nodes.
     ///
     /// An error is returned only where an allocation failed; then nothing is made.
     #[track_caller]

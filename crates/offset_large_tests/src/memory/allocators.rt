@@ -68,8 +68,8 @@ impl Expectation for Large {
     }
 }
 
-// Each layout in a process of its own: in the memory that a ladder has left, the steps of the next one are no
-// neighbours, and the piece that they make is not large enough for these tables.
+// Each layout has a process of its own: the memory that a ladder has freed is split, so a second ladder in it would not
+// leave one piece that is large enough for these tables.
 #[test]
 fn large_allocators_by_node(rt: HostRuntime) {
     let widths = [Layout::ByNode16, Layout::ByNode32];
