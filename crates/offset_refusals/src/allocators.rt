@@ -1,11 +1,11 @@
-//! Allocators that are made for the header of a script, on one layout for each index width.
+//! Allocators that are made for the header of a script.
 
-use crate::mixed::mixed_calls;
-use crate::numbers::{Cells, put, put_report};
+use crate::layouts::{Kept, Work};
+use crate::numbers::{Cells, put, put_answers, put_report};
 use crate::outcomes::Failure;
-use crate::scripts::script;
-use offset_allocator::{Allocation, AllocatorOf, NodeIndex, Tables};
-use offset_script::{IndexWidth, Script};
+use offset_allocator::{AllocatorOf, NodeIndex, Tables};
+use offset_script::{Script, play_of};
+use offset_test_base::mixed::mixed_calls;
 use std::alloc::Global;
 
 fn put_report_of<T: Tables>(cells: &mut Cells<'_>, allocator: AllocatorOf<T>) {
@@ -13,17 +13,19 @@ fn put_report_of<T: Tables>(cells: &mut Cells<'_>, allocator: AllocatorOf<T>) {
 }
 
 /// Makes an allocator by `new`, and puts its report into the cells.
-pub fn make_default<Narrow: Tables, Wide: Tables>(
-    alloc: Global,
-    text: &[u8],
-    cells: &mut Cells<'_>,
-) -> Result<(), Failure> {
-    let script = script(alloc, text)?;
-    match script.index {
-        IndexWidth::Bits16 => put_report_of(cells, AllocatorOf::<Narrow>::new(alloc, script.size)?),
-        IndexWidth::Bits32 => put_report_of(cells, AllocatorOf::<Wide>::new(alloc, script.size)?),
+pub struct MakeDefault;
+
+impl Work for MakeDefault {
+    fn run<T: Tables>(
+        &self,
+        alloc: Global,
+        script: &Script,
+        _kept: &mut [Kept<T::Index>],
+        cells: &mut Cells<'_>,
+    ) -> Result<(), Failure> {
+        put_report_of(cells, AllocatorOf::<T>::new(alloc, script.size)?);
+        Ok(())
     }
-    Ok(())
 }
 
 // An allocator of a script's size and node limit.
@@ -36,39 +38,35 @@ fn limited<T: Tables>(alloc: Global, script: &Script) -> Result<AllocatorOf<T>, 
 }
 
 /// Makes an allocator by `with_max_allocs`, and puts its report into the cells.
-pub fn make_limited<Narrow: Tables, Wide: Tables>(
-    alloc: Global,
-    text: &[u8],
-    cells: &mut Cells<'_>,
-) -> Result<(), Failure> {
-    let script = script(alloc, text)?;
-    match script.index {
-        IndexWidth::Bits16 => put_report_of(cells, limited::<Narrow>(alloc, &script)?),
-        IndexWidth::Bits32 => put_report_of(cells, limited::<Wide>(alloc, &script)?),
+pub struct MakeLimited;
+
+impl Work for MakeLimited {
+    fn run<T: Tables>(
+        &self,
+        alloc: Global,
+        script: &Script,
+        _kept: &mut [Kept<T::Index>],
+        cells: &mut Cells<'_>,
+    ) -> Result<(), Failure> {
+        put_report_of(cells, limited::<T>(alloc, script)?);
+        Ok(())
     }
-    Ok(())
 }
 
 /// Makes an allocator by `with_max_allocs`, makes 1,000 calls, and puts a checksum of their results into the cells.
-pub fn make_and_call<Narrow: Tables<Index = u16>, Wide: Tables<Index = u32>>(
-    alloc: Global,
-    text: &[u8],
-    cells: &mut Cells<'_>,
-) -> Result<(), Failure> {
-    let script = script(alloc, text)?;
-    // handles have a type for each width; the arrays take no memory from `alloc`
-    let sum = match script.index {
-        IndexWidth::Bits16 => {
-            let mut kept: [Option<Allocation<u16>>; 16] = [None; 16];
-            mixed_calls(&mut limited::<Narrow>(alloc, &script)?, &mut kept)
-        }
-        IndexWidth::Bits32 => {
-            let mut kept: [Option<Allocation<u32>>; 16] = [None; 16];
-            mixed_calls(&mut limited::<Wide>(alloc, &script)?, &mut kept)
-        }
-    };
-    put(cells, sum);
-    Ok(())
+pub struct MakeAndCall;
+
+impl Work for MakeAndCall {
+    fn run<T: Tables>(
+        &self,
+        alloc: Global,
+        script: &Script,
+        kept: &mut [Kept<T::Index>],
+        cells: &mut Cells<'_>,
+    ) -> Result<(), Failure> {
+        put(cells, mixed_calls(&mut limited::<T>(alloc, script)?, kept));
+        Ok(())
+    }
 }
 
 // Makes 3,000 requests for one unit each, and then a reset. It returns how many were granted.
@@ -83,26 +81,45 @@ fn fill_and_reset<T: Tables>(allocator: &mut AllocatorOf<T>) -> u64 {
     granted
 }
 
-// Does this twice, and puts the numbers of grants, and the report of the space in the end, into the cells.
-fn fill_twice<T: Tables>(cells: &mut Cells<'_>, mut allocator: AllocatorOf<T>) {
-    let first = fill_and_reset(&mut allocator);
-    let second = fill_and_reset(&mut allocator);
-    put(cells, first);
-    put(cells, second);
-    put_report_of(cells, allocator);
-}
-
 /// Makes an allocator by `with_max_allocs`, twice makes 3,000 requests and a reset, and puts the numbers of grants, and
 /// the report in the end, into the cells.
-pub fn make_and_fill<Narrow: Tables, Wide: Tables>(
-    alloc: Global,
-    text: &[u8],
-    cells: &mut Cells<'_>,
-) -> Result<(), Failure> {
-    let script = script(alloc, text)?;
-    match script.index {
-        IndexWidth::Bits16 => fill_twice(cells, limited::<Narrow>(alloc, &script)?),
-        IndexWidth::Bits32 => fill_twice(cells, limited::<Wide>(alloc, &script)?),
+pub struct MakeAndFill;
+
+impl Work for MakeAndFill {
+    fn run<T: Tables>(
+        &self,
+        alloc: Global,
+        script: &Script,
+        _kept: &mut [Kept<T::Index>],
+        cells: &mut Cells<'_>,
+    ) -> Result<(), Failure> {
+        let mut allocator = limited::<T>(alloc, script)?;
+        let first = fill_and_reset(&mut allocator);
+        let second = fill_and_reset(&mut allocator);
+        put(cells, first);
+        put(cells, second);
+        put_report_of(cells, allocator);
+        Ok(())
     }
-    Ok(())
+}
+
+/// Plays the commands of a script, and puts their answers into the cells.
+pub struct Play;
+
+impl Work for Play {
+    fn run<T: Tables>(
+        &self,
+        alloc: Global,
+        script: &Script,
+        _kept: &mut [Kept<T::Index>],
+        cells: &mut Cells<'_>,
+    ) -> Result<(), Failure> {
+        let limit = script.max_allocs;
+        if limit >= T::Index::MAX - 1 {
+            return Err(Failure::Unfit);
+        }
+        let answers = play_of::<T>(alloc, script.size, limit, &script.commands)?;
+        put_answers(cells, &answers);
+        Ok(())
+    }
 }

@@ -8,31 +8,42 @@
 
 mod allocators;
 mod cell_writer;
-mod mixed;
+mod layouts;
 mod numbers;
 mod outcomes;
 mod scripts;
 
+use crate::allocators::{MakeAndCall, MakeAndFill, MakeDefault, MakeLimited, Play};
+use crate::layouts::{Layout, Work, run_on};
 use crate::outcomes::code;
-use offset_allocator::{ByField, ByNode};
 use std::alloc::Global;
+
+fn work_on<W: Work>(
+    layout: Layout,
+    work: &W,
+    alloc: Global,
+    text: &[u8],
+    cells: &mut [u64],
+) -> u32 {
+    code(run_on(layout, work, alloc, text, &mut cells.iter_mut()))
+}
 
 /// Makes an allocator by `new`, of a script's size and index width, and puts its report into the cells.
 #[unsafe(no_mangle)]
 pub extern "C" fn offset_new(alloc: Global, text: &[u8], cells: &mut [u64]) -> u32 {
-    code(allocators::make_default::<ByNode<u16>, ByNode<u32>>(alloc, text, &mut cells.iter_mut()))
+    work_on(Layout::ByNode, &MakeDefault, alloc, text, cells)
 }
 
 /// The same by field.
 #[unsafe(no_mangle)]
 pub extern "C" fn offset_new_by_field(alloc: Global, text: &[u8], cells: &mut [u64]) -> u32 {
-    code(allocators::make_default::<ByField<u16>, ByField<u32>>(alloc, text, &mut cells.iter_mut()))
+    work_on(Layout::ByField, &MakeDefault, alloc, text, cells)
 }
 
 /// Makes an allocator for a script by `with_max_allocs`, and puts its report into the cells.
 #[unsafe(no_mangle)]
 pub extern "C" fn offset_with_max_allocs(alloc: Global, text: &[u8], cells: &mut [u64]) -> u32 {
-    code(allocators::make_limited::<ByNode<u16>, ByNode<u32>>(alloc, text, &mut cells.iter_mut()))
+    work_on(Layout::ByNode, &MakeLimited, alloc, text, cells)
 }
 
 /// The same by field.
@@ -42,40 +53,32 @@ pub extern "C" fn offset_with_max_allocs_by_field(
     text: &[u8],
     cells: &mut [u64],
 ) -> u32 {
-    code(allocators::make_limited::<ByField<u16>, ByField<u32>>(alloc, text, &mut cells.iter_mut()))
+    work_on(Layout::ByField, &MakeLimited, alloc, text, cells)
 }
 
 /// Makes an allocator so, then makes 1,000 calls of every kind, and puts a checksum of their results into the cells.
 #[unsafe(no_mangle)]
 pub extern "C" fn offset_calls(alloc: Global, text: &[u8], cells: &mut [u64]) -> u32 {
-    code(allocators::make_and_call::<ByNode<u16>, ByNode<u32>>(alloc, text, &mut cells.iter_mut()))
+    work_on(Layout::ByNode, &MakeAndCall, alloc, text, cells)
 }
 
 /// The same by field.
 #[unsafe(no_mangle)]
 pub extern "C" fn offset_calls_by_field(alloc: Global, text: &[u8], cells: &mut [u64]) -> u32 {
-    code(allocators::make_and_call::<ByField<u16>, ByField<u32>>(
-        alloc,
-        text,
-        &mut cells.iter_mut(),
-    ))
+    work_on(Layout::ByField, &MakeAndCall, alloc, text, cells)
 }
 
 /// Makes an allocator so, then twice makes 3,000 requests and a reset, and puts the numbers of grants, and the report
 /// in the end, into the cells.
 #[unsafe(no_mangle)]
 pub extern "C" fn offset_fill(alloc: Global, text: &[u8], cells: &mut [u64]) -> u32 {
-    code(allocators::make_and_fill::<ByNode<u16>, ByNode<u32>>(alloc, text, &mut cells.iter_mut()))
+    work_on(Layout::ByNode, &MakeAndFill, alloc, text, cells)
 }
 
 /// The same by field.
 #[unsafe(no_mangle)]
 pub extern "C" fn offset_fill_by_field(alloc: Global, text: &[u8], cells: &mut [u64]) -> u32 {
-    code(allocators::make_and_fill::<ByField<u16>, ByField<u32>>(
-        alloc,
-        text,
-        &mut cells.iter_mut(),
-    ))
+    work_on(Layout::ByField, &MakeAndFill, alloc, text, cells)
 }
 
 /// Parses a text, and puts the script or the fault into the cells.
@@ -87,13 +90,13 @@ pub extern "C" fn offset_parse(alloc: Global, text: &[u8], cells: &mut [u64]) ->
 /// Plays the commands of a script, and puts the answers into the cells.
 #[unsafe(no_mangle)]
 pub extern "C" fn offset_play(alloc: Global, text: &[u8], cells: &mut [u64]) -> u32 {
-    code(scripts::play_text::<ByNode<u16>, ByNode<u32>>(alloc, text, &mut cells.iter_mut()))
+    work_on(Layout::ByNode, &Play, alloc, text, cells)
 }
 
 /// The same by field.
 #[unsafe(no_mangle)]
 pub extern "C" fn offset_play_by_field(alloc: Global, text: &[u8], cells: &mut [u64]) -> u32 {
-    code(scripts::play_text::<ByField<u16>, ByField<u32>>(alloc, text, &mut cells.iter_mut()))
+    work_on(Layout::ByField, &Play, alloc, text, cells)
 }
 
 /// Runs a text, and puts each byte that is written, and then the fault if there is one.

@@ -1,12 +1,9 @@
-//! Texts that are parsed, played and run.
+//! Texts that are parsed and run.
 
 use crate::cell_writer::CellWriter;
-use crate::numbers::{Cells, put_answers, put_fault, put_script};
+use crate::numbers::{Cells, put_fault, put_script};
 use crate::outcomes::Failure;
-use offset_allocator::{NodeIndex, Tables};
-use offset_script::{
-    Answer, FromRead, IndexWidth, IntoWrite, RunFault, Script, ScriptFault, parse, play_of, run,
-};
+use offset_script::{FromRead, IntoWrite, RunFault, Script, ScriptFault, parse, run};
 use std::alloc::Global;
 
 /// The script of a text. Any fault is `Unfit`, so that `OutOfMemory` comes only from the call after it.
@@ -30,30 +27,6 @@ pub fn parse_text(alloc: Global, text: &[u8], cells: &mut Cells<'_>) -> Result<(
             Err(Failure::Faulty)
         }
     }
-}
-
-// The answers to the commands of a script on a layout.
-fn played<T: Tables>(alloc: Global, script: &Script) -> Result<Vec<Answer>, Failure> {
-    let limit = script.max_allocs;
-    if limit >= T::Index::MAX - 1 {
-        return Err(Failure::Unfit);
-    }
-    Ok(play_of::<T>(alloc, script.size, limit, &script.commands)?)
-}
-
-/// Plays the commands of a script, and puts their answers into the cells.
-pub fn play_text<Narrow: Tables, Wide: Tables>(
-    alloc: Global,
-    text: &[u8],
-    cells: &mut Cells<'_>,
-) -> Result<(), Failure> {
-    let script = script(alloc, text)?;
-    let answers = match script.index {
-        IndexWidth::Bits16 => played::<Narrow>(alloc, &script)?,
-        IndexWidth::Bits32 => played::<Wide>(alloc, &script)?,
-    };
-    put_answers(cells, &answers);
-    Ok(())
 }
 
 /// Runs a text, and puts each byte that it writes into a cell, and then the fault if there is one.

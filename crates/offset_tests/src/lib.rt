@@ -6,4 +6,6 @@ mod asserts;
 #[cfg(test)]
 mod calls;
 #[cfg(test)]
+mod layouts;
+#[cfg(test)]
 mod uses;

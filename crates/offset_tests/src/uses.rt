@@ -1,12 +1,12 @@
 //! Tests of `offset_uses`.
 
 use crate::asserts::{assert_same, assert_same_at, assert_that, assert_that_at};
+use crate::layouts::{ALL, Expectation, Layout, check, check_each};
 use offset_allocator::Refusal::{Fragmented, Nodes, Space};
 use offset_allocator::{
     Accesses, Allocation, Allocator, AllocatorOf, ByNode, NodeIndex, Refusal, Tables,
 };
 use offset_script::{Answer, Command};
-use offset_test_base::tiny::Tiny;
 use offset_uses::daily::{
     Ring, defragment, first_byte, give_back, granted_units, insert, place, place_packed, resize,
     upload,
@@ -370,23 +370,24 @@ fn use_space<T: Tables>(
     }
 }
 
-fn expect_uses<T: Tables>(rt: &impl Abort, alloc: Global, case: &Case) {
-    assert_that_at(rt, &case.name, 2 <= case.limit && case.limit <= 1_000);
-    assert_that_at(rt, &case.name, case.limit < T::Index::MAX - 1);
-    let made = AllocatorOf::<T>::with_max_allocs(alloc, case.size, case.limit);
-    let mut space = made.expect(rt, "memory");
-    let mut ranges = Vec::new(alloc);
-    for (place, step) in case.uses.iter().enumerate() {
-        let at = (case.name, place);
-        use_space(rt, alloc, &at, &mut space, &mut ranges, *step);
+impl Expectation for Case {
+    fn check<T: Tables>(&self, rt: &impl Abort, alloc: Global) {
+        assert_that_at(rt, &self.name, 2 <= self.limit && self.limit <= 1_000);
+        assert_that_at(rt, &self.name, self.limit < T::Index::MAX - 1);
+        let made = AllocatorOf::<T>::with_max_allocs(alloc, self.size, self.limit);
+        let mut space = made.expect(rt, "memory");
+        let mut ranges = Vec::new(alloc);
+        for (place, step) in self.uses.iter().enumerate() {
+            let at = (self.name, place);
+            use_space(rt, alloc, &at, &mut space, &mut ranges, *step);
+        }
     }
 }
 
 #[test]
 fn one_space_is_used(rt: HostRuntime) {
     for case in &CASES {
-        expect_uses::<ByNode<u32>>(&rt, rt.alloc(), case);
-        expect_uses::<ByNode<u16>>(&rt, rt.alloc(), case);
+        check_each(&rt, rt.alloc(), &[Layout::Wide, Layout::Narrow], case);
     }
 }
 
@@ -408,39 +409,45 @@ fn expect_free<T: Tables>(rt: &impl Abort, space: &AllocatorOf<T>, units: u32) {
     assert_same(rt, &space.storage_report().total_free_space, &units);
 }
 
-fn expect_quotas<T: Tables>(rt: &impl Abort, alloc: Global) {
-    let mut space = made::<T>(rt, alloc, 100);
-    let mut near = Tenant { quota: 20, held: 0 };
-    let mut far = Tenant { quota: 50, held: 0 };
-    assert_that(rt, charge(&mut space, &mut near, 15).is_some());
-    assert_that(rt, charge(&mut space, &mut far, 50).is_some());
-    assert_that(rt, charge(&mut space, &mut near, 6).is_none());
-    assert_same(rt, &near.held, &15);
-    assert_same(rt, &far.held, &50);
-    let allocation = charge(&mut space, &mut near, 5).expect(rt, "room");
-    refund(&mut space, &mut near, allocation);
-    assert_same(rt, &near.held, &15);
-    expect_free(rt, &space, 35);
+struct Quotas;
+
+impl Expectation for Quotas {
+    fn check<T: Tables>(&self, rt: &impl Abort, alloc: Global) {
+        let mut space = made::<T>(rt, alloc, 100);
+        let mut near = Tenant { quota: 20, held: 0 };
+        let mut far = Tenant { quota: 50, held: 0 };
+        assert_that(rt, charge(&mut space, &mut near, 15).is_some());
+        assert_that(rt, charge(&mut space, &mut far, 50).is_some());
+        assert_that(rt, charge(&mut space, &mut near, 6).is_none());
+        assert_same(rt, &near.held, &15);
+        assert_same(rt, &far.held, &50);
+        let allocation = charge(&mut space, &mut near, 5).expect(rt, "room");
+        refund(&mut space, &mut near, allocation);
+        assert_same(rt, &near.held, &15);
+        expect_free(rt, &space, 35);
+    }
 }
 
 #[test]
 fn a_tenant_stays_within_its_quota(rt: HostRuntime) {
-    expect_quotas::<ByNode<u32>>(&rt, rt.alloc());
+    check(&rt, rt.alloc(), &Quotas);
 }
 
-fn expect_frame<T: Tables>(rt: &impl Abort, alloc: Global) {
-    let mut space = AllocatorOf::<T>::new(alloc, 100).expect(rt, "memory");
-    let mut count = Accesses::new();
-    assert_same(rt, &frame(&mut space, 40, &mut count), &Some(60));
-    assert_same(rt, &frame(&mut space, 97, &mut count), &None);
-    assert_same(rt, &space.storage_report().total_free_space, &100);
+struct Frames;
+
+impl Expectation for Frames {
+    fn check<T: Tables>(&self, rt: &impl Abort, alloc: Global) {
+        let mut space = AllocatorOf::<T>::new(alloc, 100).expect(rt, "memory");
+        let mut count = Accesses::new();
+        assert_same(rt, &frame(&mut space, 40, &mut count), &Some(60));
+        assert_same(rt, &frame(&mut space, 97, &mut count), &None);
+        assert_same(rt, &space.storage_report().total_free_space, &100);
+    }
 }
 
 #[test]
 fn a_frame_leaves_the_space_as_it_was(rt: HostRuntime) {
-    expect_frame::<ByNode<u32>>(&rt, rt.alloc());
-    expect_frame::<ByNode<u16>>(&rt, rt.alloc());
-    expect_frame::<ByNode<Tiny>>(&rt, rt.alloc());
+    check_each(&rt, rt.alloc(), &ALL, &Frames);
 }
 
 #[test]
@@ -461,21 +468,25 @@ fn both_widths_give_equal_answers(rt: HostRuntime) {
     }
 }
 
-fn expect_mesh<T: Tables>(rt: &impl Abort, alloc: Global) {
-    let mut vertices = made::<T>(rt, alloc, 100);
-    let mut indices = made::<T>(rt, alloc, 10);
-    assert_that(rt, insert(&mut vertices, &mut indices, 60, 20).is_none());
-    expect_free(rt, &vertices, 100);
-    let (first, second) = insert(&mut vertices, &mut indices, 60, 10).expect(rt, "room");
-    assert_same(rt, &first.offset, &0);
-    assert_same(rt, &second.offset, &0);
-    assert_that(rt, insert(&mut vertices, &mut indices, 1, 1).is_none());
-    expect_free(rt, &vertices, 40);
+struct Meshes;
+
+impl Expectation for Meshes {
+    fn check<T: Tables>(&self, rt: &impl Abort, alloc: Global) {
+        let mut vertices = made::<T>(rt, alloc, 100);
+        let mut indices = made::<T>(rt, alloc, 10);
+        assert_that(rt, insert(&mut vertices, &mut indices, 60, 20).is_none());
+        expect_free(rt, &vertices, 100);
+        let (first, second) = insert(&mut vertices, &mut indices, 60, 10).expect(rt, "room");
+        assert_same(rt, &first.offset, &0);
+        assert_same(rt, &second.offset, &0);
+        assert_that(rt, insert(&mut vertices, &mut indices, 1, 1).is_none());
+        expect_free(rt, &vertices, 40);
+    }
 }
 
 #[test]
 fn a_mesh_is_in_both_buffers_or_in_none(rt: HostRuntime) {
-    expect_mesh::<ByNode<u32>>(&rt, rt.alloc());
+    check(&rt, rt.alloc(), &Meshes);
 }
 
 // A space that four ranges of 24 units filled, and the second and the fourth, which stay live.
@@ -531,27 +542,31 @@ fn data_is_moved_with_its_range(rt: HostRuntime) {
 }
 
 // Where a range of the ring begins.
-fn taken(ring: &mut Ring, size: u32) -> Option<u32> {
+fn taken<T: Tables>(ring: &mut Ring<T>, size: u32) -> Option<u32> {
     Some(ring.take(size)?.offset)
 }
 
-fn new_ring(rt: &impl Abort, alloc: Global) -> Ring {
-    Ring {
-        even: made(rt, alloc, 100),
-        odd: made(rt, alloc, 100),
-        is_odd: false,
+struct Frame;
+
+impl Expectation for Frame {
+    fn check<T: Tables>(&self, rt: &impl Abort, alloc: Global) {
+        let mut ring = Ring {
+            even: made::<T>(rt, alloc, 100),
+            odd: made::<T>(rt, alloc, 100),
+            is_odd: false,
+        };
+        assert_that(rt, taken(&mut ring, 60).is_some());
+        ring.begin();
+        assert_that(rt, taken(&mut ring, 60).is_some());
+        assert_that(rt, taken(&mut ring, 60).is_none());
+        ring.begin();
+        assert_same(rt, &taken(&mut ring, 60), &Some(0));
     }
 }
 
 #[test]
 fn a_ring_frees_the_frame_before_the_last(rt: HostRuntime) {
-    let mut ring = new_ring(&rt, rt.alloc());
-    assert_that(&rt, taken(&mut ring, 60).is_some());
-    ring.begin();
-    assert_that(&rt, taken(&mut ring, 60).is_some());
-    assert_that(&rt, taken(&mut ring, 60).is_none());
-    ring.begin();
-    assert_same(&rt, &taken(&mut ring, 60), &Some(0));
+    check(&rt, rt.alloc(), &Frame);
 }
 
 // A space with this node limit.
@@ -580,14 +595,18 @@ fn expect_padding<T: Tables>(rt: &impl Abort, alloc: Global) {
     }
 }
 
-fn expect_units_and_padding<T: Tables>(rt: &impl Abort, alloc: Global) {
-    expect_units::<T>(rt, alloc);
-    expect_padding::<T>(rt, alloc);
+struct UnitsAndPadding;
+
+impl Expectation for UnitsAndPadding {
+    fn check<T: Tables>(&self, rt: &impl Abort, alloc: Global) {
+        expect_units::<T>(rt, alloc);
+        expect_padding::<T>(rt, alloc);
+    }
 }
 
 #[test]
 fn all_units_are_granted(rt: HostRuntime) {
-    expect_units_and_padding::<ByNode<u32>>(&rt, rt.alloc());
+    check(&rt, rt.alloc(), &UnitsAndPadding);
 }
 
 // A space with two ranges, the handle of the first one, and the name of the second one.
@@ -605,7 +624,7 @@ fn with_two<T: Tables>(
 }
 
 // With no clauses, so that each call has a short proof.
-fn is_freed(space: &mut Allocator, name: u32) -> bool {
+fn is_freed<T: Tables>(space: &mut AllocatorOf<T>, name: u32) -> bool {
     free_named(space, name)
 }
 
@@ -614,28 +633,40 @@ fn expect_only<T: Tables>(rt: &impl Abort, space: &AllocatorOf<T>, first: Alloca
     expect_free(rt, space, 90);
 }
 
-#[test]
-fn handles_come_back(rt: HostRuntime) {
-    let (mut space, first, name) = with_two::<ByNode<u32>>(&rt, rt.alloc());
-    assert_that(&rt, is_freed(&mut space, name));
-    assert_that(&rt, !is_freed(&mut space, name));
-    assert_that(&rt, !is_freed(&mut space, 4_294_967_295));
-    expect_only(&rt, &space, first);
+struct Returned;
+
+impl Expectation for Returned {
+    fn check<T: Tables>(&self, rt: &impl Abort, alloc: Global) {
+        let (mut space, first, name) = with_two::<T>(rt, alloc);
+        assert_that(rt, is_freed(&mut space, name));
+        assert_that(rt, !is_freed(&mut space, name));
+        assert_that(rt, !is_freed(&mut space, T::Index::MAX));
+        expect_only(rt, &space, first);
+    }
 }
 
-fn expect_slabs<T: Tables>(rt: &impl Abort, alloc: Global) {
-    let mut slabs = Vec::new(alloc);
-    for size in [10u32, 100] {
-        assert_that(rt, slabs.push(made::<T>(rt, alloc, size)).is_ok());
+#[test]
+fn handles_come_back(rt: HostRuntime) {
+    check(&rt, rt.alloc(), &Returned);
+}
+
+struct Slabs;
+
+impl Expectation for Slabs {
+    fn check<T: Tables>(&self, rt: &impl Abort, alloc: Global) {
+        let mut slabs = Vec::new(alloc);
+        for size in [10u32, 100] {
+            assert_that(rt, slabs.push(made::<T>(rt, alloc, size)).is_ok());
+        }
+        assert_that(rt, take_from(&mut slabs, 0, 50).is_none());
+        assert_that(rt, take_from(&mut slabs, 1, 50).is_some());
+        assert_that(rt, take_from(&mut slabs, 2, 5).is_none());
     }
-    assert_that(rt, take_from(&mut slabs, 0, 50).is_none());
-    assert_that(rt, take_from(&mut slabs, 1, 50).is_some());
-    assert_that(rt, take_from(&mut slabs, 2, 5).is_none());
 }
 
 #[test]
 fn spaces_are_in_a_vec(rt: HostRuntime) {
-    expect_slabs::<ByNode<u32>>(&rt, rt.alloc());
+    check(&rt, rt.alloc(), &Slabs);
 }
 
 // A space whose first 24 units and last 24 units are free, with a range between them.
@@ -647,45 +678,53 @@ fn with_a_middle<T: Tables>(rt: &impl Abort, alloc: Global) -> AllocatorOf<T> {
     space
 }
 
-// Where the place begins.
-fn packed(space: &mut Allocator, buffer: &mut [u32], size: u32) -> Result<u32, Refusal> {
-    match place_packed(space, buffer, size) {
-        Ok(range) => Ok(range.offset),
-        Err(why) => Err(why),
+// Where each place begins, of these sizes.
+fn packed(
+    alloc: Global,
+    space: &mut Allocator,
+    sizes: &[u32],
+) -> Result<Vec<Result<u32, Refusal>>, AllocError> {
+    let mut buffer = [7u32; 96];
+    let mut places = Vec::new(alloc);
+    for size in sizes {
+        let place = place_packed(space, &mut buffer, *size);
+        places.push(place.map(|range| range.offset))?;
     }
+    Ok(places)
 }
 
 #[test]
 fn a_packed_place_is_granted(rt: HostRuntime) {
     let mut space = with_a_middle::<ByNode<u32>>(&rt, rt.alloc());
-    let mut buffer = [7u32; 96];
-    for (size, why) in [(49, Refusal::Space), (97, Refusal::TooLarge)] {
-        let found = packed(&mut space, &mut buffer, size);
-        assert_same_at(&rt, &size, &found, &Err(why));
-    }
-    assert_same(&rt, &packed(&mut space, &mut buffer, 48), &Ok(48));
+    let found = packed(rt.alloc(), &mut space, &[49, 97, 48]).expect(&rt, "memory");
+    let wanted = [Err(Refusal::Space), Err(Refusal::TooLarge), Ok(48)];
+    assert_same(&rt, &found.as_slice(), &wanted.as_slice());
 }
 
-// The example of `docs/USING.md`.
-fn ten_lines_of<T: Tables>(rt: &impl Abort, alloc: Global) {
-    let mut vertices = made::<T>(rt, alloc, 1 << 20);
-    let report = vertices.storage_report();
-    assert_same(rt, &report.total_free_space, &1048576);
-    assert_same(rt, &report.largest_free_region, &1048576);
-    let mesh = vertices.allocate(3000).expect(rt, "room");
-    assert_same(rt, &mesh.offset, &0);
-    assert_same(rt, &vertices.allocation_size(mesh), &3000);
-    assert_same(rt, &vertices.refusal(1 << 20), &Some(Refusal::Space));
-    let aligned = vertices.allocate_aligned(100, 256).expect(rt, "room");
-    assert_same(rt, &(aligned.offset % 256), &0);
-    assert_that(rt, vertices.is_live(mesh));
-    vertices.free(mesh);
-    assert_that(rt, !vertices.is_live(mesh));
+struct TenLines;
+
+impl Expectation for TenLines {
+    // The example of `docs/USING.md`.
+    fn check<T: Tables>(&self, rt: &impl Abort, alloc: Global) {
+        let mut vertices = made::<T>(rt, alloc, 1 << 20);
+        let report = vertices.storage_report();
+        assert_same(rt, &report.total_free_space, &1048576);
+        assert_same(rt, &report.largest_free_region, &1048576);
+        let mesh = vertices.allocate(3000).expect(rt, "room");
+        assert_same(rt, &mesh.offset, &0);
+        assert_same(rt, &vertices.allocation_size(mesh), &3000);
+        assert_same(rt, &vertices.refusal(1 << 20), &Some(Refusal::Space));
+        let aligned = vertices.allocate_aligned(100, 256).expect(rt, "room");
+        assert_same(rt, &(aligned.offset % 256), &0);
+        assert_that(rt, vertices.is_live(mesh));
+        vertices.free(mesh);
+        assert_that(rt, !vertices.is_live(mesh));
+    }
 }
 
 #[test]
 fn ten_lines(rt: HostRuntime) {
-    ten_lines_of::<ByNode<u32>>(&rt, rt.alloc());
+    check(&rt, rt.alloc(), &TenLines);
 }
 
 fn put_used_units(text: &mut String, count: u32) -> Result<(), AllocError> {
@@ -695,18 +734,22 @@ fn put_used_units(text: &mut String, count: u32) -> Result<(), AllocError> {
     Ok(())
 }
 
-fn expect_dump<T: Tables>(rt: &impl Abort, alloc: Global) {
-    let mut heap = limited::<T>(rt, alloc, 4_000, 5_000);
-    for _ in 0..4_000u32 {
-        assert_that(rt, heap.allocate(1).is_some());
+struct Dumped;
+
+impl Expectation for Dumped {
+    fn check<T: Tables>(&self, rt: &impl Abort, alloc: Global) {
+        let mut heap = limited::<T>(rt, alloc, 4_000, 5_000);
+        for _ in 0..4_000u32 {
+            assert_that(rt, heap.allocate(1).is_some());
+        }
+        let mut wanted = String::new(alloc);
+        put_used_units(&mut wanted, 4_000).expect(rt, "memory");
+        let text = dump(&heap, alloc).expect(rt, "memory");
+        assert_that(rt, text == wanted);
     }
-    let mut wanted = String::new(alloc);
-    put_used_units(&mut wanted, 4_000).expect(rt, "memory");
-    let text = dump(&heap, alloc).expect(rt, "memory");
-    assert_that(rt, text == wanted);
 }
 
 #[test]
 fn a_dump_has_a_line_for_each_of_many_blocks(rt: HostRuntime) {
-    expect_dump::<ByNode<u32>>(&rt, rt.alloc());
+    check(&rt, rt.alloc(), &Dumped);
 }

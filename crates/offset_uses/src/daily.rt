@@ -236,16 +236,16 @@ pub fn granted_units<T: Tables>(space: &AllocatorOf<T>) -> Option<u32>
 
 /// Two spaces for the data of single frames: one is filled while the device reads the other.
 #[derive(Drop)]
-pub struct Ring {
+pub struct Ring<T: Tables> {
     /// The space of the even frames.
-    pub even: Allocator,
+    pub even: AllocatorOf<T>,
     /// The space of the odd frames.
-    pub odd: Allocator,
+    pub odd: AllocatorOf<T>,
     /// Whether the present frame is odd.
     pub is_odd: bool,
 }
 
-impl Ring {
+impl<T: Tables> Ring<T> {
     /// Begins a frame: it frees all ranges of two frames ago; those of the last frame stay live.
     pub fn begin(&mut self)
         ensures turn { self.new.is_odd ≡ not self.old.is_odd }
@@ -263,7 +263,7 @@ impl Ring {
     }
 
     /// Allocates a range that is live until the frame after the next one begins, or returns `None` where it is refused.
-    pub fn take(&mut self, size: u32) -> Option<Allocation>
+    pub fn take(&mut self, size: u32) -> Option<Allocation<T::Index>>
         ensures turn { self.new.is_odd ≡ self.old.is_odd }
         ensures odd { IsTrue self.old.is_odd
             → Allocates size self.old.odd self.new.odd result × (self.new.even ≡ self.old.even) }

@@ -9,7 +9,7 @@ ghost use Rattle.offset_allocator.specs.Relations.{Aligns, Allocates, Frees};
 ghost use Rattle.offset_uses.specs.Grants.{IsGrantOf};
 
 use crate::daily::{give_back, upload};
-use offset_allocator::{Allocation, Allocator, AllocatorOf, NodeIndex, Tables};
+use offset_allocator::{Allocation, AllocatorOf, NodeIndex, Tables};
 
 /// Allocates bytes at a multiple of 256, of a heap that counts in units of 256 bytes. It returns the handle and the
 /// first byte, or `None` where the request is refused; then no live range has changed.
@@ -77,8 +77,8 @@ pub fn restored<NI: NodeIndex>(mesh: Allocation<NI>) -> Allocation<NI>
 }
 
 /// Frees the range of a name that came from elsewhere, if it is live. It returns whether it was.
-pub fn free_named(space: &mut Allocator, name: u32) -> bool
-    ensures live { name < 4294967295 → (IsTrue result ↔ IsLive name space.old) }
+pub fn free_named<T: Tables>(space: &mut AllocatorOf<T>, name: u32) -> bool
+    ensures live { name < T.Index.MAX → (IsTrue result ↔ IsLive name space.old) }
     ensures freed { IsTrue result → Frees name space.old space.new }
     ensures same { result ≡ false → space.new ≡ space.old }
 {

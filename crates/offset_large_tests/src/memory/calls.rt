@@ -4,91 +4,12 @@ use super::attempts::{Attempt, Outcome, has, refused_if, right_if, take_all_but}
 use super::ladder::{FINE, expect_refusals};
 use crate::asserts::{assert_same, assert_that};
 use crate::layouts::{ALL, EACH, Expectation, Layout, check_at, check_each};
-use offset_allocator::laws::undo;
 use offset_allocator::{Allocation, AllocatorOf, NodeIndex, Tables};
 use offset_script::play_of;
-use offset_test_base::living::living_calls;
+use offset_test_base::mixed::mixed_calls;
 use std::alloc::{AllocError, Global};
 use std::marker::PhantomData;
 use std::process::Abort;
-
-// Larger than any offset of the space.
-const REFUSED: u32 = 100_000;
-
-const DEAD: u32 = 200_000;
-
-fn request<T: Tables>(
-    allocator: &mut AllocatorOf<T>,
-    kind: u32,
-    size: u32,
-) -> Option<Allocation<T::Index>> {
-    if kind % 2 == 0 {
-        allocator.allocate(size)
-    } else {
-        allocator.allocate_aligned(size, 8)
-    }
-}
-
-// Frees the kept handle, or makes a request where none is kept. It returns the size, the offset, or another number.
-fn grant_or_free<T: Tables>(
-    allocator: &mut AllocatorOf<T>,
-    kept: &mut Option<Allocation<T::Index>>,
-    kind: u32,
-    size: u32,
-) -> u32 {
-    match *kept {
-        None => {
-            *kept = request(allocator, kind, size);
-            match kept {
-                None => REFUSED,
-                Some(handle) => handle.offset,
-            }
-        }
-        Some(handle) => {
-            *kept = None;
-            if allocator.is_live(handle) {
-                let size = allocator.allocation_size(handle);
-                allocator.free(handle);
-                size
-            } else {
-                DEAD
-            }
-        }
-    }
-}
-
-fn report<T: Tables>(allocator: &AllocatorOf<T>, class: usize) -> u32 {
-    let short = allocator.storage_report();
-    let full = allocator.storage_report_full();
-    short
-        .total_free_space
-        .wrapping_mul(3)
-        .wrapping_add(short.largest_free_region)
-        .wrapping_mul(3)
-        .wrapping_add(full.free_regions[class % 256].count)
-}
-
-// Makes one call. It returns the result as a number.
-fn call<T: Tables>(
-    allocator: &mut AllocatorOf<T>,
-    kept: &mut Option<Allocation<T::Index>>,
-    kind: u32,
-    number: u32,
-) -> u32 {
-    match kind {
-        0..=9 => grant_or_free(allocator, kept, kind, number % 100),
-        10 => living_calls(allocator, *kept, number % 100),
-        11 | 12 => report(allocator, number as usize),
-        13 => u32::from(undo(allocator, number % 500)),
-        14 => u32::from(allocator.extend(number % 10)),
-        _ => {
-            if number % 8 == 0 {
-                allocator.reset();
-            }
-            0
-        }
-    }
-}
 
 // Makes 1,000 calls of every kind, and returns a checksum of their results. It keeps the handles in `kept`, which are
 // none at first.
@@ -97,17 +18,7 @@ fn checksum<T: Tables>(
     kept: &mut [Option<Allocation<T::Index>>],
 ) -> u64 {
     kept.fill(None);
-    let mut state = 1u64;
-    let mut sum = 0u64;
-    for _ in 0..1_000u32 {
-        state = state.wrapping_mul(1_103_515_245).wrapping_add(12_345) % 2_147_483_648;
-        let number = state / 65_536;
-        if let Some(kept) = kept.get_mut((number / 16 % 16) as usize) {
-            let answer = call(allocator, kept, (number % 16) as u32, (number / 256) as u32);
-            sum = sum.wrapping_mul(31).wrapping_add(u64::from(answer));
-        }
-    }
-    sum
+    mixed_calls(allocator, kept)
 }
 
 // A place for each of 16 handles.

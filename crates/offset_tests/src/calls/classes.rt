@@ -4,12 +4,13 @@ use super::steps::Limit::{Few, Limited};
 use super::steps::Step::Grants;
 use super::steps::expect;
 use crate::asserts::{assert_same, assert_same_at, assert_that};
+use crate::layouts::{Expectation, check};
 use offset_allocator::ext::min_allocator_size;
 use offset_allocator::small_float::{
     float_to_uint, uint_to_float_round_down, uint_to_float_round_up,
 };
 use offset_allocator::{
-    AllocatorOf, ByNode, NodeIndex, StorageReportFull, StorageReportFullRegion, Tables,
+    AllocatorOf, NodeIndex, StorageReportFull, StorageReportFullRegion, Tables,
 };
 use offset_test_base::groups::value_of;
 use std::alloc::Global;
@@ -125,9 +126,17 @@ fn expect_defaults(rt: &impl Abort) {
     }
 }
 
+struct Values;
+
+impl Expectation for Values {
+    fn check<T: Tables>(&self, rt: &impl Abort, alloc: Global) {
+        expect_values(rt, &full_report::<T>(rt, alloc));
+    }
+}
+
 #[test]
 fn reports_have_the_values_of_all_classes(rt: HostRuntime) {
-    expect_values(&rt, &full_report::<ByNode<u32>>(&rt, rt.alloc()));
+    check(&rt, rt.alloc(), &Values);
     expect_defaults(&rt);
 }
 

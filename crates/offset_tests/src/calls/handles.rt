@@ -4,7 +4,8 @@ use super::steps::Limit::{Few, Limited};
 use super::steps::Step::{Frees, FreesAltered, Gone, Grants, Lives};
 use super::steps::{Case, Step, expect_all, follow, make_allocator};
 use crate::asserts::{assert_same, assert_that};
-use offset_allocator::{Allocation, AllocatorOf, ByNode, Tables};
+use crate::layouts::{Expectation, Layout, check_each};
+use offset_allocator::{Allocation, AllocatorOf, Tables};
 use std::alloc::Global;
 use std::process::Abort;
 
@@ -87,23 +88,26 @@ fn count_live<T: Tables>(
     count
 }
 
-fn expect_foreign<T: Tables>(rt: &impl Abort, alloc: Global) {
-    let handles = of_another_space::<T>(rt, alloc);
-    let made = make_allocator::<T>(alloc, 64, Limited(4)).expect(rt, "memory");
-    let mut space = made.expect(rt, "a lawful limit");
-    assert_same(rt, &count_live(rt, &space, &handles, 0), &0);
-    follow(
-        rt,
-        alloc,
-        "a space with foreign handles",
-        &mut space,
-        &[Grants(5, 0)],
-    );
-    assert_that(rt, count_live(rt, &space, &handles, 5) <= 1);
+struct Foreign;
+
+impl Expectation for Foreign {
+    fn check<T: Tables>(&self, rt: &impl Abort, alloc: Global) {
+        let handles = of_another_space::<T>(rt, alloc);
+        let made = make_allocator::<T>(alloc, 64, Limited(4)).expect(rt, "memory");
+        let mut space = made.expect(rt, "a lawful limit");
+        assert_same(rt, &count_live(rt, &space, &handles, 0), &0);
+        follow(
+            rt,
+            alloc,
+            "a space with foreign handles",
+            &mut space,
+            &[Grants(5, 0)],
+        );
+        assert_that(rt, count_live(rt, &space, &handles, 5) <= 1);
+    }
 }
 
 #[test]
 fn handles_of_another_space(rt: HostRuntime) {
-    expect_foreign::<ByNode<u32>>(&rt, rt.alloc());
-    expect_foreign::<ByNode<u16>>(&rt, rt.alloc());
+    check_each(&rt, rt.alloc(), &[Layout::Wide, Layout::Narrow], &Foreign);
 }

@@ -247,11 +247,18 @@ where
     }
 }
 
+fn expect_ranges_and_moves<T: Tables>(rt: &impl Abort, alloc: Global)
+where
+    T::Index: Debug + PartialEq,
+{
+    many_ranges_have_names_and_are_counted::<T>(rt, alloc);
+    a_free_block_has_a_text::<T>(rt, alloc);
+    used_blocks_have_a_text_and_differ_in_each_field::<T>(rt, alloc);
+    a_move_has_a_text::<T>(rt, alloc);
+    moves_differ_in_each_field::<T>(rt, alloc);
+}
+
 #[test]
 fn ranges_and_moves(rt: HostRuntime) {
-    many_ranges_have_names_and_are_counted::<ByNode<u32>>(&rt, rt.alloc());
-    a_free_block_has_a_text::<ByNode<u32>>(&rt, rt.alloc());
-    used_blocks_have_a_text_and_differ_in_each_field::<ByNode<u32>>(&rt, rt.alloc());
-    a_move_has_a_text::<ByNode<u32>>(&rt, rt.alloc());
-    moves_differ_in_each_field::<ByNode<u32>>(&rt, rt.alloc());
+    expect_ranges_and_moves::<ByNode<u32>>(&rt, rt.alloc());
 }

@@ -1,14 +1,14 @@
 //! Calls on one allocator, as rows of a table.
 
 use crate::asserts::{assert_same_at, assert_that_at, text_of};
+use crate::layouts::{ALL, Expectation, check_each};
 use offset_allocator::laws::{
     allocation_offset_counted, next_block_counted, refusal_aligned_counted, refusal_counted, undo,
 };
 use offset_allocator::{
-    Accesses, Allocation, AllocatorOf, Block, ByNode, Move, NodeIndex, Refusal,
-    StorageReportFullRegion, Tables,
+    Accesses, Allocation, AllocatorOf, Block, Move, NodeIndex, Refusal, StorageReportFullRegion,
+    Tables,
 };
-use offset_test_base::tiny::Tiny;
 use std::alloc::{AllocError, Global};
 use std::process::Abort;
 
@@ -500,21 +500,30 @@ pub fn make_allocator<T: Tables>(
     }
 }
 
-// Makes the calls on a new allocator, if its index type admits it. It returns whether there were any.
-fn follow_by<T: Tables>(
-    rt: &impl Abort,
-    alloc: Global,
+// Calls on a new allocator.
+#[derive(Drop)]
+struct Calls<'a> {
     name: &'static str,
     size: u32,
     limit: Limit,
-    steps: &[Step],
-) -> bool {
-    match make_allocator::<T>(alloc, size, limit).expect(rt, "memory") {
-        None => false,
-        Some(mut allocator) => {
-            follow(rt, alloc, name, &mut allocator, steps);
-            !steps.is_empty()
+    steps: &'a [Step],
+}
+
+impl Expectation for Calls<'_> {
+    // The calls are made if the index type admits the limit.
+    fn check<T: Tables>(&self, rt: &impl Abort, alloc: Global) {
+        let made = make_allocator::<T>(alloc, self.size, self.limit).expect(rt, "memory");
+        if let Some(mut allocator) = made {
+            follow(rt, alloc, self.name, &mut allocator, self.steps);
         }
+    }
+}
+
+// Whether the widest index type admits the limit, or there is no limit.
+fn is_admitted(limit: Limit) -> bool {
+    match limit {
+        Limit::Limited(limit) => 2 <= limit && limit < u32::MAX - 1,
+        _ => true,
     }
 }
 
@@ -527,14 +536,18 @@ pub fn expect(
     limit: Limit,
     steps: &[Step],
 ) {
-    let wide = follow_by::<ByNode<u32>>(rt, alloc, name, size, limit, steps);
-    let narrow = follow_by::<ByNode<u16>>(rt, alloc, name, size, limit, steps);
-    let third = follow_by::<ByNode<Tiny>>(rt, alloc, name, size, limit, steps);
     assert_that_at(
         rt,
         &("no allocator, or no calls", name),
-        wide || narrow || third,
+        is_admitted(limit) && !steps.is_empty(),
     );
+    let calls = Calls {
+        name,
+        size,
+        limit,
+        steps,
+    };
+    check_each(rt, alloc, &ALL, &calls);
 }
 
 /// A new space, and calls on it.

@@ -4,11 +4,11 @@ use super::steps::Limit::{Few, Limited};
 use super::steps::Step::{Grants, Shows};
 use super::steps::{Case, expect_all, make_allocator};
 use crate::asserts::{assert_text, assert_that, text_of};
+use crate::layouts::{ALL, Expectation, check_each};
 use offset_allocator::{
-    ByNode, NonMaxU16, NonMaxU32, Refusal, StorageReport, StorageReportFull,
-    StorageReportFullRegion, Tables,
+    NonMaxU16, NonMaxU32, Refusal, StorageReport, StorageReportFull, StorageReportFullRegion,
+    Tables,
 };
-use offset_test_base::tiny::Tiny;
 use std::alloc::{AllocError, Global};
 use std::process::Abort;
 
@@ -101,32 +101,34 @@ fn names_and_reasons_have_a_text(rt: HostRuntime) {
     }
 }
 
-// Of two ranges of one allocator. The text has the offset and the node index, which is one of three.
-fn expect_handles<T: Tables>(rt: &impl Abort, alloc: Global) {
-    let made = make_allocator::<T>(alloc, 17, Limited(4)).expect(rt, "memory");
-    let mut space = made.expect(rt, "a lawful limit");
-    let first = space.allocate(5).expect(rt, "room");
-    let second = space.allocate(6).expect(rt, "room");
-    let text = text_of(rt, alloc, &second);
-    let mut found = false;
-    for wanted in [
-        "Allocation { offset: 5, metadata: 0 }",
-        "Allocation { offset: 5, metadata: 1 }",
-        "Allocation { offset: 5, metadata: 2 }",
-        "Allocation { offset: 5, metadata: 3 }",
-    ] {
-        found = found || text.as_str() == wanted;
+struct Handles;
+
+impl Expectation for Handles {
+    // Of two ranges of one allocator. The text has the offset and the node index, which is one of three.
+    fn check<T: Tables>(&self, rt: &impl Abort, alloc: Global) {
+        let made = make_allocator::<T>(alloc, 17, Limited(4)).expect(rt, "memory");
+        let mut space = made.expect(rt, "a lawful limit");
+        let first = space.allocate(5).expect(rt, "room");
+        let second = space.allocate(6).expect(rt, "room");
+        let text = text_of(rt, alloc, &second);
+        let mut found = false;
+        for wanted in [
+            "Allocation { offset: 5, metadata: 0 }",
+            "Allocation { offset: 5, metadata: 1 }",
+            "Allocation { offset: 5, metadata: 2 }",
+            "Allocation { offset: 5, metadata: 3 }",
+        ] {
+            found = found || text.as_str() == wanted;
+        }
+        assert_that(rt, found);
+        let mut moved = first;
+        assert_that(rt, first == moved && first != second);
+        moved.offset = 5;
+        assert_that(rt, first != moved && second != moved);
     }
-    assert_that(rt, found);
-    let mut moved = first;
-    assert_that(rt, first == moved && first != second);
-    moved.offset = 5;
-    assert_that(rt, first != moved && second != moved);
 }
 
 #[test]
 fn handles_have_a_text_and_are_compared(rt: HostRuntime) {
-    expect_handles::<ByNode<u32>>(&rt, rt.alloc());
-    expect_handles::<ByNode<u16>>(&rt, rt.alloc());
-    expect_handles::<ByNode<Tiny>>(&rt, rt.alloc());
+    check_each(&rt, rt.alloc(), &ALL, &Handles);
 }

@@ -1,7 +1,8 @@
 //! Tickets that are stale, freed twice, altered or of another space.
 
 use crate::asserts::{assert_same, assert_that};
-use offset_allocator::{ByNode, Move, NodeIndex, Tables};
+use crate::layouts::{Expectation, Layout, check_each};
+use offset_allocator::{Move, NodeIndex, Tables};
 use offset_guarded::{GuardedOf, Refusal, Ticket};
 use std::alloc::Global;
 use std::process::Abort;
@@ -154,6 +155,9 @@ fn requests_that_are_refused<T: Tables>(rt: &impl Abort, alloc: Global) {
     assert_that(rt, full.allocate(1).is_none());
     assert_same(rt, &full.refusal(1), &why);
     assert_same(rt, &full.refusal_aligned(1, 4), &why);
+}
+
+fn requests_that_are_granted<T: Tables>(rt: &impl Abort, alloc: Global) {
     let space = make::<T>(rt, alloc, 64, 0);
     assert_same(rt, &space.refusal(64), &None);
     assert_same(rt, &space.refusal_aligned(1, 4), &None);
@@ -170,17 +174,21 @@ fn nodes_that_are_made<T: Tables>(rt: &impl Abort, alloc: Global) {
     assert_that(rt, 9 <= nodes && nodes <= 10);
 }
 
-fn expect_tickets<T: Tables>(rt: &impl Abort, alloc: Global) {
-    stale_or_altered::<T>(rt, alloc);
-    of_another_space::<T>(rt, alloc);
-    of_ranges_that_change::<T>(rt, alloc);
-    of_a_walk::<T>(rt, alloc);
-    requests_that_are_refused::<T>(rt, alloc);
-    nodes_that_are_made::<T>(rt, alloc);
+struct Guards;
+
+impl Expectation for Guards {
+    fn check<T: Tables>(&self, rt: &impl Abort, alloc: Global) {
+        stale_or_altered::<T>(rt, alloc);
+        of_another_space::<T>(rt, alloc);
+        of_ranges_that_change::<T>(rt, alloc);
+        of_a_walk::<T>(rt, alloc);
+        requests_that_are_refused::<T>(rt, alloc);
+        requests_that_are_granted::<T>(rt, alloc);
+        nodes_that_are_made::<T>(rt, alloc);
+    }
 }
 
 #[test]
 fn tickets(rt: HostRuntime) {
-    expect_tickets::<ByNode<u32>>(&rt, rt.alloc());
-    expect_tickets::<ByNode<u16>>(&rt, rt.alloc());
+    check_each(&rt, rt.alloc(), &[Layout::Wide, Layout::Narrow], &Guards);
 }

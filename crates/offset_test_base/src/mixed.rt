@@ -1,5 +1,6 @@
 //! Calls of every kind on one allocator.
 
+use crate::living::living_calls;
 use offset_allocator::laws::{
     allocation_size_counted, is_live_counted, storage_report_counted, storage_report_full_counted,
     undo,
@@ -7,19 +8,6 @@ use offset_allocator::laws::{
 use offset_allocator::{
     Accesses, Allocation, AllocatorOf, StorageReport, StorageReportFull, Tables,
 };
-use offset_test_base::living::living_calls;
-
-fn request_aligned<T: Tables>(
-    allocator: &mut AllocatorOf<T>,
-    size: u32,
-    align: u32,
-) -> Option<Allocation<T::Index>> {
-    if align.is_power_of_two() {
-        allocator.allocate_aligned(size, align)
-    } else {
-        None
-    }
-}
 
 // Larger than any offset of the spaces here.
 const NONE: u32 = 100_000;
@@ -53,7 +41,7 @@ fn grant_or_release<T: Tables>(
             *kept = if kind % 2 == 0 {
                 allocator.allocate(size)
             } else {
-                request_aligned(allocator, size, 8)
+                allocator.allocate_aligned(size, 8)
             };
             match *kept {
                 None => NONE,
