@@ -28,7 +28,6 @@ class Edit:
         self.label = f"{crate}/{self.name}"
         self.lines = path.read_text(encoding="utf-8").split("\n")
         self.sentence = self.lines[0].removeprefix("# ")
-        self.where = "gate" if is_in_gate else "`mutants/run`"
 
     def texts(self):
         """The texts of the files that the edit changes, by their paths in the crate."""
@@ -83,14 +82,18 @@ def every():
 
 
 def table(edits):
-    """The tables of the document: one for each crate."""
+    """A table for each crate, of these edits."""
     lines = []
     for crate in dict.fromkeys(it.crate for it in edits):
         rows = [it for it in edits if it.crate == crate]
-        gate = sum(it.is_in_gate for it in rows)
-        lines += [f"### `{crate}`: {len(rows)}, of which the gate tries {gate}", "", "| Wrong body | Edit | Tried by |"]
-        lines += ["|---|---|---|", *(f"| {it.sentence} | `{it.name}` | {it.where} |" for it in rows), ""]
+        lines += [f"### `{crate}`: {len(rows)}", "", "| Wrong body | Edit |", "|---|---|"]
+        lines += [*(f"| {it.sentence} | `{it.name}` |" for it in rows), ""]
     return lines
+
+
+def gate_tables(edits):
+    """The tables of the document: the edits that the gate tries."""
+    return table([it for it in edits if it.is_in_gate])
 
 
 def halves():
@@ -114,7 +117,7 @@ def problems(edits):
                 found.append(f"{it.relative_to(TOP)}: the name of an edit has letters, digits and _, and ends in .edit")
     labels = [it.label for it in edits]
     found += [f"{it}: two edits have this name" for it in sorted({it for it in labels if labels.count(it) > 1})]
-    for line in difflib.ndiff(halves()[1], ["", *table(edits)]):
+    for line in difflib.ndiff(halves()[1], ["", *gate_tables(edits)]):
         if line[:1] in "+-" and line[2:].strip():
             found.append(f"{DOCUMENT.name}: {'missing' if line[0] == '+' else 'not of an edit'}: {line[2:]}")
     return found
