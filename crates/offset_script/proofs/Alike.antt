@@ -1,21 +1,14 @@
 -- Two states that differ only in numbers, and in stamps of the same order in each class, return the same answers.
-use Rattle.std.proofs.Common.{◌≡◌, ℕ, zero, suc, ◌+◌, ◌-◌, ◌*◌, ◌<◌, ◌≤◌, true, ◌⊎◌, List, [], ◌∷◌, ◌++◌, map, Option, None, nat_eq, nat_lt, refl, sym}
-use Rattle.std.proofs.Common.{ap, ap₂, subst, subst₂}
-use Rattle.std.proofs.Common.{⊎_elim, ◌∙◌, inl, inr, arith, lt-ltb, le-ltb, sum}
-use Rattle.offset_script.specs.declared.scripts.Command.{Command}
-use Rattle.offset_script.specs.declared.scripts.Command.TheVariants as command
-use Rattle.offset_script.specs.Machine.{Free, Block, block, has_number, total, Place, fits, chosen_place, place_of, coalesce, State, Answer, Outcome, step, answers, after, request, grant}
-use Rattle.offset_script.specs.Machine.{grant_or_refuse, returns_only, leaves, release, size_at, report, reset, extend, stamp_of_call}
-use Rattle.offset_allocator.specs.View.{padding_to}
-use Rattle.offset_script.specs.Machine as machine
-use Rattle.offset_allocator.specs.Reports.{rows_below}
+use Rattle.offset_script.proofs.Common.{◌≡◌, ℕ, zero, suc, ◌+◌, ◌-◌, ◌*◌, ◌<◌, ◌≤◌, true, ◌⊎◌, List, [], ◌∷◌, ◌++◌, map, Option, None, nat_eq, nat_lt, refl, sym, ap, ap₂, subst, subst₂, ⊎_elim, ◌∙◌}
+use Rattle.offset_script.proofs.Common.{inl, inr, arith, lt-ltb, le-ltb, sum, Command, Free, Block, block, has_number, total, Place, fits, chosen_place, place_of, coalesce, State, Answer, Outcome}
+use Rattle.offset_script.proofs.Common.{step, answers, after, request, grant, grant_or_refuse, returns_only, leaves, release, size_at, report, reset, extend, stamp_of_call, padding_to, rows_below}
+use Rattle.offset_script.proofs.Common.{cases_lt, nat_tests, renumber, raise_number}
 use Rattle.offset_script.proofs.Members.{IsIn, in_left, in_right}
 use Rattle.offset_script.proofs.Pairs.{Kind, Lives, Frees, Pair, pair, left_tag, right_tag, left, right, lefts, rights, AreAgreed, AreAllAgreed, IsSameOrder, IsSamePlace, neither, both, same_total}
 use Rattle.offset_script.proofs.Pairs.{same_short, same_units, same_free_sizes, same_refusal, both_coalesced, same_place_of, same_chosen, pairs_granted, in_granted, lefts_granted, rights_granted}
-use Rattle.std.proofs.lemmas.Bool.{cases_lt}
-use Rattle.std.proofs.lemmas.Bool.Decides.{nat_tests}
-use Rattle.offset_script.specs.Histories.{renumber, raise_number}
 use Rattle.offset_script.proofs.Tests.{if_same}
+use Rattle.offset_script.specs.declared.scripts.Command.TheVariants as command
+use Rattle.offset_script.specs.Machine as machine
 
 -- Numbers are changed by r, and stamps are below x and below y.
 abbrev pub IsMatched : (ℕ → ℕ) → ℕ → ℕ → Kind → Type 0

@@ -1,13 +1,9 @@
 -- A question leaves no trace.
-use Rattle.std.proofs.Common.{◌≡◌, ℕ, ◌-◌, ◌≤◌, List, [], ◌∷◌, ◌++◌, map, refl, ap, subst, ◌∙◌, arith}
-use Rattle.offset_script.specs.declared.scripts.Command.{Command}
+use Rattle.offset_script.proofs.Common.{◌≡◌, ℕ, ◌-◌, ◌≤◌, List, [], ◌∷◌, ◌++◌, map, refl, ap, subst, ◌∙◌, arith, Command, State, start, step, answers, after, is_short_of, place_of, renumber}
+use Rattle.offset_script.proofs.Common.{raise_number, number_without, KeepsSpace, IsQuestion}
+use Rattle.offset_script.proofs.{Members.map_same, Fresh.raise_none, Fresh.renumber_same, Nests.IsQuiet, Nests.quiet_size, Nests.quiet_report, Nests.number_without_none, Nests.nest_law}
 use Rattle.offset_script.specs.declared.scripts.Command.TheVariants as command
-use Rattle.offset_script.specs.Machine.{State, start, step, answers, after, is_short_of, place_of}
-use Rattle.offset_script.specs.Histories.{renumber, raise_number, number_without, KeepsSpace, IsQuestion}
 use Rattle.offset_script.specs.Histories as history
-use Rattle.offset_script.proofs.Members.{map_same}
-use Rattle.offset_script.proofs.Fresh.{raise_none, renumber_same}
-use Rattle.offset_script.proofs.Nests.{IsQuiet, quiet_size, quiet_report, number_without_none, nest_law}
 
 as_before : (g : ℕ) (cs : List Command) (s : State) (j : ℕ) → j ≡ 0 → map (raise_number j) (answers (map (renumber (number_without g j)) cs) s) ≡ answers cs s
 as_before g cs s j e = rw e (map_same (raise_number 0) raise_none _ ∙ ap (λ l. answers l s) (map_same (renumber (number_without g 0)) (renumber_same _ (number_without_none g)) cs))

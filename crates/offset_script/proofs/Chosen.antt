@@ -1,21 +1,12 @@
 -- The plain machine chooses the block that a grant splits: the newest of the smallest class that fits.
-use Rattle.std.proofs.Common.{◌≡◌, ◌≢◌, ℕ, ◌<◌, ◌≤◌, true, false, not, List, [], ◌∷◌, ◌++◌, Option, Some, None, nat_eq, nat_lt, nat_le, refl, sym, ap, ap₂, subst}
-use Rattle.std.proofs.Common.{◌∙◌, inl, inr, arith, eq-eqb}
-use Rattle.std.proofs.Common.{le-leb, lt-ltb, leb-true}
-use Rattle.offset_script.proofs.Tests.{same_some}
-use Rattle.std.proofs.lemmas.List.{map-append}
-use Rattle.std.proofs.lemmas.Bool.{cases_eq, cases_lt, true≢false, and_parts, not-false, or_right}
-use Rattle.offset_allocator.specs.Classes.{up, down}
-use Rattle.offset_script.specs.Machine.{is_free, stamp, fits, is_taken_before, chosen_place}
-use Rattle.offset_script.specs.Machine as plain
-use Rattle.offset_allocator.specs.View.{Block, View, Place, Grant, place_of, one, times, count_named, bin_at, IsWellFormed}
-use Rattle.offset_allocator.specs.Relations.{Splits}
+use Rattle.offset_script.proofs.Common.{◌≡◌, ◌≢◌, ℕ, ◌<◌, ◌≤◌, true, false, not, List, [], ◌∷◌, ◌++◌, Option, Some, None, nat_eq, nat_lt, nat_le, refl, sym, ap, ap₂, subst, ◌∙◌, inl, inr, arith}
+use Rattle.offset_script.proofs.Common.{eq-eqb, le-leb, lt-ltb, leb-true, map-append, cases_eq, cases_lt, true≢false, and_parts, not-false, or_right, up, down, is_free, stamp, fits, is_taken_before}
+use Rattle.offset_script.proofs.Common.{chosen_place, View, Grant, one, times, count_named, bin_at, IsWellFormed, Splits}
 use Rattle.offset_script.proofs.Agreement.{Label, by_name, by_tag, stamp_of, IsFalling}
-use Rattle.offset_script.proofs.Found.{chosen_at, not_chosen}
-use Rattle.offset_allocator.proofs.ViewSteps.{place_here}
-use Rattle.offset_script.proofs.Members.{IsIn, in_right, map_split}
-use Rattle.offset_script.proofs.Labels.{names, tags, gives_parts, gives_all}
-use Rattle.offset_allocator.proofs.Tallies.{tally_append, hit_cases, one-same}
+use Rattle.offset_script.proofs.{Tests.same_some, Found.chosen_at, Found.not_chosen, Members.IsIn, Members.in_right, Members.map_split, Labels.names, Labels.tags, Labels.gives_parts, Labels.gives_all}
+use Rattle.offset_allocator.specs.View.{Block, Place, place_of}
+use Rattle.offset_allocator.proofs.{ViewSteps.place_here, Tallies.tally_append, Tallies.hit_cases, Tallies.one-same}
+use Rattle.offset_script.specs.Machine as plain
 
 -- a list of labels, split at one
 pub record Spot : Type 0 where

@@ -1,25 +1,15 @@
 -- Releases in a row leave the same space in any order.
-use Rattle.std.proofs.Common.{◌≡◌, ℕ, zero, suc, ◌+◌, Bool, true, false, ◌&&◌, ◌||◌, ◌≤◌, List, [], ◌∷◌, ◌++◌, sum, Option, Some, None, is_some, nat_eq, nat_lt}
-use Rattle.std.proofs.Common.{nat_le, if◌then◌else◌, refl, sym}
-use Rattle.std.proofs.Common.{ap, ap₂, subst, subst₂, ◌∙◌, arith, eq-eqb, eqb-true, append_assoc}
-use Rattle.std.proofs.lemmas.List.{map-append}
-use Rattle.std.proofs.lemmas.Bool.{true≢false, false≢true, false_from_ne_true}
-use Rattle.offset_script.specs.declared.scripts.Command.{Command}
-use Rattle.offset_script.specs.declared.scripts.Command.TheVariants as command
-use Rattle.offset_allocator.specs.Reports.{rows_below}
-use Rattle.offset_script.specs.Machine.{Tag, Live, Free, Block, block, is_free, has_number, total, Place, here, fits, choose, chosen_place, place_of, coalesce}
-use Rattle.offset_script.specs.Machine.{State, start, step, after, request, grant_or_refuse, release, size_at, stamp_of_call}
-use Rattle.offset_script.specs.Machine as machine
-use Rattle.offset_script.specs.Histories.{holder, outline, widen, collapse, without_offset, releases, IsCollapse}
-use Rattle.std.specs.List.{list_any}
-use Rattle.std.specs.Option.{option_map_or}
+use Rattle.offset_script.proofs.Common.{◌≡◌, ℕ, zero, suc, ◌+◌, Bool, true, false, ◌&&◌, ◌||◌, ◌≤◌, List, [], ◌∷◌, ◌++◌, sum, Option, Some, None, is_some, nat_eq, nat_lt, nat_le, if◌then◌else◌, refl}
+use Rattle.offset_script.proofs.Common.{sym, ap, ap₂, subst, subst₂, ◌∙◌, arith, eq-eqb, eqb-true, append_assoc, map-append, true≢false, false≢true, false_from_ne_true, Command, rows_below, Tag, Live}
+use Rattle.offset_script.proofs.Common.{Free, Block, block, is_free, has_number, total, Place, here, fits, choose, chosen_place, place_of, coalesce, State, start, step, after, request}
+use Rattle.offset_script.proofs.Common.{grant_or_refuse, release, size_at, stamp_of_call, holder, outline, widen, collapse, without_offset, releases, IsCollapse, list_any, option_map_or}
 use Rattle.offset_script.proofs.Pairs.{Kind, Lives, Frees, Pair, left_tag, right_tag, left, right, lefts, rights, same_free, same_short, same_free_sizes, same_refusal, IsSamePlace, neither, both}
 use Rattle.offset_script.proofs.Pairs.{same_place_of}
 use Rattle.offset_script.proofs.Lists.{AreFree, coalesced, apart_coalesce, count_coalesce, count, hit, hit_self, number_of, count-append, starts_free, AreApart, apart_parts}
-use Rattle.offset_script.proofs.Found.{found_at, not_found}
 use Rattle.offset_script.proofs.Well.{IsWell, well_start, well_after, well_step}
-use Rattle.offset_script.proofs.Similar.{HasSameNumber, ArePaired, paired}
-use Rattle.offset_script.proofs.Tests.{if_same}
+use Rattle.offset_script.proofs.{Found.found_at, Found.not_found, Similar.HasSameNumber, Similar.ArePaired, Similar.paired, Tests.if_same}
+use Rattle.offset_script.specs.declared.scripts.Command.TheVariants as command
+use Rattle.offset_script.specs.Machine as machine
 
 -- sizes, and the numbers of live blocks
 abbrev Outline : Type 0

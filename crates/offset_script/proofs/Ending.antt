@@ -1,18 +1,11 @@
 -- How a run ends.
-use Rattle.std.proofs.Common.{◌≡◌, ℕ, zero, suc, ◌-◌, ◌<◌, ◌⊎◌, inl, inr, false, List, [], ◌∷◌, ◌++◌, length, take, drop, get_or, refl, Option, Some, None, Ok, Err}
-use Rattle.std.proofs.Common.{sym, ap, ◌∙◌, append_assoc, arith}
-use Rattle.std.proofs.Common.{take-append-drop, IfSome, flat_map}
-use Rattle.std.specs.Io.KnownBytes.{Appends}
+use Rattle.offset_script.proofs.Common.{◌≡◌, ℕ, zero, suc, ◌-◌, ◌<◌, ◌⊎◌, inl, inr, false, List, [], ◌∷◌, ◌++◌, length, take, drop, get_or, refl, Option, Some, None, Ok, Err, sym, ap, ◌∙◌}
+use Rattle.offset_script.proofs.Common.{append_assoc, arith, take-append-drop, IfSome, flat_map, Appends, cases_lt, append-nil, take_rest, length-append, drop_at, drop_all, meaning_of}
 use Rattle.std.proofs.KnownBytes.{Appends-trans}
-use Rattle.std.proofs.lemmas.Bool.{cases_lt}
-use Rattle.std.proofs.lemmas.List.{append-nil, take_rest, length-append, drop_at, drop_all}
-use Rattle.offset_script.specs.declared.faults.ScriptFault.{ScriptFault}
-use Rattle.offset_script.specs.declared.faults.ScriptFault.TheVariants as scripts
-use Rattle.offset_script.specs.declared.scripts.Script.{Script}
-use Rattle.offset_script.specs.Faults.{as_run_fault}
-use Rattle.offset_script.specs.Grammar.{meaning_of}
 use Rattle.offset_script.specs.Running.{view, IsParsed, IsScriptOf, HasText, Sends}
+use Rattle.offset_script.specs.{declared.faults.ScriptFault.ScriptFault, declared.scripts.Script.Script, Faults.as_run_fault}
 use Rattle.offset_script.proofs.Meaning.{is_too_long}
+use Rattle.offset_script.specs.declared.faults.ScriptFault.TheVariants as scripts
 
 -- a longer beginning
 pub more_parts : (text front rest : List ℕ) (n : ℕ) → text ≡ front ++ rest → text ≡ (front ++ take n rest) ++ take (length rest - n) (drop n rest)

@@ -1,18 +1,10 @@
 -- Labels by names and by tags: what is free, sums, and the names of grants.
-use Rattle.std.proofs.Common.{◌≡◌, ℕ, ◌+◌, ◌≤◌, true, false, not, ◌&&◌, List, [], ◌∷◌, ◌++◌, length, Option, Some, None, if◌then◌else◌, refl, ap, subst, subst₂}
-use Rattle.std.proofs.Common.{◌∙◌, arith}
-use Rattle.std.specs.Option.{option_or}
-use Rattle.std.proofs.lemmas.Bool.{false≢true, not-false}
-use Rattle.offset_script.specs.Machine.{Tag, Live, Free, is_free, has_number, total}
+use Rattle.offset_script.proofs.Common.{◌≡◌, ℕ, ◌+◌, ◌≤◌, true, false, not, ◌&&◌, List, [], ◌∷◌, ◌++◌, length, Option, Some, None, if◌then◌else◌, refl, ap, subst, subst₂, ◌∙◌, arith, option_or}
+use Rattle.offset_script.proofs.Common.{false≢true, not-false, Tag, Live, Free, is_free, has_number, total, units, AllByRecursion}
+use Rattle.offset_script.proofs.{Agreement.Label, Agreement.name_of, Lists.count, Lists.hit_number, Labels.names, Labels.tags, Tests.not_not}
 use Rattle.offset_script.specs.Machine as plain
 use Rattle.offset_allocator.specs.View as named
-use Rattle.offset_allocator.specs.View.{units}
-use Rattle.offset_script.proofs.Agreement.{Label, name_of}
-use Rattle.offset_script.proofs.Lists.{count, hit_number}
 use Rattle.offset_script.proofs.Lists as lists
-use Rattle.offset_script.proofs.Labels.{names, tags}
-use Rattle.std.specs.List.{AllByRecursion}
-use Rattle.offset_script.proofs.Tests.{not_not}
 
 -- all of these are free
 abbrev pub AreFree : List Label → Type 0

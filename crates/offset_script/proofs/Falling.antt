@@ -1,12 +1,9 @@
 -- Bins whose stamps fall, as names are pushed and removed.
-use Rattle.std.proofs.Common.{◌≡◌, ◌≢◌, ℕ, ◌+◌, ◌<◌, ◌≤◌, true, false, not, cond, ◌&&◌, List, [], ◌∷◌, length, nat_eq, if◌then◌else◌, refl, ◌∙◌, inl}
-use Rattle.std.proofs.Common.{inr, arith, ne_eqb}
-use Rattle.std.proofs.lemmas.Bool.{cases_eq, cond_both}
-use Rattle.offset_allocator.specs.Classes.{down}
-use Rattle.offset_allocator.specs.View.{Block, one, times, bin_at, push, without, remove, push_all, remove_all}
-use Rattle.offset_allocator.proofs.Classes.{down_small}
-use Rattle.offset_allocator.proofs.Tallies.{hit_cases}
+use Rattle.offset_script.proofs.Common.{◌≡◌, ◌≢◌, ℕ, ◌+◌, ◌<◌, ◌≤◌, true, false, not, cond, ◌&&◌, List, [], ◌∷◌, length, nat_eq, if◌then◌else◌, refl, ◌∙◌, inl, inr, arith, ne_eqb, cases_eq, cond_both}
+use Rattle.offset_script.proofs.Common.{down, one, times, bin_at, push, without, remove, push_all, remove_all}
+use Rattle.offset_allocator.specs.View.{Block}
 use Rattle.offset_allocator.proofs.ViewOrders.{names_same, names_other, length_put, length_remove, times_without_le, hit, times_put}
+use Rattle.offset_allocator.proofs.{Classes.down_small, Tallies.hit_cases}
 use Rattle.offset_script.proofs.Agreement.{IsFalling}
 
 -- a list without a name

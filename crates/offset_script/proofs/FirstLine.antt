@@ -1,11 +1,7 @@
 -- The first line of a text, and the lines after it.
-use Rattle.std.proofs.Common.{◌≡◌, ℕ, suc, ◌+◌, Bool, true, false, cond, not, eqb, List, [], ◌∷◌, length, Option, Some, None, refl, ap, arith}
-use Rattle.std.specs.Option.{option_map_or}
-use Rattle.std.specs.List.{slice_split, onto_first, filter}
-use Rattle.std.proofs.lemmas.List.Splits.{length-slice_split}
-use Rattle.std.proofs.lemmas.Bool.Decides.{nat_tests}
-use Rattle.std.proofs.lemmas.List.{nil_from_length}
-use Rattle.offset_script.specs.Grammar.{parts, lines_of, is_skipped, Line, numbered_from, significant_from, line_ends, command_of_words, header_of_words}
+use Rattle.offset_script.proofs.Common.{◌≡◌, ℕ, suc, ◌+◌, Bool, true, false, cond, not, eqb, List, [], ◌∷◌, length, Option, Some, None, refl, ap, arith, option_map_or, slice_split, onto_first, filter}
+use Rattle.offset_script.proofs.Common.{length-slice_split, nat_tests, nil_from_length, parts, lines_of, is_skipped, Line, numbered_from, significant_from, line_ends, command_of_words}
+use Rattle.offset_script.proofs.Common.{header_of_words}
 
 abbrev pub rest_of : Option (List ℕ) → List ℕ
 rest_of None = []

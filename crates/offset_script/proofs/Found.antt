@@ -1,14 +1,9 @@
 -- The places that are found for the number of a grant, and chosen for a request.
-use Rattle.std.proofs.Common.{◌≡◌, ℕ, Bool, true, false, ◌&&◌, ◌||◌, List, [], ◌∷◌, ◌++◌, Option, Some, None, option_map, nat_eq, nat_lt, if◌then◌else◌, refl, sym, ap}
-use Rattle.std.proofs.Common.{subst, ◌∙◌, inl, inr, arith}
+use Rattle.offset_script.proofs.Common.{◌≡◌, ℕ, Bool, true, false, ◌&&◌, ◌||◌, List, [], ◌∷◌, ◌++◌, Option, Some, None, option_map, nat_eq, nat_lt, if◌then◌else◌, refl, sym, ap, subst, ◌∙◌, inl, inr}
+use Rattle.offset_script.proofs.Common.{arith, true≢false, and_parts, nat_tests, down, one, Tag, Live, Free, Block, has_number, stamp, Place, here, prepend, fits, is_taken_before, choose}
+use Rattle.offset_script.proofs.Common.{chosen_place, place_of}
 use Rattle.offset_allocator.proofs.ViewApart.{right_false}
-use Rattle.std.proofs.lemmas.Bool.{true≢false, and_parts}
-use Rattle.std.proofs.lemmas.Bool.Decides.{nat_tests}
-use Rattle.offset_allocator.specs.Classes.{down}
-use Rattle.offset_allocator.specs.View.{one}
-use Rattle.offset_script.specs.Machine.{Tag, Live, Free, Block, has_number, stamp, Place, here, prepend, fits, is_taken_before, choose, chosen_place, place_of}
-use Rattle.offset_script.proofs.Members.{IsIn}
-use Rattle.offset_script.proofs.Lists.{hit, count, whole, hit_number}
+use Rattle.offset_script.proofs.{Members.IsIn, Lists.hit, Lists.count, Lists.whole, Lists.hit_number}
 
 -- what is found
 abbrev IsFoundAt : ℕ → List Block → Option Place → Type 0

@@ -1,20 +1,11 @@
 -- A state without live blocks continues as a fresh one, and a fresh one that is extended as a larger one.
-use Rattle.std.proofs.Common.{◌≡◌, ℕ, zero, suc, ◌+◌, ◌-◌, ◌*◌, ◌<◌, ◌≤◌, false, List, [], ◌∷◌, length, IsTrue, nat_lt, refl, sym, ap, ap₂, subst, subst₂}
-use Rattle.std.proofs.Common.{le-ltb, ◌∙◌, inl, inr, arith}
-use Rattle.std.proofs.lemmas.Bool.{true≢false}
-use Rattle.std.specs.List.{AllByRecursion}
-use Rattle.offset_allocator.specs.View.{max_size}
-use Rattle.offset_script.specs.Machine.{Tag, Live, Free, Block, block, is_free, total, State, Answer, start, step, answers, after}
-use Rattle.offset_script.specs.declared.scripts.Command.{Command}
+use Rattle.offset_script.proofs.Common.{◌≡◌, ℕ, zero, suc, ◌+◌, ◌-◌, ◌*◌, ◌<◌, ◌≤◌, false, List, [], ◌∷◌, length, IsTrue, nat_lt, refl, sym, ap, ap₂, subst, subst₂, le-ltb, ◌∙◌, inl, inr, arith}
+use Rattle.offset_script.proofs.Common.{true≢false, AllByRecursion, max_size, Tag, Live, Free, Block, block, is_free, total, State, Answer, start, step, answers, after, Command, renumber}
+use Rattle.offset_script.proofs.Common.{raise_number, number_without, answers_renumbered, HasNoLive}
+use Rattle.offset_script.proofs.{Members.IsIn, Members.map_same, Pairs.Frees, Pairs.Pair, Pairs.pair, Pairs.AreAgreed, Alike.IsAlike, Alike.IsMatched, Alike.alike_answers, Nests.number_without_none}
+use Rattle.offset_script.proofs.{Nests.number_without_past, Nests.number_without_future, Lists.AreApart, Lists.count, Lists.hit_self, Well.IsWell, Well.well_start, Well.well_after}
 use Rattle.offset_script.specs.declared.scripts.Command.TheVariants as command
 use Rattle.offset_script.specs.Machine as machine
-use Rattle.offset_script.specs.Histories.{renumber, raise_number, number_without, answers_renumbered, HasNoLive}
-use Rattle.offset_script.proofs.Members.{IsIn, map_same}
-use Rattle.offset_script.proofs.Pairs.{Frees, Pair, pair, AreAgreed}
-use Rattle.offset_script.proofs.Alike.{IsAlike, IsMatched, alike_answers}
-use Rattle.offset_script.proofs.Nests.{number_without_none, number_without_past, number_without_future}
-use Rattle.offset_script.proofs.Lists.{AreApart, count, hit_self}
-use Rattle.offset_script.proofs.Well.{IsWell, well_start, well_after}
 
 -- one free block
 abbrev pub IsOneFree : List Block → Type 0

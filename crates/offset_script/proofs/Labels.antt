@@ -1,17 +1,11 @@
 -- Blocks with both their names and their tags.
-use Rattle.std.proofs.Common.{◌≡◌, ℕ, ◌+◌, ◌<◌, ◌≤◌, true, false, not, ◌⊎◌, List, [], ◌∷◌, ◌++◌, map, nat_eq, refl, sym, ap, subst, ◌∙◌, inl, inr, arith}
-use Rattle.std.proofs.Common.{eq-eqb, ne_eqb, append_assoc}
-use Rattle.std.proofs.lemmas.List.{map-append}
-use Rattle.std.proofs.lemmas.Bool.{cases_lt, not-true, not-false}
-use Rattle.offset_script.specs.Machine.{Tag, Live, Free, is_free, stamp}
-use Rattle.offset_script.specs.Machine as plain
-use Rattle.offset_allocator.specs.View.{Block, View, times, count_named, bin_at, push_all, remove_all, IsWellFormed}
-use Rattle.offset_script.proofs.Agreement.{Label, by_name, by_tag, stamp_of, IsFalling}
-use Rattle.offset_script.proofs.Lists.{count, hit, hit_self}
-use Rattle.offset_allocator.proofs.Tallies.{tally_three, listed_named, tally_append, hit_cases, one-same}
-use Rattle.offset_allocator.proofs.ViewOrders.{length_remove_all}
+use Rattle.offset_script.proofs.Common.{◌≡◌, ℕ, ◌+◌, ◌<◌, ◌≤◌, true, false, not, ◌⊎◌, List, [], ◌∷◌, ◌++◌, map, nat_eq, refl, sym, ap, subst, ◌∙◌, inl, inr, arith, eq-eqb, ne_eqb, append_assoc}
+use Rattle.offset_script.proofs.Common.{map-append, cases_lt, not-true, not-false, Tag, Live, Free, is_free, stamp, View, times, count_named, bin_at, push_all, remove_all, IsWellFormed}
+use Rattle.offset_allocator.specs.View.{Block}
 use Rattle.offset_script.proofs.Falling.{falling_remove_all, falling_same, falling_put_all, IsRising}
-use Rattle.offset_allocator.proofs.ViewReplaced.{orders_replaced}
+use Rattle.offset_script.proofs.{Agreement.Label, Agreement.by_name, Agreement.by_tag, Agreement.stamp_of, Agreement.IsFalling, Lists.count, Lists.hit, Lists.hit_self}
+use Rattle.offset_allocator.proofs.{Tallies.tally_three, Tallies.listed_named, Tallies.tally_append, Tallies.hit_cases, Tallies.one-same, ViewOrders.length_remove_all, ViewReplaced.orders_replaced}
+use Rattle.offset_script.specs.Machine as plain
 
 -- the blocks by name
 abbrev pub names : List Label → List Block

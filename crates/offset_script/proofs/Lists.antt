@@ -1,13 +1,9 @@
 -- What holds of lists of blocks: counts of tags, neighbours, free ends, and what coalesces.
-use Rattle.std.proofs.Common.{◌≡◌, ℕ, zero, suc, ◌+◌, ◌≤◌, Bool, true, false, ◌&&◌, List, [], ◌∷◌, ◌++◌, length, nat_eq}
-use Rattle.std.proofs.Common.{if◌then◌else◌, refl, sym, ap, ap₂, subst, ◌∙◌, inl, inr, arith, ne_eqb, append-nil}
-use Rattle.offset_allocator.proofs.ViewApart.{left_false, right_false}
-use Rattle.std.proofs.lemmas.Bool.{cases_eq, true≢false, false≢true, and_left, and_right}
-use Rattle.std.specs.List.{AllByRecursion}
-use Rattle.offset_allocator.specs.View.{one}
-use Rattle.offset_script.specs.Machine.{Tag, Live, Free, Block, block, is_free, has_number, total, Place, free_block, free_start, without_start, free_end, without_end, coalesce}
+use Rattle.offset_script.proofs.Common.{◌≡◌, ℕ, zero, suc, ◌+◌, ◌≤◌, Bool, true, false, ◌&&◌, List, [], ◌∷◌, ◌++◌, length, nat_eq, if◌then◌else◌, refl, sym, ap, ap₂, subst, ◌∙◌, inl, inr, arith}
+use Rattle.offset_script.proofs.Common.{ne_eqb, append-nil, cases_eq, true≢false, false≢true, and_left, and_right, AllByRecursion, one, Tag, Live, Free, Block, block, is_free, has_number, total}
+use Rattle.offset_script.proofs.Common.{Place, free_block, free_start, without_start, free_end, without_end, coalesce}
+use Rattle.offset_allocator.proofs.{ViewApart.left_false, ViewApart.right_false, Tallies.hit_cases, Tallies.one-same}
 use Rattle.offset_script.proofs.Members.{IsIn}
-use Rattle.offset_allocator.proofs.Tallies.{hit_cases, one-same}
 
 -- whether the first block of a list is free
 abbrev pub starts_free : List Block → Bool

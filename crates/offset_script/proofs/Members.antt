@@ -1,5 +1,5 @@
 -- Items of lists, and of mapped lists.
-use Rattle.std.proofs.Common.{◌≡◌, ◌⊎◌, List, [], ◌∷◌, ◌++◌, map, refl, ap, ap₂, ◌∙◌, inl, inr}
+use Rattle.offset_script.proofs.Common.{◌≡◌, ◌⊎◌, List, [], ◌∷◌, ◌++◌, map, refl, ap, ap₂, ◌∙◌, inl, inr}
 
 -- an item is in a list
 abbrev pub IsIn : {A : Type 0} → A → List A → Type 0

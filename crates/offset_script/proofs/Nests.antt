@@ -1,29 +1,16 @@
 -- A nest leaves no trace.
-use Rattle.std.proofs.Common.{length, ◌≡◌, ◌≢◌, ℕ, ◌+◌, ◌-◌, ◌*◌, ◌<◌, ◌≤◌, Bool, true, false, ◌⊎◌, List, [], ◌∷◌, ◌++◌, Option, Some, None, nat_eq}
-use Rattle.std.proofs.Common.{nat_lt, nat_le, if◌then◌else◌, refl, sym, ap}
-use Rattle.std.proofs.Common.{subst, ◌∙◌, inl, inr, arith, leb-false, le-leb, ne_eqb}
-use Rattle.std.proofs.lemmas.Bool.{cases_lt, lt-leb, and_parts}
-use Rattle.offset_script.specs.declared.scripts.Command.{Command}
-use Rattle.offset_script.specs.declared.scripts.Command.TheVariants as command
-use Rattle.offset_allocator.specs.Classes.{up, down}
-use Rattle.offset_allocator.specs.View.{max_size, padding_to}
-use Rattle.offset_script.specs.Machine.{Live, Free, is_free, total, Place, chosen_place, place_of, coalesce, State, Answer, Outcome, start, step, after, answers, request, grant, grant_or_refuse}
-use Rattle.offset_script.specs.Machine.{is_short_of, returns_only, leaves, release, size_at, stamp_of_call}
-use Rattle.offset_script.specs.Machine as machine
-use Rattle.offset_allocator.specs.Reports.{rows_below}
-use Rattle.offset_script.specs.Histories.{IsGrant, KeepsSpace, IsNest, number_without, answers_renumbered}
-use Rattle.offset_script.specs.Histories as history
+use Rattle.offset_script.proofs.Common.{length, ◌≡◌, ◌≢◌, ℕ, ◌+◌, ◌-◌, ◌*◌, ◌<◌, ◌≤◌, Bool, true, false, ◌⊎◌, List, [], ◌∷◌, ◌++◌, Option, Some, None, nat_eq, nat_lt, nat_le, if◌then◌else◌, refl, sym}
+use Rattle.offset_script.proofs.Common.{ap, subst, ◌∙◌, inl, inr, arith, leb-false, le-leb, ne_eqb, cases_lt, lt-leb, and_parts, Command, up, down, max_size, padding_to, Live, Free, is_free, total}
+use Rattle.offset_script.proofs.Common.{Place, chosen_place, place_of, coalesce, State, Answer, Outcome, start, step, after, answers, request, grant, grant_or_refuse, is_short_of, returns_only}
+use Rattle.offset_script.proofs.Common.{leaves, release, size_at, stamp_of_call, rows_below, IsGrant, KeepsSpace, IsNest, number_without, answers_renumbered}
 use Rattle.offset_script.specs.Totals.{requested_units}
-use Rattle.offset_script.proofs.Members.{in_map}
-use Rattle.offset_script.proofs.Pairs.{Kind, Lives, Frees, left_tag, right_tag, left, right, lefts, rights}
-use Rattle.offset_script.proofs.Alike.{IsAlike, IsMatched, alike_answers}
-use Rattle.offset_script.proofs.Lists.{in_count, count}
-use Rattle.offset_script.proofs.Found.{chosen_at}
-use Rattle.offset_script.proofs.Well.{IsWell, well_start, well_after, well_step}
+use Rattle.offset_script.proofs.{Members.in_map, Pairs.Kind, Pairs.Lives, Pairs.Frees, Pairs.left_tag, Pairs.right_tag, Pairs.left, Pairs.right, Pairs.lefts, Pairs.rights, Alike.IsAlike}
+use Rattle.offset_script.proofs.{Alike.IsMatched, Alike.alike_answers, Lists.in_count, Lists.count, Found.chosen_at, Well.IsWell, Well.well_start, Well.well_after, Well.well_step}
+use Rattle.offset_script.proofs.{Similar.HasSameNumber, Similar.AreSimilar, Similar.similar_refl, Similar.similar_sym, Similar.similar_trans, Restored.IsRestored, Restored.restored, Tests.if_both}
 use Rattle.offset_allocator.proofs.Classes.{fits_size}
-use Rattle.offset_script.proofs.Similar.{HasSameNumber, AreSimilar, similar_refl, similar_sym, similar_trans}
-use Rattle.offset_script.proofs.Restored.{IsRestored, restored}
-use Rattle.offset_script.proofs.Tests.{if_both}
+use Rattle.offset_script.specs.declared.scripts.Command.TheVariants as command
+use Rattle.offset_script.specs.Machine as machine
+use Rattle.offset_script.specs.Histories as history
 
 -- What a call does that keeps the space: it only returns an answer, or grants, or releases.
 

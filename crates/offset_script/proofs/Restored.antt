@@ -1,20 +1,13 @@
 -- A release after a grant, with a nest between them, restores the block that was split, as the newest of its class.
-use Rattle.std.proofs.Common.{◌≡◌, ℕ, ◌+◌, ◌-◌, ◌<◌, ◌≤◌, true, false, ◌&&◌, ◌||◌, ◌⊎◌, List, [], ◌∷◌, ◌++◌, Some, nat_eq, nat_lt, nat_le, refl, sym}
-use Rattle.std.proofs.Common.{ap, ap₂, subst, subst₂, ◌∙◌, inl, inr, arith}
-use Rattle.std.proofs.Common.{append_assoc, eqb-true, eq-eqb, lt-ltb, le-ltb}
+use Rattle.offset_script.proofs.Common.{◌≡◌, ℕ, ◌+◌, ◌-◌, ◌<◌, ◌≤◌, true, false, ◌&&◌, ◌||◌, ◌⊎◌, List, [], ◌∷◌, ◌++◌, Some, nat_eq, nat_lt, nat_le, refl, sym, ap, ap₂, subst, subst₂, ◌∙◌, inl, inr}
+use Rattle.offset_script.proofs.Common.{arith, append_assoc, eqb-true, eq-eqb, lt-ltb, le-ltb, map-append, cases_eq, false≢true, and_parts, nat_tests, up, down, Tag, Live, Free, Block, block, is_free}
+use Rattle.offset_script.proofs.Common.{has_number, stamp, Place, fits, place_of, free_block, coalesce, State, stamp_of_call, stamp_of_padding}
 use Rattle.offset_allocator.proofs.ViewApart.{left_false, right_false}
-use Rattle.std.proofs.lemmas.List.{map-append}
-use Rattle.std.proofs.lemmas.Bool.{cases_eq, false≢true, and_parts}
-use Rattle.std.proofs.lemmas.Bool.Decides.{nat_tests}
-use Rattle.offset_allocator.specs.Classes.{up, down}
-use Rattle.offset_script.specs.Machine.{Tag, Live, Free, Block, block, is_free, has_number, stamp, Place, fits, place_of, free_block, coalesce, State, stamp_of_call, stamp_of_padding}
 use Rattle.offset_script.proofs.Members.{IsIn, in_append, in_left, in_right, in_map, map_parts, map_first}
 use Rattle.offset_script.proofs.Pairs.{Kind, Lives, Frees, Pair, pair, left_tag, right_tag, left, right, lefts, rights, same_total, same_end, same_start, AreAgreed, AreAllAgreed, IsSameOrder}
-use Rattle.offset_script.proofs.Lists.{whole, count, hit, hit_self, in_count, count-append, count_free_block, starts_free, ends_free, AreApart, apart_parts, IsEnd, IsStart, end_of}
-use Rattle.offset_script.proofs.Well.{IsWell, not_there, free_part, granted_blocks}
-use Rattle.offset_script.proofs.Lists.{start_of, coalesce_parts}
-use Rattle.offset_script.proofs.Found.{place_at, IsBest}
-use Rattle.offset_script.proofs.Similar.{HasSameNumber, AreSimilar}
+use Rattle.offset_script.proofs.Lists.{whole, count, hit, hit_self, in_count, count-append, count_free_block, starts_free, ends_free, AreApart, apart_parts, IsEnd, IsStart, end_of, start_of}
+use Rattle.offset_script.proofs.Lists.{coalesce_parts}
+use Rattle.offset_script.proofs.{Well.IsWell, Well.not_there, Well.free_part, Well.granted_blocks, Found.place_at, Found.IsBest, Similar.HasSameNumber, Similar.AreSimilar}
 
 same_hit : (k : ℕ) (q : Kind) → HasSameNumber q → hit (Live k) (left_tag q) ≡ hit (Live k) (right_tag q)
 same_hit k (Lives i j) e = ap (λ x. hit (Live k) (Live x)) e

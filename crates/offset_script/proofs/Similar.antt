@@ -1,13 +1,9 @@
 -- Lists of blocks that differ only in stamps of the same order in each class.
-use Rattle.std.proofs.Common.{◌≡◌, ℕ, zero, suc, true, List, [], ◌∷◌, Option, Some, is_none, nat_eq, nat_lt, get_or, refl, sym, ap, ap₂, subst, subst₂, ◌∙◌, inl, inr, arith}
-use Rattle.offset_script.proofs.Tests.{same_some}
-use Rattle.std.proofs.lemmas.Bool.{false≢true}
-use Rattle.std.proofs.Math.ListN.{get_or-map}
-use Rattle.offset_allocator.specs.Classes.{down}
-use Rattle.offset_script.specs.Machine.{Tag, Live, Free, Block, block, is_free, stamp}
-use Rattle.offset_script.specs.Histories.{holder, outline}
-use Rattle.offset_script.proofs.Members.{IsIn}
+use Rattle.offset_script.proofs.Common.{◌≡◌, ℕ, zero, suc, true, List, [], ◌∷◌, Option, Some, is_none, nat_eq, nat_lt, get_or, refl, sym, ap, ap₂, subst, subst₂, ◌∙◌, inl, inr, arith, false≢true}
+use Rattle.offset_script.proofs.Common.{down, Tag, Live, Free, Block, block, is_free, stamp, holder, outline}
 use Rattle.offset_script.proofs.Pairs.{Kind, Lives, Frees, Pair, pair, left_tag, right_tag, left, right, lefts, rights, AreAgreed, AreAllAgreed, IsSameOrder}
+use Rattle.offset_script.proofs.{Tests.same_some, Members.IsIn}
+use Rattle.std.proofs.Math.ListN.{get_or-map}
 
 -- a live pair has one number
 abbrev pub HasSameNumber : Kind → Type 0

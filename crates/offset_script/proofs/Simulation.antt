@@ -1,32 +1,19 @@
 -- The steps of a player are those of the plain machine, call by call.
-use Rattle.std.proofs.Common.{◌≡◌, ℕ, zero, suc, ◌+◌, ◌-◌, ◌%◌, ◌^◌, ◌<◌, ◌≤◌, Bool, List, [], ◌∷◌, ◌++◌, map, length, Option, Some, None, option_map}
-use Rattle.std.proofs.Common.{Result, Ok, Err, IfOk, slice_index_or, slice_set}
-use Rattle.std.proofs.Common.{get_or, if◌then◌else◌, IsTrue, refl, sym, ap, ap₂, subst, subst₂, ◌∙◌, inl, inr, arith, eq-eqb, ne_eqb, add-one, length-append, append_assoc, append-nil}
-use Rattle.std.proofs.lemmas.List.{map-append, get_or-set_same, get_or-set_other, get_or_past, length-set}
-use Rattle.std.proofs.Math.ListN.{get_or-append}
-use Rattle.std.proofs.Math.Seq.{get_or-append_seam}
-use Rattle.std.proofs.lemmas.Bool.{cases_eq, cases_lt}
-use Rattle.offset_allocator.specs.Classes.{value}
-use Rattle.offset_allocator.specs.Reports.{row, rows_below, count_of}
-use Rattle.offset_allocator.specs.declared.reports.StorageReportFull.{StorageReportFull}
+use Rattle.offset_script.proofs.Common.{◌≡◌, ℕ, zero, suc, ◌+◌, ◌-◌, ◌%◌, ◌^◌, ◌<◌, ◌≤◌, Bool, List, [], ◌∷◌, ◌++◌, map, length, Option, Some, None, option_map, Result, Ok, Err, IfOk, slice_index_or}
+use Rattle.offset_script.proofs.Common.{slice_set, get_or, if◌then◌else◌, IsTrue, refl, sym, ap, ap₂, subst, subst₂, ◌∙◌, inl, inr, arith, eq-eqb, ne_eqb, add-one, length-append, append_assoc}
+use Rattle.offset_script.proofs.Common.{append-nil, map-append, get_or-set_same, get_or-set_other, get_or_past, length-set, cases_eq, cases_lt, value, row, rows_below, count_of, Command}
+use Rattle.offset_script.proofs.Common.{has_valid_alignment, State, Answer, step, start, row_view, View, Grant, IsWellFormed, kept_name, Takes, IsRun, AreOfARun, IsKept, IfNamed, Stays, AreLive}
+use Rattle.offset_script.proofs.Common.{IsFresh, Frees, Extends, Resets}
+use Rattle.std.proofs.{Math.ListN.get_or-append, Math.Seq.get_or-append_seam}
 use Rattle.offset_allocator.specs.declared.reports.StorageReportFullRegion.{StorageReportFullRegion}
-use Rattle.offset_script.specs.declared.scripts.Command.{Command}
-use Rattle.offset_script.specs.declared.scripts.Command.TheVariants as command
-use Rattle.offset_script.specs.Grammar.{has_valid_alignment}
-use Rattle.offset_script.specs.Machine.{State, Answer, step, start, row_view}
-use Rattle.offset_script.specs.Machine as machine
-use Rattle.offset_allocator.specs.View.{View, Grant, free_sizes, IsWellFormed}
-use Rattle.offset_script.specs.Steps.{kept_name, Takes, IsRun, AreOfARun, IsKept, IfNamed, Stays, AreLive}
-use Rattle.offset_script.proofs.Agreement.{IsAtState}
-use Rattle.offset_allocator.specs.Relations.{IsFresh, Frees, Extends, Resets}
-use Rattle.offset_script.proofs.Well.{IsWell}
+use Rattle.offset_allocator.specs.{declared.reports.StorageReportFull.StorageReportFull, View.free_sizes, Requests.IsFullReport, Ranges.size_of}
 use Rattle.offset_script.proofs.Agreed.{with_name, without_name, IsMatch, serve_agrees, aligned_agrees, extend_agrees, free_agrees, live_agrees, gone_agrees, size_gone_agrees, size_agrees}
 use Rattle.offset_script.proofs.Agreed.{report_agrees, full_agrees, agrees_quiet, agrees_kept, alone_agrees, same_units}
+use Rattle.offset_script.proofs.{Agreement.IsAtState, Well.IsWell}
 use Rattle.offset_script.specs.declared.answers.FullRow.{FullRow}
-use Rattle.offset_allocator.specs.Requests.{IsFullReport}
-use Rattle.offset_allocator.specs.Ranges.{size_of}
-use Rattle.offset_allocator.proofs.Reading.{used_live, size_is}
-use Rattle.offset_allocator.proofs.Powers.{not_zero}
+use Rattle.offset_allocator.proofs.{Reading.used_live, Reading.size_is, Powers.not_zero}
+use Rattle.offset_script.specs.declared.scripts.Command.TheVariants as command
+use Rattle.offset_script.specs.Machine as machine
 
 -- the name in a handle
 abbrev handle_name : Grant → ℕ

@@ -1,6 +1,5 @@
 -- Tests: a conjunction, a double negation, and choices by a test.
-use Rattle.std.proofs.Common.{◌≡◌, Bool, true, false, not, ◌&&◌, if◌then◌else◌, refl, Some}
-use Rattle.std.proofs.lemmas.Bool.{true≢false, false≢true}
+use Rattle.offset_script.proofs.Common.{◌≡◌, Bool, true, false, not, ◌&&◌, if◌then◌else◌, refl, Some, true≢false, false≢true}
 
 -- a second test counts only where the first holds
 pub same_and : (x y z : Bool) → (x ≡ true → y ≡ z) → (x && y) ≡ (x && z)

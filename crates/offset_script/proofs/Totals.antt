@@ -1,23 +1,13 @@
 -- The sums of sizes, and the numbers of live blocks, that every call keeps.
-use Rattle.std.proofs.Common.{◌≡◌, ℕ, zero, suc, ◌+◌, ◌≤◌, true, false, not, cond, ◌&&◌, ◌||◌, List, [], ◌∷◌, ◌++◌, length, nat_le, nat_lt, if◌then◌else◌}
-use Rattle.std.proofs.Common.{refl, sym, ap, subst, ◌∙◌, inl, inr}
-use Rattle.std.proofs.Common.{arith, le-leb, length-append, sum}
-use Rattle.std.proofs.lemmas.List.Elements.{filter-append}
+use Rattle.offset_script.proofs.Common.{◌≡◌, ℕ, zero, suc, ◌+◌, ◌≤◌, true, false, not, cond, ◌&&◌, ◌||◌, List, [], ◌∷◌, ◌++◌, length, nat_le, nat_lt, if◌then◌else◌, refl, sym, ap, subst, ◌∙◌, inl}
+use Rattle.offset_script.proofs.Common.{inr, arith, le-leb, length-append, sum, filter-append, max_size, Free, Block, block, is_free, total, free_sizes, Place, chosen_place, free_block, ends_live}
+use Rattle.offset_script.proofs.Common.{coalesce, State, Outcome, start, step, after, is_short_of, returns_only, leaves, request, grant_or_refuse, stamp_of_call, stamp_of_padding, largest, Command}
+use Rattle.offset_script.proofs.Common.{KeepsSpace}
 use Rattle.std.proofs.lemmas.List.Sums.{sum_by-cons}
-use Rattle.offset_allocator.specs.View.{max_size}
-use Rattle.offset_script.specs.Machine.{Free, Block, block, is_free, total, free_sizes, Place, chosen_place, free_block, ends_live, coalesce, State, Outcome, start, step, after, is_short_of}
-use Rattle.offset_script.specs.Machine.{returns_only, leaves, request, grant_or_refuse, stamp_of_call, stamp_of_padding}
-use Rattle.offset_allocator.specs.Reports.{largest}
-use Rattle.offset_script.specs.declared.scripts.Command.{Command}
+use Rattle.offset_script.specs.Totals.{requested_units, live, added_units, added_by}
+use Rattle.offset_script.proofs.{Lists.whole, Lists.total-append, Lists.AreFree, Lists.coalesced, Found.chosen_at, Found.found_at, Well.granted_blocks, Well.free_part, Nests.does, Tests.if_both}
 use Rattle.offset_script.specs.declared.scripts.Command.TheVariants as command
 use Rattle.offset_script.specs.Machine as machine
-use Rattle.offset_script.specs.Histories.{KeepsSpace}
-use Rattle.offset_script.specs.Totals.{requested_units, live, added_units, added_by}
-use Rattle.offset_script.proofs.Lists.{whole, total-append, AreFree, coalesced}
-use Rattle.offset_script.proofs.Found.{chosen_at, found_at}
-use Rattle.offset_script.proofs.Well.{granted_blocks, free_part}
-use Rattle.offset_script.proofs.Nests.{does}
-use Rattle.offset_script.proofs.Tests.{if_both}
 
 total_coalesce : (xs : List Block) (n s : ℕ) (ys : List Block) → total (coalesce xs n s ys) ≡ total xs + (n + total ys)
 total_coalesce xs n s ys =

@@ -1,22 +1,13 @@
 -- What holds of every state that the machine reaches.
-use Rattle.std.proofs.Common.{◌≡◌, ℕ, zero, suc, ◌+◌, ◌-◌, ◌<◌, ◌≤◌, true, false, ◌&&◌, ◌||◌, ◌⊎◌, List, [], ◌∷◌, ◌++◌, length, Option, Some, None}
-use Rattle.std.proofs.Common.{nat_lt, nat_le}
-use Rattle.std.proofs.Common.{refl, sym, ap, subst, ◌∙◌, inl, inr, arith, leb-false, length-append}
-use Rattle.offset_allocator.proofs.ViewApart.{left_false, right_false}
-use Rattle.std.proofs.lemmas.Bool.{cases_lt, true≢false, and_parts, and_left, and_right, or_parts, and_cases, not-false}
-use Rattle.offset_script.specs.declared.scripts.Command.{Command}
+use Rattle.offset_script.proofs.Common.{◌≡◌, ℕ, zero, suc, ◌+◌, ◌-◌, ◌<◌, ◌≤◌, true, false, ◌&&◌, ◌||◌, ◌⊎◌, List, [], ◌∷◌, ◌++◌, length, Option, Some, None, nat_lt, nat_le, refl, sym, ap, subst, ◌∙◌}
+use Rattle.offset_script.proofs.Common.{inl, inr, arith, leb-false, length-append, cases_lt, true≢false, and_parts, and_left, and_right, or_parts, and_cases, not-false, Command, max_size, padding_to}
+use Rattle.offset_script.proofs.Common.{Tag, Live, Free, Block, block, is_free, total, Place, chosen_place, place_of, free_block, ends_live, coalesce, State, Answer, Outcome, start, step, after}
+use Rattle.offset_script.proofs.Common.{request, grant, grant_or_refuse, is_short_of, returns_only, leaves, release, size_at, report, reset, extend, stamp_of_call, stamp_of_padding, rows_below}
+use Rattle.offset_allocator.proofs.{ViewApart.left_false, ViewApart.right_false, Tallies.hit_cases}
+use Rattle.offset_script.proofs.{Tests.if_both, Lists.starts_free, Lists.ends_free, Lists.AreApart, Lists.hit, Lists.count, Lists.whole, Lists.count-append, Lists.count_free_block, Lists.apart_append}
+use Rattle.offset_script.proofs.{Lists.apart_parts, Lists.AreFree, Lists.IsCoalesced, Lists.coalesced, Lists.count_coalesce, Lists.apart_coalesce, Found.found_at, Found.chosen_at}
 use Rattle.offset_script.specs.declared.scripts.Command.TheVariants as command
-use Rattle.offset_allocator.specs.View.{max_size, padding_to}
-use Rattle.offset_script.specs.Machine.{Tag, Live, Free, Block, block, is_free, total, Place, chosen_place, place_of, free_block}
-use Rattle.offset_script.specs.Machine.{ends_live, coalesce, State, Answer, Outcome, start, step, after, request, grant, grant_or_refuse, is_short_of}
-use Rattle.offset_script.specs.Machine.{returns_only, leaves, release, size_at, report, reset, extend, stamp_of_call, stamp_of_padding}
 use Rattle.offset_script.specs.Machine as machine
-use Rattle.offset_allocator.specs.Reports.{rows_below}
-use Rattle.offset_script.proofs.Tests.{if_both}
-use Rattle.offset_allocator.proofs.Tallies.{hit_cases}
-use Rattle.offset_script.proofs.Lists.{starts_free, ends_free, AreApart, hit, count, whole, count-append, count_free_block, apart_append, apart_parts, AreFree, IsCoalesced, coalesced, count_coalesce}
-use Rattle.offset_script.proofs.Lists.{apart_coalesce}
-use Rattle.offset_script.proofs.Found.{found_at, chosen_at}
 
 -- the tag of a block that a call before has left
 abbrev pub IsOld : State → Tag → Type 0

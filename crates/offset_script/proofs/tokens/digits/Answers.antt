@@ -1,6 +1,5 @@
-use Rattle.std.proofs.Common.{length, drop, set, arith, append_assoc, length-append, length-drop, length-set, take_all, decimal}
+use Rattle.offset_script.proofs.Common.{length, drop, set, arith, append_assoc, length-append, length-drop, length-set, take_all, decimal, append-nil, drop_all, drop-set}
 use Rattle.std.proofs.lemmas.Fmt.{decimal_digit, decimal_step, decimal_nonempty, length-decimal-le}
-use Rattle.std.proofs.lemmas.List.{append-nil, drop_all, drop-set}
 use Rattle.offset_script.proofs.tokens.digits.Goals as goal
 
 pub loop-rest-init : goal.loop-rest-init

@@ -1,8 +1,6 @@
-use Rattle.std.proofs.Common.{◌+◌, ◌==◌, sym, ◌≡◌, ℕ, ◌<◌, Bool, true, false, cond, ltb, List, [], ◌∷◌, length, take, drop, Some, None, refl, arith, ltb-true, ltb-false}
-use Rattle.std.proofs.lemmas.List.{take_rest}
-use Rattle.std.specs.List.{slice_split, position}
+use Rattle.offset_script.proofs.Common.{◌+◌, ◌==◌, sym, ◌≡◌, ℕ, ◌<◌, Bool, true, false, cond, ltb, List, [], ◌∷◌, length, take, drop, Some, None, refl, arith, ltb-true, ltb-false, take_rest}
+use Rattle.offset_script.proofs.Common.{slice_split, position, slice_split_none, slice_split_first}
 use Rattle.std.proofs.lemmas.List.Sums.{fails_before_first}
-use Rattle.std.proofs.lemmas.List.Splits.{slice_split_none, slice_split_first}
 use Rattle.offset_script.proofs.tokens.split_once.Goals as goal
 
 -- The first part of a text, and the parts after it.
