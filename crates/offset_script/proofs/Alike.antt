@@ -3,7 +3,7 @@ use Rattle.offset_script.proofs.Common.{◌≡◌, ℕ, zero, suc, ◌+◌, ◌-
 use Rattle.offset_script.proofs.Common.{inl, inr, arith, lt-ltb, le-ltb, sum, Command, Free, Block, block, has_number, total, Place, fits, chosen_place, place_of, coalesce, State, Answer, Outcome}
 use Rattle.offset_script.proofs.Common.{step, answers, after, request, grant, grant_or_refuse, returns_only, leaves, release, size_at, report, reset, extend, stamp_of_call, padding_to, rows_below}
 use Rattle.offset_script.proofs.Common.{cases_lt, nat_tests, renumber, raise_number}
-use Rattle.offset_script.proofs.Members.{IsIn, in_left, in_right}
+use Rattle.offset_script.proofs.Members.{IsIn, in_left, in_right, in_parts}
 use Rattle.offset_script.proofs.Pairs.{Kind, Lives, Frees, Pair, pair, left_tag, right_tag, left, right, lefts, rights, AreAgreed, AreAllAgreed, IsSameOrder, IsSamePlace, neither, both, same_total}
 use Rattle.offset_script.proofs.Pairs.{same_short, same_units, same_free_sizes, same_refusal, both_coalesced, same_place_of, same_chosen, pairs_granted, in_granted, lefts_granted, rights_granted}
 use Rattle.offset_script.proofs.Tests.{if_same}
@@ -37,19 +37,16 @@ fresh_order : (x y s u t v a b : ℕ) → s ≡ 2 * (x + 1) + a → u ≡ 2 * (y
 fresh_order x y s u t v a b m m' n n' = search (arith, cases_lt, lt-ltb, le-ltb)
 
 old_before_fresh : (r : ℕ → ℕ) (g h x y : ℕ) (a b : Kind) → IsMatched r (2 * (x + 1)) (2 * (y + 1)) a → IsFreshKind g h x y b → IsSameOrder a b
-old_before_fresh r g h x y (Lives i j) b m n = tt
-old_before_fresh r g h x y (Frees s u) (Lives i j) m n = tt
 old_before_fresh r g h x y (Frees s u) (Frees t v) m n = lt-ltb s t (omega arith) ∙ sym (lt-ltb u v (omega arith))
+old_before_fresh r g h x y a b m n = tt
 
 fresh_after_old : (r : ℕ → ℕ) (g h x y : ℕ) (a b : Kind) → IsFreshKind g h x y a → IsMatched r (2 * (x + 1)) (2 * (y + 1)) b → IsSameOrder a b
-fresh_after_old r g h x y (Lives i j) b m n = tt
-fresh_after_old r g h x y (Frees s u) (Lives i j) m n = tt
 fresh_after_old r g h x y (Frees s u) (Frees t v) m n = le-ltb s t (omega arith) ∙ sym (le-ltb u v (omega arith))
+fresh_after_old r g h x y a b m n = tt
 
 both_fresh : (g h x y : ℕ) (a b : Kind) → IsFreshKind g h x y a → IsFreshKind g h x y b → IsSameOrder a b
-both_fresh g h x y (Lives i j) b m n = tt
-both_fresh g h x y (Frees s u) (Lives i j) m n = tt
 both_fresh g h x y (Frees s u) (Frees t v) m n = fresh_order x y s u t v m.0 n.0 m.2 m.3 n.2 n.3
+both_fresh g h x y a b m n = tt
 
 -- a pair that a call leaves is matched at the next call
 pub matched_in_new : (r : ℕ → ℕ) (d g h x y : ℕ) → g ≡ h + d → ((k : ℕ) → k ≤ g → r k ≤ h) → ((k : ℕ) → g < k → r k + d ≡ k)
@@ -171,10 +168,6 @@ same_coalesce : (r : ℕ → ℕ) (d : ℕ) (s t : State) (a : IsAlike r d s t) 
 same_coalesce r d s t a x ps n qs e old =
     let c = both_coalesced ps n (2 * (s.calls + 1) + 1) (2 * (t.calls + 1) + 1) qs in
     same_leaves r d s t a x x c.pairs _ _ e c.on_left c.on_right (λ q i. left_released r d s t a q (elim (c.old q i) [ inl h ↦ inl (old q h) | inr h ↦ inr h ]))
-
-in_parts : (x : Pair) (xs : List Pair) (q : Pair) (ys : List Pair) → IsIn x xs ⊎ IsIn x ys → IsIn x (xs ++ q ∷ ys)
-in_parts x xs q ys (inl i) = in_left x xs _ i
-in_parts x xs q ys (inr i) = in_right x xs _ (inr i)
 
 same_released : (r : ℕ → ℕ) (d : ℕ) (s t : State) (a : IsAlike r d s t) (o o' : Option Place) → IsSamePlace (λ q. Unit {0}) a.pairs o o' → IsSameOutcome r d (release s o) (release t o')
 same_released r d s t a None None neither = same_quiet r d s t a _ _ refl

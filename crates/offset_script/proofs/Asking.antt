@@ -9,32 +9,20 @@ as_before : (g : ℕ) (cs : List Command) (s : State) (j : ℕ) → j ≡ 0 → 
 as_before g cs s j e = rw e (map_same (raise_number 0) raise_none _ ∙ ap (λ l. answers l s) (map_same (renumber (number_without g 0)) (renumber_same _ (number_without_none g)) cs))
 
 -- a question is a nest
-question_keeps_space : (q : Command) → IsQuestion q → KeepsSpace q
-question_keeps_space (command.Size k) h = tt
-question_keeps_space command.Report h = tt
-question_keeps_space command.Full h = tt
-question_keeps_space other h = absurd h
-
-quiet : (q : Command) (s : State) → IsQuestion q → IsQuiet (step q s).answer
-quiet (command.Size k) s h = quiet_size (place_of k s.blocks)
-quiet command.Report s h = quiet_report (is_short_of 1 s) _ _
-quiet command.Full s h = tt
+quiet : (q : Command) (s : State) → IsQuestion q → KeepsSpace q × IsQuiet (step q s).answer × ((step q s).state.grants - s.grants ≡ 0)
+quiet (command.Size k) s h = (tt, quiet_size (place_of k s.blocks), omega arith)
+quiet command.Report s h = (tt, quiet_report (is_short_of 1 s) _ _, omega arith)
+quiet command.Full s h = (tt, tt, omega arith)
 quiet other s h = absurd h
-
-no_grants : (q : Command) (s : State) → IsQuestion q → (step q s).state.grants - s.grants ≡ 0
-no_grants (command.Size k) s h = omega arith
-no_grants command.Report s h = omega arith
-no_grants command.Full s h = omega arith
-no_grants other s h = absurd h
 
 -- commands after a question have the same answers as without it
 pub after_question : (size limit : ℕ) → 2 ≤ limit → (before : List Command) (q : Command) → IsQuestion q → (rest : List Command)
     → answers rest (step q (after before (start size limit))).state ≡ answers rest (after before (start size limit))
 after_question size limit h before q asks rest =
     let s = after before (start size limit) in
-    nest_law size limit h before (q ∷ []) (history.quiet (question_keeps_space q asks)
-    (λ k g. subst IsQuiet g.1 (quiet q s asks)) (λ e. subst IsQuiet e (quiet q s asks)) history.done) rest
-    ∙ as_before s.grants rest s ((step q s).state.grants - s.grants) (no_grants q s asks)
+    let asked = quiet q s asks in
+    nest_law size limit h before (q ∷ []) (history.quiet asked.0 (λ k g. subst IsQuiet g.1 asked.1) (λ e. subst IsQuiet e asked.1) history.done) rest
+    ∙ as_before s.grants rest s ((step q s).state.grants - s.grants) asked.2
 
 pub answers-append : (xs ys : List Command) (s : State) → answers (xs ++ ys) s ≡ answers xs s ++ answers ys (after xs s)
 answers-append [] ys s = refl

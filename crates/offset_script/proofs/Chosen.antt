@@ -61,14 +61,9 @@ pub record IsLabelled (v : View) (ls : List Label) : Type 0 where
 -- no block before a spot has its name
 pub alone_before : (v : View) → IsWellFormed v → (s : Spot) → v.blocks ≡ names (whole s) → count_named s.label.name (names s.before) ≡ 0
 alone_before v w s e =
-    omega (
-      arith,
-      one-same s.label.name,
-      w.distinct s.label.name,
-      ap (count_named s.label.name) (e ∙ names_whole s),
-      tally_append (λ (b : Block). one (nat_eq s.label.name b.name)) (names s.before)
-          (by_name s.label ∷ names s.after),
-    )
+    let d = w.distinct s.label.name in
+    let n = tally_append (λ (b : Block). one (nat_eq s.label.name b.name)) (names s.before) (by_name s.label ∷ names s.after) in
+    omega (arith, one-same s.label.name, ap (count_named s.label.name) (e ∙ names_whole s))
 
 -- a spot is the place of its name
 pub place_of_spot : (v : View) → IsWellFormed v → (s : Spot) → v.blocks ≡ names (whole s) → place_of s.label.name v.blocks ≡ Some (named_place s)
@@ -146,27 +141,24 @@ module _ (v : View) (w : IsWellFormed v) (ls : List Label) (a : IsLabelled v ls)
       pub free : is_free spot.label.tag ≡ true
       pub is : chosen_place n (tags ls) ≡ Some (plain_place spot)
 
-    choice_if : (o : Option plain.Place) → chosen_place n (tags ls) ≡ o → Choice
-    choice_if o e = go o e
+    pub chosen : Choice
+    chosen = go (chosen_place n (tags ls)) refl
       where
-        s : (s : Spot) × (ls ≡ whole s) × (named_place s ≡ place_at t.before t.block t.after) × (is_free s.label.tag ≡ true)
-        s = taken_spot
+        s : Spot
+        s = taken_spot.0
 
-        there : IsIn (by_tag s.0.label) (tags ls)
-        there = subst (λ xs. IsIn (by_tag s.0.label) (tags xs)) (sym s.1) (occurs_spot s.0)
+        there : IsIn (by_tag s.label) (tags ls)
+        there = subst (λ xs. IsIn (by_tag s.label) (tags xs)) (sym taken_spot.1) (occurs_spot s)
 
-        fit : fits n (by_tag s.0.label) ≡ true
-        fit = rw (s.3, le-leb (up n) (down s.0.label.size) (let e = ap (λ (p : Place). down p.block.size) s.2 in let c = t.fits in omega arith)) refl
+        fit : fits n (by_tag s.label) ≡ true
+        fit = rw (taken_spot.3, le-leb (up n) (down s.label.size) (let e = ap (λ (p : Place). down p.block.size) taken_spot.2 in let c = t.fits in omega arith)) refl
 
         go : (o : Option plain.Place) → chosen_place n (tags ls) ≡ o → Choice
-        go None e = absurd (true≢false (sym fit ∙ not_chosen n (tags ls) e (by_tag s.0.label) there))
+        go None e = absurd (true≢false (sym fit ∙ not_chosen n (tags ls) e (by_tag s.label) there))
         go (Some p) e =
             let l = chosen_spot p e in
-            let best = (chosen_at n (tags ls) p e).2 (by_tag s.0.label) there fit in
-            let name = same_name s.0 l.0 s.1 s.2 l.1 l.3 l.4 (ap (λ (q : plain.Place). is_taken_before (by_tag s.0.label) q.block) l.2 ∙ best) in
-            let same = same_some (named_place l.0) (named_place s.0)
-            (sym (place_of_spot v w l.0 (a.view ∙ ap names l.1)) ∙ ap (λ x. place_of x v.blocks) (sym name) ∙ place_of_spot v w s.0 (a.view ∙ ap names s.1)) in
-            record { spot = l.0; split = l.1; place = same ∙ s.2; free = l.3; is = e ∙ ap Some (sym l.2) }
-
-    pub chosen : Choice
-    chosen = choice_if (chosen_place n (tags ls)) refl
+            let best = (chosen_at n (tags ls) p e).2 (by_tag s.label) there fit in
+            let name = same_name s l.0 taken_spot.1 taken_spot.2 l.1 l.3 l.4 (ap (λ (q : plain.Place). is_taken_before (by_tag s.label) q.block) l.2 ∙ best) in
+            let same = same_some (named_place l.0) (named_place s)
+            (sym (place_of_spot v w l.0 (a.view ∙ ap names l.1)) ∙ ap (λ x. place_of x v.blocks) (sym name) ∙ place_of_spot v w s (a.view ∙ ap names taken_spot.1)) in
+            record { spot = l.0; split = l.1; place = same ∙ taken_spot.2; free = l.3; is = e ∙ ap Some (sym l.2) }

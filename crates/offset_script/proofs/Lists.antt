@@ -194,20 +194,14 @@ coalesced xs n s ys =
           ap₂ (λ u v. coalesce u n s v) e.2 b.2 ∙ coalesce_parts e.0 e.1 n s b.0 b.1 e.3 b.3;
     }
 
+-- what is added over the parts of a list, of what coalesces
+pub sums_coalesced : (f : List Block → ℕ) → ((xs ys : List Block) → f (xs ++ ys) ≡ f xs + f ys) → (xs : List Block) (n s : ℕ) (ys : List Block) (c : IsCoalesced xs n s ys)
+    → (f (coalesce xs n s ys) ≡ f c.front + f (block (total c.last + n + total c.first) (Free s) ∷ c.back)) × (f xs ≡ f c.front + f c.last) × (f ys ≡ f c.first + f c.back)
+sums_coalesced f add xs n s ys c = (ap f c.is ∙ add c.front _, ap f c.at_front ∙ add c.front c.last, ap f c.at_back ∙ add c.first c.back)
+
 -- coalescing adds one tag
 pub count_coalesce : (t : Tag) (xs : List Block) (n s : ℕ) (ys : List Block) → count t (coalesce xs n s ys) ≤ count t xs + (hit t (Free s) + count t ys)
-count_coalesce t xs n s ys =
-    let c = coalesced xs n s ys in
-    omega (
-      arith,
-      ap (count t) c.is,
-      count-append t c.front (block (total c.last + n + total c.first) (Free s) ∷ c.back),
-      ap (count t) c.at_front,
-      count-append t c.front c.last,
-      ap (count t)
-          c.at_back,
-      count-append t c.first c.back,
-    )
+count_coalesce t xs n s ys = let e = sums_coalesced (count t) (count-append t) xs n s ys (coalesced xs n s ys) in omega arith
 
 -- before a free end and after a free start nothing is free
 end_live : (xs fs : List Block) → IsEnd xs fs → AreApart (xs ++ fs) → ends_free xs ≡ false

@@ -20,6 +20,10 @@ pub in_right : {A : Type 0} (x : A) (xs ys : List A) → IsIn x ys → IsIn x (x
 in_right x [] ys h = h
 in_right x (z ∷ xs) ys h = inr (in_right x xs ys h)
 
+pub in_parts : {A : Type 0} (x : A) (xs : List A) (y : A) (ys : List A) → IsIn x xs ⊎ IsIn x ys → IsIn x (xs ++ y ∷ ys)
+in_parts x xs y ys (inl h) = in_left x xs _ h
+in_parts x xs y ys (inr h) = in_right x xs _ (inr h)
+
 -- the image of an item is in the mapped list
 pub in_map : {A B : Type 0} (f : A → B) (x : A) (xs : List A) → IsIn x xs → IsIn (f x) (map f xs)
 in_map f x [] h = absurd h

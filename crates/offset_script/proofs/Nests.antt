@@ -55,16 +55,10 @@ does_grant : (c : Command) (s : State) → length s.blocks + 1 < s.limit → (ne
     → ((o : ℕ) → padding_at o + requested_units c ≤ needed) → (p : Option Place)
     → chosen_place needed s.blocks ≡ p → Does c s (grant_or_refuse s (requested_units c) padding_at p)
 does_grant c s room needed padding_at h None e = only c s machine.Refused tt
-does_grant c s room needed padding_at h (Some p) e = inr (inl (record {
-  needed = needed;
-  padding = padding_at (total p.before);
-  place = p;
-  room = room;
-  chose = e;
-  within = let f = chosen_at needed s.blocks p e in let l = fits_size needed p.block.size (and_parts (is_free p.block.tag) (nat_le (up needed) (down p.block.size)) f.1).1 in let m =
-      h (total p.before) in omega arith;
-  is = refl;
-}))
+does_grant c s room needed padding_at h (Some p) e =
+    let f = fits_size needed p.block.size (and_parts (is_free p.block.tag) (nat_le (up needed) (down p.block.size)) (chosen_at needed s.blocks p e).1).1 in
+    let within : padding_at (total p.before) + requested_units c ≤ p.block.size = omega (arith, h (total p.before)) in
+    inr (inl (record { needed = needed; padding = padding_at (total p.before); place = p; room = room; chose = e; within = within; is = refl }))
 
 does_request : (c : Command) (s : State) (spare : ℕ) → 1 ≤ spare → (needed : ℕ) (padding_at : ℕ → ℕ) → ((o : ℕ) → padding_at o + requested_units c ≤ needed)
     → Does c s (request s spare needed (requested_units c) padding_at)

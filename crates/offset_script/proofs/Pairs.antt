@@ -183,8 +183,7 @@ same_fits n q = ap (λ b. b && nat_le (up n) (down q.size)) (same_free q.kind)
 same_tests : (x y : ℕ) (k l : Kind) → is_free (left_tag k) ≡ true → is_free (left_tag l) ≡ true → (nat_eq y x ≡ true → IsSameOrder l k)
     → (nat_lt x y || (nat_eq x y && nat_lt (stamp (left_tag l)) (stamp (left_tag k)))) ≡ (nat_lt x y || (nat_eq x y && nat_lt (stamp (right_tag l)) (stamp (right_tag k))))
 same_tests x y (Frees s u) (Frees t v) f g h = ap (λ b. nat_lt x y || b) (same_and (nat_eq x y) _ _ (λ e. h (eq-eqb y x (sym (eqb-true x y e)))))
-same_tests x y (Frees s u) (Lives i j) f g h = absurd (false≢true g)
-same_tests x y (Lives i j) l f g h = absurd (false≢true f)
+same_tests x y k l f g h = absurd cc
 
 -- of two pairs that are free and agree, the same one is chosen over the other on both sides
 same_test : (m : ℕ) (a b : Pair) → fits m (left a) ≡ true → fits m (left b) ≡ true → AreAgreed b a → is_taken_before (left a) (left b) ≡ is_taken_before (right a) (right b)

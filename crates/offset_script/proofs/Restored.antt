@@ -3,7 +3,7 @@ use Rattle.offset_script.proofs.Common.{◌≡◌, ℕ, ◌+◌, ◌-◌, ◌<�
 use Rattle.offset_script.proofs.Common.{arith, append_assoc, eqb-true, eq-eqb, lt-ltb, le-ltb, map-append, cases_eq, false≢true, and_parts, nat_tests, up, down, Tag, Live, Free, Block, block, is_free}
 use Rattle.offset_script.proofs.Common.{has_number, stamp, Place, fits, place_of, free_block, coalesce, State, stamp_of_call, stamp_of_padding}
 use Rattle.offset_allocator.proofs.ViewApart.{left_false, right_false}
-use Rattle.offset_script.proofs.Members.{IsIn, in_append, in_left, in_right, in_map, map_parts, map_first}
+use Rattle.offset_script.proofs.Members.{IsIn, in_append, in_left, in_right, in_map, map_parts, map_first, in_parts}
 use Rattle.offset_script.proofs.Pairs.{Kind, Lives, Frees, Pair, pair, left_tag, right_tag, left, right, lefts, rights, same_total, same_end, same_start, AreAgreed, AreAllAgreed, IsSameOrder}
 use Rattle.offset_script.proofs.Lists.{whole, count, hit, hit_self, in_count, count-append, count_free_block, starts_free, ends_free, AreApart, apart_parts, IsEnd, IsStart, end_of, start_of}
 use Rattle.offset_script.proofs.Lists.{coalesce_parts}
@@ -28,19 +28,10 @@ older : (s : State) → IsWell s → (p : Place) (n u : ℕ) → s.blocks ≡ wh
     → (z t : ℕ) → IsIn (block z (Free t)) p.before ⊎ IsIn (block z (Free t)) p.after → nat_eq (down z) (down p.block.size) ≡ true → t < u
 older s w p n u e tag f best z t i same =
     let c : Block = block z (Free t) in
-    let present : IsIn c s.blocks = subst (IsIn c) (sym e) (in_whole i) in
-    let taken = best c present (fits_too n z (Free t) p.block refl same f) in
-    let le : t ≤ stamp p.block.tag = not_after (down z) (down p.block.size) t (stamp p.block.tag) taken same in
-    let le_u : t ≤ u = subst (λ x. t ≤ x) (ap stamp tag) le in
-    elim (cases_eq t u) [
-      | inl equal ↦ absurd (twice equal)
-      | inr differ ↦ omega (arith, le_u, differ)
-    ]
+    let present : IsIn c s.blocks = subst (IsIn c) (sym e) (in_parts c p.before p.block p.after i) in
+    let le = not_after (down z) (down p.block.size) t (stamp p.block.tag) (best c present (fits_too n z (Free t) p.block refl same f)) same in
+    elim (cases_eq t u) [ inl equal ↦ absurd (twice equal) | inr differ ↦ omega (arith, ap stamp tag) ]
   where
-    in_whole : IsIn (block z (Free t)) p.before ⊎ IsIn (block z (Free t)) p.after → IsIn (block z (Free t)) (whole p)
-    in_whole (inl h) = in_left _ p.before _ h
-    in_whole (inr h) = in_right _ p.before _ (inr h)
-
     elsewhere : IsIn (block z (Free t)) p.before ⊎ IsIn (block z (Free t)) p.after → 1 ≤ count (Free t) p.before + count (Free t) p.after
     elsewhere (inl h) = let l = in_count _ p.before h in omega arith
     elsewhere (inr h) = let l = in_count _ p.after h in omega arith
@@ -67,10 +58,7 @@ similar_restored : (ps : List Pair) (before after : List Pair) (z u v : ℕ)
     → ((q : Pair) (s t : ℕ) → IsIn q before ⊎ IsIn q after → q.kind ≡ Frees s t → nat_eq (down q.size) (down z) ≡ true → (s < u) × (t < v))
     → AreSimilar (lefts before ++ block z (Free u) ∷ lefts after) (rights before ++ block z (Free v) ∷ rights after)
 similar_restored ps before after z u v old numbers agree newest = record {
-  pairs = before ++ pair z (Frees u v) ∷ after;
-  left_blocks = sym (map-append left before _);
-  right_blocks = sym (map-append right before _);
-  numbers = λ q i. number q (which q i);
+  paired = record { pairs = before ++ pair z (Frees u v) ∷ after; left_blocks = sym (map-append left before _); right_blocks = sym (map-append right before _); numbers = λ q i. number q (which q i) };
   agree = λ a b i j. ordered a b (which a i) (which b j);
 }
   where

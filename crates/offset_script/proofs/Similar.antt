@@ -19,9 +19,8 @@ pub record ArePaired (bs cs : List Block) : Type 0 where
 
 paired_tag : (t u : Tag) → holder t ≡ holder u → (k : Kind) × (t ≡ left_tag k) × (u ≡ right_tag k) × HasSameNumber k
 paired_tag (Live i) (Live j) e = (Lives i j, refl, refl, same_some i j e)
-paired_tag (Live i) (Free s) e = absurd (grind (arith, e))
-paired_tag (Free s) (Live i) e = absurd (grind (arith, e))
 paired_tag (Free s) (Free u) e = (Frees s u, refl, refl, tt)
+paired_tag t u e = absurd cc
 
 paired_cons : (b c : Block) (bs cs : List Block) → ◌≡◌ {A = ℕ × Option ℕ} (b.size, holder b.tag) (c.size, holder c.tag) → ArePaired bs cs → ArePaired (b ∷ bs) (c ∷ cs)
 paired_cons b c bs cs e p =
@@ -35,16 +34,13 @@ paired_cons b c bs cs e p =
 
 pub paired : (bs cs : List Block) → outline bs ≡ outline cs → ArePaired bs cs
 paired [] [] e = record { pairs = []; left_blocks = refl; right_blocks = refl; numbers = λ q i. absurd i }
-paired [] (c ∷ cs) e = absurd (cc)
-paired (b ∷ bs) [] e = absurd (cc)
 paired (b ∷ bs) (c ∷ cs) e = paired_cons b c bs cs (cc) (paired bs cs (cc))
+paired bs cs e = absurd cc
 
 -- two lists that differ only in stamps, which have the same order in each class
 pub record AreSimilar (bs cs : List Block) : Type 0 where
-  pub pairs : List Pair
-  pub left_blocks : bs ≡ lefts pairs
-  pub right_blocks : cs ≡ rights pairs
-  pub numbers : (q : Pair) → IsIn q pairs → HasSameNumber q.kind
+  pub paired : ArePaired bs cs
+  pub open paired use {pairs, left_blocks, right_blocks, numbers}
   pub agree : AreAllAgreed pairs
 
 -- the block at a place, or a live one past the end
@@ -88,13 +84,11 @@ IsInOrder k l = nat_lt (stamp (left_tag k)) (stamp (left_tag l)) ≡ nat_lt (sta
 
 in_order : (k l : Kind) → is_free (left_tag k) ≡ true → is_free (left_tag l) ≡ true → IsSameOrder k l → IsInOrder k l
 in_order (Frees s u) (Frees t v) f g h = h
-in_order (Frees s u) (Lives i j) f g h = absurd (false≢true g)
-in_order (Lives i j) l f g h = absurd (false≢true f)
+in_order k l f g h = absurd cc
 
 same_order : (k l : Kind) → (is_free (left_tag k) ≡ true → is_free (left_tag l) ≡ true → IsInOrder k l) → IsSameOrder k l
 same_order (Frees s u) (Frees t v) h = h refl refl
-same_order (Frees s u) (Lives i j) h = tt
-same_order (Lives i j) l h = tt
+same_order k l h = tt
 
 same_outline : (p : List Pair) → ((q : Pair) → IsIn q p → HasSameNumber q.kind) → outline (lefts p) ≡ outline (rights p)
 same_outline [] h = refl
@@ -132,10 +126,7 @@ ordered bs cs m = record {
 
 similar : (bs cs : List Block) → IsOrdered bs cs → AreSimilar bs cs
 similar bs cs m = record {
-  pairs = p.pairs;
-  left_blocks = p.left_blocks;
-  right_blocks = p.right_blocks;
-  numbers = p.numbers;
+  paired = p;
   agree = λ a b i j. let x = at_in a p.pairs i in let y = at_in b p.pairs j in subst₂ AreAgreed x.1 y.1 (agreed x.0 y.0);
 }
   where

@@ -1,4 +1,5 @@
 -- What holds of every state that the machine reaches.
+use Rattle.offset_script.proofs.Lists.{sums_coalesced}
 use Rattle.offset_script.proofs.Common.{◌≡◌, ℕ, zero, suc, ◌+◌, ◌-◌, ◌<◌, ◌≤◌, true, false, ◌&&◌, ◌||◌, ◌⊎◌, List, [], ◌∷◌, ◌++◌, length, Option, Some, None, nat_lt, nat_le, refl, sym, ap, subst, ◌∙◌}
 use Rattle.offset_script.proofs.Common.{inl, inr, arith, leb-false, length-append, cases_lt, true≢false, and_parts, and_left, and_right, or_parts, and_cases, not-false, Command, max_size, padding_to}
 use Rattle.offset_script.proofs.Common.{Tag, Live, Free, Block, block, is_free, total, Place, chosen_place, place_of, free_block, ends_live, coalesce, State, Answer, Outcome, start, step, after}
@@ -88,9 +89,8 @@ well_grant s w n padding p e f spare room enough = search (arith, well_next, cou
 pub length_coalesce : (xs : List Block) (n s : ℕ) (ys : List Block) → (1 ≤ length (coalesce xs n s ys)) × (length (coalesce xs n s ys) ≤ length xs + suc (length ys))
 length_coalesce xs n s ys =
     let c = coalesced xs n s ys in
-    let e = ap length c.is ∙ length-append c.front (block (total c.last + n + total c.first) (Free s) ∷ c.back) in
-    let l = c.end.few in
-    (omega arith, omega (arith, ap length c.at_front, ap length c.at_back, length-append c.front c.last, length-append c.first c.back))
+    let e = sums_coalesced length length-append xs n s ys c in
+    (omega arith, omega (arith, c.end.few))
 
 well_granted : (s : State) → IsWell s → (needed n : ℕ) (padding_at : ℕ → ℕ) (spare : ℕ) → ((o x : ℕ) → length (free_block (padding_at o) x) + 1 ≤ spare)
     → length s.blocks + spare < s.limit
@@ -127,16 +127,7 @@ length_at_end bs n s = (λ e h. shorter (coalesced bs n s []) e h, (length_coale
 
     shorter : IsCoalesced bs n s [] → ends_live bs ≡ false → 1 ≤ length bs → length (coalesce bs n s []) ≤ length bs
     shorter c e h = elim (cases_lt 0 (length c.last)) [
-      | inl l ↦ omega (
-        arith,
-        ap length c.is,
-        length-append c.front (block (total c.last + n + total c.first) (Free s) ∷ c.back),
-        ap length c.at_front,
-        length-append c.front c.last,
-        ap length
-            c.at_back,
-        length-append c.first c.back,
-      )
+      | inl l ↦ let e = sums_coalesced length length-append bs n s [] c in omega arith
       | inr l ↦ absurd (true≢false (sym (ends_some bs h e) ∙ ap ends_free c.at_front ∙ c.end.live (omega arith)))
     ]
 
@@ -167,14 +158,12 @@ no_padding o x = omega arith
 pub well_step : (c : Command) (s : State) → IsWell s → IsWell (step c s).state
 well_step (command.Alloc n) s w = well_request s w 1 n n (λ offset. 0) no_padding
 well_step (command.Free k) s w = well_release s w k (place_of k s.blocks) refl
-well_step (command.Size k) s w = well_quiet s w (size_at (place_of k s.blocks))
-well_step command.Report s w = well_quiet s w (report s)
-well_step command.Full s w = well_quiet s w (machine.Full (rows_below 256 (machine.free_sizes s.blocks)))
 well_step command.Reset s w = well_reset s w
 well_step (command.Align n align) s w = if_both (λ (o : Outcome). IsWell o.state) (nat_le align 1) _ _ (λ e. well_request s w 1 n n (λ offset. 0) no_padding)
     (λ e. if_both (λ (o : Outcome). IsWell o.state) (nat_lt max_size (n + align - 1)) _ _ (λ e. well_quiet s w machine.Refused)
     (λ e. well_request s w 2 (n + align - 1) n (padding_to align) (λ o x. let h = (free_part (padding_to align o) x).3 in omega arith)))
 well_step (command.Extend more) s w = well_extend s w more
+well_step other s w = well_quiet s w (step other s).answer
 
 -- so do all commands in order
 pub well_after : (cs : List Command) (s : State) → IsWell s → IsWell (after cs s)
