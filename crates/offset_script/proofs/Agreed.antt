@@ -1,4 +1,5 @@
 -- What each call of the allocator leaves agrees with what the plain machine leaves, and the answers are the same.
+use Rattle.offset_script.proofs.Tests.{if_both, if_same}
 use Rattle.offset_script.proofs.Common.{◌≡◌, ℕ, zero, suc, ◌+◌, ◌-◌, ◌<◌, ◌≤◌, Bool, true, false, not, ◌&&◌, ◌||◌, ◌⊎◌, List, [], ◌∷◌, ◌++◌, replicate, length, sum, Option, Some, None, nat_eq, nat_lt}
 use Rattle.offset_script.proofs.Common.{nat_le, if◌then◌else◌, refl, sym, ap, ap₂, subst, ◌∙◌, inl, inr, arith, eq-eqb, ne_eqb, le-leb, le-ltb, leb-false, append_assoc, append-nil, option_or}
 use Rattle.offset_script.proofs.Common.{cases_eq, cases_lt, true≢false, false≢true, lt-leb, ltb-true, ltb-false, and_parts, and_right, or_parts, not-false, up, down, largest, rows_below, Live, Free}
@@ -155,13 +156,10 @@ module _ (v : View) (kept_name : ℕ → Option ℕ) (s : State) (w : IsWellForm
         names_are = names_new front padding sp.label.name n k rest left (stamp_of_padding s) ∙ ap (λ m. free_part front padding ++ used_block sp.label.name n ∷ free_part rest m) (omega arith)
 
         first : name_of k sp.before ≡ None
-        first = name_none k sp.before
-            (omega (
-              arith,
-              not_there s ws (Live k) (λ o. absurd (let l = o.1 in omega arith)),
-              ap (count (Live k)) (g.state ∙ ap tags e ∙ map-append by_tag sp.before (sp.label ∷ sp.after)),
-              count-append (Live k) (tags sp.before) (tags (sp.label ∷ sp.after)),
-            ))
+        first =
+            let none = not_there s ws (Live k) (λ o. absurd (let l = o.1 in omega arith)) in
+            let parts = ap (count (Live k)) (g.state ∙ ap tags e ∙ map-append by_tag sp.before (sp.label ∷ sp.after)) in
+            name_none k sp.before (omega (arith, count-append (Live k) (tags sp.before) (tags (sp.label ∷ sp.after))))
 
         handles : (j : ℕ) → with_name k sp.label.name kept_name j ≡ name_of j (sp.before ++ (new ++ sp.after))
         handles j = search (arith, cases_eq, k, name_of, new, eq-eqb, name_append, first, name_new, left, ne_eqb, name_replaced, name_skip)
@@ -175,8 +173,7 @@ module _ (v : View) (kept_name : ℕ → Option ℕ) (s : State) (w : IsWellForm
         → HasBlocksOf u kept_name' (leaves s (machine.coalesce (tags front) n (stamp_of_call s) (tags back)) a).state
     coalesced_agrees front before left old back right after x n size e at_front at_back fl fr same kept_name' handles a =
         agrees_replaced size before (left ++ (old ++ right)) (l ∷ []) after parted same _ refl state (λ e. absurd (true≢false e), λ e. (omega arith, tt)) kept_name'
-        (λ j. handles j ∙ ap₂ option_or (ap (name_of j) at_front ∙ name_append j before left ∙ ap (option_or (name_of j before)) (name_free j left fl) ∙ or_none _)
-        (ap (name_of j) at_back ∙ name_append j right after ∙ ap (λ o. option_or o (name_of j after)) (name_free j right fr)) ∙ sym (name_append j before (l ∷ after)))
+        (λ j. search (arith, handles, name_append, name_free, or_none))
       where
         l : Label
         l = record { name = x; size = total (tags left) + n + total (tags right); tag = Free (stamp_of_call s) }
@@ -258,22 +255,7 @@ module _ (v : View) (kept_name : ℕ → Option ℕ) (s : State) (w : IsWellForm
       total_middle (x ∷ xs) b ys = let ih = total_middle xs b ys in omega arith
 
   aligned_is : (n align : ℕ) → 1 ≤ align → step (command.Align n align) s ≡ machine.request s (blocks_needed align) (units_needed n align) n (padding_to align)
-  aligned_is n align some = elim (cases_lt 1 align) [
-    | inl l ↦ ap (λ (b : Bool). if b then machine.allocate n s else large (nat_lt max_size (n + align - 1))) (lt-leb align 1 l) ∙ go (nat_lt max_size (n + align - 1)) refl
-        ∙ ap (λ k. machine.request s k (units_needed n align) n (padding_to align)) (let e : 2 ≡ blocks_needed align = omega arith in e)
-    | inr l ↦ ap (λ (b : Bool). if b then machine.allocate n s else large (nat_lt max_size (n + align - 1))) (le-leb align 1 l)
-        ∙ request_alike 1 (blocks_needed align) n (units_needed n align) n (λ offset. 0) (padding_to align) (omega arith) (omega arith) (λ o. omega arith)
-  ]
-    where
-      large : Bool → machine.Outcome
-      large b = if b then returns_only s machine.Refused else machine.request s 2 (n + align - 1) n (padding_to align)
-
-      go : (b : Bool) → nat_lt max_size (n + align - 1) ≡ b → large b ≡ machine.request s 2 (n + align - 1) n (padding_to align)
-      go true e = elim (machine.is_short_of 2 s) as (λ b. returns_only s machine.Refused ≡ (if b then returns_only s machine.Refused else returns_only s machine.Refused))
-          [ true ↦ refl | false ↦ refl ] ∙ ap (λ (o : Option machine.Place). if machine.is_short_of 2 s then returns_only s machine.Refused else
-          machine.grant_or_refuse s n (padding_to align) o)
-          (sym (too_large (n + align - 1) (ltb-true max_size (n + align - 1) e) (chosen_place (n + align - 1) s.blocks) refl))
-      go false e = refl
+  aligned_is n align some = search (arith, cases_lt, lt-leb, le-leb, if_both, too_large, request_alike, chosen_place, ltb-true)
 
   pub aligned_agrees : (n align : ℕ) → 1 ≤ align → (u : View) → IsWellFormed u → (r : Option Grant) → Serves (blocks_needed align) (units_needed n align) n (padding_to align) v u r
       → IsMatch u kept_name s.grants r (step (command.Align n align) s)
@@ -432,10 +414,7 @@ module _ (v : View) (kept_name : ℕ → Option ℕ) (s : State) (w : IsWellForm
   same_sizes = ap machine.free_sizes g.state ∙ free_sizes_labels g.labels ∙ sym (ap named.free_sizes g.view)
 
   pub report_agrees : (step command.Report s).answer ≡ machine.Report (named.total_free v) (named.largest_free v)
-  report_agrees = ap₂ (λ (b : Bool) ns. if b then machine.Report 0 0 else machine.Report (sum ns) (largest ns)) (ap₂ (λ m n. nat_le m (n + 1)) g.limit (sym same_length)) same_sizes
-      ∙ elim (named.is_full v)
-      as (λ b. (if b then machine.Report 0 0 else machine.Report (sum (named.free_sizes v.blocks)) (largest (named.free_sizes v.blocks)))
-      ≡ machine.Report (if b then 0 else sum (named.free_sizes v.blocks)) (if b then 0 else largest (named.free_sizes v.blocks))) [ true ↦ refl | false ↦ refl ]
+  report_agrees = search (arith, if_same, same_length, same_sizes, g.limit, sum)
 
   pub full_agrees : (step command.Full s).answer ≡ machine.Full (rows_below 256 (named.free_sizes v.blocks))
   full_agrees = ap (λ ns. machine.Full (rows_below 256 ns)) same_sizes

@@ -110,16 +110,7 @@ module _ (v : View) (w : IsWellFormed v) (ls : List Label) (a : IsLabelled v ls)
     -- it is the first of its bin, and of another block that is chosen over all, this one has the name
     same_name : (s l : Spot) → ls ≡ whole s → named_place s ≡ place_at t.before t.block t.after → ls ≡ whole l → is_free l.label.tag ≡ true → up n ≤ down l.label.size
         → is_taken_before (by_tag s.label) (by_tag l.label) ≡ false → s.label.name ≡ l.label.name
-    same_name s l es place el fl cl best = elim (cases_eq s.label.name l.label.name) [
-      | inl e ↦ e
-      | inr d ↦ absurd (elim (cases_lt (down s.label.size) (down l.label.size)) [
-        | inl less ↦ true≢false (sym (rw (lt-ltb (down s.label.size) (down l.label.size) less) refl) ∙ best)
-        | inr more ↦ elim (cases_lt (down l.label.size) (down s.label.size)) [
-          | inl less ↦ let none = t.smallest (down l.label.size) cl (let k = class in omega arith) in let one_there = listed in omega (arith, ap (times l.label.name) none)
-          | inr same ↦ true≢false (sym (newer_before s.label l.label (omega arith) (newer d (omega arith))) ∙ best)
-        ]
-      ])
-    ]
+    same_name s l es place el fl cl best = search (arith, cases_eq, cases_lt, lt-ltb, newer_before, newer, listed, class, t.smallest, times)
       where
         class : down s.label.size ≡ down t.block.size
         class = ap (λ (p : Place). down p.block.size) place

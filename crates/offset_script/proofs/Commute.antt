@@ -72,9 +72,7 @@ free_holder (Free s) e = refl
 -- free blocks after units that are free, and before them
 free_after : (ks : List ℕ) (n : ℕ) (gs : List Block) (o : Outline) → AreFree gs → widen n (collapse ks (outline gs ++ o)) ≡ widen (n + total gs) (collapse ks o)
 free_after ks n [] o f = ap (λ m. widen m (collapse ks o)) (omega arith)
-free_after ks n (b ∷ gs) o f = ap (λ h. widen n (collapse_block ks b.size h (collapse ks (outline gs ++ o)))) (free_holder b.tag f.0) ∙ widen-widen n b.size _
-    ∙ free_after ks (n + b.size) gs o f.1
-    ∙ ap (λ m. widen m (collapse ks o)) (omega arith)
+free_after ks n (b ∷ gs) o f = search (arith, (free_after ks (n + b.size) gs o f.1), free_holder, widen-widen)
 
 free_before : (ks : List ℕ) (n : ℕ) (fs : List Block) (o p : Outline) → AreFree fs → collapse ks o ≡ widen n p → collapse ks (outline fs ++ o) ≡ widen (total fs + n) p
 free_before ks n [] o p f e = e ∙ ap (λ m. widen m p) (omega arith)
@@ -141,7 +139,7 @@ pub record IsSameSpace (s t : State) : Type 0 where
 
 -- whether a request is granted goes by the sizes
 some_chosen : (n : ℕ) (b : Block) (bs : List Block) (o : Option Place) → is_some (choose n b bs o) ≡ (fits n b || is_some o)
-some_chosen n b bs None = elim (fits n b) as (λ x. is_some (if x then Some (here b bs) else None) ≡ (x || false)) [ true ↦ refl | false ↦ refl ]
+some_chosen n b bs None = search (arith, is_some)
 some_chosen n b bs (Some p) = search (arith, is_some)
 
 pub some_same : (n : ℕ) (p : List Pair) → is_some (chosen_place n (lefts p)) ≡ is_some (chosen_place n (rights p))

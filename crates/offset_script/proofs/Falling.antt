@@ -56,7 +56,7 @@ falling_put_all f t (b ∷ bs) order h fall low rise =
     put l d = search (arith, cases_eq, names_same, down_small, names_other)
 
     none : (d y : ℕ) → y ≢ b.name → hit d (down b.size) y b.name ≡ 0
-    none d y n = rw (ne_eqb y b.name n) (elim (nat_eq d (down b.size)) as (λ v. one (v && false) ≡ 0) [ true ↦ refl | false ↦ refl ])
+    none d y n = search (arith, ne_eqb, one)
 
     low' : t ≤ f b.name → (d y : ℕ) → 1 ≤ times y (bin_at (push (down b.size) b.name order) d) → f y < f b.name + 1
     low' a d y m = search (arith, times_put, down_small, hit_cases, none)

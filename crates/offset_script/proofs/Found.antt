@@ -18,7 +18,7 @@ found_step : (k : ℕ) (b : Block) (bs : List Block) (o : Option Place) → IsFo
     → IsFoundAt k (b ∷ bs) (if x then Some (here b bs) else option_map (prepend b) o)
 found_step k b bs o f true e = (refl, e, refl)
 found_step k b bs None f false e = let h : hit (Live k) b.tag ≡ 0 = number_hit k b.tag ∙ ap one e in omega arith
-found_step k b bs (Some p) f false e = let h : hit (Live k) b.tag ≡ 0 = number_hit k b.tag ∙ ap one e in (ap (λ l. b ∷ l) f.0, f.1, omega arith)
+found_step k b bs (Some p) f false e = search (arith, number_hit)
 
 found_all : (k : ℕ) (bs : List Block) → IsFoundAt k bs (place_of k bs)
 found_all k [] = refl

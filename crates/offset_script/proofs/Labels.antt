@@ -22,10 +22,7 @@ map_three f xs ys zs = map-append f xs (ys ++ zs) ∙ ap (λ l. map f xs ++ l) (
 -- stamps
 pub stamp_none : (x : ℕ) (ls : List Label) → count_named x (names ls) ≡ 0 → stamp_of x ls ≡ 0
 stamp_none x [] e = refl
-stamp_none x (l ∷ ls) e = elim (hit_cases x l.name) [
-  | inl i ↦ absurd (let k = i.1 in omega arith)
-  | inr i ↦ let ih = stamp_none x ls (omega arith) in rw (ne_eqb x l.name i.0) (omega arith)
-]
+stamp_none x (l ∷ ls) e = search (arith, hit_cases, (stamp_none x ls), ne_eqb)
 
 -- f returns the stamp of each of these labels
 abbrev pub HasStamps : (ℕ → ℕ) → List Label → Type 0

@@ -118,15 +118,9 @@ traceless_quiet c s k g f = elim (does c s k) [
 granted_is : (c : Command) (s : State) (k : ℕ) → KeepsSpace c → IsGrant (step c s).answer k → IsGranted (requested_units c) s (step c s) × (k ≡ s.grants + 1)
 granted_is c s k h g = elim (does c s h) [
   | inl q ↦ absurd (subst IsQuiet (ap (λ (x : Outcome). x.answer) (sym q.is) ∙ g.1) q.quiet)
-  | inr (inl d) ↦ (d, number _ _ _ _ (sym g.1 ∙ ap (λ (x : Outcome). x.answer) d.is))
-  | inr (inr d) ↦ absurd (freed k g.0 (ap (λ (x : Outcome). x.answer) (sym d.is) ∙ g.1))
+  | inr (inl d) ↦ let e = ap (λ (x : Outcome). x.answer) d.is in (d, cc)
+  | inr (inr d) ↦ let e = ap (λ (x : Outcome). x.answer) d.is in absurd cc
 ]
-  where
-    number : (k j o p : ℕ) → machine.Grant k o ≡ machine.Grant j p → k ≡ j
-    number k j o p e = cc
-
-    freed : (k o : ℕ) → machine.Freed ≡ machine.Grant k o → ⊥
-    freed k o e = cc
 
 -- a grant, a nest, and its release
 traceless_release : (s t : State) (k : ℕ) → (r : IsRestored s t) → k ≡ s.grants + 1 → s.limit ≡ t.limit → s.grants ≤ t.grants → AreTraceless s (step (command.Free k) t).state
@@ -163,13 +157,13 @@ number_without_cases g j k = search (arith, cases_lt, nat_le, lt-leb, le-leb)
 
 -- the same number, where no grants are left out
 pub number_without_none : (g k : ℕ) → number_without g 0 k ≡ k
-number_without_none g k = elim (number_without_cases g 0 k) [ inl h ↦ h.1 | inr (inl h) ↦ absurd (omega arith) | inr (inr h) ↦ h.1 ∙ omega arith ]
+number_without_none g k = search (arith, number_without_cases)
 
 number_without_kept : (g j i k : ℕ) → 1 ≤ i → i ≤ g → nat_eq k i ≡ nat_eq (number_without g j k) i
 number_without_kept g j i k one most = search (arith, number_without_cases, nat_eq, ne_eqb)
 
 pub number_without_past : (g j k : ℕ) → k ≤ g + j → number_without g j k ≤ g
-number_without_past g j k l = elim (number_without_cases g j k) [ inl h ↦ omega arith | inr (inl h) ↦ omega arith | inr (inr h) ↦ absurd (omega arith) ]
+number_without_past g j k l = search (arith, number_without_cases)
 
 pub number_without_future : (g j k : ℕ) → g + j < k → number_without g j k + j ≡ k
 number_without_future g j k l = elim (number_without_cases g j k) [ inl h ↦ absurd (omega arith) | inr (inl h) ↦ absurd (omega arith) | inr (inr h) ↦ omega arith ]

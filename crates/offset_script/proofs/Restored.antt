@@ -22,7 +22,7 @@ not_after : (x y s u : ℕ) → (nat_lt x y || (nat_eq x y && nat_lt u s)) ≡ f
 not_after x y s u f e = grind (arith, nat_tests)
 
 fits_too : (n : ℕ) (q : ℕ) (t : Tag) (b : Block) → is_free t ≡ true → nat_eq (down q) (down b.size) ≡ true → fits n b ≡ true → fits n (block q t) ≡ true
-fits_too n q t b f e g = ap₂ (λ x y. x && nat_le (up n) y) f (eqb-true _ _ e) ∙ (and_parts (is_free b.tag) _ g).1
+fits_too n q t b f e g = grind (arith, nat_tests)
 
 older : (s : State) → IsWell s → (p : Place) (n u : ℕ) → s.blocks ≡ whole p → p.block.tag ≡ Free u → fits n p.block ≡ true → IsBest n s.blocks p.block
     → (z t : ℕ) → IsIn (block z (Free t)) p.before ⊎ IsIn (block z (Free t)) p.after → nat_eq (down z) (down p.block.size) ≡ true → t < u

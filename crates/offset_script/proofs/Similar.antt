@@ -59,7 +59,7 @@ module _ (bs cs : List Block) (e : outline bs ≡ outline cs) (i : ℕ) where
       ∙ get_or-map (λ (b : Block). (b.size, holder b.tag)) cs i (block 0 (Live 0))
 
   size_same : (at i bs).size ≡ (at i cs).size
-  size_same = ap (λ (x : ℕ × Option ℕ). x.0) shape_same
+  size_same = search (arith, shape_same)
 
   free_same : is_free (at i bs).tag ≡ is_free (at i cs).tag
   free_same = search (arith, is_none, shape_same)

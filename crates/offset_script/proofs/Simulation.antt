@@ -23,13 +23,10 @@ handle_name h = h.name
 pub kept_push : (hs : List (Option Grant)) (h : Grant) (k : ℕ) → kept_name (hs ++ Some h ∷ []) k ≡ with_name (length hs + 1) h.name (kept_name hs) k
 kept_push hs h zero = rw (ne_eqb 0 (length hs + 1) (omega arith)) refl
 kept_push hs h (suc k) = elim (cases_eq k (length hs)) [
-  | inl e ↦ ap (option_map handle_name) (ap (λ i. get_or (hs ++ Some h ∷ []) i None) e ∙ get_or-append_seam hs (Some h) [] None)
-      ∙ sym (ap (λ (b : Bool). if b then Some h.name else kept_name hs (suc k)) (eq-eqb (suc k) (length hs + 1) (omega arith)))
+  | inl e ↦ search (arith, option_map, get_or-append_seam, eq-eqb)
   | inr n ↦ elim (cases_lt k (length hs)) [
-    | inl l ↦ ap (option_map handle_name) (get_or-append hs (Some h ∷ []) None k l)
-        ∙ sym (ap (λ (b : Bool). if b then Some h.name else kept_name hs (suc k)) (ne_eqb (suc k) (length hs + 1) (omega arith)))
-    | inr m ↦ ap (option_map handle_name) (get_or_past (hs ++ Some h ∷ []) k None (let e = length-append hs (Some h ∷ []) in omega arith))
-        ∙ sym (ap (λ (b : Bool). if b then Some h.name else kept_name hs (suc k)) (ne_eqb (suc k) (length hs + 1) (omega arith)) ∙ ap (option_map handle_name) (get_or_past hs k None m))
+    | inl l ↦ search (arith, option_map, get_or-append, ne_eqb)
+    | inr m ↦ let e = length-append hs (Some h ∷ []) in search (arith, option_map, ne_eqb, get_or_past)
   ]
 ]
 
@@ -51,7 +48,7 @@ kept_within hs (suc k) x e = search (arith, cases_lt, length, option_map, get_or
 -- where no handle is left, no name is kept
 none_kept : (hs : List (Option Grant)) → ((i : ℕ) → i < length hs → slice_index_or hs i None ≡ None) → (k : ℕ) → kept_name hs k ≡ None
 none_kept hs none zero = refl
-none_kept hs none (suc k) = elim (cases_lt k (length hs)) [ inl l ↦ ap (option_map handle_name) (none k l) | inr m ↦ ap (option_map handle_name) (get_or_past hs k None m) ]
+none_kept hs none (suc k) = search (arith, cases_lt, option_map, get_or_past)
 
 -- what is so of a name that is kept, or where none is
 pub if_none : (o : Option ℕ) (P : ℕ → Type 0) (Q : Type 0) → o ≡ None → Q → IfNamed o P Q
