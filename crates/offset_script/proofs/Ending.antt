@@ -32,16 +32,13 @@ whole_or_long : (bytes text : List ℕ) (left : Option (List ℕ)) → HasText b
     → ((left ≡ Some []) × (text ≡ bytes) × (length bytes < 1048577))
     ⊎ ((left ≡ Some (drop 1048577 text)) × (meaning_of bytes ≡ Err scripts.TooLong) × (meaning_of text ≡ Err scripts.TooLong))
 whole_or_long bytes text None h = absurd h.takes
-whole_or_long bytes text (Some rest) h =
-    elim (cases_lt (length bytes) 1048577) [
-      | inl lt ↦ inl (ap Some (h.ends lt), h.takes ∙ ap (λ (l : List ℕ). bytes ++ l) (h.ends lt) ∙ append-nil bytes, lt)
-      | inr le ↦ inr (
-        ap Some (sym (drop_at bytes rest 1048577 (omega (arith, h.most))) ∙ ap (drop 1048577) (sym h.takes)),
-        is_too_long bytes (omega arith),
-        is_too_long text
-            (omega (arith, ap length h.takes, length-append bytes rest)),
-      )
-    ]
+whole_or_long bytes text (Some rest) h = elim (cases_lt (length bytes) 1048577) [
+  | inl lt ↦ inl (ap Some (h.ends lt), h.takes ∙ ap (λ (l : List ℕ). bytes ++ l) (h.ends lt) ∙ append-nil bytes, lt)
+  | inr le ↦
+      let n = ap length h.takes ∙ length-append bytes rest in
+      let left = drop_at bytes rest 1048577 (omega (arith, h.most)) in
+      inr (ap Some (sym left ∙ ap (drop 1048577) (sym h.takes)), is_too_long bytes (omega arith), is_too_long text (omega arith))
+]
 
 pub script_failed : (bytes : List ℕ) (f : ScriptFault) (from left : Option (List ℕ)) → HasText bytes from left → IsParsed (Err f) (meaning_of bytes)
     → IfSome from (λ text. IsScriptOf (Err (as_run_fault f)) text left)

@@ -47,10 +47,7 @@ total_units (l ∷ ls) = ap (λ n. l.size + n) (total_units ls)
 -- the sizes of the free blocks
 pub free_sizes_labels : (ls : List Label) → plain.free_sizes (tags ls) ≡ named.free_sizes (names ls)
 free_sizes_labels [] = refl
-free_sizes_labels (l ∷ ls) = let ih = free_sizes_labels ls in
-    elim (is_free l.tag)
-    as (λ u. (if u then l.size ∷ plain.free_sizes (tags ls) else plain.free_sizes (tags ls)) ≡ (if not u then named.free_sizes (names ls) else l.size ∷ named.free_sizes (names ls)))
-    [ true ↦ ap (λ z. l.size ∷ z) ih | false ↦ ih ]
+free_sizes_labels (l ∷ ls) = search (arith, (free_sizes_labels ls), not)
 
 -- the names of grants
 pub or_none : (o : Option ℕ) → option_or o None ≡ o
@@ -60,8 +57,7 @@ or_none (Some x) = refl
 -- a grant is in the first list, or else in the second
 pub name_append : (k : ℕ) (xs ys : List Label) → name_of k (xs ++ ys) ≡ option_or (name_of k xs) (name_of k ys)
 name_append k [] ys = refl
-name_append k (x ∷ xs) ys = let ih = name_append k xs ys in elim (has_number k x.tag)
-    as (λ u. (if u then Some x.name else name_of k (xs ++ ys)) ≡ option_or (if u then Some x.name else name_of k xs) (name_of k ys)) [ true ↦ refl | false ↦ ih ]
+name_append k (x ∷ xs) ys = search (arith, (name_append k xs ys))
 
 no_number : (k : ℕ) (t : Tag) → is_free t ≡ true → has_number k t ≡ false
 no_number k (Live j) e = absurd (false≢true e)

@@ -11,10 +11,7 @@ falling_without : (f : ℕ → ℕ) (x : ℕ) (xs : List ℕ) → IsFalling f xs
 falling_without f x [] h = tt
 falling_without f x (y ∷ ys) h =
     let ih = falling_without f x ys h.1 in
-    elim (nat_eq y x) as (λ b. IsFalling f (cond (not b) (y ∷ without x ys) (without x ys))) [
-      | true ↦ ih
-      | false ↦ (λ z m. h.0 z (let l = times_without_le x z ys in omega arith), ih)
-    ]
+    cond_both (not (nat_eq y x)) (y ∷ without x ys) (without x ys) (IsFalling f) (λ e. (λ z m. h.0 z (let l = times_without_le x z ys in omega arith), ih)) (λ e. ih)
 
 -- bins without a name
 pub falling_remove : (f : ℕ → ℕ) (c x : ℕ) (order : List (List ℕ)) → length order ≡ 256 → c < 256 → ((d : ℕ) → IsFalling f (bin_at order d)) → (d : ℕ)
@@ -25,10 +22,9 @@ falling_remove f c x order h b fall d = search (arith, cases_eq, names_same, fal
 pub falling_remove_all : (f : ℕ → ℕ) (bs : List Block) (order : List (List ℕ)) → length order ≡ 256 → ((d : ℕ) → IsFalling f (bin_at order d)) → (d : ℕ)
     → IsFalling f (bin_at (remove_all bs order) d)
 falling_remove_all f [] order h fall = fall
-falling_remove_all f (b ∷ bs) order h fall = elim b.used as (λ u. (d : ℕ) → IsFalling f (bin_at (remove_all bs (if u then order else remove (down b.size) b.name order)) d)) [
-  | true ↦ falling_remove_all f bs order h fall
-  | false ↦ falling_remove_all f bs _ (length_remove _ _ order ∙ h) (falling_remove f (down b.size) b.name order h (down_small b.size) fall)
-]
+falling_remove_all f (b ∷ bs) order h fall = cond_both b.used order (remove (down b.size) b.name order) (λ o. (d : ℕ) → IsFalling f (bin_at (remove_all bs o) d))
+    (λ e. falling_remove_all f bs order h fall)
+    (λ e. falling_remove_all f bs _ (length_remove _ _ order ∙ h) (falling_remove f (down b.size) b.name order h (down_small b.size) fall))
 
 -- other stamps that agree on the names of a list
 pub falling_same : (f g : ℕ → ℕ) (xs : List ℕ) → ((y : ℕ) → 1 ≤ times y xs → f y ≡ g y) → IsFalling f xs → IsFalling g xs

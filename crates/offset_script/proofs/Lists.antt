@@ -181,18 +181,8 @@ pub coalesced : (xs : List Block) (n s : ℕ) (ys : List Block) → IsCoalesced 
 coalesced xs n s ys =
     let e = ended xs in
     let b = started ys in
-    record {
-      front = e.0;
-      last = e.1;
-      first = b.0;
-      back = b.1;
-      at_front = e.2;
-      at_back = b.2;
-      end = e.3;
-      start = b.3;
-      is =
-          ap₂ (λ u v. coalesce u n s v) e.2 b.2 ∙ coalesce_parts e.0 e.1 n s b.0 b.1 e.3 b.3;
-    }
+    let is = ap₂ (λ u v. coalesce u n s v) e.2 b.2 ∙ coalesce_parts e.0 e.1 n s b.0 b.1 e.3 b.3 in
+    record { front = e.0; last = e.1; first = b.0; back = b.1; at_front = e.2; at_back = b.2; end = e.3; start = b.3; is = is }
 
 -- what is added over the parts of a list, of what coalesces
 pub sums_coalesced : (f : List Block → ℕ) → ((xs ys : List Block) → f (xs ++ ys) ≡ f xs + f ys) → (xs : List Block) (n s : ℕ) (ys : List Block) (c : IsCoalesced xs n s ys)

@@ -39,11 +39,8 @@ map_same f e (x ∷ xs) = ap₂ (λ y ys. y ∷ ys) (e x) (map_same f e xs)
 pub map_parts : {A B : Type 0} (f : A → B) (ls : List A) (xs ys : List B) → map f ls ≡ xs ++ ys → (front : List A) × (back : List A) × (ls ≡ front ++ back)
     × (map f front ≡ xs) × (map f back ≡ ys)
 map_parts f ls [] ys e = ([], ls, refl, refl, e)
-map_parts f [] (x ∷ xs) ys e = absurd (cc)
-map_parts f (l ∷ ls) (x ∷ xs) ys e =
-    let r = map_parts f ls xs ys (cc) in
-    let head : f l ≡ x = cc in
-    (l ∷ r.0, r.1, ap (λ z. l ∷ z) r.2, ap₂ (λ y z. y ∷ z) head r.3, r.4)
+map_parts f (l ∷ ls) (x ∷ xs) ys e = let r = map_parts f ls xs ys (cc) in (l ∷ r.0, r.1, (cc), (cc), r.4)
+map_parts f ls xs ys e = absurd cc
 
 -- the first of a mapped list
 pub map_first : {A B : Type 0} (f : A → B) (ls : List A) (b : B) (after : List B) → map f ls ≡ b ∷ after → (x : A) × (ys : List A) × (ls ≡ x ∷ ys)

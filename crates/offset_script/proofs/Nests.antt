@@ -1,4 +1,6 @@
 -- A nest leaves no trace.
+use Rattle.offset_script.proofs.Members.{IsIn}
+use Rattle.offset_script.proofs.Pairs.{Pair}
 use Rattle.offset_script.proofs.Common.{length, ◌≡◌, ◌≢◌, ℕ, ◌+◌, ◌-◌, ◌*◌, ◌<◌, ◌≤◌, Bool, true, false, ◌⊎◌, List, [], ◌∷◌, ◌++◌, Option, Some, None, nat_eq, nat_lt, nat_le, if◌then◌else◌, refl, sym}
 use Rattle.offset_script.proofs.Common.{ap, subst, ◌∙◌, inl, inr, arith, leb-false, le-leb, ne_eqb, cases_lt, lt-leb, and_parts, Command, up, down, max_size, padding_to, Live, Free, is_free, total}
 use Rattle.offset_script.proofs.Common.{Place, chosen_place, place_of, coalesce, State, Answer, Outcome, start, step, after, answers, request, grant, grant_or_refuse, is_short_of, returns_only}
@@ -175,22 +177,15 @@ matched_kind s t w v j (Lives i i') e c d = λ k. let b = w.old (Live i') d in
 matched_kind s t w v j (Frees x y) e c d = (v.old (Free x) c, w.old (Free y) d)
 
 pub alike_after : (s t : State) → IsWell s → IsWell t → AreTraceless s t → IsAlike (number_without s.grants (t.grants - s.grants)) (t.grants - s.grants) t s
-alike_after s t w v m = record {
-  limit = m.limit;
-  pairs = turned.pairs;
-  left_blocks = turned.left_blocks;
-  right_blocks = turned.right_blocks;
-  matched = λ q i. matched_kind s t w v (t.grants - s.grants) q.kind (turned.numbers q i)
-      (subst (λ bs. 1 ≤ count (left_tag q.kind) bs) (sym turned.left_blocks) (in_count (left q) (lefts turned.pairs) (in_map left q turned.pairs i)))
-      (subst (λ bs. 1 ≤ count (right_tag q.kind) bs) (sym turned.right_blocks) (in_count (right q) (rights turned.pairs) (in_map right q turned.pairs i)));
-  agree = turned.agree;
-  grants = omega (arith, m.grants);
-  past = λ k l. number_without_past s.grants (t.grants - s.grants) k (omega (arith, m.grants));
-  future = λ k l. number_without_future s.grants (t.grants - s.grants) k (omega (arith, m.grants));
-}
-  where
-    turned : AreSimilar t.blocks s.blocks
-    turned = similar_sym s.blocks t.blocks m.blocks
+alike_after s t w v m =
+    let p = similar_sym s.blocks t.blocks m.blocks in
+    let on_left = λ (q : Pair) (i : IsIn q p.pairs). subst (λ bs. 1 ≤ count (left_tag q.kind) bs) (sym p.left_blocks) (in_count (left q) (lefts p.pairs) (in_map left q p.pairs i)) in
+    let on_right = λ (q : Pair) (i : IsIn q p.pairs). subst (λ bs. 1 ≤ count (right_tag q.kind) bs) (sym p.right_blocks) (in_count (right q) (rights p.pairs) (in_map right q p.pairs i)) in
+    let matched = λ (q : Pair) (i : IsIn q p.pairs). matched_kind s t w v (t.grants - s.grants) q.kind (p.numbers q i) (on_left q i) (on_right q i) in
+    let past = λ (k : ℕ) (l : k ≤ t.grants). number_without_past s.grants (t.grants - s.grants) k (omega (arith, m.grants)) in
+    let future = λ (k : ℕ) (l : t.grants < k). number_without_future s.grants (t.grants - s.grants) k (omega (arith, m.grants)) in
+    let grants : t.grants ≡ s.grants + (t.grants - s.grants) = omega (arith, m.grants) in
+    record { limit = m.limit; pairs = p.pairs; left_blocks = p.left_blocks; right_blocks = p.right_blocks; matched = matched; agree = p.agree; grants = grants; past = past; future = future }
 
 pub nest_law : (size limit : ℕ) → 2 ≤ limit → (cs nest : List Command) → let s = after cs (start size limit) in
     IsNest s nest → (next : List Command) → answers next (after nest s) ≡ answers_renumbered s (after nest s) next

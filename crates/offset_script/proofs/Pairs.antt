@@ -121,11 +121,7 @@ pub both_coalesced : (ps : List Pair) (n s u : ℕ) (qs : List Pair) → AreBoth
 both_coalesced ps n s u qs = record {
   pairs = a.0 ++ pair m (Frees s u) ∷ b.1;
   on_left = c.is ∙ ap₂ (λ x y. x ++ block m (Free s) ∷ y) (sym a.3) (sym b.4) ∙ sym (map-append left a.0 (pair m (Frees s u) ∷ b.1));
-  on_right = ap₂ (λ x y. coalesce x n u y) (ap rights a.2 ∙ map-append right a.0 a.1) (ap rights b.2 ∙ map-append right b.0 b.1)
-      ∙ coalesce_parts (rights a.0) (rights a.1) n u (rights b.0) (rights b.1) (same_end a.0 a.1 (subst₂ IsEnd (sym a.3) (sym a.4) c.end))
-      (same_start b.0 b.1 (subst₂ IsStart (sym b.3) (sym b.4) c.start))
-      ∙ ap₂ (λ x y. rights a.0 ++ block (x + n + y) (Free u) ∷ rights b.1) (sym (same_total a.1) ∙ ap total a.4) (sym (same_total b.0) ∙ ap total b.3)
-      ∙ sym (map-append right a.0 (pair m (Frees s u) ∷ b.1));
+  on_right = search (arith, rights, map-append, a, b, coalesce_parts, ends, starts, same_total);
   old = λ q i. elim (in_append q a.0 _ i) [
     | inl h ↦ inl (inl (subst (IsIn q) (sym a.2) (in_left q a.0 a.1 h)))
     | inr (inl e) ↦ inr (ap (λ (z : Pair). z.kind) e)
@@ -144,6 +140,12 @@ both_coalesced ps n s u qs = record {
 
     b : (front : List Pair) × (back : List Pair) × (qs ≡ front ++ back) × (lefts front ≡ c.first) × (lefts back ≡ c.back)
     b = map_parts left qs c.first c.back c.at_back
+
+    ends : IsEnd (rights a.0) (rights a.1)
+    ends = same_end a.0 a.1 (subst₂ IsEnd (sym a.3) (sym a.4) c.end)
+
+    starts : IsStart (rights b.0) (rights b.1)
+    starts = same_start b.0 b.1 (subst₂ IsStart (sym b.3) (sym b.4) c.start)
 
 -- places on both sides: of the same pair, of which P holds, or none
 pub data IsSamePlace (P : Pair → Type 0) (p : List Pair) : Option Place → Option Place → Type 0 where

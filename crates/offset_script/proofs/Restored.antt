@@ -175,11 +175,10 @@ restored s w p needed n padding e f best enough t v m = record {
         let o = v.old (Free y) c in omega arith
 
     newest : (q : Pair) (x y : ℕ) → IsIn q a.0 ⊎ IsIn q d.1 → q.kind ≡ Frees x y → nat_eq (down q.size) (down z) ≡ true → (x < stamp p.block.tag) × (y < stamp_of_call t)
-    newest q x y i k same = (older s w p needed (stamp p.block.tag) e tag f best q.size x (stood i) same, below q y (old q i) (ap right_tag k))
+    newest q x y i k same = (older s w p needed (stamp p.block.tag) e tag f best q.size x stood same, below q y (old q i) (ap right_tag k))
       where
-        own : (bs : List Block) → IsIn (left q) bs → IsIn (block q.size (Free x)) bs
-        own bs h = subst (λ c. IsIn (block q.size c) bs) (ap left_tag k) h
+        own : left q ≡ block q.size (Free x)
+        own = ap (λ l. block q.size (left_tag l)) k
 
-        stood : IsIn q a.0 ⊎ IsIn q d.1 → IsIn (block q.size (Free x)) p.before ⊎ IsIn (block q.size (Free x)) p.after
-        stood (inl h) = inl (own p.before (subst (IsIn (left q)) a.3 (in_map left q a.0 h)))
-        stood (inr h) = inr (own p.after (subst (IsIn (left q)) d.4 (in_map left q d.1 h)))
+        stood : IsIn (block q.size (Free x)) p.before ⊎ IsIn (block q.size (Free x)) p.after
+        stood = elim i [ inl h ↦ inl (subst₂ (λ (c : Block) bs. IsIn c bs) own a.3 (in_map left q a.0 h)) | inr h ↦ inr (subst₂ (λ (c : Block) bs. IsIn c bs) own d.4 (in_map left q d.1 h)) ]

@@ -113,15 +113,7 @@ module _ (bs cs : List Block) (p : List Pair) (l : bs ≡ lefts p) (r : cs ≡ r
 ordered : (bs cs : List Block) → AreSimilar bs cs → IsOrdered bs cs
 ordered bs cs m = record {
   same = ap outline m.left_blocks ∙ same_outline m.pairs m.numbers ∙ sym (ap outline m.right_blocks);
-  order = λ i j f g e.
-      let l = left_at bs cs m.pairs m.left_blocks m.right_blocks in
-      let r = right_at bs cs m.pairs m.left_blocks m.right_blocks in
-      let f' = sym (ap (λ (b : Block). is_free b.tag) (l i)) ∙ f in
-      let g' = sym (ap (λ (b : Block). is_free b.tag) (l j)) ∙ g in
-      ap₂ (λ (x y : Block). nat_lt (stamp x.tag) (stamp y.tag)) (l i) (l j)
-      ∙ in_order (pair_at i m.pairs).kind (pair_at j m.pairs).kind f' g'
-      (m.agree _ _ (in_at i m.pairs f') (in_at j m.pairs g') (sym (ap₂ (λ (x y : Block). nat_eq (down x.size) (down y.size)) (l i) (l j)) ∙ e))
-      ∙ sym (ap₂ (λ (x y : Block). nat_lt (stamp x.tag) (stamp y.tag)) (r i) (r j));
+  order = λ i j f g e. search (arith, (left_at bs cs m.pairs m.left_blocks m.right_blocks), (right_at bs cs m.pairs m.left_blocks m.right_blocks), in_order, in_at, m.agree);
 }
 
 similar : (bs cs : List Block) → IsOrdered bs cs → AreSimilar bs cs

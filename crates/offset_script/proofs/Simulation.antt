@@ -85,14 +85,9 @@ module _ (v w : View) (hs left : List (Option Grant)) (a : Answer) (s : State) (
   -- a release of a live grant, whose handle is removed
   freed : (k x : ℕ) → kept_name hs (suc k) ≡ Some x → k < length hs → Frees x v w → left ≡ slice_set hs k None → a ≡ machine.Freed → Follows (command.Free (suc k)) s w left a
   freed k x e l f but is =
-      let r = free_agrees v (kept_name hs) s p.formed ws p.agrees (suc k) x e w formed f in (
-        is ∙ sym r.0,
-        record {
-          formed = formed;
-          agrees = agrees_kept w (without_name (suc k) (kept_name hs)) (kept_name left) _ (λ j. ap (λ z. kept_name z j) but ∙ kept_set hs k l j) r.1;
-          grants = ap length but ∙ length-set hs k None ∙ p.grants ∙ sym r.2;
-        },
-      )
+      let r = free_agrees v (kept_name hs) s p.formed ws p.agrees (suc k) x e w formed f in
+      let agrees = agrees_kept w (without_name (suc k) (kept_name hs)) (kept_name left) _ (λ j. ap (λ z. kept_name z j) but ∙ kept_set hs k l j) r.1 in
+      (is ∙ sym r.0, record { formed = formed; agrees = agrees; grants = ap length but ∙ length-set hs k None ∙ p.grants ∙ sym r.2 })
 
   -- the same, by the number of the grant
   released : (k x : ℕ) → kept_name hs k ≡ Some x → Frees x v w → left ≡ slice_set hs (k - 1) None → a ≡ machine.Freed → Follows (command.Free k) s w left a
@@ -128,29 +123,21 @@ module _ (v w : View) (hs left : List (Option Grant)) (a : Answer) (s : State) (
   follows (command.Size k) power t = asked (command.Size k) refl t.0 (size_found k (kept_name hs k) refl t.1)
   follows command.Report power t = asked command.Report refl t.0 (t.1 ∙ sym (report_agrees v (kept_name hs) s p.formed ws p.agrees))
   follows command.Full power t = asked command.Full refl t.0 (t.1 ∙ sym (full_agrees v (kept_name hs) s p.formed ws p.agrees))
-  follows command.Reset power t = (
-    t.3,
-    record {
-      formed = formed;
-      agrees = alone_agrees w t.0.name v.size (machine.stamp_of_call s) (kept_name left) (step command.Reset s).state (ap (λ (u : View). u.blocks) t.0.view) (ap (λ (u : View). u.order) t.0.view)
-          (p.agrees.limit ∙ sym (ap (λ (u : View). u.max_allocs) t.0.view))
-          (ap (λ n. machine.block n (machine.Free (machine.stamp_of_call s)) ∷ []) (sym (same_units v (kept_name hs) s p.formed ws p.agrees) ∙ p.formed.whole)) t.2;
-      grants = t.1 ∙ p.grants;
-    },
-  )
+  follows command.Reset power t =
+      let blocks = ap (λ n. machine.block n (machine.Free (machine.stamp_of_call s)) ∷ []) (sym (same_units v (kept_name hs) s p.formed ws p.agrees) ∙ p.formed.whole) in
+      let agrees = alone_agrees w t.0.name v.size (machine.stamp_of_call s) (kept_name left) (step command.Reset s).state (ap (λ (u : View). u.blocks) t.0.view) (ap (λ (u : View). u.order) t.0.view)
+      (p.agrees.limit ∙ sym (ap (λ (u : View). u.max_allocs) t.0.view)) blocks t.2 in
+      (t.3, record { formed = formed; agrees = agrees; grants = t.1 ∙ p.grants })
   follows (command.Align n align) power t = requested (command.Align n align) t.0 (aligned_agrees v (kept_name hs) s p.formed ws p.agrees n align (not_zero align (inr (inl power))) w formed t.0 t.1)
       t.2
   follows (command.Extend more) power t = extended more t.0 t.1 t.2 t.3
 
 -- a fresh space represents the first state
 pub fresh_represents : (w : View) → IsWellFormed w → (size limit : ℕ) (hs : List (Option Grant)) → IsFresh size limit w → hs ≡ [] → IsAtState w hs (start size limit)
-fresh_represents w formed size limit hs f e = subst (λ l. IsAtState w l (start size limit)) (sym e) (record {
-  formed = formed;
-  agrees = alone_agrees w f.name size 0 (kept_name []) (start size limit) (ap (λ (v : View). v.blocks) f.view) (ap (λ (v : View). v.order) f.view)
-      (sym (ap (λ (v : View). v.max_allocs) f.view)) refl
-      (none_kept [] (λ i l. refl));
-  grants = refl;
-})
+fresh_represents w formed size limit hs f e =
+    let agrees = alone_agrees w f.name size 0 (kept_name []) (start size limit) (ap (λ (v : View). v.blocks) f.view) (ap (λ (v : View). v.order) f.view)
+    (sym (ap (λ (v : View). v.max_allocs) f.view)) refl (none_kept [] (λ i l. refl)) in
+    subst (λ l. IsAtState w l (start size limit)) (sym e) (record { formed = formed; agrees = agrees; grants = refl })
 
 -- Runs, with one more step at their end.
 

@@ -79,11 +79,7 @@ adds_all (c ∷ cs) s = let a = adds_step c s in let ih = adds_all cs (step c s)
 -- the live and the free units of a list
 parted : (bs : List Block) → total (live bs) + sum (free_sizes bs) ≡ total bs
 parted [] = refl
-parted (b ∷ bs) =
-    let ih = parted bs in
-    let e : sum (b.size ∷ free_sizes bs) ≡ b.size + sum (free_sizes bs) = sum_by-cons (λ n. n) b.size (free_sizes bs) in
-    elim (is_free b.tag) as (λ x. total (cond (not x) (b ∷ live bs) (live bs)) + sum (if x then b.size ∷ free_sizes bs else free_sizes bs) ≡ b.size + total bs)
-    [ true ↦ omega (arith, e, ih) | false ↦ omega (arith, ih) ]
+parted (b ∷ bs) = let e = sum_by-cons (λ n. n) b.size (free_sizes bs) in search (arith, (parted bs), e, cond, sum)
 
 pub sums_law : (size limit : ℕ) (cs : List Command) → let bs = (after cs (start size limit)).blocks in total (live bs) + sum (free_sizes bs) ≡ size + added_by cs (start size limit)
 sums_law size limit cs = let p = parted (after cs (start size limit)).blocks in let a = adds_all cs (start size limit) in omega arith
