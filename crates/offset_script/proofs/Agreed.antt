@@ -231,12 +231,10 @@ module _ (v : View) (kept_name : ℕ → Option ℕ) (s : State) (w : IsWellForm
         let t = e.1 in
         let c = chosen v w g.labels labelled needed n padding_at u a t in
         let at = subst (IsGrantAt a t.padding t.remainder t.padding_name t.remainder_name) (sym c.place) (t.grant, t.padded, t.whole, t.view) in
-        subst (IsMatch u kept_name s.grants (Some a)) (sym (granted_is e.0 t.padding c.spot c.is at.1)) (record {
-          answer = ap (machine.Grant (s.grants + 1)) (ap (λ m. m + t.padding) (total_units c.spot.before) ∙ sym (ap (λ (a : Grant). a.offset) at.0));
-          agrees = subst (λ x. HasBlocksOf u (with_name (s.grants + 1) x kept_name) (machine.grant s n t.padding (plain_place c.spot)).state) (sym (ap (λ (a : Grant). a.name) at.0))
-              (grant_agrees u w' n t.padding t.remainder t.padding_name t.remainder_name c.spot c.split c.free at.2 at.3);
-          grants_after = refl;
-        })
+        let answer = ap (machine.Grant (s.grants + 1)) (ap (λ m. m + t.padding) (total_units c.spot.before) ∙ sym (ap (λ (a : Grant). a.offset) at.0)) in
+        let agrees = subst (λ x. HasBlocksOf u (with_name (s.grants + 1) x kept_name) (machine.grant s n t.padding (plain_place c.spot)).state) (sym (ap (λ (a : Grant). a.name) at.0))
+        (grant_agrees u w' n t.padding t.remainder t.padding_name t.remainder_name c.spot c.split c.free at.2 at.3) in
+        subst (IsMatch u kept_name s.grants (Some a)) (sym (granted_is e.0 t.padding c.spot c.is at.1)) (record { answer = answer; agrees = agrees; grants_after = refl })
 
   -- an aligned request
   request_alike : (blocks blocks' needed needed' n : ℕ) (padding_at padding_at' : ℕ → ℕ) → blocks ≡ blocks' → needed ≡ needed' → ((o : ℕ) → padding_at o ≡ padding_at' o)
@@ -275,12 +273,9 @@ module _ (v : View) (kept_name : ℕ → Option ℕ) (s : State) (w : IsWellForm
       let h = found_at k s.blocks p e in
       let r = plain_spot g.labels p (sym g.state ∙ h.0) in
       let tag = number_of k r.0.label.tag (ap (λ (q : machine.Place). has_number k q.block.tag) r.2 ∙ h.1) in
-      let first = name_none k r.0.before (ap (λ (q : machine.Place). count (Live k) q.before) r.2 ∙ h.2) in (
-        r.0.label.name,
-        g.handles k ∙ ap (name_of k) r.1 ∙ name_append k r.0.before (r.0.label ∷ r.0.after) ∙ ap (λ o. option_or o (name_of k (r.0.label ∷ r.0.after))) first
-            ∙ ap (λ t. if has_number k t then Some r.0.label.name else name_of k r.0.after) tag ∙ ap (λ (b : Bool). if b then Some r.0.label.name else name_of k r.0.after) (eq-eqb k k refl),
-        record { spot = r.0; split = r.1; tag = tag; named = place_of_spot v w r.0 (g.view ∙ ap names r.1); placed = e ∙ ap Some (sym r.2); first = first },
-      )
+      let first = name_none k r.0.before (ap (λ (q : machine.Place). count (Live k) q.before) r.2 ∙ h.2) in
+      let is : kept_name k ≡ Some r.0.label.name = search (arith, g.handles, r.1, name_append, first, tag, eq-eqb) in
+      (r.0.label.name, is, record { spot = r.0; split = r.1; tag = tag; named = place_of_spot v w r.0 (g.view ∙ ap names r.1); placed = e ∙ ap Some (sym r.2); first = first })
 
   pub live_at : (k x : ℕ) → kept_name k ≡ Some x → LiveAt k x
   live_at k x e = search (arith, k, name_none, count, not_found, live_spot)

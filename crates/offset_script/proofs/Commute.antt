@@ -90,8 +90,7 @@ coalesce_outline k xs n st ys a none =
     let m = total c.last + n + total c.first in
     let tail = outline c.last ++ ((n, Some k) ∷ (outline c.first ++ outline c.back)) in
     let released : collapse (k ∷ []) ((n, Some k) ∷ (outline c.first ++ outline c.back)) ≡ widen (n + total c.first) (collapse (k ∷ []) (outline c.back)) =
-    ap (λ x. if x || false then widen n (collapse (k ∷ []) (outline c.first ++ outline c.back)) else (n, Some k) ∷ collapse (k ∷ []) (outline c.first ++ outline c.back)) (eq-eqb k k refl)
-    ∙ free_after (k ∷ []) n c.first (outline c.back) c.start.free in
+    search (arith, free_after, eq-eqb, c.start) in
     let same : collapse (k ∷ []) ((m, None) ∷ outline c.back) ≡ collapse (k ∷ []) tail =
     sym (free_before (k ∷ []) (n + total c.first) c.last _ _ c.end.free released ∙ ap (λ i. widen i (collapse (k ∷ []) (outline c.back))) (omega arith)) in
     let parts : outline ((c.front ++ c.last) ++ block n (Live k) ∷ (c.first ++ c.back)) ≡ outline c.front ++ tail = simp (map-append, append_assoc) in

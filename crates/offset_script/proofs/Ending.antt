@@ -46,9 +46,7 @@ script_failed bytes f None left h fails = tt
 script_failed bytes scripts.Memory (Some text) left h fails = tt
 script_failed bytes scripts.TooLong (Some text) left h fails =
     elim (whole_or_long bytes text left h) [ inl w ↦ (rw (drop_all 1048577 text (omega (arith, w.2, ap length w.1))) w.0, ap meaning_of w.1 ∙ fails) | inr l ↦ (l.0, l.2) ]
-script_failed bytes (scripts.BadHeader n) (Some text) left h fails = search (arith, whole_or_long)
-script_failed bytes (scripts.BadLimit n) (Some text) left h fails = search (arith, whole_or_long)
-script_failed bytes (scripts.BadCommand n) (Some text) left h fails = search (arith, whole_or_long)
+script_failed bytes f (Some text) left h fails = search (arith, whole_or_long)
 
 pub script_read : (bytes : List ℕ) (script : Script) (from left : Option (List ℕ)) → HasText bytes from left → meaning_of bytes ≡ Ok (view script)
     → IfSome from (λ text. IsScriptOf (Ok script) text left)

@@ -97,18 +97,14 @@ module _ (s t : State) (p : List Pair) (limit : s.limit ≡ t.limit) (l : s.bloc
 
 -- both lists end and start alike
 pub same_end : (ps fs : List Pair) → IsEnd (lefts ps) (lefts fs) → IsEnd (rights ps) (rights fs)
-same_end ps fs e = record {
-  few = omega (arith, same_length fs, e.few);
-  free = same_all_free fs e.free;
-  live = λ h. ap ends_free (sym (map-append right ps fs)) ∙ sym (same_ends_free (ps ++ fs)) ∙ ap ends_free (map-append left ps fs) ∙ e.live (same_length fs ∙ h);
-}
+same_end ps fs e =
+    let same = ap ends_free (sym (map-append right ps fs)) ∙ sym (same_ends_free (ps ++ fs)) ∙ ap ends_free (map-append left ps fs) in
+    record { few = omega (arith, same_length fs, e.few); free = same_all_free fs e.free; live = λ h. same ∙ e.live (same_length fs ∙ h) }
 
 pub same_start : (gs ys : List Pair) → IsStart (lefts gs) (lefts ys) → IsStart (rights gs) (rights ys)
-same_start gs ys e = record {
-  few = omega (arith, same_length gs, e.few);
-  free = same_all_free gs e.free;
-  live = λ h. ap starts_free (sym (map-append right gs ys)) ∙ sym (same_starts_free (gs ++ ys)) ∙ ap starts_free (map-append left gs ys) ∙ e.live (same_length gs ∙ h);
-}
+same_start gs ys e =
+    let same = ap starts_free (sym (map-append right gs ys)) ∙ sym (same_starts_free (gs ++ ys)) ∙ ap starts_free (map-append left gs ys) in
+    record { few = omega (arith, same_length gs, e.few); free = same_all_free gs e.free; live = λ h. same ∙ e.live (same_length gs ∙ h) }
 
 -- units that become free and coalesce on both sides
 pub record AreBothCoalesced (ps : List Pair) (n s u : ℕ) (qs : List Pair) : Type 0 where

@@ -126,11 +126,7 @@ similar bs cs m = record {
     p = paired bs cs m.same
 
     agreed : (i j : ℕ) → AreAgreed (pair_at i p.pairs) (pair_at j p.pairs)
-    agreed i j e =
-        let l = left_at bs cs p.pairs p.left_blocks p.right_blocks in
-        same_order _ _ (λ f g. order_at bs cs p.pairs p.left_blocks p.right_blocks i j
-        (m.order i j (ap (λ (b : Block). is_free b.tag) (l i) ∙ f) (ap (λ (b : Block). is_free b.tag) (l j)
-        ∙ g) (ap₂ (λ (x y : Block). nat_eq (down x.size) (down y.size)) (l i) (l j) ∙ e)))
+    agreed i j e = same_order _ _ (λ f g. search (arith, (left_at bs cs p.pairs p.left_blocks p.right_blocks), (right_at bs cs p.pairs p.left_blocks p.right_blocks), m.order))
 
 pub similar_refl : (bs : List Block) → AreSimilar bs bs
 similar_refl bs = similar bs bs (record { same = refl; order = λ i j f g e. refl })
@@ -138,17 +134,10 @@ similar_refl bs = similar bs bs (record { same = refl; order = λ i j f g e. ref
 pub similar_sym : (bs cs : List Block) → AreSimilar bs cs → AreSimilar cs bs
 similar_sym bs cs m =
     let o = ordered bs cs m in
-    let size = size_same bs cs o.same in
-    let free = free_same bs cs o.same in
-    similar cs bs (record { same = sym o.same; order = λ i j f g e. sym (o.order i j (free i ∙ f) (free j ∙ g) (ap₂ (λ x y. nat_eq (down x) (down y)) (size i) (size j) ∙ e)) })
+    similar cs bs (record { same = sym o.same; order = λ i j f g e. search (arith, o.order, (size_same bs cs o.same), (free_same bs cs o.same)) })
 
 pub similar_trans : (xs bs cs : List Block) → AreSimilar xs bs → AreSimilar bs cs → AreSimilar xs cs
 similar_trans xs bs cs a b =
     let o = ordered xs bs a in
     let p = ordered bs cs b in
-    let size = size_same xs bs o.same in
-    let free = free_same xs bs o.same in
-    similar xs cs (record {
-      same = o.same ∙ p.same;
-      order = λ i j f g e. o.order i j f g e ∙ p.order i j (sym (free i) ∙ f) (sym (free j) ∙ g) (sym (ap₂ (λ x y. nat_eq (down x) (down y)) (size i) (size j)) ∙ e);
-    })
+    similar xs cs (record { same = o.same ∙ p.same; order = λ i j f g e. search (arith, o.order, p.order, (size_same xs bs o.same), (free_same xs bs o.same)) })

@@ -138,14 +138,9 @@ well_extend s w (suc more) = if_both (λ (o : Outcome). IsWell o.state) (nat_lt 
     (λ e. well_quiet s w machine.Refused) (λ e.
     let sizes = length_coalesce s.blocks (suc more) (stamp_of_call s) [] in
     let at_end = length_at_end s.blocks (suc more) (stamp_of_call s) in
-    let r = w.room in
-    well_leaves s w _ machine.Extended sizes.0
-    (elim (and_cases (ends_live s.blocks) (is_short_of 1 s) (or_parts _ _ e).1) [
-      | inl free ↦ omega (arith, at_end.0 free w.some)
-      | inr spare ↦ omega (arith, at_end.1, leb-false s.limit (length s.blocks + 1) spare)
-    ])
-    (apart_coalesce s.blocks _ _ [] w.apart tt)
-    (λ t. omega (arith, count_coalesce t s.blocks (suc more) (stamp_of_call s) [])))
+    let few : length (coalesce s.blocks (suc more) (stamp_of_call s) []) + 1 ≤ s.limit = elim (and_cases (ends_live s.blocks) (is_short_of 1 s) (or_parts _ _ e).1)
+    [ inl free ↦ omega (arith, at_end.0 free w.some, w.room) | inr spare ↦ omega (arith, at_end.1, leb-false s.limit (length s.blocks + 1) spare) ] in
+    well_leaves s w _ machine.Extended sizes.0 few (apart_coalesce s.blocks _ _ [] w.apart tt) (λ t. omega (arith, count_coalesce t s.blocks (suc more) (stamp_of_call s) [])))
 
 -- a reset
 well_reset : (s : State) → IsWell s → IsWell (reset s).state
