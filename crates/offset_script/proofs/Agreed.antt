@@ -1,17 +1,16 @@
 -- What each call of the allocator leaves agrees with what the plain machine leaves, and the answers are the same.
-use Rattle.offset_script.proofs.Tests.{if_both, if_same}
 use Rattle.offset_script.proofs.Common.{◌≡◌, ℕ, zero, suc, ◌+◌, ◌-◌, ◌<◌, ◌≤◌, Bool, true, false, not, ◌&&◌, ◌||◌, ◌⊎◌, List, [], ◌∷◌, ◌++◌, replicate, length, sum, Option, Some, None, nat_eq, nat_lt}
 use Rattle.offset_script.proofs.Common.{nat_le, if◌then◌else◌, refl, sym, ap, ap₂, subst, ◌∙◌, inl, inr, arith, eq-eqb, ne_eqb, le-leb, le-ltb, leb-false, append_assoc, append-nil, option_or}
-use Rattle.offset_script.proofs.Common.{cases_eq, cases_lt, true≢false, false≢true, lt-leb, ltb-true, ltb-false, and_parts, and_right, or_parts, not-false, up, down, largest, rows_below, Live, Free}
-use Rattle.offset_script.proofs.Common.{is_free, has_number, stamp, total, chosen_place, State, Answer, step, returns_only, leaves, stamp_of_padding, stamp_of_call, View, Grant, units, used_block}
-use Rattle.offset_script.proofs.Common.{free_part, bin_at, push_all, IsWellFormed, replace, max_size, padding_to, SameSpace, Serves, Frees, Adds, CanExtend, Extends, AllByRecursion, map-append}
-use Rattle.offset_script.proofs.Common.{length-map, get_or-replicate, get_or_past, length-replicate}
+use Rattle.offset_script.proofs.Common.{cases_eq, cases_lt, true≢false, false≢true, lt-leb, ltb-true, ltb-false, and_parts, and_right, or_parts, not-false, up, down, rows_below, Live, Free, is_free}
+use Rattle.offset_script.proofs.Common.{has_number, stamp, total, chosen_place, State, Answer, step, returns_only, leaves, stamp_of_padding, stamp_of_call, View, Grant, units, used_block, free_part}
+use Rattle.offset_script.proofs.Common.{bin_at, push_all, IsWellFormed, replace, max_size, padding_to, SameSpace, Serves, Frees, Adds, CanExtend, Extends, AllByRecursion, map-append, length-map}
+use Rattle.offset_script.proofs.Common.{get_or-replicate, get_or_past, length-replicate}
 use Rattle.offset_script.proofs.Agreement.{Label, by_name, by_tag, stamp_of, IsFalling, name_of, HasBlocksOf}
 use Rattle.offset_script.proofs.Lists.{number_of, count, count-append, hit, hit_self, apart_parts, end_of, start_of, coalesce_parts}
 use Rattle.offset_script.proofs.Labels.{names, tags, map_three, stamps_below, AreRising, newest_replaced}
 use Rattle.offset_script.proofs.Chosen.{Spot, whole, place_at, named_spot, plain_spot, named_place, plain_place, IsLabelled, none_chosen, chosen, place_of_spot}
 use Rattle.offset_script.proofs.Ends.{AreFree, free_named, free_tagged, apart_tagged, ends_live_last, last_free, total_units, free_sizes_labels, or_none, name_append, name_skip, name_free, name_none}
-use Rattle.offset_script.proofs.{Tests.same_some, Found.found_at, Found.not_found, Found.chosen_at, Well.IsWell, Well.not_there, Members.map_parts, Members.map_first}
+use Rattle.offset_script.proofs.{Tests.if_both, Tests.if_same, Tests.same_some, Found.found_at, Found.not_found, Found.chosen_at, Well.IsWell, Well.not_there, Members.map_parts, Members.map_first}
 use Rattle.offset_allocator.proofs.{ViewApart.and_true, Reading.size_at, Tallies.tally_append, ViewOrders.names_same, ViewOrders.names_other, Classes.down_small, Classes.fits_size}
 use Rattle.offset_allocator.specs.{View.Block, View.Place, View.place_of, View.free_block, Requests.HasRoomFor, Requests.CanGrant, Requests.blocks_needed, Requests.units_needed}
 use Rattle.offset_script.specs.declared.scripts.Command.TheVariants as command

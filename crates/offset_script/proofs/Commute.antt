@@ -1,8 +1,8 @@
 -- Releases in a row leave the same space in any order.
 use Rattle.offset_script.proofs.Common.{◌≡◌, ℕ, zero, suc, ◌+◌, Bool, true, false, ◌&&◌, ◌||◌, ◌≤◌, List, [], ◌∷◌, ◌++◌, sum, Option, Some, None, is_some, nat_eq, nat_lt, nat_le, if◌then◌else◌, refl}
 use Rattle.offset_script.proofs.Common.{sym, ap, ap₂, subst, subst₂, ◌∙◌, arith, eq-eqb, eqb-true, append_assoc, map-append, true≢false, false≢true, false_from_ne_true, Command, rows_below, Tag, Live}
-use Rattle.offset_script.proofs.Common.{Free, Block, block, is_free, has_number, total, Place, here, fits, choose, chosen_place, place_of, coalesce, State, start, step, after, request}
-use Rattle.offset_script.proofs.Common.{grant_or_refuse, release, size_at, stamp_of_call, holder, outline, widen, collapse, without_offset, releases, IsCollapse, list_any, option_map_or}
+use Rattle.offset_script.proofs.Common.{Free, Block, block, is_free, has_number, total, Place, fits, choose, chosen_place, place_of, coalesce, State, start, step, after, request, grant_or_refuse}
+use Rattle.offset_script.proofs.Common.{release, size_at, stamp_of_call, holder, outline, widen, collapse, without_offset, releases, IsCollapse, list_any, option_map_or}
 use Rattle.offset_script.proofs.Pairs.{Kind, Lives, Frees, Pair, left_tag, right_tag, left, right, lefts, rights, same_free, same_short, same_free_sizes, same_refusal, IsSamePlace, neither, both}
 use Rattle.offset_script.proofs.Pairs.{same_place_of}
 use Rattle.offset_script.proofs.Lists.{AreFree, coalesced, apart_coalesce, count_coalesce, count, hit, hit_self, number_of, count-append, starts_free, AreApart, apart_parts}

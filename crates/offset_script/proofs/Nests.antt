@@ -1,14 +1,12 @@
 -- A nest leaves no trace.
-use Rattle.offset_script.proofs.Members.{IsIn}
-use Rattle.offset_script.proofs.Pairs.{Pair}
 use Rattle.offset_script.proofs.Common.{length, ◌≡◌, ◌≢◌, ℕ, ◌+◌, ◌-◌, ◌*◌, ◌<◌, ◌≤◌, Bool, true, false, ◌⊎◌, List, [], ◌∷◌, ◌++◌, Option, Some, None, nat_eq, nat_lt, nat_le, if◌then◌else◌, refl, sym}
 use Rattle.offset_script.proofs.Common.{ap, subst, ◌∙◌, inl, inr, arith, leb-false, le-leb, ne_eqb, cases_lt, lt-leb, and_parts, Command, up, down, max_size, padding_to, Live, Free, is_free, total}
 use Rattle.offset_script.proofs.Common.{Place, chosen_place, place_of, coalesce, State, Answer, Outcome, start, step, after, answers, request, grant, grant_or_refuse, is_short_of, returns_only}
 use Rattle.offset_script.proofs.Common.{leaves, release, size_at, stamp_of_call, rows_below, IsGrant, KeepsSpace, IsNest, number_without, answers_renumbered}
-use Rattle.offset_script.specs.Totals.{requested_units}
-use Rattle.offset_script.proofs.{Members.in_map, Pairs.Kind, Pairs.Lives, Pairs.Frees, Pairs.left_tag, Pairs.right_tag, Pairs.left, Pairs.right, Pairs.lefts, Pairs.rights, Alike.IsAlike}
-use Rattle.offset_script.proofs.{Alike.IsMatched, Alike.alike_answers, Lists.in_count, Lists.count, Found.chosen_at, Well.IsWell, Well.well_start, Well.well_after, Well.well_step}
+use Rattle.offset_script.proofs.{Members.IsIn, Members.in_map, Pairs.Pair, Pairs.Kind, Pairs.Lives, Pairs.Frees, Pairs.left_tag, Pairs.right_tag, Pairs.left, Pairs.right, Pairs.lefts, Pairs.rights}
+use Rattle.offset_script.proofs.{Alike.IsAlike, Alike.IsMatched, Alike.alike_answers, Lists.in_count, Lists.count, Found.chosen_at, Well.IsWell, Well.well_start, Well.well_after, Well.well_step}
 use Rattle.offset_script.proofs.{Similar.HasSameNumber, Similar.AreSimilar, Similar.similar_refl, Similar.similar_sym, Similar.similar_trans, Restored.IsRestored, Restored.restored, Tests.if_both}
+use Rattle.offset_script.specs.Totals.{requested_units}
 use Rattle.offset_allocator.proofs.Classes.{fits_size}
 use Rattle.offset_script.specs.declared.scripts.Command.TheVariants as command
 use Rattle.offset_script.specs.Machine as machine

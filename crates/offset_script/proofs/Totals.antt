@@ -1,12 +1,11 @@
 -- The sums of sizes, and the numbers of live blocks, that every call keeps.
-use Rattle.offset_script.proofs.Lists.{sums_coalesced}
 use Rattle.offset_script.proofs.Common.{◌≡◌, ℕ, zero, suc, ◌+◌, ◌≤◌, true, false, not, cond, ◌&&◌, ◌||◌, List, [], ◌∷◌, ◌++◌, length, nat_le, nat_lt, if◌then◌else◌, refl, sym, ap, subst, ◌∙◌, inl}
-use Rattle.offset_script.proofs.Common.{inr, arith, le-leb, length-append, sum, filter-append, max_size, Free, Block, block, is_free, total, free_sizes, Place, chosen_place, free_block, ends_live}
-use Rattle.offset_script.proofs.Common.{coalesce, State, Outcome, start, step, after, is_short_of, returns_only, leaves, request, grant_or_refuse, stamp_of_call, stamp_of_padding, largest, Command}
-use Rattle.offset_script.proofs.Common.{KeepsSpace}
+use Rattle.offset_script.proofs.Common.{inr, arith, le-leb, length-append, sum, filter-append, max_size, Block, is_free, total, free_sizes, Place, chosen_place, free_block, ends_live, coalesce, State}
+use Rattle.offset_script.proofs.Common.{Outcome, start, step, after, is_short_of, returns_only, leaves, request, grant_or_refuse, stamp_of_call, stamp_of_padding, largest, Command, KeepsSpace}
+use Rattle.offset_script.proofs.Lists.{sums_coalesced, whole, total-append, AreFree, coalesced}
+use Rattle.offset_script.proofs.{Found.chosen_at, Found.found_at, Well.granted_blocks, Well.free_part, Nests.does, Tests.if_both}
 use Rattle.std.proofs.lemmas.List.Sums.{sum_by-cons}
 use Rattle.offset_script.specs.Totals.{requested_units, live, added_units, added_by}
-use Rattle.offset_script.proofs.{Lists.whole, Lists.total-append, Lists.AreFree, Lists.coalesced, Found.chosen_at, Found.found_at, Well.granted_blocks, Well.free_part, Nests.does, Tests.if_both}
 use Rattle.offset_script.specs.declared.scripts.Command.TheVariants as command
 use Rattle.offset_script.specs.Machine as machine
 

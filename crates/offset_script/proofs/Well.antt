@@ -1,12 +1,12 @@
 -- What holds of every state that the machine reaches.
-use Rattle.offset_script.proofs.Lists.{sums_coalesced}
 use Rattle.offset_script.proofs.Common.{◌≡◌, ℕ, zero, suc, ◌+◌, ◌-◌, ◌<◌, ◌≤◌, true, false, ◌&&◌, ◌||◌, ◌⊎◌, List, [], ◌∷◌, ◌++◌, length, Option, Some, None, nat_lt, nat_le, refl, sym, ap, subst, ◌∙◌}
 use Rattle.offset_script.proofs.Common.{inl, inr, arith, leb-false, length-append, cases_lt, true≢false, and_parts, and_left, and_right, or_parts, and_cases, not-false, Command, max_size, padding_to}
 use Rattle.offset_script.proofs.Common.{Tag, Live, Free, Block, block, is_free, total, Place, chosen_place, place_of, free_block, ends_live, coalesce, State, Answer, Outcome, start, step, after}
-use Rattle.offset_script.proofs.Common.{request, grant, grant_or_refuse, is_short_of, returns_only, leaves, release, size_at, report, reset, extend, stamp_of_call, stamp_of_padding, rows_below}
+use Rattle.offset_script.proofs.Common.{request, grant, grant_or_refuse, is_short_of, returns_only, leaves, release, reset, extend, stamp_of_call, stamp_of_padding}
+use Rattle.offset_script.proofs.Lists.{sums_coalesced, starts_free, ends_free, AreApart, hit, count, whole, count-append, count_free_block, apart_append, apart_parts, AreFree, IsCoalesced, coalesced}
+use Rattle.offset_script.proofs.Lists.{count_coalesce, apart_coalesce}
+use Rattle.offset_script.proofs.{Tests.if_both, Found.found_at, Found.chosen_at}
 use Rattle.offset_allocator.proofs.{ViewApart.left_false, ViewApart.right_false, Tallies.hit_cases}
-use Rattle.offset_script.proofs.{Tests.if_both, Lists.starts_free, Lists.ends_free, Lists.AreApart, Lists.hit, Lists.count, Lists.whole, Lists.count-append, Lists.count_free_block, Lists.apart_append}
-use Rattle.offset_script.proofs.{Lists.apart_parts, Lists.AreFree, Lists.IsCoalesced, Lists.coalesced, Lists.count_coalesce, Lists.apart_coalesce, Found.found_at, Found.chosen_at}
 use Rattle.offset_script.specs.declared.scripts.Command.TheVariants as command
 use Rattle.offset_script.specs.Machine as machine
 
