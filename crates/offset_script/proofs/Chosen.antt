@@ -110,19 +110,13 @@ module _ (v : View) (w : IsWellFormed v) (ls : List Label) (a : IsLabelled v ls)
     -- it is the first of its bin, and of another block that is chosen over all, this one has the name
     same_name : (s l : Spot) → ls ≡ whole s → named_place s ≡ place_at t.before t.block t.after → ls ≡ whole l → is_free l.label.tag ≡ true → up n ≤ down l.label.size
         → is_taken_before (by_tag s.label) (by_tag l.label) ≡ false → s.label.name ≡ l.label.name
-    same_name s l es place el fl cl best = search (arith, cases_eq, cases_lt, lt-ltb, newer_before, newer, listed, class, t.smallest, times)
-      where
-        class : down s.label.size ≡ down t.block.size
-        class = ap (λ (p : Place). down p.block.size) place
-
-        name : s.label.name ≡ t.block.name
-        name = ap (λ (p : Place). p.block.name) place
-
-        listed : 1 ≤ times l.label.name (bin_at v.order (down l.label.size))
-        listed = listed_spot v w l (a.view ∙ ap names el) fl
-
-        newer : s.label.name ≢ l.label.name → down s.label.size ≡ down l.label.size → stamp l.label.tag < stamp s.label.tag
-        newer d e = search (arith, class, stamp_of, hit_cases, name, listed, spot_stamp, names)
+    same_name s l es place el fl cl best =
+        let class : down s.label.size ≡ down t.block.size = ap (λ (p : Place). down p.block.size) place in
+        let name : s.label.name ≡ t.block.name = ap (λ (p : Place). p.block.name) place in
+        let listed = listed_spot v w l (a.view ∙ ap names el) fl in
+        let newer : s.label.name ≢ l.label.name → down s.label.size ≡ down l.label.size → stamp l.label.tag < stamp s.label.tag =
+        λ d e. search (arith, class, stamp_of, hit_cases, name, listed, spot_stamp, names) in
+        search (arith, cases_eq, cases_lt, lt-ltb, newer_before, newer, listed, class, t.smallest, times)
 
     -- the machine chooses it
     pub record Choice : Type 0 where

@@ -6,7 +6,7 @@ pub use Rattle.std.proofs.Common.{drop_at, cond, eqb, filter, option_map, IsTrue
 pub use Rattle.std.proofs.Common.{get_or-set_other, length-set, leb, rules, codes, bytes_eq, string_bytes, option_copied, drop-cons, take_all, All, set, length-drop, decimal, pos_of_ne-zero, ◌==◌}
 pub use Rattle.std.proofs.Common.{position}
 pub use Rattle.std.proofs.lemmas.Bool.{cases_eq, cases_lt, false≢true, lt-leb, and_parts, and_right, or_parts, not-false, or_right, false_from_ne_true, cond_both, not-true, and_left, and_cases}
-pub use Rattle.std.proofs.lemmas.Bool.{eqb-false}
+pub use Rattle.std.proofs.lemmas.Bool.{eqb-false, cases_Bool}
 pub use Rattle.std.proofs.lemmas.Bool.Decides.{nat_tests}
 pub use Rattle.std.proofs.lemmas.List.{map-append, length-map, get_or-replicate, get_or_past, length-replicate, take_rest, drop_all, nil_from_length, take_more, drop-set}
 pub use Rattle.std.proofs.lemmas.List.Elements.{All-from_recursion, filter-append, All-get_or, All-push}

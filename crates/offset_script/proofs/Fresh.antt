@@ -23,7 +23,7 @@ one_free (b ∷ c ∷ bs) some a f = search (arith, free_tag, true≢false)
 pub alike_fresh : (s : State) (n x g : ℕ) → g ≡ s.grants → s.blocks ≡ block n (Free x) ∷ [] → x < 2 * (s.calls + 1) → IsAlike (number_without 0 g) g s (start (total s.blocks) s.limit)
 alike_fresh s n x g same e h = record {
   limit = refl;
-  pairs = q ∷ [];
+  pairs = pair n (Frees x 0) ∷ [];
   left_blocks = e;
   right_blocks = ap (λ m. block m (Free 0) ∷ []) (ap total e ∙ omega arith);
   matched = λ p i. elim i [ inl is ↦ subst (λ (z : Pair). IsMatched (number_without 0 g) (2 * (s.calls + 1)) 2 z.kind) (sym is) (h, omega arith) | inr none ↦ absurd none ];
@@ -33,10 +33,7 @@ alike_fresh s n x g same e h = record {
   future = λ k l. number_without_future 0 g k (omega arith);
 }
   where
-    q : Pair
-    q = pair n (Frees x 0)
-
-    only : (a b : Pair) → IsIn a (q ∷ []) → IsIn b (q ∷ []) → AreAgreed a b
+    only : (a b : Pair) → IsIn a (pair n (Frees x 0) ∷ []) → IsIn b (pair n (Frees x 0) ∷ []) → AreAgreed a b
     only a b (inl i) (inl j) = subst₂ AreAgreed (sym i) (sym j) (λ same. le-ltb x x (omega arith))
     only a b (inl i) (inr j) = absurd j
     only a b (inr i) j = absurd i

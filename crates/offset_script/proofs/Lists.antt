@@ -1,7 +1,7 @@
 -- What holds of lists of blocks: counts of tags, neighbours, free ends, and what coalesces.
 use Rattle.offset_script.proofs.Common.{◌≡◌, ℕ, zero, suc, ◌+◌, ◌≤◌, Bool, true, false, ◌&&◌, List, [], ◌∷◌, ◌++◌, length, nat_eq, if◌then◌else◌, refl, sym, ap, ap₂, subst, ◌∙◌, inl, inr, arith}
 use Rattle.offset_script.proofs.Common.{ne_eqb, append-nil, cases_eq, true≢false, false≢true, and_left, and_right, AllByRecursion, one, Tag, Live, Free, Block, block, is_free, has_number, total}
-use Rattle.offset_script.proofs.Common.{Place, free_block, free_start, without_start, free_end, without_end, coalesce}
+use Rattle.offset_script.proofs.Common.{Place, free_block, free_start, without_start, free_end, without_end, coalesce, nil_from_length, cases_Bool}
 use Rattle.offset_allocator.proofs.{ViewApart.left_false, ViewApart.right_false, Tallies.hit_cases, Tallies.one-same}
 use Rattle.offset_script.proofs.Members.{IsIn}
 
@@ -114,18 +114,11 @@ pub record IsStart (gs ys : List Block) : Type 0 where
 
 -- free blocks after a list that does not end free, and before one that does not start free
 pub end_of : (xs fs : List Block) → AreFree fs → AreApart fs → ends_free xs ≡ false → IsEnd xs fs
-end_of xs fs f a e = record { few = few_free fs f a; free = f; live = none fs }
-  where
-    none : (fs : List Block) → length fs ≡ 0 → ends_free (xs ++ fs) ≡ false
-    none [] h = ap ends_free (append-nil xs) ∙ e
-    none (b ∷ fs) h = absurd (omega arith)
+end_of xs fs f a e =
+    record { few = few_free fs f a; free = f; live = λ h. ap (λ l. ends_free (xs ++ l)) (nil_from_length fs h) ∙ ap ends_free (append-nil xs) ∙ e }
 
 pub start_of : (gs ys : List Block) → AreFree gs → AreApart gs → starts_free ys ≡ false → IsStart gs ys
-start_of gs ys f a e = record { few = few_free gs f a; free = f; live = none gs }
-  where
-    none : (gs : List Block) → length gs ≡ 0 → starts_free (gs ++ ys) ≡ false
-    none [] h = e
-    none (b ∷ gs) h = absurd (omega arith)
+start_of gs ys f a e = record { few = few_free gs f a; free = f; live = λ h. ap (λ l. starts_free (l ++ ys)) (nil_from_length gs h) ∙ e }
 
 end_is : (xs fs : List Block) → IsEnd xs fs → (without_end (xs ++ fs) ≡ xs) × (free_end (xs ++ fs) ≡ total fs)
 end_is [] [] e = (refl, refl)
@@ -148,22 +141,20 @@ coalesce_parts xs fs n s gs ys e h = search (arith, end_is, start_is)
 
 ended : (bs : List Block) → (xs : List Block) × (fs : List Block) × (bs ≡ xs ++ fs) × IsEnd xs fs
 ended [] = ([], [], refl, record { few = omega arith; free = tt; live = λ h. refl })
-ended (b ∷ []) = go (is_free b.tag) refl
-  where
-    go : (x : Bool) → is_free b.tag ≡ x → (xs : List Block) × (fs : List Block) × (b ∷ [] ≡ xs ++ fs) × IsEnd xs fs
-    go true e = ([], b ∷ [], refl, record { few = omega arith; free = (e, tt); live = λ h. absurd (omega arith) })
-    go false e = (b ∷ [], [], refl, record { few = omega arith; free = tt; live = λ h. e })
+ended (b ∷ []) = elim (cases_Bool (is_free b.tag)) [
+  | inl e ↦ ([], b ∷ [], refl, record { few = omega arith; free = (e, tt); live = λ h. absurd (omega arith) })
+  | inr e ↦ (b ∷ [], [], refl, record { few = omega arith; free = tt; live = λ h. e })
+]
 ended (b ∷ c ∷ bs) =
     let r = ended (c ∷ bs) in
     (b ∷ r.0, r.1, ap (λ z. b ∷ z) r.2, record { few = r.3.few; free = r.3.free; live = λ h. ap (λ z. ends_free (b ∷ z)) (sym r.2) ∙ ap ends_free r.2 ∙ r.3.live h })
 
 started : (bs : List Block) → (gs : List Block) × (ys : List Block) × (bs ≡ gs ++ ys) × IsStart gs ys
 started [] = ([], [], refl, record { few = omega arith; free = tt; live = λ h. refl })
-started (b ∷ bs) = go (is_free b.tag) refl
-  where
-    go : (x : Bool) → is_free b.tag ≡ x → (gs : List Block) × (ys : List Block) × (b ∷ bs ≡ gs ++ ys) × IsStart gs ys
-    go true e = (b ∷ [], bs, refl, record { few = omega arith; free = (e, tt); live = λ h. absurd (omega arith) })
-    go false e = ([], b ∷ bs, refl, record { few = omega arith; free = tt; live = λ h. e })
+started (b ∷ bs) = elim (cases_Bool (is_free b.tag)) [
+  | inl e ↦ (b ∷ [], bs, refl, record { few = omega arith; free = (e, tt); live = λ h. absurd (omega arith) })
+  | inr e ↦ ([], b ∷ bs, refl, record { few = omega arith; free = tt; live = λ h. e })
+]
 
 -- what coalesces, and what stays
 pub record IsCoalesced (xs : List Block) (n s : ℕ) (ys : List Block) : Type 0 where

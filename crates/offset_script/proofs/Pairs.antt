@@ -114,34 +114,23 @@ pub record AreBothCoalesced (ps : List Pair) (n s u : ℕ) (qs : List Pair) : Ty
   pub old : (q : Pair) → IsIn q pairs → (IsIn q ps ⊎ IsIn q qs) ⊎ (q.kind ≡ Frees s u)
 
 pub both_coalesced : (ps : List Pair) (n s u : ℕ) (qs : List Pair) → AreBothCoalesced ps n s u qs
-both_coalesced ps n s u qs = record {
-  pairs = a.0 ++ pair m (Frees s u) ∷ b.1;
-  on_left = c.is ∙ ap₂ (λ x y. x ++ block m (Free s) ∷ y) (sym a.3) (sym b.4) ∙ sym (map-append left a.0 (pair m (Frees s u) ∷ b.1));
-  on_right = search (arith, rights, map-append, a, b, coalesce_parts, ends, starts, same_total);
-  old = λ q i. elim (in_append q a.0 _ i) [
-    | inl h ↦ inl (inl (subst (IsIn q) (sym a.2) (in_left q a.0 a.1 h)))
-    | inr (inl e) ↦ inr (ap (λ (z : Pair). z.kind) e)
-    | inr (inr h) ↦ inl (inr (subst (IsIn q) (sym b.2) (in_right q b.0 b.1 h)))
-  ];
-}
-  where
-    c : IsCoalesced (lefts ps) n s (lefts qs)
-    c = coalesced (lefts ps) n s (lefts qs)
-
-    m : ℕ
-    m = total c.last + n + total c.first
-
-    a : (front : List Pair) × (back : List Pair) × (ps ≡ front ++ back) × (lefts front ≡ c.front) × (lefts back ≡ c.last)
-    a = map_parts left ps c.front c.last c.at_front
-
-    b : (front : List Pair) × (back : List Pair) × (qs ≡ front ++ back) × (lefts front ≡ c.first) × (lefts back ≡ c.back)
-    b = map_parts left qs c.first c.back c.at_back
-
-    ends : IsEnd (rights a.0) (rights a.1)
-    ends = same_end a.0 a.1 (subst₂ IsEnd (sym a.3) (sym a.4) c.end)
-
-    starts : IsStart (rights b.0) (rights b.1)
-    starts = same_start b.0 b.1 (subst₂ IsStart (sym b.3) (sym b.4) c.start)
+both_coalesced ps n s u qs =
+    let c = coalesced (lefts ps) n s (lefts qs) in
+    let m = total c.last + n + total c.first in
+    let a = map_parts left ps c.front c.last c.at_front in
+    let b = map_parts left qs c.first c.back c.at_back in
+    let ends = same_end a.0 a.1 (subst₂ IsEnd (sym a.3) (sym a.4) c.end) in
+    let starts = same_start b.0 b.1 (subst₂ IsStart (sym b.3) (sym b.4) c.start) in
+    record {
+      pairs = a.0 ++ pair m (Frees s u) ∷ b.1;
+      on_left = c.is ∙ ap₂ (λ x y. x ++ block m (Free s) ∷ y) (sym a.3) (sym b.4) ∙ sym (map-append left a.0 (pair m (Frees s u) ∷ b.1));
+      on_right = search (arith, rights, map-append, a, b, coalesce_parts, ends, starts, same_total);
+      old = λ q i. elim (in_append q a.0 _ i) [
+        | inl h ↦ inl (inl (subst (IsIn q) (sym a.2) (in_left q a.0 a.1 h)))
+        | inr (inl e) ↦ inr (ap (λ (z : Pair). z.kind) e)
+        | inr (inr h) ↦ inl (inr (subst (IsIn q) (sym b.2) (in_right q b.0 b.1 h)))
+      ];
+    }
 
 -- places on both sides: of the same pair, of which P holds, or none
 pub data IsSamePlace (P : Pair → Type 0) (p : List Pair) : Option Place → Option Place → Type 0 where

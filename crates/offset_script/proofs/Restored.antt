@@ -30,18 +30,14 @@ older s w p n u e tag f best z t i same =
     let c : Block = block z (Free t) in
     let present : IsIn c s.blocks = subst (IsIn c) (sym e) (in_parts c p.before p.block p.after i) in
     let le = not_after (down z) (down p.block.size) t (stamp p.block.tag) (best c present (fits_too n z (Free t) p.block refl same f)) same in
-    elim (cases_eq t u) [ inl equal ↦ absurd (twice equal) | inr differ ↦ omega (arith, ap stamp tag) ]
-  where
-    elsewhere : IsIn (block z (Free t)) p.before ⊎ IsIn (block z (Free t)) p.after → 1 ≤ count (Free t) p.before + count (Free t) p.after
-    elsewhere (inl h) = let l = in_count _ p.before h in omega arith
-    elsewhere (inr h) = let l = in_count _ p.after h in omega arith
-
-    twice : t ≡ u → ⊥
-    twice equal =
-        let own : hit (Free t) p.block.tag ≡ 1 = ap (hit (Free t)) tag ∙ ap (λ x. hit (Free t) (Free x)) (sym equal) ∙ hit_self (Free t) in
-        let l = elsewhere i in
-        let o = w.once (Free t) in
-        omega (arith, own, l, o, ap (count (Free t)) e, count-append (Free t) p.before (p.block ∷ p.after))
+    let there : 1 ≤ count (Free t) p.before + count (Free t) p.after =
+    elim i [ inl h ↦ let l = in_count c p.before h in omega arith | inr h ↦ let l = in_count c p.after h in omega arith ] in
+    elim (cases_eq t u) [
+      | inl equal ↦
+          let own : hit (Free t) p.block.tag ≡ 1 = ap (hit (Free t)) tag ∙ ap (λ x. hit (Free t) (Free x)) (sym equal) ∙ hit_self (Free t) in
+          omega (arith, w.once (Free t), ap (count (Free t)) e, count-append (Free t) p.before (p.block ∷ p.after))
+      | inr differ ↦ omega (arith, ap stamp tag)
+    ]
 
 rights_parts : (xs fs : List Pair) (l : Pair) (rs ys : List Pair) → rights (xs ++ (fs ++ (l ∷ (rs ++ ys)))) ≡ (rights xs ++ rights fs) ++ right l ∷ (rights rs ++ rights ys)
 rights_parts xs fs l rs ys = search (arith, map-append, right, rights, append_assoc)

@@ -117,16 +117,11 @@ ordered bs cs m = record {
 }
 
 similar : (bs cs : List Block) → IsOrdered bs cs → AreSimilar bs cs
-similar bs cs m = record {
-  paired = p;
-  agree = λ a b i j. let x = at_in a p.pairs i in let y = at_in b p.pairs j in subst₂ AreAgreed x.1 y.1 (agreed x.0 y.0);
-}
-  where
-    p : ArePaired bs cs
-    p = paired bs cs m.same
-
-    agreed : (i j : ℕ) → AreAgreed (pair_at i p.pairs) (pair_at j p.pairs)
-    agreed i j e = same_order _ _ (λ f g. search (arith, (left_at bs cs p.pairs p.left_blocks p.right_blocks), (right_at bs cs p.pairs p.left_blocks p.right_blocks), m.order))
+similar bs cs m =
+    let p = paired bs cs m.same in
+    let agreed : (i j : ℕ) → AreAgreed (pair_at i p.pairs) (pair_at j p.pairs) = λ i j e. same_order _ _
+    (λ f g. search (arith, (left_at bs cs p.pairs p.left_blocks p.right_blocks), (right_at bs cs p.pairs p.left_blocks p.right_blocks), m.order)) in
+    record { paired = p; agree = λ a b i j. let x = at_in a p.pairs i in let y = at_in b p.pairs j in subst₂ AreAgreed x.1 y.1 (agreed x.0 y.0) }
 
 pub similar_refl : (bs : List Block) → AreSimilar bs bs
 similar_refl bs = similar bs bs (record { same = refl; order = λ i j f g e. refl })

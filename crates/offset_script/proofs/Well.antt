@@ -118,18 +118,18 @@ well_release s w k (Some p) e =
 
 -- a last block that is free coalesces, so no block is added
 length_at_end : (bs : List Block) (n s : ℕ) → (ends_live bs ≡ false → 1 ≤ length bs → length (coalesce bs n s []) ≤ length bs) × (length (coalesce bs n s []) ≤ length bs + 1)
-length_at_end bs n s = (λ e h. shorter (coalesced bs n s []) e h, (length_coalesce bs n s []).1)
+length_at_end bs n s = (shorter, (length_coalesce bs n s []).1)
   where
     ends_some : (bs : List Block) → 1 ≤ length bs → ends_live bs ≡ false → ends_free bs ≡ true
     ends_some [] h e = absurd (omega arith)
     ends_some (b ∷ []) h e = not-false (is_free b.tag) e
     ends_some (b ∷ c ∷ bs) h e = ends_some (c ∷ bs) (omega arith) e
 
-    shorter : IsCoalesced bs n s [] → ends_live bs ≡ false → 1 ≤ length bs → length (coalesce bs n s []) ≤ length bs
-    shorter c e h = elim (cases_lt 0 (length c.last)) [
-      | inl l ↦ let e = sums_coalesced length length-append bs n s [] c in omega arith
-      | inr l ↦ absurd (true≢false (sym (ends_some bs h e) ∙ ap ends_free c.at_front ∙ c.end.live (omega arith)))
-    ]
+    shorter : ends_live bs ≡ false → 1 ≤ length bs → length (coalesce bs n s []) ≤ length bs
+    shorter e h =
+        let c = coalesced bs n s [] in
+        let lengths = sums_coalesced length length-append bs n s [] c in
+        elim (cases_lt 0 (length c.last)) [ inl l ↦ omega arith | inr l ↦ absurd (true≢false (sym (ends_some bs h e) ∙ ap ends_free c.at_front ∙ c.end.live (omega arith))) ]
 
 -- more units at the end
 well_extend : (s : State) → IsWell s → (more : ℕ) → IsWell (extend more s).state
