@@ -4,14 +4,14 @@ use Rattle.offset_script.proofs.Common.{nat_le, if◌then◌else◌, refl, sym, 
 use Rattle.offset_script.proofs.Common.{cases_eq, cases_lt, true≢false, false≢true, lt-leb, ltb-true, ltb-false, and_parts, and_right, or_parts, not-false, up, down, rows_below, Live, Free, is_free}
 use Rattle.offset_script.proofs.Common.{has_number, stamp, total, chosen_place, State, Answer, step, returns_only, leaves, stamp_of_padding, stamp_of_call, View, Grant, units, used_block, free_part}
 use Rattle.offset_script.proofs.Common.{bin_at, push_all, IsWellFormed, replace, max_size, padding_to, SameSpace, Serves, Frees, Adds, CanExtend, Extends, AllByRecursion, map-append, length-map}
-use Rattle.offset_script.proofs.Common.{get_or-replicate, get_or_past, length-replicate, nil_from_length}
+use Rattle.offset_script.proofs.Common.{length-replicate, nil_from_length, cond_both}
 use Rattle.offset_script.proofs.Agreement.{Label, by_name, by_tag, stamp_of, IsFalling, name_of, HasBlocksOf}
 use Rattle.offset_script.proofs.Lists.{number_of, count, count-append, hit, hit_self, apart_parts, end_of, start_of, coalesce_parts}
 use Rattle.offset_script.proofs.Labels.{names, tags, map_three, stamps_below, AreRising, newest_replaced}
 use Rattle.offset_script.proofs.Chosen.{Spot, whole, place_at, named_spot, plain_spot, named_place, plain_place, IsLabelled, none_chosen, chosen, place_of_spot}
 use Rattle.offset_script.proofs.Ends.{AreFree, free_named, free_tagged, apart_tagged, ends_live_last, last_free, total_units, free_sizes_labels, or_none, name_append, name_skip, name_free, name_none}
-use Rattle.offset_script.proofs.{Tests.if_both, Tests.if_same, Tests.same_some, Found.found_at, Found.not_found, Found.chosen_at, Well.IsWell, Well.not_there, Members.map_parts, Members.map_first}
-use Rattle.offset_allocator.proofs.{ViewApart.and_true, Reading.size_at, Tallies.tally_append, ViewOrders.names_same, ViewOrders.names_other, Classes.down_small, Classes.fits_size}
+use Rattle.offset_script.proofs.{Tests.if_same, Tests.same_some, Found.found_at, Found.not_found, Found.chosen_at, Well.IsWell, Well.not_there, Members.map_parts, Members.map_first}
+use Rattle.offset_allocator.proofs.{Emptied.none_at, ViewApart.and_true, Reading.size_at, Tallies.tally_append, ViewOrders.names_same, ViewOrders.names_other, Classes.down_small, Classes.fits_size}
 use Rattle.offset_allocator.specs.{View.Block, View.Place, View.place_of, View.free_block, Requests.HasRoomFor, Requests.CanGrant, Requests.blocks_needed, Requests.units_needed}
 use Rattle.offset_script.specs.declared.scripts.Command.TheVariants as command
 use Rattle.offset_script.specs.Machine as machine
@@ -224,7 +224,7 @@ module _ (v : View) (kept_name : ℕ → Option ℕ) (s : State) (w : IsWellForm
       total_middle (x ∷ xs) b ys = let ih = total_middle xs b ys in omega arith
 
   aligned_is : (n align : ℕ) → 1 ≤ align → step (command.Align n align) s ≡ machine.request s (blocks_needed align) (units_needed n align) n (padding_to align)
-  aligned_is n align some = search (arith, cases_lt, lt-leb, le-leb, if_both, too_large, request_alike, chosen_place, ltb-true)
+  aligned_is n align some = search (arith, cases_lt, lt-leb, le-leb, cond_both, too_large, request_alike, chosen_place, ltb-true)
 
   pub aligned_agrees : (n align : ℕ) → 1 ≤ align → (u : View) → IsWellFormed u → (r : Option Grant) → Serves (blocks_needed align) (units_needed n align) n (padding_to align) v u r
       → IsMatch u kept_name s.grants r (step (command.Align n align) s)
@@ -360,12 +360,11 @@ pub alone_agrees : (v : View) (x size stamp : ℕ) (kept_name : ℕ → Option �
 alone_agrees v x size stamp kept_name s blocks order limit state none =
     let l : Label = record { name = x; size = size; tag = Free stamp } in
     let f = λ (y : ℕ). stamp_of y (l ∷ []) in
-    let empty : (c : ℕ) → bin_at (replicate 256 []) c ≡ [] = λ c. elim (cases_lt c 256) [ inl l ↦ get_or-replicate 256 c [] [] l | inr l ↦ get_or_past (replicate 256 []) c [] l ] in
     let pushed : (c : ℕ) → IsFalling f (bin_at (push_all (free_block x size ∷ []) (replicate 256 [])) c) = λ c. elim (cases_eq c (down size)) [
       | inl e ↦ subst (λ d. IsFalling f (bin_at (push_all (free_block x size ∷ []) (replicate 256 [])) d)) (sym e)
           (subst (IsFalling f) (sym (names_same (replicate 256 []) (down size) _ (length-replicate {A = List ℕ} 256 []) (down_small size)))
-          (subst (λ l. IsFalling f (x ∷ l)) (sym (empty (down size))) ((λ y m. absurd (omega arith)), tt)))
-      | inr n ↦ subst (IsFalling f) (sym (names_other (replicate 256 []) (down size) c _ n ∙ empty c)) tt
+          (subst (λ l. IsFalling f (x ∷ l)) (sym (none_at (down size))) ((λ y m. absurd (omega arith)), tt)))
+      | inr n ↦ subst (IsFalling f) (sym (names_other (replicate 256 []) (down size) c _ n ∙ none_at c)) tt
     ] in
     let newest = λ (c : ℕ). subst (λ o. IsFalling f (bin_at o c)) (sym order) (pushed c) in
     record { labels = l ∷ []; view = blocks; state = state; limit = limit; newest = newest; handles = none }

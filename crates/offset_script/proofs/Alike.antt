@@ -115,11 +115,9 @@ same_grant r d s t a n padding xs q ys e =
     let kept = λ (x : Pair) (i : IsIn x (pairs_granted xs q ys n padding front live rest)). ⊎_elim {C = IsIn x a.pairs ⊎ IsFreshKind s.grants t.grants s.calls t.calls x.kind}
     (λ h. inl (subst (IsIn x) (sym e) h)) (λ f. inr (fresh_kinds s.grants t.grants s.calls t.calls x f)) (in_granted x xs q ys n padding front live rest i) in
     let answer = ap₂ machine.Grant (omega (arith, a.grants)) (ap (λ n. n + padding) (same_total xs)) in
-    record {
-      answer = answer;
-      state = keeps_alike r d s t a (pairs_granted xs q ys n padding front live rest) (s.grants + 1) (t.grants + 1) _ _ (sym (lefts_granted xs q ys n padding _ _ _ _ _ _))
-          (sym (rights_granted xs q ys n padding _ _ _ _ _ _)) kept (omega arith) (omega arith) (omega (arith, a.grants));
-    }
+    let state = keeps_alike r d s t a (pairs_granted xs q ys n padding front live rest) (s.grants + 1) (t.grants + 1) _ _ (sym (lefts_granted xs q ys n padding _ _ _ _ _ _))
+    (sym (rights_granted xs q ys n padding _ _ _ _ _ _)) kept (omega arith) (omega arith) (omega (arith, a.grants)) in
+    record { answer = answer; state = state }
 
 same_granted : (r : ℕ → ℕ) (d : ℕ) (s t : State) (a : IsAlike r d s t) (n needed : ℕ) (padding_at : ℕ → ℕ) (o o' : Option Place)
     → IsSamePlace (λ x. fits needed (left x) ≡ true) a.pairs o o'

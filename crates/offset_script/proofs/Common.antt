@@ -7,8 +7,9 @@ pub use Rattle.std.proofs.Common.{get_or-set_other, length-set, leb, rules, code
 pub use Rattle.std.proofs.Common.{position}
 pub use Rattle.std.proofs.lemmas.Bool.{cases_eq, cases_lt, false≢true, lt-leb, and_parts, and_right, or_parts, not-false, or_right, false_from_ne_true, cond_both, not-true, and_left, and_cases}
 pub use Rattle.std.proofs.lemmas.Bool.{eqb-false, cases_Bool}
+pub use Rattle.std.proofs.Math.Bool.{or-false}
 pub use Rattle.std.proofs.lemmas.Bool.Decides.{nat_tests}
-pub use Rattle.std.proofs.lemmas.List.{map-append, length-map, get_or-replicate, get_or_past, length-replicate, take_rest, drop_all, nil_from_length, take_more, drop-set}
+pub use Rattle.std.proofs.lemmas.List.{map-append, length-map, get_or_past, length-replicate, take_rest, drop_all, nil_from_length, take_more, drop-set}
 pub use Rattle.std.proofs.lemmas.List.Elements.{All-from_recursion, filter-append, All-get_or, All-push}
 pub use Rattle.std.proofs.lemmas.List.Splits.{length-slice_split, slice_split_at, slice_split_none, join_with_byte-slice_split, slice_split_first}
 pub use Rattle.std.specs.Io.KnownBytes.{Appends, Consumes}

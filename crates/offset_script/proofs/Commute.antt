@@ -1,8 +1,8 @@
 -- Releases in a row leave the same space in any order.
-use Rattle.offset_script.proofs.Common.{◌≡◌, ℕ, zero, suc, ◌+◌, Bool, true, false, ◌&&◌, ◌||◌, ◌≤◌, List, [], ◌∷◌, ◌++◌, sum, Option, Some, None, is_some, nat_eq, nat_lt, nat_le, if◌then◌else◌, refl}
-use Rattle.offset_script.proofs.Common.{sym, ap, ap₂, subst, subst₂, ◌∙◌, arith, eq-eqb, eqb-true, append_assoc, map-append, true≢false, false≢true, false_from_ne_true, Command, rows_below, Tag, Live}
+use Rattle.offset_script.proofs.Common.{◌≡◌, ℕ, zero, suc, ◌+◌, true, false, ◌&&◌, ◌||◌, ◌≤◌, List, [], ◌∷◌, ◌++◌, sum, Option, Some, None, is_some, nat_eq, nat_lt, nat_le, if◌then◌else◌, refl, sym}
+use Rattle.offset_script.proofs.Common.{ap, ap₂, subst, subst₂, ◌∙◌, arith, eq-eqb, eqb-true, append_assoc, map-append, true≢false, false≢true, false_from_ne_true, Command, rows_below, Tag, Live}
 use Rattle.offset_script.proofs.Common.{Free, Block, block, is_free, has_number, total, Place, fits, choose, chosen_place, place_of, coalesce, State, start, step, after, request, grant_or_refuse}
-use Rattle.offset_script.proofs.Common.{release, size_at, stamp_of_call, holder, outline, widen, collapse, without_offset, releases, IsCollapse, list_any, option_map_or}
+use Rattle.offset_script.proofs.Common.{release, size_at, stamp_of_call, holder, outline, widen, collapse, without_offset, releases, IsCollapse, list_any, option_map_or, or-false}
 use Rattle.offset_script.proofs.Pairs.{Kind, Lives, Frees, Pair, left_tag, right_tag, left, right, lefts, rights, same_free, same_short, same_free_sizes, same_refusal, IsSamePlace, neither, both}
 use Rattle.offset_script.proofs.Pairs.{same_place_of}
 use Rattle.offset_script.proofs.Lists.{AreFree, coalesced, apart_coalesce, count_coalesce, count, hit, hit_self, number_of, count-append, starts_free, AreApart, apart_parts}
@@ -28,13 +28,9 @@ collapse-widen : (ks : List ℕ) (n : ℕ) (o : Outline) → collapse ks (widen 
 collapse-widen ks n [] = refl
 collapse-widen ks n (b ∷ o) = search (arith, widen-widen)
 
-or_nothing : (b : Bool) → (b || false) ≡ b
-or_nothing true = refl
-or_nothing false = refl
-
 collapse_block_more : (k : ℕ) (ks : List ℕ) (n : ℕ) (h : Option ℕ) (o p : Outline) → collapse ks o ≡ p → collapse ks (collapse_block (k ∷ []) n h o) ≡ collapse_block (k ∷ ks) n h p
 collapse_block_more k ks n None o p ih = collapse-widen ks n o ∙ ap (widen n) ih
-collapse_block_more k ks n (Some j) o p ih = search (arith, nat_eq, collapse-widen, or_nothing)
+collapse_block_more k ks n (Some j) o p ih = search (arith, nat_eq, collapse-widen, or-false)
 
 collapse_one_more : (k : ℕ) (ks : List ℕ) (o : Outline) → collapse ks (collapse (k ∷ []) o) ≡ collapse (k ∷ ks) o
 collapse_one_more k ks [] = refl
@@ -63,7 +59,7 @@ unchanged ks [] a h = refl
 unchanged ks (b ∷ bs) a h = ap (collapse_block ks b.size (holder b.tag)) (unchanged ks bs a.1 (λ j e. let z = h j e in omega arith)) ∙ stays ks b.size b.tag bs (not_among ks b bs h) a.0
 
 none_of : (k : ℕ) (bs : List Block) → count (Live k) bs ≡ 0 → (j : ℕ) → list_any (nat_eq j) (k ∷ []) ≡ true → count (Live j) bs ≡ 0
-none_of k bs z j e = subst (λ x. count (Live x) bs ≡ 0) (sym (eqb-true j k (sym (or_nothing (nat_eq j k)) ∙ e))) z
+none_of k bs z j e = subst (λ x. count (Live x) bs ≡ 0) (sym (eqb-true j k (sym (or-false (nat_eq j k)) ∙ e))) z
 
 free_holder : (t : Tag) → is_free t ≡ true → holder t ≡ None
 free_holder (Live j) e = absurd (false≢true e)

@@ -1,7 +1,7 @@
 -- How a run ends.
-use Rattle.offset_script.proofs.Common.{◌≡◌, ℕ, zero, suc, ◌-◌, ◌<◌, ◌⊎◌, inl, inr, false, List, [], ◌∷◌, ◌++◌, length, take, drop, get_or, refl, Option, Some, None, Ok, Err, sym, ap, ◌∙◌}
-use Rattle.offset_script.proofs.Common.{append_assoc, arith, take-append-drop, IfSome, flat_map, Appends, cases_lt, append-nil, take_rest, length-append, drop_at, drop_all, meaning_of}
-use Rattle.std.proofs.KnownBytes.{Appends-trans}
+use Rattle.offset_script.proofs.Common.{◌≡◌, ℕ, suc, ◌-◌, ◌<◌, ◌⊎◌, inl, inr, false, List, [], ◌∷◌, ◌++◌, length, take, drop, get_or, Option, Some, None, Ok, Err, sym, ap, ◌∙◌, append_assoc, arith}
+use Rattle.offset_script.proofs.Common.{take-append-drop, IfSome, flat_map, Appends, cases_lt, append-nil, take_rest, length-append, drop_at, drop_all, meaning_of}
+use Rattle.std.proofs.{Math.Seq.split_at, lemmas.Grind.flat_map-append, KnownBytes.Appends-trans}
 use Rattle.offset_script.specs.Running.{view, IsParsed, IsScriptOf, HasText, Sends}
 use Rattle.offset_script.specs.{declared.faults.ScriptFault.ScriptFault, declared.scripts.Script.Script, Faults.as_run_fault}
 use Rattle.offset_script.proofs.Meaning.{is_too_long}
@@ -14,19 +14,15 @@ more_parts text front rest n h = rw take_rest (h ∙ ap (λ (l : List ℕ). fron
 -- several texts appended, split at the i-th
 coalesce_at : {X : Type 0} (text : X → List ℕ) (xs : List X) (i : ℕ) (d : X) → i < length xs
     → flat_map text xs ≡ flat_map text (take i xs) ++ (text (get_or xs i d) ++ flat_map text (drop (suc i) xs))
-coalesce_at text [] i d h = absurd (omega arith)
-coalesce_at text (x ∷ xs) zero d h = refl
-coalesce_at text (x ∷ xs) (suc i) d h = ap (λ l. text x ++ l) (coalesce_at text xs i d (omega arith)) ∙ sym (append_assoc (text x) _ _)
+coalesce_at text xs i d h = ap (flat_map text) (split_at xs i d h) ∙ flat_map-append text (take i xs) (get_or xs i d ∷ drop (suc i) xs)
 
 -- a beginning of the i-th text was sent after those before it
 pub piece_failed : {X : Type 0} (text : X → List ℕ) (xs : List X) (i : ℕ) (d : X) (old mid new : Option (List ℕ)) → i < length xs → Appends old mid (flat_map text (take i xs))
     → Sends false (text (get_or xs i d)) mid new → Sends false (flat_map text xs) old new
-piece_failed text xs i d old mid new h before sends = (
-  flat_map text (take i xs) ++ sends.0,
-  sends.1 ++ flat_map text (drop (suc i) xs),
-  coalesce_at text xs i d h ∙ rw (sends.2, append_assoc sends.0) (sym (append_assoc (flat_map text (take i xs)) sends.0 _)),
-  Appends-trans old mid new _ _ before sends.3,
-)
+piece_failed text xs i d old mid new h before sends =
+    let parted : flat_map text xs ≡ (flat_map text (take i xs) ++ sends.0) ++ (sends.1 ++ flat_map text (drop (suc i) xs)) =
+    coalesce_at text xs i d h ∙ rw (sends.2, append_assoc sends.0) (sym (append_assoc (flat_map text (take i xs)) sends.0 _)) in
+    (flat_map text (take i xs) ++ sends.0, sends.1 ++ flat_map text (drop (suc i) xs), parted, Appends-trans old mid new _ _ before sends.3)
 
 whole_or_long : (bytes text : List ℕ) (left : Option (List ℕ)) → HasText bytes (Some text) left
     → ((left ≡ Some []) × (text ≡ bytes) × (length bytes < 1048577))

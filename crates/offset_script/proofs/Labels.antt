@@ -1,6 +1,6 @@
 -- Blocks with both their names and their tags.
-use Rattle.offset_script.proofs.Common.{◌≡◌, ℕ, ◌+◌, ◌<◌, ◌≤◌, true, false, not, ◌⊎◌, List, [], ◌∷◌, ◌++◌, map, nat_eq, refl, sym, ap, subst, ◌∙◌, inl, inr, arith, eq-eqb, ne_eqb, append_assoc}
-use Rattle.offset_script.proofs.Common.{map-append, cases_lt, not-true, not-false, Tag, Live, Free, is_free, stamp, View, times, count_named, bin_at, push_all, remove_all, IsWellFormed}
+use Rattle.offset_script.proofs.Common.{◌≡◌, ℕ, ◌+◌, ◌<◌, ◌≤◌, true, false, not, List, [], ◌∷◌, ◌++◌, map, nat_eq, refl, sym, ap, subst, ◌∙◌, inl, inr, arith, eq-eqb, ne_eqb, append_assoc, map-append}
+use Rattle.offset_script.proofs.Common.{cases_lt, not-true, not-false, Tag, Live, Free, is_free, stamp, View, times, count_named, bin_at, push_all, remove_all, IsWellFormed}
 use Rattle.offset_allocator.specs.View.{Block}
 use Rattle.offset_script.proofs.Falling.{falling_remove_all, falling_same, falling_put_all, IsRising}
 use Rattle.offset_script.proofs.{Agreement.Label, Agreement.by_name, Agreement.by_tag, Agreement.stamp_of, Agreement.IsFalling, Lists.count, Lists.hit, Lists.hit_self}

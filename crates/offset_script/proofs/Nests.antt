@@ -2,10 +2,10 @@
 use Rattle.offset_script.proofs.Common.{length, ◌≡◌, ◌≢◌, ℕ, ◌+◌, ◌-◌, ◌*◌, ◌<◌, ◌≤◌, Bool, true, false, ◌⊎◌, List, [], ◌∷◌, ◌++◌, Option, Some, None, nat_eq, nat_lt, nat_le, if◌then◌else◌, refl, sym}
 use Rattle.offset_script.proofs.Common.{ap, subst, ◌∙◌, inl, inr, arith, leb-false, le-leb, ne_eqb, cases_lt, lt-leb, and_parts, Command, up, down, max_size, padding_to, Live, Free, is_free, total}
 use Rattle.offset_script.proofs.Common.{Place, chosen_place, place_of, coalesce, State, Answer, Outcome, start, step, after, answers, request, grant, grant_or_refuse, is_short_of, returns_only}
-use Rattle.offset_script.proofs.Common.{leaves, release, size_at, stamp_of_call, rows_below, IsGrant, KeepsSpace, IsNest, number_without, answers_renumbered}
+use Rattle.offset_script.proofs.Common.{leaves, release, size_at, stamp_of_call, rows_below, IsGrant, KeepsSpace, IsNest, number_without, answers_renumbered, cond_both}
 use Rattle.offset_script.proofs.{Members.IsIn, Members.in_map, Pairs.Pair, Pairs.Kind, Pairs.Lives, Pairs.Frees, Pairs.left_tag, Pairs.right_tag, Pairs.left, Pairs.right, Pairs.lefts, Pairs.rights}
 use Rattle.offset_script.proofs.{Alike.IsAlike, Alike.IsMatched, Alike.alike_answers, Lists.in_count, Lists.count, Found.chosen_at, Well.IsWell, Well.well_start, Well.well_after, Well.well_step}
-use Rattle.offset_script.proofs.{Similar.HasSameNumber, Similar.AreSimilar, Similar.similar_refl, Similar.similar_sym, Similar.similar_trans, Restored.IsRestored, Restored.restored, Tests.if_both}
+use Rattle.offset_script.proofs.{Similar.HasSameNumber, Similar.AreSimilar, Similar.similar_refl, Similar.similar_sym, Similar.similar_trans, Restored.IsRestored, Restored.restored}
 use Rattle.offset_script.specs.Totals.{requested_units}
 use Rattle.offset_allocator.proofs.Classes.{fits_size}
 use Rattle.offset_script.specs.declared.scripts.Command.TheVariants as command
@@ -62,7 +62,7 @@ does_grant c s room needed padding_at h (Some p) e =
 
 does_request : (c : Command) (s : State) (spare : ℕ) → 1 ≤ spare → (needed : ℕ) (padding_at : ℕ → ℕ) → ((o : ℕ) → padding_at o + requested_units c ≤ needed)
     → Does c s (request s spare needed (requested_units c) padding_at)
-does_request c s spare some needed padding_at h = search (arith, if_both, needed, only, does_grant, leb-false, length)
+does_request c s spare some needed padding_at h = search (arith, cond_both, needed, only, does_grant, leb-false, length)
 
 does_release : (s : State) (k : ℕ) (o : Option Place) → place_of k s.blocks ≡ o → Does (command.Free k) s (release s o)
 does_release s k None e = only (command.Free k) s machine.Gone tt
@@ -86,11 +86,9 @@ does (command.Size k) s h = only (command.Size k) s _ (quiet_size (place_of k s.
 does command.Report s h = only command.Report s _ (quiet_report (is_short_of 1 s) _ _)
 does command.Full s h = only command.Full s (machine.Full (rows_below 256 (machine.free_sizes s.blocks))) tt
 does command.Reset s h = absurd h
-does (command.Align n align) s h = if_both (Does (command.Align n align) s) (nat_le align 1) (step (command.Alloc n) s)
-    (if nat_lt max_size (n + align - 1) then returns_only s machine.Refused else request s 2 (n + align - 1) n (padding_to align))
-    (λ e. does_request (command.Align n align) s 1 (omega arith) n (λ offset. 0) (λ o. omega arith))
-    (λ e. if_both (Does (command.Align n align) s) (nat_lt max_size (n + align - 1)) (returns_only s machine.Refused) (request s 2 (n + align - 1) n (padding_to align))
-    (λ f. only (command.Align n align) s machine.Refused tt)
+does (command.Align n align) s h =
+    cond_both (nat_le align 1) _ _ (Does (command.Align n align) s) (λ e. does_request (command.Align n align) s 1 (omega arith) n (λ offset. 0) (λ o. omega arith))
+    (λ e. cond_both (nat_lt max_size (n + align - 1)) _ _ (Does (command.Align n align) s) (λ f. only (command.Align n align) s machine.Refused tt)
     (λ f. does_request (command.Align n align) s 2 (omega arith) (n + align - 1) (padding_to align) (λ o. padding_fits n align o (leb-false align 1 e))))
 does (command.Extend more) s h = absurd h
 

@@ -3,7 +3,7 @@ use Rattle.offset_script.proofs.Common.{◌≡◌, ℕ, zero, suc, ◌+◌, ◌-
 use Rattle.offset_script.proofs.Common.{if◌then◌else◌, refl, sym, ap, ap₂, subst, subst₂, ◌∙◌, inl, inr, arith, eq-eqb, eqb-true, map-append, length-map, and_parts, up, down, max_size, Tag, Live}
 use Rattle.offset_script.proofs.Common.{Free, Block, block, is_free, has_number, stamp, total, free_sizes, Place, fits, is_taken_before, choose, chosen_place, prepend, place_of, free_block, ends_live}
 use Rattle.offset_script.proofs.Common.{coalesce, State, is_short_of}
-use Rattle.offset_script.proofs.Lists.{starts_free, ends_free, AreFree, IsEnd, IsStart, IsCoalesced, coalesced, coalesce_parts}
+use Rattle.offset_script.proofs.Lists.{starts_free, ends_free, AreFree, IsEnd, IsStart, coalesced, coalesce_parts}
 use Rattle.offset_script.proofs.{Members.IsIn, Members.in_append, Members.in_left, Members.in_right, Members.map_parts, Tests.same_and, Tests.if_same}
 
 -- two blocks at one place: both live, with their numbers, or both free, with their stamps

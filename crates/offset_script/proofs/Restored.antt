@@ -98,83 +98,44 @@ none_in_all s w k xs b ys e l before padding_bit padding front on_before on_padd
 pub restored : (s : State) → IsWell s → (p : Place) (needed n padding : ℕ) → s.blocks ≡ whole p → fits needed p.block ≡ true → IsBest needed s.blocks p.block
     → padding + n ≤ p.block.size
     → (t : State) → IsWell t → AreSimilar (granted_blocks p n padding (stamp_of_padding s) (s.grants + 1) (stamp_of_call s)) t.blocks → IsRestored s t
-restored s w p needed n padding e f best enough t v m = record {
-  place = record { before = rights a.0 ++ rights b.0; block = right c.0; after = rights d.0 ++ rights d.1 };
-  found = ap (place_of (s.grants + 1)) blocks ∙ place_at (s.grants + 1) _ (right c.0) _ none_before (live_number c.0.kind (s.grants + 1) (ap (λ (b : Block). b.tag) c.3) (m.numbers c.0 live_in));
-  similar = subst₂ AreSimilar left_side (sym right_side) (similar_restored m.pairs a.0 d.1 z (stamp p.block.tag) (stamp_of_call t) old m.numbers m.agree newest);
-}
-  where
-    z : ℕ
-    z = p.block.size
-
-    rest : List Block
-    rest = free_block (z - (padding + n)) (stamp_of_call s)
-
+restored s w p needed n padding e f best enough t v m =
+    let z = p.block.size in
+    let rest = free_block (z - (padding + n)) (stamp_of_call s) in
     -- the pairs after the grant, one part after the other
-    a : (front : List Pair) × (back : List Pair) × (m.pairs ≡ front ++ back) × (lefts front ≡ p.before)
-        × (lefts back ≡ free_block padding (stamp_of_padding s) ++ (block n (Live (s.grants + 1)) ∷ (rest ++ p.after)))
-    a = map_parts left m.pairs p.before (free_block padding (stamp_of_padding s) ++ (block n (Live (s.grants + 1)) ∷ (rest ++ p.after))) (sym m.left_blocks)
-
-    b : (front : List Pair) × (back : List Pair) × (a.1 ≡ front ++ back) × (lefts front ≡ free_block padding (stamp_of_padding s))
-        × (lefts back ≡ block n (Live (s.grants + 1)) ∷ (rest ++ p.after))
-    b = map_parts left a.1 (free_block padding (stamp_of_padding s)) (block n (Live (s.grants + 1)) ∷ (rest ++ p.after)) a.4
-
-    c : (q : Pair) × (back : List Pair) × (b.1 ≡ q ∷ back) × (left q ≡ block n (Live (s.grants + 1))) × (lefts back ≡ rest ++ p.after)
-    c = map_first left b.1 (block n (Live (s.grants + 1))) (rest ++ p.after) b.4
-
-    d : (front : List Pair) × (back : List Pair) × (c.1 ≡ front ++ back) × (lefts front ≡ rest) × (lefts back ≡ p.after)
-    d = map_parts left c.1 rest p.after c.4
-
-    parts_whole : m.pairs ≡ a.0 ++ (b.0 ++ (c.0 ∷ (d.0 ++ d.1)))
-    parts_whole = a.2 ∙ ap (λ y. a.0 ++ y) (b.2 ∙ ap (λ y. b.0 ++ y) (c.2 ∙ ap (λ y. c.0 ∷ y) d.2))
-
-    blocks : t.blocks ≡ (rights a.0 ++ rights b.0) ++ right c.0 ∷ (rights d.0 ++ rights d.1)
-    blocks = m.right_blocks ∙ ap rights parts_whole ∙ rights_parts a.0 b.0 c.0 d.0 d.1
-
-    live_in : IsIn c.0 m.pairs
-    live_in = subst (IsIn c.0) (sym parts_whole) (in_right c.0 a.0 (b.0 ++ (c.0 ∷ (d.0 ++ d.1))) (in_right c.0 b.0 (c.0 ∷ (d.0 ++ d.1)) (inl refl)))
-
-    old : (q : Pair) → IsIn q a.0 ⊎ IsIn q d.1 → IsIn q m.pairs
-    old q (inl i) = subst (IsIn q) (sym parts_whole) (in_left q a.0 (b.0 ++ (c.0 ∷ (d.0 ++ d.1))) i)
-    old q (inr i) = subst (IsIn q) (sym parts_whole) (in_right q a.0 (b.0 ++ (c.0 ∷ (d.0 ++ d.1))) (in_right q b.0 (c.0 ∷ (d.0 ++ d.1)) (inr (in_right q d.0 d.1 i))))
-
-    free : is_free p.block.tag ≡ true
-    free = (and_parts (is_free p.block.tag) (nat_le (up needed) (down p.block.size)) f).0
-
-    tag : p.block.tag ≡ Free (stamp p.block.tag)
-    tag = free_stamp p.block.tag free
-
-    apart : AreApart p.before × (((is_free p.block.tag && starts_free p.after) ≡ false) × AreApart p.after) × ((ends_free p.before && is_free p.block.tag) ≡ false)
-    apart = apart_parts p.before (p.block ∷ p.after) (subst AreApart e w.apart)
-
-    ends : IsEnd (rights a.0) (rights b.0)
-    ends = same_end a.0 b.0 (subst₂ IsEnd (sym a.3) (sym b.3)
-        (end_of p.before (free_block padding (stamp_of_padding s)) (free_part padding _).0 (free_part padding _).1 (left_false (ends_free p.before) (is_free p.block.tag) apart.2 free)))
-
-    starts : IsStart (rights d.0) (rights d.1)
-    starts = same_start d.0 d.1 (subst₂ IsStart (sym d.3) (sym d.4)
-        (start_of (free_block (z - (padding + n)) (stamp_of_call s)) p.after (free_part _ _).0 (free_part _ _).1 (right_false (is_free p.block.tag) (starts_free p.after) apart.1.0 free)))
-
-    right_side : coalesce (rights a.0 ++ rights b.0) c.0.size (stamp_of_call t) (rights d.0 ++ rights d.1) ≡ rights a.0 ++ block z (Free (stamp_of_call t)) ∷ rights d.1
-    right_side = search (arith, coalesce_parts, rights, a, b, c, d, ends, starts, same_total, free_part, z)
-
-    left_side : lefts a.0 ++ block z (Free (stamp p.block.tag)) ∷ lefts d.1 ≡ s.blocks
-    left_side = ap₂ (λ x y. x ++ block z (Free (stamp p.block.tag)) ∷ y) a.3 d.4 ∙ ap (λ x. p.before ++ block z x ∷ p.after) (sym tag) ∙ sym e
-
-    none_before : count (Live (s.grants + 1)) (rights a.0 ++ rights b.0) ≡ 0
-    none_before = none_in_all s w (s.grants + 1) p.before p.block p.after e (omega arith) a.0 b.0 padding (stamp_of_padding s) a.3 b.3
-        (λ q i. m.numbers q (old q (inl i))) (λ q i. m.numbers q (subst (IsIn q) (sym parts_whole) (in_right q a.0 (b.0 ++ (c.0 ∷ (d.0 ++ d.1))) (in_left q b.0 (c.0 ∷ (d.0 ++ d.1)) i))))
-
-    below : (q : Pair) (y : ℕ) → IsIn q m.pairs → right_tag q.kind ≡ Free y → y < stamp_of_call t
-    below q y i k = let c = subst (λ x. 1 ≤ count x t.blocks) k
-        (subst (λ bs. 1 ≤ count (right_tag q.kind) bs) (sym m.right_blocks) (in_count (right q) (rights m.pairs) (in_map right q m.pairs i))) in
-        let o = v.old (Free y) c in omega arith
-
-    newest : (q : Pair) (x y : ℕ) → IsIn q a.0 ⊎ IsIn q d.1 → q.kind ≡ Frees x y → nat_eq (down q.size) (down z) ≡ true → (x < stamp p.block.tag) × (y < stamp_of_call t)
-    newest q x y i k same = (older s w p needed (stamp p.block.tag) e tag f best q.size x stood same, below q y (old q i) (ap right_tag k))
-      where
-        own : left q ≡ block q.size (Free x)
-        own = ap (λ l. block q.size (left_tag l)) k
-
-        stood : IsIn (block q.size (Free x)) p.before ⊎ IsIn (block q.size (Free x)) p.after
-        stood = elim i [ inl h ↦ inl (subst₂ (λ (c : Block) bs. IsIn c bs) own a.3 (in_map left q a.0 h)) | inr h ↦ inr (subst₂ (λ (c : Block) bs. IsIn c bs) own d.4 (in_map left q d.1 h)) ]
+    let a = map_parts left m.pairs p.before (free_block padding (stamp_of_padding s) ++ (block n (Live (s.grants + 1)) ∷ (rest ++ p.after))) (sym m.left_blocks) in
+    let b = map_parts left a.1 (free_block padding (stamp_of_padding s)) (block n (Live (s.grants + 1)) ∷ (rest ++ p.after)) a.4 in
+    let c = map_first left b.1 (block n (Live (s.grants + 1))) (rest ++ p.after) b.4 in
+    let d = map_parts left c.1 rest p.after c.4 in
+    let parts_whole = a.2 ∙ ap (λ y. a.0 ++ y) (b.2 ∙ ap (λ y. b.0 ++ y) (c.2 ∙ ap (λ y. c.0 ∷ y) d.2)) in
+    let blocks = m.right_blocks ∙ ap rights parts_whole ∙ rights_parts a.0 b.0 c.0 d.0 d.1 in
+    let live_in = subst (IsIn c.0) (sym parts_whole) (in_right c.0 a.0 (b.0 ++ (c.0 ∷ (d.0 ++ d.1))) (in_right c.0 b.0 (c.0 ∷ (d.0 ++ d.1)) (inl refl))) in
+    let old : (q : Pair) → IsIn q a.0 ⊎ IsIn q d.1 → IsIn q m.pairs = λ q i. subst (IsIn q) (sym parts_whole) (elim i [
+      | inl h ↦ in_left q a.0 (b.0 ++ (c.0 ∷ (d.0 ++ d.1))) h
+      | inr h ↦ in_right q a.0 (b.0 ++ (c.0 ∷ (d.0 ++ d.1))) (in_right q b.0 (c.0 ∷ (d.0 ++ d.1)) (inr (in_right q d.0 d.1 h)))
+    ]) in
+    let free = (and_parts (is_free p.block.tag) (nat_le (up needed) (down p.block.size)) f).0 in
+    let tag = free_stamp p.block.tag free in
+    let apart = apart_parts p.before (p.block ∷ p.after) (subst AreApart e w.apart) in
+    let ends = same_end a.0 b.0 (subst₂ IsEnd (sym a.3) (sym b.3)
+    (end_of p.before (free_block padding (stamp_of_padding s)) (free_part padding _).0 (free_part padding _).1 (left_false (ends_free p.before) (is_free p.block.tag) apart.2 free))) in
+    let starts = same_start d.0 d.1 (subst₂ IsStart (sym d.3) (sym d.4)
+    (start_of rest p.after (free_part _ _).0 (free_part _ _).1 (right_false (is_free p.block.tag) (starts_free p.after) apart.1.0 free))) in
+    let right_side : coalesce (rights a.0 ++ rights b.0) c.0.size (stamp_of_call t) (rights d.0 ++ rights d.1) ≡ rights a.0 ++ block z (Free (stamp_of_call t)) ∷ rights d.1 =
+    search (arith, coalesce_parts, rights, a, b, c, d, ends, starts, same_total, free_part) in
+    let left_side = ap₂ (λ x y. x ++ block z (Free (stamp p.block.tag)) ∷ y) a.3 d.4 ∙ ap (λ x. p.before ++ block z x ∷ p.after) (sym tag) ∙ sym e in
+    let none_before = none_in_all s w (s.grants + 1) p.before p.block p.after e (omega arith) a.0 b.0 padding (stamp_of_padding s) a.3 b.3
+    (λ q i. m.numbers q (old q (inl i))) (λ q i. m.numbers q (subst (IsIn q) (sym parts_whole) (in_right q a.0 (b.0 ++ (c.0 ∷ (d.0 ++ d.1))) (in_left q b.0 (c.0 ∷ (d.0 ++ d.1)) i)))) in
+    let below : (q : Pair) (y : ℕ) → IsIn q m.pairs → right_tag q.kind ≡ Free y → y < stamp_of_call t =
+    λ q y i k. let there = subst (λ bs. 1 ≤ count (right_tag q.kind) bs) (sym m.right_blocks) (in_count (right q) (rights m.pairs) (in_map right q m.pairs i)) in
+    let o = v.old (Free y) (subst (λ x. 1 ≤ count x t.blocks) k there) in omega arith in
+    let newest : (q : Pair) (x y : ℕ) → IsIn q a.0 ⊎ IsIn q d.1 → q.kind ≡ Frees x y → nat_eq (down q.size) (down z) ≡ true → (x < stamp p.block.tag) × (y < stamp_of_call t) =
+    λ q x y i k same.
+    let own : left q ≡ block q.size (Free x) = ap (λ l. block q.size (left_tag l)) k in
+    let stood : IsIn (block q.size (Free x)) p.before ⊎ IsIn (block q.size (Free x)) p.after =
+    elim i [ inl h ↦ inl (subst₂ (λ (c : Block) bs. IsIn c bs) own a.3 (in_map left q a.0 h)) | inr h ↦ inr (subst₂ (λ (c : Block) bs. IsIn c bs) own d.4 (in_map left q d.1 h)) ] in
+    (older s w p needed (stamp p.block.tag) e tag f best q.size x stood same, below q y (old q i) (ap right_tag k)) in
+    record {
+      place = record { before = rights a.0 ++ rights b.0; block = right c.0; after = rights d.0 ++ rights d.1 };
+      found = ap (place_of (s.grants + 1)) blocks ∙ place_at (s.grants + 1) _ (right c.0) _ none_before (live_number c.0.kind (s.grants + 1) (ap (λ (b : Block). b.tag) c.3) (m.numbers c.0 live_in));
+      similar = subst₂ AreSimilar left_side (sym right_side) (similar_restored m.pairs a.0 d.1 z (stamp p.block.tag) (stamp_of_call t) old m.numbers m.agree newest);
+    }

@@ -1,9 +1,9 @@
 -- The sums of sizes, and the numbers of live blocks, that every call keeps.
 use Rattle.offset_script.proofs.Common.{◌≡◌, ℕ, zero, suc, ◌+◌, ◌≤◌, true, false, not, cond, ◌&&◌, ◌||◌, List, [], ◌∷◌, ◌++◌, length, nat_le, nat_lt, if◌then◌else◌, refl, sym, ap, subst, ◌∙◌, inl}
 use Rattle.offset_script.proofs.Common.{inr, arith, le-leb, length-append, sum, filter-append, max_size, Block, is_free, total, free_sizes, Place, chosen_place, free_block, ends_live, coalesce, State}
-use Rattle.offset_script.proofs.Common.{Outcome, start, step, after, is_short_of, returns_only, leaves, request, grant_or_refuse, stamp_of_call, stamp_of_padding, largest, Command, KeepsSpace}
+use Rattle.offset_script.proofs.Common.{Outcome, start, step, after, is_short_of, returns_only, request, grant_or_refuse, stamp_of_call, stamp_of_padding, largest, Command, KeepsSpace, cond_both}
 use Rattle.offset_script.proofs.Lists.{sums_coalesced, whole, total-append, AreFree, coalesced}
-use Rattle.offset_script.proofs.{Found.chosen_at, Found.found_at, Well.granted_blocks, Well.free_part, Nests.does, Tests.if_both}
+use Rattle.offset_script.proofs.{Found.chosen_at, Found.found_at, Well.granted_blocks, Well.free_part, Nests.does}
 use Rattle.std.proofs.lemmas.List.Sums.{sum_by-cons}
 use Rattle.offset_script.specs.Totals.{requested_units, live, added_units, added_by}
 use Rattle.offset_script.specs.declared.scripts.Command.TheVariants as command
@@ -66,8 +66,8 @@ adds_none n m e = omega arith
 pub adds_step : (c : Command) (s : State) → Adds c s (step c s)
 adds_step command.Reset s = refl
 adds_step (command.Extend zero) s = adds_none _ _ refl
-adds_step (command.Extend (suc more)) s = if_both (Adds (command.Extend (suc more)) s) (nat_lt max_size (total s.blocks + suc more) || (ends_live s.blocks && is_short_of 1 s))
-    (returns_only s machine.Refused) (leaves s (coalesce s.blocks (suc more) (stamp_of_call s) []) machine.Extended)
+adds_step (command.Extend (suc more)) s =
+    cond_both (nat_lt max_size (total s.blocks + suc more) || (ends_live s.blocks && is_short_of 1 s)) _ _ (Adds (command.Extend (suc more)) s)
     (λ e. adds_none _ _ refl) (λ e. let j = total_coalesce s.blocks (suc more) (stamp_of_call s) [] in omega arith)
 adds_step c s = adds_none _ _ (total_kept c s tt)
 
@@ -103,8 +103,7 @@ few_kept c s k h = elim (does c s k) [
 few_step : (c : Command) (s : State) → live_blocks s.blocks + 2 ≤ s.limit → HasFew s (step c s)
 few_step command.Reset s h = (omega arith, refl)
 few_step (command.Extend zero) s h = (h, refl)
-few_step (command.Extend (suc more)) s h = if_both (HasFew s) (nat_lt max_size (total s.blocks + suc more) || (ends_live s.blocks && is_short_of 1 s)) (returns_only s machine.Refused)
-    (leaves s (coalesce s.blocks (suc more) (stamp_of_call s) []) machine.Extended)
+few_step (command.Extend (suc more)) s h = cond_both (nat_lt max_size (total s.blocks + suc more) || (ends_live s.blocks && is_short_of 1 s)) _ _ (HasFew s)
     (λ e. (h, refl)) (λ e. (let j = live_coalesce s.blocks (suc more) (stamp_of_call s) [] in omega arith, refl))
 few_step c s h = few_kept c s tt h
 
@@ -126,7 +125,7 @@ pub full_refuses : (s : State) (n : ℕ) → s.limit ≤ length s.blocks + 1 →
 full_refuses s n h = refused s 1 n n (λ offset. 0) (omega arith) h
 
 pub full_refuses_aligned : (s : State) (n align : ℕ) → s.limit ≤ length s.blocks + 1 → (step (command.Align n align) s).answer ≡ machine.Refused
-full_refuses_aligned s n align h = search (arith, if_both, nat_le, nat_lt, full_refuses, refused)
+full_refuses_aligned s n align h = search (arith, cond_both, nat_le, nat_lt, full_refuses, refused)
 
 pub full_report : (s : State) → s.limit ≤ length s.blocks + 1 → (step command.Report s).answer ≡ machine.Report 0 0
 full_report s h = ap (λ b. if b then machine.Report 0 0 else machine.Report (sum (free_sizes s.blocks)) (largest (free_sizes s.blocks))) (short_too s 1 (omega arith) h)

@@ -2,10 +2,9 @@
 use Rattle.offset_script.proofs.Common.{◌≡◌, ℕ, zero, suc, ◌+◌, ◌-◌, ◌<◌, ◌≤◌, true, false, ◌&&◌, ◌||◌, ◌⊎◌, List, [], ◌∷◌, ◌++◌, length, Option, Some, None, nat_lt, nat_le, refl, sym, ap, subst, ◌∙◌}
 use Rattle.offset_script.proofs.Common.{inl, inr, arith, leb-false, length-append, cases_lt, true≢false, and_parts, and_left, and_right, or_parts, and_cases, not-false, Command, max_size, padding_to}
 use Rattle.offset_script.proofs.Common.{Tag, Live, Free, Block, block, is_free, total, Place, chosen_place, place_of, free_block, ends_live, coalesce, State, Answer, Outcome, start, step, after}
-use Rattle.offset_script.proofs.Common.{request, grant, grant_or_refuse, is_short_of, returns_only, leaves, release, reset, extend, stamp_of_call, stamp_of_padding}
-use Rattle.offset_script.proofs.Lists.{sums_coalesced, starts_free, ends_free, AreApart, hit, count, whole, count-append, count_free_block, apart_append, apart_parts, AreFree, IsCoalesced, coalesced}
-use Rattle.offset_script.proofs.Lists.{count_coalesce, apart_coalesce}
-use Rattle.offset_script.proofs.{Tests.if_both, Found.found_at, Found.chosen_at}
+use Rattle.offset_script.proofs.Common.{request, grant, grant_or_refuse, is_short_of, returns_only, leaves, release, reset, extend, stamp_of_call, stamp_of_padding, cond_both}
+use Rattle.offset_script.proofs.{Lists.sums_coalesced, Lists.starts_free, Lists.ends_free, Lists.AreApart, Lists.hit, Lists.count, Lists.whole, Lists.count-append, Lists.count_free_block}
+use Rattle.offset_script.proofs.{Lists.apart_append, Lists.apart_parts, Lists.AreFree, Lists.coalesced, Lists.count_coalesce, Lists.apart_coalesce, Found.found_at, Found.chosen_at}
 use Rattle.offset_allocator.proofs.{ViewApart.left_false, ViewApart.right_false, Tallies.hit_cases}
 use Rattle.offset_script.specs.declared.scripts.Command.TheVariants as command
 use Rattle.offset_script.specs.Machine as machine
@@ -39,13 +38,10 @@ module _ (s s' : State) (w : IsWell s) (news : Tag → ℕ) (counts : (t : Tag) 
   still_old (Free x) o = omega arith
 
   well_next : 1 ≤ length s'.blocks → length s'.blocks + 1 ≤ s'.limit → AreApart s'.blocks → IsWell s'
-  well_next some room apart = record {
-    some = some;
-    apart = apart;
-    once = λ t. elim (fresh t) [ inl z ↦ omega (arith, counts t, w.once t) | inr n ↦ omega (arith, counts t, not_there s w t n.1) ];
-    old = λ t c. elim (fresh t) [ inl z ↦ still_old t (w.old t (omega (arith, counts t))) | inr n ↦ n.2 ];
-    room = room;
-  }
+  well_next some room apart =
+      let once : (t : Tag) → count t s'.blocks ≤ 1 = λ t. elim (fresh t) [ inl z ↦ omega (arith, counts t, w.once t) | inr n ↦ omega (arith, counts t, not_there s w t n.1) ] in
+      let old : (t : Tag) → 1 ≤ count t s'.blocks → IsOld s' t = λ t c. elim (fresh t) [ inl z ↦ still_old t (w.old t (omega (arith, counts t))) | inr n ↦ n.2 ] in
+      record { some = some; apart = apart; once = once; old = old; room = room }
 
 -- a call that leaves the blocks as they are
 pub well_quiet : (s : State) → IsWell s → (a : Answer) → IsWell (returns_only s a).state
@@ -102,7 +98,7 @@ well_granted s w needed n padding_at spare enough room (Some p) e =
 
 well_request : (s : State) → IsWell s → (spare needed n : ℕ) (padding_at : ℕ → ℕ) → ((o x : ℕ) → length (free_block (padding_at o) x) + 1 ≤ spare)
     → IsWell (request s spare needed n padding_at).state
-well_request s w spare needed n padding_at enough = if_both (λ (o : Outcome). IsWell o.state) (is_short_of spare s) _ _ (λ e. well_quiet s w machine.Refused)
+well_request s w spare needed n padding_at enough = cond_both (is_short_of spare s) _ _ (λ (o : Outcome). IsWell o.state) (λ e. well_quiet s w machine.Refused)
     (λ e. well_granted s w needed n padding_at spare enough (leb-false s.limit (length s.blocks + spare) e) (chosen_place needed s.blocks) refl)
 
 -- a release
@@ -134,7 +130,7 @@ length_at_end bs n s = (shorter, (length_coalesce bs n s []).1)
 -- more units at the end
 well_extend : (s : State) → IsWell s → (more : ℕ) → IsWell (extend more s).state
 well_extend s w zero = well_quiet s w machine.Extended
-well_extend s w (suc more) = if_both (λ (o : Outcome). IsWell o.state) (nat_lt max_size (total s.blocks + suc more) || (ends_live s.blocks && is_short_of 1 s)) _ _
+well_extend s w (suc more) = cond_both (nat_lt max_size (total s.blocks + suc more) || (ends_live s.blocks && is_short_of 1 s)) _ _ (λ (o : Outcome). IsWell o.state)
     (λ e. well_quiet s w machine.Refused) (λ e.
     let sizes = length_coalesce s.blocks (suc more) (stamp_of_call s) [] in
     let at_end = length_at_end s.blocks (suc more) (stamp_of_call s) in
@@ -154,8 +150,8 @@ pub well_step : (c : Command) (s : State) → IsWell s → IsWell (step c s).sta
 well_step (command.Alloc n) s w = well_request s w 1 n n (λ offset. 0) no_padding
 well_step (command.Free k) s w = well_release s w k (place_of k s.blocks) refl
 well_step command.Reset s w = well_reset s w
-well_step (command.Align n align) s w = if_both (λ (o : Outcome). IsWell o.state) (nat_le align 1) _ _ (λ e. well_request s w 1 n n (λ offset. 0) no_padding)
-    (λ e. if_both (λ (o : Outcome). IsWell o.state) (nat_lt max_size (n + align - 1)) _ _ (λ e. well_quiet s w machine.Refused)
+well_step (command.Align n align) s w = cond_both (nat_le align 1) _ _ (λ (o : Outcome). IsWell o.state) (λ e. well_request s w 1 n n (λ offset. 0) no_padding)
+    (λ e. cond_both (nat_lt max_size (n + align - 1)) _ _ (λ (o : Outcome). IsWell o.state) (λ e. well_quiet s w machine.Refused)
     (λ e. well_request s w 2 (n + align - 1) n (padding_to align) (λ o x. let h = (free_part (padding_to align o) x).3 in omega arith)))
 well_step (command.Extend more) s w = well_extend s w more
 well_step other s w = well_quiet s w (step other s).answer
