@@ -1,39 +1,21 @@
 -- The steps of calls are those of the plain machine.
-use Rattle.std.proofs.Common.{◌≡◌, ◌≢◌, ◌⊎◌, ℕ, ◌+◌, ◌-◌, ◌≤◌, Bool, true, false, not, ◌&&◌, List, [], ◌∷◌, length, sum, Option, Some, None, is_some}
-use Rattle.std.proofs.Common.{IfSome, IsTrue, option_map, option_and_then}
-use Rattle.std.proofs.Common.{nat_eq, nat_lt, nat_le, if◌then◌else◌, refl, sym, ap, ap₂, subst, ◌∙◌, inl, inr, arith, eq-eqb, ne_eqb, le-leb, leb-true, lt-ltb, le-ltb}
-use Rattle.std.proofs.lemmas.Bool.{cases_eq, cases_lt, true≢false, false≢true, and_parts, lt-leb}
-use Rattle.offset_allocator.proofs.Advice.{free_within}
-use Rattle.offset_allocator.proofs.Powers.{not_zero}
-use Rattle.offset_allocator.proofs.Tallies.{hit_cases}
-use Rattle.offset_allocator.specs.declared.reports.Refusal.{Refusal}
-use Rattle.offset_allocator.specs.declared.reports.Refusal.TheVariants.{Nodes, TooLarge, Space, Fragmented}
-use Rattle.offset_allocator.specs.Classes.{value, up, down}
-use Rattle.offset_allocator.specs.View.{View, Grant, Place, times, count_in_bin, bin_at, units, IsWellFormed}
-use Rattle.offset_allocator.specs.View as named
-use Rattle.offset_allocator.specs.Requests.{HasRoomFor, IsWhy, size_needed, blocks_needed, units_needed}
-use Rattle.offset_allocator.specs.Ranges.{Range, range_of, size_of}
-use Rattle.offset_allocator.specs.Relations.{SameSpace}
-use Rattle.offset_allocator.specs.Resizing.{Shrinks, Grows, Resizes}
-use Rattle.offset_script.specs.Steps.{kept_name, IfNamed, Stays}
-use Rattle.offset_script.proofs.Agreement.{Label, by_tag, IsAtState}
-use Rattle.offset_script.specs.Machine.{State, is_free, free_sizes, total, chosen_place, is_short_of, fits}
-use Rattle.offset_script.specs.Machine as machine
+use Rattle.offset_calls.proofs.Common.{◌≡◌, ◌≢◌, ◌⊎◌, ℕ, ◌+◌, ◌-◌, ◌≤◌, Bool, true, false, not, ◌&&◌, List, [], ◌∷◌, length, sum, Option, Some, None, is_some, IfSome, IsTrue, option_map}
+use Rattle.offset_calls.proofs.Common.{option_and_then, nat_eq, nat_lt, nat_le, if◌then◌else◌, refl, sym, ap, ap₂, subst, ◌∙◌, inl, inr, arith, eq-eqb, ne_eqb, le-leb, leb-true, lt-ltb, le-ltb}
+use Rattle.offset_calls.proofs.Common.{cases_eq, cases_lt, true≢false, false≢true, and_parts, lt-leb, Nodes, TooLarge, Space, Fragmented, View, Grant, Place, times, count_in_bin, bin_at, units}
+use Rattle.offset_calls.proofs.Common.{IsWellFormed, HasRoomFor, IsWhy, size_needed, blocks_needed, units_needed, Range, size_of, SameSpace, kept_name, IfNamed, Stays, State, is_free, free_sizes}
+use Rattle.offset_calls.proofs.Common.{total, chosen_place, is_short_of, fits, Call, Reply, Answer, Resized, Compacted, Offset, Refused_for, Outcome, can_shrink, can_grow, resize, resized}
+use Rattle.offset_calls.proofs.Common.{replies_only, shortage, reason, offset_at, step, after, is_valid, compact, starts_free, Takes, IsReason}
+use Rattle.offset_allocator.proofs.{Advice.free_within, Powers.not_zero, Tallies.hit_cases}
+use Rattle.offset_allocator.specs.{declared.reports.Refusal.Refusal, Classes.value, Classes.up, Classes.down, Ranges.range_of, Resizing.Shrinks, Resizing.Grows, Resizing.Resizes}
 use Rattle.offset_script.proofs.Agreed.{agrees_but, agrees_quiet, has_room, labelled, none_there, same_length, same_units}
-use Rattle.offset_script.proofs.Chosen.{none_chosen, plain_place}
-use Rattle.offset_script.proofs.Ends.{free_sizes_labels, total_units}
-use Rattle.offset_script.proofs.Labels.{names}
-use Rattle.offset_script.proofs.Members.{IsIn, in_map}
-use Rattle.offset_script.proofs.Simulation as script
-use Rattle.offset_script.proofs.Found.{not_chosen}
-use Rattle.offset_script.proofs.Well.{IsWell, well_quiet, well_step}
-use Rattle.offset_calls.specs.declared.calls.Call.{Call}
-use Rattle.offset_calls.specs.declared.calls.Call.TheVariants as call
-use Rattle.offset_calls.specs.Calls.{Reply, Answer, Resized, Compacted, Offset, Refused_for, Outcome, can_shrink, can_grow, resize, resized, replies_only, shortage, reason, offset_at, step, after}
-use Rattle.offset_calls.specs.Calls.{is_valid, compact, starts_free}
-use Rattle.offset_calls.specs.Steps.{Takes, IsReason}
+use Rattle.offset_script.proofs.{Agreement.Label, Agreement.by_tag, Agreement.IsAtState, Chosen.none_chosen, Chosen.plain_place, Ends.free_sizes_labels, Ends.total_units, Labels.names, Members.IsIn}
+use Rattle.offset_script.proofs.{Members.in_map, Found.not_chosen, Well.IsWell, Well.well_quiet, Well.well_step}
 use Rattle.offset_calls.proofs.Compacted.{well_compact, compact_agrees, moves_are}
 use Rattle.offset_calls.proofs.Resized.{well_resized, found, spot, size_found, can_shrink_is, shrink_can, can_grow_is, grow_can, resized_agrees}
+use Rattle.offset_allocator.specs.View as named
+use Rattle.offset_script.specs.Machine as machine
+use Rattle.offset_script.proofs.Simulation as script
+use Rattle.offset_calls.specs.declared.calls.Call.TheVariants as call
 
 -- the plain machine has this reply, and a view and handles represent the state that it leaves
 abbrev pub Follows : Outcome → View → List (Option Grant) → Reply → Type 0
@@ -89,9 +71,7 @@ well_call (call.Command c) s w = well_step c s w
 well_call (call.Shrink k n) s w = well_resize s w k n (can_shrink n s) (λ p d c. shrink_fits s n p d c) (machine.place_of k s.blocks) refl
 well_call (call.Grow k n) s w = well_resize s w k n (can_grow n) (λ p d c. grow_fits s n p d c) (machine.place_of k s.blocks) refl
 well_call call.Compact s w = well_compact s w
-well_call (call.Offset k) s w = well_quiet s w machine.Gone
-well_call (call.Refusal n) s w = well_quiet s w machine.Gone
-well_call (call.RefusalAligned n align) s w = well_quiet s w machine.Gone
+well_call other s w = well_quiet s w machine.Gone
 
 pub well_calls : (cs : List Call) (s : State) → IsWell s → IsWell (after cs s)
 well_calls [] s w = w
@@ -126,14 +106,9 @@ module _ (v w : View) (hs left : List (Option Grant)) (r : Reply) (s : State) (f
         → left ≡ hs → r ≡ Resized
         → Follows (resize can n s (machine.place_of k s.blocks)) w left r
     resize_changes can d c t f is =
-        subst (λ (o : Outcome). Follows o w left r) (sym (ap (resize can n s) at ∙ resize_done can n s _ (λ z. d (z ∙ sym sized)) c)) (
-          is,
-          subst (λ l. IsAtState w l (resized n s (plain_place (spot v (kept_name hs) s p.formed ws p.agrees k x e))).state) (sym f) (record {
-            formed = formed;
-            agrees = resized_agrees v (kept_name hs) s p.formed ws p.agrees k x e n w formed (λ z. d (z ∙ sym sized)) t;
-            grants = p.grants;
-          }),
-        )
+        let agrees = resized_agrees v (kept_name hs) s p.formed ws p.agrees k x e n w formed (λ z. d (z ∙ sym sized)) t in
+        subst (λ (o : Outcome). Follows o w left r) (sym (ap (resize can n s) at ∙ resize_done can n s _ (λ z. d (z ∙ sym sized)) c))
+        (is, subst (λ l. IsAtState w l (resized n s (plain_place (spot v (kept_name hs) s p.formed ws p.agrees k x e))).state) (sym f) (record { formed = formed; agrees = agrees; grants = p.grants }))
 
     shrinks : (done : Bool) → Shrinks x n v w done → left ≡ hs → r ≡ (if done then Resized else Answer machine.Refused) → Follows (step (call.Shrink k n) s) w left r
     shrinks true (inl t) f is = resize_same_size (can_shrink n s) t.0 t.1 f is
@@ -264,14 +239,9 @@ module _ (v w : View) (hs left : List (Option Grant)) (r : Reply) (s : State) (f
   follows (call.Command c) valid t = let f = script.follows v w hs left t.0 s formed ws p c valid t.1 in (t.2 ∙ ap Answer f.0, f.1)
   follows (call.Shrink k n) valid t = shrink_step k n (kept_name hs k) refl t
   follows (call.Grow k n) valid t = grow_step k n (kept_name hs k) refl t
-  follows call.Compact valid t = (
-    t.2.2 ∙ ap Compacted (moves_are v hs s p.formed ws p.agrees t.2.0 t.2.1),
-    subst (λ l. IsAtState w l (compact s).state) (sym t.1) (record {
-      formed = formed;
-      agrees = compact_agrees v (kept_name hs) s p.agrees w t.0;
-      grants = p.grants;
-    }),
-  )
+  follows call.Compact valid t =
+      let agrees = compact_agrees v (kept_name hs) s p.agrees w t.0 in
+      (t.2.2 ∙ ap Compacted (moves_are v hs s p.formed ws p.agrees t.2.0 t.2.1), subst (λ l. IsAtState w l (compact s).state) (sym t.1) (record { formed = formed; agrees = agrees; grants = p.grants }))
   follows (call.Offset k) valid t = quiet _ _ refl t.0 (offset_step k (kept_name hs k) refl t.1)
   follows (call.Refusal n) valid t = quiet _ _ refl t.0 (t.1.2 ∙ ap Refused_for (reason_is 1 n t.1.0 t.1.1))
   follows (call.RefusalAligned n align) valid t = quiet _ _ refl t.0

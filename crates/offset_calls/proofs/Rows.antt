@@ -1,24 +1,14 @@
 -- Releases in a row: the reply to the call after them.
-use Rattle.std.proofs.Common.{◌≡◌, ℕ, ◌+◌, ◌-◌, ◌≤◌, Bool, not, ◌&&◌, ◌||◌, List, [], ◌∷◌, ◌++◌, sum, Option, Some, None, is_some, nat_eq, nat_le}
-use Rattle.std.proofs.Common.{if◌then◌else◌, refl, sym, ap, ap₂, subst₂, ◌∙◌, inl}
-use Rattle.std.proofs.Common.{inr}
-use Rattle.offset_allocator.specs.declared.reports.Refusal.TheVariants.{Nodes}
-use Rattle.offset_script.specs.Histories.{IsCollapse, collapse, outline, releases}
-use Rattle.offset_script.specs.Machine.{State, start, chosen_place, total, free_sizes, is_short_of, place_of, is_free}
-use Rattle.offset_script.specs.Machine as machine
+use Rattle.offset_calls.proofs.Common.{◌≡◌, ℕ, ◌+◌, ◌-◌, ◌≤◌, Bool, not, ◌&&◌, ◌||◌, List, [], ◌∷◌, ◌++◌, sum, Option, Some, None, is_some, nat_eq, nat_le, if◌then◌else◌, refl, sym, ap, ap₂, subst₂}
+use Rattle.offset_calls.proofs.Common.{◌∙◌, inl, inr, Nodes, IsCollapse, collapse, outline, releases, State, start, chosen_place, total, free_sizes, is_short_of, place_of, is_free, Call, Answer}
+use Rattle.offset_calls.proofs.Common.{Compacted, Offset, Refused_for, Outcome, resize, number, move_of, moves, offset_at, shortage, reason, step, after, without_offset}
 use Rattle.offset_script.proofs.Commute.{IsSameSpace, releases_outline, releases_scalars, same_next, same_number, some_same}
-use Rattle.offset_script.proofs.Members.{IsIn}
 use Rattle.offset_script.proofs.Pairs.{Kind, Lives, Frees, Pair, left_tag, right_tag, left, right, lefts, rights, IsSamePlace, neither, both, same_free, same_total, same_units, same_short}
 use Rattle.offset_script.proofs.Pairs.{same_free_sizes, same_place_of}
-use Rattle.offset_script.proofs.Similar.{HasSameNumber, paired}
-use Rattle.offset_script.proofs.Tests.{if_same}
-use Rattle.offset_script.proofs.Well.{well_start}
-use Rattle.offset_calls.specs.declared.calls.Call.{Call}
+use Rattle.offset_script.proofs.{Members.IsIn, Similar.HasSameNumber, Similar.paired, Tests.if_same, Well.well_start}
+use Rattle.offset_calls.proofs.{Alike.same_starts, Alike.same_free_start, Followed.well_calls}
+use Rattle.offset_script.specs.Machine as machine
 use Rattle.offset_calls.specs.declared.calls.Call.TheVariants as call
-use Rattle.offset_calls.specs.Calls.{Answer, Compacted, Offset, Refused_for, Outcome, resize, number, move_of, moves, offset_at, shortage, reason, step, after}
-use Rattle.offset_calls.specs.Histories.{without_offset}
-use Rattle.offset_calls.proofs.Alike.{same_starts, same_free_start}
-use Rattle.offset_calls.proofs.Followed.{well_calls}
 
 same_moved : (k : Kind) → HasSameNumber k → number (left_tag k) ≡ number (right_tag k)
 same_moved (Lives i j) e = e
