@@ -38,19 +38,7 @@ live_kept : (hs : List (Option Grant)) (x : ℕ) (bs : List Block) → AllByRecu
     → is_used_at (place_of x bs) ≡ true
     → (k : ℕ) × (kept_name hs k ≡ Some x)
 live_kept hs x [] a h = absurd (false≢true h)
-live_kept hs x (b ∷ bs) a h = elim (cases_eq x b.name) [
-  | inl e ↦
-      let u : b.used ≡ true =
-      sym (ap (λ c. is_used_at (if c then Some (record { before = []; block = b; after = bs }) else option_map (λ (p : Place). record p { before = b ∷ p.before }) (place_of x bs)))
-      (eq-eqb x b.name e)) ∙ h in
-      let r = a.0 u in
-      (r.0, r.1 ∙ ap Some (sym e))
-  | inr n ↦
-      live_kept hs x bs a.1
-      (sym (is_used_after b (place_of x bs))
-      ∙ sym (ap (λ c. is_used_at (if c then Some (record { before = []; block = b; after = bs }) else option_map (λ (p : Place). record p { before = b ∷ p.before }) (place_of x bs)))
-      (ne_eqb x b.name n)) ∙ h)
-]
+live_kept hs x (b ∷ bs) a h = search (arith, cases_eq, eq-eqb, ne_eqb, is_used_after, (live_kept hs x bs a.1))
 
 -- tickets of one grant
 that_alike : (t u : Ticket) → AreAlike u t → is_that t (Some u) ≡ true
@@ -118,7 +106,7 @@ after-append : (xs ys : List Call) (s : State) → after (xs ++ ys) s ≡ after 
 after-append [] ys s = refl
 after-append (c ∷ xs) ys s = after-append xs ys (step c s).state
 
-replies-append : (xs ys : List Call) (s : State) → replies (xs ++ ys) s ≡ replies xs s ++ replies ys (after xs s)
+pub replies-append : (xs ys : List Call) (s : State) → replies (xs ++ ys) s ≡ replies xs s ++ replies ys (after xs s)
 replies-append [] ys s = refl
 replies-append (c ∷ xs) ys s = ap (λ l. (step c s).reply ∷ l) (replies-append xs ys (step c s).state)
 

@@ -103,7 +103,8 @@ compact_agrees v kept_name s g u f =
     let same_sizes : free_sizes s.blocks ≡ named.free_sizes v.blocks = ap free_sizes g.state ∙ free_sizes_labels g.labels ∙ sym (ap named.free_sizes g.view) in
     let view = ap (λ (x : View). x.blocks) f.view ∙ ap₂ (λ a b. a ++ b) (ap named_moves.live g.view ∙ sym (live_names g.labels))
     (ap (named_moves.gathered f.name) (sym same_sizes) ∙ sym (gathered_names f.name (stamp_of_call s) (free_sizes s.blocks))) ∙ sym (map-append by_name (live_labels g.labels) free) in
-    let state = ap₂ (λ a b. a ++ b) (ap live g.state ∙ sym (live_tags g.labels)) (sym (gathered_tags f.name (stamp_of_call s) (free_sizes s.blocks))) ∙ sym (map-append by_tag (live_labels g.labels) free) in
+    let state = ap₂ (λ a b. a ++ b) (ap live g.state ∙ sym (live_tags g.labels)) (sym (gathered_tags f.name (stamp_of_call s) (free_sizes s.blocks)))
+    ∙ sym (map-append by_tag (live_labels g.labels) free) in
     let newest = λ (c : ℕ). subst (λ o. IsFalling (λ x. stamp_of x (live_labels g.labels ++ free)) (bin_at o c)) (sym (ap (λ (x : View). x.order) f.view))
     (gathered_newest _ f.name (named.free_sizes v.blocks) c) in
     let limit = g.limit ∙ sym (ap (λ (x : View). x.max_allocs) f.view) in

@@ -241,7 +241,8 @@ module _ (v w : View) (hs left : List (Option Grant)) (r : Reply) (s : State) (f
   follows (call.Grow k n) valid t = grow_step k n (kept_name hs k) refl t
   follows call.Compact valid t =
       let agrees = compact_agrees v (kept_name hs) s p.agrees w t.0 in
-      (t.2.2 ∙ ap Compacted (moves_are v hs s p.formed ws p.agrees t.2.0 t.2.1), subst (λ l. IsAtState w l (compact s).state) (sym t.1) (record { formed = formed; agrees = agrees; grants = p.grants }))
+      let moved = moves_are v hs s p.formed ws p.agrees t.2.0 t.2.1 in
+      (t.2.2 ∙ ap Compacted moved, subst (λ l. IsAtState w l (compact s).state) (sym t.1) (record { formed = formed; agrees = agrees; grants = p.grants }))
   follows (call.Offset k) valid t = quiet _ _ refl t.0 (offset_step k (kept_name hs k) refl t.1)
   follows (call.Refusal n) valid t = quiet _ _ refl t.0 (t.1.2 ∙ ap Refused_for (reason_is 1 n t.1.0 t.1.1))
   follows (call.RefusalAligned n align) valid t = quiet _ _ refl t.0

@@ -1,4 +1,5 @@
 -- The moves of a compaction, and the numbers of the ranges that move.
+use Rattle.std.proofs.{Math.Seq.drop-append_seam, lemmas.List.drop-map}
 use Rattle.offset_calls.proofs.Common.{◌≡◌, ℕ, zero, suc, ◌+◌, ◌-◌, ◌<◌, ◌≤◌, Bool, true, false, List, [], ◌∷◌, ◌++◌, map, drop, length, reverse, slice_index_or, Option, Some, None, option_map}
 use Rattle.offset_calls.proofs.Common.{unwrap_or, if◌then◌else◌, refl, sym, ap, ap₂, subst, subst₂, ◌∙◌, inl, inr, arith, append_assoc, append-nil, length-append, eq-eqb, ne_eqb, cases_eq, cases_lt}
 use Rattle.offset_calls.proofs.Common.{false≢true, map-append, length-map, reverse-append, get_or_past, AllByRecursion, FoldsTo, Block, Grant, View, Range, live, Placed, placed, listing, kept_name}
@@ -53,36 +54,28 @@ last_move from to (b ∷ bs) l = elim (cases_eq from to) [
 -- moves of the program
 are_length : (ms : List Moved) (xs : List Move) → AreMoves ms xs → length ms ≡ length xs
 are_length [] [] a = refl
-are_length [] (x ∷ xs) a = absurd a
-are_length (m ∷ ms) [] a = absurd a
 are_length (m ∷ ms) (x ∷ xs) a = ap suc (are_length ms xs a.3)
+are_length ms xs a = absurd a
 
 pub are_more : (ms : List Moved) (xs : List Move) (m : Moved) (x : Move) → AreMoves ms xs → m.from ≡ x.from → m.to ≡ x.to → m.size ≡ x.size → AreMoves (ms ++ m ∷ []) (xs ++ x ∷ [])
 are_more [] [] m x a e f g = (e, f, g, tt)
-are_more [] (y ∷ xs) m x a e f g = absurd a
-are_more (n ∷ ms) [] m x a e f g = absurd a
 are_more (n ∷ ms) (y ∷ xs) m x a e f g = (a.0, a.1, a.2, are_more ms xs m x a.3 e f g)
+are_more ms xs m x a e f g = absurd a
 
 -- numbers whose names are those of the moves
 numbers_join : (handles : List (Option Grant)) (ks : List ℕ) (ms : List Moved) (xs : List Move) → map (kept_name handles) ks ≡ names_of xs → AreMoves ms xs
     → AreNumbered handles xs (joined ks ms)
 numbers_join handles [] [] [] e a = tt
 numbers_join handles (k ∷ ks) [] [] e a = tt
-numbers_join handles ks [] (x ∷ xs) e a = absurd a
-numbers_join handles ks (m ∷ ms) [] e a = absurd a
 numbers_join handles [] (m ∷ ms) (x ∷ xs) e a = absurd (cc)
 numbers_join handles (k ∷ ks) (m ∷ ms) (x ∷ xs) e a = (cc, a.0, a.1, a.2, numbers_join handles ks ms xs (cc) a.3)
+numbers_join handles ks ms xs e a = absurd a
 
 drop_map : {A B : Type 0} (f : A → B) (n : ℕ) (xs : List A) → map f (drop n xs) ≡ drop n (map f xs)
-drop_map f zero xs = refl
-drop_map f (suc n) [] = refl
-drop_map f (suc n) (x ∷ xs) = drop_map f n xs
+drop_map f n xs = sym (drop-map f n xs)
 
 drop_front : {A : Type 0} (xs ys : List A) (n : ℕ) → n ≡ length xs → drop n (xs ++ ys) ≡ ys
-drop_front [] ys zero e = refl
-drop_front [] ys (suc n) e = absurd (omega arith)
-drop_front (x ∷ xs) ys zero e = absurd (omega arith)
-drop_front (x ∷ xs) ys (suc n) e = drop_front xs ys n (omega arith)
+drop_front xs ys n e = rw e (drop-append_seam xs ys)
 
 module _ (handles : List (Option Grant)) (ks : List ℕ) (ms : List Moved) (v : View) (e : map (kept_name handles) ks ≡ live_names v.blocks) (a : AreMoves ms (moves 0 0 v.blocks)) where
   numbers_parts : IsLast v.blocks (moves 0 0 v.blocks)
