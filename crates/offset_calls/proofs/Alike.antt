@@ -1,9 +1,9 @@
 -- Two states that differ only in numbers, and in stamps of the same order in each class, give the same replies.
-use Rattle.offset_calls.proofs.Common.{◌≡◌, ℕ, ◌+◌, ◌-◌, ◌*◌, Bool, true, false, not, ◌&&◌, ◌||◌, ◌⊎◌, List, [], ◌∷◌, ◌++◌, map, sum, Option, Some, None, is_some, nat_eq, nat_le, if◌then◌else◌, refl}
-use Rattle.offset_calls.proofs.Common.{sym, ap, ap₂, subst, subst₂, ◌∙◌, inl, inr, arith, eq-eqb, ne_eqb, le-leb, cases_eq, cases_lt, true≢false, false≢true, lt-leb, map-append, Nodes, number_without}
-use Rattle.offset_calls.proofs.Common.{State, is_free, has_number, total, free_sizes, place_of, chosen_place, is_short_of, free_start, without_start, free_block, stamp_of_call, fits, Call, Reply}
-use Rattle.offset_calls.proofs.Common.{Answer, Compacted, Offset, Refused_for, Outcome, starts_free, resize, resized, replies_only, number, move_of, moves, gathered, compact, offset_at, shortage}
-use Rattle.offset_calls.proofs.Common.{reason, step, replies, renumber, number_with, raise_move, raise}
+use Rattle.offset_calls.proofs.Common.{◌≡◌, ℕ, ◌+◌, ◌-◌, ◌*◌, Bool, true, false, not, ◌&&◌, ◌||◌, ◌⊎◌, List, [], ◌∷◌, ◌++◌, map, sum, Option, None, is_some, nat_eq, nat_le, if◌then◌else◌, refl, sym}
+use Rattle.offset_calls.proofs.Common.{ap, ap₂, subst, subst₂, ◌∙◌, inl, inr, arith, eq-eqb, ne_eqb, le-leb, cases_eq, cases_lt, true≢false, false≢true, lt-leb, map-append, number_without, State}
+use Rattle.offset_calls.proofs.Common.{is_free, has_number, free_sizes, place_of, chosen_place, free_start, without_start, free_block, stamp_of_call, fits, Call, Reply, Answer, Compacted, Offset}
+use Rattle.offset_calls.proofs.Common.{Refused_for, Outcome, starts_free, resize, resized, replies_only, number, move_of, moves, gathered, compact, offset_at, reason, step, replies, renumber}
+use Rattle.offset_calls.proofs.Common.{number_with, raise_move, raise}
 use Rattle.offset_script.specs.Totals.{live}
 use Rattle.offset_script.proofs.Alike.{IsAlike, IsMatched, IsFreshKind, alike_step, same_placed, same_quiet, same_leaves, fresh_kinds, matched_in_new, agree_in_new, either}
 use Rattle.offset_script.proofs.Pairs.{Kind, Lives, Frees, Pair, pair, left_tag, right_tag, left, right, lefts, rights, AreAgreed, IsSameOrder, IsSamePlace, neither, both, same_free, same_total}

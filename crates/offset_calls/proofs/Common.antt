@@ -4,7 +4,7 @@ pub use Rattle.std.proofs.Common.{ap, ap₂, subst, subst₂, ◌∙◌, inl, in
 pub use Rattle.std.proofs.Common.{append-nil, append_assoc, length-append, eqb-true, replicate, ◌≢◌, IfSome, option_and_then, nat_lt, leb-true, lt-ltb, le-ltb, drop, reverse, slice_index_or}
 pub use Rattle.std.proofs.Common.{unwrap_or, leb-false, slice_set, rules, take_all, add-one, drop-cons}
 pub use Rattle.std.proofs.lemmas.Bool.{cases_eq, cases_lt, false≢true, lt-leb, and_parts, and_right}
-pub use Rattle.std.proofs.lemmas.List.{map-append, length-map, take_more, get_or_past, get_or-replicate, length-replicate, reverse-append, drop_all}
+pub use Rattle.std.proofs.lemmas.List.{map-append, length-map, take_more, get_or_past, length-replicate, reverse-append, drop_all}
 pub use Rattle.std.specs.List.{AllByRecursion, FoldsTo}
 pub use Rattle.offset_allocator.specs.Compacting.{live, Compacts}
 pub use Rattle.offset_allocator.specs.Listing.{Placed, placed, listing, as_placed}

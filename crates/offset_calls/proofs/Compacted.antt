@@ -1,11 +1,10 @@
 -- A compaction: what is left agrees with the plain machine, and the moves are the same.
-use Rattle.offset_calls.proofs.Common.{◌≡◌, ℕ, suc, ◌+◌, ◌≤◌, Bool, true, false, not, ◌&&◌, List, [], ◌∷◌, ◌++◌, length, replicate, sum, Option, Some, None, nat_eq, if◌then◌else◌, refl, sym, ap, ap₂}
-use Rattle.offset_calls.proofs.Common.{subst, subst₂, ◌∙◌, inl, inr, arith, eq-eqb, ne_eqb, length-append, cases_eq, cases_lt, true≢false, false≢true, map-append, get_or_past, get_or-replicate}
-use Rattle.offset_calls.proofs.Common.{length-replicate, AllByRecursion, Block, View, Grant, one, count_named, bin_at, push_all, IsWellFormed, Compacts, kept_name, Tag, Live, Free, State, is_free}
-use Rattle.offset_calls.proofs.Common.{has_number, free_sizes, stamp_of_call, Move, moves, gathered, compact, number, AreNumbered}
+use Rattle.offset_calls.proofs.Common.{◌≡◌, ℕ, ◌+◌, ◌≤◌, Bool, true, false, not, ◌&&◌, List, [], ◌∷◌, ◌++◌, length, replicate, sum, Option, Some, None, nat_eq, if◌then◌else◌, refl, sym, ap, ap₂}
+use Rattle.offset_calls.proofs.Common.{subst, subst₂, ◌∙◌, inl, inr, arith, eq-eqb, ne_eqb, length-append, cases_eq, true≢false, false≢true, map-append, length-replicate, AllByRecursion, Block, View}
+use Rattle.offset_calls.proofs.Common.{Grant, one, count_named, bin_at, push_all, IsWellFormed, Compacts, kept_name, Tag, Live, Free, State, is_free, has_number, free_sizes, stamp_of_call, Move}
+use Rattle.offset_calls.proofs.Common.{moves, gathered, compact, number, AreNumbered}
 use Rattle.offset_allocator.specs.Classes.{down}
 use Rattle.offset_allocator.proofs.{Emptied.none_at, Classes.down_small, Tallies.hit_cases, ViewOrders.names_same, ViewOrders.names_other}
-use Rattle.std.specs.Option.{option_or}
 use Rattle.offset_script.proofs.Agreement.{Label, by_name, by_tag, name_of, IsFalling, stamp_of, HasBlocksOf}
 use Rattle.offset_script.proofs.Lists.{AreApart, apart_append, count, hit, count-append, ends_free, starts_free}
 use Rattle.offset_script.proofs.{Ends.free_sizes_labels, Ends.name_append, Ends.or_none, Labels.names, Labels.tags, Members.IsIn, Well.IsWell, Well.well_leaves}

@@ -1,10 +1,10 @@
 -- The steps of calls are those of the plain machine.
 use Rattle.offset_calls.proofs.Common.{◌≡◌, ◌≢◌, ◌⊎◌, ℕ, ◌+◌, ◌-◌, ◌≤◌, Bool, true, false, not, ◌&&◌, List, [], ◌∷◌, length, sum, Option, Some, None, is_some, IfSome, IsTrue, option_map}
 use Rattle.offset_calls.proofs.Common.{option_and_then, nat_eq, nat_lt, nat_le, if◌then◌else◌, refl, sym, ap, ap₂, subst, ◌∙◌, inl, inr, arith, eq-eqb, ne_eqb, le-leb, leb-true, lt-ltb, le-ltb}
-use Rattle.offset_calls.proofs.Common.{cases_eq, cases_lt, true≢false, false≢true, and_parts, lt-leb, Nodes, TooLarge, Space, Fragmented, View, Grant, Place, times, count_in_bin, bin_at, units}
-use Rattle.offset_calls.proofs.Common.{IsWellFormed, HasRoomFor, IsWhy, size_needed, blocks_needed, units_needed, Range, size_of, SameSpace, kept_name, IfNamed, Stays, State, is_free, free_sizes}
-use Rattle.offset_calls.proofs.Common.{total, chosen_place, is_short_of, fits, Call, Reply, Answer, Resized, Compacted, Offset, Refused_for, Outcome, can_shrink, can_grow, resize, resized}
-use Rattle.offset_calls.proofs.Common.{replies_only, shortage, reason, offset_at, step, after, is_valid, compact, starts_free, Takes, IsReason}
+use Rattle.offset_calls.proofs.Common.{cases_eq, cases_lt, true≢false, false≢true, and_parts, lt-leb, Nodes, TooLarge, Space, Fragmented, View, Grant, times, count_in_bin, bin_at, units, IsWellFormed}
+use Rattle.offset_calls.proofs.Common.{HasRoomFor, IsWhy, size_needed, blocks_needed, units_needed, Range, size_of, SameSpace, kept_name, IfNamed, Stays, State, is_free, free_sizes, total}
+use Rattle.offset_calls.proofs.Common.{chosen_place, is_short_of, fits, Call, Reply, Answer, Resized, Compacted, Offset, Refused_for, Outcome, can_shrink, can_grow, resize, resized, replies_only}
+use Rattle.offset_calls.proofs.Common.{shortage, reason, offset_at, step, after, is_valid, compact, starts_free, Takes, IsReason}
 use Rattle.offset_allocator.proofs.{Advice.free_within, Powers.not_zero, Tallies.hit_cases}
 use Rattle.offset_allocator.specs.{declared.reports.Refusal.Refusal, Classes.value, Classes.up, Classes.down, Ranges.range_of, Resizing.Shrinks, Resizing.Grows, Resizing.Resizes}
 use Rattle.offset_script.proofs.Agreed.{agrees_but, agrees_quiet, has_room, labelled, none_there, same_length, same_units}

@@ -1,9 +1,9 @@
 -- The moves of a compaction, and the numbers of the ranges that move.
-use Rattle.std.proofs.{Math.Seq.drop-append_seam, lemmas.List.drop-map}
 use Rattle.offset_calls.proofs.Common.{◌≡◌, ℕ, zero, suc, ◌+◌, ◌-◌, ◌<◌, ◌≤◌, Bool, true, false, List, [], ◌∷◌, ◌++◌, map, drop, length, reverse, slice_index_or, Option, Some, None, option_map}
 use Rattle.offset_calls.proofs.Common.{unwrap_or, if◌then◌else◌, refl, sym, ap, ap₂, subst, subst₂, ◌∙◌, inl, inr, arith, append_assoc, append-nil, length-append, eq-eqb, ne_eqb, cases_eq, cases_lt}
 use Rattle.offset_calls.proofs.Common.{false≢true, map-append, length-map, reverse-append, get_or_past, AllByRecursion, FoldsTo, Block, Grant, View, Range, live, Placed, placed, listing, kept_name}
 use Rattle.offset_calls.proofs.Common.{AreKept, AreMoves, AreNumbered, joined}
+use Rattle.std.proofs.{Math.Seq.drop-append_seam, lemmas.List.drop-map}
 use Rattle.offset_allocator.specs.{Ranges.IsLive, Ranges.range_of, Compacting.Move, Compacting.moves}
 use Rattle.offset_allocator.proofs.Sliding.{live_used, live_idle, moves_used, moves_idle}
 use Rattle.offset_calls.specs.declared.calls.Moved.{Moved}

@@ -1,7 +1,7 @@
 -- Releases in a row: the reply to the call after them.
-use Rattle.offset_calls.proofs.Common.{◌≡◌, ℕ, ◌+◌, ◌-◌, ◌≤◌, Bool, not, ◌&&◌, ◌||◌, List, [], ◌∷◌, ◌++◌, sum, Option, Some, None, is_some, nat_eq, nat_le, if◌then◌else◌, refl, sym, ap, ap₂, subst₂}
-use Rattle.offset_calls.proofs.Common.{◌∙◌, inl, inr, Nodes, IsCollapse, collapse, outline, releases, State, start, chosen_place, total, free_sizes, is_short_of, place_of, is_free, Call, Answer}
-use Rattle.offset_calls.proofs.Common.{Compacted, Offset, Refused_for, Outcome, resize, number, move_of, moves, offset_at, shortage, reason, step, after, without_offset, arith}
+use Rattle.offset_calls.proofs.Common.{◌≡◌, ℕ, ◌+◌, ◌-◌, ◌≤◌, Bool, not, ◌&&◌, ◌||◌, List, [], ◌∷◌, sum, Option, None, nat_eq, nat_le, if◌then◌else◌, refl, sym, ap, ap₂, subst₂, ◌∙◌, inl, inr}
+use Rattle.offset_calls.proofs.Common.{IsCollapse, collapse, outline, releases, State, start, is_short_of, place_of, Call, Answer, Compacted, Offset, Refused_for, Outcome, resize, number, moves}
+use Rattle.offset_calls.proofs.Common.{offset_at, reason, step, after, without_offset, arith}
 use Rattle.offset_script.proofs.Commute.{IsSameSpace, releases_outline, releases_scalars, same_next, same_number, some_same}
 use Rattle.offset_script.proofs.Pairs.{Kind, Lives, Frees, Pair, left_tag, right_tag, left, right, lefts, rights, IsSamePlace, neither, both, same_free, same_total, same_units, same_short}
 use Rattle.offset_script.proofs.Pairs.{same_free_sizes, same_place_of}
