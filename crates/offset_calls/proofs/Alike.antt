@@ -153,8 +153,7 @@ module _ (r : ℕ → ℕ) (g d : ℕ) (back : (k : ℕ) → r (number_with g d 
       on_right = search (arith, map-append, right, rights, right_tag, pair_free_block, lefts, rights_free_block, same_free_start, rights_without)
 
   resize_same : (k n : ℕ) (can can' : machine.Place → Bool) (o o' : Option machine.Place) → place_of k s.blocks ≡ o → IsSamePlace (λ q. Unit {0}) a.pairs o o'
-      → ((xs : List Pair) (q : Pair) (ys : List Pair)
-      → can (record { before = lefts xs; block = left q; after = lefts ys }) ≡ can' (record { before = rights xs; block = right q; after = rights ys }))
+      → ((xs : List Pair) (q : Pair) (ys : List Pair) → can (record { before = lefts xs; block = left q; after = lefts ys }) ≡ can' (record { before = rights xs; block = right q; after = rights ys }))
       → AreSame r g d (resize can n s o) (resize can' n t o')
   resize_same k n can can' None None e neither same = quiet _ _ refl
   resize_same k n can can' o o' e (both xs q ys f u) same =
@@ -173,8 +172,7 @@ module _ (r : ℕ → ℕ) (g d : ℕ) (back : (k : ℕ) → r (number_with g d 
   moves_same from to [] h = refl
   moves_same from to (q ∷ ps) h = go (is_free (left_tag q.kind)) refl (nat_eq from to) refl (λ u. moves_same (from + q.size) u ps (λ x i. h x (inr i)))
     where
-      go : (x : Bool) → is_free (left_tag q.kind) ≡ x → (b : Bool) → nat_eq from to ≡ b
-          → ((u : ℕ) → moves (from + q.size) u (lefts ps) ≡ map (raise_move g d) (moves (from + q.size) u (rights ps)))
+      go : (x : Bool) → is_free (left_tag q.kind) ≡ x → (b : Bool) → nat_eq from to ≡ b → ((u : ℕ) → moves (from + q.size) u (lefts ps) ≡ map (raise_move g d) (moves (from + q.size) u (rights ps)))
           → moves from to (lefts (q ∷ ps)) ≡ map (raise_move g d) (moves from to (rights (q ∷ ps)))
       go true e b f ih = search (arith, lefts, left, map, rights, right, same_free)
       go false e b f ih =

@@ -34,8 +34,7 @@ is_used_after b None = refl
 is_used_after b (Some p) = refl
 
 -- a live name is kept for some number
-live_kept : (hs : List (Option Grant)) (x : ℕ) (bs : List Block) → AllByRecursion (λ (b : Block). b.used ≡ true → (k : ℕ) × (kept_name hs k ≡ Some b.name)) bs
-    → is_used_at (place_of x bs) ≡ true
+live_kept : (hs : List (Option Grant)) (x : ℕ) (bs : List Block) → AllByRecursion (λ (b : Block). b.used ≡ true → (k : ℕ) × (kept_name hs k ≡ Some b.name)) bs → is_used_at (place_of x bs) ≡ true
     → (k : ℕ) × (kept_name hs k ≡ Some x)
 live_kept hs x [] a h = absurd (false≢true h)
 live_kept hs x (b ∷ bs) a h = search (arith, cases_eq, eq-eqb, ne_eqb, is_used_after, (live_kept hs x bs a.1))
@@ -171,8 +170,7 @@ module _ (size limit : ℕ) (low : 2 ≤ limit) (g h : Guard) (ts us : List Tick
   played_more = record { represents = represents_more; replied = replied_more }
 
 -- a loop over calls: one more
-pub goes_on : (size limit realm : ℕ) → 2 ≤ limit
-    → (g h : Guard) (ts us : List Ticket) (calls : List TicketCall) (i : ℕ) (d : TicketCall) (found left : List program.Reply) (x : program.Reply)
+pub goes_on : (size limit realm : ℕ) → 2 ≤ limit → (g h : Guard) (ts us : List Ticket) (calls : List TicketCall) (i : ℕ) (d : TicketCall) (found left : List program.Reply) (x : program.Reply)
     → IsLedger g ts → length ts ≤ i → IsPlayed size limit g ts (take i calls) found → g.realm ≡ realm → All (IsGrantOf (map reply_view found)) ts
     → IsWellFormed h.space → i < length calls → All (λ c. IsTrue (is_valid c.call)) calls → left ≡ found ++ x ∷ []
     → (now : List Ticket) (o : Option Ticket) → now ≡ ts → o ≡ passed now (get_or calls i d)

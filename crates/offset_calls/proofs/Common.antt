@@ -1,4 +1,4 @@
--- The names of std, of the crate below and of the contracts that most proofs cite, passed on from one place. Declares nothing.
+-- The names of std, of the crates below and of the contracts that most proofs cite, passed on from one place. Declares nothing.
 pub use Rattle.std.proofs.Common.{◌≡◌, ℕ, ◌+◌, ◌-◌, ◌*◌, Bool, true, false, not, ◌&&◌, ◌||◌, ◌⊎◌, List, [], ◌∷◌, ◌++◌, map, sum, Option, Some, None, is_some, nat_eq, nat_le, if◌then◌else◌, refl, sym}
 pub use Rattle.std.proofs.Common.{ap, ap₂, subst, subst₂, ◌∙◌, inl, inr, arith, eq-eqb, ne_eqb, le-leb, true≢false, zero, suc, ◌<◌, ◌≤◌, length, take, All, get_or, IsTrue, slice_get, option_map}
 pub use Rattle.std.proofs.Common.{append-nil, append_assoc, length-append, eqb-true, replicate, ◌≢◌, IfSome, option_and_then, nat_lt, leb-true, lt-ltb, le-ltb, drop, reverse, slice_index_or}

@@ -44,8 +44,7 @@ not_true false f = refl
 
 -- every state stays well-formed
 
-well_resize : (s : State) → IsWell s → (k n : ℕ) (can : machine.Place → Bool)
-    → ((p : machine.Place) → n ≢ p.block.size → can p ≡ true → (starts_free p.after ≡ true) ⊎ (is_short_of 1 s ≡ false))
+well_resize : (s : State) → IsWell s → (k n : ℕ) (can : machine.Place → Bool) → ((p : machine.Place) → n ≢ p.block.size → can p ≡ true → (starts_free p.after ≡ true) ⊎ (is_short_of 1 s ≡ false))
     → (o : Option machine.Place) → machine.place_of k s.blocks ≡ o → IsWell (resize can n s o).state
 well_resize s w k n can fit None e = well_quiet s w machine.Gone
 well_resize s w k n can fit (Some p) e = go (can p) refl
@@ -96,14 +95,12 @@ module _ (v w : View) (hs left : List (Option Grant)) (r : Reply) (s : State) (f
     resize_same_size : (can : machine.Place → Bool) → n ≡ size_of x v → SameSpace v w → left ≡ hs → r ≡ Resized → Follows (resize can n s (machine.place_of k s.blocks)) w left r
     resize_same_size can same space f is = stays _ Resized (ap (resize can n s) at ∙ resize_same can n s _ (same ∙ sized)) space f is
 
-    resize_refuses : (can : machine.Place → Bool) → n ≢ size_of x v → (can (plain_place (spot v (kept_name hs) s p.formed ws p.agrees k x e)) ≡ true → ⊥)
-        → SameSpace v w → left ≡ hs
+    resize_refuses : (can : machine.Place → Bool) → n ≢ size_of x v → (can (plain_place (spot v (kept_name hs) s p.formed ws p.agrees k x e)) ≡ true → ⊥) → SameSpace v w → left ≡ hs
         → r ≡ Answer machine.Refused
         → Follows (resize can n s (machine.place_of k s.blocks)) w left r
     resize_refuses can d none space f is = stays _ (Answer machine.Refused) (ap (resize can n s) at ∙ resize_refused can n s _ (λ z. d (z ∙ sym sized)) (not_true _ none)) space f is
 
-    resize_changes : (can : machine.Place → Bool) → n ≢ size_of x v → can (plain_place (spot v (kept_name hs) s p.formed ws p.agrees k x e)) ≡ true → Resizes x n v w
-        → left ≡ hs → r ≡ Resized
+    resize_changes : (can : machine.Place → Bool) → n ≢ size_of x v → can (plain_place (spot v (kept_name hs) s p.formed ws p.agrees k x e)) ≡ true → Resizes x n v w → left ≡ hs → r ≡ Resized
         → Follows (resize can n s (machine.place_of k s.blocks)) w left r
     resize_changes can d c t f is =
         let agrees = resized_agrees v (kept_name hs) s p.formed ws p.agrees k x e n w formed (λ z. d (z ∙ sym sized)) t in
@@ -144,8 +141,7 @@ module _ (v w : View) (hs left : List (Option Grant)) (r : Reply) (s : State) (f
   grow_step k n None e t = quiet _ (Answer machine.Gone) (ap (resize (can_grow n) n s) (gone_there k e)) t.0 t.1
   grow_step k n (Some x) e t = grows k x n e t.0 t.1 t.2 t.3
 
-  offset_step : (k : ℕ) (o : Option ℕ) → kept_name hs k ≡ o
-      → IfNamed o (λ x. (o : ℕ) × (option_map (λ (q : Range). q.offset) (range_of x v) ≡ Some o) × (r ≡ Offset o)) (r ≡ Answer machine.Gone)
+  offset_step : (k : ℕ) (o : Option ℕ) → kept_name hs k ≡ o → IfNamed o (λ x. (o : ℕ) × (option_map (λ (q : Range). q.offset) (range_of x v) ≡ Some o) × (r ≡ Offset o)) (r ≡ Answer machine.Gone)
       → r ≡ offset_at (machine.place_of k s.blocks)
   offset_step k None e t = t ∙ sym (ap offset_at (gone_there k e))
   offset_step k (Some x) e t = t.2 ∙ offset_found k x 0 e t.0 t.1

@@ -154,8 +154,7 @@ pub kept-listing : (v : View) (handles : List (Option Grant)) → AreKept v hand
 kept-listing v handles a = kept-reverse handles (placed 0 v.blocks) (kept-placed handles 0 v.blocks a)
 
 -- one more walked block
-pub walk_used : (handles : List (Option Grant)) (ks : List ℕ) (k : ℕ) (p : Placed) (ps : List Placed) (g : Grant) (all : List (Option ℕ))
-    → map (kept_name handles) ks ++ placed_names (p ∷ ps) ≡ all
+pub walk_used : (handles : List (Option Grant)) (ks : List ℕ) (k : ℕ) (p : Placed) (ps : List Placed) (g : Grant) (all : List (Option ℕ)) → map (kept_name handles) ks ++ placed_names (p ∷ ps) ≡ all
     → p.grant ≡ Some g → kept_name handles k ≡ Some g.name
     → map (kept_name handles) (ks ++ k ∷ []) ++ placed_names ps ≡ all
 walk_used handles ks k p ps g all e f h = search (arith, map-append, map, append_assoc)
@@ -171,10 +170,8 @@ pub walk_ends : (handles : List (Option Grant)) (ks left : List ℕ) (v : View) 
 walk_ends handles ks left v e f = search (arith, map, map-reverse, reverse, append-nil, walked_names)
 
 -- the moves that a closure has seen
-pub collected : {P S N : Type 0} (R : P → Move → P → Type 0) (xs : List Move) (p q : P) → FoldsTo R p xs q
-    → (see : P → S) (place : P → N) (is_refused : S → Bool) (found : S → List Moved)
-    → ((p : P) (x : Move) (q : P) → R p x q
-    → (is_refused (see q) ≡ false → (is_refused (see p) ≡ false) × (m : Moved) × (m.from ≡ x.from) × (m.to ≡ x.to) × (m.size ≡ x.size)
+pub collected : {P S N : Type 0} (R : P → Move → P → Type 0) (xs : List Move) (p q : P) → FoldsTo R p xs q → (see : P → S) (place : P → N) (is_refused : S → Bool) (found : S → List Moved)
+    → ((p : P) (x : Move) (q : P) → R p x q → (is_refused (see q) ≡ false → (is_refused (see p) ≡ false) × (m : Moved) × (m.from ≡ x.from) × (m.to ≡ x.to) × (m.size ≡ x.size)
     × (found (see q) ≡ found (see p) ++ m ∷ []))
     × (place q ≡ place p))
     → (is_refused (see q) ≡ false → (is_refused (see p) ≡ false) × ((ys : List Move) → AreMoves (found (see p)) ys → AreMoves (found (see q)) (ys ++ xs))) × (place q ≡ place p)
@@ -194,8 +191,7 @@ collected R (x ∷ xs) p q f see place is_refused found each =
     )
 
 -- a number that is not among the first ones
-pub not_found : (handles : List (Option Grant)) (x : ℕ)
-    → ((i : ℕ) → i < length handles → option_map (λ (h : Grant). h.name) (slice_index_or handles i None) ≡ Some x → ⊥) → (k : ℕ)
+pub not_found : (handles : List (Option Grant)) (x : ℕ) → ((i : ℕ) → i < length handles → option_map (λ (h : Grant). h.name) (slice_index_or handles i None) ≡ Some x → ⊥) → (k : ℕ)
     → kept_name handles k ≡ Some x → ⊥
 not_found handles x none zero e = cc
 not_found handles x none (suc k) e = search (arith, cases_lt, length, option_map, get_or_past)

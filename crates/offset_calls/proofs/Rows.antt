@@ -29,8 +29,7 @@ module _ (s t : State) (a : IsSameSpace s t) where
   placed k = subst₂ (λ x y. IsSamePlace (λ q. Unit {0}) a.blocks.pairs (place_of k x) (place_of k y)) (sym a.blocks.left_blocks) (sym a.blocks.right_blocks)
       (same_place_of k k a.blocks.pairs (λ q i. same_number k q.kind (a.blocks.numbers q i)))
 
-  resize_reply : (n : ℕ) (can can' : machine.Place → Bool) (o o' : Option machine.Place) → IsSamePlace (λ q. Unit {0}) a.blocks.pairs o o'
-      → ((xs : List Pair) (q : Pair) (ys : List Pair)
+  resize_reply : (n : ℕ) (can can' : machine.Place → Bool) (o o' : Option machine.Place) → IsSamePlace (λ q. Unit {0}) a.blocks.pairs o o' → ((xs : List Pair) (q : Pair) (ys : List Pair)
       → can (record { before = lefts xs; block = left q; after = lefts ys }) ≡ can' (record { before = rights xs; block = right q; after = rights ys }))
       → without_offset (resize can n s o).reply ≡ without_offset (resize can' n t o').reply
   resize_reply n can can' None None neither same = refl

@@ -48,8 +48,7 @@ pub alike_range : (t u : Ticket) (g : Guard) → AreAlike t u → range_of t g �
 alike_range t u g a = ap₂ (λ x b. if b then named.range_of x g.space else None) a.0 (ap₂ (λ r c. nat_eq r g.realm && c) a.2 (ap₂ nat_eq a.1 (ap (λ x. serial_of x g) a.0)))
 
 -- the handle of a ticket that is freed is removed
-pub freed_handles : (g h : Guard) (t u : Ticket) (realm n : ℕ) (ts : List Ticket) (i : ℕ) → AreInOrder realm n ts → slice_get ts i ≡ Some u → AreAlike u t
-    → KeepsOthers t g h → range_of t h ≡ None
+pub freed_handles : (g h : Guard) (t u : Ticket) (realm n : ℕ) (ts : List Ticket) (i : ℕ) → AreInOrder realm n ts → slice_get ts i ≡ Some u → AreAlike u t → KeepsOthers t g h → range_of t h ≡ None
     → handles_of h ts ≡ slice_set (handles_of g ts) i None
 freed_handles g h t u realm n [] i o e a k gone = absurd (cc)
 freed_handles g h t u realm n (x ∷ ts) zero o e a k gone =
@@ -131,8 +130,7 @@ pub alike : (t u : Ticket) (g : Guard) → IsLive t g → IsLive u g → u.name 
 alike t u g lt lu e = search (arith, live_fits)
 
 -- a release
-pub freed : (g h : Guard) (ts : List Ticket) (t : Ticket) (k : ℕ) → IsLedger g ts → IsNumberOf k (Some t) g ts → IsLive t g → Frees t.name g.space h.space
-    → KeepsOthers t g h → range_of t h ≡ None
+pub freed : (g h : Guard) (ts : List Ticket) (t : Ticket) (k : ℕ) → IsLedger g ts → IsNumberOf k (Some t) g ts → IsLive t g → Frees t.name g.space h.space → KeepsOthers t g h → range_of t h ≡ None
     → h ≡ record g { space = h.space }
     → Serves (call.Command (command.Free k)) g ts h ts (Answer machine.Freed)
 freed g h ts t k is is_number live frees others gone same = search (arith, if_some, same_ledger, live_named_by, kept_ticket, slice_set, freed_handles, alike)

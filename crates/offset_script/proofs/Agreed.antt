@@ -148,8 +148,7 @@ module _ (v : View) (kept_name : ℕ → Option ℕ) (s : State) (w : IsWellForm
         (rises_new front padding sp.label.name n k rest left (stamp_of_padding s)) _ handles
 
     -- what becomes free, between lists that end and start with free blocks
-    coalesced_agrees : (front before left old back right after : List Label) (x n size : ℕ) → g.labels ≡ front ++ (old ++ back) → front ≡ before ++ left
-        → back ≡ right ++ after → AreFree left
+    coalesced_agrees : (front before left old back right after : List Label) (x n size : ℕ) → g.labels ≡ front ++ (old ++ back) → front ≡ before ++ left → back ≡ right ++ after → AreFree left
         → AreFree right
         → SameSpace (record (replace v (names before) (names (left ++ (old ++ right))) (free_block x (total (tags left) + n + total (tags right)) ∷ []) (names after)) { size = size }) u
         → (kept_name' : ℕ → Option ℕ) → ((j : ℕ) → kept_name' j ≡ option_or (name_of j front) (name_of j back)) → (a : Answer)
@@ -353,8 +352,7 @@ pub agrees_kept : (v : View) (kept_name kept_name' : ℕ → Option ℕ) (s : St
 agrees_kept v kept_name kept_name' s e g = record { labels = g.labels; view = g.view; state = g.state; limit = g.limit; newest = g.newest; handles = λ k. e k ∙ g.handles k }
 
 -- one free block and no grants
-pub alone_agrees : (v : View) (x size stamp : ℕ) (kept_name : ℕ → Option ℕ) (s : State) → v.blocks ≡ free_block x size ∷ []
-    → v.order ≡ push_all (free_block x size ∷ []) (replicate 256 [])
+pub alone_agrees : (v : View) (x size stamp : ℕ) (kept_name : ℕ → Option ℕ) (s : State) → v.blocks ≡ free_block x size ∷ [] → v.order ≡ push_all (free_block x size ∷ []) (replicate 256 [])
     → s.limit ≡ v.max_allocs → s.blocks ≡ machine.block size (Free stamp) ∷ []
     → ((k : ℕ) → kept_name k ≡ None) → HasBlocksOf v kept_name s
 alone_agrees v x size stamp kept_name s blocks order limit state none =

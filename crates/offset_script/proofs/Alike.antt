@@ -94,8 +94,7 @@ pub same_quiet : (r : ℕ → ℕ) (d : ℕ) (s t : State) → IsAlike r d s t �
 same_quiet r d s t a x y e =
     record { answer = e; state = keeps_alike r d s t a a.pairs s.grants t.grants s.blocks t.blocks a.left_blocks a.right_blocks (λ q i. inl i) (omega arith) (omega arith) a.grants }
 
-pub same_leaves : (r : ℕ → ℕ) (d : ℕ) (s t : State) (a : IsAlike r d s t) (x y : Answer) (p : List Pair) (bs cs : List Block) → x ≡ raise_number d y → bs ≡ lefts p
-    → cs ≡ rights p → IsLeft r d s t a p
+pub same_leaves : (r : ℕ → ℕ) (d : ℕ) (s t : State) (a : IsAlike r d s t) (x y : Answer) (p : List Pair) (bs cs : List Block) → x ≡ raise_number d y → bs ≡ lefts p → cs ≡ rights p → IsLeft r d s t a p
     → IsSameOutcome r d (leaves s bs x) (leaves t cs y)
 same_leaves r d s t a x y p bs cs e on_left on_right each = record { answer = e; state = keeps_alike r d s t a p s.grants t.grants bs cs on_left on_right each (omega arith) (omega arith) a.grants }
 
@@ -119,8 +118,7 @@ same_grant r d s t a n padding xs q ys e =
     (sym (rights_granted xs q ys n padding _ _ _ _ _ _)) kept (omega arith) (omega arith) (omega (arith, a.grants)) in
     record { answer = answer; state = state }
 
-same_granted : (r : ℕ → ℕ) (d : ℕ) (s t : State) (a : IsAlike r d s t) (n needed : ℕ) (padding_at : ℕ → ℕ) (o o' : Option Place)
-    → IsSamePlace (λ x. fits needed (left x) ≡ true) a.pairs o o'
+same_granted : (r : ℕ → ℕ) (d : ℕ) (s t : State) (a : IsAlike r d s t) (n needed : ℕ) (padding_at : ℕ → ℕ) (o o' : Option Place) → IsSamePlace (λ x. fits needed (left x) ≡ true) a.pairs o o'
     → IsSameOutcome r d (grant_or_refuse s n padding_at o) (grant_or_refuse t n padding_at o')
 same_granted r d s t a n needed padding_at None None neither = same_quiet r d s t a _ _ refl
 same_granted r d s t a n needed padding_at o o' (both xs q ys e f) =

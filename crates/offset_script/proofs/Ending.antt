@@ -24,8 +24,7 @@ piece_failed text xs i d old mid new h before sends =
     coalesce_at text xs i d h ∙ rw (sends.2, append_assoc sends.0) (sym (append_assoc (flat_map text (take i xs)) sends.0 _)) in
     (flat_map text (take i xs) ++ sends.0, sends.1 ++ flat_map text (drop (suc i) xs), parted, Appends-trans old mid new _ _ before sends.3)
 
-whole_or_long : (bytes text : List ℕ) (left : Option (List ℕ)) → HasText bytes (Some text) left
-    → ((left ≡ Some []) × (text ≡ bytes) × (length bytes < 1048577))
+whole_or_long : (bytes text : List ℕ) (left : Option (List ℕ)) → HasText bytes (Some text) left → ((left ≡ Some []) × (text ≡ bytes) × (length bytes < 1048577))
     ⊎ ((left ≡ Some (drop 1048577 text)) × (meaning_of bytes ≡ Err scripts.TooLong) × (meaning_of text ≡ Err scripts.TooLong))
 whole_or_long bytes text None h = absurd h.takes
 whole_or_long bytes text (Some rest) h = elim (cases_lt (length bytes) 1048577) [

@@ -31,8 +31,7 @@ last_lines : (line : List ℕ) (n : ℕ) → filter (λ l. not (is_skipped l.tex
 last_lines [] n = refl
 last_lines (b ∷ bs) n = rw not_zero (elim (eqb b 35) as (λ c. cond (not c) (line_at n (b ∷ bs) ∷ []) [] ≡ cond c [] (line_at n (b ∷ bs) ∷ [])) [ true ↦ refl | false ↦ refl ])
 
-more_lines : (line next : List ℕ) (more : List (List ℕ)) (n : ℕ)
-    → filter (λ l. not (is_skipped l.text)) (numbered_from n (lines_of (line ∷ next ∷ more)))
+more_lines : (line next : List ℕ) (more : List (List ℕ)) (n : ℕ) → filter (λ l. not (is_skipped l.text)) (numbered_from n (lines_of (line ∷ next ∷ more)))
     ≡ cond (is_skipped line) (filter (λ l. not (is_skipped l.text)) (numbered_from (n + 1) (lines_of (next ∷ more))))
     (record { number = n; text = line } ∷ filter (λ l. not (is_skipped l.text)) (numbered_from (n + 1) (lines_of (next ∷ more))))
 more_lines line next more n = search (arith, not)

@@ -50,7 +50,7 @@ gives_from before (l ∷ ls) most =
 pub gives_all : (ls : List Label) → ((x : ℕ) → count_named x (names ls) ≤ 1) → HasStamps (λ x. stamp_of x ls) ls
 gives_all ls most = gives_from [] ls most
 
--- every stamp is below t
+-- the stamp of a tag is below t, and so is that of every name
 stamp_below : (t : ℕ) (u : Tag) → 1 ≤ t → ((x : ℕ) → t ≤ x → hit (Free x) u ≡ 0) → stamp u < t
 stamp_below t (Live k) pos low = pos
 stamp_below t (Free s) pos low = elim (cases_lt s t) [ inl b ↦ b | inr b ↦ absurd (omega (arith, low s b, hit_self (Free s))) ]
@@ -79,10 +79,8 @@ rises_named f t (l ∷ ls) g r = (
 )
 
 -- new blocks in place of old ones, where the new stamps are above the old
-pub newest_replaced : (v : View) (before old new after : List Label) → IsWellFormed v → v.blocks ≡ names (before ++ (old ++ after))
-    → ((x : ℕ) → count_named x (names (before ++ (new ++ after))) ≤ 1)
-    → (t : ℕ) → ((x : ℕ) → stamp_of x (before ++ (old ++ after)) < t) → AreRising t new
-    → ((c : ℕ) → IsFalling (λ x. stamp_of x (before ++ (old ++ after))) (bin_at v.order c))
+pub newest_replaced : (v : View) (before old new after : List Label) → IsWellFormed v → v.blocks ≡ names (before ++ (old ++ after)) → ((x : ℕ) → count_named x (names (before ++ (new ++ after))) ≤ 1)
+    → (t : ℕ) → ((x : ℕ) → stamp_of x (before ++ (old ++ after)) < t) → AreRising t new → ((c : ℕ) → IsFalling (λ x. stamp_of x (before ++ (old ++ after))) (bin_at v.order c))
     → (c : ℕ) → IsFalling (λ x. stamp_of x (before ++ (new ++ after))) (bin_at (push_all (names new) (remove_all (names old) v.order)) c)
 newest_replaced v before old new after w e distinct t low rises newest =
     let f = λ (x : ℕ). stamp_of x (before ++ (old ++ after)) in

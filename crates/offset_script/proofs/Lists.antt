@@ -175,7 +175,7 @@ coalesced xs n s ys =
     let is = ap₂ (λ u v. coalesce u n s v) e.2 b.2 ∙ coalesce_parts e.0 e.1 n s b.0 b.1 e.3 b.3 in
     record { front = e.0; last = e.1; first = b.0; back = b.1; at_front = e.2; at_back = b.2; end = e.3; start = b.3; is = is }
 
--- what is added over the parts of a list, of what coalesces
+-- a number that is added over lists, of what coalesces and of the lists before and after it
 pub sums_coalesced : (f : List Block → ℕ) → ((xs ys : List Block) → f (xs ++ ys) ≡ f xs + f ys) → (xs : List Block) (n s : ℕ) (ys : List Block) (c : IsCoalesced xs n s ys)
     → (f (coalesce xs n s ys) ≡ f c.front + f (block (total c.last + n + total c.first) (Free s) ∷ c.back)) × (f xs ≡ f c.front + f c.last) × (f ys ≡ f c.first + f c.back)
 sums_coalesced f add xs n s ys c = (ap f c.is ∙ add c.front _, ap f c.at_front ∙ add c.front c.last, ap f c.at_back ∙ add c.first c.back)

@@ -20,6 +20,7 @@ pub in_right : {A : Type 0} (x : A) (xs ys : List A) → IsIn x ys → IsIn x (x
 in_right x [] ys h = h
 in_right x (z ∷ xs) ys h = inr (in_right x xs ys h)
 
+-- an item beside another is in the whole list
 pub in_parts : {A : Type 0} (x : A) (xs : List A) (y : A) (ys : List A) → IsIn x xs ⊎ IsIn x ys → IsIn x (xs ++ y ∷ ys)
 in_parts x xs y ys (inl h) = in_left x xs _ h
 in_parts x xs y ys (inr h) = in_right x xs _ (inr h)

@@ -51,8 +51,7 @@ Does c s o = IsOnly s o ⊎ (IsGranted (requested_units c) s o ⊎ IsReleased c 
 only : (c : Command) (s : State) (a : Answer) → IsQuiet a → Does c s (returns_only s a)
 only c s a q = inl (record { answer = a; quiet = q; is = refl })
 
-does_grant : (c : Command) (s : State) → length s.blocks + 1 < s.limit → (needed : ℕ) (padding_at : ℕ → ℕ)
-    → ((o : ℕ) → padding_at o + requested_units c ≤ needed) → (p : Option Place)
+does_grant : (c : Command) (s : State) → length s.blocks + 1 < s.limit → (needed : ℕ) (padding_at : ℕ → ℕ) → ((o : ℕ) → padding_at o + requested_units c ≤ needed) → (p : Option Place)
     → chosen_place needed s.blocks ≡ p → Does c s (grant_or_refuse s (requested_units c) padding_at p)
 does_grant c s room needed padding_at h None e = only c s machine.Refused tt
 does_grant c s room needed padding_at h (Some p) e =

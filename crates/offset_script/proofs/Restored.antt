@@ -48,9 +48,7 @@ live_number (Frees s u) k e m = absurd (grind (arith, e))
 
 -- The pairs before the grant and after the release: the others, and the block itself with its old stamp and its new
 -- one.
-similar_restored : (ps : List Pair) (before after : List Pair) (z u v : ℕ)
-    → ((q : Pair) → IsIn q before ⊎ IsIn q after → IsIn q ps)
-    → ((q : Pair) → IsIn q ps → HasSameNumber q.kind) → AreAllAgreed ps
+similar_restored : (ps : List Pair) (before after : List Pair) (z u v : ℕ) → ((q : Pair) → IsIn q before ⊎ IsIn q after → IsIn q ps) → ((q : Pair) → IsIn q ps → HasSameNumber q.kind) → AreAllAgreed ps
     → ((q : Pair) (s t : ℕ) → IsIn q before ⊎ IsIn q after → q.kind ≡ Frees s t → nat_eq (down q.size) (down z) ≡ true → (s < u) × (t < v))
     → AreSimilar (lefts before ++ block z (Free u) ∷ lefts after) (rights before ++ block z (Free v) ∷ rights after)
 similar_restored ps before after z u v old numbers agree newest = record {
@@ -89,14 +87,12 @@ free_stamp : (t : Tag) → is_free t ≡ true → t ≡ Free (stamp t)
 free_stamp (Free s) e = refl
 free_stamp (Live k) e = absurd (false≢true e)
 
-none_in_all : (s : State) → IsWell s → (k : ℕ) (xs : List Block) (b : Block) (ys : List Block) → s.blocks ≡ xs ++ b ∷ ys → s.grants < k
-    → (before padding_bit : List Pair) (padding front : ℕ)
+none_in_all : (s : State) → IsWell s → (k : ℕ) (xs : List Block) (b : Block) (ys : List Block) → s.blocks ≡ xs ++ b ∷ ys → s.grants < k → (before padding_bit : List Pair) (padding front : ℕ)
     → lefts before ≡ xs → lefts padding_bit ≡ free_block padding front
     → ((q : Pair) → IsIn q before → HasSameNumber q.kind) → ((q : Pair) → IsIn q padding_bit → HasSameNumber q.kind) → count (Live k) (rights before ++ rights padding_bit) ≡ 0
 none_in_all s w k xs b ys e l before padding_bit padding front on_before on_padding n m = search (arith, not_there, count, count_free_block, count-append, rights, same_count)
 
-pub restored : (s : State) → IsWell s → (p : Place) (needed n padding : ℕ) → s.blocks ≡ whole p → fits needed p.block ≡ true → IsBest needed s.blocks p.block
-    → padding + n ≤ p.block.size
+pub restored : (s : State) → IsWell s → (p : Place) (needed n padding : ℕ) → s.blocks ≡ whole p → fits needed p.block ≡ true → IsBest needed s.blocks p.block → padding + n ≤ p.block.size
     → (t : State) → IsWell t → AreSimilar (granted_blocks p n padding (stamp_of_padding s) (s.grants + 1) (stamp_of_call s)) t.blocks → IsRestored s t
 restored s w p needed n padding e f best enough t v m =
     let z = p.block.size in

@@ -97,8 +97,7 @@ module _ (v w : View) (hs left : List (Option Grant)) (a : Answer) (s : State) (
       freed k x e (let l = (kept_within hs (suc k) x e).1 in omega arith) f (but ∙ ap (λ i. slice_set hs i None) same) is
 
   -- a release by any number
-  release_step : (k : ℕ) (o : Option ℕ) → kept_name hs k ≡ o
-      → IfNamed o (λ x. Frees x v w × (left ≡ slice_set hs (k - 1) None) × (a ≡ machine.Freed)) (Stays v hs w left × (a ≡ machine.Gone))
+  release_step : (k : ℕ) (o : Option ℕ) → kept_name hs k ≡ o → IfNamed o (λ x. Frees x v w × (left ≡ slice_set hs (k - 1) None) × (a ≡ machine.Freed)) (Stays v hs w left × (a ≡ machine.Gone))
       → Follows (command.Free k) s w left a
   release_step k None e t =
       let r = gone_agrees v (kept_name hs) s p.formed ws p.agrees k e in

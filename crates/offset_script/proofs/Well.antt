@@ -88,8 +88,7 @@ length_coalesce xs n s ys =
     let e = sums_coalesced length length-append xs n s ys c in
     (omega arith, omega (arith, c.end.few))
 
-well_granted : (s : State) → IsWell s → (needed n : ℕ) (padding_at : ℕ → ℕ) (spare : ℕ) → ((o x : ℕ) → length (free_block (padding_at o) x) + 1 ≤ spare)
-    → length s.blocks + spare < s.limit
+well_granted : (s : State) → IsWell s → (needed n : ℕ) (padding_at : ℕ → ℕ) (spare : ℕ) → ((o x : ℕ) → length (free_block (padding_at o) x) + 1 ≤ spare) → length s.blocks + spare < s.limit
     → (o : Option Place) → chosen_place needed s.blocks ≡ o → IsWell (grant_or_refuse s n padding_at o).state
 well_granted s w needed n padding_at spare enough room None e = well_quiet s w machine.Refused
 well_granted s w needed n padding_at spare enough room (Some p) e =

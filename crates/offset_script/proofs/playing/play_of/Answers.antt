@@ -19,11 +19,9 @@ answers_more : (cs : List Command) (s : State) (i : ℕ) (d : Command) (found le
 answers_more cs s i d found left x all h f e so_far = search (arith, map, drop, take, map-append, append_assoc, after_more, add-one, drop-cons)
 
 -- where nothing is left, the answers so far are those to all
-answers_all : (cs : List Command) (s : State) (i : ℕ) (found : List program.Answer) (all : List Answer) → length cs ≤ i
-    → map answer_view found ++ answers (drop i cs) (after (take i cs) s) ≡ all
+answers_all : (cs : List Command) (s : State) (i : ℕ) (found : List program.Answer) (all : List Answer) → length cs ≤ i → map answer_view found ++ answers (drop i cs) (after (take i cs) s) ≡ all
     → map answer_view found ≡ all
-answers_all cs s i found all h so_far = sym (append-nil (map answer_view found))
-    ∙ ap (λ l. map answer_view found ++ l) (sym (ap (λ l. answers l (after (take i cs) s)) (drop_all i cs h))) ∙ so_far
+answers_all cs s i found all h so_far = search (arith, append-nil, drop_all)
 
 -- The laws over whole histories, of the answers to a list of commands.
 
