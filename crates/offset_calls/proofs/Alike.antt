@@ -1,25 +1,16 @@
 -- Two states that differ only in numbers, and in stamps of the same order in each class, give the same replies.
-use Rattle.std.proofs.Common.{◌≡◌, ℕ, ◌+◌, ◌-◌, ◌*◌, Bool, true, false, not, ◌&&◌, ◌||◌, ◌⊎◌, List, [], ◌∷◌, ◌++◌, map, sum, Option, Some, None, is_some}
-use Rattle.std.proofs.Common.{nat_eq, nat_le, if◌then◌else◌, refl, sym, ap}
-use Rattle.std.proofs.Common.{ap₂, subst, subst₂, ◌∙◌, inl, inr, arith, eq-eqb, ne_eqb, le-leb}
-use Rattle.std.proofs.lemmas.Bool.{cases_eq, cases_lt, true≢false, false≢true, lt-leb}
-use Rattle.std.proofs.lemmas.List.{map-append}
-use Rattle.offset_allocator.specs.declared.reports.Refusal.TheVariants.{Nodes}
-use Rattle.offset_script.specs.Histories.{number_without}
-use Rattle.offset_script.specs.Machine.{State, is_free, has_number, total, free_sizes, place_of, chosen_place, is_short_of, free_start, without_start, free_block, stamp_of_call, fits}
-use Rattle.offset_script.specs.Machine as machine
+use Rattle.offset_calls.proofs.Common.{◌≡◌, ℕ, ◌+◌, ◌-◌, ◌*◌, Bool, true, false, not, ◌&&◌, ◌||◌, ◌⊎◌, List, [], ◌∷◌, ◌++◌, map, sum, Option, None, is_some, nat_eq, nat_le, if◌then◌else◌, refl, sym}
+use Rattle.offset_calls.proofs.Common.{ap, ap₂, subst, subst₂, ◌∙◌, inl, inr, arith, eq-eqb, ne_eqb, le-leb, cases_eq, cases_lt, true≢false, false≢true, lt-leb, map-append, number_without, State}
+use Rattle.offset_calls.proofs.Common.{is_free, has_number, free_sizes, place_of, chosen_place, free_start, without_start, free_block, stamp_of_call, fits, Call, Reply, Answer, Compacted, Offset}
+use Rattle.offset_calls.proofs.Common.{Refused_for, Outcome, starts_free, resize, resized, replies_only, number, move_of, moves, gathered, compact, offset_at, reason, step, replies, renumber}
+use Rattle.offset_calls.proofs.Common.{number_with, raise_move, raise}
 use Rattle.offset_script.specs.Totals.{live}
 use Rattle.offset_script.proofs.Alike.{IsAlike, IsMatched, IsFreshKind, alike_step, same_placed, same_quiet, same_leaves, fresh_kinds, matched_in_new, agree_in_new, either}
-use Rattle.offset_script.proofs.Members.{IsIn, in_append, in_left, in_right}
 use Rattle.offset_script.proofs.Pairs.{Kind, Lives, Frees, Pair, pair, left_tag, right_tag, left, right, lefts, rights, AreAgreed, IsSameOrder, IsSamePlace, neither, both, same_free, same_total}
 use Rattle.offset_script.proofs.Pairs.{same_units, same_short, same_free_sizes, same_chosen, pair_free_block, lefts_free_block, rights_free_block, in_free_block}
-use Rattle.offset_script.proofs.Tests.{if_same}
-use Rattle.offset_script.proofs.Found.{found_at}
-use Rattle.offset_calls.specs.declared.calls.Call.{Call}
+use Rattle.offset_script.proofs.{Members.IsIn, Members.in_append, Members.in_left, Members.in_right, Tests.if_same, Found.found_at}
+use Rattle.offset_script.specs.Machine as machine
 use Rattle.offset_calls.specs.declared.calls.Call.TheVariants as call
-use Rattle.offset_calls.specs.Calls.{Reply, Answer, Compacted, Offset, Refused_for, Outcome, starts_free, resize, resized, replies_only, number, move_of, moves, gathered, compact, offset_at, shortage}
-use Rattle.offset_calls.specs.Calls.{reason, step, replies}
-use Rattle.offset_calls.specs.Histories.{renumber, number_with, raise_move, raise}
 
 -- the same reply, except for numbers, and states that are alike again
 pub record AreSame (r : ℕ → ℕ) (g d : ℕ) (o p : Outcome) : Type 0 where
@@ -58,16 +49,11 @@ live_pairs (q ∷ ps) = if is_free (left_tag q.kind) then live_pairs ps else q �
 
 lefts_live : (ps : List Pair) → lefts (live_pairs ps) ≡ live (lefts ps)
 lefts_live [] = refl
-lefts_live (q ∷ ps) = let ih = lefts_live ps in elim (is_free (left_tag q.kind))
-    as (λ x. lefts (if x then live_pairs ps else q ∷ live_pairs ps) ≡ (if not x then left q ∷ live (lefts ps) else live (lefts ps))) [ true ↦ ih | false ↦ ap (λ l. left q ∷ l) ih ]
+lefts_live (q ∷ ps) = search (arith, (lefts_live ps), not)
 
 rights_live : (ps : List Pair) → rights (live_pairs ps) ≡ live (rights ps)
 rights_live [] = refl
-rights_live (q ∷ ps) =
-    let ih = rights_live ps in
-    elim (is_free (left_tag q.kind)) as (λ x. rights (if x then live_pairs ps else q ∷ live_pairs ps) ≡ (if not x then right q ∷ live (rights ps) else live (rights ps)))
-    [ true ↦ ih | false ↦ ap (λ l. right q ∷ l) ih ]
-    ∙ ap (λ x. if not x then right q ∷ live (rights ps) else live (rights ps)) (same_free q.kind)
+rights_live (q ∷ ps) = search (arith, (rights_live ps), not, same_free)
 
 in_live : (q : Pair) (ps : List Pair) → IsIn q (live_pairs ps) → IsIn q ps
 in_live q [] i = i
@@ -142,17 +128,10 @@ module _ (r : ℕ → ℕ) (g d : ℕ) (back : (k : ℕ) → r (number_with g d 
 
     resized_alike : IsAlike r d (record { limit = s.limit; blocks = lefts ps; calls = s.calls + 1; grants = s.grants })
         (record { limit = t.limit; blocks = rights ps; calls = t.calls + 1; grants = t.grants })
-    resized_alike = record {
-      limit = a.limit;
-      pairs = ps;
-      left_blocks = refl;
-      right_blocks = refl;
-      matched = λ x h. matched x (which x h);
-      agree = λ x y h k. ordered x y (which x h) (which y k);
-      grants = a.grants;
-      past = a.past;
-      future = a.future;
-    }
+    resized_alike =
+        let agree = λ (x y : Pair) (h : IsIn x ps) (k : IsIn y ps). ordered x y (which x h) (which y k) in
+        let matched = λ (x : Pair) (h : IsIn x ps). matched x (which x h) in
+        record { limit = a.limit; pairs = ps; left_blocks = refl; right_blocks = refl; matched = matched; agree = agree; grants = a.grants; past = a.past; future = a.future }
 
   -- a resized range on both sides
   resized_same : (n : ℕ) (xs : List Pair) (q : Pair) (ys : List Pair) (i j : ℕ) → a.pairs ≡ xs ++ q ∷ ys → q.kind ≡ Lives i j
@@ -174,8 +153,7 @@ module _ (r : ℕ → ℕ) (g d : ℕ) (back : (k : ℕ) → r (number_with g d 
       on_right = search (arith, map-append, right, rights, right_tag, pair_free_block, lefts, rights_free_block, same_free_start, rights_without)
 
   resize_same : (k n : ℕ) (can can' : machine.Place → Bool) (o o' : Option machine.Place) → place_of k s.blocks ≡ o → IsSamePlace (λ q. Unit {0}) a.pairs o o'
-      → ((xs : List Pair) (q : Pair) (ys : List Pair)
-      → can (record { before = lefts xs; block = left q; after = lefts ys }) ≡ can' (record { before = rights xs; block = right q; after = rights ys }))
+      → ((xs : List Pair) (q : Pair) (ys : List Pair) → can (record { before = lefts xs; block = left q; after = lefts ys }) ≡ can' (record { before = rights xs; block = right q; after = rights ys }))
       → AreSame r g d (resize can n s o) (resize can' n t o')
   resize_same k n can can' None None e neither same = quiet _ _ refl
   resize_same k n can can' o o' e (both xs q ys f u) same =
@@ -194,8 +172,7 @@ module _ (r : ℕ → ℕ) (g d : ℕ) (back : (k : ℕ) → r (number_with g d 
   moves_same from to [] h = refl
   moves_same from to (q ∷ ps) h = go (is_free (left_tag q.kind)) refl (nat_eq from to) refl (λ u. moves_same (from + q.size) u ps (λ x i. h x (inr i)))
     where
-      go : (x : Bool) → is_free (left_tag q.kind) ≡ x → (b : Bool) → nat_eq from to ≡ b
-          → ((u : ℕ) → moves (from + q.size) u (lefts ps) ≡ map (raise_move g d) (moves (from + q.size) u (rights ps)))
+      go : (x : Bool) → is_free (left_tag q.kind) ≡ x → (b : Bool) → nat_eq from to ≡ b → ((u : ℕ) → moves (from + q.size) u (lefts ps) ≡ map (raise_move g d) (moves (from + q.size) u (rights ps)))
           → moves from to (lefts (q ∷ ps)) ≡ map (raise_move g d) (moves from to (rights (q ∷ ps)))
       go true e b f ih = search (arith, lefts, left, map, rights, right, same_free)
       go false e b f ih =
@@ -235,12 +212,9 @@ module _ (r : ℕ → ℕ) (g d : ℕ) (back : (k : ℕ) → r (number_with g d 
 
   reason_same : (k n : ℕ) → reason k n s ≡ reason k n t
   reason_same k n =
-      ap (λ b. if b then Some Nodes else if is_some (chosen_place n s.blocks) then None else Some (shortage n (total s.blocks) (sum (free_sizes s.blocks))))
-      (same_short s t a.pairs a.limit a.left_blocks a.right_blocks k)
-      ∙ ap₂ (λ b why. if is_short_of k t then Some Nodes else if b then None else Some why)
-      (some_same n _ _ (subst₂ (λ x y. IsSamePlace (λ q. fits n (left q) ≡ true) a.pairs (chosen_place n x) (chosen_place n y)) (sym a.left_blocks) (sym a.right_blocks)
-      (same_chosen n a.pairs a.agree)))
-      (ap₂ (λ size ns. shortage n size (sum ns)) (same_units s t a.pairs a.limit a.left_blocks a.right_blocks) (same_free_sizes s t a.pairs a.limit a.left_blocks a.right_blocks))
+      let some = some_same n _ _ (subst₂ (λ x y. IsSamePlace (λ q. fits n (left q) ≡ true) a.pairs (chosen_place n x) (chosen_place n y)) (sym a.left_blocks) (sym a.right_blocks)
+      (same_chosen n a.pairs a.agree)) in
+      search (arith, some, same_short, same_units, same_free_sizes, sum)
 
   pub same_call : (c : Call) → AreSame r g d (step c s) (step (renumber r c) t)
   same_call (call.Command c) = let o = alike_step r d c s t a in record { reply = ap Answer o.answer; state = o.state }

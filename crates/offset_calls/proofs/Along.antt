@@ -1,35 +1,21 @@
 -- Calls on a guarded allocator, played one after the other: whatever tickets they pass.
-use Rattle.std.proofs.Common.{◌≡◌, ℕ, zero, suc, ◌+◌, ◌<◌, ◌≤◌, Bool, true, false, ◌&&◌, List, [], ◌∷◌, ◌++◌, length, map, take, All, get_or, Option, Some, None}
-use Rattle.std.proofs.Common.{IsTrue, is_some, nat_eq, slice_get}
-use Rattle.std.proofs.Common.{option_map, if◌then◌else◌, refl, sym, ap, ap₂, subst, ◌∙◌, inl, inr, arith, eq-eqb, ne_eqb, append-nil, append_assoc, length-append}
-use Rattle.std.specs.List.{AllByRecursion}
+use Rattle.offset_calls.proofs.Common.{◌≡◌, ℕ, zero, suc, ◌+◌, ◌<◌, ◌≤◌, Bool, true, false, ◌&&◌, List, [], ◌∷◌, ◌++◌, length, map, take, All, get_or, Option, Some, None, IsTrue, is_some, nat_eq}
+use Rattle.offset_calls.proofs.Common.{slice_get, option_map, if◌then◌else◌, refl, sym, ap, ap₂, subst, ◌∙◌, inl, inr, arith, eq-eqb, ne_eqb, append-nil, append_assoc, length-append, AllByRecursion}
+use Rattle.offset_calls.proofs.Common.{cases_eq, eqb-true, and_parts, false≢true, length-map, map-append, take_more, Block, Grant, Place, IsWellFormed, is_used_at, IsFresh, Ticket, Guard, AreAlike}
+use Rattle.offset_calls.proofs.Common.{IsLive, range_of, kept_name, State, start, Call, Reply, after, is_valid, replies, reply_view, step, renumber, AreKept, IsGrantOf, IsGrown, IsLedger, Serves}
+use Rattle.offset_calls.proofs.Common.{IsNumberOf, handle_of, handles_of, is_that, live_name, meant, number_in, number_of, passed, ticket_of}
 use Rattle.std.specs.Option.{option_map_or}
-use Rattle.std.proofs.lemmas.Bool.{cases_eq, eqb-true, and_parts, false≢true}
-use Rattle.std.proofs.lemmas.List.{length-map, map-append, take_more}
 use Rattle.std.proofs.lemmas.List.Elements.{All-append, All-get_or, Contains-append_left, Contains-append_right}
-use Rattle.offset_allocator.specs.View.{Block, Grant, Place, IsWellFormed, is_used_at, place_of}
-use Rattle.offset_allocator.specs.Relations.{IsFresh}
+use Rattle.offset_allocator.specs.View.{place_of}
 use Rattle.offset_allocator.proofs.Reading.{live_used}
-use Rattle.offset_guarded.specs.declared.ticket.Ticket.{Ticket}
-use Rattle.offset_guarded.specs.Guard.{Guard, AreAlike, IsLive, range_of}
 use Rattle.offset_guarded.proofs.Guards.{live_fits, live_name as live_named}
+use Rattle.offset_script.proofs.{Agreement.IsAtState, Simulation.fresh_represents, Well.well_start}
+use Rattle.offset_calls.specs.declared.guarded.TicketCall.{TicketCall}
+use Rattle.offset_calls.proofs.Tickets.{alike, alike_range, kept_of, kept_serial, kept_ticket, live_named_by}
+use Rattle.offset_calls.proofs.{Compacted.all_kept, Followed.follows, Followed.well_calls}
 use Rattle.offset_script.specs.declared.scripts.Command.TheVariants as command
-use Rattle.offset_script.specs.Steps.{kept_name}
-use Rattle.offset_script.specs.Machine.{State, start}
-use Rattle.offset_script.proofs.Agreement.{IsAtState}
-use Rattle.offset_script.proofs.Simulation.{fresh_represents}
-use Rattle.offset_script.proofs.Well.{well_start}
-use Rattle.offset_calls.specs.declared.calls.Call.{Call}
 use Rattle.offset_calls.specs.declared.calls.Call.TheVariants as call
 use Rattle.offset_calls.specs.declared.calls.Reply as program
-use Rattle.offset_calls.specs.declared.guarded.TicketCall.{TicketCall}
-use Rattle.offset_calls.specs.Calls.{Reply, after, is_valid, replies, reply_view, step}
-use Rattle.offset_calls.specs.Histories.{renumber}
-use Rattle.offset_calls.specs.Steps.{AreKept}
-use Rattle.offset_calls.specs.Tickets.{IsGrantOf, IsGrown, IsLedger, Serves, IsNumberOf, handle_of, handles_of, is_that, live_name, meant, number_in, number_of, passed, ticket_of}
-use Rattle.offset_calls.proofs.Compacted.{all_kept}
-use Rattle.offset_calls.proofs.Followed.{follows, well_calls}
-use Rattle.offset_calls.proofs.Tickets.{alike, alike_range, kept_of, kept_serial, kept_ticket, live_named_by}
 
 -- ---- which grant a ticket means
 
@@ -48,23 +34,10 @@ is_used_after b None = refl
 is_used_after b (Some p) = refl
 
 -- a live name is kept for some number
-live_kept : (hs : List (Option Grant)) (x : ℕ) (bs : List Block) → AllByRecursion (λ (b : Block). b.used ≡ true → (k : ℕ) × (kept_name hs k ≡ Some b.name)) bs
-    → is_used_at (place_of x bs) ≡ true
+live_kept : (hs : List (Option Grant)) (x : ℕ) (bs : List Block) → AllByRecursion (λ (b : Block). b.used ≡ true → (k : ℕ) × (kept_name hs k ≡ Some b.name)) bs → is_used_at (place_of x bs) ≡ true
     → (k : ℕ) × (kept_name hs k ≡ Some x)
 live_kept hs x [] a h = absurd (false≢true h)
-live_kept hs x (b ∷ bs) a h = elim (cases_eq x b.name) [
-  | inl e ↦
-      let u : b.used ≡ true =
-      sym (ap (λ c. is_used_at (if c then Some (record { before = []; block = b; after = bs }) else option_map (λ (p : Place). record p { before = b ∷ p.before }) (place_of x bs)))
-      (eq-eqb x b.name e)) ∙ h in
-      let r = a.0 u in
-      (r.0, r.1 ∙ ap Some (sym e))
-  | inr n ↦
-      live_kept hs x bs a.1
-      (sym (is_used_after b (place_of x bs))
-      ∙ sym (ap (λ c. is_used_at (if c then Some (record { before = []; block = b; after = bs }) else option_map (λ (p : Place). record p { before = b ∷ p.before }) (place_of x bs)))
-      (ne_eqb x b.name n)) ∙ h)
-]
+live_kept hs x (b ∷ bs) a h = search (arith, cases_eq, eq-eqb, ne_eqb, is_used_after, (live_kept hs x bs a.1))
 
 -- tickets of one grant
 that_alike : (t u : Ticket) → AreAlike u t → is_that t (Some u) ≡ true
@@ -100,37 +73,13 @@ module _ (g : Guard) (ts more : List Ticket) (is : IsLedger g ts) (kept : AreKep
 
 -- a call is renumbered at its number alone
 renumber_at : (r : ℕ → ℕ) (c : Call) → renumber r c ≡ renumber (λ j. r (number_in c)) c
-renumber_at r (call.Command (command.Alloc n)) = refl
 renumber_at r (call.Command (command.Free k)) = refl
-renumber_at r (call.Command (command.Size k)) = refl
-renumber_at r (call.Command command.Report) = refl
-renumber_at r (call.Command command.Full) = refl
-renumber_at r (call.Command command.Reset) = refl
-renumber_at r (call.Command (command.Align n align)) = refl
-renumber_at r (call.Command (command.Extend n)) = refl
-renumber_at r (call.Shrink k n) = refl
-renumber_at r (call.Grow k n) = refl
-renumber_at r call.Compact = refl
-renumber_at r (call.Offset k) = refl
-renumber_at r (call.Refusal n) = refl
-renumber_at r (call.RefusalAligned n align) = refl
+renumber_at r other = refl
 
 -- and its alignment stays
 renumber_valid : (r : ℕ → ℕ) (c : Call) → is_valid (renumber r c) ≡ is_valid c
-renumber_valid r (call.Command (command.Alloc n)) = refl
 renumber_valid r (call.Command (command.Free k)) = refl
-renumber_valid r (call.Command (command.Size k)) = refl
-renumber_valid r (call.Command command.Report) = refl
-renumber_valid r (call.Command command.Full) = refl
-renumber_valid r (call.Command command.Reset) = refl
-renumber_valid r (call.Command (command.Align n align)) = refl
-renumber_valid r (call.Command (command.Extend n)) = refl
-renumber_valid r (call.Shrink k n) = refl
-renumber_valid r (call.Grow k n) = refl
-renumber_valid r call.Compact = refl
-renumber_valid r (call.Offset k) = refl
-renumber_valid r (call.Refusal n) = refl
-renumber_valid r (call.RefusalAligned n align) = refl
+renumber_valid r other = refl
 
 -- ---- calls one after the other
 
@@ -156,7 +105,7 @@ after-append : (xs ys : List Call) (s : State) → after (xs ++ ys) s ≡ after 
 after-append [] ys s = refl
 after-append (c ∷ xs) ys s = after-append xs ys (step c s).state
 
-replies-append : (xs ys : List Call) (s : State) → replies (xs ++ ys) s ≡ replies xs s ++ replies ys (after xs s)
+pub replies-append : (xs ys : List Call) (s : State) → replies (xs ++ ys) s ≡ replies xs s ++ replies ys (after xs s)
 replies-append [] ys s = refl
 replies-append (c ∷ xs) ys s = ap (λ l. (step c s).reply ∷ l) (replies-append xs ys (step c s).state)
 
@@ -221,8 +170,7 @@ module _ (size limit : ℕ) (low : 2 ≤ limit) (g h : Guard) (ts us : List Tick
   played_more = record { represents = represents_more; replied = replied_more }
 
 -- a loop over calls: one more
-pub goes_on : (size limit realm : ℕ) → 2 ≤ limit
-    → (g h : Guard) (ts us : List Ticket) (calls : List TicketCall) (i : ℕ) (d : TicketCall) (found left : List program.Reply) (x : program.Reply)
+pub goes_on : (size limit realm : ℕ) → 2 ≤ limit → (g h : Guard) (ts us : List Ticket) (calls : List TicketCall) (i : ℕ) (d : TicketCall) (found left : List program.Reply) (x : program.Reply)
     → IsLedger g ts → length ts ≤ i → IsPlayed size limit g ts (take i calls) found → g.realm ≡ realm → All (IsGrantOf (map reply_view found)) ts
     → IsWellFormed h.space → i < length calls → All (λ c. IsTrue (is_valid c.call)) calls → left ≡ found ++ x ∷ []
     → (now : List Ticket) (o : Option Ticket) → now ≡ ts → o ≡ passed now (get_or calls i d)

@@ -1,43 +1,27 @@
 -- A compaction: what is left agrees with the plain machine, and the moves are the same.
-use Rattle.std.proofs.Common.{◌≡◌, ℕ, suc, ◌+◌, ◌≤◌, Bool, true, false, not, ◌&&◌, List, [], ◌∷◌, ◌++◌, length, replicate, sum, Option, Some, None, nat_eq}
-use Rattle.std.proofs.Common.{if◌then◌else◌, refl, sym, ap, ap₂, subst}
-use Rattle.std.proofs.Common.{subst₂, ◌∙◌, inl, inr, arith, eq-eqb, ne_eqb, length-append}
-use Rattle.std.proofs.lemmas.Bool.{cases_eq, cases_lt, true≢false, false≢true}
-use Rattle.std.proofs.lemmas.List.{map-append, get_or_past, get_or-replicate, length-replicate}
-use Rattle.std.specs.List.{AllByRecursion}
+use Rattle.offset_calls.proofs.Common.{◌≡◌, ℕ, ◌+◌, ◌≤◌, Bool, true, false, not, ◌&&◌, List, [], ◌∷◌, ◌++◌, length, replicate, sum, Option, Some, None, nat_eq, if◌then◌else◌, refl, sym, ap, ap₂}
+use Rattle.offset_calls.proofs.Common.{subst, subst₂, ◌∙◌, inl, inr, arith, eq-eqb, ne_eqb, length-append, cases_eq, true≢false, false≢true, map-append, length-replicate, AllByRecursion, Block, View}
+use Rattle.offset_calls.proofs.Common.{Grant, one, count_named, bin_at, push_all, IsWellFormed, Compacts, kept_name, Tag, Live, Free, State, is_free, has_number, free_sizes, stamp_of_call, Move}
+use Rattle.offset_calls.proofs.Common.{moves, gathered, compact, number, AreNumbered}
 use Rattle.offset_allocator.specs.Classes.{down}
-use Rattle.offset_allocator.specs.View.{Block, View, Grant, one, count_named, bin_at, push_all, IsWellFormed}
-use Rattle.offset_allocator.specs.View as named
-use Rattle.offset_allocator.specs.Compacting.{Compacts}
-use Rattle.offset_allocator.specs.Compacting as named_moves
-use Rattle.offset_allocator.proofs.Classes.{down_small}
-use Rattle.offset_allocator.proofs.Tallies.{hit_cases}
-use Rattle.offset_allocator.proofs.ViewOrders.{names_same, names_other}
-use Rattle.std.specs.Option.{option_or}
-use Rattle.offset_script.specs.Steps.{kept_name}
+use Rattle.offset_allocator.proofs.{Emptied.none_at, Classes.down_small, Tallies.hit_cases, ViewOrders.names_same, ViewOrders.names_other}
 use Rattle.offset_script.proofs.Agreement.{Label, by_name, by_tag, name_of, IsFalling, stamp_of, HasBlocksOf}
-use Rattle.offset_script.specs.Machine.{Tag, Live, Free, State, is_free, has_number, free_sizes, stamp_of_call}
-use Rattle.offset_script.specs.Machine as machine
-use Rattle.offset_script.specs.Totals.{live}
-use Rattle.offset_script.proofs.Ends.{free_sizes_labels, name_append, or_none}
-use Rattle.offset_script.proofs.Labels.{names, tags}
-use Rattle.offset_script.proofs.Members.{IsIn}
 use Rattle.offset_script.proofs.Lists.{AreApart, apart_append, count, hit, count-append, ends_free, starts_free}
-use Rattle.offset_script.proofs.Well.{IsWell, well_leaves}
-use Rattle.offset_calls.specs.Calls.{Move, moves, gathered, compact, number}
-use Rattle.offset_calls.specs.Steps.{AreNumbered}
+use Rattle.offset_script.proofs.{Ends.free_sizes_labels, Ends.name_append, Ends.or_none, Labels.names, Labels.tags, Members.IsIn, Well.IsWell, Well.well_leaves}
+use Rattle.offset_script.specs.Totals.{live}
+use Rattle.offset_allocator.specs.View as named
+use Rattle.offset_allocator.specs.Compacting as named_moves
+use Rattle.offset_script.specs.Machine as machine
 
 -- lists of live blocks
 
 count_live : (t : Tag) (bs : List machine.Block) → count t (live bs) ≤ count t bs
 count_live t [] = omega arith
-count_live t (b ∷ bs) = let ih = count_live t bs in elim (is_free b.tag) as (λ x. count t (if not x then b ∷ live bs else live bs) ≤ hit t b.tag + count t bs)
-    [ true ↦ omega arith | false ↦ omega arith ]
+count_live t (b ∷ bs) = search (arith, (count_live t bs), not)
 
 length_live : (bs : List machine.Block) → length (live bs) + length (free_sizes bs) ≡ length bs
 length_live [] = refl
-length_live (b ∷ bs) = let ih = length_live bs in elim (is_free b.tag)
-    as (λ x. length (if not x then b ∷ live bs else live bs) + length (if x then b.size ∷ free_sizes bs else free_sizes bs) ≡ suc (length bs)) [ true ↦ omega arith | false ↦ omega arith ]
+length_live (b ∷ bs) = search (arith, (length_live bs), not, length)
 
 -- live blocks are apart
 apart_cons : (b : machine.Block) (bs : List machine.Block) → is_free b.tag ≡ false → AreApart bs → AreApart (b ∷ bs)
@@ -70,15 +54,11 @@ live_labels (l ∷ ls) = if is_free l.tag then live_labels ls else l ∷ live_la
 
 live_names : (ls : List Label) → names (live_labels ls) ≡ named_moves.live (names ls)
 live_names [] = refl
-live_names (l ∷ ls) = let ih = live_names ls in elim (is_free l.tag)
-    as (λ x. names (if x then live_labels ls else l ∷ live_labels ls) ≡ (if not x then by_name l ∷ named_moves.live (names ls) else named_moves.live (names ls)))
-    [ true ↦ ih | false ↦ ap (λ z. by_name l ∷ z) ih ]
+live_names (l ∷ ls) = search (arith, (live_names ls), not)
 
 live_tags : (ls : List Label) → tags (live_labels ls) ≡ live (tags ls)
 live_tags [] = refl
-live_tags (l ∷ ls) = let ih = live_tags ls in
-    elim (is_free l.tag) as (λ x. tags (if x then live_labels ls else l ∷ live_labels ls) ≡ (if not x then by_tag l ∷ live (tags ls) else live (tags ls)))
-    [ true ↦ ih | false ↦ ap (λ z. by_tag l ∷ z) ih ]
+live_tags (l ∷ ls) = search (arith, (live_tags ls), not)
 
 no_number : (k : ℕ) (t : Tag) → is_free t ≡ true → has_number k t ≡ false
 no_number k (Live j) e = absurd (false≢true e)
@@ -107,40 +87,28 @@ gathered_name_of k x t (n ∷ ns) = refl
 
 -- its bin
 gathered_newest : (f : ℕ → ℕ) (x : ℕ) (ns : List ℕ) (c : ℕ) → IsFalling f (bin_at (push_all (named_moves.gathered x ns) (replicate 256 [])) c)
-gathered_newest f x [] c = subst (IsFalling f) (sym (empty_bin c)) tt
-  where
-    empty_bin : (c : ℕ) → bin_at (replicate 256 []) c ≡ []
-    empty_bin c = elim (cases_lt c 256) [ inl l ↦ get_or-replicate 256 c [] [] l | inr l ↦ get_or_past (replicate 256 []) c [] l ]
+gathered_newest f x [] c = subst (IsFalling f) (sym (none_at c)) tt
 gathered_newest f x (n ∷ ns) c = elim (cases_eq c (down (n + sum ns))) [
   | inl e ↦ subst (λ d. IsFalling f (bin_at (push_all (named_moves.gathered x (n ∷ ns)) (replicate 256 [])) d)) (sym e)
       (subst (IsFalling f) (sym (names_same (replicate 256 []) (down (n + sum ns)) _ (length-replicate {A = List ℕ} 256 []) (down_small (n + sum ns))))
-      (subst (λ l. IsFalling f (x ∷ l)) (sym (empty_bin (down (n + sum ns)))) ((λ y m. absurd (omega arith)), tt)))
-  | inr d ↦ subst (IsFalling f) (sym (names_other (replicate 256 []) (down (n + sum ns)) c _ d ∙ empty_bin c)) tt
+      (subst (λ l. IsFalling f (x ∷ l)) (sym (none_at (down (n + sum ns)))) ((λ y m. absurd (omega arith)), tt)))
+  | inr d ↦ subst (IsFalling f) (sym (names_other (replicate 256 []) (down (n + sum ns)) c _ d ∙ none_at c)) tt
 ]
-  where
-    empty_bin : (c : ℕ) → bin_at (replicate 256 []) c ≡ []
-    empty_bin c = elim (cases_lt c 256) [ inl l ↦ get_or-replicate 256 c [] [] l | inr l ↦ get_or_past (replicate 256 []) c [] l ]
 
 -- what a compaction leaves agrees
 pub compact_agrees : (v : View) (kept_name : ℕ → Option ℕ) (s : State) → HasBlocksOf v kept_name s → (u : View) → Compacts v u → HasBlocksOf u kept_name (compact s).state
-compact_agrees v kept_name s g u f = record {
-  labels = live_labels g.labels ++ gathered_label f.name (stamp_of_call s) (free_sizes s.blocks);
-  view = ap (λ (x : View). x.blocks) f.view ∙ ap₂ (λ a b. a ++ b) (ap named_moves.live g.view ∙ sym (live_names g.labels))
-      (ap (named_moves.gathered f.name) (sym same_sizes) ∙ sym (gathered_names f.name (stamp_of_call s) (free_sizes s.blocks)))
-      ∙ sym (map-append by_name (live_labels g.labels) (gathered_label f.name (stamp_of_call s) (free_sizes s.blocks)));
-  state = ap₂ (λ a b. a ++ b) (ap live g.state ∙ sym (live_tags g.labels)) (sym (gathered_tags f.name (stamp_of_call s) (free_sizes s.blocks)))
-      ∙ sym (map-append by_tag (live_labels g.labels) (gathered_label f.name (stamp_of_call s) (free_sizes s.blocks)));
-  limit = g.limit ∙ sym (ap (λ (x : View). x.max_allocs) f.view);
-  newest = λ c. subst (λ o. IsFalling (λ x. stamp_of x (live_labels g.labels ++ gathered_label f.name (stamp_of_call s) (free_sizes s.blocks))) (bin_at o c))
-      (sym (ap (λ (x : View). x.order) f.view))
-      (gathered_newest _ f.name (named.free_sizes v.blocks) c);
-  handles = λ k. g.handles k ∙ sym (live_name_of k g.labels) ∙ sym (or_none (name_of k (live_labels g.labels)))
-      ∙ ap (option_or (name_of k (live_labels g.labels))) (sym (gathered_name_of k f.name (stamp_of_call s) (free_sizes s.blocks)))
-      ∙ sym (name_append k (live_labels g.labels) (gathered_label f.name (stamp_of_call s) (free_sizes s.blocks)));
-}
-  where
-    same_sizes : free_sizes s.blocks ≡ named.free_sizes v.blocks
-    same_sizes = ap free_sizes g.state ∙ free_sizes_labels g.labels ∙ sym (ap named.free_sizes g.view)
+compact_agrees v kept_name s g u f =
+    let free = gathered_label f.name (stamp_of_call s) (free_sizes s.blocks) in
+    let same_sizes : free_sizes s.blocks ≡ named.free_sizes v.blocks = ap free_sizes g.state ∙ free_sizes_labels g.labels ∙ sym (ap named.free_sizes g.view) in
+    let view = ap (λ (x : View). x.blocks) f.view ∙ ap₂ (λ a b. a ++ b) (ap named_moves.live g.view ∙ sym (live_names g.labels))
+    (ap (named_moves.gathered f.name) (sym same_sizes) ∙ sym (gathered_names f.name (stamp_of_call s) (free_sizes s.blocks))) ∙ sym (map-append by_name (live_labels g.labels) free) in
+    let state = ap₂ (λ a b. a ++ b) (ap live g.state ∙ sym (live_tags g.labels)) (sym (gathered_tags f.name (stamp_of_call s) (free_sizes s.blocks)))
+    ∙ sym (map-append by_tag (live_labels g.labels) free) in
+    let newest = λ (c : ℕ). subst (λ o. IsFalling (λ x. stamp_of x (live_labels g.labels ++ free)) (bin_at o c)) (sym (ap (λ (x : View). x.order) f.view))
+    (gathered_newest _ f.name (named.free_sizes v.blocks) c) in
+    let limit = g.limit ∙ sym (ap (λ (x : View). x.max_allocs) f.view) in
+    let handles : (k : ℕ) → kept_name k ≡ name_of k (live_labels g.labels ++ free) = λ k. search (arith, g.handles, live_name_of, or_none, gathered_name_of, name_append) in
+    record { labels = live_labels g.labels ++ free; view = view; state = state; limit = limit; newest = newest; handles = handles }
 
 -- the numbers of names
 

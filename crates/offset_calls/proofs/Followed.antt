@@ -1,39 +1,21 @@
 -- The steps of calls are those of the plain machine.
-use Rattle.std.proofs.Common.{◌≡◌, ◌≢◌, ◌⊎◌, ℕ, ◌+◌, ◌-◌, ◌≤◌, Bool, true, false, not, ◌&&◌, List, [], ◌∷◌, length, sum, Option, Some, None, is_some}
-use Rattle.std.proofs.Common.{IfSome, IsTrue, option_map, option_and_then}
-use Rattle.std.proofs.Common.{nat_eq, nat_lt, nat_le, if◌then◌else◌, refl, sym, ap, ap₂, subst, ◌∙◌, inl, inr, arith, eq-eqb, ne_eqb, le-leb, leb-true, lt-ltb, le-ltb}
-use Rattle.std.proofs.lemmas.Bool.{cases_eq, cases_lt, true≢false, false≢true, and_parts, lt-leb}
-use Rattle.offset_allocator.proofs.Advice.{free_within}
-use Rattle.offset_allocator.proofs.Powers.{not_zero}
-use Rattle.offset_allocator.proofs.Tallies.{hit_cases}
-use Rattle.offset_allocator.specs.declared.reports.Refusal.{Refusal}
-use Rattle.offset_allocator.specs.declared.reports.Refusal.TheVariants.{Nodes, TooLarge, Space, Fragmented}
-use Rattle.offset_allocator.specs.Classes.{value, up, down}
-use Rattle.offset_allocator.specs.View.{View, Grant, Place, times, count_in_bin, bin_at, units, IsWellFormed}
-use Rattle.offset_allocator.specs.View as named
-use Rattle.offset_allocator.specs.Requests.{HasRoomFor, IsWhy, size_needed, blocks_needed, units_needed}
-use Rattle.offset_allocator.specs.Ranges.{Range, range_of, size_of}
-use Rattle.offset_allocator.specs.Relations.{SameSpace}
-use Rattle.offset_allocator.specs.Resizing.{Shrinks, Grows, Resizes}
-use Rattle.offset_script.specs.Steps.{kept_name, IfNamed, Stays}
-use Rattle.offset_script.proofs.Agreement.{Label, by_tag, IsAtState}
-use Rattle.offset_script.specs.Machine.{State, is_free, free_sizes, total, chosen_place, is_short_of, fits}
-use Rattle.offset_script.specs.Machine as machine
+use Rattle.offset_calls.proofs.Common.{◌≡◌, ◌≢◌, ◌⊎◌, ℕ, ◌+◌, ◌-◌, ◌≤◌, Bool, true, false, not, ◌&&◌, List, [], ◌∷◌, length, sum, Option, Some, None, is_some, IfSome, IsTrue, option_map}
+use Rattle.offset_calls.proofs.Common.{option_and_then, nat_eq, nat_lt, nat_le, if◌then◌else◌, refl, sym, ap, ap₂, subst, ◌∙◌, inl, inr, arith, eq-eqb, ne_eqb, le-leb, leb-true, lt-ltb, le-ltb}
+use Rattle.offset_calls.proofs.Common.{cases_eq, cases_lt, true≢false, false≢true, and_parts, lt-leb, Nodes, TooLarge, Space, Fragmented, View, Grant, times, count_in_bin, bin_at, units, IsWellFormed}
+use Rattle.offset_calls.proofs.Common.{HasRoomFor, IsWhy, size_needed, blocks_needed, units_needed, Range, size_of, SameSpace, kept_name, IfNamed, Stays, State, is_free, free_sizes, total}
+use Rattle.offset_calls.proofs.Common.{chosen_place, is_short_of, fits, Call, Reply, Answer, Resized, Compacted, Offset, Refused_for, Outcome, can_shrink, can_grow, resize, resized, replies_only}
+use Rattle.offset_calls.proofs.Common.{shortage, reason, offset_at, step, after, is_valid, compact, starts_free, Takes, IsReason}
+use Rattle.offset_allocator.proofs.{Advice.free_within, Powers.not_zero, Tallies.hit_cases}
+use Rattle.offset_allocator.specs.{declared.reports.Refusal.Refusal, Classes.value, Classes.up, Classes.down, Ranges.range_of, Resizing.Shrinks, Resizing.Grows, Resizing.Resizes}
 use Rattle.offset_script.proofs.Agreed.{agrees_but, agrees_quiet, has_room, labelled, none_there, same_length, same_units}
-use Rattle.offset_script.proofs.Chosen.{none_chosen, plain_place}
-use Rattle.offset_script.proofs.Ends.{free_sizes_labels, total_units}
-use Rattle.offset_script.proofs.Labels.{names}
-use Rattle.offset_script.proofs.Members.{IsIn, in_map}
-use Rattle.offset_script.proofs.Simulation as script
-use Rattle.offset_script.proofs.Found.{not_chosen}
-use Rattle.offset_script.proofs.Well.{IsWell, well_quiet, well_step}
-use Rattle.offset_calls.specs.declared.calls.Call.{Call}
-use Rattle.offset_calls.specs.declared.calls.Call.TheVariants as call
-use Rattle.offset_calls.specs.Calls.{Reply, Answer, Resized, Compacted, Offset, Refused_for, Outcome, can_shrink, can_grow, resize, resized, replies_only, shortage, reason, offset_at, step, after}
-use Rattle.offset_calls.specs.Calls.{is_valid, compact, starts_free}
-use Rattle.offset_calls.specs.Steps.{Takes, IsReason}
+use Rattle.offset_script.proofs.{Agreement.Label, Agreement.by_tag, Agreement.IsAtState, Chosen.none_chosen, Chosen.plain_place, Ends.free_sizes_labels, Ends.total_units, Labels.names, Members.IsIn}
+use Rattle.offset_script.proofs.{Members.in_map, Found.not_chosen, Well.IsWell, Well.well_quiet, Well.well_step}
 use Rattle.offset_calls.proofs.Compacted.{well_compact, compact_agrees, moves_are}
 use Rattle.offset_calls.proofs.Resized.{well_resized, found, spot, size_found, can_shrink_is, shrink_can, can_grow_is, grow_can, resized_agrees}
+use Rattle.offset_allocator.specs.View as named
+use Rattle.offset_script.specs.Machine as machine
+use Rattle.offset_script.proofs.Simulation as script
+use Rattle.offset_calls.specs.declared.calls.Call.TheVariants as call
 
 -- the plain machine has this reply, and a view and handles represent the state that it leaves
 abbrev pub Follows : Outcome → View → List (Option Grant) → Reply → Type 0
@@ -62,8 +44,7 @@ not_true false f = refl
 
 -- every state stays well-formed
 
-well_resize : (s : State) → IsWell s → (k n : ℕ) (can : machine.Place → Bool)
-    → ((p : machine.Place) → n ≢ p.block.size → can p ≡ true → (starts_free p.after ≡ true) ⊎ (is_short_of 1 s ≡ false))
+well_resize : (s : State) → IsWell s → (k n : ℕ) (can : machine.Place → Bool) → ((p : machine.Place) → n ≢ p.block.size → can p ≡ true → (starts_free p.after ≡ true) ⊎ (is_short_of 1 s ≡ false))
     → (o : Option machine.Place) → machine.place_of k s.blocks ≡ o → IsWell (resize can n s o).state
 well_resize s w k n can fit None e = well_quiet s w machine.Gone
 well_resize s w k n can fit (Some p) e = go (can p) refl
@@ -89,9 +70,7 @@ well_call (call.Command c) s w = well_step c s w
 well_call (call.Shrink k n) s w = well_resize s w k n (can_shrink n s) (λ p d c. shrink_fits s n p d c) (machine.place_of k s.blocks) refl
 well_call (call.Grow k n) s w = well_resize s w k n (can_grow n) (λ p d c. grow_fits s n p d c) (machine.place_of k s.blocks) refl
 well_call call.Compact s w = well_compact s w
-well_call (call.Offset k) s w = well_quiet s w machine.Gone
-well_call (call.Refusal n) s w = well_quiet s w machine.Gone
-well_call (call.RefusalAligned n align) s w = well_quiet s w machine.Gone
+well_call other s w = well_quiet s w machine.Gone
 
 pub well_calls : (cs : List Call) (s : State) → IsWell s → IsWell (after cs s)
 well_calls [] s w = w
@@ -116,24 +95,17 @@ module _ (v w : View) (hs left : List (Option Grant)) (r : Reply) (s : State) (f
     resize_same_size : (can : machine.Place → Bool) → n ≡ size_of x v → SameSpace v w → left ≡ hs → r ≡ Resized → Follows (resize can n s (machine.place_of k s.blocks)) w left r
     resize_same_size can same space f is = stays _ Resized (ap (resize can n s) at ∙ resize_same can n s _ (same ∙ sized)) space f is
 
-    resize_refuses : (can : machine.Place → Bool) → n ≢ size_of x v → (can (plain_place (spot v (kept_name hs) s p.formed ws p.agrees k x e)) ≡ true → ⊥)
-        → SameSpace v w → left ≡ hs
+    resize_refuses : (can : machine.Place → Bool) → n ≢ size_of x v → (can (plain_place (spot v (kept_name hs) s p.formed ws p.agrees k x e)) ≡ true → ⊥) → SameSpace v w → left ≡ hs
         → r ≡ Answer machine.Refused
         → Follows (resize can n s (machine.place_of k s.blocks)) w left r
     resize_refuses can d none space f is = stays _ (Answer machine.Refused) (ap (resize can n s) at ∙ resize_refused can n s _ (λ z. d (z ∙ sym sized)) (not_true _ none)) space f is
 
-    resize_changes : (can : machine.Place → Bool) → n ≢ size_of x v → can (plain_place (spot v (kept_name hs) s p.formed ws p.agrees k x e)) ≡ true → Resizes x n v w
-        → left ≡ hs → r ≡ Resized
+    resize_changes : (can : machine.Place → Bool) → n ≢ size_of x v → can (plain_place (spot v (kept_name hs) s p.formed ws p.agrees k x e)) ≡ true → Resizes x n v w → left ≡ hs → r ≡ Resized
         → Follows (resize can n s (machine.place_of k s.blocks)) w left r
     resize_changes can d c t f is =
-        subst (λ (o : Outcome). Follows o w left r) (sym (ap (resize can n s) at ∙ resize_done can n s _ (λ z. d (z ∙ sym sized)) c)) (
-          is,
-          subst (λ l. IsAtState w l (resized n s (plain_place (spot v (kept_name hs) s p.formed ws p.agrees k x e))).state) (sym f) (record {
-            formed = formed;
-            agrees = resized_agrees v (kept_name hs) s p.formed ws p.agrees k x e n w formed (λ z. d (z ∙ sym sized)) t;
-            grants = p.grants;
-          }),
-        )
+        let agrees = resized_agrees v (kept_name hs) s p.formed ws p.agrees k x e n w formed (λ z. d (z ∙ sym sized)) t in
+        subst (λ (o : Outcome). Follows o w left r) (sym (ap (resize can n s) at ∙ resize_done can n s _ (λ z. d (z ∙ sym sized)) c))
+        (is, subst (λ l. IsAtState w l (resized n s (plain_place (spot v (kept_name hs) s p.formed ws p.agrees k x e))).state) (sym f) (record { formed = formed; agrees = agrees; grants = p.grants }))
 
     shrinks : (done : Bool) → Shrinks x n v w done → left ≡ hs → r ≡ (if done then Resized else Answer machine.Refused) → Follows (step (call.Shrink k n) s) w left r
     shrinks true (inl t) f is = resize_same_size (can_shrink n s) t.0 t.1 f is
@@ -169,8 +141,7 @@ module _ (v w : View) (hs left : List (Option Grant)) (r : Reply) (s : State) (f
   grow_step k n None e t = quiet _ (Answer machine.Gone) (ap (resize (can_grow n) n s) (gone_there k e)) t.0 t.1
   grow_step k n (Some x) e t = grows k x n e t.0 t.1 t.2 t.3
 
-  offset_step : (k : ℕ) (o : Option ℕ) → kept_name hs k ≡ o
-      → IfNamed o (λ x. (o : ℕ) × (option_map (λ (q : Range). q.offset) (range_of x v) ≡ Some o) × (r ≡ Offset o)) (r ≡ Answer machine.Gone)
+  offset_step : (k : ℕ) (o : Option ℕ) → kept_name hs k ≡ o → IfNamed o (λ x. (o : ℕ) × (option_map (λ (q : Range). q.offset) (range_of x v) ≡ Some o) × (r ≡ Offset o)) (r ≡ Answer machine.Gone)
       → r ≡ offset_at (machine.place_of k s.blocks)
   offset_step k None e t = t ∙ sym (ap offset_at (gone_there k e))
   offset_step k (Some x) e t = t.2 ∙ offset_found k x 0 e t.0 t.1
@@ -264,14 +235,10 @@ module _ (v w : View) (hs left : List (Option Grant)) (r : Reply) (s : State) (f
   follows (call.Command c) valid t = let f = script.follows v w hs left t.0 s formed ws p c valid t.1 in (t.2 ∙ ap Answer f.0, f.1)
   follows (call.Shrink k n) valid t = shrink_step k n (kept_name hs k) refl t
   follows (call.Grow k n) valid t = grow_step k n (kept_name hs k) refl t
-  follows call.Compact valid t = (
-    t.2.2 ∙ ap Compacted (moves_are v hs s p.formed ws p.agrees t.2.0 t.2.1),
-    subst (λ l. IsAtState w l (compact s).state) (sym t.1) (record {
-      formed = formed;
-      agrees = compact_agrees v (kept_name hs) s p.agrees w t.0;
-      grants = p.grants;
-    }),
-  )
+  follows call.Compact valid t =
+      let agrees = compact_agrees v (kept_name hs) s p.agrees w t.0 in
+      let moved = moves_are v hs s p.formed ws p.agrees t.2.0 t.2.1 in
+      (t.2.2 ∙ ap Compacted moved, subst (λ l. IsAtState w l (compact s).state) (sym t.1) (record { formed = formed; agrees = agrees; grants = p.grants }))
   follows (call.Offset k) valid t = quiet _ _ refl t.0 (offset_step k (kept_name hs k) refl t.1)
   follows (call.Refusal n) valid t = quiet _ _ refl t.0 (t.1.2 ∙ ap Refused_for (reason_is 1 n t.1.0 t.1.1))
   follows (call.RefusalAligned n align) valid t = quiet _ _ refl t.0

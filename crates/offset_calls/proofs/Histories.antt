@@ -1,23 +1,12 @@
 -- The laws over whole histories of calls.
-use Rattle.std.proofs.Common.{◌≡◌, ℕ, ◌+◌, ◌-◌, ◌≤◌, List, [], ◌∷◌, ◌++◌, map, refl, ap, ◌∙◌, arith, le-leb}
-use Rattle.std.proofs.lemmas.Bool.{cases_lt, lt-leb}
-use Rattle.offset_script.specs.declared.scripts.Command.{Command}
+use Rattle.offset_calls.proofs.Common.{◌≡◌, ℕ, ◌+◌, ◌-◌, ◌≤◌, List, ◌∷◌, ◌++◌, map, refl, ap, ◌∙◌, arith, le-leb, cases_lt, lt-leb, Command, HasNoLive, IsNest, number_without, Free, State, start}
+use Rattle.offset_calls.proofs.Common.{total, Call, Reply, Answer, Compacted, after, replies, step, IsQuestion, number_with, raise, raise_move, renumber, replies_renumbered}
+use Rattle.offset_calls.proofs.{Along.replies-append, Alike.same_replies, Alike.number_back_again, Followed.well_call, Followed.well_calls}
+use Rattle.offset_script.proofs.{Fresh.IsOneFree, Fresh.one_free, Fresh.alike_fresh, Fresh.raise_none, Fresh.renumber_same, Members.map_same, Nests.AreTraceless, Nests.traceless, Nests.alike_after}
+use Rattle.offset_script.proofs.{Nests.number_without_none, Similar.similar_refl, Lists.count, Lists.hit_self, Well.IsWell, Well.well_start, Well.well_after}
 use Rattle.offset_script.specs.declared.scripts.Command.TheVariants as command
-use Rattle.offset_script.specs.Histories.{HasNoLive, IsNest, number_without}
-use Rattle.offset_script.specs.Machine.{Free, State, start, total}
 use Rattle.offset_script.specs.Machine as machine
-use Rattle.offset_script.proofs.Fresh.{IsOneFree, one_free, alike_fresh, raise_none, renumber_same}
-use Rattle.offset_script.proofs.Members.{map_same}
-use Rattle.offset_script.proofs.Nests.{AreTraceless, traceless, alike_after, number_without_none}
-use Rattle.offset_script.proofs.Similar.{similar_refl}
-use Rattle.offset_script.proofs.Lists.{count, hit_self}
-use Rattle.offset_script.proofs.Well.{IsWell, well_start, well_after}
-use Rattle.offset_calls.specs.declared.calls.Call.{Call}
 use Rattle.offset_calls.specs.declared.calls.Call.TheVariants as call
-use Rattle.offset_calls.specs.Calls.{Reply, Answer, Compacted, after, replies, step}
-use Rattle.offset_calls.specs.Histories.{IsQuestion, number_with, raise, raise_move, renumber, replies_renumbered}
-use Rattle.offset_calls.proofs.Alike.{same_replies, number_back_again}
-use Rattle.offset_calls.proofs.Followed.{well_call, well_calls}
 
 -- a space without live grants
 pub fresh_law : (size limit : ℕ) → 2 ≤ limit → (cs : List Call) → let s = after cs (start size limit) in
@@ -66,10 +55,6 @@ counts_only (call.Offset k) s h = refl
 counts_only (call.Refusal n) s h = refl
 counts_only (call.RefusalAligned n align) s h = refl
 counts_only other s h = absurd h
-
-replies-append : (xs ys : List Call) (s : State) → replies (xs ++ ys) s ≡ replies xs s ++ replies ys (after xs s)
-replies-append [] ys s = refl
-replies-append (x ∷ xs) ys s = ap (λ l. (step x s).reply ∷ l) (replies-append xs ys (step x s).state)
 
 pub question_law : (size limit : ℕ) → 2 ≤ limit → (before : List Call) (q : Call) (rest : List Call) → IsQuestion q
     → let s = after before (start size limit) in replies (before ++ q ∷ rest) (start size limit) ≡ replies before (start size limit) ++ ((step q s).reply ∷ replies rest s)

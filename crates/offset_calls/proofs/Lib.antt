@@ -1,6 +1,7 @@
 mod Numbering
 pub mod Alike
 pub mod Along
+pub mod Common
 pub mod Compacted
 pub mod Followed
 pub mod Histories

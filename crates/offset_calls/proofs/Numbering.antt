@@ -1,18 +1,12 @@
 -- The moves of a compaction, and the numbers of the ranges that move.
-use Rattle.std.proofs.Common.{◌≡◌, ℕ, zero, suc, ◌+◌, ◌-◌, ◌<◌, ◌≤◌, Bool, true, false, List, [], ◌∷◌, ◌++◌, map, drop, length, reverse, slice_index_or, Option}
-use Rattle.std.proofs.Common.{Some, None}
-use Rattle.std.proofs.Common.{option_map, unwrap_or, if◌then◌else◌, refl, sym, ap, ap₂, subst, subst₂, ◌∙◌, inl, inr, arith, append_assoc, append-nil, length-append, eq-eqb, ne_eqb}
-use Rattle.std.proofs.lemmas.Bool.{cases_eq, cases_lt, false≢true}
-use Rattle.std.proofs.lemmas.List.{map-append, length-map, reverse-append, get_or_past}
-use Rattle.std.specs.List.{AllByRecursion, FoldsTo}
-use Rattle.offset_allocator.specs.View.{Block, Grant, View}
-use Rattle.offset_allocator.specs.Ranges.{IsLive, Range, range_of}
-use Rattle.offset_allocator.specs.Compacting.{Move, live, moves}
-use Rattle.offset_allocator.specs.Listing.{Placed, placed, listing}
+use Rattle.offset_calls.proofs.Common.{◌≡◌, ℕ, zero, suc, ◌+◌, ◌-◌, ◌<◌, ◌≤◌, Bool, true, false, List, [], ◌∷◌, ◌++◌, map, drop, length, reverse, slice_index_or, Option, Some, None, option_map}
+use Rattle.offset_calls.proofs.Common.{unwrap_or, if◌then◌else◌, refl, sym, ap, ap₂, subst, subst₂, ◌∙◌, inl, inr, arith, append_assoc, append-nil, length-append, eq-eqb, ne_eqb, cases_eq, cases_lt}
+use Rattle.offset_calls.proofs.Common.{false≢true, map-append, length-map, reverse-append, get_or_past, AllByRecursion, FoldsTo, Block, Grant, View, Range, live, Placed, placed, listing, kept_name}
+use Rattle.offset_calls.proofs.Common.{AreKept, AreMoves, AreNumbered, joined}
+use Rattle.std.proofs.{Math.Seq.drop-append_seam, lemmas.List.drop-map}
+use Rattle.offset_allocator.specs.{Ranges.IsLive, Ranges.range_of, Compacting.Move, Compacting.moves}
 use Rattle.offset_allocator.proofs.Sliding.{live_used, live_idle, moves_used, moves_idle}
-use Rattle.offset_script.specs.Steps.{kept_name}
 use Rattle.offset_calls.specs.declared.calls.Moved.{Moved}
-use Rattle.offset_calls.specs.Steps.{AreKept, AreMoves, AreNumbered, joined}
 
 -- the names of moves
 abbrev pub names_of : List Move → List (Option ℕ)
@@ -60,36 +54,28 @@ last_move from to (b ∷ bs) l = elim (cases_eq from to) [
 -- moves of the program
 are_length : (ms : List Moved) (xs : List Move) → AreMoves ms xs → length ms ≡ length xs
 are_length [] [] a = refl
-are_length [] (x ∷ xs) a = absurd a
-are_length (m ∷ ms) [] a = absurd a
 are_length (m ∷ ms) (x ∷ xs) a = ap suc (are_length ms xs a.3)
+are_length ms xs a = absurd a
 
 pub are_more : (ms : List Moved) (xs : List Move) (m : Moved) (x : Move) → AreMoves ms xs → m.from ≡ x.from → m.to ≡ x.to → m.size ≡ x.size → AreMoves (ms ++ m ∷ []) (xs ++ x ∷ [])
 are_more [] [] m x a e f g = (e, f, g, tt)
-are_more [] (y ∷ xs) m x a e f g = absurd a
-are_more (n ∷ ms) [] m x a e f g = absurd a
 are_more (n ∷ ms) (y ∷ xs) m x a e f g = (a.0, a.1, a.2, are_more ms xs m x a.3 e f g)
+are_more ms xs m x a e f g = absurd a
 
 -- numbers whose names are those of the moves
 numbers_join : (handles : List (Option Grant)) (ks : List ℕ) (ms : List Moved) (xs : List Move) → map (kept_name handles) ks ≡ names_of xs → AreMoves ms xs
     → AreNumbered handles xs (joined ks ms)
 numbers_join handles [] [] [] e a = tt
 numbers_join handles (k ∷ ks) [] [] e a = tt
-numbers_join handles ks [] (x ∷ xs) e a = absurd a
-numbers_join handles ks (m ∷ ms) [] e a = absurd a
 numbers_join handles [] (m ∷ ms) (x ∷ xs) e a = absurd (cc)
 numbers_join handles (k ∷ ks) (m ∷ ms) (x ∷ xs) e a = (cc, a.0, a.1, a.2, numbers_join handles ks ms xs (cc) a.3)
+numbers_join handles ks ms xs e a = absurd a
 
 drop_map : {A B : Type 0} (f : A → B) (n : ℕ) (xs : List A) → map f (drop n xs) ≡ drop n (map f xs)
-drop_map f zero xs = refl
-drop_map f (suc n) [] = refl
-drop_map f (suc n) (x ∷ xs) = drop_map f n xs
+drop_map f n xs = sym (drop-map f n xs)
 
 drop_front : {A : Type 0} (xs ys : List A) (n : ℕ) → n ≡ length xs → drop n (xs ++ ys) ≡ ys
-drop_front [] ys zero e = refl
-drop_front [] ys (suc n) e = absurd (omega arith)
-drop_front (x ∷ xs) ys zero e = absurd (omega arith)
-drop_front (x ∷ xs) ys (suc n) e = drop_front xs ys n (omega arith)
+drop_front xs ys n e = rw e (drop-append_seam xs ys)
 
 module _ (handles : List (Option Grant)) (ks : List ℕ) (ms : List Moved) (v : View) (e : map (kept_name handles) ks ≡ live_names v.blocks) (a : AreMoves ms (moves 0 0 v.blocks)) where
   numbers_parts : IsLast v.blocks (moves 0 0 v.blocks)
@@ -168,8 +154,7 @@ pub kept-listing : (v : View) (handles : List (Option Grant)) → AreKept v hand
 kept-listing v handles a = kept-reverse handles (placed 0 v.blocks) (kept-placed handles 0 v.blocks a)
 
 -- one more walked block
-pub walk_used : (handles : List (Option Grant)) (ks : List ℕ) (k : ℕ) (p : Placed) (ps : List Placed) (g : Grant) (all : List (Option ℕ))
-    → map (kept_name handles) ks ++ placed_names (p ∷ ps) ≡ all
+pub walk_used : (handles : List (Option Grant)) (ks : List ℕ) (k : ℕ) (p : Placed) (ps : List Placed) (g : Grant) (all : List (Option ℕ)) → map (kept_name handles) ks ++ placed_names (p ∷ ps) ≡ all
     → p.grant ≡ Some g → kept_name handles k ≡ Some g.name
     → map (kept_name handles) (ks ++ k ∷ []) ++ placed_names ps ≡ all
 walk_used handles ks k p ps g all e f h = search (arith, map-append, map, append_assoc)
@@ -185,10 +170,8 @@ pub walk_ends : (handles : List (Option Grant)) (ks left : List ℕ) (v : View) 
 walk_ends handles ks left v e f = search (arith, map, map-reverse, reverse, append-nil, walked_names)
 
 -- the moves that a closure has seen
-pub collected : {P S N : Type 0} (R : P → Move → P → Type 0) (xs : List Move) (p q : P) → FoldsTo R p xs q
-    → (see : P → S) (place : P → N) (is_refused : S → Bool) (found : S → List Moved)
-    → ((p : P) (x : Move) (q : P) → R p x q
-    → (is_refused (see q) ≡ false → (is_refused (see p) ≡ false) × (m : Moved) × (m.from ≡ x.from) × (m.to ≡ x.to) × (m.size ≡ x.size)
+pub collected : {P S N : Type 0} (R : P → Move → P → Type 0) (xs : List Move) (p q : P) → FoldsTo R p xs q → (see : P → S) (place : P → N) (is_refused : S → Bool) (found : S → List Moved)
+    → ((p : P) (x : Move) (q : P) → R p x q → (is_refused (see q) ≡ false → (is_refused (see p) ≡ false) × (m : Moved) × (m.from ≡ x.from) × (m.to ≡ x.to) × (m.size ≡ x.size)
     × (found (see q) ≡ found (see p) ++ m ∷ []))
     × (place q ≡ place p))
     → (is_refused (see q) ≡ false → (is_refused (see p) ≡ false) × ((ys : List Move) → AreMoves (found (see p)) ys → AreMoves (found (see q)) (ys ++ xs))) × (place q ≡ place p)
@@ -208,8 +191,7 @@ collected R (x ∷ xs) p q f see place is_refused found each =
     )
 
 -- a number that is not among the first ones
-pub not_found : (handles : List (Option Grant)) (x : ℕ)
-    → ((i : ℕ) → i < length handles → option_map (λ (h : Grant). h.name) (slice_index_or handles i None) ≡ Some x → ⊥) → (k : ℕ)
+pub not_found : (handles : List (Option Grant)) (x : ℕ) → ((i : ℕ) → i < length handles → option_map (λ (h : Grant). h.name) (slice_index_or handles i None) ≡ Some x → ⊥) → (k : ℕ)
     → kept_name handles k ≡ Some x → ⊥
 not_found handles x none zero e = cc
 not_found handles x none (suc k) e = search (arith, cases_lt, length, option_map, get_or_past)

@@ -1,32 +1,19 @@
 -- A range that shrinks or grows: what is left agrees with the plain machine.
-use Rattle.std.proofs.Common.{◌≡◌, ◌≢◌, ℕ, zero, suc, ◌+◌, ◌-◌, ◌<◌, ◌≤◌, Bool, true, false, not, ◌&&◌, ◌||◌, ◌⊎◌, List, [], ◌∷◌, ◌++◌, length}
-use Rattle.std.proofs.Common.{Option, Some, None, nat_eq, nat_le, if◌then◌else◌, refl}
-use Rattle.std.proofs.Common.{sym, ap, ap₂, subst, ◌∙◌, inl, inr, arith, le-leb, leb-true, leb-false, append-nil, length-append}
-use Rattle.std.proofs.lemmas.Bool.{false≢true, and_parts, and_right}
-use Rattle.std.proofs.lemmas.List.{map-append}
-use Rattle.std.specs.List.{AllByRecursion}
-use Rattle.offset_allocator.proofs.ViewApart.{right_false}
-use Rattle.offset_allocator.proofs.Reading.{size_at, size_is}
-use Rattle.offset_allocator.specs.View.{Block, View, Place, place_of, units, IsWellFormed, IsApart, replace}
-use Rattle.offset_allocator.specs.View as named
-use Rattle.offset_allocator.specs.Requests.{HasRoomFor}
-use Rattle.offset_allocator.specs.Ranges.{size_of}
-use Rattle.offset_allocator.specs.Relations.{SameSpace}
-use Rattle.offset_allocator.specs.Resizing.{CanShrink, CanGrow, Resizes, free_after, free_beyond}
-use Rattle.offset_script.proofs.Agreement.{Label, by_name, by_tag, name_of, HasBlocksOf}
-use Rattle.offset_script.specs.Machine.{Tag, Live, Free, State, is_free, has_number, total, is_short_of, stamp_of_call, stamp_of_padding, without_start, free_start}
-use Rattle.offset_script.specs.Machine as machine
+use Rattle.offset_calls.proofs.Common.{◌≡◌, ◌≢◌, ℕ, zero, suc, ◌+◌, ◌-◌, ◌<◌, ◌≤◌, Bool, true, false, not, ◌&&◌, ◌||◌, ◌⊎◌, List, [], ◌∷◌, ◌++◌, length, Option, Some, None, nat_eq, nat_le}
+use Rattle.offset_calls.proofs.Common.{if◌then◌else◌, refl, sym, ap, ap₂, subst, ◌∙◌, inl, inr, arith, le-leb, leb-true, leb-false, append-nil, length-append, false≢true, and_parts, and_right}
+use Rattle.offset_calls.proofs.Common.{map-append, AllByRecursion, Block, View, Place, units, IsWellFormed, IsApart, replace, HasRoomFor, size_of, SameSpace, Tag, Live, Free, State, is_free}
+use Rattle.offset_calls.proofs.Common.{has_number, total, is_short_of, stamp_of_call, stamp_of_padding, without_start, free_start, starts_free, can_shrink, can_grow, resized}
+use Rattle.std.proofs.Math.Bool.{or-true}
+use Rattle.offset_allocator.proofs.{ViewApart.right_false, Reading.size_at, Reading.size_is}
+use Rattle.offset_allocator.specs.{View.place_of, Resizing.CanShrink, Resizing.CanGrow, Resizing.Resizes, Resizing.free_after, Resizing.free_beyond}
 use Rattle.offset_script.proofs.Agreed.{live_at, LiveAt, room_for, has_room, agrees_replaced, new_labels, names_new, tags_new, name_new, rises_new, name_replaced}
-use Rattle.offset_script.proofs.Chosen.{Spot, place_at, named_spot, named_place, plain_place, place_of_spot}
-use Rattle.offset_script.proofs.Ends.{AreFree, free_named, free_tagged, apart_tagged, total_units, name_free}
-use Rattle.offset_script.proofs.Labels.{names, tags, map_three}
-use Rattle.offset_script.proofs.Members.{map_parts}
-use Rattle.offset_script.proofs.Tests.{same_some}
 use Rattle.offset_script.proofs.Lists.{AreApart, apart_parts, apart_append, count, count-append, count_free_block, ends_free, few_free, number_of, start_is, start_of}
-use Rattle.offset_script.proofs.Found.{found_at}
-use Rattle.offset_script.proofs.Well.{IsWell, apart_free_block, free_part as plain_part, well_leaves}
+use Rattle.offset_script.proofs.{Agreement.Label, Agreement.by_name, Agreement.by_tag, Agreement.name_of, Agreement.HasBlocksOf, Chosen.Spot, Chosen.place_at, Chosen.named_spot, Chosen.named_place}
+use Rattle.offset_script.proofs.{Chosen.plain_place, Chosen.place_of_spot, Ends.AreFree, Ends.free_named, Ends.free_tagged, Ends.apart_tagged, Ends.total_units, Ends.name_free, Labels.names}
+use Rattle.offset_script.proofs.{Labels.tags, Labels.map_three, Members.map_parts, Tests.same_some, Found.found_at, Well.IsWell, Well.apart_free_block, Well.free_part as plain_part, Well.well_leaves}
+use Rattle.offset_allocator.specs.View as named
+use Rattle.offset_script.specs.Machine as machine
 use Rattle.offset_script.proofs.Lists as lists
-use Rattle.offset_calls.specs.Calls.{starts_free, can_shrink, can_grow, resized}
 
 -- lists without a free block at their start
 
@@ -49,47 +36,21 @@ length_without (b ∷ bs) = search (arith, length, false≢true)
 -- what a resized range leaves is well-formed
 pub well_resized : (s : State) → IsWell s → (k n : ℕ) (p : machine.Place) → machine.place_of k s.blocks ≡ Some p → (starts_free p.after ≡ true) ⊎ (is_short_of 1 s ≡ false)
     → IsWell (resized n s p).state
-well_resized s w k n p e fits = well_leaves s w blocks machine.Freed (omega (arith, sizes)) (elim fits [
-  | inl free ↦ (let l = (length_without p.after).1 free in let r = w.room in
-      omega (arith, sizes, l, r, (plain_part left (stamp_of_call s)).3, ap length f.0, length-append p.before (p.block ∷ p.after)))
-  | inr room ↦ (let l = (length_without p.after).0 in let r = leb-false s.limit (length s.blocks + 1) room in
-      omega (arith, sizes, l, r, (plain_part left (stamp_of_call s)).3, ap length f.0, length-append p.before (p.block ∷ p.after)))
-])
-    (apart_append p.before _ parts.0 (
-      ap (λ t. is_free t && lists.starts_free (machine.free_block left (stamp_of_call s) ++ without_start p.after)) tag,
-      apart_free_block left (stamp_of_call s) (without_start p.after)
-          (apart_without p.after parts.1.1) (starts_after p.after parts.1.1),
-    )
-    (ap (λ t. ends_free p.before && is_free t) tag ∙ and_right (ends_free p.before) false refl))
-    (λ t. omega (
-      arith,
-      count-append t p.before (machine.block n p.block.tag ∷ (machine.free_block left (stamp_of_call s) ++ without_start p.after)),
-      count-append t
-          (machine.free_block left (stamp_of_call s)) (without_start p.after),
-      count_free_block t left (stamp_of_call s),
-      count_without t p.after,
-      ap (count t) f.0,
-      count-append t p.before
-          (p.block ∷ p.after),
-    ))
-  where
-    left : ℕ
-    left = p.block.size + free_start p.after - n
-
-    blocks : List machine.Block
-    blocks = p.before ++ (machine.block n p.block.tag ∷ (machine.free_block left (stamp_of_call s) ++ without_start p.after))
-
-    sizes : length blocks ≡ length p.before + suc (length (machine.free_block left (stamp_of_call s)) + length (without_start p.after))
-    sizes = simp length-append
-
-    f : (s.blocks ≡ lists.whole p) × (has_number k p.block.tag ≡ true) × (count (Live k) p.before ≡ 0)
-    f = found_at k s.blocks p e
-
-    tag : p.block.tag ≡ Live k
-    tag = number_of k p.block.tag f.1
-
-    parts : AreApart p.before × (((is_free p.block.tag && lists.starts_free p.after) ≡ false) × AreApart p.after) × ((ends_free p.before && is_free p.block.tag) ≡ false)
-    parts = apart_parts p.before (p.block ∷ p.after) (subst AreApart f.0 w.apart)
+well_resized s w k n p e fits =
+    let left = p.block.size + free_start p.after - n in
+    let blocks = p.before ++ (machine.block n p.block.tag ∷ (machine.free_block left (stamp_of_call s) ++ without_start p.after)) in
+    let sizes : length blocks ≡ length p.before + suc (length (machine.free_block left (stamp_of_call s)) + length (without_start p.after)) = simp length-append in
+    let f = found_at k s.blocks p e in
+    let tag = number_of k p.block.tag f.1 in
+    let parts = apart_parts p.before (p.block ∷ p.after) (subst AreApart f.0 w.apart) in
+    let old = ap length f.0 ∙ length-append p.before (p.block ∷ p.after) in
+    let few = (plain_part left (stamp_of_call s)).3 in
+    let shorter = length_without p.after in
+    let room : length blocks + 1 ≤ s.limit = elim fits [ inl free ↦ omega (arith, shorter.1 free, w.room) | inr room ↦ omega (arith, leb-false s.limit (length s.blocks + 1) room) ] in
+    let start = ap (λ t. is_free t && lists.starts_free (machine.free_block left (stamp_of_call s) ++ without_start p.after)) tag in
+    let rest = apart_free_block left (stamp_of_call s) (without_start p.after) (apart_without p.after parts.1.1) (starts_after p.after parts.1.1) in
+    let apart = apart_append p.before _ parts.0 (start, rest) (ap (λ t. ends_free p.before && is_free t) tag ∙ and_right (ends_free p.before) false refl) in
+    well_leaves s w blocks machine.Freed (omega arith) room apart (λ t. search (arith, f, count-append, count_free_block, count_without))
 
 -- a free block directly after, by names and by tags
 free_some : (ls : List Label) → starts_free (tags ls) ≡ true → named.free_start (names ls) ≢ []
@@ -128,12 +89,8 @@ module _ (v : View) (kept_name : ℕ → Option ℕ) (s : State) (w : IsWellForm
   pub can_shrink_is : (n : ℕ) → n < size_of x v → CanShrink x n v → can_shrink n s (plain_place spot) ≡ true
   can_shrink_is n l c = ap₂ (λ a b. a && b) (le-leb n spot.label.size (let z = size_found in omega arith)) (elim (c.1 l) [
     | inl free ↦ ap (λ b. b || not (is_short_of 1 s)) (some_free spot.after (λ z. free (after_found ∙ z)))
-    | inr room ↦ ap (λ b. starts_free (tags spot.after) || not b) (has_room v kept_name s w ws g 1 room) ∙ or_true (starts_free (tags spot.after))
+    | inr room ↦ ap (λ b. starts_free (tags spot.after) || not b) (has_room v kept_name s w ws g 1 room) ∙ or-true (starts_free (tags spot.after))
   ])
-    where
-      or_true : (b : Bool) → (b || true) ≡ true
-      or_true true = refl
-      or_true false = refl
 
   pub shrink_can : (n : ℕ) → can_shrink n s (plain_place spot) ≡ true → CanShrink x n v
   shrink_can n c =

@@ -1,24 +1,14 @@
 -- Releases in a row: the reply to the call after them.
-use Rattle.std.proofs.Common.{◌≡◌, ℕ, ◌+◌, ◌-◌, ◌≤◌, Bool, not, ◌&&◌, ◌||◌, List, [], ◌∷◌, ◌++◌, sum, Option, Some, None, is_some, nat_eq, nat_le}
-use Rattle.std.proofs.Common.{if◌then◌else◌, refl, sym, ap, ap₂, subst₂, ◌∙◌, inl}
-use Rattle.std.proofs.Common.{inr}
-use Rattle.offset_allocator.specs.declared.reports.Refusal.TheVariants.{Nodes}
-use Rattle.offset_script.specs.Histories.{IsCollapse, collapse, outline, releases}
-use Rattle.offset_script.specs.Machine.{State, start, chosen_place, total, free_sizes, is_short_of, place_of, is_free}
-use Rattle.offset_script.specs.Machine as machine
+use Rattle.offset_calls.proofs.Common.{◌≡◌, ℕ, ◌+◌, ◌-◌, ◌≤◌, Bool, not, ◌&&◌, ◌||◌, List, [], ◌∷◌, sum, Option, None, nat_eq, nat_le, if◌then◌else◌, refl, sym, ap, ap₂, subst₂, ◌∙◌, inl, inr}
+use Rattle.offset_calls.proofs.Common.{IsCollapse, collapse, outline, releases, State, start, is_short_of, place_of, Call, Answer, Compacted, Offset, Refused_for, Outcome, resize, number, moves}
+use Rattle.offset_calls.proofs.Common.{offset_at, reason, step, after, without_offset, arith}
 use Rattle.offset_script.proofs.Commute.{IsSameSpace, releases_outline, releases_scalars, same_next, same_number, some_same}
-use Rattle.offset_script.proofs.Members.{IsIn}
 use Rattle.offset_script.proofs.Pairs.{Kind, Lives, Frees, Pair, left_tag, right_tag, left, right, lefts, rights, IsSamePlace, neither, both, same_free, same_total, same_units, same_short}
 use Rattle.offset_script.proofs.Pairs.{same_free_sizes, same_place_of}
-use Rattle.offset_script.proofs.Similar.{HasSameNumber, paired}
-use Rattle.offset_script.proofs.Tests.{if_same}
-use Rattle.offset_script.proofs.Well.{well_start}
-use Rattle.offset_calls.specs.declared.calls.Call.{Call}
+use Rattle.offset_script.proofs.{Members.IsIn, Similar.HasSameNumber, Similar.paired, Tests.if_same, Well.well_start}
+use Rattle.offset_calls.proofs.{Alike.same_starts, Alike.same_free_start, Followed.well_calls}
+use Rattle.offset_script.specs.Machine as machine
 use Rattle.offset_calls.specs.declared.calls.Call.TheVariants as call
-use Rattle.offset_calls.specs.Calls.{Answer, Compacted, Offset, Refused_for, Outcome, resize, number, move_of, moves, offset_at, shortage, reason, step, after}
-use Rattle.offset_calls.specs.Histories.{without_offset}
-use Rattle.offset_calls.proofs.Alike.{same_starts, same_free_start}
-use Rattle.offset_calls.proofs.Followed.{well_calls}
 
 same_moved : (k : Kind) → HasSameNumber k → number (left_tag k) ≡ number (right_tag k)
 same_moved (Lives i j) e = e
@@ -27,10 +17,9 @@ same_moved (Frees s u) e = refl
 same_moves : (from to : ℕ) (ps : List Pair) → ((q : Pair) → IsIn q ps → HasSameNumber q.kind) → moves from to (lefts ps) ≡ moves from to (rights ps)
 same_moves from to [] h = refl
 same_moves from to (q ∷ ps) h =
-    ap₂ (λ x y. if is_free (left_tag q.kind) then x else move_of from to (left q) ++ y) (same_moves (from + q.size) to ps (λ x i. h x (inr i)))
-    (same_moves (from + q.size) (to + q.size) ps (λ x i. h x (inr i)))
-    ∙ ap₂ (λ (f : Bool) (k : ℕ). if f then moves (from + q.size) to (rights ps) else (if nat_eq from to then [] else record { number = k; from = from; to = to; size = q.size } ∷ [])
-    ++ moves (from + q.size) (to + q.size) (rights ps)) (same_free q.kind) (same_moved q.kind (h q (inl refl)))
+    let stay = same_moves (from + q.size) to ps (λ x i. h x (inr i)) in
+    let move = same_moves (from + q.size) (to + q.size) ps (λ x i. h x (inr i)) in
+    search (arith, stay, move, same_free, (same_moved q.kind (h q (inl refl))))
 
 module _ (s t : State) (a : IsSameSpace s t) where
   short : (k : ℕ) → is_short_of k s ≡ is_short_of k t
@@ -40,8 +29,7 @@ module _ (s t : State) (a : IsSameSpace s t) where
   placed k = subst₂ (λ x y. IsSamePlace (λ q. Unit {0}) a.blocks.pairs (place_of k x) (place_of k y)) (sym a.blocks.left_blocks) (sym a.blocks.right_blocks)
       (same_place_of k k a.blocks.pairs (λ q i. same_number k q.kind (a.blocks.numbers q i)))
 
-  resize_reply : (n : ℕ) (can can' : machine.Place → Bool) (o o' : Option machine.Place) → IsSamePlace (λ q. Unit {0}) a.blocks.pairs o o'
-      → ((xs : List Pair) (q : Pair) (ys : List Pair)
+  resize_reply : (n : ℕ) (can can' : machine.Place → Bool) (o o' : Option machine.Place) → IsSamePlace (λ q. Unit {0}) a.blocks.pairs o o' → ((xs : List Pair) (q : Pair) (ys : List Pair)
       → can (record { before = lefts xs; block = left q; after = lefts ys }) ≡ can' (record { before = rights xs; block = right q; after = rights ys }))
       → without_offset (resize can n s o).reply ≡ without_offset (resize can' n t o').reply
   resize_reply n can can' None None neither same = refl
@@ -53,12 +41,7 @@ module _ (s t : State) (a : IsSameSpace s t) where
   offset_reply o o' (both xs q ys e f) = ap Offset (same_total xs)
 
   reason_reply : (k n : ℕ) → reason k n s ≡ reason k n t
-  reason_reply k n =
-      ap (λ b. if b then Some Nodes else if is_some (chosen_place n s.blocks) then None else Some (shortage n (total s.blocks) (sum (free_sizes s.blocks)))) (short k)
-      ∙ ap₂ (λ b why. if is_short_of k t then Some Nodes else if b then None else Some why)
-      (ap (λ bs. is_some (chosen_place n bs)) a.blocks.left_blocks ∙ some_same n a.blocks.pairs ∙ ap (λ bs. is_some (chosen_place n bs)) (sym a.blocks.right_blocks))
-      (ap₂ (λ size ns. shortage n size (sum ns)) (same_units s t a.blocks.pairs a.limit a.blocks.left_blocks a.blocks.right_blocks)
-      (same_free_sizes s t a.blocks.pairs a.limit a.blocks.left_blocks a.blocks.right_blocks))
+  reason_reply k n = search (arith, short, some_same, same_units, same_free_sizes, sum)
 
   next_reply : (c : Call) → without_offset (step c s).reply ≡ without_offset (step c t).reply
   next_reply (call.Command c) = ap Answer (same_next s t a c)
@@ -78,8 +61,5 @@ pub rows_next : (size limit : ℕ) → 2 ≤ limit → (cs : List Call) (ks : Li
 rows_next size limit h cs ks t is =
     let s = after cs (start size limit) in
     let scalars = releases_scalars ks s in
-    next_reply (machine.after (releases ks) s) t (record {
-      limit = scalars.0 ∙ sym is.limit;
-      grants = scalars.1 ∙ sym is.grants;
-      blocks = paired _ _ (rows_space size limit h cs ks ∙ sym is.blocks);
-    })
+    let same = paired _ _ (rows_space size limit h cs ks ∙ sym is.blocks) in
+    next_reply (machine.after (releases ks) s) t (record { limit = scalars.0 ∙ sym is.limit; grants = scalars.1 ∙ sym is.grants; blocks = same })

@@ -1,29 +1,17 @@
 -- The handles of tickets, and what each call leaves of them.
-use Rattle.std.proofs.Common.{◌≡◌, ◌≢◌, ℕ, zero, suc, ◌+◌, ◌<◌, Bool, ◌&&◌, List, [], ◌∷◌, ◌++◌, length, Option, Some, None, IfSome, is_some, nat_eq, slice_get}
-use Rattle.std.proofs.Common.{slice_index_or, slice_set, option_map, if◌then◌else◌, refl, sym, ap, ap₂, subst, ◌∙◌, inl, inr, arith, length-append}
-use Rattle.std.proofs.lemmas.Bool.{false≢true}
-use Rattle.std.proofs.lemmas.List.{map-append, length-map}
-use Rattle.offset_allocator.specs.View.{Grant, View, free_sizes}
-use Rattle.offset_allocator.specs.Ranges as named
-use Rattle.offset_guarded.specs.declared.ticket.Ticket.{Ticket}
-use Rattle.offset_guarded.specs.Guard.{Guard, AreAlike, Grants, IsLive, IsSame, KeepsAll, KeepsLive, KeepsOthers, KeepsSerials, KeepsSizes, grant_of, range_of, serial_of}
+use Rattle.offset_calls.proofs.Common.{◌≡◌, ◌≢◌, ℕ, zero, suc, ◌+◌, ◌<◌, Bool, ◌&&◌, List, [], ◌∷◌, ◌++◌, length, Option, Some, None, IfSome, is_some, nat_eq, slice_get, slice_index_or, slice_set}
+use Rattle.offset_calls.proofs.Common.{option_map, if◌then◌else◌, refl, sym, ap, ap₂, subst, ◌∙◌, inl, inr, arith, length-append, false≢true, map-append, length-map, Grant, View, Ticket, Guard}
+use Rattle.offset_calls.proofs.Common.{AreAlike, Grants, IsLive, IsSame, KeepsAll, KeepsLive, KeepsOthers, KeepsSerials, KeepsSizes, grant_of, range_of, serial_of, Extends, Frees, Resets, Command}
+use Rattle.offset_calls.proofs.Common.{kept_name, IsKept, blocks_needed, units_needed, Call, Answer, Refused_for, renumber, IsReason, AreInOrder, IsGrown, IsLedger, IsStored, Serves, IsNumberOf}
+use Rattle.offset_calls.proofs.Common.{handle_of, handles_of, live_name, ticket_of}
+use Rattle.offset_allocator.specs.{View.free_sizes, Reports.rows_below, declared.reports.Refusal.Refusal}
 use Rattle.offset_guarded.proofs.Guards.{live_fits}
-use Rattle.offset_allocator.specs.Reports.{rows_below}
-use Rattle.offset_allocator.specs.Relations.{Extends, Frees, Resets}
-use Rattle.offset_script.specs.declared.scripts.Command.{Command}
+use Rattle.offset_script.proofs.Simulation.{if_some}
+use Rattle.offset_allocator.specs.Ranges as named
 use Rattle.offset_script.specs.declared.scripts.Command.TheVariants as command
-use Rattle.offset_script.specs.Steps.{kept_name, IsKept}
 use Rattle.offset_script.specs.Histories as script
 use Rattle.offset_script.specs.Machine as machine
-use Rattle.offset_script.proofs.Simulation.{if_some}
 use Rattle.offset_calls.specs.declared.calls.Call.TheVariants as call
-use Rattle.offset_allocator.specs.declared.reports.Refusal.{Refusal}
-use Rattle.offset_allocator.specs.Requests.{blocks_needed, units_needed}
-use Rattle.offset_calls.specs.declared.calls.Call.{Call}
-use Rattle.offset_calls.specs.Calls.{Answer, Refused_for}
-use Rattle.offset_calls.specs.Histories.{renumber}
-use Rattle.offset_calls.specs.Steps.{IsReason}
-use Rattle.offset_calls.specs.Tickets.{AreInOrder, IsGrown, IsLedger, IsStored, Serves, IsNumberOf, handle_of, handles_of, live_name, ticket_of}
 
 -- ---- tickets in order
 
@@ -60,8 +48,7 @@ pub alike_range : (t u : Ticket) (g : Guard) → AreAlike t u → range_of t g �
 alike_range t u g a = ap₂ (λ x b. if b then named.range_of x g.space else None) a.0 (ap₂ (λ r c. nat_eq r g.realm && c) a.2 (ap₂ nat_eq a.1 (ap (λ x. serial_of x g) a.0)))
 
 -- the handle of a ticket that is freed is removed
-pub freed_handles : (g h : Guard) (t u : Ticket) (realm n : ℕ) (ts : List Ticket) (i : ℕ) → AreInOrder realm n ts → slice_get ts i ≡ Some u → AreAlike u t
-    → KeepsOthers t g h → range_of t h ≡ None
+pub freed_handles : (g h : Guard) (t u : Ticket) (realm n : ℕ) (ts : List Ticket) (i : ℕ) → AreInOrder realm n ts → slice_get ts i ≡ Some u → AreAlike u t → KeepsOthers t g h → range_of t h ≡ None
     → handles_of h ts ≡ slice_set (handles_of g ts) i None
 freed_handles g h t u realm n [] i o e a k gone = absurd (cc)
 freed_handles g h t u realm n (x ∷ ts) zero o e a k gone =
@@ -143,8 +130,7 @@ pub alike : (t u : Ticket) (g : Guard) → IsLive t g → IsLive u g → u.name 
 alike t u g lt lu e = search (arith, live_fits)
 
 -- a release
-pub freed : (g h : Guard) (ts : List Ticket) (t : Ticket) (k : ℕ) → IsLedger g ts → IsNumberOf k (Some t) g ts → IsLive t g → Frees t.name g.space h.space
-    → KeepsOthers t g h → range_of t h ≡ None
+pub freed : (g h : Guard) (ts : List Ticket) (t : Ticket) (k : ℕ) → IsLedger g ts → IsNumberOf k (Some t) g ts → IsLive t g → Frees t.name g.space h.space → KeepsOthers t g h → range_of t h ≡ None
     → h ≡ record g { space = h.space }
     → Serves (call.Command (command.Free k)) g ts h ts (Answer machine.Freed)
 freed g h ts t k is is_number live frees others gone same = search (arith, if_some, same_ledger, live_named_by, kept_ticket, slice_set, freed_handles, alike)

@@ -1,35 +1,22 @@
 -- What each call of the allocator leaves agrees with what the plain machine leaves, and the answers are the same.
-use Rattle.std.proofs.Common.{◌≡◌, ℕ, zero, suc, ◌+◌, ◌-◌, ◌<◌, ◌≤◌, Bool, true, false, not, ◌&&◌, ◌||◌, ◌⊎◌, List, [], ◌∷◌, ◌++◌, replicate, length}
-use Rattle.std.proofs.Common.{sum, Option, Some, None, nat_eq, nat_lt, nat_le}
-use Rattle.std.proofs.Common.{if◌then◌else◌, refl, sym, ap, ap₂, subst, ◌∙◌, inl, inr, arith, eq-eqb, ne_eqb, le-leb, le-ltb, leb-false, append_assoc, append-nil}
-use Rattle.offset_script.proofs.Tests.{same_some}
-use Rattle.std.specs.Option.{option_or}
-use Rattle.offset_allocator.proofs.ViewApart.{and_true}
-use Rattle.std.proofs.lemmas.Bool.{cases_eq, cases_lt, true≢false, false≢true, lt-leb, ltb-true, ltb-false, and_parts, and_right, or_parts, not-false}
-use Rattle.offset_allocator.specs.Classes.{up, down}
-use Rattle.offset_allocator.specs.Reports.{largest, rows_below}
-use Rattle.offset_script.specs.declared.scripts.Command.TheVariants as command
-use Rattle.offset_script.specs.Machine.{Live, Free, is_free, has_number, stamp, total, chosen_place, State, Answer, step, returns_only, leaves, stamp_of_padding, stamp_of_call}
-use Rattle.offset_script.specs.Machine as machine
-use Rattle.offset_allocator.specs.View.{Block, View, Place, Grant, place_of, units, used_block, free_block, free_part, bin_at, push_all, IsWellFormed, replace, max_size, padding_to}
-use Rattle.offset_allocator.specs.View as named
-use Rattle.offset_allocator.proofs.Reading.{size_at}
-use Rattle.offset_allocator.specs.Requests.{HasRoomFor, CanGrant, blocks_needed, units_needed}
-use Rattle.offset_allocator.specs.Relations.{SameSpace, Serves, Frees, Adds, CanExtend, Extends}
+use Rattle.offset_script.proofs.Common.{◌≡◌, ℕ, zero, suc, ◌+◌, ◌-◌, ◌<◌, ◌≤◌, Bool, true, false, not, ◌&&◌, ◌||◌, ◌⊎◌, List, [], ◌∷◌, ◌++◌, replicate, length, sum, Option, Some, None, nat_eq, nat_lt}
+use Rattle.offset_script.proofs.Common.{nat_le, if◌then◌else◌, refl, sym, ap, ap₂, subst, ◌∙◌, inl, inr, arith, eq-eqb, ne_eqb, le-leb, le-ltb, leb-false, append_assoc, append-nil, option_or}
+use Rattle.offset_script.proofs.Common.{cases_eq, cases_lt, true≢false, false≢true, lt-leb, ltb-true, ltb-false, and_parts, and_right, or_parts, not-false, up, down, rows_below, Live, Free, is_free}
+use Rattle.offset_script.proofs.Common.{has_number, stamp, total, chosen_place, State, Answer, step, returns_only, leaves, stamp_of_padding, stamp_of_call, View, Grant, units, used_block, free_part}
+use Rattle.offset_script.proofs.Common.{bin_at, push_all, IsWellFormed, replace, max_size, padding_to, SameSpace, Serves, Frees, Adds, CanExtend, Extends, AllByRecursion, map-append, length-map}
+use Rattle.offset_script.proofs.Common.{length-replicate, nil_from_length, cond_both}
 use Rattle.offset_script.proofs.Agreement.{Label, by_name, by_tag, stamp_of, IsFalling, name_of, HasBlocksOf}
 use Rattle.offset_script.proofs.Lists.{number_of, count, count-append, hit, hit_self, apart_parts, end_of, start_of, coalesce_parts}
-use Rattle.offset_script.proofs.Found.{found_at, not_found, chosen_at}
-use Rattle.offset_script.proofs.Well.{IsWell, not_there}
-use Rattle.offset_script.proofs.Lists as lists
-use Rattle.std.specs.List.{AllByRecursion}
-use Rattle.std.proofs.lemmas.List.{map-append, length-map, get_or-replicate, get_or_past, length-replicate}
-use Rattle.offset_allocator.proofs.Tallies.{tally_append}
-use Rattle.offset_allocator.proofs.ViewOrders.{names_same, names_other}
-use Rattle.offset_allocator.proofs.Classes.{down_small, fits_size}
-use Rattle.offset_script.proofs.Members.{map_parts, map_first}
 use Rattle.offset_script.proofs.Labels.{names, tags, map_three, stamps_below, AreRising, newest_replaced}
 use Rattle.offset_script.proofs.Chosen.{Spot, whole, place_at, named_spot, plain_spot, named_place, plain_place, IsLabelled, none_chosen, chosen, place_of_spot}
 use Rattle.offset_script.proofs.Ends.{AreFree, free_named, free_tagged, apart_tagged, ends_live_last, last_free, total_units, free_sizes_labels, or_none, name_append, name_skip, name_free, name_none}
+use Rattle.offset_script.proofs.{Tests.if_same, Tests.same_some, Found.found_at, Found.not_found, Found.chosen_at, Well.IsWell, Well.not_there, Members.map_parts, Members.map_first}
+use Rattle.offset_allocator.proofs.{Emptied.none_at, ViewApart.and_true, Reading.size_at, Tallies.tally_append, ViewOrders.names_same, ViewOrders.names_other, Classes.down_small, Classes.fits_size}
+use Rattle.offset_allocator.specs.{View.Block, View.Place, View.place_of, View.free_block, Requests.HasRoomFor, Requests.CanGrant, Requests.blocks_needed, Requests.units_needed}
+use Rattle.offset_script.specs.declared.scripts.Command.TheVariants as command
+use Rattle.offset_script.specs.Machine as machine
+use Rattle.offset_allocator.specs.View as named
+use Rattle.offset_script.proofs.Lists as lists
 
 -- the answer to a request, when g grants were made before it
 abbrev pub answer_of : ℕ → Option Grant → Answer
@@ -131,85 +118,52 @@ module _ (v : View) (kept_name : ℕ → Option ℕ) (s : State) (w : IsWellForm
         → SameSpace (record (replace v (names before) (names old) (names new) (names after)) { size = size }) u
         → (t : State) → t.limit ≡ s.limit → t.blocks ≡ tags (before ++ (new ++ after)) → AreRising (stamp_of_padding s) new
         → (kept_name' : ℕ → Option ℕ) → ((j : ℕ) → kept_name' j ≡ name_of j (before ++ (new ++ after))) → HasBlocksOf u kept_name' t
-    agrees_replaced size before old new after e same t limit state rises kept_name' handles = record {
-      labels = before ++ (new ++ after);
-      view = view;
-      state = state;
-      limit = limit ∙ g.limit ∙ sym (ap (λ (x : View). x.max_allocs) same);
-      newest = λ c. subst (λ o. IsFalling (λ x. stamp_of x (before ++ (new ++ after))) (bin_at o c)) (sym (ap (λ (x : View). x.order) same))
-          (newest_replaced v before old new after w (g.view ∙ ap names e) (λ x. subst (λ bs. named.count_named x bs ≤ 1) view (w'.distinct x)) (stamp_of_padding s)
-          (low _ e) rises (newest_at _ e) c);
-      handles = handles;
-    }
-      where
-        view : u.blocks ≡ names (before ++ (new ++ after))
-        view = ap (λ (x : View). x.blocks) same ∙ sym (map_three by_name before new after)
+    agrees_replaced size before old new after e same t limit state rises kept_name' handles =
+        let view : u.blocks ≡ names (before ++ (new ++ after)) = ap (λ (x : View). x.blocks) same ∙ sym (map_three by_name before new after) in
+        let fall = newest_replaced v before old new after w (g.view ∙ ap names e) (λ x. subst (λ bs. named.count_named x bs ≤ 1) view (w'.distinct x)) (stamp_of_padding s) (low _ e) rises
+        (newest_at _ e) in
+        let newest = λ (c : ℕ). subst (λ o. IsFalling (λ x. stamp_of x (before ++ (new ++ after))) (bin_at o c)) (sym (ap (λ (x : View). x.order) same)) (fall c) in
+        let limit = limit ∙ g.limit ∙ sym (ap (λ (x : View). x.max_allocs) same) in
+        record { labels = before ++ (new ++ after); view = view; state = state; limit = limit; newest = newest; handles = handles }
 
     -- a grant
     grant_agrees : (n padding remainder front rest : ℕ) (sp : Spot) → g.labels ≡ whole sp → is_free sp.label.tag ≡ true → padding + n + remainder ≡ sp.label.size
         → SameSpace (replace v (names sp.before) (by_name sp.label ∷ []) (free_part front padding ++ used_block sp.label.name n ∷ free_part rest remainder) (names sp.after)) u
         → HasBlocksOf u (with_name (s.grants + 1) sp.label.name kept_name) (machine.grant s n padding (plain_place sp)).state
-    grant_agrees n padding remainder front rest sp e f fill same = agrees_replaced v.size sp.before (sp.label ∷ []) new sp.after e
+    grant_agrees n padding remainder front rest sp e f fill same =
+        let k = s.grants + 1 in
+        let left = sp.label.size - (padding + n) in
+        let left_is : left ≡ remainder = omega arith in
+        let new = new_labels front padding sp.label.name n k rest left (stamp_of_padding s) in
+        let names_are = names_new front padding sp.label.name n k rest left (stamp_of_padding s) ∙ ap (λ m. free_part front padding ++ used_block sp.label.name n ∷ free_part rest m) left_is in
+        let none = not_there s ws (Live k) (λ o. absurd (let l = o.1 in omega arith)) in
+        let parts = ap (count (Live k)) (g.state ∙ ap tags e ∙ map-append by_tag sp.before (sp.label ∷ sp.after)) in
+        let first = name_none k sp.before (omega (arith, count-append (Live k) (tags sp.before) (tags (sp.label ∷ sp.after)))) in
+        let handles : (j : ℕ) → with_name k sp.label.name kept_name j ≡ name_of j (sp.before ++ (new ++ sp.after)) =
+        λ j. search (arith, cases_eq, name_of, eq-eqb, name_append, first, name_new, ne_eqb, name_replaced, name_skip) in
+        agrees_replaced v.size sp.before (sp.label ∷ []) new sp.after e
         (subst (λ put. SameSpace (replace v (names sp.before) (by_name sp.label ∷ []) put (names sp.after)) u) (sym names_are) same) _ refl
         (ap (λ z. tags sp.before ++ z) (sym (append_assoc (machine.free_block padding (stamp_of_padding s)) (machine.block n (Live k) ∷ machine.free_block left (stamp_of_call s)) (tags sp.after)))
         ∙ sym (map_three by_tag sp.before new sp.after ∙ ap (λ z. tags sp.before ++ (z ++ tags sp.after)) (tags_new front padding sp.label.name n k rest left (stamp_of_padding s))))
         (rises_new front padding sp.label.name n k rest left (stamp_of_padding s)) _ handles
-      where
-        k : ℕ
-        k = s.grants + 1
-
-        left : ℕ
-        left = sp.label.size - (padding + n)
-
-        new : List Label
-        new = new_labels front padding sp.label.name n k rest left (stamp_of_padding s)
-
-        names_are : names new ≡ free_part front padding ++ used_block sp.label.name n ∷ free_part rest remainder
-        names_are = names_new front padding sp.label.name n k rest left (stamp_of_padding s) ∙ ap (λ m. free_part front padding ++ used_block sp.label.name n ∷ free_part rest m) (omega arith)
-
-        first : name_of k sp.before ≡ None
-        first = name_none k sp.before
-            (omega (
-              arith,
-              not_there s ws (Live k) (λ o. absurd (let l = o.1 in omega arith)),
-              ap (count (Live k)) (g.state ∙ ap tags e ∙ map-append by_tag sp.before (sp.label ∷ sp.after)),
-              count-append (Live k) (tags sp.before) (tags (sp.label ∷ sp.after)),
-            ))
-
-        handles : (j : ℕ) → with_name k sp.label.name kept_name j ≡ name_of j (sp.before ++ (new ++ sp.after))
-        handles j = search (arith, cases_eq, k, name_of, new, eq-eqb, name_append, first, name_new, left, ne_eqb, name_replaced, name_skip)
 
     -- what becomes free, between lists that end and start with free blocks
-    coalesced_agrees : (front before left old back right after : List Label) (x n size : ℕ) → g.labels ≡ front ++ (old ++ back) → front ≡ before ++ left
-        → back ≡ right ++ after → AreFree left
+    coalesced_agrees : (front before left old back right after : List Label) (x n size : ℕ) → g.labels ≡ front ++ (old ++ back) → front ≡ before ++ left → back ≡ right ++ after → AreFree left
         → AreFree right
         → SameSpace (record (replace v (names before) (names (left ++ (old ++ right))) (free_block x (total (tags left) + n + total (tags right)) ∷ []) (names after)) { size = size }) u
         → (kept_name' : ℕ → Option ℕ) → ((j : ℕ) → kept_name' j ≡ option_or (name_of j front) (name_of j back)) → (a : Answer)
         → HasBlocksOf u kept_name' (leaves s (machine.coalesce (tags front) n (stamp_of_call s) (tags back)) a).state
     coalesced_agrees front before left old back right after x n size e at_front at_back fl fr same kept_name' handles a =
+        let l : Label = record { name = x; size = total (tags left) + n + total (tags right); tag = Free (stamp_of_call s) } in
+        let parted : g.labels ≡ before ++ ((left ++ (old ++ right)) ++ after) = e ∙ ap₂ (λ y z. y ++ (old ++ z)) at_front at_back ∙ simp append_assoc in
+        let parts = λ (xs ys : List Label) (h : lists.AreApart (tags (xs ++ ys))). apart_parts (tags xs) (tags ys) (subst lists.AreApart (map-append by_tag xs ys) h) in
+        let apart = (parts (left ++ (old ++ right)) after (parts before ((left ++ (old ++ right)) ++ after) (subst lists.AreApart (g.state ∙ ap tags parted) ws.apart)).1).0 in
+        let named_apart = subst named.IsApart (ap (λ (x : View). x.blocks) same ∙ sym (map-append by_name before (l ∷ after))) w'.apart in
+        let apart' = parts before (l ∷ after) (apart_tagged (before ++ (l ∷ after)) named_apart) in
+        let state : machine.coalesce (tags front) n (stamp_of_call s) (tags back) ≡ tags (before ++ (l ∷ after)) =
+        search (arith, tags, map-append, by_tag, left, coalesce_parts, end_of, free_tagged, parts, apart, and_true, apart', start_of) in
         agrees_replaced size before (left ++ (old ++ right)) (l ∷ []) after parted same _ refl state (λ e. absurd (true≢false e), λ e. (omega arith, tt)) kept_name'
-        (λ j. handles j ∙ ap₂ option_or (ap (name_of j) at_front ∙ name_append j before left ∙ ap (option_or (name_of j before)) (name_free j left fl) ∙ or_none _)
-        (ap (name_of j) at_back ∙ name_append j right after ∙ ap (λ o. option_or o (name_of j after)) (name_free j right fr)) ∙ sym (name_append j before (l ∷ after)))
-      where
-        l : Label
-        l = record { name = x; size = total (tags left) + n + total (tags right); tag = Free (stamp_of_call s) }
-
-        parted : g.labels ≡ before ++ ((left ++ (old ++ right)) ++ after)
-        parted = e ∙ ap₂ (λ y z. y ++ (old ++ z)) at_front at_back ∙ simp append_assoc
-
-        parts : (xs ys : List Label) → lists.AreApart (tags (xs ++ ys)) → lists.AreApart (tags xs) × lists.AreApart (tags ys)
-            × ((lists.ends_free (tags xs) && lists.starts_free (tags ys)) ≡ false)
-        parts xs ys h = apart_parts (tags xs) (tags ys) (subst lists.AreApart (map-append by_tag xs ys) h)
-
-        apart : lists.AreApart (tags (left ++ (old ++ right)))
-        apart = (parts (left ++ (old ++ right)) after (parts before ((left ++ (old ++ right)) ++ after) (subst lists.AreApart (g.state ∙ ap tags parted) ws.apart)).1).0
-
-        apart' : lists.AreApart (tags before) × lists.AreApart (tags (l ∷ after)) × ((lists.ends_free (tags before) && true) ≡ false)
-        apart' = parts before (l ∷ after) (apart_tagged (before ++ (l ∷ after))
-            (subst named.IsApart (ap (λ (x : View). x.blocks) same ∙ sym (map-append by_name before (l ∷ after))) w'.apart))
-
-        state : machine.coalesce (tags front) n (stamp_of_call s) (tags back) ≡ tags (before ++ (l ∷ after))
-        state = search (arith, tags, map-append, by_tag, left, coalesce_parts, end_of, free_tagged, parts, apart, and_true, apart', start_of, l)
+        (λ j. search (arith, handles, name_append, name_free, or_none))
 
   pub same_length : length v.blocks ≡ length s.blocks
   same_length = ap length g.view ∙ (length-map g.labels by_name ∙ sym (length-map g.labels by_tag)) ∙ sym (ap length g.state)
@@ -247,12 +201,10 @@ module _ (v : View) (kept_name : ℕ → Option ℕ) (s : State) (w : IsWellForm
         let t = e.1 in
         let c = chosen v w g.labels labelled needed n padding_at u a t in
         let at = subst (IsGrantAt a t.padding t.remainder t.padding_name t.remainder_name) (sym c.place) (t.grant, t.padded, t.whole, t.view) in
-        subst (IsMatch u kept_name s.grants (Some a)) (sym (granted_is e.0 t.padding c.spot c.is at.1)) (record {
-          answer = ap (machine.Grant (s.grants + 1)) (ap (λ m. m + t.padding) (total_units c.spot.before) ∙ sym (ap (λ (a : Grant). a.offset) at.0));
-          agrees = subst (λ x. HasBlocksOf u (with_name (s.grants + 1) x kept_name) (machine.grant s n t.padding (plain_place c.spot)).state) (sym (ap (λ (a : Grant). a.name) at.0))
-              (grant_agrees u w' n t.padding t.remainder t.padding_name t.remainder_name c.spot c.split c.free at.2 at.3);
-          grants_after = refl;
-        })
+        let answer = ap (machine.Grant (s.grants + 1)) (ap (λ m. m + t.padding) (total_units c.spot.before) ∙ sym (ap (λ (a : Grant). a.offset) at.0)) in
+        let agrees = subst (λ x. HasBlocksOf u (with_name (s.grants + 1) x kept_name) (machine.grant s n t.padding (plain_place c.spot)).state) (sym (ap (λ (a : Grant). a.name) at.0))
+        (grant_agrees u w' n t.padding t.remainder t.padding_name t.remainder_name c.spot c.split c.free at.2 at.3) in
+        subst (IsMatch u kept_name s.grants (Some a)) (sym (granted_is e.0 t.padding c.spot c.is at.1)) (record { answer = answer; agrees = agrees; grants_after = refl })
 
   -- an aligned request
   request_alike : (blocks blocks' needed needed' n : ℕ) (padding_at padding_at' : ℕ → ℕ) → blocks ≡ blocks' → needed ≡ needed' → ((o : ℕ) → padding_at o ≡ padding_at' o)
@@ -271,22 +223,7 @@ module _ (v : View) (kept_name : ℕ → Option ℕ) (s : State) (w : IsWellForm
       total_middle (x ∷ xs) b ys = let ih = total_middle xs b ys in omega arith
 
   aligned_is : (n align : ℕ) → 1 ≤ align → step (command.Align n align) s ≡ machine.request s (blocks_needed align) (units_needed n align) n (padding_to align)
-  aligned_is n align some = elim (cases_lt 1 align) [
-    | inl l ↦ ap (λ (b : Bool). if b then machine.allocate n s else large (nat_lt max_size (n + align - 1))) (lt-leb align 1 l) ∙ go (nat_lt max_size (n + align - 1)) refl
-        ∙ ap (λ k. machine.request s k (units_needed n align) n (padding_to align)) (let e : 2 ≡ blocks_needed align = omega arith in e)
-    | inr l ↦ ap (λ (b : Bool). if b then machine.allocate n s else large (nat_lt max_size (n + align - 1))) (le-leb align 1 l)
-        ∙ request_alike 1 (blocks_needed align) n (units_needed n align) n (λ offset. 0) (padding_to align) (omega arith) (omega arith) (λ o. omega arith)
-  ]
-    where
-      large : Bool → machine.Outcome
-      large b = if b then returns_only s machine.Refused else machine.request s 2 (n + align - 1) n (padding_to align)
-
-      go : (b : Bool) → nat_lt max_size (n + align - 1) ≡ b → large b ≡ machine.request s 2 (n + align - 1) n (padding_to align)
-      go true e = elim (machine.is_short_of 2 s) as (λ b. returns_only s machine.Refused ≡ (if b then returns_only s machine.Refused else returns_only s machine.Refused))
-          [ true ↦ refl | false ↦ refl ] ∙ ap (λ (o : Option machine.Place). if machine.is_short_of 2 s then returns_only s machine.Refused else
-          machine.grant_or_refuse s n (padding_to align) o)
-          (sym (too_large (n + align - 1) (ltb-true max_size (n + align - 1) e) (chosen_place (n + align - 1) s.blocks) refl))
-      go false e = refl
+  aligned_is n align some = search (arith, cases_lt, lt-leb, le-leb, cond_both, too_large, request_alike, chosen_place, ltb-true)
 
   pub aligned_agrees : (n align : ℕ) → 1 ≤ align → (u : View) → IsWellFormed u → (r : Option Grant) → Serves (blocks_needed align) (units_needed n align) n (padding_to align) v u r
       → IsMatch u kept_name s.grants r (step (command.Align n align) s)
@@ -306,12 +243,9 @@ module _ (v : View) (kept_name : ℕ → Option ℕ) (s : State) (w : IsWellForm
       let h = found_at k s.blocks p e in
       let r = plain_spot g.labels p (sym g.state ∙ h.0) in
       let tag = number_of k r.0.label.tag (ap (λ (q : machine.Place). has_number k q.block.tag) r.2 ∙ h.1) in
-      let first = name_none k r.0.before (ap (λ (q : machine.Place). count (Live k) q.before) r.2 ∙ h.2) in (
-        r.0.label.name,
-        g.handles k ∙ ap (name_of k) r.1 ∙ name_append k r.0.before (r.0.label ∷ r.0.after) ∙ ap (λ o. option_or o (name_of k (r.0.label ∷ r.0.after))) first
-            ∙ ap (λ t. if has_number k t then Some r.0.label.name else name_of k r.0.after) tag ∙ ap (λ (b : Bool). if b then Some r.0.label.name else name_of k r.0.after) (eq-eqb k k refl),
-        record { spot = r.0; split = r.1; tag = tag; named = place_of_spot v w r.0 (g.view ∙ ap names r.1); placed = e ∙ ap Some (sym r.2); first = first },
-      )
+      let first = name_none k r.0.before (ap (λ (q : machine.Place). count (Live k) q.before) r.2 ∙ h.2) in
+      let is : kept_name k ≡ Some r.0.label.name = search (arith, g.handles, r.1, name_append, first, tag, eq-eqb) in
+      (r.0.label.name, is, record { spot = r.0; split = r.1; tag = tag; named = place_of_spot v w r.0 (g.view ∙ ap names r.1); placed = e ∙ ap Some (sym r.2); first = first })
 
   pub live_at : (k x : ℕ) → kept_name k ≡ Some x → LiveAt k x
   live_at k x e = search (arith, k, name_none, count, not_found, live_spot)
@@ -337,68 +271,35 @@ module _ (v : View) (kept_name : ℕ → Option ℕ) (s : State) (w : IsWellForm
   pub free_agrees : (k x : ℕ) → kept_name k ≡ Some x → (u : View) → IsWellFormed u → Frees x v u
       → ((step (command.Free k) s).answer ≡ machine.Freed) × HasBlocksOf u (without_name k kept_name) (step (command.Free k) s).state × ((step (command.Free k) s).state.grants ≡ s.grants)
   free_agrees k x e u w' f =
+      let l = live_at k x e in
+      let sp = l.spot in
+      let r = named_spot g.labels (place_at (f.before ++ f.left) f.block (f.right ++ f.after)) (sym g.view ∙ f.blocks ∙ simp append_assoc) in
+      let place = same_some (named_place sp) (named_place r.0)
+      (sym l.named ∙ ap (λ y. place_of y v.blocks) (sym f.named ∙ sym (ap (λ (p : Place). p.block.name) r.2)) ∙ place_of_spot v w r.0 (g.view ∙ ap names r.1)) ∙ r.2 in
+      let front = map_parts by_name sp.before f.before f.left (ap (λ (p : Place). p.before) place) in
+      let back = map_parts by_name sp.after f.right f.after (ap (λ (p : Place). p.after) place) in
+      let free = free_named front.1 back.0 (subst (AllByRecursion (λ b. b.used ≡ false)) (sym (ap₂ (λ y z. y ++ z) front.4 back.3)) f.free) in
+      let sizes : units (names front.1 ++ (by_name sp.label ∷ names back.0)) ≡ total (tags front.1) + sp.label.size + total (tags back.0) =
+      omega (arith, tally_append (λ (b : Block). b.size) (names front.1) (by_name sp.label ∷ names back.0), total_units front.1, total_units back.0) in
+      let same : SameSpace (replace v (names front.0) (names (front.1 ++ (sp.label ∷ back.0))) (free_block x (total (tags front.1) + sp.label.size + total (tags back.0)) ∷ []) (names back.1)) u =
+      search (arith, names, front, tags, back, map-append, by_name, sizes, place) in
+      let later : name_of k sp.after ≡ None = search (arith, name_none, count, tags, l, map-append, by_tag, count-append, hit, hit_self) in
+      let handles : (j : ℕ) → without_name k kept_name j ≡ option_or (name_of j sp.before) (name_of j sp.after) = λ j. search (arith, cases_eq, eq-eqb, name_of, l, later, ne_eqb, name_append) in
+      let agrees = coalesced_agrees u w' sp.before front.0 front.1 (sp.label ∷ []) sp.after back.0 back.1 x sp.label.size v.size l.split front.2 back.2 free.0 free.1 same (without_name k kept_name)
+      handles machine.Freed in
       subst (λ (o : Option machine.Place). ((machine.release s o).answer ≡ machine.Freed) × HasBlocksOf u (without_name k kept_name) (machine.release s o).state
-      × ((machine.release s o).state.grants ≡ s.grants)) (sym l.placed) (
-        refl,
-        coalesced_agrees u w' sp.before front.0 front.1 (sp.label ∷ []) sp.after back.0 back.1 x sp.label.size v.size l.split front.2 back.2 free.0 free.1 same (without_name k kept_name) handles
-            machine.Freed,
-        refl,
-      )
-    where
-      l : LiveAt k x
-      l = live_at k x e
-
-      sp : Spot
-      sp = l.spot
-
-      whole_is : v.blocks ≡ (f.before ++ f.left) ++ f.block ∷ (f.right ++ f.after)
-      whole_is = f.blocks ∙ simp append_assoc
-
-      place : named_place sp ≡ place_at (f.before ++ f.left) f.block (f.right ++ f.after)
-      place =
-          let r = named_spot g.labels (place_at (f.before ++ f.left) f.block (f.right ++ f.after)) (sym g.view ∙ whole_is) in
-          same_some (named_place sp) (named_place r.0)
-          (sym l.named ∙ ap (λ y. place_of y v.blocks) (sym f.named ∙ sym (ap (λ (p : Place). p.block.name) r.2)) ∙ place_of_spot v w r.0 (g.view ∙ ap names r.1)) ∙ r.2
-
-      front : (xs : List Label) × (ys : List Label) × (sp.before ≡ xs ++ ys) × (names xs ≡ f.before) × (names ys ≡ f.left)
-      front = map_parts by_name sp.before f.before f.left (ap (λ (p : Place). p.before) place)
-
-      back : (xs : List Label) × (ys : List Label) × (sp.after ≡ xs ++ ys) × (names xs ≡ f.right) × (names ys ≡ f.after)
-      back = map_parts by_name sp.after f.right f.after (ap (λ (p : Place). p.after) place)
-
-      free : AreFree front.1 × AreFree back.0
-      free = free_named front.1 back.0 (subst (AllByRecursion (λ b. b.used ≡ false)) (sym (ap₂ (λ y z. y ++ z) front.4 back.3)) f.free)
-
-      sizes : units (names front.1 ++ (by_name sp.label ∷ names back.0)) ≡ total (tags front.1) + sp.label.size + total (tags back.0)
-      sizes = omega (arith, tally_append (λ (b : Block). b.size) (names front.1) (by_name sp.label ∷ names back.0), total_units front.1, total_units back.0)
-
-      same : SameSpace (replace v (names front.0) (names (front.1 ++ (sp.label ∷ back.0))) (free_block x (total (tags front.1) + sp.label.size + total (tags back.0)) ∷ []) (names back.1)) u
-      same = search (arith, names, front, tags, sp, back, map-append, by_name, sizes, place)
-
-      later : name_of k sp.after ≡ None
-      later = search (arith, name_none, k, sp, count, tags, l, map-append, by_tag, count-append, hit, hit_self)
-
-      handles : (j : ℕ) → without_name k kept_name j ≡ option_or (name_of j sp.before) (name_of j sp.after)
-      handles j = search (arith, cases_eq, k, eq-eqb, name_of, sp, l, later, ne_eqb, name_append)
+      × ((machine.release s o).state.grants ≡ s.grants)) (sym l.placed) (refl, agrees, refl)
 
   -- more units at the end
   added_agrees : (more : ℕ) (u : View) → IsWellFormed u → Adds more v u → HasBlocksOf u kept_name (leaves s (machine.coalesce s.blocks more (stamp_of_call s) []) machine.Extended).state
   added_agrees more u w' f =
+      let p = map_parts by_name g.labels f.before f.last (sym g.view ∙ f.blocks) in
+      let free = (free_named p.1 [] (subst (AllByRecursion (λ b. b.used ≡ false)) (sym (append-nil (names p.1) ∙ p.4)) f.free)).0 in
+      let sizes : units (names p.1) + more ≡ total (tags p.1) + more + 0 = omega (arith, total_units p.1) in
+      let same : SameSpace (record (replace v (names p.0) (names (p.1 ++ [])) (free_block f.name (total (tags p.1) + more + 0) ∷ []) []) { size = v.size + more }) u =
+      search (arith, names, p, append-nil, sizes) in
       subst (λ bs. HasBlocksOf u kept_name (leaves s (machine.coalesce bs more (stamp_of_call s) []) machine.Extended).state) (sym g.state)
-      (coalesced_agrees u w' g.labels p.0 p.1 [] [] [] [] f.name more (v.size + more) (sym (append-nil g.labels)) p.2 refl free tt same kept_name (λ j. g.handles j
-      ∙ sym (or_none _)) machine.Extended)
-    where
-      p : (xs : List Label) × (ys : List Label) × (g.labels ≡ xs ++ ys) × (names xs ≡ f.before) × (names ys ≡ f.last)
-      p = map_parts by_name g.labels f.before f.last (sym g.view ∙ f.blocks)
-
-      free : AreFree p.1
-      free = (free_named p.1 [] (subst (AllByRecursion (λ b. b.used ≡ false)) (sym (append-nil (names p.1) ∙ p.4)) f.free)).0
-
-      sizes : units (names p.1) + more ≡ total (tags p.1) + more + 0
-      sizes = omega (arith, total_units p.1)
-
-      same : SameSpace (record (replace v (names p.0) (names (p.1 ++ [])) (free_block f.name (total (tags p.1) + more + 0) ∷ []) []) { size = v.size + more }) u
-      same = search (arith, names, p, append-nil, sizes)
+      (coalesced_agrees u w' g.labels p.0 p.1 [] [] [] [] f.name more (v.size + more) (sym (append-nil g.labels)) p.2 refl free tt same kept_name (λ j. g.handles j ∙ sym (or_none _)) machine.Extended)
 
   -- when the machine refuses to extend
   abbrev is_refused : ℕ → Bool
@@ -411,13 +312,9 @@ module _ (v : View) (kept_name : ℕ → Option ℕ) (s : State) (w : IsWellForm
         let r = map_parts by_name g.labels l.0 (l.1 ∷ []) (sym g.view ∙ l.2) in
         let h = map_first by_name r.1 l.1 [] r.4 in
         ap (λ (b : Bool). b && machine.is_short_of 1 s)
-        (ap machine.ends_live (g.state ∙ ap tags (r.2 ∙ ap (λ z. r.0 ++ z) (h.2 ∙ ap (λ z. h.0 ∷ z) (none h.1 h.4)))) ∙ ends_live_last r.0 h.0
+        (ap machine.ends_live (g.state ∙ ap tags (r.2 ∙ ap (λ z. r.0 ++ z) (h.2 ∙ ap (λ z. h.0 ∷ z) (nil_from_length h.1 (sym (length-map h.1 by_name) ∙ ap length h.4))))) ∙ ends_live_last r.0 h.0
         ∙ ap not (not-false _ (ap (λ (b : Block). b.used) h.3 ∙ l.3)))
   ])
-    where
-      none : (ls : List Label) → names ls ≡ [] → ls ≡ []
-      none [] e = refl
-      none (l ∷ ls) e = absurd cc
 
   can_extend : (more : ℕ) → is_refused more ≡ false → CanExtend more v
   can_extend more e = (
@@ -445,10 +342,7 @@ module _ (v : View) (kept_name : ℕ → Option ℕ) (s : State) (w : IsWellForm
   same_sizes = ap machine.free_sizes g.state ∙ free_sizes_labels g.labels ∙ sym (ap named.free_sizes g.view)
 
   pub report_agrees : (step command.Report s).answer ≡ machine.Report (named.total_free v) (named.largest_free v)
-  report_agrees = ap₂ (λ (b : Bool) ns. if b then machine.Report 0 0 else machine.Report (sum ns) (largest ns)) (ap₂ (λ m n. nat_le m (n + 1)) g.limit (sym same_length)) same_sizes
-      ∙ elim (named.is_full v)
-      as (λ b. (if b then machine.Report 0 0 else machine.Report (sum (named.free_sizes v.blocks)) (largest (named.free_sizes v.blocks)))
-      ≡ machine.Report (if b then 0 else sum (named.free_sizes v.blocks)) (if b then 0 else largest (named.free_sizes v.blocks))) [ true ↦ refl | false ↦ refl ]
+  report_agrees = search (arith, if_same, same_length, same_sizes, g.limit, sum)
 
   pub full_agrees : (step command.Full s).answer ≡ machine.Full (rows_below 256 (named.free_sizes v.blocks))
   full_agrees = ap (λ ns. machine.Full (rows_below 256 ns)) same_sizes
@@ -458,26 +352,17 @@ pub agrees_kept : (v : View) (kept_name kept_name' : ℕ → Option ℕ) (s : St
 agrees_kept v kept_name kept_name' s e g = record { labels = g.labels; view = g.view; state = g.state; limit = g.limit; newest = g.newest; handles = λ k. e k ∙ g.handles k }
 
 -- one free block and no grants
-pub alone_agrees : (v : View) (x size stamp : ℕ) (kept_name : ℕ → Option ℕ) (s : State) → v.blocks ≡ free_block x size ∷ []
-    → v.order ≡ push_all (free_block x size ∷ []) (replicate 256 [])
+pub alone_agrees : (v : View) (x size stamp : ℕ) (kept_name : ℕ → Option ℕ) (s : State) → v.blocks ≡ free_block x size ∷ [] → v.order ≡ push_all (free_block x size ∷ []) (replicate 256 [])
     → s.limit ≡ v.max_allocs → s.blocks ≡ machine.block size (Free stamp) ∷ []
     → ((k : ℕ) → kept_name k ≡ None) → HasBlocksOf v kept_name s
-alone_agrees v x size stamp kept_name s blocks order limit state none = record {
-  labels = (record { name = x; size = size; tag = Free stamp }) ∷ [];
-  view = blocks;
-  state = state;
-  limit = limit;
-  newest = λ c. subst (λ o. IsFalling f (bin_at o c)) (sym order) (elim (cases_eq c (down size)) [
-    | inl e ↦ subst (λ d. IsFalling f (bin_at (push_all (free_block x size ∷ []) (replicate 256 [])) d)) (sym e)
-        (subst (IsFalling f) (sym (names_same (replicate 256 []) (down size) _ (length-replicate {A = List ℕ} 256 []) (down_small size)))
-        (subst (λ l. IsFalling f (x ∷ l)) (sym (empty (down size))) ((λ y m. absurd (omega arith)), tt)))
-    | inr n ↦ subst (IsFalling f) (sym (names_other (replicate 256 []) (down size) c _ n ∙ empty c)) tt
-  ]);
-  handles = none;
-}
-  where
-    f : ℕ → ℕ
-    f y = stamp_of y ((record { name = x; size = size; tag = Free stamp }) ∷ [])
-
-    empty : (c : ℕ) → bin_at (replicate 256 []) c ≡ []
-    empty c = elim (cases_lt c 256) [ inl l ↦ get_or-replicate 256 c [] [] l | inr l ↦ get_or_past (replicate 256 []) c [] l ]
+alone_agrees v x size stamp kept_name s blocks order limit state none =
+    let l : Label = record { name = x; size = size; tag = Free stamp } in
+    let f = λ (y : ℕ). stamp_of y (l ∷ []) in
+    let pushed : (c : ℕ) → IsFalling f (bin_at (push_all (free_block x size ∷ []) (replicate 256 [])) c) = λ c. elim (cases_eq c (down size)) [
+      | inl e ↦ subst (λ d. IsFalling f (bin_at (push_all (free_block x size ∷ []) (replicate 256 [])) d)) (sym e)
+          (subst (IsFalling f) (sym (names_same (replicate 256 []) (down size) _ (length-replicate {A = List ℕ} 256 []) (down_small size)))
+          (subst (λ l. IsFalling f (x ∷ l)) (sym (none_at (down size))) ((λ y m. absurd (omega arith)), tt)))
+      | inr n ↦ subst (IsFalling f) (sym (names_other (replicate 256 []) (down size) c _ n ∙ none_at c)) tt
+    ] in
+    let newest = λ (c : ℕ). subst (λ o. IsFalling f (bin_at o c)) (sym order) (pushed c) in
+    record { labels = l ∷ []; view = blocks; state = state; limit = limit; newest = newest; handles = none }

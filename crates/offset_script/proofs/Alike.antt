@@ -1,21 +1,13 @@
 -- Two states that differ only in numbers, and in stamps of the same order in each class, return the same answers.
-use Rattle.std.proofs.Common.{◌≡◌, ℕ, zero, suc, ◌+◌, ◌-◌, ◌*◌, ◌<◌, ◌≤◌, true, ◌⊎◌, List, [], ◌∷◌, ◌++◌, map, Option, None, nat_eq, nat_lt, refl, sym}
-use Rattle.std.proofs.Common.{ap, ap₂, subst, subst₂}
-use Rattle.std.proofs.Common.{⊎_elim, ◌∙◌, inl, inr, arith, lt-ltb, le-ltb, sum}
-use Rattle.offset_script.specs.declared.scripts.Command.{Command}
-use Rattle.offset_script.specs.declared.scripts.Command.TheVariants as command
-use Rattle.offset_script.specs.Machine.{Free, Block, block, has_number, total, Place, fits, chosen_place, place_of, coalesce, State, Answer, Outcome, step, answers, after, request, grant}
-use Rattle.offset_script.specs.Machine.{grant_or_refuse, returns_only, leaves, release, size_at, report, reset, extend, stamp_of_call}
-use Rattle.offset_allocator.specs.View.{padding_to}
-use Rattle.offset_script.specs.Machine as machine
-use Rattle.offset_allocator.specs.Reports.{rows_below}
-use Rattle.offset_script.proofs.Members.{IsIn, in_left, in_right}
+use Rattle.offset_script.proofs.Common.{◌≡◌, ℕ, zero, suc, ◌+◌, ◌-◌, ◌*◌, ◌<◌, ◌≤◌, true, ◌⊎◌, List, [], ◌∷◌, ◌++◌, map, Option, None, nat_eq, nat_lt, refl, sym, ap, ap₂, subst, subst₂, ⊎_elim, ◌∙◌}
+use Rattle.offset_script.proofs.Common.{inl, inr, arith, lt-ltb, le-ltb, sum, Command, Free, Block, block, has_number, total, Place, fits, chosen_place, place_of, coalesce, State, Answer, Outcome}
+use Rattle.offset_script.proofs.Common.{step, answers, request, grant, grant_or_refuse, returns_only, leaves, release, size_at, report, reset, extend, stamp_of_call, padding_to, rows_below, cases_lt}
+use Rattle.offset_script.proofs.Common.{nat_tests, renumber, raise_number}
 use Rattle.offset_script.proofs.Pairs.{Kind, Lives, Frees, Pair, pair, left_tag, right_tag, left, right, lefts, rights, AreAgreed, AreAllAgreed, IsSameOrder, IsSamePlace, neither, both, same_total}
 use Rattle.offset_script.proofs.Pairs.{same_short, same_units, same_free_sizes, same_refusal, both_coalesced, same_place_of, same_chosen, pairs_granted, in_granted, lefts_granted, rights_granted}
-use Rattle.std.proofs.lemmas.Bool.{cases_lt}
-use Rattle.std.proofs.lemmas.Bool.Decides.{nat_tests}
-use Rattle.offset_script.specs.Histories.{renumber, raise_number}
-use Rattle.offset_script.proofs.Tests.{if_same}
+use Rattle.offset_script.proofs.{Members.IsIn, Members.in_parts, Tests.if_same}
+use Rattle.offset_script.specs.declared.scripts.Command.TheVariants as command
+use Rattle.offset_script.specs.Machine as machine
 
 -- Numbers are changed by r, and stamps are below x and below y.
 abbrev pub IsMatched : (ℕ → ℕ) → ℕ → ℕ → Kind → Type 0
@@ -44,19 +36,16 @@ fresh_order : (x y s u t v a b : ℕ) → s ≡ 2 * (x + 1) + a → u ≡ 2 * (y
 fresh_order x y s u t v a b m m' n n' = search (arith, cases_lt, lt-ltb, le-ltb)
 
 old_before_fresh : (r : ℕ → ℕ) (g h x y : ℕ) (a b : Kind) → IsMatched r (2 * (x + 1)) (2 * (y + 1)) a → IsFreshKind g h x y b → IsSameOrder a b
-old_before_fresh r g h x y (Lives i j) b m n = tt
-old_before_fresh r g h x y (Frees s u) (Lives i j) m n = tt
 old_before_fresh r g h x y (Frees s u) (Frees t v) m n = lt-ltb s t (omega arith) ∙ sym (lt-ltb u v (omega arith))
+old_before_fresh r g h x y a b m n = tt
 
 fresh_after_old : (r : ℕ → ℕ) (g h x y : ℕ) (a b : Kind) → IsFreshKind g h x y a → IsMatched r (2 * (x + 1)) (2 * (y + 1)) b → IsSameOrder a b
-fresh_after_old r g h x y (Lives i j) b m n = tt
-fresh_after_old r g h x y (Frees s u) (Lives i j) m n = tt
 fresh_after_old r g h x y (Frees s u) (Frees t v) m n = le-ltb s t (omega arith) ∙ sym (le-ltb u v (omega arith))
+fresh_after_old r g h x y a b m n = tt
 
 both_fresh : (g h x y : ℕ) (a b : Kind) → IsFreshKind g h x y a → IsFreshKind g h x y b → IsSameOrder a b
-both_fresh g h x y (Lives i j) b m n = tt
-both_fresh g h x y (Frees s u) (Lives i j) m n = tt
 both_fresh g h x y (Frees s u) (Frees t v) m n = fresh_order x y s u t v m.0 n.0 m.2 m.3 n.2 n.3
+both_fresh g h x y a b m n = tt
 
 -- a pair that a call leaves is matched at the next call
 pub matched_in_new : (r : ℕ → ℕ) (d g h x y : ℕ) → g ≡ h + d → ((k : ℕ) → k ≤ g → r k ≤ h) → ((k : ℕ) → g < k → r k + d ≡ k)
@@ -89,17 +78,12 @@ past_in_new r d x y g h k past future from e l = search (arith, cases_lt)
 pub keeps_alike : (r : ℕ → ℕ) (d : ℕ) (s t : State) → (a : IsAlike r d s t) → (p : List Pair) (g h : ℕ) (bs cs : List Block) → bs ≡ lefts p → cs ≡ rights p → IsLeft r d s t a p
     → s.grants ≤ g → t.grants ≤ h → g ≡ h + d
     → IsAlike r d (record { limit = s.limit; blocks = bs; calls = s.calls + 1; grants = g }) (record { limit = t.limit; blocks = cs; calls = t.calls + 1; grants = h })
-keeps_alike r d s t a p g h bs cs on_left on_right each from from' e = record {
-  limit = a.limit;
-  pairs = p;
-  left_blocks = on_left;
-  right_blocks = on_right;
-  matched = λ q i. matched_in_new r d s.grants t.grants s.calls t.calls a.grants a.past a.future q.kind (either r d s t a q (each q i));
-  agree = λ x y i j. agree_in_new r d s t a x y (each x i) (each y j);
-  grants = e;
-  past = λ k l. past_in_new r d s.grants t.grants g h k a.past a.future from' e l;
-  future = λ k l. a.future k (omega arith);
-}
+keeps_alike r d s t a p g h bs cs on_left on_right each from from' e =
+    let matched = λ (q : Pair) (i : IsIn q p). matched_in_new r d s.grants t.grants s.calls t.calls a.grants a.past a.future q.kind (either r d s t a q (each q i)) in
+    let agree = λ (x y : Pair) (i : IsIn x p) (j : IsIn y p). agree_in_new r d s t a x y (each x i) (each y j) in
+    let past = λ (k : ℕ) (l : k ≤ g). past_in_new r d s.grants t.grants g h k a.past a.future from' e l in
+    let future = λ (k : ℕ) (l : g < k). a.future k (omega arith) in
+    record { limit = a.limit; pairs = p; left_blocks = on_left; right_blocks = on_right; matched = matched; agree = agree; grants = e; past = past; future = future }
 
 -- the same answer, except for the number of a grant, and states that are alike again
 pub record IsSameOutcome (r : ℕ → ℕ) (d : ℕ) (o p : Outcome) : Type 0 where
@@ -110,8 +94,7 @@ pub same_quiet : (r : ℕ → ℕ) (d : ℕ) (s t : State) → IsAlike r d s t �
 same_quiet r d s t a x y e =
     record { answer = e; state = keeps_alike r d s t a a.pairs s.grants t.grants s.blocks t.blocks a.left_blocks a.right_blocks (λ q i. inl i) (omega arith) (omega arith) a.grants }
 
-pub same_leaves : (r : ℕ → ℕ) (d : ℕ) (s t : State) (a : IsAlike r d s t) (x y : Answer) (p : List Pair) (bs cs : List Block) → x ≡ raise_number d y → bs ≡ lefts p
-    → cs ≡ rights p → IsLeft r d s t a p
+pub same_leaves : (r : ℕ → ℕ) (d : ℕ) (s t : State) (a : IsAlike r d s t) (x y : Answer) (p : List Pair) (bs cs : List Block) → x ≡ raise_number d y → bs ≡ lefts p → cs ≡ rights p → IsLeft r d s t a p
     → IsSameOutcome r d (leaves s bs x) (leaves t cs y)
 same_leaves r d s t a x y p bs cs e on_left on_right each = record { answer = e; state = keeps_alike r d s t a p s.grants t.grants bs cs on_left on_right each (omega arith) (omega arith) a.grants }
 
@@ -122,29 +105,20 @@ fresh_kinds g h x y q (inl e) = subst (IsFreshKind g h x y) (sym e) (0, omega ar
 fresh_kinds g h x y q (inr (inl e)) = subst (IsFreshKind g h x y) (sym e) (refl, refl)
 fresh_kinds g h x y q (inr (inr e)) = subst (IsFreshKind g h x y) (sym e) (1, omega arith, omega arith, omega arith)
 
-left_granted : (r : ℕ → ℕ) (d : ℕ) (s t : State) (a : IsAlike r d s t) (ps : List Pair) (q : Pair) → a.pairs ≡ ps
-    → IsIn q ps ⊎ ((q.kind ≡ Frees (2 * (s.calls + 1)) (2 * (t.calls + 1))) ⊎ (q.kind ≡ Lives (s.grants + 1) (t.grants + 1))
-    ⊎ (q.kind ≡ Frees (2 * (s.calls + 1) + 1) (2 * (t.calls + 1) + 1)))
-    → IsIn q a.pairs ⊎ IsFreshKind s.grants t.grants s.calls t.calls q.kind
-left_granted r d s t a ps q e (inl i) = inl (subst (IsIn q) (sym e) i)
-left_granted r d s t a ps q e (inr f) = inr (fresh_kinds s.grants t.grants s.calls t.calls q f)
-
 same_grant : (r : ℕ → ℕ) (d : ℕ) (s t : State) (a : IsAlike r d s t) (n padding : ℕ) (xs : List Pair) (q : Pair) (ys : List Pair) → a.pairs ≡ xs ++ q ∷ ys
     → IsSameOutcome r d (grant s n padding (record { before = lefts xs; block = left q; after = lefts ys })) (grant t n padding (record { before = rights xs; block = right q; after = rights ys }))
 same_grant r d s t a n padding xs q ys e =
     let front = Frees (2 * (s.calls + 1)) (2 * (t.calls + 1)) in
     let live = Lives (s.grants + 1) (t.grants + 1) in
     let rest = Frees (2 * (s.calls + 1) + 1) (2 * (t.calls + 1) + 1) in
-    record {
-      answer = ap₂ machine.Grant (omega (arith, a.grants)) (ap (λ n. n + padding) (same_total xs));
-      state = keeps_alike r d s t a (pairs_granted xs q ys n padding front live rest) (s.grants + 1) (t.grants + 1) _ _
-          (sym (lefts_granted xs q ys n padding _ _ _ _ _ _)) (sym (rights_granted xs q ys n padding _ _ _ _ _ _))
-          (λ x i. left_granted r d s t a (xs ++ q ∷ ys) x e (in_granted x xs q ys n padding front live rest i))
-          (omega arith) (omega arith) (omega (arith, a.grants));
-    }
+    let kept = λ (x : Pair) (i : IsIn x (pairs_granted xs q ys n padding front live rest)). ⊎_elim {C = IsIn x a.pairs ⊎ IsFreshKind s.grants t.grants s.calls t.calls x.kind}
+    (λ h. inl (subst (IsIn x) (sym e) h)) (λ f. inr (fresh_kinds s.grants t.grants s.calls t.calls x f)) (in_granted x xs q ys n padding front live rest i) in
+    let answer = ap₂ machine.Grant (omega (arith, a.grants)) (ap (λ n. n + padding) (same_total xs)) in
+    let state = keeps_alike r d s t a (pairs_granted xs q ys n padding front live rest) (s.grants + 1) (t.grants + 1) _ _ (sym (lefts_granted xs q ys n padding _ _ _ _ _ _))
+    (sym (rights_granted xs q ys n padding _ _ _ _ _ _)) kept (omega arith) (omega arith) (omega (arith, a.grants)) in
+    record { answer = answer; state = state }
 
-same_granted : (r : ℕ → ℕ) (d : ℕ) (s t : State) (a : IsAlike r d s t) (n needed : ℕ) (padding_at : ℕ → ℕ) (o o' : Option Place)
-    → IsSamePlace (λ x. fits needed (left x) ≡ true) a.pairs o o'
+same_granted : (r : ℕ → ℕ) (d : ℕ) (s t : State) (a : IsAlike r d s t) (n needed : ℕ) (padding_at : ℕ → ℕ) (o o' : Option Place) → IsSamePlace (λ x. fits needed (left x) ≡ true) a.pairs o o'
     → IsSameOutcome r d (grant_or_refuse s n padding_at o) (grant_or_refuse t n padding_at o')
 same_granted r d s t a n needed padding_at None None neither = same_quiet r d s t a _ _ refl
 same_granted r d s t a n needed padding_at o o' (both xs q ys e f) =
@@ -167,21 +141,12 @@ pub same_placed : (r : ℕ → ℕ) (d : ℕ) (s t : State) (a : IsAlike r d s t
 same_placed r d s t a k = subst₂ (λ x y. IsSamePlace (λ q. Unit {0}) a.pairs (place_of k x) (place_of (r k) y)) (sym a.left_blocks) (sym a.right_blocks)
     (same_place_of k (r k) a.pairs (λ q i. same_number r _ _ k q.kind (a.matched q i)))
 
-pub left_released : (r : ℕ → ℕ) (d : ℕ) (s t : State) (a : IsAlike r d s t) (q : Pair) → IsIn q a.pairs ⊎ (q.kind ≡ Frees (2 * (s.calls + 1) + 1) (2 * (t.calls + 1) + 1))
-    → IsIn q a.pairs ⊎ IsFreshKind s.grants t.grants s.calls t.calls q.kind
-left_released r d s t a q (inl i) = inl i
-left_released r d s t a q (inr e) = inr (fresh_kinds s.grants t.grants s.calls t.calls q (inr (inr e)))
-
 same_coalesce : (r : ℕ → ℕ) (d : ℕ) (s t : State) (a : IsAlike r d s t) (x : Answer) (ps : List Pair) (n : ℕ) (qs : List Pair) → x ≡ raise_number d x
     → ((q : Pair) → IsIn q ps ⊎ IsIn q qs → IsIn q a.pairs)
     → IsSameOutcome r d (leaves s (coalesce (lefts ps) n (stamp_of_call s) (lefts qs)) x) (leaves t (coalesce (rights ps) n (stamp_of_call t) (rights qs)) x)
 same_coalesce r d s t a x ps n qs e old =
     let c = both_coalesced ps n (2 * (s.calls + 1) + 1) (2 * (t.calls + 1) + 1) qs in
-    same_leaves r d s t a x x c.pairs _ _ e c.on_left c.on_right (λ q i. left_released r d s t a q (elim (c.old q i) [ inl h ↦ inl (old q h) | inr h ↦ inr h ]))
-
-in_parts : (x : Pair) (xs : List Pair) (q : Pair) (ys : List Pair) → IsIn x xs ⊎ IsIn x ys → IsIn x (xs ++ q ∷ ys)
-in_parts x xs q ys (inl i) = in_left x xs _ i
-in_parts x xs q ys (inr i) = in_right x xs _ (inr i)
+    same_leaves r d s t a x x c.pairs _ _ e c.on_left c.on_right (λ q i. elim (c.old q i) [ inl h ↦ inl (old q h) | inr h ↦ inr (fresh_kinds s.grants t.grants s.calls t.calls q (inr (inr h))) ])
 
 same_released : (r : ℕ → ℕ) (d : ℕ) (s t : State) (a : IsAlike r d s t) (o o' : Option Place) → IsSamePlace (λ q. Unit {0}) a.pairs o o' → IsSameOutcome r d (release s o) (release t o')
 same_released r d s t a None None neither = same_quiet r d s t a _ _ refl
@@ -198,11 +163,7 @@ same_reset : (r : ℕ → ℕ) (d : ℕ) (s t : State) (a : IsAlike r d s t) →
 same_reset r d s t a =
     let q = pair (total s.blocks) (Frees (2 * (s.calls + 1) + 1) (2 * (t.calls + 1) + 1)) in
     same_leaves r d s t a _ _ (q ∷ []) _ _ refl refl (ap (λ n. block n (Free (stamp_of_call t)) ∷ []) (sym (same_units s t a.pairs a.limit a.left_blocks a.right_blocks)))
-    (λ x i. left_released r d s t a x (inr (only x q i)))
-  where
-    only : (x q : Pair) → IsIn x (q ∷ []) → x.kind ≡ q.kind
-    only x q (inl e) = ap (λ (z : Pair). z.kind) e
-    only x q (inr h) = absurd h
+    (λ x i. inr (fresh_kinds s.grants t.grants s.calls t.calls x (inr (inr (⊎_elim (λ e. ap (λ (z : Pair). z.kind) e) (λ h. absurd h) i)))))
 
 same_extend : (r : ℕ → ℕ) (d : ℕ) (s t : State) (a : IsAlike r d s t) (more : ℕ) → IsSameOutcome r d (extend more s) (extend more t)
 same_extend r d s t a zero = same_quiet r d s t a _ _ refl

@@ -1,44 +1,28 @@
 -- A question leaves no trace.
-use Rattle.std.proofs.Common.{◌≡◌, ℕ, ◌-◌, ◌≤◌, List, [], ◌∷◌, ◌++◌, map, refl, ap, subst, ◌∙◌, arith}
-use Rattle.offset_script.specs.declared.scripts.Command.{Command}
+use Rattle.offset_script.proofs.Common.{◌≡◌, ℕ, ◌-◌, ◌≤◌, List, [], ◌∷◌, ◌++◌, map, refl, ap, subst, ◌∙◌, arith, Command, State, start, step, answers, after, is_short_of, place_of, renumber}
+use Rattle.offset_script.proofs.Common.{raise_number, number_without, KeepsSpace, IsQuestion}
+use Rattle.offset_script.proofs.{Members.map_same, Fresh.raise_none, Fresh.renumber_same, Nests.IsQuiet, Nests.quiet_size, Nests.quiet_report, Nests.number_without_none, Nests.nest_law}
 use Rattle.offset_script.specs.declared.scripts.Command.TheVariants as command
-use Rattle.offset_script.specs.Machine.{State, start, step, answers, after, is_short_of, place_of}
-use Rattle.offset_script.specs.Histories.{renumber, raise_number, number_without, KeepsSpace, IsQuestion}
 use Rattle.offset_script.specs.Histories as history
-use Rattle.offset_script.proofs.Members.{map_same}
-use Rattle.offset_script.proofs.Fresh.{raise_none, renumber_same}
-use Rattle.offset_script.proofs.Nests.{IsQuiet, quiet_size, quiet_report, number_without_none, nest_law}
 
 as_before : (g : ℕ) (cs : List Command) (s : State) (j : ℕ) → j ≡ 0 → map (raise_number j) (answers (map (renumber (number_without g j)) cs) s) ≡ answers cs s
 as_before g cs s j e = rw e (map_same (raise_number 0) raise_none _ ∙ ap (λ l. answers l s) (map_same (renumber (number_without g 0)) (renumber_same _ (number_without_none g)) cs))
 
 -- a question is a nest
-question_keeps_space : (q : Command) → IsQuestion q → KeepsSpace q
-question_keeps_space (command.Size k) h = tt
-question_keeps_space command.Report h = tt
-question_keeps_space command.Full h = tt
-question_keeps_space other h = absurd h
-
-quiet : (q : Command) (s : State) → IsQuestion q → IsQuiet (step q s).answer
-quiet (command.Size k) s h = quiet_size (place_of k s.blocks)
-quiet command.Report s h = quiet_report (is_short_of 1 s) _ _
-quiet command.Full s h = tt
+quiet : (q : Command) (s : State) → IsQuestion q → KeepsSpace q × IsQuiet (step q s).answer × ((step q s).state.grants - s.grants ≡ 0)
+quiet (command.Size k) s h = (tt, quiet_size (place_of k s.blocks), omega arith)
+quiet command.Report s h = (tt, quiet_report (is_short_of 1 s) _ _, omega arith)
+quiet command.Full s h = (tt, tt, omega arith)
 quiet other s h = absurd h
-
-no_grants : (q : Command) (s : State) → IsQuestion q → (step q s).state.grants - s.grants ≡ 0
-no_grants (command.Size k) s h = omega arith
-no_grants command.Report s h = omega arith
-no_grants command.Full s h = omega arith
-no_grants other s h = absurd h
 
 -- commands after a question have the same answers as without it
 pub after_question : (size limit : ℕ) → 2 ≤ limit → (before : List Command) (q : Command) → IsQuestion q → (rest : List Command)
     → answers rest (step q (after before (start size limit))).state ≡ answers rest (after before (start size limit))
 after_question size limit h before q asks rest =
     let s = after before (start size limit) in
-    nest_law size limit h before (q ∷ []) (history.quiet (question_keeps_space q asks)
-    (λ k g. subst IsQuiet g.1 (quiet q s asks)) (λ e. subst IsQuiet e (quiet q s asks)) history.done) rest
-    ∙ as_before s.grants rest s ((step q s).state.grants - s.grants) (no_grants q s asks)
+    let asked = quiet q s asks in
+    nest_law size limit h before (q ∷ []) (history.quiet asked.0 (λ k g. subst IsQuiet g.1 asked.1) (λ e. subst IsQuiet e asked.1) history.done) rest
+    ∙ as_before s.grants rest s ((step q s).state.grants - s.grants) asked.2
 
 pub answers-append : (xs ys : List Command) (s : State) → answers (xs ++ ys) s ≡ answers xs s ++ answers ys (after xs s)
 answers-append [] ys s = refl

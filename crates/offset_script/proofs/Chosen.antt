@@ -1,21 +1,12 @@
 -- The plain machine chooses the block that a grant splits: the newest of the smallest class that fits.
-use Rattle.std.proofs.Common.{◌≡◌, ◌≢◌, ℕ, ◌<◌, ◌≤◌, true, false, not, List, [], ◌∷◌, ◌++◌, Option, Some, None, nat_eq, nat_lt, nat_le, refl, sym, ap, ap₂, subst}
-use Rattle.std.proofs.Common.{◌∙◌, inl, inr, arith, eq-eqb}
-use Rattle.std.proofs.Common.{le-leb, lt-ltb, leb-true}
-use Rattle.offset_script.proofs.Tests.{same_some}
-use Rattle.std.proofs.lemmas.List.{map-append}
-use Rattle.std.proofs.lemmas.Bool.{cases_eq, cases_lt, true≢false, and_parts, not-false, or_right}
-use Rattle.offset_allocator.specs.Classes.{up, down}
-use Rattle.offset_script.specs.Machine.{is_free, stamp, fits, is_taken_before, chosen_place}
-use Rattle.offset_script.specs.Machine as plain
-use Rattle.offset_allocator.specs.View.{Block, View, Place, Grant, place_of, one, times, count_named, bin_at, IsWellFormed}
-use Rattle.offset_allocator.specs.Relations.{Splits}
+use Rattle.offset_script.proofs.Common.{◌≡◌, ◌≢◌, ℕ, ◌<◌, ◌≤◌, true, false, not, List, [], ◌∷◌, ◌++◌, Option, Some, None, nat_eq, nat_lt, nat_le, refl, sym, ap, ap₂, subst, ◌∙◌, inl, arith, eq-eqb}
+use Rattle.offset_script.proofs.Common.{le-leb, lt-ltb, leb-true, map-append, cases_eq, cases_lt, true≢false, and_parts, not-false, or_right, up, down, is_free, stamp, fits, is_taken_before}
+use Rattle.offset_script.proofs.Common.{chosen_place, View, Grant, one, times, count_named, bin_at, IsWellFormed, Splits}
 use Rattle.offset_script.proofs.Agreement.{Label, by_name, by_tag, stamp_of, IsFalling}
-use Rattle.offset_script.proofs.Found.{chosen_at, not_chosen}
-use Rattle.offset_allocator.proofs.ViewSteps.{place_here}
-use Rattle.offset_script.proofs.Members.{IsIn, in_right, map_split}
-use Rattle.offset_script.proofs.Labels.{names, tags, gives_parts, gives_all}
-use Rattle.offset_allocator.proofs.Tallies.{tally_append, hit_cases, one-same}
+use Rattle.offset_script.proofs.{Tests.same_some, Found.chosen_at, Found.not_chosen, Members.IsIn, Members.in_right, Members.map_split, Labels.names, Labels.tags, Labels.gives_parts, Labels.gives_all}
+use Rattle.offset_allocator.specs.View.{Block, Place, place_of}
+use Rattle.offset_allocator.proofs.{ViewSteps.place_here, Tallies.tally_append, Tallies.hit_cases, Tallies.one-same}
+use Rattle.offset_script.specs.Machine as plain
 
 -- a list of labels, split at one
 pub record Spot : Type 0 where
@@ -70,14 +61,9 @@ pub record IsLabelled (v : View) (ls : List Label) : Type 0 where
 -- no block before a spot has its name
 pub alone_before : (v : View) → IsWellFormed v → (s : Spot) → v.blocks ≡ names (whole s) → count_named s.label.name (names s.before) ≡ 0
 alone_before v w s e =
-    omega (
-      arith,
-      one-same s.label.name,
-      w.distinct s.label.name,
-      ap (count_named s.label.name) (e ∙ names_whole s),
-      tally_append (λ (b : Block). one (nat_eq s.label.name b.name)) (names s.before)
-          (by_name s.label ∷ names s.after),
-    )
+    let d = w.distinct s.label.name in
+    let n = tally_append (λ (b : Block). one (nat_eq s.label.name b.name)) (names s.before) (by_name s.label ∷ names s.after) in
+    omega (arith, one-same s.label.name, ap (count_named s.label.name) (e ∙ names_whole s))
 
 -- a spot is the place of its name
 pub place_of_spot : (v : View) → IsWellFormed v → (s : Spot) → v.blocks ≡ names (whole s) → place_of s.label.name v.blocks ≡ Some (named_place s)
@@ -124,28 +110,13 @@ module _ (v : View) (w : IsWellFormed v) (ls : List Label) (a : IsLabelled v ls)
     -- it is the first of its bin, and of another block that is chosen over all, this one has the name
     same_name : (s l : Spot) → ls ≡ whole s → named_place s ≡ place_at t.before t.block t.after → ls ≡ whole l → is_free l.label.tag ≡ true → up n ≤ down l.label.size
         → is_taken_before (by_tag s.label) (by_tag l.label) ≡ false → s.label.name ≡ l.label.name
-    same_name s l es place el fl cl best = elim (cases_eq s.label.name l.label.name) [
-      | inl e ↦ e
-      | inr d ↦ absurd (elim (cases_lt (down s.label.size) (down l.label.size)) [
-        | inl less ↦ true≢false (sym (rw (lt-ltb (down s.label.size) (down l.label.size) less) refl) ∙ best)
-        | inr more ↦ elim (cases_lt (down l.label.size) (down s.label.size)) [
-          | inl less ↦ let none = t.smallest (down l.label.size) cl (let k = class in omega arith) in let one_there = listed in omega (arith, ap (times l.label.name) none)
-          | inr same ↦ true≢false (sym (newer_before s.label l.label (omega arith) (newer d (omega arith))) ∙ best)
-        ]
-      ])
-    ]
-      where
-        class : down s.label.size ≡ down t.block.size
-        class = ap (λ (p : Place). down p.block.size) place
-
-        name : s.label.name ≡ t.block.name
-        name = ap (λ (p : Place). p.block.name) place
-
-        listed : 1 ≤ times l.label.name (bin_at v.order (down l.label.size))
-        listed = listed_spot v w l (a.view ∙ ap names el) fl
-
-        newer : s.label.name ≢ l.label.name → down s.label.size ≡ down l.label.size → stamp l.label.tag < stamp s.label.tag
-        newer d e = search (arith, class, stamp_of, hit_cases, name, listed, spot_stamp, names)
+    same_name s l es place el fl cl best =
+        let class : down s.label.size ≡ down t.block.size = ap (λ (p : Place). down p.block.size) place in
+        let name : s.label.name ≡ t.block.name = ap (λ (p : Place). p.block.name) place in
+        let listed = listed_spot v w l (a.view ∙ ap names el) fl in
+        let newer : s.label.name ≢ l.label.name → down s.label.size ≡ down l.label.size → stamp l.label.tag < stamp s.label.tag =
+        λ d e. search (arith, class, stamp_of, hit_cases, name, listed, spot_stamp, names) in
+        search (arith, cases_eq, cases_lt, lt-ltb, newer_before, newer, listed, class, t.smallest, times)
 
     -- the machine chooses it
     pub record Choice : Type 0 where
@@ -155,27 +126,24 @@ module _ (v : View) (w : IsWellFormed v) (ls : List Label) (a : IsLabelled v ls)
       pub free : is_free spot.label.tag ≡ true
       pub is : chosen_place n (tags ls) ≡ Some (plain_place spot)
 
-    choice_if : (o : Option plain.Place) → chosen_place n (tags ls) ≡ o → Choice
-    choice_if o e = go o e
+    pub chosen : Choice
+    chosen = go (chosen_place n (tags ls)) refl
       where
-        s : (s : Spot) × (ls ≡ whole s) × (named_place s ≡ place_at t.before t.block t.after) × (is_free s.label.tag ≡ true)
-        s = taken_spot
+        s : Spot
+        s = taken_spot.0
 
-        there : IsIn (by_tag s.0.label) (tags ls)
-        there = subst (λ xs. IsIn (by_tag s.0.label) (tags xs)) (sym s.1) (occurs_spot s.0)
+        there : IsIn (by_tag s.label) (tags ls)
+        there = subst (λ xs. IsIn (by_tag s.label) (tags xs)) (sym taken_spot.1) (occurs_spot s)
 
-        fit : fits n (by_tag s.0.label) ≡ true
-        fit = rw (s.3, le-leb (up n) (down s.0.label.size) (let e = ap (λ (p : Place). down p.block.size) s.2 in let c = t.fits in omega arith)) refl
+        fit : fits n (by_tag s.label) ≡ true
+        fit = rw (taken_spot.3, le-leb (up n) (down s.label.size) (let e = ap (λ (p : Place). down p.block.size) taken_spot.2 in let c = t.fits in omega arith)) refl
 
         go : (o : Option plain.Place) → chosen_place n (tags ls) ≡ o → Choice
-        go None e = absurd (true≢false (sym fit ∙ not_chosen n (tags ls) e (by_tag s.0.label) there))
+        go None e = absurd (true≢false (sym fit ∙ not_chosen n (tags ls) e (by_tag s.label) there))
         go (Some p) e =
             let l = chosen_spot p e in
-            let best = (chosen_at n (tags ls) p e).2 (by_tag s.0.label) there fit in
-            let name = same_name s.0 l.0 s.1 s.2 l.1 l.3 l.4 (ap (λ (q : plain.Place). is_taken_before (by_tag s.0.label) q.block) l.2 ∙ best) in
-            let same = same_some (named_place l.0) (named_place s.0)
-            (sym (place_of_spot v w l.0 (a.view ∙ ap names l.1)) ∙ ap (λ x. place_of x v.blocks) (sym name) ∙ place_of_spot v w s.0 (a.view ∙ ap names s.1)) in
-            record { spot = l.0; split = l.1; place = same ∙ s.2; free = l.3; is = e ∙ ap Some (sym l.2) }
-
-    pub chosen : Choice
-    chosen = choice_if (chosen_place n (tags ls)) refl
+            let best = (chosen_at n (tags ls) p e).2 (by_tag s.label) there fit in
+            let name = same_name s l.0 taken_spot.1 taken_spot.2 l.1 l.3 l.4 (ap (λ (q : plain.Place). is_taken_before (by_tag s.label) q.block) l.2 ∙ best) in
+            let same = same_some (named_place l.0) (named_place s)
+            (sym (place_of_spot v w l.0 (a.view ∙ ap names l.1)) ∙ ap (λ x. place_of x v.blocks) (sym name) ∙ place_of_spot v w s (a.view ∙ ap names taken_spot.1)) in
+            record { spot = l.0; split = l.1; place = same ∙ taken_spot.2; free = l.3; is = e ∙ ap Some (sym l.2) }

@@ -1,25 +1,15 @@
 -- Releases in a row leave the same space in any order.
-use Rattle.std.proofs.Common.{◌≡◌, ℕ, zero, suc, ◌+◌, Bool, true, false, ◌&&◌, ◌||◌, ◌≤◌, List, [], ◌∷◌, ◌++◌, sum, Option, Some, None, is_some, nat_eq, nat_lt}
-use Rattle.std.proofs.Common.{nat_le, if◌then◌else◌, refl, sym}
-use Rattle.std.proofs.Common.{ap, ap₂, subst, subst₂, ◌∙◌, arith, eq-eqb, eqb-true, append_assoc}
-use Rattle.std.proofs.lemmas.List.{map-append}
-use Rattle.std.proofs.lemmas.Bool.{true≢false, false≢true, false_from_ne_true}
-use Rattle.offset_script.specs.declared.scripts.Command.{Command}
-use Rattle.offset_script.specs.declared.scripts.Command.TheVariants as command
-use Rattle.offset_allocator.specs.Reports.{rows_below}
-use Rattle.offset_script.specs.Machine.{Tag, Live, Free, Block, block, is_free, has_number, total, Place, here, fits, choose, chosen_place, place_of, coalesce}
-use Rattle.offset_script.specs.Machine.{State, start, step, after, request, grant_or_refuse, release, size_at, stamp_of_call}
-use Rattle.offset_script.specs.Machine as machine
-use Rattle.offset_script.specs.Histories.{holder, outline, widen, collapse, without_offset, releases, IsCollapse}
-use Rattle.std.specs.List.{list_any}
-use Rattle.std.specs.Option.{option_map_or}
+use Rattle.offset_script.proofs.Common.{◌≡◌, ℕ, zero, suc, ◌+◌, true, false, ◌&&◌, ◌||◌, ◌≤◌, List, [], ◌∷◌, ◌++◌, sum, Option, Some, None, is_some, nat_eq, nat_lt, nat_le, if◌then◌else◌, refl, sym}
+use Rattle.offset_script.proofs.Common.{ap, ap₂, subst, subst₂, ◌∙◌, arith, eq-eqb, eqb-true, append_assoc, map-append, true≢false, false≢true, false_from_ne_true, Command, rows_below, Tag, Live}
+use Rattle.offset_script.proofs.Common.{Free, Block, block, is_free, has_number, total, Place, fits, choose, chosen_place, place_of, coalesce, State, start, step, after, request, grant_or_refuse}
+use Rattle.offset_script.proofs.Common.{release, size_at, stamp_of_call, holder, outline, widen, collapse, without_offset, releases, IsCollapse, list_any, option_map_or, or-false}
 use Rattle.offset_script.proofs.Pairs.{Kind, Lives, Frees, Pair, left_tag, right_tag, left, right, lefts, rights, same_free, same_short, same_free_sizes, same_refusal, IsSamePlace, neither, both}
 use Rattle.offset_script.proofs.Pairs.{same_place_of}
 use Rattle.offset_script.proofs.Lists.{AreFree, coalesced, apart_coalesce, count_coalesce, count, hit, hit_self, number_of, count-append, starts_free, AreApart, apart_parts}
-use Rattle.offset_script.proofs.Found.{found_at, not_found}
 use Rattle.offset_script.proofs.Well.{IsWell, well_start, well_after, well_step}
-use Rattle.offset_script.proofs.Similar.{HasSameNumber, ArePaired, paired}
-use Rattle.offset_script.proofs.Tests.{if_same}
+use Rattle.offset_script.proofs.{Found.found_at, Found.not_found, Similar.HasSameNumber, Similar.ArePaired, Similar.paired, Tests.if_same}
+use Rattle.offset_script.specs.declared.scripts.Command.TheVariants as command
+use Rattle.offset_script.specs.Machine as machine
 
 -- sizes, and the numbers of live blocks
 abbrev Outline : Type 0
@@ -38,13 +28,9 @@ collapse-widen : (ks : List ℕ) (n : ℕ) (o : Outline) → collapse ks (widen 
 collapse-widen ks n [] = refl
 collapse-widen ks n (b ∷ o) = search (arith, widen-widen)
 
-or_nothing : (b : Bool) → (b || false) ≡ b
-or_nothing true = refl
-or_nothing false = refl
-
 collapse_block_more : (k : ℕ) (ks : List ℕ) (n : ℕ) (h : Option ℕ) (o p : Outline) → collapse ks o ≡ p → collapse ks (collapse_block (k ∷ []) n h o) ≡ collapse_block (k ∷ ks) n h p
 collapse_block_more k ks n None o p ih = collapse-widen ks n o ∙ ap (widen n) ih
-collapse_block_more k ks n (Some j) o p ih = search (arith, nat_eq, collapse-widen, or_nothing)
+collapse_block_more k ks n (Some j) o p ih = search (arith, nat_eq, collapse-widen, or-false)
 
 collapse_one_more : (k : ℕ) (ks : List ℕ) (o : Outline) → collapse ks (collapse (k ∷ []) o) ≡ collapse (k ∷ ks) o
 collapse_one_more k ks [] = refl
@@ -73,7 +59,7 @@ unchanged ks [] a h = refl
 unchanged ks (b ∷ bs) a h = ap (collapse_block ks b.size (holder b.tag)) (unchanged ks bs a.1 (λ j e. let z = h j e in omega arith)) ∙ stays ks b.size b.tag bs (not_among ks b bs h) a.0
 
 none_of : (k : ℕ) (bs : List Block) → count (Live k) bs ≡ 0 → (j : ℕ) → list_any (nat_eq j) (k ∷ []) ≡ true → count (Live j) bs ≡ 0
-none_of k bs z j e = subst (λ x. count (Live x) bs ≡ 0) (sym (eqb-true j k (sym (or_nothing (nat_eq j k)) ∙ e))) z
+none_of k bs z j e = subst (λ x. count (Live x) bs ≡ 0) (sym (eqb-true j k (sym (or-false (nat_eq j k)) ∙ e))) z
 
 free_holder : (t : Tag) → is_free t ≡ true → holder t ≡ None
 free_holder (Live j) e = absurd (false≢true e)
@@ -82,9 +68,7 @@ free_holder (Free s) e = refl
 -- free blocks after units that are free, and before them
 free_after : (ks : List ℕ) (n : ℕ) (gs : List Block) (o : Outline) → AreFree gs → widen n (collapse ks (outline gs ++ o)) ≡ widen (n + total gs) (collapse ks o)
 free_after ks n [] o f = ap (λ m. widen m (collapse ks o)) (omega arith)
-free_after ks n (b ∷ gs) o f = ap (λ h. widen n (collapse_block ks b.size h (collapse ks (outline gs ++ o)))) (free_holder b.tag f.0) ∙ widen-widen n b.size _
-    ∙ free_after ks (n + b.size) gs o f.1
-    ∙ ap (λ m. widen m (collapse ks o)) (omega arith)
+free_after ks n (b ∷ gs) o f = search (arith, (free_after ks (n + b.size) gs o f.1), free_holder, widen-widen)
 
 free_before : (ks : List ℕ) (n : ℕ) (fs : List Block) (o p : Outline) → AreFree fs → collapse ks o ≡ widen n p → collapse ks (outline fs ++ o) ≡ widen (total fs + n) p
 free_before ks n [] o p f e = e ∙ ap (λ m. widen m p) (omega arith)
@@ -102,8 +86,7 @@ coalesce_outline k xs n st ys a none =
     let m = total c.last + n + total c.first in
     let tail = outline c.last ++ ((n, Some k) ∷ (outline c.first ++ outline c.back)) in
     let released : collapse (k ∷ []) ((n, Some k) ∷ (outline c.first ++ outline c.back)) ≡ widen (n + total c.first) (collapse (k ∷ []) (outline c.back)) =
-    ap (λ x. if x || false then widen n (collapse (k ∷ []) (outline c.first ++ outline c.back)) else (n, Some k) ∷ collapse (k ∷ []) (outline c.first ++ outline c.back)) (eq-eqb k k refl)
-    ∙ free_after (k ∷ []) n c.first (outline c.back) c.start.free in
+    search (arith, free_after, eq-eqb, c.start) in
     let same : collapse (k ∷ []) ((m, None) ∷ outline c.back) ≡ collapse (k ∷ []) tail =
     sym (free_before (k ∷ []) (n + total c.first) c.last _ _ c.end.free released ∙ ap (λ i. widen i (collapse (k ∷ []) (outline c.back))) (omega arith)) in
     let parts : outline ((c.front ++ c.last) ++ block n (Live k) ∷ (c.first ++ c.back)) ≡ outline c.front ++ tail = simp (map-append, append_assoc) in
@@ -151,7 +134,7 @@ pub record IsSameSpace (s t : State) : Type 0 where
 
 -- whether a request is granted goes by the sizes
 some_chosen : (n : ℕ) (b : Block) (bs : List Block) (o : Option Place) → is_some (choose n b bs o) ≡ (fits n b || is_some o)
-some_chosen n b bs None = elim (fits n b) as (λ x. is_some (if x then Some (here b bs) else None) ≡ (x || false)) [ true ↦ refl | false ↦ refl ]
+some_chosen n b bs None = search (arith, is_some)
 some_chosen n b bs (Some p) = search (arith, is_some)
 
 pub some_same : (n : ℕ) (p : List Pair) → is_some (chosen_place n (lefts p)) ≡ is_some (chosen_place n (rights p))

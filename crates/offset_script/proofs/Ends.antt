@@ -1,18 +1,10 @@
 -- Labels by names and by tags: what is free, sums, and the names of grants.
-use Rattle.std.proofs.Common.{◌≡◌, ℕ, ◌+◌, ◌≤◌, true, false, not, ◌&&◌, List, [], ◌∷◌, ◌++◌, length, Option, Some, None, if◌then◌else◌, refl, ap, subst, subst₂}
-use Rattle.std.proofs.Common.{◌∙◌, arith}
-use Rattle.std.specs.Option.{option_or}
-use Rattle.std.proofs.lemmas.Bool.{false≢true, not-false}
-use Rattle.offset_script.specs.Machine.{Tag, Live, Free, is_free, has_number, total}
+use Rattle.offset_script.proofs.Common.{◌≡◌, ℕ, ◌+◌, ◌≤◌, true, false, not, ◌&&◌, List, [], ◌∷◌, ◌++◌, length, Option, Some, None, refl, ap, subst₂, ◌∙◌, arith, option_or, false≢true, not-false, Tag}
+use Rattle.offset_script.proofs.Common.{Live, Free, is_free, has_number, total, units, AllByRecursion}
+use Rattle.offset_script.proofs.{Agreement.Label, Agreement.name_of, Lists.count, Lists.hit_number, Labels.names, Labels.tags, Tests.not_not}
 use Rattle.offset_script.specs.Machine as plain
 use Rattle.offset_allocator.specs.View as named
-use Rattle.offset_allocator.specs.View.{units}
-use Rattle.offset_script.proofs.Agreement.{Label, name_of}
-use Rattle.offset_script.proofs.Lists.{count, hit_number}
 use Rattle.offset_script.proofs.Lists as lists
-use Rattle.offset_script.proofs.Labels.{names, tags}
-use Rattle.std.specs.List.{AllByRecursion}
-use Rattle.offset_script.proofs.Tests.{not_not}
 
 -- all of these are free
 abbrev pub AreFree : List Label → Type 0
@@ -32,7 +24,7 @@ free_tagged (l ∷ ls) f = (f.0, free_tagged ls f.1)
 -- free neighbours, by names and by tags
 pub apart_tagged : (ls : List Label) → named.IsApart (names ls) → lists.AreApart (tags ls)
 apart_tagged [] a = tt
-apart_tagged (l ∷ []) a = (subst (λ x. (x && false) ≡ false) (not_not (is_free l.tag)) a.0, tt)
+apart_tagged (l ∷ []) a = search (arith, not_not)
 apart_tagged (l ∷ m ∷ ls) a = (subst₂ (λ x y. (x && y) ≡ false) (not_not (is_free l.tag)) (not_not (is_free m.tag)) a.0, apart_tagged (m ∷ ls) a.1)
 
 -- a list of blocks ends live just where its last block is live
@@ -55,10 +47,7 @@ total_units (l ∷ ls) = ap (λ n. l.size + n) (total_units ls)
 -- the sizes of the free blocks
 pub free_sizes_labels : (ls : List Label) → plain.free_sizes (tags ls) ≡ named.free_sizes (names ls)
 free_sizes_labels [] = refl
-free_sizes_labels (l ∷ ls) = let ih = free_sizes_labels ls in
-    elim (is_free l.tag)
-    as (λ u. (if u then l.size ∷ plain.free_sizes (tags ls) else plain.free_sizes (tags ls)) ≡ (if not u then named.free_sizes (names ls) else l.size ∷ named.free_sizes (names ls)))
-    [ true ↦ ap (λ z. l.size ∷ z) ih | false ↦ ih ]
+free_sizes_labels (l ∷ ls) = search (arith, (free_sizes_labels ls), not)
 
 -- the names of grants
 pub or_none : (o : Option ℕ) → option_or o None ≡ o
@@ -68,8 +57,7 @@ or_none (Some x) = refl
 -- a grant is in the first list, or else in the second
 pub name_append : (k : ℕ) (xs ys : List Label) → name_of k (xs ++ ys) ≡ option_or (name_of k xs) (name_of k ys)
 name_append k [] ys = refl
-name_append k (x ∷ xs) ys = let ih = name_append k xs ys in elim (has_number k x.tag)
-    as (λ u. (if u then Some x.name else name_of k (xs ++ ys)) ≡ option_or (if u then Some x.name else name_of k xs) (name_of k ys)) [ true ↦ refl | false ↦ ih ]
+name_append k (x ∷ xs) ys = search (arith, (name_append k xs ys))
 
 no_number : (k : ℕ) (t : Tag) → is_free t ≡ true → has_number k t ≡ false
 no_number k (Live j) e = absurd (false≢true e)

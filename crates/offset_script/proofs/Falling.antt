@@ -1,12 +1,9 @@
 -- Bins whose stamps fall, as names are pushed and removed.
-use Rattle.std.proofs.Common.{◌≡◌, ◌≢◌, ℕ, ◌+◌, ◌<◌, ◌≤◌, true, false, not, cond, ◌&&◌, List, [], ◌∷◌, length, nat_eq, if◌then◌else◌, refl, ◌∙◌, inl}
-use Rattle.std.proofs.Common.{inr, arith, ne_eqb}
-use Rattle.std.proofs.lemmas.Bool.{cases_eq, cond_both}
-use Rattle.offset_allocator.specs.Classes.{down}
-use Rattle.offset_allocator.specs.View.{Block, one, times, bin_at, push, without, remove, push_all, remove_all}
-use Rattle.offset_allocator.proofs.Classes.{down_small}
-use Rattle.offset_allocator.proofs.Tallies.{hit_cases}
+use Rattle.offset_script.proofs.Common.{◌≡◌, ◌≢◌, ℕ, ◌+◌, ◌<◌, ◌≤◌, true, false, not, List, [], ◌∷◌, length, nat_eq, refl, ◌∙◌, inl, inr, arith, ne_eqb, cases_eq, cond_both, down, one, times, bin_at}
+use Rattle.offset_script.proofs.Common.{push, without, remove, push_all, remove_all}
+use Rattle.offset_allocator.specs.View.{Block}
 use Rattle.offset_allocator.proofs.ViewOrders.{names_same, names_other, length_put, length_remove, times_without_le, hit, times_put}
+use Rattle.offset_allocator.proofs.{Classes.down_small, Tallies.hit_cases}
 use Rattle.offset_script.proofs.Agreement.{IsFalling}
 
 -- a list without a name
@@ -14,10 +11,7 @@ falling_without : (f : ℕ → ℕ) (x : ℕ) (xs : List ℕ) → IsFalling f xs
 falling_without f x [] h = tt
 falling_without f x (y ∷ ys) h =
     let ih = falling_without f x ys h.1 in
-    elim (nat_eq y x) as (λ b. IsFalling f (cond (not b) (y ∷ without x ys) (without x ys))) [
-      | true ↦ ih
-      | false ↦ (λ z m. h.0 z (let l = times_without_le x z ys in omega arith), ih)
-    ]
+    cond_both (not (nat_eq y x)) (y ∷ without x ys) (without x ys) (IsFalling f) (λ e. (λ z m. h.0 z (let l = times_without_le x z ys in omega arith), ih)) (λ e. ih)
 
 -- bins without a name
 pub falling_remove : (f : ℕ → ℕ) (c x : ℕ) (order : List (List ℕ)) → length order ≡ 256 → c < 256 → ((d : ℕ) → IsFalling f (bin_at order d)) → (d : ℕ)
@@ -28,10 +22,9 @@ falling_remove f c x order h b fall d = search (arith, cases_eq, names_same, fal
 pub falling_remove_all : (f : ℕ → ℕ) (bs : List Block) (order : List (List ℕ)) → length order ≡ 256 → ((d : ℕ) → IsFalling f (bin_at order d)) → (d : ℕ)
     → IsFalling f (bin_at (remove_all bs order) d)
 falling_remove_all f [] order h fall = fall
-falling_remove_all f (b ∷ bs) order h fall = elim b.used as (λ u. (d : ℕ) → IsFalling f (bin_at (remove_all bs (if u then order else remove (down b.size) b.name order)) d)) [
-  | true ↦ falling_remove_all f bs order h fall
-  | false ↦ falling_remove_all f bs _ (length_remove _ _ order ∙ h) (falling_remove f (down b.size) b.name order h (down_small b.size) fall)
-]
+falling_remove_all f (b ∷ bs) order h fall = cond_both b.used order (remove (down b.size) b.name order) (λ o. (d : ℕ) → IsFalling f (bin_at (remove_all bs o) d))
+    (λ e. falling_remove_all f bs order h fall)
+    (λ e. falling_remove_all f bs _ (length_remove _ _ order ∙ h) (falling_remove f (down b.size) b.name order h (down_small b.size) fall))
 
 -- other stamps that agree on the names of a list
 pub falling_same : (f g : ℕ → ℕ) (xs : List ℕ) → ((y : ℕ) → 1 ≤ times y xs → f y ≡ g y) → IsFalling f xs → IsFalling g xs
@@ -59,7 +52,7 @@ falling_put_all f t (b ∷ bs) order h fall low rise =
     put l d = search (arith, cases_eq, names_same, down_small, names_other)
 
     none : (d y : ℕ) → y ≢ b.name → hit d (down b.size) y b.name ≡ 0
-    none d y n = rw (ne_eqb y b.name n) (elim (nat_eq d (down b.size)) as (λ v. one (v && false) ≡ 0) [ true ↦ refl | false ↦ refl ])
+    none d y n = search (arith, ne_eqb, one)
 
     low' : t ≤ f b.name → (d y : ℕ) → 1 ≤ times y (bin_at (push (down b.size) b.name order) d) → f y < f b.name + 1
     low' a d y m = search (arith, times_put, down_small, hit_cases, none)

@@ -1,11 +1,7 @@
 -- The first line of a text, and the lines after it.
-use Rattle.std.proofs.Common.{◌≡◌, ℕ, suc, ◌+◌, Bool, true, false, cond, not, eqb, List, [], ◌∷◌, length, Option, Some, None, refl, ap, arith}
-use Rattle.std.specs.Option.{option_map_or}
-use Rattle.std.specs.List.{slice_split, onto_first, filter}
-use Rattle.std.proofs.lemmas.List.Splits.{length-slice_split}
-use Rattle.std.proofs.lemmas.Bool.Decides.{nat_tests}
-use Rattle.std.proofs.lemmas.List.{nil_from_length}
-use Rattle.offset_script.specs.Grammar.{parts, lines_of, is_skipped, Line, numbered_from, significant_from, line_ends, command_of_words, header_of_words}
+use Rattle.offset_script.proofs.Common.{◌≡◌, ℕ, suc, ◌+◌, Bool, true, false, cond, not, eqb, List, [], ◌∷◌, length, Option, Some, None, refl, ap, arith, option_map_or, slice_split, onto_first, filter}
+use Rattle.offset_script.proofs.Common.{length-slice_split, nat_tests, nil_from_length, parts, lines_of, is_skipped, Line, numbered_from, significant_from, line_ends, command_of_words, cond_both}
+use Rattle.offset_script.proofs.Common.{header_of_words}
 
 abbrev pub rest_of : Option (List ℕ) → List ℕ
 rest_of None = []
@@ -28,15 +24,14 @@ onto_some x (p ∷ ps) = (x ∷ p, ps, refl)
 -- there is always a part
 pub some_part : {X : Type 0} (p : X → Bool) (xs : List X) → (y : List X) × (ys : List (List X)) × (slice_split p xs ≡ y ∷ ys)
 some_part p [] = ([], [], refl)
-some_part {X} p (x ∷ xs) = elim (p x) as (λ b. (y : List X) × (ys : List (List X)) × (cond b ([] ∷ slice_split p xs) (onto_first x (slice_split p xs)) ≡ y ∷ ys))
-    [ true ↦ ([], slice_split p xs, refl) | false ↦ onto_some x (slice_split p xs) ]
+some_part {X} p (x ∷ xs) = cond_both (p x) ([] ∷ slice_split p xs) (onto_first x (slice_split p xs)) (λ l. (y : List X) × (ys : List (List X)) × (l ≡ y ∷ ys)) (λ e. ([], slice_split p xs, refl))
+    (λ e. onto_some x (slice_split p xs))
 
 last_lines : (line : List ℕ) (n : ℕ) → filter (λ l. not (is_skipped l.text)) (numbered_from n (lines_of (line ∷ []))) ≡ cond (is_skipped line) [] (record { number = n; text = line } ∷ [])
 last_lines [] n = refl
 last_lines (b ∷ bs) n = rw not_zero (elim (eqb b 35) as (λ c. cond (not c) (line_at n (b ∷ bs) ∷ []) [] ≡ cond c [] (line_at n (b ∷ bs) ∷ [])) [ true ↦ refl | false ↦ refl ])
 
-more_lines : (line next : List ℕ) (more : List (List ℕ)) (n : ℕ)
-    → filter (λ l. not (is_skipped l.text)) (numbered_from n (lines_of (line ∷ next ∷ more)))
+more_lines : (line next : List ℕ) (more : List (List ℕ)) (n : ℕ) → filter (λ l. not (is_skipped l.text)) (numbered_from n (lines_of (line ∷ next ∷ more)))
     ≡ cond (is_skipped line) (filter (λ l. not (is_skipped l.text)) (numbered_from (n + 1) (lines_of (next ∷ more))))
     (record { number = n; text = line } ∷ filter (λ l. not (is_skipped l.text)) (numbered_from (n + 1) (lines_of (next ∷ more))))
 more_lines line next more n = search (arith, not)

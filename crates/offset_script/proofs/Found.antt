@@ -1,14 +1,9 @@
 -- The places that are found for the number of a grant, and chosen for a request.
-use Rattle.std.proofs.Common.{◌≡◌, ℕ, Bool, true, false, ◌&&◌, ◌||◌, List, [], ◌∷◌, ◌++◌, Option, Some, None, option_map, nat_eq, nat_lt, if◌then◌else◌, refl, sym, ap}
-use Rattle.std.proofs.Common.{subst, ◌∙◌, inl, inr, arith}
+use Rattle.offset_script.proofs.Common.{◌≡◌, ℕ, Bool, true, false, ◌&&◌, ◌||◌, List, [], ◌∷◌, ◌++◌, Option, Some, None, option_map, nat_eq, nat_lt, if◌then◌else◌, refl, sym, ap, subst, ◌∙◌, inl, inr}
+use Rattle.offset_script.proofs.Common.{arith, true≢false, and_parts, nat_tests, down, one, Tag, Live, Free, Block, has_number, stamp, Place, here, prepend, fits, is_taken_before, choose}
+use Rattle.offset_script.proofs.Common.{chosen_place, place_of}
 use Rattle.offset_allocator.proofs.ViewApart.{right_false}
-use Rattle.std.proofs.lemmas.Bool.{true≢false, and_parts}
-use Rattle.std.proofs.lemmas.Bool.Decides.{nat_tests}
-use Rattle.offset_allocator.specs.Classes.{down}
-use Rattle.offset_allocator.specs.View.{one}
-use Rattle.offset_script.specs.Machine.{Tag, Live, Free, Block, has_number, stamp, Place, here, prepend, fits, is_taken_before, choose, chosen_place, place_of}
-use Rattle.offset_script.proofs.Members.{IsIn}
-use Rattle.offset_script.proofs.Lists.{hit, count, whole, hit_number}
+use Rattle.offset_script.proofs.{Members.IsIn, Lists.hit, Lists.count, Lists.whole, Lists.hit_number}
 
 -- what is found
 abbrev IsFoundAt : ℕ → List Block → Option Place → Type 0
@@ -23,7 +18,7 @@ found_step : (k : ℕ) (b : Block) (bs : List Block) (o : Option Place) → IsFo
     → IsFoundAt k (b ∷ bs) (if x then Some (here b bs) else option_map (prepend b) o)
 found_step k b bs o f true e = (refl, e, refl)
 found_step k b bs None f false e = let h : hit (Live k) b.tag ≡ 0 = number_hit k b.tag ∙ ap one e in omega arith
-found_step k b bs (Some p) f false e = let h : hit (Live k) b.tag ≡ 0 = number_hit k b.tag ∙ ap one e in (ap (λ l. b ∷ l) f.0, f.1, omega arith)
+found_step k b bs (Some p) f false e = search (arith, number_hit)
 
 found_all : (k : ℕ) (bs : List Block) → IsFoundAt k bs (place_of k bs)
 found_all k [] = refl

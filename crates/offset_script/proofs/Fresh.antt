@@ -1,20 +1,12 @@
 -- A state without live blocks continues as a fresh one, and a fresh one that is extended as a larger one.
-use Rattle.std.proofs.Common.{◌≡◌, ℕ, zero, suc, ◌+◌, ◌-◌, ◌*◌, ◌<◌, ◌≤◌, false, List, [], ◌∷◌, length, IsTrue, nat_lt, refl, sym, ap, ap₂, subst, subst₂}
-use Rattle.std.proofs.Common.{le-ltb, ◌∙◌, inl, inr, arith}
-use Rattle.std.proofs.lemmas.Bool.{true≢false}
-use Rattle.std.specs.List.{AllByRecursion}
-use Rattle.offset_allocator.specs.View.{max_size}
-use Rattle.offset_script.specs.Machine.{Tag, Live, Free, Block, block, is_free, total, State, Answer, start, step, answers, after}
-use Rattle.offset_script.specs.declared.scripts.Command.{Command}
+use Rattle.offset_script.proofs.Common.{◌≡◌, ℕ, zero, suc, ◌+◌, ◌-◌, ◌*◌, ◌<◌, ◌≤◌, false, List, [], ◌∷◌, length, IsTrue, nat_lt, refl, sym, ap, ap₂, subst, subst₂, le-ltb, ◌∙◌, inl, inr, arith}
+use Rattle.offset_script.proofs.Common.{true≢false, AllByRecursion, max_size, Tag, Live, Free, Block, block, is_free, total, State, Answer, start, step, answers, after, Command, renumber}
+use Rattle.offset_script.proofs.Common.{raise_number, number_without, answers_renumbered, HasNoLive}
+use Rattle.offset_script.proofs.Nests.{number_without_none, number_without_past, number_without_future}
+use Rattle.offset_script.proofs.{Pairs.rights, Pairs.Frees, Pairs.Pair, Pairs.pair, Pairs.AreAgreed, Members.IsIn, Members.map_same, Alike.IsAlike, Alike.IsMatched, Alike.alike_answers}
+use Rattle.offset_script.proofs.{Lists.AreApart, Lists.count, Lists.hit_self, Well.IsWell, Well.well_start, Well.well_after}
 use Rattle.offset_script.specs.declared.scripts.Command.TheVariants as command
 use Rattle.offset_script.specs.Machine as machine
-use Rattle.offset_script.specs.Histories.{renumber, raise_number, number_without, answers_renumbered, HasNoLive}
-use Rattle.offset_script.proofs.Members.{IsIn, map_same}
-use Rattle.offset_script.proofs.Pairs.{Frees, Pair, pair, AreAgreed}
-use Rattle.offset_script.proofs.Alike.{IsAlike, IsMatched, alike_answers}
-use Rattle.offset_script.proofs.Nests.{number_without_none, number_without_past, number_without_future}
-use Rattle.offset_script.proofs.Lists.{AreApart, count, hit_self}
-use Rattle.offset_script.proofs.Well.{IsWell, well_start, well_after}
 
 -- one free block
 abbrev pub IsOneFree : List Block → Type 0
@@ -30,22 +22,15 @@ one_free (b ∷ []) some a f = let t = free_tag b.tag f.0 in (b.size, t.0, ap (�
 one_free (b ∷ c ∷ bs) some a f = search (arith, free_tag, true≢false)
 
 pub alike_fresh : (s : State) (n x g : ℕ) → g ≡ s.grants → s.blocks ≡ block n (Free x) ∷ [] → x < 2 * (s.calls + 1) → IsAlike (number_without 0 g) g s (start (total s.blocks) s.limit)
-alike_fresh s n x g same e h = record {
-  limit = refl;
-  pairs = q ∷ [];
-  left_blocks = e;
-  right_blocks = ap (λ m. block m (Free 0) ∷ []) (ap total e ∙ omega arith);
-  matched = λ p i. elim i [ inl is ↦ subst (λ (z : Pair). IsMatched (number_without 0 g) (2 * (s.calls + 1)) 2 z.kind) (sym is) (h, omega arith) | inr none ↦ absurd none ];
-  agree = λ a b i j. only a b i j;
-  grants = omega arith;
-  past = λ k l. number_without_past 0 g k (omega arith);
-  future = λ k l. number_without_future 0 g k (omega arith);
-}
+alike_fresh s n x g same e h =
+    let is_right : block (total s.blocks) (Free 0) ∷ [] ≡ rights (pair n (Frees x 0) ∷ []) = ap (λ m. block m (Free 0) ∷ []) (ap total e ∙ omega arith) in
+    let matched : (p : Pair) → IsIn p (pair n (Frees x 0) ∷ []) → IsMatched (number_without 0 g) (2 * (s.calls + 1)) 2 p.kind = λ p i.
+    elim i [ inl is ↦ subst (λ (z : Pair). IsMatched (number_without 0 g) (2 * (s.calls + 1)) 2 z.kind) (sym is) (h, omega arith) | inr none ↦ absurd none ] in
+    let past = λ (k : ℕ) (l : k ≤ s.grants). number_without_past 0 g k (omega arith) in
+    let future = λ (k : ℕ) (l : s.grants < k). number_without_future 0 g k (omega arith) in
+    record { limit = refl; pairs = pair n (Frees x 0) ∷ []; left_blocks = e; right_blocks = is_right; matched = matched; agree = only; grants = omega arith; past = past; future = future }
   where
-    q : Pair
-    q = pair n (Frees x 0)
-
-    only : (a b : Pair) → IsIn a (q ∷ []) → IsIn b (q ∷ []) → AreAgreed a b
+    only : (a b : Pair) → IsIn a (pair n (Frees x 0) ∷ []) → IsIn b (pair n (Frees x 0) ∷ []) → AreAgreed a b
     only a b (inl i) (inl j) = subst₂ AreAgreed (sym i) (sym j) (λ same. le-ltb x x (omega arith))
     only a b (inl i) (inr j) = absurd j
     only a b (inr i) j = absurd i

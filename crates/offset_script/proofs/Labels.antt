@@ -1,17 +1,11 @@
 -- Blocks with both their names and their tags.
-use Rattle.std.proofs.Common.{◌≡◌, ℕ, ◌+◌, ◌<◌, ◌≤◌, true, false, not, ◌⊎◌, List, [], ◌∷◌, ◌++◌, map, nat_eq, refl, sym, ap, subst, ◌∙◌, inl, inr, arith}
-use Rattle.std.proofs.Common.{eq-eqb, ne_eqb, append_assoc}
-use Rattle.std.proofs.lemmas.List.{map-append}
-use Rattle.std.proofs.lemmas.Bool.{cases_lt, not-true, not-false}
-use Rattle.offset_script.specs.Machine.{Tag, Live, Free, is_free, stamp}
-use Rattle.offset_script.specs.Machine as plain
-use Rattle.offset_allocator.specs.View.{Block, View, times, count_named, bin_at, push_all, remove_all, IsWellFormed}
-use Rattle.offset_script.proofs.Agreement.{Label, by_name, by_tag, stamp_of, IsFalling}
-use Rattle.offset_script.proofs.Lists.{count, hit, hit_self}
-use Rattle.offset_allocator.proofs.Tallies.{tally_three, listed_named, tally_append, hit_cases, one-same}
-use Rattle.offset_allocator.proofs.ViewOrders.{length_remove_all}
+use Rattle.offset_script.proofs.Common.{◌≡◌, ℕ, ◌+◌, ◌<◌, ◌≤◌, true, false, not, List, [], ◌∷◌, ◌++◌, map, nat_eq, refl, sym, ap, subst, ◌∙◌, inl, inr, arith, eq-eqb, ne_eqb, append_assoc, map-append}
+use Rattle.offset_script.proofs.Common.{cases_lt, not-true, not-false, Tag, Live, Free, is_free, stamp, View, times, count_named, bin_at, push_all, remove_all, IsWellFormed}
+use Rattle.offset_allocator.specs.View.{Block}
 use Rattle.offset_script.proofs.Falling.{falling_remove_all, falling_same, falling_put_all, IsRising}
-use Rattle.offset_allocator.proofs.ViewReplaced.{orders_replaced}
+use Rattle.offset_script.proofs.{Agreement.Label, Agreement.by_name, Agreement.by_tag, Agreement.stamp_of, Agreement.IsFalling, Lists.count, Lists.hit, Lists.hit_self}
+use Rattle.offset_allocator.proofs.{Tallies.tally_three, Tallies.listed_named, Tallies.tally_append, Tallies.hit_cases, Tallies.one-same, ViewOrders.length_remove_all, ViewReplaced.orders_replaced}
+use Rattle.offset_script.specs.Machine as plain
 
 -- the blocks by name
 abbrev pub names : List Label → List Block
@@ -28,10 +22,7 @@ map_three f xs ys zs = map-append f xs (ys ++ zs) ∙ ap (λ l. map f xs ++ l) (
 -- stamps
 pub stamp_none : (x : ℕ) (ls : List Label) → count_named x (names ls) ≡ 0 → stamp_of x ls ≡ 0
 stamp_none x [] e = refl
-stamp_none x (l ∷ ls) e = elim (hit_cases x l.name) [
-  | inl i ↦ absurd (let k = i.1 in omega arith)
-  | inr i ↦ let ih = stamp_none x ls (omega arith) in rw (ne_eqb x l.name i.0) (omega arith)
-]
+stamp_none x (l ∷ ls) e = search (arith, hit_cases, (stamp_none x ls), ne_eqb)
 
 -- f returns the stamp of each of these labels
 abbrev pub HasStamps : (ℕ → ℕ) → List Label → Type 0
@@ -59,26 +50,21 @@ gives_from before (l ∷ ls) most =
 pub gives_all : (ls : List Label) → ((x : ℕ) → count_named x (names ls) ≤ 1) → HasStamps (λ x. stamp_of x ls) ls
 gives_all ls most = gives_from [] ls most
 
--- every stamp is below t
-stamp_or_zero : (t : Tag) → (stamp t ≡ 0) ⊎ ((s : ℕ) × (t ≡ Free s))
-stamp_or_zero (Live k) = inl refl
-stamp_or_zero (Free s) = inr (s, refl)
+-- the stamp of a tag is below t, and so is that of every name
+stamp_below : (t : ℕ) (u : Tag) → 1 ≤ t → ((x : ℕ) → t ≤ x → hit (Free x) u ≡ 0) → stamp u < t
+stamp_below t (Live k) pos low = pos
+stamp_below t (Free s) pos low = elim (cases_lt s t) [ inl b ↦ b | inr b ↦ absurd (omega (arith, low s b, hit_self (Free s))) ]
 
 pub stamps_below : (t : ℕ) (ls : List Label) → ((x : ℕ) → count_named x (names ls) ≤ 1) → ((x : ℕ) → t ≤ x → count (Free x) (tags ls) ≡ 0) → 1 ≤ t
     → (x : ℕ) → stamp_of x ls < t
 stamps_below t [] most low pos x = omega arith
-stamps_below t (l ∷ ls) most low pos x = elim (hit_cases x l.name) [
-  | inl i ↦
-      let k = i.1 in
-      let m = most x in
-      let z = stamp_none x ls (omega arith) in
-      rw (eq-eqb x l.name i.0) (elim (stamp_or_zero l.tag) [
-        | inl e ↦ omega arith
-        | inr r ↦ let e = ap stamp r.1 in elim (cases_lt r.0 t)
-            [ inl b ↦ omega arith | inr b ↦ absurd (let c = low r.0 b in let h = ap (hit (Free r.0)) r.1 in let s = hit_self (Free r.0) in omega arith) ]
-      ])
-  | inr i ↦ let k = i.1 in let ih = stamps_below t ls (λ y. let m = most y in omega arith) (λ y b. let c = low y b in omega arith) pos x in rw (ne_eqb x l.name i.0) (omega arith)
-]
+stamps_below t (l ∷ ls) most low pos x =
+    let here = stamp_below t l.tag pos (λ y b. let c = low y b in omega arith) in
+    let ih = stamps_below t ls (λ y. let m = most y in omega arith) (λ y b. let c = low y b in omega arith) pos x in
+    elim (hit_cases x l.name) [
+      | inl i ↦ let m = most x in let z = stamp_none x ls (omega arith) in rw (eq-eqb x l.name i.0) (omega arith)
+      | inr i ↦ rw (ne_eqb x l.name i.0) (omega arith)
+    ]
 
 -- the stamps of free blocks that are added rise from t on
 abbrev pub AreRising : ℕ → List Label → Type 0
@@ -93,24 +79,15 @@ rises_named f t (l ∷ ls) g r = (
 )
 
 -- new blocks in place of old ones, where the new stamps are above the old
-pub newest_replaced : (v : View) (before old new after : List Label) → IsWellFormed v → v.blocks ≡ names (before ++ (old ++ after))
-    → ((x : ℕ) → count_named x (names (before ++ (new ++ after))) ≤ 1)
-    → (t : ℕ) → ((x : ℕ) → stamp_of x (before ++ (old ++ after)) < t) → AreRising t new
-    → ((c : ℕ) → IsFalling (λ x. stamp_of x (before ++ (old ++ after))) (bin_at v.order c))
+pub newest_replaced : (v : View) (before old new after : List Label) → IsWellFormed v → v.blocks ≡ names (before ++ (old ++ after)) → ((x : ℕ) → count_named x (names (before ++ (new ++ after))) ≤ 1)
+    → (t : ℕ) → ((x : ℕ) → stamp_of x (before ++ (old ++ after)) < t) → AreRising t new → ((c : ℕ) → IsFalling (λ x. stamp_of x (before ++ (old ++ after))) (bin_at v.order c))
     → (c : ℕ) → IsFalling (λ x. stamp_of x (before ++ (new ++ after))) (bin_at (push_all (names new) (remove_all (names old) v.order)) c)
-newest_replaced v before old new after w e distinct t low rises newest = falling_put_all f' t (names new) (remove_all (names old) v.order) (length_remove_all (names old) v.order ∙ w.classes)
-    (λ d. falling_same f f' _ (same d) (falling_remove_all f (names old) v.order w.classes newest d))
-    (λ d y m. let s = same d y m in let l = low y in omega arith)
-    (rises_named f' t new (gives_parts f' new after (gives_parts f' before (new ++ after) (gives_all _ distinct)).1).0 rises)
-  where
-    f : ℕ → ℕ
-    f x = stamp_of x (before ++ (old ++ after))
-
-    f' : ℕ → ℕ
-    f' x = stamp_of x (before ++ (new ++ after))
-
-    parted : v.blocks ≡ names before ++ (names old ++ names after)
-    parted = e ∙ map_three by_name before old after
-
-    same : (d y : ℕ) → 1 ≤ times y (bin_at (remove_all (names old) v.order) d) → f y ≡ f' y
-    same d y m = search (arith, orders_replaced, parted, tally_three, not, nat_eq, listed_named, map_three, by_name, stamp_none)
+newest_replaced v before old new after w e distinct t low rises newest =
+    let f = λ (x : ℕ). stamp_of x (before ++ (old ++ after)) in
+    let f' = λ (x : ℕ). stamp_of x (before ++ (new ++ after)) in
+    let parted = e ∙ map_three by_name before old after in
+    let same : (d y : ℕ) → 1 ≤ times y (bin_at (remove_all (names old) v.order) d) → f y ≡ f' y =
+    λ d y m. search (arith, orders_replaced, parted, tally_three, not, nat_eq, listed_named, map_three, by_name, stamp_none) in
+    let rising = rises_named f' t new (gives_parts f' new after (gives_parts f' before (new ++ after) (gives_all _ distinct)).1).0 rises in
+    falling_put_all f' t (names new) (remove_all (names old) v.order) (length_remove_all (names old) v.order ∙ w.classes)
+    (λ d. falling_same f f' _ (same d) (falling_remove_all f (names old) v.order w.classes newest d)) (λ d y m. let s = same d y m in let l = low y in omega arith) rising

@@ -1,13 +1,9 @@
 -- What holds of lists of blocks: counts of tags, neighbours, free ends, and what coalesces.
-use Rattle.std.proofs.Common.{◌≡◌, ℕ, zero, suc, ◌+◌, ◌≤◌, Bool, true, false, ◌&&◌, List, [], ◌∷◌, ◌++◌, length, nat_eq}
-use Rattle.std.proofs.Common.{if◌then◌else◌, refl, sym, ap, ap₂, subst, ◌∙◌, inl, inr, arith, ne_eqb, append-nil}
-use Rattle.offset_allocator.proofs.ViewApart.{left_false, right_false}
-use Rattle.std.proofs.lemmas.Bool.{cases_eq, true≢false, false≢true, and_left, and_right}
-use Rattle.std.specs.List.{AllByRecursion}
-use Rattle.offset_allocator.specs.View.{one}
-use Rattle.offset_script.specs.Machine.{Tag, Live, Free, Block, block, is_free, has_number, total, Place, free_block, free_start, without_start, free_end, without_end, coalesce}
+use Rattle.offset_script.proofs.Common.{◌≡◌, ℕ, zero, suc, ◌+◌, ◌≤◌, Bool, true, false, ◌&&◌, List, [], ◌∷◌, ◌++◌, length, nat_eq, if◌then◌else◌, refl, sym, ap, ap₂, subst, ◌∙◌, inl, inr, arith}
+use Rattle.offset_script.proofs.Common.{ne_eqb, append-nil, cases_eq, true≢false, false≢true, and_left, and_right, AllByRecursion, one, Tag, Live, Free, Block, block, is_free, has_number, total}
+use Rattle.offset_script.proofs.Common.{Place, free_block, free_start, without_start, free_end, without_end, coalesce, nil_from_length, cases_Bool}
+use Rattle.offset_allocator.proofs.{ViewApart.left_false, ViewApart.right_false, Tallies.hit_cases, Tallies.one-same}
 use Rattle.offset_script.proofs.Members.{IsIn}
-use Rattle.offset_allocator.proofs.Tallies.{hit_cases, one-same}
 
 -- whether the first block of a list is free
 abbrev pub starts_free : List Block → Bool
@@ -118,18 +114,11 @@ pub record IsStart (gs ys : List Block) : Type 0 where
 
 -- free blocks after a list that does not end free, and before one that does not start free
 pub end_of : (xs fs : List Block) → AreFree fs → AreApart fs → ends_free xs ≡ false → IsEnd xs fs
-end_of xs fs f a e = record { few = few_free fs f a; free = f; live = none fs }
-  where
-    none : (fs : List Block) → length fs ≡ 0 → ends_free (xs ++ fs) ≡ false
-    none [] h = ap ends_free (append-nil xs) ∙ e
-    none (b ∷ fs) h = absurd (omega arith)
+end_of xs fs f a e =
+    record { few = few_free fs f a; free = f; live = λ h. ap (λ l. ends_free (xs ++ l)) (nil_from_length fs h) ∙ ap ends_free (append-nil xs) ∙ e }
 
 pub start_of : (gs ys : List Block) → AreFree gs → AreApart gs → starts_free ys ≡ false → IsStart gs ys
-start_of gs ys f a e = record { few = few_free gs f a; free = f; live = none gs }
-  where
-    none : (gs : List Block) → length gs ≡ 0 → starts_free (gs ++ ys) ≡ false
-    none [] h = e
-    none (b ∷ gs) h = absurd (omega arith)
+start_of gs ys f a e = record { few = few_free gs f a; free = f; live = λ h. ap (λ l. starts_free (l ++ ys)) (nil_from_length gs h) ∙ e }
 
 end_is : (xs fs : List Block) → IsEnd xs fs → (without_end (xs ++ fs) ≡ xs) × (free_end (xs ++ fs) ≡ total fs)
 end_is [] [] e = (refl, refl)
@@ -152,22 +141,20 @@ coalesce_parts xs fs n s gs ys e h = search (arith, end_is, start_is)
 
 ended : (bs : List Block) → (xs : List Block) × (fs : List Block) × (bs ≡ xs ++ fs) × IsEnd xs fs
 ended [] = ([], [], refl, record { few = omega arith; free = tt; live = λ h. refl })
-ended (b ∷ []) = go (is_free b.tag) refl
-  where
-    go : (x : Bool) → is_free b.tag ≡ x → (xs : List Block) × (fs : List Block) × (b ∷ [] ≡ xs ++ fs) × IsEnd xs fs
-    go true e = ([], b ∷ [], refl, record { few = omega arith; free = (e, tt); live = λ h. absurd (omega arith) })
-    go false e = (b ∷ [], [], refl, record { few = omega arith; free = tt; live = λ h. e })
+ended (b ∷ []) = elim (cases_Bool (is_free b.tag)) [
+  | inl e ↦ ([], b ∷ [], refl, record { few = omega arith; free = (e, tt); live = λ h. absurd (omega arith) })
+  | inr e ↦ (b ∷ [], [], refl, record { few = omega arith; free = tt; live = λ h. e })
+]
 ended (b ∷ c ∷ bs) =
     let r = ended (c ∷ bs) in
     (b ∷ r.0, r.1, ap (λ z. b ∷ z) r.2, record { few = r.3.few; free = r.3.free; live = λ h. ap (λ z. ends_free (b ∷ z)) (sym r.2) ∙ ap ends_free r.2 ∙ r.3.live h })
 
 started : (bs : List Block) → (gs : List Block) × (ys : List Block) × (bs ≡ gs ++ ys) × IsStart gs ys
 started [] = ([], [], refl, record { few = omega arith; free = tt; live = λ h. refl })
-started (b ∷ bs) = go (is_free b.tag) refl
-  where
-    go : (x : Bool) → is_free b.tag ≡ x → (gs : List Block) × (ys : List Block) × (b ∷ bs ≡ gs ++ ys) × IsStart gs ys
-    go true e = (b ∷ [], bs, refl, record { few = omega arith; free = (e, tt); live = λ h. absurd (omega arith) })
-    go false e = ([], b ∷ bs, refl, record { few = omega arith; free = tt; live = λ h. e })
+started (b ∷ bs) = elim (cases_Bool (is_free b.tag)) [
+  | inl e ↦ (b ∷ [], bs, refl, record { few = omega arith; free = (e, tt); live = λ h. absurd (omega arith) })
+  | inr e ↦ ([], b ∷ bs, refl, record { few = omega arith; free = tt; live = λ h. e })
+]
 
 -- what coalesces, and what stays
 pub record IsCoalesced (xs : List Block) (n s : ℕ) (ys : List Block) : Type 0 where
@@ -185,33 +172,17 @@ pub coalesced : (xs : List Block) (n s : ℕ) (ys : List Block) → IsCoalesced 
 coalesced xs n s ys =
     let e = ended xs in
     let b = started ys in
-    record {
-      front = e.0;
-      last = e.1;
-      first = b.0;
-      back = b.1;
-      at_front = e.2;
-      at_back = b.2;
-      end = e.3;
-      start = b.3;
-      is =
-          ap₂ (λ u v. coalesce u n s v) e.2 b.2 ∙ coalesce_parts e.0 e.1 n s b.0 b.1 e.3 b.3;
-    }
+    let is = ap₂ (λ u v. coalesce u n s v) e.2 b.2 ∙ coalesce_parts e.0 e.1 n s b.0 b.1 e.3 b.3 in
+    record { front = e.0; last = e.1; first = b.0; back = b.1; at_front = e.2; at_back = b.2; end = e.3; start = b.3; is = is }
+
+-- a number that is added over lists, of what coalesces and of the lists before and after it
+pub sums_coalesced : (f : List Block → ℕ) → ((xs ys : List Block) → f (xs ++ ys) ≡ f xs + f ys) → (xs : List Block) (n s : ℕ) (ys : List Block) (c : IsCoalesced xs n s ys)
+    → (f (coalesce xs n s ys) ≡ f c.front + f (block (total c.last + n + total c.first) (Free s) ∷ c.back)) × (f xs ≡ f c.front + f c.last) × (f ys ≡ f c.first + f c.back)
+sums_coalesced f add xs n s ys c = (ap f c.is ∙ add c.front _, ap f c.at_front ∙ add c.front c.last, ap f c.at_back ∙ add c.first c.back)
 
 -- coalescing adds one tag
 pub count_coalesce : (t : Tag) (xs : List Block) (n s : ℕ) (ys : List Block) → count t (coalesce xs n s ys) ≤ count t xs + (hit t (Free s) + count t ys)
-count_coalesce t xs n s ys =
-    let c = coalesced xs n s ys in
-    omega (
-      arith,
-      ap (count t) c.is,
-      count-append t c.front (block (total c.last + n + total c.first) (Free s) ∷ c.back),
-      ap (count t) c.at_front,
-      count-append t c.front c.last,
-      ap (count t)
-          c.at_back,
-      count-append t c.first c.back,
-    )
+count_coalesce t xs n s ys = let e = sums_coalesced (count t) (count-append t) xs n s ys (coalesced xs n s ys) in omega arith
 
 -- before a free end and after a free start nothing is free
 end_live : (xs fs : List Block) → IsEnd xs fs → AreApart (xs ++ fs) → ends_free xs ≡ false

@@ -1,5 +1,5 @@
 -- Items of lists, and of mapped lists.
-use Rattle.std.proofs.Common.{◌≡◌, ◌⊎◌, List, [], ◌∷◌, ◌++◌, map, refl, ap, ap₂, ◌∙◌, inl, inr}
+use Rattle.offset_script.proofs.Common.{◌≡◌, ◌⊎◌, List, [], ◌∷◌, ◌++◌, map, refl, ap, ap₂, ◌∙◌, inl, inr}
 
 -- an item is in a list
 abbrev pub IsIn : {A : Type 0} → A → List A → Type 0
@@ -20,6 +20,11 @@ pub in_right : {A : Type 0} (x : A) (xs ys : List A) → IsIn x ys → IsIn x (x
 in_right x [] ys h = h
 in_right x (z ∷ xs) ys h = inr (in_right x xs ys h)
 
+-- an item beside another is in the whole list
+pub in_parts : {A : Type 0} (x : A) (xs : List A) (y : A) (ys : List A) → IsIn x xs ⊎ IsIn x ys → IsIn x (xs ++ y ∷ ys)
+in_parts x xs y ys (inl h) = in_left x xs _ h
+in_parts x xs y ys (inr h) = in_right x xs _ (inr h)
+
 -- the image of an item is in the mapped list
 pub in_map : {A B : Type 0} (f : A → B) (x : A) (xs : List A) → IsIn x xs → IsIn (f x) (map f xs)
 in_map f x [] h = absurd h
@@ -35,11 +40,8 @@ map_same f e (x ∷ xs) = ap₂ (λ y ys. y ∷ ys) (e x) (map_same f e xs)
 pub map_parts : {A B : Type 0} (f : A → B) (ls : List A) (xs ys : List B) → map f ls ≡ xs ++ ys → (front : List A) × (back : List A) × (ls ≡ front ++ back)
     × (map f front ≡ xs) × (map f back ≡ ys)
 map_parts f ls [] ys e = ([], ls, refl, refl, e)
-map_parts f [] (x ∷ xs) ys e = absurd (cc)
-map_parts f (l ∷ ls) (x ∷ xs) ys e =
-    let r = map_parts f ls xs ys (cc) in
-    let head : f l ≡ x = cc in
-    (l ∷ r.0, r.1, ap (λ z. l ∷ z) r.2, ap₂ (λ y z. y ∷ z) head r.3, r.4)
+map_parts f (l ∷ ls) (x ∷ xs) ys e = let r = map_parts f ls xs ys (cc) in (l ∷ r.0, r.1, (cc), (cc), r.4)
+map_parts f ls xs ys e = absurd cc
 
 -- the first of a mapped list
 pub map_first : {A B : Type 0} (f : A → B) (ls : List A) (b : B) (after : List B) → map f ls ≡ b ∷ after → (x : A) × (ys : List A) × (ls ≡ x ∷ ys)

@@ -1,29 +1,16 @@
 -- A nest leaves no trace.
-use Rattle.std.proofs.Common.{length, ◌≡◌, ◌≢◌, ℕ, ◌+◌, ◌-◌, ◌*◌, ◌<◌, ◌≤◌, Bool, true, false, ◌⊎◌, List, [], ◌∷◌, ◌++◌, Option, Some, None, nat_eq}
-use Rattle.std.proofs.Common.{nat_lt, nat_le, if◌then◌else◌, refl, sym, ap}
-use Rattle.std.proofs.Common.{subst, ◌∙◌, inl, inr, arith, leb-false, le-leb, ne_eqb}
-use Rattle.std.proofs.lemmas.Bool.{cases_lt, lt-leb, and_parts}
-use Rattle.offset_script.specs.declared.scripts.Command.{Command}
-use Rattle.offset_script.specs.declared.scripts.Command.TheVariants as command
-use Rattle.offset_allocator.specs.Classes.{up, down}
-use Rattle.offset_allocator.specs.View.{max_size, padding_to}
-use Rattle.offset_script.specs.Machine.{Live, Free, is_free, total, Place, chosen_place, place_of, coalesce, State, Answer, Outcome, start, step, after, answers, request, grant, grant_or_refuse}
-use Rattle.offset_script.specs.Machine.{is_short_of, returns_only, leaves, release, size_at, stamp_of_call}
-use Rattle.offset_script.specs.Machine as machine
-use Rattle.offset_allocator.specs.Reports.{rows_below}
-use Rattle.offset_script.specs.Histories.{IsGrant, KeepsSpace, IsNest, number_without, answers_renumbered}
-use Rattle.offset_script.specs.Histories as history
+use Rattle.offset_script.proofs.Common.{length, ◌≡◌, ◌≢◌, ℕ, ◌+◌, ◌-◌, ◌*◌, ◌<◌, ◌≤◌, Bool, true, false, ◌⊎◌, List, [], ◌∷◌, ◌++◌, Option, Some, None, nat_eq, nat_lt, nat_le, if◌then◌else◌, refl, sym}
+use Rattle.offset_script.proofs.Common.{ap, subst, ◌∙◌, inl, inr, arith, leb-false, le-leb, ne_eqb, cases_lt, lt-leb, and_parts, Command, up, down, max_size, padding_to, Live, Free, is_free, total}
+use Rattle.offset_script.proofs.Common.{Place, chosen_place, place_of, coalesce, State, Answer, Outcome, start, step, after, answers, request, grant, grant_or_refuse, is_short_of, returns_only}
+use Rattle.offset_script.proofs.Common.{leaves, release, size_at, stamp_of_call, rows_below, IsGrant, KeepsSpace, IsNest, number_without, answers_renumbered, cond_both}
+use Rattle.offset_script.proofs.{Members.IsIn, Members.in_map, Pairs.Pair, Pairs.Kind, Pairs.Lives, Pairs.Frees, Pairs.left_tag, Pairs.right_tag, Pairs.left, Pairs.right, Pairs.lefts, Pairs.rights}
+use Rattle.offset_script.proofs.{Alike.IsAlike, Alike.IsMatched, Alike.alike_answers, Lists.in_count, Lists.count, Found.chosen_at, Well.IsWell, Well.well_start, Well.well_after, Well.well_step}
+use Rattle.offset_script.proofs.{Similar.HasSameNumber, Similar.AreSimilar, Similar.similar_refl, Similar.similar_sym, Similar.similar_trans, Restored.IsRestored, Restored.restored}
 use Rattle.offset_script.specs.Totals.{requested_units}
-use Rattle.offset_script.proofs.Members.{in_map}
-use Rattle.offset_script.proofs.Pairs.{Kind, Lives, Frees, left_tag, right_tag, left, right, lefts, rights}
-use Rattle.offset_script.proofs.Alike.{IsAlike, IsMatched, alike_answers}
-use Rattle.offset_script.proofs.Lists.{in_count, count}
-use Rattle.offset_script.proofs.Found.{chosen_at}
-use Rattle.offset_script.proofs.Well.{IsWell, well_start, well_after, well_step}
 use Rattle.offset_allocator.proofs.Classes.{fits_size}
-use Rattle.offset_script.proofs.Similar.{HasSameNumber, AreSimilar, similar_refl, similar_sym, similar_trans}
-use Rattle.offset_script.proofs.Restored.{IsRestored, restored}
-use Rattle.offset_script.proofs.Tests.{if_both}
+use Rattle.offset_script.specs.declared.scripts.Command.TheVariants as command
+use Rattle.offset_script.specs.Machine as machine
+use Rattle.offset_script.specs.Histories as history
 
 -- What a call does that keeps the space: it only returns an answer, or grants, or releases.
 
@@ -64,24 +51,17 @@ Does c s o = IsOnly s o ⊎ (IsGranted (requested_units c) s o ⊎ IsReleased c 
 only : (c : Command) (s : State) (a : Answer) → IsQuiet a → Does c s (returns_only s a)
 only c s a q = inl (record { answer = a; quiet = q; is = refl })
 
-does_grant : (c : Command) (s : State) → length s.blocks + 1 < s.limit → (needed : ℕ) (padding_at : ℕ → ℕ)
-    → ((o : ℕ) → padding_at o + requested_units c ≤ needed) → (p : Option Place)
+does_grant : (c : Command) (s : State) → length s.blocks + 1 < s.limit → (needed : ℕ) (padding_at : ℕ → ℕ) → ((o : ℕ) → padding_at o + requested_units c ≤ needed) → (p : Option Place)
     → chosen_place needed s.blocks ≡ p → Does c s (grant_or_refuse s (requested_units c) padding_at p)
 does_grant c s room needed padding_at h None e = only c s machine.Refused tt
-does_grant c s room needed padding_at h (Some p) e = inr (inl (record {
-  needed = needed;
-  padding = padding_at (total p.before);
-  place = p;
-  room = room;
-  chose = e;
-  within = let f = chosen_at needed s.blocks p e in let l = fits_size needed p.block.size (and_parts (is_free p.block.tag) (nat_le (up needed) (down p.block.size)) f.1).1 in let m =
-      h (total p.before) in omega arith;
-  is = refl;
-}))
+does_grant c s room needed padding_at h (Some p) e =
+    let f = fits_size needed p.block.size (and_parts (is_free p.block.tag) (nat_le (up needed) (down p.block.size)) (chosen_at needed s.blocks p e).1).1 in
+    let within : padding_at (total p.before) + requested_units c ≤ p.block.size = omega (arith, h (total p.before)) in
+    inr (inl (record { needed = needed; padding = padding_at (total p.before); place = p; room = room; chose = e; within = within; is = refl }))
 
 does_request : (c : Command) (s : State) (spare : ℕ) → 1 ≤ spare → (needed : ℕ) (padding_at : ℕ → ℕ) → ((o : ℕ) → padding_at o + requested_units c ≤ needed)
     → Does c s (request s spare needed (requested_units c) padding_at)
-does_request c s spare some needed padding_at h = search (arith, if_both, needed, only, does_grant, leb-false, length)
+does_request c s spare some needed padding_at h = search (arith, cond_both, needed, only, does_grant, leb-false, length)
 
 does_release : (s : State) (k : ℕ) (o : Option Place) → place_of k s.blocks ≡ o → Does (command.Free k) s (release s o)
 does_release s k None e = only (command.Free k) s machine.Gone tt
@@ -105,11 +85,9 @@ does (command.Size k) s h = only (command.Size k) s _ (quiet_size (place_of k s.
 does command.Report s h = only command.Report s _ (quiet_report (is_short_of 1 s) _ _)
 does command.Full s h = only command.Full s (machine.Full (rows_below 256 (machine.free_sizes s.blocks))) tt
 does command.Reset s h = absurd h
-does (command.Align n align) s h = if_both (Does (command.Align n align) s) (nat_le align 1) (step (command.Alloc n) s)
-    (if nat_lt max_size (n + align - 1) then returns_only s machine.Refused else request s 2 (n + align - 1) n (padding_to align))
-    (λ e. does_request (command.Align n align) s 1 (omega arith) n (λ offset. 0) (λ o. omega arith))
-    (λ e. if_both (Does (command.Align n align) s) (nat_lt max_size (n + align - 1)) (returns_only s machine.Refused) (request s 2 (n + align - 1) n (padding_to align))
-    (λ f. only (command.Align n align) s machine.Refused tt)
+does (command.Align n align) s h =
+    cond_both (nat_le align 1) _ _ (Does (command.Align n align) s) (λ e. does_request (command.Align n align) s 1 (omega arith) n (λ offset. 0) (λ o. omega arith))
+    (λ e. cond_both (nat_lt max_size (n + align - 1)) _ _ (Does (command.Align n align) s) (λ f. only (command.Align n align) s machine.Refused tt)
     (λ f. does_request (command.Align n align) s 2 (omega arith) (n + align - 1) (padding_to align) (λ o. padding_fits n align o (leb-false align 1 e))))
 does (command.Extend more) s h = absurd h
 
@@ -137,15 +115,9 @@ traceless_quiet c s k g f = elim (does c s k) [
 granted_is : (c : Command) (s : State) (k : ℕ) → KeepsSpace c → IsGrant (step c s).answer k → IsGranted (requested_units c) s (step c s) × (k ≡ s.grants + 1)
 granted_is c s k h g = elim (does c s h) [
   | inl q ↦ absurd (subst IsQuiet (ap (λ (x : Outcome). x.answer) (sym q.is) ∙ g.1) q.quiet)
-  | inr (inl d) ↦ (d, number _ _ _ _ (sym g.1 ∙ ap (λ (x : Outcome). x.answer) d.is))
-  | inr (inr d) ↦ absurd (freed k g.0 (ap (λ (x : Outcome). x.answer) (sym d.is) ∙ g.1))
+  | inr (inl d) ↦ let e = ap (λ (x : Outcome). x.answer) d.is in (d, cc)
+  | inr (inr d) ↦ let e = ap (λ (x : Outcome). x.answer) d.is in absurd cc
 ]
-  where
-    number : (k j o p : ℕ) → machine.Grant k o ≡ machine.Grant j p → k ≡ j
-    number k j o p e = cc
-
-    freed : (k o : ℕ) → machine.Freed ≡ machine.Grant k o → ⊥
-    freed k o e = cc
 
 -- a grant, a nest, and its release
 traceless_release : (s t : State) (k : ℕ) → (r : IsRestored s t) → k ≡ s.grants + 1 → s.limit ≡ t.limit → s.grants ≤ t.grants → AreTraceless s (step (command.Free k) t).state
@@ -182,13 +154,13 @@ number_without_cases g j k = search (arith, cases_lt, nat_le, lt-leb, le-leb)
 
 -- the same number, where no grants are left out
 pub number_without_none : (g k : ℕ) → number_without g 0 k ≡ k
-number_without_none g k = elim (number_without_cases g 0 k) [ inl h ↦ h.1 | inr (inl h) ↦ absurd (omega arith) | inr (inr h) ↦ h.1 ∙ omega arith ]
+number_without_none g k = search (arith, number_without_cases)
 
 number_without_kept : (g j i k : ℕ) → 1 ≤ i → i ≤ g → nat_eq k i ≡ nat_eq (number_without g j k) i
 number_without_kept g j i k one most = search (arith, number_without_cases, nat_eq, ne_eqb)
 
 pub number_without_past : (g j k : ℕ) → k ≤ g + j → number_without g j k ≤ g
-number_without_past g j k l = elim (number_without_cases g j k) [ inl h ↦ omega arith | inr (inl h) ↦ omega arith | inr (inr h) ↦ absurd (omega arith) ]
+number_without_past g j k l = search (arith, number_without_cases)
 
 pub number_without_future : (g j k : ℕ) → g + j < k → number_without g j k + j ≡ k
 number_without_future g j k l = elim (number_without_cases g j k) [ inl h ↦ absurd (omega arith) | inr (inl h) ↦ absurd (omega arith) | inr (inr h) ↦ omega arith ]
@@ -200,22 +172,15 @@ matched_kind s t w v j (Lives i i') e c d = λ k. let b = w.old (Live i') d in
 matched_kind s t w v j (Frees x y) e c d = (v.old (Free x) c, w.old (Free y) d)
 
 pub alike_after : (s t : State) → IsWell s → IsWell t → AreTraceless s t → IsAlike (number_without s.grants (t.grants - s.grants)) (t.grants - s.grants) t s
-alike_after s t w v m = record {
-  limit = m.limit;
-  pairs = turned.pairs;
-  left_blocks = turned.left_blocks;
-  right_blocks = turned.right_blocks;
-  matched = λ q i. matched_kind s t w v (t.grants - s.grants) q.kind (turned.numbers q i)
-      (subst (λ bs. 1 ≤ count (left_tag q.kind) bs) (sym turned.left_blocks) (in_count (left q) (lefts turned.pairs) (in_map left q turned.pairs i)))
-      (subst (λ bs. 1 ≤ count (right_tag q.kind) bs) (sym turned.right_blocks) (in_count (right q) (rights turned.pairs) (in_map right q turned.pairs i)));
-  agree = turned.agree;
-  grants = omega (arith, m.grants);
-  past = λ k l. number_without_past s.grants (t.grants - s.grants) k (omega (arith, m.grants));
-  future = λ k l. number_without_future s.grants (t.grants - s.grants) k (omega (arith, m.grants));
-}
-  where
-    turned : AreSimilar t.blocks s.blocks
-    turned = similar_sym s.blocks t.blocks m.blocks
+alike_after s t w v m =
+    let p = similar_sym s.blocks t.blocks m.blocks in
+    let on_left = λ (q : Pair) (i : IsIn q p.pairs). subst (λ bs. 1 ≤ count (left_tag q.kind) bs) (sym p.left_blocks) (in_count (left q) (lefts p.pairs) (in_map left q p.pairs i)) in
+    let on_right = λ (q : Pair) (i : IsIn q p.pairs). subst (λ bs. 1 ≤ count (right_tag q.kind) bs) (sym p.right_blocks) (in_count (right q) (rights p.pairs) (in_map right q p.pairs i)) in
+    let matched = λ (q : Pair) (i : IsIn q p.pairs). matched_kind s t w v (t.grants - s.grants) q.kind (p.numbers q i) (on_left q i) (on_right q i) in
+    let past = λ (k : ℕ) (l : k ≤ t.grants). number_without_past s.grants (t.grants - s.grants) k (omega (arith, m.grants)) in
+    let future = λ (k : ℕ) (l : t.grants < k). number_without_future s.grants (t.grants - s.grants) k (omega (arith, m.grants)) in
+    let grants : t.grants ≡ s.grants + (t.grants - s.grants) = omega (arith, m.grants) in
+    record { limit = m.limit; pairs = p.pairs; left_blocks = p.left_blocks; right_blocks = p.right_blocks; matched = matched; agree = p.agree; grants = grants; past = past; future = future }
 
 pub nest_law : (size limit : ℕ) → 2 ≤ limit → (cs nest : List Command) → let s = after cs (start size limit) in
     IsNest s nest → (next : List Command) → answers next (after nest s) ≡ answers_renumbered s (after nest s) next

@@ -1,16 +1,10 @@
 -- Two lists of blocks of the same sizes, both live or both free at each place, seen as one list of pairs.
-use Rattle.std.proofs.Common.{◌≡◌, ℕ, zero, suc, ◌+◌, ◌-◌, true, not, ◌&&◌, ◌||◌, ◌⊎◌, List, [], ◌∷◌, ◌++◌, map, length, Option, Some, None, option_map, nat_eq}
-use Rattle.std.proofs.Common.{nat_lt, nat_le, if◌then◌else◌, refl}
-use Rattle.std.proofs.Common.{sym, ap, ap₂, subst, subst₂, ◌∙◌, inl, inr, arith, eq-eqb, eqb-true}
-use Rattle.std.proofs.lemmas.List.{map-append, length-map}
-use Rattle.std.proofs.lemmas.Bool.{false≢true, and_parts}
-use Rattle.offset_allocator.specs.Classes.{up, down}
-use Rattle.offset_allocator.specs.View.{max_size}
-use Rattle.offset_script.specs.Machine.{Tag, Live, Free, Block, block, is_free, has_number, stamp, total, free_sizes, Place, fits, is_taken_before, choose, chosen_place, prepend, place_of, free_block}
-use Rattle.offset_script.specs.Machine.{ends_live, coalesce, State, is_short_of}
-use Rattle.offset_script.proofs.Members.{IsIn, in_append, in_left, in_right, map_parts}
-use Rattle.offset_script.proofs.Lists.{starts_free, ends_free, AreFree, IsEnd, IsStart, IsCoalesced, coalesced, coalesce_parts}
-use Rattle.offset_script.proofs.Tests.{same_and, if_same}
+use Rattle.offset_script.proofs.Common.{◌≡◌, ℕ, zero, suc, ◌+◌, ◌-◌, true, not, ◌&&◌, ◌||◌, ◌⊎◌, List, [], ◌∷◌, ◌++◌, map, length, Option, Some, None, option_map, nat_eq, nat_lt, nat_le}
+use Rattle.offset_script.proofs.Common.{if◌then◌else◌, refl, sym, ap, ap₂, subst, subst₂, ◌∙◌, inl, inr, arith, eq-eqb, eqb-true, map-append, length-map, and_parts, up, down, max_size, Tag, Live}
+use Rattle.offset_script.proofs.Common.{Free, Block, block, is_free, has_number, stamp, total, free_sizes, Place, fits, is_taken_before, choose, chosen_place, prepend, place_of, free_block, ends_live}
+use Rattle.offset_script.proofs.Common.{coalesce, State, is_short_of}
+use Rattle.offset_script.proofs.Lists.{starts_free, ends_free, AreFree, IsEnd, IsStart, coalesced, coalesce_parts}
+use Rattle.offset_script.proofs.{Members.IsIn, Members.in_append, Members.in_left, Members.in_right, Members.map_parts, Tests.same_and, Tests.if_same}
 
 -- two blocks at one place: both live, with their numbers, or both free, with their stamps
 pub data Kind : Type 0 where
@@ -103,18 +97,14 @@ module _ (s t : State) (p : List Pair) (limit : s.limit ≡ t.limit) (l : s.bloc
 
 -- both lists end and start alike
 pub same_end : (ps fs : List Pair) → IsEnd (lefts ps) (lefts fs) → IsEnd (rights ps) (rights fs)
-same_end ps fs e = record {
-  few = omega (arith, same_length fs, e.few);
-  free = same_all_free fs e.free;
-  live = λ h. ap ends_free (sym (map-append right ps fs)) ∙ sym (same_ends_free (ps ++ fs)) ∙ ap ends_free (map-append left ps fs) ∙ e.live (same_length fs ∙ h);
-}
+same_end ps fs e =
+    let same = ap ends_free (sym (map-append right ps fs)) ∙ sym (same_ends_free (ps ++ fs)) ∙ ap ends_free (map-append left ps fs) in
+    record { few = omega (arith, same_length fs, e.few); free = same_all_free fs e.free; live = λ h. same ∙ e.live (same_length fs ∙ h) }
 
 pub same_start : (gs ys : List Pair) → IsStart (lefts gs) (lefts ys) → IsStart (rights gs) (rights ys)
-same_start gs ys e = record {
-  few = omega (arith, same_length gs, e.few);
-  free = same_all_free gs e.free;
-  live = λ h. ap starts_free (sym (map-append right gs ys)) ∙ sym (same_starts_free (gs ++ ys)) ∙ ap starts_free (map-append left gs ys) ∙ e.live (same_length gs ∙ h);
-}
+same_start gs ys e =
+    let same = ap starts_free (sym (map-append right gs ys)) ∙ sym (same_starts_free (gs ++ ys)) ∙ ap starts_free (map-append left gs ys) in
+    record { few = omega (arith, same_length gs, e.few); free = same_all_free gs e.free; live = λ h. same ∙ e.live (same_length gs ∙ h) }
 
 -- units that become free and coalesce on both sides
 pub record AreBothCoalesced (ps : List Pair) (n s u : ℕ) (qs : List Pair) : Type 0 where
@@ -124,32 +114,23 @@ pub record AreBothCoalesced (ps : List Pair) (n s u : ℕ) (qs : List Pair) : Ty
   pub old : (q : Pair) → IsIn q pairs → (IsIn q ps ⊎ IsIn q qs) ⊎ (q.kind ≡ Frees s u)
 
 pub both_coalesced : (ps : List Pair) (n s u : ℕ) (qs : List Pair) → AreBothCoalesced ps n s u qs
-both_coalesced ps n s u qs = record {
-  pairs = a.0 ++ pair m (Frees s u) ∷ b.1;
-  on_left = c.is ∙ ap₂ (λ x y. x ++ block m (Free s) ∷ y) (sym a.3) (sym b.4) ∙ sym (map-append left a.0 (pair m (Frees s u) ∷ b.1));
-  on_right = ap₂ (λ x y. coalesce x n u y) (ap rights a.2 ∙ map-append right a.0 a.1) (ap rights b.2 ∙ map-append right b.0 b.1)
-      ∙ coalesce_parts (rights a.0) (rights a.1) n u (rights b.0) (rights b.1) (same_end a.0 a.1 (subst₂ IsEnd (sym a.3) (sym a.4) c.end))
-      (same_start b.0 b.1 (subst₂ IsStart (sym b.3) (sym b.4) c.start))
-      ∙ ap₂ (λ x y. rights a.0 ++ block (x + n + y) (Free u) ∷ rights b.1) (sym (same_total a.1) ∙ ap total a.4) (sym (same_total b.0) ∙ ap total b.3)
-      ∙ sym (map-append right a.0 (pair m (Frees s u) ∷ b.1));
-  old = λ q i. elim (in_append q a.0 _ i) [
-    | inl h ↦ inl (inl (subst (IsIn q) (sym a.2) (in_left q a.0 a.1 h)))
-    | inr (inl e) ↦ inr (ap (λ (z : Pair). z.kind) e)
-    | inr (inr h) ↦ inl (inr (subst (IsIn q) (sym b.2) (in_right q b.0 b.1 h)))
-  ];
-}
-  where
-    c : IsCoalesced (lefts ps) n s (lefts qs)
-    c = coalesced (lefts ps) n s (lefts qs)
-
-    m : ℕ
-    m = total c.last + n + total c.first
-
-    a : (front : List Pair) × (back : List Pair) × (ps ≡ front ++ back) × (lefts front ≡ c.front) × (lefts back ≡ c.last)
-    a = map_parts left ps c.front c.last c.at_front
-
-    b : (front : List Pair) × (back : List Pair) × (qs ≡ front ++ back) × (lefts front ≡ c.first) × (lefts back ≡ c.back)
-    b = map_parts left qs c.first c.back c.at_back
+both_coalesced ps n s u qs =
+    let c = coalesced (lefts ps) n s (lefts qs) in
+    let m = total c.last + n + total c.first in
+    let a = map_parts left ps c.front c.last c.at_front in
+    let b = map_parts left qs c.first c.back c.at_back in
+    let ends = same_end a.0 a.1 (subst₂ IsEnd (sym a.3) (sym a.4) c.end) in
+    let starts = same_start b.0 b.1 (subst₂ IsStart (sym b.3) (sym b.4) c.start) in
+    record {
+      pairs = a.0 ++ pair m (Frees s u) ∷ b.1;
+      on_left = c.is ∙ ap₂ (λ x y. x ++ block m (Free s) ∷ y) (sym a.3) (sym b.4) ∙ sym (map-append left a.0 (pair m (Frees s u) ∷ b.1));
+      on_right = search (arith, rights, map-append, a, b, coalesce_parts, ends, starts, same_total);
+      old = λ q i. elim (in_append q a.0 _ i) [
+        | inl h ↦ inl (inl (subst (IsIn q) (sym a.2) (in_left q a.0 a.1 h)))
+        | inr (inl e) ↦ inr (ap (λ (z : Pair). z.kind) e)
+        | inr (inr h) ↦ inl (inr (subst (IsIn q) (sym b.2) (in_right q b.0 b.1 h)))
+      ];
+    }
 
 -- places on both sides: of the same pair, of which P holds, or none
 pub data IsSamePlace (P : Pair → Type 0) (p : List Pair) : Option Place → Option Place → Type 0 where
@@ -189,8 +170,7 @@ same_fits n q = ap (λ b. b && nat_le (up n) (down q.size)) (same_free q.kind)
 same_tests : (x y : ℕ) (k l : Kind) → is_free (left_tag k) ≡ true → is_free (left_tag l) ≡ true → (nat_eq y x ≡ true → IsSameOrder l k)
     → (nat_lt x y || (nat_eq x y && nat_lt (stamp (left_tag l)) (stamp (left_tag k)))) ≡ (nat_lt x y || (nat_eq x y && nat_lt (stamp (right_tag l)) (stamp (right_tag k))))
 same_tests x y (Frees s u) (Frees t v) f g h = ap (λ b. nat_lt x y || b) (same_and (nat_eq x y) _ _ (λ e. h (eq-eqb y x (sym (eqb-true x y e)))))
-same_tests x y (Frees s u) (Lives i j) f g h = absurd (false≢true g)
-same_tests x y (Lives i j) l f g h = absurd (false≢true f)
+same_tests x y k l f g h = absurd cc
 
 -- of two pairs that are free and agree, the same one is chosen over the other on both sides
 same_test : (m : ℕ) (a b : Pair) → fits m (left a) ≡ true → fits m (left b) ≡ true → AreAgreed b a → is_taken_before (left a) (left b) ≡ is_taken_before (right a) (right b)

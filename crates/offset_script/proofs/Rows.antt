@@ -1,9 +1,6 @@
 -- Commands that are a nest, the collapse of three grants, and values of classes beyond 32 bits.
-use Rattle.std.proofs.Common.{◌≡◌, [], ◌∷◌, map, refl}
+use Rattle.offset_script.proofs.Common.{◌≡◌, [], ◌∷◌, map, refl, value, up, down, State, start, after, IsNest, outline, collapse, releases}
 use Rattle.offset_script.specs.declared.scripts.Command.TheVariants as command
-use Rattle.offset_allocator.specs.Classes.{value, up, down}
-use Rattle.offset_script.specs.Machine.{State, start, after}
-use Rattle.offset_script.specs.Histories.{IsNest, outline, collapse, releases}
 use Rattle.offset_script.specs.Histories as history
 
 -- a state, and a nest from it on

@@ -1,13 +1,9 @@
 -- Lists of blocks that differ only in stamps of the same order in each class.
-use Rattle.std.proofs.Common.{◌≡◌, ℕ, zero, suc, true, List, [], ◌∷◌, Option, Some, is_none, nat_eq, nat_lt, get_or, refl, sym, ap, ap₂, subst, subst₂, ◌∙◌, inl, inr, arith}
-use Rattle.offset_script.proofs.Tests.{same_some}
-use Rattle.std.proofs.lemmas.Bool.{false≢true}
-use Rattle.std.proofs.Math.ListN.{get_or-map}
-use Rattle.offset_allocator.specs.Classes.{down}
-use Rattle.offset_script.specs.Machine.{Tag, Live, Free, Block, block, is_free, stamp}
-use Rattle.offset_script.specs.Histories.{holder, outline}
-use Rattle.offset_script.proofs.Members.{IsIn}
+use Rattle.offset_script.proofs.Common.{◌≡◌, ℕ, zero, suc, true, List, [], ◌∷◌, Option, Some, is_none, nat_eq, nat_lt, get_or, refl, sym, ap, ap₂, subst, subst₂, ◌∙◌, inl, inr, arith, false≢true}
+use Rattle.offset_script.proofs.Common.{down, Tag, Live, Free, Block, block, is_free, stamp, holder, outline}
 use Rattle.offset_script.proofs.Pairs.{Kind, Lives, Frees, Pair, pair, left_tag, right_tag, left, right, lefts, rights, AreAgreed, AreAllAgreed, IsSameOrder}
+use Rattle.offset_script.proofs.{Tests.same_some, Members.IsIn}
+use Rattle.std.proofs.Math.ListN.{get_or-map}
 
 -- a live pair has one number
 abbrev pub HasSameNumber : Kind → Type 0
@@ -23,9 +19,8 @@ pub record ArePaired (bs cs : List Block) : Type 0 where
 
 paired_tag : (t u : Tag) → holder t ≡ holder u → (k : Kind) × (t ≡ left_tag k) × (u ≡ right_tag k) × HasSameNumber k
 paired_tag (Live i) (Live j) e = (Lives i j, refl, refl, same_some i j e)
-paired_tag (Live i) (Free s) e = absurd (grind (arith, e))
-paired_tag (Free s) (Live i) e = absurd (grind (arith, e))
 paired_tag (Free s) (Free u) e = (Frees s u, refl, refl, tt)
+paired_tag t u e = absurd cc
 
 paired_cons : (b c : Block) (bs cs : List Block) → ◌≡◌ {A = ℕ × Option ℕ} (b.size, holder b.tag) (c.size, holder c.tag) → ArePaired bs cs → ArePaired (b ∷ bs) (c ∷ cs)
 paired_cons b c bs cs e p =
@@ -39,16 +34,13 @@ paired_cons b c bs cs e p =
 
 pub paired : (bs cs : List Block) → outline bs ≡ outline cs → ArePaired bs cs
 paired [] [] e = record { pairs = []; left_blocks = refl; right_blocks = refl; numbers = λ q i. absurd i }
-paired [] (c ∷ cs) e = absurd (cc)
-paired (b ∷ bs) [] e = absurd (cc)
 paired (b ∷ bs) (c ∷ cs) e = paired_cons b c bs cs (cc) (paired bs cs (cc))
+paired bs cs e = absurd cc
 
 -- two lists that differ only in stamps, which have the same order in each class
 pub record AreSimilar (bs cs : List Block) : Type 0 where
-  pub pairs : List Pair
-  pub left_blocks : bs ≡ lefts pairs
-  pub right_blocks : cs ≡ rights pairs
-  pub numbers : (q : Pair) → IsIn q pairs → HasSameNumber q.kind
+  pub paired : ArePaired bs cs
+  pub open paired use {pairs, left_blocks, right_blocks, numbers}
   pub agree : AreAllAgreed pairs
 
 -- the block at a place, or a live one past the end
@@ -67,7 +59,7 @@ module _ (bs cs : List Block) (e : outline bs ≡ outline cs) (i : ℕ) where
       ∙ get_or-map (λ (b : Block). (b.size, holder b.tag)) cs i (block 0 (Live 0))
 
   size_same : (at i bs).size ≡ (at i cs).size
-  size_same = ap (λ (x : ℕ × Option ℕ). x.0) shape_same
+  size_same = search (arith, shape_same)
 
   free_same : is_free (at i bs).tag ≡ is_free (at i cs).tag
   free_same = search (arith, is_none, shape_same)
@@ -92,13 +84,11 @@ IsInOrder k l = nat_lt (stamp (left_tag k)) (stamp (left_tag l)) ≡ nat_lt (sta
 
 in_order : (k l : Kind) → is_free (left_tag k) ≡ true → is_free (left_tag l) ≡ true → IsSameOrder k l → IsInOrder k l
 in_order (Frees s u) (Frees t v) f g h = h
-in_order (Frees s u) (Lives i j) f g h = absurd (false≢true g)
-in_order (Lives i j) l f g h = absurd (false≢true f)
+in_order k l f g h = absurd cc
 
 same_order : (k l : Kind) → (is_free (left_tag k) ≡ true → is_free (left_tag l) ≡ true → IsInOrder k l) → IsSameOrder k l
 same_order (Frees s u) (Frees t v) h = h refl refl
-same_order (Frees s u) (Lives i j) h = tt
-same_order (Lives i j) l h = tt
+same_order k l h = tt
 
 same_outline : (p : List Pair) → ((q : Pair) → IsIn q p → HasSameNumber q.kind) → outline (lefts p) ≡ outline (rights p)
 same_outline [] h = refl
@@ -123,35 +113,15 @@ module _ (bs cs : List Block) (p : List Pair) (l : bs ≡ lefts p) (r : cs ≡ r
 ordered : (bs cs : List Block) → AreSimilar bs cs → IsOrdered bs cs
 ordered bs cs m = record {
   same = ap outline m.left_blocks ∙ same_outline m.pairs m.numbers ∙ sym (ap outline m.right_blocks);
-  order = λ i j f g e.
-      let l = left_at bs cs m.pairs m.left_blocks m.right_blocks in
-      let r = right_at bs cs m.pairs m.left_blocks m.right_blocks in
-      let f' = sym (ap (λ (b : Block). is_free b.tag) (l i)) ∙ f in
-      let g' = sym (ap (λ (b : Block). is_free b.tag) (l j)) ∙ g in
-      ap₂ (λ (x y : Block). nat_lt (stamp x.tag) (stamp y.tag)) (l i) (l j)
-      ∙ in_order (pair_at i m.pairs).kind (pair_at j m.pairs).kind f' g'
-      (m.agree _ _ (in_at i m.pairs f') (in_at j m.pairs g') (sym (ap₂ (λ (x y : Block). nat_eq (down x.size) (down y.size)) (l i) (l j)) ∙ e))
-      ∙ sym (ap₂ (λ (x y : Block). nat_lt (stamp x.tag) (stamp y.tag)) (r i) (r j));
+  order = λ i j f g e. search (arith, (left_at bs cs m.pairs m.left_blocks m.right_blocks), (right_at bs cs m.pairs m.left_blocks m.right_blocks), in_order, in_at, m.agree);
 }
 
 similar : (bs cs : List Block) → IsOrdered bs cs → AreSimilar bs cs
-similar bs cs m = record {
-  pairs = p.pairs;
-  left_blocks = p.left_blocks;
-  right_blocks = p.right_blocks;
-  numbers = p.numbers;
-  agree = λ a b i j. let x = at_in a p.pairs i in let y = at_in b p.pairs j in subst₂ AreAgreed x.1 y.1 (agreed x.0 y.0);
-}
-  where
-    p : ArePaired bs cs
-    p = paired bs cs m.same
-
-    agreed : (i j : ℕ) → AreAgreed (pair_at i p.pairs) (pair_at j p.pairs)
-    agreed i j e =
-        let l = left_at bs cs p.pairs p.left_blocks p.right_blocks in
-        same_order _ _ (λ f g. order_at bs cs p.pairs p.left_blocks p.right_blocks i j
-        (m.order i j (ap (λ (b : Block). is_free b.tag) (l i) ∙ f) (ap (λ (b : Block). is_free b.tag) (l j)
-        ∙ g) (ap₂ (λ (x y : Block). nat_eq (down x.size) (down y.size)) (l i) (l j) ∙ e)))
+similar bs cs m =
+    let p = paired bs cs m.same in
+    let agreed : (i j : ℕ) → AreAgreed (pair_at i p.pairs) (pair_at j p.pairs) = λ i j e. same_order _ _
+    (λ f g. search (arith, (left_at bs cs p.pairs p.left_blocks p.right_blocks), (right_at bs cs p.pairs p.left_blocks p.right_blocks), m.order)) in
+    record { paired = p; agree = λ a b i j. let x = at_in a p.pairs i in let y = at_in b p.pairs j in subst₂ AreAgreed x.1 y.1 (agreed x.0 y.0) }
 
 pub similar_refl : (bs : List Block) → AreSimilar bs bs
 similar_refl bs = similar bs bs (record { same = refl; order = λ i j f g e. refl })
@@ -159,17 +129,10 @@ similar_refl bs = similar bs bs (record { same = refl; order = λ i j f g e. ref
 pub similar_sym : (bs cs : List Block) → AreSimilar bs cs → AreSimilar cs bs
 similar_sym bs cs m =
     let o = ordered bs cs m in
-    let size = size_same bs cs o.same in
-    let free = free_same bs cs o.same in
-    similar cs bs (record { same = sym o.same; order = λ i j f g e. sym (o.order i j (free i ∙ f) (free j ∙ g) (ap₂ (λ x y. nat_eq (down x) (down y)) (size i) (size j) ∙ e)) })
+    similar cs bs (record { same = sym o.same; order = λ i j f g e. search (arith, o.order, (size_same bs cs o.same), (free_same bs cs o.same)) })
 
 pub similar_trans : (xs bs cs : List Block) → AreSimilar xs bs → AreSimilar bs cs → AreSimilar xs cs
 similar_trans xs bs cs a b =
     let o = ordered xs bs a in
     let p = ordered bs cs b in
-    let size = size_same xs bs o.same in
-    let free = free_same xs bs o.same in
-    similar xs cs (record {
-      same = o.same ∙ p.same;
-      order = λ i j f g e. o.order i j f g e ∙ p.order i j (sym (free i) ∙ f) (sym (free j) ∙ g) (sym (ap₂ (λ x y. nat_eq (down x) (down y)) (size i) (size j)) ∙ e);
-    })
+    similar xs cs (record { same = o.same ∙ p.same; order = λ i j f g e. search (arith, o.order, p.order, (size_same xs bs o.same), (free_same xs bs o.same)) })

@@ -1,32 +1,19 @@
 -- The steps of a player are those of the plain machine, call by call.
-use Rattle.std.proofs.Common.{◌≡◌, ℕ, zero, suc, ◌+◌, ◌-◌, ◌%◌, ◌^◌, ◌<◌, ◌≤◌, Bool, List, [], ◌∷◌, ◌++◌, map, length, Option, Some, None, option_map}
-use Rattle.std.proofs.Common.{Result, Ok, Err, IfOk, slice_index_or, slice_set}
-use Rattle.std.proofs.Common.{get_or, if◌then◌else◌, IsTrue, refl, sym, ap, ap₂, subst, subst₂, ◌∙◌, inl, inr, arith, eq-eqb, ne_eqb, add-one, length-append, append_assoc, append-nil}
-use Rattle.std.proofs.lemmas.List.{map-append, get_or-set_same, get_or-set_other, get_or_past, length-set}
-use Rattle.std.proofs.Math.ListN.{get_or-append}
-use Rattle.std.proofs.Math.Seq.{get_or-append_seam}
-use Rattle.std.proofs.lemmas.Bool.{cases_eq, cases_lt}
-use Rattle.offset_allocator.specs.Classes.{value}
-use Rattle.offset_allocator.specs.Reports.{row, rows_below, count_of}
-use Rattle.offset_allocator.specs.declared.reports.StorageReportFull.{StorageReportFull}
+use Rattle.offset_script.proofs.Common.{◌≡◌, ℕ, zero, suc, ◌+◌, ◌-◌, ◌%◌, ◌^◌, ◌<◌, ◌≤◌, Bool, List, [], ◌∷◌, ◌++◌, map, length, Option, Some, None, option_map, Result, Ok, Err, IfOk, slice_index_or}
+use Rattle.offset_script.proofs.Common.{slice_set, get_or, if◌then◌else◌, IsTrue, refl, sym, ap, ap₂, subst, subst₂, ◌∙◌, inl, inr, arith, eq-eqb, ne_eqb, add-one, length-append, append_assoc}
+use Rattle.offset_script.proofs.Common.{append-nil, map-append, get_or-set_same, get_or-set_other, get_or_past, length-set, cases_eq, cases_lt, value, row, rows_below, count_of, Command}
+use Rattle.offset_script.proofs.Common.{has_valid_alignment, State, Answer, step, start, row_view, View, Grant, IsWellFormed, kept_name, Takes, IsRun, AreOfARun, IsKept, IfNamed, Stays, AreLive}
+use Rattle.offset_script.proofs.Common.{IsFresh, Frees, Extends, Resets}
+use Rattle.std.proofs.{Math.ListN.get_or-append, Math.Seq.get_or-append_seam}
 use Rattle.offset_allocator.specs.declared.reports.StorageReportFullRegion.{StorageReportFullRegion}
-use Rattle.offset_script.specs.declared.scripts.Command.{Command}
-use Rattle.offset_script.specs.declared.scripts.Command.TheVariants as command
-use Rattle.offset_script.specs.Grammar.{has_valid_alignment}
-use Rattle.offset_script.specs.Machine.{State, Answer, step, start, row_view}
-use Rattle.offset_script.specs.Machine as machine
-use Rattle.offset_allocator.specs.View.{View, Grant, free_sizes, IsWellFormed}
-use Rattle.offset_script.specs.Steps.{kept_name, Takes, IsRun, AreOfARun, IsKept, IfNamed, Stays, AreLive}
-use Rattle.offset_script.proofs.Agreement.{IsAtState}
-use Rattle.offset_allocator.specs.Relations.{IsFresh, Frees, Extends, Resets}
-use Rattle.offset_script.proofs.Well.{IsWell}
+use Rattle.offset_allocator.specs.{declared.reports.StorageReportFull.StorageReportFull, View.free_sizes, Requests.IsFullReport, Ranges.size_of}
 use Rattle.offset_script.proofs.Agreed.{with_name, without_name, IsMatch, serve_agrees, aligned_agrees, extend_agrees, free_agrees, live_agrees, gone_agrees, size_gone_agrees, size_agrees}
 use Rattle.offset_script.proofs.Agreed.{report_agrees, full_agrees, agrees_quiet, agrees_kept, alone_agrees, same_units}
+use Rattle.offset_script.proofs.{Agreement.IsAtState, Well.IsWell}
 use Rattle.offset_script.specs.declared.answers.FullRow.{FullRow}
-use Rattle.offset_allocator.specs.Requests.{IsFullReport}
-use Rattle.offset_allocator.specs.Ranges.{size_of}
-use Rattle.offset_allocator.proofs.Reading.{used_live, size_is}
-use Rattle.offset_allocator.proofs.Powers.{not_zero}
+use Rattle.offset_allocator.proofs.{Reading.used_live, Reading.size_is, Powers.not_zero}
+use Rattle.offset_script.specs.declared.scripts.Command.TheVariants as command
+use Rattle.offset_script.specs.Machine as machine
 
 -- the name in a handle
 abbrev handle_name : Grant → ℕ
@@ -36,13 +23,10 @@ handle_name h = h.name
 pub kept_push : (hs : List (Option Grant)) (h : Grant) (k : ℕ) → kept_name (hs ++ Some h ∷ []) k ≡ with_name (length hs + 1) h.name (kept_name hs) k
 kept_push hs h zero = rw (ne_eqb 0 (length hs + 1) (omega arith)) refl
 kept_push hs h (suc k) = elim (cases_eq k (length hs)) [
-  | inl e ↦ ap (option_map handle_name) (ap (λ i. get_or (hs ++ Some h ∷ []) i None) e ∙ get_or-append_seam hs (Some h) [] None)
-      ∙ sym (ap (λ (b : Bool). if b then Some h.name else kept_name hs (suc k)) (eq-eqb (suc k) (length hs + 1) (omega arith)))
+  | inl e ↦ search (arith, option_map, get_or-append_seam, eq-eqb)
   | inr n ↦ elim (cases_lt k (length hs)) [
-    | inl l ↦ ap (option_map handle_name) (get_or-append hs (Some h ∷ []) None k l)
-        ∙ sym (ap (λ (b : Bool). if b then Some h.name else kept_name hs (suc k)) (ne_eqb (suc k) (length hs + 1) (omega arith)))
-    | inr m ↦ ap (option_map handle_name) (get_or_past (hs ++ Some h ∷ []) k None (let e = length-append hs (Some h ∷ []) in omega arith))
-        ∙ sym (ap (λ (b : Bool). if b then Some h.name else kept_name hs (suc k)) (ne_eqb (suc k) (length hs + 1) (omega arith)) ∙ ap (option_map handle_name) (get_or_past hs k None m))
+    | inl l ↦ search (arith, option_map, get_or-append, ne_eqb)
+    | inr m ↦ let e = length-append hs (Some h ∷ []) in search (arith, option_map, ne_eqb, get_or_past)
   ]
 ]
 
@@ -64,7 +48,7 @@ kept_within hs (suc k) x e = search (arith, cases_lt, length, option_map, get_or
 -- where no handle is left, no name is kept
 none_kept : (hs : List (Option Grant)) → ((i : ℕ) → i < length hs → slice_index_or hs i None ≡ None) → (k : ℕ) → kept_name hs k ≡ None
 none_kept hs none zero = refl
-none_kept hs none (suc k) = elim (cases_lt k (length hs)) [ inl l ↦ ap (option_map handle_name) (none k l) | inr m ↦ ap (option_map handle_name) (get_or_past hs k None m) ]
+none_kept hs none (suc k) = search (arith, cases_lt, option_map, get_or_past)
 
 -- what is so of a name that is kept, or where none is
 pub if_none : (o : Option ℕ) (P : ℕ → Type 0) (Q : Type 0) → o ≡ None → Q → IfNamed o P Q
@@ -101,14 +85,9 @@ module _ (v w : View) (hs left : List (Option Grant)) (a : Answer) (s : State) (
   -- a release of a live grant, whose handle is removed
   freed : (k x : ℕ) → kept_name hs (suc k) ≡ Some x → k < length hs → Frees x v w → left ≡ slice_set hs k None → a ≡ machine.Freed → Follows (command.Free (suc k)) s w left a
   freed k x e l f but is =
-      let r = free_agrees v (kept_name hs) s p.formed ws p.agrees (suc k) x e w formed f in (
-        is ∙ sym r.0,
-        record {
-          formed = formed;
-          agrees = agrees_kept w (without_name (suc k) (kept_name hs)) (kept_name left) _ (λ j. ap (λ z. kept_name z j) but ∙ kept_set hs k l j) r.1;
-          grants = ap length but ∙ length-set hs k None ∙ p.grants ∙ sym r.2;
-        },
-      )
+      let r = free_agrees v (kept_name hs) s p.formed ws p.agrees (suc k) x e w formed f in
+      let agrees = agrees_kept w (without_name (suc k) (kept_name hs)) (kept_name left) _ (λ j. ap (λ z. kept_name z j) but ∙ kept_set hs k l j) r.1 in
+      (is ∙ sym r.0, record { formed = formed; agrees = agrees; grants = ap length but ∙ length-set hs k None ∙ p.grants ∙ sym r.2 })
 
   -- the same, by the number of the grant
   released : (k x : ℕ) → kept_name hs k ≡ Some x → Frees x v w → left ≡ slice_set hs (k - 1) None → a ≡ machine.Freed → Follows (command.Free k) s w left a
@@ -118,8 +97,7 @@ module _ (v w : View) (hs left : List (Option Grant)) (a : Answer) (s : State) (
       freed k x e (let l = (kept_within hs (suc k) x e).1 in omega arith) f (but ∙ ap (λ i. slice_set hs i None) same) is
 
   -- a release by any number
-  release_step : (k : ℕ) (o : Option ℕ) → kept_name hs k ≡ o
-      → IfNamed o (λ x. Frees x v w × (left ≡ slice_set hs (k - 1) None) × (a ≡ machine.Freed)) (Stays v hs w left × (a ≡ machine.Gone))
+  release_step : (k : ℕ) (o : Option ℕ) → kept_name hs k ≡ o → IfNamed o (λ x. Frees x v w × (left ≡ slice_set hs (k - 1) None) × (a ≡ machine.Freed)) (Stays v hs w left × (a ≡ machine.Gone))
       → Follows (command.Free k) s w left a
   release_step k None e t =
       let r = gone_agrees v (kept_name hs) s p.formed ws p.agrees k e in
@@ -144,29 +122,21 @@ module _ (v w : View) (hs left : List (Option Grant)) (a : Answer) (s : State) (
   follows (command.Size k) power t = asked (command.Size k) refl t.0 (size_found k (kept_name hs k) refl t.1)
   follows command.Report power t = asked command.Report refl t.0 (t.1 ∙ sym (report_agrees v (kept_name hs) s p.formed ws p.agrees))
   follows command.Full power t = asked command.Full refl t.0 (t.1 ∙ sym (full_agrees v (kept_name hs) s p.formed ws p.agrees))
-  follows command.Reset power t = (
-    t.3,
-    record {
-      formed = formed;
-      agrees = alone_agrees w t.0.name v.size (machine.stamp_of_call s) (kept_name left) (step command.Reset s).state (ap (λ (u : View). u.blocks) t.0.view) (ap (λ (u : View). u.order) t.0.view)
-          (p.agrees.limit ∙ sym (ap (λ (u : View). u.max_allocs) t.0.view))
-          (ap (λ n. machine.block n (machine.Free (machine.stamp_of_call s)) ∷ []) (sym (same_units v (kept_name hs) s p.formed ws p.agrees) ∙ p.formed.whole)) t.2;
-      grants = t.1 ∙ p.grants;
-    },
-  )
+  follows command.Reset power t =
+      let blocks = ap (λ n. machine.block n (machine.Free (machine.stamp_of_call s)) ∷ []) (sym (same_units v (kept_name hs) s p.formed ws p.agrees) ∙ p.formed.whole) in
+      let agrees = alone_agrees w t.0.name v.size (machine.stamp_of_call s) (kept_name left) (step command.Reset s).state (ap (λ (u : View). u.blocks) t.0.view) (ap (λ (u : View). u.order) t.0.view)
+      (p.agrees.limit ∙ sym (ap (λ (u : View). u.max_allocs) t.0.view)) blocks t.2 in
+      (t.3, record { formed = formed; agrees = agrees; grants = t.1 ∙ p.grants })
   follows (command.Align n align) power t = requested (command.Align n align) t.0 (aligned_agrees v (kept_name hs) s p.formed ws p.agrees n align (not_zero align (inr (inl power))) w formed t.0 t.1)
       t.2
   follows (command.Extend more) power t = extended more t.0 t.1 t.2 t.3
 
 -- a fresh space represents the first state
 pub fresh_represents : (w : View) → IsWellFormed w → (size limit : ℕ) (hs : List (Option Grant)) → IsFresh size limit w → hs ≡ [] → IsAtState w hs (start size limit)
-fresh_represents w formed size limit hs f e = subst (λ l. IsAtState w l (start size limit)) (sym e) (record {
-  formed = formed;
-  agrees = alone_agrees w f.name size 0 (kept_name []) (start size limit) (ap (λ (v : View). v.blocks) f.view) (ap (λ (v : View). v.order) f.view)
-      (sym (ap (λ (v : View). v.max_allocs) f.view)) refl
-      (none_kept [] (λ i l. refl));
-  grants = refl;
-})
+fresh_represents w formed size limit hs f e =
+    let agrees = alone_agrees w f.name size 0 (kept_name []) (start size limit) (ap (λ (v : View). v.blocks) f.view) (ap (λ (v : View). v.order) f.view)
+    (sym (ap (λ (v : View). v.max_allocs) f.view)) refl (none_kept [] (λ i l. refl)) in
+    subst (λ l. IsAtState w l (start size limit)) (sym e) (record { formed = formed; agrees = agrees; grants = refl })
 
 -- Runs, with one more step at their end.
 

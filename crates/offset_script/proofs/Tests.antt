@@ -1,6 +1,6 @@
--- Tests: a conjunction, a double negation, and choices by a test.
-use Rattle.std.proofs.Common.{◌≡◌, Bool, true, false, not, ◌&&◌, if◌then◌else◌, refl, Some}
-use Rattle.std.proofs.lemmas.Bool.{true≢false, false≢true}
+-- Tests: a conjunction, a double negation, and choices by a test; what is the same in two options.
+pub use Rattle.std.proofs.lemmas.Option.{same_Some as same_some}
+use Rattle.offset_script.proofs.Common.{◌≡◌, Bool, true, false, not, ◌&&◌, if◌then◌else◌, refl, true≢false, false≢true}
 
 -- a second test counts only where the first holds
 pub same_and : (x y z : Bool) → (x ≡ true → y ≡ z) → (x && y) ≡ (x && z)
@@ -12,11 +12,6 @@ pub not_not : (b : Bool) → not (not b) ≡ b
 not_not true = refl
 not_not false = refl
 
--- what holds in both cases of a test
-pub if_both : {A : Type 0} (P : A → Type 0) (b : Bool) (x y : A) → (b ≡ true → P x) → (b ≡ false → P y) → P (if b then x else y)
-if_both P true x y f g = f refl
-if_both P false x y f g = g refl
-
 -- what relates the cases of equal tests
 pub if_same : {A B : Type 0} (R : A → B → Type 0) (b c : Bool) (x : A) (x' : B) (y : A) (y' : B) → b ≡ c → (b ≡ true → R x x') → R y y'
     → R (if b then x else y) (if c then x' else y')
@@ -24,7 +19,3 @@ if_same R true true x x' y y' e f g = f refl
 if_same R false false x x' y y' e f g = g
 if_same R true false x x' y y' e f g = absurd (true≢false e)
 if_same R false true x x' y y' e f g = absurd (false≢true e)
-
--- what is the same in two options
-pub same_some : {A : Type 0} (x y : A) → Some x ≡ Some y → x ≡ y
-same_some x y e = cc

@@ -1,37 +1,16 @@
 -- The sums of sizes, and the numbers of live blocks, that every call keeps.
-use Rattle.std.proofs.Common.{◌≡◌, ℕ, zero, suc, ◌+◌, ◌≤◌, true, false, not, cond, ◌&&◌, ◌||◌, List, [], ◌∷◌, ◌++◌, length, nat_le, nat_lt, if◌then◌else◌}
-use Rattle.std.proofs.Common.{refl, sym, ap, subst, ◌∙◌, inl, inr}
-use Rattle.std.proofs.Common.{arith, le-leb, length-append, sum}
-use Rattle.std.proofs.lemmas.List.Elements.{filter-append}
+use Rattle.offset_script.proofs.Common.{◌≡◌, ℕ, zero, suc, ◌+◌, ◌≤◌, true, false, not, cond, ◌&&◌, ◌||◌, List, [], ◌∷◌, ◌++◌, length, nat_le, nat_lt, if◌then◌else◌, refl, sym, ap, subst, ◌∙◌, inl}
+use Rattle.offset_script.proofs.Common.{inr, arith, le-leb, length-append, sum, filter-append, max_size, Block, is_free, total, free_sizes, Place, chosen_place, free_block, ends_live, coalesce, State}
+use Rattle.offset_script.proofs.Common.{Outcome, start, step, after, is_short_of, returns_only, request, grant_or_refuse, stamp_of_call, stamp_of_padding, largest, Command, KeepsSpace, cond_both}
+use Rattle.offset_script.proofs.Lists.{sums_coalesced, whole, total-append, AreFree, coalesced}
+use Rattle.offset_script.proofs.{Found.chosen_at, Found.found_at, Well.granted_blocks, Well.free_part, Nests.does}
 use Rattle.std.proofs.lemmas.List.Sums.{sum_by-cons}
-use Rattle.offset_allocator.specs.View.{max_size}
-use Rattle.offset_script.specs.Machine.{Free, Block, block, is_free, total, free_sizes, Place, chosen_place, free_block, ends_live, coalesce, State, Outcome, start, step, after, is_short_of}
-use Rattle.offset_script.specs.Machine.{returns_only, leaves, request, grant_or_refuse, stamp_of_call, stamp_of_padding}
-use Rattle.offset_allocator.specs.Reports.{largest}
-use Rattle.offset_script.specs.declared.scripts.Command.{Command}
+use Rattle.offset_script.specs.Totals.{requested_units, live, added_units, added_by}
 use Rattle.offset_script.specs.declared.scripts.Command.TheVariants as command
 use Rattle.offset_script.specs.Machine as machine
-use Rattle.offset_script.specs.Histories.{KeepsSpace}
-use Rattle.offset_script.specs.Totals.{requested_units, live, added_units, added_by}
-use Rattle.offset_script.proofs.Lists.{whole, total-append, AreFree, coalesced}
-use Rattle.offset_script.proofs.Found.{chosen_at, found_at}
-use Rattle.offset_script.proofs.Well.{granted_blocks, free_part}
-use Rattle.offset_script.proofs.Nests.{does}
-use Rattle.offset_script.proofs.Tests.{if_both}
 
 total_coalesce : (xs : List Block) (n s : ℕ) (ys : List Block) → total (coalesce xs n s ys) ≡ total xs + (n + total ys)
-total_coalesce xs n s ys =
-    let c = coalesced xs n s ys in
-    omega (
-      arith,
-      ap total c.is,
-      total-append c.front (block (total c.last + n + total c.first) (Free s) ∷ c.back),
-      ap total c.at_front,
-      total-append c.front c.last,
-      ap total c.at_back,
-      total-append
-          c.first c.back,
-    )
+total_coalesce xs n s ys = let e = sums_coalesced total total-append xs n s ys (coalesced xs n s ys) in omega arith
 
 total_granted : (p : Place) (n padding front k rest : ℕ) → padding + n ≤ p.block.size → total (granted_blocks p n padding front k rest) ≡ total (whole p)
 total_granted p n padding front k rest h = search (arith, total-append, free_part)
@@ -61,18 +40,8 @@ live_none (b ∷ fs) f = ap (λ x. length (cond (not x) (b ∷ live fs) (live fs
 live_coalesce : (xs : List Block) (n s : ℕ) (ys : List Block) → live_blocks (coalesce xs n s ys) ≡ live_blocks xs + live_blocks ys
 live_coalesce xs n s ys =
     let c = coalesced xs n s ys in
-    omega (
-      arith,
-      ap live_blocks c.is,
-      live-append c.front (block (total c.last + n + total c.first) (Free s) ∷ c.back),
-      ap live_blocks c.at_front,
-      live-append c.front c.last,
-      ap live_blocks
-          c.at_back,
-      live-append c.first c.back,
-      live_none c.last c.end.free,
-      live_none c.first c.start.free,
-    )
+    let e = sums_coalesced live_blocks live-append xs n s ys c in
+    omega (arith, live_none c.last c.end.free, live_none c.first c.start.free)
 
 live_granted : (p : Place) (n padding front k rest : ℕ) → live_blocks (granted_blocks p n padding front k rest) ≡ live_blocks p.before + (1 + live_blocks p.after)
 live_granted p n padding front k rest = search (arith, live-append, live_free_block)
@@ -95,17 +64,12 @@ adds_none : (n m : ℕ) → n ≡ m → n ≡ m + 0
 adds_none n m e = omega arith
 
 pub adds_step : (c : Command) (s : State) → Adds c s (step c s)
-adds_step (command.Alloc n) s = adds_none _ _ (total_kept (command.Alloc n) s tt)
-adds_step (command.Free k) s = adds_none _ _ (total_kept (command.Free k) s tt)
-adds_step (command.Size k) s = adds_none _ _ refl
-adds_step command.Report s = adds_none _ _ refl
-adds_step command.Full s = adds_none _ _ refl
 adds_step command.Reset s = refl
-adds_step (command.Align n align) s = adds_none _ _ (total_kept (command.Align n align) s tt)
 adds_step (command.Extend zero) s = adds_none _ _ refl
-adds_step (command.Extend (suc more)) s = if_both (Adds (command.Extend (suc more)) s) (nat_lt max_size (total s.blocks + suc more) || (ends_live s.blocks && is_short_of 1 s))
-    (returns_only s machine.Refused) (leaves s (coalesce s.blocks (suc more) (stamp_of_call s) []) machine.Extended)
+adds_step (command.Extend (suc more)) s =
+    cond_both (nat_lt max_size (total s.blocks + suc more) || (ends_live s.blocks && is_short_of 1 s)) _ _ (Adds (command.Extend (suc more)) s)
     (λ e. adds_none _ _ refl) (λ e. let j = total_coalesce s.blocks (suc more) (stamp_of_call s) [] in omega arith)
+adds_step c s = adds_none _ _ (total_kept c s tt)
 
 adds_all : (cs : List Command) (s : State) → total (after cs s).blocks ≡ total s.blocks + added_by cs s
 adds_all [] s = omega arith
@@ -114,11 +78,7 @@ adds_all (c ∷ cs) s = let a = adds_step c s in let ih = adds_all cs (step c s)
 -- the live and the free units of a list
 parted : (bs : List Block) → total (live bs) + sum (free_sizes bs) ≡ total bs
 parted [] = refl
-parted (b ∷ bs) =
-    let ih = parted bs in
-    let e : sum (b.size ∷ free_sizes bs) ≡ b.size + sum (free_sizes bs) = sum_by-cons (λ n. n) b.size (free_sizes bs) in
-    elim (is_free b.tag) as (λ x. total (cond (not x) (b ∷ live bs) (live bs)) + sum (if x then b.size ∷ free_sizes bs else free_sizes bs) ≡ b.size + total bs)
-    [ true ↦ omega (arith, e, ih) | false ↦ omega (arith, ih) ]
+parted (b ∷ bs) = let e = sum_by-cons (λ n. n) b.size (free_sizes bs) in search (arith, (parted bs), e, cond, sum)
 
 pub sums_law : (size limit : ℕ) (cs : List Command) → let bs = (after cs (start size limit)).blocks in total (live bs) + sum (free_sizes bs) ≡ size + added_by cs (start size limit)
 sums_law size limit cs = let p = parted (after cs (start size limit)).blocks in let a = adds_all cs (start size limit) in omega arith
@@ -130,44 +90,22 @@ HasFew s o = (live_blocks o.state.blocks + 2 ≤ s.limit) × (o.state.limit ≡ 
 few_kept : (c : Command) (s : State) → KeepsSpace c → live_blocks s.blocks + 2 ≤ s.limit → HasFew s (step c s)
 few_kept c s k h = elim (does c s k) [
   | inl q ↦ subst (HasFew s) (sym q.is) (h, refl)
-  | inr (inl d) ↦ subst (HasFew s) (sym d.is) (let r = d.room in (
-    omega (
-      arith,
-      r,
-      live_granted d.place (requested_units c) d.padding (stamp_of_padding s) (s.grants + 1) (stamp_of_call s),
-      ap length (chosen_at d.needed s.blocks d.place d.chose).0,
-      length-append d.place.before (d.place.block ∷ d.place.after),
-      live_length d.place.before,
-      live_length d.place.after,
-    ),
-    refl,
-  ))
-  | inr (inr d) ↦ subst (HasFew s) (sym d.is) (
-    omega (
-      arith,
-      live_coalesce d.place.before d.place.block.size (stamp_of_call s) d.place.after,
-      ap live_blocks (found_at d.number s.blocks d.place d.found).0,
-      live-append d.place.before
-          (d.place.block ∷ d.place.after),
-      live_more d.place.block d.place.after,
-      h,
-    ),
-    refl,
-  )
+  | inr (inl d) ↦
+      let l = live_granted d.place (requested_units c) d.padding (stamp_of_padding s) (s.grants + 1) (stamp_of_call s) in
+      let e = ap length (chosen_at d.needed s.blocks d.place d.chose).0 ∙ length-append d.place.before (d.place.block ∷ d.place.after) in
+      subst (HasFew s) (sym d.is) (omega (arith, d.room, live_length d.place.before, live_length d.place.after), refl)
+  | inr (inr d) ↦
+      let e = ap live_blocks (found_at d.number s.blocks d.place d.found).0 ∙ live-append d.place.before (d.place.block ∷ d.place.after) in
+      let l = live_coalesce d.place.before d.place.block.size (stamp_of_call s) d.place.after in
+      subst (HasFew s) (sym d.is) (omega (arith, live_more d.place.block d.place.after), refl)
 ]
 
 few_step : (c : Command) (s : State) → live_blocks s.blocks + 2 ≤ s.limit → HasFew s (step c s)
-few_step (command.Alloc n) s h = few_kept (command.Alloc n) s tt h
-few_step (command.Free k) s h = few_kept (command.Free k) s tt h
-few_step (command.Size k) s h = (h, refl)
-few_step command.Report s h = (h, refl)
-few_step command.Full s h = (h, refl)
 few_step command.Reset s h = (omega arith, refl)
-few_step (command.Align n align) s h = few_kept (command.Align n align) s tt h
 few_step (command.Extend zero) s h = (h, refl)
-few_step (command.Extend (suc more)) s h = if_both (HasFew s) (nat_lt max_size (total s.blocks + suc more) || (ends_live s.blocks && is_short_of 1 s)) (returns_only s machine.Refused)
-    (leaves s (coalesce s.blocks (suc more) (stamp_of_call s) []) machine.Extended)
+few_step (command.Extend (suc more)) s h = cond_both (nat_lt max_size (total s.blocks + suc more) || (ends_live s.blocks && is_short_of 1 s)) _ _ (HasFew s)
     (λ e. (h, refl)) (λ e. (let j = live_coalesce s.blocks (suc more) (stamp_of_call s) [] in omega arith, refl))
+few_step c s h = few_kept c s tt h
 
 few_all : (cs : List Command) (s : State) (limit : ℕ) → s.limit ≡ limit → live_blocks s.blocks + 2 ≤ limit → live_blocks (after cs s).blocks + 2 ≤ limit
 few_all [] s limit e h = h
@@ -187,7 +125,7 @@ pub full_refuses : (s : State) (n : ℕ) → s.limit ≤ length s.blocks + 1 →
 full_refuses s n h = refused s 1 n n (λ offset. 0) (omega arith) h
 
 pub full_refuses_aligned : (s : State) (n align : ℕ) → s.limit ≤ length s.blocks + 1 → (step (command.Align n align) s).answer ≡ machine.Refused
-full_refuses_aligned s n align h = search (arith, if_both, nat_le, nat_lt, full_refuses, refused)
+full_refuses_aligned s n align h = search (arith, cond_both, nat_le, nat_lt, full_refuses, refused)
 
 pub full_report : (s : State) → s.limit ≤ length s.blocks + 1 → (step command.Report s).answer ≡ machine.Report 0 0
 full_report s h = ap (λ b. if b then machine.Report 0 0 else machine.Report (sum (free_sizes s.blocks)) (largest (free_sizes s.blocks))) (short_too s 1 (omega arith) h)

@@ -1,22 +1,13 @@
 -- What holds of every state that the machine reaches.
-use Rattle.std.proofs.Common.{◌≡◌, ℕ, zero, suc, ◌+◌, ◌-◌, ◌<◌, ◌≤◌, true, false, ◌&&◌, ◌||◌, ◌⊎◌, List, [], ◌∷◌, ◌++◌, length, Option, Some, None}
-use Rattle.std.proofs.Common.{nat_lt, nat_le}
-use Rattle.std.proofs.Common.{refl, sym, ap, subst, ◌∙◌, inl, inr, arith, leb-false, length-append}
-use Rattle.offset_allocator.proofs.ViewApart.{left_false, right_false}
-use Rattle.std.proofs.lemmas.Bool.{cases_lt, true≢false, and_parts, and_left, and_right, or_parts, and_cases, not-false}
-use Rattle.offset_script.specs.declared.scripts.Command.{Command}
+use Rattle.offset_script.proofs.Common.{◌≡◌, ℕ, zero, suc, ◌+◌, ◌-◌, ◌<◌, ◌≤◌, true, false, ◌&&◌, ◌||◌, ◌⊎◌, List, [], ◌∷◌, ◌++◌, length, Option, Some, None, nat_lt, nat_le, refl, sym, ap, subst, ◌∙◌}
+use Rattle.offset_script.proofs.Common.{inl, inr, arith, leb-false, length-append, cases_lt, true≢false, and_parts, and_left, and_right, or_parts, and_cases, not-false, Command, max_size, padding_to}
+use Rattle.offset_script.proofs.Common.{Tag, Live, Free, Block, block, is_free, total, Place, chosen_place, place_of, free_block, ends_live, coalesce, State, Answer, Outcome, start, step, after}
+use Rattle.offset_script.proofs.Common.{request, grant, grant_or_refuse, is_short_of, returns_only, leaves, release, reset, extend, stamp_of_call, stamp_of_padding, cond_both}
+use Rattle.offset_script.proofs.{Lists.sums_coalesced, Lists.starts_free, Lists.ends_free, Lists.AreApart, Lists.hit, Lists.count, Lists.whole, Lists.count-append, Lists.count_free_block}
+use Rattle.offset_script.proofs.{Lists.apart_append, Lists.apart_parts, Lists.AreFree, Lists.coalesced, Lists.count_coalesce, Lists.apart_coalesce, Found.found_at, Found.chosen_at}
+use Rattle.offset_allocator.proofs.{ViewApart.left_false, ViewApart.right_false, Tallies.hit_cases}
 use Rattle.offset_script.specs.declared.scripts.Command.TheVariants as command
-use Rattle.offset_allocator.specs.View.{max_size, padding_to}
-use Rattle.offset_script.specs.Machine.{Tag, Live, Free, Block, block, is_free, total, Place, chosen_place, place_of, free_block}
-use Rattle.offset_script.specs.Machine.{ends_live, coalesce, State, Answer, Outcome, start, step, after, request, grant, grant_or_refuse, is_short_of}
-use Rattle.offset_script.specs.Machine.{returns_only, leaves, release, size_at, report, reset, extend, stamp_of_call, stamp_of_padding}
 use Rattle.offset_script.specs.Machine as machine
-use Rattle.offset_allocator.specs.Reports.{rows_below}
-use Rattle.offset_script.proofs.Tests.{if_both}
-use Rattle.offset_allocator.proofs.Tallies.{hit_cases}
-use Rattle.offset_script.proofs.Lists.{starts_free, ends_free, AreApart, hit, count, whole, count-append, count_free_block, apart_append, apart_parts, AreFree, IsCoalesced, coalesced, count_coalesce}
-use Rattle.offset_script.proofs.Lists.{apart_coalesce}
-use Rattle.offset_script.proofs.Found.{found_at, chosen_at}
 
 -- the tag of a block that a call before has left
 abbrev pub IsOld : State → Tag → Type 0
@@ -47,13 +38,10 @@ module _ (s s' : State) (w : IsWell s) (news : Tag → ℕ) (counts : (t : Tag) 
   still_old (Free x) o = omega arith
 
   well_next : 1 ≤ length s'.blocks → length s'.blocks + 1 ≤ s'.limit → AreApart s'.blocks → IsWell s'
-  well_next some room apart = record {
-    some = some;
-    apart = apart;
-    once = λ t. elim (fresh t) [ inl z ↦ omega (arith, counts t, w.once t) | inr n ↦ omega (arith, counts t, not_there s w t n.1) ];
-    old = λ t c. elim (fresh t) [ inl z ↦ still_old t (w.old t (omega (arith, counts t))) | inr n ↦ n.2 ];
-    room = room;
-  }
+  well_next some room apart =
+      let once : (t : Tag) → count t s'.blocks ≤ 1 = λ t. elim (fresh t) [ inl z ↦ omega (arith, counts t, w.once t) | inr n ↦ omega (arith, counts t, not_there s w t n.1) ] in
+      let old : (t : Tag) → 1 ≤ count t s'.blocks → IsOld s' t = λ t c. elim (fresh t) [ inl z ↦ still_old t (w.old t (omega (arith, counts t))) | inr n ↦ n.2 ] in
+      record { some = some; apart = apart; once = once; old = old; room = room }
 
 -- a call that leaves the blocks as they are
 pub well_quiet : (s : State) → IsWell s → (a : Answer) → IsWell (returns_only s a).state
@@ -97,12 +85,10 @@ well_grant s w n padding p e f spare room enough = search (arith, well_next, cou
 pub length_coalesce : (xs : List Block) (n s : ℕ) (ys : List Block) → (1 ≤ length (coalesce xs n s ys)) × (length (coalesce xs n s ys) ≤ length xs + suc (length ys))
 length_coalesce xs n s ys =
     let c = coalesced xs n s ys in
-    let e = ap length c.is ∙ length-append c.front (block (total c.last + n + total c.first) (Free s) ∷ c.back) in
-    let l = c.end.few in
-    (omega arith, omega (arith, ap length c.at_front, ap length c.at_back, length-append c.front c.last, length-append c.first c.back))
+    let e = sums_coalesced length length-append xs n s ys c in
+    (omega arith, omega (arith, c.end.few))
 
-well_granted : (s : State) → IsWell s → (needed n : ℕ) (padding_at : ℕ → ℕ) (spare : ℕ) → ((o x : ℕ) → length (free_block (padding_at o) x) + 1 ≤ spare)
-    → length s.blocks + spare < s.limit
+well_granted : (s : State) → IsWell s → (needed n : ℕ) (padding_at : ℕ → ℕ) (spare : ℕ) → ((o x : ℕ) → length (free_block (padding_at o) x) + 1 ≤ spare) → length s.blocks + spare < s.limit
     → (o : Option Place) → chosen_place needed s.blocks ≡ o → IsWell (grant_or_refuse s n padding_at o).state
 well_granted s w needed n padding_at spare enough room None e = well_quiet s w machine.Refused
 well_granted s w needed n padding_at spare enough room (Some p) e =
@@ -111,7 +97,7 @@ well_granted s w needed n padding_at spare enough room (Some p) e =
 
 well_request : (s : State) → IsWell s → (spare needed n : ℕ) (padding_at : ℕ → ℕ) → ((o x : ℕ) → length (free_block (padding_at o) x) + 1 ≤ spare)
     → IsWell (request s spare needed n padding_at).state
-well_request s w spare needed n padding_at enough = if_both (λ (o : Outcome). IsWell o.state) (is_short_of spare s) _ _ (λ e. well_quiet s w machine.Refused)
+well_request s w spare needed n padding_at enough = cond_both (is_short_of spare s) _ _ (λ (o : Outcome). IsWell o.state) (λ e. well_quiet s w machine.Refused)
     (λ e. well_granted s w needed n padding_at spare enough (leb-false s.limit (length s.blocks + spare) e) (chosen_place needed s.blocks) refl)
 
 -- a release
@@ -127,43 +113,29 @@ well_release s w k (Some p) e =
 
 -- a last block that is free coalesces, so no block is added
 length_at_end : (bs : List Block) (n s : ℕ) → (ends_live bs ≡ false → 1 ≤ length bs → length (coalesce bs n s []) ≤ length bs) × (length (coalesce bs n s []) ≤ length bs + 1)
-length_at_end bs n s = (λ e h. shorter (coalesced bs n s []) e h, (length_coalesce bs n s []).1)
+length_at_end bs n s = (shorter, (length_coalesce bs n s []).1)
   where
     ends_some : (bs : List Block) → 1 ≤ length bs → ends_live bs ≡ false → ends_free bs ≡ true
     ends_some [] h e = absurd (omega arith)
     ends_some (b ∷ []) h e = not-false (is_free b.tag) e
     ends_some (b ∷ c ∷ bs) h e = ends_some (c ∷ bs) (omega arith) e
 
-    shorter : IsCoalesced bs n s [] → ends_live bs ≡ false → 1 ≤ length bs → length (coalesce bs n s []) ≤ length bs
-    shorter c e h = elim (cases_lt 0 (length c.last)) [
-      | inl l ↦ omega (
-        arith,
-        ap length c.is,
-        length-append c.front (block (total c.last + n + total c.first) (Free s) ∷ c.back),
-        ap length c.at_front,
-        length-append c.front c.last,
-        ap length
-            c.at_back,
-        length-append c.first c.back,
-      )
-      | inr l ↦ absurd (true≢false (sym (ends_some bs h e) ∙ ap ends_free c.at_front ∙ c.end.live (omega arith)))
-    ]
+    shorter : ends_live bs ≡ false → 1 ≤ length bs → length (coalesce bs n s []) ≤ length bs
+    shorter e h =
+        let c = coalesced bs n s [] in
+        let lengths = sums_coalesced length length-append bs n s [] c in
+        elim (cases_lt 0 (length c.last)) [ inl l ↦ omega arith | inr l ↦ absurd (true≢false (sym (ends_some bs h e) ∙ ap ends_free c.at_front ∙ c.end.live (omega arith))) ]
 
 -- more units at the end
 well_extend : (s : State) → IsWell s → (more : ℕ) → IsWell (extend more s).state
 well_extend s w zero = well_quiet s w machine.Extended
-well_extend s w (suc more) = if_both (λ (o : Outcome). IsWell o.state) (nat_lt max_size (total s.blocks + suc more) || (ends_live s.blocks && is_short_of 1 s)) _ _
+well_extend s w (suc more) = cond_both (nat_lt max_size (total s.blocks + suc more) || (ends_live s.blocks && is_short_of 1 s)) _ _ (λ (o : Outcome). IsWell o.state)
     (λ e. well_quiet s w machine.Refused) (λ e.
     let sizes = length_coalesce s.blocks (suc more) (stamp_of_call s) [] in
     let at_end = length_at_end s.blocks (suc more) (stamp_of_call s) in
-    let r = w.room in
-    well_leaves s w _ machine.Extended sizes.0
-    (elim (and_cases (ends_live s.blocks) (is_short_of 1 s) (or_parts _ _ e).1) [
-      | inl free ↦ omega (arith, at_end.0 free w.some)
-      | inr spare ↦ omega (arith, at_end.1, leb-false s.limit (length s.blocks + 1) spare)
-    ])
-    (apart_coalesce s.blocks _ _ [] w.apart tt)
-    (λ t. omega (arith, count_coalesce t s.blocks (suc more) (stamp_of_call s) [])))
+    let few : length (coalesce s.blocks (suc more) (stamp_of_call s) []) + 1 ≤ s.limit = elim (and_cases (ends_live s.blocks) (is_short_of 1 s) (or_parts _ _ e).1)
+    [ inl free ↦ omega (arith, at_end.0 free w.some, w.room) | inr spare ↦ omega (arith, at_end.1, leb-false s.limit (length s.blocks + 1) spare) ] in
+    well_leaves s w _ machine.Extended sizes.0 few (apart_coalesce s.blocks _ _ [] w.apart tt) (λ t. omega (arith, count_coalesce t s.blocks (suc more) (stamp_of_call s) [])))
 
 -- a reset
 well_reset : (s : State) → IsWell s → IsWell (reset s).state
@@ -176,14 +148,12 @@ no_padding o x = omega arith
 pub well_step : (c : Command) (s : State) → IsWell s → IsWell (step c s).state
 well_step (command.Alloc n) s w = well_request s w 1 n n (λ offset. 0) no_padding
 well_step (command.Free k) s w = well_release s w k (place_of k s.blocks) refl
-well_step (command.Size k) s w = well_quiet s w (size_at (place_of k s.blocks))
-well_step command.Report s w = well_quiet s w (report s)
-well_step command.Full s w = well_quiet s w (machine.Full (rows_below 256 (machine.free_sizes s.blocks)))
 well_step command.Reset s w = well_reset s w
-well_step (command.Align n align) s w = if_both (λ (o : Outcome). IsWell o.state) (nat_le align 1) _ _ (λ e. well_request s w 1 n n (λ offset. 0) no_padding)
-    (λ e. if_both (λ (o : Outcome). IsWell o.state) (nat_lt max_size (n + align - 1)) _ _ (λ e. well_quiet s w machine.Refused)
+well_step (command.Align n align) s w = cond_both (nat_le align 1) _ _ (λ (o : Outcome). IsWell o.state) (λ e. well_request s w 1 n n (λ offset. 0) no_padding)
+    (λ e. cond_both (nat_lt max_size (n + align - 1)) _ _ (λ (o : Outcome). IsWell o.state) (λ e. well_quiet s w machine.Refused)
     (λ e. well_request s w 2 (n + align - 1) n (padding_to align) (λ o x. let h = (free_part (padding_to align o) x).3 in omega arith)))
 well_step (command.Extend more) s w = well_extend s w more
+well_step other s w = well_quiet s w (step other s).answer
 
 -- so do all commands in order
 pub well_after : (cs : List Command) (s : State) → IsWell s → IsWell (after cs s)

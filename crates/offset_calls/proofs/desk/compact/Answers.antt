@@ -1,10 +1,6 @@
-use Rattle.std.proofs.Common.{◌≤◌, ◌-◌, refl, sym, ap, ap₂, subst₂, ◌∙◌, inl, length, drop}
-use Rattle.offset_guarded.specs.Guard.{Guard}
+use Rattle.offset_calls.proofs.Common.{◌≤◌, ◌-◌, refl, sym, ap, ap₂, subst₂, ◌∙◌, inl, length, drop, Guard, joined, handles_of}
+use Rattle.offset_calls.proofs.{Numbering.numbers_suffice, Numbering.numbers_are, Tickets.same_handles, Tickets.same_ledger, Tickets.sizes_live}
 use Rattle.offset_calls.specs.Calls as plain
-use Rattle.offset_calls.specs.Steps.{joined}
-use Rattle.offset_calls.specs.Tickets.{handles_of}
-use Rattle.offset_calls.proofs.Numbering.{numbers_suffice, numbers_are}
-use Rattle.offset_calls.proofs.Tickets.{same_handles, same_ledger, sizes_live}
 use Rattle.offset_calls.proofs.desk.compact.Goals as goal
 
 pub numbered-requires : goal.numbered-requires

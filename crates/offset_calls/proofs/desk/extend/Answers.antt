@@ -1,6 +1,6 @@
-use Rattle.std.proofs.Common.{Bool, sym, ap, if◌then◌else◌}
-use Rattle.offset_script.specs.Machine as machine
+use Rattle.offset_calls.proofs.Common.{Bool, sym, ap, if◌then◌else◌}
 use Rattle.offset_calls.proofs.Tickets.{extended}
+use Rattle.offset_script.specs.Machine as machine
 use Rattle.offset_calls.proofs.desk.extend.Goals as goal
 
 pub returns-then-extend : goal.returns-then-extend

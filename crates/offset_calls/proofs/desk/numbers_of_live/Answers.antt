@@ -1,13 +1,7 @@
-use Rattle.std.proofs.Common.{◌≡◌, sym, ap, ap₂, subst, map, ◌∙◌, ◌++◌}
-use Rattle.offset_allocator.specs.Listing.{as_placed}
-use Rattle.offset_guarded.specs.declared.ticket.Ticket.{Ticket}
-use Rattle.offset_guarded.specs.Guard.{serial_of}
-use Rattle.offset_script.specs.Steps.{kept_name}
-use Rattle.offset_calls.specs.Tickets.{handles_of}
+use Rattle.offset_calls.proofs.Common.{◌≡◌, sym, ap, ap₂, subst, map, ◌∙◌, ◌++◌, as_placed, Ticket, serial_of, kept_name, handles_of}
 use Rattle.offset_calls.proofs.Numbering.{AreAllKept, placed_names, kept-listing, walk_used, walk_ends}
-use Rattle.offset_calls.proofs.Tickets.{kept_serial, kept_live}
+use Rattle.offset_calls.proofs.{Tickets.kept_serial, Tickets.kept_live, desk.numbers_of_live.Goals.in-None-ticket, desk.numbers_of_live.Goals.in-Some-ticket}
 use Rattle.offset_calls.proofs.desk.numbers_of_live.Goals as goal
-use Rattle.offset_calls.proofs.desk.numbers_of_live.Goals.{in-None-ticket, in-Some-ticket}
 
 pub loop-block-init : goal.loop-block-init
 loop-block-init g c =

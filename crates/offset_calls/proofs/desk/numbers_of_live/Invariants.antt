@@ -1,7 +1,4 @@
-use Rattle.std.proofs.Common.{◌≡◌, ◌++◌, map}
-use Rattle.offset_allocator.specs.Listing.{listing}
-use Rattle.offset_script.specs.Steps.{kept_name}
-use Rattle.offset_calls.specs.Tickets.{handles_of}
+use Rattle.offset_calls.proofs.Common.{◌≡◌, ◌++◌, map, listing, kept_name, handles_of}
 use Rattle.offset_calls.proofs.Numbering.{placed_names, AreAllKept}
 use Rattle.offset_calls.proofs.desk.numbers_of_live.Given as goal
 

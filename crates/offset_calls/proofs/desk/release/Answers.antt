@@ -1,5 +1,4 @@
-use Rattle.std.proofs.Common.{ap, ◌∙◌}
-use Rattle.offset_calls.specs.Tickets.{live_name}
+use Rattle.offset_calls.proofs.Common.{ap, ◌∙◌, live_name}
 use Rattle.offset_calls.proofs.Tickets.{freed}
 use Rattle.offset_calls.proofs.desk.release.Goals as goal
 

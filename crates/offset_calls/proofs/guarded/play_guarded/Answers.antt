@@ -1,9 +1,5 @@
-use Rattle.std.proofs.Common.{◌<◌, length, subst, arith}
-use Rattle.std.proofs.lemmas.List.{take_all}
-use Rattle.offset_allocator.specs.View.{IsWellFormed}
-use Rattle.offset_calls.specs.Tickets.{AreInOrder}
-use Rattle.offset_calls.proofs.Along.{all_granted, all_kept_played, ends, goes_on, none_granted, starts}
-use Rattle.offset_calls.proofs.Tickets.{no_tickets}
+use Rattle.offset_calls.proofs.Common.{◌<◌, length, subst, arith, take_all, IsWellFormed, AreInOrder}
+use Rattle.offset_calls.proofs.{Along.all_granted, Along.all_kept_played, Along.ends, Along.goes_on, Along.none_granted, Along.starts, Tickets.no_tickets}
 use Rattle.offset_calls.proofs.guarded.play_guarded.Goals as goal
 
 pub loop-call-init : goal.loop-call-init

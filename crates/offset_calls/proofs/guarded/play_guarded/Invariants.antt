@@ -1,6 +1,4 @@
-use Rattle.std.proofs.Common.{◌≡◌, ◌≤◌, length, map, take, All}
-use Rattle.offset_calls.specs.Calls.{reply_view}
-use Rattle.offset_calls.specs.Tickets.{IsGrantOf, IsLedger}
+use Rattle.offset_calls.proofs.Common.{◌≡◌, ◌≤◌, length, map, take, All, reply_view, IsGrantOf, IsLedger}
 use Rattle.offset_calls.proofs.Along.{IsPlayed}
 use Rattle.offset_calls.proofs.guarded.play_guarded.Given as goal
 

@@ -1,9 +1,6 @@
-use Rattle.std.proofs.Common.{◌≡◌, List, [], ◌∷◌, map, refl, ap}
-use Rattle.offset_script.specs.declared.scripts.Command.{Command}
+use Rattle.offset_calls.proofs.Common.{◌≡◌, List, [], ◌∷◌, map, refl, ap, Command, State, start, Answer, replies}
 use Rattle.offset_script.specs.Machine as machine
-use Rattle.offset_script.specs.Machine.{State, start}
 use Rattle.offset_calls.specs.declared.calls.Call.TheVariants as call
-use Rattle.offset_calls.specs.Calls.{Answer, replies}
 use Rattle.offset_calls.proofs.laws.commands_have_their_answers.Goals as goal
 
 same : (cs : List Command) (s : State) → replies (map call.Command cs) s ≡ map Answer (machine.answers cs s)

@@ -1,6 +1,5 @@
-use Rattle.std.proofs.Common.{◌≡◌, ◌++◌, ◌∷◌, [], false, rules, sym, subst}
+use Rattle.offset_calls.proofs.Common.{◌≡◌, ◌++◌, ◌∷◌, [], false, rules, sym, subst, AreMoves}
 use Rattle.offset_allocator.specs.Compacting.{moves}
-use Rattle.offset_calls.specs.Steps.{AreMoves}
 use Rattle.offset_calls.proofs.Numbering.{collected}
 use Rattle.offset_calls.proofs.playing.collect.Goals as goal
 

@@ -1,7 +1,6 @@
-use Rattle.std.proofs.Common.{◌≤◌, ◌-◌, refl, sym, ap, ap₂, subst₂, ◌∙◌, length, drop}
-use Rattle.offset_calls.specs.Calls as plain
-use Rattle.offset_calls.specs.Steps.{joined}
+use Rattle.offset_calls.proofs.Common.{◌≤◌, ◌-◌, refl, sym, ap, ap₂, subst₂, ◌∙◌, length, drop, joined}
 use Rattle.offset_calls.proofs.Numbering.{numbers_suffice, numbers_are}
+use Rattle.offset_calls.specs.Calls as plain
 use Rattle.offset_calls.proofs.playing.compact.Goals as goal
 
 pub numbered-requires : goal.numbered-requires

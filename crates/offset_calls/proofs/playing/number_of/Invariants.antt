@@ -1,5 +1,4 @@
-use Rattle.std.proofs.Common.{◌≡◌, ◌<◌, ℕ, Some, None, option_map, slice_index_or}
-use Rattle.offset_allocator.specs.View.{Grant}
+use Rattle.offset_calls.proofs.Common.{◌≡◌, ◌<◌, ℕ, Some, None, option_map, slice_index_or, Grant}
 use Rattle.offset_calls.proofs.playing.number_of.Given as goal
 
 -- no handle so far has the name

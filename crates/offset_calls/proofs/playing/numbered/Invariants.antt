@@ -1,6 +1,4 @@
-use Rattle.std.proofs.Common.{◌≡◌, ◌+◌, ◌++◌, drop, map}
-use Rattle.offset_calls.specs.Calls.{move_view}
-use Rattle.offset_calls.specs.Steps.{joined}
+use Rattle.offset_calls.proofs.Common.{◌≡◌, ◌+◌, ◌++◌, drop, map, move_view, joined}
 use Rattle.offset_calls.proofs.playing.numbered.Given as goal
 
 -- the moves so far, and those that are left with their numbers

@@ -1,6 +1,4 @@
-use Rattle.std.proofs.Common.{sym, ap, ap₂, subst, map, ◌∙◌, ◌++◌}
-use Rattle.offset_allocator.specs.Listing.{as_placed}
-use Rattle.offset_script.specs.Steps.{kept_name}
+use Rattle.offset_calls.proofs.Common.{sym, ap, ap₂, subst, map, ◌∙◌, ◌++◌, as_placed, kept_name}
 use Rattle.offset_calls.proofs.Numbering.{AreAllKept, placed_names, kept-listing, walk_used, walk_ends}
 use Rattle.offset_calls.proofs.playing.numbers_of_live.Goals as goal
 

@@ -1,17 +1,9 @@
-use Rattle.std.proofs.Common.{◌≡◌, ◌+◌, ◌<◌, ◌≤◌, ℕ, List, [], ◌∷◌, ◌++◌, map, take, drop, length, get_or, refl, sym, ap, subst, ◌∙◌, arith, IsTrue, add-one}
-use Rattle.std.proofs.Common.{append-nil, append_assoc, drop-cons}
-use Rattle.std.proofs.lemmas.List.{map-append, take_more, take_all, drop_all}
+use Rattle.offset_calls.proofs.Common.{◌≡◌, ◌+◌, ◌<◌, ◌≤◌, ℕ, List, [], ◌∷◌, ◌++◌, map, take, drop, length, get_or, refl, sym, ap, subst, ◌∙◌, arith, IsTrue, add-one, append-nil, append_assoc}
+use Rattle.offset_calls.proofs.Common.{drop-cons, map-append, take_more, take_all, drop_all, State, start, Call, Reply, after, is_valid, replies, reply_view, step, Takes}
 use Rattle.std.proofs.lemmas.List.Elements.{All-get_or}
-use Rattle.offset_script.specs.Machine.{State, start}
-use Rattle.offset_script.proofs.Agreement.{IsAtState}
-use Rattle.offset_script.proofs.Simulation.{all_live, fresh_represents, run_begins, run_goes_on, run_ends}
-use Rattle.offset_script.proofs.Well.{well_start}
-use Rattle.offset_calls.specs.declared.calls.Call.{Call}
+use Rattle.offset_script.proofs.{Agreement.IsAtState, Simulation.all_live, Simulation.fresh_represents, Simulation.run_begins, Simulation.run_goes_on, Simulation.run_ends, Well.well_start}
+use Rattle.offset_calls.proofs.{Followed.follows, Followed.well_calls, Compacted.all_kept}
 use Rattle.offset_calls.specs.declared.calls.Reply as program
-use Rattle.offset_calls.specs.Calls.{Reply, after, is_valid, replies, reply_view, step}
-use Rattle.offset_calls.specs.Steps.{Takes}
-use Rattle.offset_calls.proofs.Followed.{follows, well_calls}
-use Rattle.offset_calls.proofs.Compacted.{all_kept}
 use Rattle.offset_calls.proofs.playing.play_calls_of.Goals as goal
 
 -- A loop over calls: one more call, and one more reply.

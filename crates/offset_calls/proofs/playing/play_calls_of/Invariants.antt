@@ -1,9 +1,5 @@
-use Rattle.std.proofs.Common.{◌≡◌, map, take, drop, ◌++◌}
-use Rattle.offset_script.specs.Machine.{start}
-use Rattle.offset_script.proofs.Agreement.{IsAtState}
-use Rattle.offset_script.proofs.Simulation.{IsBegun}
-use Rattle.offset_calls.specs.Calls.{after, replies, reply_view}
-use Rattle.offset_calls.specs.Steps.{Takes}
+use Rattle.offset_calls.proofs.Common.{◌≡◌, map, take, drop, ◌++◌, start, after, replies, reply_view, Takes}
+use Rattle.offset_script.proofs.{Agreement.IsAtState, Simulation.IsBegun}
 use Rattle.offset_calls.proofs.playing.play_calls_of.Given as goal
 
 -- the replies so far and those to what is left are those to all, and the steps so far begin any run that goes on

@@ -1,6 +1,4 @@
-use Rattle.std.proofs.Common.{map, ◌≡◌, take, string_bytes}
-use Rattle.offset_script.specs.Machine.{answer_view}
-use Rattle.offset_script.specs.Grammar.{text_of}
+use Rattle.offset_script.proofs.Common.{map, ◌≡◌, take, string_bytes, answer_view, text_of}
 use Rattle.offset_script.proofs.answers.answer_text.Given as goal
 
 abbrev pub invariant-loop-answer : goal.invariant-loop-answer

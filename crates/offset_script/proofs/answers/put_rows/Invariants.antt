@@ -1,6 +1,4 @@
-use Rattle.std.proofs.Common.{◌≡◌, ◌++◌, take, map, string_bytes, flat_map}
-use Rattle.offset_script.specs.Machine.{row_view}
-use Rattle.offset_script.specs.Grammar.{row_line}
+use Rattle.offset_script.proofs.Common.{◌≡◌, ◌++◌, take, map, string_bytes, flat_map, row_view, row_line}
 use Rattle.offset_script.proofs.answers.put_rows.Given as goal
 
 abbrev pub invariant-loop-row : goal.invariant-loop-row

@@ -1,7 +1,6 @@
-use Rattle.std.proofs.Common.{arith, map}
-use Rattle.offset_script.proofs.Simulation.{rows_all, rows_more, rows_same}
+use Rattle.offset_script.proofs.Common.{arith, map}
+use Rattle.offset_script.proofs.{Simulation.rows_all, Simulation.rows_more, Simulation.rows_same, playing.full_answer.Goals.then-region-gt0+in_ok-push, playing.full_answer.Goals.else-region-gt0}
 use Rattle.offset_script.proofs.playing.full_answer.Goals as goal
-use Rattle.offset_script.proofs.playing.full_answer.Goals.{then-region-gt0+in_ok-push, else-region-gt0}
 
 pub returns : goal.returns
 returns g c = rows_all c.loop-class.class c.args.space.now c.loop-class.rows.items c.loop-class.invariant (omega arith)

@@ -1,7 +1,5 @@
-use Rattle.std.proofs.Common.{◌≡◌, map}
+use Rattle.offset_script.proofs.Common.{◌≡◌, map, rows_below, row_view}
 use Rattle.offset_allocator.specs.View.{free_sizes}
-use Rattle.offset_allocator.specs.Reports.{rows_below}
-use Rattle.offset_script.specs.Machine.{row_view}
 use Rattle.offset_script.proofs.playing.full_answer.Given as goal
 
 -- the rows of the classes so far

@@ -1,20 +1,9 @@
-use Rattle.std.proofs.Common.{◌<◌, map, take, length, refl, sym, subst, arith, IsTrue, ◌≡◌, ℕ, zero, suc, ◌+◌, ◌≤◌, List, [], ◌∷◌, ◌++◌, drop, get_or, ap, ◌∙◌}
-use Rattle.std.proofs.Common.{add-one, append-nil, append_assoc}
-use Rattle.std.proofs.Common.{drop-cons}
-use Rattle.std.proofs.lemmas.List.{map-append, take_more, take_all, drop_all}
-use Rattle.std.proofs.lemmas.List.Elements.{All-get_or}
-use Rattle.offset_script.specs.Grammar.{has_valid_alignment}
-use Rattle.offset_script.specs.Machine.{answers, start, after, State, Answer, step, answer_view}
-use Rattle.offset_script.specs.Steps.{Takes}
-use Rattle.offset_script.proofs.Agreement.{IsAtState}
+use Rattle.offset_script.proofs.Common.{◌<◌, map, take, length, refl, sym, subst, arith, IsTrue, ◌≡◌, ℕ, zero, suc, ◌+◌, ◌≤◌, List, [], ◌∷◌, ◌++◌, drop, get_or, ap, ◌∙◌, add-one, append-nil}
+use Rattle.offset_script.proofs.Common.{append_assoc, drop-cons, map-append, take_more, take_all, drop_all, All-get_or, has_valid_alignment, answers, start, after, State, Answer, step, answer_view}
+use Rattle.offset_script.proofs.Common.{Takes, Command, HasFreshRestarts, HasTracelessNests, HasCommutingRows}
 use Rattle.offset_script.proofs.Simulation.{all_live, follows, fresh_represents, run_begins, run_goes_on, run_ends}
-use Rattle.offset_script.proofs.Well.{well_start, well_after}
-use Rattle.offset_script.specs.declared.scripts.Command.{Command}
-use Rattle.offset_script.specs.Histories.{HasFreshRestarts, HasTracelessNests, HasCommutingRows}
+use Rattle.offset_script.proofs.{Agreement.IsAtState, Well.well_start, Well.well_after, Fresh.fresh_law, Nests.after-append, Nests.nest_law, Commute.commute_next}
 use Rattle.offset_script.specs.declared.answers.Answer as program
-use Rattle.offset_script.proofs.Fresh.{fresh_law}
-use Rattle.offset_script.proofs.Nests.{after-append, nest_law}
-use Rattle.offset_script.proofs.Commute.{commute_next}
 use Rattle.offset_script.proofs.playing.play_of.Goals as goal
 
 -- A loop over commands: one more command, and one more answer.
@@ -30,11 +19,9 @@ answers_more : (cs : List Command) (s : State) (i : ℕ) (d : Command) (found le
 answers_more cs s i d found left x all h f e so_far = search (arith, map, drop, take, map-append, append_assoc, after_more, add-one, drop-cons)
 
 -- where nothing is left, the answers so far are those to all
-answers_all : (cs : List Command) (s : State) (i : ℕ) (found : List program.Answer) (all : List Answer) → length cs ≤ i
-    → map answer_view found ++ answers (drop i cs) (after (take i cs) s) ≡ all
+answers_all : (cs : List Command) (s : State) (i : ℕ) (found : List program.Answer) (all : List Answer) → length cs ≤ i → map answer_view found ++ answers (drop i cs) (after (take i cs) s) ≡ all
     → map answer_view found ≡ all
-answers_all cs s i found all h so_far = sym (append-nil (map answer_view found))
-    ∙ ap (λ l. map answer_view found ++ l) (sym (ap (λ l. answers l (after (take i cs) s)) (drop_all i cs h))) ∙ so_far
+answers_all cs s i found all h so_far = search (arith, append-nil, drop_all)
 
 -- The laws over whole histories, of the answers to a list of commands.
 

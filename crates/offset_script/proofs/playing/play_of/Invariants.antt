@@ -1,8 +1,5 @@
-use Rattle.std.proofs.Common.{◌≡◌, map, take, drop, ◌++◌}
-use Rattle.offset_script.specs.Machine.{answer_view, answers, after, start}
-use Rattle.offset_script.specs.Steps.{Takes}
-use Rattle.offset_script.proofs.Agreement.{IsAtState}
-use Rattle.offset_script.proofs.Simulation.{IsBegun}
+use Rattle.offset_script.proofs.Common.{◌≡◌, map, take, drop, ◌++◌, answer_view, answers, after, start, Takes}
+use Rattle.offset_script.proofs.{Agreement.IsAtState, Simulation.IsBegun}
 use Rattle.offset_script.proofs.playing.play_of.Given as goal
 
 -- the answers so far and those to what is left are those to all, and the steps so far begin any run that goes on

@@ -1,4 +1,4 @@
-use Rattle.std.proofs.Common.{not, ap}
+use Rattle.offset_script.proofs.Common.{not, ap}
 use Rattle.offset_script.proofs.Ending.{piece_failed}
 use Rattle.offset_script.proofs.sending.send_pieces.Goals as goal
 

@@ -1,5 +1,4 @@
-use Rattle.std.proofs.Common.{◌≡◌, take, flat_map}
-use Rattle.std.specs.Io.KnownBytes.{Appends}
+use Rattle.offset_script.proofs.Common.{◌≡◌, take, flat_map, Appends}
 use Rattle.offset_script.proofs.sending.send_pieces.Given as goal
 
 abbrev pub invariant-loop-piece : goal.invariant-loop-piece

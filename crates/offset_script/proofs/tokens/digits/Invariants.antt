@@ -1,4 +1,4 @@
-use Rattle.std.proofs.Common.{◌≡◌, ◌+◌, ◌≤◌, ◌++◌, length, drop, decimal}
+use Rattle.offset_script.proofs.Common.{◌≡◌, ◌+◌, ◌≤◌, ◌++◌, length, drop, decimal}
 use Rattle.offset_script.proofs.tokens.digits.Given as goal
 
 abbrev pub invariant-loop-rest : goal.invariant-loop-rest

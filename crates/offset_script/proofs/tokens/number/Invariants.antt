@@ -1,5 +1,4 @@
-use Rattle.std.proofs.Common.{◌≡◌, ◌^◌, ◌<◌, true, take}
-use Rattle.std.specs.Str.{all_ascii_digits}
+use Rattle.offset_script.proofs.Common.{◌≡◌, ◌^◌, ◌<◌, true, take, all_ascii_digits}
 use Rattle.std.specs.Str.Parse.{digits_value}
 use Rattle.offset_script.proofs.tokens.number.Given as goal
 

@@ -1,15 +1,9 @@
-use Rattle.std.proofs.Common.{◌+◌, ◌==◌, sym, ◌≡◌, ℕ, ◌<◌, Bool, true, false, cond, ltb, List, [], ◌∷◌, length, take, drop, Some, None, refl, arith, ltb-true, ltb-false}
-use Rattle.std.proofs.lemmas.List.{take_rest}
-use Rattle.std.specs.List.{slice_split, position}
-use Rattle.std.proofs.lemmas.List.Sums.{fails_before_first}
-use Rattle.std.proofs.lemmas.List.Splits.{slice_split_none, slice_split_first}
+use Rattle.offset_script.proofs.Common.{◌+◌, ◌==◌, sym, ◌≡◌, ℕ, ◌<◌, Bool, true, false, cond, ltb, List, [], ◌∷◌, length, take, drop, Some, None, refl, arith, ltb-true, ltb-false, take_rest}
+use Rattle.offset_script.proofs.Common.{slice_split, position, slice_split_none, slice_split_first}
+use Rattle.std.proofs.{lemmas.List.Sums.fails_before_first, lemmas.Option.cond_some}
 use Rattle.offset_script.proofs.tokens.split_once.Goals as goal
 
 -- The first part of a text, and the parts after it.
-cond_some : {A : Type 0} (b : Bool) (x i : A) → cond b (Some x) None ≡ Some i → (b ≡ true) × (x ≡ i)
-cond_some true x i e = (refl, cc)
-cond_some false x i e = absurd cc
-
 unchosen : {A : Type 0} (b : Bool) (x : A) → cond b (Some x) None ≡ None → b ≡ false
 unchosen true x e = absurd cc
 unchosen false x e = refl

@@ -1,7 +1,4 @@
-use Rattle.std.proofs.Common.{sym, subst}
-use Rattle.offset_script.specs.Machine.{answer_view}
-use Rattle.offset_script.specs.Steps.{Takes}
-use Rattle.offset_script.specs.declared.scripts.Command.TheVariants.{Alloc}
+use Rattle.offset_script.proofs.Common.{sym, subst, answer_view, Takes, Alloc}
 use Rattle.offset_script.proofs.Simulation.{if_ok}
 use Rattle.offset_script.proofs.playing.PlayerOf.allocate.Goals as goal
 

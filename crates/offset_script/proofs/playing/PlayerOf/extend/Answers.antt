@@ -1,4 +1,4 @@
-use Rattle.std.proofs.Common.{Bool, refl, sym, ap, if◌then◌else◌}
+use Rattle.offset_script.proofs.Common.{Bool, refl, sym, ap, if◌then◌else◌}
 use Rattle.offset_script.specs.Machine as machine
 use Rattle.offset_script.proofs.playing.PlayerOf.extend.Goals as goal
 

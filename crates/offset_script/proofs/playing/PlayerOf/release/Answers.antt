@@ -1,5 +1,4 @@
-use Rattle.std.proofs.Common.{option_map, refl, sym, ap, ◌∙◌}
-use Rattle.offset_allocator.specs.View.{Grant}
+use Rattle.offset_script.proofs.Common.{option_map, refl, sym, ap, ◌∙◌, Grant}
 use Rattle.offset_script.proofs.Simulation.{if_none, if_some}
 use Rattle.offset_script.proofs.playing.PlayerOf.release.Goals as goal
 

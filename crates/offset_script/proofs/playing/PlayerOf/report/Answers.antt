@@ -1,4 +1,4 @@
-use Rattle.std.proofs.Common.{refl, ap₂}
+use Rattle.offset_script.proofs.Common.{refl, ap₂}
 use Rattle.offset_script.specs.Machine as machine
 use Rattle.offset_script.proofs.playing.PlayerOf.report.Goals as goal
 

@@ -1,5 +1,4 @@
-use Rattle.std.proofs.Common.{sym, subst, arith}
-use Rattle.offset_allocator.specs.Relations.{Resets}
+use Rattle.offset_script.proofs.Common.{sym, subst, arith, Resets}
 use Rattle.offset_script.proofs.Simulation.{reset_takes}
 use Rattle.offset_script.proofs.playing.PlayerOf.reset.Goals as goal
 

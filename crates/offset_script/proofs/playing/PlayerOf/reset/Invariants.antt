@@ -1,4 +1,4 @@
-use Rattle.std.proofs.Common.{◌≡◌, ◌<◌, ℕ, None, slice_index_or, length}
+use Rattle.offset_script.proofs.Common.{◌≡◌, ◌<◌, ℕ, None, slice_index_or, length}
 use Rattle.offset_script.proofs.playing.PlayerOf.reset.Given as goal
 
 -- the handles so far are gone

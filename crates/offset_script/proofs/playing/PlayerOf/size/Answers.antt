@@ -1,7 +1,6 @@
-use Rattle.std.proofs.Common.{option_map, refl, sym, ap, ◌∙◌}
-use Rattle.offset_allocator.specs.View.{Grant}
-use Rattle.offset_script.specs.Machine as machine
+use Rattle.offset_script.proofs.Common.{option_map, refl, sym, ap, ◌∙◌, Grant}
 use Rattle.offset_script.proofs.Simulation.{if_none, if_some}
+use Rattle.offset_script.specs.Machine as machine
 use Rattle.offset_script.proofs.playing.PlayerOf.size.Goals as goal
 
 pub returns-in-None : goal.returns-in-None
