@@ -1,4 +1,4 @@
-//! Tests of `offset_script`, of `offset_calls` and of `offset_lives`.
+//! Tests of `offset_script`, of `offset_calls` and of `offset_lives`, and random tickets of `offset_guarded`.
 #![tactic(auto)]
 
 #[cfg(test)]
@@ -8,12 +8,14 @@ mod calls;
 #[cfg(test)]
 mod layouts;
 #[cfg(test)]
+mod numbers;
+#[cfg(test)]
 mod pictures;
 #[cfg(test)]
 mod playing;
 #[cfg(test)]
 mod programs;
 #[cfg(test)]
-mod random;
-#[cfg(test)]
 mod scripts;
+#[cfg(test)]
+mod tickets;

@@ -1,11 +1,11 @@
-//! The layouts of the tables. The choice of one is proved here once, and not anew in each test.
+//! The layout by node, with each index type. The choice of a type is proved here once, and not anew in each test.
 
 use offset_allocator::{ByNode, Tables};
 use offset_test_base::tiny::Tiny;
 use std::alloc::Global;
 use std::process::Abort;
 
-/// A layout, by the type of its links.
+/// The layout by node, by its index type.
 #[derive(Clone, Copy)]
 pub enum Layout {
     Wide,
@@ -13,7 +13,7 @@ pub enum Layout {
     Tiny,
 }
 
-/// Each type of links once.
+/// Each index type once.
 pub const ALL: [Layout; 3] = [Layout::Wide, Layout::Narrow, Layout::Tiny];
 
 /// What is expected of a layout.

@@ -1,8 +1,8 @@
 //! Random tickets, between real ones, against a plain list of the live ranges.
 ghost use Rattle.std.specs.Prelude.{◌<◌};
 
-use super::numbers::Numbers;
 use crate::asserts::{assert_same, assert_that};
+use crate::numbers::Numbers;
 use offset_allocator::{ByNode, NodeIndex, Tables};
 use offset_guarded::{GuardedOf, Ticket};
 use std::alloc::Global;

@@ -1,4 +1,0 @@
-//! Random tickets.
-
-mod numbers;
-mod tickets;
